@@ -1,0 +1,47 @@
+//! The three readings of words 1 to 7 of a bucket.
+ghost use Rattle.std.specs.Prelude.{◌≡◌, ◌↔◌, IsSome, IfSome, Some};
+
+use crate::{Chain, Item};
+
+/// How a word 1 to 7 of a bucket is read. A bucket chains by its word 7 alone.
+#[derive(Clone, Copy, Debug, PartialEq, Eq)]
+pub enum Reading {
+    /// No item stands here: the word is 0.
+    Empty,
+    /// An item stands here.
+    Item(Item),
+    /// The bucket goes on in the overflow bucket of this number, below [`Chain::LIMIT`].
+    Chain(u32),
+}
+
+impl Reading {
+    ghost use Rattle.segword.specs.Reading.{reading_word, IsReading, HasReading};
+
+    /// The word that is read so.
+    pub fn pack(self) -> u64
+        requires { IsReading self }
+        ensures { result ≡ reading_word self }
+    {
+        match self {
+            Reading::Empty => 0,
+            Reading::Item(item) => item.pack(),
+            Reading::Chain(number) => Chain::pack(number),
+        }
+    }
+
+    /// The reading of a word, or `None` where it is neither 0 nor an item's nor a chain's. No such word stands in a table.
+    pub fn unpack(word: u64) -> Option<Reading>
+        ensures variant { IsSome result ↔ HasReading word }
+        ensures some { IfSome result (λ reading. reading_word reading ≡ word) }
+        ensures valid { IfSome result IsReading }
+        ensures packed { (reading : Reading) → IsReading reading → reading_word reading ≡ word → result ≡ Some reading }
+    {
+        if word == 0 {
+            return Some(Reading::Empty);
+        }
+        match Item::unpack(word) {
+            Some(item) => Some(Reading::Item(item)),
+            None => Some(Reading::Chain(Chain::unpack(word)?)),
+        }
+    }
+}
