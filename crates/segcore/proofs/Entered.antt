@@ -1,0 +1,39 @@
+-- While a pass is in a segment the segment isn't refilled, and its linked rows stay as they are.
+use Rattle.std.proofs.Common.{◌≡◌, ◌≢◌, ℕ, ◌<◌, eqb, List, [], ◌∷◌, ◌++◌, Some, sym, refl, ap, ◌∙◌, subst, arith}
+use Rattle.std.proofs.lemmas.Bool.{cond-false, ne_eqb, false_from_ne_true}
+use Rattle.std.proofs.lemmas.Option.{none-some}
+use Rattle.segword.specs.declared.shape.Shape.{Shape}
+use Rattle.segcore.specs.declared.event.Event.{Event}
+use Rattle.segcore.specs.declared.event.Event.TheVariants.{Filled, Linked, Refilled}
+use Rattle.segcore.specs.Event.{NoneBy}
+use Rattle.segcore.specs.Lawful.{IsLawful}
+use Rattle.segcore.specs.Row.{row_at, writes_row, row_after}
+use Rattle.segcore.specs.Segment.{inside, NoneRefills}
+use Rattle.segcore.proofs.Quiet.{at_unlinked, quiet_inside}
+use Rattle.segcore.proofs.Readers.{is_counted}
+
+-- an event that doesn't refill the segment leaves a linked row alone
+row_stays : (z : Shape) (e : Event) (h : List Event) (s r : ℕ) (k : List ℕ) → IsLawful z (e ∷ h) → ((p : ℕ) → e ≢ Refilled p s) → (row_after h s r).linked ≡ Some k → row_after (e ∷ h) s r ≡ row_after h s r
+row_stays z (Refilled p t) h s r k l ne on = cond-false (eqb t s) (writes_row (Refilled p t) (row_after h s r)) (row_after h s r) (ne_eqb t s (λ e. ne p (ap (Refilled p) e)))
+row_stays z (Filled p t i j w) h s r k l ne on = cond-false (row_at (Filled p t i j w) s r) (writes_row (Filled p t i j w) (row_after h s r)) (row_after h s r) (false_from_ne_true (row_at (Filled p t i j w) s r) (λ y. none-some k (sym (at_unlinked z h (Filled p t i j w) s r l.1.suits (λ p' t' same. cc) y) ∙ on)))
+row_stays z (Linked p q t i n) h s r k l ne on = cond-false (row_at (Linked p q t i n) s r) (writes_row (Linked p q t i n) (row_after h s r)) (row_after h s r) (false_from_ne_true (row_at (Linked p q t i n) s r) (λ y. none-some k (sym (at_unlinked z h (Linked p q t i n) s r l.1.suits (λ p' t' same. cc) y) ∙ on)))
+row_stays z e h s r k l ne on = refl
+
+not_refilled : (z : Shape) (e : Event) (h : List Event) (p s : ℕ) → p < z.passes → IsLawful z (e ∷ h) → 0 < inside h p s → (q : ℕ) → e ≢ Refilled q s
+not_refilled z e h p s few l in' q is' =
+    let f = (subst (λ x. IsLawful z (x ∷ h)) is' l).1.suits in let a = is_counted z h l.0 p s few in let b = f.2 in omega arith
+
+pub no_refill : (z : Shape) (more h : List Event) (p s : ℕ) → p < z.passes → IsLawful z (more ++ h) → NoneBy p more → 0 < inside h p s → NoneRefills s more
+no_refill z [] h p s few l n in' = tt
+no_refill z (e ∷ more) h p s few l n in' = (not_refilled z e (more ++ h) p s few l (subst (λ x. 0 < x) (sym (quiet_inside more h p s n.1)) in'), no_refill z more h p s few l.0 n.1 in')
+
+-- what a pass has read in a segment that it is in stays so
+pub entered_row : (z : Shape) (more h : List Event) (p s r : ℕ) (k : List ℕ) → p < z.passes → IsLawful z (more ++ h) → NoneBy p more → 0 < inside h p s → (row_after h s r).linked ≡ Some k → row_after (more ++ h) s r ≡ row_after h s r
+entered_row z [] h p s r k few l n in' on = refl
+entered_row z (e ∷ more) h p s r k few l n in' on = let i = entered_row z more h p s r k few l.0 n.1 in' on in
+    row_stays z e (more ++ h) s r k l (not_refilled z e (more ++ h) p s few l (subst (λ x. 0 < x) (sym (quiet_inside more h p s n.1)) in')) (ap (λ u. u.linked) i ∙ on) ∙ i
+
+-- at a refilling no pass is in the segment
+pub none_in : (z : Shape) (more h : List Event) (q p s : ℕ) → p < z.passes → IsLawful z (more ++ (Refilled q s ∷ h)) → inside h p s ≡ 0
+none_in z [] h q p s few l = let a = is_counted z h l.0 p s few in let b = l.1.suits.2 in omega arith
+none_in z (e ∷ more) h q p s few l = none_in z more h q p s few l.0

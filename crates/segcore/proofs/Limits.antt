@@ -1,0 +1,34 @@
+-- The numbers that a lawful history names fit into their words.
+use Rattle.std.proofs.Common.{ℕ, ◌*◌, ◌^◌, ◌<◌, ◌≤◌, eqb, ◌&&◌, List, [], ◌∷◌, ⊎_elim, arith}
+use Rattle.std.proofs.lemmas.Bool.{cases_Bool}
+use Rattle.std.proofs.Math.Nat.{mul-le-mul_right}
+use Rattle.segword.specs.declared.shape.Shape.{Shape}
+use Rattle.segword.specs.Shape.{IsValid}
+use Rattle.segcore.specs.declared.event.Event.{Event}
+use Rattle.segcore.specs.declared.event.Event.TheVariants.{Linked, Drew, Bumped}
+use Rattle.segcore.specs.Lawful.{IsLawful}
+use Rattle.segcore.specs.Overflow.{drawn_in}
+use Rattle.segcore.specs.Row.{frequency_of}
+
+pub few_passes : (z : Shape) → IsValid z → z.passes ≤ 64
+few_passes z v = v.0.0.0.1.1
+
+pub few_drawn : (z : Shape) → IsValid z → z.overflow ≤ 65536
+few_drawn z v = v.0.0.0.0.1
+
+pub low_row : (z : Shape) (r : ℕ) → IsValid z → r < z.rows → r < 2 ^ 20
+low_row z r v lt = let a = v.0.1.1 in omega arith
+
+pub low_segment : (z : Shape) (s : ℕ) → IsValid z → s < z.passes * z.segments_each → s < 2 ^ 24
+low_segment z s v lt = let a = v.0.0.1.1 in let b = mul-le-mul_right z.segments_each (few_passes z v) in omega arith
+
+pub low_frequency : (z : Shape) (h : List Event) (s r : ℕ) → IsLawful z h → frequency_of h s r < 256
+low_frequency z [] s r l = omega arith
+low_frequency z (Linked p q t i n ∷ h) s r l = let a = low_frequency z h s r l.0 in ⊎_elim (λ y. rw y (omega arith)) (λ f. rw f a) (cases_Bool (eqb t s && eqb i r))
+low_frequency z (Bumped p t i f ∷ h) s r l = let a = low_frequency z h s r l.0 in ⊎_elim (λ y. rw y l.1.suits.1) (λ f. rw f a) (cases_Bool (eqb t s && eqb i r))
+low_frequency z (e ∷ h) s r l = low_frequency z h s r l.0
+
+pub drawn_few : (z : Shape) (h : List Event) → IsLawful z h → drawn_in h ≤ z.overflow
+drawn_few z [] l = omega arith
+drawn_few z (Drew p b d m ∷ h) l = let a = l.1.suits.0 in let b = l.1.suits.1 in omega arith
+drawn_few z (e ∷ h) l = drawn_few z h l.0

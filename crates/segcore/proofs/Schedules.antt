@@ -1,0 +1,46 @@
+-- Every schedule, by induction on its steps.
+use Rattle.std.proofs.Common.{◌≡◌, ℕ, List, [], ◌∷◌, ◌++◌, get_or, refl, sym, ap, ◌∙◌, subst, ⊎_elim, append_assoc}
+use mathlib.Core.Option.{some-injective}
+use Rattle.atomic_table.proofs.Lists.{at_set}
+use mathlib.Core.Option.{some}
+use lib.ListN.{get_elem?}
+use Rattle.segword.specs.declared.shape.Shape.{Shape}
+use Rattle.segcore.specs.declared.event.Event.{Event}
+use Rattle.segcore.specs.declared.view.View.{View}
+use Rattle.segcore.specs.Event.{NoneBy}
+use Rattle.segcore.specs.Kind.{adds, cell, Step, May, Kept}
+use Rattle.segcore.specs.Lawful.{IsLawful}
+use Rattle.segcore.specs.Word.{address}
+use Rattle.segcore.specs.World.{Lawful, SeeMore, World, IsOpening, Reaches, IsLawfulWorld}
+use Rattle.segcore.proofs.Kept.{steps}
+use Rattle.segcore.proofs.StepKinds.{keeps}
+
+-- a step that the pass p may take, having seen what its view says, changes its word as the history then says
+pub kept_at : (z : Shape) (ws : List ℕ) (views : List View) (h : List Event) (p : ℕ) (v : View) (st : Step) → Lawful z ws views h → get_elem? views p ≡ some v → May z v.trace p st → Kept z st p h
+kept_at z ws views h p v st l at may = let k = l.knows p v at in
+    subst (Kept z st p) (sym k.rest) (keeps z st p k.more v.trace l.valid (subst (IsLawful z) k.rest l.legal) k.others may)
+
+pub opens : (z : Shape) (w : World) → IsOpening z w → IsLawfulWorld z w
+opens z w o = record {
+  valid = o.valid;
+  legal = subst (IsLawful z) (sym o.untouched) tt;
+  long = o.long;
+  each = rw o.untouched o.each;
+  knows = λ p v at. let f = o.new p v at in record { number = f.number; more = []; rest = rw (o.untouched, f.unseen) refl; others = tt };
+  later = λ p _. subst (NoneBy p) (sym o.untouched) tt;
+  dealt = λ v at. (o.new 0 v at).dealt;
+}
+
+pub lawful : (z : Shape) (ss : List (ℕ × Step)) (w : World) → Reaches z ss w → IsLawfulWorld z w
+lawful z [] w o = opens z w o
+lawful z (s ∷ ss) w r =
+    let l = lawful z ss r.0 r.2 in
+    subst (IsLawfulWorld z) (sym r.5) (steps z r.0.words r.0.views r.0.trace s.0 r.1 s.1 l r.3 (kept_at z r.0.words r.0.views r.0.trace s.0 r.1 s.1 l r.3 r.4))
+
+pub sees_more : (z : Shape) (ss : List (ℕ × Step)) (s : ℕ × Step) (w : World) (r : Reaches z (s ∷ ss) w) → SeeMore r.0.views w.views
+sees_more z ss s w r p v u at at' = let b = r.0 in let k = (lawful z ss b r.2).knows s.0 r.1 r.3 in
+    let es = adds s.1 s.0 (get_or b.words (address z (cell s.1)) 0) in ⊎_elim
+    (λ t. let same : v ≡ r.1 = some-injective v r.1 (sym at ∙ subst (λ x. get_elem? b.views x ≡ some r.1) (sym t.0) r.3) in
+    (es ++ k.more, ap (λ (x : View). x.trace) (sym t.1) ∙ (ap (λ x. es ++ x) k.rest ∙ (sym (append_assoc es k.more r.1.trace) ∙ ap (λ (x : View). (es ++ k.more) ++ x.trace) (sym same)))))
+    (λ t. ([], ap (λ (x : View). x.trace) (some-injective u v (sym t.1 ∙ at))))
+    (at_set b.views s.0 p _ u (subst (λ x. get_elem? x.views p ≡ some u) r.5 at'))

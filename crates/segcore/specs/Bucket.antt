@@ -1,0 +1,96 @@
+-- The state of a bucket and its chain after a trace: who has the bit, the version, and what stands at each position.
+use Rattle.std.specs.Prelude.{ℕ, ◌+◌, ◌*◌, ◌%◌, ◌<◌, ◌==◌, Bool, true, false, List, [], ◌∷◌, Option, Some, None, if◌then◌else◌}
+use Rattle.segword.specs.declared.shape.Shape.{Shape}
+use Rattle.segmodel.specs.Request.{key_of}
+use Rattle.segmodel.specs.Cache.{bucket as bucket_of, with_at}
+use Rattle.segcore.specs.declared.event.Event.{Event}
+use Rattle.segcore.specs.declared.event.Event.TheVariants.{Took, Freed, Replied, Linked, Unlinked, Drew, Put, Chained}
+
+-- what an item word names: the row that its link named, and the key that stands there
+pub record Slot : Type 0 where
+  pub key : List ℕ
+  pub segment : ℕ
+  pub row : ℕ
+
+abbrev pub slot : List ℕ → ℕ → ℕ → Slot
+slot key segment row = record { key = key; segment = segment; row = row }
+
+-- what a word of a chain holds: nothing, an item, or the number of the next bucket; and a drawn bucket's first word a copy of the word that will move there
+pub data Content : Type 0 where
+  nothing : Content
+  item : Slot → Content
+  next : ℕ → Content
+  copy : ℕ → Content
+
+pub record Bucket : Type 0 where
+  -- the pass that has the bit
+  pub holder : Option ℕ
+  -- whether something was stored or deleted under the bit
+  pub written : Bool
+  -- how often the bit was given back counted
+  pub version : ℕ
+  -- how many overflow buckets are in the chain
+  pub chained : ℕ
+  -- the number of the one that is drawn and not in the chain
+  pub spare : Option ℕ
+  -- by position: word w of the bucket at depth d of the chain is at 8 * d + w
+  pub items : ℕ → Content
+
+-- the position of the chain's last word, which is word 7 of its last bucket
+abbrev pub last : Bucket → ℕ
+last bucket = 8 * bucket.chained + 7
+
+-- the position of word 1 of the bucket that may come after it
+abbrev pub fresh : Bucket → ℕ
+fresh bucket = 8 * bucket.chained + 9
+
+-- the position is that of an item word of the chain
+abbrev pub IsPosition : Bucket → ℕ → Type 0
+IsPosition bucket position = (position < 8 * bucket.chained + 8) × (0 < position % 8)
+
+-- the bucket that an event changes, or reads under its bit
+abbrev pub bucket_at : Shape → Event → Option ℕ
+bucket_at shape (Took pass bucket) = Some bucket
+bucket_at shape (Freed pass bucket counted) = Some bucket
+bucket_at shape (Replied pass request reply) = Some (bucket_of shape (key_of request))
+bucket_at shape (Linked pass request segment row position) = Some (bucket_of shape (key_of request))
+bucket_at shape (Unlinked pass key position evicted) = Some (bucket_of shape key)
+bucket_at shape (Drew pass bucket depth number) = Some bucket
+bucket_at shape (Put pass bucket word) = Some bucket
+bucket_at shape (Chained pass bucket number) = Some bucket
+bucket_at shape _ = None
+
+-- whether this is the one
+abbrev pub is : Option ℕ → ℕ → Bool
+is None number = false
+is (Some other) number = other == number
+
+-- an item that leaves its word was written to by a delete, and not by an eviction
+abbrev pub written_by : Option ℕ → Bool → Bool
+written_by None written = true
+written_by (Some segment) written = written
+
+-- what an event of the bucket leaves
+abbrev pub acts : Event → Bucket → Bucket
+acts (Took pass b) bucket = record bucket { holder = Some pass }
+acts (Freed pass b counted) bucket = record bucket { holder = None; written = false; version = if counted then bucket.version + 1 else bucket.version }
+acts (Linked pass request segment row position) bucket = record bucket { written = true; items = with_at bucket.items position (item (slot (key_of request) segment row)) }
+acts (Unlinked pass key position evicted) bucket = record bucket { written = written_by evicted bucket.written; items = with_at bucket.items position nothing }
+acts (Drew pass b depth number) bucket = record bucket { spare = Some number }
+acts (Put pass b word) bucket = record bucket { items = with_at bucket.items (fresh bucket) (copy word) }
+-- the item of the last word moves to the first word of the new bucket
+acts (Chained pass b number) bucket = record bucket {
+  chained = bucket.chained + 1;
+  spare = None;
+  items = with_at (with_at bucket.items (fresh bucket) (bucket.items (last bucket))) (last bucket) (next number);
+}
+acts _ bucket = bucket
+
+abbrev pub empty_bucket : Bucket
+empty_bucket = record { holder = None; written = false; version = 0; chained = 0; spare = None; items = λ position. nothing }
+
+-- the state of a bucket after a trace
+abbrev pub bucket_after : Shape → List Event → ℕ → Bucket
+bucket_after shape [] bucket = empty_bucket
+bucket_after shape (event ∷ trace) bucket =
+    if is (bucket_at shape event) bucket then acts event (bucket_after shape trace bucket) else bucket_after shape trace bucket

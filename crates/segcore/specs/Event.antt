@@ -1,0 +1,58 @@
+-- What an event is by itself: whose it is, and which entry it adds to the history. A trace has its newest event first, so that `∷` adds to it.
+use Rattle.std.specs.Prelude.{◌≡◌, ◌≢◌, ℕ, List, [], ◌∷◌, Option, Some, None}
+use Rattle.segmodel.specs.declared.request.Request.TheVariants.{Delete}
+use Rattle.segmodel.specs.declared.request.Reply.TheVariants.{Stored, Deleted}
+use Rattle.segmodel.specs.declared.entry.Entry.{Entry}
+use Rattle.segmodel.specs.declared.entry.Entry.TheVariants as entry
+use Rattle.segcore.specs.declared.event.Event.{Event}
+use Rattle.segcore.specs.declared.event.Event.TheVariants.{Took, Bounced, Glanced, Freed, Replied, Filled, Linked, Unlinked, Drew, Put, Chained, Bumped, Entered, Left, Refilled}
+
+-- the pass whose event it is
+abbrev pub by : Event → ℕ
+by (Took pass bucket) = pass
+by (Bounced pass bucket) = pass
+by (Glanced pass bucket) = pass
+by (Freed pass bucket counted) = pass
+by (Replied pass request reply) = pass
+by (Filled pass segment row place word) = pass
+by (Linked pass request segment row position) = pass
+by (Unlinked pass key position evicted) = pass
+by (Drew pass bucket depth number) = pass
+by (Put pass bucket word) = pass
+by (Chained pass bucket number) = pass
+by (Bumped pass segment row frequency) = pass
+by (Entered pass segment) = pass
+by (Left pass segment) = pass
+by (Refilled pass segment) = pass
+
+-- no event is of the pass
+abbrev pub NoneBy : ℕ → List Event → Type 0
+NoneBy pass [] = Unit {0}
+NoneBy pass (event ∷ trace) = (by event ≢ pass) × NoneBy pass trace
+
+-- all events are of the pass
+abbrev pub AllBy : ℕ → List Event → Type 0
+AllBy pass [] = Unit {0}
+AllBy pass (event ∷ trace) = (by event ≡ pass) × AllBy pass trace
+
+-- the entry of a key that leaves its word: deleted, or evicted from a segment
+abbrev pub removal : ℕ → List ℕ → Option ℕ → Entry
+removal pass key None = entry.Wrote pass (Delete key) Deleted None
+removal pass key (Some segment) = entry.Evicted pass key segment
+
+-- the entry that an event adds, if it adds one
+abbrev pub entry_of : Event → Option Entry
+entry_of (Replied pass request reply) = Some (entry.Wrote pass request reply None)
+entry_of (Linked pass request segment row position) = Some (entry.Wrote pass request Stored (Some segment))
+entry_of (Unlinked pass key position evicted) = Some (removal pass key evicted)
+entry_of (Refilled pass segment) = Some (entry.Refilled pass segment)
+entry_of _ = None
+
+abbrev pub with_entry : Option Entry → List Entry → List Entry
+with_entry None history = history
+with_entry (Some added) history = added ∷ history
+
+-- the history of entries that a trace comes to
+abbrev pub seen : List Event → List Entry
+seen [] = []
+seen (event ∷ trace) = with_entry (entry_of event) (seen trace)

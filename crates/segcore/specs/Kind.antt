@@ -1,0 +1,183 @@
+-- The kinds of step: the one word that each touches, what that word becomes, the events that it adds, and where a pass may take it.
+use Rattle.std.specs.Prelude.{◌≡◌, ℕ, ◌+◌, ◌%◌, ◌^◌, ◌<◌, ◌≤◌, ◌==◌, ◌⊎◌, Bool, true, false, List, [], ◌∷◌, ◌++◌, Option, Some, None, bit_or, if◌then◌else◌}
+use prog.Atomic.{either}
+use Rattle.segword.specs.declared.shape.Shape.{Shape}
+use Rattle.segword.specs.ChainWord.{chain_word}
+use Rattle.segmodel.specs.declared.request.Request.{Request}
+use Rattle.segmodel.specs.declared.request.Reply.{Reply}
+use Rattle.segmodel.specs.declared.entry.Entry.TheVariants as entry
+use Rattle.segmodel.specs.Request.{key_of}
+use Rattle.segmodel.specs.Cache.{bucket as bucket_of, owner}
+use Rattle.segmodel.specs.History.{after, Follows}
+use Rattle.segcore.specs.declared.event.Event.{Event}
+use Rattle.segcore.specs.declared.event.Event.TheVariants.{Took, Bounced, Glanced, Freed, Replied, Filled, Linked, Unlinked, Drew, Put, Chained, Bumped, Entered, Left, Refilled}
+use Rattle.segcore.specs.declared.cell.Cell.{Cell}
+use Rattle.segcore.specs.declared.cell.Cell.TheVariants.{OfCounter, OfBucket, OfOverflow, OfSegment, OfRow}
+use Rattle.segcore.specs.Event.{AllBy, seen}
+use Rattle.segcore.specs.Bucket.{Slot, item, copy, last, fresh, is, bucket_after}
+use Rattle.segcore.specs.Overflow.{drawn_in}
+use Rattle.segcore.specs.Row.{row_after}
+use Rattle.segcore.specs.Segment.{inside}
+use Rattle.segcore.specs.ItemWord.{tag_of, packed, IsInItem}
+use Rattle.segcore.specs.Lawful.{IsSegment, Fits, IsLawful}
+use Rattle.segcore.specs.Word.{IsCell, same_cell, word, IsAt, IsItemAt}
+
+pub data Step : Type 0 where
+  -- of a bucket; whether the pass has its bit
+  take : ℕ → Bool → Step
+  -- of a bucket: whether the version goes up, and the refused write that is told
+  release : ℕ → Bool → Option (Request × Reply) → Step
+  -- at the information word of a bucket, under its bit
+  info_look : ℕ → Step
+  -- the same without the bit, for `gets`; whether the pass has it
+  glance : ℕ → Bool → Step
+  -- at an item word, under the bit or without it
+  look : Cell → Step
+  -- for a request: segment, row, position and its cell, and the word that is to be there (a link finds 0, a replace an item)
+  link : Request → ℕ → ℕ → ℕ → Cell → ℕ → Step
+  -- a key, its position and cell, the word that is to be there, and the segment that is evicted, if one is
+  clear : List ℕ → ℕ → Cell → ℕ → Option ℕ → Step
+  -- for a bucket, at a depth of its chain: from this number of drawn ones
+  draw : ℕ → ℕ → ℕ → Step
+  -- for a bucket: word 1 of the overflow bucket of this number takes this word
+  fill : ℕ → ℕ → ℕ → Step
+  -- the last word of a bucket's chain, of this cell and with this word, becomes the chain word of this overflow bucket
+  chain : ℕ → Cell → ℕ → ℕ → Step
+  -- at a bucket's position: its cell, the item's tag, segment, row and frequency, and the new frequency
+  bump : ℕ → ℕ → Cell → ℕ → ℕ → ℕ → ℕ → ℕ → Step
+  -- segment, row, place in the row, word
+  row_store : ℕ → ℕ → ℕ → ℕ → Step
+  row_load : ℕ → ℕ → ℕ → Step
+  -- of a segment: one reader more, one fewer, and none
+  enter : ℕ → Step
+  leave : ℕ → Step
+  none_reading : ℕ → Step
+
+-- the one word that it touches
+abbrev pub cell : Step → Cell
+cell (take bucket own) = OfBucket bucket 0
+cell (release bucket counted said) = OfBucket bucket 0
+cell (info_look bucket) = OfBucket bucket 0
+cell (glance bucket own) = OfBucket bucket 0
+cell (look of) = of
+cell (link request segment row position of old) = of
+cell (clear key position of old evicted) = of
+cell (draw bucket depth from) = OfCounter
+cell (fill bucket number w) = OfOverflow number 1
+cell (chain bucket of old number) = of
+cell (bump bucket position of tag segment row frequency raised) = of
+cell (row_store segment row place w) = OfRow segment row place
+cell (row_load segment row place) = OfRow segment row place
+cell (enter segment) = OfSegment segment
+cell (leave segment) = OfSegment segment
+cell (none_reading segment) = OfSegment segment
+
+-- what the found word becomes; sums are those of 64-bit words
+abbrev pub becomes : Step → ℕ → ℕ
+becomes (take bucket own) = λ found. bit_or found 1
+becomes (release bucket true said) = λ found. (found + 4294967295) % 2 ^ 64
+becomes (release bucket false said) = λ found. (found + 18446744073709551615) % 2 ^ 64
+becomes (link request segment row position of old) = λ found. either (found == old) (packed (tag_of (key_of request)) 1 segment row) found
+becomes (clear key position of old evicted) = λ found. either (found == old) 0 found
+becomes (draw bucket depth from) = λ found. either (found == from) (from + 1) found
+becomes (fill bucket number w) = λ found. w
+becomes (chain bucket of old number) = λ found. either (found == old) (chain_word number) found
+becomes (bump bucket position of tag segment row frequency raised) = λ found. either (found == packed tag frequency segment row) (packed tag raised segment row) found
+becomes (row_store segment row place w) = λ found. w
+becomes (enter segment) = λ found. (found + 1) % 2 ^ 64
+becomes (leave segment) = λ found. (found + 18446744073709551615) % 2 ^ 64
+becomes _ = λ found. found
+
+-- a refused write is told with the release
+abbrev pub told : ℕ → Option (Request × Reply) → List Event
+told pass None = []
+told pass (Some said) = Replied pass said.0 said.1 ∷ []
+
+-- a bit of the pass's own isn't counted where it is found set
+abbrev pub unless_own : Bool → Event → List Event
+unless_own true event = []
+unless_own false event = event ∷ []
+
+-- what a pass adds to the trace by it, having found this word, the newest event first; an exchange that fails adds nothing
+abbrev pub adds : Step → ℕ → ℕ → List Event
+adds (take bucket own) pass found = if found % 2 == 0 then Took pass bucket ∷ [] else unless_own own (Bounced pass bucket)
+adds (release bucket counted said) pass found = Freed pass bucket counted ∷ told pass said
+adds (glance bucket own) pass found = if found % 2 == 0 then [] else unless_own own (Glanced pass bucket)
+adds (link request segment row position of old) pass found = if found == old then Linked pass request segment row position ∷ [] else []
+adds (clear key position of old evicted) pass found = if found == old then Unlinked pass key position evicted ∷ [] else []
+adds (draw bucket depth from) pass found = if found == from then Drew pass bucket depth from ∷ [] else []
+adds (fill bucket number w) pass found = Put pass bucket w ∷ []
+adds (chain bucket of old number) pass found = if found == old then Chained pass bucket number ∷ [] else []
+adds (bump bucket position of tag segment row frequency raised) pass found =
+    if found == packed tag frequency segment row then Bumped pass segment row raised ∷ [] else []
+adds (row_store segment row place w) pass found = Filled pass segment row place w ∷ []
+adds (enter segment) pass found = Entered pass segment ∷ []
+adds (leave segment) pass found = Left pass segment ∷ []
+adds (none_reading segment) pass found = if found == 0 then Refilled pass segment ∷ [] else []
+adds _ pass found = []
+
+-- ---- where it may be taken
+
+abbrev pub HasBit : Shape → List Event → ℕ → ℕ → Type 0
+HasBit shape trace pass bucket = (bucket < shape.buckets) × ((bucket_after shape trace bucket).holder ≡ Some pass)
+
+-- own tells whether the pass has the bit
+abbrev pub KnowsBit : Shape → List Event → ℕ → ℕ → Bool → Type 0
+KnowsBit shape trace pass bucket own = (bucket < shape.buckets) × (is (bucket_after shape trace bucket).holder pass ≡ own)
+
+abbrev pub IsItemCell : Cell → Type 0
+IsItemCell (OfBucket bucket w) = 0 < w
+IsItemCell (OfOverflow number w) = 0 < w
+IsItemCell _ = ⊥
+
+-- the row is the pass's own; or the pass is in its segment, and it was linked in this filling; or a word of a bucket whose bit it has names it
+abbrev pub MayRead : Shape → List Event → ℕ → ℕ → ℕ → Type 0
+MayRead shape trace pass segment row =
+    (owner shape segment ≡ pass)
+    ⊎ (((0 < inside trace pass segment) × ((key : List ℕ) × ((row_after trace segment row).linked ≡ Some key)))
+    ⊎ ((bucket : ℕ) × (position : ℕ) × (named : Slot) × HasBit shape trace pass bucket
+    × ((bucket_after shape trace bucket).items position ≡ item named) × (named.segment ≡ segment) × (named.row ≡ row)))
+
+-- the refused write is of the bucket, and a cache of one thread refuses it
+abbrev pub Refuses : Shape → List Event → ℕ → ℕ → Option (Request × Reply) → Type 0
+Refuses shape trace pass bucket None = Unit {0}
+Refuses shape trace pass bucket (Some said) = (bucket_of shape (key_of said.0) ≡ bucket) × Fits shape trace (Replied pass said.0 said.1)
+
+-- where a pass may take a step, having seen this trace
+abbrev pub May : Shape → List Event → ℕ → Step → Type 0
+May shape trace pass (take bucket own) = KnowsBit shape trace pass bucket own
+May shape trace pass (release bucket counted said) =
+    HasBit shape trace pass bucket
+    × ((bucket_after shape trace bucket).written ≡ counted)
+    × ((bucket_after shape trace bucket).spare ≡ None)
+    × Refuses shape trace pass bucket said
+May shape trace pass (info_look bucket) = HasBit shape trace pass bucket
+May shape trace pass (glance bucket own) = KnowsBit shape trace pass bucket own
+May shape trace pass (look of) = IsCell shape of × IsItemCell of
+May shape trace pass (link request segment row position of old) =
+    Fits shape trace (Linked pass request segment row position) × IsItemAt shape trace (bucket_of shape (key_of request)) position of
+May shape trace pass (clear key position of old evicted) =
+    Fits shape trace (Unlinked pass key position evicted) × IsItemAt shape trace (bucket_of shape key) position of
+May shape trace pass (draw bucket depth from) =
+    let state = bucket_after shape trace bucket in
+    HasBit shape trace pass bucket × (state.spare ≡ None) × (depth ≡ state.chained + 1) × (depth < 4) × (from < shape.overflow) × (from ≤ drawn_in trace)
+May shape trace pass (fill bucket number w) = Fits shape trace (Put pass bucket w) × ((bucket_after shape trace bucket).spare ≡ Some number)
+May shape trace pass (chain bucket of old number) =
+    let state = bucket_after shape trace bucket in
+    Fits shape trace (Chained pass bucket number) × IsAt trace bucket (last state) of × (state.items (fresh state) ≡ copy old)
+May shape trace pass (bump bucket position of tag segment row frequency raised) =
+    (bucket < shape.buckets) × IsItemAt shape trace bucket position of × IsInItem tag segment row × (frequency < raised) × (raised < 256)
+May shape trace pass (row_store segment row place w) = Fits shape trace (Filled pass segment row place w)
+May shape trace pass (row_load segment row place) = IsSegment shape segment × (row < shape.rows) × (place < 8) × MayRead shape trace pass segment row
+May shape trace pass (enter segment) = Fits shape trace (Entered pass segment)
+May shape trace pass (leave segment) = Fits shape trace (Left pass segment)
+May shape trace pass (none_reading segment) = IsSegment shape segment × Follows shape (after shape (seen trace)) (entry.Refilled pass segment)
+
+-- what a step leaves of a trace, which was `now` when the word changed: it is one of the table's words, the longer trace is lawful, and each word is what that makes it
+pub record Kept (shape : Shape) (step : Step) (pass : ℕ) (now : List Event) : Type 0 where
+  pub inside : IsCell shape (cell step)
+  pub own : AllBy pass (adds step pass (word shape now (cell step)))
+  pub legal : IsLawful shape (adds step pass (word shape now (cell step)) ++ now)
+  pub words : (other : Cell) → IsCell shape other
+      → word shape (adds step pass (word shape now (cell step)) ++ now) other
+      ≡ (if same_cell (cell step) other then becomes step (word shape now (cell step)) else word shape now other)

@@ -1,0 +1,14 @@
+pub mod Bucket
+pub mod Count
+pub mod Event
+pub mod ItemWord
+pub mod Kind
+pub mod Lawful
+pub mod Mark
+pub mod Overflow
+pub mod Row
+pub mod Says
+pub mod Scan
+pub mod Segment
+pub mod Word
+pub mod World

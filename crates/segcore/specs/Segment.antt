@@ -1,0 +1,35 @@
+-- The segments after a trace: who reads in them, and how often each was refilled.
+use Rattle.std.specs.Prelude.{◌≢◌, ℕ, ◌+◌, ◌-◌, ◌==◌, ◌&&◌, ◌||◌, Bool, false, List, [], ◌∷◌, if◌then◌else◌}
+use Rattle.segcore.specs.declared.event.Event.{Event}
+use Rattle.segcore.specs.declared.event.Event.TheVariants.{Linked, Entered, Left, Refilled}
+
+-- how often a pass is in a segment
+abbrev pub inside : List Event → ℕ → ℕ → ℕ
+inside [] pass segment = 0
+inside (Entered q s ∷ trace) pass segment = if (q == pass) && (s == segment) then inside trace pass segment + 1 else inside trace pass segment
+inside (Left q s ∷ trace) pass segment = if (q == pass) && (s == segment) then inside trace pass segment - 1 else inside trace pass segment
+inside (_ ∷ trace) pass segment = inside trace pass segment
+
+-- how many readers a segment has
+abbrev pub readers : List Event → ℕ → ℕ
+readers [] segment = 0
+readers (Entered q s ∷ trace) segment = if s == segment then readers trace segment + 1 else readers trace segment
+readers (Left q s ∷ trace) segment = if s == segment then readers trace segment - 1 else readers trace segment
+readers (_ ∷ trace) segment = readers trace segment
+
+-- whether an item was ever linked in it
+abbrev pub was_used : List Event → ℕ → Bool
+was_used [] segment = false
+was_used (Linked pass request s row position ∷ trace) segment = (s == segment) || was_used trace segment
+was_used (_ ∷ trace) segment = was_used trace segment
+
+-- how often it was filled anew
+abbrev pub refills : List Event → ℕ → ℕ
+refills [] segment = 0
+refills (Refilled pass s ∷ trace) segment = if s == segment then refills trace segment + 1 else refills trace segment
+refills (_ ∷ trace) segment = refills trace segment
+
+-- no event fills the segment anew
+abbrev pub NoneRefills : ℕ → List Event → Type 0
+NoneRefills segment [] = Unit {0}
+NoneRefills segment (event ∷ trace) = ((pass : ℕ) → event ≢ Refilled pass segment) × NoneRefills segment trace

@@ -1,0 +1,89 @@
+-- Worlds: the words of the table, the passes' views and the trace; the rule that they keep; and the worlds that schedules of steps reach.
+use Rattle.std.specs.Prelude.{◌≡◌, ℕ, ◌≤◌, List, [], ◌∷◌, ◌++◌, length, slice_index, slice_set}
+use mathlib.Core.Option.{some}
+use lib.ListN.{get_elem?}
+use Rattle.segword.specs.declared.shape.Shape.{Shape}
+use Rattle.segword.specs.Shape.{word_count, IsValid}
+use Rattle.segmodel.specs.History.{Begins}
+use Rattle.segcore.specs.declared.event.Event.{Event}
+use Rattle.segcore.specs.declared.cell.Cell.{Cell}
+use Rattle.segcore.specs.declared.view.View.{View}
+use Rattle.segcore.specs.Event.{NoneBy}
+use Rattle.segcore.specs.Lawful.{IsLawful}
+use Rattle.segcore.specs.Word.{IsCell, address, word}
+use Rattle.segcore.specs.Kind.{Step, cell, becomes, adds, May}
+
+-- ---- the rule
+
+-- the trace goes on from what the pass has seen, by events of others alone
+pub record Knows (pass : ℕ) (view : View) (trace : List Event) : Type 0 where
+  pub number : view.number ≡ pass
+  pub more : List Event
+  pub rest : trace ≡ more ++ view.trace
+  pub others : NoneBy pass more
+
+pub record Lawful (shape : Shape) (words : List ℕ) (views : List View) (trace : List Event) : Type 0 where
+  pub valid : IsValid shape
+  pub legal : IsLawful shape trace
+  -- each word of the table is what the trace makes it
+  pub long : length words ≡ word_count shape
+  pub each : (of : Cell) → IsCell shape of → slice_index words (address shape of) ≡ word shape trace of
+  -- each pass has seen an end of it
+  pub knows : (pass : ℕ) (view : View) → get_elem? views pass ≡ some view → Knows pass view trace
+  -- nothing is of a pass that isn't there yet
+  pub later : (pass : ℕ) → length views ≤ pass → NoneBy pass trace
+  pub dealt : (view : View) → get_elem? views 0 ≡ some view → view.dealt ≡ length views
+
+-- what a step tells its pass: what others did meanwhile, what it found, and that it added just its own events
+pub record Told (shape : Shape) (step : Step) (found : ℕ) (old new : View) : Type 0 where
+  pub more : List Event
+  pub others : NoneBy old.number more
+  pub before : IsLawful shape (more ++ old.trace)
+  pub found_is : found ≡ word shape (more ++ old.trace) (cell step)
+  pub now : new ≡ record old { trace = adds step old.number found ++ (more ++ old.trace) }
+  pub legal : IsLawful shape new.trace
+
+-- ---- schedules
+
+pub record World : Type 0 where
+  pub words : List ℕ
+  pub views : List View
+  pub trace : List Event
+
+pub record IsFresh (passes pass : ℕ) (view : View) : Type 0 where
+  pub number : view.number ≡ pass
+  pub unseen : view.trace ≡ []
+  pub dealt : view.dealt ≡ passes
+
+-- no event yet, and each word as at the start
+pub record IsOpening (shape : Shape) (world : World) : Type 0 where
+  pub valid : IsValid shape
+  pub untouched : world.trace ≡ []
+  pub long : length world.words ≡ word_count shape
+  pub each : (of : Cell) → IsCell shape of → slice_index world.words (address shape of) ≡ word shape [] of
+  pub new : (pass : ℕ) (view : View) → get_elem? world.views pass ≡ some view → IsFresh (length world.views) pass view
+
+-- the world after a step of a pass, whose view was this
+abbrev pub after_step : Shape → ℕ → View → Step → World → World
+after_step shape pass view step world =
+    let found = slice_index world.words (address shape (cell step)) in
+    let trace = adds step pass found ++ world.trace in
+    record {
+      words = slice_set world.words (address shape (cell step)) (becomes step found);
+      views = slice_set world.views pass (record view { trace = trace });
+      trace = trace;
+    }
+
+-- the world is reached by these steps of passes, the last one first, each allowed to its pass where it comes
+abbrev pub Reaches : Shape → List (ℕ × Step) → World → Type 0
+Reaches shape [] world = IsOpening shape world
+Reaches shape (taken ∷ steps) world =
+    (before : World) × (view : View) × Reaches shape steps before × (get_elem? before.views taken.0 ≡ some view)
+    × May shape view.trace taken.0 taken.1 × (world ≡ after_step shape taken.0 view taken.1 before)
+
+abbrev pub IsLawfulWorld : Shape → World → Type 0
+IsLawfulWorld shape world = Lawful shape world.words world.views world.trace
+
+-- each pass has seen at least what it had seen
+abbrev pub SeeMore : List View → List View → Type 0
+SeeMore old new = (pass : ℕ) (before now : View) → get_elem? old pass ≡ some before → get_elem? new pass ≡ some now → Begins before.trace now.trace
