@@ -1,0 +1,220 @@
+-- Serving keeps what always holds of a state.
+use Rattle.std.proofs.Common.{◌≡◌, ◌⊎◌, Option, Some, None, ℕ, ◌+◌, ◌<◌, ◌≤◌, ◌==◌, ◌&&◌, ◌||◌, Bool, true, false, cond, List, [], ◌∷◌, ◌++◌, length, refl, sym, ap, ◌∙◌, arith, not, filter, count_by, eq-eqb, inl, inr, subst}
+use Rattle.std.proofs.lemmas.Bool.{cases_eq, ne_eqb, false≢true}
+use Rattle.std.proofs.lemmas.List.{length_push}
+use Rattle.std.proofs.lemmas.List.Folds.{list_any-append}
+use Rattle.std.specs.List.{list_any}
+use Rattle.std.specs.BTreeMap.{insert_entry, is_at}
+use Rattle.segword.specs.declared.shape.Shape.{Shape}
+use Rattle.segmodel.specs.declared.entry.Cached.{Cached}
+use Rattle.segmodel.specs.declared.answer.SegState.TheVariants.{InUse, Evicted}
+use Rattle.segmodel.specs.declared.answer.RefillAnswer.TheVariants.{Refilled}
+use Rattle.segmodel.specs.Cache.{key_cmp, with_at, deleted}
+use Rattle.segmodel.specs.State.{State, Filling, but_for, is_in, is_in_use, is_among, is_stored, IsKept, fresh}
+use Rattle.segmodel.specs.Serving.{with_key, placed, chained, with_filling, taken_out, after_refill}
+use Rattle.segmodel.proofs.Counts.{item, both, and_true, all_also, all_filter, all-insert_entry, count_none, count-insert_entry, count-filter}
+use Rattle.segmodel.proofs.Keys.{at_self}
+
+-- another state that is the same
+pub IsKept-same : {shape : Shape} {old new : State} → new ≡ old → IsKept shape old → IsKept shape new
+IsKept-same {shape = shape} same kept = subst (λ s. IsKept shape s) (sym same) kept
+
+-- nothing stands at the start
+pub IsKept-fresh : (shape : Shape) → IsKept shape (fresh shape)
+IsKept-fresh shape = record {
+  items = refl;
+  count = λ s. omega arith;
+  rows = λ s. omega arith;
+  own = λ s used. absurd (false≢true used);
+  in_use = λ s is. cc;
+}
+
+changed : (f : ℕ → Filling) (t s : ℕ) (x : Filling) → t ≡ s → with_at f t x s ≡ x
+changed f t s x e = rw (eq-eqb t s e) refl
+
+unchanged : (f : ℕ → Filling) (t s : ℕ) (x : Filling) → (t ≡ s → ⊥) → with_at f t x s ≡ f s
+unchanged f t s x apart = rw (ne_eqb t s apart) refl
+
+-- an item of a segment that stays as it is stays stored
+stored_still : (f : ℕ → Filling) (t : ℕ) (x : Filling) (e : List ℕ × Cached) → (t ≡ e.1.segment → ⊥) → is_stored f e ≡ true → is_stored (with_at f t x) e ≡ true
+stored_still f t x e apart stored =
+    subst (λ y. (is_in_use y.state && is_among y.keys e.0) ≡ true) (sym (unchanged f t e.1.segment x apart)) stored
+
+among_more : (keys : List (List ℕ)) (k q : List ℕ) → is_among keys q ≡ true → is_among (keys ++ k ∷ []) q ≡ true
+among_more keys k q is = list_any-append (is_at (key_cmp q)) keys (k ∷ []) ∙ ap (λ b. b || list_any (is_at (key_cmp q)) (k ∷ [])) is
+
+among_last : (keys : List (List ℕ)) (k : List ℕ) → is_among (keys ++ k ∷ []) k ≡ true
+among_last keys k = list_any-append (is_at (key_cmp k)) keys (k ∷ [])
+    ∙ ap (λ b. list_any (is_at (key_cmp k)) keys || (b || false)) (at_self k) ∙ or_true (is_among keys k)
+  where
+    or_true : (b : Bool) → (b || (true || false)) ≡ true
+    or_true true = refl
+    or_true false = refl
+
+-- a key is put into the current segment, which has a row left
+pub IsKept-placed : (shape : Shape) (key value : List ℕ) (t : ℕ) (state : State)
+    → IsKept shape state → state.current ≡ Some t → length (state.filling t).keys < shape.rows → IsKept shape (placed shape key value t state)
+IsKept-placed shape key value t state kept is left = record {
+  items = all-insert_entry (is_stored new) key (item value t) state.cache.items here (all_also (is_stored state.filling) (is_stored new) still state.cache.items kept.items);
+  count = λ s. count s (cases_eq t s) (count-insert_entry s t key value state.cache.items);
+  rows = λ s. rows s (cases_eq t s);
+  own = λ s. own s (cases_eq t s);
+  in_use = λ s e. in_use s (cases_eq t s) e;
+}
+  where
+    more : Filling
+    more = with_key key (state.filling t)
+
+    new : ℕ → Filling
+    new = with_at state.filling t more
+
+    pushed : length more.keys ≡ length (state.filling t).keys + 1
+    pushed = length_push (state.filling t).keys key
+
+    here : is_stored new (key, item value t) ≡ true
+    here = subst (λ y. (is_in_use y.state && is_among y.keys key) ≡ true) (sym (changed state.filling t t more refl))
+        (and_true _ _ (kept.in_use t is) (among_last (state.filling t).keys key))
+
+    still : (e : List ℕ × Cached) → is_stored state.filling e ≡ true → is_stored new e ≡ true
+    still e stored = by (cases_eq t e.1.segment)
+      where
+        by : (t ≡ e.1.segment) ⊎ (t ≡ e.1.segment → ⊥) → is_stored new e ≡ true
+        by (inl same) =
+            let parts = both _ _ (subst (λ s. (is_in_use (state.filling s).state && is_among (state.filling s).keys e.0) ≡ true) (sym same) stored) in
+            subst (λ y. (is_in_use y.state && is_among y.keys e.0) ≡ true) (sym (changed state.filling t e.1.segment more same))
+            (and_true _ _ parts.0 (among_more (state.filling t).keys key e.0 parts.1))
+        by (inr apart) = stored_still state.filling t more e apart stored
+
+    count : (s : ℕ) → (t ≡ s) ⊎ (t ≡ s → ⊥) → count_by (is_in s) (insert_entry key_cmp state.cache.items key (item value t)) ≤ count_by (is_in s) state.cache.items + cond (t == s) 1 0
+        → count_by (is_in s) (insert_entry key_cmp state.cache.items key (item value t)) ≤ length (new s).keys
+    count s (inl e) most =
+        let most' : count_by (is_in s) (insert_entry key_cmp state.cache.items key (item value t)) ≤ count_by (is_in s) state.cache.items + 1 = rw (eq-eqb t s e) at most in
+        let had : count_by (is_in s) state.cache.items ≤ length (state.filling t).keys = rw e (kept.count s) in
+        let long = pushed in
+        rw (changed state.filling t s more e) (omega arith)
+    count s (inr apart) most =
+        let most' : count_by (is_in s) (insert_entry key_cmp state.cache.items key (item value t)) ≤ count_by (is_in s) state.cache.items + 0 = rw (ne_eqb t s apart) at most in
+        let had = kept.count s in
+        rw (unchanged state.filling t s more apart) (omega arith)
+
+    rows : (s : ℕ) → (t ≡ s) ⊎ (t ≡ s → ⊥) → length (new s).keys ≤ shape.rows
+    rows s (inl e) = let long = pushed in rw (changed state.filling t s more e) (omega arith)
+    rows s (inr apart) = rw (unchanged state.filling t s more apart) (kept.rows s)
+
+    own : (s : ℕ) → (t ≡ s) ⊎ (t ≡ s → ⊥) → is_in_use (new s).state ≡ true → s < shape.segments_each
+    own s (inl e) used = kept.own s (subst (λ r. is_in_use (state.filling r).state ≡ true) e (kept.in_use t is))
+    own s (inr apart) used = kept.own s (ap (λ y. is_in_use y.state) (sym (unchanged state.filling t s more apart)) ∙ used)
+
+    in_use : (s : ℕ) → (t ≡ s) ⊎ (t ≡ s → ⊥) → state.current ≡ Some s → is_in_use (new s).state ≡ true
+    in_use s (inl e) at_s = ap (λ y. is_in_use y.state) (changed state.filling t s more e) ∙ kept.in_use t is
+    in_use s (inr apart) at_s = ap (λ y. is_in_use y.state) (unchanged state.filling t s more apart) ∙ kept.in_use s at_s
+
+-- a chain that is one bucket longer
+pub IsKept-chained : (shape : Shape) (b : ℕ) (chains : Bool) (state : State) → IsKept shape state → IsKept shape (chained b chains state)
+IsKept-chained shape b true state kept = record { items = kept.items; count = kept.count; rows = kept.rows; own = kept.own; in_use = kept.in_use }
+IsKept-chained shape b false state kept = kept
+
+-- a key that is deleted
+pub IsKept-deleted : (shape : Shape) (key : List ℕ) (state : State) → IsKept shape state → IsKept shape (record state { cache = deleted shape key state.cache })
+IsKept-deleted shape key state kept = record {
+  items = all_filter (is_stored state.filling) (is_stored state.filling) (λ e. not (is_at (key_cmp key) e.0)) (λ e stored stays. stored) state.cache.items kept.items;
+  count = λ s. let had = kept.count s in let less = count-filter (is_in s) (λ e. not (is_at (key_cmp key) e.0)) state.cache.items in omega arith;
+  rows = kept.rows;
+  own = kept.own;
+  in_use = kept.in_use;
+}
+
+-- the current segment but for one was current, and isn't that one
+current_but : (t : ℕ) (o : Option ℕ) (s : ℕ) → but_for t o ≡ Some s → (o ≡ Some s) × (t ≡ s → ⊥)
+current_but t None s e = cc
+current_but t (Some m) s e = elim (cases_eq m t) [
+  | inl same ↦ let none : None ≡ Some s = (sym (rw (eq-eqb m t same) refl) ∙ e) in cc
+  | inr apart ↦ let some : Some m ≡ Some s = (sym (rw (ne_eqb m t apart) refl) ∙ e) in (some, λ h. apart cc)
+]
+
+-- some items are taken out, and the segment stays in use
+pub IsKept-taken : (shape : Shape) (t : ℕ) (goes : List ℕ × Cached → Bool) (state : State) → IsKept shape state → IsKept shape (taken_out t goes state)
+IsKept-taken shape t goes state kept = record {
+  items = all_filter (is_stored state.filling) (is_stored state.filling) (λ e. not (goes e)) (λ e stored stays. stored) state.cache.items kept.items;
+  count = λ s. let had = kept.count s in let less = count-filter (is_in s) (λ e. not (goes e)) state.cache.items in omega arith;
+  rows = kept.rows;
+  own = kept.own;
+  in_use = λ s e. kept.in_use s (current_but t state.current s e).0;
+}
+
+-- all items of a segment are taken out, and it is evicted
+pub IsKept-evicted : (shape : Shape) (t : ℕ) (state : State) → IsKept shape state
+    → IsKept shape (with_filling t Evicted (state.filling t).keys (taken_out t (is_in t) state))
+IsKept-evicted shape t state kept = record {
+  items = all_filter (is_stored state.filling) (is_stored (with_at state.filling t gone)) (λ e. not (is_in t e)) still state.cache.items kept.items;
+  count = λ s. count s (cases_eq t s);
+  rows = λ s. rows s (cases_eq t s);
+  own = λ s. own s (cases_eq t s);
+  in_use = λ s e. in_use s (current_but t state.current s e);
+}
+  where
+    gone : Filling
+    gone = record { state = Evicted; keys = (state.filling t).keys }
+
+    still : (e : List ℕ × Cached) → is_stored state.filling e ≡ true → not (is_in t e) ≡ true → is_stored (with_at state.filling t gone) e ≡ true
+    still e stored stays = stored_still state.filling t gone e (λ same. false≢true (sym (ap not (eq-eqb e.1.segment t (sym same))) ∙ stays)) stored
+
+    count : (s : ℕ) → (t ≡ s) ⊎ (t ≡ s → ⊥) → count_by (is_in s) (filter (λ e. not (is_in t e)) state.cache.items) ≤ length (with_at state.filling t gone s).keys
+    count s (inl e) =
+        let had : count_by (is_in s) state.cache.items ≤ length (state.filling t).keys = rw e (kept.count s) in
+        let less = count-filter (is_in s) (λ e. not (is_in t e)) state.cache.items in
+        rw (changed state.filling t s gone e) (omega arith)
+    count s (inr apart) =
+        let had = kept.count s in
+        let less = count-filter (is_in s) (λ e. not (is_in t e)) state.cache.items in
+        rw (unchanged state.filling t s gone apart) (omega arith)
+
+    rows : (s : ℕ) → (t ≡ s) ⊎ (t ≡ s → ⊥) → length (with_at state.filling t gone s).keys ≤ shape.rows
+    rows s (inl e) = rw (changed state.filling t s gone e) (kept.rows t)
+    rows s (inr apart) = rw (unchanged state.filling t s gone apart) (kept.rows s)
+
+    own : (s : ℕ) → (t ≡ s) ⊎ (t ≡ s → ⊥) → is_in_use (with_at state.filling t gone s).state ≡ true → s < shape.segments_each
+    own s (inl e) used = absurd (false≢true (ap (λ y. is_in_use y.state) (sym (changed state.filling t s gone e)) ∙ used))
+    own s (inr apart) used = kept.own s (ap (λ y. is_in_use y.state) (sym (unchanged state.filling t s gone apart)) ∙ used)
+
+    in_use : (s : ℕ) → (state.current ≡ Some s) × (t ≡ s → ⊥) → is_in_use (with_at state.filling t gone s).state ≡ true
+    in_use s h = ap (λ y. is_in_use y.state) (unchanged state.filling t s gone h.1) ∙ kept.in_use s h.0
+
+-- an item of a segment in use isn't in one that is not in use
+elsewhere : (state : State) (t : ℕ) → is_in_use (state.filling t).state ≡ false → (e : List ℕ × Cached) → is_stored state.filling e ≡ true → t ≡ e.1.segment → ⊥
+elsewhere state t unused e stored same =
+    false≢true (sym unused ∙ ap (λ s. is_in_use (state.filling s).state) same ∙ (both _ _ stored).0)
+
+-- in a segment that is not in use nothing stands
+pub none_in_unused : (shape : Shape) (state : State) (t : ℕ) → IsKept shape state → is_in_use (state.filling t).state ≡ false → count_by (is_in t) state.cache.items ≡ 0
+none_in_unused shape state t kept unused = count_none (is_in t) state.cache.items
+    (all_also (is_stored state.filling) (λ e. not (is_in t e)) (λ e stored. ap not (ne_eqb e.1.segment t (λ same. elsewhere state t unused e stored (sym same)))) state.cache.items kept.items)
+
+-- an own segment that is not in use is refilled
+pub IsKept-refilled : (shape : Shape) (t : ℕ) (state : State) → IsKept shape state → is_in_use (state.filling t).state ≡ false → t < shape.segments_each
+    → IsKept shape (after_refill t Refilled state)
+IsKept-refilled shape t state kept unused mine = record {
+  items = all_also (is_stored state.filling) (is_stored (with_at state.filling t anew)) (λ e stored. stored_still state.filling t anew e (elsewhere state t unused e stored) stored) state.cache.items kept.items;
+  count = λ s. count s (cases_eq t s);
+  rows = λ s. rows s (cases_eq t s);
+  own = λ s. own s (cases_eq t s);
+  in_use = λ s e. in_use s e;
+}
+  where
+    anew : Filling
+    anew = record { state = InUse; keys = [] }
+
+    count : (s : ℕ) → (t ≡ s) ⊎ (t ≡ s → ⊥) → count_by (is_in s) state.cache.items ≤ length (with_at state.filling t anew s).keys
+    count s (inl e) = let none : count_by (is_in s) state.cache.items ≡ 0 = rw (← e) (none_in_unused shape state t kept unused) in rw (changed state.filling t s anew e) (omega arith)
+    count s (inr apart) = rw (unchanged state.filling t s anew apart) (kept.count s)
+
+    rows : (s : ℕ) → (t ≡ s) ⊎ (t ≡ s → ⊥) → length (with_at state.filling t anew s).keys ≤ shape.rows
+    rows s (inl e) = rw (changed state.filling t s anew e) (omega arith)
+    rows s (inr apart) = rw (unchanged state.filling t s anew apart) (kept.rows s)
+
+    own : (s : ℕ) → (t ≡ s) ⊎ (t ≡ s → ⊥) → is_in_use (with_at state.filling t anew s).state ≡ true → s < shape.segments_each
+    own s (inl e) used = omega arith
+    own s (inr apart) used = kept.own s (ap (λ y. is_in_use y.state) (sym (unchanged state.filling t s anew apart)) ∙ used)
+
+    in_use : (s : ℕ) → Some t ≡ Some s → is_in_use (with_at state.filling t anew s).state ≡ true
+    in_use s e = let same : t ≡ s = cc in ap (λ y. is_in_use y.state) (changed state.filling t s anew same)

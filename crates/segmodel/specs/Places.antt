@@ -1,0 +1,16 @@
+-- Where things belong: a key to a bucket, under a tag; a segment to a pass. A shape has the numbers that this depends on.
+use Rattle.std.specs.Prelude.{ℕ, ◌/◌, ◌%◌, List}
+use Rattle.segword.specs.declared.shape.Shape.{Shape}
+use Rattle.segword.specs.Fnv.{hash_of, tag_from_hash}
+
+-- the bucket of a key: its 64-bit FNV-1a hash modulo the number of buckets
+abbrev pub bucket_of : Shape → List ℕ → ℕ
+bucket_of shape key = hash_of key % shape.buckets
+
+-- the tag of a key: the top 12 bits of its hash, or 1 where these are 0
+abbrev pub tag_of : List ℕ → ℕ
+tag_of key = tag_from_hash (hash_of key)
+
+-- the pass that owns a segment: pass 0 owns the first ones, as many as each pass has, then come those of pass 1
+abbrev pub owner : Shape → ℕ → ℕ
+owner shape segment = segment / shape.segments_each
