@@ -15,7 +15,7 @@ use Rattle.segmodel.specs.History.{StandsIn, after, is_write_to, writes}
 use Rattle.segmodel.proofs.HistoryLemmas as model
 use Rattle.segmodel.proofs.Rooms.{count_by-cons}
 use Rattle.segcore.specs.Mark.{same_key}
-use Rattle.segcore.specs.Says.{cached}
+use Rattle.segcore.specs.Standing.{cached}
 use Rattle.segcore.proofs.Keys.{key_true, same_true}
 
 -- what stands under a key after a history

@@ -45,7 +45,7 @@ home_once z (Drew p a e k ∷ h) m n b d l i j = ⊎_elim
     (cases_Bool (eqb k m))
 home_once z (e ∷ h) m n b d l i j = home_once z h m n b d l.0 i j
 
-deep : (z : Shape) (h : List Event) (m b d : ℕ) → IsLawful z h → home_of h m ≡ Some (at b d) → 0 < d
+pub deep : (z : Shape) (h : List Event) (m b d : ℕ) → IsLawful z h → home_of h m ≡ Some (at b d) → 0 < d
 deep z h m b d l i = ⊎_elim (λ w. w.0) (λ w. let e = w.0 in omega arith) ((chain_of z h l b).homes m d i)
 
 pub at_stays : (z : Shape) (more h : List Event) (b n : ℕ) (c : Cell) → IsLawful z (more ++ h) → IsAt h b n c → IsAt (more ++ h) b n c
@@ -57,7 +57,7 @@ at_stays z more h b n (OfRow s r j) l i = absurd i
 
 -- ---- cells and positions
 
-one_position : (h : List Event) (b n b' n' : ℕ) (c : Cell) → IsAt h b n c → IsAt h b' n' c → (b ≡ b') × (n ≡ n')
+pub one_position : (h : List Event) (b n b' n' : ℕ) (c : Cell) → IsAt h b n c → IsAt h b' n' c → (b ≡ b') × (n ≡ n')
 one_position h b n b' n' (OfBucket a w) i j = (sym i.0 ∙ j.0, sym i.1 ∙ j.1)
 one_position h b n b' n' (OfOverflow m w) i j = let e = same_Some (at b i.0) (at b' j.0) (sym i.1 ∙ j.1) in let ed = ap (λ (x : Home). x.depth) e in let p = i.2 in let q = j.2 in
     (ap (λ (x : Home). x.bucket) e, omega arith)
@@ -65,7 +65,7 @@ one_position h b n b' n' OfCounter i j = absurd i
 one_position h b n b' n' (OfSegment s) i j = absurd i
 one_position h b n b' n' (OfRow s r k) i j = absurd i
 
-one_cell : (z : Shape) (h : List Event) (b n : ℕ) (c c' : Cell) → IsLawful z h → IsAt h b n c → IsAt h b n c' → c ≡ c'
+pub one_cell : (z : Shape) (h : List Event) (b n : ℕ) (c c' : Cell) → IsLawful z h → IsAt h b n c → IsAt h b n c' → c ≡ c'
 one_cell z h b n (OfBucket a w) (OfBucket a' w') l i j = let ea = i.0 ∙ sym j.0 in let ew = i.1 ∙ sym j.1 in (λ t. OfBucket (ea t) (ew t))
 one_cell z h b n (OfBucket a w) (OfOverflow m v) l i j = let d = deep z h m b j.0 l j.1 in let p = i.1 in let lt = i.2 in let q = j.2 in absurd (omega arith)
 one_cell z h b n (OfOverflow m v) (OfBucket a w) l j i = let d = deep z h m b j.0 l j.1 in let p = i.1 in let lt = i.2 in let q = j.2 in absurd (omega arith)

@@ -9,11 +9,11 @@ use Rattle.segmodel.specs.History.{after}
 use Rattle.segcore.specs.declared.event.Event.{Event}
 use Rattle.segcore.specs.declared.event.Event.TheVariants.{Linked, Chained}
 use Rattle.segcore.specs.Event.{seen}
-use Rattle.segcore.specs.Bucket.{Slot, Content, nothing, item, next, copy, Bucket, last, fresh, IsPosition, bucket_after}
+use Rattle.segcore.specs.Bucket.{Slot, slot, Content, nothing, item, next, copy, Bucket, last, fresh, IsPosition, bucket_after}
 use Rattle.segcore.specs.Overflow.{home_of}
 use Rattle.segcore.specs.Row.{Holds, row_after}
-use Rattle.segcore.specs.Mark.{same_key}
-use Rattle.segcore.specs.Says.{cached}
+use Rattle.segcore.specs.Mark.{same_key, marked, last_at}
+use Rattle.segcore.specs.Standing.{cached}
 
 -- ---- chains
 
@@ -43,6 +43,7 @@ pub record IsStanding (z : Shape) (h : List Event) (b n : ℕ) (a : Slot) : Type
   pub valid : IsKey a.key × IsValue value
   pub holds : Holds (row_after h a.segment a.row) a.key value
   pub stands : standing (after z (seen h)) a.key ≡ Some (cached value a.segment)
+  pub last : last_at (marked h) a.key ≡ Some (slot a.key a.segment a.row)
 
 -- where the last link of a key and the chainings after it put its item
 abbrev pub moved : Bucket → Option ℕ → Option ℕ

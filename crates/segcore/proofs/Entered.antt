@@ -13,7 +13,7 @@ use Rattle.segcore.proofs.Quiet.{at_unlinked, quiet_inside}
 use Rattle.segcore.proofs.Readers.{is_counted}
 
 -- an event that doesn't refill the segment leaves a linked row alone
-row_stays : (z : Shape) (e : Event) (h : List Event) (s r : ℕ) (k : List ℕ) → IsLawful z (e ∷ h) → ((p : ℕ) → e ≢ Refilled p s) → (row_after h s r).linked ≡ Some k → row_after (e ∷ h) s r ≡ row_after h s r
+pub row_stays : (z : Shape) (e : Event) (h : List Event) (s r : ℕ) (k : List ℕ) → IsLawful z (e ∷ h) → ((p : ℕ) → e ≢ Refilled p s) → (row_after h s r).linked ≡ Some k → row_after (e ∷ h) s r ≡ row_after h s r
 row_stays z (Refilled p t) h s r k l ne on = cond-false (eqb t s) (writes_row (Refilled p t) (row_after h s r)) (row_after h s r) (ne_eqb t s (λ e. ne p (ap (Refilled p) e)))
 row_stays z (Filled p t i j w) h s r k l ne on = cond-false (row_at (Filled p t i j w) s r) (writes_row (Filled p t i j w) (row_after h s r)) (row_after h s r) (false_from_ne_true (row_at (Filled p t i j w) s r) (λ y. none-some k (sym (at_unlinked z h (Filled p t i j w) s r l.1.suits (λ p' t' same. cc) y) ∙ on)))
 row_stays z (Linked p q t i n) h s r k l ne on = cond-false (row_at (Linked p q t i n) s r) (writes_row (Linked p q t i n) (row_after h s r)) (row_after h s r) (false_from_ne_true (row_at (Linked p q t i n) s r) (λ y. none-some k (sym (at_unlinked z h (Linked p q t i n) s r l.1.suits (λ p' t' same. cc) y) ∙ on)))

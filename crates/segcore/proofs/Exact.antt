@@ -1,26 +1,35 @@
--- A key stands with a value in a segment exactly where the item word at its place says so.
-use Rattle.std.proofs.Common.{◌/◌, ◌≡◌, ℕ, ◌<◌, List, [], ◌∷◌, get_or, Some, sym, refl, ap, ◌∙◌, subst, arith, bit_and}
-use Rattle.std.specs.Prelude.{slice_index, ◌↔◌}
+-- Item words and the keys that stand: a key stands with a value in a segment exactly where the item word at its place says so, and chains have no other item words.
+use Rattle.std.proofs.Common.{◌/◌, ◌^◌, ◌≡◌, ℕ, ◌<◌, List, [], ◌∷◌, get_or, Some, sym, refl, ap, ◌∙◌, subst, inl, inr, arith, bit_and}
+use Rattle.std.specs.Prelude.{slice_index, fold}
 use Rattle.std.proofs.lemmas.Option.{same_Some}
 use Rattle.segword.specs.declared.shape.Shape.{Shape}
+use Rattle.segword.specs.Shape.{IsValid}
 use Rattle.segword.specs.Bytes.{IsKey, IsValue}
+use Rattle.segword.specs.Fnv.{with_byte, hash_of}
 use Rattle.segword.specs.Row.{row_of}
 use Rattle.segword.proofs.RowLemmas.{take_key, take_value}
 use Rattle.segmodel.specs.declared.entry.Cached.{Cached}
-use Rattle.segcore.proofs.Caches.{stands}
-use Rattle.segcore.proofs.Coherent.{IsStanding, place}
-use Rattle.segcore.specs.Bucket.{slot, item, bucket_after}
-use Rattle.segcore.specs.Event.{seen}
-use Rattle.segcore.specs.Lawful.{IsLawful}
-use Rattle.segcore.specs.Row.{Row, row_after, Holds}
-use Rattle.segcore.specs.Says.{cached, StandsAt}
-use Rattle.segcore.specs.Word.{content_word}
 use Rattle.segmodel.specs.Cache.{bucket as bucket_of}
 use Rattle.segcore.specs.declared.event.Event.{Event}
+use Rattle.segcore.specs.declared.cell.Cell.{Cell}
+use Rattle.segcore.specs.Bucket.{Slot, slot, Content, nothing, item, next, copy, bucket_after}
+use Rattle.segcore.specs.Event.{seen}
+use Rattle.segcore.specs.ItemWord.{tag_of}
+use Rattle.segcore.specs.Row.{Row, Holds, row_after, frequency_of}
+use Rattle.segcore.specs.Lawful.{IsLawful}
+use Rattle.segcore.specs.Word.{IsCell, content_word, word, IsAt, IsItemAt}
+use Rattle.segcore.specs.Mark.{marked, last_at}
+use Rattle.segcore.specs.Standing.{cached, Names, StandsAt, IsReading, SaysOfKeys}
+use Rattle.segcore.proofs.Caches.{stands}
+use Rattle.segcore.proofs.Coherent.{IsContent, place}
+use Rattle.segcore.proofs.Chains.{chain_of}
 use Rattle.segcore.proofs.Standing.{coherent}
-use Rattle.segcore.proofs.Marked.{place_marked}
-use Rattle.segcore.proofs.Cells.{at_word}
-use Rattle.segcore.proofs.StepKinds.{word_content, above}
+use Rattle.segcore.proofs.Marked.{chained_marked, place_marked}
+use Rattle.segcore.proofs.Orderly.{frequency_marked}
+use Rattle.segcore.proofs.Cells.{one_cell, at_word}
+use Rattle.segcore.proofs.Homes.{cell_of}
+use Rattle.segcore.proofs.Limits.{low_row, low_segment, low_frequency, bucket_in}
+use Rattle.segcore.proofs.StepKinds.{word_content, above, cell_in, Named, names, one_place}
 
 same_words : (k v k' v' : List ℕ) → ((j : ℕ) → j < 8 → slice_index (row_of k v) j ≡ slice_index (row_of k' v') j) → row_of k v ≡ row_of k' v'
 same_words k v k' v' e =
@@ -40,34 +49,99 @@ pub one_value : (u : Row) (k v k' v' : List ℕ) → IsKey k → IsKey k' → Is
 one_value u k v k' v' l l' m m' a b = let w = row_of k v in let n = bit_and (get_or w 0 0 / 256) 255 in
     sym (take_value k v w n l m refl refl) ∙ take_value k' v' w n l' m' (sym (same_row u k v k' v' a b)) refl
 
--- the item that a key has
-found : (z : Shape) (h : List Event) (k v : List ℕ) (s n r : ℕ) → IsLawful z h → stands z (seen h) k ≡ Some (cached v s) → (bucket_after z h (bucket_of z k)).items n ≡ item (slot k s r) → IsStanding z h (bucket_of z k) n (slot k s r) → StandsAt z h k v s
-found z h k v s n r l is' at i =
-    let ev : i.value ≡ v = ap (λ (x : Cached). x.value) (same_Some (cached i.value s) (cached v s) (sym i.stands ∙ is')) in
-    let c = coherent z h l in record {
-      valid = (i.valid.0, subst IsValue ev i.valid.1);
+-- ---- words that name rows
+
+hash_low : (bytes : List ℕ) (a : ℕ) → a < 2 ^ 64 → fold with_byte a bytes < 2 ^ 64
+hash_low [] a lt = lt
+hash_low (x ∷ bytes) a lt = hash_low bytes (with_byte a x) (omega arith)
+
+-- a tag isn't 0, and fits
+pub tagged : (k : List ℕ) → (0 < tag_of k) × (tag_of k < 4096)
+unfolding tag_of
+tagged k = let lt : hash_of k < 2 ^ 64 = hash_low k 0xcbf2_9ce4_8422_2325 (omega arith) in (omega arith, omega arith)
+
+pub content_at : (z : Shape) (h : List Event) (b n : ℕ) (c : Cell) → IsItemAt z h b n c → word z h c ≡ content_word h ((bucket_after z h b).items n)
+content_at z h b n c i = at_word z h b n c i.1 ∙ word_content z h (bucket_after z h b) n (above (bucket_after z h b) n i.0)
+
+-- the word of an item names its row
+pub item_names : (z : Shape) (h : List Event) (b n : ℕ) (c : Cell) (a : Slot) → IsLawful z h → IsCell z c → IsItemAt z h b n c → (bucket_after z h b).items n ≡ item a → Names z h b n c (tag_of a.key) a.segment a.row
+item_names z h b n c a l lt i is' = record {
+  here = i;
+  in_table = lt;
+  tagged = tagged a.key;
+  in_segment = ((coherent z h l).items b n a is').within;
+  frequency = frequency_of h a.segment a.row;
+  small = low_frequency z h a.segment a.row l;
+  reads = content_at z h b n c i ∙ ap (content_word h) is';
+}
+
+-- a word that names a row is that of an item
+pub named_at : (z : Shape) (h : List Event) (b n : ℕ) (c : Cell) (t s r : ℕ) → IsValid z → IsLawful z h → (x : Names z h b n c t s r) → Named z h b n t s r x.frequency
+named_at z h b n c t s r v l x =
+    names z h b n t s r x.frequency v l x.here.0 (x.tagged.0, x.tagged.1, low_segment z s v x.in_segment.0, low_row z r v x.in_segment.1) x.small (sym (content_at z h b n c x.here) ∙ x.reads)
+
+-- ---- the word of a key that stands
+
+pub stands_at : (z : Shape) (h : List Event) (k v : List ℕ) (s : ℕ) → IsValid z → IsLawful z h → stands z (seen h) k ≡ Some (cached v s) → StandsAt z h k v s
+stands_at z h k v s valid l is' =
+    let c = coherent z h l in let w = c.all k (cached v s) is' in let b = bucket_of z k in let n = w.0 in let a = w.1 in
+    let i = c.items b n a w.2 in
+    let same = same_Some (cached i.value a.segment) (cached v s) (sym i.stands ∙ (ap (stands z (seen h)) w.3 ∙ is')) in
+    let es : a.segment ≡ s = ap (λ (x : Cached). x.segment) same in
+    let ev : i.value ≡ v = ap (λ (x : Cached). x.value) same in
+    let d = cell_of z h b n l i.position in record {
+      valid = (subst IsKey w.3 i.valid.0, subst IsValue ev i.valid.1);
       position = n;
-      placed = place_marked z h k ∙ c.placed (bucket_of z k) n (slot k s r) at;
-      within = i.position;
-      row = r;
-      linked = i.linked;
-      holds = subst (Holds (row_after h s r) k) ev i.holds;
-      here = at;
-      reads = λ d j. at_word z h (bucket_of z k) n d j ∙ (word_content z h (bucket_after z h (bucket_of z k)) n (above (bucket_after z h (bucket_of z k)) n i.position) ∙ ap (content_word h) at);
-      only = λ m a at' ek. same_Some m n (sym (c.placed (bucket_of z k) m a at') ∙ (ap (place z h) ek ∙ c.placed (bucket_of z k) n (slot k s r) at));
+      cell = d.0;
+      placed = place_marked z h k ∙ (ap (place z h) (sym w.3) ∙ c.placed b n a w.2);
+      row = a.row;
+      last = ap (last_at (marked h)) (sym w.3) ∙ (i.last ∙ (λ j. Some (slot (w.3 j) (es j) a.row)));
+      names = (subst (λ x. Names z h b n d.0 x s a.row) (ap tag_of w.3) (subst (λ x. Names z h b n d.0 (tag_of a.key) x a.row) es
+          (item_names z h b n d.0 a l (cell_in z h b n d.0 l (bucket_in z k valid) d.1) (i.position, d.1) w.2)));
+      holds = (let f : Holds (row_after h a.segment a.row) a.key i.value = i.holds in λ j lt. ap (λ x. (row_after h x a.row).words j) (sym es) ∙ (f j lt ∙ (λ t. slice_index (row_of (w.3 t) (ev t)) j)));
     }
 
-stands_at : (z : Shape) (h : List Event) (k v : List ℕ) (s : ℕ) → IsLawful z h → stands z (seen h) k ≡ Some (cached v s) → StandsAt z h k v s
-stands_at z h k v s l is' =
-    let c = coherent z h l in let w = c.all k (cached v s) is' in let i = c.items (bucket_of z k) w.0 w.1 w.2 in
-    let es : w.1.segment ≡ s = ap (λ (x : Cached). x.segment) (same_Some (cached i.value w.1.segment) (cached v s) (sym i.stands ∙ (ap (stands z (seen h)) w.3 ∙ is'))) in
-    let e : w.1 ≡ slot k s w.1.row = (λ j. slot (w.3 j) (es j) w.1.row) in
-    found z h k v s w.0 w.1.row l is' (w.2 ∙ ap item e) (subst (IsStanding z h (bucket_of z k) w.0) e i)
+pub stands_there : (z : Shape) (h : List Event) (k v : List ℕ) (s : ℕ) → IsValid z → IsLawful z h → StandsAt z h k v s → stands z (seen h) k ≡ Some (cached v s)
+stands_there z h k v s valid l t =
+    let b = bucket_of z k in
+    let x = named_at z h b t.position t.cell (tag_of k) s t.row valid l t.names in
+    let i = (coherent z h l).items b t.position x.slot x.here in
+    let held : Holds (row_after h s t.row) x.slot.key i.value = (λ j lt. (λ y. (row_after h (sym x.segment y) (sym x.row y)).words j) ∙ i.holds j lt) in
+    let ek = one_key (row_after h s t.row) x.slot.key i.value k v i.valid.0 t.valid.0 held t.holds in
+    let ev = one_value (row_after h s t.row) x.slot.key i.value k v i.valid.0 t.valid.0 i.valid.1 t.valid.1 held t.holds in
+    ap (stands z (seen h)) (sym ek) ∙ (i.stands ∙ (λ j. Some (cached (ev j) (x.segment j))))
 
-stands_there : (z : Shape) (h : List Event) (k v : List ℕ) (s : ℕ) → IsLawful z h → StandsAt z h k v s → stands z (seen h) k ≡ Some (cached v s)
-stands_there z h k v s l t =
-    let i = (coherent z h l).items (bucket_of z k) t.position (slot k s t.row) t.here in
-    i.stands ∙ ap (λ x. Some (cached x s)) (one_value (row_after h s t.row) k i.value k v i.valid.0 t.valid.0 i.valid.1 t.valid.1 i.holds t.holds)
+-- ---- the readings of a chain's words
 
-pub exact : (z : Shape) (h : List Event) (k v : List ℕ) (s : ℕ) → IsLawful z h → (stands z (seen h) k ≡ Some (cached v s)) ↔ StandsAt z h k v s
-exact z h k v s l = (stands_at z h k v s l, stands_there z h k v s l)
+readings_of : (z : Shape) (h : List Event) (b n : ℕ) (c : Cell) → b < z.buckets → IsLawful z h → IsItemAt z h b n c → (o : Content) → (bucket_after z h b).items n ≡ o → IsContent h b (bucket_after z h b) n o → IsReading z h b n c
+readings_of z h b n c lt l i nothing is' w = inl (content_at z h b n c i ∙ ap (content_word h) is')
+readings_of z h b n c lt l i (item a) is' w = let co = coherent z h l in let x = co.items b n a is' in inr (inr (record {
+  key = a.key;
+  value = x.value;
+  segment = a.segment;
+  of = x.here;
+  stands = x.stands;
+  placed = place_marked z h a.key ∙ co.placed b n a is';
+  row = a.row;
+  names = item_names z h b n c a l (cell_in z h b n c l lt i.1) i is';
+}))
+readings_of z h b n c lt l i (next m) is' w = inr (inl (record {
+  depth = w.0;
+  at_end = w.2;
+  inside = subst (λ x. w.0 < x) (sym (chained_marked z h b)) w.1;
+  number = m;
+  next = w.3;
+  reads = content_at z h b n c i ∙ ap (content_word h) is';
+}))
+readings_of z h b n c lt l i (copy w') is' w = let e = w.0 in let lt' = i.0.0 in absurd (omega arith)
+
+pub says_of_keys : (z : Shape) (h : List Event) → IsValid z → IsLawful z h → SaysOfKeys z h
+says_of_keys z h v l = record {
+  stands = λ k x s. (stands_at z h k x s v l, stands_there z h k x s v l);
+  readings = λ b n c lt i. readings_of z h b n c lt l i ((bucket_after z h b).items n) refl ((chain_of z h l b).contents n);
+  once = λ b n b' n' c c' t t' s r x y.
+      let i = named_at z h b n c t s r v l x in let j = named_at z h b' n' c' t' s r v l y in
+      let o = one_place z h b n b' n' i.slot j.slot l i.here j.here (i.segment ∙ sym j.segment) (i.row ∙ sym j.row) in
+      (o.0, o.1, one_cell z h b' n' c c' l (subst (λ k. IsAt h k n' c) o.0 (subst (λ k. IsAt h b k c) o.1 x.here.1)) y.here.1);
+  frequencies = λ b n c t s r x. sym (named_at z h b n c t s r v l x).frequency ∙ sym (frequency_marked h s r);
+}

@@ -19,7 +19,7 @@ pub none_after : (p q : ℕ) (xs ys : List Event) → AllBy p xs → q ≢ p →
 none_after p q [] ys a ne n = n
 none_after p q (e ∷ xs) ys a ne n = ((λ same. ne (sym same ∙ a.0)), none_after p q xs ys a.1 ne n)
 
-inside_list : {A : Type 0} (l : List A) (i : ℕ) (a : A) → get_elem? l i ≡ some a → i < length l
+pub inside_list : {A : Type 0} (l : List A) (i : ℕ) (a : A) → get_elem? l i ≡ some a → i < length l
 inside_list [] i a e = absurd (some-ne-none a (sym e))
 inside_list (x ∷ xs) zero a e = omega arith
 inside_list (x ∷ xs) (suc i) a e = let h = inside_list xs i a e in omega arith

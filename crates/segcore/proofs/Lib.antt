@@ -14,8 +14,14 @@ pub mod Schedules
 pub mod Versions
 pub mod Scans
 pub mod Marked
+pub mod Orderly
 pub mod Exact
 pub mod Entered
 pub mod Says
 pub mod Example
 pub mod Allowed
+pub mod Homes
+pub mod Buckets
+pub mod Segments
+pub mod Moments
+pub mod Passes

@@ -1,9 +1,11 @@
 -- The numbers that a lawful history names fit into their words.
-use Rattle.std.proofs.Common.{ℕ, ◌*◌, ◌^◌, ◌<◌, ◌≤◌, eqb, ◌&&◌, List, [], ◌∷◌, ⊎_elim, arith}
+use Rattle.std.proofs.Common.{◌≡◌, ℕ, ◌*◌, ◌^◌, ◌<◌, ◌≤◌, eqb, ◌&&◌, List, [], ◌∷◌, ⊎_elim, arith}
 use Rattle.std.proofs.lemmas.Bool.{cases_Bool}
 use Rattle.std.proofs.Math.Nat.{mul-le-mul_right}
 use Rattle.segword.specs.declared.shape.Shape.{Shape}
+use Rattle.std.proofs.lemmas.Nat.{pow_pos}
 use Rattle.segword.specs.Shape.{IsValid}
+use Rattle.segmodel.specs.Cache.{bucket as bucket_of}
 use Rattle.segcore.specs.declared.event.Event.{Event}
 use Rattle.segcore.specs.declared.event.Event.TheVariants.{Linked, Drew, Bumped}
 use Rattle.segcore.specs.Lawful.{IsLawful}
@@ -12,6 +14,9 @@ use Rattle.segcore.specs.Row.{frequency_of}
 
 pub few_passes : (z : Shape) → IsValid z → z.passes ≤ 64
 few_passes z v = v.0.0.0.1.1
+
+pub bucket_in : (z : Shape) (k : List ℕ) → IsValid z → bucket_of z k < z.buckets
+bucket_in z k v = let p = v.0.0.0.0.0.0 in let lt = pow_pos p.0 in let e : z.buckets ≡ 2 ^ p.0 = p.1 in omega arith
 
 pub few_drawn : (z : Shape) → IsValid z → z.overflow ≤ 65536
 few_drawn z v = v.0.0.0.0.1

@@ -29,7 +29,7 @@ kept : {A : Type 0} (F : Bucket → A) (t : Bool) (u v : Bucket) → F v ≡ F u
 kept F true u v e = e
 kept F false u v e = refl
 
-chained_kept : (z : Shape) (e : Event) (h : List Event) (b : ℕ) → ((u : Bucket) → (acts e u).chained ≡ u.chained) → (bucket_after z (e ∷ h) b).chained ≡ (bucket_after z h b).chained
+pub chained_kept : (z : Shape) (e : Event) (h : List Event) (b : ℕ) → ((u : Bucket) → (acts e u).chained ≡ u.chained) → (bucket_after z (e ∷ h) b).chained ≡ (bucket_after z h b).chained
 chained_kept z e h b f = kept (λ u. u.chained) (is (bucket_at z e) b) (bucket_after z h b) (acts e (bucket_after z h b)) (f (bucket_after z h b))
 
 pub chained_marked : (z : Shape) (h : List Event) (b : ℕ) → chained_to (marked h) b ≡ (bucket_after z h b).chained
@@ -40,28 +40,28 @@ chained_marked z (Chained p a m ∷ h) b = let i = chained_marked z h b in ⊎_e
     (cases_Bool (eqb a b))
 chained_marked z (e ∷ h) b = chained_marked z h b ∙ sym (chained_kept z e h b (λ u. refl))
 
-abbrev one_if : Option ℕ → ℕ
+abbrev pub one_if : Option ℕ → ℕ
 one_if None = 0
 one_if (Some m) = 1
 
-abbrev drawn_in : Bucket → ℕ
-drawn_in u = u.chained + one_if u.spare
+abbrev pub drawn_of : Bucket → ℕ
+drawn_of u = u.chained + one_if u.spare
 
-drawn_kept : (z : Shape) (e : Event) (h : List Event) (b : ℕ) → ((u : Bucket) → drawn_in (acts e u) ≡ drawn_in u) → drawn_in (bucket_after z (e ∷ h) b) ≡ drawn_in (bucket_after z h b)
-drawn_kept z e h b f = kept drawn_in (is (bucket_at z e) b) (bucket_after z h b) (acts e (bucket_after z h b)) (f (bucket_after z h b))
+drawn_kept : (z : Shape) (e : Event) (h : List Event) (b : ℕ) → ((u : Bucket) → drawn_of (acts e u) ≡ drawn_of u) → drawn_of (bucket_after z (e ∷ h) b) ≡ drawn_of (bucket_after z h b)
+drawn_kept z e h b f = kept drawn_of (is (bucket_at z e) b) (bucket_after z h b) (acts e (bucket_after z h b)) (f (bucket_after z h b))
 
-pub drawn_marked : (z : Shape) (h : List Event) (b : ℕ) → IsLawful z h → drawn_for (marked h) b ≡ drawn_in (bucket_after z h b)
+pub drawn_marked : (z : Shape) (h : List Event) (b : ℕ) → IsLawful z h → drawn_for (marked h) b ≡ drawn_of (bucket_after z h b)
 drawn_marked z [] b l = refl
 drawn_marked z (Drew p a d m ∷ h) b l = let i = drawn_marked z h b l.0 in ⊎_elim
     (λ t. let no_spare : (bucket_after z h b).spare ≡ None = rw (← eqb-true a b t) l.1.suits.2 in
     cond-true (eqb a b) (drawn_for (marked h) b + 1) (drawn_for (marked h) b) t ∙ (ap (λ n. n + 1) (i ∙ ap (λ o. (bucket_after z h b).chained + one_if o) no_spare)
-    ∙ (omega arith ∙ sym (ap drawn_in (cond-true (eqb a b) (acts (Drew p a d m) (bucket_after z h b)) (bucket_after z h b) t)))))
-    (λ f. cond-false (eqb a b) (drawn_for (marked h) b + 1) (drawn_for (marked h) b) f ∙ (i ∙ sym (ap drawn_in (cond-false (eqb a b) (acts (Drew p a d m) (bucket_after z h b)) (bucket_after z h b) f))))
+    ∙ (omega arith ∙ sym (ap drawn_of (cond-true (eqb a b) (acts (Drew p a d m) (bucket_after z h b)) (bucket_after z h b) t)))))
+    (λ f. cond-false (eqb a b) (drawn_for (marked h) b + 1) (drawn_for (marked h) b) f ∙ (i ∙ sym (ap drawn_of (cond-false (eqb a b) (acts (Drew p a d m) (bucket_after z h b)) (bucket_after z h b) f))))
     (cases_Bool (eqb a b))
 drawn_marked z (Chained p a m ∷ h) b l = let i = drawn_marked z h b l.0 in ⊎_elim
     (λ t. let had : (bucket_after z h b).spare ≡ Some m = rw (← eqb-true a b t) l.1.suits.0 in
-    i ∙ (ap (λ o. (bucket_after z h b).chained + one_if o) had ∙ (omega arith ∙ sym (ap drawn_in (cond-true (eqb a b) (acts (Chained p a m) (bucket_after z h b)) (bucket_after z h b) t)))))
-    (λ f. i ∙ sym (ap drawn_in (cond-false (eqb a b) (acts (Chained p a m) (bucket_after z h b)) (bucket_after z h b) f)))
+    i ∙ (ap (λ o. (bucket_after z h b).chained + one_if o) had ∙ (omega arith ∙ sym (ap drawn_of (cond-true (eqb a b) (acts (Chained p a m) (bucket_after z h b)) (bucket_after z h b) t)))))
+    (λ f. i ∙ sym (ap drawn_of (cond-false (eqb a b) (acts (Chained p a m) (bucket_after z h b)) (bucket_after z h b) f)))
     (cases_Bool (eqb a b))
 drawn_marked z (e ∷ h) b l = drawn_marked z h b l.0 ∙ sym (drawn_kept z e h b (λ u. refl))
 

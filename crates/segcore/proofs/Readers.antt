@@ -10,7 +10,7 @@ use Rattle.segmodel.specs.declared.request.Reply.TheVariants.{Stored}
 use Rattle.segcore.specs.Event.{by, seen, NoneBy}
 use Rattle.segcore.specs.Lawful.{Fits, IsLawful}
 use Rattle.segcore.specs.Mark.{same_key}
-use Rattle.segcore.specs.Says.{cached}
+use Rattle.segcore.specs.Standing.{cached}
 use Rattle.segcore.specs.Segment.{inside, readers}
 use Rattle.segmodel.specs.Cache.{owner}
 use Rattle.segmodel.specs.History.{NoneStandsIn, after}

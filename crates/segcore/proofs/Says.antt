@@ -1,25 +1,25 @@
--- All that a lawful history says of the table and the map.
-use Rattle.std.proofs.Common.{List, subst}
+-- All that a lawful world says.
+use Rattle.std.proofs.Common.{ℕ, List}
 use Rattle.segword.specs.declared.shape.Shape.{Shape}
-use Rattle.segcore.specs.declared.event.Event.{Event}
-use Rattle.segcore.specs.Lawful.{IsLawful}
+use Rattle.segcore.specs.Kind.{Step}
+use Rattle.segcore.specs.World.{World, Reaches}
 use Rattle.segcore.specs.Says.{Says}
+use Rattle.segcore.proofs.Schedules.{lawful}
 use Rattle.segcore.proofs.Standing.{legal}
-use Rattle.segcore.proofs.Exact.{exact}
-use Rattle.segcore.proofs.Cells.{rising}
-use Rattle.segcore.proofs.Limits.{drawn_few}
-use Rattle.segcore.proofs.StepKinds.{one_place}
-use Rattle.segcore.proofs.Versions.{versions, free}
 use Rattle.segcore.proofs.Marked.{placed}
-use Rattle.segcore.proofs.Entered.{none_in}
+use Rattle.segcore.proofs.Orderly.{orderly}
+use Rattle.segcore.proofs.Exact.{says_of_keys}
+use Rattle.segcore.proofs.Buckets.{says_of_buckets}
+use Rattle.segcore.proofs.Segments.{says_of_segments}
+use Rattle.segcore.proofs.Passes.{says_of_passes}
 
-pub says : (z : Shape) (h : List Event) → IsLawful z h → Says z h
-says z h l = record {
-  legal = legal z h l;
-  stands = λ k v s. exact z h k v s l;
-  rows = λ b n b' n' a a'. one_place z h b n b' n' a a' l;
-  drawn = record { few = drawn_few z h l; rising = λ m n b d e. rising z h m n b d e l };
-  versions = λ b. (versions z h b l, free z h b l);
-  placed = placed z h l;
-  readers = λ more g q p s is' few. none_in z more g q p s few (subst (IsLawful z) is' l);
+pub says : (z : Shape) (ss : List (ℕ × Step)) (w : World) → Reaches z ss w → Says z w
+says z ss w r = let l = lawful z ss w r in let h = w.trace in record {
+  legal = legal z h l.legal;
+  placed = placed z h l.legal;
+  orderly = orderly z h l.legal;
+  keys = says_of_keys z h l.valid l.legal;
+  buckets = says_of_buckets z h l.legal;
+  segments = says_of_segments z h l.legal;
+  passes = says_of_passes z ss w r l;
 }

@@ -14,9 +14,9 @@ use Rattle.segcore.proofs.Coherent.{IsContent, IsChain, IsStanding, moved, place
 use Rattle.segcore.specs.Bucket.{Slot, slot, Content, nothing, item, next, copy, Bucket, last, fresh, bucket_at, is, acts, bucket_after, IsPosition}
 use Rattle.segcore.specs.Event.{removal, seen}
 use Rattle.segcore.specs.Lawful.{IsRefusal, HasRoomFor, Suits, IsLawful}
-use Rattle.segcore.specs.Mark.{same_key}
+use Rattle.segcore.specs.Mark.{same_key, marked, last_at}
 use Rattle.segcore.specs.Row.{Row, row_at, writes_row, row_after}
-use Rattle.segcore.specs.Says.{cached}
+use Rattle.segcore.specs.Standing.{cached}
 use Rattle.segmodel.specs.Cache.{bucket as bucket_of}
 use Rattle.segmodel.specs.History.{IsLegal}
 use Rattle.segcore.specs.declared.event.Event.{Event}
@@ -26,8 +26,8 @@ use Rattle.segcore.proofs.Quiet.{at_unlinked}
 use Rattle.segcore.proofs.Chains.{same_item, no_item, next_item, copy_item, chain_of}
 
 -- an item stands after the event as before, at the position n'
-stood : (z : Shape) (h : List Event) (e : Event) (b n n' : ℕ) (a : Slot) → IsStanding z h b n a → IsPosition (bucket_after z (e ∷ h) b) n' → row_after (e ∷ h) a.segment a.row ≡ row_after h a.segment a.row → stands z (seen (e ∷ h)) a.key ≡ stands z (seen h) a.key → IsStanding z (e ∷ h) b n' a
-stood z h e b n n' a s i w k = record {
+stood : (z : Shape) (h : List Event) (e : Event) (b n n' : ℕ) (a : Slot) → IsStanding z h b n a → IsPosition (bucket_after z (e ∷ h) b) n' → row_after (e ∷ h) a.segment a.row ≡ row_after h a.segment a.row → stands z (seen (e ∷ h)) a.key ≡ stands z (seen h) a.key → last_at (marked (e ∷ h)) a.key ≡ last_at (marked h) a.key → IsStanding z (e ∷ h) b n' a
+stood z h e b n n' a s i w k m = record {
   here = s.here;
   position = i;
   within = s.within;
@@ -36,6 +36,7 @@ stood z h e b n n' a s i w k = record {
   valid = s.valid;
   holds = λ j lt. ap (λ (u : Row). u.words j) w ∙ s.holds j lt;
   stands = k ∙ s.stands;
+  last = m ∙ s.last;
 }
 
 abbrev LinkedRowsStay : Shape → List Event → Event → Type 0
@@ -49,12 +50,13 @@ pub record Calm (z : Shape) (h : List Event) (e : Event) : Type 0 where
   pub keys : (k : List ℕ) → stands z (seen (e ∷ h)) k ≡ stands z (seen h) k
   pub rows : LinkedRowsStay z h e
   pub places : (k : List ℕ) → place z (e ∷ h) k ≡ place z h k
+  pub lasts : (k : List ℕ) → last_at (marked (e ∷ h)) k ≡ last_at (marked h) k
 
 calm : (z : Shape) (h : List Event) (e : Event) → IsLawful z (e ∷ h) → Calm z h e → Coherent z h → Coherent z (e ∷ h)
 calm z h e l q c = record {
   chains = chain_of z (e ∷ h) l;
   items = λ b n a at. let s = c.items b n a (q.back b n a at) in let w = q.chains b in let lt = s.position.0 in
-      stood z h e b n n a s (omega arith, s.position.1) (q.rows a.segment a.row a.key s.value s.linked s.stands) (q.keys a.key);
+      stood z h e b n n a s (omega arith, s.position.1) (q.rows a.segment a.row a.key s.value s.linked s.stands) (q.keys a.key) (q.lasts a.key);
   placed = λ b n a at. q.places a.key ∙ c.placed b n a (q.back b n a at);
   all = λ k x at. let s = c.all k x (sym (q.keys k) ∙ at) in (s.0, s.1, q.on (bucket_of z k) s.0 s.1 s.2, s.3);
 }
@@ -84,6 +86,7 @@ pub record Puts (z : Shape) (h : List Event) (e : Event) (k0 : List ℕ) (n : �
   pub keys : (k : List ℕ) → stands z (seen (e ∷ h)) k ≡ cond (same_key k0 k) x (stands z (seen h) k)
   pub rows : LinkedRowsStay z h e
   pub places : (k : List ℕ) → same_key k0 k ≡ false → place z (e ∷ h) k ≡ place z h k
+  pub lasts : (k : List ℕ) → same_key k0 k ≡ false → last_at (marked (e ∷ h)) k ≡ last_at (marked h) k
   pub new_place : (a : Slot) → o ≡ item a → place z (e ∷ h) a.key ≡ Some n
   pub new : (a : Slot) → o ≡ item a → IsStanding z (e ∷ h) (bucket_of z k0) n a
   pub own : (a : Slot) → o ≡ item a → a.key ≡ k0
@@ -124,6 +127,7 @@ module _ (z : Shape) (h : List Event) (e : Event) (k0 : List ℕ) (n : ℕ) (o :
   stays b m a s ne = let q = same_chained b in let lt = s.position.0 in
       stood z h e b m m a s (omega arith, s.position.1) (p.rows a.segment a.row a.key s.value s.linked s.stands)
       (p.keys a.key ∙ cond-false (same_key k0 a.key) x (stands z (seen h) a.key) (same_false k0 a.key (λ q. ne (sym q))))
+      (p.lasts a.key (same_false k0 a.key (λ q. ne (sym q))))
 
   puts : IsLawful z (e ∷ h) → Coherent z h → Turns z h k0 n → Coherent z (e ∷ h)
   puts l c t = record {
@@ -170,6 +174,7 @@ links z h p q s r n u = let e = Linked p q s r n in let k = key_of q in
       valid = (u.5, u.6);
       holds = λ j lt. ap (λ (w : Row). w.words j) same_row ∙ u.1 j lt;
       stands = stands_wrote z p q Stored (Some s) (seen h) k ∙ cond-true (same_key k k) (Some (cached (value_of q) s)) (stands z (seen h) k) (same_true k k refl);
+      last = cond-true (same_key k k) (Some (slot k s r)) (last_at (marked h) k) (same_true k k refl);
     } in
     record {
       at = λ b. refl;
@@ -178,6 +183,7 @@ links z h p q s r n u = let e = Linked p q s r n in let k = key_of q in
       keys = stands_wrote z p q Stored (Some s) (seen h);
       rows = rows_stay z h e u (λ p' t' same. cc);
       places = λ k' f. cond-false (same_key k k') (Some n) (place z h k') f;
+      lasts = λ k' f. cond-false (same_key k k') (Some (slot k' s r)) (last_at (marked h) k') f;
       new_place = λ a is'. cond-true (same_key k a.key) (Some n) (place z h a.key) (same_true k a.key (ap (λ o. o.key) (same_item (slot k s r) a is')));
       new = λ a is'. subst (IsStanding z (e ∷ h) b0 n) (same_item (slot k s r) a is') new;
       own = λ a is'. ap (λ o. o.key) (sym (same_item (slot k s r) a is'));
@@ -196,6 +202,7 @@ unlinks z h p k n why = record {
   keys = gone z p k why h;
   rows = λ s r k v on is'. refl;
   places = λ k f. refl;
+  lasts = λ k f. refl;
   new_place = λ a is'. absurd (no_item a is');
   new = λ a is'. absurd (no_item a is');
   own = λ a is'. absurd (no_item a is');
@@ -235,8 +242,8 @@ module _ (z : Shape) (h : List Event) (p b m : ℕ) (l : IsLawful z (Chained p b
 
   standing : (n : ℕ) (a : Slot) → (acts e u).items n ≡ item a → IsStanding z (e ∷ h) b n a
   standing n a is' = ⊎_elim
-      (λ w. let q = w.0 in stood z h e b (last u) n a (c.items b (last u) a w.1) (subst (λ v. IsPosition v n) (sym grown) (omega arith, omega arith)) refl refl)
-      (λ w. let s = c.items b n a w.1 in let lt = s.position.0 in stood z h e b n n a s (subst (λ v. IsPosition v n) (sym grown) (omega arith, s.position.1)) refl refl)
+      (λ w. let q = w.0 in stood z h e b (last u) n a (c.items b (last u) a w.1) (subst (λ v. IsPosition v n) (sym grown) (omega arith, omega arith)) refl refl refl)
+      (λ w. let s = c.items b n a w.1 in let lt = s.position.0 in stood z h e b n n a s (subst (λ v. IsPosition v n) (sym grown) (omega arith, s.position.1)) refl refl refl)
       (from n a is')
 
   here_place : (n : ℕ) (a : Slot) → (acts e u).items n ≡ item a → moved u (place z h a.key) ≡ Some n
@@ -251,7 +258,7 @@ module _ (z : Shape) (h : List Event) (p b m : ℕ) (l : IsLawful z (Chained p b
     items = λ a n x is'. ⊎_elim
         (λ t. let eb = eqb-true b a t in subst (λ (y : ℕ). IsStanding z (e ∷ h) y n x) eb (standing n x (ap (λ v. v.items n) (sym grown) ∙ subst (λ (y : ℕ). (bucket_after z (e ∷ h) y).items n ≡ item x) (sym eb) is')))
         (λ f. let s = others_same a f in let o = c.items a n x (ap (λ v. v.items n) (sym s) ∙ is') in
-        stood z h e a n n x o (subst (λ v. IsPosition v n) (sym s) o.position) refl refl)
+        stood z h e a n n x o (subst (λ v. IsPosition v n) (sym s) o.position) refl refl refl)
         (cases_Bool (eqb b a));
     placed = λ a n x is'. ⊎_elim
         (λ t. let eb = eqb-true b a t in let at : (acts e u).items n ≡ item x = ap (λ v. v.items n) (sym grown) ∙ subst (λ (y : ℕ). (bucket_after z (e ∷ h) y).items n ≡ item x) (sym eb) is' in
@@ -330,6 +337,10 @@ same_places z (Linked p q s r n) h k t = absurd (false≢true (sym t))
 same_places z (Chained p b m) h k t = absurd (false≢true (sym t))
 same_places z e h k t = refl
 
+same_lasts : (e : Event) (h : List Event) (k : List ℕ) → Turning e ≡ false → last_at (marked (e ∷ h)) k ≡ last_at (marked h) k
+same_lasts (Linked p q s r n) h k t = absurd (false≢true (sym t))
+same_lasts e h k t = refl
+
 calm_rows : (z : Shape) (e : Event) (h : List Event) → IsLawful z (e ∷ h) → LinkedRowsStay z h e
 calm_rows z (Refilled p s) h l t r k v on is' = cond-false (eqb s t) (writes_row (Refilled p s) (row_after h t r)) (row_after h t r) (ne_eqb s t (λ e. l.1.follows.0 k (stands_in z (seen h) k s (v, is' ∙ ap (λ q. Some (cached v q)) (sym e)))))
 calm_rows z (Filled p s r j w) h l t i k v on is' = rows_stay z h (Filled p s r j w) l.1.suits (λ p' t' same. cc) t i k v on is'
@@ -347,6 +358,7 @@ is_calm z e h t l c = record {
   keys = λ k. same_map z e h k t l.1.suits;
   rows = calm_rows z e h l;
   places = λ k. same_places z e h k t;
+  lasts = λ k. same_lasts e h k t;
 }
 
 -- in a lawful history the chains and the map agree

@@ -32,6 +32,7 @@ use Rattle.segcore.proofs.Quiet.{quiet, later, not_mine, home_drawn, position_st
 use Rattle.segcore.proofs.Chains.{chain_of}
 use Rattle.segcore.proofs.Standing.{coherent}
 use Rattle.segcore.proofs.Cells.{Elsewhere, at_stays, at_word, touch, change_at}
+use Rattle.segcore.proofs.Caches.{same_either}
 use Rattle.segcore.proofs.Readers.{counted, is_counted, empty_stays}
 use Rattle.segcore.proofs.Limits.{few_passes, few_drawn, low_row, low_segment, low_frequency, drawn_few}
 
@@ -139,10 +140,6 @@ bit_known z more h p b false l n k = lacks (bucket_after z (more ++ h) b).holder
     lacks : (o : Option ℕ) → o ≢ Some p → is o p ≡ false
     lacks None ne = refl
     lacks (Some q) ne = ne_eqb q p (λ e. ne (ap Some e))
-
-same_either : {A : Type 0} (t : Bool) (x : A) → cond t x x ≡ x
-same_either true x = refl
-same_either false x = refl
 
 told_same : (z : Shape) (p : ℕ) (said : Option (Request × Reply)) (now : List Event) (c : Cell) → word z (told p said ++ now) c ≡ word z now c
 told_same z p None now c = refl
@@ -337,7 +334,7 @@ draw_at z p b d from now has sp ed lt few l =
 -- ---- frequencies
 
 -- what an item word at a position of a chain says
-pub record Names (z : Shape) (now : List Event) (b n t s r f : ℕ) : Type 0 where
+pub record Named (z : Shape) (now : List Event) (b n t s r f : ℕ) : Type 0 where
   pub slot : Slot
   pub here : (bucket_after z now b).items n ≡ item slot
   pub tag : tag_of slot.key ≡ t
@@ -348,10 +345,10 @@ pub record Names (z : Shape) (now : List Event) (b n t s r f : ℕ) : Type 0 whe
 same_parts : (t f s r t' f' s' r' : ℕ) → f < 256 → f' < 256 → s < 2 ^ 24 → s' < 2 ^ 24 → r < 2 ^ 20 → r' < 2 ^ 20 → packed t f s r ≡ packed t' f' s' r' → (t ≡ t') × (f ≡ f') × (s ≡ s') × (r ≡ r')
 same_parts t f s r t' f' s' r' a a' b b' c c' e = (omega arith, omega arith, omega arith, omega arith)
 
-names : (z : Shape) (now : List Event) (b n t s r f : ℕ) → IsValid z → IsLawful z now → IsPosition (bucket_after z now b) n → IsInItem t s r → f < 256 → content_word now ((bucket_after z now b).items n) ≡ packed t f s r → Names z now b n t s r f
+pub names : (z : Shape) (now : List Event) (b n t s r f : ℕ) → IsValid z → IsLawful z now → IsPosition (bucket_after z now b) n → IsInItem t s r → f < 256 → content_word now ((bucket_after z now b).items n) ≡ packed t f s r → Named z now b n t s r f
 names z now b n t s r f v l i q lf e = by_content ((bucket_after z now b).items n) refl ((chain_of z now l b).contents n) e
   where
-    by_content : (c : Content) → (bucket_after z now b).items n ≡ c → IsContent now b (bucket_after z now b) n c → content_word now c ≡ packed t f s r → Names z now b n t s r f
+    by_content : (c : Content) → (bucket_after z now b).items n ≡ c → IsContent now b (bucket_after z now b) n c → content_word now c ≡ packed t f s r → Named z now b n t s r f
     by_content nothing is' k e = let a = q.0 in absurd (omega arith)
     by_content (next m) is' k e = let a = q.0 in let lt = home_drawn z now m _ l k.3 in let d = drawn_few z now l in let o = few_drawn z v in absurd (omega arith)
     by_content (copy w) is' k e = let a = i.0 in let x = k.0 in absurd (omega arith)
@@ -387,7 +384,7 @@ bump_at z p b n c t s r f g now v lb i q lt lg l =
     (λ y. nothing_new z (bump b n c t s r f g) p now (cond-false (eqb found old) (e ∷ []) [] y) (either_miss found old (packed t g s r) y) inside' l)
     (cases_Bool (eqb found old))
   where
-    change : Names z now b n t s r f → (b' n' : ℕ) → word_in z (Bumped p s r g ∷ now) (bucket_after z (Bumped p s r g ∷ now) b') n' ≡ cond (eqb b b' && eqb n n') (packed t g s r) (word_in z now (bucket_after z now b') n')
+    change : Named z now b n t s r f → (b' n' : ℕ) → word_in z (Bumped p s r g ∷ now) (bucket_after z (Bumped p s r g ∷ now) b') n' ≡ cond (eqb b b' && eqb n n') (packed t g s r) (word_in z now (bucket_after z now b') n')
     change x b' zero = sym (cond-false (eqb b b' && eqb n 0) (packed t g s r) _ (false_from_ne_true (eqb b b' && eqb n 0) (λ y. let w = eqb-true n 0 (and_parts (eqb b b') (eqb n 0) y).1 in let lt' = above (bucket_after z now b) n i.0 in omega arith)))
     change x b' (suc n') = ⊎_elim
         (λ y. let w = and_parts (eqb b b') (eqb n (suc n')) y in
@@ -400,7 +397,7 @@ bump_at z p b n c t s r f g now v lb i q lt lg l =
         ∙ sym (cond-false (eqb b b' && eqb n (suc n')) (packed t g s r) _ y))
         (cases_Bool (eqb b b' && eqb n (suc n')))
       where
-        hit : (x : Names z now b n t s r f) → content_word (Bumped p s r g ∷ now) (item x.slot) ≡ packed t g s r
+        hit : (x : Named z now b n t s r f) → content_word (Bumped p s r g ∷ now) (item x.slot) ≡ packed t g s r
         hit x = ap (λ y. packed (tag_of x.slot.key) y x.slot.segment x.slot.row) (cond-true (eqb s x.slot.segment && eqb r x.slot.row) g (frequency_of now x.slot.segment x.slot.row)
             (and_from (eqb s x.slot.segment) (eqb r x.slot.row) (eq-eqb s x.slot.segment (sym x.segment)) (eq-eqb r x.slot.row (sym x.row))))
             ∙ (λ j. packed (x.tag j) g (x.segment j) (x.row j))

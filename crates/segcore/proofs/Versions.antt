@@ -65,7 +65,7 @@ versions z (e ∷ h) b l = let i = versions z h b l.0 in ⊎_elim
     (λ f. same_writes z e h b f ∙ (i ∙ ap (λ u. u.version + one_if u.written) (sym (cond-false (is (bucket_at z e) b) (acts e (bucket_after z h b)) (bucket_after z h b) f))))
     (cases_Bool (is (bucket_at z e) b))
 
-guard_at : (z : Shape) (h : List Event) (e : Event) (b : ℕ) (o : Option ℕ) → MatchOption o (Unit {0}) (λ b. (b < z.buckets) × ((bucket_after z h b).holder ≡ needs e)) → is o b ≡ true → (bucket_after z h b).holder ≡ needs e
+pub guard_at : (z : Shape) (h : List Event) (e : Event) (b : ℕ) (o : Option ℕ) → MatchOption o (Unit {0}) (λ b. (b < z.buckets) × ((bucket_after z h b).holder ≡ needs e)) → is o b ≡ true → (bucket_after z h b).holder ≡ needs e
 guard_at z h e b None g t = absurd (false≢true t)
 guard_at z h e b (Some a) g t = ap (λ x. (bucket_after z h x).holder) (sym (eqb-true a b t)) ∙ g.1
 

@@ -1,4 +1,5 @@
 pub mod Bucket
+pub mod Chains
 pub mod Count
 pub mod Event
 pub mod ItemWord
@@ -10,5 +11,6 @@ pub mod Row
 pub mod Says
 pub mod Scan
 pub mod Segment
+pub mod Standing
 pub mod Word
 pub mod World

@@ -1,5 +1,5 @@
 -- Marked histories: the history of entries with the marks that say where items came to stand and how chains grew; where a key's item is after one, and which hold together.
-use Rattle.std.specs.Prelude.{◌≡◌, ℕ, ◌+◌, ◌*◌, ◌%◌, ◌<◌, ◌==◌, Bool, List, [], ◌∷◌, Option, Some, None, if◌then◌else◌}
+use Rattle.std.specs.Prelude.{◌≡◌, ℕ, ◌+◌, ◌*◌, ◌%◌, ◌<◌, ◌==◌, ◌&&◌, ◌||◌, Bool, true, false, List, [], ◌∷◌, Option, Some, None, if◌then◌else◌}
 use Rattle.std.specs.Str.{bytes_eq}
 use Rattle.segword.specs.declared.shape.Shape.{Shape}
 use Rattle.segmodel.specs.declared.request.Reply.{Reply}
@@ -12,6 +12,7 @@ use Rattle.segmodel.specs.History.{after}
 use Rattle.segcore.specs.declared.event.Event.{Event}
 use Rattle.segcore.specs.declared.event.Event.TheVariants.{Replied, Linked, Unlinked, Drew, Chained, Bumped, Entered, Left, Refilled}
 use Rattle.segcore.specs.Event.{removal}
+use Rattle.segcore.specs.Bucket.{Slot, slot}
 
 -- an entry, or a mark
 pub data Mark : Type 0 where
@@ -79,6 +80,21 @@ place shape (at other segment row position frequency ∷ marks) key = if same_ke
 place shape (chained bucket ∷ marks) key = if bucket == bucket_of shape key then onward (chained_to marks bucket) (place shape marks key) else place shape marks key
 place shape (_ ∷ marks) key = place shape marks key
 
+-- what the last `at` of a key says: the segment and the row that its item names
+abbrev pub last_at : List Mark → List ℕ → Option Slot
+last_at [] key = None
+last_at (at other segment row position frequency ∷ marks) key = if same_key other key then Some (slot key segment row) else last_at marks key
+last_at (_ ∷ marks) key = last_at marks key
+
+-- the frequency that the last `at` or `bumped` of a row says
+abbrev pub frequency_in : List Mark → ℕ → ℕ → ℕ
+frequency_in [] segment row = 0
+frequency_in (at key s r position frequency ∷ marks) segment row = if (s == segment) && (r == row) then frequency else frequency_in marks segment row
+frequency_in (bumped s r frequency ∷ marks) segment row = if (s == segment) && (r == row) then frequency else frequency_in marks segment row
+frequency_in (_ ∷ marks) segment row = frequency_in marks segment row
+
+-- ---- which marked histories hold together along the words of chains
+
 -- the key doesn't stand
 abbrev pub IsAbsent : Shape → List Mark → List ℕ → Type 0
 IsAbsent shape marks key = standing (after shape (entries marks)) key ≡ None
@@ -104,3 +120,46 @@ MayMark shape marks _ = Unit {0}
 abbrev pub IsPlaced : Shape → List Mark → Type 0
 IsPlaced shape [] = Unit {0}
 IsPlaced shape (mark ∷ marks) = IsPlaced shape marks × MayMark shape marks mark
+
+-- ---- and which along segments and rows
+
+-- how many overflow buckets were drawn in all
+abbrev pub all_drawn : List Mark → ℕ
+all_drawn [] = 0
+all_drawn (drawn bucket ∷ marks) = all_drawn marks + 1
+all_drawn (_ ∷ marks) = all_drawn marks
+
+-- how often a pass came into a segment, and how often one left it
+abbrev pub all_entered : List Mark → ℕ → ℕ
+all_entered [] segment = 0
+all_entered (entered pass s ∷ marks) segment = if s == segment then all_entered marks segment + 1 else all_entered marks segment
+all_entered (_ ∷ marks) segment = all_entered marks segment
+
+abbrev pub all_left : List Mark → ℕ → ℕ
+all_left [] segment = 0
+all_left (left pass s ∷ marks) segment = if s == segment then all_left marks segment + 1 else all_left marks segment
+all_left (_ ∷ marks) segment = all_left marks segment
+
+-- whether an `at` names the segment
+abbrev pub is_named : List Mark → ℕ → Bool
+is_named [] segment = false
+is_named (at key s row position frequency ∷ marks) segment = (s == segment) || is_named marks segment
+is_named (_ ∷ marks) segment = is_named marks segment
+
+-- the key of the `at` that names a row in this filling of its segment
+abbrev pub linked_in : List Mark → ℕ → ℕ → Option (List ℕ)
+linked_in [] segment row = None
+linked_in (at key s r position frequency ∷ marks) segment row = if (s == segment) && (r == row) then Some key else linked_in marks segment row
+linked_in (enters (entry.Refilled pass s) ∷ marks) segment row = if s == segment then None else linked_in marks segment row
+linked_in (_ ∷ marks) segment row = linked_in marks segment row
+
+abbrev pub MayCome : List Mark → Mark → Type 0
+MayCome marks (at key segment row position frequency) = linked_in marks segment row ≡ None
+MayCome marks (entered pass segment) = is_named marks segment ≡ true
+MayCome marks (enters (entry.Refilled pass segment)) = all_entered marks segment ≡ all_left marks segment
+MayCome marks _ = Unit {0}
+
+-- each `at` is of a row that no other names in this filling; before each `entered` an `at` names its segment; and at each Refilled as many had left the segment as had come
+abbrev pub IsOrderly : List Mark → Type 0
+IsOrderly [] = Unit {0}
+IsOrderly (mark ∷ marks) = IsOrderly marks × MayCome marks mark

@@ -1,67 +1,87 @@
--- What a lawful world says, clause by clause.
-use Rattle.std.specs.Prelude.{◌≡◌, ◌↔◌, false, ℕ, ◌+◌, ◌<◌, ◌≤◌, List, ◌∷◌, ◌++◌, Some, None, if◌then◌else◌}
+-- What a lawful world says: every fact about its words, its history and its passes.
+use Rattle.std.specs.Prelude.{◌≡◌, ◌≢◌, ℕ, ◌+◌, ◌%◌, ◌^◌, ◌<◌, List, [], ◌∷◌, ◌++◌, length, Some}
+use mathlib.Core.Option.{some}
+use lib.ListN.{get_elem?}
 use Rattle.segword.specs.declared.shape.Shape.{Shape}
-use Rattle.segword.specs.Bytes.{IsKey, IsValue}
-use Rattle.segmodel.specs.declared.entry.Cached.{Cached}
-use Rattle.segmodel.specs.Cache.{bucket as bucket_of, standing}
-use Rattle.segmodel.specs.History.{after, writes, IsLegal}
+use Rattle.segmodel.specs.declared.request.Request.{Request}
+use Rattle.segmodel.specs.Request.{key_of, value_of}
+use Rattle.segmodel.specs.Cache.{owner, standing}
+use Rattle.segmodel.specs.History.{after, IsLegal, AreOne}
 use Rattle.segcore.specs.declared.event.Event.{Event}
-use Rattle.segcore.specs.declared.event.Event.TheVariants.{Refilled}
-use Rattle.segcore.specs.declared.cell.Cell.{Cell}
-use Rattle.segcore.specs.Event.{seen}
-use Rattle.segcore.specs.Bucket.{Slot, slot, item, Bucket, IsPosition, bucket_after}
-use Rattle.segcore.specs.Overflow.{home, home_of, drawn_in}
-use Rattle.segcore.specs.Row.{Holds, row_after, frequency_of}
-use Rattle.segcore.specs.Segment.{inside}
-use Rattle.segcore.specs.ItemWord.{tag_of, packed}
-use Rattle.segcore.specs.Word.{word, IsAt}
-use Rattle.segcore.specs.Mark.{marked, place, IsPlaced}
+use Rattle.segcore.specs.declared.event.Event.TheVariants.{Linked, Refilled}
+use Rattle.segcore.specs.declared.cell.Cell.TheVariants.{OfBucket, OfOverflow, OfSegment, OfRow}
+use Rattle.segcore.specs.declared.view.View.{View}
+use Rattle.segcore.specs.Event.{NoneBy, seen}
+use Rattle.segcore.specs.Bucket.{bucket_after}
+use Rattle.segcore.specs.Row.{Holds, row_after}
+use Rattle.segcore.specs.Segment.{inside, NoneRefills}
+use Rattle.segcore.specs.Lawful.{NoneAt}
+use Rattle.segcore.specs.Word.{word}
+use Rattle.segcore.specs.Mark.{marked, all_entered, all_left, IsPlaced, IsOrderly}
+use Rattle.segcore.specs.Kind.{HasBit}
+use Rattle.segcore.specs.World.{World}
+use Rattle.segcore.specs.Standing.{cached, SaysOfKeys}
+use Rattle.segcore.specs.Chains.{SaysOfBuckets}
 
--- what stands under a key: a value, in a segment
-abbrev pub cached : List ℕ → ℕ → Cached
-cached value segment = record { value = value; segment = segment }
+-- ---- segments and rows
 
--- the key's one item word, at its place, has its tag and names its row, which is of the segment and holds the pair
-pub record StandsAt (shape : Shape) (trace : List Event) (key value : List ℕ) (segment : ℕ) : Type 0 where
-  pub valid : IsKey key × IsValue value
-  pub position : ℕ
-  pub placed : place shape (marked trace) key ≡ Some position
-  pub within : IsPosition (bucket_after shape trace (bucket_of shape key)) position
-  pub row : ℕ
-  pub linked : (row_after trace segment row).linked ≡ Some key
-  pub holds : Holds (row_after trace segment row) key value
-  pub here : (bucket_after shape trace (bucket_of shape key)).items position ≡ item (slot key segment row)
-  pub reads : (cell : Cell) → IsAt trace (bucket_of shape key) position cell
-      → word shape trace cell ≡ packed (tag_of key) (frequency_of trace segment row) segment row
-  pub only : (other : ℕ) (named : Slot) → (bucket_after shape trace (bucket_of shape key)).items other ≡ item named → named.key ≡ key → other ≡ position
+-- no event links the row
+abbrev pub NoneLinks : ℕ → ℕ → List Event → Type 0
+NoneLinks segment row [] = Unit {0}
+NoneLinks segment row (event ∷ trace) =
+    ((pass position : ℕ) (request : Request) → event ≢ Linked pass request segment row position) × NoneLinks segment row trace
 
--- as many overflow buckets are drawn as there are, at most, and their numbers rise along a chain
-pub record IsDrawn (shape : Shape) (trace : List Event) : Type 0 where
-  pub few : drawn_in trace ≤ shape.overflow
-  pub rising : (low high bucket d e : ℕ) → home_of trace low ≡ Some (home bucket d) → home_of trace high ≡ Some (home bucket e) → d < e → low < high
+-- a row whose link is past the last refilling of its segment: no other link is, and it holds the pair that the key stood with then
+pub record IsKeptRow (shape : Shape) (trace more before : List Event) (pass : ℕ) (request : Request) (segment row position : ℕ) : Type 0 where
+  pub once : NoneLinks segment row more
+  pub holds : Holds (row_after trace segment row) (key_of request) (value_of request)
+  pub stood : standing (after shape (seen (Linked pass request segment row position ∷ before))) (key_of request) ≡ Some (cached (value_of request) segment)
 
--- no two words name one row
-abbrev pub NamesOnce : Shape → List Event → Type 0
-NamesOnce shape trace =
-    (b p c q : ℕ) (left right : Slot) → (bucket_after shape trace b).items p ≡ item left → (bucket_after shape trace c).items q ≡ item right
-    → left.segment ≡ right.segment → left.row ≡ right.row → (b ≡ c) × (p ≡ q)
-
--- the version in an information word is that of the writes, or one less where one stands under the set bit
-abbrev pub behind : Bucket → ℕ
-behind bucket = if bucket.written then 1 else 0
-
-abbrev pub CountsWrites : Shape → List Event → Type 0
-CountsWrites shape trace = (bucket : ℕ) →
-    (writes shape (seen trace) bucket ≡ (bucket_after shape trace bucket).version + behind (bucket_after shape trace bucket))
-    × ((bucket_after shape trace bucket).holder ≡ None → (bucket_after shape trace bucket).written ≡ false)
-
--- what a lawful trace says of the table and the cache
-pub record Says (shape : Shape) (trace : List Event) : Type 0 where
-  pub legal : IsLegal shape (seen trace)
-  pub stands : (key value : List ℕ) (segment : ℕ) → (standing (after shape (seen trace)) key ≡ Some (cached value segment)) ↔ StandsAt shape trace key value segment
-  pub rows : NamesOnce shape trace
-  pub drawn : IsDrawn shape trace
-  pub versions : CountsWrites shape trace
-  pub placed : IsPlaced shape (marked trace)
+pub record SaysOfSegments (shape : Shape) (trace : List Event) : Type 0 where
+  -- the segment word counts who came and hasn't left
+  pub readers : (segment : ℕ) → word shape trace (OfSegment segment) + all_left (marked trace) segment ≡ all_entered (marked trace) segment
   -- at a refilling no pass is in the segment
-  pub readers : (more before : List Event) (owner pass segment : ℕ) → trace ≡ more ++ (Refilled owner segment ∷ before) → pass < shape.passes → inside before pass segment ≡ 0
+  pub refilled : (more before : List Event) (filler pass segment : ℕ) → trace ≡ more ++ (Refilled filler segment ∷ before) → inside before pass segment ≡ 0
+  pub rows : (more before : List Event) (pass : ℕ) (request : Request) (segment row position : ℕ)
+      → trace ≡ more ++ (Linked pass request segment row position ∷ before) → NoneRefills segment more
+      → IsKeptRow shape trace more before pass request segment row position
+
+-- ---- passes
+
+-- what a pass has seen: past it stands nothing of that pass, and nothing of a bucket whose bit it has; and what it knows of its own rows, and of the overflow bucket that it drew, is so
+pub record SaysOfPass (shape : Shape) (trace : List Event) (pass : ℕ) (view : View) : Type 0 where
+  pub number : view.number ≡ pass
+  pub more : List Event
+  pub rest : trace ≡ more ++ view.trace
+  pub others : NoneBy pass more
+  pub quiet : (bucket : ℕ) → HasBit shape view.trace pass bucket → NoneAt shape bucket more
+  pub buckets : (bucket : ℕ) → HasBit shape view.trace pass bucket → bucket_after shape trace bucket ≡ bucket_after shape view.trace bucket
+  pub rows : (segment row place : ℕ) → owner shape segment ≡ pass → word shape trace (OfRow segment row place) ≡ word shape view.trace (OfRow segment row place)
+  pub drafts : (bucket number w : ℕ) → HasBit shape view.trace pass bucket → (bucket_after shape view.trace bucket).spare ≡ Some number
+      → word shape trace (OfOverflow number w) ≡ word shape view.trace (OfOverflow number w)
+
+pub record SaysOfPasses (shape : Shape) (world : World) : Type 0 where
+  pub each : (pass : ℕ) (view : View) → get_elem? world.views pass ≡ some view → SaysOfPass shape world.trace pass view
+  -- one history: of what two passes have seen, one goes on from the other
+  pub one : (p q : ℕ) (left right : View) → get_elem? world.views p ≡ some left → get_elem? world.views q ≡ some right → AreOne left.trace right.trace
+  pub one_marked : (p q : ℕ) (left right : View) → get_elem? world.views p ≡ some left → get_elem? world.views q ≡ some right → AreOne (marked left.trace) (marked right.trace)
+  -- the trace is what some pass has seen
+  pub longest : 0 < length world.views → (pass : ℕ) × (view : View) × (get_elem? world.views pass ≡ some view) × (view.trace ≡ world.trace)
+  -- a set bit has one pass, by what that pass has seen; a clear one has none
+  pub set : (bucket : ℕ) → bucket < shape.buckets → word shape world.trace (OfBucket bucket 0) % 2 ^ 32 ≡ 1
+      → (pass : ℕ) × (view : View) × (get_elem? world.views pass ≡ some view) × HasBit shape view.trace pass bucket
+  pub clear : (bucket pass : ℕ) (view : View) → get_elem? world.views pass ≡ some view → HasBit shape view.trace pass bucket
+      → word shape world.trace (OfBucket bucket 0) % 2 ^ 32 ≡ 1
+  pub holder : (bucket p q : ℕ) (left right : View) → get_elem? world.views p ≡ some left → get_elem? world.views q ≡ some right
+      → HasBit shape left.trace p bucket → HasBit shape right.trace q bucket → p ≡ q
+
+-- ---- all of it
+
+pub record Says (shape : Shape) (world : World) : Type 0 where
+  pub legal : IsLegal shape (seen world.trace)
+  pub placed : IsPlaced shape (marked world.trace)
+  pub orderly : IsOrderly (marked world.trace)
+  pub keys : SaysOfKeys shape world.trace
+  pub buckets : SaysOfBuckets shape world.trace
+  pub segments : SaysOfSegments shape world.trace
+  pub passes : SaysOfPasses shape world

@@ -11,7 +11,7 @@ ghost use Rattle.segcore.specs.World.{World, SeeMore, Reaches, IsLawfulWorld};
 pub fn every_schedule()
     ensures lawful { (shape : Shape) (steps : List (ℕ × Step)) (world : World) → Reaches shape steps world → IsLawfulWorld shape world }
     ensures seen { (shape : Shape) (steps : List (ℕ × Step)) (taken : ℕ × Step) (world : World) (reached : Reaches shape (taken ∷ steps) world) → SeeMore reached.0.views world.views }
-    ensures says { (shape : Shape) (steps : List (ℕ × Step)) (world : World) → Reaches shape steps world → Says shape world.trace }
+    ensures says { (shape : Shape) (steps : List (ℕ × Step)) (world : World) → Reaches shape steps world → Says shape world }
 {}
 
 /// A scan of all words of a chain, none of which was the key's place when it was looked at, passed a point at which the key was absent.

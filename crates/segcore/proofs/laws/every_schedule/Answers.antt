@@ -3,8 +3,4 @@ use Rattle.segcore.proofs.Says.{says}
 use Rattle.segcore.proofs.laws.every_schedule.Goals as goal
 
 pub returns : goal.returns
-returns c = record {
-  lawful = lawful;
-  seen = sees_more;
-  says = λ z steps w r. says z w.trace (lawful z steps w r).legal;
-}
+returns c = record { lawful = lawful; seen = sees_more; says = says }

@@ -1,0 +1,67 @@
+-- What a lawful trace says of segments: nobody is in one that is refilled, and its linked rows keep their pairs.
+use Rattle.std.proofs.Common.{◌≡◌, ℕ, ◌≤◌, eqb, ◌&&◌, List, [], ◌∷◌, ◌++◌, Some, sym, refl, ap, ◌∙◌, subst, ⊎_elim, arith}
+use Rattle.std.proofs.lemmas.Bool.{cond-true, cond-false, cases_lt, eq-eqb, and_parts, and_from, eqb-true, false_from_ne_true}
+use Rattle.std.proofs.lemmas.Option.{none-some}
+use Rattle.segword.specs.declared.shape.Shape.{Shape}
+use Rattle.segmodel.specs.declared.request.Request.{Request}
+use Rattle.segmodel.specs.declared.request.Reply.TheVariants.{Stored}
+use Rattle.segmodel.specs.Request.{key_of, value_of}
+use Rattle.segcore.specs.declared.event.Event.{Event}
+use Rattle.segcore.specs.declared.event.Event.TheVariants.{Linked, Entered, Left, Refilled}
+use Rattle.segcore.specs.Event.{seen}
+use Rattle.segcore.specs.Row.{Row, writes_row, row_after}
+use Rattle.segcore.specs.Segment.{inside, NoneRefills}
+use Rattle.segcore.specs.Lawful.{IsLawful}
+use Rattle.segcore.specs.Standing.{cached}
+use Rattle.segcore.specs.Mark.{same_key}
+use Rattle.segcore.specs.Says.{NoneLinks, IsKeptRow, SaysOfSegments}
+use Rattle.segcore.proofs.Keys.{same_true}
+use Rattle.segcore.proofs.Caches.{stands, stands_wrote}
+use Rattle.segcore.proofs.Orderly.{readers_marked}
+use Rattle.segcore.proofs.Entered.{row_stays, none_in}
+
+-- a pass that isn't there is in no segment
+strangers : (z : Shape) (h : List Event) (p s : ℕ) → IsLawful z h → z.passes ≤ p → inside h p s ≡ 0
+strangers z [] p s l le = refl
+strangers z (Entered q t ∷ h) p s l le = let lt = l.1.suits.0 in cond-false (eqb q p && eqb t s) _ (inside h p s) (false_from_ne_true (eqb q p && eqb t s) (λ y. let e = eqb-true q p (and_parts (eqb q p) (eqb t s) y).0 in omega arith)) ∙ strangers z h p s l.0 le
+strangers z (Left q t ∷ h) p s l le = let lt = l.1.suits.0 in cond-false (eqb q p && eqb t s) _ (inside h p s) (false_from_ne_true (eqb q p && eqb t s) (λ y. let e = eqb-true q p (and_parts (eqb q p) (eqb t s) y).0 in omega arith)) ∙ strangers z h p s l.0 le
+strangers z (e ∷ h) p s l le = strangers z h p s l.0 le
+
+lawful_since : (z : Shape) (more h : List Event) → IsLawful z (more ++ h) → IsLawful z h
+lawful_since z [] h l = l
+lawful_since z (e ∷ more) h l = lawful_since z more h l.0
+
+pub none_inside : (z : Shape) (more h : List Event) (q p s : ℕ) → IsLawful z (more ++ (Refilled q s ∷ h)) → inside h p s ≡ 0
+none_inside z more h q p s l = ⊎_elim (λ few. none_in z more h q p s few l) (λ le. strangers z h p s (lawful_since z more (Refilled q s ∷ h) l).0 le) (cases_lt p z.passes)
+
+-- ---- rows
+
+-- a row stays linked to its key, with its words, until its segment is refilled; and no other link names it
+pub row_since : (z : Shape) (more h : List Event) (s r : ℕ) (k : List ℕ) → IsLawful z (more ++ h) → NoneRefills s more → (row_after h s r).linked ≡ Some k → row_after (more ++ h) s r ≡ row_after h s r
+row_since z [] h s r k l n on = refl
+row_since z (e ∷ more) h s r k l n on = let i = row_since z more h s r k l.0 n.1 on in row_stays z e (more ++ h) s r k l n.0 (ap (λ u. u.linked) i ∙ on) ∙ i
+
+none_links : (z : Shape) (more h : List Event) (s r : ℕ) (k : List ℕ) → IsLawful z (more ++ h) → NoneRefills s more → (row_after h s r).linked ≡ Some k → NoneLinks s r more
+none_links z [] h s r k l n on = tt
+none_links z (e ∷ more) h s r k l n on =
+    ((λ p pos q is'. none-some k (sym (subst (λ x. IsLawful z (x ∷ (more ++ h))) is' l).1.suits.0.3 ∙ (ap (λ u. u.linked) (row_since z more h s r k l.0 n.1 on) ∙ on))), none_links z more h s r k l.0 n.1 on)
+
+at_link : (h : List Event) (p : ℕ) (q : Request) (s r n : ℕ) → row_after (Linked p q s r n ∷ h) s r ≡ writes_row (Linked p q s r n) (row_after h s r)
+at_link h p q s r n = cond-true (eqb s s && eqb r r) (writes_row (Linked p q s r n) (row_after h s r)) (row_after h s r) (and_from (eqb s s) (eqb r r) (eq-eqb s s refl) (eq-eqb r r refl))
+
+kept_row : (z : Shape) (more h : List Event) (p : ℕ) (q : Request) (s r n : ℕ) → IsLawful z (more ++ (Linked p q s r n ∷ h)) → NoneRefills s more → IsKeptRow z (more ++ (Linked p q s r n ∷ h)) more h p q s r n
+kept_row z more h p q s r n l none =
+    let e = Linked p q s r n in let k = key_of q in
+    let on : (row_after (e ∷ h) s r).linked ≡ Some k = ap (λ u. u.linked) (at_link h p q s r n) in
+    record {
+      once = none_links z more (e ∷ h) s r k l none on;
+      holds = λ j lt. ap (λ (u : Row). u.words j) (row_since z more (e ∷ h) s r k l none on ∙ at_link h p q s r n) ∙ (lawful_since z more (e ∷ h) l).1.suits.1 j lt;
+      stood = stands_wrote z p q Stored (Some s) (seen h) k ∙ cond-true (same_key k k) (Some (cached (value_of q) s)) (stands z (seen h) k) (same_true k k refl);
+    }
+
+pub says_of_segments : (z : Shape) (h : List Event) → IsLawful z h → SaysOfSegments z h
+says_of_segments z h l = record {
+  readers = λ s. readers_marked z h s l;
+  refilled = λ more g q p s is'. none_inside z more g q p s (subst (IsLawful z) is' l);
+  rows = λ more g p q s r n is' none. subst (λ x. IsKeptRow z x more g p q s r n) (sym is') (kept_row z more g p q s r n (subst (IsLawful z) is' l) none);
+}
