@@ -1,0 +1,83 @@
+-- Scripts: their lines, the turns that these say, and the text of the replies. A script says only turns that are allowed.
+use Rattle.std.specs.Prelude.{◌⊎◌, ◌≡◌, ◌≢◌, ℕ, ◌+◌, ◌<◌, Bool, true, List, [], ◌∷◌, ◌++◌, length}
+use Rattle.std.specs.List.{flat_map, AllByRecursion}
+use Rattle.segword.specs.declared.shape.Shape.{Shape}
+use Rattle.segmodel.specs.declared.answer.Turn.{Turn}
+use Rattle.segmodel.specs.declared.answer.Outcome.{Outcome}
+use Rattle.segmodel.specs.State.{State, fresh}
+use Rattle.segmodel.specs.Turns.{Turns, Runs}
+use Rattle.segmodel.specs.Spelling.{PassTurn, IsSayable, spelling}
+use Rattle.segmodel.specs.Replies.{reply}
+
+-- ---- lines
+
+-- a line has no byte 10 in it
+abbrev pub IsLine : List ℕ → Type 0
+IsLine line = AllByRecursion (λ byte. byte ≢ 10) line
+
+-- a line with its end
+abbrev pub ended : List ℕ → List ℕ
+ended line = line ++ 10 ∷ []
+
+-- the bytes are these lines with their ends, and then the bytes of a line that has no end
+pub record Splits (bytes : List ℕ) (lines : List (List ℕ)) (rest : List ℕ) : Type 0 where
+  pub whole : bytes ≡ flat_map ended lines ++ rest
+  pub each : AllByRecursion IsLine lines
+  pub partial : IsLine rest
+
+-- the pass is there, and the turn can be written and is allowed
+abbrev pub MaySay : ℕ → (Turn → Bool) → PassTurn → Type 0
+MaySay passes allows said = IsSayable passes said × (allows said.1 ≡ true)
+
+-- the lines say these turns, a line without bytes none
+abbrev pub Say : ℕ → (Turn → Bool) → List (List ℕ) → List PassTurn → Type 0
+Say passes allows [] [] = Unit {0}
+Say passes allows [] (said ∷ turns) = ⊥
+Say passes allows ([] ∷ lines) turns = Say passes allows lines turns
+Say passes allows ((byte ∷ line) ∷ lines) [] = ⊥
+Say passes allows ((byte ∷ line) ∷ lines) (said ∷ turns) =
+    MaySay passes allows said × (byte ∷ line ≡ spelling said) × Say passes allows lines turns
+
+-- a bad line is too long, or has bytes and says nothing
+abbrev pub IsBad : ℕ → (Turn → Bool) → List ℕ → Type 0
+IsBad passes allows line =
+    (128 < length line) ⊎ ((0 < length line) × ((said : PassTurn) → MaySay passes allows said → line ≡ spelling said → ⊥))
+
+-- ---- replies
+
+-- where there is one pass, its turns are served one after the other; of several passes no more is said here than that each turn has a reply
+abbrev pub Steps : Shape → State → PassTurn → Outcome → State → Type 0
+Steps shape old said outcome new = shape.passes ≡ 1 → Turns shape old said.1 outcome new
+
+-- from the old state on these lines are served, with this text of replies
+pub record IsServed (shape : Shape) (allows : Turn → Bool) (old : State) (lines : List (List ℕ)) (text : List ℕ) (new : State) : Type 0 where
+  pub turns : List PassTurn
+  pub outcomes : List Outcome
+  pub says : Say shape.passes allows lines turns
+  pub run : Runs (Steps shape) old turns outcomes new
+  pub told : text ≡ flat_map reply outcomes
+
+-- ---- whole scripts
+
+-- no line of the script is bad, and this is a text of replies that belongs to it. A line without an end counts where it has bytes.
+pub record IsTextOf (shape : Shape) (allows : Turn → Bool) (script text : List ℕ) : Type 0 where
+  pub lines : List (List ℕ)
+  pub last : List ℕ
+  pub state : State
+  pub splits : Splits script lines last
+  pub served : IsServed shape allows (fresh shape) (lines ++ last ∷ []) text state
+
+-- the n-th line of the script is its first bad one, and this is a text of replies to the lines before it
+pub record IsFirstBad (shape : Shape) (allows : Turn → Bool) (script text : List ℕ) (n : ℕ) : Type 0 where
+  pub lines : List (List ℕ)
+  pub bad : List ℕ
+  pub after : List ℕ
+  pub state : State
+  pub whole : script ≡ flat_map ended lines ++ (bad ++ after)
+  pub each : AllByRecursion IsLine lines
+  pub unbroken : IsLine bad
+  -- the line has its end, or the script ends with it
+  pub ends : ((more : List ℕ) × (after ≡ 10 ∷ more)) ⊎ (after ≡ [])
+  pub is_bad : IsBad shape.passes allows bad
+  pub served : IsServed shape allows (fresh shape) lines text state
+  pub number : n ≡ length lines + 1

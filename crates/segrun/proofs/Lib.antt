@@ -1,0 +1,9 @@
+pub mod Devices
+pub mod Feeding
+pub mod Going
+pub mod LineLemmas
+pub mod LineReadings
+pub mod Numbers
+pub mod OneBadLine
+pub mod OneTurn
+pub mod WordLemmas

@@ -1,0 +1,23 @@
+-- What goes through a reader or a writer.
+use Rattle.std.specs.Prelude.{◌≡◌, ℕ, ◌+◌, ◌<◌, ◌%◌, ◌^◌, ◌==◌, Bool, true, List, ◌++◌, length, Result, Ok, Err}
+
+-- a write failed, or took none of its bytes
+abbrev pub took_nothing : {E : Type 0} → Result ℕ E → Bool
+took_nothing (Ok n) = n == 0
+took_nothing (Err e) = true
+
+-- the front is a beginning of all, and less than all
+abbrev pub IsBeginning : List ℕ → List ℕ → Type 0
+IsBeginning front all = (rest : List ℕ) × (all ≡ front ++ rest) × (0 < length rest)
+
+-- a beginning of the bytes was taken
+abbrev pub TakesPart : {W : Type 0} → (W → List ℕ → W → Type 0) → W → List ℕ → W → Type 0
+TakesPart takes old bytes new = (part : List ℕ) × IsBeginning part bytes × takes old part new
+
+-- the count of flushes after one more
+abbrev pub flushed : ℕ → ℕ
+flushed count = (count + 1) % 2 ^ 64
+
+-- whatever the reader handed out is a beginning of the script, and all of it where the reader is at its end
+abbrev pub HandsOut : {R : Type 0} → (R → List ℕ → R → Type 0) → (R → Type 0) → R → R → List ℕ → Type 0
+HandsOut hands is_at_end old new script = (seen : List ℕ) → hands old seen new → (rest : List ℕ) × (script ≡ seen ++ rest) × (is_at_end new → script ≡ seen)

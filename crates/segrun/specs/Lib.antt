@@ -1,0 +1,9 @@
+pub mod Device
+pub mod Known
+pub mod Memory
+pub mod Reading
+pub mod Run
+pub mod Running
+pub mod Served
+pub mod StandIn
+pub mod Verb

@@ -1,0 +1,28 @@
+//! What stands behind a script.
+ghost use Rattle.std.specs.Prelude.{◌≡◌, ◌<◌, true};
+ghost use Rattle.segword.specs.declared.shape.Shape.{Shape};
+ghost use Rattle.segmodel.specs.State.{State};
+ghost use Rattle.segmodel.specs.Script.{Steps};
+ghost use Rattle.segrun.specs.Served.{is_served};
+
+use segmodel::{Outcome, Turn};
+
+/// Takes the turns of the passes of a script, and gives their outcomes.
+pub trait Engine {
+    ghost shape: { Self → Shape };
+
+    /// What its answers show of it. Several states may fit it.
+    ghost is_at: { Self → State → Type 0 };
+
+    /// How many passes it has.
+    fn passes(&self) -> u32
+        ensures { result ≡ (shape self.now).passes };
+
+    /// Takes one turn of a pass.
+    fn turn(&mut self, pass: u32, turn: &Turn) -> Outcome
+        requires pass { pass < (shape self.old).passes }
+        requires served { is_served turn.now ≡ true }
+        ensures shape { shape self.new ≡ shape self.old }
+        ensures turns { (old : State) → is_at self.old old
+            → (new : State) × Steps (shape self.old) old (pass, turn.now) result new × is_at self.new new };
+}

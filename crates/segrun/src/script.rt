@@ -1,0 +1,57 @@
+//! Runs a script over an index that is made for it.
+ghost use Rattle.std.specs.Prelude.{◌≡◌, ◌⊎◌, ℕ, List, true, false, IsOk};
+ghost use Rattle.segmodel.specs.Script.{IsTextOf, IsFirstBad};
+ghost use Rattle.segrun.specs.Device.{HandsOut};
+ghost use Rattle.segrun.specs.Run.{RunOutcome, ShapeIsAnswered, is_read_fault, is_write_fault, is_make_fault};
+ghost use Rattle.segrun.specs.Served.{is_served};
+
+use crate::device::{Sink, Source};
+use crate::fault::RunFault;
+use crate::run::run;
+use crate::words::Words;
+use segword::Shape;
+use std::alloc::Global;
+
+/// Makes an index of this shape, runs the script that the reader hands out, and writes the replies.
+///
+/// For now the shape has one bucket, no overflow bucket and one pass, and a script has the lines `refill`, `set` and
+/// `get`. No memory is taken once the index is made.
+pub fn run_script<R: Source, W: Sink>(
+    alloc: Global,
+    reader: &mut R,
+    writer: &mut W,
+    shape: Shape,
+) -> Result<(), RunFault>
+    requires reader_works { R.has_failed reader.old ≡ false }
+    requires writer_works { W.has_failed writer.old ≡ false }
+    requires one_bucket { shape.buckets ≡ 1 }
+    requires one_pass { shape.passes ≡ 1 }
+    requires no_overflow { shape.overflow ≡ 0 }
+
+    // How it ends, what it read and wrote, and which text belongs to that.
+    ensures outcome { RunOutcome shape
+        (λ seen. R.hands reader.old seen reader.new) (R.is_at_end reader.new)
+        (λ text. W.takes writer.old text writer.new) (W.flushes writer.old) (W.flushes writer.new) result }
+    ensures read { R.has_failed reader.new ≡ is_read_fault result }
+    ensures write { W.has_failed writer.new ≡ is_write_fault result }
+
+    // A fault in the making comes before anything is read or written.
+    ensures shape { ShapeIsAnswered shape result }
+    ensures made { is_make_fault result ≡ true → (reader.new ≡ reader.old) × (writer.new ≡ writer.old) }
+
+    // Where the devices never failed, a script with a first bad line ends there, and any other ends well.
+    ensures bad_line { (script text : List ℕ) (n : ℕ) →
+        HandsOut R.hands R.is_at_end reader.old reader.new script → IsFirstBad shape is_served script text n →
+        R.has_failed reader.new ≡ false → W.has_failed writer.new ≡ false → is_make_fault result ≡ false →
+        (result ≡ Err (RunFault.Line n)) ⊎ (result ≡ Err RunFault.TooLong) }
+    ensures no_bad_line { (script text : List ℕ) →
+        HandsOut R.hands R.is_at_end reader.old reader.new script → IsTextOf shape is_served script text →
+        R.has_failed reader.new ≡ false → W.has_failed writer.new ≡ false → is_make_fault result ≡ false →
+        IsOk result ⊎ (result ≡ Err RunFault.TooLong) }
+{
+    let mut words = match Words::new(alloc, &shape) {
+        Ok(words) => words,
+        Err(fault) => return Err(RunFault::Make(fault)),
+    };
+    run(reader, writer, &mut words)
+}
