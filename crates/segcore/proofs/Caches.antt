@@ -10,10 +10,12 @@ use Rattle.segmodel.specs.declared.entry.Cached.{Cached}
 use Rattle.segmodel.specs.declared.entry.Entry.{Entry}
 use Rattle.segmodel.specs.declared.entry.Entry.TheVariants.{Wrote, Evicted, Refilled}
 use Rattle.segmodel.specs.Request.{key_of, value_of}
-use Rattle.segmodel.specs.Cache.{bucket as bucket_of, key_cmp, standing}
+use Rattle.segmodel.specs.Places.{bucket_of}
+use Rattle.segmodel.specs.Cache.{key_cmp, standing}
 use Rattle.segmodel.specs.History.{StandsIn, after, is_write_to, writes}
 use Rattle.segmodel.proofs.HistoryLemmas as model
-use Rattle.segmodel.proofs.Rooms.{count_by-cons}
+use Rattle.segmodel.proofs.Keys as model_keys
+use Rattle.segmodel.proofs.Counts.{count_by-cons}
 use Rattle.segcore.specs.Mark.{same_key}
 use Rattle.segcore.specs.Standing.{cached}
 use Rattle.segcore.proofs.Keys.{key_true, same_true}
@@ -41,13 +43,13 @@ one_test false false f g = refl
 -- the map's comparison of keys says the same
 at_key : (k l : List ℕ) → is_at (key_cmp l) k ≡ same_key k l
 at_key k l = one_test (is_at (key_cmp l) k) (same_key k l)
-    (λ t. same_true k l (sym (model.same_key l k t)))
-    (λ t. (λ i. is_at (key_cmp l) (key_true k l t i)) ∙ model.at_self l)
+    (λ t. same_true k l (sym (model_keys.same_key l k t)))
+    (λ t. (λ i. is_at (key_cmp l) (key_true k l t i)) ∙ model_keys.at_self l)
 
 at_key_back : (k l : List ℕ) → is_at (key_cmp k) l ≡ same_key k l
 at_key_back k l = one_test (is_at (key_cmp k) l) (same_key k l)
-    (λ t. same_true k l (model.same_key k l t))
-    (λ t. (λ i. is_at (key_cmp k) (sym (key_true k l t) i)) ∙ model.at_self k)
+    (λ t. same_true k l (model_keys.same_key k l t))
+    (λ t. (λ i. is_at (key_cmp k) (sym (key_true k l t) i)) ∙ model_keys.at_self k)
 
 unless : {A : Type 0} (t : Bool) (x y : A) → cond (not t) x y ≡ cond t y x
 unless true x y = refl

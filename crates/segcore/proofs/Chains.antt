@@ -8,7 +8,7 @@ use Rattle.segcore.proofs.Coherent.{IsContent, IsChain}
 use Rattle.segcore.specs.Bucket.{Slot, slot, Content, nothing, item, next, copy, Bucket, last, fresh, bucket_at, is, acts, bucket_after}
 use Rattle.segcore.specs.Lawful.{Suits, IsLawful}
 use Rattle.segcore.specs.Overflow.{Home, home_of}
-use Rattle.segmodel.specs.Cache.{bucket as bucket_of}
+use Rattle.segmodel.specs.Places.{bucket_of}
 use Rattle.segcore.specs.declared.event.Event.{Event}
 use Rattle.segcore.specs.declared.event.Event.TheVariants.{Took, Freed, Replied, Linked, Unlinked, Drew, Put, Chained}
 use Rattle.segcore.proofs.Quiet.{home_stays}

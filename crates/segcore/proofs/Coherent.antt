@@ -4,7 +4,8 @@ use Rattle.segword.specs.declared.shape.Shape.{Shape}
 use Rattle.segword.specs.Bytes.{IsKey, IsValue}
 use Rattle.segmodel.specs.declared.entry.Cached.{Cached}
 use Rattle.segmodel.specs.Request.{key_of}
-use Rattle.segmodel.specs.Cache.{bucket as bucket_of, standing}
+use Rattle.segmodel.specs.Places.{bucket_of}
+use Rattle.segmodel.specs.Cache.{standing}
 use Rattle.segmodel.specs.History.{after}
 use Rattle.segcore.specs.declared.event.Event.{Event}
 use Rattle.segcore.specs.declared.event.Event.TheVariants.{Linked, Chained}

@@ -9,12 +9,11 @@ use Rattle.segword.specs.Fnv.{with_byte, hash_of}
 use Rattle.segword.specs.Row.{row_of}
 use Rattle.segword.proofs.RowLemmas.{take_key, take_value}
 use Rattle.segmodel.specs.declared.entry.Cached.{Cached}
-use Rattle.segmodel.specs.Cache.{bucket as bucket_of}
+use Rattle.segmodel.specs.Places.{bucket_of, tag_of}
 use Rattle.segcore.specs.declared.event.Event.{Event}
 use Rattle.segcore.specs.declared.cell.Cell.{Cell}
 use Rattle.segcore.specs.Bucket.{Slot, slot, Content, nothing, item, next, copy, bucket_after}
 use Rattle.segcore.specs.Event.{seen}
-use Rattle.segcore.specs.ItemWord.{tag_of}
 use Rattle.segcore.specs.Row.{Row, Holds, row_after, frequency_of}
 use Rattle.segcore.specs.Lawful.{IsLawful}
 use Rattle.segcore.specs.Word.{IsCell, content_word, word, IsAt, IsItemAt}
@@ -57,7 +56,6 @@ hash_low (x ∷ bytes) a lt = hash_low bytes (with_byte a x) (omega arith)
 
 -- a tag isn't 0, and fits
 pub tagged : (k : List ℕ) → (0 < tag_of k) × (tag_of k < 4096)
-unfolding tag_of
 tagged k = let lt : hash_of k < 2 ^ 64 = hash_low k 0xcbf2_9ce4_8422_2325 (omega arith) in (omega arith, omega arith)
 
 pub content_at : (z : Shape) (h : List Event) (b n : ℕ) (c : Cell) → IsItemAt z h b n c → word z h c ≡ content_word h ((bucket_after z h b).items n)

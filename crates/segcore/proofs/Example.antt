@@ -3,11 +3,12 @@ use Rattle.std.proofs.Common.{◌≡◌, ℕ, zero, suc, ◌<◌, true, false, L
 use Rattle.segword.specs.Bytes.{IsKey, IsValue}
 use Rattle.std.specs.Prelude.{slice_index}
 use Rattle.segword.specs.declared.shape.Shape.{Shape}
+use Rattle.segmodel.specs.Places.{tag_of}
 use Rattle.segword.specs.Row.{row_of}
 use Rattle.segmodel.specs.declared.request.Request.{Request}
 use Rattle.segmodel.specs.declared.request.Request.TheVariants.{Set}
 use Rattle.segcore.specs.Bucket.{slot}
-use Rattle.segcore.specs.ItemWord.{tag_of, packed}
+use Rattle.segcore.specs.ItemWord.{packed}
 use Rattle.segcore.specs.Lawful.{IsLawful}
 use Rattle.segcore.specs.Row.{row_after}
 use Rattle.segcore.specs.declared.event.Event.{Event}

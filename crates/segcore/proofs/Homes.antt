@@ -4,7 +4,7 @@ use Rattle.std.proofs.lemmas.Bool.{cases_Bool, cases_eq, cond-true, cond-false, 
 use Rattle.std.proofs.lemmas.Option.{none-some}
 use Rattle.segword.specs.declared.shape.Shape.{Shape}
 use Rattle.segmodel.specs.Request.{key_of}
-use Rattle.segmodel.specs.Cache.{bucket as bucket_of}
+use Rattle.segmodel.specs.Places.{bucket_of}
 use Rattle.segcore.specs.declared.event.Event.{Event}
 use Rattle.segcore.specs.declared.event.Event.TheVariants.{Took, Freed, Replied, Linked, Unlinked, Drew, Put, Chained}
 use Rattle.segcore.specs.declared.cell.Cell.{Cell}

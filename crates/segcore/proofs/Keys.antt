@@ -5,7 +5,7 @@ use Rattle.std.proofs.Common.{eqb}
 use Rattle.std.proofs.lemmas.Slice.Eq.{bytes_eq-Decides}
 use Rattle.segword.specs.declared.shape.Shape.{Shape}
 use Rattle.segcore.specs.Mark.{same_key}
-use Rattle.segmodel.specs.Cache.{bucket as bucket_of}
+use Rattle.segmodel.specs.Places.{bucket_of}
 
 pub key_true : (k l : List ℕ) → same_key k l ≡ true → k ≡ l
 unfolding same_key

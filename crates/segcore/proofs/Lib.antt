@@ -1,4 +1,6 @@
 pub mod Coherent
+pub mod Moments
+pub mod Ahead
 pub mod Keys
 pub mod Caches
 pub mod Quiet
@@ -23,5 +25,4 @@ pub mod Allowed
 pub mod Homes
 pub mod Buckets
 pub mod Segments
-pub mod Moments
 pub mod Passes

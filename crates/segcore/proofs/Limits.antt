@@ -5,7 +5,7 @@ use Rattle.std.proofs.Math.Nat.{mul-le-mul_right}
 use Rattle.segword.specs.declared.shape.Shape.{Shape}
 use Rattle.std.proofs.lemmas.Nat.{pow_pos}
 use Rattle.segword.specs.Shape.{IsValid}
-use Rattle.segmodel.specs.Cache.{bucket as bucket_of}
+use Rattle.segmodel.specs.Places.{bucket_of}
 use Rattle.segcore.specs.declared.event.Event.{Event}
 use Rattle.segcore.specs.declared.event.Event.TheVariants.{Linked, Drew, Bumped}
 use Rattle.segcore.specs.Lawful.{IsLawful}

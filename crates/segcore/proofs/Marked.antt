@@ -11,7 +11,7 @@ use Rattle.segcore.specs.Bucket.{Bucket, bucket_at, is, acts, bucket_after}
 use Rattle.segcore.specs.Event.{seen}
 use Rattle.segcore.specs.Lawful.{IsRefusal, HasRoomFor, IsLawful}
 use Rattle.segcore.specs.Mark.{same_key, marked, entries, drawn_for, chained_to, onward, place, IsAfterAt, IsPlaced}
-use Rattle.segmodel.specs.Cache.{bucket as bucket_of}
+use Rattle.segmodel.specs.Places.{bucket_of}
 use Rattle.segcore.specs.declared.event.Event.{Event}
 use Rattle.segcore.specs.declared.event.Event.TheVariants.{Replied, Linked, Unlinked, Drew, Chained, Bumped, Entered, Left, Refilled}
 use Rattle.segcore.proofs.Coherent as trace

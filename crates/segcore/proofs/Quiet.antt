@@ -16,7 +16,7 @@ use Rattle.segcore.specs.Lawful.{NoneAt, needs, Suits, Fits, IsLawful}
 use Rattle.segcore.specs.Overflow.{drawn_in, Home, home_of}
 use Rattle.segcore.specs.Row.{row_at, row_after}
 use Rattle.segcore.specs.Segment.{inside, was_used}
-use Rattle.segmodel.specs.Cache.{bucket as bucket_of, owner}
+use Rattle.segmodel.specs.Places.{bucket_of, owner}
 use Rattle.segmodel.specs.History.{after, Follows, IsSameAt}
 use Rattle.segmodel.proofs.HistoryLemmas.{next_other}
 use Rattle.std.specs.Prelude.{is_some, IsSomeAnd}

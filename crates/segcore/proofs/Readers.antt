@@ -12,7 +12,7 @@ use Rattle.segcore.specs.Lawful.{Fits, IsLawful}
 use Rattle.segcore.specs.Mark.{same_key}
 use Rattle.segcore.specs.Standing.{cached}
 use Rattle.segcore.specs.Segment.{inside, readers}
-use Rattle.segmodel.specs.Cache.{owner}
+use Rattle.segmodel.specs.Places.{owner}
 use Rattle.segmodel.specs.History.{NoneStandsIn, after}
 use Rattle.segcore.specs.declared.event.Event.{Event}
 use Rattle.segcore.specs.declared.event.Event.TheVariants.{Replied, Linked, Unlinked, Entered, Left}

@@ -17,7 +17,7 @@ use Rattle.segcore.specs.Lawful.{IsRefusal, HasRoomFor, Suits, IsLawful}
 use Rattle.segcore.specs.Mark.{same_key, marked, last_at}
 use Rattle.segcore.specs.Row.{Row, row_at, writes_row, row_after}
 use Rattle.segcore.specs.Standing.{cached}
-use Rattle.segmodel.specs.Cache.{bucket as bucket_of}
+use Rattle.segmodel.specs.Places.{bucket_of}
 use Rattle.segmodel.specs.History.{IsLegal}
 use Rattle.segcore.specs.declared.event.Event.{Event}
 use Rattle.segcore.specs.declared.event.Event.TheVariants.{Replied, Filled, Linked, Unlinked, Put, Chained, Refilled}

@@ -14,14 +14,14 @@ use Rattle.segmodel.specs.Request.{key_of}
 use Rattle.segcore.proofs.Coherent.{IsContent, place}
 use Rattle.segcore.specs.Bucket.{Bucket, Slot, Content, nothing, item, next, copy, slot, last, fresh, is, acts, bucket_after, IsPosition}
 use Rattle.segcore.specs.Event.{seen, NoneBy, AllBy}
-use Rattle.segcore.specs.ItemWord.{tag_of, packed, IsInItem}
+use Rattle.segcore.specs.ItemWord.{packed, IsInItem}
 use Rattle.segcore.specs.Kind.{Step, take, release, info_look, glance, look, link, clear, draw, fill, chain, bump, row_store, row_load, enter, leave, none_reading, cell, becomes, told, adds, HasBit, Refuses, May, Kept}
 use Rattle.segcore.specs.Lawful.{Fits, IsLawful}
 use Rattle.segcore.specs.Overflow.{Home, drawn_in, home_of}
 use Rattle.segcore.specs.Row.{Row, row_at, row_after, frequency_of}
 use Rattle.segcore.specs.Segment.{readers}
 use Rattle.segcore.specs.Word.{IsCell, same_cell, content_word, info_word, word_in, overflow_word, word, IsAt, IsItemAt}
-use Rattle.segmodel.specs.Cache.{bucket as bucket_of, owner}
+use Rattle.segmodel.specs.Places.{bucket_of, owner, tag_of}
 use Rattle.segmodel.specs.History.{NoneStandsIn, after}
 use Rattle.segcore.specs.declared.event.Event.{Event}
 use Rattle.segcore.specs.declared.event.Event.TheVariants.{Took, Bounced, Glanced, Freed, Replied, Filled, Linked, Unlinked, Drew, Put, Chained, Bumped, Entered, Left, Refilled}

@@ -10,7 +10,7 @@ use Rattle.segmodel.specs.declared.request.Request.TheVariants.{Delete}
 use Rattle.segcore.specs.Bucket.{Bucket, bucket_at, is, acts, bucket_after, written_by}
 use Rattle.segcore.specs.Event.{seen, removal, by}
 use Rattle.segcore.specs.Lawful.{Leaves, IsRefusal, IsLawful, needs}
-use Rattle.segmodel.specs.Cache.{bucket as bucket_of}
+use Rattle.segmodel.specs.Places.{bucket_of}
 use Rattle.segmodel.specs.History.{writes}
 use Rattle.segcore.specs.declared.event.Event.{Event}
 use Rattle.segcore.specs.declared.event.Event.TheVariants.{Took, Freed, Replied, Linked, Unlinked, Refilled}

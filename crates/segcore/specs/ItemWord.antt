@@ -1,11 +1,7 @@
 -- The word of an item in the table: tag, frequency, segment and row.
-use Rattle.std.specs.Prelude.{◌≡◌, ℕ, ◌+◌, ◌*◌, ◌^◌, ◌<◌, List}
-use Rattle.segword.specs.Fnv.{hash_of, tag_from_hash}
+use Rattle.std.specs.Prelude.{◌≡◌, ℕ, ◌+◌, ◌*◌, ◌^◌, ◌<◌}
+use Rattle.segmodel.specs.Places.{tag_of}
 use Rattle.segcore.specs.Bucket.{Slot}
-
--- the tag of a key
-unfoldable pub tag_of : List ℕ → ℕ
-tag_of key = tag_from_hash (hash_of key)
 
 -- tag in bits 63..52, frequency in 51..44, segment in 43..20, row in 19..0
 abbrev pub packed : ℕ → ℕ → ℕ → ℕ → ℕ

@@ -7,7 +7,7 @@ use Rattle.segmodel.specs.declared.request.Request.{Request}
 use Rattle.segmodel.specs.declared.request.Reply.{Reply}
 use Rattle.segmodel.specs.declared.entry.Entry.TheVariants as entry
 use Rattle.segmodel.specs.Request.{key_of}
-use Rattle.segmodel.specs.Cache.{bucket as bucket_of, owner}
+use Rattle.segmodel.specs.Places.{bucket_of, owner, tag_of}
 use Rattle.segmodel.specs.History.{after, Follows}
 use Rattle.segcore.specs.declared.event.Event.{Event}
 use Rattle.segcore.specs.declared.event.Event.TheVariants.{Took, Bounced, Glanced, Freed, Replied, Filled, Linked, Unlinked, Drew, Put, Chained, Bumped, Entered, Left, Refilled}
@@ -18,7 +18,7 @@ use Rattle.segcore.specs.Bucket.{Slot, item, copy, last, fresh, is, bucket_after
 use Rattle.segcore.specs.Overflow.{drawn_in}
 use Rattle.segcore.specs.Row.{row_after}
 use Rattle.segcore.specs.Segment.{inside}
-use Rattle.segcore.specs.ItemWord.{tag_of, packed, IsInItem}
+use Rattle.segcore.specs.ItemWord.{packed, IsInItem}
 use Rattle.segcore.specs.Lawful.{IsSegment, Fits, IsLawful}
 use Rattle.segcore.specs.Word.{IsCell, same_cell, word, IsAt, IsItemAt}
 

@@ -5,7 +5,8 @@ use Rattle.segword.specs.Bytes.{IsKey, IsValue}
 use Rattle.segmodel.specs.declared.request.Reply.{Reply}
 use Rattle.segmodel.specs.declared.request.Reply.TheVariants.{NotStored, Exists, NotFound}
 use Rattle.segmodel.specs.Request.{key_of, value_of}
-use Rattle.segmodel.specs.Cache.{bucket as bucket_of, owner, standing}
+use Rattle.segmodel.specs.Places.{bucket_of, owner}
+use Rattle.segmodel.specs.Cache.{standing}
 use Rattle.segmodel.specs.History.{Follows, after}
 use Rattle.segcore.specs.declared.event.Event.{Event}
 use Rattle.segcore.specs.declared.event.Event.TheVariants.{Took, Bounced, Glanced, Freed, Replied, Filled, Linked, Unlinked, Drew, Put, Chained, Bumped, Entered, Left, Refilled}

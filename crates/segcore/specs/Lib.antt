@@ -1,3 +1,4 @@
+pub mod Ahead
 pub mod Bucket
 pub mod Chains
 pub mod Count
@@ -10,6 +11,7 @@ pub mod Overflow
 pub mod Row
 pub mod Says
 pub mod Scan
+pub mod Search
 pub mod Segment
 pub mod Standing
 pub mod Word

@@ -5,7 +5,8 @@ use lib.ListN.{get_elem?}
 use Rattle.segword.specs.declared.shape.Shape.{Shape}
 use Rattle.segmodel.specs.declared.request.Request.{Request}
 use Rattle.segmodel.specs.Request.{key_of, value_of}
-use Rattle.segmodel.specs.Cache.{owner, standing}
+use Rattle.segmodel.specs.Places.{owner}
+use Rattle.segmodel.specs.Cache.{standing}
 use Rattle.segmodel.specs.History.{after, IsLegal, AreOne}
 use Rattle.segcore.specs.declared.event.Event.{Event}
 use Rattle.segcore.specs.declared.event.Event.TheVariants.{Linked, Refilled}

@@ -4,7 +4,8 @@ use Rattle.segword.specs.declared.shape.Shape.{Shape}
 use Rattle.segword.specs.Bytes.{IsKey, IsValue}
 use Rattle.segword.specs.ChainWord.{chain_word}
 use Rattle.segmodel.specs.declared.entry.Cached.{Cached}
-use Rattle.segmodel.specs.Cache.{bucket as bucket_of, standing}
+use Rattle.segmodel.specs.Places.{bucket_of, tag_of}
+use Rattle.segmodel.specs.Cache.{standing}
 use Rattle.segmodel.specs.History.{after}
 use Rattle.segcore.specs.declared.event.Event.{Event}
 use Rattle.segcore.specs.declared.cell.Cell.{Cell}
@@ -12,7 +13,7 @@ use Rattle.segcore.specs.Event.{seen}
 use Rattle.segcore.specs.Bucket.{slot}
 use Rattle.segcore.specs.Overflow.{home, home_of}
 use Rattle.segcore.specs.Row.{Holds, row_after}
-use Rattle.segcore.specs.ItemWord.{tag_of, packed}
+use Rattle.segcore.specs.ItemWord.{packed}
 use Rattle.segcore.specs.Lawful.{IsSegment}
 use Rattle.segcore.specs.Word.{IsCell, word, IsItemAt}
 use Rattle.segcore.specs.Mark.{marked, place, last_at, frequency_in, chained_to}

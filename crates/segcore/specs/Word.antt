@@ -1,6 +1,7 @@
 -- The words of the table, each as what the trace makes it; where each stands, and which of them are the words of a chain.
 use Rattle.std.specs.Prelude.{◌≡◌, ℕ, zero, suc, ◌+◌, ◌*◌, ◌%◌, ◌^◌, ◌<◌, ◌==◌, ◌&&◌, Bool, true, false, List, Option, Some, None}
 use Rattle.segword.specs.declared.shape.Shape.{Shape}
+use Rattle.segmodel.specs.Places.{tag_of}
 use Rattle.segword.specs.ChainWord.{chain_word}
 use Rattle.segcore.specs.declared.event.Event.{Event}
 use Rattle.segcore.specs.declared.cell.Cell.{Cell}
@@ -9,7 +10,7 @@ use Rattle.segcore.specs.Bucket.{Bucket, Content, nothing, item, next, copy, IsP
 use Rattle.segcore.specs.Overflow.{Home, home, home_of, drawn_in}
 use Rattle.segcore.specs.Row.{row_after, frequency_of}
 use Rattle.segcore.specs.Segment.{readers}
-use Rattle.segcore.specs.ItemWord.{tag_of, packed}
+use Rattle.segcore.specs.ItemWord.{packed}
 
 -- ---- cells
 

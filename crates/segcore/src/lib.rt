@@ -8,5 +8,5 @@ mod view;
 
 pub use cell::Cell;
 pub use event::Event;
-pub use laws::{every_schedule, miss_point};
+pub use laws::{every_schedule, miss_point, miss_row};
 pub use view::View;
