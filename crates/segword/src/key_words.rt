@@ -1,0 +1,66 @@
+//! A key in the form in which rows hold it, for comparing it with rows word by word.
+ghost use Rattle.std.specs.Prelude.{◌≡◌, ◌↔◌, IsTrue, List, ℕ, take};
+ghost use Rattle.segword.specs.Bytes.{IsKey, IsValue};
+ghost use Rattle.segword.specs.Row.{row_of};
+ghost use Rattle.segword.specs.KeyWords.{key_words, key_part};
+
+use crate::words::words_of;
+use crate::{Key, Value};
+use std::marker::Model;
+
+/// A key as rows hold it: its length, and its bytes in three words. It is made once a call and then compared with
+/// rows, without a key being read out of each. Contracts see it as the list of the key's bytes.
+#[derive(Clone, Copy, Debug)]
+pub struct KeyWords {
+    words: [u64; 4],
+}
+
+impl Model for KeyWords {
+    ghost use Rattle.std.specs.Prelude.{ℕ, List};
+    ghost use Rattle.segword.specs.KeyWords.{key_words, key_from, AreKeyWords};
+
+    ghost Value = { List ℕ };
+
+    ghost view = { λ key. key_from key.words };
+
+    ghost invariant = { λ key. AreKeyWords key.words };
+
+    ghost inverse = { λ bytes. record { words = key_words bytes } };
+
+    ghost inverse_ok = { λ key valid i. record { words = valid.same_words i } };
+}
+
+impl KeyWords {
+    /// The words of a key.
+    pub fn new(key: &Key) -> KeyWords
+        ensures value { result ≡ key.now }
+        ensures valid { IsKey key.now }
+    {
+        let bytes = key.as_bytes();
+        let [first, second, third] = words_of::<3>(bytes);
+        KeyWords {
+            words: [bytes.len() as u64, first, second, third],
+        }
+    }
+
+    /// Whether a row that begins with these four words is one of this key.
+    pub fn begins(&self, words: &[u64; 4]) -> bool
+        ensures value { IsTrue result ↔ (key_part words.now ≡ key_words self.now) }
+        ensures same_key { (key value : List ℕ) → IsKey key → IsValue value
+            → take 4 (row_of key value) ≡ words.now → IsTrue result ↔ (key ≡ self.now) }
+    {
+        let [header, first, second, third] = *words;
+        [header & 0xff, first, second, third] == self.words
+    }
+
+    /// The eight words of this key and a value.
+    pub fn row(&self, value: &Value) -> [u64; 8]
+        ensures { result ≡ row_of self.now value.now }
+    {
+        let bytes = value.as_bytes();
+        let [length, first, second, third] = self.words;
+        let [fourth, fifth, sixth, seventh] = words_of::<4>(bytes);
+        let header = (bytes.len() as u64) << 8 | length;
+        [header, first, second, third, fourth, fifth, sixth, seventh]
+    }
+}
