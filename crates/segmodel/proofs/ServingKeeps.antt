@@ -1,0 +1,180 @@
+-- Each command and each turn keeps what always holds of a state.
+use Rattle.std.proofs.Common.{◌≡◌, ℕ, ◌<◌, ◌⊎◌, inl, inr, ◌&&◌, not, IsSomeAnd, Bool, true, false, cond, List, [], ◌∷◌, length, Option, Some, None, is_some, refl, sym, ap, ◌∙◌, subst, arith, nat_le, nat_lt, MatchBool, MatchOption}
+use Rattle.std.proofs.lemmas.Bool.{false≢true}
+use Rattle.std.specs.List.{list_all}
+use Rattle.std.specs.Map.{lookup}
+use Rattle.std.specs.BTreeMap.{is_at}
+use Rattle.segword.specs.declared.shape.Shape.{Shape}
+use Rattle.segmodel.specs.declared.entry.Cached.{Cached}
+use Rattle.segmodel.specs.declared.request.Request.{Request}
+use Rattle.segmodel.specs.declared.request.Request.TheVariants.{Set, Add, Replace, Cas, Delete}
+use Rattle.segmodel.specs.declared.request.Reply.{Reply}
+use Rattle.segmodel.specs.declared.request.Reply.TheVariants as reply
+use Rattle.segmodel.specs.declared.answer.WriteAnswer.{WriteAnswer}
+use Rattle.segmodel.specs.declared.answer.WriteAnswer.TheVariants as write
+use Rattle.segmodel.specs.declared.answer.DeleteAnswer.{DeleteAnswer}
+use Rattle.segmodel.specs.declared.answer.DeleteAnswer.TheVariants as delete
+use Rattle.segmodel.specs.declared.answer.EvictAnswer.{EvictAnswer}
+use Rattle.segmodel.specs.declared.answer.EvictAnswer.TheVariants as evict
+use Rattle.segmodel.specs.declared.answer.RefillAnswer.{RefillAnswer}
+use Rattle.segmodel.specs.declared.answer.RefillAnswer.TheVariants as refill
+use Rattle.segmodel.specs.declared.answer.SegState.{SegState}
+use Rattle.segmodel.specs.declared.answer.SegState.TheVariants.{Empty, InUse, Evicted}
+use Rattle.segmodel.specs.declared.answer.Command.TheVariants.{Write, Get, Gets, Evict, Refill}
+use Rattle.segmodel.specs.declared.answer.Turn.{Turn}
+use Rattle.segmodel.specs.declared.answer.Outcome.{Outcome}
+use Rattle.segmodel.specs.declared.answer.Turn.TheVariants.{Serve, Hold, Held, Release, Lock, Unlock}
+use Rattle.segmodel.specs.Places.{bucket_of}
+use Rattle.segmodel.specs.Request.{key_of, value_of, reply_to}
+use Rattle.segmodel.specs.Cache.{key_cmp, standing, present, reply_in}
+use Rattle.segmodel.specs.History.{NoneStandsIn}
+use Rattle.segmodel.specs.State.{State, IsKept, is_in_use, is_stored, is_locked}
+use Rattle.segmodel.specs.Serving.{IsGiven, IsReplied, is_out_of_rows, is_own, lacks_word, may_chain, stored, after_reply, reply_of_write, reply_of_delete, ServesStore, ServesDelete, ServesEvict, may_go, refill_answer, after_refill}
+use Rattle.segmodel.specs.Turns.{Turns}
+use Rattle.segmodel.specs.Laws.{ServingKeeps, TurnsKeep, RefilledWhereNoneStands}
+use Rattle.segmodel.proofs.Counts.{both}
+use Rattle.segmodel.proofs.Keys.{same_key}
+use Rattle.segmodel.proofs.Kept.{IsKept-same, IsKept-placed, IsKept-chained, IsKept-deleted, IsKept-taken, IsKept-evicted, IsKept-refilled}
+
+-- ---- replies
+
+row_left : (rows used : ℕ) → nat_le rows used ≡ false → used < rows
+row_left rows used is = grind (arith, is)
+
+own_below : (segment each : ℕ) → nat_lt segment each ≡ true → segment < each
+own_below segment each is = grind (arith, is)
+
+stored_kept : (shape : Shape) (request : Request) (state : State) → IsKept shape state → (current : Option ℕ) → state.current ≡ current
+    → is_out_of_rows shape state.filling current ≡ false → IsKept shape (stored shape request current state)
+stored_kept shape request state kept None is room = absurd (false≢true (sym room))
+stored_kept shape request state kept (Some s) is room =
+    IsKept-chained shape _ (lacks_word shape state request) _ (IsKept-placed shape (key_of request) (value_of request) s state kept is (row_left shape.rows (length (state.filling s).keys) room))
+
+replied_kept : (shape : Shape) (request : Request) (reply : Reply) (state : State) → IsKept shape state → is_out_of_rows shape state.filling state.current ≡ false
+    → IsKept shape (after_reply shape request reply state)
+replied_kept shape request reply.Stored state kept room = stored_kept shape request state kept state.current refl room
+replied_kept shape request reply.Deleted state kept room = IsKept-deleted shape (key_of request) state kept
+replied_kept shape request reply.NotStored state kept room = kept
+replied_kept shape request reply.Exists state kept room = kept
+replied_kept shape request reply.NotFound state kept room = kept
+
+-- a refusal changes nothing, and where there is none a row is left
+refused_or : (out locked full : Bool) (P : Type 0) (Q : WriteAnswer → Type 0) → MatchOption (cond out (Some write.NoRoom) (cond locked (Some write.Busy) (cond full (Some write.BucketFull) None))) P Q
+    → ((why : WriteAnswer) × Q why) ⊎ ((out ≡ false) × P)
+refused_or true locked full P Q h = inl (write.NoRoom, h)
+refused_or false true full P Q h = inl (write.Busy, h)
+refused_or false false true P Q h = inl (write.BucketFull, h)
+refused_or false false false P Q h = inr (refl, h)
+
+store_kept : (shape : Shape) (old new : State) (request : Request) (given : WriteAnswer) → IsKept shape old → ServesStore shape old request given new → IsKept shape new
+store_kept shape old new request given kept served = elim (refused_or (is_out_of_rows shape old.filling old.current) (is_locked shape old (key_of request))
+    (lacks_word shape old request && not (may_chain shape old (bucket_of shape (key_of request))))
+    (IsReplied shape old request (reply_of_write given) new) (λ why. IsGiven why old given new) served) [
+      | inl refused ↦ IsKept-same refused.1.1 kept
+      | inr replied ↦ IsKept-same replied.1.1 (replied_kept shape request (reply_in shape old.cache request) old kept replied.0)
+    ]
+
+delete_kept : (shape : Shape) (old new : State) (key : List ℕ) (given : DeleteAnswer) → IsKept shape old → ServesDelete shape old key given new → IsKept shape new
+delete_kept shape old new key given kept served = by (is_locked shape old key) served
+  where
+    gone : (here : Bool) (version : ℕ) → new ≡ after_reply shape (Delete key) (reply_to (Delete key) here version) old → IsKept shape new
+    gone true version left = IsKept-same left (IsKept-deleted shape key old kept)
+    gone false version left = IsKept-same left kept
+
+    by : (locked : Bool) → MatchBool locked (IsGiven delete.Busy old given new) (IsReplied shape old (Delete key) (reply_of_delete given) new) → IsKept shape new
+    by true busy = IsKept-same busy.1 kept
+    by false replied = gone (is_some (present old.cache key)) (old.cache.version (bucket_of shape key)) replied.1
+
+-- ---- evict and refill
+
+evict_kept : (shape : Shape) (old new : State) (segment : ℕ) (is : SegState) (given : EvictAnswer) → IsKept shape old → ServesEvict shape old segment is given new → IsKept shape new
+evict_kept shape old new segment Empty given kept served = IsKept-same served.1 kept
+evict_kept shape old new segment Evicted given kept served = IsKept-same served.1 kept
+evict_kept shape old new segment InUse (evict.Evicted n) kept served = IsKept-same served.2 (IsKept-evicted shape segment old kept)
+evict_kept shape old new segment InUse (evict.Busy n) kept served = IsKept-same served.1.2 (IsKept-taken shape segment (may_go shape old segment served.1.0) old kept)
+evict_kept shape old new segment InUse evict.NotYours kept served = absurd served
+
+evict_or : (shape : Shape) (old new : State) (segment : ℕ) (given : EvictAnswer) (own : Bool) → IsKept shape old
+    → MatchBool own (ServesEvict shape old segment (old.filling segment).state given new) (IsGiven evict.NotYours old given new) → IsKept shape new
+evict_or shape old new segment given true kept served = evict_kept shape old new segment (old.filling segment).state given kept served
+evict_or shape old new segment given false kept served = IsKept-same served.1 kept
+
+-- a refill that is answered Refilled is of an own segment that is not in use
+refills : (shape : Shape) (state : State) (segment : ℕ) (own : Bool) (is : SegState) → cond own (refill_answer state segment is) refill.NotYours ≡ refill.Refilled
+    → (own ≡ true) × (is_in_use is ≡ false)
+refills shape state segment true Empty e = (refl, refl)
+refills shape state segment true Evicted e = (refl, refl)
+refills shape state segment true InUse e = cc
+refills shape state segment false is e = cc
+
+refill_kept : (shape : Shape) (old : State) (segment : ℕ) → IsKept shape old → (given : RefillAnswer)
+    → cond (is_own shape segment) (refill_answer old segment (old.filling segment).state) refill.NotYours ≡ given → IsKept shape (after_refill segment given old)
+refill_kept shape old segment kept refill.Refilled e =
+    let own = refills shape old segment (is_own shape segment) (old.filling segment).state e in
+    IsKept-refilled shape segment old kept own.1 (own_below segment shape.segments_each own.0)
+refill_kept shape old segment kept refill.NotYours e = kept
+refill_kept shape old segment kept refill.NotEvicted e = kept
+refill_kept shape old segment kept refill.Held e = kept
+
+-- ---- commands and turns
+
+pub serving_keeps : ServingKeeps
+serving_keeps shape old new (Write (Delete key)) given kept served = delete_kept shape old new key served.0 kept served.2
+serving_keeps shape old new (Write (Set key value)) given kept served = store_kept shape old new (Set key value) served.0 kept served.2
+serving_keeps shape old new (Write (Add key value)) given kept served = store_kept shape old new (Add key value) served.0 kept served.2
+serving_keeps shape old new (Write (Replace key value)) given kept served = store_kept shape old new (Replace key value) served.0 kept served.2
+serving_keeps shape old new (Write (Cas key value expected)) given kept served = store_kept shape old new (Cas key value expected) served.0 kept served.2
+serving_keeps shape old new (Get key) given kept served = IsKept-same served.1 kept
+serving_keeps shape old new (Gets key) given kept served = IsKept-same served.1 kept
+serving_keeps shape old new (Evict segment) given kept served = evict_or shape old new segment served.0 (is_own shape segment) kept served.2
+serving_keeps shape old new (Refill segment) given kept served = IsKept-same served.1 (refill_kept shape old segment kept _ refl)
+
+-- what is held or locked doesn't matter
+aside : (shape : Shape) (old new : State) (held : Option Cached) (locked : Option ℕ) → IsKept shape old → new ≡ record old { held = held; locked = locked } → IsKept shape new
+aside shape old new held locked kept is = IsKept-same is (record { items = kept.items; count = kept.count; rows = kept.rows; own = kept.own; in_use = kept.in_use })
+
+turn_keeps : (shape : Shape) (old new : State) (turn : Turn) (given : Outcome) → IsKept shape old → Turns shape old turn given new → IsKept shape new
+turn_keeps shape old new (Serve command) given kept turns = serving_keeps shape old new command turns.0 kept turns.2
+turn_keeps shape old new (Hold key) given kept turns = aside shape old new _ old.locked kept turns.1
+turn_keeps shape old new Held given kept turns = IsKept-same turns.1 kept
+turn_keeps shape old new Release given kept turns = aside shape old new None old.locked kept turns.1
+turn_keeps shape old new (Lock key) given kept turns = aside shape old new old.held _ kept turns.1
+turn_keeps shape old new Unlock given kept turns = aside shape old new old.held None kept turns.1
+
+pub turns_keep : TurnsKeep
+turns_keep shape old new [] [] kept run = IsKept-same run kept
+turns_keep shape old new [] (given ∷ outcomes) kept run = absurd run
+turns_keep shape old new (turn ∷ turns) [] kept run = absurd run
+turns_keep shape old new (turn ∷ turns) (given ∷ outcomes) kept run =
+    turns_keep shape run.0 new turns outcomes (turn_keeps shape old run.0 turn given kept run.1) run.2
+
+-- ---- refilled where nothing stands
+
+-- what is found under a key passes the test that all items pass
+found_passes : (p : List ℕ × Cached → Bool) (key : List ℕ) (item : Cached) (items : List (List ℕ × Cached)) → list_all p items ≡ true
+    → lookup (is_at (key_cmp key)) items ≡ Some item → p (key, item) ≡ true
+found_passes p key item [] all found = cc
+found_passes p key item (e ∷ es) all found =
+    let parts = both (p e) (list_all p es) all in
+    by (is_at (key_cmp key) e.0) refl found (found_passes p key item es parts.1)
+  where
+    by : (here : Bool) → is_at (key_cmp key) e.0 ≡ here → cond here (Some e.1) (lookup (is_at (key_cmp key)) es) ≡ Some item
+        → (lookup (is_at (key_cmp key)) es ≡ Some item → p (key, item) ≡ true) → p (key, item) ≡ true
+    by true is found rest =
+        let same : e.1 ≡ item = cc in
+        subst (λ k. p (k, item) ≡ true) (sym (same_key key e.0 is)) (subst (λ x. p (e.0, x) ≡ true) same (both (p e) (list_all p es) all).0)
+    by false is found rest = rest found
+
+none_stands : (shape : Shape) (state : State) (segment : ℕ) → IsKept shape state → is_in_use (state.filling segment).state ≡ false → NoneStandsIn state.cache segment
+none_stands shape state segment kept unused key stands = by (standing state.cache key) refl stands
+  where
+    by : (o : Option Cached) → standing state.cache key ≡ o → IsSomeAnd o (λ item. item.segment ≡ segment) → ⊥
+    by None is none = absurd none
+    by (Some item) is same =
+        let stored = found_passes (is_stored state.filling) key item state.cache.items kept.items is in
+        false≢true (sym unused ∙ ap (λ s. is_in_use (state.filling s).state) (sym same) ∙ (both _ _ stored).0)
+
+pub refilled_where_none : RefilledWhereNoneStands
+refilled_where_none shape old new segment kept served =
+    let given : cond (is_own shape segment) (refill_answer old segment (old.filling segment).state) refill.NotYours ≡ refill.Refilled = cc in
+    none_stands shape old segment kept (refills shape old segment (is_own shape segment) (old.filling segment).state given).1

@@ -1,0 +1,157 @@
+-- Laws: what the definitions come to. Each is proved as the contract of a function in src/laws.rt.
+use Rattle.std.specs.Prelude.{◌≡◌, ℕ, ◌+◌, ◌%◌, ◌^◌, ◌==◌, ◌<◌, Bool, true, false, is_some, IsSome, IsSomeAnd, List, ◌∷◌, ◌++◌, find, Option, Some, None, option_map, option_and_then, if◌then◌else◌}
+use Rattle.std.specs.BTreeMap.{is_at}
+use Rattle.std.specs.List.Sorted.{IsStrictlySortedBy}
+use Rattle.std.specs.Map.{keys_of}
+use Rattle.segword.specs.declared.shape.Shape.{Shape}
+use Rattle.segmodel.specs.declared.request.Request.{Request}
+use Rattle.segmodel.specs.declared.request.Request.TheVariants.{Add, Replace, Cas}
+use Rattle.segmodel.specs.declared.request.Reply.{Reply}
+use Rattle.segmodel.specs.declared.request.Reply.TheVariants.{Stored, Exists, NotFound, Deleted}
+use Rattle.segmodel.specs.declared.entry.Cached.{Cached}
+use Rattle.segmodel.specs.declared.entry.Entry.{Entry}
+use Rattle.segmodel.specs.declared.entry.Entry.TheVariants.{Wrote, Evicted}
+use Rattle.segmodel.specs.declared.answer.Command.{Command}
+use Rattle.segmodel.specs.declared.answer.Command.TheVariants.{Refill}
+use Rattle.segmodel.specs.declared.answer.Answer.{Answer}
+use Rattle.segmodel.specs.declared.answer.Answer.TheVariants as answer
+use Rattle.segmodel.specs.declared.answer.RefillAnswer.TheVariants.{Refilled}
+use Rattle.segmodel.specs.declared.answer.Turn.{Turn}
+use Rattle.segmodel.specs.declared.answer.Outcome.{Outcome}
+use Rattle.segmodel.specs.Places.{bucket_of}
+use Rattle.segmodel.specs.Request.{key_of, value_of}
+use Rattle.segmodel.specs.Cache.{Cache, key_cmp, standing, present, reads, reads_version, reply_in}
+use Rattle.segmodel.specs.History.{NoneStandsIn, Follows, next, after, IsLegal, Begins, is_of, entries_of, stirred, is_write_to, writes, IsSameAt}
+use Rattle.segmodel.specs.State.{State, IsKept, fresh}
+use Rattle.segmodel.specs.Serving.{Serves}
+use Rattle.segmodel.specs.Turns.{Turns, Runs}
+
+-- ---- legal histories
+
+-- a legal history with one more entry, which follows, is legal
+abbrev pub LongerIsLegal : Type 0
+LongerIsLegal = (shape : Shape) (history : List Entry) (entry : Entry) → IsLegal shape history → Follows shape (after shape history) entry → IsLegal shape (entry ∷ history)
+
+-- what a legal history was at an earlier moment is legal
+abbrev pub EarlierIsLegal : Type 0
+EarlierIsLegal = (shape : Shape) (before now : List Entry) → Begins before now → IsLegal shape now → IsLegal shape before
+
+-- the items of a cache are in the order of their keys, so that each key has one at most
+abbrev pub ItemsAreInOrder : Type 0
+ItemsAreInOrder = (shape : Shape) (history : List Entry) → IsStrictlySortedBy key_cmp (keys_of (after shape history).items)
+
+-- ---- what a key reads
+
+-- whether an entry changes what stands under the key: it was stored, deleted or evicted
+abbrev pub is_change_of : List ℕ → Entry → Bool
+is_change_of key (Wrote pass request Stored segment) = is_at (key_cmp key) (key_of request)
+is_change_of key (Wrote pass request Deleted segment) = is_at (key_cmp key) (key_of request)
+is_change_of key (Evicted pass other segment) = is_at (key_cmp key) other
+is_change_of key _ = false
+
+-- what an entry leaves under the key that it changes: the item, where it was stored
+abbrev pub left_by : Entry → Option Cached
+left_by (Wrote pass request Stored (Some segment)) = Some (record { value = value_of request; segment = segment })
+left_by _ = None
+
+-- what the last change of the key left: the history has its newest entry first, so the last change is the first one found
+abbrev pub last_left : List ℕ → List Entry → Option Cached
+last_left key history = option_and_then left_by (find (is_change_of key) history)
+
+-- what stands under a key is what its last change left
+abbrev pub StandsAsLeft : Type 0
+StandsAsLeft = (shape : Shape) (history : List Entry) (key : List ℕ) → IsLegal shape history → standing (after shape history) key ≡ last_left key history
+
+-- and a key reads the value of that
+abbrev pub ReadsAsLeft : Type 0
+ReadsAsLeft = (shape : Shape) (history : List Entry) (key : List ℕ) → IsLegal shape history
+    → reads (after shape history) key ≡ option_map (λ item. item.value) (last_left key history)
+
+-- ---- versions
+
+-- the version of a bucket is the first version and one more for each of its writes, modulo 2^32
+abbrev pub VersionCountsWrites : Type 0
+VersionCountsWrites = (shape : Shape) (history : List Entry) (b : ℕ) → shape.first_version < 2 ^ 32 → IsLegal shape history
+    → (after shape history).version b ≡ (shape.first_version + writes shape history b) % 2 ^ 32
+
+-- an entry that is no write to the bucket leaves its version
+abbrev pub OthersKeepVersion : Type 0
+OthersKeepVersion = (shape : Shape) (cache : Cache) (entry : Entry) (b : ℕ) → is_write_to shape b entry ≡ false → (next shape cache entry).version b ≡ cache.version b
+
+-- an eviction leaves every version
+abbrev pub EvictionKeepsVersions : Type 0
+EvictionKeepsVersions = (shape : Shape) (cache : Cache) (pass segment : ℕ) (key : List ℕ) → (next shape cache (Evicted pass key segment)).version ≡ cache.version
+
+-- whether a reply says that nothing was written
+abbrev pub is_refused : Reply → Bool
+is_refused Stored = false
+is_refused Deleted = false
+is_refused _ = true
+
+-- a write so replied leaves the cache as it is, versions included
+abbrev pub RefusedKeepsCache : Type 0
+RefusedKeepsCache = (shape : Shape) (cache : Cache) (pass : ℕ) (request : Request) (reply : Reply) (segment : Option ℕ)
+    → is_refused reply ≡ true → next shape cache (Wrote pass request reply segment) ≡ cache
+
+-- The version law. A cas brings the version that a gets gave at an earlier moment of the same history. Where its key is present it fails exactly
+-- where its bucket was written in between, counted modulo 2^32.
+abbrev pub CasFailsWhereWritten : Type 0
+CasFailsWhereWritten = (shape : Shape) (before now : List Entry) (key seen value : List ℕ) (version : ℕ)
+    → shape.first_version < 2 ^ 32 → IsLegal shape now → Begins before now
+    → reads_version shape (after shape before) key ≡ Some (seen, version)
+    → reply_in shape (after shape now) (Cas key value version)
+    ≡ (if is_some (present (after shape now) key) then
+    (if writes shape now (bucket_of shape key) % 2 ^ 32 == writes shape before (bucket_of shape key) % 2 ^ 32 then Stored else Exists)
+    else NotFound)
+
+-- ---- which requests store
+
+-- an add stores only under an absent key
+abbrev pub AddNeedsAbsent : Type 0
+AddNeedsAbsent = (shape : Shape) (cache : Cache) (pass : ℕ) (key value : List ℕ) (segment : Option ℕ)
+    → Follows shape cache (Wrote pass (Add key value) Stored segment) → reads cache key ≡ None
+
+-- a replace stores only under a present one
+abbrev pub ReplaceNeedsPresent : Type 0
+ReplaceNeedsPresent = (shape : Shape) (cache : Cache) (pass : ℕ) (key value : List ℕ) (segment : Option ℕ)
+    → Follows shape cache (Wrote pass (Replace key value) Stored segment) → IsSome (reads cache key)
+
+-- a cas stores only under a present one, whose bucket has the expected version
+abbrev pub CasNeedsVersion : Type 0
+CasNeedsVersion = (shape : Shape) (cache : Cache) (pass : ℕ) (key value : List ℕ) (expected : ℕ) (segment : Option ℕ)
+    → Follows shape cache (Wrote pass (Cas key value expected) Stored segment) → IsSomeAnd (reads_version shape cache key) (λ read. read.1 ≡ expected)
+
+-- ---- other buckets
+
+-- an entry of another bucket leaves a key, and its bucket's version, as they are
+abbrev pub OtherBucketsAreKept : Type 0
+OtherBucketsAreKept = (shape : Shape) (cache : Cache) (entry : Entry) (key : List ℕ)
+    → is_of shape (bucket_of shape key) entry ≡ false → IsSameAt shape cache (next shape cache entry) key
+
+-- stirred counts the entries of the key's bucket that were added
+abbrev pub StirredCountsAdded : Type 0
+StirredCountsAdded = (shape : Shape) (before more : List Entry) (key : List ℕ) → stirred shape key before (more ++ before) ≡ entries_of shape (bucket_of shape key) more
+
+-- where nothing was stirred between two moments, a key reads the same at both, and with the same version
+abbrev pub UnstirredReadsTheSame : Type 0
+UnstirredReadsTheSame = (shape : Shape) (before now : List Entry) (key : List ℕ) → Begins before now → stirred shape key before now ≡ 0
+    → (reads (after shape now) key ≡ reads (after shape before) key) × (reads_version shape (after shape now) key ≡ reads_version shape (after shape before) key)
+
+-- ---- serving
+
+-- at the start it holds what always holds of a state
+abbrev pub IsKeptAtTheStart : Type 0
+IsKeptAtTheStart = (shape : Shape) → IsKept shape (fresh shape)
+
+-- and serving a command keeps it
+abbrev pub ServingKeeps : Type 0
+ServingKeeps = (shape : Shape) (old new : State) (command : Command) (given : Answer) → IsKept shape old → Serves shape old command given new → IsKept shape new
+
+-- as does a whole run of turns
+abbrev pub TurnsKeep : Type 0
+TurnsKeep = (shape : Shape) (old new : State) (turns : List Turn) (given : List Outcome) → IsKept shape old → Runs (Turns shape) old turns given new → IsKept shape new
+
+-- a segment is refilled only where no key stands in it
+abbrev pub RefilledWhereNoneStands : Type 0
+RefilledWhereNoneStands = (shape : Shape) (old new : State) (segment : ℕ)
+    → IsKept shape old → Serves shape old (Refill segment) (answer.Refill Refilled) new → NoneStandsIn old.cache segment

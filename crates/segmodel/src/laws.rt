@@ -1,0 +1,70 @@
+//! The laws of the model. Each function does nothing: its contract is the law.
+ghost use Rattle.std.specs.Prelude.{◌≡◌, Some, None};
+ghost use Rattle.segmodel.specs.declared.answer.Command.TheVariants.{Refill};
+ghost use Rattle.segmodel.specs.declared.answer.RefillAnswer.TheVariants.{Refilled};
+ghost use Rattle.segmodel.specs.declared.answer.Answer.TheVariants as answer;
+ghost use Rattle.segmodel.specs.Cache.{reads_version};
+ghost use Rattle.segmodel.specs.History.{after, Begins, IsLegal, stirred};
+ghost use Rattle.segmodel.specs.State.{fresh};
+ghost use Rattle.segmodel.specs.Serving.{after_refill, Serves};
+ghost use Rattle.segmodel.specs.Example.{shape, a, one, two, added, deleted, whole};
+ghost use Rattle.segmodel.specs.Laws.{LongerIsLegal, EarlierIsLegal, ItemsAreInOrder, StandsAsLeft, ReadsAsLeft, VersionCountsWrites, OthersKeepVersion, EvictionKeepsVersions, RefusedKeepsCache, CasFailsWhereWritten, AddNeedsAbsent, ReplaceNeedsPresent, CasNeedsVersion, OtherBucketsAreKept, StirredCountsAdded, UnstirredReadsTheSame, IsKeptAtTheStart, ServingKeeps, TurnsKeep, RefilledWhereNoneStands};
+
+/// Legal histories grow by entries that follow, and were legal at each earlier moment; what stands after them is a map.
+pub fn legal_histories()
+    ensures longer { LongerIsLegal }
+    ensures earlier { EarlierIsLegal }
+    ensures ordered { ItemsAreInOrder }
+{}
+
+/// What a key reads is what its last write, deletion or eviction left.
+pub fn last_change_decides()
+    ensures stands { StandsAsLeft }
+    ensures reads { ReadsAsLeft }
+{}
+
+/// The version of a bucket counts the keys stored and deleted in it, modulo 2^32, and nothing else.
+pub fn versions_count_writes()
+    ensures counted { VersionCountsWrites }
+    ensures others { OthersKeepVersion }
+    ensures evicted { EvictionKeepsVersions }
+    ensures refused { RefusedKeepsCache }
+{}
+
+/// A cas with the version that an earlier gets gave fails exactly where its key's bucket was written since, or its key is absent.
+pub fn cas_fails_where_written()
+    ensures { CasFailsWhereWritten }
+{}
+
+/// An add stores under an absent key alone; a replace and a cas under a present one.
+pub fn stores_need()
+    ensures add { AddNeedsAbsent }
+    ensures replace { ReplaceNeedsPresent }
+    ensures cas { CasNeedsVersion }
+{}
+
+/// What is done in one bucket leaves the keys of the others, and their versions.
+pub fn buckets_are_apart()
+    ensures entry { OtherBucketsAreKept }
+    ensures stirred { StirredCountsAdded }
+    ensures still { UnstirredReadsTheSame }
+{}
+
+/// What always holds of a state holds at the start, and serving keeps it; so a segment is refilled only where nothing stands in it.
+pub fn serving_keeps()
+    ensures start { IsKeptAtTheStart }
+    ensures command { ServingKeeps }
+    ensures turns { TurnsKeep }
+    ensures refilled { RefilledWhereNoneStands }
+{}
+
+/// A history with each kind of entry is legal, and meets what the laws ask for.
+pub fn example()
+    ensures legal { IsLegal shape whole }
+    ensures earlier { Begins added whole }
+    ensures read { reads_version shape (after shape added) a ≡ Some (one, 1) }
+    ensures later { reads_version shape (after shape deleted) a ≡ Some (two, 5) }
+    ensures gone { reads_version shape (after shape whole) a ≡ None }
+    ensures stirred { stirred shape a added whole ≡ 7 }
+    ensures refilled { Serves shape (fresh shape) (Refill 0) (answer.Refill Refilled) (after_refill 0 Refilled (fresh shape)) }
+{}
