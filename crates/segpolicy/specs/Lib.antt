@@ -1,0 +1,4 @@
+pub mod Cycle
+pub mod Draws
+pub mod Frequency
+pub mod Load
