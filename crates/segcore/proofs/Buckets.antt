@@ -1,8 +1,8 @@
 -- What a lawful trace says of information words, chains and overflow buckets.
-use Rattle.std.proofs.Common.{◌≡◌, ◌≢◌, ℕ, ◌+◌, ◌*◌, ◌/◌, ◌%◌, ◌^◌, ◌<◌, ◌≤◌, cond, List, Option, Some, None, sym, refl, ap, ◌∙◌, subst, inl, inr, ◌⊎◌, ⊎_elim, arith}
+use Rattle.std.proofs.Common.{◌≡◌, ◌≢◌, ℕ, ◌+◌, ◌*◌, ◌/◌, ◌%◌, ◌^◌, ◌<◌, ◌≤◌, false, cond, List, Option, Some, None, sym, refl, ap, ◌∙◌, subst, inl, inr, ◌⊎◌, ⊎_elim, arith}
 use Rattle.segword.specs.declared.shape.Shape.{Shape}
 use Rattle.segword.specs.ChainWord.{chain_word}
-use Rattle.segmodel.specs.History.{after}
+use Rattle.segmodel.specs.History.{after, writes}
 use Rattle.segmodel.proofs.HistoryLemmas.{version-after}
 use Rattle.segcore.specs.declared.event.Event.{Event}
 use Rattle.segcore.specs.declared.cell.Cell.{Cell}
@@ -110,3 +110,15 @@ says_of_buckets z h l = let e = all_drawn_marked h in let few = drawn_few z h l 
   undrawn = λ m w none. ap (overflow_word z h w) none;
   unused = λ m. unused_at z h m (home_of h m) l refl;
 }
+
+-- ---- the version that an information word has
+
+pub unwritten_version : (z : Shape) (h : List Event) (b : ℕ) → z.first_version < 2 ^ 32 → IsLawful z h → (bucket_after z h b).written ≡ false → word z h (OfBucket b 0) / 2 ^ 32 ≡ (after z (seen h)).version b
+unwritten_version z h b few l w = let u = bucket_after z h b in let lt = bit_small u.holder in let v = version_of z h b few l in let none : behind z h b ≡ 0 = ap (λ t. cond t 1 0) w in
+    let x : word z h (OfBucket b 0) / 2 ^ 32 ≡ (z.first_version + u.version) % 2 ^ 32 = omega arith in x ∙ (ap (λ n. (z.first_version + n) % 2 ^ 32) (let e : u.version ≡ u.version + behind z h b = omega arith in e) ∙ sym v)
+
+pub free_version : (z : Shape) (h : List Event) (b : ℕ) → z.first_version < 2 ^ 32 → IsLawful z h → word z h (OfBucket b 0) % 2 ^ 32 ≡ 0 → word z h (OfBucket b 0) / 2 ^ 32 ≡ (after z (seen h)).version b
+free_version z h b few l clear = unwritten_version z h b few l (free z h b l (unset (bucket_after z h b).holder (sym (info_bit z h b) ∙ clear)))
+
+pub version_writes : (z : Shape) (h : List Event) (b : ℕ) → z.first_version < 2 ^ 32 → IsLawful z h → (after z (seen h)).version b ≡ (z.first_version + writes z (seen h) b) % 2 ^ 32
+version_writes z h b few l = version-after z (seen h) b few (legal z h l)

@@ -26,3 +26,7 @@ pub mod Homes
 pub mod Buckets
 pub mod Segments
 pub mod Passes
+pub mod Searches
+pub mod Counts
+pub mod Meanwhile
+pub mod Changed

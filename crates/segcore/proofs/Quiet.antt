@@ -12,7 +12,7 @@ use Rattle.segmodel.specs.Request.{key_of, reply_to}
 use Rattle.segcore.proofs.Caches.{stands}
 use Rattle.segcore.specs.Bucket.{bucket_at, is, acts, bucket_after, IsPosition, Bucket}
 use Rattle.segcore.specs.Event.{by, removal, seen, NoneBy}
-use Rattle.segcore.specs.Lawful.{NoneAt, needs, Suits, Fits, IsLawful}
+use Rattle.segcore.specs.Lawful.{NoneAt, needs, Suits, Fits, IsLawful, is_of_now}
 use Rattle.segcore.specs.Overflow.{drawn_in, Home, home_of}
 use Rattle.segcore.specs.Row.{row_at, row_after}
 use Rattle.segcore.specs.Segment.{inside, was_used}
@@ -21,7 +21,7 @@ use Rattle.segmodel.specs.History.{after, Follows, IsSameAt}
 use Rattle.segmodel.proofs.HistoryLemmas.{next_other}
 use Rattle.std.specs.Prelude.{is_some, IsSomeAnd}
 use Rattle.segcore.specs.declared.event.Event.{Event}
-use Rattle.segcore.specs.declared.event.Event.TheVariants.{Took, Bounced, Glanced, Freed, Replied, Filled, Linked, Unlinked, Drew, Put, Chained, Bumped, Entered, Left, Refilled}
+use Rattle.segcore.specs.declared.event.Event.TheVariants.{Took, Freed, Replied, Filled, Linked, Unlinked, Drew, Put, Chained, Entered, Left, Refilled}
 
 -- an event at a bucket whose bit the pass q has is one of q
 needs_by : (e : Event) (q : ℕ) → needs e ≡ Some q → by e ≡ q
@@ -158,16 +158,6 @@ position_stays z more h b n i = let a = chained_grows z more h b in let lt = i.0
 
 -- ---- an event that fits after what a pass has seen fits also after what others did since
 
--- what a pass must know at the moment itself
-abbrev pub IsOfNow : Event → Bool
-IsOfNow (Took p b) = true
-IsOfNow (Bounced p b) = true
-IsOfNow (Glanced p b) = true
-IsOfNow (Drew p b d m) = true
-IsOfNow (Bumped p s r f) = true
-IsOfNow (Refilled p s) = true
-IsOfNow _ = false
-
 later_follows : (z : Shape) (more h : List Event) (p : ℕ) (q : Request) (y : Reply) (s : Option ℕ) → IsLawful z (more ++ h) → NoneBy p more → (bucket_after z h (bucket_of z (key_of q))).holder ≡ Some p → Follows z (after z (seen h)) (entry.Wrote p q y s) → Follows z (after z (seen (more ++ h))) (entry.Wrote p q y s)
 later_follows z more h p q y s l n held f =
     let same = quiet_at z more h p (key_of q) l n held in
@@ -177,7 +167,7 @@ later_left : (z : Shape) (more h : List Event) (p : ℕ) (k : List ℕ) (why : O
 later_left z more h p k None l n held f = later_follows z more h p (Delete k) Deleted None l n held f
 later_left z more h p k (Some s) l n held f = (subst (λ o. IsSomeAnd o (λ item. item.segment ≡ s)) (sym (quiet_stands z more h p k l n held)) f.0, f.1)
 
-pub later : (z : Shape) (more h : List Event) (e : Event) → IsLawful z (more ++ h) → NoneBy (by e) more → IsOfNow e ≡ false → Fits z h e → Fits z (more ++ h) e
+pub later : (z : Shape) (more h : List Event) (e : Event) → IsLawful z (more ++ h) → NoneBy (by e) more → is_of_now e ≡ false → Fits z h e → Fits z (more ++ h) e
 later z more h (Entered p s) l n t f = record { guarded = tt; follows = tt; suits = (f.suits.0, f.suits.1, rw (quiet_inside more h p s n) f.suits.2, used_stays more h s f.suits.3) }
 later z more h (Left p s) l n t f = record { guarded = tt; follows = tt; suits = rw (quiet_inside more h p s n) f.suits }
 later z more h (Freed p b c) l n t f =

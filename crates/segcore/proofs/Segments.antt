@@ -21,7 +21,7 @@ use Rattle.segcore.proofs.Orderly.{readers_marked}
 use Rattle.segcore.proofs.Entered.{row_stays, none_in}
 
 -- a pass that isn't there is in no segment
-strangers : (z : Shape) (h : List Event) (p s : ℕ) → IsLawful z h → z.passes ≤ p → inside h p s ≡ 0
+pub strangers : (z : Shape) (h : List Event) (p s : ℕ) → IsLawful z h → z.passes ≤ p → inside h p s ≡ 0
 strangers z [] p s l le = refl
 strangers z (Entered q t ∷ h) p s l le = let lt = l.1.suits.0 in cond-false (eqb q p && eqb t s) _ (inside h p s) (false_from_ne_true (eqb q p && eqb t s) (λ y. let e = eqb-true q p (and_parts (eqb q p) (eqb t s) y).0 in omega arith)) ∙ strangers z h p s l.0 le
 strangers z (Left q t ∷ h) p s l le = let lt = l.1.suits.0 in cond-false (eqb q p && eqb t s) _ (inside h p s) (false_from_ne_true (eqb q p && eqb t s) (λ y. let e = eqb-true q p (and_parts (eqb q p) (eqb t s) y).0 in omega arith)) ∙ strangers z h p s l.0 le

@@ -218,10 +218,10 @@ module _ (z : Shape) (h : List Event) (p b m : ℕ) (l : IsLawful z (Chained p b
   abbrev u : Bucket
   u = bucket_after z h b
 
-  grown : bucket_after z (e ∷ h) b ≡ acts e u
+  pub grown : bucket_after z (e ∷ h) b ≡ acts e u
   grown = cond-true (eqb b b) (acts e u) u (eq-eqb b b refl)
 
-  others_same : (a : ℕ) → eqb b a ≡ false → bucket_after z (e ∷ h) a ≡ bucket_after z h a
+  pub others_same : (a : ℕ) → eqb b a ≡ false → bucket_after z (e ∷ h) a ≡ bucket_after z h a
   others_same a f = cond-false (eqb b a) (acts e (bucket_after z h a)) (bucket_after z h a) f
 
   -- an item of the grown chain was at its position before, or moved from the last word
@@ -234,10 +234,10 @@ module _ (z : Shape) (h : List Event) (p b m : ℕ) (l : IsLawful z (Chained p b
       (cases_Bool (eqb (fresh u) n)))
       (cases_Bool (eqb (last u) n))
 
-  at_fresh : (acts e u).items (fresh u) ≡ u.items (last u)
+  pub at_fresh : (acts e u).items (fresh u) ≡ u.items (last u)
   at_fresh = rw (ne_eqb (last u) (fresh u) (λ q. omega arith), eq-eqb (fresh u) (fresh u) refl) refl
 
-  elsewhere : (n : ℕ) → last u ≢ n → fresh u ≢ n → (acts e u).items n ≡ u.items n
+  pub elsewhere : (n : ℕ) → last u ≢ n → fresh u ≢ n → (acts e u).items n ≡ u.items n
   elsewhere n ne ne' = rw (ne_eqb (last u) n ne, ne_eqb (fresh u) n ne') refl
 
   standing : (n : ℕ) (a : Slot) → (acts e u).items n ≡ item a → IsStanding z (e ∷ h) b n a
@@ -293,7 +293,7 @@ same_cond true x y e = e
 same_cond false x y e = refl
 
 -- the events that link, unlink or chain
-abbrev Turning : Event → Bool
+abbrev pub Turning : Event → Bool
 Turning (Linked p q s r n) = true
 Turning (Unlinked p k n why) = true
 Turning (Chained p b m) = true

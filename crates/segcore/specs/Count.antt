@@ -1,7 +1,10 @@
--- What a pass's contracts count in its trace. Its own entries are `mine pass (seen trace)`.
-use Rattle.std.specs.Prelude.{ℕ, ◌+◌, ◌==◌, ◌&&◌, List, [], ◌∷◌, if◌then◌else◌}
+-- What a pass's contracts count in its trace, and what each step adds to that. Its own entries are `mine pass (seen trace)`.
+use Rattle.std.specs.Prelude.{◌≡◌, ℕ, ◌+◌, ◌%◌, ◌==◌, ◌&&◌, not, List, [], ◌∷◌, ◌++◌, if◌then◌else◌}
+use Rattle.segmodel.specs.History.{mine}
 use Rattle.segcore.specs.declared.event.Event.{Event}
 use Rattle.segcore.specs.declared.event.Event.TheVariants.{Took, Bounced, Glanced, Drew}
+use Rattle.segcore.specs.Event.{seen}
+use Rattle.segcore.specs.Kind.{Step, take, glance, adds}
 
 -- how often the pass set a bit
 abbrev pub taken : ℕ → List Event → ℕ
@@ -26,3 +29,25 @@ abbrev pub width : List Event → ℕ → ℕ
 width [] bucket = 1
 width (Drew pass b depth number ∷ trace) bucket = if b == bucket then width trace bucket + 1 else width trace bucket
 width (_ ∷ trace) bucket = width trace bucket
+
+-- ---- what a step adds, by what it found
+
+abbrev pub taken_by : Step → ℕ → ℕ
+taken_by (take bucket own) found = if found % 2 == 0 then 1 else 0
+taken_by _ found = 0
+
+-- in this bucket
+abbrev pub bounced_by : ℕ → Step → ℕ → ℕ
+bounced_by bucket (take b own) found = if not (found % 2 == 0) && (not own && (b == bucket)) then 1 else 0
+bounced_by bucket _ found = 0
+
+abbrev pub glanced_by : ℕ → Step → ℕ → ℕ
+glanced_by bucket (glance b own) found = if not (found % 2 == 0) && (not own && (b == bucket)) then 1 else 0
+glanced_by bucket _ found = 0
+
+-- the counts of a pass before a step of its own and after it
+pub record IsCounted (step : Step) (pass found : ℕ) (old new : List Event) : Type 0 where
+  pub entries : mine pass (seen new) ≡ seen (adds step pass found) ++ mine pass (seen old)
+  pub takes : taken pass new ≡ taken_by step found + taken pass old
+  pub bounces : (bucket : ℕ) → bounced pass bucket new ≡ bounced_by bucket step found + bounced pass bucket old
+  pub glances : (bucket : ℕ) → glanced pass bucket new ≡ glanced_by bucket step found + glanced pass bucket old

@@ -116,3 +116,13 @@ IsLawful shape (event ∷ trace) = IsLawful shape trace × Fits shape trace even
 abbrev pub NoneAt : Shape → ℕ → List Event → Type 0
 NoneAt shape bucket [] = Unit {0}
 NoneAt shape bucket (event ∷ trace) = (is (bucket_at shape event) bucket ≡ false) × NoneAt shape bucket trace
+
+-- whether an event asks of the words what its pass can't know before the moment itself
+abbrev pub is_of_now : Event → Bool
+is_of_now (Took pass bucket) = true
+is_of_now (Bounced pass bucket) = true
+is_of_now (Glanced pass bucket) = true
+is_of_now (Drew pass bucket depth number) = true
+is_of_now (Bumped pass segment row frequency) = true
+is_of_now (Refilled pass segment) = true
+is_of_now _ = false

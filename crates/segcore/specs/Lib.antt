@@ -7,6 +7,7 @@ pub mod ItemWord
 pub mod Kind
 pub mod Lawful
 pub mod Mark
+pub mod Meanwhile
 pub mod Overflow
 pub mod Row
 pub mod Says

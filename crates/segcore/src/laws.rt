@@ -1,11 +1,29 @@
 //! The theorems of the core, each the contract of a function that does nothing.
-ghost use Rattle.std.specs.Prelude.{◌∷◌, ℕ, List};
+ghost use Rattle.std.specs.Prelude.{◌≡◌, ◌≢◌, ◌+◌, ◌*◌, ◌/◌, ◌%◌, ◌^◌, ◌<◌, ◌≤◌, ◌∷◌, ◌++◌, ℕ, false, List, Some};
 ghost use Rattle.segword.specs.declared.shape.Shape.{Shape};
-ghost use Rattle.segcore.specs.Mark.{Mark};
+ghost use Rattle.segword.specs.Shape.{IsValid};
+ghost use Rattle.segmodel.specs.Places.{bucket_of, tag_of};
+ghost use Rattle.segmodel.specs.History.{IsLegal, Begins, after, writes, entries_of, stirred};
+ghost use Rattle.segcore.specs.declared.cell.Cell.{Cell};
+ghost use Rattle.segcore.specs.declared.cell.Cell.TheVariants.{OfBucket};
+ghost use Rattle.segcore.specs.declared.event.Event.{Event};
+ghost use Rattle.segcore.specs.declared.view.View.{View};
+ghost use Rattle.segcore.specs.Event.{NoneBy, seen};
+ghost use Rattle.segcore.specs.Bucket.{bucket_after};
+ghost use Rattle.segcore.specs.Row.{row_after};
+ghost use Rattle.segcore.specs.Lawful.{IsLawful};
+ghost use Rattle.segcore.specs.Word.{word, IsAt};
+ghost use Rattle.segcore.specs.Mark.{Mark, marked, IsPlaced, IsOrderly};
+ghost use Rattle.segcore.specs.Ahead.{WasGone};
 ghost use Rattle.segcore.specs.Scan.{IsScanOf, WasAbsent, IsRowScanOf, WasUnnamed};
-ghost use Rattle.segcore.specs.Says.{Says};
-ghost use Rattle.segcore.specs.Kind.{Step};
-ghost use Rattle.segcore.specs.World.{World, SeeMore, Reaches, IsLawfulWorld};
+ghost use Rattle.segcore.specs.Search.{KeyGone, KeyAt, KeyAhead, RowGone, RowAt, RowAhead};
+ghost use Rattle.segcore.specs.Standing.{Names, SaysOfKeys};
+ghost use Rattle.segcore.specs.Chains.{SaysOfBuckets};
+ghost use Rattle.segcore.specs.Says.{SaysOfSegments, Says};
+ghost use Rattle.segcore.specs.Count.{IsCounted};
+ghost use Rattle.segcore.specs.Kind.{Step, HasBit, May, Kept};
+ghost use Rattle.segcore.specs.Meanwhile.{Meanwhile};
+ghost use Rattle.segcore.specs.World.{Told, World, SeeMore, Reaches, IsLawfulWorld};
 
 /// Whatever steps the passes take, in whatever order, the world that they reach is lawful, and what each pass has seen only grows.
 pub fn every_schedule()
@@ -22,4 +40,66 @@ pub fn miss_point()
 /// The same for a row: where none of the words named it when it was looked at, there was a point at which no word did.
 pub fn miss_row()
     ensures { (shape : Shape) (key : List ℕ) (segment row : ℕ) (first : List Mark) (looks : List (List Mark)) (last : List Mark) → IsRowScanOf shape key segment row first looks last → WasUnnamed shape key segment row first last }
+{}
+
+/// What each lawful trace says; a pass has one at every moment.
+pub fn lawful_trace()
+    ensures legal { (shape : Shape) (trace : List Event) → IsLawful shape trace → IsLegal shape (seen trace) }
+    ensures placed { (shape : Shape) (trace : List Event) → IsLawful shape trace → IsPlaced shape (marked trace) }
+    ensures orderly { (shape : Shape) (trace : List Event) → IsLawful shape trace → IsOrderly (marked trace) }
+    ensures keys { (shape : Shape) (trace : List Event) → IsValid shape → IsLawful shape trace → SaysOfKeys shape trace }
+    ensures buckets { (shape : Shape) (trace : List Event) → IsLawful shape trace → SaysOfBuckets shape trace }
+    ensures segments { (shape : Shape) (trace : List Event) → IsLawful shape trace → SaysOfSegments shape trace }
+{}
+
+/// A step that a pass may take, having seen a beginning of the trace that others went on with, leaves words and trace as the rule wants them.
+pub fn kept_step()
+    ensures { (shape : Shape) (step : Step) (pass : ℕ) (more old : List Event) → IsValid shape → IsLawful shape (more ++ old) → NoneBy pass more → May shape old pass step → Kept shape step pass (more ++ old) }
+{}
+
+/// What others leave alone while a pass does nothing, and what a step of its own adds to its counts.
+pub fn between_steps()
+    ensures others { (shape : Shape) (pass : ℕ) (more old : List Event) → IsLawful shape (more ++ old) → NoneBy pass more → Meanwhile shape pass more old }
+    ensures counts { (shape : Shape) (step : Step) (found : ℕ) (old new : View) → Told shape step found old new → IsCounted step old.number found old.trace new.trace }
+    ensures grows { (shape : Shape) (step : Step) (found : ℕ) (old new : View) → Told shape step found old new → Begins old.trace new.trace × Begins (seen old.trace) (seen new.trace) × Begins (marked old.trace) (marked new.trace) }
+{}
+
+/// A search for a key along its chain: the key was gone at some point, or it is ahead of the words that were passed.
+pub fn search_for_key()
+    ensures first { (shape : Shape) (key : List ℕ) (now : List Event) → IsLawful shape now → KeyAhead shape key 1 now now }
+    ensures later { (shape : Shape) (key : List ℕ) (position : ℕ) (start now next : List Event) → IsLawful shape next → Begins start now → Begins now next → KeyAhead shape key position start now → KeyAhead shape key position start next }
+    ensures passed { (shape : Shape) (key : List ℕ) (position : ℕ) (start now : List Event) → ¬ (KeyAt shape key now position) → KeyAhead shape key position start now → KeyAhead shape key (position + 1) start now }
+    ensures skipped { (shape : Shape) (key : List ℕ) (position : ℕ) (start now : List Event) → IsLawful shape now → position % 8 ≡ 0 → KeyAhead shape key position start now → KeyAhead shape key (position + 1) start now }
+    ensures ended { (shape : Shape) (key : List ℕ) (depth : ℕ) (start now : List Event) → IsLawful shape now → (bucket_after shape now (bucket_of shape key)).chained ≤ depth → KeyAhead shape key (8 * depth + 8) start now → WasGone (KeyGone shape key) start now }
+    ensures word { (shape : Shape) (key : List ℕ) (now : List Event) (position : ℕ) (cell : Cell) → IsValid shape → IsLawful shape now → IsAt now (bucket_of shape key) position cell → KeyAt shape key now position → (segment : ℕ) × (row : ℕ) × Names shape now (bucket_of shape key) position cell (tag_of key) segment row × ((row_after now segment row).linked ≡ Some key) }
+    ensures named { (shape : Shape) (key : List ℕ) (now : List Event) (bucket position : ℕ) (cell : Cell) (tag segment row : ℕ) → IsValid shape → IsLawful shape now → Names shape now bucket position cell tag segment row → (row_after now segment row).linked ≡ Some key → (bucket_of shape key ≡ bucket) × KeyAt shape key now position }
+{}
+
+/// A search for the item that names a row, along the chain of the key that is linked to the row.
+pub fn search_for_row()
+    ensures first { (shape : Shape) (key : List ℕ) (segment row : ℕ) (now : List Event) → IsLawful shape now → (row_after now segment row).linked ≡ Some key → RowAhead shape (bucket_of shape key) segment row 1 now now }
+    ensures later { (shape : Shape) (bucket segment row position : ℕ) (start now next : List Event) → IsLawful shape next → Begins start now → Begins now next → RowAhead shape bucket segment row position start now → RowAhead shape bucket segment row position start next }
+    ensures passed { (shape : Shape) (bucket segment row position : ℕ) (start now : List Event) → ¬ (RowAt shape bucket segment row now position) → RowAhead shape bucket segment row position start now → RowAhead shape bucket segment row (position + 1) start now }
+    ensures skipped { (shape : Shape) (bucket segment row position : ℕ) (start now : List Event) → IsLawful shape now → position % 8 ≡ 0 → RowAhead shape bucket segment row position start now → RowAhead shape bucket segment row (position + 1) start now }
+    ensures ended { (shape : Shape) (bucket segment row depth : ℕ) (start now : List Event) → IsLawful shape now → (bucket_after shape now bucket).chained ≤ depth → RowAhead shape bucket segment row (8 * depth + 8) start now → WasGone (RowGone shape segment row) start now }
+    ensures word { (shape : Shape) (bucket segment row : ℕ) (now : List Event) (position : ℕ) (cell : Cell) → bucket < shape.buckets → IsLawful shape now → IsAt now bucket position cell → RowAt shape bucket segment row now position → (tag : ℕ) × Names shape now bucket position cell tag segment row }
+{}
+
+/// An item word that has two different items at two moments, frequencies aside, had an entry of its bucket between them.
+pub fn changed_word()
+    ensures grows { (shape : Shape) (bucket : ℕ) (old new : List Event) → Begins old new → entries_of shape bucket (seen old) ≤ entries_of shape bucket (seen new) }
+    ensures changed { (shape : Shape) (old new : List Event) (bucket position : ℕ) (cell : Cell) (tag segment row tag' segment' row' : ℕ) → IsValid shape → IsLawful shape new → Begins old new
+        → Names shape old bucket position cell tag segment row → Names shape new bucket position cell tag' segment' row'
+        → ¬ ((tag ≡ tag') × (segment ≡ segment') × (row ≡ row')) → entries_of shape bucket (seen old) + 1 ≤ entries_of shape bucket (seen new) }
+    ensures stirred { (shape : Shape) (old new : List Event) (key : List ℕ) → entries_of shape (bucket_of shape key) (seen old) + 1 ≤ entries_of shape (bucket_of shape key) (seen new) → 1 ≤ stirred shape key (seen old) (seen new) }
+{}
+
+/// Where the bit of a bucket is clear, or nothing was written under it yet, its information word has the version of the cache: the first version and as many more as the bucket had writes, modulo 2^32.
+pub fn version_of_bucket()
+    ensures free { (shape : Shape) (now : List Event) (bucket : ℕ) → shape.first_version < 2 ^ 32 → IsLawful shape now → word shape now (OfBucket bucket 0) % 2 ^ 32 ≡ 0
+        → word shape now (OfBucket bucket 0) / 2 ^ 32 ≡ (after shape (seen now)).version bucket }
+    ensures unwritten { (shape : Shape) (now : List Event) (bucket : ℕ) → shape.first_version < 2 ^ 32 → IsLawful shape now → (bucket_after shape now bucket).written ≡ false
+        → word shape now (OfBucket bucket 0) / 2 ^ 32 ≡ (after shape (seen now)).version bucket }
+    ensures writes { (shape : Shape) (now : List Event) (bucket : ℕ) → shape.first_version < 2 ^ 32 → IsLawful shape now
+        → (after shape (seen now)).version bucket ≡ (shape.first_version + writes shape (seen now) bucket) % 2 ^ 32 }
 {}

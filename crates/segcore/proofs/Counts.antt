@@ -1,0 +1,221 @@
+-- The counts of a pass: other passes' events leave them, and its own steps add to them what their kind says.
+use Rattle.std.proofs.Common.{◌≡◌, ◌≢◌, ℕ, ◌+◌, ◌%◌, Bool, true, false, cond, eqb, ◌&&◌, not, List, [], ◌∷◌, ◌++◌, Option, Some, None, sym, refl, ap, ◌∙◌, arith}
+use Rattle.std.proofs.lemmas.Bool.{cond-true, cond-false, eq-eqb, ne_eqb}
+use Rattle.segmodel.specs.declared.request.Request.{Request}
+use Rattle.segmodel.specs.declared.request.Reply.{Reply}
+use Rattle.segmodel.specs.declared.request.Reply.TheVariants.{Stored}
+use Rattle.segmodel.specs.declared.entry.Entry.{Entry}
+use Rattle.segmodel.specs.declared.entry.Entry.TheVariants as entry
+use Rattle.segmodel.specs.History.{pass_of, mine}
+use Rattle.segcore.specs.declared.event.Event.{Event}
+use Rattle.segcore.specs.declared.event.Event.TheVariants.{Took, Bounced, Glanced, Freed, Replied, Filled, Linked, Unlinked, Drew, Put, Chained, Bumped, Entered, Left, Refilled}
+use Rattle.segcore.specs.Event.{by, removal, entry_of, with_entry, seen, NoneBy, AllBy}
+use Rattle.segcore.specs.ItemWord.{packed}
+use Rattle.segcore.specs.Kind.{Step, take, release, info_look, glance, look, link, clear, draw, fill, chain, bump, row_store, row_load, enter, leave, none_reading, told, unless_own, adds}
+use Rattle.segcore.specs.Count.{taken, bounced, glanced, taken_by, bounced_by, glanced_by, IsCounted}
+
+-- ---- entries
+
+-- an entry is of the pass whose event it is
+removal_by : (p : ℕ) (k : List ℕ) (why : Option ℕ) → pass_of (removal p k why) ≡ p
+removal_by p k None = refl
+removal_by p k (Some s) = refl
+
+mine_of : (p : ℕ) (x : Entry) (h : List Entry) → pass_of x ≡ p → mine p (x ∷ h) ≡ x ∷ mine p h
+mine_of p x h e = cond-true (eqb (pass_of x) p) (x ∷ mine p h) (mine p h) (eq-eqb (pass_of x) p e)
+
+mine_not : (p : ℕ) (x : Entry) (h : List Entry) → pass_of x ≢ p → mine p (x ∷ h) ≡ mine p h
+mine_not p x h ne = cond-false (eqb (pass_of x) p) (x ∷ mine p h) (mine p h) (ne_eqb (pass_of x) p ne)
+
+other_entry : (p : ℕ) (e : Event) (h : List Event) → by e ≢ p → mine p (seen (e ∷ h)) ≡ mine p (seen h)
+other_entry p (Replied q r y) h ne = mine_not p (entry.Wrote q r y None) (seen h) ne
+other_entry p (Linked q r s i n) h ne = mine_not p (entry.Wrote q r Stored (Some s)) (seen h) ne
+other_entry p (Unlinked q k n why) h ne = mine_not p (removal q k why) (seen h) (λ e. ne (sym (removal_by q k why) ∙ e))
+other_entry p (Refilled q s) h ne = mine_not p (entry.Refilled q s) (seen h) ne
+other_entry p e h ne = refl
+
+own_entry : (p : ℕ) (e : Event) (h : List Event) → by e ≡ p → mine p (seen (e ∷ h)) ≡ with_entry (entry_of e) (mine p (seen h))
+own_entry p (Replied q r y) h is = mine_of p (entry.Wrote q r y None) (seen h) is
+own_entry p (Linked q r s i n) h is = mine_of p (entry.Wrote q r Stored (Some s)) (seen h) is
+own_entry p (Unlinked q k n why) h is = mine_of p (removal q k why) (seen h) (removal_by q k why ∙ is)
+own_entry p (Refilled q s) h is = mine_of p (entry.Refilled q s) (seen h) is
+own_entry p e h is = refl
+
+pub mine_others : (p : ℕ) (more h : List Event) → NoneBy p more → mine p (seen (more ++ h)) ≡ mine p (seen h)
+mine_others p [] h n = refl
+mine_others p (e ∷ more) h n = other_entry p e (more ++ h) n.0 ∙ mine_others p more h n.1
+
+with_both : (o : Option Entry) (xs ys : List Entry) → with_entry o (xs ++ ys) ≡ with_entry o xs ++ ys
+with_both None xs ys = refl
+with_both (Some x) xs ys = refl
+
+pub mine_own : (p : ℕ) (es h : List Event) → AllBy p es → mine p (seen (es ++ h)) ≡ seen es ++ mine p (seen h)
+mine_own p [] h a = refl
+mine_own p (e ∷ es) h a = own_entry p e (es ++ h) a.0 ∙ (ap (with_entry (entry_of e)) (mine_own p es h a.1) ∙ with_both (entry_of e) (seen es) (mine p (seen h)))
+
+-- ---- counts
+
+off : (a b : Bool) → a ≡ false → (x y : ℕ) → cond (a && b) x y ≡ y
+off a b f x y = rw f refl
+
+pub taken_others : (p : ℕ) (more h : List Event) → NoneBy p more → taken p (more ++ h) ≡ taken p h
+taken_others p [] h n = refl
+taken_others p (Took q b ∷ more) h n = cond-false (eqb q p) _ (taken p (more ++ h)) (ne_eqb q p n.0) ∙ taken_others p more h n.1
+taken_others p (e ∷ more) h n = taken_others p more h n.1
+
+pub bounced_others : (p b : ℕ) (more h : List Event) → NoneBy p more → bounced p b (more ++ h) ≡ bounced p b h
+bounced_others p b [] h n = refl
+bounced_others p b (Bounced q a ∷ more) h n = off (eqb q p) (eqb a b) (ne_eqb q p n.0) _ (bounced p b (more ++ h)) ∙ bounced_others p b more h n.1
+bounced_others p b (e ∷ more) h n = bounced_others p b more h n.1
+
+pub glanced_others : (p b : ℕ) (more h : List Event) → NoneBy p more → glanced p b (more ++ h) ≡ glanced p b h
+glanced_others p b [] h n = refl
+glanced_others p b (Glanced q a ∷ more) h n = off (eqb q p) (eqb a b) (ne_eqb q p n.0) _ (glanced p b (more ++ h)) ∙ glanced_others p b more h n.1
+glanced_others p b (e ∷ more) h n = glanced_others p b more h n.1
+
+-- ---- what a step adds
+
+-- the events that none of the three counts, and the steps that add only such ones
+abbrev IsPlain : Event → Type 0
+IsPlain (Took p b) = ⊥
+IsPlain (Bounced p b) = ⊥
+IsPlain (Glanced p b) = ⊥
+IsPlain _ = Unit {0}
+
+abbrev IsPlainStep : Step → Type 0
+IsPlainStep (take b own) = ⊥
+IsPlainStep (glance b own) = ⊥
+IsPlainStep _ = Unit {0}
+
+module _ (F : List Event → ℕ) (p : ℕ) (h : List Event) (skips : (e : Event) (g : List Event) → IsPlain e → F (e ∷ g) ≡ F g) where
+  -- an exchange adds its event or nothing
+  of_cond : (t : Bool) (e : Event) → IsPlain e → F (cond t (e ∷ []) [] ++ h) ≡ F h
+  of_cond true e plain = skips e h plain
+  of_cond false e plain = refl
+
+  of_told : (said : Option (Request × Reply)) → F (told p said ++ h) ≡ F h
+  of_told None = refl
+  of_told (Some said) = skips (Replied p said.0 said.1) h tt
+
+  plain : (step : Step) (found : ℕ) → IsPlainStep step → F (adds step p found ++ h) ≡ F h
+  plain (take b own) found i = absurd i
+  plain (glance b own) found i = absurd i
+  plain (release b c said) found i = skips (Freed p b c) (told p said ++ h) tt ∙ of_told said
+  plain (info_look b) found i = refl
+  plain (look c) found i = refl
+  plain (row_load s r j) found i = refl
+  plain (link q s r n c old) found i = of_cond (eqb found old) (Linked p q s r n) tt
+  plain (clear k n c old why) found i = of_cond (eqb found old) (Unlinked p k n why) tt
+  plain (draw b d from) found i = of_cond (eqb found from) (Drew p b d from) tt
+  plain (fill b m w) found i = skips (Put p b w) h tt
+  plain (chain b c old m) found i = of_cond (eqb found old) (Chained p b m) tt
+  plain (bump b n c t s r f g) found i = of_cond (eqb found (packed t f s r)) (Bumped p s r g) tt
+  plain (row_store s r j w) found i = skips (Filled p s r j w) h tt
+  plain (enter s) found i = skips (Entered p s) h tt
+  plain (leave s) found i = skips (Left p s) h tt
+  plain (none_reading s) found i = of_cond (eqb found 0) (Refilled p s) tt
+
+  pub adds_none : (step : Step) (found : ℕ) → IsPlainStep step → F (adds step p found ++ h) ≡ 0 + F h
+  adds_none step found i = let e = plain step found i in omega arith
+
+taken_skips : (p : ℕ) (e : Event) (g : List Event) → IsPlain e → taken p (e ∷ g) ≡ taken p g
+taken_skips p (Took q b) g i = absurd i
+taken_skips p e g i = refl
+
+bounced_skips : (p x : ℕ) (e : Event) (g : List Event) → IsPlain e → bounced p x (e ∷ g) ≡ bounced p x g
+bounced_skips p x (Bounced q b) g i = absurd i
+bounced_skips p x e g i = refl
+
+glanced_skips : (p x : ℕ) (e : Event) (g : List Event) → IsPlain e → glanced p x (e ∷ g) ≡ glanced p x g
+glanced_skips p x (Glanced q b) g i = absurd i
+glanced_skips p x e g i = refl
+
+one_more : (t : Bool) (n : ℕ) → cond t (n + 1) n ≡ cond t 1 0 + n
+one_more true n = omega arith
+one_more false n = omega arith
+
+module _ (p : ℕ) (h : List Event) where
+  take_taken : (b : ℕ) (own t : Bool) → taken p (cond t (Took p b ∷ []) (unless_own own (Bounced p b)) ++ h) ≡ cond t 1 0 + taken p h
+  take_taken b own true = rw (eq-eqb p p refl) (omega arith)
+  take_taken b true false = omega arith
+  take_taken b false false = omega arith
+
+  glance_taken : (b : ℕ) (own t : Bool) → taken p (cond t [] (unless_own own (Glanced p b)) ++ h) ≡ 0 + taken p h
+  glance_taken b own true = omega arith
+  glance_taken b true false = omega arith
+  glance_taken b false false = omega arith
+
+  pub step_taken : (step : Step) (found : ℕ) → taken p (adds step p found ++ h) ≡ taken_by step found + taken p h
+  step_taken (take b own) found = take_taken b own (eqb (found % 2) 0)
+  step_taken (glance b own) found = glance_taken b own (eqb (found % 2) 0)
+  step_taken step found = adds_none (taken p) p h (taken_skips p) step found tt
+
+  take_bounced : (x b : ℕ) (own t : Bool) → bounced p x (cond t (Took p b ∷ []) (unless_own own (Bounced p b)) ++ h) ≡ cond (not t && (not own && eqb b x)) 1 0 + bounced p x h
+  take_bounced x b own true = omega arith
+  take_bounced x b true false = omega arith
+  take_bounced x b false false = rw (eq-eqb p p refl) (one_more (eqb b x) (bounced p x h))
+
+  glance_bounced : (x b : ℕ) (own t : Bool) → bounced p x (cond t [] (unless_own own (Glanced p b)) ++ h) ≡ 0 + bounced p x h
+  glance_bounced x b own true = omega arith
+  glance_bounced x b true false = omega arith
+  glance_bounced x b false false = omega arith
+
+  pub step_bounced : (x : ℕ) (step : Step) (found : ℕ) → bounced p x (adds step p found ++ h) ≡ bounced_by x step found + bounced p x h
+  step_bounced x (take b own) found = take_bounced x b own (eqb (found % 2) 0)
+  step_bounced x (glance b own) found = glance_bounced x b own (eqb (found % 2) 0)
+  step_bounced x step found = adds_none (bounced p x) p h (bounced_skips p x) step found tt
+
+  take_glanced : (x b : ℕ) (own t : Bool) → glanced p x (cond t (Took p b ∷ []) (unless_own own (Bounced p b)) ++ h) ≡ 0 + glanced p x h
+  take_glanced x b own true = omega arith
+  take_glanced x b true false = omega arith
+  take_glanced x b false false = omega arith
+
+  glance_glanced : (x b : ℕ) (own t : Bool) → glanced p x (cond t [] (unless_own own (Glanced p b)) ++ h) ≡ cond (not t && (not own && eqb b x)) 1 0 + glanced p x h
+  glance_glanced x b own true = omega arith
+  glance_glanced x b true false = omega arith
+  glance_glanced x b false false = rw (eq-eqb p p refl) (one_more (eqb b x) (glanced p x h))
+
+  pub step_glanced : (x : ℕ) (step : Step) (found : ℕ) → glanced p x (adds step p found ++ h) ≡ glanced_by x step found + glanced p x h
+  step_glanced x (take b own) found = take_glanced x b own (eqb (found % 2) 0)
+  step_glanced x (glance b own) found = glance_glanced x b own (eqb (found % 2) 0)
+  step_glanced x step found = adds_none (glanced p x) p h (glanced_skips p x) step found tt
+
+-- all that a step adds is of its pass
+all_of_cond : (p : ℕ) (t : Bool) (xs ys : List Event) → AllBy p xs → AllBy p ys → AllBy p (cond t xs ys)
+all_of_cond p true xs ys a b = a
+all_of_cond p false xs ys a b = b
+
+all_unless : (p : ℕ) (own : Bool) (e : Event) → by e ≡ p → AllBy p (unless_own own e)
+all_unless p true e is = tt
+all_unless p false e is = (is, tt)
+
+all_told : (p : ℕ) (said : Option (Request × Reply)) → AllBy p (told p said)
+all_told p None = tt
+all_told p (Some said) = (refl, tt)
+
+pub own_adds : (p : ℕ) (step : Step) (found : ℕ) → AllBy p (adds step p found)
+own_adds p (take b own) found = all_of_cond p (eqb (found % 2) 0) _ _ (refl, tt) (all_unless p own (Bounced p b) refl)
+own_adds p (glance b own) found = all_of_cond p (eqb (found % 2) 0) [] _ tt (all_unless p own (Glanced p b) refl)
+own_adds p (release b c said) found = (refl, all_told p said)
+own_adds p (info_look b) found = tt
+own_adds p (look c) found = tt
+own_adds p (row_load s r j) found = tt
+own_adds p (link q s r n c old) found = all_of_cond p (eqb found old) _ [] (refl, tt) tt
+own_adds p (clear k n c old why) found = all_of_cond p (eqb found old) _ [] (refl, tt) tt
+own_adds p (draw b d from) found = all_of_cond p (eqb found from) _ [] (refl, tt) tt
+own_adds p (fill b m w) found = (refl, tt)
+own_adds p (chain b c old m) found = all_of_cond p (eqb found old) _ [] (refl, tt) tt
+own_adds p (bump b n c t s r f g) found = all_of_cond p (eqb found (packed t f s r)) _ [] (refl, tt) tt
+own_adds p (row_store s r j w) found = (refl, tt)
+own_adds p (enter s) found = (refl, tt)
+own_adds p (leave s) found = (refl, tt)
+own_adds p (none_reading s) found = all_of_cond p (eqb found 0) _ [] (refl, tt) tt
+
+-- a step's counts, from those of the trace before it
+pub counted : (step : Step) (p found : ℕ) (more old : List Event) → NoneBy p more → IsCounted step p found old (adds step p found ++ (more ++ old))
+counted step p found more old n = record {
+  entries = mine_own p (adds step p found) (more ++ old) (own_adds p step found) ∙ ap (λ x. seen (adds step p found) ++ x) (mine_others p more old n);
+  takes = step_taken p (more ++ old) step found ∙ ap (λ x. taken_by step found + x) (taken_others p more old n);
+  bounces = λ b. step_bounced p (more ++ old) b step found ∙ ap (λ x. bounced_by b step found + x) (bounced_others p b more old n);
+  glances = λ b. step_glanced p (more ++ old) b step found ∙ ap (λ x. glanced_by b step found + x) (glanced_others p b more old n);
+}

@@ -1,0 +1,62 @@
+-- What others leave alone, put together.
+use Rattle.std.proofs.Common.{◌≡◌, ◌≢◌, ℕ, ◌+◌, ◌<◌, eqb, List, [], ◌∷◌, ◌++◌, sym, refl, ap, ◌∙◌, subst, ⊎_elim, append_assoc, arith}
+use Rattle.std.proofs.lemmas.Bool.{cases_lt, cond-false, ne_eqb}
+use Rattle.segword.specs.declared.shape.Shape.{Shape}
+use Rattle.segcore.specs.declared.event.Event.{Event}
+use Rattle.segcore.specs.declared.event.Event.TheVariants.{Refilled}
+use Rattle.segcore.specs.declared.view.View.{View}
+use Rattle.segcore.specs.Event.{seen, NoneBy}
+use Rattle.segcore.specs.Segment.{inside, refills, NoneRefills}
+use Rattle.segcore.specs.Lawful.{IsLawful}
+use Rattle.segcore.specs.Kind.{Step, adds}
+use Rattle.segmodel.specs.History.{Begins}
+use Rattle.segcore.specs.Mark.{marked}
+use Rattle.segcore.specs.World.{Told}
+use Rattle.segcore.specs.Count.{IsCounted}
+use Rattle.segcore.specs.Meanwhile.{Meanwhile}
+use Rattle.segcore.proofs.Moments.{lawful_before, seen_begins, marked_begins}
+use Rattle.segcore.proofs.Quiet.{quiet, quiet_none, quiet_at, quiet_row, quiet_inside, not_mine, later}
+use Rattle.segcore.proofs.Entered.{no_refill, entered_row}
+use Rattle.segcore.proofs.Segments.{strangers}
+use Rattle.segcore.proofs.Counts.{mine_others, taken_others, bounced_others, glanced_others, counted}
+
+refilled_event : (e : Event) (h : List Event) (s : ℕ) → ((q : ℕ) → e ≢ Refilled q s) → refills (e ∷ h) s ≡ refills h s
+refilled_event (Refilled q t) h s ne = cond-false (eqb t s) (refills h s + 1) (refills h s) (ne_eqb t s (λ e. ne q (ap (Refilled q) e)))
+refilled_event e h s ne = refl
+
+pub same_refills : (more h : List Event) (s : ℕ) → NoneRefills s more → refills (more ++ h) s ≡ refills h s
+same_refills [] h s n = refl
+same_refills (e ∷ more) h s n = refilled_event e (more ++ h) s n.0 ∙ same_refills more h s n.1
+
+-- a pass that is in a segment is one of the passes
+pub is_pass : (z : Shape) (h : List Event) (p s : ℕ) → IsLawful z h → 0 < inside h p s → p < z.passes
+is_pass z h p s l there = ⊎_elim (λ lt. lt) (λ le. let e = strangers z h p s l le in absurd (omega arith)) (cases_lt p z.passes)
+
+pub meanwhile : (z : Shape) (p : ℕ) (more h : List Event) → IsLawful z (more ++ h) → NoneBy p more → Meanwhile z p more h
+meanwhile z p more h l n = let early = lawful_before z more h l in record {
+  untouched = λ b has. quiet_none z more h p b l n has.1;
+  buckets = λ b has. quiet z more h p b l n has.1;
+  keys = λ k has. quiet_at z more h p k l n has.1;
+  bits = λ b ne. not_mine z more h p b n ne;
+  own_rows = λ s r own. quiet_row z more h s r l (subst (λ x. NoneBy x more) (sym own) n);
+  stays = λ s. quiet_inside more h p s n;
+  not_refilled = λ s there. no_refill z more h p s (is_pass z h p s early there) l n there;
+  filling = λ s there. same_refills more h s (no_refill z more h p s (is_pass z h p s early there) l n there);
+  rows = λ s r k there on. entered_row z more h p s r k (is_pass z h p s early there) l n there on;
+  entries = mine_others p more h n;
+  takes = taken_others p more h n;
+  bounces = λ b. bounced_others p b more h n;
+  glances = λ b. glanced_others p b more h n;
+  fits = λ e own now f. later z more h e l (subst (λ x. NoneBy x more) (sym own) n) now f;
+}
+
+-- what a step that was told leaves of its pass's counts
+pub told_counts : (z : Shape) (step : Step) (found : ℕ) (v w : View) → Told z step found v w → IsCounted step v.number found v.trace w.trace
+told_counts z step found v w t = subst (λ (x : View). IsCounted step v.number found v.trace x.trace) (sym t.now) (counted step v.number found t.more v.trace t.others)
+
+pub told_more : (z : Shape) (step : Step) (found : ℕ) (v w : View) → Told z step found v w → Begins v.trace w.trace
+told_more z step found v w t = (adds step v.number found ++ t.more, ap (λ (x : View). x.trace) t.now ∙ sym (append_assoc (adds step v.number found) t.more v.trace))
+
+-- what the pass has seen only grew
+pub told_grows : (z : Shape) (step : Step) (found : ℕ) (v w : View) → Told z step found v w → Begins v.trace w.trace × Begins (seen v.trace) (seen w.trace) × Begins (marked v.trace) (marked w.trace)
+told_grows z step found v w t = let b = told_more z step found v w t in (b, seen_begins v.trace w.trace b, marked_begins v.trace w.trace b)

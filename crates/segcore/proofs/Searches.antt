@@ -1,0 +1,251 @@
+-- The item of a key, and the item that names a row, only move forward along their chain until they are gone; so a search that passes all words of a chain has a point at which they were.
+use Rattle.std.proofs.Common.{◌≡◌, ◌≢◌, ℕ, ◌+◌, ◌*◌, ◌%◌, ◌<◌, ◌≤◌, eqb, ◌⊎◌, List, [], ◌∷◌, Option, Some, None, sym, refl, ap, ◌∙◌, subst, inl, inr, ⊎_elim, arith}
+use Rattle.std.proofs.lemmas.Bool.{cases_Bool, cases_eq, cond-true, cond-false, eqb-true, eqb-false}
+use Rattle.std.proofs.lemmas.Option.{same_Some, none-some}
+use Rattle.segword.specs.declared.shape.Shape.{Shape}
+use Rattle.segmodel.specs.declared.request.Request.{Request}
+use Rattle.segmodel.specs.declared.entry.Cached.{Cached}
+use Rattle.segmodel.specs.Request.{key_of, value_of}
+use Rattle.segmodel.specs.Places.{bucket_of, tag_of}
+use Rattle.segmodel.specs.History.{Begins}
+use Rattle.segcore.specs.declared.event.Event.{Event}
+use Rattle.segcore.specs.declared.event.Event.TheVariants.{Linked, Unlinked, Chained}
+use Rattle.segcore.specs.Event.{seen}
+use Rattle.segcore.specs.Bucket.{Slot, slot, item, nothing, last, fresh, IsPosition, acts, bucket_after}
+use Rattle.segcore.specs.Row.{row_after}
+use Rattle.segcore.specs.Lawful.{IsLawful}
+use Rattle.segcore.specs.Mark.{marked, same_key, last_at}
+use Rattle.segcore.specs.Standing.{cached, Names}
+use Rattle.segcore.specs.Ahead.{WasGone}
+use Rattle.segcore.specs.Search.{KeyGone, KeyAt, KeyAhead, RowGone, RowAt, RowAhead}
+use Rattle.segcore.proofs.Keys.{same_true}
+use Rattle.segcore.proofs.Caches.{stands}
+use Rattle.segcore.proofs.Chains.{same_item, copy_item}
+use Rattle.segcore.proofs.Standing.{coherent, links, unlinks, here, there, gone, rows_stay, is_calm, grown, at_fresh, elsewhere, others_same}
+use Rattle.segword.specs.Shape.{IsValid}
+use Rattle.segcore.specs.declared.cell.Cell.{Cell}
+use Rattle.segcore.specs.Word.{IsAt}
+use Rattle.segcore.proofs.Limits.{bucket_in}
+use Rattle.segcore.proofs.StepKinds.{cell_in}
+use Rattle.segcore.proofs.Exact.{item_names, named_at}
+use Rattle.segcore.proofs.Ahead.{ahead_later, ahead_passed, ahead_end}
+
+-- ---- one item and one event
+
+-- it stays or moves on
+abbrev pub Onward : Shape → List Event → Event → ℕ → ℕ → Slot → Type 0
+Onward z h e b n a = (m : ℕ) × (n ≤ m) × ((bucket_after z (e ∷ h) b).items m ≡ item a)
+
+-- another item of its key takes its place
+pub record Replaced (z : Shape) (h : List Event) (e : Event) (b n : ℕ) (a : Slot) : Type 0 where
+  pub segment : ℕ
+  pub row : ℕ
+  pub now : (bucket_after z (e ∷ h) b).items n ≡ item (slot a.key segment row)
+  pub last : last_at (marked (e ∷ h)) a.key ≡ Some (slot a.key segment row)
+  pub fresh : (row_after h segment row).linked ≡ None
+  pub rows : row_after (e ∷ h) a.segment a.row ≡ row_after h a.segment a.row
+
+-- or it goes
+pub record Removed (z : Shape) (h : List Event) (e : Event) (a : Slot) : Type 0 where
+  pub absent : stands z (seen (e ∷ h)) a.key ≡ None
+  pub rows : row_after (e ∷ h) a.segment a.row ≡ row_after h a.segment a.row
+
+abbrev Fate : Shape → List Event → Event → ℕ → ℕ → Slot → Type 0
+Fate z h e b n a = Onward z h e b n a ⊎ (Replaced z h e b n a ⊎ Removed z h e a)
+
+linked_fate : (z : Shape) (h : List Event) (p : ℕ) (q : Request) (s r n' b n : ℕ) (a : Slot) → IsLawful z (Linked p q s r n' ∷ h) → (bucket_after z h b).items n ≡ item a → Fate z h (Linked p q s r n') b n a
+linked_fate z h p q s r n' b n a l is' =
+    let e = Linked p q s r n' in let k = key_of q in let b0 = bucket_of z k in let o = item (slot k s r) in
+    let x = Some (cached (value_of q) s) in
+    let w = links z h p q s r n' l.1.suits in
+    let c = coherent z h l.0 in ⊎_elim
+    (λ y. let eb = eqb-true b0 b y in
+    let old : (bucket_after z h b0).items n ≡ item a = subst (λ t. (bucket_after z h t).items n ≡ item a) (sym eb) is' in
+    ⊎_elim
+    (λ hit. let en = eqb-true n' n hit in
+    let own : a.key ≡ k = ⊎_elim
+    (λ f. absurd (none-some a (sym (ap (λ _. None) is') ∙ nothing_item a (sym f.0 ∙ (ap (bucket_after z h b0).items en ∙ old)))))
+    (λ f. sym (ap (λ t. t.key) (same_item f.0 a (sym f.1 ∙ (ap (bucket_after z h b0).items en ∙ old)))) ∙ f.2)
+    l.1.suits.4 in
+    inr (inl (record {
+      segment = s;
+      row = r;
+      now = subst (λ t. (bucket_after z (e ∷ h) t).items n ≡ item (slot a.key s r)) eb (here z h e k n' o x w n ∙ (cond-true (eqb n' n) o ((bucket_after z h b0).items n) hit ∙ ap (λ t. item (slot t s r)) (sym own)));
+      last = cond-true (same_key k a.key) (Some (slot a.key s r)) (last_at (marked h) a.key) (same_true k a.key (sym own));
+      fresh = l.1.suits.0.3;
+      rows = rows_stay z h e l.1.suits (λ p' t' same. cc) a.segment a.row a.key ((c.items b n a is').value) (c.items b n a is').linked (c.items b n a is').stands;
+    })))
+    (λ miss. inl (n, omega arith, subst (λ t. (bucket_after z (e ∷ h) t).items n ≡ item a) eb (here z h e k n' o x w n ∙ (cond-false (eqb n' n) o ((bucket_after z h b0).items n) miss ∙ old))))
+    (cases_Bool (eqb n' n)))
+    (λ no. inl (n, omega arith, there z h e k n' o x w b n no ∙ is'))
+    (cases_Bool (eqb b0 b))
+  where
+    nothing_item : (a : Slot) → nothing ≡ item a → None ≡ Some a
+    nothing_item a e = cc
+
+unlinked_fate : (z : Shape) (h : List Event) (p : ℕ) (k : List ℕ) (n' : ℕ) (why : Option ℕ) (b n : ℕ) (a : Slot) → IsLawful z (Unlinked p k n' why ∷ h) → (bucket_after z h b).items n ≡ item a → Fate z h (Unlinked p k n' why) b n a
+unlinked_fate z h p k n' why b n a l is' =
+    let e = Unlinked p k n' why in let b0 = bucket_of z k in let w = unlinks z h p k n' why in ⊎_elim
+    (λ y. let eb = eqb-true b0 b y in
+    let old : (bucket_after z h b0).items n ≡ item a = subst (λ t. (bucket_after z h t).items n ≡ item a) (sym eb) is' in
+    ⊎_elim
+    (λ hit. let f = l.1.suits in
+    let own : a.key ≡ k = sym (ap (λ t. t.key) (same_item f.0 a (sym f.1 ∙ (ap (bucket_after z h b0).items (eqb-true n' n hit) ∙ old)))) ∙ f.2 in
+    inr (inr (record { absent = gone z p k why h a.key ∙ cond-true (same_key k a.key) None (stands z (seen h) a.key) (same_true k a.key (sym own)); rows = refl })))
+    (λ miss. inl (n, omega arith, subst (λ t. (bucket_after z (e ∷ h) t).items n ≡ item a) eb (here z h e k n' nothing None w n ∙ (cond-false (eqb n' n) nothing ((bucket_after z h b0).items n) miss ∙ old))))
+    (cases_Bool (eqb n' n)))
+    (λ no. inl (n, omega arith, there z h e k n' nothing None w b n no ∙ is'))
+    (cases_Bool (eqb b0 b))
+
+chained_fate : (z : Shape) (h : List Event) (p b' m b n : ℕ) (a : Slot) → IsLawful z (Chained p b' m ∷ h) → (bucket_after z h b).items n ≡ item a → Onward z h (Chained p b' m) b n a
+chained_fate z h p b' m b n a l is' =
+    let c = coherent z h l.0 in let u = bucket_after z h b' in let e = Chained p b' m in ⊎_elim
+    (λ y. let eb = eqb-true b' b y in
+    let old : u.items n ≡ item a = subst (λ t. (bucket_after z h t).items n ≡ item a) (sym eb) is' in
+    let at : (k : ℕ) → (acts e u).items k ≡ item a → (bucket_after z (e ∷ h) b).items k ≡ item a =
+    (λ k i. subst (λ t. (bucket_after z (e ∷ h) t).items k ≡ item a) eb (ap (λ v. v.items k) (grown z h p b' m l c) ∙ i)) in
+    ⊎_elim
+    (λ t. let en = eqb-true (last u) n t in (fresh u, omega arith, at (fresh u) (at_fresh z h p b' m l c ∙ (ap u.items en ∙ old))))
+    (λ f. (n, omega arith, at n (elsewhere z h p b' m l c n (eqb-false (last u) n f) (λ q. copy_item l.1.suits.1.1 a (sym l.1.suits.1.3 ∙ (ap u.items q ∙ old))) ∙ old)))
+    (cases_Bool (eqb (last u) n)))
+    (λ f. (n, omega arith, ap (λ v. v.items n) (others_same z h p b' m l c b f) ∙ is'))
+    (cases_Bool (eqb b' b))
+
+fate : (z : Shape) (e : Event) (h : List Event) (b n : ℕ) (a : Slot) → IsLawful z (e ∷ h) → (bucket_after z h b).items n ≡ item a → Fate z h e b n a
+fate z (Linked p q s r n') h b n a l is' = linked_fate z h p q s r n' b n a l is'
+fate z (Unlinked p k n' why) h b n a l is' = unlinked_fate z h p k n' why b n a l is'
+fate z (Chained p b' m) h b n a l is' = inl (chained_fate z h p b' m b n a l is')
+fate z e h b n a l is' = inl (n, omega arith, (is_calm z e h refl l (coherent z h l.0)).on b n a is')
+
+-- ---- a key
+
+pub key_moves : (z : Shape) (k : List ℕ) (e : Event) (h : List Event) (n : ℕ) → IsLawful z (e ∷ h) → KeyAt z k h n → ((m : ℕ) × (n ≤ m) × KeyAt z k (e ∷ h) m) ⊎ KeyGone z k (e ∷ h)
+key_moves z k e h n l i = ⊎_elim
+    (λ on. inl (on.0, on.1, (i.0, on.2, i.2)))
+    (λ off. ⊎_elim (λ (r : Replaced z h e (bucket_of z k) n i.0). inl (n, omega arith, (slot i.0.key r.segment r.row, r.now, i.2))) (λ (g : Removed z h e i.0). inr (ap (stands z (seen (e ∷ h))) (sym i.2) ∙ g.absent)) off)
+    (fate z e h (bucket_of z k) n i.0 l i.1)
+
+start_key : (z : Shape) (k : List ℕ) (h : List Event) (o : Option Cached) → IsLawful z h → stands z (seen h) k ≡ o → KeyAhead z k 1 h h
+start_key z k h None l e = inl (h, ([], refl), ([], refl), e)
+start_key z k h (Some x) l e = let c = coherent z h l in let w = c.all k x e in let i = (c.items (bucket_of z k) w.0 w.1 w.2).position in let low = i.1 in inr (w.0, omega arith, (w.1, w.2, w.3))
+
+pub key_first : (z : Shape) (k : List ℕ) (h : List Event) → IsLawful z h → KeyAhead z k 1 h h
+key_first z k h l = start_key z k h (stands z (seen h) k) l refl
+
+pub key_later : (z : Shape) (k : List ℕ) (n : ℕ) (h g f : List Event) → IsLawful z f → Begins h g → Begins g f → KeyAhead z k n h g → KeyAhead z k n h f
+key_later z k n h g f = ahead_later (IsLawful z) (KeyAt z k) (KeyGone z k) (λ e x l. l.0) (key_moves z k) n h g f
+
+-- ---- a row
+
+-- after its item went, no word names a row
+row_gone : (z : Shape) (e : Event) (h : List Event) (b n : ℕ) (a : Slot) → IsLawful z (e ∷ h) → (bucket_after z h b).items n ≡ item a → row_after (e ∷ h) a.segment a.row ≡ row_after h a.segment a.row
+    → ((c : Slot) → c.key ≡ a.key → c.segment ≡ a.segment → c.row ≡ a.row → ((x : Cached) → stands z (seen (e ∷ h)) a.key ≡ Some x → ⊥) ⊎ (last_at (marked (e ∷ h)) a.key ≢ Some (slot a.key a.segment a.row)))
+    → RowGone z a.segment a.row (e ∷ h)
+row_gone z e h b n a l is' rows out b' n' c there' es er =
+    let i = (coherent z (e ∷ h) l).items b' n' c there' in
+    let same : c.key ≡ a.key = same_Some c.key a.key (sym i.linked ∙ ((λ t. (row_after (e ∷ h) (es t) (er t)).linked) ∙ (ap (λ u. u.linked) rows ∙ ((coherent z h l.0).items b n a is').linked))) in
+    ⊎_elim
+    (λ none. none (cached i.value c.segment) (ap (stands z (seen (e ∷ h))) (sym same) ∙ i.stands))
+    (λ ne. ne (ap (last_at (marked (e ∷ h))) (sym same) ∙ (i.last ∙ (λ t. Some (slot (same t) (es t) (er t))))))
+    (out c same es er)
+
+pub row_moves : (z : Shape) (b s r : ℕ) (e : Event) (h : List Event) (n : ℕ) → IsLawful z (e ∷ h) → RowAt z b s r h n → ((m : ℕ) × (n ≤ m) × RowAt z b s r (e ∷ h) m) ⊎ RowGone z s r (e ∷ h)
+row_moves z b s r e h n l i = ⊎_elim
+    (λ on. inl (on.0, on.1, (i.0, on.2, i.2, i.3)))
+    (λ off. inr (λ b' n' c at es er. ⊎_elim
+    (λ (w : Replaced z h e b n i.0). row_gone z e h b n i.0 l i.1 w.rows
+    (λ d same ds dr. inr (λ q. let o = same_Some _ _ (sym w.last ∙ q) in
+    none-some i.0.key (sym w.fresh ∙ ((λ t. (row_after h (ap (λ (x : Slot). x.segment) o t) (ap (λ (x : Slot). x.row) o t)).linked) ∙ ((coherent z h l.0).items b n i.0 i.1).linked))))
+    b' n' c at (es ∙ sym i.2) (er ∙ sym i.3))
+    (λ (w : Removed z h e i.0). row_gone z e h b n i.0 l i.1 w.rows (λ d same ds dr. inl (λ x q. none-some x (sym w.absent ∙ q))) b' n' c at (es ∙ sym i.2) (er ∙ sym i.3))
+    off))
+    (fate z e h b n i.0 l i.1)
+
+-- a row is named in the chain of the key that was linked to it, or nowhere
+start_row : (z : Shape) (k : List ℕ) (s r : ℕ) (h : List Event) (o : Option Cached) → IsLawful z h → (row_after h s r).linked ≡ Some k → stands z (seen h) k ≡ o → RowAhead z (bucket_of z k) s r 1 h h
+start_row z k s r h None l on e = inl (
+  h,
+  ([], refl),
+  ([], refl),
+  (λ b n c at es er.
+      let i = (coherent z h l).items b n c at in
+      let same : c.key ≡ k = same_Some c.key k (sym i.linked ∙ ((λ t. (row_after h (es t) (er t)).linked) ∙ on)) in
+      none-some (cached i.value c.segment) (sym e ∙ (ap (stands z (seen h)) (sym same) ∙ i.stands))),
+)
+start_row z k s r h (Some x) l on e =
+    let co = coherent z h l in let w = co.all k x e in let low = (co.items (bucket_of z k) w.0 w.1 w.2).position.1 in ⊎_elim
+    (λ es. ⊎_elim
+    (λ er. inr (w.0, omega arith, (w.1, w.2, es, er)))
+    (λ ne. other w (λ q. ne (ap (λ (y : Slot). y.row) q)))
+    (cases_eq w.1.row r))
+    (λ ne. other w (λ q. ne (ap (λ (y : Slot). y.segment) q)))
+    (cases_eq w.1.segment s)
+  where
+    other : (w : (n : ℕ) × (a : Slot) × ((bucket_after z h (bucket_of z k)).items n ≡ item a) × (a.key ≡ k)) → w.1 ≢ slot k s r → RowAhead z (bucket_of z k) s r 1 h h
+    other w ne = inl (
+      h,
+      ([], refl),
+      ([], refl),
+      (λ b n c at es er.
+          let co = coherent z h l in
+          let i = co.items b n c at in
+          let same : c.key ≡ k = same_Some c.key k (sym i.linked ∙ ((λ t. (row_after h (es t) (er t)).linked) ∙ on)) in
+          let j = co.items (bucket_of z k) w.0 w.1 w.2 in
+          let one = same_Some _ _ (sym j.last ∙ (ap (last_at (marked h)) (w.3 ∙ sym same) ∙ i.last)) in
+          ne (one ∙ (λ t. slot (same t) (es t) (er t)))),
+    )
+
+pub row_first : (z : Shape) (k : List ℕ) (s r : ℕ) (h : List Event) → IsLawful z h → (row_after h s r).linked ≡ Some k → RowAhead z (bucket_of z k) s r 1 h h
+row_first z k s r h l on = start_row z k s r h (stands z (seen h) k) l on refl
+
+pub row_later : (z : Shape) (b s r n : ℕ) (h g f : List Event) → IsLawful z f → Begins h g → Begins g f → RowAhead z b s r n h g → RowAhead z b s r n h f
+row_later z b s r n h g f = ahead_later (IsLawful z) (RowAt z b s r) (RowGone z s r) (λ e x l. l.0) (row_moves z b s r) n h g f
+
+-- ---- the words of a search
+
+-- the item of a key is at item words of its chain alone
+key_at : (z : Shape) (k : List ℕ) (h : List Event) (n : ℕ) → IsLawful z h → KeyAt z k h n → IsPosition (bucket_after z h (bucket_of z k)) n
+key_at z k h n l i = ((coherent z h l).items (bucket_of z k) n i.0 i.1).position
+
+row_at_position : (z : Shape) (b s r : ℕ) (h : List Event) (n : ℕ) → IsLawful z h → RowAt z b s r h n → IsPosition (bucket_after z h b) n
+row_at_position z b s r h n l i = ((coherent z h l).items b n i.0 i.1).position
+
+pub key_passed : (z : Shape) (k : List ℕ) (n : ℕ) (h g : List Event) → ¬ (KeyAt z k g n) → KeyAhead z k n h g → KeyAhead z k (n + 1) h g
+key_passed z k n h g none a = ahead_passed (KeyAt z k) (KeyGone z k) n h g none a
+
+-- word 0 of a bucket has no item
+pub key_skipped : (z : Shape) (k : List ℕ) (n : ℕ) (h g : List Event) → IsLawful z g → n % 8 ≡ 0 → KeyAhead z k n h g → KeyAhead z k (n + 1) h g
+key_skipped z k n h g l e a = key_passed z k n h g (λ i. let p = (key_at z k g n l i).1 in absurd (omega arith)) a
+
+pub key_ended : (z : Shape) (k : List ℕ) (d : ℕ) (h g : List Event) → IsLawful z g → (bucket_after z g (bucket_of z k)).chained ≤ d → KeyAhead z k (8 * d + 8) h g → WasGone (KeyGone z k) h g
+key_ended z k d h g l le a = ahead_end (KeyAt z k) (KeyGone z k) (8 * d + 8) h g (λ m i. let p = (key_at z k g m l i).0 in omega arith) a
+
+pub row_passed : (z : Shape) (b s r n : ℕ) (h g : List Event) → ¬ (RowAt z b s r g n) → RowAhead z b s r n h g → RowAhead z b s r (n + 1) h g
+row_passed z b s r n h g none a = ahead_passed (RowAt z b s r) (RowGone z s r) n h g none a
+
+pub row_skipped : (z : Shape) (b s r n : ℕ) (h g : List Event) → IsLawful z g → n % 8 ≡ 0 → RowAhead z b s r n h g → RowAhead z b s r (n + 1) h g
+row_skipped z b s r n h g l e a = row_passed z b s r n h g (λ i. let p = (row_at_position z b s r g n l i).1 in absurd (omega arith)) a
+
+pub row_ended : (z : Shape) (b s r d : ℕ) (h g : List Event) → IsLawful z g → (bucket_after z g b).chained ≤ d → RowAhead z b s r (8 * d + 8) h g → WasGone (RowGone z s r) h g
+row_ended z b s r d h g l le a = ahead_end (RowAt z b s r) (RowGone z s r) (8 * d + 8) h g (λ m i. let p = (row_at_position z b s r g m l i).0 in omega arith) a
+
+-- what the word of a position says where the key's item is there
+pub key_word : (z : Shape) (k : List ℕ) (h : List Event) (n : ℕ) (c : Cell) → IsValid z → IsLawful z h → IsAt h (bucket_of z k) n c → KeyAt z k h n
+    → (s : ℕ) × (r : ℕ) × Names z h (bucket_of z k) n c (tag_of k) s r × ((row_after h s r).linked ≡ Some k)
+key_word z k h n c v l at i =
+    let b = bucket_of z k in
+    (i.0.segment, i.0.row, subst (λ x. Names z h b n c (tag_of x) i.0.segment i.0.row) i.2 (item_names z h b n c i.0 l (cell_in z h b n c l (bucket_in z k v) at) (key_at z k h n l i, at) i.1), ((coherent z h l).items b n i.0 i.1).linked ∙ ap Some i.2)
+
+-- and the other way round: a word that names a row that is linked to the key
+pub key_named : (z : Shape) (k : List ℕ) (h : List Event) (b n : ℕ) (c : Cell) (t s r : ℕ) → IsValid z → IsLawful z h → Names z h b n c t s r → (row_after h s r).linked ≡ Some k → (bucket_of z k ≡ b) × KeyAt z k h n
+key_named z k h b n c t s r v l x on =
+    let i = named_at z h b n c t s r v l x in
+    let st = (coherent z h l).items b n i.slot i.here in
+    let same : i.slot.key ≡ k = same_Some i.slot.key k (sym st.linked ∙ ((λ j. (row_after h (i.segment j) (i.row j)).linked) ∙ on)) in
+    let eb : bucket_of z k ≡ b = ap (bucket_of z) (sym same) ∙ st.here in
+    (eb, (i.slot, subst (λ y. (bucket_after z h y).items n ≡ item i.slot) (sym eb) i.here, same))
+
+-- what the word of a position says where the row's item is there
+pub row_word : (z : Shape) (b s r : ℕ) (h : List Event) (n : ℕ) (c : Cell) → b < z.buckets → IsLawful z h → IsAt h b n c → RowAt z b s r h n → (t : ℕ) × Names z h b n c t s r
+row_word z b s r h n c lt l at i =
+    (tag_of i.0.key, subst (λ x. Names z h b n c (tag_of i.0.key) s x) i.3 (subst (λ x. Names z h b n c (tag_of i.0.key) x i.0.row) i.2 (item_names z h b n c i.0 l (cell_in z h b n c l lt at) (row_at_position z b s r h n l i, at) i.1)))

@@ -1,0 +1,36 @@
+-- What others leave alone between the trace that a pass has seen and a longer one that has nothing more of that pass.
+use Rattle.std.specs.Prelude.{◌≡◌, ◌≢◌, ℕ, ◌<◌, false, List, ◌++◌, Some}
+use Rattle.segword.specs.declared.shape.Shape.{Shape}
+use Rattle.segmodel.specs.Places.{bucket_of, owner}
+use Rattle.segmodel.specs.History.{after, mine, IsSameAt}
+use Rattle.segcore.specs.declared.event.Event.{Event}
+use Rattle.segcore.specs.Event.{by, seen}
+use Rattle.segcore.specs.Bucket.{bucket_after}
+use Rattle.segcore.specs.Row.{row_after}
+use Rattle.segcore.specs.Segment.{inside, refills, NoneRefills}
+use Rattle.segcore.specs.Lawful.{Fits, is_of_now, NoneAt}
+use Rattle.segcore.specs.Count.{taken, bounced, glanced}
+use Rattle.segcore.specs.Kind.{HasBit}
+
+pub record Meanwhile (shape : Shape) (pass : ℕ) (more old : List Event) : Type 0 where
+  -- a bucket whose bit the pass has, and the keys and the version in it
+  pub untouched : (bucket : ℕ) → HasBit shape old pass bucket → NoneAt shape bucket more
+  pub buckets : (bucket : ℕ) → HasBit shape old pass bucket → bucket_after shape (more ++ old) bucket ≡ bucket_after shape old bucket
+  pub keys : (key : List ℕ) → HasBit shape old pass (bucket_of shape key) → IsSameAt shape (after shape (seen old)) (after shape (seen (more ++ old))) key
+  -- nobody else gives it a bit
+  pub bits : (bucket : ℕ) → (bucket_after shape old bucket).holder ≢ Some pass → (bucket_after shape (more ++ old) bucket).holder ≢ Some pass
+  -- its own rows
+  pub own_rows : (segment row : ℕ) → owner shape segment ≡ pass → row_after (more ++ old) segment row ≡ row_after old segment row
+  -- the segments that it is in: they aren't refilled, and their linked rows stay
+  pub stays : (segment : ℕ) → inside (more ++ old) pass segment ≡ inside old pass segment
+  pub not_refilled : (segment : ℕ) → 0 < inside old pass segment → NoneRefills segment more
+  pub filling : (segment : ℕ) → 0 < inside old pass segment → refills (more ++ old) segment ≡ refills old segment
+  pub rows : (segment row : ℕ) (key : List ℕ) → 0 < inside old pass segment → (row_after old segment row).linked ≡ Some key
+      → row_after (more ++ old) segment row ≡ row_after old segment row
+  -- its own entries and counts
+  pub entries : mine pass (seen (more ++ old)) ≡ mine pass (seen old)
+  pub takes : taken pass (more ++ old) ≡ taken pass old
+  pub bounces : (bucket : ℕ) → bounced pass bucket (more ++ old) ≡ bounced pass bucket old
+  pub glances : (bucket : ℕ) → glanced pass bucket (more ++ old) ≡ glanced pass bucket old
+  -- what it could do it still can, where that asks for nothing of the moment itself
+  pub fits : (event : Event) → by event ≡ pass → is_of_now event ≡ false → Fits shape old event → Fits shape (more ++ old) event
