@@ -1,5 +1,5 @@
 -- Item words and the keys that stand: a key stands with a value in a segment exactly where the item word at its place says so, and chains have no other item words.
-use Rattle.std.proofs.Common.{◌/◌, ◌^◌, ◌≡◌, ℕ, ◌<◌, List, [], ◌∷◌, get_or, Some, sym, refl, ap, ◌∙◌, subst, inl, inr, arith, bit_and}
+use Rattle.std.proofs.Common.{◌^◌, ◌≡◌, ℕ, ◌<◌, List, [], ◌∷◌, take, drop, Some, sym, refl, ap, ◌∙◌, subst, inl, inr, arith}
 use Rattle.std.specs.Prelude.{slice_index, fold}
 use Rattle.std.proofs.lemmas.Option.{same_Some}
 use Rattle.segword.specs.declared.shape.Shape.{Shape}
@@ -7,7 +7,7 @@ use Rattle.segword.specs.Shape.{IsValid}
 use Rattle.segword.specs.Bytes.{IsKey, IsValue}
 use Rattle.segword.specs.Fnv.{with_byte, hash_of}
 use Rattle.segword.specs.Row.{row_of}
-use Rattle.segword.proofs.RowLemmas.{take_key, take_value}
+use Rattle.segword.proofs.RowLemmas.{key_of_row, value_of_row}
 use Rattle.segmodel.specs.declared.entry.Cached.{Cached}
 use Rattle.segmodel.specs.Places.{bucket_of, tag_of}
 use Rattle.segcore.specs.declared.event.Event.{Event}
@@ -40,13 +40,15 @@ pub same_row : (u : Row) (k v k' v' : List ℕ) → Holds u k v → Holds u k' v
 same_row u k v k' v' a b = same_words k v k' v' (λ j lt. sym (a j lt) ∙ b j lt)
 
 -- a row holds one pair
-pub one_key : (u : Row) (k v k' v' : List ℕ) → IsKey k → IsKey k' → Holds u k v → Holds u k' v' → k ≡ k'
-one_key u k v k' v' l l' a b = let w = row_of k v in let n = bit_and (get_or w 0 0) 255 in
-    sym (take_key k v w n l refl refl) ∙ take_key k' v' w n l' (sym (same_row u k v k' v' a b)) refl
+pub one_key : (u : Row) (k v k' v' : List ℕ) → IsKey k → IsKey k' → IsValue v → IsValue v' → Holds u k v → Holds u k' v' → k ≡ k'
+one_key u k v k' v' l l' m m' a b =
+    sym (key_of_row k v (take 4 (row_of k v)) l m refl) ∙ key_of_row k' v' (take 4 (row_of k v)) l' m' (ap (take 4) (sym (same_row u k v k' v' a b)))
 
 pub one_value : (u : Row) (k v k' v' : List ℕ) → IsKey k → IsKey k' → IsValue v → IsValue v' → Holds u k v → Holds u k' v' → v ≡ v'
-one_value u k v k' v' l l' m m' a b = let w = row_of k v in let n = bit_and (get_or w 0 0 / 256) 255 in
-    sym (take_value k v w n l m refl refl) ∙ take_value k' v' w n l' m' (sym (same_row u k v k' v' a b)) refl
+one_value u k v k' v' l l' m m' a b =
+    let same = sym (same_row u k v k' v' a b) in
+    sym (value_of_row k v (drop 4 (row_of k v)) (slice_index (row_of k v) 0) l m refl refl)
+    ∙ value_of_row k' v' (drop 4 (row_of k v)) (slice_index (row_of k v) 0) l' m' (ap (λ w. slice_index w 0) same) (ap (drop 4) same)
 
 -- ---- words that name rows
 
@@ -105,7 +107,7 @@ stands_there z h k v s valid l t =
     let x = named_at z h b t.position t.cell (tag_of k) s t.row valid l t.names in
     let i = (coherent z h l).items b t.position x.slot x.here in
     let held : Holds (row_after h s t.row) x.slot.key i.value = (λ j lt. (λ y. (row_after h (sym x.segment y) (sym x.row y)).words j) ∙ i.holds j lt) in
-    let ek = one_key (row_after h s t.row) x.slot.key i.value k v i.valid.0 t.valid.0 held t.holds in
+    let ek = one_key (row_after h s t.row) x.slot.key i.value k v i.valid.0 t.valid.0 i.valid.1 t.valid.1 held t.holds in
     let ev = one_value (row_after h s t.row) x.slot.key i.value k v i.valid.0 t.valid.0 i.valid.1 t.valid.1 held t.holds in
     ap (stands z (seen h)) (sym ek) ∙ (i.stands ∙ (λ j. Some (cached (ev j) (x.segment j))))
 
