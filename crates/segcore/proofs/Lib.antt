@@ -20,7 +20,7 @@ pub mod Orderly
 pub mod Exact
 pub mod Entered
 pub mod Says
-pub mod Example
+pub mod ExampleTrace
 pub mod Allowed
 pub mod Homes
 pub mod Buckets

@@ -3,6 +3,7 @@ pub mod Bucket
 pub mod Chains
 pub mod Count
 pub mod Event
+pub mod Example
 pub mod ItemWord
 pub mod Kind
 pub mod Lawful

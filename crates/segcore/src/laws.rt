@@ -1,13 +1,15 @@
 //! The theorems of the core, each the contract of a function that does nothing.
-ghost use Rattle.std.specs.Prelude.{◌≡◌, ◌≢◌, ◌+◌, ◌*◌, ◌/◌, ◌%◌, ◌^◌, ◌<◌, ◌≤◌, ◌∷◌, ◌++◌, ℕ, false, List, Some};
+ghost use Rattle.std.specs.Prelude.{◌≡◌, ◌≢◌, ◌+◌, ◌*◌, ◌/◌, ◌%◌, ◌^◌, ◌<◌, ◌≤◌, ◌∷◌, ◌++◌, ℕ, false, List, [], Some, None};
 ghost use Rattle.segword.specs.declared.shape.Shape.{Shape};
 ghost use Rattle.segword.specs.Shape.{IsValid};
 ghost use Rattle.segmodel.specs.Places.{bucket_of, tag_of};
+ghost use Rattle.segmodel.specs.Cache.{standing};
 ghost use Rattle.segmodel.specs.History.{IsLegal, Begins, after, writes, entries_of, stirred};
 ghost use Rattle.segcore.specs.declared.cell.Cell.{Cell};
-ghost use Rattle.segcore.specs.declared.cell.Cell.TheVariants.{OfBucket};
+ghost use Rattle.segcore.specs.declared.cell.Cell.TheVariants.{OfCounter, OfBucket, OfOverflow, OfSegment};
 ghost use Rattle.segcore.specs.declared.event.Event.{Event};
 ghost use Rattle.segcore.specs.declared.view.View.{View};
+ghost use Rattle.segcore.specs.declared.event.Event.TheVariants.{Took, Bounced};
 ghost use Rattle.segcore.specs.Event.{NoneBy, seen};
 ghost use Rattle.segcore.specs.Bucket.{bucket_after};
 ghost use Rattle.segcore.specs.Row.{row_after};
@@ -17,12 +19,13 @@ ghost use Rattle.segcore.specs.Mark.{Mark, marked, IsPlaced, IsOrderly};
 ghost use Rattle.segcore.specs.Ahead.{WasGone};
 ghost use Rattle.segcore.specs.Scan.{IsScanOf, WasAbsent, IsRowScanOf, WasUnnamed};
 ghost use Rattle.segcore.specs.Search.{KeyGone, KeyAt, KeyAhead, RowGone, RowAt, RowAhead};
-ghost use Rattle.segcore.specs.Standing.{Names, SaysOfKeys};
+ghost use Rattle.segcore.specs.Standing.{cached, Names, SaysOfKeys};
 ghost use Rattle.segcore.specs.Chains.{SaysOfBuckets};
 ghost use Rattle.segcore.specs.Says.{SaysOfSegments, Says};
 ghost use Rattle.segcore.specs.Count.{IsCounted};
 ghost use Rattle.segcore.specs.Kind.{Step, HasBit, May, Kept};
 ghost use Rattle.segcore.specs.Meanwhile.{Meanwhile};
+ghost use Rattle.segcore.specs.Example.{shape, a, two, stored, bumped, moved, replaced, refilled, view_of, bounced, steps};
 ghost use Rattle.segcore.specs.World.{Told, World, SeeMore, Reaches, IsLawfulWorld};
 
 /// Whatever steps the passes take, in whatever order, the world that they reach is lawful, and what each pass has seen only grows.
@@ -102,4 +105,17 @@ pub fn version_of_bucket()
         → word shape now (OfBucket bucket 0) / 2 ^ 32 ≡ (after shape (seen now)).version bucket }
     ensures writes { (shape : Shape) (now : List Event) (bucket : ℕ) → shape.first_version < 2 ^ 32 → IsLawful shape now
         → (after shape (seen now)).version bucket ≡ (shape.first_version + writes shape (seen now) bucket) % 2 ^ 32 }
+{}
+
+/// The example is lawful; its words are those of the format; and it has two passes that have seen different ends of one trace.
+pub fn example()
+    ensures lawful { IsLawful shape refilled }
+    ensures item { (word shape stored (OfBucket 0 7) ≡ 0xaf60_1000_0000_0000) × (word shape bumped (OfBucket 0 7) ≡ 0xaf60_2000_0000_0000) }
+    ensures chained { (word shape moved (OfBucket 0 7) ≡ 1) × (word shape moved (OfOverflow 0 1) ≡ 0xaf60_2000_0000_0000) × (word shape moved OfCounter ≡ 1) }
+    ensures replaced { (word shape replaced (OfOverflow 0 1) ≡ 0xaf60_1000_0000_0001) × (word shape replaced (OfBucket 0 1) ≡ 0xaf60_1000_0020_0000) × (word shape replaced (OfBucket 0 0) ≡ 0x3_0000_0000) }
+    ensures held { word shape (Took 1 0 ∷ moved) (OfBucket 0 0) ≡ 0x1_0000_0001 }
+    ensures emptied { (word shape refilled (OfOverflow 0 1) ≡ 0) × (word shape refilled (OfBucket 0 1) ≡ 0) × (word shape refilled (OfSegment 2) ≡ 1) }
+    ensures versions { (standing (after shape (seen replaced)) a ≡ Some (cached two 0)) × (standing (after shape (seen refilled)) a ≡ None) × ((after shape (seen refilled)).version 0 ≡ 4) }
+    ensures reached { Reaches shape steps bounced }
+    ensures different { bounced.views ≡ view_of 0 (Took 0 0 ∷ []) ∷ view_of 1 (Bounced 1 0 ∷ Took 0 0 ∷ []) ∷ [] }
 {}

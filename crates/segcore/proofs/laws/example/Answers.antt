@@ -1,0 +1,16 @@
+use Rattle.std.proofs.Common.{refl}
+use Rattle.segcore.proofs.ExampleTrace as it
+use Rattle.segcore.proofs.laws.example.Goals as goal
+
+pub returns : goal.returns
+returns c = record {
+  lawful = it.example;
+  item = (refl, refl);
+  chained = (refl, refl, refl);
+  replaced = (refl, refl, refl);
+  held = refl;
+  emptied = (refl, refl, refl);
+  versions = (refl, refl, refl);
+  reached = it.reached;
+  different = refl;
+}
