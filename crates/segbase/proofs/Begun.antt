@@ -1,0 +1,13 @@
+-- Traces that begin others.
+use Rattle.std.proofs.Common.{◌≡◌, List, [], ◌++◌, refl, sym, ap, ◌∙◌, append_assoc}
+use Rattle.segcore.specs.declared.event.Event.{Event}
+use Rattle.segmodel.specs.History.{Begins}
+
+pub begins_self : (h : List Event) → Begins h h
+begins_self h = ([], refl)
+
+pub begins_on : (more h g : List Event) → Begins h g → Begins h (more ++ g)
+begins_on more h g b = (more ++ b.0, ap (λ x. more ++ x) b.1 ∙ sym (append_assoc more b.0 h))
+
+pub begins_then : (f g h : List Event) → Begins f g → Begins g h → Begins f h
+begins_then f g h a b = (b.0 ++ a.0, b.1 ∙ (ap (λ x. b.0 ++ x) a.1 ∙ sym (append_assoc b.0 a.0 f)))

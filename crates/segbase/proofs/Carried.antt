@@ -1,0 +1,129 @@
+-- Seats beside those of passes: they carry what a pass has seen to another, and change nothing.
+use Rattle.std.proofs.Common.{◌≡◌, ◌≢◌, ℕ, ◌+◌, ◌*◌, ◌/◌, ◌<◌, ◌≤◌, ◌⊎◌, List, [], ◌∷◌, ◌++◌, length, set, true, false, refl, sym, ap, ◌∙◌, subst, inl, inr, ⊎_elim, arith, append-nil, length-append, length-set}
+use Rattle.std.proofs.lemmas.Bool.{false≢true}
+use Rattle.std.proofs.lemmas.Nat.{div-mul-add}
+use Rattle.std.proofs.Math.Nat.{mul-lt-mul_of_pos_right}
+use mathlib.Core.Option.{some}
+use lib.ListN.{get_elem?}
+use Rattle.atomic_table.specs.Table.{Me, Splits, Joins}
+use Rattle.atomic_table.proofs.Lists.{at_set, at_snoc}
+use Rattle.segword.specs.declared.shape.Shape.{Shape}
+use Rattle.segmodel.specs.History.{Begins, AreOne}
+use Rattle.segcore.specs.declared.event.Event.{Event}
+use Rattle.segcore.specs.Lawful.{IsLawful}
+use Rattle.segcore.specs.Kind.{row_load, May}
+use Rattle.segbase.specs.declared.law.Sight.{Sight}
+use Rattle.segbase.specs.declared.pass.Plain.{Plain}
+use Rattle.segbase.specs.declared.pass.Pass.{Pass}
+use Rattle.segbase.specs.declared.board.Board.{Board}
+use Rattle.segbase.specs.Passes.{number, trace, IsPassOf}
+use Rattle.segbase.specs.Ruled.{Rule, IsSight, witness, spent, meets}
+use Rattle.segbase.proofs.Allowed.{apart_kept}
+
+abbrev IsOne : List Sight → Type 0
+IsOne views = (i j : ℕ) (a b : Sight) → get_elem? views i ≡ some a → get_elem? views j ≡ some b → a.is_pass ≡ true → b.is_pass ≡ true → a.view.number ≡ b.view.number → i ≡ j
+
+-- a seat of no pass is added, or put in the place of another
+one_longer : (views : List Sight) (u : Sight) → IsOne views → u.is_pass ≡ false → IsOne (views ++ u ∷ [])
+one_longer views u one off i j a b ai bj pa pb e = ⊎_elim
+    (λ t. ⊎_elim
+    (λ o. one i j a b t o pa pb e)
+    (λ o. absurd (false≢true (sym off ∙ (ap (λ (y : Sight). y.is_pass) o ∙ pb))))
+    (at_snoc views u b j bj))
+    (λ t. absurd (false≢true (sym off ∙ (ap (λ (y : Sight). y.is_pass) t ∙ pa))))
+    (at_snoc views u a i ai)
+
+one_spent : (views : List Sight) (id : ℕ) (u : Sight) → IsOne views → u.is_pass ≡ false → IsOne (set views id u)
+one_spent views id u one off i j a b ai bj pa pb e = ⊎_elim
+    (λ t. absurd (false≢true (sym off ∙ (ap (λ (y : Sight). y.is_pass) t.1 ∙ pa))))
+    (λ t. ⊎_elim
+    (λ o. absurd (false≢true (sym off ∙ (ap (λ (y : Sight). y.is_pass) o.1 ∙ pb))))
+    (λ o. one i j a b t.1 o.1 pa pb e)
+    (at_set views id j u b bj))
+    (at_set views id i u a ai)
+
+begins_all : (h : List Event) → Begins [] h
+begins_all h = (h, sym (append-nil h))
+
+-- a seat is split off that carries what a pass has seen; the pass may keep another thing in mind
+pub carries : (S : Type 0) (z : Shape) (id : ℕ) (x u : Sight) → x.is_pass ≡ true → u.view ≡ x.view → u.met ≡ x.met → u.is_pass ≡ true → Splits {S = S} (Rule z) id x u (witness x)
+carries S z id x u pass view met is_pass s rule at =
+    let old = rule.sights id x at in
+    let one = apart_kept s.views id x u rule.one at pass (ap (λ v. v.number) view) in
+    record {
+      trace = rule.trace;
+      views = rule.views;
+      lawful = rule.lawful;
+      sights = λ j y is. ⊎_elim
+          (λ t. ⊎_elim
+          (λ o. subst (IsSight rule.views rule.trace) o.1 (record { seen = subst (λ v. Begins v.trace rule.trace) (sym view) old.seen; met = subst (λ m. Begins m rule.trace) (sym met) old.met; own = λ _. subst (λ v. get_elem? rule.views v.number ≡ some v) (sym view) (old.own pass) }))
+          (λ o. rule.sights j y o.1)
+          (at_set s.views id j u y t))
+          (λ t. subst (IsSight rule.views rule.trace) t (record { seen = old.seen; met = begins_all rule.trace; own = λ yes. absurd (false≢true yes) }))
+          (at_snoc (set s.views id u) (witness x) y j is);
+      one = one_longer (set s.views id u) (witness x) one refl;
+    }
+
+pub tells : (S : Type 0) (z : Shape) (id other : ℕ) (x w : Sight) → x.is_pass ≡ true → Joins {S = S} (Rule z) id x other w (meets x w) spent
+tells S z id other x w pass s rule at apart at' =
+    let old = rule.sights id x at in
+    let u : Sight = meets x w in
+    let views = set s.views id u in
+    let carried : get_elem? s.views other ≡ some w = ⊎_elim (λ t. absurd (apart t.0)) (λ t. t.1) (at_set s.views id other u w at') in
+    let one = apart_kept s.views id x u rule.one at pass refl in
+    record {
+      trace = rule.trace;
+      views = rule.views;
+      lawful = rule.lawful;
+      sights = λ j y is. ⊎_elim
+          (λ t. subst (IsSight rule.views rule.trace) t.1 (record { seen = begins_all rule.trace; met = begins_all rule.trace; own = λ yes. absurd (false≢true yes) }))
+          (λ t. ⊎_elim
+          (λ o. subst (IsSight rule.views rule.trace) o.1 (record { seen = old.seen; met = (rule.sights other w carried).seen; own = old.own }))
+          (λ o. rule.sights j y o.1)
+          (at_set s.views id j u y t.1))
+          (at_set views other j spent y is);
+      one = one_spent views other spent one refl;
+    }
+
+abbrev rest : List Event → List Event
+rest [] = []
+rest (e ∷ es) = es
+
+both_end : (xs ys f g : List Event) → xs ++ f ≡ ys ++ g → AreOne f g
+both_end [] ys f g e = inr (ys, e)
+both_end (x ∷ xs) [] f g e = inl (x ∷ xs, sym e)
+both_end (x ∷ xs) (y ∷ ys) f g e = both_end xs ys f g (ap rest e)
+
+-- of two traces that begin one, one begins the other
+pub are_one : (f g h : List Event) → Begins f h → Begins g h → AreOne f g
+are_one f g h a b = both_end a.0 b.0 f g (sym a.1 ∙ b.1)
+
+-- the first segment of a pass is its own
+pub own_first : (n each : ℕ) → 0 < each → n * each / each ≡ n
+own_first n each more = ap (λ x. x / each) (let e : n * each ≡ n * each + 0 = omega arith in e) ∙ div-mul-add n each 0 more
+
+pub within_first : (n each passes : ℕ) → n < passes → 0 < each → n * each < passes * each
+within_first n each passes few more = mul-lt-mul_of_pos_right few more
+
+-- a pass that was told of another is the same pass
+pub retold : (b : Board) (p q : Pass) (w : Sight) → IsPassOf b p → q.seat.table_id ≡ p.seat.table_id → q.seat.me ≡ (meets p.seat.me.0 w, p.seat.me.1) → q.plain ≡ p.plain → IsPassOf b q
+retold b p q w is table me plain =
+    let now : q.seat.me.0 ≡ meets p.seat.me.0 w = ap (λ (m : Me (Unit {0}) Sight). m.0) me in
+    let same : number q ≡ number p = ap (λ (y : Sight). y.view.number) now in record {
+      table = table ∙ is.table;
+      bare = ap (λ (m : Me (Unit {0}) Sight). m.1) me ∙ is.bare;
+      is_pass = ap (λ (y : Sight). y.is_pass) now ∙ is.is_pass;
+      valid = is.valid;
+      lawful = subst (IsLawful b.shape) (sym (ap (λ (y : Sight). y.view.trace) now)) is.lawful;
+      one_of = rw same is.one_of;
+      numbered = ap (λ (x : Plain). x.number) plain ∙ (is.numbered ∙ sym same);
+      first = ap (λ (x : Plain). x.first) plain ∙ (is.first ∙ ap (λ n. n * b.shape.segments_each) (sym same));
+      owns = ap (λ (x : Plain). length x.segments.items) plain ∙ is.owns;
+    }
+
+-- it may load the first word of its first row
+pub own_row : (b : Board) (p : Pass) → IsPassOf b p → May b.shape (trace p) (number p) (row_load p.plain.first 0 0)
+own_row b p is =
+    let n = number p in let each = b.shape.segments_each in
+    let more : 0 < each = is.valid.0.0.1.0 in
+    (subst (λ s. s < b.shape.passes * each) (sym is.first) (within_first n each b.shape.passes is.one_of more), is.valid.0.1.0, omega arith, inl (ap (λ s. s / each) is.first ∙ own_first n each more))

@@ -1,0 +1,129 @@
+-- The seats at the start, and a further pass.
+use Rattle.std.proofs.Common.{◌≡◌, ℕ, zero, suc, ◌+◌, ◌<◌, ◌⊎◌, List, [], ◌∷◌, ◌++◌, length, set, true, refl, sym, ap, ◌∙◌, subst, inl, inr, ⊎_elim, arith, append-nil, length-append, length-set}
+use mathlib.Core.Option.{some, some-injective, some-ne-none}
+use lib.ListN.{get_elem?}
+use Rattle.atomic_table.specs.Table.{opening, Splits}
+use Rattle.atomic_table.proofs.Lists.{at_set, at_longer, at_last, set_here, set_else}
+use Rattle.segword.specs.declared.shape.Shape.{Shape}
+use Rattle.segword.specs.Shape.{IsValid}
+use Rattle.segcore.specs.declared.event.Event.{Event}
+use Rattle.segcore.specs.declared.view.View.{View}
+use Rattle.segcore.specs.Event.{NoneBy}
+use Rattle.segcore.specs.World.{Knows, Lawful}
+use Rattle.segbase.specs.declared.law.Sight.{Sight}
+use Rattle.segbase.specs.Opening.{IsOpened}
+use Rattle.segbase.specs.Ruled.{Rule, IsSight, pass_sight, first_sight, dealer, newcomer}
+use Rattle.segbase.proofs.Allowed.{inside_list, apart_kept}
+
+only : (p : ℕ) (v : View) → get_elem? (first_sight.view ∷ []) p ≡ some v → Knows p v []
+only zero v at = subst (λ (u : View). Knows 0 u []) (some-injective first_sight.view v at) (record { number = refl; more = []; rest = refl; others = tt })
+only (suc p) v at = absurd (some-ne-none v (sym at))
+
+one_sight : (id : ℕ) (x : Sight) → get_elem? (first_sight ∷ []) id ≡ some x → IsSight (first_sight.view ∷ []) [] x
+one_sight zero x at = subst (IsSight (first_sight.view ∷ []) []) (some-injective first_sight x at) (record { seen = ([], refl); met = ([], refl); own = λ _. refl })
+one_sight (suc id) x at = absurd (some-ne-none x (sym at))
+
+one_id : (i : ℕ) (x : Sight) → get_elem? (first_sight ∷ []) i ≡ some x → i ≡ 0
+one_id zero x at = refl
+one_id (suc i) x at = absurd (some-ne-none x (sym at))
+
+pub rule_opens : (S : Type 0) (z : Shape) (words : List ℕ) → IsValid z → IsOpened z words → Rule {S = S} z (opening words [] first_sight)
+rule_opens S z words valid opened = record {
+  trace = [];
+  views = first_sight.view ∷ [];
+  lawful = record {
+    valid = valid;
+    legal = tt;
+    long = opened.long;
+    each = opened.each;
+    knows = only;
+    later = λ p _. tt;
+    dealt = λ v at. ap (λ (u : View). u.dealt) (sym (some-injective first_sight.view v at));
+  };
+  sights = one_sight;
+  one = λ i j x y at at' _ _ _. one_id i x at ∙ sym (one_id j y at');
+}
+
+snoc_at : {A : Type 0} (l : List A) (a b : A) (j : ℕ) → get_elem? (l ++ a ∷ []) j ≡ some b → (get_elem? l j ≡ some b) ⊎ ((j ≡ length l) × (a ≡ b))
+snoc_at [] a b zero e = inr (refl, some-injective a b e)
+snoc_at [] a b (suc j) e = absurd (some-ne-none b (sym e))
+snoc_at (x ∷ xs) a b zero e = inl e
+snoc_at (x ∷ xs) a b (suc j) e = ⊎_elim (λ t. inl t) (λ t. inr (ap suc t.0, t.1)) (snoc_at xs a b j e)
+
+none_front : (p : ℕ) (xs ys : List Event) → NoneBy p (xs ++ ys) → NoneBy p xs
+none_front p [] ys n = tt
+none_front p (e ∷ xs) ys n = (n.0, none_front p xs ys n.1)
+
+-- the views with one pass more
+more_views : (z : Shape) (words : List ℕ) (views : List View) (h : List Event) (v : View) → Lawful z words views h → get_elem? views 0 ≡ some v
+    → Lawful z words (set views 0 (record v { dealt = v.dealt + 1 }) ++ record { number = v.dealt; trace = v.trace; dealt = 0 } ∷ []) h
+more_views z words views h v l at =
+    let k = l.knows 0 v at in
+    let w : View = record v { dealt = v.dealt + 1 } in
+    let new : View = record { number = v.dealt; trace = v.trace; dealt = 0 } in
+    let there = set views 0 w in
+    let all : v.dealt ≡ length views = l.dealt v at in
+    let long : length there ≡ length views = length-set views 0 w in
+    let more : length (there ++ new ∷ []) ≡ length views + 1 = length-append there (new ∷ []) ∙ ap (λ n. n + 1) long in record {
+      valid = l.valid;
+      legal = l.legal;
+      long = l.long;
+      each = l.each;
+      knows = λ p u is. ⊎_elim
+          (λ t. ⊎_elim
+          (λ o. subst (λ (x : View). Knows p x h) o.1 (record { number = k.number ∙ sym o.0; more = k.more; rest = k.rest; others = subst (λ n. NoneBy n k.more) (sym o.0) k.others }))
+          (λ o. l.knows p u o.1)
+          (at_set views 0 p w u t))
+          (λ t. subst (λ (x : View). Knows p x h) t.1 (record { number = all ∙ (sym long ∙ sym t.0); more = k.more; rest = k.rest; others = none_front p k.more v.trace (subst (NoneBy p) k.rest (l.later p (let e = t.0 in omega arith))) }))
+          (snoc_at there new u p is);
+      later = λ p past. l.later p (omega arith);
+      dealt = λ u is. ⊎_elim
+          (λ t. ⊎_elim
+          (λ o. subst (λ (x : View). x.dealt ≡ length (there ++ new ∷ [])) o.1 (ap (λ n. n + 1) all ∙ sym more))
+          (λ o. absurd (o.0 refl))
+          (at_set views 0 0 w u t))
+          (λ t. let i = inside_list views 0 v at in let e = t.0 in absurd (omega arith))
+          (snoc_at there new u 0 is);
+    }
+
+pub deals : (S : Type 0) (z : Shape) (id : ℕ) (x : Sight) → x.is_pass ≡ true → x.view.number ≡ 0 → Splits {S = S} (Rule z) id x (dealer x) (newcomer x)
+deals S z id x pass first s rule at =
+    let h = rule.trace in let l = rule.lawful in
+    let v : View = x.view in
+    let old = rule.sights id x at in
+    let here : get_elem? rule.views 0 ≡ some v = subst (λ n. get_elem? rule.views n ≡ some v) first (old.own pass) in
+    let w : View = record v { dealt = v.dealt + 1 } in
+    let new : View = record { number = v.dealt; trace = v.trace; dealt = 0 } in
+    let all : v.dealt ≡ length rule.views = l.dealt v here in
+    let there = set rule.views 0 w in
+    let long : length there ≡ length rule.views = length-set rule.views 0 w in
+    let views = there ++ new ∷ [] in
+    let known : (n : ℕ) (u : View) → get_elem? there n ≡ some u → get_elem? views n ≡ some u = λ n u e. at_longer there (new ∷ []) n u e in
+    let old_number : (y : Sight) (j : ℕ) → get_elem? s.views j ≡ some y → y.is_pass ≡ true → y.view.number < length rule.views = λ y j e yes. inside_list rule.views y.view.number y.view ((rule.sights j y e).own yes) in
+    let set_number : (y : Sight) (j : ℕ) → get_elem? (set s.views id (dealer x)) j ≡ some y → y.is_pass ≡ true → y.view.number < length rule.views = λ y j e yes. ⊎_elim
+        (λ t. subst (λ (u : Sight). u.view.number < length rule.views) t.1 (old_number x id at pass))
+        (λ t. old_number y j t.1 yes)
+        (at_set s.views id j (dealer x) y e) in
+    let one = apart_kept s.views id x (dealer x) rule.one at pass refl in
+    record {
+      trace = h;
+      views = views;
+      lawful = more_views z s.words rule.views h v l here;
+      sights = λ j y is. ⊎_elim
+          (λ t. ⊎_elim
+          (λ o. subst (IsSight views h) o.1 (record { seen = old.seen; met = old.met; own = λ _. subst (λ n. get_elem? views n ≡ some w) (sym first) (known 0 w (set_here rule.views 0 w (inside_list rule.views 0 v here))) }))
+          (λ o. let a = rule.sights j y o.1 in record { seen = a.seen; met = a.met; own = λ yes. known y.view.number y.view (set_else rule.views 0 y.view.number w (λ e. o.0 (rule.one j id y x o.1 at yes pass (e ∙ sym first))) ∙ a.own yes) })
+          (at_set s.views id j (dealer x) y t))
+          (λ t. subst (IsSight views h) t.1 (record { seen = old.seen; met = (h, sym (append-nil h)); own = λ _. at_last there new v.dealt (long ∙ sym all) }))
+          (snoc_at (set s.views id (dealer x)) (newcomer x) y j is);
+      one = λ i j a b ai bj pa pb e. ⊎_elim
+          (λ t. ⊎_elim
+          (λ o. one i j a b t o pa pb e)
+          (λ o. let lt = set_number a i t pa in let f = ap (λ (u : Sight). u.view.number) o.1 in absurd (omega arith))
+          (snoc_at (set s.views id (dealer x)) (newcomer x) b j bj))
+          (λ t. ⊎_elim
+          (λ o. let lt = set_number b j o pb in let f = ap (λ (u : Sight). u.view.number) t.1 in absurd (omega arith))
+          (λ o. t.0 ∙ sym o.0)
+          (snoc_at (set s.views id (dealer x)) (newcomer x) b j bj))
+          (snoc_at (set s.views id (dealer x)) (newcomer x) a i ai);
+    }

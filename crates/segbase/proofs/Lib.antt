@@ -1,0 +1,13 @@
+pub mod Allowed
+pub mod Begun
+pub mod Carried
+pub mod Dealt
+pub mod Exchanging
+pub mod Moves
+pub mod Opened
+pub mod Owning
+pub mod Passes
+pub mod Standing
+pub mod Staying
+pub mod Stepping
+pub mod Taking

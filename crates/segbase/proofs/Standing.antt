@@ -1,0 +1,99 @@
+-- What the words of a chain are: at any moment, and for a pass that has the bucket's bit.
+use Rattle.std.proofs.Common.{◌≡◌, ◌≢◌, ℕ, ◌+◌, ◌*◌, ◌/◌, ◌%◌, ◌^◌, ◌<◌, ◌≤◌, max, eqb, ◌&&◌, true, false, cond, List, [], ◌∷◌, ◌++◌, Option, Some, None, refl, sym, ap, ◌∙◌, subst, ⊎_elim, arith}
+use Rattle.std.proofs.lemmas.Bool.{cases_Bool, cond-true, cond-false, eqb-true, and_parts}
+use Rattle.std.proofs.lemmas.Nat.{div-mul-add, mod-mul-add}
+use Rattle.std.proofs.Math.Nat.{le-max_right}
+use Rattle.std.proofs.lemmas.Option.{none-some}
+use Rattle.segword.specs.declared.shape.Shape.{Shape}
+use Rattle.segword.specs.Fnv.{hash_of}
+use Rattle.segword.specs.Shape.{IsValid}
+use Rattle.segword.specs.ItemWord.{tag_part}
+use Rattle.segword.specs.SameItem.{IsSameItem}
+use Rattle.segcore.specs.declared.event.Event.{Event}
+use Rattle.segcore.specs.declared.event.Event.TheVariants.{Linked, Bumped}
+use Rattle.segcore.specs.declared.cell.Cell.{Cell}
+use Rattle.segcore.specs.Event.{NoneBy}
+use Rattle.segcore.specs.Bucket.{Slot, Content, nothing, item, next, copy, Bucket, IsPosition, bucket_after}
+use Rattle.segcore.specs.Row.{row_after, frequency_of}
+use Rattle.segmodel.specs.Places.{tag_of}
+use Rattle.segcore.specs.ItemWord.{packed}
+use Rattle.segcore.specs.Lawful.{IsLawful}
+use Rattle.segcore.specs.Word.{content_word, word_in, word, IsAt, IsItemAt}
+use Rattle.segcore.proofs.Quiet.{quiet}
+use Rattle.segcore.proofs.Limits.{low_row, low_segment, low_frequency}
+use Rattle.segcore.proofs.Coherent.{IsContent}
+use Rattle.segcore.proofs.Chains.{chain_of}
+use Rattle.segcore.proofs.Cells.{at_stays, at_word}
+use Rattle.segcore.proofs.Standing.{coherent}
+use Rattle.segcore.proofs.StepKinds.{word_content, above}
+use Rattle.segbase.specs.Steps.{IsReadAs}
+
+some_tag : (key : List ℕ) → 1 ≤ tag_of key
+some_tag key = le-max_right (hash_of key / 2 ^ 52) 1
+
+pub tag_of_word : (t f s r : ℕ) → f < 2 ^ 8 → s < 2 ^ 24 → r < 2 ^ 20 → packed t f s r / 2 ^ 52 ≡ t
+tag_of_word t f s r a b c = ap (λ n. n / 2 ^ 52) (let e : packed t f s r ≡ t * 2 ^ 52 + (f * 2 ^ 44 + s * 2 ^ 20 + r) = omega arith in e) ∙ div-mul-add t (2 ^ 52) (f * 2 ^ 44 + s * 2 ^ 20 + r) (omega arith)
+
+pub place_of_word : (t f s r : ℕ) → s < 2 ^ 24 → r < 2 ^ 20 → packed t f s r % 2 ^ 44 ≡ s * 2 ^ 20 + r
+place_of_word t f s r b c = ap (λ n. n % 2 ^ 44) (let e : packed t f s r ≡ (t * 2 ^ 8 + f) * 2 ^ 44 + (s * 2 ^ 20 + r) = omega arith in e) ∙ mod-mul-add (t * 2 ^ 8 + f) (2 ^ 44) (s * 2 ^ 20 + r) (omega arith)
+
+-- the word at a position of a chain
+pub content_at : (z : Shape) (h : List Event) (b n : ℕ) (c : Cell) → IsItemAt z h b n c → word z h c ≡ content_word h ((bucket_after z h b).items n)
+content_at z h b n c at = at_word z h b n c at.1 ∙ word_content z h (bucket_after z h b) n (above (bucket_after z h b) n at.0)
+
+read_as : (z : Shape) (h : List Event) (b n : ℕ) (x : Content) → IsValid z → IsLawful z h → IsPosition (bucket_after z h b) n → (bucket_after z h b).items n ≡ x → IsContent h b (bucket_after z h b) n x → IsReadAs x (content_word h x)
+read_as z h b n nothing v l at e is = refl
+read_as z h b n (item a) v l at e is =
+    let st = (coherent z h l).items b n a e in
+    let f = low_frequency z h a.segment a.row l in
+    ((frequency_of h a.segment a.row, f, refl), subst (λ t. 1 ≤ t) (sym (tag_of_word (tag_of a.key) (frequency_of h a.segment a.row) a.segment a.row f (low_segment z a.segment v st.within.0) (low_row z a.row v st.within.1))) (some_tag a.key))
+read_as z h b n (next m) v l at e is = refl
+read_as z h b n (copy w) v l at e is = let a = at.0 in let i = is.0 in absurd (omega arith)
+
+pub reads : (z : Shape) (h : List Event) (b n found : ℕ) (c : Cell) → IsValid z → IsLawful z h → found ≡ word z h c → IsItemAt z h b n c → IsReadAs ((bucket_after z h b).items n) found
+reads z h b n found c v l is at = subst (IsReadAs ((bucket_after z h b).items n)) (sym (is ∙ content_at z h b n c at)) (read_as z h b n ((bucket_after z h b).items n) v l at.0 refl ((chain_of z h l b).contents n))
+
+-- under the bit only frequencies change
+pub under_bit : (z : Shape) (more h : List Event) (p b n : ℕ) (c : Cell) → IsLawful z (more ++ h) → NoneBy p more → (bucket_after z h b).holder ≡ Some p → IsItemAt z h b n c → word z (more ++ h) c ≡ content_word (more ++ h) ((bucket_after z h b).items n)
+under_bit z more h p b n c l none held at =
+    at_word z (more ++ h) b n c (at_stays z more h b n c l at.1) ∙ (word_content z (more ++ h) (bucket_after z (more ++ h) b) n (above (bucket_after z h b) n at.0)
+    ∙ ap (λ u. content_word (more ++ h) (u.items n)) (quiet z more h p b l none held))
+
+rises : (e : Event) (z : Shape) (h : List Event) (s r f : ℕ) (key : List ℕ) → IsLawful z (e ∷ h) → (row_after h s r).linked ≡ Some key → f ≤ frequency_of h s r → f ≤ frequency_of (e ∷ h) s r
+rises (Linked q request t i n) z h s r f key l on le = ⊎_elim
+    (λ y. let w = and_parts (eqb t s) (eqb i r) y in let a = eqb-true t s w.0 in let d = eqb-true i r w.1 in
+    absurd (none-some key (sym l.1.suits.0.3 ∙ (λ j. (row_after h (a j) (d j)).linked) ∙ on)))
+    (λ n'. subst (λ x. f ≤ x) (sym (cond-false (eqb t s && eqb i r) 1 (frequency_of h s r) n')) le)
+    (cases_Bool (eqb t s && eqb i r))
+rises (Bumped q t i g) z h s r f key l on le = ⊎_elim
+    (λ y. let w = and_parts (eqb t s) (eqb i r) y in
+    let more : frequency_of h s r < g = subst (λ x. frequency_of h s x < g) (eqb-true i r w.1) (subst (λ x. frequency_of h x i < g) (eqb-true t s w.0) l.1.suits.0) in
+    subst (λ x. f ≤ x) (sym (cond-true (eqb t s && eqb i r) g (frequency_of h s r) y)) (omega arith))
+    (λ n'. subst (λ x. f ≤ x) (sym (cond-false (eqb t s && eqb i r) g (frequency_of h s r) n')) le)
+    (cases_Bool (eqb t s && eqb i r))
+rises e z h s r f key l on le = le
+
+-- under the bit the frequency of an item only rises
+pub frequency_rises : (z : Shape) (more h : List Event) (p b n : ℕ) (a : Slot) → IsLawful z (more ++ h) → NoneBy p more → (bucket_after z h b).holder ≡ Some p → (bucket_after z h b).items n ≡ item a → frequency_of h a.segment a.row ≤ frequency_of (more ++ h) a.segment a.row
+frequency_rises z [] h p b n a l none held here = omega arith
+frequency_rises z (e ∷ more) h p b n a l none held here =
+    let same = quiet z more h p b l.0 none.1 held in
+    let st = (coherent z (more ++ h) l.0).items b n a (ap (λ u. u.items n) same ∙ here) in
+    rises e z (more ++ h) a.segment a.row (frequency_of h a.segment a.row) a.key l st.linked (frequency_rises z more h p b n a l.0 none.1 held here)
+
+-- two words of one item, of which the second isn't the first
+pub higher : (z : Shape) (more h : List Event) (p b n old found : ℕ) (a : Slot) (c : Cell) → IsValid z → IsLawful z h → IsLawful z (more ++ h) → NoneBy p more → (bucket_after z h b).holder ≡ Some p → IsItemAt z h b n c → (bucket_after z h b).items n ≡ item a
+    → old ≡ word z h c → found ≡ word z (more ++ h) c → found ≢ old → IsSameItem old found × (old < found)
+higher z more h p b n old found a c v l l' none held at here was is other =
+    let t = tag_of a.key in let s = a.segment in let r = a.row in
+    let f : ℕ = frequency_of h s r in let g : ℕ = frequency_of (more ++ h) s r in
+    let st = (coherent z h l).items b n a here in
+    let ls = low_segment z s v st.within.0 in let lr = low_row z r v st.within.1 in
+    let lf = low_frequency z h s r l in let lg = low_frequency z (more ++ h) s r l' in
+    let first : old ≡ packed t f s r = was ∙ (content_at z h b n c at ∙ ap (content_word h) here) in
+    let second : found ≡ packed t g s r = is ∙ (under_bit z more h p b n c l' none held at ∙ ap (content_word (more ++ h)) here) in
+    let up : f ≤ g = frequency_rises z more h p b n a l' none held here in
+    let one : old / 2 ^ 52 ≡ t = ap (λ x. x / 2 ^ 52) first ∙ tag_of_word t f s r lf ls lr in
+    let two : found / 2 ^ 52 ≡ t = ap (λ x. x / 2 ^ 52) second ∙ tag_of_word t g s r lg ls lr in
+    let apart : f ≢ g = λ e. other (second ∙ (ap (λ x. packed t x s r) (sym e) ∙ sym first)) in
+    ((subst (λ x. 1 ≤ x) (sym one) (some_tag a.key), one ∙ sym two, ap (λ x. x % 2 ^ 44) first ∙ (place_of_word t f s r ls lr ∙ sym (ap (λ x. x % 2 ^ 44) second ∙ place_of_word t g s r ls lr))), omega arith)

@@ -1,0 +1,8 @@
+use Rattle.std.proofs.Common.{◌≡◌, ℕ, Some, slice_get, length}
+use Rattle.segbase.specs.declared.pass.Pass.{Pass}
+use Rattle.segbase.specs.Passes.{view}
+use Rattle.segbase.specs.Made.{IsDealt}
+use Rattle.segbase.proofs.board.Board.deal.Given as goal
+
+abbrev pub invariant-loop-number : goal.invariant-loop-number
+invariant-loop-number l = IsDealt l.self l.number l.passes.items × ((p : Pass) → slice_get l.passes.items 0 ≡ Some p → (view p).dealt ≡ l.number)

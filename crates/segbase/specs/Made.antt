@@ -1,0 +1,48 @@
+-- A board that was just made, and its passes.
+use Rattle.std.specs.Prelude.{◌≡◌, ℕ, ◌+◌, ◌*◌, ◌<◌, List, [], length, replicate, Option, Some, None, false, slice_get}
+use Rattle.segword.specs.declared.shape.Shape.{Shape}
+use Rattle.segword.specs.Shape.{IsValid, IsFirstFault}
+use Rattle.segmodel.specs.declared.answer.SegState.TheVariants.{Empty}
+use Rattle.segbase.specs.declared.fault.MakeFault.{MakeFault}
+use Rattle.segbase.specs.declared.fault.MakeFault.TheVariants as fault
+use Rattle.segbase.specs.declared.pass.OwnSegment.{OwnSegment}
+use Rattle.segbase.specs.declared.pass.Plain.{Plain}
+use Rattle.segbase.specs.declared.pass.Pass.{Pass}
+use Rattle.segbase.specs.declared.board.Board.{Board}
+use Rattle.segbase.specs.Opening as opening
+use Rattle.segbase.specs.Passes.{sight, number, trace, holding, locked, IsPassOf}
+
+-- the fault is the first of the shape; memory is wanted only for a shape that an index may have
+abbrev pub IsMakeFault : Shape → MakeFault → Type 0
+IsMakeFault shape (fault.Shape f) = IsFirstFault shape f
+IsMakeFault shape fault.OutOfMemory = IsValid shape
+
+abbrev pub unfilled : OwnSegment
+unfilled = record { state = Empty; used = 0 }
+
+pub record IsNewPlain (shape : Shape) (n : ℕ) (plain : Plain) : Type 0 where
+  pub number : plain.number ≡ n
+  pub first : plain.first ≡ n * shape.segments_each
+  pub segments : plain.segments.items ≡ replicate shape.segments_each unfilled
+  pub current : plain.current ≡ None
+  pub locked : plain.locked ≡ None
+  pub holding : plain.is_holding ≡ false
+
+-- the pass of this number, which has seen nothing
+pub record IsNewPass (b : Board) (n : ℕ) (p : Pass) : Type 0 where
+  pub pass : IsPassOf b p
+  pub number : number p ≡ n
+  pub nothing : trace p ≡ []
+  pub holding : holding p ≡ None
+  pub locked : locked p ≡ None
+  pub plain : IsNewPlain b.shape n p.plain
+
+-- the first passes, in the order of their numbers
+pub record IsDealt (b : Board) (count : ℕ) (passes : List Pass) : Type 0 where
+  pub long : length passes ≡ count
+  pub each : (n : ℕ) (p : Pass) → slice_get passes n ≡ Some p → IsNewPass b n p
+
+pub record IsMade (shape : Shape) (b : Board) (all : List Pass) : Type 0 where
+  pub valid : IsValid shape
+  pub of : b.shape ≡ shape
+  pub dealt : IsDealt b shape.passes all

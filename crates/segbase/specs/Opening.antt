@@ -1,0 +1,11 @@
+-- The words of a table at the start.
+use Rattle.std.specs.Prelude.{◌≡◌, ℕ, ◌+◌, ◌*◌, ◌%◌, ◌^◌, ◌==◌, ◌&&◌, nat_lt, List, [], length, slice_index, if◌then◌else◌}
+use Rattle.segword.specs.declared.shape.Shape.{Shape}
+use Rattle.segword.specs.Shape.{word_count}
+use Rattle.segcore.specs.declared.cell.Cell.{Cell}
+use Rattle.segcore.specs.Word.{IsCell, address, word}
+
+-- each word is what it is where nothing has happened
+pub record IsOpened (shape : Shape) (words : List ℕ) : Type 0 where
+  pub long : length words ≡ word_count shape
+  pub each : (c : Cell) → IsCell shape c → slice_index words (address shape c) ≡ word shape [] c

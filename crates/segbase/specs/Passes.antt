@@ -1,0 +1,121 @@
+-- A pass as contracts see it, and what its steps and calls do.
+use Rattle.std.specs.Prelude.{◌≡◌, ℕ, ◌+◌, ◌*◌, ◌<◌, ◌==◌, List, [], ◌++◌, length, Option, true, if◌then◌else◌}
+use Rattle.segword.specs.Shape.{IsValid}
+use Rattle.segmodel.specs.declared.entry.Entry.{Entry}
+use Rattle.segcore.specs.declared.event.Event.{Event}
+use Rattle.segcore.specs.declared.view.View.{View}
+use Rattle.segcore.specs.Segment.{inside}
+use Rattle.segcore.specs.Lawful.{IsLawful}
+use Rattle.segcore.specs.Count as count
+use Rattle.segcore.specs.Mark.{Mark}
+use Rattle.segcore.specs.Event as event
+use Rattle.segcore.specs.Mark as mark
+use Rattle.segcore.specs.Segment as segments
+use Rattle.segmodel.specs.History.{Begins}
+use Rattle.segmodel.specs.History as history
+use Rattle.segcore.specs.Segment.{NoneRefills}
+use Rattle.segcore.specs.Kind.{Step, cell, becomes, adds, May}
+use Rattle.segcore.specs.World.{Told}
+use Rattle.segbase.specs.declared.law.Held.{Held}
+use Rattle.segbase.specs.declared.law.Locked.{Locked}
+use Rattle.segbase.specs.declared.law.Sight.{Sight}
+use Rattle.segbase.specs.declared.pass.Pass.{Pass}
+use Rattle.segbase.specs.declared.board.Board.{Board}
+use Rattle.segbase.specs.declared.place.Spot.{Spot}
+use Rattle.segbase.specs.Traces.{own_of, StaysIn, OnlyReads}
+use Rattle.segbase.specs.Spots.{cell_of}
+
+abbrev pub sight : Pass → Sight
+sight p = p.seat.me.0
+
+abbrev pub view : Pass → View
+view p = (sight p).view
+
+abbrev pub number : Pass → ℕ
+number p = (view p).number
+
+-- all events that it has seen, its own among them
+abbrev pub trace : Pass → List Event
+trace p = (view p).trace
+
+-- the history that it has seen, with marks and without
+abbrev pub marked : Pass → List Mark
+marked p = mark.marked (trace p)
+
+abbrev pub seen : Pass → List Entry
+seen p = event.seen (trace p)
+
+-- its own entries there
+abbrev pub mine : Pass → List Entry
+mine p = history.mine (number p) (seen p)
+
+-- how often it set a bit, found the bit of a bucket set by a take, and by a glance
+abbrev pub taken : Pass → ℕ
+taken p = count.taken (number p) (trace p)
+
+abbrev pub bounced : Pass → ℕ → ℕ
+bounced p bucket = count.bounced (number p) bucket (trace p)
+
+abbrev pub glanced : Pass → ℕ → ℕ
+glanced p bucket = count.glanced (number p) bucket (trace p)
+
+-- what it holds and what it has locked
+abbrev pub holding : Pass → Option Held
+holding p = (sight p).memo.holding
+
+abbrev pub locked : Pass → Option Locked
+locked p = (sight p).memo.locked
+
+pub record IsPassOf (b : Board) (p : Pass) : Type 0 where
+  pub table : p.seat.table_id ≡ b.table.shared.table_id
+  pub bare : p.seat.me.1 ≡ []
+  pub is_pass : (sight p).is_pass ≡ true
+  pub valid : IsValid b.shape
+  pub lawful : IsLawful b.shape (trace p)
+  pub one_of : number p < b.shape.passes
+  -- its plain part agrees
+  pub numbered : p.plain.number ≡ number p
+  pub first : p.plain.first ≡ number p * b.shape.segments_each
+  pub owns : length p.plain.segments.items ≡ b.shape.segments_each
+
+-- the pass may take the step, which changes the word of this spot by f
+pub record CanStep (b : Board) (p : Pass) (step : Step) (spot : Spot) (f : ℕ → ℕ) : Type 0 where
+  pub pass : IsPassOf b p
+  pub at : cell step ≡ cell_of b.shape spot
+  pub by : becomes step ≡ f
+  pub may : May b.shape (trace p) (number p) step
+
+-- A call: the pass added these events of its own, newest first, beside what others did meanwhile.
+pub record Moved (b : Board) (own : List Event) (p q : Pass) : Type 0 where
+  pub pass : IsPassOf b q
+  pub same : number q ≡ number p
+  pub more : List Event
+  pub goes_on : trace q ≡ more ++ trace p
+  pub adds : own_of (number p) more ≡ own
+  -- a segment that it stayed in wasn't filled again
+  pub kept : (s : ℕ) → StaysIn own (trace p) (number p) s → NoneRefills s more
+
+-- the pass took the step, which found this word; its plain part and what it keeps in mind are as they were
+pub record Stepped (b : Board) (step : Step) (found : ℕ) (p q : Pass) : Type 0 where
+  pub told : Told b.shape step found (view p) (view q)
+  pub moved : Moved b (adds step (number p) found) p q
+  pub plain : q.plain ≡ p.plain
+  pub memo : (sight q).memo ≡ (sight p).memo
+  -- it has seen at least what it was told of
+  pub met : Begins (sight p).met (trace q)
+
+-- the pass only read, and is in each segment as often as before
+pub record Reads (b : Board) (p q : Pass) : Type 0 where
+  pub own : List Event
+  pub moved : Moved b own p q
+  pub only : OnlyReads own
+  pub inside : (s : ℕ) → inside (trace q) (number p) s ≡ inside (trace p) (number p) s
+  pub stays : (s : ℕ) → 0 < segments.inside (trace p) (number p) s → StaysIn own (trace p) (number p) s
+
+-- and it is in one segment once more
+pub record ReadsIn (b : Board) (p q : Pass) (segment : ℕ) : Type 0 where
+  pub own : List Event
+  pub moved : Moved b own p q
+  pub only : OnlyReads own
+  pub inside : (s : ℕ) → inside (trace q) (number p) s ≡ (if segment == s then inside (trace p) (number p) s + 1 else inside (trace p) (number p) s)
+  pub stays : (s : ℕ) → 0 < segments.inside (trace p) (number p) s → StaysIn own (trace p) (number p) s

@@ -1,0 +1,78 @@
+-- The rule of the table: some trace makes its words what they are, and goes on from what each seat knows.
+use Rattle.std.specs.Prelude.{◌≡◌, ℕ, ◌+◌, true, false, List, [], Option, None}
+use mathlib.Core.Option.{some}
+use lib.ListN.{get_elem?}
+use Rattle.atomic_table.specs.Table.{State, Me, Step as TableStep}
+use Rattle.segword.specs.declared.shape.Shape.{Shape}
+use Rattle.segcore.specs.declared.event.Event.{Event}
+use Rattle.segcore.specs.declared.view.View.{View}
+use Rattle.segcore.specs.World.{Lawful, Told}
+use Rattle.segcore.specs.Kind.{Step}
+use Rattle.segbase.specs.declared.law.Memo.{Memo}
+use Rattle.segbase.specs.declared.law.Sight.{Sight}
+use Rattle.segmodel.specs.History.{Begins}
+
+-- what a seat knows has happened; and of the passes, the view is the one of its number
+pub record IsSight (views : List View) (trace : List Event) (sight : Sight) : Type 0 where
+  pub seen : Begins sight.view.trace trace
+  pub met : Begins sight.met trace
+  pub own : sight.is_pass ≡ true → get_elem? views sight.view.number ≡ some sight.view
+
+-- the views are those of the passes, by their numbers
+pub record Rule {S : Type 0} (shape : Shape) (state : State S Sight) : Type 0 where
+  pub trace : List Event
+  pub views : List View
+  pub lawful : Lawful shape state.words views trace
+  pub sights : (id : ℕ) (sight : Sight) → get_elem? state.views id ≡ some sight → IsSight views trace sight
+  -- no two passes have one number
+  pub one : (i j : ℕ) (x y : Sight) → get_elem? state.views i ≡ some x → get_elem? state.views j ≡ some y → x.is_pass ≡ true → y.is_pass ≡ true → x.view.number ≡ y.view.number → i ≡ j
+
+abbrev pub no_memo : Memo
+no_memo = record { holding = None; locked = None }
+
+abbrev pub pass_sight : View → Sight
+pass_sight view = record { view = view; met = []; is_pass = true; memo = no_memo }
+
+-- the first pass
+abbrev pub first_sight : Sight
+first_sight = pass_sight (record { number = 0; trace = []; dealt = 1 })
+
+-- what is left with the first pass, and what a further pass begins with
+abbrev pub dealer : Sight → Sight
+dealer sight = record sight { view = record sight.view { dealt = sight.view.dealt + 1 } }
+
+abbrev pub newcomer : Sight → Sight
+newcomer sight = pass_sight (record { number = sight.view.dealt; trace = sight.view.trace; dealt = 0 })
+
+-- a pass keeps what it knows
+abbrev pub same_sight : Sight → Sight
+same_sight sight = sight
+
+-- a seat that carries what a pass has seen, and one that carries nothing
+abbrev pub witness : Sight → Sight
+witness sight = record { view = sight.view; met = []; is_pass = false; memo = no_memo }
+
+abbrev pub spent : Sight
+spent = record { view = record { number = 0; trace = []; dealt = 0 }; met = []; is_pass = false; memo = no_memo }
+
+-- a pass is told of what another had seen
+abbrev pub meets : Sight → Sight → Sight
+meets sight other = record sight { met = other.view.trace }
+
+-- a pass keeps something in mind
+abbrev pub minding : Memo → Sight → Sight
+minding memo sight = record sight { memo = memo }
+
+-- what a seat is told by a step of its pass
+pub record Learns (shape : Shape) (step : Step) (found : ℕ) (x y : Sight) : Type 0 where
+  pub told : Told shape step found x.view y.view
+  pub met : Begins x.met y.view.trace
+  pub is_pass : y.is_pass ≡ x.is_pass
+  pub memo : y.memo ≡ x.memo
+
+abbrev pub Tells : {S : Type 0} → Shape → Step → TableStep S → Me S Sight → ℕ → Me S Sight → Type 0
+Tells shape step _ me found me' = Learns shape step found me.0 me'.0 × (me'.1 ≡ me.1)
+
+-- a store isn't told what it found
+abbrev pub TellsStored : {S : Type 0} → Shape → Step → TableStep S → Me S Sight → ℕ → Me S Sight → Type 0
+TellsStored shape step _ me _ me' = ((found : ℕ) × Learns shape step found me.0 me'.0) × (me'.1 ≡ me.1)

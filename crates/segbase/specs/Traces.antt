@@ -1,0 +1,28 @@
+-- What a pass's own events, among those of others, come to. A trace has its newest event first.
+use Rattle.std.specs.Prelude.{◌≡◌, ℕ, ◌+◌, ◌<◌, ◌==◌, List, [], ◌∷◌, ◌++◌, if◌then◌else◌}
+use Rattle.segcore.specs.declared.event.Event.{Event}
+use Rattle.segcore.specs.declared.event.Event.TheVariants.{Glanced, Bumped, Entered, Left}
+use Rattle.segcore.specs.Event.{by}
+use Rattle.segcore.specs.Segment.{inside}
+
+-- the events of one pass
+abbrev pub own_of : ℕ → List Event → List Event
+own_of p [] = []
+own_of p (e ∷ trace) = if by e == p then e ∷ own_of p trace else own_of p trace
+
+-- over these events of its own, which go on from the trace, the pass is in the segment all along
+abbrev pub StaysIn : List Event → List Event → ℕ → ℕ → Type 0
+StaysIn [] trace p s = 0 < inside trace p s
+StaysIn (e ∷ own) trace p s = (0 < inside (e ∷ (own ++ trace)) p s) × StaysIn own trace p s
+
+-- a reader's events: it comes into segments and leaves them, glances at bits, and raises frequencies
+abbrev pub IsReading : Event → Type 0
+IsReading (Glanced p b) = Unit {0}
+IsReading (Bumped p s r f) = Unit {0}
+IsReading (Entered p s) = Unit {0}
+IsReading (Left p s) = Unit {0}
+IsReading _ = ⊥
+
+abbrev pub OnlyReads : List Event → Type 0
+OnlyReads [] = Unit {0}
+OnlyReads (e ∷ own) = IsReading e × OnlyReads own

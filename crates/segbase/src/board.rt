@@ -1,0 +1,112 @@
+//! The board: the table of the index's words, and how it is made.
+ghost use Rattle.std.specs.Prelude.{◌≡◌, ℕ, ◌<◌, ◌≤◌, ◌^◌, [], IfOk, IfErr, length};
+ghost use Rattle.segword.specs.Shape.{word_count};
+ghost use Rattle.segcore.specs.Word.{segments_at, segment_size};
+
+use crate::fault::MakeFault;
+use crate::law::{Deal, Law, Sight};
+use crate::opening::opening_words;
+use crate::pass::{OwnSegment, Pass, Plain};
+use atomic_table::{Seat, Table};
+use segmodel::SegState;
+use segword::Shape;
+use std::alloc::{AllocError, Global};
+
+/// The words of an index, which its passes change in single atomic steps.
+#[derive(Drop)]
+pub struct Board {
+    pub(crate) table: Table<(), Sight, Shape, Law, Global>,
+    pub(crate) shape: Shape,
+    // Where the segments begin, and how many words each has.
+    pub(crate) front: usize,
+    pub(crate) segment_words: usize,
+    ghost same: { table.shared.key ≡ shape },
+    ghost long: { table.shared.table_id.words ≡ word_count shape },
+    ghost slots: { table.shared.table_id.slots ≡ 0 },
+    ghost small: { word_count shape ≤ 2 ^ 26 },
+    ghost begins: { front ≡ segments_at shape },
+    ghost width: { segment_words ≡ segment_size shape },
+}
+
+impl Board {
+    ghost use Rattle.segword.specs.Shape.{IsValid};
+    ghost use Rattle.segbase.specs.Ruled.{first_sight};
+    ghost use Rattle.segbase.specs.Made.{IsDealt, IsNewPlain, IsMade, IsMakeFault};
+
+    /// A board of this shape with its passes, in the order of their numbers. The calls that use them take no more memory.
+    pub fn new(alloc: Global, shape: Shape) -> Result<(Board, Vec<Pass>), MakeFault>
+        ensures made { IfOk result (λ made. IsMade shape made.0 made.1.items) }
+        ensures fault { IfErr result (IsMakeFault shape) }
+    {
+        if let Err(fault) = shape.check() {
+            return Err(MakeFault::Shape(fault));
+        }
+        match Board::make(alloc, shape) {
+            Ok(made) => Ok(made),
+            Err(AllocError) => Err(MakeFault::OutOfMemory),
+        }
+    }
+
+    fn make(alloc: Global, shape: Shape) -> Result<(Board, Vec<Pass>), AllocError>
+        requires { IsValid shape }
+        ensures { IfOk result (λ made. IsMade shape made.0 made.1.items) }
+    {
+        let words = opening_words(alloc, shape)?;
+        let (table, seat) = Table::of_words(alloc, words.as_slice(), &shape)?;
+        let board = Board {
+            table,
+            shape,
+            front: 1 + 8 * (shape.buckets as usize + shape.overflow as usize),
+            segment_words: 1 + 8 * shape.rows as usize,
+        };
+        let passes = board.deal(alloc, seat)?;
+        Ok((board, passes))
+    }
+
+    // All passes. The first seat deals the others.
+    fn deal(&self, alloc: Global, first: Seat<(), Sight>) -> Result<Vec<Pass>, AllocError>
+        requires valid { IsValid self.now.shape }
+        requires seat { (first.table_id ≡ self.now.table.shared.table_id) × (first.me ≡ (first_sight, [])) }
+        ensures { IfOk result (λ passes. IsDealt self.now self.now.shape.passes passes.items) }
+    {
+        let mut passes = Vec::with_capacity(alloc, self.shape.passes as usize)?;
+        passes.push(self.pass(alloc, first, 0)?)?;
+        for number in 1..self.shape.passes {
+            let seat = self
+                .table
+                .shared
+                .split_seat::<Deal>(&mut passes[0].seat);
+            passes.push(self.pass(alloc, seat, number)?)?;
+        }
+        Ok(passes)
+    }
+
+    // A pass with this seat, none of whose segments was ever filled.
+    fn pass(&self, alloc: Global, seat: Seat<(), Sight>, number: u32) -> Result<Pass, AllocError>
+        requires valid { IsValid self.now.shape }
+        requires number { number < self.now.shape.passes }
+        ensures { IfOk result (λ pass. (pass.seat ≡ seat) × IsNewPlain self.now.shape number pass.plain) }
+    {
+        let unfilled = OwnSegment {
+            state: SegState::Empty,
+            used: 0,
+        };
+        let segments = vec![in alloc; unfilled; self.shape.segments_each as usize]?;
+        let plain = Plain {
+            number,
+            first: number * self.shape.segments_each,
+            segments,
+            current: None,
+            locked: None,
+            is_holding: false,
+        };
+        Ok(Pass { seat, plain })
+    }
+
+    /// Its shape.
+    pub fn shape(&self) -> Shape
+        ensures { result ≡ self.now.shape }
+    {
+        self.shape
+    }
+}

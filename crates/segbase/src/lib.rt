@@ -1,0 +1,21 @@
+//! The index's words in one shared table, and the steps of its passes, each one atomic event of its kind on one word.
+#![tactic(auto)]
+
+mod board;
+mod bucket;
+mod fault;
+mod item;
+mod law;
+mod meeting;
+mod opening;
+mod overflow;
+mod pass;
+mod place;
+mod raw;
+mod segment;
+
+pub use board::Board;
+pub use fault::MakeFault;
+pub use law::{Held, Locked, Memo, Sight};
+pub use pass::Pass;
+pub use place::Place;

@@ -1,0 +1,55 @@
+//! What passes learn of each other, and what they keep in mind. The table lets a view change where a word is loaded, so each of these loads words, and changes none.
+ghost use Rattle.std.specs.Prelude.{◌≡◌, []};
+ghost use Rattle.segmodel.specs.History.{Begins, AreOne};
+ghost use Rattle.segbase.specs.declared.law.Memo.{Memo};
+
+use crate::board::Board;
+use crate::law::{Carry, Tell};
+use crate::pass::Pass;
+use std::marker::Brand;
+
+impl Board {
+    ghost use Rattle.segbase.specs.Passes.{sight, view, trace, IsPassOf, Moved};
+
+    /// Both passes have then seen what either had seen before, the second all that the first has. Of what the two had seen, one began the other.
+    pub fn meet(&self, first: &mut Pass, second: &mut Pass)
+        requires first { IsPassOf self.now first.old }
+        requires second { IsPassOf self.now second.old }
+        ensures first { Moved self.now [] first.old first.new × (first.new.plain ≡ first.old.plain) × ((sight first.new).memo ≡ (sight first.old).memo) }
+        ensures second { Moved self.now [] second.old second.new × (second.new.plain ≡ second.old.plain) × ((sight second.new).memo ≡ (sight second.old).memo) }
+        ensures met { Begins (trace second.old) (trace first.new) × Begins (trace first.new) (trace second.new) }
+        ensures one { AreOne (trace first.old) (trace second.old) }
+    {
+        self.tell(first, second);
+        self.tell(second, first);
+    }
+
+    // The pass has then seen what the other has, which only carries it there.
+    fn tell(&self, pass: &mut Pass, other: &mut Pass)
+        requires pass { IsPassOf self.now pass.old }
+        requires other { IsPassOf self.now other.old }
+        ensures pass { Moved self.now [] pass.old pass.new × (pass.new.plain ≡ pass.old.plain) × ((sight pass.new).memo ≡ (sight pass.old).memo) }
+        ensures other { IsPassOf self.now other.new × (sight other.new ≡ sight other.old) × (other.new.plain ≡ other.old.plain) }
+        ensures met { Begins (trace other.old) (trace pass.new) }
+    {
+        let carried = self.table.shared.split_seat::<Carry>(&mut other.seat);
+        self.table
+            .shared
+            .join_seat::<Tell>(&mut pass.seat, carried);
+        let own = pass.plain.first;
+        self.row_load(pass, own, 0, 0);
+    }
+
+    /// The pass keeps in mind what it holds and what it has locked, for contracts alone.
+    pub fn remember(&self, pass: &mut Pass)
+        ghost memo: { Memo }
+        requires pass { IsPassOf self.now pass.old }
+        ensures pass { IsPassOf self.now pass.new }
+        ensures memo { (sight pass.new).memo ≡ memo }
+        ensures same { (view pass.new ≡ view pass.old) × (pass.new.plain ≡ pass.old.plain) }
+    {
+        self.table
+            .shared
+            .split_seat::<Brand>(&mut pass.seat);
+    }
+}

@@ -1,0 +1,23 @@
+//! Where words of the table are.
+
+/// An item word: word 1 to 7 of a bucket. Overflow bucket `n` is bucket `buckets + n`.
+#[derive(Clone, Copy, Debug, PartialEq, Eq)]
+pub struct Place {
+    pub bucket: u32,
+    pub word: u8,
+}
+
+// A word of the table.
+#[derive(Clone, Copy, Drop)]
+pub(crate) enum Spot {
+    // The overflow counter, where a bucket is drawn for this one.
+    Counter(u32),
+    // The information word of a bucket.
+    Info(u32),
+    Item(Place),
+    // Word 1 of an overflow bucket.
+    Overflow(u32),
+    Segment(u32),
+    // Segment, row, word.
+    Row(u32, u32, u8),
+}

@@ -1,0 +1,90 @@
+//! The raw operations on one word. Each takes its step as a value that contracts alone see.
+ghost use Rattle.std.specs.Prelude.{◌≡◌, ℕ, ◌+◌, ◌%◌, ◌^◌, ◌<◌, ◌==◌, bit_or};
+ghost use prog.Atomic.{either};
+ghost use Rattle.segcore.specs.Kind.{Step};
+ghost use Rattle.segcore.specs.Word.{IsCell, address};
+
+use crate::board::Board;
+use crate::pass::Pass;
+use crate::place::{Place, Spot};
+use std::marker::Brand;
+
+impl Board {
+    ghost use Rattle.segbase.specs.Passes.{CanStep, Stepped};
+    ghost use Rattle.segbase.specs.Spots.{cell_of};
+
+    // The place of a word in the table. An overflow bucket lies behind the buckets, so its number tells its place as theirs do.
+    fn index(&self, spot: Spot) -> usize
+        requires { IsCell self.now.shape (cell_of self.now.shape spot) }
+        ensures place { result ≡ address self.now.shape (cell_of self.now.shape spot) }
+        ensures within { result < self.now.table.shared.table_id.words }
+    {
+        match spot {
+            Spot::Counter(_) => 0,
+            Spot::Info(bucket) => 1 + 8 * bucket as usize,
+            Spot::Item(Place { bucket, word }) => 1 + 8 * bucket as usize + word as usize,
+            Spot::Overflow(number) => 2 + 8 * (self.shape.buckets as usize + number as usize),
+            Spot::Segment(segment) => self.front + self.segment_words * segment as usize,
+            Spot::Row(segment, row, word) => {
+                self.front
+                    + self.segment_words * segment as usize
+                    + 1
+                    + 8 * row as usize
+                    + word as usize
+            }
+        }
+    }
+
+    pub(crate) fn load_at(&self, pass: &mut Pass, spot: Spot) -> u64
+        ghost step: { Step }
+        requires { CanStep self.now pass.old step spot (λ n. n) }
+        ensures { Stepped self.now step result pass.old pass.new }
+    {
+        let index = self.index(spot);
+        self.table.shared.load::<Brand>(&mut pass.seat, index)
+    }
+
+    pub(crate) fn store_at(&self, pass: &mut Pass, spot: Spot, word: u64)
+        ghost step: { Step }
+        requires { CanStep self.now pass.old step spot (λ _. word) }
+        ensures { (found : ℕ) × Stepped self.now step found pass.old pass.new }
+    {
+        let index = self.index(spot);
+        self.table
+            .shared
+            .store::<Brand>(&mut pass.seat, index, word)
+    }
+
+    pub(crate) fn or_at(&self, pass: &mut Pass, spot: Spot, bits: u64) -> u64
+        ghost step: { Step }
+        requires { CanStep self.now pass.old step spot (λ n. bit_or n bits) }
+        ensures { Stepped self.now step result pass.old pass.new }
+    {
+        let index = self.index(spot);
+        self.table
+            .shared
+            .fetch_or::<Brand>(&mut pass.seat, index, bits)
+    }
+
+    pub(crate) fn add_at(&self, pass: &mut Pass, spot: Spot, amount: u64) -> u64
+        ghost step: { Step }
+        requires { CanStep self.now pass.old step spot (λ n. (n + amount) % 2 ^ 64) }
+        ensures { Stepped self.now step result pass.old pass.new }
+    {
+        let index = self.index(spot);
+        self.table
+            .shared
+            .fetch_add::<Brand>(&mut pass.seat, index, amount)
+    }
+
+    pub(crate) fn exchange_at(&self, pass: &mut Pass, spot: Spot, old: u64, new: u64) -> u64
+        ghost step: { Step }
+        requires { CanStep self.now pass.old step spot (λ n. either (n == old) new n) }
+        ensures { Stepped self.now step result pass.old pass.new }
+    {
+        let index = self.index(spot);
+        self.table
+            .shared
+            .compare_exchange::<Brand>(&mut pass.seat, index, old, new)
+    }
+}
