@@ -9,7 +9,7 @@ use Rattle.segcore.specs.declared.event.Event.{Event}
 use Rattle.segcore.specs.declared.view.View.{View}
 use Rattle.segcore.specs.Lawful.{IsLawful}
 use Rattle.segcore.specs.Word.{address, word}
-use Rattle.segcore.specs.World.{Lawful, Told}
+use Rattle.segcore.specs.World.{Told}
 use Rattle.segcore.specs.Kind.{Step, cell, becomes, adds, May}
 use Rattle.segcore.proofs.Kept.{steps}
 use Rattle.segcore.proofs.Schedules.{kept_at}
@@ -20,7 +20,7 @@ use Rattle.segbase.specs.declared.place.Spot.{Spot}
 use Rattle.segbase.specs.Ruled.{IsSight, Rule, Learns}
 use Rattle.segbase.specs.Spots.{cell_of}
 use Rattle.segbase.specs.Passes.{CanStep}
-use Rattle.segbase.proofs.Begun.{begins_self, begins_on}
+use Rattle.segbase.proofs.Begun.{begins_on}
 
 pub inside_list : {A : Type 0} (l : List A) (i : ℕ) (a : A) → get_elem? l i ≡ some a → i < length l
 inside_list [] i a e = absurd (some-ne-none a (sym e))

@@ -1,5 +1,5 @@
 -- Traces that begin others.
-use Rattle.std.proofs.Common.{◌≡◌, List, [], ◌++◌, refl, sym, ap, ◌∙◌, append_assoc}
+use Rattle.std.proofs.Common.{List, [], ◌++◌, refl, sym, ap, ◌∙◌, append_assoc}
 use Rattle.segcore.specs.declared.event.Event.{Event}
 use Rattle.segmodel.specs.History.{Begins}
 

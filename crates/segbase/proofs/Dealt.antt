@@ -12,7 +12,7 @@ use Rattle.segcore.specs.Event.{NoneBy}
 use Rattle.segcore.specs.World.{Knows, Lawful}
 use Rattle.segbase.specs.declared.law.Sight.{Sight}
 use Rattle.segbase.specs.Opening.{IsOpened}
-use Rattle.segbase.specs.Ruled.{Rule, IsSight, pass_sight, first_sight, dealer, newcomer}
+use Rattle.segbase.specs.Ruled.{Rule, IsSight, first_sight, dealer, newcomer}
 use Rattle.segbase.proofs.Allowed.{inside_list, apart_kept}
 
 only : (p : ℕ) (v : View) → get_elem? (first_sight.view ∷ []) p ≡ some v → Knows p v []
@@ -101,9 +101,9 @@ deals S z id x pass first s rule at =
     let known : (n : ℕ) (u : View) → get_elem? there n ≡ some u → get_elem? views n ≡ some u = λ n u e. at_longer there (new ∷ []) n u e in
     let old_number : (y : Sight) (j : ℕ) → get_elem? s.views j ≡ some y → y.is_pass ≡ true → y.view.number < length rule.views = λ y j e yes. inside_list rule.views y.view.number y.view ((rule.sights j y e).own yes) in
     let set_number : (y : Sight) (j : ℕ) → get_elem? (set s.views id (dealer x)) j ≡ some y → y.is_pass ≡ true → y.view.number < length rule.views = λ y j e yes. ⊎_elim
-        (λ t. subst (λ (u : Sight). u.view.number < length rule.views) t.1 (old_number x id at pass))
-        (λ t. old_number y j t.1 yes)
-        (at_set s.views id j (dealer x) y e) in
+    (λ t. subst (λ (u : Sight). u.view.number < length rule.views) t.1 (old_number x id at pass))
+    (λ t. old_number y j t.1 yes)
+    (at_set s.views id j (dealer x) y e) in
     let one = apart_kept s.views id x (dealer x) rule.one at pass refl in
     record {
       trace = h;

@@ -1,5 +1,5 @@
 -- Calls one after another: what a pass adds by itself adds up, and a reader is where it was before.
-use Rattle.std.proofs.Common.{◌≡◌, ℕ, ◌+◌, ◌-◌, ◌<◌, ◌≤◌, Bool, true, false, cond, eqb, ◌&&◌, List, [], ◌∷◌, ◌++◌, Option, Some, None, refl, sym, ap, ◌∙◌, subst, append_assoc, arith}
+use Rattle.std.proofs.Common.{◌≡◌, ℕ, ◌+◌, ◌-◌, ◌<◌, Bool, true, false, cond, eqb, ◌&&◌, List, [], ◌∷◌, ◌++◌, Option, Some, None, refl, sym, ap, ◌∙◌, subst, append_assoc, arith}
 use Rattle.std.proofs.lemmas.Bool.{cond-true, eq-eqb}
 use Rattle.segmodel.specs.History.{Begins, mine}
 use Rattle.segcore.specs.declared.event.Event.{Event}
@@ -14,7 +14,7 @@ use Rattle.segbase.specs.Traces.{own_of, StaysIn, OnlyReads}
 use Rattle.segbase.specs.Passes.{number, trace, IsPassOf, Moved, Reads, ReadsIn}
 use Rattle.segbase.specs.Passes as passes
 use Rattle.segbase.proofs.Owning.{own_both, own_inside, own_mine, own_taken, own_bounced, own_glanced}
-use Rattle.segbase.proofs.Staying.{inside_on, stays_now, stays_first, stays_last, stays_both, none_both}
+use Rattle.segbase.proofs.Staying.{stays_now, stays_first, stays_last, stays_both, none_both}
 
 -- nothing was done
 pub stays : (b : Board) (p : Pass) → IsPassOf b p → Moved b [] p p
@@ -148,8 +148,8 @@ is_inside b p q segment i = subst (λ n. 0 < inside (trace q) n segment) (sym i.
 pub leave_then : (b : Board) (p q r : Pass) (segment : ℕ) → ReadsIn b p q segment → Moved b (Left (number q) segment ∷ []) q r → Reads b p r
 leave_then b p q r segment i m =
     let out : (s : ℕ) → inside (trace r) (number p) s ≡ inside (trace p) (number p) s = λ s.
-        subst (λ n. inside (trace r) n s ≡ cond (eqb segment s) (inside (trace q) n s - 1) (inside (trace q) n s)) i.moved.same (moved_inside b (Left (number q) segment ∷ []) q r s m ∙ left (number q) segment s (trace q))
-        ∙ (ap (λ n. cond (eqb segment s) (n - 1) n) (i.inside s) ∙ one_less (eqb segment s) (inside (trace p) (number p) s)) in record {
+    subst (λ n. inside (trace r) n s ≡ cond (eqb segment s) (inside (trace q) n s - 1) (inside (trace q) n s)) i.moved.same (moved_inside b (Left (number q) segment ∷ []) q r s m ∙ left (number q) segment s (trace q))
+    ∙ (ap (λ n. cond (eqb segment s) (n - 1) n) (i.inside s) ∙ one_less (eqb segment s) (inside (trace p) (number p) s)) in record {
       own = Left (number q) segment ∷ i.own;
       moved = moved_then b i.own (Left (number q) segment ∷ []) p q r i.moved m;
       only = (tt, i.only);

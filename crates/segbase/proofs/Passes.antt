@@ -1,17 +1,15 @@
 -- The passes of a new board, one dealt after the other.
-use Rattle.std.proofs.Common.{◌≡◌, ◌≢◌, ℕ, zero, suc, ◌+◌, ◌*◌, ◌<◌, ◌⊎◌, List, [], ◌∷◌, ◌++◌, length, get_or, set, replicate, Option, Some, None, true, slice_get, refl, sym, ap, ◌∙◌, subst, inl, inr, ⊎_elim, arith, length-append, length-set}
+use Rattle.std.proofs.Common.{◌≡◌, ℕ, zero, suc, ◌+◌, ◌*◌, ◌<◌, ◌⊎◌, List, [], ◌∷◌, ◌++◌, length, get_or, set, Some, None, true, slice_get, refl, sym, ap, ◌∙◌, subst, inl, inr, ⊎_elim, arith, length-append, length-set}
 use Rattle.std.proofs.lemmas.List.{length-replicate}
 use Rattle.std.proofs.lemmas.Option.{same_Some, none-some}
 use Rattle.atomic_table.specs.declared.shared.Seat.{Seat}
 use Rattle.atomic_table.specs.Table.{Me}
-use Rattle.segcore.specs.declared.view.View.{View}
 use Rattle.segword.specs.Shape.{IsValid}
 use Rattle.segbase.specs.declared.law.Sight.{Sight}
 use Rattle.segbase.specs.declared.pass.Pass.{Pass}
-use Rattle.segbase.specs.declared.pass.Plain.{Plain}
 use Rattle.segbase.specs.declared.board.Board.{Board}
 use Rattle.segbase.specs.Ruled.{first_sight, dealer, newcomer}
-use Rattle.segbase.specs.Passes.{view, number, trace, IsPassOf}
+use Rattle.segbase.specs.Passes.{view, number, trace}
 use Rattle.segbase.specs.Made.{unfilled, IsNewPlain, IsNewPass, IsDealt}
 
 pub get_first : {A : Type 0} (l : List A) (a : A) → 0 < length l → a ≡ get_or l 0 a → slice_get l 0 ≡ Some a

@@ -1,5 +1,5 @@
 -- What the words of a chain are: at any moment, and for a pass that has the bucket's bit.
-use Rattle.std.proofs.Common.{◌≡◌, ◌≢◌, ℕ, ◌+◌, ◌*◌, ◌/◌, ◌%◌, ◌^◌, ◌<◌, ◌≤◌, max, eqb, ◌&&◌, true, false, cond, List, [], ◌∷◌, ◌++◌, Option, Some, None, refl, sym, ap, ◌∙◌, subst, ⊎_elim, arith}
+use Rattle.std.proofs.Common.{◌≡◌, ◌≢◌, ℕ, ◌+◌, ◌*◌, ◌/◌, ◌%◌, ◌^◌, ◌<◌, ◌≤◌, eqb, ◌&&◌, List, [], ◌∷◌, ◌++◌, Some, refl, sym, ap, ◌∙◌, subst, ⊎_elim, arith}
 use Rattle.std.proofs.lemmas.Bool.{cases_Bool, cond-true, cond-false, eqb-true, and_parts}
 use Rattle.std.proofs.lemmas.Nat.{div-mul-add, mod-mul-add}
 use Rattle.std.proofs.Math.Nat.{le-max_right}
@@ -7,18 +7,17 @@ use Rattle.std.proofs.lemmas.Option.{none-some}
 use Rattle.segword.specs.declared.shape.Shape.{Shape}
 use Rattle.segword.specs.Fnv.{hash_of}
 use Rattle.segword.specs.Shape.{IsValid}
-use Rattle.segword.specs.ItemWord.{tag_part}
 use Rattle.segword.specs.SameItem.{IsSameItem}
 use Rattle.segcore.specs.declared.event.Event.{Event}
 use Rattle.segcore.specs.declared.event.Event.TheVariants.{Linked, Bumped}
 use Rattle.segcore.specs.declared.cell.Cell.{Cell}
 use Rattle.segcore.specs.Event.{NoneBy}
-use Rattle.segcore.specs.Bucket.{Slot, Content, nothing, item, next, copy, Bucket, IsPosition, bucket_after}
+use Rattle.segcore.specs.Bucket.{Slot, Content, nothing, item, next, copy, IsPosition, bucket_after}
 use Rattle.segcore.specs.Row.{row_after, frequency_of}
 use Rattle.segmodel.specs.Places.{tag_of}
 use Rattle.segcore.specs.ItemWord.{packed}
 use Rattle.segcore.specs.Lawful.{IsLawful}
-use Rattle.segcore.specs.Word.{content_word, word_in, word, IsAt, IsItemAt}
+use Rattle.segcore.specs.Word.{content_word, word, IsItemAt}
 use Rattle.segcore.proofs.Quiet.{quiet}
 use Rattle.segcore.proofs.Limits.{low_row, low_segment, low_frequency}
 use Rattle.segcore.proofs.Coherent.{IsContent}

@@ -1,5 +1,5 @@
 -- A segment in which a pass stays isn't filled again.
-use Rattle.std.proofs.Common.{◌≡◌, ◌≢◌, ℕ, ◌<◌, List, [], ◌∷◌, ◌++◌, refl, sym, ap, ◌∙◌, subst, append_assoc, arith}
+use Rattle.std.proofs.Common.{◌≡◌, ◌≢◌, ℕ, ◌<◌, List, [], ◌∷◌, ◌++◌, sym, subst, append_assoc, arith}
 use Rattle.segword.specs.declared.shape.Shape.{Shape}
 use Rattle.segcore.specs.declared.event.Event.{Event}
 use Rattle.segcore.specs.declared.event.Event.TheVariants.{Refilled}
@@ -8,7 +8,7 @@ use Rattle.segcore.specs.Lawful.{IsLawful}
 use Rattle.segcore.specs.Segment.{NoneRefills}
 use Rattle.segcore.proofs.Readers.{is_counted}
 use Rattle.segbase.specs.Traces.{StaysIn}
-use Rattle.segbase.proofs.Owning.{Follows, inside_follows}
+use Rattle.segbase.proofs.Owning.{inside_follows}
 
 not_refilled : (z : Shape) (e : Event) (h : List Event) (p s : ℕ) → p < z.passes → IsLawful z (e ∷ h) → 0 < inside h p s → (q : ℕ) → e ≢ Refilled q s
 not_refilled z e h p s few l in' q is' =

@@ -1,11 +1,11 @@
 -- What a pass that took a step has done.
-use Rattle.std.proofs.Common.{◌≡◌, ℕ, ◌*◌, ◌<◌, List, [], ◌++◌, length, refl, sym, ap, ◌∙◌, subst, append_assoc, append-nil}
+use Rattle.std.proofs.Common.{◌≡◌, ℕ, ◌*◌, List, [], ◌++◌, length, sym, ap, ◌∙◌, subst, append_assoc, append-nil}
 use Rattle.segcore.specs.declared.event.Event.{Event}
 use Rattle.segcore.specs.declared.view.View.{View}
 use Rattle.segcore.specs.Event.{AllBy}
 use Rattle.segcore.specs.Lawful.{IsLawful}
-use Rattle.segcore.specs.Word.{IsCell, word}
-use Rattle.segcore.specs.Kind.{Step, cell, adds, May, Kept}
+use Rattle.segcore.specs.Word.{IsCell}
+use Rattle.segcore.specs.Kind.{Step, adds, May}
 use Rattle.segcore.specs.World.{Told}
 use Rattle.segcore.proofs.Quiet.{quiet_inside}
 use Rattle.segcore.proofs.Entered.{no_refill}

@@ -1,5 +1,5 @@
 -- A board that was just made, and its passes.
-use Rattle.std.specs.Prelude.{◌≡◌, ℕ, ◌+◌, ◌*◌, ◌<◌, List, [], length, replicate, Option, Some, None, false, slice_get}
+use Rattle.std.specs.Prelude.{◌≡◌, ℕ, ◌*◌, List, [], length, replicate, Some, None, false, slice_get}
 use Rattle.segword.specs.declared.shape.Shape.{Shape}
 use Rattle.segword.specs.Shape.{IsValid, IsFirstFault}
 use Rattle.segmodel.specs.declared.answer.SegState.TheVariants.{Empty}
@@ -9,8 +9,7 @@ use Rattle.segbase.specs.declared.pass.OwnSegment.{OwnSegment}
 use Rattle.segbase.specs.declared.pass.Plain.{Plain}
 use Rattle.segbase.specs.declared.pass.Pass.{Pass}
 use Rattle.segbase.specs.declared.board.Board.{Board}
-use Rattle.segbase.specs.Opening as opening
-use Rattle.segbase.specs.Passes.{sight, number, trace, holding, locked, IsPassOf}
+use Rattle.segbase.specs.Passes.{number, trace, holding, locked, IsPassOf}
 
 -- the fault is the first of the shape; memory is wanted only for a shape that an index may have
 abbrev pub IsMakeFault : Shape → MakeFault → Type 0

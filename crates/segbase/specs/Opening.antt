@@ -1,5 +1,5 @@
 -- The words of a table at the start.
-use Rattle.std.specs.Prelude.{◌≡◌, ℕ, ◌+◌, ◌*◌, ◌%◌, ◌^◌, ◌==◌, ◌&&◌, nat_lt, List, [], length, slice_index, if◌then◌else◌}
+use Rattle.std.specs.Prelude.{◌≡◌, ℕ, List, [], length, slice_index}
 use Rattle.segword.specs.declared.shape.Shape.{Shape}
 use Rattle.segword.specs.Shape.{word_count}
 use Rattle.segcore.specs.declared.cell.Cell.{Cell}

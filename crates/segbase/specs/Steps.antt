@@ -1,14 +1,10 @@
 -- What the steps of a pass find and do, in the words of their callers.
-use Rattle.std.specs.Prelude.{◌≡◌, ◌≢◌, ℕ, ◌+◌, ◌*◌, ◌-◌, ◌/◌, ◌%◌, ◌^◌, ◌<◌, ◌≤◌, ◌==◌, nat_lt, Bool, true, false, List, [], ◌∷◌, Option, Some, None, Result, Ok, Err, if◌then◌else◌}
-use Rattle.segword.specs.declared.item.Item.{Item}
+use Rattle.std.specs.Prelude.{◌≡◌, ◌≢◌, ℕ, ◌+◌, ◌/◌, ◌%◌, ◌^◌, ◌<◌, ◌≤◌, Bool, true, false, List, [], ◌∷◌, None}
 use Rattle.segword.specs.declared.info.Info.{Info}
 use Rattle.segword.specs.ItemWord.{tag_part}
 use Rattle.segword.specs.ChainWord.{chain_word}
 use Rattle.segword.specs.SameItem.{IsSameItem}
-use Rattle.segmodel.specs.declared.request.Request.{Request}
-use Rattle.segmodel.specs.declared.request.Reply.{Reply}
-use Rattle.segcore.specs.declared.event.Event.{Event}
-use Rattle.segcore.specs.declared.event.Event.TheVariants.{Took, Bounced, Glanced, Linked, Unlinked, Drew, Chained, Bumped, Refilled}
+use Rattle.segcore.specs.declared.event.Event.TheVariants.{Took, Bounced, Glanced}
 use Rattle.segcore.specs.Bucket.{Content, nothing, item, next, copy, is, bucket_after}
 use Rattle.segcore.specs.ItemWord.{IsWordOf}
 use Rattle.segcore.specs.Kind.{unless_own, HasBit}
@@ -17,7 +13,6 @@ use Rattle.segmodel.specs.Places.{bucket_of}
 use Rattle.segcore.specs.Overflow.{drawn_in}
 use Rattle.segcore.specs.Word.{word}
 use Rattle.segbase.specs.declared.place.Place.{Place}
-use Rattle.segbase.specs.declared.place.Spot.{Spot}
 use Rattle.segbase.specs.declared.pass.Pass.{Pass}
 use Rattle.segbase.specs.declared.board.Board.{Board}
 use Rattle.segbase.specs.Passes.{number, trace, Moved}

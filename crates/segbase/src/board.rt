@@ -72,10 +72,7 @@ impl Board {
         let mut passes = Vec::with_capacity(alloc, self.shape.passes as usize)?;
         passes.push(self.pass(alloc, first, 0)?)?;
         for number in 1..self.shape.passes {
-            let seat = self
-                .table
-                .shared
-                .split_seat::<Deal>(&mut passes[0].seat);
+            let seat = self.table.shared.split_seat::<Deal>(&mut passes[0].seat);
             passes.push(self.pass(alloc, seat, number)?)?;
         }
         Ok(passes)

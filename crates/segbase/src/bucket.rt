@@ -36,7 +36,11 @@ impl Board {
         ensures free { (bucket_after self.now.shape (trace pass.new) bucket).holder ≡ None }
     {
         // Bit 0 goes down; with 2^32 more the version goes up as well.
-        let amount = if counted { u64::from(u32::MAX) } else { u64::MAX };
+        let amount = if counted {
+            u64::from(u32::MAX)
+        } else {
+            u64::MAX
+        };
         self.add_at(pass, Spot::Info(bucket), amount);
     }
 

@@ -33,9 +33,7 @@ impl Board {
         ensures met { Begins (trace other.old) (trace pass.new) }
     {
         let carried = self.table.shared.split_seat::<Carry>(&mut other.seat);
-        self.table
-            .shared
-            .join_seat::<Tell>(&mut pass.seat, carried);
+        self.table.shared.join_seat::<Tell>(&mut pass.seat, carried);
         let own = pass.plain.first;
         self.row_load(pass, own, 0, 0);
     }
@@ -48,8 +46,6 @@ impl Board {
         ensures memo { (sight pass.new).memo ≡ memo }
         ensures same { (view pass.new ≡ view pass.old) × (pass.new.plain ≡ pass.old.plain) }
     {
-        self.table
-            .shared
-            .split_seat::<Brand>(&mut pass.seat);
+        self.table.shared.split_seat::<Brand>(&mut pass.seat);
     }
 }

@@ -13,8 +13,9 @@ pub(crate) fn opening_words(alloc: Global, shape: Shape) -> Result<Vec<u64>, All
 {
     let buckets = shape.buckets as usize;
     let segments = shape.passes as usize * shape.segments_each as usize;
-    let count =
-        1 + 8 * (buckets + shape.overflow as usize) + segments * (1 + 8 * shape.rows as usize);
+    let count = 1
+        + 8 * (buckets + shape.overflow as usize)
+        + segments * (1 + 8 * shape.rows as usize);
     let mut words = vec![in alloc; 0u64; count]?;
     let first = Info {
         version: shape.first_version,

@@ -1,4 +1,4 @@
-use Rattle.std.proofs.Common.{◌≡◌, ℕ, ◌*◌, ◌+◌, ◌^◌, length, set, sym, ◌∙◌, subst, arith, length-set}
+use Rattle.std.proofs.Common.{◌≡◌, ℕ, ◌*◌, ◌+◌, ◌^◌, set, sym, ◌∙◌, subst, arith, length-set}
 use Rattle.segbase.proofs.Opened.{IsBegun, begun_one, opened}
 use Rattle.segbase.proofs.opening.opening_words.Goals as goal
 

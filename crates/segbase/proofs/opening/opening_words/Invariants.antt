@@ -1,4 +1,4 @@
-use Rattle.std.proofs.Common.{◌≡◌, ◌*◌, ◌+◌, ◌^◌, ◌<◌, length}
+use Rattle.std.proofs.Common.{◌≡◌, ◌*◌, ◌^◌, ◌<◌, length}
 use Rattle.segbase.proofs.Opened.{IsBegun}
 use Rattle.segbase.proofs.opening.opening_words.Given as goal
 

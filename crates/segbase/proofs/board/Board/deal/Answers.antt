@@ -1,5 +1,4 @@
-use Rattle.std.proofs.Common.{◌≡◌, ℕ, ◌<◌, Some, slice_get, subst, sym, ap, ◌∙◌, arith}
-use Rattle.segbase.specs.Passes.{view}
+use Rattle.std.proofs.Common.{◌<◌, ap, ◌∙◌, arith}
 use Rattle.segbase.proofs.Dealt.{deals}
 use Rattle.segbase.proofs.Passes.{get_first, one_more}
 use Rattle.segbase.proofs.board.Board.deal.Goals as goal
@@ -17,5 +16,5 @@ loop-number-preserved c =
     let b = c.args.self.now in let x = c.index_mut.result.now in let inv = c.loop-number.invariant in let split = c.split_seat-seat.ensures in let made = c.in_ok-pass-2.ensures in
     let first = get_first c.loop-number.passes.items x (let l = inv.0.long in let a = c.loop-number.auto.number in omega arith) c.index_mut.ensures.value in
     rw c.in_ok-push-2.ensures.items
-        (one_more b c.loop-number.number c.loop-number.passes.items x c.in_ok-pass-2.field-0 c.split_seat-seat.new.seat c.requires.valid inv.0 first (inv.1 x first) c.loop-number-test.true
-        split.0 split.2 (ap (λ s. s.table_id) made.0 ∙ split.3) (ap (λ s. s.me) made.0 ∙ split.4) made.1)
+    (one_more b c.loop-number.number c.loop-number.passes.items x c.in_ok-pass-2.field-0 c.split_seat-seat.new.seat c.requires.valid inv.0 first (inv.1 x first) c.loop-number-test.true
+    split.0 split.2 (ap (λ s. s.table_id) made.0 ∙ split.3) (ap (λ s. s.me) made.0 ∙ split.4) made.1)

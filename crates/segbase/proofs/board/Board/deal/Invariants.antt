@@ -1,4 +1,4 @@
-use Rattle.std.proofs.Common.{◌≡◌, ℕ, Some, slice_get, length}
+use Rattle.std.proofs.Common.{◌≡◌, Some, slice_get}
 use Rattle.segbase.specs.declared.pass.Pass.{Pass}
 use Rattle.segbase.specs.Passes.{view}
 use Rattle.segbase.specs.Made.{IsDealt}

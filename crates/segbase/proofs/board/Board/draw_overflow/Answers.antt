@@ -1,4 +1,4 @@
-use Rattle.std.proofs.Common.{ℕ, ◌≤◌, sym, subst, arith}
+use Rattle.std.proofs.Common.{◌≤◌, sym, subst, arith}
 use Rattle.segcore.specs.Overflow.{drawn_in}
 use Rattle.segbase.specs.Passes.{trace}
 use Rattle.segbase.specs.Steps.{CounterMissed}

@@ -1,4 +1,4 @@
-use Rattle.std.proofs.Common.{ℕ, ◌<◌, refl, arith}
+use Rattle.std.proofs.Common.{◌<◌, refl, arith}
 use Rattle.segbase.specs.Ruled.{minding}
 use Rattle.segbase.proofs.Carried.{carries}
 use Rattle.segbase.proofs.board.Board.remember.Goals as goal

@@ -1,4 +1,4 @@
-use Rattle.std.proofs.Common.{ℕ, ◌<◌, ◌∙◌, ap, refl, arith}
+use Rattle.std.proofs.Common.{◌<◌, ◌∙◌, ap, refl, arith}
 use Rattle.atomic_table.specs.Table.{Me}
 use Rattle.segbase.specs.declared.law.Sight.{Sight}
 use Rattle.segbase.proofs.Carried.{carries, tells, retold, own_row}
