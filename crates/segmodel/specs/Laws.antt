@@ -5,7 +5,7 @@ use Rattle.std.specs.List.Sorted.{IsStrictlySortedBy}
 use Rattle.std.specs.Map.{keys_of}
 use Rattle.segword.specs.declared.shape.Shape.{Shape}
 use Rattle.segmodel.specs.declared.request.Request.{Request}
-use Rattle.segmodel.specs.declared.request.Request.TheVariants.{Add, Replace, Cas}
+use Rattle.segmodel.specs.declared.request.Request.TheVariants.{Add, Replace, Cas, Delete}
 use Rattle.segmodel.specs.declared.request.Reply.{Reply}
 use Rattle.segmodel.specs.declared.request.Reply.TheVariants.{Stored, Exists, NotFound, Deleted}
 use Rattle.segmodel.specs.declared.entry.Cached.{Cached}
@@ -16,6 +16,8 @@ use Rattle.segmodel.specs.declared.answer.Command.TheVariants.{Refill}
 use Rattle.segmodel.specs.declared.answer.Answer.{Answer}
 use Rattle.segmodel.specs.declared.answer.Answer.TheVariants as answer
 use Rattle.segmodel.specs.declared.answer.RefillAnswer.TheVariants.{Refilled}
+use Rattle.segmodel.specs.declared.answer.WriteAnswer.{WriteAnswer}
+use Rattle.segmodel.specs.declared.answer.DeleteAnswer.{DeleteAnswer}
 use Rattle.segmodel.specs.declared.answer.Turn.{Turn}
 use Rattle.segmodel.specs.declared.answer.Outcome.{Outcome}
 use Rattle.segmodel.specs.Places.{bucket_of}
@@ -23,7 +25,7 @@ use Rattle.segmodel.specs.Request.{key_of, value_of}
 use Rattle.segmodel.specs.Cache.{Cache, key_cmp, standing, present, reads, reads_version, reply_in}
 use Rattle.segmodel.specs.History.{NoneStandsIn, Follows, next, after, IsLegal, Begins, is_of, entries_of, stirred, is_write_to, writes, IsSameAt}
 use Rattle.segmodel.specs.State.{State, IsKept, fresh}
-use Rattle.segmodel.specs.Serving.{Serves}
+use Rattle.segmodel.specs.Serving.{Serves, ServesStore, ServesDelete, reply_of_write, reply_of_delete}
 use Rattle.segmodel.specs.Turns.{Turns, Runs}
 
 -- ---- legal histories
@@ -155,3 +157,22 @@ TurnsKeep = (shape : Shape) (old new : State) (turns : List Turn) (given : List 
 abbrev pub RefilledWhereNoneStands : Type 0
 RefilledWhereNoneStands = (shape : Shape) (old new : State) (segment : ℕ)
     → IsKept shape old → Serves shape old (Refill segment) (answer.Refill Refilled) new → NoneStandsIn old.cache segment
+
+-- the segment that an entry of this reply names: the current one where something was stored
+abbrev pub stored_in : Reply → Option ℕ → Option ℕ
+stored_in Stored current = current
+stored_in _ current = None
+
+-- a request to store that is served with a reply is an entry that follows, and the cache is then the one that the entry leaves
+abbrev pub StoreIsAnEntry : Type 0
+StoreIsAnEntry = (shape : Shape) (old new : State) (request : Request) (given : WriteAnswer) (reply : Reply)
+    → IsKept shape old → ServesStore shape old request given new → reply_of_write given ≡ Some reply
+    → Follows shape old.cache (Wrote 0 request reply (stored_in reply old.current))
+    × (new.cache ≡ next shape old.cache (Wrote 0 request reply (stored_in reply old.current)))
+
+-- and so is a delete
+abbrev pub DeleteIsAnEntry : Type 0
+DeleteIsAnEntry = (shape : Shape) (old new : State) (key : List ℕ) (given : DeleteAnswer) (reply : Reply)
+    → ServesDelete shape old key given new → reply_of_delete given ≡ Some reply
+    → Follows shape old.cache (Wrote 0 (Delete key) reply (stored_in reply old.current))
+    × (new.cache ≡ next shape old.cache (Wrote 0 (Delete key) reply (stored_in reply old.current)))

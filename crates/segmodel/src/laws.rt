@@ -8,7 +8,7 @@ ghost use Rattle.segmodel.specs.History.{after, Begins, IsLegal, stirred};
 ghost use Rattle.segmodel.specs.State.{fresh};
 ghost use Rattle.segmodel.specs.Serving.{after_refill, Serves};
 ghost use Rattle.segmodel.specs.Example.{shape, a, one, two, added, deleted, whole};
-ghost use Rattle.segmodel.specs.Laws.{LongerIsLegal, EarlierIsLegal, ItemsAreInOrder, StandsAsLeft, ReadsAsLeft, VersionCountsWrites, OthersKeepVersion, EvictionKeepsVersions, RefusedKeepsCache, CasFailsWhereWritten, AddNeedsAbsent, ReplaceNeedsPresent, CasNeedsVersion, OtherBucketsAreKept, StirredCountsAdded, UnstirredReadsTheSame, IsKeptAtTheStart, ServingKeeps, TurnsKeep, RefilledWhereNoneStands};
+ghost use Rattle.segmodel.specs.Laws.{LongerIsLegal, EarlierIsLegal, ItemsAreInOrder, StandsAsLeft, ReadsAsLeft, VersionCountsWrites, OthersKeepVersion, EvictionKeepsVersions, RefusedKeepsCache, CasFailsWhereWritten, AddNeedsAbsent, ReplaceNeedsPresent, CasNeedsVersion, OtherBucketsAreKept, StirredCountsAdded, UnstirredReadsTheSame, IsKeptAtTheStart, ServingKeeps, TurnsKeep, RefilledWhereNoneStands, StoreIsAnEntry, DeleteIsAnEntry};
 
 /// Legal histories grow by entries that follow, and were legal at each earlier moment; what stands after them is a map.
 pub fn legal_histories()
@@ -56,6 +56,12 @@ pub fn serving_keeps()
     ensures command { ServingKeeps }
     ensures turns { TurnsKeep }
     ensures refilled { RefilledWhereNoneStands }
+{}
+
+/// A write or delete that is served with a reply is an entry that may come next, and leaves the cache that this entry leaves.
+pub fn served_writes_are_entries()
+    ensures store { StoreIsAnEntry }
+    ensures delete { DeleteIsAnEntry }
 {}
 
 /// A history with each kind of entry is legal, and meets what the laws ask for.
