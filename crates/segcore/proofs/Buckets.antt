@@ -62,7 +62,7 @@ drawn_or z h b None l sp = let a = drawn_marked z h b l in let c = chained_marke
 drawn_or z h b (Some m) l sp = let a = drawn_marked z h b l in let c = chained_marked z h b in let e = ap one_if sp in
     inr (omega arith, info_bit z h b ∙ ap bit_of (spare_held z h b m l sp).1)
 
-joined : (z : Shape) (h : List Event) (b d : ℕ) → IsLawful z h → d < (bucket_after z h b).chained → (m : ℕ) × (home_of h m ≡ Some (home b (d + 1))) × ((c : Cell) → IsAt h b (8 * d + 7) c → word z h c ≡ chain_word m)
+pub joined : (z : Shape) (h : List Event) (b d : ℕ) → IsLawful z h → d < (bucket_after z h b).chained → (m : ℕ) × (home_of h m ≡ Some (home b (d + 1))) × ((c : Cell) → IsAt h b (8 * d + 7) c → word z h c ≡ chain_word m)
 joined z h b d l lt =
     let u = bucket_after z h b in
     let j = joins z h b d l lt in

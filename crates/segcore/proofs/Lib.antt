@@ -30,3 +30,4 @@ pub mod Searches
 pub mod Counts
 pub mod Meanwhile
 pub mod Changed
+pub mod ChainWords

@@ -1,7 +1,10 @@
 -- Every schedule, by induction on its steps.
-use Rattle.std.proofs.Common.{◌≡◌, ℕ, List, [], ◌∷◌, ◌++◌, get_or, refl, sym, ap, ◌∙◌, subst, ⊎_elim, append_assoc}
+use Rattle.std.proofs.Common.{◌≡◌, ℕ, List, [], ◌∷◌, ◌++◌, get_or, set, refl, sym, ap, ◌∙◌, subst, ⊎_elim, append_assoc}
 use mathlib.Core.Option.{some-injective}
-use Rattle.atomic_table.proofs.Lists.{at_set}
+use Rattle.atomic_table.proofs.Lists.{set_here, set_else}
+use Rattle.std.proofs.lemmas.Bool.{cases_eq}
+use Rattle.segmodel.specs.History.{Begins}
+use Rattle.segcore.proofs.Moments.{marked_begins, seen_begins}
 use mathlib.Core.Option.{some}
 use lib.ListN.{get_elem?}
 use Rattle.segword.specs.declared.shape.Shape.{Shape}
@@ -11,8 +14,8 @@ use Rattle.segcore.specs.Event.{NoneBy}
 use Rattle.segcore.specs.Kind.{adds, cell, Step, May, Kept}
 use Rattle.segcore.specs.Lawful.{IsLawful}
 use Rattle.segcore.specs.Word.{address}
-use Rattle.segcore.specs.World.{Lawful, SeeMore, World, IsOpening, Reaches, IsLawfulWorld}
-use Rattle.segcore.proofs.Kept.{steps}
+use Rattle.segcore.specs.World.{Grew, Lawful, SeeMore, World, IsOpening, Reaches, IsLawfulWorld}
+use Rattle.segcore.proofs.Kept.{steps, inside_list}
 use Rattle.segcore.proofs.StepKinds.{keeps}
 
 -- a step that the pass p may take, having seen what its view says, changes its word as the history then says
@@ -37,10 +40,19 @@ lawful z (s ∷ ss) w r =
     let l = lawful z ss r.0 r.2 in
     subst (IsLawfulWorld z) (sym r.5) (steps z r.0.words r.0.views r.0.trace s.0 r.1 s.1 l r.3 (kept_at z r.0.words r.0.views r.0.trace s.0 r.1 s.1 l r.3 r.4))
 
+grew : (v w : View) → Begins v.trace w.trace → Grew v w
+grew v w b = record { trace = b; marks = marked_begins v.trace w.trace b; entries = seen_begins v.trace w.trace b }
+
 pub sees_more : (z : Shape) (ss : List (ℕ × Step)) (s : ℕ × Step) (w : World) (r : Reaches z (s ∷ ss) w) → SeeMore r.0.views w.views
-sees_more z ss s w r p v u at at' = let b = r.0 in let k = (lawful z ss b r.2).knows s.0 r.1 r.3 in
-    let es = adds s.1 s.0 (get_or b.words (address z (cell s.1)) 0) in ⊎_elim
-    (λ t. let same : v ≡ r.1 = some-injective v r.1 (sym at ∙ subst (λ x. get_elem? b.views x ≡ some r.1) (sym t.0) r.3) in
-    (es ++ k.more, ap (λ (x : View). x.trace) (sym t.1) ∙ (ap (λ x. es ++ x) k.rest ∙ (sym (append_assoc es k.more r.1.trace) ∙ ap (λ (x : View). (es ++ k.more) ++ x.trace) (sym same)))))
-    (λ t. ([], ap (λ (x : View). x.trace) (some-injective u v (sym t.1 ∙ at))))
-    (at_set b.views s.0 p _ u (subst (λ x. get_elem? x.views p ≡ some u) r.5 at'))
+sees_more z ss s w r p v at =
+    let b = r.0 in
+    let k = (lawful z ss b r.2).knows s.0 r.1 r.3 in
+    let es = adds s.1 s.0 (get_or b.words (address z (cell s.1)) 0) in
+    let u : View = record r.1 { trace = es ++ b.trace } in ⊎_elim
+    (λ e. let same : v ≡ r.1 = some-injective v r.1 (sym at ∙ subst (λ x. get_elem? b.views x ≡ some r.1) (sym e) r.3) in (
+      u,
+      subst (λ x. get_elem? x.views p ≡ some u) (sym r.5) (subst (λ x. get_elem? (set b.views s.0 u) x ≡ some u) (sym e) (set_here b.views s.0 u (inside_list b.views s.0 r.1 r.3))),
+      grew v u (es ++ k.more, ap (λ x. es ++ x) k.rest ∙ (sym (append_assoc es k.more r.1.trace) ∙ ap (λ (x : View). (es ++ k.more) ++ x.trace) (sym same))),
+    ))
+    (λ ne. (v, subst (λ x. get_elem? x.views p ≡ some v) (sym r.5) (set_else b.views s.0 p u ne ∙ at), grew v v ([], refl)))
+    (cases_eq p s.0)

@@ -8,7 +8,8 @@ use Rattle.segmodel.specs.History.{Begins}
 use Rattle.segcore.specs.declared.event.Event.{Event}
 use Rattle.segcore.specs.declared.cell.Cell.{Cell}
 use Rattle.segcore.specs.declared.view.View.{View}
-use Rattle.segcore.specs.Event.{NoneBy}
+use Rattle.segcore.specs.Event.{NoneBy, seen}
+use Rattle.segcore.specs.Mark.{marked}
 use Rattle.segcore.specs.Lawful.{IsLawful}
 use Rattle.segcore.specs.Word.{IsCell, address, word}
 use Rattle.segcore.specs.Kind.{Step, cell, becomes, adds, May}
@@ -84,6 +85,12 @@ Reaches shape (taken ∷ steps) world =
 abbrev pub IsLawfulWorld : Shape → World → Type 0
 IsLawfulWorld shape world = Lawful shape world.words world.views world.trace
 
--- each pass has seen at least what it had seen
+-- what a pass has seen only grew: the trace, the marked history and the history
+pub record Grew (before now : View) : Type 0 where
+  pub trace : Begins before.trace now.trace
+  pub marks : Begins (marked before.trace) (marked now.trace)
+  pub entries : Begins (seen before.trace) (seen now.trace)
+
+-- no pass is gone, and what each has seen only grew
 abbrev pub SeeMore : List View → List View → Type 0
-SeeMore old new = (pass : ℕ) (before now : View) → get_elem? old pass ≡ some before → get_elem? new pass ≡ some now → Begins before.trace now.trace
+SeeMore old new = (pass : ℕ) (before : View) → get_elem? old pass ≡ some before → (now : View) × (get_elem? new pass ≡ some now) × Grew before now

@@ -1,7 +1,8 @@
 //! The theorems of the core, each the contract of a function that does nothing.
-ghost use Rattle.std.specs.Prelude.{◌≡◌, ◌≢◌, ◌+◌, ◌*◌, ◌/◌, ◌%◌, ◌^◌, ◌<◌, ◌≤◌, ◌∷◌, ◌++◌, ℕ, false, List, [], Some, None};
+ghost use Rattle.std.specs.Prelude.{◌≡◌, ◌≢◌, ◌+◌, ◌*◌, ◌/◌, ◌%◌, ◌^◌, ◌<◌, ◌≤◌, ◌∷◌, ◌++◌, ◌⊎◌, ℕ, false, List, [], Some, None};
 ghost use Rattle.segword.specs.declared.shape.Shape.{Shape};
 ghost use Rattle.segword.specs.Shape.{IsValid};
+ghost use Rattle.segword.specs.ChainWord.{chain_word};
 ghost use Rattle.segmodel.specs.Places.{bucket_of, tag_of};
 ghost use Rattle.segmodel.specs.Cache.{standing};
 ghost use Rattle.segmodel.specs.History.{IsLegal, Begins, after, writes, entries_of, stirred};
@@ -12,9 +13,10 @@ ghost use Rattle.segcore.specs.declared.view.View.{View};
 ghost use Rattle.segcore.specs.declared.event.Event.TheVariants.{Took, Bounced};
 ghost use Rattle.segcore.specs.Event.{NoneBy, seen};
 ghost use Rattle.segcore.specs.Bucket.{bucket_after};
+ghost use Rattle.segcore.specs.Overflow.{home, home_of};
 ghost use Rattle.segcore.specs.Row.{row_after};
 ghost use Rattle.segcore.specs.Lawful.{IsLawful};
-ghost use Rattle.segcore.specs.Word.{word, IsAt};
+ghost use Rattle.segcore.specs.Word.{word, IsAt, IsItemAt};
 ghost use Rattle.segcore.specs.Mark.{Mark, marked, IsPlaced, IsOrderly};
 ghost use Rattle.segcore.specs.Ahead.{WasGone};
 ghost use Rattle.segcore.specs.Scan.{IsScanOf, WasAbsent, IsRowScanOf, WasUnnamed};
@@ -76,6 +78,17 @@ pub fn search_for_key()
     ensures ended { (shape : Shape) (key : List ℕ) (depth : ℕ) (start now : List Event) → IsLawful shape now → (bucket_after shape now (bucket_of shape key)).chained ≤ depth → KeyAhead shape key (8 * depth + 8) start now → WasGone (KeyGone shape key) start now }
     ensures word { (shape : Shape) (key : List ℕ) (now : List Event) (position : ℕ) (cell : Cell) → IsValid shape → IsLawful shape now → IsAt now (bucket_of shape key) position cell → KeyAt shape key now position → (segment : ℕ) × (row : ℕ) × Names shape now (bucket_of shape key) position cell (tag_of key) segment row × ((row_after now segment row).linked ≡ Some key) }
     ensures named { (shape : Shape) (key : List ℕ) (now : List Event) (bucket position : ℕ) (cell : Cell) (tag segment row : ℕ) → IsValid shape → IsLawful shape now → Names shape now bucket position cell tag segment row → (row_after now segment row).linked ≡ Some key → (bucket_of shape key ≡ bucket) × KeyAt shape key now position }
+{}
+
+/// What the words of a chain say to one who has no bit: a word with another tag isn't the key's, one that names another row isn't the row's, and the last word of a bucket leads on to the next or ends the chain.
+pub fn chain_words()
+    ensures tag { (shape : Shape) (key : List ℕ) (now : List Event) (position : ℕ) (cell : Cell) → IsValid shape → IsLawful shape now → IsAt now (bucket_of shape key) position cell → word shape now cell / 2 ^ 52 ≢ tag_of key → ¬ (KeyAt shape key now position) }
+    ensures row { (shape : Shape) (bucket segment row : ℕ) (now : List Event) (position : ℕ) (cell : Cell) → IsValid shape → bucket < shape.buckets → IsLawful shape now → IsAt now bucket position cell → word shape now cell % 2 ^ 44 ≢ segment * 2 ^ 20 + row → ¬ (RowAt shape bucket segment row now position) }
+    ensures leads_on { (shape : Shape) (now : List Event) (bucket depth : ℕ) (cell : Cell) → IsValid shape → IsLawful shape now → bucket < shape.buckets → IsItemAt shape now bucket (8 * depth + 7) cell
+        → 0 < word shape now cell → word shape now cell < 2 ^ 52
+        → (depth < (bucket_after shape now bucket).chained) × ((number : ℕ) × (word shape now cell ≡ chain_word number) × (home_of now number ≡ Some (home bucket (depth + 1)))) }
+    ensures ends { (shape : Shape) (now : List Event) (bucket depth : ℕ) (cell : Cell) → IsValid shape → IsLawful shape now → IsAt now bucket (8 * depth + 7) cell
+        → (word shape now cell ≡ 0) ⊎ (2 ^ 52 ≤ word shape now cell) → (bucket_after shape now bucket).chained ≤ depth }
 {}
 
 /// A search for the item that names a row, along the chain of the key that is linked to the row.

@@ -1,0 +1,5 @@
+use Rattle.segcore.proofs.ChainWords.{other_tag, other_place, leads_on, ends_there}
+use Rattle.segcore.proofs.laws.chain_words.Goals as goal
+
+pub returns : goal.returns
+returns c = record { tag = other_tag; row = other_place; leads_on = leads_on; ends = ends_there }
