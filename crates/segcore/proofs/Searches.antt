@@ -25,9 +25,12 @@ use Rattle.segcore.proofs.Standing.{coherent, links, unlinks, here, there, gone,
 use Rattle.segword.specs.Shape.{IsValid}
 use Rattle.segcore.specs.declared.cell.Cell.{Cell}
 use Rattle.segcore.specs.Word.{IsAt}
+use Rattle.segcore.specs.Mark as marks
+use Rattle.segcore.proofs.Marked.{place_marked}
 use Rattle.segcore.proofs.Limits.{bucket_in}
 use Rattle.segcore.proofs.StepKinds.{cell_in}
 use Rattle.segcore.proofs.Exact.{item_names, named_at}
+use Rattle.segcore.proofs.Coherent.{place}
 use Rattle.segcore.proofs.Ahead.{ahead_later, ahead_passed, ahead_end}
 
 -- ---- one item and one event
@@ -249,3 +252,17 @@ key_named z k h b n c t s r v l x on =
 pub row_word : (z : Shape) (b s r : ℕ) (h : List Event) (n : ℕ) (c : Cell) → b < z.buckets → IsLawful z h → IsAt h b n c → RowAt z b s r h n → (t : ℕ) × Names z h b n c t s r
 row_word z b s r h n c lt l at i =
     (tag_of i.0.key, subst (λ x. Names z h b n c (tag_of i.0.key) s x) i.3 (subst (λ x. Names z h b n c (tag_of i.0.key) x i.0.row) i.2 (item_names z h b n c i.0 l (cell_in z h b n c l lt at) (row_at_position z b s r h n l i, at) i.1)))
+
+-- the position of the key's item is the key's place in the marked history
+pub key_placed : (z : Shape) (k : List ℕ) (h : List Event) (n : ℕ) → IsLawful z h → KeyAt z k h n → marks.place z (marked h) k ≡ Some n
+key_placed z k h n l i = place_marked z h k ∙ (ap (place z h) (sym i.2) ∙ (coherent z h l).placed (bucket_of z k) n i.0 i.1)
+
+at_place : (z : Shape) (k : List ℕ) (h : List Event) (n : ℕ) (o : Option Cached) → IsLawful z h → stands z (seen h) k ≡ o → (stands z (seen h) k ≡ None → ⊥) → marks.place z (marked h) k ≡ Some n → KeyAt z k h n
+at_place z k h n None l e there' p = absurd (there' e)
+at_place z k h n (Some x) l e there' p =
+    let w = (coherent z h l).all k x e in
+    let i : KeyAt z k h w.0 = (w.1, w.2, w.3) in
+    subst (KeyAt z k h) (same_Some w.0 n (sym (key_placed z k h w.0 l i) ∙ p)) i
+
+pub placed_key : (z : Shape) (k : List ℕ) (h : List Event) (n : ℕ) → IsLawful z h → ¬ (KeyGone z k h) → marks.place z (marked h) k ≡ Some n → KeyAt z k h n
+placed_key z k h n l there' p = at_place z k h n (stands z (seen h) k) l refl there' p

@@ -2,7 +2,7 @@
 use Rattle.std.specs.Prelude.{◌≡◌, ℕ, ◌+◌, ◌%◌, ◌==◌, ◌&&◌, not, List, [], ◌∷◌, ◌++◌, if◌then◌else◌}
 use Rattle.segmodel.specs.History.{mine}
 use Rattle.segcore.specs.declared.event.Event.{Event}
-use Rattle.segcore.specs.declared.event.Event.TheVariants.{Took, Bounced, Glanced, Drew}
+use Rattle.segcore.specs.declared.event.Event.TheVariants.{Took, Bounced, Glanced}
 use Rattle.segcore.specs.Event.{seen}
 use Rattle.segcore.specs.Kind.{Step, take, glance, adds}
 
@@ -23,12 +23,6 @@ abbrev pub glanced : ℕ → ℕ → List Event → ℕ
 glanced pass bucket [] = 0
 glanced pass bucket (Glanced q b ∷ trace) = if (q == pass) && (b == bucket) then glanced pass bucket trace + 1 else glanced pass bucket trace
 glanced pass bucket (_ ∷ trace) = glanced pass bucket trace
-
--- 1, and how many overflow buckets were drawn for a bucket
-abbrev pub width : List Event → ℕ → ℕ
-width [] bucket = 1
-width (Drew pass b depth number ∷ trace) bucket = if b == bucket then width trace bucket + 1 else width trace bucket
-width (_ ∷ trace) bucket = width trace bucket
 
 -- ---- what a step adds, by what it found
 

@@ -65,6 +65,10 @@ chained_to [] bucket = 0
 chained_to (chained b ∷ marks) bucket = if b == bucket then chained_to marks bucket + 1 else chained_to marks bucket
 chained_to (_ ∷ marks) bucket = chained_to marks bucket
 
+-- how wide a bucket is: 1, and how many buckets were drawn for it
+abbrev pub width : List Mark → ℕ → ℕ
+width marks bucket = drawn_for marks bucket + 1
+
 -- whether two keys are one
 unfoldable pub same_key : List ℕ → List ℕ → Bool
 same_key one other = bytes_eq one other

@@ -17,7 +17,7 @@ ghost use Rattle.segcore.specs.Overflow.{home, home_of};
 ghost use Rattle.segcore.specs.Row.{row_after};
 ghost use Rattle.segcore.specs.Lawful.{IsLawful};
 ghost use Rattle.segcore.specs.Word.{word, IsAt, IsItemAt};
-ghost use Rattle.segcore.specs.Mark.{Mark, marked, IsPlaced, IsOrderly};
+ghost use Rattle.segcore.specs.Mark.{Mark, marked, entries, chained_to, place, IsPlaced, IsOrderly};
 ghost use Rattle.segcore.specs.Ahead.{WasGone};
 ghost use Rattle.segcore.specs.Scan.{IsScanOf, WasAbsent, IsRowScanOf, WasUnnamed};
 ghost use Rattle.segcore.specs.Search.{KeyGone, KeyAt, KeyAhead, RowGone, RowAt, RowAhead};
@@ -52,6 +52,8 @@ pub fn lawful_trace()
     ensures legal { (shape : Shape) (trace : List Event) → IsLawful shape trace → IsLegal shape (seen trace) }
     ensures placed { (shape : Shape) (trace : List Event) → IsLawful shape trace → IsPlaced shape (marked trace) }
     ensures orderly { (shape : Shape) (trace : List Event) → IsLawful shape trace → IsOrderly (marked trace) }
+    ensures unmarked { (trace : List Event) → entries (marked trace) ≡ seen trace }
+    ensures chained { (shape : Shape) (trace : List Event) (bucket : ℕ) → chained_to (marked trace) bucket ≡ (bucket_after shape trace bucket).chained }
     ensures keys { (shape : Shape) (trace : List Event) → IsValid shape → IsLawful shape trace → SaysOfKeys shape trace }
     ensures buckets { (shape : Shape) (trace : List Event) → IsLawful shape trace → SaysOfBuckets shape trace }
     ensures segments { (shape : Shape) (trace : List Event) → IsLawful shape trace → SaysOfSegments shape trace }
@@ -78,6 +80,12 @@ pub fn search_for_key()
     ensures ended { (shape : Shape) (key : List ℕ) (depth : ℕ) (start now : List Event) → IsLawful shape now → (bucket_after shape now (bucket_of shape key)).chained ≤ depth → KeyAhead shape key (8 * depth + 8) start now → WasGone (KeyGone shape key) start now }
     ensures word { (shape : Shape) (key : List ℕ) (now : List Event) (position : ℕ) (cell : Cell) → IsValid shape → IsLawful shape now → IsAt now (bucket_of shape key) position cell → KeyAt shape key now position → (segment : ℕ) × (row : ℕ) × Names shape now (bucket_of shape key) position cell (tag_of key) segment row × ((row_after now segment row).linked ≡ Some key) }
     ensures named { (shape : Shape) (key : List ℕ) (now : List Event) (bucket position : ℕ) (cell : Cell) (tag segment row : ℕ) → IsValid shape → IsLawful shape now → Names shape now bucket position cell tag segment row → (row_after now segment row).linked ≡ Some key → (bucket_of shape key ≡ bucket) × KeyAt shape key now position }
+{}
+
+/// The position of a key's item is the key's place in the marked history.
+pub fn place_of_key()
+    ensures placed { (shape : Shape) (key : List ℕ) (now : List Event) (position : ℕ) → IsLawful shape now → KeyAt shape key now position → place shape (marked now) key ≡ Some position }
+    ensures there { (shape : Shape) (key : List ℕ) (now : List Event) (position : ℕ) → IsLawful shape now → ¬ (KeyGone shape key now) → place shape (marked now) key ≡ Some position → KeyAt shape key now position }
 {}
 
 /// What the words of a chain say to one who has no bit: a word with another tag isn't the key's, one that names another row isn't the row's, and the last word of a bucket leads on to the next or ends the chain.

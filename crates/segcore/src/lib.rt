@@ -10,6 +10,6 @@ pub use cell::Cell;
 pub use event::Event;
 pub use laws::{
     between_steps, chain_words, changed_word, every_schedule, example, kept_step, lawful_trace,
-    miss_point, miss_row, search_for_key, search_for_row, version_of_bucket,
+    miss_point, miss_row, place_of_key, search_for_key, search_for_row, version_of_bucket,
 };
 pub use view::View;
