@@ -16,17 +16,17 @@ use Rattle.segcore.proofs.Limits.{drawn_few, few_drawn}
 use Rattle.segbase.specs.declared.place.Place.{Place}
 use Rattle.segbase.specs.declared.board.Board.{Board}
 use Rattle.segbase.specs.declared.pass.Pass.{Pass}
-use Rattle.segbase.specs.Passes.{number, trace, IsPassOf, Moved, Stepped}
+use Rattle.segbase.specs.Passes.{number, trace, IsPassOf, Did, Stepped}
 use Rattle.segbase.specs.Spots.{cell_at}
 use Rattle.segbase.specs.Steps.{Missed, CounterMissed}
 use Rattle.segbase.proofs.Standing.{under_bit, higher}
 
 -- the exchange of an event that found what it expects
-pub hit : (b : Board) (p q : Pass) (step : Step) (event : Event) (found old : ℕ) → adds step (number p) found ≡ cond (eqb found old) (event ∷ []) [] → found ≡ old → Stepped b step found p q → Moved b (event ∷ []) p q
-hit b p q step event found old is same s = subst (λ es. Moved b es p q) (is ∙ cond-true (eqb found old) (event ∷ []) [] (eq-eqb found old same)) s.moved
+pub hit : (b : Board) (p q : Pass) (step : Step) (event : Event) (found old : ℕ) → adds step (number p) found ≡ cond (eqb found old) (event ∷ []) [] → found ≡ old → Stepped b step found p q → Did b (event ∷ []) p q
+hit b p q step event found old is same s = subst (λ es. Did b es p q) (is ∙ cond-true (eqb found old) (event ∷ []) [] (eq-eqb found old same)) s.did
 
-pub miss : (b : Board) (p q : Pass) (step : Step) (event : Event) (found old : ℕ) → adds step (number p) found ≡ cond (eqb found old) (event ∷ []) [] → found ≢ old → Stepped b step found p q → Moved b [] p q
-miss b p q step event found old is other s = subst (λ es. Moved b es p q) (is ∙ cond-false (eqb found old) (event ∷ []) [] (ne_eqb found old other)) s.moved
+pub miss : (b : Board) (p q : Pass) (step : Step) (event : Event) (found old : ℕ) → adds step (number p) found ≡ cond (eqb found old) (event ∷ []) [] → found ≢ old → Stepped b step found p q → Did b [] p q
+miss b p q step event found old is other s = subst (λ es. Did b es p q) (is ∙ cond-false (eqb found old) (event ∷ []) [] (ne_eqb found old other)) s.did
 
 -- under the bit an empty word is found empty
 pub finds_nothing : (b : Board) (p q : Pass) (step : Step) (found bucket n : ℕ) → HasBit b.shape (trace p) (number p) bucket → IsItemAt b.shape (trace p) bucket n (cell step) → (bucket_after b.shape (trace p) bucket).items n ≡ nothing → Stepped b step found p q → found ≡ 0
@@ -39,7 +39,7 @@ missed b p q step event place found old bucket n a is bit of at here adds_is oth
     let h : List Event = s.told.more ++ trace p in
     let now : trace q ≡ h = ap (λ (v : View). v.trace) s.told.now ∙ ap (λ es. es ++ h) (adds_is ∙ cond-false (eqb found old) (event ∷ []) [] (ne_eqb found old other)) in
     let found_is : found ≡ word b.shape h (cell_at b.shape place) = s.told.found_is ∙ ap (word b.shape h) of in record {
-      moved = miss b p q step event found old adds_is other s;
+      did = miss b p q step event found old adds_is other s;
       other = other;
       is = found_is ∙ ap (λ t. word b.shape t (cell_at b.shape place)) (sym now);
       higher = λ was. higher b.shape s.told.more (trace p) (number p) bucket n old found a (cell_at b.shape place) is.valid is.lawful s.told.before s.told.others bit.1 at here was found_is other;
@@ -54,7 +54,7 @@ counter_missed b p q bucket depth from found low other s =
     let h : List Event = s.told.more ++ trace p in
     let now : trace q ≡ h = ap (λ (v : View). v.trace) s.told.now ∙ ap (λ es. es ++ h) (cond-false (eqb found from) (Drew (number p) bucket depth from ∷ []) [] (ne_eqb found from other)) in
     let grows = drawn_grows s.told.more (trace p) in let few = drawn_few b.shape h s.told.before in let is : found ≡ drawn_in h = s.told.found_is in record {
-      moved = miss b p q (draw bucket depth from) (Drew (number p) bucket depth from) found from refl other s;
+      did = miss b p q (draw bucket depth from) (Drew (number p) bucket depth from) found from refl other s;
       is = is ∙ ap drawn_in (sym now);
       over = omega arith;
       few = omega arith;

@@ -5,6 +5,7 @@ pub mod Dealt
 pub mod Exchanging
 pub mod Moves
 pub mod Opened
+pub mod Owned
 pub mod Owning
 pub mod Passes
 pub mod Standing

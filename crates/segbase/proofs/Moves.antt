@@ -11,8 +11,12 @@ use Rattle.segcore.specs.Count.{taken, bounced, glanced}
 use Rattle.segbase.specs.declared.board.Board.{Board}
 use Rattle.segbase.specs.declared.pass.Pass.{Pass}
 use Rattle.segbase.specs.Traces.{own_of, StaysIn, OnlyReads}
-use Rattle.segbase.specs.Passes.{number, trace, IsPassOf, Moved, Reads, ReadsIn}
+use Rattle.segbase.specs.Passes.{number, trace, IsPassOf, Moved, Did, Reads, ReadsIn}
 use Rattle.segbase.specs.Passes as passes
+use Rattle.segbase.specs.Steps.{Takes}
+use Rattle.segcore.specs.Bucket.{bucket_after}
+use Rattle.segcore.specs.Kind.{HasBit, May, release}
+use Rattle.segcore.proofs.Quiet.{quiet}
 use Rattle.segbase.proofs.Owning.{own_both, own_inside, own_mine, own_taken, own_bounced, own_glanced}
 use Rattle.segbase.proofs.Staying.{stays_now, stays_first, stays_last, stays_both, none_both}
 
@@ -159,3 +163,18 @@ leave_then b p q r segment i m =
         i.stays s there,
       );
     }
+
+-- ---- a bucket whose bit the pass has
+
+-- a step that added nothing leaves it as it was
+pub did_quiet : (b : Board) (p q : Pass) (bucket : ℕ) → Did b [] p q → HasBit b.shape (trace p) (number p) bucket → bucket_after b.shape (trace q) bucket ≡ bucket_after b.shape (trace p) bucket
+did_quiet b p q bucket d bit = ap (λ h. bucket_after b.shape h bucket) d.now ∙ quiet b.shape d.others (trace p) (number p) bucket d.before d.none bit.1
+
+pub did_has : (b : Board) (p q : Pass) (bucket : ℕ) → Did b [] p q → HasBit b.shape (trace p) (number p) bucket → HasBit b.shape (trace q) (number q) bucket
+did_has b p q bucket d bit = (bit.0, ap (λ u. u.holder) (did_quiet b p q bucket d bit) ∙ (bit.1 ∙ ap Some (sym d.moved.same)))
+
+-- a bit that was just taken may be given back uncounted, also after such a step
+pub may_release : (b : Board) (p q r : Pass) (bucket : ℕ) → Takes b bucket true p q → Did b [] q r → May b.shape (trace r) (number r) (release bucket false None)
+may_release b p q r bucket t d =
+    let same = did_quiet b q r bucket d t.1 in
+    (did_has b q r bucket d t.1, ap (λ u. u.written) same ∙ t.2, ap (λ u. u.spare) same ∙ t.3, tt)

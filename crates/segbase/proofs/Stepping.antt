@@ -60,4 +60,4 @@ stepped b st spot f found p q can table learns plain =
       numbered = ap (λ (x : Plain). x.number) plain ∙ (is.numbered ∙ sym same);
       first = ap (λ (x : Plain). x.first) plain ∙ (is.first ∙ ap (λ n. n * b.shape.segments_each) (sym same));
       owns = ap (λ (x : Plain). length x.segments.items) plain ∙ is.owns;
-    } in record { told = told; moved = moved_by b p q st found is is' can.may told; plain = plain; memo = learns.0.memo; met = learns.0.met }
+    } in record { told = told; did = record { moved = moved_by b p q st found is is' can.may told; others = told.more; none = told.others; before = told.before; now = ap (λ (v : View). v.trace) told.now }; plain = plain; memo = learns.0.memo; met = learns.0.met }

@@ -18,7 +18,7 @@ use Rattle.segcore.proofs.Quiet.{quiet}
 use Rattle.segcore.proofs.Versions.{free}
 use Rattle.segbase.specs.declared.board.Board.{Board}
 use Rattle.segbase.specs.declared.pass.Pass.{Pass}
-use Rattle.segbase.specs.Passes.{number, trace, Moved, Stepped}
+use Rattle.segbase.specs.Passes.{number, trace, Did, Stepped}
 use Rattle.segbase.specs.Steps.{has_bit, Takes}
 
 guard_at : (z : Shape) (h : List Event) (e : Event) (b : ℕ) (o : Option ℕ) → MatchOption o (Unit {0}) (λ b. (b < z.buckets) × ((bucket_after z h b).holder ≡ needs e)) → is o b ≡ true → (bucket_after z h b).holder ≡ needs e
@@ -42,20 +42,20 @@ unspared z (e ∷ h) b l none = ⊎_elim
 
 taken : (b : Board) (bucket found : ℕ) (own t : Bool) (p q : Pass) → eqb (found % 2) 0 ≡ t → own ≡ has_bit b p bucket → Stepped b (take bucket own) found p q → Takes b bucket t p q
 taken b bucket found own true p q t is s =
-    let moved : Moved b (Took (number p) bucket ∷ []) p q = subst (λ es. Moved b es p q) (cond-true (eqb (found % 2) 0) (Took (number p) bucket ∷ []) (unless_own own (Bounced (number p) bucket)) t) s.moved in
+    let did : Did b (Took (number p) bucket ∷ []) p q = subst (λ es. Did b es p q) (cond-true (eqb (found % 2) 0) (Took (number p) bucket ∷ []) (unless_own own (Bounced (number p) bucket)) t) s.did in
     let old : List Event = s.told.more ++ trace p in
     let now : trace q ≡ Took (number p) bucket ∷ old = ap (λ (v : View). v.trace) s.told.now ∙ ap (λ x. cond x (Took (number p) bucket ∷ []) (unless_own own (Bounced (number p) bucket)) ++ old) t in
     let lawful : IsLawful b.shape (Took (number p) bucket ∷ old) = subst (IsLawful b.shape) now s.told.legal in
     let guarded = lawful.1.guarded in
     let u : Bucket = bucket_after b.shape old bucket in
     let after : bucket_after b.shape (trace q) bucket ≡ acts (Took (number p) bucket) u = ap (λ h. bucket_after b.shape h bucket) now ∙ cond-true (eqb bucket bucket) (acts (Took (number p) bucket) u) u (eq-eqb bucket bucket refl) in (
-      moved,
-      (guarded.0, ap (λ v. v.holder) after ∙ ap Some (sym moved.same)),
+      did,
+      (guarded.0, ap (λ v. v.holder) after ∙ ap Some (sym did.moved.same)),
       ap (λ v. v.written) after ∙ free b.shape old bucket lawful.0 guarded.1,
       ap (λ v. v.spare) after ∙ unspared b.shape old bucket lawful.0 guarded.1,
     )
 taken b bucket found own false p q f is s =
-    subst (λ o. Moved b (unless_own o (Bounced (number p) bucket)) p q) is (subst (λ es. Moved b es p q) (cond-false (eqb (found % 2) 0) (Took (number p) bucket ∷ []) (unless_own own (Bounced (number p) bucket)) f) s.moved)
+    subst (λ o. Did b (unless_own o (Bounced (number p) bucket)) p q) is (subst (λ es. Did b es p q) (cond-false (eqb (found % 2) 0) (Took (number p) bucket ∷ []) (unless_own own (Bounced (number p) bucket)) f) s.did)
 
 pub takes : (b : Board) (bucket found : ℕ) (p q : Pass) → Stepped b (take bucket (has_bit b p bucket)) found p q → Takes b bucket (eqb (found % 2) 0) p q
 takes b bucket found p q s = taken b bucket found (has_bit b p bucket) (eqb (found % 2) 0) p q refl refl s

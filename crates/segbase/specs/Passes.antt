@@ -8,6 +8,7 @@ use Rattle.segcore.specs.Segment.{inside}
 use Rattle.segcore.specs.Lawful.{IsLawful}
 use Rattle.segcore.specs.Count as count
 use Rattle.segcore.specs.Mark.{Mark}
+use Rattle.segcore.specs.Event.{NoneBy}
 use Rattle.segcore.specs.Event as event
 use Rattle.segcore.specs.Mark as mark
 use Rattle.segcore.specs.Segment as segments
@@ -95,10 +96,18 @@ pub record Moved (b : Board) (own : List Event) (p q : Pass) : Type 0 where
   -- a segment that it stayed in wasn't filled again
   pub kept : (s : ℕ) → StaysIn own (trace p) (number p) s → NoneRefills s more
 
+-- One step: others did something, nothing of it the pass's, and then the pass added just these events.
+pub record Did (b : Board) (own : List Event) (p q : Pass) : Type 0 where
+  pub moved : Moved b own p q
+  pub others : List Event
+  pub none : NoneBy (number p) others
+  pub before : IsLawful b.shape (others ++ trace p)
+  pub now : trace q ≡ own ++ (others ++ trace p)
+
 -- the pass took the step, which found this word; its plain part and what it keeps in mind are as they were
 pub record Stepped (b : Board) (step : Step) (found : ℕ) (p q : Pass) : Type 0 where
   pub told : Told b.shape step found (view p) (view q)
-  pub moved : Moved b (adds step (number p) found) p q
+  pub did : Did b (adds step (number p) found) p q
   pub plain : q.plain ≡ p.plain
   pub memo : (sight q).memo ≡ (sight p).memo
   -- it has seen at least what it was told of

@@ -16,7 +16,7 @@ use crate::place::{Place, Spot};
 use segword::Item;
 
 impl Board {
-    ghost use Rattle.segbase.specs.Passes.{number, trace, IsPassOf, CanStep, Moved, Stepped};
+    ghost use Rattle.segbase.specs.Passes.{number, trace, IsPassOf, CanStep, Did, Stepped};
     ghost use Rattle.segbase.specs.Spots.{item_spot, cell_at, position, home_bucket, IsPlace};
     ghost use Rattle.segbase.specs.Steps.{IsReadAs, IsFree, HasItemOf, Missed};
 
@@ -25,7 +25,7 @@ impl Board {
         requires pass { IsPassOf self.now pass.old }
         requires place { IsPlace self.now.shape place }
         ensures step { Stepped self.now (look (cell_at self.now.shape place)) result pass.old pass.new }
-        ensures moved { Moved self.now [] pass.old pass.new }
+        ensures did { Did self.now [] pass.old pass.new }
         ensures found { result ≡ word self.now.shape (trace pass.new) (cell_at self.now.shape place) }
         ensures reads { (bucket at : ℕ) → IsItemAt self.now.shape (trace pass.new) bucket at (cell_at self.now.shape place) → IsReadAs ((bucket_after self.now.shape (trace pass.new) bucket).items at) result }
     {
@@ -49,7 +49,7 @@ impl Board {
         requires may { May self.now.shape (trace pass.old) (number pass.old) (link request item.seg item.row (position self.now.shape (trace pass.old) place) (cell_at self.now.shape place) 0) }
         requires free { IsFree self.now (key_of request) place pass.old }
         ensures step { (found : ℕ) × Stepped self.now (link request item.seg item.row (position self.now.shape (trace pass.old) place) (cell_at self.now.shape place) 0) found pass.old pass.new }
-        ensures moved { Moved self.now (Linked (number pass.old) request item.seg item.row (position self.now.shape (trace pass.old) place) ∷ []) pass.old pass.new }
+        ensures did { Did self.now (Linked (number pass.old) request item.seg item.row (position self.now.shape (trace pass.old) place) ∷ []) pass.old pass.new }
     {
         self.put(pass, place, 0, item);
     }
@@ -62,7 +62,7 @@ impl Board {
         requires may { May self.now.shape (trace pass.old) (number pass.old) (link request item.seg item.row (position self.now.shape (trace pass.old) place) (cell_at self.now.shape place) old) }
         requires present { HasItemOf self.now (key_of request) place pass.old }
         ensures step { (found : ℕ) × Stepped self.now (link request item.seg item.row (position self.now.shape (trace pass.old) place) (cell_at self.now.shape place) old) found pass.old pass.new }
-        ensures replaced { OnOk result (Moved self.now (Linked (number pass.old) request item.seg item.row (position self.now.shape (trace pass.old) place) ∷ []) pass.old pass.new) }
+        ensures replaced { OnOk result (Did self.now (Linked (number pass.old) request item.seg item.row (position self.now.shape (trace pass.old) place) ∷ []) pass.old pass.new) }
         ensures missed { IfErr result (λ found. Missed self.now place old found pass.old pass.new) }
     {
         let found = self.put(pass, place, old, item);
@@ -75,7 +75,7 @@ impl Board {
         requires pass { IsPassOf self.now pass.old }
         requires may { May self.now.shape (trace pass.old) (number pass.old) (clear left.0 (position self.now.shape (trace pass.old) place) (cell_at self.now.shape place) old left.1) }
         ensures step { (found : ℕ) × Stepped self.now (clear left.0 (position self.now.shape (trace pass.old) place) (cell_at self.now.shape place) old left.1) found pass.old pass.new }
-        ensures cleared { OnOk result (Moved self.now (Unlinked (number pass.old) left.0 (position self.now.shape (trace pass.old) place) left.1 ∷ []) pass.old pass.new) }
+        ensures cleared { OnOk result (Did self.now (Unlinked (number pass.old) left.0 (position self.now.shape (trace pass.old) place) left.1 ∷ []) pass.old pass.new) }
         ensures missed { IfErr result (λ found. Missed self.now place old found pass.old pass.new) }
     {
         let found = self.exchange_at(pass, Spot::Item(place), old, 0);
@@ -90,7 +90,7 @@ impl Board {
         requires chain { IsItemAt self.now.shape (trace pass.old) (home_bucket self.now.shape (trace pass.old) place) (position self.now.shape (trace pass.old) place) (cell_at self.now.shape place) }
         requires home { home_bucket self.now.shape (trace pass.old) place < self.now.shape.buckets }
         ensures step { (found : ℕ) × Stepped self.now (bump (home_bucket self.now.shape (trace pass.old) place) (position self.now.shape (trace pass.old) place) (cell_at self.now.shape place) old.tag old.seg old.row old.freq new.freq) found pass.old pass.new × (result ≡ (found == item_word old)) }
-        ensures moved { Moved self.now (if result then Bumped (number pass.old) old.seg old.row new.freq ∷ [] else []) pass.old pass.new }
+        ensures did { Did self.now (if result then Bumped (number pass.old) old.seg old.row new.freq ∷ [] else []) pass.old pass.new }
     {
         let expected = old.pack();
         self.put(pass, place, expected, new) == expected

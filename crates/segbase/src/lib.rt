@@ -19,3 +19,6 @@ pub use fault::MakeFault;
 pub use law::{Held, Locked, Memo, Sight};
 pub use pass::Pass;
 pub use place::Place;
+
+#[cfg(test)]
+mod tests;
