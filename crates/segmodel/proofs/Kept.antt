@@ -1,5 +1,5 @@
 -- Serving keeps what always holds of a state.
-use Rattle.std.proofs.Common.{◌≡◌, ◌⊎◌, Option, Some, None, ℕ, ◌+◌, ◌<◌, ◌≤◌, ◌==◌, ◌&&◌, ◌||◌, Bool, true, false, cond, List, [], ◌∷◌, ◌++◌, length, refl, sym, ap, ◌∙◌, arith, not, filter, count_by, eq-eqb, inl, inr, subst}
+use Rattle.std.proofs.Common.{◌≡◌, ◌≢◌, ◌⊎◌, Option, Some, None, ℕ, ◌+◌, ◌*◌, ◌<◌, ◌≤◌, ◌==◌, ◌&&◌, ◌||◌, Bool, true, false, cond, List, [], ◌∷◌, ◌++◌, length, refl, sym, ap, ◌∙◌, arith, not, nat_lt, filter, count_by, eq-eqb, inl, inr, subst}
 use Rattle.std.proofs.lemmas.Bool.{cases_eq, ne_eqb, false≢true}
 use Rattle.std.proofs.lemmas.List.{length_push}
 use Rattle.std.proofs.lemmas.List.Folds.{list_any-append}
@@ -7,13 +7,16 @@ use Rattle.std.specs.List.{list_any}
 use Rattle.std.specs.BTreeMap.{insert_entry, is_at}
 use Rattle.segword.specs.declared.shape.Shape.{Shape}
 use Rattle.segmodel.specs.declared.entry.Cached.{Cached}
-use Rattle.segmodel.specs.declared.answer.SegState.TheVariants.{InUse, Evicted}
+use Rattle.segmodel.specs.declared.answer.SegState.TheVariants.{Empty, InUse, Evicted}
 use Rattle.segmodel.specs.declared.answer.RefillAnswer.TheVariants.{Refilled}
-use Rattle.segmodel.specs.Cache.{key_cmp, with_at, deleted}
+use Rattle.segmodel.specs.Cache.{key_cmp, with_at, keys_in, put, deleted}
 use Rattle.segmodel.specs.State.{State, Filling, but_for, is_in, is_in_use, is_among, is_stored, IsKept, fresh}
-use Rattle.segmodel.specs.Serving.{with_key, placed, chained, with_filling, taken_out, after_refill}
+use Rattle.segmodel.specs.Serving.{with_key, placed, may_chain, chained, with_filling, taken_out, after_refill}
 use Rattle.segmodel.proofs.Counts.{item, both, and_true, all_also, all_filter, all-insert_entry, count_none, count-insert_entry, count-filter}
+use Rattle.segmodel.specs.Places.{bucket_of}
 use Rattle.segmodel.proofs.Keys.{at_self}
+use Rattle.segmodel.proofs.Ordered.{sorted-insert_entry, sorted-filter, sorted-after}
+use Rattle.segmodel.proofs.Words.{count-keys_put, count-keys_filter}
 
 -- another state that is the same
 pub IsKept-same : {shape : Shape} {old new : State} → new ≡ old → IsKept shape old → IsKept shape new
@@ -27,6 +30,11 @@ IsKept-fresh shape = record {
   rows = λ s. omega arith;
   own = λ s used. absurd (false≢true used);
   in_use = λ s is. cc;
+  ordered = sorted-after shape [];
+  width = λ b. (omega arith, omega arith);
+  drawn = omega arith;
+  words = λ b. omega arith;
+  held = λ item is. cc;
 }
 
 changed : (f : ℕ → Filling) (t s : ℕ) (x : Filling) → t ≡ s → with_at f t x s ≡ x
@@ -34,6 +42,13 @@ changed f t s x e = rw (eq-eqb t s e) refl
 
 unchanged : (f : ℕ → Filling) (t s : ℕ) (x : Filling) → (t ≡ s → ⊥) → with_at f t x s ≡ f s
 unchanged f t s x apart = rw (ne_eqb t s apart) refl
+
+-- a segment that was filled stays filled, where another or the same is changed to one that was filled too
+filled_still : (f : ℕ → Filling) (t s : ℕ) (x : Filling) → (x.state ≡ Empty → (f t).state ≡ Empty) → (f s).state ≢ Empty → (with_at f t x s).state ≢ Empty
+filled_still f t s x emptied filled is = elim (cases_eq t s) [
+  | inl e ↦ filled (subst (λ r. (f r).state ≡ Empty) e (emptied (sym (ap (λ (y : Filling). y.state) (changed f t s x e)) ∙ is)))
+  | inr apart ↦ filled (sym (ap (λ (y : Filling). y.state) (unchanged f t s x apart)) ∙ is)
+]
 
 -- an item of a segment that stays as it is stays stored
 stored_still : (f : ℕ → Filling) (t : ℕ) (x : Filling) (e : List ℕ × Cached) → (t ≡ e.1.segment → ⊥) → is_stored f e ≡ true → is_stored (with_at f t x) e ≡ true
@@ -52,16 +67,31 @@ among_last keys k = list_any-append (is_at (key_cmp k)) keys (k ∷ [])
     or_true false = refl
 
 -- a key is put into the current segment, which has a row left
-pub IsKept-placed : (shape : Shape) (key value : List ℕ) (t : ℕ) (state : State)
-    → IsKept shape state → state.current ≡ Some t → length (state.filling t).keys < shape.rows → IsKept shape (placed shape key value t state)
-IsKept-placed shape key value t state kept is left = record {
+IsKept-placed : (shape : Shape) (key value : List ℕ) (t : ℕ) (state : State)
+    → IsKept shape state → state.current ≡ Some t → length (state.filling t).keys < shape.rows
+    → keys_in shape (put shape key value t state.cache) (bucket_of shape key) ≤ 6 * state.width (bucket_of shape key) + 1
+    → IsKept shape (placed shape key value t state)
+IsKept-placed shape key value t state kept is left fits = record {
   items = all-insert_entry (is_stored new) key (item value t) state.cache.items here (all_also (is_stored state.filling) (is_stored new) still state.cache.items kept.items);
   count = λ s. count s (cases_eq t s) (count-insert_entry s t key value state.cache.items);
   rows = λ s. rows s (cases_eq t s);
   own = λ s. own s (cases_eq t s);
   in_use = λ s e. in_use s (cases_eq t s) e;
+  ordered = sorted-insert_entry key (item value t) state.cache.items kept.ordered;
+  width = kept.width;
+  drawn = kept.drawn;
+  words = λ b. words b (cases_eq (bucket_of shape key) b);
+  held = λ x e. filled_still state.filling t x.segment more (λ z. z) (kept.held x e);
 }
   where
+    words : (b : ℕ) → (bucket_of shape key ≡ b) ⊎ (bucket_of shape key ≡ b → ⊥) → keys_in shape (put shape key value t state.cache) b ≤ 6 * state.width b + 1
+    words b (inl e) = subst (λ c. keys_in shape (put shape key value t state.cache) c ≤ 6 * state.width c + 1) e fits
+    words b (inr apart) =
+        let most = count-keys_put (λ k. bucket_of shape k == b) key (item value t) state.cache.items in
+        let most' : keys_in shape (put shape key value t state.cache) b ≤ keys_in shape state.cache b + 0 = rw (ne_eqb (bucket_of shape key) b apart) at most in
+        let had = kept.words b in
+        omega arith
+
     more : Filling
     more = with_key key (state.filling t)
 
@@ -109,10 +139,45 @@ IsKept-placed shape key value t state kept is left = record {
     in_use s (inl e) at_s = ap (λ y. is_in_use y.state) (changed state.filling t s more e) ∙ kept.in_use t is
     in_use s (inr apart) at_s = ap (λ y. is_in_use y.state) (unchanged state.filling t s more apart) ∙ kept.in_use s at_s
 
--- a chain that is one bucket longer
-pub IsKept-chained : (shape : Shape) (b : ℕ) (chains : Bool) (state : State) → IsKept shape state → IsKept shape (chained b chains state)
-IsKept-chained shape b true state kept = record { items = kept.items; count = kept.count; rows = kept.rows; own = kept.own; in_use = kept.in_use }
-IsKept-chained shape b false state kept = kept
+-- a chain that is one bucket longer, as it may be
+IsKept-chained : (shape : Shape) (b : ℕ) (chains : Bool) (state : State) → IsKept shape state → (chains ≡ true → may_chain shape state b ≡ true)
+    → IsKept shape (chained b chains state)
+IsKept-chained shape b false state kept may = kept
+IsKept-chained shape b true state kept may = record {
+  items = kept.items;
+  count = kept.count;
+  rows = kept.rows;
+  own = kept.own;
+  in_use = kept.in_use;
+  ordered = kept.ordered;
+  held = kept.held;
+  width = λ c. width c (cases_eq b c);
+  drawn = let room : state.drawn < shape.overflow = grind (arith, may_parts.1) in omega arith;
+  words = λ c. words c (cases_eq b c);
+}
+  where
+    may_parts : (nat_lt (state.width b) 4 ≡ true) × (nat_lt state.drawn shape.overflow ≡ true)
+    may_parts = both _ _ (may refl)
+
+    short : state.width b < 4
+    short = grind (arith, may_parts.0)
+
+    width : (c : ℕ) → (b ≡ c) ⊎ (b ≡ c → ⊥) → (1 ≤ with_at state.width b (state.width b + 1) c) × (with_at state.width b (state.width b + 1) c ≤ 4)
+    width c (inl e) = let few = short in rw (eq-eqb b c e) (omega arith, omega arith)
+    width c (inr apart) = rw (ne_eqb b c apart) (kept.width c)
+
+    words : (c : ℕ) → (b ≡ c) ⊎ (b ≡ c → ⊥) → keys_in shape state.cache c ≤ 6 * with_at state.width b (state.width b + 1) c + 1
+    words c (inl e) = let had : keys_in shape state.cache c ≤ 6 * state.width b + 1 = rw e (kept.words c) in rw (eq-eqb b c e) (omega arith)
+    words c (inr apart) = rw (ne_eqb b c apart) (kept.words c)
+
+-- a key is put into the current segment, and its chain is one bucket longer where a word lacks
+pub IsKept-stored : (shape : Shape) (key value : List ℕ) (t : ℕ) (chains : Bool) (state : State)
+    → IsKept shape state → state.current ≡ Some t → length (state.filling t).keys < shape.rows → (chains ≡ true → may_chain shape state (bucket_of shape key) ≡ true)
+    → keys_in shape (put shape key value t state.cache) (bucket_of shape key) ≤ 6 * (chained (bucket_of shape key) chains state).width (bucket_of shape key) + 1
+    → IsKept shape (chained (bucket_of shape key) chains (placed shape key value t state))
+IsKept-stored shape key value t false state kept is left may fits = IsKept-placed shape key value t state kept is left fits
+IsKept-stored shape key value t true state kept is left may fits =
+    IsKept-placed shape key value t (chained (bucket_of shape key) true state) (IsKept-chained shape (bucket_of shape key) true state kept may) is left fits
 
 -- a key that is deleted
 pub IsKept-deleted : (shape : Shape) (key : List ℕ) (state : State) → IsKept shape state → IsKept shape (record state { cache = deleted shape key state.cache })
@@ -122,6 +187,11 @@ IsKept-deleted shape key state kept = record {
   rows = kept.rows;
   own = kept.own;
   in_use = kept.in_use;
+  ordered = sorted-filter (λ e. not (is_at (key_cmp key) e.0)) state.cache.items kept.ordered;
+  width = kept.width;
+  drawn = kept.drawn;
+  words = λ b. let had = kept.words b in let less = count-keys_filter (λ k. bucket_of shape k == b) (λ e. not (is_at (key_cmp key) e.0)) state.cache.items in omega arith;
+  held = kept.held;
 }
 
 -- the current segment but for one was current, and isn't that one
@@ -140,6 +210,11 @@ IsKept-taken shape t goes state kept = record {
   rows = kept.rows;
   own = kept.own;
   in_use = λ s e. kept.in_use s (current_but t state.current s e).0;
+  ordered = sorted-filter (λ e. not (goes e)) state.cache.items kept.ordered;
+  width = kept.width;
+  drawn = kept.drawn;
+  words = λ b. let had = kept.words b in let less = count-keys_filter (λ k. bucket_of shape k == b) (λ e. not (goes e)) state.cache.items in omega arith;
+  held = kept.held;
 }
 
 -- all items of a segment are taken out, and it is evicted
@@ -151,6 +226,11 @@ IsKept-evicted shape t state kept = record {
   rows = λ s. rows s (cases_eq t s);
   own = λ s. own s (cases_eq t s);
   in_use = λ s e. in_use s (current_but t state.current s e);
+  ordered = sorted-filter (λ e. not (is_in t e)) state.cache.items kept.ordered;
+  width = kept.width;
+  drawn = kept.drawn;
+  words = λ b. let had = kept.words b in let less = count-keys_filter (λ k. bucket_of shape k == b) (λ e. not (is_in t e)) state.cache.items in omega arith;
+  held = λ x e. filled_still state.filling t x.segment gone (λ z. cc) (kept.held x e);
 }
   where
     gone : Filling
@@ -199,6 +279,11 @@ IsKept-refilled shape t state kept unused mine = record {
   rows = λ s. rows s (cases_eq t s);
   own = λ s. own s (cases_eq t s);
   in_use = λ s e. in_use s e;
+  ordered = kept.ordered;
+  width = kept.width;
+  drawn = kept.drawn;
+  words = kept.words;
+  held = λ x e. filled_still state.filling t x.segment anew (λ z. cc) (kept.held x e);
 }
   where
     anew : Filling

@@ -1,5 +1,5 @@
 -- Each command and each turn keeps what always holds of a state.
-use Rattle.std.proofs.Common.{◌≡◌, ℕ, ◌<◌, ◌⊎◌, inl, inr, ◌&&◌, not, IsSomeAnd, Bool, true, false, cond, List, [], ◌∷◌, length, Option, Some, None, is_some, refl, sym, ap, ◌∙◌, subst, arith, nat_le, nat_lt, MatchBool, MatchOption}
+use Rattle.std.proofs.Common.{◌≡◌, ℕ, ◌<◌, ◌⊎◌, inl, inr, ◌&&◌, ◌≢◌, eq-eqb, not, IsSomeAnd, Bool, true, false, cond, List, [], ◌∷◌, length, Option, Some, None, is_some, refl, sym, ap, ◌∙◌, subst, arith, nat_le, nat_lt, MatchBool, MatchOption}
 use Rattle.std.proofs.lemmas.Bool.{false≢true}
 use Rattle.std.specs.List.{list_all}
 use Rattle.std.specs.Map.{lookup}
@@ -29,12 +29,13 @@ use Rattle.segmodel.specs.Request.{key_of, value_of, reply_to}
 use Rattle.segmodel.specs.Cache.{key_cmp, standing, present, reply_in}
 use Rattle.segmodel.specs.History.{NoneStandsIn}
 use Rattle.segmodel.specs.State.{State, IsKept, is_in_use, is_stored, is_locked}
-use Rattle.segmodel.specs.Serving.{IsGiven, IsReplied, is_out_of_rows, is_own, lacks_word, may_chain, stored, after_reply, reply_of_write, reply_of_delete, ServesStore, ServesDelete, ServesEvict, may_go, refill_answer, after_refill}
-use Rattle.segmodel.specs.Turns.{Turns}
-use Rattle.segmodel.specs.Laws.{ServingKeeps, TurnsKeep, RefilledWhereNoneStands}
+use Rattle.segmodel.specs.Serving.{IsGiven, IsReplied, is_out_of_rows, is_own, lacks_word, may_chain, stored, after_reply, reply_of_write, reply_of_delete, ServesStore, ServesDelete, ServesEvict, may_go, is_held, refill_answer, after_refill}
+use Rattle.segmodel.specs.Turns.{Turns, held_after}
+use Rattle.segmodel.specs.Laws.{ServingKeeps, CommandsKeep, TurnsKeep, RefilledWhereNoneStands, HeldIsNotRefilled}
 use Rattle.segmodel.proofs.Counts.{both}
 use Rattle.segmodel.proofs.Keys.{same_key}
-use Rattle.segmodel.proofs.Kept.{IsKept-same, IsKept-placed, IsKept-chained, IsKept-deleted, IsKept-taken, IsKept-evicted, IsKept-refilled}
+use Rattle.segmodel.proofs.Words.{stored_fits}
+use Rattle.segmodel.proofs.Kept.{IsKept-same, IsKept-stored, IsKept-deleted, IsKept-taken, IsKept-evicted, IsKept-refilled}
 
 -- ---- replies
 
@@ -44,34 +45,42 @@ row_left rows used is = grind (arith, is)
 own_below : (segment each : ℕ) → nat_lt segment each ≡ true → segment < each
 own_below segment each is = grind (arith, is)
 
+may_where : (lacks may : Bool) → (lacks && not may) ≡ false → lacks ≡ true → may ≡ true
+may_where true true word is = refl
+may_where true false word is = absurd (false≢true (sym word))
+may_where false may word is = absurd (false≢true is)
+
 stored_kept : (shape : Shape) (request : Request) (state : State) → IsKept shape state → (current : Option ℕ) → state.current ≡ current
-    → is_out_of_rows shape state.filling current ≡ false → IsKept shape (stored shape request current state)
-stored_kept shape request state kept None is room = absurd (false≢true (sym room))
-stored_kept shape request state kept (Some s) is room =
-    IsKept-chained shape _ (lacks_word shape state request) _ (IsKept-placed shape (key_of request) (value_of request) s state kept is (row_left shape.rows (length (state.filling s).keys) room))
+    → is_out_of_rows shape state.filling current ≡ false → (lacks_word shape state request && not (may_chain shape state (bucket_of shape (key_of request)))) ≡ false
+    → reply_in shape state.cache request ≡ reply.Stored → IsKept shape (stored shape request current state)
+stored_kept shape request state kept None is room word replied = absurd (false≢true (sym room))
+stored_kept shape request state kept (Some s) is room word replied =
+    IsKept-stored shape (key_of request) (value_of request) s (lacks_word shape state request) state kept is (row_left shape.rows (length (state.filling s).keys) room)
+    (may_where (lacks_word shape state request) (may_chain shape state (bucket_of shape (key_of request))) word) (stored_fits shape request s state kept replied)
 
-replied_kept : (shape : Shape) (request : Request) (reply : Reply) (state : State) → IsKept shape state → is_out_of_rows shape state.filling state.current ≡ false
-    → IsKept shape (after_reply shape request reply state)
-replied_kept shape request reply.Stored state kept room = stored_kept shape request state kept state.current refl room
-replied_kept shape request reply.Deleted state kept room = IsKept-deleted shape (key_of request) state kept
-replied_kept shape request reply.NotStored state kept room = kept
-replied_kept shape request reply.Exists state kept room = kept
-replied_kept shape request reply.NotFound state kept room = kept
+replied_kept : (shape : Shape) (request : Request) (told : Reply) (state : State) → IsKept shape state → is_out_of_rows shape state.filling state.current ≡ false
+    → (lacks_word shape state request && not (may_chain shape state (bucket_of shape (key_of request)))) ≡ false
+    → reply_in shape state.cache request ≡ told → IsKept shape (after_reply shape request told state)
+replied_kept shape request reply.Stored state kept room word is = stored_kept shape request state kept state.current refl room word is
+replied_kept shape request reply.Deleted state kept room word is = IsKept-deleted shape (key_of request) state kept
+replied_kept shape request reply.NotStored state kept room word is = kept
+replied_kept shape request reply.Exists state kept room word is = kept
+replied_kept shape request reply.NotFound state kept room word is = kept
 
--- a refusal changes nothing, and where there is none a row is left
+-- a refusal changes nothing, and where there is none a row is left, and a word or a chain that may grow
 refused_or : (out locked full : Bool) (P : Type 0) (Q : WriteAnswer → Type 0) → MatchOption (cond out (Some write.NoRoom) (cond locked (Some write.Busy) (cond full (Some write.BucketFull) None))) P Q
-    → ((why : WriteAnswer) × Q why) ⊎ ((out ≡ false) × P)
+    → ((why : WriteAnswer) × Q why) ⊎ ((out ≡ false) × (full ≡ false) × P)
 refused_or true locked full P Q h = inl (write.NoRoom, h)
 refused_or false true full P Q h = inl (write.Busy, h)
 refused_or false false true P Q h = inl (write.BucketFull, h)
-refused_or false false false P Q h = inr (refl, h)
+refused_or false false false P Q h = inr (refl, refl, h)
 
 store_kept : (shape : Shape) (old new : State) (request : Request) (given : WriteAnswer) → IsKept shape old → ServesStore shape old request given new → IsKept shape new
 store_kept shape old new request given kept served = elim (refused_or (is_out_of_rows shape old.filling old.current) (is_locked shape old (key_of request))
     (lacks_word shape old request && not (may_chain shape old (bucket_of shape (key_of request))))
     (IsReplied shape old request (reply_of_write given) new) (λ why. IsGiven why old given new) served) [
       | inl refused ↦ IsKept-same refused.1.1 kept
-      | inr replied ↦ IsKept-same replied.1.1 (replied_kept shape request (reply_in shape old.cache request) old kept replied.0)
+      | inr replied ↦ IsKept-same replied.2.1 (replied_kept shape request (reply_in shape old.cache request) old kept replied.0 replied.1 refl)
     ]
 
 delete_kept : (shape : Shape) (old new : State) (key : List ℕ) (given : DeleteAnswer) → IsKept shape old → ServesDelete shape old key given new → IsKept shape new
@@ -129,27 +138,6 @@ serving_keeps shape old new (Gets key) given kept served = IsKept-same served.1 
 serving_keeps shape old new (Evict segment) given kept served = evict_or shape old new segment served.0 (is_own shape segment) kept served.2
 serving_keeps shape old new (Refill segment) given kept served = IsKept-same served.1 (refill_kept shape old segment kept _ refl)
 
--- what is held or locked doesn't matter
-aside : (shape : Shape) (old new : State) (held : Option Cached) (locked : Option ℕ) → IsKept shape old → new ≡ record old { held = held; locked = locked } → IsKept shape new
-aside shape old new held locked kept is = IsKept-same is (record { items = kept.items; count = kept.count; rows = kept.rows; own = kept.own; in_use = kept.in_use })
-
-turn_keeps : (shape : Shape) (old new : State) (turn : Turn) (given : Outcome) → IsKept shape old → Turns shape old turn given new → IsKept shape new
-turn_keeps shape old new (Serve command) given kept turns = serving_keeps shape old new command turns.0 kept turns.2
-turn_keeps shape old new (Hold key) given kept turns = aside shape old new _ old.locked kept turns.1
-turn_keeps shape old new Held given kept turns = IsKept-same turns.1 kept
-turn_keeps shape old new Release given kept turns = aside shape old new None old.locked kept turns.1
-turn_keeps shape old new (Lock key) given kept turns = aside shape old new old.held _ kept turns.1
-turn_keeps shape old new Unlock given kept turns = aside shape old new old.held None kept turns.1
-
-pub turns_keep : TurnsKeep
-turns_keep shape old new [] [] kept run = IsKept-same run kept
-turns_keep shape old new [] (given ∷ outcomes) kept run = absurd run
-turns_keep shape old new (turn ∷ turns) [] kept run = absurd run
-turns_keep shape old new (turn ∷ turns) (given ∷ outcomes) kept run =
-    turns_keep shape run.0 new turns outcomes (turn_keeps shape old run.0 turn given kept run.1) run.2
-
--- ---- refilled where nothing stands
-
 -- what is found under a key passes the test that all items pass
 found_passes : (p : List ℕ × Cached → Bool) (key : List ℕ) (item : Cached) (items : List (List ℕ × Cached)) → list_all p items ≡ true
     → lookup (is_at (key_cmp key)) items ≡ Some item → p (key, item) ≡ true
@@ -165,6 +153,58 @@ found_passes p key item (e ∷ es) all found =
         subst (λ k. p (k, item) ≡ true) (sym (same_key key e.0 is)) (subst (λ x. p (e.0, x) ≡ true) same (both (p e) (list_all p es) all).0)
     by false is found rest = rest found
 
+-- what stands is in a segment that was filled
+filled : (shape : Shape) (state : State) (key : List ℕ) (item : Cached) → IsKept shape state → present state.cache key ≡ Some item → (state.filling item.segment).state ≢ Empty
+filled shape state key item kept found empty =
+    let stored = found_passes (is_stored state.filling) key item state.cache.items kept.items found in
+    false≢true (sym (ap is_in_use empty) ∙ (both _ _ stored).0)
+
+-- what is held then is in a segment that was filled
+held_filled : (shape : Shape) (state : State) (key : List ℕ) → IsKept shape state → (held : Option Cached) → state.held ≡ held
+    → (item : Cached) → held_after held (present state.cache key) ≡ Some item → (state.filling item.segment).state ≢ Empty
+held_filled shape state key kept None is item e = filled shape state key item kept e
+held_filled shape state key kept (Some x) is item e = kept.held item (is ∙ e)
+
+-- a hold of an item whose segment was filled, and a lock
+aside : (shape : Shape) (old new : State) (held : Option Cached) (locked : Option ℕ) → IsKept shape old
+    → ((item : Cached) → held ≡ Some item → (old.filling item.segment).state ≢ Empty) → new ≡ record old { held = held; locked = locked } → IsKept shape new
+aside shape old new held locked kept filled is = IsKept-same is (record {
+  items = kept.items;
+  ordered = kept.ordered;
+  count = kept.count;
+  rows = kept.rows;
+  own = kept.own;
+  in_use = kept.in_use;
+  width = kept.width;
+  drawn = kept.drawn;
+  words = kept.words;
+  held = filled;
+})
+
+turn_keeps : (shape : Shape) (old new : State) (turn : Turn) (given : Outcome) → IsKept shape old → Turns shape old turn given new → IsKept shape new
+turn_keeps shape old new (Serve command) given kept turns = serving_keeps shape old new command turns.0 kept turns.2
+turn_keeps shape old new (Hold key) given kept turns = aside shape old new _ old.locked kept (held_filled shape old key kept old.held refl) turns.1
+turn_keeps shape old new Held given kept turns = IsKept-same turns.1 kept
+turn_keeps shape old new Release given kept turns = aside shape old new None old.locked kept (λ item e. cc) turns.1
+turn_keeps shape old new (Lock key) given kept turns = aside shape old new old.held _ kept kept.held turns.1
+turn_keeps shape old new Unlock given kept turns = aside shape old new old.held None kept kept.held turns.1
+
+pub commands_keep : CommandsKeep
+commands_keep shape old new [] [] kept run = IsKept-same run kept
+commands_keep shape old new [] (given ∷ answers) kept run = absurd run
+commands_keep shape old new (command ∷ commands) [] kept run = absurd run
+commands_keep shape old new (command ∷ commands) (given ∷ answers) kept run =
+    commands_keep shape run.0 new commands answers (serving_keeps shape old run.0 command given kept run.1) run.2
+
+pub turns_keep : TurnsKeep
+turns_keep shape old new [] [] kept run = IsKept-same run kept
+turns_keep shape old new [] (given ∷ outcomes) kept run = absurd run
+turns_keep shape old new (turn ∷ turns) [] kept run = absurd run
+turns_keep shape old new (turn ∷ turns) (given ∷ outcomes) kept run =
+    turns_keep shape run.0 new turns outcomes (turn_keeps shape old run.0 turn given kept run.1) run.2
+
+-- ---- refilled where nothing stands
+
 none_stands : (shape : Shape) (state : State) (segment : ℕ) → IsKept shape state → is_in_use (state.filling segment).state ≡ false → NoneStandsIn state.cache segment
 none_stands shape state segment kept unused key stands = by (standing state.cache key) refl stands
   where
@@ -178,3 +218,23 @@ pub refilled_where_none : RefilledWhereNoneStands
 refilled_where_none shape old new segment kept served =
     let given : cond (is_own shape segment) (refill_answer old segment (old.filling segment).state) refill.NotYours ≡ refill.Refilled = cc in
     none_stands shape old segment kept (refills shape old segment (is_own shape segment) (old.filling segment).state given).1
+
+-- ---- a held item's segment
+
+pub held_is_not_refilled : HeldIsNotRefilled
+held_is_not_refilled shape old new item kept is served = by (is_own shape item.segment) (old.filling item.segment).state refl given
+  where
+    told : RefillAnswer
+    told = cond (is_own shape item.segment) (refill_answer old item.segment (old.filling item.segment).state) refill.NotYours
+
+    given : told ≡ refill.Refilled
+    given = let same = served.0 in cc
+
+    held : is_held old.held item.segment ≡ true
+    held = ap (λ o. is_held o item.segment) is ∙ eq-eqb item.segment item.segment refl
+
+    by : (own : Bool) (state : SegState) → (old.filling item.segment).state ≡ state → cond own (refill_answer old item.segment state) refill.NotYours ≡ refill.Refilled → ⊥
+    by false state at e = cc
+    by true Empty at e = kept.held item is at
+    by true InUse at e = cc
+    by true Evicted at e = let no : refill.Held ≡ refill.Refilled = sym (ap (λ b. cond b refill.Held refill.Refilled) held) ∙ e in cc

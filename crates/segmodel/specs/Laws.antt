@@ -149,7 +149,11 @@ IsKeptAtTheStart = (shape : Shape) → IsKept shape (fresh shape)
 abbrev pub ServingKeeps : Type 0
 ServingKeeps = (shape : Shape) (old new : State) (command : Command) (given : Answer) → IsKept shape old → Serves shape old command given new → IsKept shape new
 
--- as does a whole run of turns
+-- as does a whole run of commands
+abbrev pub CommandsKeep : Type 0
+CommandsKeep = (shape : Shape) (old new : State) (commands : List Command) (given : List Answer) → IsKept shape old → Runs (Serves shape) old commands given new → IsKept shape new
+
+-- and of turns
 abbrev pub TurnsKeep : Type 0
 TurnsKeep = (shape : Shape) (old new : State) (turns : List Turn) (given : List Outcome) → IsKept shape old → Runs (Turns shape) old turns given new → IsKept shape new
 
@@ -157,6 +161,11 @@ TurnsKeep = (shape : Shape) (old new : State) (turns : List Turn) (given : List 
 abbrev pub RefilledWhereNoneStands : Type 0
 RefilledWhereNoneStands = (shape : Shape) (old new : State) (segment : ℕ)
     → IsKept shape old → Serves shape old (Refill segment) (answer.Refill Refilled) new → NoneStandsIn old.cache segment
+
+-- and not while an item of it is held
+abbrev pub HeldIsNotRefilled : Type 0
+HeldIsNotRefilled = (shape : Shape) (old new : State) (item : Cached)
+    → IsKept shape old → old.held ≡ Some item → Serves shape old (Refill item.segment) (answer.Refill Refilled) new → ⊥
 
 -- the segment that an entry of this reply names: the current one where something was stored
 abbrev pub stored_in : Reply → Option ℕ → Option ℕ

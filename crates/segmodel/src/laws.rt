@@ -8,7 +8,7 @@ ghost use Rattle.segmodel.specs.History.{after, Begins, IsLegal, stirred};
 ghost use Rattle.segmodel.specs.State.{fresh};
 ghost use Rattle.segmodel.specs.Serving.{after_refill, Serves};
 ghost use Rattle.segmodel.specs.Example.{shape, a, one, two, added, deleted, whole};
-ghost use Rattle.segmodel.specs.Laws.{LongerIsLegal, EarlierIsLegal, ItemsAreInOrder, StandsAsLeft, ReadsAsLeft, VersionCountsWrites, OthersKeepVersion, EvictionKeepsVersions, RefusedKeepsCache, CasFailsWhereWritten, AddNeedsAbsent, ReplaceNeedsPresent, CasNeedsVersion, OtherBucketsAreKept, StirredCountsAdded, UnstirredReadsTheSame, IsKeptAtTheStart, ServingKeeps, TurnsKeep, RefilledWhereNoneStands, StoreIsAnEntry, DeleteIsAnEntry};
+ghost use Rattle.segmodel.specs.Laws.{LongerIsLegal, EarlierIsLegal, ItemsAreInOrder, StandsAsLeft, ReadsAsLeft, VersionCountsWrites, OthersKeepVersion, EvictionKeepsVersions, RefusedKeepsCache, CasFailsWhereWritten, AddNeedsAbsent, ReplaceNeedsPresent, CasNeedsVersion, OtherBucketsAreKept, StirredCountsAdded, UnstirredReadsTheSame, IsKeptAtTheStart, ServingKeeps, CommandsKeep, TurnsKeep, RefilledWhereNoneStands, HeldIsNotRefilled, StoreIsAnEntry, DeleteIsAnEntry};
 
 /// Legal histories grow by entries that follow, and were legal at each earlier moment; what stands after them is a map.
 pub fn legal_histories()
@@ -50,12 +50,14 @@ pub fn buckets_are_apart()
     ensures still { UnstirredReadsTheSame }
 {}
 
-/// What always holds of a state holds at the start, and serving keeps it; so a segment is refilled only where nothing stands in it.
+/// What always holds of a state holds at the start, and turns keep it; so a segment is refilled only where nothing stands in it and nothing of it is held.
 pub fn serving_keeps()
     ensures start { IsKeptAtTheStart }
     ensures command { ServingKeeps }
+    ensures commands { CommandsKeep }
     ensures turns { TurnsKeep }
     ensures refilled { RefilledWhereNoneStands }
+    ensures held { HeldIsNotRefilled }
 {}
 
 /// A write or delete that is served with a reply is an entry that may come next, and leaves the cache that this entry leaves.

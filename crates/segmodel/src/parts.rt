@@ -1,5 +1,5 @@
 //! Changes of the plain cache's parts: its segments, its map, its numbers for each bucket.
-ghost use Rattle.std.specs.Prelude.{◌≡◌, [], ◌<◌, ◌+◌, ℕ, length, count_by, filter, not, OnOk, IfOk, vec_len};
+ghost use Rattle.std.specs.Prelude.{◌≡◌, [], ◌<◌, ◌+◌, ◌-◌, ◌^◌, true, if◌then◌else◌, ℕ, length, count_by, filter, not, OnOk, IfOk, vec_len};
 ghost use Rattle.std.specs.BTreeMap.{is_at};
 ghost use Rattle.segmodel.specs.Cache.{key_cmp, with_at, counted};
 ghost use Rattle.segmodel.specs.State.{but_for, is_in};
@@ -54,15 +54,21 @@ pub fn count_write(versions: &mut Vec<u32>, bucket: usize)
     versions[bucket] = versions[bucket].wrapping_add(1);
 }
 
-// Adds a bucket to a chain.
-pub fn widen(widths: &mut Vec<u8>, bucket: usize)
+// Adds an overflow bucket to a chain, if it is to be longer.
+pub fn chain(widths: &mut Vec<u8>, drawn: &mut u32, bucket: usize, longer: bool)
     requires bucket { bucket < vec_len widths.old }
-    requires short { by_bucket widths.old.items 1 bucket < 4 }
+    requires short { longer ≡ true → by_bucket widths.old.items 1 bucket < 4 }
+    requires left { longer ≡ true → drawn.old < 2 ^ 32 - 1 }
     ensures len { vec_len widths.new ≡ vec_len widths.old }
-    ensures wider { by_bucket widths.new.items 1
-        ≡ with_at (by_bucket widths.old.items 1) bucket (by_bucket widths.old.items 1 bucket + 1) }
+    ensures wider { by_bucket widths.new.items 1 ≡ (if longer then
+        with_at (by_bucket widths.old.items 1) bucket (by_bucket widths.old.items 1 bucket + 1)
+        else by_bucket widths.old.items 1) }
+    ensures drawn { drawn.new ≡ (if longer then drawn.old + 1 else drawn.old) }
 {
-    widths[bucket] += 1;
+    if longer {
+        widths[bucket] += 1;
+        *drawn += 1;
+    }
 }
 
 // Marks a segment as evicted.

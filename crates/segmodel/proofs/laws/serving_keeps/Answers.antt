@@ -1,5 +1,9 @@
-use Rattle.segmodel.proofs.ServingKeeps.{serving_keeps, turns_keep, refilled_where_none}
+use Rattle.segmodel.proofs.Kept.{IsKept-fresh}
+use Rattle.segmodel.proofs.ServingKeeps.{serving_keeps, commands_keep, turns_keep, refilled_where_none, held_is_not_refilled}
 use Rattle.segmodel.proofs.laws.serving_keeps.Goals as goal
+
+pub returns-clause-start : goal.returns-clause-start
+returns-clause-start c = IsKept-fresh
 
 pub returns-clause-command : goal.returns-clause-command
 returns-clause-command c = serving_keeps
@@ -9,3 +13,9 @@ returns-clause-turns c = turns_keep
 
 pub returns-clause-refilled : goal.returns-clause-refilled
 returns-clause-refilled c = refilled_where_none
+
+pub returns-clause-commands : goal.returns-clause-commands
+returns-clause-commands c = commands_keep
+
+pub returns-clause-held : goal.returns-clause-held
+returns-clause-held c = held_is_not_refilled
