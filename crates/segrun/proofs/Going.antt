@@ -11,7 +11,7 @@ use Rattle.segrun.specs.Running.{Stands, FirstBad, FeedOutcome, FinishOutcome}
 use Rattle.segrun.specs.Served.{is_served}
 use Rattle.segrun.specs.declared.fault.RunFault.{RunFault}
 use Rattle.segrun.specs.declared.fault.RunFault.TheVariants as fault
-use Rattle.segrun.proofs.LineLemmas.{reached, at_start}
+use Rattle.segrun.proofs.LineLemmas.{IsLine-append, reached, at_start}
 
 -- these bytes came, and this text was written
 pub record Going (shape : Shape) (At : State → Type 0) {R W : Type 0} (hands : R → List ℕ → R → Type 0) (takes : W → List ℕ → W → Type 0) (from reader : R) (to writer : W) (total : ℕ) (line : List ℕ) (number : ℕ) : Type 0 where
@@ -39,10 +39,6 @@ cut (b ∷ bytes) = elim (eqb_tells b 10) [
       record { front = b ∷ rest.front; back = rest.back; whole = ap (λ r. b ∷ r) rest.whole; unbroken = (other.1, rest.unbroken); ends = rest.ends }
 ]
 
-IsLine-join : (xs ys : List ℕ) → IsLine xs → IsLine ys → IsLine (xs ++ ys)
-IsLine-join [] ys first more = more
-IsLine-join (x ∷ xs) ys first more = (first.0, IsLine-join xs ys first.1 more)
-
 -- a line that was bad before the end of the input is the first bad one, whatever comes
 known_bad : (shape : Shape) (seen text : List ℕ) (n : ℕ) → FirstBad shape ⊥ seen text n → IsBadFrom shape seen text n
 known_bad shape seen text n bad more = elim bad.known [
@@ -68,7 +64,7 @@ known_bad shape seen text n bad more = elim bad.known [
         state = bad.state;
         whole = rw bad.whole (simp append_assoc (ap (λ r. flat_map ended bad.lines ++ (bad.bad ++ r)) rest.whole));
         each = bad.each;
-        unbroken = IsLine-join bad.bad rest.front bad.unbroken rest.unbroken;
+        unbroken = IsLine-append bad.bad rest.front bad.unbroken rest.unbroken;
         ends = rest.ends;
         is_bad = inl (simp length-append (omega arith));
         served = bad.served;

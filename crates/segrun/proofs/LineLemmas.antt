@@ -2,12 +2,13 @@
 use Rattle.std.proofs.Common.{Err, Bool, ◌≡◌, ◌≢◌, ℕ, ◌+◌, ◌<◌, inl, inr, List, [], ◌∷◌, ◌++◌, length, true, eqb, refl, sym, ◌∙◌, ap, arith, append_assoc, append-nil, length-append}
 use Rattle.std.specs.List.{flat_map, AllByRecursion}
 use Rattle.std.proofs.lemmas.Grind.{flat_map-append}
+use Rattle.std.proofs.lemmas.Bool.Decides.{eqb_tells}
 use Rattle.std.proofs.lemmas.Bool.{eqb-true}
 use Rattle.segword.specs.declared.shape.Shape.{Shape}
 use Rattle.segmodel.specs.declared.answer.Turn.{Turn}
 use Rattle.segmodel.specs.declared.answer.Outcome.{Outcome}
 use Rattle.segmodel.specs.State.{State, fresh}
-use Rattle.segmodel.specs.Turns.{Runs}
+use Rattle.segmodel.specs.Turns.{Turns, Runs}
 use Rattle.segmodel.specs.Spelling.{PassTurn, spelling}
 use Rattle.segmodel.specs.Replies.{reply}
 use Rattle.segmodel.specs.Script.{IsLine, ended, Splits, MaySay, Say, Steps, IsServed, IsBad, IsTextOf}
@@ -35,7 +36,7 @@ Say-one : (passes : ℕ) (allows : Turn → Bool) (line : List ℕ) (said : Pass
 Say-one passes allows [] said some may same = absurd (omega arith)
 Say-one passes allows (b ∷ bs) said some may same = (may, same, tt)
 
-IsLine-append : (xs ys : List ℕ) → IsLine xs → IsLine ys → IsLine (xs ++ ys)
+pub IsLine-append : (xs ys : List ℕ) → IsLine xs → IsLine ys → IsLine (xs ++ ys)
 IsLine-append [] ys first more = more
 IsLine-append (x ∷ xs) ys first more = (first.0, IsLine-append xs ys first.1 more)
 
@@ -58,6 +59,15 @@ Splits-end bytes lines rest splits = record {
   each = lines-append lines (rest ∷ []) splits.each (splits.partial, tt);
   partial = tt;
 }
+
+-- an engine that serves the turns of one pass has some state after each; of several passes nothing is known but the replies
+pub stepped : (shape : Shape) (At At' : State → Type 0) (said : PassTurn) (outcome : Outcome) (old : State)
+    → ((old : State) → shape.passes ≡ 1 → At old → (new : State) × Turns shape old said.1 outcome new × At' new)
+    → (shape.passes ≡ 1 → At old) → (new : State) × Steps shape old said outcome new × (shape.passes ≡ 1 → At' new)
+stepped shape At At' said outcome old turns at = elim (eqb_tells shape.passes 1) [
+  | inl one ↦ let step = turns old one.1 (at one.1) in (step.0, λ _. step.1, λ _. step.2)
+  | inr more ↦ (old, λ one. absurd (more.1 one), λ one. absurd (more.1 one))
+]
 
 module _ (shape : Shape) where
   -- more lines are served after some
@@ -102,7 +112,7 @@ module _ (shape : Shape) where
     }
 
     -- the end of the line has come, and it was served
-    pub at_end : (Before : State → Type 0) (seen told text line : List ℕ) (number : ℕ) (new : State) (here : Stands shape Before seen told line number) → At new → IsServed shape is_served here.state (line ∷ []) text new → Stands shape At (seen ++ 10 ∷ []) (told ++ text) [] (number + 1)
+    pub at_end : (Before : State → Type 0) (seen told text line : List ℕ) (number : ℕ) (new : State) (here : Stands shape Before seen told line number) → (shape.passes ≡ 1 → At new) → IsServed shape is_served here.state (line ∷ []) text new → Stands shape At (seen ++ 10 ∷ []) (told ++ text) [] (number + 1)
     at_end Before seen told text line number new here at served = record {
       lines = here.lines ++ line ∷ [];
       state = new;
@@ -182,7 +192,7 @@ module _ (shape : Shape) where
   at_start At at = record {
     lines = [];
     state = fresh shape;
-    at = at;
+    at = λ one. at;
     splits = record { whole = refl; each = tt; partial = tt };
     short = omega arith;
     served = IsServed-none (fresh shape);
@@ -204,7 +214,7 @@ module _ (shape : Shape) where
     h.3,
     IsBeginning-told told h.0 h.1 h.4,
     sym (append-nil (seen ++ 10 ∷ [])),
-    reached (λ s. Unit {0}) (seen ++ 10 ∷ []) (told ++ h.1) [] (number + 1) (at_end (λ s. Unit {0}) Before seen told h.1 line number h.2 here tt h.5),
+    reached (λ s. Unit {0}) (seen ++ 10 ∷ []) (told ++ h.1) [] (number + 1) (at_end (λ s. Unit {0}) Before seen told h.1 line number h.2 here (λ one. tt) h.5),
   )
 
   -- a fault at the last line

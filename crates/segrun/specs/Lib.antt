@@ -1,4 +1,5 @@
 pub mod Device
+pub mod Fault
 pub mod Known
 pub mod Memory
 pub mod Reading

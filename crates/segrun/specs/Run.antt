@@ -1,13 +1,12 @@
 -- How a run of a script ends.
 use Rattle.std.specs.Prelude.{◌⊎◌, ◌≡◌, ℕ, ◌^◌, ◌≤◌, Bool, true, false, List, ◌++◌, length, Result, Ok, Err}
 use Rattle.segword.specs.declared.shape.Shape.{Shape}
-use Rattle.segword.specs.Shape.{IsValid, IsFirstFault}
+use Rattle.segword.specs.Shape.{IsValid}
 use Rattle.segmodel.specs.State.{State, fresh}
 use Rattle.segmodel.specs.Script.{Splits, IsServed, IsTextOf, IsFirstBad}
 use Rattle.segrun.specs.Device.{IsBeginning, flushed}
+use Rattle.segrun.specs.Fault.{IsMakeFault}
 use Rattle.segrun.specs.Served.{is_served}
-use Rattle.segrun.specs.declared.fault.MakeFault.{MakeFault}
-use Rattle.segrun.specs.declared.fault.MakeFault.TheVariants as make
 use Rattle.segrun.specs.declared.fault.RunFault.{RunFault}
 use Rattle.segrun.specs.declared.fault.RunFault.TheVariants as fault
 
@@ -25,14 +24,9 @@ abbrev pub is_make_fault : Result (Unit {0}) RunFault → Bool
 is_make_fault (Err (fault.Make f)) = true
 is_make_fault _ = false
 
--- why nothing was made: the shape has a fault, and this is its first, or the shape can be had and memory was refused
-abbrev pub IsWhyNotMade : Shape → MakeFault → Type 0
-IsWhyNotMade shape (make.Shape f) = IsFirstFault shape f
-IsWhyNotMade shape make.OutOfMemory = IsValid shape
-
 -- a shape that can't be had is answered by its first fault, and one that can be had is never called a bad one
 abbrev pub ShapeIsAnswered : Shape → Result (Unit {0}) RunFault → Type 0
-ShapeIsAnswered shape (Err (fault.Make f)) = IsWhyNotMade shape f
+ShapeIsAnswered shape (Err (fault.Make f)) = IsMakeFault shape f
 ShapeIsAnswered shape _ = IsValid shape
 
 -- ---- how far a run came

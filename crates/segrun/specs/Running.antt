@@ -10,16 +10,21 @@ use Rattle.segrun.specs.Served.{is_served}
 use Rattle.segrun.specs.declared.fault.RunFault.{RunFault}
 use Rattle.segrun.specs.declared.fault.RunFault.TheVariants as fault
 
--- Where a run is: these bytes came, this text is written for their whole lines, the engine is at the state after these,
--- and the bytes of the line that has no end yet are kept, with its number.
+-- Where a run is: these bytes came, this text is written for their whole lines, the engine (if it has one pass) is at the
+-- state after these, and the bytes of the line that has no end yet are kept, with its number.
 pub record Stands (shape : Shape) (At : State → Type 0) (seen text line : List ℕ) (number : ℕ) : Type 0 where
   pub lines : List (List ℕ)
   pub state : State
-  pub at : At state
+  pub at : shape.passes ≡ 1 → At state
   pub splits : Splits seen lines line
   pub short : length line ≤ 128
   pub served : IsServed shape is_served (fresh shape) lines text state
   pub numbered : number ≡ length lines + 1
+
+-- The reader handed out some bytes up to here, and up to here the writer took the replies to all their whole lines.
+abbrev pub AllReplied : {R W : Type 0} → Shape → (State → Type 0) → (R → List ℕ → R → Type 0) → (W → List ℕ → W → Type 0) → R → W → List ℕ → ℕ → Type 0
+AllReplied {R} {W} shape At hands takes reader writer line number =
+    (from : R) × (to : W) × (seen : List ℕ) × (told : List ℕ) × hands from seen reader × takes to told writer × Stands shape At seen told line number
 
 -- Line n of these bytes is bad, and none before it: it has its end, or its 129th byte, or (where Ends) nothing comes after it.
 pub record FirstBad (shape : Shape) (Ends : Type 0) (seen text : List ℕ) (n : ℕ) : Type 0 where
@@ -38,7 +43,7 @@ pub record FirstBad (shape : Shape) (Ends : Type 0) (seen text : List ℕ) (n : 
 -- What became of one whole line, in this state.
 abbrev pub LineOutcome : Shape → (State → Type 0) → (List ℕ → Type 0) → State → List ℕ → ℕ → Result (Unit {0}) RunFault → Type 0
 LineOutcome shape At Wrote state line number (Ok _) =
-    (text : List ℕ) × (new : State) × Wrote text × At new × IsServed shape is_served state (line ∷ []) text new
+    (text : List ℕ) × (new : State) × Wrote text × (shape.passes ≡ 1 → At new) × IsServed shape is_served state (line ∷ []) text new
 LineOutcome shape At Wrote state line number (Err (fault.Line n)) = Wrote [] × (n ≡ number) × IsBad shape.passes is_served line
 LineOutcome shape At Wrote state line number (Err fault.Write) =
     (part : List ℕ) × (text : List ℕ) × (new : State) × Wrote part × IsBeginning part text × IsServed shape is_served state (line ∷ []) text new

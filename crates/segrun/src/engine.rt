@@ -2,7 +2,7 @@
 ghost use Rattle.std.specs.Prelude.{◌≡◌, ◌<◌, true};
 ghost use Rattle.segword.specs.declared.shape.Shape.{Shape};
 ghost use Rattle.segmodel.specs.State.{State};
-ghost use Rattle.segmodel.specs.Script.{Steps};
+ghost use Rattle.segmodel.specs.Turns.{Turns};
 ghost use Rattle.segrun.specs.Served.{is_served};
 
 use segmodel::{Outcome, Turn};
@@ -18,11 +18,11 @@ pub trait Engine {
     fn passes(&self) -> u32
         ensures { result ≡ (shape self.now).passes };
 
-    /// Takes one turn of a pass.
+    /// Takes one turn of a pass. With one pass, its turns are served one after the other.
     fn turn(&mut self, pass: u32, turn: &Turn) -> Outcome
         requires pass { pass < (shape self.old).passes }
         requires served { is_served turn.now ≡ true }
         ensures shape { shape self.new ≡ shape self.old }
-        ensures turns { (old : State) → is_at self.old old
-            → (new : State) × Steps (shape self.old) old (pass, turn.now) result new × is_at self.new new };
+        ensures turns { (old : State) → (shape self.old).passes ≡ 1 → is_at self.old old
+            → (new : State) × Turns (shape self.old) old turn.now result new × is_at self.new new };
 }

@@ -21,9 +21,6 @@ use standard::{ReadSource, WriteSink};
 use std::io;
 use std::process::ExitCode;
 
-#[cfg(test)]
-mod tests;
-
 /// One bucket, one pass, and one segment of eight rows.
 const SHAPE: Shape = Shape {
     buckets: 1,

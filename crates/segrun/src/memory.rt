@@ -6,14 +6,32 @@ ghost use Rattle.segrun.specs.Memory.{hands_more, takes_more, takes_none};
 use crate::device::{Failed, Sink, Source};
 use std::alloc::{AllocError, Global};
 
-/// Hands out a slice, in pieces of at most `step` bytes, and fails once `good` more bytes were handed out.
+/// Hands out a slice, in pieces of at most `step` bytes.
 #[derive(Drop)]
 pub struct MemSource<'a> {
+    /// What is left to hand out.
     pub left: &'a [u8],
     pub step: usize,
+    /// It fails once this many more bytes were handed out.
     pub good: Option<usize>,
+    /// A call of it has failed.
     pub failed: bool,
     ghost moves: { 0 < step },
+}
+
+impl<'a> MemSource<'a> {
+    /// A reader of these bytes, which hands out as many at a time as are asked for, and doesn't fail.
+    pub fn new(bytes: &'a [u8]) -> MemSource<'a>
+        ensures bytes { result.left.now ≡ bytes.now }
+        ensures works { result.failed ≡ false }
+    {
+        MemSource {
+            left: bytes,
+            step: usize::MAX,
+            good: None,
+            failed: false,
+        }
+    }
 }
 
 impl<'a> Source for MemSource<'a> {
@@ -56,11 +74,14 @@ pub enum WhenFull {
 /// no byte that it takes is lost.
 #[derive(Drop)]
 pub struct MemSink {
+    /// What it took.
     pub taken: Vec<u8>,
     pub step: usize,
+    /// How many more bytes it takes.
     pub room: usize,
     pub when_full: WhenFull,
     pub flush_fails: bool,
+    /// A call of it has failed, or a write took none of its bytes.
     pub failed: bool,
     /// How many flushes were asked, modulo 2^64.
     pub flushes: u64,

@@ -1,8 +1,9 @@
 //! Runs a script from a reader to a writer, over an engine.
-ghost use Rattle.std.specs.Prelude.{◌≡◌, ◌+◌, ◌<◌, ◌≤◌, ◌^◌, ◌++◌, ◌∷◌, [], ◌⊎◌, ℕ, List, length, false, IsOk};
+ghost use Rattle.std.specs.Prelude.{◌≡◌, ◌+◌, ◌<◌, ◌≤◌, ◌^◌, ◌++◌, ◌∷◌, [], ◌⊎◌, ℕ, List, length, take, false, IsOk, IfOk, OnErr, is_err};
 ghost use Rattle.segmodel.specs.Script.{IsTextOf, IsFirstBad};
 ghost use Rattle.segmodel.specs.State.{State, fresh};
 ghost use Rattle.segrun.specs.Device.{HandsOut};
+ghost use Rattle.segrun.specs.Running.{AllReplied};
 ghost use Rattle.segrun.specs.Run.{RunOutcome, is_read_fault, is_write_fault, is_make_fault};
 ghost use Rattle.segrun.specs.Served.{is_served};
 
@@ -33,7 +34,7 @@ impl OpenLine {
     fn serve<E: Engine, W: Sink>(&self, engine: &mut E, writer: &mut W) -> Result<(), RunFault>
         requires works { W.has_failed writer.old ≡ false }
         ensures shape { E.shape engine.new ≡ E.shape engine.old }
-        ensures outcome { (state : State) → E.is_at engine.old state →
+        ensures outcome { (state : State) → ((E.shape engine.old).passes ≡ 1 → E.is_at engine.old state) →
             LineOutcome (E.shape engine.old) (E.is_at engine.new) (λ text. W.takes writer.old text writer.new)
             state self.now.bytes.items self.now.number result }
         ensures failed { W.has_failed writer.new ≡ is_write_fault result }
@@ -144,6 +145,27 @@ impl OpenLine {
     }
 }
 
+// Reads once, and it is asked for only where the replies to all whole lines so far are written.
+fn read_piece<R: Source, W: Sink, E: Engine>(
+    reader: &mut R,
+    _writer: &W,
+    _engine: &E,
+    _line: &OpenLine,
+    piece: &mut [u8],
+) -> Result<usize, Failed>
+    requires works { R.has_failed reader.old ≡ false }
+    requires room { 0 < length piece.old }
+    requires replied { AllReplied (E.shape _engine.now) (E.is_at _engine.now) R.hands W.takes
+        reader.old _writer.now _line.now.bytes.items _line.now.number }
+    ensures count { IfOk result (λ n. n ≤ length piece.new) }
+    ensures bytes { IfOk result (λ n. R.hands reader.old (take n piece.new) reader.new) }
+    ensures end { IfOk result (λ n. n ≡ 0 → R.is_at_end reader.new) }
+    ensures err { OnErr result (R.hands reader.old [] reader.new) }
+    ensures failed { R.has_failed reader.new ≡ is_err result }
+{
+    reader.read(piece)
+}
+
 /// Runs the script that the reader hands out over an engine that is at its start, and writes the replies. The reply of
 /// each whole line is written before the next read.
 pub fn run<R: Source, W: Sink, E: Engine>(
@@ -181,7 +203,7 @@ pub fn run<R: Source, W: Sink, E: Engine>(
     let mut total: u64 = 0;
     while total < LIMIT {
         let room = (LIMIT - total).min(PIECE as u64) as usize;
-        let Ok(n) = reader.read(&mut piece[..room]) else {
+        let Ok(n) = read_piece(reader, writer, engine, &line, &mut piece[..room]) else {
             return Err(RunFault::Read);
         };
         if n == 0 {

@@ -2,7 +2,7 @@
 ghost use Rattle.std.specs.Prelude.{◌≡◌, IfOk, IfErr};
 ghost use Rattle.segword.specs.Shape.{IsValid};
 ghost use Rattle.segmodel.specs.State.{State, fresh};
-ghost use Rattle.segrun.specs.Run.{IsWhyNotMade};
+ghost use Rattle.segrun.specs.Fault.{IsMakeFault};
 ghost use Rattle.segrun.specs.StandIn.{IsAt};
 
 use crate::engine::Engine;
@@ -19,10 +19,13 @@ pub struct Words {
 
 impl Words {
     pub fn new(_alloc: Global, shape: &Shape) -> Result<Words, MakeFault>
+        requires one_bucket { shape.now.buckets ≡ 1 }
+        requires one_pass { shape.now.passes ≡ 1 }
+        requires no_overflow { shape.now.overflow ≡ 0 }
         ensures shape { IfOk result (λ words. words.shape ≡ shape.now) }
-        ensures fresh { IfOk result (λ words. IsAt words.shape (fresh words.shape)) }
+        ensures start { IfOk result (λ words. IsAt words.shape (fresh shape.now)) }
         ensures valid { IfOk result (λ words. IsValid words.shape) }
-        ensures fault { IfErr result (IsWhyNotMade shape.now) }
+        ensures fault { IfErr result (IsMakeFault shape.now) }
     {
         match shape.check() {
             Ok(()) => Err(MakeFault::OutOfMemory),

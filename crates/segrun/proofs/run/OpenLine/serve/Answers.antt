@@ -1,6 +1,6 @@
 use Rattle.std.proofs.Common.{inr, [], refl, ◌∙◌}
 use Rattle.segrun.proofs.Devices.{nonempty}
-use Rattle.segrun.proofs.LineLemmas.{IsServed-one, IsServed-empty}
+use Rattle.segrun.proofs.LineLemmas.{IsServed-one, IsServed-empty, stepped}
 use Rattle.segrun.proofs.LineReadings.{may_say, not_read, not_allowed}
 use Rattle.segrun.proofs.run.OpenLine.serve.Goals as goal
 
@@ -24,7 +24,7 @@ returns-then-not-is_served-clause-outcome g c = λ state at. (
 
 pub returns-in-Ok-clause-outcome : goal.returns-in-Ok-clause-outcome
 returns-in-Ok-clause-outcome g c = λ state at.
-    let step = c.turn-outcome.ensures.turns state at in (
+    let step = stepped (g.E.Engine.shape c.args.engine.now) _ _ (c.in-Some.pass, c.in-Some.turn) c.turn-outcome.result state c.turn-outcome.ensures.turns at in (
       c.as_slice-2.result.now,
       step.0,
       c.in-Ok.ensures.ok,
@@ -35,7 +35,7 @@ returns-in-Ok-clause-outcome g c = λ state at.
 
 pub returns-in-Err-clause-outcome : goal.returns-in-Err-clause-outcome
 returns-in-Err-clause-outcome g c = λ state at.
-    let step = c.turn-outcome.ensures.turns state at in (
+    let step = stepped (g.E.Engine.shape c.args.engine.now) _ _ (c.in-Some.pass, c.in-Some.turn) c.turn-outcome.result state c.turn-outcome.ensures.turns at in (
       c.in-Err.ensures.err.0,
       c.as_slice-2.result.now,
       step.0,

@@ -3,4 +3,4 @@ use Rattle.segrun.proofs.words.WordsEngine.turn.Goals as goal
 
 pub returns-clause-turns : goal.returns-clause-turns
 unfolding IsAt
-returns-clause-turns c = λ old at. absurd at
+returns-clause-turns c = λ old one at. absurd at
