@@ -42,7 +42,7 @@ use Rattle.segmodel.proofs.Kept.{IsKept-same, IsKept-stored, IsKept-deleted, IsK
 row_left : (rows used : ℕ) → nat_le rows used ≡ false → used < rows
 row_left rows used is = grind (arith, is)
 
-own_below : (segment each : ℕ) → nat_lt segment each ≡ true → segment < each
+pub own_below : (segment each : ℕ) → nat_lt segment each ≡ true → segment < each
 own_below segment each is = grind (arith, is)
 
 may_where : (lacks may : Bool) → (lacks && not may) ≡ false → lacks ≡ true → may ≡ true
@@ -109,7 +109,7 @@ evict_or shape old new segment given true kept served = evict_kept shape old new
 evict_or shape old new segment given false kept served = IsKept-same served.1 kept
 
 -- a refill that is answered Refilled is of an own segment that is not in use
-refills : (shape : Shape) (state : State) (segment : ℕ) (own : Bool) (is : SegState) → cond own (refill_answer state segment is) refill.NotYours ≡ refill.Refilled
+pub refills : (shape : Shape) (state : State) (segment : ℕ) (own : Bool) (is : SegState) → cond own (refill_answer state segment is) refill.NotYours ≡ refill.Refilled
     → (own ≡ true) × (is_in_use is ≡ false)
 refills shape state segment true Empty e = (refl, refl)
 refills shape state segment true Evicted e = (refl, refl)
@@ -139,7 +139,7 @@ serving_keeps shape old new (Evict segment) given kept served = evict_or shape o
 serving_keeps shape old new (Refill segment) given kept served = IsKept-same served.1 (refill_kept shape old segment kept _ refl)
 
 -- what is found under a key passes the test that all items pass
-found_passes : (p : List ℕ × Cached → Bool) (key : List ℕ) (item : Cached) (items : List (List ℕ × Cached)) → list_all p items ≡ true
+pub found_passes : (p : List ℕ × Cached → Bool) (key : List ℕ) (item : Cached) (items : List (List ℕ × Cached)) → list_all p items ≡ true
     → lookup (is_at (key_cmp key)) items ≡ Some item → p (key, item) ≡ true
 found_passes p key item [] all found = cc
 found_passes p key item (e ∷ es) all found =
@@ -205,7 +205,7 @@ turns_keep shape old new (turn ∷ turns) (given ∷ outcomes) kept run =
 
 -- ---- refilled where nothing stands
 
-none_stands : (shape : Shape) (state : State) (segment : ℕ) → IsKept shape state → is_in_use (state.filling segment).state ≡ false → NoneStandsIn state.cache segment
+pub none_stands : (shape : Shape) (state : State) (segment : ℕ) → IsKept shape state → is_in_use (state.filling segment).state ≡ false → NoneStandsIn state.cache segment
 none_stands shape state segment kept unused key stands = by (standing state.cache key) refl stands
   where
     by : (o : Option Cached) → standing state.cache key ≡ o → IsSomeAnd o (λ item. item.segment ≡ segment) → ⊥

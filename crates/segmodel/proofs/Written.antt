@@ -21,7 +21,7 @@ use Rattle.segmodel.specs.Serving.{IsGiven, IsReplied, is_out_of_rows, lacks_wor
 use Rattle.segmodel.specs.Laws.{stored_in, StoreIsAnEntry, DeleteIsAnEntry}
 
 -- the first pass owns the first segments
-first_owner : (shape : Shape) (s : ℕ) → s < shape.segments_each → owner shape s ≡ 0
+pub first_owner : (shape : Shape) (s : ℕ) → s < shape.segments_each → owner shape s ≡ 0
 first_owner shape s below = div-eq_of_lt below
 
 -- where something is stored there is a current segment, which is the pass's own

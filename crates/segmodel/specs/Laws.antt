@@ -1,6 +1,7 @@
 -- Laws: what the definitions come to. Each is proved as the contract of a function in src/laws.rt.
-use Rattle.std.specs.Prelude.{◌≡◌, ℕ, ◌+◌, ◌%◌, ◌^◌, ◌==◌, ◌<◌, Bool, true, false, is_some, IsSome, IsSomeAnd, List, ◌∷◌, ◌++◌, find, Option, Some, None, option_map, option_and_then, if◌then◌else◌}
+use Rattle.std.specs.Prelude.{◌≡◌, ℕ, ◌+◌, ◌%◌, ◌^◌, ◌==◌, ◌<◌, Bool, true, false, is_some, IsSome, IsSomeAnd, List, [], ◌∷◌, ◌++◌, length, find, Option, Some, None, option_map, option_and_then, if◌then◌else◌}
 use Rattle.std.specs.BTreeMap.{is_at}
+use Rattle.std.specs.List.{AllByRecursion}
 use Rattle.std.specs.List.Sorted.{IsStrictlySortedBy}
 use Rattle.std.specs.Map.{keys_of}
 use Rattle.segword.specs.declared.shape.Shape.{Shape}
@@ -10,15 +11,18 @@ use Rattle.segmodel.specs.declared.request.Reply.{Reply}
 use Rattle.segmodel.specs.declared.request.Reply.TheVariants.{Stored, Exists, NotFound, Deleted}
 use Rattle.segmodel.specs.declared.entry.Cached.{Cached}
 use Rattle.segmodel.specs.declared.entry.Entry.{Entry}
-use Rattle.segmodel.specs.declared.entry.Entry.TheVariants.{Wrote, Evicted}
+use Rattle.segmodel.specs.declared.entry.Entry.TheVariants.{Wrote, Evicted, Refilled}
 use Rattle.segmodel.specs.declared.answer.Command.{Command}
-use Rattle.segmodel.specs.declared.answer.Command.TheVariants.{Refill}
+use Rattle.segmodel.specs.declared.answer.Command.TheVariants.{Write, Evict, Refill}
 use Rattle.segmodel.specs.declared.answer.Answer.{Answer}
 use Rattle.segmodel.specs.declared.answer.Answer.TheVariants as answer
-use Rattle.segmodel.specs.declared.answer.RefillAnswer.TheVariants.{Refilled}
+use Rattle.segmodel.specs.declared.answer.RefillAnswer.TheVariants as refill
+use Rattle.segmodel.specs.declared.answer.EvictAnswer.{EvictAnswer}
+use Rattle.segmodel.specs.declared.answer.EvictAnswer.TheVariants as evict
 use Rattle.segmodel.specs.declared.answer.WriteAnswer.{WriteAnswer}
 use Rattle.segmodel.specs.declared.answer.DeleteAnswer.{DeleteAnswer}
 use Rattle.segmodel.specs.declared.answer.Turn.{Turn}
+use Rattle.segmodel.specs.declared.answer.Turn.TheVariants.{Serve}
 use Rattle.segmodel.specs.declared.answer.Outcome.{Outcome}
 use Rattle.segmodel.specs.Places.{bucket_of}
 use Rattle.segmodel.specs.Request.{key_of, value_of}
@@ -160,12 +164,12 @@ TurnsKeep = (shape : Shape) (old new : State) (turns : List Turn) (given : List 
 -- a segment is refilled only where no key stands in it
 abbrev pub RefilledWhereNoneStands : Type 0
 RefilledWhereNoneStands = (shape : Shape) (old new : State) (segment : ℕ)
-    → IsKept shape old → Serves shape old (Refill segment) (answer.Refill Refilled) new → NoneStandsIn old.cache segment
+    → IsKept shape old → Serves shape old (Refill segment) (answer.Refill refill.Refilled) new → NoneStandsIn old.cache segment
 
 -- and not while an item of it is held
 abbrev pub HeldIsNotRefilled : Type 0
 HeldIsNotRefilled = (shape : Shape) (old new : State) (item : Cached)
-    → IsKept shape old → old.held ≡ Some item → Serves shape old (Refill item.segment) (answer.Refill Refilled) new → ⊥
+    → IsKept shape old → old.held ≡ Some item → Serves shape old (Refill item.segment) (answer.Refill refill.Refilled) new → ⊥
 
 -- the segment that an entry of this reply names: the current one where something was stored
 abbrev pub stored_in : Reply → Option ℕ → Option ℕ
@@ -185,3 +189,51 @@ DeleteIsAnEntry = (shape : Shape) (old new : State) (key : List ℕ) (given : De
     → ServesDelete shape old key given new → reply_of_delete given ≡ Some reply
     → Follows shape old.cache (Wrote 0 (Delete key) reply (stored_in reply old.current))
     × (new.cache ≡ next shape old.cache (Wrote 0 (Delete key) reply (stored_in reply old.current)))
+
+-- ---- turns
+
+-- whether the turn is an eviction
+abbrev pub is_evict : Turn → Bool
+is_evict (Serve (Evict segment)) = true
+is_evict _ = false
+
+-- every turn has an outcome
+abbrev pub EveryTurnIsAnswered : Type 0
+EveryTurnIsAnswered = (shape : Shape) (old : State) (turn : Turn) → IsKept shape old → (given : Outcome) × (new : State) × Turns shape old turn given new
+
+-- but for an eviction it has only one, with one state after it
+abbrev pub OnlyEvictChooses : Type 0
+OnlyEvictChooses = (shape : Shape) (old new other : State) (turn : Turn) (given told : Outcome) → is_evict turn ≡ false
+    → Turns shape old turn given new → Turns shape old turn told other → (told ≡ given) × (other ≡ new)
+
+-- ---- serving is history
+
+-- the entry of a request that is replied; a refusal is none
+abbrev pub entry_of_reply : Option ℕ → Request → Option Reply → List Entry
+entry_of_reply current request None = []
+entry_of_reply current request (Some reply) = Wrote 0 request reply (stored_in reply current) ∷ []
+
+-- an entry says that a key was evicted from the segment
+abbrev pub IsEvictionFrom : ℕ → Entry → Type 0
+IsEvictionFrom segment entry = (key : List ℕ) × (entry ≡ Evicted 0 key segment)
+
+-- how many keys the answer to an evict says were taken out
+abbrev pub evicted : EvictAnswer → ℕ
+evicted (evict.Evicted count) = count
+evicted (evict.Busy count) = count
+evicted evict.NotYours = 0
+
+-- The entries that serving a command adds, by its answer: one for a request that is replied, one for each key that is evicted,
+-- one for a segment that is refilled; none for anything else. The segment that was current is the one stored in.
+abbrev pub Adds : Option ℕ → Command → Answer → List Entry → Type 0
+Adds current (Write request) (answer.Write told) more = more ≡ entry_of_reply current request (reply_of_write told)
+Adds current (Write request) (answer.Delete told) more = more ≡ entry_of_reply current request (reply_of_delete told)
+Adds current (Evict segment) (answer.Evict told) more = AllByRecursion (IsEvictionFrom segment) more × (length more ≡ evicted told)
+Adds current (Refill segment) (answer.Refill refill.Refilled) more = more ≡ Refilled 0 segment ∷ []
+Adds current _ _ more = more ≡ []
+
+-- where the cache is that of a legal history, it is that of a longer one after a command was served
+abbrev pub ServingIsHistory : Type 0
+ServingIsHistory = (shape : Shape) (old new : State) (command : Command) (given : Answer) (history : List Entry)
+    → IsKept shape old → IsLegal shape history → old.cache ≡ after shape history → Serves shape old command given new
+    → (more : List Entry) × IsLegal shape (more ++ history) × (new.cache ≡ after shape (more ++ history)) × Adds old.current command given more

@@ -1,0 +1,5 @@
+use Rattle.segmodel.proofs.Evictions.{serving_is_history}
+use Rattle.segmodel.proofs.laws.serving_is_history.Goals as goal
+
+pub returns : goal.returns
+returns c = serving_is_history
