@@ -1,9 +1,13 @@
 -- What others leave alone, put together.
-use Rattle.std.proofs.Common.{◌≡◌, ◌≢◌, ℕ, ◌+◌, ◌<◌, eqb, List, [], ◌∷◌, ◌++◌, sym, refl, ap, ◌∙◌, subst, ⊎_elim, append_assoc, arith}
-use Rattle.std.proofs.lemmas.Bool.{cases_lt, cond-false, ne_eqb}
+use Rattle.std.proofs.Common.{◌≡◌, ◌≢◌, ℕ, ◌+◌, ◌<◌, ◌≤◌, eqb, ◌&&◌, List, [], ◌∷◌, ◌++◌, Some, sym, refl, ap, ◌∙◌, subst, ⊎_elim, append_assoc, arith}
+use Rattle.std.proofs.lemmas.Bool.{cases_Bool, cases_lt, cond-false, ne_eqb, eqb-true, and_parts}
+use Rattle.std.proofs.lemmas.Option.{none-some}
+use Rattle.segcore.specs.Bucket.{Slot, item, bucket_after}
+use Rattle.segcore.specs.Row.{row_after, frequency_of}
+use Rattle.segcore.proofs.Standing.{coherent}
 use Rattle.segword.specs.declared.shape.Shape.{Shape}
 use Rattle.segcore.specs.declared.event.Event.{Event}
-use Rattle.segcore.specs.declared.event.Event.TheVariants.{Refilled}
+use Rattle.segcore.specs.declared.event.Event.TheVariants.{Linked, Bumped, Refilled}
 use Rattle.segcore.specs.declared.view.View.{View}
 use Rattle.segcore.specs.Event.{seen, NoneBy}
 use Rattle.segcore.specs.Segment.{inside, refills, NoneRefills}
@@ -32,11 +36,33 @@ same_refills (e ∷ more) h s n = refilled_event e (more ++ h) s n.0 ∙ same_re
 pub is_pass : (z : Shape) (h : List Event) (p s : ℕ) → IsLawful z h → 0 < inside h p s → p < z.passes
 is_pass z h p s l there = ⊎_elim (λ lt. lt) (λ le. let e = strangers z h p s l le in absurd (omega arith)) (cases_lt p z.passes)
 
+-- an event leaves the frequency of a linked row, or raises it
+one_rise : (z : Shape) (e : Event) (h : List Event) (s r : ℕ) (k : List ℕ) → IsLawful z (e ∷ h) → (row_after h s r).linked ≡ Some k → frequency_of h s r ≤ frequency_of (e ∷ h) s r
+one_rise z (Linked p q t i n) h s r k l on = ⊎_elim
+    (λ y. let w = and_parts (eqb t s) (eqb i r) y in
+    absurd (none-some k (sym l.1.suits.0.3 ∙ ((λ j. (row_after h (eqb-true t s w.0 j) (eqb-true i r w.1 j)).linked) ∙ on))))
+    (λ f. rw f (omega arith))
+    (cases_Bool (eqb t s && eqb i r))
+one_rise z (Bumped p t i f) h s r k l on = ⊎_elim
+    (λ y. let w = and_parts (eqb t s) (eqb i r) y in
+    let up : frequency_of h s r < f = subst (λ x. frequency_of h s x < f) (eqb-true i r w.1) (subst (λ x. frequency_of h x i < f) (eqb-true t s w.0) l.1.suits.0) in rw y (omega arith))
+    (λ g. rw g (omega arith))
+    (cases_Bool (eqb t s && eqb i r))
+one_rise z e h s r k l on = omega arith
+
+rise : (z : Shape) (more h : List Event) (p b n : ℕ) (a : Slot) → IsLawful z (more ++ h) → NoneBy p more → (bucket_after z h b).holder ≡ Some p → (bucket_after z h b).items n ≡ item a → frequency_of h a.segment a.row ≤ frequency_of (more ++ h) a.segment a.row
+rise z [] h p b n a l none held is' = omega arith
+rise z (e ∷ more) h p b n a l none held is' =
+    let before = rise z more h p b n a l.0 none.1 held is' in
+    let there = (coherent z (more ++ h) l.0).items b n a (ap (λ u. u.items n) (quiet z more h p b l.0 none.1 held) ∙ is') in
+    let one = one_rise z e (more ++ h) a.segment a.row a.key l there.linked in omega arith
+
 pub meanwhile : (z : Shape) (p : ℕ) (more h : List Event) → IsLawful z (more ++ h) → NoneBy p more → Meanwhile z p more h
 meanwhile z p more h l n = let early = lawful_before z more h l in record {
   untouched = λ b has. quiet_none z more h p b l n has.1;
   buckets = λ b has. quiet z more h p b l n has.1;
   keys = λ k has. quiet_at z more h p k l n has.1;
+  rises = λ b k a has is'. rise z more h p b k a l n has.1 is';
   bits = λ b ne. not_mine z more h p b n ne;
   own_rows = λ s r own. quiet_row z more h s r l (subst (λ x. NoneBy x more) (sym own) n);
   stays = λ s. quiet_inside more h p s n;

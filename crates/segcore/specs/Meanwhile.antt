@@ -1,12 +1,12 @@
 -- What others leave alone between the trace that a pass has seen and a longer one that has nothing more of that pass.
-use Rattle.std.specs.Prelude.{◌≡◌, ◌≢◌, ℕ, ◌<◌, false, List, ◌++◌, Some}
+use Rattle.std.specs.Prelude.{◌≡◌, ◌≢◌, ℕ, ◌<◌, ◌≤◌, false, List, ◌++◌, Some}
 use Rattle.segword.specs.declared.shape.Shape.{Shape}
 use Rattle.segmodel.specs.Places.{bucket_of, owner}
 use Rattle.segmodel.specs.History.{after, mine, IsSameAt}
 use Rattle.segcore.specs.declared.event.Event.{Event}
 use Rattle.segcore.specs.Event.{by, seen}
-use Rattle.segcore.specs.Bucket.{bucket_after}
-use Rattle.segcore.specs.Row.{row_after}
+use Rattle.segcore.specs.Bucket.{Slot, item, bucket_after}
+use Rattle.segcore.specs.Row.{row_after, frequency_of}
 use Rattle.segcore.specs.Segment.{inside, refills, NoneRefills}
 use Rattle.segcore.specs.Lawful.{Fits, is_of_now, NoneAt}
 use Rattle.segcore.specs.Count.{taken, bounced, glanced}
@@ -17,6 +17,9 @@ pub record Meanwhile (shape : Shape) (pass : ℕ) (more old : List Event) : Type
   pub untouched : (bucket : ℕ) → HasBit shape old pass bucket → NoneAt shape bucket more
   pub buckets : (bucket : ℕ) → HasBit shape old pass bucket → bucket_after shape (more ++ old) bucket ≡ bucket_after shape old bucket
   pub keys : (key : List ℕ) → HasBit shape old pass (bucket_of shape key) → IsSameAt shape (after shape (seen old)) (after shape (seen (more ++ old))) key
+  -- the frequencies of their items only rise
+  pub rises : (bucket position : ℕ) (named : Slot) → HasBit shape old pass bucket → (bucket_after shape old bucket).items position ≡ item named
+      → frequency_of old named.segment named.row ≤ frequency_of (more ++ old) named.segment named.row
   -- nobody else gives it a bit
   pub bits : (bucket : ℕ) → (bucket_after shape old bucket).holder ≢ Some pass → (bucket_after shape (more ++ old) bucket).holder ≢ Some pass
   -- its own rows
