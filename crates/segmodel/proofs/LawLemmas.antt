@@ -12,11 +12,11 @@ use Rattle.segmodel.specs.declared.entry.Entry.TheVariants.{Wrote, Evicted, Refi
 use Rattle.segmodel.specs.Places.{bucket_of}
 use Rattle.segmodel.specs.Request.{key_of, value_of, reply_to}
 use Rattle.segmodel.specs.Cache.{Cache, key_cmp, standing, present}
-use Rattle.segmodel.specs.History.{Follows, next, after, IsLegal, is_of, NoneOf, entries_of, stirred, IsSameAt, writes}
+use Rattle.segmodel.specs.History.{Follows, next, after, IsLegal, is_of, entries_of, stirred, IsSameAt, writes}
 use Rattle.segmodel.specs.Laws.{is_change_of, left_by, last_left, EarlierIsLegal, StandsAsLeft, ReadsAsLeft, CasFailsWhereWritten, StirredCountsAdded, UnstirredReadsTheSame}
 use Rattle.segmodel.proofs.Counts.{count_by-cons}
 use Rattle.segmodel.proofs.Keys.{same_key, at_self}
-use Rattle.segmodel.proofs.HistoryLemmas.{standing-put, standing-without, after_others, IsLegal-older, version-after}
+use Rattle.segmodel.proofs.HistoryLemmas.{standing-put, standing-without, NoneOf, after_others, IsLegal-older, version-after}
 
 pub earlier_legal : EarlierIsLegal
 earlier_legal shape before now begins legal = IsLegal-older shape begins.0 before (subst (IsLegal shape) begins.1 legal)

@@ -78,27 +78,27 @@ ReadsAsLeft = (shape : Shape) (history : List Entry) (key : List ℕ) → IsLega
 
 -- the version of a bucket is the first version and one more for each of its writes, modulo 2^32
 abbrev pub VersionCountsWrites : Type 0
-VersionCountsWrites = (shape : Shape) (history : List Entry) (b : ℕ) → shape.first_version < 2 ^ 32 → IsLegal shape history
-    → (after shape history).version b ≡ (shape.first_version + writes shape history b) % 2 ^ 32
+VersionCountsWrites = (shape : Shape) (history : List Entry) (bucket : ℕ) → shape.first_version < 2 ^ 32 → IsLegal shape history
+    → (after shape history).version bucket ≡ (shape.first_version + writes shape history bucket) % 2 ^ 32
 
 -- an entry that is no write to the bucket leaves its version
 abbrev pub OthersKeepVersion : Type 0
-OthersKeepVersion = (shape : Shape) (cache : Cache) (entry : Entry) (b : ℕ) → is_write_to shape b entry ≡ false → (next shape cache entry).version b ≡ cache.version b
+OthersKeepVersion = (shape : Shape) (cache : Cache) (entry : Entry) (bucket : ℕ) → is_write_to shape bucket entry ≡ false → (next shape cache entry).version bucket ≡ cache.version bucket
 
 -- an eviction leaves every version
 abbrev pub EvictionKeepsVersions : Type 0
 EvictionKeepsVersions = (shape : Shape) (cache : Cache) (pass segment : ℕ) (key : List ℕ) → (next shape cache (Evicted pass key segment)).version ≡ cache.version
 
--- whether a reply says that nothing was written
-abbrev pub is_refused : Reply → Bool
-is_refused Stored = false
-is_refused Deleted = false
-is_refused _ = true
+-- whether a reply says that nothing was stored or deleted
+abbrev pub changes_nothing : Reply → Bool
+changes_nothing Stored = false
+changes_nothing Deleted = false
+changes_nothing _ = true
 
--- a write so replied leaves the cache as it is, versions included
-abbrev pub RefusedKeepsCache : Type 0
-RefusedKeepsCache = (shape : Shape) (cache : Cache) (pass : ℕ) (request : Request) (reply : Reply) (segment : Option ℕ)
-    → is_refused reply ≡ true → next shape cache (Wrote pass request reply segment) ≡ cache
+-- a request so replied leaves the cache as it is, versions included
+abbrev pub UnwrittenKeepsCache : Type 0
+UnwrittenKeepsCache = (shape : Shape) (cache : Cache) (pass : ℕ) (request : Request) (reply : Reply) (segment : Option ℕ)
+    → changes_nothing reply ≡ true → next shape cache (Wrote pass request reply segment) ≡ cache
 
 -- The version law. A cas brings the version that a gets gave at an earlier moment of the same history. Where its key is present it fails exactly
 -- where its bucket was written in between, counted modulo 2^32.

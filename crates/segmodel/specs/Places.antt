@@ -7,7 +7,7 @@ use Rattle.segword.specs.Fnv.{hash_of, tag_from_hash}
 abbrev pub bucket_of : Shape → List ℕ → ℕ
 bucket_of shape key = hash_of key % shape.buckets
 
--- the tag of a key: the top 12 bits of its hash, or 1 where these are 0
+-- the tag of a key: the highest twelve bits of its hash. No tag is 0: where those bits are all 0 the tag is 1.
 abbrev pub tag_of : List ℕ → ℕ
 tag_of key = tag_from_hash (hash_of key)
 

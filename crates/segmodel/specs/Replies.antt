@@ -20,6 +20,7 @@ use Rattle.segmodel.specs.Spelling.{value_word}
 
 -- ---- answers to commands
 
+-- the line of the answer to a set, an add, a replace or a cas
 abbrev pub write_reply : WriteAnswer → List ℕ
 write_reply write.Stored = codes "STORED\n"
 write_reply write.NotStored = codes "NOT_STORED\n"
@@ -29,6 +30,7 @@ write_reply write.NoRoom = codes "NOROOM\n"
 write_reply write.BucketFull = codes "BUCKETFULL\n"
 write_reply write.Busy = codes "BUSY\n"
 
+-- the line of the answer to a delete
 abbrev pub delete_reply : DeleteAnswer → List ℕ
 delete_reply delete.Deleted = codes "DELETED\n"
 delete_reply delete.NotFound = codes "NOT_FOUND\n"
@@ -38,40 +40,45 @@ delete_reply delete.Busy = codes "BUSY\n"
 abbrev pub value_reply : List ℕ → List ℕ
 value_reply value = codes "VALUE " ++ value_word value ++ codes "\n"
 
+-- the line of the answer to a get
 abbrev pub get_reply : GetAnswer → List ℕ
 get_reply (get.Found value) = value_reply value
 get_reply get.Miss = codes "MISS\n"
 get_reply get.Busy = codes "BUSY\n"
 
+-- the line of the answer to a gets: the value, and the version in decimal digits
 abbrev pub gets_reply : GetsAnswer → List ℕ
 gets_reply (gets.Found value version) = codes "VALUE " ++ value_word value ++ codes " " ++ decimal version ++ codes "\n"
 gets_reply gets.Miss = codes "MISS\n"
 gets_reply gets.Busy = codes "BUSY\n"
 
+-- the line of the answer to an evict, with the number of keys taken out
 abbrev pub evict_reply : EvictAnswer → List ℕ
 evict_reply (evict.Evicted count) = codes "EVICTED " ++ decimal count ++ codes "\n"
 evict_reply evict.NotYours = codes "NOT_YOURS\n"
 evict_reply (evict.Busy count) = codes "BUSY " ++ decimal count ++ codes "\n"
 
+-- the line of the answer to a refill
 abbrev pub refill_reply : RefillAnswer → List ℕ
 refill_reply refill.Refilled = codes "REFILLED\n"
 refill_reply refill.NotYours = codes "NOT_YOURS\n"
 refill_reply refill.NotEvicted = codes "NOT_EVICTED\n"
 refill_reply refill.Held = codes "HELD\n"
 
+-- the line of an answer
 abbrev pub answer_reply : Answer → List ℕ
-answer_reply (answer.Write a) = write_reply a
-answer_reply (answer.Delete a) = delete_reply a
-answer_reply (answer.Get a) = get_reply a
-answer_reply (answer.Gets a) = gets_reply a
-answer_reply (answer.Evict a) = evict_reply a
-answer_reply (answer.Refill a) = refill_reply a
+answer_reply (answer.Write given) = write_reply given
+answer_reply (answer.Delete given) = delete_reply given
+answer_reply (answer.Get given) = get_reply given
+answer_reply (answer.Gets given) = gets_reply given
+answer_reply (answer.Evict given) = evict_reply given
+answer_reply (answer.Refill given) = refill_reply given
 
 -- ---- outcomes of turns
 
 -- the line of an outcome, with its end
 abbrev pub reply : Outcome → List ℕ
-reply (outcome.Answered a) = answer_reply a
+reply (outcome.Answered given) = answer_reply given
 reply outcome.Holding = codes "HOLDING\n"
 reply outcome.Miss = codes "MISS\n"
 reply outcome.Busy = codes "BUSY\n"

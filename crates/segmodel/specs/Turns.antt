@@ -28,6 +28,7 @@ abbrev pub held_outcome : Option Cached → Outcome
 held_outcome None = outcome.NotHolding
 held_outcome (Some item) = outcome.Value item.value
 
+-- release, by the item that is held
 abbrev pub release_outcome : Option Cached → Outcome
 release_outcome None = outcome.NotHolding
 release_outcome (Some item) = outcome.Released
@@ -35,20 +36,21 @@ release_outcome (Some item) = outcome.Released
 -- lock, by the bucket that is locked already
 abbrev pub lock_outcome : Option ℕ → Outcome
 lock_outcome None = outcome.Locked
-lock_outcome (Some b) = outcome.AlreadyLocked
+lock_outcome (Some bucket) = outcome.AlreadyLocked
 
 -- which bucket is locked then
 abbrev pub locked_after : ℕ → Option ℕ → Option ℕ
-locked_after b None = Some b
-locked_after b (Some other) = Some other
+locked_after bucket None = Some bucket
+locked_after bucket (Some other) = Some other
 
+-- unlock, by the bucket that is locked
 abbrev pub unlock_outcome : Option ℕ → Outcome
 unlock_outcome None = outcome.NotLocked
-unlock_outcome (Some b) = outcome.Unlocked
+unlock_outcome (Some bucket) = outcome.Unlocked
 
 -- from the old state the turn may have this outcome, and then the new state follows
 abbrev pub Turns : Shape → State → Turn → Outcome → State → Type 0
-Turns shape old (Serve command) given new = (a : Answer) × (given ≡ outcome.Answered a) × Serves shape old command a new
+Turns shape old (Serve command) given new = (told : Answer) × (given ≡ outcome.Answered told) × Serves shape old command told new
 Turns shape old (Hold key) given new =
     let found = present old.cache key in
     IsGiven (hold_outcome old.held found) (record old { held = held_after old.held found }) given new

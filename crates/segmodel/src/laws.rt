@@ -8,7 +8,7 @@ ghost use Rattle.segmodel.specs.History.{after, Begins, IsLegal, stirred};
 ghost use Rattle.segmodel.specs.State.{fresh};
 ghost use Rattle.segmodel.specs.Serving.{after_refill, Serves};
 ghost use Rattle.segmodel.specs.Example.{shape, a, one, two, added, deleted, whole};
-ghost use Rattle.segmodel.specs.Laws.{LongerIsLegal, EarlierIsLegal, ItemsAreInOrder, StandsAsLeft, ReadsAsLeft, VersionCountsWrites, OthersKeepVersion, EvictionKeepsVersions, RefusedKeepsCache, CasFailsWhereWritten, AddNeedsAbsent, ReplaceNeedsPresent, CasNeedsVersion, OtherBucketsAreKept, StirredCountsAdded, UnstirredReadsTheSame, IsKeptAtTheStart, ServingKeeps, CommandsKeep, TurnsKeep, RefilledWhereNoneStands, HeldIsNotRefilled, StoreIsAnEntry, DeleteIsAnEntry, EveryTurnIsAnswered, OnlyEvictChooses, ServingIsHistory, LinesFit};
+ghost use Rattle.segmodel.specs.Laws.{LongerIsLegal, EarlierIsLegal, ItemsAreInOrder, StandsAsLeft, ReadsAsLeft, VersionCountsWrites, OthersKeepVersion, EvictionKeepsVersions, UnwrittenKeepsCache, CasFailsWhereWritten, AddNeedsAbsent, ReplaceNeedsPresent, CasNeedsVersion, OtherBucketsAreKept, StirredCountsAdded, UnstirredReadsTheSame, IsKeptAtTheStart, ServingKeeps, CommandsKeep, TurnsKeep, RefilledWhereNoneStands, HeldIsNotRefilled, StoreIsAnEntry, DeleteIsAnEntry, EveryTurnIsAnswered, OnlyEvictChooses, ServingIsHistory, LinesFit};
 
 /// Legal histories grow by entries that follow, and were legal at each earlier moment; what stands after them is a map.
 pub fn legal_histories()
@@ -28,7 +28,7 @@ pub fn versions_count_writes()
     ensures counted { VersionCountsWrites }
     ensures others { OthersKeepVersion }
     ensures evicted { EvictionKeepsVersions }
-    ensures refused { RefusedKeepsCache }
+    ensures unwritten { UnwrittenKeepsCache }
 {}
 
 /// A cas with the version that an earlier gets gave fails exactly where its key's bucket was written since, or its key is absent.
