@@ -1,10 +1,13 @@
 pub mod Device
 pub mod Fault
 pub mod Known
+pub mod Layout
 pub mod Memory
 pub mod Reading
 pub mod Run
 pub mod Running
+pub mod Segments
 pub mod Served
-pub mod StandIn
+pub mod Storing
 pub mod Verb
+pub mod Words

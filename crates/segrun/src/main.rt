@@ -10,6 +10,7 @@ mod reply;
 mod run;
 mod script;
 mod standard;
+mod table;
 mod verb;
 mod word;
 mod words;
@@ -20,6 +21,9 @@ use segword::Shape;
 use standard::{ReadSource, WriteSink};
 use std::io;
 use std::process::ExitCode;
+
+#[cfg(test)]
+mod tests;
 
 /// One bucket, one pass, and one segment of eight rows.
 const SHAPE: Shape = Shape {

@@ -1,12 +1,12 @@
 use Rattle.std.proofs.Common.{subst, sym}
 use Rattle.segword.specs.declared.shape.Shape.{Shape}
 use Rattle.segmodel.specs.State.{fresh}
-use Rattle.segrun.specs.StandIn.{IsAt}
+use Rattle.segrun.specs.Words.{is_at}
 use Rattle.segrun.proofs.script.run_script.Goals as goal
 
 pub run-requires-clause-fresh : goal.run-requires-clause-fresh
 run-requires-clause-fresh g c =
-    let P : Shape → Type 0 = λ shape. IsAt c.in-Ok.words.shape (fresh shape) in subst P (sym c.in-Ok.ensures.shape) c.in-Ok.ensures.start
+    let P : Shape → Type 0 = λ shape. is_at c.in-Ok.words (fresh shape) in subst P (sym c.in-Ok.ensures.shape) c.in-Ok.ensures.start
 
 pub returns-clause-outcome : goal.returns-clause-outcome
 returns-clause-outcome g c = rw c.in-Ok.ensures.shape at c.run.ensures.outcome

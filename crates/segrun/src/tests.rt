@@ -1,0 +1,85 @@
+//! Whole runs over memory, in pieces of 1, 3 and 5000 bytes.
+mod bad_lines;
+mod cut_short;
+mod devices;
+mod making;
+mod order;
+mod serving;
+
+ghost use Rattle.std.specs.Prelude.{◌≡◌, false};
+
+use crate::fault::{MakeFault, RunFault};
+use crate::memory::{MemSink, MemSource};
+use crate::script::run_script;
+use segword::{Shape, ShapeFault};
+use std::alloc::Global;
+use std::process::Abort;
+use std::test::Fail;
+
+/// How many bytes go through a device at a time.
+const STEPS: [usize; 3] = [1, 3, 5000];
+
+/// A script of three lines, and its replies.
+const SCRIPT: &[u8] = b"p0 refill 0\np0 set a 1\np0 get a\n";
+
+const REPLIES: &[u8] = b"REFILLED\nSTORED\nVALUE 1\n";
+
+/// One bucket, one pass, and one segment.
+fn shape_of(rows: u32) -> Shape
+    ensures buckets { result.buckets ≡ 1 }
+    ensures passes { result.passes ≡ 1 }
+    ensures overflow { result.overflow ≡ 0 }
+{
+    Shape {
+        buckets: 1,
+        overflow: 0,
+        passes: 1,
+        segments_each: 1,
+        rows,
+        first_version: 0,
+    }
+}
+
+/// A reader of the script in pieces, which may fail after some bytes.
+fn reader_of(script: &[u8], step: usize, good: Option<usize>) -> MemSource<'_>
+    ensures { result.failed ≡ false }
+{
+    let mut reader = MemSource::new(script);
+    reader.step = step.max(1);
+    reader.good = good;
+    reader
+}
+
+/// Runs a script, and checks how it ends, what it wrote, and that it flushed once where it ended well, else not at all.
+fn check(
+    rt: &impl Abort,
+    alloc: Global,
+    rows: u32,
+    script: &[u8],
+    good: Option<usize>,
+    end: Result<(), RunFault>,
+    replies: &[u8],
+) -> Result<(), Fail> {
+    for step in STEPS {
+        let mut reader = reader_of(script, step, good);
+        let mut writer = MemSink::new(alloc, 1000)?;
+        writer.step = step.max(1);
+        let found = run_script(alloc, &mut reader, &mut writer, shape_of(rows));
+        assert_eq!(rt; found, end, "in pieces of {step}");
+        assert_eq!(rt; writer.taken.as_slice(), replies, "in pieces of {step}");
+        assert_eq!(rt; writer.flushes, if end.is_ok() { 1 } else { 0 });
+    }
+    Ok(())
+}
+
+/// Checks a script whose devices don't fail.
+fn check_script(
+    rt: &impl Abort,
+    alloc: Global,
+    rows: u32,
+    script: &[u8],
+    end: Result<(), RunFault>,
+    replies: &[u8],
+) -> Result<(), Fail> {
+    check(rt, alloc, rows, script, None, end, replies)
+}

@@ -1,0 +1,63 @@
+//! Shapes that can't be had, and want of memory.
+use super::*;
+
+#[test]
+fn a_bad_shape_is_answered_by_its_first_fault(rt: HostRuntime) -> Result<(), Fail> {
+    for (segments_each, rows, fault) in [
+        (0, 2, ShapeFault::BadSegments),
+        (1025, 2, ShapeFault::BadSegments),
+        (0, 0, ShapeFault::BadSegments),
+        (1, 0, ShapeFault::BadRows),
+        (1, 4097, ShapeFault::BadRows),
+    ] {
+        let shape = Shape {
+            buckets: 1,
+            overflow: 0,
+            passes: 1,
+            segments_each,
+            rows,
+            first_version: 0,
+        };
+        let mut reader = reader_of(SCRIPT, 5000, None);
+        let mut writer = MemSink::new(rt.alloc(), 1000)?;
+        let found = run_script(rt.alloc(), &mut reader, &mut writer, shape);
+        assert_eq!(rt; found, Err(RunFault::Make(MakeFault::Shape(fault))));
+        assert_eq!(rt; reader.left, SCRIPT);
+        assert_eq!(rt; writer.taken.as_slice(), b"".as_slice());
+        assert_eq!(rt; writer.flushes, 0);
+    }
+    Ok(())
+}
+
+// Run with each allocation refused in turn: a refusal in the making is answered as such, before anything is read.
+#[test]
+fn want_of_memory_is_answered_before_anything_is_read(rt: HostRuntime) -> Result<(), Fail> {
+    let mut reader = reader_of(SCRIPT, 5000, None);
+    let Ok(mut writer) = MemSink::new(rt.alloc(), 1000) else {
+        return Ok(());
+    };
+    match run_script(rt.alloc(), &mut reader, &mut writer, shape_of(2)) {
+        Ok(()) => assert_eq!(rt; writer.taken.as_slice(), REPLIES),
+        found => {
+            assert_eq!(rt; found, Err(RunFault::Make(MakeFault::OutOfMemory)));
+            assert_eq!(rt; reader.left, SCRIPT);
+            assert_eq!(rt; writer.taken.as_slice(), b"".as_slice());
+            assert_eq!(rt; writer.flushes, 0);
+        }
+    }
+    Ok(())
+}
+
+#[test]
+fn the_texts_of_faults(rt: HostRuntime) -> Result<(), Fail> {
+    for (fault, text) in [
+        (RunFault::Read, "read failed"),
+        (RunFault::Write, "write failed"),
+        (RunFault::Line(3), "bad line 3"),
+        (RunFault::TooLong, "script too long"),
+        (RunFault::Make(MakeFault::OutOfMemory), "out of memory"),
+    ] {
+        assert_eq!(rt; format!(in rt.alloc(); "{fault}")?.as_str(), text);
+    }
+    Ok(())
+}

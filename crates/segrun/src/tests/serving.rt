@@ -1,0 +1,88 @@
+//! What scripts of good lines are answered.
+use super::*;
+
+#[test]
+fn a_value_that_was_set_is_read(rt: HostRuntime) -> Result<(), Fail> {
+    check_script(&rt, rt.alloc(), 2, SCRIPT, Ok(()), REPLIES)
+}
+
+#[test]
+fn an_empty_script_has_no_replies(rt: HostRuntime) -> Result<(), Fail> {
+    check_script(&rt, rt.alloc(), 4, b"", Ok(()), b"")?;
+    check_script(&rt, rt.alloc(), 4, b"\n\n", Ok(()), b"")
+}
+
+#[test]
+fn a_set_needs_a_row_that_is_not_used(rt: HostRuntime) -> Result<(), Fail> {
+    check_script(&rt, rt.alloc(), 2, b"p0 set a 1\n", Ok(()), b"NOROOM\n")?;
+    check_script(
+        &rt,
+        rt.alloc(),
+        2,
+        b"p0 refill 0\np0 set a 1\np0 set a 2\np0 set a 3\np0 get a\n",
+        Ok(()),
+        b"REFILLED\nSTORED\nSTORED\nNOROOM\nVALUE 2\n",
+    )
+}
+
+#[test]
+fn a_bucket_of_seven_keys_is_full_for_another_and_not_for_one_of_them(
+    rt: HostRuntime,
+) -> Result<(), Fail> {
+    check_script(
+        &rt,
+        rt.alloc(),
+        32,
+        b"p0 refill 0\np0 set a 1\np0 set b 1\np0 set c 1\np0 set d 1\np0 set e 1\np0 set f 1\np0 set g 1\np0 set h 1\np0 set a 2\np0 get a\np0 get h\n",
+        Ok(()),
+        b"REFILLED\nSTORED\nSTORED\nSTORED\nSTORED\nSTORED\nSTORED\nSTORED\nBUCKETFULL\nSTORED\nVALUE 2\nMISS\n",
+    )
+}
+
+#[test]
+fn the_longest_key_and_value_are_kept(rt: HostRuntime) -> Result<(), Fail> {
+    check_script(
+        &rt,
+        rt.alloc(),
+        4,
+        b"p0 refill 0\np0 set abcdefghijklmnopqrstuvwx 0123456789abcdef0123456789abcdef\np0 get abcdefghijklmnopqrstuvwx\n",
+        Ok(()),
+        b"REFILLED\nSTORED\nVALUE 0123456789abcdef0123456789abcdef\n",
+    )
+}
+
+#[test]
+fn a_dash_is_the_empty_value(rt: HostRuntime) -> Result<(), Fail> {
+    check_script(
+        &rt,
+        rt.alloc(),
+        4,
+        b"p0 refill 0\np0 set a -\np0 get a\n",
+        Ok(()),
+        b"REFILLED\nSTORED\nVALUE -\n",
+    )
+}
+
+#[test]
+fn a_last_line_needs_no_end(rt: HostRuntime) -> Result<(), Fail> {
+    check_script(
+        &rt,
+        rt.alloc(),
+        2,
+        b"p0 refill 0\np0 set a 1\np0 get a",
+        Ok(()),
+        REPLIES,
+    )
+}
+
+#[test]
+fn a_segment_is_refilled_once_and_no_other_is_there(rt: HostRuntime) -> Result<(), Fail> {
+    check_script(
+        &rt,
+        rt.alloc(),
+        2,
+        b"p0 refill 1\np0 refill 4294967295\np0 refill 0\np0 refill 0\n",
+        Ok(()),
+        b"NOT_YOURS\nNOT_YOURS\nREFILLED\nNOT_EVICTED\n",
+    )
+}
