@@ -1,5 +1,5 @@
 -- An eviction of several keys is one entry for each; and so serving a command is a longer history.
-use Rattle.std.proofs.Common.{◌≡◌, ℕ, ◌+◌, ◌==◌, ◌&&◌, Bool, true, false, cond, not, List, [], ◌∷◌, ◌++◌, length, filter, count_by, Option, Some, None, IsSomeAnd, refl, sym, ap, ◌∙◌, subst, append_assoc, arith, MatchBool, MatchOption}
+use Rattle.std.proofs.Common.{◌≡◌, ℕ, ◌+◌, Bool, true, false, cond, not, List, [], ◌∷◌, ◌++◌, length, filter, count_by, Option, Some, None, IsSomeAnd, refl, sym, ap, ◌∙◌, subst, append_assoc, arith, MatchBool, MatchOption}
 use Rattle.std.specs.declared.cmp.Ordering.TheVariants.{Less}
 use Rattle.std.specs.Ordering.{is_eq, ordering_reverse}
 use Rattle.std.specs.List.{AllByRecursion}
@@ -16,7 +16,6 @@ use Rattle.segmodel.specs.declared.request.Request.{Request}
 use Rattle.segmodel.specs.declared.request.Request.TheVariants.{Set, Add, Replace, Cas, Delete}
 use Rattle.segmodel.specs.declared.request.Reply.{Reply}
 use Rattle.segmodel.specs.declared.answer.Command.TheVariants.{Write, Get, Gets, Evict, Refill}
-use Rattle.segmodel.specs.declared.answer.Answer.{Answer}
 use Rattle.segmodel.specs.declared.answer.Answer.TheVariants as answer
 use Rattle.segmodel.specs.declared.answer.WriteAnswer.{WriteAnswer}
 use Rattle.segmodel.specs.declared.answer.DeleteAnswer.{DeleteAnswer}
@@ -31,7 +30,7 @@ use Rattle.segmodel.specs.Places.{owner}
 use Rattle.segmodel.specs.Cache.{Cache, key_cmp}
 use Rattle.segmodel.specs.History.{Follows, next, after, IsLegal}
 use Rattle.segmodel.specs.State.{State, IsKept, is_in, is_locked}
-use Rattle.segmodel.specs.Serving.{IsGiven, IsReplied, refusal, reply_of_write, reply_of_delete, ServesStore, ServesDelete, ServesEvict, Evicts, may_go, is_own, refill_answer, after_refill}
+use Rattle.segmodel.specs.Serving.{IsGiven, IsReplied, refusal, reply_of_write, reply_of_delete, ServesStore, ServesDelete, ServesEvict, may_go, is_own, refill_answer, after_refill}
 use Rattle.segmodel.specs.Laws.{stored_in, entry_of_reply, IsEvictionFrom, evicted, Adds, ServingIsHistory}
 use Rattle.segmodel.proofs.Counts.{count_by-cons, both}
 use Rattle.segmodel.proofs.Keys.{at_self}

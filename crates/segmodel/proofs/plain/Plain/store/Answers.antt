@@ -3,7 +3,7 @@ use Rattle.segmodel.specs.Places.{bucket_of}
 use Rattle.segmodel.specs.Request.{key_of, value_of}
 use Rattle.segmodel.specs.Segments.{fillings, by_bucket}
 use Rattle.segmodel.specs.State.{State}
-use Rattle.segmodel.specs.Serving.{stored, lacks_word, may_chain}
+use Rattle.segmodel.specs.Serving.{stored}
 use Rattle.segmodel.specs.Plain.{state_of}
 use Rattle.segmodel.proofs.Kept.{IsKept-same}
 use Rattle.segmodel.proofs.Stores.{Stores, stores_from, stored_state, stored_kept}
