@@ -17,7 +17,7 @@ use Rattle.segcore.specs.Chains.{behind, SaysOfInfo, SaysOfChain, IsUnchained, S
 use Rattle.segcore.proofs.Coherent.{IsContent}
 use Rattle.segcore.proofs.Chains.{chain_of}
 use Rattle.segcore.proofs.Standing.{legal}
-use Rattle.segcore.proofs.Cells.{deep, at_word, rising}
+use Rattle.segcore.proofs.Cells.{deep, at_word, home_once, rising}
 use Rattle.segcore.proofs.Marked.{one_if, chained_marked, drawn_marked}
 use Rattle.segcore.proofs.Orderly.{all_drawn_marked}
 use Rattle.segcore.proofs.Homes.{joins, spare_held}
@@ -75,6 +75,7 @@ says_of_chain z h b l = let e = chained_marked z h b in let s = (chain_of z h l 
   short = omega arith;
   joined = λ d lt. joined z h b d l (omega arith);
   rising = λ m n d e i j lt. rising z h m n b d e l i j lt;
+  alone = λ m n d i j. home_once z h m n b d l i j;
   drawn = drawn_or z h b (bucket_after z h b).spare l refl;
 }
 

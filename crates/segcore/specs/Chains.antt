@@ -33,6 +33,8 @@ pub record SaysOfChain (shape : Shape) (trace : List Event) (bucket : ℕ) : Typ
       × ((cell : Cell) → IsAt trace bucket (8 * depth + 7) cell → word shape trace cell ≡ chain_word number)
   -- with rising numbers
   pub rising : (low high d e : ℕ) → home_of trace low ≡ Some (home bucket d) → home_of trace high ≡ Some (home bucket e) → d < e → low < high
+  -- and one number at each depth
+  pub alone : (number other depth : ℕ) → home_of trace number ≡ Some (home bucket depth) → home_of trace other ≡ Some (home bucket depth) → number ≡ other
   -- as many were drawn for it as joined it, or under its bit one more
   pub drawn : (drawn_for (marked trace) bucket ≡ chained_to (marked trace) bucket)
       ⊎ ((drawn_for (marked trace) bucket ≡ chained_to (marked trace) bucket + 1) × (word shape trace (OfBucket bucket 0) % 2 ^ 32 ≡ 1))
