@@ -21,7 +21,7 @@ use Rattle.segcore.proofs.Cells.{deep, at_word, home_once, rising}
 use Rattle.segcore.proofs.Marked.{one_if, chained_marked, drawn_marked}
 use Rattle.segcore.proofs.Orderly.{all_drawn_marked}
 use Rattle.segcore.proofs.Homes.{joins, spare_held}
-use Rattle.segcore.proofs.Limits.{drawn_few}
+use Rattle.segcore.proofs.Limits.{drawn_few, home_in}
 use Rattle.segcore.proofs.Versions.{versions, free}
 use Rattle.segcore.proofs.StepKinds.{word_content}
 
@@ -62,13 +62,13 @@ drawn_or z h b None l sp = let a = drawn_marked z h b l in let c = chained_marke
 drawn_or z h b (Some m) l sp = let a = drawn_marked z h b l in let c = chained_marked z h b in let e = ap one_if sp in
     inr (omega arith, info_bit z h b ∙ ap bit_of (spare_held z h b m l sp).1)
 
-pub joined : (z : Shape) (h : List Event) (b d : ℕ) → IsLawful z h → d < (bucket_after z h b).chained → (m : ℕ) × (home_of h m ≡ Some (home b (d + 1))) × ((c : Cell) → IsAt h b (8 * d + 7) c → word z h c ≡ chain_word m)
+pub joined : (z : Shape) (h : List Event) (b d : ℕ) → IsLawful z h → d < (bucket_after z h b).chained → (m : ℕ) × (home_of h m ≡ Some (home b (d + 1))) × ((c : Cell) → IsAt h b (8 * d + 7) c → word z h c ≡ chain_word m) × (m < z.overflow)
 joined z h b d l lt =
     let u = bucket_after z h b in
     let j = joins z h b d l lt in
     let i : IsContent h b u (8 * d + 7) (next j.0) = subst (IsContent h b u (8 * d + 7)) j.1 ((chain_of z h l b).contents (8 * d + 7)) in
     let p = i.2 in let same : i.0 ≡ d = omega arith in
-    (j.0, i.3 ∙ ap (λ n. Some (home b (n + 1))) same, λ c at. at_word z h b (8 * d + 7) c at ∙ (word_content z h u (8 * d + 7) (omega arith) ∙ ap (content_word h) j.1))
+    (j.0, i.3 ∙ ap (λ n. Some (home b (n + 1))) same, λ c at. at_word z h b (8 * d + 7) c at ∙ (word_content z h u (8 * d + 7) (omega arith) ∙ ap (content_word h) j.1), home_in z h j.0 (home b (i.0 + 1)) l i.3)
 
 says_of_chain : (z : Shape) (h : List Event) (b : ℕ) → IsLawful z h → SaysOfChain z h b
 says_of_chain z h b l = let e = chained_marked z h b in let s = (chain_of z h l b).short in record {

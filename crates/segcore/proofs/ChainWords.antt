@@ -14,9 +14,8 @@ use Rattle.segcore.specs.Lawful.{IsLawful}
 use Rattle.segcore.specs.Word.{word, IsAt, IsItemAt}
 use Rattle.segcore.specs.Standing.{Names, ChainsOn, IsOfKey}
 use Rattle.segcore.specs.Search.{KeyAt, RowAt}
-use Rattle.segcore.proofs.Quiet.{home_drawn}
 use Rattle.segcore.proofs.Marked.{chained_marked}
-use Rattle.segcore.proofs.Limits.{few_drawn, drawn_few, low_row, low_segment}
+use Rattle.segcore.proofs.Limits.{few_drawn, low_row, low_segment}
 use Rattle.segcore.proofs.Buckets.{joined}
 use Rattle.segcore.proofs.Exact.{says_of_keys}
 use Rattle.segcore.proofs.Searches.{key_word, row_word}
@@ -45,12 +44,12 @@ other_place z b s r h n c v lt l at ne i = let x = row_word z b s r h n c lt l a
 
 -- the last word of a bucket that is neither empty nor an item leads to the next bucket
 pub leads_on : (z : Shape) (h : List Event) (b d : ℕ) (c : Cell) → IsValid z → IsLawful z h → b < z.buckets → IsItemAt z h b (8 * d + 7) c → 0 < word z h c → word z h c < 2 ^ 52
-    → (d < (bucket_after z h b).chained) × ((m : ℕ) × (word z h c ≡ chain_word m) × (home_of h m ≡ Some (home b (d + 1))))
+    → (d < (bucket_after z h b).chained) × ((m : ℕ) × (word z h c ≡ chain_word m) × (home_of h m ≡ Some (home b (d + 1))) × (m < z.overflow))
 leads_on z h b d c v l lt i low high = ⊎_elim
     (λ none. absurd (omega arith))
     (λ w. ⊎_elim
     (λ (x : ChainsOn z h b (8 * d + 7) c). let e = chained_marked z h b in let p = x.at_end in let q = x.inside in let same : x.depth ≡ d = omega arith in
-    (omega arith, (x.number, x.reads, x.next ∙ ap (λ n. Some (home b (n + 1))) same)))
+    (omega arith, (x.number, x.reads, x.next ∙ ap (λ n. Some (home b (n + 1))) same, x.in_table)))
     (λ (x : IsOfKey z h b (8 * d + 7) c). let t = names_tag z h v l b (8 * d + 7) c (tag_of x.key) x.segment x.row x.names in let pos = x.names.tagged.0 in absurd (omega arith))
     w)
     ((says_of_keys z h v l).readings b (8 * d + 7) c lt i)
@@ -58,7 +57,7 @@ leads_on z h b d c v l lt i low high = ⊎_elim
 -- and one that is ends the chain
 pub ends_there : (z : Shape) (h : List Event) (b d : ℕ) (c : Cell) → IsValid z → IsLawful z h → IsAt h b (8 * d + 7) c → (word z h c ≡ 0) ⊎ (2 ^ 52 ≤ word z h c) → (bucket_after z h b).chained ≤ d
 ends_there z h b d c v l at out = ⊎_elim
-    (λ lt. let j = joined z h b d l lt in let e = j.2 c at in let few = home_drawn z h j.0 (home b (d + 1)) l j.1 in let all = drawn_few z h l in let most = few_drawn z v in
+    (λ lt. let j = joined z h b d l lt in let e = j.2 c at in let few = j.3 in let most = few_drawn z v in
     ⊎_elim (λ none. absurd (omega arith)) (λ big. absurd (omega arith)) out)
     (λ le. le)
     (cases_lt d (bucket_after z h b).chained)

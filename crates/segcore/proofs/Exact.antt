@@ -1,5 +1,5 @@
 -- Item words and the keys that stand: a key stands with a value in a segment exactly where the item word at its place says so, and chains have no other item words.
-use Rattle.std.proofs.Common.{◌^◌, ◌≡◌, ℕ, ◌<◌, List, [], ◌∷◌, take, drop, Some, sym, refl, ap, ◌∙◌, subst, inl, inr, arith}
+use Rattle.std.proofs.Common.{◌^◌, ◌≡◌, ℕ, ◌+◌, ◌<◌, List, [], ◌∷◌, take, drop, Some, sym, refl, ap, ◌∙◌, subst, inl, inr, arith}
 use Rattle.std.specs.Prelude.{slice_index, fold}
 use Rattle.std.proofs.lemmas.Option.{same_Some}
 use Rattle.segword.specs.declared.shape.Shape.{Shape}
@@ -14,6 +14,7 @@ use Rattle.segcore.specs.declared.event.Event.{Event}
 use Rattle.segcore.specs.declared.cell.Cell.{Cell}
 use Rattle.segcore.specs.Bucket.{Slot, slot, Content, nothing, item, next, copy, bucket_after}
 use Rattle.segcore.specs.Event.{seen}
+use Rattle.segcore.specs.Overflow.{home}
 use Rattle.segcore.specs.Row.{Row, Holds, row_after, frequency_of}
 use Rattle.segcore.specs.Lawful.{IsLawful}
 use Rattle.segcore.specs.Word.{IsCell, content_word, word, IsAt, IsItemAt}
@@ -27,7 +28,7 @@ use Rattle.segcore.proofs.Marked.{chained_marked, place_marked}
 use Rattle.segcore.proofs.Orderly.{frequency_marked}
 use Rattle.segcore.proofs.Cells.{one_cell, at_word}
 use Rattle.segcore.proofs.Homes.{cell_of}
-use Rattle.segcore.proofs.Limits.{low_row, low_segment, low_frequency, bucket_in}
+use Rattle.segcore.proofs.Limits.{low_row, low_segment, low_frequency, bucket_in, home_in}
 use Rattle.segcore.proofs.StepKinds.{word_content, above, cell_in, Named, names, one_place}
 
 same_words : (k v k' v' : List ℕ) → ((j : ℕ) → j < 8 → slice_index (row_of k v) j ≡ slice_index (row_of k' v') j) → row_of k v ≡ row_of k' v'
@@ -130,6 +131,7 @@ readings_of z h b n c lt l i (next m) is' w = inr (inl (record {
   at_end = w.2;
   inside = subst (λ x. w.0 < x) (sym (chained_marked z h b)) w.1;
   number = m;
+  in_table = home_in z h m (home b (w.0 + 1)) l w.3;
   next = w.3;
   reads = content_at z h b n c i ∙ ap (content_word h) is';
 }))

@@ -1,5 +1,5 @@
 -- The numbers that a lawful history names fit into their words.
-use Rattle.std.proofs.Common.{◌≡◌, ℕ, ◌*◌, ◌^◌, ◌<◌, ◌≤◌, eqb, ◌&&◌, List, [], ◌∷◌, ⊎_elim, arith}
+use Rattle.std.proofs.Common.{◌≡◌, ℕ, ◌*◌, ◌^◌, ◌<◌, ◌≤◌, eqb, ◌&&◌, List, [], ◌∷◌, Some, ⊎_elim, arith}
 use Rattle.std.proofs.lemmas.Bool.{cases_Bool}
 use Rattle.std.proofs.Math.Nat.{mul-le-mul_right}
 use Rattle.segword.specs.declared.shape.Shape.{Shape}
@@ -9,8 +9,9 @@ use Rattle.segmodel.specs.Places.{bucket_of}
 use Rattle.segcore.specs.declared.event.Event.{Event}
 use Rattle.segcore.specs.declared.event.Event.TheVariants.{Linked, Drew, Bumped}
 use Rattle.segcore.specs.Lawful.{IsLawful}
-use Rattle.segcore.specs.Overflow.{drawn_in}
+use Rattle.segcore.specs.Overflow.{Home, drawn_in, home_of}
 use Rattle.segcore.specs.Row.{frequency_of}
+use Rattle.segcore.proofs.Quiet.{home_drawn}
 
 pub few_passes : (z : Shape) → IsValid z → z.passes ≤ 64
 few_passes z v = v.0.0.0.1.1
@@ -37,3 +38,7 @@ pub drawn_few : (z : Shape) (h : List Event) → IsLawful z h → drawn_in h ≤
 drawn_few z [] l = omega arith
 drawn_few z (Drew p b d m ∷ h) l = let a = l.1.suits.0 in let b = l.1.suits.1 in omega arith
 drawn_few z (e ∷ h) l = drawn_few z h l.0
+
+-- an overflow bucket that is drawn is in the table
+pub home_in : (z : Shape) (h : List Event) (m : ℕ) (x : Home) → IsLawful z h → home_of h m ≡ Some x → m < z.overflow
+home_in z h m x l i = let a = home_drawn z h m x l i in let b = drawn_few z h l in omega arith

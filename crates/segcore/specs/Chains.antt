@@ -27,10 +27,11 @@ pub record SaysOfInfo (shape : Shape) (trace : List Event) (bucket : ℕ) : Type
 -- the chain has the bucket itself and one for each that joined it
 pub record SaysOfChain (shape : Shape) (trace : List Event) (bucket : ℕ) : Type 0 where
   pub short : chained_to (marked trace) bucket < 4
-  -- one after another, by the last word of each
+  -- one after another, by the last word of each, all of them in the table
   pub joined : (depth : ℕ) → depth < chained_to (marked trace) bucket
       → (number : ℕ) × (home_of trace number ≡ Some (home bucket (depth + 1)))
       × ((cell : Cell) → IsAt trace bucket (8 * depth + 7) cell → word shape trace cell ≡ chain_word number)
+      × (number < shape.overflow)
   -- with rising numbers
   pub rising : (low high d e : ℕ) → home_of trace low ≡ Some (home bucket d) → home_of trace high ≡ Some (home bucket e) → d < e → low < high
   -- and one number at each depth

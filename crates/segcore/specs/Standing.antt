@@ -49,6 +49,7 @@ pub record ChainsOn (shape : Shape) (trace : List Event) (bucket position : ℕ)
   pub at_end : position ≡ 8 * depth + 7
   pub inside : depth < chained_to (marked trace) bucket
   pub number : ℕ
+  pub in_table : number < shape.overflow
   pub next : home_of trace number ≡ Some (home bucket (depth + 1))
   pub reads : word shape trace cell ≡ chain_word number
 

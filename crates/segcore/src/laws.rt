@@ -94,7 +94,7 @@ pub fn chain_words()
     ensures row { (shape : Shape) (bucket segment row : ℕ) (now : List Event) (position : ℕ) (cell : Cell) → IsValid shape → bucket < shape.buckets → IsLawful shape now → IsAt now bucket position cell → word shape now cell % 2 ^ 44 ≢ segment * 2 ^ 20 + row → ¬ (RowAt shape bucket segment row now position) }
     ensures leads_on { (shape : Shape) (now : List Event) (bucket depth : ℕ) (cell : Cell) → IsValid shape → IsLawful shape now → bucket < shape.buckets → IsItemAt shape now bucket (8 * depth + 7) cell
         → 0 < word shape now cell → word shape now cell < 2 ^ 52
-        → (depth < (bucket_after shape now bucket).chained) × ((number : ℕ) × (word shape now cell ≡ chain_word number) × (home_of now number ≡ Some (home bucket (depth + 1)))) }
+        → (depth < (bucket_after shape now bucket).chained) × ((number : ℕ) × (word shape now cell ≡ chain_word number) × (home_of now number ≡ Some (home bucket (depth + 1))) × (number < shape.overflow)) }
     ensures ends { (shape : Shape) (now : List Event) (bucket depth : ℕ) (cell : Cell) → IsValid shape → IsLawful shape now → IsAt now bucket (8 * depth + 7) cell
         → (word shape now cell ≡ 0) ⊎ (2 ^ 52 ≤ word shape now cell) → (bucket_after shape now bucket).chained ≤ depth }
 {}
