@@ -1,10 +1,11 @@
 -- What the word at a chain's position says to one who reads it without the bit: not the key, not the row, or on to the next bucket.
-use Rattle.std.proofs.Common.{◌≡◌, ◌≢◌, ℕ, ◌+◌, ◌*◌, ◌/◌, ◌%◌, ◌^◌, ◌<◌, ◌≤◌, ◌⊎◌, List, Some, ap, ◌∙◌, ⊎_elim, arith}
+use Rattle.std.proofs.Common.{◌≡◌, ◌≢◌, ℕ, ◌+◌, ◌*◌, ◌/◌, ◌%◌, ◌^◌, ◌<◌, ◌≤◌, ◌⊎◌, List, Some, sym, ap, ◌∙◌, subst, ⊎_elim, arith}
 use Rattle.std.proofs.lemmas.Bool.{cases_lt}
 use Rattle.segword.specs.declared.shape.Shape.{Shape}
 use Rattle.segword.specs.Shape.{IsValid}
 use Rattle.segword.specs.ChainWord.{chain_word}
 use Rattle.segmodel.specs.Places.{bucket_of, tag_of}
+use Rattle.segmodel.specs.History.{Begins}
 use Rattle.segcore.specs.declared.event.Event.{Event}
 use Rattle.segcore.specs.declared.cell.Cell.{Cell}
 use Rattle.segcore.specs.Bucket.{bucket_after}
@@ -14,6 +15,8 @@ use Rattle.segcore.specs.Lawful.{IsLawful}
 use Rattle.segcore.specs.Word.{word, IsAt, IsItemAt}
 use Rattle.segcore.specs.Standing.{Names, ChainsOn, IsOfKey}
 use Rattle.segcore.specs.Search.{KeyAt, RowAt}
+use Rattle.segcore.proofs.Quiet.{chained_grows, position_stays}
+use Rattle.segcore.proofs.Cells.{at_stays}
 use Rattle.segcore.proofs.Marked.{chained_marked}
 use Rattle.segcore.proofs.Limits.{few_drawn, low_row, low_segment}
 use Rattle.segcore.proofs.Buckets.{joined}
@@ -61,3 +64,11 @@ ends_there z h b d c v l at out = ⊎_elim
     ⊎_elim (λ none. absurd (omega arith)) (λ big. absurd (omega arith)) out)
     (λ le. le)
     (cases_lt d (bucket_after z h b).chained)
+
+-- a chain only grows
+pub chain_grows : (z : Shape) (h g : List Event) (b : ℕ) → Begins h g → (bucket_after z h b).chained ≤ (bucket_after z g b).chained
+chain_grows z h g b s = subst (λ x. (bucket_after z h b).chained ≤ (bucket_after z x b).chained) (sym s.1) (chained_grows z s.0 h b)
+
+-- and its places stay
+pub place_stays : (z : Shape) (h g : List Event) (b n : ℕ) (c : Cell) → IsLawful z g → Begins h g → IsItemAt z h b n c → IsItemAt z g b n c
+place_stays z h g b n c l s i = subst (λ x. IsItemAt z x b n c) (sym s.1) (position_stays z s.0 h b n i.0, at_stays z s.0 h b n c (subst (IsLawful z) s.1 l) i.1)

@@ -88,7 +88,7 @@ pub fn place_of_key()
     ensures there { (shape : Shape) (key : List ℕ) (now : List Event) (position : ℕ) → IsLawful shape now → ¬ (KeyGone shape key now) → place shape (marked now) key ≡ Some position → KeyAt shape key now position }
 {}
 
-/// What the words of a chain say to one who has no bit: a word with another tag isn't the key's, one that names another row isn't the row's, and the last word of a bucket leads on to the next or ends the chain.
+/// What the words of a chain say to one who has no bit: a word with another tag isn't the key's, one that names another row isn't the row's, and the last word of a bucket leads on to the next or ends the chain. A chain only grows, and its places stay where they are.
 pub fn chain_words()
     ensures tag { (shape : Shape) (key : List ℕ) (now : List Event) (position : ℕ) (cell : Cell) → IsValid shape → IsLawful shape now → IsAt now (bucket_of shape key) position cell → word shape now cell / 2 ^ 52 ≢ tag_of key → ¬ (KeyAt shape key now position) }
     ensures row { (shape : Shape) (bucket segment row : ℕ) (now : List Event) (position : ℕ) (cell : Cell) → IsValid shape → bucket < shape.buckets → IsLawful shape now → IsAt now bucket position cell → word shape now cell % 2 ^ 44 ≢ segment * 2 ^ 20 + row → ¬ (RowAt shape bucket segment row now position) }
@@ -97,6 +97,8 @@ pub fn chain_words()
         → (depth < (bucket_after shape now bucket).chained) × ((number : ℕ) × (word shape now cell ≡ chain_word number) × (home_of now number ≡ Some (home bucket (depth + 1))) × (number < shape.overflow)) }
     ensures ends { (shape : Shape) (now : List Event) (bucket depth : ℕ) (cell : Cell) → IsValid shape → IsLawful shape now → IsAt now bucket (8 * depth + 7) cell
         → (word shape now cell ≡ 0) ⊎ (2 ^ 52 ≤ word shape now cell) → (bucket_after shape now bucket).chained ≤ depth }
+    ensures grows { (shape : Shape) (now next : List Event) (bucket : ℕ) → Begins now next → (bucket_after shape now bucket).chained ≤ (bucket_after shape next bucket).chained }
+    ensures stays { (shape : Shape) (now next : List Event) (bucket position : ℕ) (cell : Cell) → IsLawful shape next → Begins now next → IsItemAt shape now bucket position cell → IsItemAt shape next bucket position cell }
 {}
 
 /// A search for the item that names a row, along the chain of the key that is linked to the row.
