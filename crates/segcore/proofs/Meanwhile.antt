@@ -21,6 +21,7 @@ use Rattle.segcore.specs.Meanwhile.{Meanwhile}
 use Rattle.segcore.proofs.Moments.{lawful_before, seen_begins, marked_begins}
 use Rattle.segcore.proofs.Quiet.{quiet, quiet_none, quiet_at, quiet_row, quiet_inside, not_mine, later}
 use Rattle.segcore.proofs.Entered.{no_refill, entered_row}
+use Rattle.segcore.proofs.Readers.{empty_stays}
 use Rattle.segcore.proofs.Segments.{strangers}
 use Rattle.segcore.proofs.Counts.{mine_others, taken_others, bounced_others, glanced_others, counted}
 
@@ -65,6 +66,7 @@ meanwhile z p more h l n = let early = lawful_before z more h l in record {
   rises = λ b k a has is'. rise z more h p b k a l n has.1 is';
   bits = λ b ne. not_mine z more h p b n ne;
   own_rows = λ s r own. quiet_row z more h s r l (subst (λ x. NoneBy x more) (sym own) n);
+  none_stands = λ s own none. empty_stays z more h s l (subst (λ x. NoneBy x more) (sym own) n) none;
   stays = λ s. quiet_inside more h p s n;
   not_refilled = λ s there. no_refill z more h p s (is_pass z h p s early there) l n there;
   filling = λ s there. same_refills more h s (no_refill z more h p s (is_pass z h p s early there) l n there);

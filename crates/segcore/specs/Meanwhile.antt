@@ -2,7 +2,7 @@
 use Rattle.std.specs.Prelude.{◌≡◌, ◌≢◌, ℕ, ◌<◌, ◌≤◌, false, List, ◌++◌, Some}
 use Rattle.segword.specs.declared.shape.Shape.{Shape}
 use Rattle.segmodel.specs.Places.{bucket_of, owner}
-use Rattle.segmodel.specs.History.{after, mine, IsSameAt}
+use Rattle.segmodel.specs.History.{after, mine, IsSameAt, NoneStandsIn}
 use Rattle.segcore.specs.declared.event.Event.{Event}
 use Rattle.segcore.specs.Event.{by, seen}
 use Rattle.segcore.specs.Bucket.{Slot, item, bucket_after}
@@ -24,6 +24,8 @@ pub record Meanwhile (shape : Shape) (pass : ℕ) (more old : List Event) : Type
   pub bits : (bucket : ℕ) → (bucket_after shape old bucket).holder ≢ Some pass → (bucket_after shape (more ++ old) bucket).holder ≢ Some pass
   -- its own rows
   pub own_rows : (segment row : ℕ) → owner shape segment ≡ pass → row_after (more ++ old) segment row ≡ row_after old segment row
+  -- its own segments in which nothing stands
+  pub none_stands : (segment : ℕ) → owner shape segment ≡ pass → NoneStandsIn (after shape (seen old)) segment → NoneStandsIn (after shape (seen (more ++ old))) segment
   -- the segments that it is in: they aren't refilled, and their linked rows stay
   pub stays : (segment : ℕ) → inside (more ++ old) pass segment ≡ inside old pass segment
   pub not_refilled : (segment : ℕ) → 0 < inside old pass segment → NoneRefills segment more
