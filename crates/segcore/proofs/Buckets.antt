@@ -22,6 +22,7 @@ use Rattle.segcore.proofs.Marked.{one_if, chained_marked, drawn_marked}
 use Rattle.segcore.proofs.Orderly.{all_drawn_marked}
 use Rattle.segcore.proofs.Homes.{joins, spare_held}
 use Rattle.segcore.proofs.Limits.{drawn_few, home_in}
+use Rattle.segcore.proofs.Drafts.{draft_word}
 use Rattle.segcore.proofs.Versions.{versions, free}
 use Rattle.segcore.proofs.StepKinds.{word_content}
 
@@ -110,6 +111,7 @@ says_of_buckets z h l = let e = all_drawn_marked h in let few = drawn_few z h l 
   empty = λ m w i un ne. empty_at z h m w (home_of h m) l un i.1 ne refl;
   undrawn = λ m w none. ap (overflow_word z h w) none;
   unused = λ m. unused_at z h m (home_of h m) l refl;
+  draft = λ m b d v i lt. draft_word z h m b d v l i lt;
 }
 
 -- ---- the version that an information word has

@@ -23,6 +23,7 @@ pub mod Says
 pub mod ExampleTrace
 pub mod Allowed
 pub mod Homes
+pub mod Drafts
 pub mod Buckets
 pub mod Segments
 pub mod Passes

@@ -1,6 +1,7 @@
 -- What a lawful trace says of buckets: their information words, their chains, and the overflow buckets.
 use Rattle.std.specs.Prelude.{◌≡◌, ◌≢◌, ℕ, ◌+◌, ◌*◌, ◌/◌, ◌%◌, ◌^◌, ◌<◌, ◌≤◌, ◌⊎◌, List, Some, None, if◌then◌else◌}
 use Rattle.segword.specs.declared.shape.Shape.{Shape}
+use Rattle.segword.specs.Shape.{IsValid}
 use Rattle.segword.specs.ChainWord.{chain_word}
 use Rattle.segmodel.specs.History.{after}
 use Rattle.segcore.specs.declared.event.Event.{Event}
@@ -9,6 +10,7 @@ use Rattle.segcore.specs.declared.cell.Cell.TheVariants.{OfCounter, OfBucket, Of
 use Rattle.segcore.specs.Event.{seen}
 use Rattle.segcore.specs.Bucket.{bucket_after}
 use Rattle.segcore.specs.Overflow.{home, home_of}
+use Rattle.segcore.specs.ItemWord.{IsItemWord}
 use Rattle.segcore.specs.Word.{IsCell, word, IsAt}
 use Rattle.segcore.specs.Mark.{marked, drawn_for, chained_to, all_drawn}
 
@@ -54,3 +56,6 @@ pub record SaysOfBuckets (shape : Shape) (trace : List Event) : Type 0 where
   pub empty : (number w : ℕ) → IsCell shape (OfOverflow number w) → IsUnchained trace number → w ≢ 1 → word shape trace (OfOverflow number w) ≡ 0
   pub undrawn : (number w : ℕ) → home_of trace number ≡ None → word shape trace (OfOverflow number w) ≡ 0
   pub unused : (number : ℕ) → word shape trace (OfOverflow number 0) ≡ 0
+  -- word 1 of a drawn one that is in no chain yet is 0 or an item word
+  pub draft : (number bucket depth : ℕ) → IsValid shape → home_of trace number ≡ Some (home bucket depth) → chained_to (marked trace) bucket < depth
+      → (word shape trace (OfOverflow number 1) ≡ 0) ⊎ IsItemWord (word shape trace (OfOverflow number 1))
