@@ -1,0 +1,4 @@
+pub mod Index
+pub mod Quiet
+pub mod Calls
+pub mod Answers

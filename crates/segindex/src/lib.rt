@@ -1,0 +1,9 @@
+//! The object index: its calls, for many passes on threads of their own. Each answer is the one that a cache of one thread gives at a moment of one growing history.
+#![tactic(auto)]
+
+mod bucket;
+mod index;
+
+pub use bucket::LockAnswer;
+pub use index::Index;
+pub use segbase::{MakeFault, Pass};

@@ -1,0 +1,34 @@
+-- What a pass keeps of its own segments, and that this is so.
+use Rattle.std.specs.Prelude.{◌≡◌, ◌≢◌, ℕ, ◌<◌, ◌≤◌, nat_lt, Bool, false, is_some, Option, Some, None, option_and_then}
+use Rattle.segword.specs.declared.shape.Shape.{Shape}
+use Rattle.segmodel.specs.declared.answer.SegState.{SegState}
+use Rattle.segmodel.specs.declared.answer.SegState.TheVariants.{InUse}
+use Rattle.segmodel.specs.History.{after, NoneStandsIn}
+use Rattle.segcore.specs.Row.{row_after}
+use Rattle.segbase.specs.declared.board.Board.{Board}
+use Rattle.segbase.specs.declared.pass.Pass.{Pass}
+use Rattle.segbase.specs.Passes.{trace, seen}
+use Rattle.segbase.specs.Plain.{current_of, state_of, used_of}
+
+-- the pass's plain part says what is so of its own segments
+pub record KeepsSegments (b : Board) (p : Pass) : Type 0 where
+  -- no more rows are used than a segment has
+  pub few : (segment used : ℕ) → used_of p segment ≡ Some used → used ≤ b.shape.rows
+  -- the rows that an item was linked to in this filling are the used ones
+  pub rows : (segment used row : ℕ) → used_of p segment ≡ Some used → row < b.shape.rows → is_some (row_after (trace p) segment row).linked ≡ nat_lt row used
+  -- the segment that it stores into is in use
+  pub in_use : (segment : ℕ) → current_of p ≡ Some segment → state_of p segment ≡ Some InUse
+  -- no key stands in a segment that isn't in use
+  pub unused : (segment : ℕ) (state : SegState) → state_of p segment ≡ Some state → state ≢ InUse → NoneStandsIn (after b.shape (seen p)) segment
+
+-- how many rows of the current segment are used, if there is a current one
+abbrev pub used_now : Pass → Option ℕ
+used_now p = option_and_then (used_of p) (current_of p)
+
+abbrev pub is_below : ℕ → Option ℕ → Bool
+is_below rows None = false
+is_below rows (Some used) = nat_lt used rows
+
+-- whether the pass can store one more: a segment is current, and not all its rows are used
+abbrev pub has_room : Shape → Pass → Bool
+has_room shape p = is_below shape.rows (used_now p)
