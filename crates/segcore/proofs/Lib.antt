@@ -32,3 +32,5 @@ pub mod Counts
 pub mod Meanwhile
 pub mod Changed
 pub mod ChainWords
+pub mod Filled
+pub mod KeyCounts

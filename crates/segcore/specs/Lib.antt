@@ -4,6 +4,7 @@ pub mod Chains
 pub mod Count
 pub mod Event
 pub mod Example
+pub mod Filled
 pub mod ItemWord
 pub mod Kind
 pub mod Lawful

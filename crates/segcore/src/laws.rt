@@ -4,7 +4,7 @@ ghost use Rattle.segword.specs.declared.shape.Shape.{Shape};
 ghost use Rattle.segword.specs.Shape.{IsValid};
 ghost use Rattle.segword.specs.ChainWord.{chain_word};
 ghost use Rattle.segmodel.specs.Places.{bucket_of, tag_of};
-ghost use Rattle.segmodel.specs.Cache.{standing};
+ghost use Rattle.segmodel.specs.Cache.{standing, keys_in};
 ghost use Rattle.segmodel.specs.History.{IsLegal, Begins, after, writes, entries_of, stirred};
 ghost use Rattle.segcore.specs.declared.cell.Cell.{Cell};
 ghost use Rattle.segcore.specs.declared.cell.Cell.TheVariants.{OfCounter, OfBucket, OfOverflow, OfSegment};
@@ -12,7 +12,7 @@ ghost use Rattle.segcore.specs.declared.event.Event.{Event};
 ghost use Rattle.segcore.specs.declared.view.View.{View};
 ghost use Rattle.segcore.specs.declared.event.Event.TheVariants.{Took, Bounced};
 ghost use Rattle.segcore.specs.Event.{NoneBy, seen};
-ghost use Rattle.segcore.specs.Bucket.{bucket_after};
+ghost use Rattle.segcore.specs.Bucket.{nothing, bucket_after};
 ghost use Rattle.segcore.specs.Overflow.{home, home_of};
 ghost use Rattle.segcore.specs.Row.{row_after};
 ghost use Rattle.segcore.specs.Lawful.{IsLawful};
@@ -25,6 +25,7 @@ ghost use Rattle.segcore.specs.Standing.{cached, Names, SaysOfKeys};
 ghost use Rattle.segcore.specs.Chains.{SaysOfBuckets};
 ghost use Rattle.segcore.specs.Says.{SaysOfSegments, Says};
 ghost use Rattle.segcore.specs.Count.{IsCounted};
+ghost use Rattle.segcore.specs.Filled.{items_below, IsFull};
 ghost use Rattle.segcore.specs.Kind.{Step, HasBit, May, Kept};
 ghost use Rattle.segcore.specs.Meanwhile.{Meanwhile};
 ghost use Rattle.segcore.specs.Example.{shape, a, two, stored, bumped, moved, replaced, refilled, view_of, bounced, steps};
@@ -128,6 +129,18 @@ pub fn version_of_bucket()
         → word shape now (OfBucket bucket 0) / 2 ^ 32 ≡ (after shape (seen now)).version bucket }
     ensures writes { (shape : Shape) (now : List Event) (bucket : ℕ) → shape.first_version < 2 ^ 32 → IsLawful shape now
         → (after shape (seen now)).version bucket ≡ (shape.first_version + writes shape (seen now) bucket) % 2 ^ 32 }
+{}
+
+/// As many keys of a bucket stand as positions of its chain have an item: at most seven, and six for each overflow bucket of the chain, since one word leads on to it; and just so many where no item word is empty.
+pub fn keys_of_bucket()
+    ensures counted { (shape : Shape) (now : List Event) (bucket : ℕ) → IsLawful shape now
+        → keys_in shape (after shape (seen now)) bucket ≡ items_below (bucket_after shape now bucket) (8 * (bucket_after shape now bucket).chained + 8) }
+    ensures few { (shape : Shape) (now : List Event) (bucket : ℕ) → IsLawful shape now
+        → keys_in shape (after shape (seen now)) bucket ≤ 6 * (bucket_after shape now bucket).chained + 7 }
+    ensures full { (shape : Shape) (now : List Event) (bucket : ℕ) → IsLawful shape now → IsFull (bucket_after shape now bucket)
+        → keys_in shape (after shape (seen now)) bucket ≡ 6 * (bucket_after shape now bucket).chained + 7 }
+    ensures filled { (shape : Shape) (now : List Event) (bucket position : ℕ) (cell : Cell) → IsItemAt shape now bucket position cell → word shape now cell ≢ 0
+        → (bucket_after shape now bucket).items position ≢ nothing }
 {}
 
 /// The example is lawful; its words are those of the format; and it has two passes that have seen different ends of one trace.

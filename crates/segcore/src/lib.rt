@@ -9,7 +9,8 @@ mod view;
 pub use cell::Cell;
 pub use event::Event;
 pub use laws::{
-    between_steps, chain_words, changed_word, every_schedule, example, kept_step, lawful_trace,
-    miss_point, miss_row, place_of_key, search_for_key, search_for_row, version_of_bucket,
+    between_steps, chain_words, changed_word, every_schedule, example, kept_step, keys_of_bucket,
+    lawful_trace, miss_point, miss_row, place_of_key, search_for_key, search_for_row,
+    version_of_bucket,
 };
 pub use view::View;
