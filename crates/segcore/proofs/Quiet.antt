@@ -48,7 +48,7 @@ removed_at z p k' None h k f = next_other z (after z (seen h)) (removal p k' Non
 removed_at z p k' (Some s) h k f = next_other z (after z (seen h)) (removal p k' (Some s)) k f
 
 -- an event of another bucket leaves what stands under a key, and the version of its bucket
-same_at : (z : Shape) (e : Event) (h : List Event) (k : List ℕ) → is (bucket_at z e) (bucket_of z k) ≡ false → IsSameAt z (after z (seen h)) (after z (seen (e ∷ h))) k
+pub same_at : (z : Shape) (e : Event) (h : List Event) (k : List ℕ) → is (bucket_at z e) (bucket_of z k) ≡ false → IsSameAt z (after z (seen h)) (after z (seen (e ∷ h))) k
 same_at z (Replied p q y) h k f = next_other z (after z (seen h)) (entry.Wrote p q y None) k f
 same_at z (Linked p q s r n) h k f = next_other z (after z (seen h)) (entry.Wrote p q Stored (Some s)) k f
 same_at z (Unlinked p k' n why) h k f = removed_at z p k' why h k f
