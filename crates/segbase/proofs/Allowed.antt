@@ -1,5 +1,5 @@
 -- A step that its pass may take is allowed by the table's rule, and tells what its kind says.
-use Rattle.std.proofs.Common.{◌≡◌, ℕ, zero, suc, ◌<◌, List, [], ◌∷◌, ◌++◌, length, get_or, set, true, refl, sym, ap, ◌∙◌, subst, ⊎_elim, arith}
+use Rattle.std.proofs.Common.{◌≡◌, ℕ, zero, suc, ◌<◌, ◌≤◌, List, [], ◌∷◌, ◌++◌, length, get_or, set, true, refl, sym, ap, ◌∙◌, subst, ⊎_elim, arith, length-set}
 use mathlib.Core.Option.{some, some-ne-none}
 use lib.ListN.{get_elem?}
 use Rattle.atomic_table.specs.Table.{State, Me, keeps, stepped, Allows}
@@ -81,6 +81,7 @@ module _ {S : Type 0} where
         trace = es ++ rule.trace;
         views = set rule.views p w;
         lawful = rw (← same, place) after;
+        few = subst (λ n. n ≤ z.passes) (sym (length-set rule.views p w)) rule.few;
         sights = sights_kept z s rule id me.0 w es at pass refl refl;
         one = apart_kept s.views id me.0 x rule.one at pass refl;
       } in
@@ -92,7 +93,7 @@ module _ {S : Type 0} where
         now = (λ j. record v { trace = es ++ k.rest j });
         legal = rw is kept.legal;
       } in
-      (x, keeps, tt, ruled, (record { told = told; met = begins_on es me.0.met rule.trace old.met; is_pass = refl; memo = refl }, refl))
+      (x, keeps, tt, ruled, (record { told = told; met = begins_on es me.0.met rule.trace old.met; among = λ n past. ruled.lawful.later n (let few = ruled.few in omega arith); is_pass = refl; memo = refl }, refl))
 
 -- the same over a board's own table, as a step of it asks
 pub step_of : (b : Board) (p : Pass) (st : Step) (spot : Spot) (i : ℕ) (f : ℕ → ℕ) → CanStep b p st spot f → i ≡ address b.shape (cell_of b.shape spot) → i < b.table.shared.table_id.words

@@ -10,14 +10,18 @@ use Rattle.atomic_table.proofs.Lists.{at_set, at_snoc}
 use Rattle.segword.specs.declared.shape.Shape.{Shape}
 use Rattle.segmodel.specs.History.{Begins, AreOne}
 use Rattle.segcore.specs.declared.event.Event.{Event}
+use Rattle.segcore.specs.Event.{AllBy}
 use Rattle.segcore.specs.Lawful.{IsLawful}
 use Rattle.segcore.specs.Kind.{row_load, May}
+use Rattle.segcore.specs.declared.view.View.{View}
+use Rattle.segbase.specs.declared.law.Memo.{Memo}
 use Rattle.segbase.specs.declared.law.Sight.{Sight}
 use Rattle.segbase.specs.declared.pass.Plain.{Plain}
 use Rattle.segbase.specs.declared.pass.Pass.{Pass}
 use Rattle.segbase.specs.declared.board.Board.{Board}
-use Rattle.segbase.specs.Passes.{number, trace, IsPassOf}
-use Rattle.segbase.specs.Ruled.{Rule, IsSight, witness, spent, meets}
+use Rattle.segbase.specs.Minding.{Minds}
+use Rattle.segbase.specs.Passes.{sight, view, number, trace, IsPassOf, IsMemo}
+use Rattle.segbase.specs.Ruled.{Rule, IsSight, witness, spent, meets, minding}
 use Rattle.segbase.proofs.Allowed.{apart_kept}
 
 abbrev IsOne : List Sight → Type 0
@@ -54,6 +58,7 @@ carries S z id x u pass view met is_pass s rule at =
       trace = rule.trace;
       views = rule.views;
       lawful = rule.lawful;
+      few = rule.few;
       sights = λ j y is. ⊎_elim
           (λ t. ⊎_elim
           (λ o. subst (IsSight rule.views rule.trace) o.1 (record { seen = subst (λ v. Begins v.trace rule.trace) (sym view) old.seen; met = subst (λ m. Begins m rule.trace) (sym met) old.met; own = λ _. subst (λ v. get_elem? rule.views v.number ≡ some v) (sym view) (old.own pass) }))
@@ -75,6 +80,7 @@ tells S z id other x w pass s rule at apart at' =
       trace = rule.trace;
       views = rule.views;
       lawful = rule.lawful;
+      few = rule.few;
       sights = λ j y is. ⊎_elim
           (λ t. subst (IsSight rule.views rule.trace) t.1 (record { seen = begins_all rule.trace; met = begins_all rule.trace; own = λ yes. absurd (false≢true yes) }))
           (λ t. ⊎_elim
@@ -105,21 +111,30 @@ own_first n each more = ap (λ x. x / each) (let e : n * each ≡ n * each + 0 =
 pub within_first : (n each passes : ℕ) → n < passes → 0 < each → n * each < passes * each
 within_first n each passes few more = mul-lt-mul_of_pos_right few more
 
--- a pass that was told of another is the same pass
-pub retold : (b : Board) (p q : Pass) (w : Sight) → IsPassOf b p → q.seat.table_id ≡ p.seat.table_id → q.seat.me ≡ (meets p.seat.me.0 w, p.seat.me.1) → q.plain ≡ p.plain → IsPassOf b q
-retold b p q w is table me plain =
-    let now : q.seat.me.0 ≡ meets p.seat.me.0 w = ap (λ (m : Me (Unit {0}) Sight). m.0) me in
-    let same : number q ≡ number p = ap (λ (y : Sight). y.view.number) now in record {
+-- a pass with the same view is the same pass
+same_pass : (b : Board) (p q : Pass) → IsPassOf b p → q.seat.table_id ≡ p.seat.table_id → q.seat.me.1 ≡ p.seat.me.1 → view q ≡ view p → (sight q).is_pass ≡ (sight p).is_pass → IsMemo b p (sight q).memo → q.plain ≡ p.plain → IsPassOf b q
+same_pass b p q is table bare same pass minds plain =
+    let of : number q ≡ number p = ap (λ (v : View). v.number) same in record {
       table = table ∙ is.table;
-      bare = ap (λ (m : Me (Unit {0}) Sight). m.1) me ∙ is.bare;
-      is_pass = ap (λ (y : Sight). y.is_pass) now ∙ is.is_pass;
+      bare = bare ∙ is.bare;
+      is_pass = pass ∙ is.is_pass;
       valid = is.valid;
-      lawful = subst (IsLawful b.shape) (sym (ap (λ (y : Sight). y.view.trace) now)) is.lawful;
-      one_of = rw same is.one_of;
-      numbered = ap (λ (x : Plain). x.number) plain ∙ (is.numbered ∙ sym same);
-      first = ap (λ (x : Plain). x.first) plain ∙ (is.first ∙ ap (λ n. n * b.shape.segments_each) (sym same));
+      lawful = subst (λ (v : View). IsLawful b.shape v.trace) (sym same) is.lawful;
+      one_of = rw of is.one_of;
+      alone = λ one. subst (λ (v : View). AllBy v.number v.trace) (sym same) (is.alone one);
+      minds = subst (λ (v : View). Minds b.shape v.trace v.number (sight q).memo) (sym same) minds;
+      numbered = ap (λ (x : Plain). x.number) plain ∙ (is.numbered ∙ sym of);
+      first = ap (λ (x : Plain). x.first) plain ∙ (is.first ∙ ap (λ n. n * b.shape.segments_each) (sym of));
       owns = ap (λ (x : Plain). length x.segments.items) plain ∙ is.owns;
     }
+
+-- one that was told of another
+pub retold : (b : Board) (p q : Pass) (w : Sight) → IsPassOf b p → q.seat.table_id ≡ p.seat.table_id → q.seat.me ≡ (meets p.seat.me.0 w, p.seat.me.1) → q.plain ≡ p.plain → IsPassOf b q
+retold b p q w is table me plain = same_pass b p q is table (ap (λ (m : Me (Unit {0}) Sight). m.1) me) (ap (λ (m : Me (Unit {0}) Sight). m.0.view) me) (ap (λ (m : Me (Unit {0}) Sight). m.0.is_pass) me) (subst (λ (m : Memo). IsMemo b p m) (sym (ap (λ (m : Me (Unit {0}) Sight). m.0.memo) me)) is.minds) plain
+
+-- and one that keeps another thing in mind
+pub reminded : (b : Board) (p q : Pass) (memo : Memo) → IsPassOf b p → IsMemo b p memo → q.seat.table_id ≡ p.seat.table_id → q.seat.me ≡ (minding memo p.seat.me.0, p.seat.me.1) → q.plain ≡ p.plain → IsPassOf b q
+reminded b p q memo is minds table me plain = same_pass b p q is table (ap (λ (m : Me (Unit {0}) Sight). m.1) me) (ap (λ (m : Me (Unit {0}) Sight). m.0.view) me) (ap (λ (m : Me (Unit {0}) Sight). m.0.is_pass) me) (subst (λ (m : Memo). IsMemo b p m) (sym (ap (λ (m : Me (Unit {0}) Sight). m.0.memo) me)) minds) plain
 
 -- it may load the first word of its first row
 pub own_row : (b : Board) (p : Pass) → IsPassOf b p → May b.shape (trace p) (number p) (row_load p.plain.first 0 0)

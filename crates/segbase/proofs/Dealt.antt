@@ -40,6 +40,7 @@ rule_opens S z words valid opened = record {
     later = λ p _. tt;
     dealt = λ v at. ap (λ (u : View). u.dealt) (sym (some-injective first_sight.view v at));
   };
+  few = valid.0.0.0.1.0;
   sights = one_sight;
   one = λ i j x y at at' _ _ _. one_id i x at ∙ sym (one_id j y at');
 }
@@ -86,8 +87,8 @@ more_views z words views h v l at =
           (snoc_at there new u 0 is);
     }
 
-pub deals : (S : Type 0) (z : Shape) (id : ℕ) (x : Sight) → x.is_pass ≡ true → x.view.number ≡ 0 → Splits {S = S} (Rule z) id x (dealer x) (newcomer x)
-deals S z id x pass first s rule at =
+pub deals : (S : Type 0) (z : Shape) (id : ℕ) (x : Sight) → x.is_pass ≡ true → x.view.number ≡ 0 → x.view.dealt < z.passes → Splits {S = S} (Rule z) id x (dealer x) (newcomer x)
+deals S z id x pass first fewer s rule at =
     let h = rule.trace in let l = rule.lawful in
     let v : View = x.view in
     let old = rule.sights id x at in
@@ -109,6 +110,7 @@ deals S z id x pass first s rule at =
       trace = h;
       views = views;
       lawful = more_views z s.words rule.views h v l here;
+      few = let more : length views ≡ length rule.views + 1 = length-append there (new ∷ []) ∙ ap (λ n. n + 1) long in omega arith;
       sights = λ j y is. ⊎_elim
           (λ t. ⊎_elim
           (λ o. subst (IsSight views h) o.1 (record { seen = old.seen; met = old.met; own = λ _. subst (λ n. get_elem? views n ≡ some w) (sym first) (known 0 w (set_here rule.views 0 w (inside_list rule.views 0 v here))) }))

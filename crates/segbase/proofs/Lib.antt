@@ -1,13 +1,16 @@
 pub mod Allowed
+pub mod Alone
 pub mod Begun
 pub mod Carried
 pub mod Dealt
 pub mod Exchanging
+pub mod Minded
 pub mod Moves
 pub mod Opened
 pub mod Owned
 pub mod Owning
 pub mod Passes
+pub mod Placed
 pub mod Standing
 pub mod Staying
 pub mod Stepping

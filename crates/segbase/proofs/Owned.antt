@@ -1,17 +1,19 @@
 -- What the plain part of a pass says of the segments that it owns, and that its setters leave the pass what it is.
-use Rattle.std.proofs.Common.{◌≡◌, ℕ, zero, suc, ◌+◌, ◌-◌, ◌*◌, ◌/◌, ◌%◌, ◌<◌, ◌≤◌, Bool, true, false, nat_le, cond, List, [], ◌∷◌, length, Option, Some, None, is_some, slice_get, refl, sym, ap, ◌∙◌, subst, ⊎_elim, arith, mod-lt, div-add-mod'}
+use Rattle.std.proofs.Common.{◌≡◌, ℕ, zero, suc, ◌+◌, ◌-◌, ◌*◌, ◌/◌, ◌%◌, ◌<◌, ◌≤◌, true, nat_le, List, [], ◌∷◌, length, Option, Some, None, is_some, slice_get, refl, sym, ap, ◌∙◌, subst, ⊎_elim, arith, mod-lt, div-add-mod'}
 use Rattle.std.proofs.lemmas.Bool.{cases_Bool, cond-true, cond-false, leb-true, le-leb, false≢true}
 use Rattle.std.proofs.lemmas.Nat.{div-mul-add}
 use Rattle.atomic_table.specs.declared.shared.Seat.{Seat}
 use Rattle.segmodel.specs.Places.{owner}
 use Rattle.segcore.specs.declared.event.Event.{Event}
+use Rattle.segcore.specs.Event.{AllBy}
 use Rattle.segcore.specs.Lawful.{IsLawful}
 use Rattle.segbase.specs.declared.law.Sight.{Sight}
 use Rattle.segbase.specs.declared.pass.OwnSegment.{OwnSegment}
 use Rattle.segbase.specs.declared.pass.Pass.{Pass}
 use Rattle.segbase.specs.declared.board.Board.{Board}
+use Rattle.segbase.specs.Minding.{Minds}
 use Rattle.segbase.specs.Plain.{own_segment, state_in, state_of, SameOwner}
-use Rattle.segbase.specs.Passes.{number, trace, IsPassOf, Moved}
+use Rattle.segbase.specs.Passes.{number, IsPassOf, Moved}
 
 -- a pass whose plain part alone changed, but not whose it is
 pub still_pass : (b : Board) (p q : Pass) → IsPassOf b p → q.seat ≡ p.seat → SameOwner p q → IsPassOf b q
@@ -23,6 +25,8 @@ still_pass b p q is seat owner =
       valid = is.valid;
       lawful = subst (IsLawful b.shape) (sym (ap (λ (s : Seat (Unit {0}) Sight). s.me.0.view.trace) seat)) is.lawful;
       one_of = subst (λ n. n < b.shape.passes) (sym same) is.one_of;
+      alone = λ one. subst (λ (s : Seat (Unit {0}) Sight). AllBy s.me.0.view.number s.me.0.view.trace) (sym seat) (is.alone one);
+      minds = subst (λ (s : Seat (Unit {0}) Sight). Minds b.shape s.me.0.view.trace s.me.0.view.number s.me.0.memo) (sym seat) is.minds;
       numbered = owner.number ∙ (is.numbered ∙ sym same);
       first = owner.first ∙ (is.first ∙ ap (λ n. n * b.shape.segments_each) (sym same));
       owns = owner.count ∙ is.owns;

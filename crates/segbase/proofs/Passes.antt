@@ -9,7 +9,8 @@ use Rattle.segbase.specs.declared.law.Sight.{Sight}
 use Rattle.segbase.specs.declared.pass.Pass.{Pass}
 use Rattle.segbase.specs.declared.board.Board.{Board}
 use Rattle.segbase.specs.Ruled.{first_sight, dealer, newcomer}
-use Rattle.segbase.specs.Passes.{view, number, trace}
+use Rattle.segbase.specs.Passes.{sight, view, number, trace}
+use Rattle.segbase.proofs.Minded.{nothing_minded}
 use Rattle.segbase.specs.Made.{unfilled, IsNewPlain, IsNewPass, IsDealt}
 
 pub get_first : {A : Type 0} (l : List A) (a : A) → 0 < length l → a ≡ get_or l 0 a → slice_get l 0 ≡ Some a
@@ -45,6 +46,8 @@ new_pass b n p x valid few table me pass of nothing none free plain =
         valid = valid;
         lawful = rw no tt;
         one_of = rw same few;
+        alone = λ one. rw no tt;
+        minds = nothing_minded b.shape (trace p) (number p) (sight p).memo (ap (λ (y : Sight). y.memo.holding) is ∙ none) (ap (λ (y : Sight). y.memo.locked) is ∙ free);
         numbered = plain.number ∙ sym same;
         first = plain.first ∙ ap (λ k. k * b.shape.segments_each) (sym same);
         owns = ap length plain.segments ∙ length-replicate b.shape.segments_each unfilled;

@@ -80,19 +80,21 @@ frequency_rises z (e ∷ more) h p b n a l none held here =
     let st = (coherent z (more ++ h) l.0).items b n a (ap (λ u. u.items n) same ∙ here) in
     rises e z (more ++ h) a.segment a.row (frequency_of h a.segment a.row) a.key l st.linked (frequency_rises z more h p b n a l.0 none.1 held here)
 
--- two words of one item, of which the second isn't the first
+below : (old before found t f g s r : ℕ) → before ≡ packed t f s r → found ≡ packed t g s r → f ≤ g → old ≤ before → found ≢ old → old < found
+below old before found t f g s r then now up low other = omega arith
+
+-- the item's word now, which an earlier word of it isn't
 pub higher : (z : Shape) (more h : List Event) (p b n old found : ℕ) (a : Slot) (c : Cell) → IsValid z → IsLawful z h → IsLawful z (more ++ h) → NoneBy p more → (bucket_after z h b).holder ≡ Some p → IsItemAt z h b n c → (bucket_after z h b).items n ≡ item a
-    → old ≡ word z h c → found ≡ word z (more ++ h) c → found ≢ old → IsSameItem old found × (old < found)
-higher z more h p b n old found a c v l l' none held at here was is other =
+    → IsSameItem old (word z h c) → old ≤ word z h c → found ≡ word z (more ++ h) c → found ≢ old → IsSameItem old found × (old < found)
+higher z more h p b n old found a c v l l' none held at here same low is other =
     let t = tag_of a.key in let s = a.segment in let r = a.row in
     let f : ℕ = frequency_of h s r in let g : ℕ = frequency_of (more ++ h) s r in
     let st = (coherent z h l).items b n a here in
     let ls = low_segment z s v st.within.0 in let lr = low_row z r v st.within.1 in
     let lf = low_frequency z h s r l in let lg = low_frequency z (more ++ h) s r l' in
-    let first : old ≡ packed t f s r = was ∙ (content_at z h b n c at ∙ ap (content_word h) here) in
-    let second : found ≡ packed t g s r = is ∙ (under_bit z more h p b n c l' none held at ∙ ap (content_word (more ++ h)) here) in
+    let then : word z h c ≡ packed t f s r = content_at z h b n c at ∙ ap (content_word h) here in
+    let now : found ≡ packed t g s r = is ∙ (under_bit z more h p b n c l' none held at ∙ ap (content_word (more ++ h)) here) in
     let up : f ≤ g = frequency_rises z more h p b n a l' none held here in
-    let one : old / 2 ^ 52 ≡ t = ap (λ x. x / 2 ^ 52) first ∙ tag_of_word t f s r lf ls lr in
-    let two : found / 2 ^ 52 ≡ t = ap (λ x. x / 2 ^ 52) second ∙ tag_of_word t g s r lg ls lr in
-    let apart : f ≢ g = λ e. other (second ∙ (ap (λ x. packed t x s r) (sym e) ∙ sym first)) in
-    ((subst (λ x. 1 ≤ x) (sym one) (some_tag a.key), one ∙ sym two, ap (λ x. x % 2 ^ 44) first ∙ (place_of_word t f s r ls lr ∙ sym (ap (λ x. x % 2 ^ 44) second ∙ place_of_word t g s r ls lr))), omega arith)
+    let tags : word z h c / 2 ^ 52 ≡ found / 2 ^ 52 = ap (λ x. x / 2 ^ 52) then ∙ (tag_of_word t f s r lf ls lr ∙ sym (ap (λ x. x / 2 ^ 52) now ∙ tag_of_word t g s r lg ls lr)) in
+    let places : word z h c % 2 ^ 44 ≡ found % 2 ^ 44 = ap (λ x. x % 2 ^ 44) then ∙ (place_of_word t f s r ls lr ∙ sym (ap (λ x. x % 2 ^ 44) now ∙ place_of_word t g s r ls lr)) in
+    ((same.0, same.1 ∙ tags, same.2 ∙ places), below old (word z h c) found t f g s r then now up low other)

@@ -1,8 +1,9 @@
 -- What a pass that took a step has done.
-use Rattle.std.proofs.Common.{◌≡◌, ℕ, ◌*◌, List, [], ◌++◌, length, sym, ap, ◌∙◌, subst, append_assoc, append-nil}
+use Rattle.std.proofs.Common.{◌≡◌, ℕ, ◌*◌, ◌≤◌, List, [], ◌++◌, length, sym, ap, ◌∙◌, subst, append_assoc, append-nil}
+use Rattle.segword.specs.declared.shape.Shape.{Shape}
 use Rattle.segcore.specs.declared.event.Event.{Event}
 use Rattle.segcore.specs.declared.view.View.{View}
-use Rattle.segcore.specs.Event.{AllBy}
+use Rattle.segcore.specs.Event.{NoneBy, AllBy}
 use Rattle.segcore.specs.Lawful.{IsLawful}
 use Rattle.segcore.specs.Word.{IsCell}
 use Rattle.segcore.specs.Kind.{Step, adds, May}
@@ -16,8 +17,11 @@ use Rattle.segbase.specs.declared.pass.Pass.{Pass}
 use Rattle.segbase.specs.declared.place.Spot.{Spot}
 use Rattle.segbase.specs.Traces.{own_of, StaysIn}
 use Rattle.segbase.specs.Spots.{cell_of}
+use Rattle.segbase.specs.Minding.{Minds}
 use Rattle.segbase.specs.Ruled.{Learns}
 use Rattle.segbase.specs.Passes.{sight, view, number, trace, IsPassOf, CanStep, Moved, Stepped}
+use Rattle.segbase.proofs.Alone.{only_by}
+use Rattle.segbase.proofs.Minded.{minded_on}
 use Rattle.segbase.proofs.Owning.{own_all, own_none, own_both}
 use Rattle.segbase.proofs.Staying.{stays_first, none_both, none_refilled}
 
@@ -57,6 +61,8 @@ stepped b st spot f found p q can table learns plain =
       valid = is.valid;
       lawful = told.legal;
       one_of = rw same is.one_of;
+      alone = λ one. only_by b.shape.passes (number q) (trace q) one (rw same is.one_of) (subst (λ (z : Shape). (n : ℕ) → z.passes ≤ n → NoneBy n (trace q)) b.same learns.0.among);
+      minds = subst (λ m. Minds b.shape (trace q) (number q) m) (sym learns.0.memo) (subst (λ n. Minds b.shape (trace q) n (sight p).memo) (sym same) (minded_on b.shape (trace p) (trace q) (number p) (sight p).memo (adds st (number p) found ++ told.more, ap (λ (v : View). v.trace) told.now ∙ sym (append_assoc (adds st (number p) found) told.more (trace p))) is.minds));
       numbered = ap (λ (x : Plain). x.number) plain ∙ (is.numbered ∙ sym same);
       first = ap (λ (x : Plain). x.first) plain ∙ (is.first ∙ ap (λ n. n * b.shape.segments_each) (sym same));
       owns = ap (λ (x : Plain). length x.segments.items) plain ∙ is.owns;

@@ -1,4 +1,5 @@
 pub mod Made
+pub mod Minding
 pub mod Opening
 pub mod Passes
 pub mod Plain

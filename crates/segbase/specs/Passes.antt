@@ -8,7 +8,7 @@ use Rattle.segcore.specs.Segment.{inside}
 use Rattle.segcore.specs.Lawful.{IsLawful}
 use Rattle.segcore.specs.Count as count
 use Rattle.segcore.specs.Mark.{Mark}
-use Rattle.segcore.specs.Event.{NoneBy}
+use Rattle.segcore.specs.Event.{NoneBy, AllBy}
 use Rattle.segcore.specs.Event as event
 use Rattle.segcore.specs.Mark as mark
 use Rattle.segcore.specs.Segment as segments
@@ -19,10 +19,12 @@ use Rattle.segcore.specs.Kind.{Step, cell, becomes, adds, May}
 use Rattle.segcore.specs.World.{Told}
 use Rattle.segbase.specs.declared.law.Held.{Held}
 use Rattle.segbase.specs.declared.law.Locked.{Locked}
+use Rattle.segbase.specs.declared.law.Memo.{Memo}
 use Rattle.segbase.specs.declared.law.Sight.{Sight}
 use Rattle.segbase.specs.declared.pass.Pass.{Pass}
 use Rattle.segbase.specs.declared.board.Board.{Board}
 use Rattle.segbase.specs.declared.place.Spot.{Spot}
+use Rattle.segbase.specs.Minding.{Minds}
 use Rattle.segbase.specs.Traces.{own_of, StaysIn, OnlyReads}
 use Rattle.segbase.specs.Spots.{cell_of}
 
@@ -67,6 +69,10 @@ holding p = (sight p).memo.holding
 abbrev pub locked : Pass → Option Locked
 locked p = (sight p).memo.locked
 
+-- the pass may keep this in mind: what it holds stood, and what it has locked it had the bit of, each at a moment that it has seen
+abbrev pub IsMemo : Board → Pass → Memo → Type 0
+IsMemo b p memo = Minds b.shape (trace p) (number p) memo
+
 pub record IsPassOf (b : Board) (p : Pass) : Type 0 where
   pub table : p.seat.table_id ≡ b.table.shared.table_id
   pub bare : p.seat.me.1 ≡ []
@@ -74,6 +80,9 @@ pub record IsPassOf (b : Board) (p : Pass) : Type 0 where
   pub valid : IsValid b.shape
   pub lawful : IsLawful b.shape (trace p)
   pub one_of : number p < b.shape.passes
+  -- where it is the only pass, all that has happened is its own
+  pub alone : b.shape.passes ≡ 1 → AllBy (number p) (trace p)
+  pub minds : IsMemo b p (sight p).memo
   -- its plain part agrees
   pub numbered : p.plain.number ≡ number p
   pub first : p.plain.first ≡ number p * b.shape.segments_each

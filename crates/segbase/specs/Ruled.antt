@@ -1,11 +1,12 @@
 -- The rule of the table: some trace makes its words what they are, and goes on from what each seat knows.
-use Rattle.std.specs.Prelude.{◌≡◌, ℕ, ◌+◌, true, false, List, [], None}
+use Rattle.std.specs.Prelude.{◌≡◌, ℕ, ◌+◌, ◌≤◌, true, false, List, [], length, None}
 use mathlib.Core.Option.{some}
 use lib.ListN.{get_elem?}
 use Rattle.atomic_table.specs.Table.{State, Me, Step as TableStep}
 use Rattle.segword.specs.declared.shape.Shape.{Shape}
 use Rattle.segcore.specs.declared.event.Event.{Event}
 use Rattle.segcore.specs.declared.view.View.{View}
+use Rattle.segcore.specs.Event.{NoneBy}
 use Rattle.segcore.specs.World.{Lawful, Told}
 use Rattle.segcore.specs.Kind.{Step}
 use Rattle.segbase.specs.declared.law.Memo.{Memo}
@@ -23,6 +24,8 @@ pub record Rule {S : Type 0} (shape : Shape) (state : State S Sight) : Type 0 wh
   pub trace : List Event
   pub views : List View
   pub lawful : Lawful shape state.words views trace
+  -- no more passes than the shape has
+  pub few : length views ≤ shape.passes
   pub sights : (id : ℕ) (sight : Sight) → get_elem? state.views id ≡ some sight → IsSight views trace sight
   -- no two passes have one number
   pub one : (i j : ℕ) (x y : Sight) → get_elem? state.views i ≡ some x → get_elem? state.views j ≡ some y → x.is_pass ≡ true → y.is_pass ≡ true → x.view.number ≡ y.view.number → i ≡ j
@@ -67,6 +70,8 @@ minding memo sight = record sight { memo = memo }
 pub record Learns (shape : Shape) (step : Step) (found : ℕ) (x y : Sight) : Type 0 where
   pub told : Told shape step found x.view y.view
   pub met : Begins x.met y.view.trace
+  -- nothing is of a pass that the shape doesn't have
+  pub among : (pass : ℕ) → shape.passes ≤ pass → NoneBy pass y.view.trace
   pub is_pass : y.is_pass ≡ x.is_pass
   pub memo : y.memo ≡ x.memo
 

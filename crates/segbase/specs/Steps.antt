@@ -29,11 +29,11 @@ Takes b bucket true p q =
     × ((bucket_after b.shape (trace q) bucket).written ≡ false) × ((bucket_after b.shape (trace q) bucket).spare ≡ None)
 Takes b bucket false p q = Did b (unless_own (has_bit b p bucket) (Bounced (number p) bucket)) p q
 
--- a glance found the bit clear, and then the version is that of this moment; or it found the bit of another pass
+-- a glance found the bit clear, and nobody has it; or it found the bit set, which counts unless it is the pass's own
 abbrev pub Glances : Board → ℕ → Info → Pass → Pass → Type 0
 Glances b bucket info p q =
     (info.held ≡ false → Did b [] p q × ((bucket_after b.shape (trace q) bucket).holder ≡ None))
-    × (info.held ≡ true → Did b (Glanced (number p) bucket ∷ []) p q)
+    × (info.held ≡ true → Did b (unless_own (has_bit b p bucket) (Glanced (number p) bucket)) p q)
 
 -- how the word at a position of a chain reads
 abbrev pub IsReadAs : Content → ℕ → Type 0
@@ -42,12 +42,12 @@ IsReadAs (item named) word = IsWordOf named word × (1 ≤ tag_part word)
 IsReadAs (next number) word = word ≡ chain_word number
 IsReadAs (copy other) word = ⊥
 
--- an exchange that failed changed no word and added nothing: the word that stands there is another one than was expected, and where the expected one stood when the pass last looked, it is the same item with a higher frequency
+-- an exchange that failed changed no word and added nothing: the word that stands there is another one than was expected, and where that one was an earlier word of the item that the pass last knew there, it is the same item with a higher frequency
 pub record Missed (b : Board) (place : Place) (old found : ℕ) (p q : Pass) : Type 0 where
   pub did : Did b [] p q
   pub other : found ≢ old
   pub is : found ≡ word b.shape (trace q) (cell_at b.shape place)
-  pub higher : old ≡ word b.shape (trace p) (cell_at b.shape place) → IsSameItem old found × (old < found)
+  pub higher : IsSameItem old (word b.shape (trace p) (cell_at b.shape place)) → old ≤ word b.shape (trace p) (cell_at b.shape place) → IsSameItem old found × (old < found)
 
 -- the word of the place, in the key's chain, is empty
 abbrev pub IsFree : Board → List ℕ → Place → Pass → Type 0

@@ -60,8 +60,7 @@ impl Board {
     pub fn glance(&self, pass: &mut Pass, bucket: u32) -> Info
         requires pass { IsPassOf self.now pass.old }
         requires bucket { bucket < self.now.shape.buckets }
-        requires bit { has_bit self.now pass.old bucket ≡ false }
-        ensures step { Stepped self.now (glance bucket false) (info_word result) pass.old pass.new }
+        ensures step { Stepped self.now (glance bucket (has_bit self.now pass.old bucket)) (info_word result) pass.old pass.new }
         ensures glances { Glances self.now bucket result pass.old pass.new }
         ensures version { result.version ≡ (self.now.shape.first_version + (bucket_after self.now.shape (trace pass.new) bucket).version) % 2 ^ 32 }
     {

@@ -88,7 +88,6 @@ impl Board {
         requires item { (new.tag ≡ old.tag) × (new.seg ≡ old.seg) × (new.row ≡ old.row) }
         requires higher { old.freq < new.freq }
         requires chain { IsItemAt self.now.shape (trace pass.old) (home_bucket self.now.shape (trace pass.old) place) (position self.now.shape (trace pass.old) place) (cell_at self.now.shape place) }
-        requires home { home_bucket self.now.shape (trace pass.old) place < self.now.shape.buckets }
         ensures step { (found : ℕ) × Stepped self.now (bump (home_bucket self.now.shape (trace pass.old) place) (position self.now.shape (trace pass.old) place) (cell_at self.now.shape place) old.tag old.seg old.row old.freq new.freq) found pass.old pass.new × (result ≡ (found == item_word old)) }
         ensures did { Did self.now (if result then Bumped (number pass.old) old.seg old.row new.freq ∷ [] else []) pass.old pass.new }
     {

@@ -9,7 +9,7 @@ use crate::pass::Pass;
 use std::marker::Brand;
 
 impl Board {
-    ghost use Rattle.segbase.specs.Passes.{sight, view, trace, IsPassOf, Moved};
+    ghost use Rattle.segbase.specs.Passes.{sight, view, trace, IsPassOf, IsMemo, Moved};
 
     /// Both passes have then seen what either had seen before, the second all that the first has. Of what the two had seen, one began the other.
     pub fn meet(&self, first: &mut Pass, second: &mut Pass)
@@ -38,10 +38,11 @@ impl Board {
         self.row_load(pass, own, 0, 0);
     }
 
-    /// The pass keeps in mind what it holds and what it has locked, for contracts alone.
+    /// The pass keeps in mind what it holds and what it has locked, each as it was at a moment that it has seen, for contracts alone.
     pub fn remember(&self, pass: &mut Pass)
         ghost memo: { Memo }
         requires pass { IsPassOf self.now pass.old }
+        requires memo { IsMemo self.now pass.old memo }
         ensures pass { IsPassOf self.now pass.new }
         ensures memo { (sight pass.new).memo ≡ memo }
         ensures same { (view pass.new ≡ view pass.old) × (pass.new.plain ≡ pass.old.plain) }

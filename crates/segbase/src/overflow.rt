@@ -57,7 +57,6 @@ impl Board {
     /// The last word of a chain becomes the chain word of the overflow bucket that was drawn and filled for it. `Err` is as for `replace`.
     pub fn chain(&self, pass: &mut Pass, place: Place, old: u64, overflow: u32) -> Result<(), u64>
         requires pass { IsPassOf self.now pass.old }
-        requires number { overflow < self.now.shape.overflow }
         requires may { May self.now.shape (trace pass.old) (number pass.old) (chain (home_bucket self.now.shape (trace pass.old) place) (cell_at self.now.shape place) old overflow) }
         ensures step { (found : ℕ) × Stepped self.now (chain (home_bucket self.now.shape (trace pass.old) place) (cell_at self.now.shape place) old overflow) found pass.old pass.new }
         ensures chained { OnOk result (Did self.now (Chained (number pass.old) (home_bucket self.now.shape (trace pass.old) place) overflow ∷ []) pass.old pass.new) }
