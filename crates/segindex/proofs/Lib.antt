@@ -1,1 +1,3 @@
 pub mod UnderBit
+pub mod Bits
+pub mod Quiet
