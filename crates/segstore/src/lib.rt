@@ -2,5 +2,7 @@
 #![tactic(auto)]
 
 mod room;
+mod row;
 
 pub use room::{NoRoom, has_room};
+pub use row::{row_of_key, value_of_row};

@@ -1,0 +1,110 @@
+-- A pass that only looks: looks add up, and what it may read stays as it is.
+use Rattle.std.proofs.Common.{◌≡◌, ℕ, ◌<◌, List, [], ◌∷◌, ◌++◌, take, drop, Some, refl, sym, ap, ◌∙◌, subst, inl, inr, append_assoc, arith}
+use Rattle.std.specs.Prelude.{slice_index}
+use Rattle.segword.specs.declared.shape.Shape.{Shape}
+use Rattle.segcore.specs.declared.event.Event.{Event}
+use Rattle.segcore.specs.Event.{NoneBy, seen}
+use Rattle.segcore.specs.Bucket.{Slot, item, bucket_after}
+use Rattle.segword.specs.Row.{row_of}
+use Rattle.segcore.specs.Row.{Row, row_after}
+use Rattle.segcore.specs.Lawful.{IsLawful}
+use Rattle.segcore.specs.Kind.{MayRead, May, row_load}
+use Rattle.segcore.proofs.Caches.{stands_in}
+use Rattle.segcore.proofs.Quiet.{quiet, quiet_row, quiet_inside}
+use Rattle.segcore.proofs.Entered.{row_stays, entered_row}
+use Rattle.segcore.proofs.Meanwhile.{is_pass}
+use Rattle.segcore.proofs.Moments.{lawful_before}
+use Rattle.segcore.proofs.Standing.{coherent}
+use Rattle.segbase.specs.declared.board.Board.{Board}
+use Rattle.segbase.specs.declared.pass.Pass.{Pass}
+use Rattle.segbase.specs.Passes.{number, trace, Did, Stepped}
+use Rattle.segbase.proofs.Moves.{moved_then}
+use Rattle.segstore.specs.Reading.{Looked, IsReadable, ReadsRow, four_words}
+
+-- ---- looks, one after another
+
+none_by_both : (p : ℕ) (xs ys : List Event) → NoneBy p xs → NoneBy p ys → NoneBy p (xs ++ ys)
+none_by_both p [] ys a b = b
+none_by_both p (e ∷ xs) ys a b = (a.0, none_by_both p xs ys a.1 b)
+
+pub did_then : (b : Board) (p q r : Pass) → Did b [] p q → Did b [] q r → Did b [] p r
+did_then b p q r d e =
+    let now : trace r ≡ (e.others ++ d.others) ++ trace p = e.now ∙ (ap (λ h. e.others ++ h) d.now ∙ sym (append_assoc e.others d.others (trace p))) in record {
+      moved = moved_then b [] [] p q r d.moved e.moved;
+      others = e.others ++ d.others;
+      none = none_by_both (number p) e.others d.others (subst (λ n. NoneBy n e.others) d.moved.same e.none) d.none;
+      before = subst (IsLawful b.shape) now e.moved.pass.lawful;
+      now = now;
+    }
+
+pub looked_then : (b : Board) (p q r : Pass) → Looked b p q → Looked b q r → Looked b p r
+looked_then b p q r l k = record { did = did_then b p q r l.did k.did; plain = k.plain ∙ l.plain; memo = k.memo ∙ l.memo }
+
+-- ---- rows that a pass may read
+
+-- the row that an item names stays as it is for one event more: its segment isn't refilled while the key stands there
+named_once : (z : Shape) (e : Event) (h : List Event) (b n : ℕ) (a : Slot) → IsLawful z (e ∷ h) → (bucket_after z h b).items n ≡ item a → row_after (e ∷ h) a.segment a.row ≡ row_after h a.segment a.row
+named_once z e h b n a l is =
+    let i = (coherent z h l.0).items b n a is in
+    row_stays z e h a.segment a.row a.key l
+    (λ p same. (subst (λ x. IsLawful z (x ∷ h)) same l).1.follows.0 a.key (stands_in z (seen h) a.key a.segment (i.value, i.stands)))
+    i.linked
+
+-- and under the bucket's bit for any number
+named_row : (z : Shape) (more h : List Event) (p b n : ℕ) (a : Slot) → IsLawful z (more ++ h) → NoneBy p more → (bucket_after z h b).holder ≡ Some p → (bucket_after z h b).items n ≡ item a → row_after (more ++ h) a.segment a.row ≡ row_after h a.segment a.row
+named_row z [] h p b n a l none held is = refl
+named_row z (e ∷ more) h p b n a l none held is =
+    named_once z e (more ++ h) b n a l (ap (λ u. u.items n) (quiet z more h p b l.0 none.1 held) ∙ is) ∙ named_row z more h p b n a l.0 none.1 held is
+
+-- what a pass may read stays as it is, and it may go on reading it
+pub read_row : (z : Shape) (more h : List Event) (p s r : ℕ) → IsLawful z (more ++ h) → NoneBy p more → MayRead z h p s r → row_after (more ++ h) s r ≡ row_after h s r
+read_row z more h p s r l none (inl own) = quiet_row z more h s r l (subst (λ x. NoneBy x more) (sym own) none)
+read_row z more h p s r l none (inr (inl (there, on))) = entered_row z more h p s r on.0 (is_pass z h p s (lawful_before z more h l) there) l none there on.1
+read_row z more h p s r l none (inr (inr (b, n, a, bit, is, es, er))) =
+    subst (λ x. row_after (more ++ h) s x ≡ row_after h s x) er (subst (λ x. row_after (more ++ h) x a.row ≡ row_after h x a.row) es (named_row z more h p b n a l none bit.1 is))
+
+pub may_read : (z : Shape) (more h : List Event) (p s r : ℕ) → IsLawful z (more ++ h) → NoneBy p more → MayRead z h p s r → MayRead z (more ++ h) p s r
+may_read z more h p s r l none (inl own) = inl own
+may_read z more h p s r l none (inr (inl (there, on))) =
+    inr (inl (subst (λ x. 0 < x) (sym (quiet_inside more h p s none)) there, (on.0, ap (λ u. u.linked) (read_row z more h p s r l none (inr (inl (there, on)))) ∙ on.1)))
+may_read z more h p s r l none (inr (inr (b, n, a, bit, is, es, er))) =
+    let same = quiet z more h p b l none bit.1 in
+    inr (inr (b, n, a, (bit.0, ap (λ u. u.holder) same ∙ bit.1), ap (λ u. u.items n) same ∙ is, es, er))
+
+pub same_row : (b : Board) (p q : Pass) (s r : ℕ) → Did b [] p q → IsReadable b p s r → row_after (trace q) s r ≡ row_after (trace p) s r
+same_row b p q s r d may = ap (λ h. row_after h s r) d.now ∙ read_row b.shape d.others (trace p) (number p) s r d.before d.none may.2
+
+-- a look keeps what the pass may read
+pub readable : (b : Board) (p q : Pass) (s r : ℕ) → Did b [] p q → IsReadable b p s r → IsReadable b q s r
+readable b p q s r d may = (
+  may.0,
+  may.1,
+  subst (λ n. MayRead b.shape (trace q) n s r) (sym d.moved.same) (subst (λ h. MayRead b.shape h (number p) s r) (sym d.now) (may_read b.shape d.others (trace p) (number p) s r d.before d.none may.2)),
+)
+
+-- ---- reads of one row
+
+pub reads_then : (b : Board) (p q t : Pass) (s r : ℕ) → ReadsRow b p q s r → ReadsRow b q t s r → ReadsRow b p t s r
+reads_then b p q t s r i j = record { looked = looked_then b p q t i.looked j.looked; readable = j.readable; same = j.same ∙ i.same }
+
+-- a load of one word
+pub loaded : (b : Board) (p q : Pass) (s r w found : ℕ) → IsReadable b p s r → Stepped b (row_load s r w) found p q → ReadsRow b p q s r
+loaded b p q s r w found may st = record {
+  looked = record { did = st.did; plain = st.plain; memo = st.memo };
+  readable = readable b p q s r st.did may;
+  same = same_row b p q s r st.did may;
+}
+
+pub may_load : (b : Board) (p : Pass) (s r w : ℕ) → IsReadable b p s r → w < 8 → May b.shape (trace p) (number p) (row_load s r w)
+may_load b p s r w may lt = (may.0, may.1, lt, may.2)
+
+-- a word that was read before
+pub word_before : (b : Board) (p q : Pass) (s r w found : ℕ) → ReadsRow b p q s r → found ≡ (row_after (trace p) s r).words w → found ≡ (row_after (trace q) s r).words w
+word_before b p q s r w found i is = is ∙ ap (λ (x : Row). x.words w) (sym i.same)
+
+-- the two halves of a row of a pair
+pub first_half : (words : ℕ → ℕ) (key value : List ℕ) → ((place : ℕ) → place < 8 → words place ≡ slice_index (row_of key value) place) → take 4 (row_of key value) ≡ four_words words 0
+first_half words key value holds = rw (holds 0 (omega arith), holds 1 (omega arith), holds 2 (omega arith), holds 3 (omega arith)) refl
+
+pub second_half : (words : ℕ → ℕ) (key value : List ℕ) → ((place : ℕ) → place < 8 → words place ≡ slice_index (row_of key value) place) → drop 4 (row_of key value) ≡ four_words words 4
+second_half words key value holds = rw (holds 4 (omega arith), holds 5 (omega arith), holds 6 (omega arith), holds 7 (omega arith)) refl

@@ -1,0 +1,28 @@
+-- What a pass reads of a row, and what it does by that.
+use Rattle.std.specs.Prelude.{◌≡◌, ℕ, ◌+◌, ◌<◌, List, [], ◌∷◌}
+use Rattle.segcore.specs.Row.{row_after}
+use Rattle.segcore.specs.Lawful.{IsSegment}
+use Rattle.segcore.specs.Kind.{MayRead}
+use Rattle.segbase.specs.declared.board.Board.{Board}
+use Rattle.segbase.specs.declared.pass.Pass.{Pass}
+use Rattle.segbase.specs.Passes.{sight, number, trace, Did}
+
+-- the pass only looked: it added nothing to what others did, and what it keeps is as it was
+pub record Looked (b : Board) (p q : Pass) : Type 0 where
+  pub did : Did b [] p q
+  pub plain : q.plain ≡ p.plain
+  pub memo : (sight q).memo ≡ (sight p).memo
+
+-- a row of the table, and the pass may read it: no one changes it meanwhile
+abbrev pub IsReadable : Board → Pass → ℕ → ℕ → Type 0
+IsReadable b p segment row = IsSegment b.shape segment × (row < b.shape.rows) × MayRead b.shape (trace p) (number p) segment row
+
+-- the pass only looked, the row is as it was, and the pass may go on reading it
+pub record ReadsRow (b : Board) (p q : Pass) (segment row : ℕ) : Type 0 where
+  pub looked : Looked b p q
+  pub readable : IsReadable b q segment row
+  pub same : row_after (trace q) segment row ≡ row_after (trace p) segment row
+
+-- four words in a row, from a place on
+abbrev pub four_words : (ℕ → ℕ) → ℕ → List ℕ
+four_words words from = words from ∷ words (from + 1) ∷ words (from + 2) ∷ words (from + 3) ∷ []

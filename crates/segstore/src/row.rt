@@ -1,0 +1,59 @@
+//! Rows that a pass may read, word by word.
+ghost use Rattle.std.specs.Prelude.{◌≡◌, ℕ, ◌≤◌, ◌↔◌, List, IfSome, IsSome};
+ghost use Rattle.segword.specs.Bytes.{IsKey, IsValue};
+ghost use Rattle.segcore.specs.Row.{row_after, Holds};
+ghost use Rattle.segbase.specs.Passes.{trace, IsPassOf};
+ghost use Rattle.segstore.specs.Reading.{IsReadable, ReadsRow, four_words};
+
+use segbase::{Board, Pass};
+use segword::{KeyWords, Value, read_value};
+
+// Four words of a row.
+fn load_words(board: &Board, pass: &mut Pass, segment: u32, row: u32, from: u8) -> [u64; 4]
+    requires pass { IsPassOf board.now pass.old }
+    requires readable { IsReadable board.now pass.old segment row }
+    requires from { from ≤ 4 }
+    ensures reads { ReadsRow board.now pass.old pass.new segment row }
+    ensures words { result ≡ four_words (row_after (trace pass.new) segment row).words from }
+{
+    let first = board.row_load(pass, segment, row, from);
+    let second = board.row_load(pass, segment, row, from + 1);
+    let third = board.row_load(pass, segment, row, from + 2);
+    let fourth = board.row_load(pass, segment, row, from + 3);
+    [first, second, third, fourth]
+}
+
+/// Word 0 of a row, where the row is one of the key: its first four words are compared with the key's.
+pub fn row_of_key(
+    board: &Board,
+    pass: &mut Pass,
+    segment: u32,
+    row: u32,
+    key: &KeyWords,
+) -> Option<u64>
+    requires pass { IsPassOf board.now pass.old }
+    requires readable { IsReadable board.now pass.old segment row }
+    ensures reads { ReadsRow board.now pass.old pass.new segment row }
+    ensures header { IfSome result (λ word. word ≡ (row_after (trace pass.new) segment row).words 0) }
+    ensures key { (held value : List ℕ) → IsKey held → IsValue value
+        → Holds (row_after (trace pass.new) segment row) held value → IsSome result ↔ (held ≡ key.now) }
+{
+    let words = load_words(board, pass, segment, row, 0);
+    if !key.begins(&words) {
+        return None;
+    }
+    Some(words[0])
+}
+
+/// The value of a row with this word 0.
+pub fn value_of_row(board: &Board, pass: &mut Pass, segment: u32, row: u32, header: u64) -> Value
+    requires pass { IsPassOf board.now pass.old }
+    requires readable { IsReadable board.now pass.old segment row }
+    requires header { header ≡ (row_after (trace pass.old) segment row).words 0 }
+    ensures reads { ReadsRow board.now pass.old pass.new segment row }
+    ensures value { (key value : List ℕ) → IsKey key → IsValue value
+        → Holds (row_after (trace pass.new) segment row) key value → result ≡ value }
+{
+    let words = load_words(board, pass, segment, row, 4);
+    read_value(header, &words)
+}
