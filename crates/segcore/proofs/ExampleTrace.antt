@@ -1,23 +1,12 @@
 -- The example is lawful: no rule on the way contradicts another.
-use Rattle.std.proofs.Common.{◌≡◌, ℕ, zero, suc, ◌<◌, Bool, true, false, List, [], ◌∷◌, Some, None, sym, refl, ◌∙◌, subst, inl, inr, arith, length, get_or}
-use Rattle.std.proofs.lemmas.List.{get_or-replicate, length-replicate}
-use mathlib.Core.Option.{some, some-injective, some-ne-none}
-use lib.ListN.{get_elem?}
+use Rattle.std.proofs.Common.{◌≡◌, ℕ, zero, suc, ◌<◌, Bool, true, false, List, [], ◌∷◌, Some, None, refl, ◌∙◌, inl, inr, arith, length, get_or}
 use Rattle.segword.specs.Bytes.{IsKey, IsValue}
-use Rattle.segword.specs.Shape.{IsValid}
-use Rattle.segmodel.specs.declared.request.Request.TheVariants.{Add}
 use Rattle.segcore.specs.declared.event.Event.{Event}
-use Rattle.segcore.specs.declared.event.Event.TheVariants.{Took, Bounced, Glanced, Freed, Filled, Linked, Unlinked}
-use Rattle.segcore.specs.declared.cell.Cell.{Cell}
-use Rattle.segcore.specs.declared.cell.Cell.TheVariants.{OfCounter, OfBucket, OfOverflow, OfSegment, OfRow}
-use Rattle.segcore.specs.declared.view.View.{View}
+use Rattle.segcore.specs.declared.event.Event.TheVariants.{Took, Bounced, Glanced, Freed, Filled}
 use Rattle.segcore.specs.Bucket.{slot, bucket_after}
 use Rattle.segcore.specs.Row.{Row, Holds, row_after}
 use Rattle.segcore.specs.Lawful.{IsOwnRow, Fits, IsLawful}
-use Rattle.segcore.specs.Word.{address, word}
-use Rattle.segcore.specs.World.{IsFresh, IsOpening, Reaches}
-use Rattle.segcore.specs.Example.{shape, a, b, two, stored, bumped, moved, refused, replaced, refilled, view_of, opening, taken, bounced, steps}
-use Rattle.segcore.proofs.Addresses.{in_count}
+use Rattle.segcore.specs.Example.{shape, a, b, stored, bumped, moved, added, refused, replaced, evicted, refilled}
 
 -- ---- keys, values and rows
 
@@ -45,18 +34,18 @@ holds u k v e0 e1 e2 e3 e4 e5 e6 e7 (suc (suc (suc (suc (suc (suc (suc (suc n)))
 
 -- ---- events that ask for little
 
-took : (h : List Event) (p : ℕ) → (bucket_after shape h 0).holder ≡ None → Fits shape h (Took p 0)
+pub took : (h : List Event) (p : ℕ) → (bucket_after shape h 0).holder ≡ None → Fits shape h (Took p 0)
 took h p none = record { guarded = (omega arith, none); follows = tt; suits = tt }
 
-freed : (h : List Event) (p : ℕ) (c : Bool) → (bucket_after shape h 0).holder ≡ Some p → (bucket_after shape h 0).written ≡ c → (bucket_after shape h 0).spare ≡ None → Fits shape h (Freed p 0 c)
+pub freed : (h : List Event) (p : ℕ) (c : Bool) → (bucket_after shape h 0).holder ≡ Some p → (bucket_after shape h 0).written ≡ c → (bucket_after shape h 0).spare ≡ None → Fits shape h (Freed p 0 c)
 freed h p c has w sp = record { guarded = (omega arith, has); follows = tt; suits = (w, sp) }
 
-filled : (h : List Event) (p s r j w : ℕ) → IsOwnRow shape h p s r → j < 8 → Fits shape h (Filled p s r j w)
+pub filled : (h : List Event) (p s r j w : ℕ) → IsOwnRow shape h p s r → j < 8 → Fits shape h (Filled p s r j w)
 filled h p s r j w own lt = record { guarded = tt; follows = tt; suits = (own, lt) }
 
 -- ---- the trace
 
-stored_first : IsLawful shape stored
+pub stored_first : IsLawful shape stored
 stored_first = (
   (
     (
@@ -83,7 +72,7 @@ stored_first = (
   freed _ 0 true refl refl refl,
 )
 
-bumped_next : IsLawful shape bumped
+pub bumped_next : IsLawful shape bumped
 bumped_next = (
   (
     (stored_first, record { guarded = tt; follows = tt; suits = (omega arith, omega arith, omega arith, refl) }),
@@ -92,7 +81,7 @@ bumped_next = (
   record { guarded = tt; follows = tt; suits = (omega arith, omega arith, omega arith) },
 )
 
-moved_next : IsLawful shape moved
+pub moved_next : IsLawful shape moved
 moved_next = (
   (
     (
@@ -107,28 +96,31 @@ moved_next = (
   freed _ 0 false refl refl refl,
 )
 
-added_next : IsLawful shape (Freed 1 0 true ∷ Linked 1 (Add b two) 2 0 1 ∷ Glanced 0 0 ∷ Bounced 0 0 ∷ Filled 1 2 0 4 50 ∷ Filled 1 2 0 1 98 ∷ Filled 1 2 0 0 257 ∷ Took 1 0 ∷ moved)
+pub added_next : IsLawful shape added
 added_next = (
   (
     (
       (
         (
           (
-            ((moved_next, took _ 1 refl), filled _ 1 2 0 0 257 (omega arith, omega arith, refl, refl) (omega arith)),
-            filled _ 1 2 0 1 98 (omega arith, omega arith, refl, refl) (omega arith),
+            (
+              (moved_next, took _ 1 refl),
+              record { guarded = tt; follows = tt; suits = (1, refl, omega arith) },
+            ),
+            record { guarded = tt; follows = tt; suits = (1, refl, omega arith) },
           ),
-          filled _ 1 2 0 4 50 (omega arith, omega arith, refl, refl) (omega arith),
+          filled _ 1 2 0 0 257 (omega arith, omega arith, refl, refl) (omega arith),
         ),
-        record { guarded = tt; follows = tt; suits = (1, refl, omega arith) },
+        filled _ 1 2 0 1 98 (omega arith, omega arith, refl, refl) (omega arith),
       ),
-      record { guarded = tt; follows = tt; suits = (1, refl, omega arith) },
+      filled _ 1 2 0 4 50 (omega arith, omega arith, refl, refl) (omega arith),
     ),
     record {
       guarded = (omega arith, refl);
       follows = (refl, refl);
       suits = (
         (omega arith, omega arith, refl, refl),
-        holds (row_after (Glanced 0 0 ∷ Bounced 0 0 ∷ Filled 1 2 0 4 50 ∷ Filled 1 2 0 1 98 ∷ Filled 1 2 0 0 257 ∷ Took 1 0 ∷ moved) 2 0) 98 50 refl refl refl refl refl refl refl refl,
+        holds (row_after (Filled 1 2 0 4 50 ∷ Filled 1 2 0 1 98 ∷ Filled 1 2 0 0 257 ∷ Glanced 0 0 ∷ Bounced 0 0 ∷ Took 1 0 ∷ moved) 2 0) 98 50 refl refl refl refl refl refl refl refl,
         refl,
         (omega arith, omega arith),
         inl (refl, refl),
@@ -140,7 +132,7 @@ added_next = (
   freed _ 1 true refl refl refl,
 )
 
-refused_next : IsLawful shape refused
+pub refused_next : IsLawful shape refused
 refused_next = (
   (
     (added_next, took _ 1 refl),
@@ -149,7 +141,7 @@ refused_next = (
   freed _ 1 false refl refl refl,
 )
 
-replaced_next : IsLawful shape replaced
+pub replaced_next : IsLawful shape replaced
 replaced_next = (
   (
     (
@@ -176,7 +168,7 @@ replaced_next = (
   freed _ 0 true refl refl refl,
 )
 
-evicted_next : IsLawful shape (Freed 0 0 false ∷ Unlinked 0 a 9 (Some 0) ∷ Took 0 0 ∷ Freed 0 0 true ∷ Unlinked 0 b 1 None ∷ Took 0 0 ∷ replaced)
+pub evicted_next : IsLawful shape evicted
 evicted_next = (
   (
     (
@@ -200,34 +192,3 @@ example = (
   (evicted_next, record { guarded = tt; follows = tt; suits = (omega arith, omega arith, omega arith, refl) }),
   record { guarded = tt; follows = ((λ k i. i), refl); suits = (omega arith, refl, refl) },
 )
-
--- ---- the world
-
-valid : IsValid shape
-valid = (((((((0, refl), omega arith), omega arith), (omega arith, omega arith)), (omega arith, omega arith)), (omega arith, omega arith)), omega arith)
-
-start_word : (c : Cell) → word shape [] c ≡ 0
-start_word OfCounter = refl
-start_word (OfBucket b zero) = refl
-start_word (OfBucket b (suc w)) = refl
-start_word (OfOverflow m w) = refl
-start_word (OfSegment s) = refl
-start_word (OfRow s r j) = refl
-
-first_view : (p : ℕ) (v : View) → get_elem? opening.views p ≡ some v → IsFresh 2 p v
-first_view zero v e = subst (IsFresh 2 0) (some-injective (view_of 0 []) v e) (record { number = refl; unseen = refl; dealt = refl })
-first_view (suc zero) v e = subst (IsFresh 2 1) (some-injective (view_of 1 []) v e) (record { number = refl; unseen = refl; dealt = refl })
-first_view (suc (suc p)) v e = absurd (some-ne-none v (sym e))
-
-opens : IsOpening shape opening
-opens = record {
-  valid = valid;
-  untouched = refl;
-  long = length-replicate {A = ℕ} 85 0;
-  each = λ c i. get_or-replicate {A = ℕ} 85 (address shape c) 0 0 (in_count shape c i) ∙ sym (start_word c);
-  new = first_view;
-}
-
--- two passes step, and have then seen different ends of one trace
-pub reached : Reaches shape steps bounced
-reached = (taken, view_of 1 [], (opening, view_of 0 [], opens, refl, (omega arith, refl), refl), refl, (omega arith, refl), refl)

@@ -21,6 +21,7 @@ pub mod Exact
 pub mod Entered
 pub mod Says
 pub mod ExampleTrace
+pub mod ExampleSchedule
 pub mod Allowed
 pub mod Homes
 pub mod Drafts

@@ -1,13 +1,14 @@
--- A trace in which each kind of event comes, and a world that two passes reach, so that the theorems are seen to speak of something.
+-- A trace in which each kind of event comes, and a schedule with each kind of step by which two passes reach it, so that the theorems are seen to speak of something.
 -- One bucket, so that the keys a and b share it, one overflow bucket, and two passes of two segments each, of two rows. A trace is named after what was done last.
-use Rattle.std.specs.Prelude.{ℕ, true, false, List, [], ◌∷◌, Some, None, replicate}
+use Rattle.std.specs.Prelude.{ℕ, true, false, List, [], ◌∷◌, Some, None, replicate, slice_index_or}
 use Rattle.segword.specs.declared.shape.Shape.{Shape}
 use Rattle.segmodel.specs.declared.request.Request.TheVariants.{Set, Add, Replace}
 use Rattle.segmodel.specs.declared.request.Reply.TheVariants.{NotStored}
 use Rattle.segcore.specs.declared.event.Event.{Event}
 use Rattle.segcore.specs.declared.event.Event.TheVariants.{Took, Bounced, Glanced, Freed, Replied, Filled, Linked, Unlinked, Drew, Put, Chained, Bumped, Entered, Left, Refilled}
 use Rattle.segcore.specs.declared.view.View.{View}
-use Rattle.segcore.specs.Kind.{Step, take}
+use Rattle.segcore.specs.declared.cell.Cell.TheVariants.{OfBucket, OfOverflow}
+use Rattle.segcore.specs.Kind.{Step, take, release, info_look, glance, look, link, clear, draw, fill, chain, bump, row_store, row_load, enter, leave, none_reading}
 use Rattle.segcore.specs.World.{World, after_step}
 
 abbrev pub shape : Shape
@@ -40,22 +41,31 @@ bumped = Left 1 0 ∷ Bumped 1 0 0 2 ∷ Entered 1 0 ∷ stored
 abbrev pub moved : List Event
 moved = Freed 0 0 false ∷ Chained 0 0 0 ∷ Put 0 0 0xaf60_2000_0000_0000 ∷ Drew 0 0 1 0 ∷ Took 0 0 ∷ bumped
 
--- pass 1 adds b in word 1, while pass 0 finds its bit twice; an add of a is refused
+-- pass 1 adds b in word 1, while pass 0 finds its bit twice
+abbrev pub added : List Event
+added = Freed 1 0 true ∷ Linked 1 (Add b two) 2 0 1 ∷ Filled 1 2 0 4 50 ∷ Filled 1 2 0 1 98 ∷ Filled 1 2 0 0 257 ∷ Glanced 0 0 ∷ Bounced 0 0 ∷ Took 1 0 ∷ moved
+
+-- and its add of a is refused
 abbrev pub refused : List Event
-refused = Freed 1 0 false ∷ Replied 1 (Add a two) NotStored ∷ Took 1 0
-    ∷ Freed 1 0 true ∷ Linked 1 (Add b two) 2 0 1 ∷ Glanced 0 0 ∷ Bounced 0 0 ∷ Filled 1 2 0 4 50 ∷ Filled 1 2 0 1 98 ∷ Filled 1 2 0 0 257 ∷ Took 1 0 ∷ moved
+refused = Freed 1 0 false ∷ Replied 1 (Add a two) NotStored ∷ Took 1 0 ∷ added
 
 -- pass 0 replaces a by its next row, where it has moved to
 abbrev pub replaced : List Event
 replaced = Freed 0 0 true ∷ Linked 0 (Replace a two) 0 1 9 ∷ Filled 0 0 1 4 50 ∷ Filled 0 0 1 1 97 ∷ Filled 0 0 1 0 257 ∷ Took 0 0 ∷ refused
 
--- pass 0 deletes b, and evicts a from its segment; pass 1 reads elsewhere, and the segment is refilled
-abbrev pub refilled : List Event
-refilled = Refilled 0 0 ∷ Entered 1 2
-    ∷ Freed 0 0 false ∷ Unlinked 0 a 9 (Some 0) ∷ Took 0 0
-    ∷ Freed 0 0 true ∷ Unlinked 0 b 1 None ∷ Took 0 0 ∷ replaced
+-- pass 0 deletes b, and evicts a from its segment
+abbrev pub evicted : List Event
+evicted = Freed 0 0 false ∷ Unlinked 0 a 9 (Some 0) ∷ Took 0 0 ∷ Freed 0 0 true ∷ Unlinked 0 b 1 None ∷ Took 0 0 ∷ replaced
 
--- ---- a world
+-- pass 1 comes to read elsewhere
+abbrev pub elsewhere : List Event
+elsewhere = Entered 1 2 ∷ evicted
+
+-- and pass 0's segment is refilled
+abbrev pub refilled : List Event
+refilled = Refilled 0 0 ∷ elsewhere
+
+-- ---- a schedule
 
 abbrev pub view_of : ℕ → List Event → View
 view_of pass trace = record { number = pass; trace = trace; dealt = 2 }
@@ -64,13 +74,47 @@ view_of pass trace = record { number = pass; trace = trace; dealt = 2 }
 abbrev pub opening : World
 opening = record { words = replicate 85 0; views = view_of 0 [] ∷ view_of 1 [] ∷ []; trace = [] }
 
--- pass 0 takes the bit of the bucket
-abbrev pub taken : World
-taken = after_step shape 0 (view_of 0 []) (take 0 false) opening
+-- what a pass has seen in a world
+abbrev pub view_in : World → ℕ → View
+view_in world pass = slice_index_or world.views pass (view_of pass [])
 
--- and pass 1 finds it set
-abbrev pub bounced : World
-bounced = after_step shape 1 (view_of 1 []) (take 0 false) taken
+-- a world after one step more
+abbrev pub stepped : ℕ × Step → World → World
+stepped taken world = after_step shape taken.0 (view_in world taken.0) taken.1 world
 
-abbrev pub steps : List (ℕ × Step)
-steps = (1, take 0 false) ∷ (0, take 0 false) ∷ []
+-- the world after these steps of passes, the last one first
+abbrev pub after_steps : List (ℕ × Step) → World
+after_steps [] = opening
+after_steps (taken ∷ steps) = stepped taken (after_steps steps)
+
+-- the steps that come to each trace; an item word has the tag 0xaf6, for a and for b
+abbrev pub to_stored : List (ℕ × Step)
+to_stored = (0, release 0 true None) ∷ (0, link (Set a one) 0 0 7 (OfBucket 0 7) 0)
+    ∷ (0, row_store 0 0 4 49) ∷ (0, row_store 0 0 1 97) ∷ (0, row_store 0 0 0 257) ∷ (0, take 0 false) ∷ []
+
+-- a reader looks again once it is in the segment; its second bump expects a word that is gone
+abbrev pub to_bumped : List (ℕ × Step)
+to_bumped = (1, leave 0) ∷ (1, bump 0 7 (OfBucket 0 7) 0xaf6 0 0 1 2) ∷ (1, bump 0 7 (OfBucket 0 7) 0xaf6 0 0 1 2)
+    ∷ (1, row_load 0 0 0) ∷ (1, look (OfBucket 0 7)) ∷ (1, enter 0) ∷ (1, look (OfBucket 0 7)) ∷ to_stored
+
+abbrev pub to_moved : List (ℕ × Step)
+to_moved = (0, release 0 false None) ∷ (0, chain 0 (OfBucket 0 7) 0xaf60_2000_0000_0000 0) ∷ (0, fill 0 0 0xaf60_2000_0000_0000)
+    ∷ (0, draw 0 1 0) ∷ (0, look (OfBucket 0 7)) ∷ (0, take 0 false) ∷ to_bumped
+
+abbrev pub to_added : List (ℕ × Step)
+to_added = (1, release 0 true None) ∷ (1, link (Add b two) 2 0 1 (OfBucket 0 1) 0)
+    ∷ (1, row_store 2 0 4 50) ∷ (1, row_store 2 0 1 98) ∷ (1, row_store 2 0 0 257) ∷ (0, glance 0 false) ∷ (0, take 0 false) ∷ (1, take 0 false) ∷ to_moved
+
+abbrev pub to_refused : List (ℕ × Step)
+to_refused = (1, release 0 false (Some (Add a two, NotStored))) ∷ (1, take 0 false) ∷ to_added
+
+abbrev pub to_replaced : List (ℕ × Step)
+to_replaced = (0, release 0 true None) ∷ (0, link (Replace a two) 0 1 9 (OfOverflow 0 1) 0xaf60_2000_0000_0000)
+    ∷ (0, row_store 0 1 4 50) ∷ (0, row_store 0 1 1 97) ∷ (0, row_store 0 1 0 257) ∷ (0, info_look 0) ∷ (0, take 0 false) ∷ to_refused
+
+abbrev pub to_evicted : List (ℕ × Step)
+to_evicted = (0, release 0 false None) ∷ (0, clear a 9 (OfOverflow 0 1) 0xaf60_1000_0000_0001 (Some 0)) ∷ (0, take 0 false)
+    ∷ (0, release 0 true None) ∷ (0, clear b 1 (OfBucket 0 1) 0xaf60_1000_0020_0000 None) ∷ (0, take 0 false) ∷ to_replaced
+
+abbrev pub to_refilled : List (ℕ × Step)
+to_refilled = (0, none_reading 0) ∷ (1, enter 2) ∷ to_evicted

@@ -1,5 +1,6 @@
 use Rattle.std.proofs.Common.{refl}
 use Rattle.segcore.proofs.ExampleTrace as it
+use Rattle.segcore.proofs.ExampleSchedule.{reached}
 use Rattle.segcore.proofs.laws.example.Goals as goal
 
 pub returns : goal.returns
@@ -11,6 +12,7 @@ returns c = record {
   held = refl;
   emptied = (refl, refl, refl);
   versions = (refl, refl, refl);
-  reached = it.reached;
+  reached = reached;
+  traced = refl;
   different = refl;
 }

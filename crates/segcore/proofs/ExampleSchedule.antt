@@ -1,0 +1,228 @@
+-- The example's schedule: each step is allowed at what its pass has seen, so the world after all of them is reached.
+use Rattle.std.proofs.Common.{◌≡◌, ℕ, zero, suc, List, [], ◌∷◌, sym, refl, ◌∙◌, subst, inl, inr, arith}
+use Rattle.std.proofs.lemmas.List.{get_or-replicate, length-replicate}
+use mathlib.Core.Option.{some, some-injective, some-ne-none}
+use lib.ListN.{get_elem?}
+use Rattle.segword.specs.Shape.{IsValid}
+use Rattle.segcore.specs.declared.event.Event.TheVariants.{Took}
+use Rattle.segcore.specs.declared.cell.Cell.{Cell}
+use Rattle.segcore.specs.declared.cell.Cell.TheVariants.{OfCounter, OfBucket, OfOverflow, OfSegment, OfRow}
+use Rattle.segcore.specs.declared.view.View.{View}
+use Rattle.segcore.specs.Kind.{Step, May}
+use Rattle.segcore.specs.Word.{address, word}
+use Rattle.segcore.specs.World.{IsFresh, IsOpening, Reaches}
+use Rattle.segcore.specs.Example.{shape, a, b, moved, view_of, opening, view_in, after_steps, to_stored, to_bumped, to_moved, to_added, to_refused, to_replaced, to_evicted, to_refilled}
+use Rattle.segcore.proofs.Addresses.{in_count}
+use Rattle.segcore.proofs.ExampleTrace.{filled, stored_first, bumped_next, moved_next, added_next, refused_next, replaced_next, evicted_next}
+
+-- ---- the start
+
+valid : IsValid shape
+valid = (((((((0, refl), omega arith), omega arith), (omega arith, omega arith)), (omega arith, omega arith)), (omega arith, omega arith)), omega arith)
+
+start_word : (c : Cell) → word shape [] c ≡ 0
+start_word OfCounter = refl
+start_word (OfBucket b zero) = refl
+start_word (OfBucket b (suc w)) = refl
+start_word (OfOverflow m w) = refl
+start_word (OfSegment s) = refl
+start_word (OfRow s r j) = refl
+
+first_view : (p : ℕ) (v : View) → get_elem? opening.views p ≡ some v → IsFresh 2 p v
+first_view zero v e = subst (IsFresh 2 0) (some-injective (view_of 0 []) v e) (record { number = refl; unseen = refl; dealt = refl })
+first_view (suc zero) v e = subst (IsFresh 2 1) (some-injective (view_of 1 []) v e) (record { number = refl; unseen = refl; dealt = refl })
+first_view (suc (suc p)) v e = absurd (some-ne-none v (sym e))
+
+opens : IsOpening shape opening
+opens = record {
+  valid = valid;
+  untouched = refl;
+  long = length-replicate {A = ℕ} 85 0;
+  each = λ c i. get_or-replicate {A = ℕ} 85 (address shape c) 0 0 (in_count shape c i) ∙ sym (start_word c);
+  new = first_view;
+}
+
+-- ---- the steps
+
+-- each step is of a pass that is there, and allowed at what it has seen
+abbrev AreAllowed : List (ℕ × Step) → Type 0
+AreAllowed [] = Unit {0}
+AreAllowed (taken ∷ steps) =
+    AreAllowed steps × (get_elem? (after_steps steps).views taken.0 ≡ some (view_in (after_steps steps) taken.0))
+    × May shape (view_in (after_steps steps) taken.0).trace taken.0 taken.1
+
+reaches : (steps : List (ℕ × Step)) → AreAllowed steps → Reaches shape steps (after_steps steps)
+reaches [] allowed = opens
+reaches (taken ∷ steps) allowed = (after_steps steps, view_in (after_steps steps) taken.0, reaches steps allowed.0, allowed.1, allowed.2, refl)
+
+stored_so : AreAllowed to_stored
+stored_so = (
+  (
+    (
+      (
+        (
+          (tt, refl, (omega arith, refl)),
+          refl,
+          stored_first.0.0.0.0.1,
+        ),
+        refl,
+        stored_first.0.0.0.1,
+      ),
+      refl,
+      stored_first.0.0.1,
+    ),
+    refl,
+    (stored_first.0.1, ((omega arith, omega arith), (refl, refl, omega arith))),
+  ),
+  refl,
+  ((omega arith, refl), refl, refl, tt),
+)
+
+bumped_so : AreAllowed to_bumped
+bumped_so = (
+  (
+    (
+      (
+        (
+          (
+            (stored_so, refl, ((omega arith, omega arith), omega arith)),
+            refl,
+            bumped_next.0.0.1,
+          ),
+          refl,
+          ((omega arith, omega arith), omega arith),
+        ),
+        refl,
+        (omega arith, omega arith, omega arith, inr (inl (omega arith, (a, refl)))),
+      ),
+      refl,
+      (omega arith, ((omega arith, omega arith), (refl, refl, omega arith)), (omega arith, omega arith, omega arith, omega arith), omega arith, omega arith),
+    ),
+    refl,
+    (omega arith, ((omega arith, omega arith), (refl, refl, omega arith)), (omega arith, omega arith, omega arith, omega arith), omega arith, omega arith),
+  ),
+  refl,
+  bumped_next.1,
+)
+
+moved_so : AreAllowed to_moved
+moved_so = (
+  (
+    (
+      (
+        (
+          (bumped_so, refl, (omega arith, refl)),
+          refl,
+          ((omega arith, omega arith), omega arith),
+        ),
+        refl,
+        ((omega arith, refl), refl, refl, omega arith, omega arith, omega arith),
+      ),
+      refl,
+      (moved_next.0.0.1, refl),
+    ),
+    refl,
+    (moved_next.0.1, (refl, refl, omega arith), refl),
+  ),
+  refl,
+  ((omega arith, refl), refl, refl, tt),
+)
+
+added_so : AreAllowed to_added
+added_so = (
+  (
+    (
+      (
+        (
+          (
+            (
+              (moved_so, refl, (omega arith, refl)),
+              refl,
+              (omega arith, refl),
+            ),
+            refl,
+            (omega arith, refl),
+          ),
+          refl,
+          filled (Took 1 0 ∷ moved) 1 2 0 0 257 (omega arith, omega arith, refl, refl) (omega arith),
+        ),
+        refl,
+        added_next.0.0.0.1,
+      ),
+      refl,
+      added_next.0.0.1,
+    ),
+    refl,
+    (added_next.0.1, ((omega arith, omega arith), (refl, refl, omega arith))),
+  ),
+  refl,
+  ((omega arith, refl), refl, refl, tt),
+)
+
+refused_so : AreAllowed to_refused
+refused_so = (
+  (added_so, refl, (omega arith, refl)),
+  refl,
+  ((omega arith, refl), refl, refl, (refl, refused_next.0.1)),
+)
+
+replaced_so : AreAllowed to_replaced
+replaced_so = (
+  (
+    (
+      (
+        (
+          (
+            (refused_so, refl, (omega arith, refl)),
+            refl,
+            (omega arith, refl),
+          ),
+          refl,
+          replaced_next.0.0.0.0.1,
+        ),
+        refl,
+        replaced_next.0.0.0.1,
+      ),
+      refl,
+      replaced_next.0.0.1,
+    ),
+    refl,
+    (replaced_next.0.1, ((omega arith, omega arith), (1, refl, omega arith, omega arith))),
+  ),
+  refl,
+  ((omega arith, refl), refl, refl, tt),
+)
+
+evicted_so : AreAllowed to_evicted
+evicted_so = (
+  (
+    (
+      (
+        (
+          (replaced_so, refl, (omega arith, refl)),
+          refl,
+          (evicted_next.0.0.0.0.1, ((omega arith, omega arith), (refl, refl, omega arith))),
+        ),
+        refl,
+        ((omega arith, refl), refl, refl, tt),
+      ),
+      refl,
+      (omega arith, refl),
+    ),
+    refl,
+    (evicted_next.0.1, ((omega arith, omega arith), (1, refl, omega arith, omega arith))),
+  ),
+  refl,
+  ((omega arith, refl), refl, refl, tt),
+)
+
+refilled_so : AreAllowed to_refilled
+refilled_so = (
+  (evicted_so, refl, record { guarded = tt; follows = tt; suits = (omega arith, omega arith, omega arith, refl) }),
+  refl,
+  (omega arith, ((λ k i. i), refl)),
+)
+
+-- two passes step, and have then seen different ends of one trace
+pub reached : Reaches shape to_refilled (after_steps to_refilled)
+reached = reaches to_refilled refilled_so
