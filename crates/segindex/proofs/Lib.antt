@@ -1,3 +1,5 @@
 pub mod UnderBit
 pub mod Bits
+pub mod Taking
 pub mod Quiet
+pub mod Made

@@ -23,22 +23,17 @@ use Rattle.segbase.proofs.Moves.{moved_on, moved_seen}
 use Rattle.segbase.proofs.Staying.{none_both}
 use Rattle.segstore.specs.Segments.{KeepsSegments}
 use Rattle.segindex.specs.Quiet.{IsLock, is_held_in, IsQuiet}
+use Rattle.segindex.specs.Taking.{HasCleanBit}
 use Rattle.segindex.specs.Calls.{GoesOn}
 use Rattle.segindex.proofs.UnderBit.{unchanged, moved_none}
 use Rattle.segindex.proofs.Bits.{none_at_both, bit_before}
 
 -- ---- what a quiet pass has
 
--- the bit of its lock, nothing written under it, and no bucket drawn
-pub record HasLock (b : Board) (p : Pass) (bucket : ℕ) : Type 0 where
-  pub bit : HasBit b.shape (trace p) (number p) bucket
-  pub unwritten : (bucket_after b.shape (trace p) bucket).written ≡ false
-  pub undrawn : (bucket_after b.shape (trace p) bucket).spare ≡ None
-
 lock_here : (z : Shape) (h : List Event) (p : ℕ) (lock : Locked) → IsLock z h p lock → bucket_after z h lock.bucket ≡ bucket_after z lock.trace lock.bucket
 lock_here z h p lock is = ap (λ g. bucket_after z g lock.bucket) is.since ∙ unchanged z is.more lock.trace lock.bucket is.still
 
-pub has_lock : (b : Board) (p : Pass) (lock : Locked) → IsQuiet b p → locked p ≡ Some lock → HasLock b p lock.bucket
+pub has_lock : (b : Board) (p : Pass) (lock : Locked) → IsQuiet b p → locked p ≡ Some lock → HasCleanBit b p lock.bucket
 has_lock b p lock quiet is =
     let old = quiet.lock lock is in
     let same = lock_here b.shape (trace p) (number p) lock old in record {
@@ -55,8 +50,8 @@ the_lock (Some lock) bucket e = (lock, refl, sym (same_Some bucket lock.bucket e
 pub lock_of : (b : Board) (p : Pass) (bucket : ℕ) → IsQuiet b p → locked_of p ≡ Some bucket → (lock : Locked) × (locked p ≡ Some lock) × (lock.bucket ≡ bucket)
 lock_of b p bucket quiet is = the_lock (locked p) bucket (sym is ∙ quiet.locks)
 
-pub has_locked : (b : Board) (p : Pass) (bucket : ℕ) → IsQuiet b p → locked_of p ≡ Some bucket → HasLock b p bucket
-has_locked b p bucket quiet is = let l = lock_of b p bucket quiet is in subst (HasLock b p) l.2 (has_lock b p l.0 quiet l.1)
+pub has_locked : (b : Board) (p : Pass) (bucket : ℕ) → IsQuiet b p → locked_of p ≡ Some bucket → HasCleanBit b p bucket
+has_locked b p bucket quiet is = let l = lock_of b p bucket quiet is in subst (HasCleanBit b p) l.2 (has_lock b p l.0 quiet l.1)
 
 once : (t : Bool) → cond t 1 0 ≤ 1
 once true = omega arith

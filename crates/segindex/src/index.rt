@@ -1,8 +1,9 @@
 //! The index, and how it is made.
-ghost use Rattle.std.specs.Prelude.{◌≡◌};
+ghost use Rattle.std.specs.Prelude.{◌≡◌, IfOk, IfErr};
 
-use segbase::Board;
+use segbase::{Board, MakeFault, Pass};
 use segword::Shape;
+use std::alloc::Global;
 
 /// The object index. It is used through its passes, each by one thread at a time.
 #[derive(Drop)]
@@ -11,7 +12,20 @@ pub struct Index {
 }
 
 impl Index {
+    ghost use Rattle.segbase.specs.Made.{IsMakeFault};
     ghost use Rattle.segindex.specs.Index.{shape_of};
+    ghost use Rattle.segindex.specs.Calls.{IsNew};
+
+    /// An index of this shape with its passes, in the order of their numbers. No later call takes memory.
+    /// Buckets don't grow yet, so callers ask for no overflow bucket.
+    pub fn new(alloc: Global, shape: Shape) -> Result<(Index, Vec<Pass>), MakeFault>
+        requires no_overflow { shape.overflow ≡ 0 }
+        ensures made { IfOk result (λ made. IsNew shape made.0 made.1.items) }
+        ensures fault { IfErr result (IsMakeFault shape) }
+    {
+        let (board, passes) = Board::new(alloc, shape)?;
+        Ok((Index { board }, passes))
+    }
 
     /// Its shape.
     pub fn shape(&self) -> Shape
