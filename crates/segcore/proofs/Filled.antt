@@ -5,7 +5,7 @@ use Rattle.segword.specs.declared.shape.Shape.{Shape}
 use Rattle.segcore.specs.declared.event.Event.{Event}
 use Rattle.segcore.specs.Bucket.{Slot, Content, nothing, item, next, copy, Bucket, IsPosition, bucket_after}
 use Rattle.segcore.specs.Lawful.{IsLawful}
-use Rattle.segcore.specs.Filled.{item_count, items_below, IsFull}
+use Rattle.segcore.specs.Filled.{item_count, items_below, HasNoEmptyWord}
 use Rattle.segcore.proofs.Coherent.{IsContent}
 use Rattle.segcore.proofs.Chains.{chain_of}
 use Rattle.segcore.proofs.Homes.{joins}
@@ -121,7 +121,7 @@ module _ (z : Shape) (h : List Event) (b : ℕ) (l : IsLawful z h) where
   pub to_end : (n : ℕ) → 8 * u.chained + 8 ≤ n → items_below u n ≡ items_below u (8 * u.chained + 8)
   to_end n le = none_past u (8 * u.chained + 8) n le (λ p past. no_item_at (u.items p) (λ a is. let i = (position_of p a is).0 in omega arith))
 
-  module _ (all : IsFull u) where
+  module _ (all : HasNoEmptyWord u) where
     has_item : (n : ℕ) → IsPosition u n → ((d : ℕ) → d < u.chained → n ≢ 8 * d + 7) → item_count (u.items n) ≡ 1
     has_item n here apart = item_at h b u n (u.items n) ((chain_of z h l b).contents n) here (all n here) apart
 

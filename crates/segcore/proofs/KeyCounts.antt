@@ -27,10 +27,12 @@ use Rattle.segcore.specs.Bucket.{Slot, slot, Content, nothing, item, next, copy,
 use Rattle.segcore.specs.Lawful.{IsRefusal, HasRoomFor, HasItemOf, Suits, IsLawful}
 use Rattle.segcore.specs.Standing.{cached}
 use Rattle.segcore.specs.Word.{content_word, word, IsItemAt}
-use Rattle.segcore.specs.Filled.{item_count, items_below, IsFull}
+use Rattle.segcore.specs.Mark.{marked, width}
+use Rattle.segcore.specs.Filled.{item_count, items_below, HasNoEmptyWord}
 use Rattle.segcore.proofs.Coherent.{Coherent}
 use Rattle.segcore.proofs.Standing.{Puts, links, unlinks, Turning, Calm, is_calm, coherent}
 use Rattle.segcore.proofs.Chains.{chain_of}
+use Rattle.segcore.proofs.Marked.{one_if, drawn_marked}
 use Rattle.segcore.proofs.Exact.{content_at}
 use Rattle.segcore.proofs.Filled.{same_below, changed_below, none_past, to_end, few, full}
 
@@ -209,8 +211,12 @@ counted z h b l = let short = (chain_of z h l b).short in counts z h b 32 (omega
 pub counted_few : (z : Shape) (h : List Event) (b : ℕ) → IsLawful z h → keys_in z (after z (seen h)) b ≤ 6 * (bucket_after z h b).chained + 7
 counted_few z h b l = let same = counted z h b l in let most = few z h b l in omega arith
 
-pub counted_full : (z : Shape) (h : List Event) (b : ℕ) → IsLawful z h → IsFull (bucket_after z h b) → keys_in z (after z (seen h)) b ≡ 6 * (bucket_after z h b).chained + 7
+pub counted_full : (z : Shape) (h : List Event) (b : ℕ) → IsLawful z h → HasNoEmptyWord (bucket_after z h b) → keys_in z (after z (seen h)) b ≡ 6 * (bucket_after z h b).chained + 7
 counted_full z h b l all = counted z h b l ∙ full z h b l all
+
+-- a bucket that waits for none is as wide as its chain is long
+pub wide : (z : Shape) (h : List Event) (b : ℕ) → IsLawful z h → (bucket_after z h b).spare ≡ None → width (marked h) b ≡ (bucket_after z h b).chained + 1
+wide z h b l none = let all = drawn_marked z h b l in let rest = ap one_if none in omega arith
 
 -- a word that isn't 0 holds something
 pub filled : (z : Shape) (h : List Event) (b n : ℕ) (c : Cell) → IsItemAt z h b n c → word z h c ≢ 0 → (bucket_after z h b).items n ≢ nothing

@@ -16,5 +16,5 @@ items_below bucket zero = 0
 items_below bucket (suc position) = items_below bucket position + item_count (bucket.items position)
 
 -- each item word of the chain has an item or leads on
-abbrev pub IsFull : Bucket → Type 0
-IsFull bucket = (position : ℕ) → IsPosition bucket position → bucket.items position ≢ nothing
+abbrev pub HasNoEmptyWord : Bucket → Type 0
+HasNoEmptyWord bucket = (position : ℕ) → IsPosition bucket position → bucket.items position ≢ nothing

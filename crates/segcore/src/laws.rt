@@ -17,7 +17,7 @@ ghost use Rattle.segcore.specs.Overflow.{home, home_of};
 ghost use Rattle.segcore.specs.Row.{row_after};
 ghost use Rattle.segcore.specs.Lawful.{IsLawful};
 ghost use Rattle.segcore.specs.Word.{word, IsAt, IsItemAt};
-ghost use Rattle.segcore.specs.Mark.{Mark, marked, entries, chained_to, place, IsPlaced, IsOrderly};
+ghost use Rattle.segcore.specs.Mark.{Mark, marked, entries, chained_to, width, place, IsPlaced, IsOrderly};
 ghost use Rattle.segcore.specs.Ahead.{WasGone};
 ghost use Rattle.segcore.specs.Scan.{IsScanOf, WasAbsent, IsRowScanOf, WasUnnamed};
 ghost use Rattle.segcore.specs.Search.{KeyGone, KeyAt, KeyAhead, RowGone, RowAt, RowAhead};
@@ -25,7 +25,7 @@ ghost use Rattle.segcore.specs.Standing.{cached, Names, SaysOfKeys};
 ghost use Rattle.segcore.specs.Chains.{SaysOfBuckets};
 ghost use Rattle.segcore.specs.Says.{SaysOfSegments, Says};
 ghost use Rattle.segcore.specs.Count.{IsCounted};
-ghost use Rattle.segcore.specs.Filled.{items_below, IsFull};
+ghost use Rattle.segcore.specs.Filled.{items_below, HasNoEmptyWord};
 ghost use Rattle.segcore.specs.Kind.{Step, HasBit, May, Kept};
 ghost use Rattle.segcore.specs.Meanwhile.{Meanwhile};
 ghost use Rattle.segcore.specs.Example.{shape, a, two, stored, bumped, moved, replaced, refilled, elsewhere, view_of, after_steps, to_refilled};
@@ -131,14 +131,16 @@ pub fn version_of_bucket()
         → (after shape (seen now)).version bucket ≡ (shape.first_version + writes shape (seen now) bucket) % 2 ^ 32 }
 {}
 
-/// As many keys of a bucket stand as positions of its chain have an item: at most seven, and six for each overflow bucket of the chain, since one word leads on to it; and just so many where no item word is empty.
+/// As many keys of a bucket stand as positions of its chain have an item: at most seven, and six for each overflow bucket of the chain, since one word leads on to it; and just so many where no item word is empty. With no bucket that waits to join it, the chain is as long as the bucket is wide.
 pub fn keys_of_bucket()
     ensures counted { (shape : Shape) (now : List Event) (bucket : ℕ) → IsLawful shape now
         → keys_in shape (after shape (seen now)) bucket ≡ items_below (bucket_after shape now bucket) (8 * (bucket_after shape now bucket).chained + 8) }
     ensures few { (shape : Shape) (now : List Event) (bucket : ℕ) → IsLawful shape now
         → keys_in shape (after shape (seen now)) bucket ≤ 6 * (bucket_after shape now bucket).chained + 7 }
-    ensures full { (shape : Shape) (now : List Event) (bucket : ℕ) → IsLawful shape now → IsFull (bucket_after shape now bucket)
+    ensures full { (shape : Shape) (now : List Event) (bucket : ℕ) → IsLawful shape now → HasNoEmptyWord (bucket_after shape now bucket)
         → keys_in shape (after shape (seen now)) bucket ≡ 6 * (bucket_after shape now bucket).chained + 7 }
+    ensures wide { (shape : Shape) (now : List Event) (bucket : ℕ) → IsLawful shape now → (bucket_after shape now bucket).spare ≡ None
+        → width (marked now) bucket ≡ (bucket_after shape now bucket).chained + 1 }
     ensures filled { (shape : Shape) (now : List Event) (bucket position : ℕ) (cell : Cell) → IsItemAt shape now bucket position cell → word shape now cell ≢ 0
         → (bucket_after shape now bucket).items position ≢ nothing }
 {}
