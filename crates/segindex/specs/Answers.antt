@@ -19,7 +19,7 @@ use Rattle.segmodel.specs.Cache.{standing, reads, keys_in}
 use Rattle.segmodel.specs.History.{after, Begins, IsBetween, entries_of, stirred}
 use Rattle.segcore.specs.Event as event
 use Rattle.segcore.specs.Segment.{inside}
-use Rattle.segcore.specs.Mark.{Mark, entries, drawn_for, all_drawn}
+use Rattle.segcore.specs.Mark.{Mark, entries, width, all_drawn}
 use Rattle.segbase.specs.declared.law.Locked.{Locked}
 use Rattle.segbase.specs.declared.pass.Pass.{Pass}
 use Rattle.segbase.specs.Passes.{number, trace, marked, mine, taken, bounced, holding, locked}
@@ -46,10 +46,6 @@ IsGetAnswer shape key get.Busy before now = 64 ≤ stirred shape key before now
 -- the pass itself has the bucket locked, or it found the bit of another set 64 times, and took none
 abbrev pub IsBusy : ℕ → Pass → Pass → Type 0
 IsBusy bucket p q = (locked_of p ≡ Some bucket) ⊎ ((bounced q bucket ≡ bounced p bucket + 64) × (taken q ≡ taken p))
-
--- how many buckets a bucket's chain has, with the one that is drawn for it
-abbrev pub width : List Mark → ℕ → ℕ
-width marks bucket = 1 + drawn_for marks bucket
 
 -- a new key finds no word in its bucket: all its words are taken, and its chain can't grow
 pub record IsFull (shape : Shape) (marks : List Mark) (key : List ℕ) : Type 0 where
