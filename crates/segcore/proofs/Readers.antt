@@ -1,9 +1,10 @@
 -- The readers of a segment are those of all passes together.
-use Rattle.std.proofs.Common.{◌≡◌, ◌≢◌, ℕ, zero, suc, ◌+◌, ◌-◌, ◌*◌, ◌<◌, ◌≤◌, Bool, true, false, cond, eqb, ◌&&◌, List, [], ◌∷◌, ◌++◌, Some, None, sym, refl, ap, ◌∙◌, ⊎_elim, arith}
-use Rattle.std.proofs.lemmas.Bool.{cases_Bool, cases_eq, eqb-true, eq-eqb, ne_eqb, and_parts, and_from, cond-true, cond-false}
+use Rattle.std.proofs.Common.{◌≡◌, ◌≢◌, ℕ, zero, suc, ◌+◌, ◌-◌, ◌*◌, ◌<◌, ◌≤◌, Bool, true, false, cond, eqb, ◌&&◌, List, [], ◌∷◌, ◌++◌, Some, None, sym, refl, ap, ◌∙◌, subst, ⊎_elim, arith}
+use Rattle.std.proofs.lemmas.Bool.{cases_Bool, cases_eq, cases_lt, eqb-true, eq-eqb, ne_eqb, and_parts, and_from, cond-true, cond-false}
 use Rattle.std.proofs.lemmas.Option.{same_Some, none-some}
 use Rattle.segword.specs.declared.shape.Shape.{Shape}
 use Rattle.segmodel.specs.declared.entry.Cached.{Cached}
+use Rattle.segmodel.specs.declared.request.Request.{Request}
 use Rattle.segmodel.specs.Request.{key_of, value_of}
 use Rattle.segcore.proofs.Caches.{put, stands, stands_wrote, HasValueIn, has_value, stands_in}
 use Rattle.segmodel.specs.declared.request.Reply.TheVariants.{Stored}
@@ -91,13 +92,22 @@ counted z h l s = let a = all_readers z h l s in let b = few (λ q. inside h q s
 pub is_counted : (z : Shape) (h : List Event) → IsLawful z h → (p s : ℕ) → p < z.passes → inside h p s ≤ readers h s
 is_counted z h l p s lt = let a = all_readers z h l s in let b = part (λ q. inside h q s) p z.passes lt in omega arith
 
+some_part : (f : ℕ → ℕ) (n : ℕ) → 0 < total f n → (p : ℕ) × (0 < f p)
+some_part f zero lt = absurd (omega arith)
+some_part f (suc n) lt = ⊎_elim (λ here. (n, here)) (λ none. some_part f n (omega arith)) (cases_lt 0 (f n))
+
+-- and a count that isn't 0 has a reader
+pub some_reader : (z : Shape) (h : List Event) → IsLawful z h → (s : ℕ) → 0 < readers h s → (p : ℕ) × (0 < inside h p s)
+some_reader z h l s lt = some_part (λ q. inside h q s) z.passes (let a = all_readers z h l s in omega arith)
+
 -- ---- a segment of one's own in which nothing stands
 
-still_empty : (z : Shape) (h : List Event) (e : Event) (s : ℕ) (k : List ℕ) → Fits z h e → owner z s ≢ by e → HasValueIn z (seen (e ∷ h)) k s → HasValueIn z (seen h) k s
+-- an event that links nothing into a segment brings no key there
+pub still_empty : (z : Shape) (h : List Event) (e : Event) (s : ℕ) (k : List ℕ) → Fits z h e → ((p : ℕ) (q : Request) (row n : ℕ) → e ≢ Linked p q s row n) → HasValueIn z (seen (e ∷ h)) k s → HasValueIn z (seen h) k s
 still_empty z h (Replied q r y) s k f ne is' = (is'.0, sym (stands_wrote z q r y None (seen h) k ∙ same_cond (same_key (key_of r) k) (put r y None (stands z (seen h) k)) (stands z (seen h) k) (refused r y None (stands z (seen h) k) f.suits)) ∙ is'.1)
 still_empty z h (Linked q r t row n) s k f ne is' = ⊎_elim
     (λ y. let e : Some (cached (value_of r) t) ≡ Some (cached is'.0 s) = sym (stands_wrote z q r Stored (Some t) (seen h) k ∙ cond-true (same_key (key_of r) k) (Some (cached (value_of r) t)) (stands z (seen h) k) y) ∙ is'.1 in
-    let st : t ≡ s = ap (λ (x : Cached). x.segment) (same_Some (cached (value_of r) t) (cached is'.0 s) e) in absurd (ne (ap (owner z) (sym st) ∙ f.suits.0.2)))
+    let st : t ≡ s = ap (λ (x : Cached). x.segment) (same_Some (cached (value_of r) t) (cached is'.0 s) e) in absurd (ne q r row n (ap (λ x. Linked q r x row n) st)))
     (λ n'. (is'.0, sym (stands_wrote z q r Stored (Some t) (seen h) k ∙ cond-false (same_key (key_of r) k) (Some (cached (value_of r) t)) (stands z (seen h) k) n') ∙ is'.1))
     (cases_Bool (same_key (key_of r) k))
 still_empty z h (Unlinked q k0 n why) s k f ne is' = let g = sym (gone z q k0 why h k) ∙ is'.1 in ⊎_elim
@@ -106,7 +116,11 @@ still_empty z h (Unlinked q k0 n why) s k f ne is' = let g = sym (gone z q k0 wh
     (cases_Bool (same_key k0 k))
 still_empty z h e s k f ne is' = is'
 
+-- others link nothing into a segment of one's own
+linked_by_owner : (z : Shape) (h : List Event) (e : Event) (s : ℕ) → Fits z h e → owner z s ≢ by e → (p : ℕ) (q : Request) (row n : ℕ) → e ≢ Linked p q s row n
+linked_by_owner z h e s f ne p q row n is' = ne ((subst (Fits z h) is' f).suits.0.2 ∙ sym (ap by is'))
+
 pub empty_stays : (z : Shape) (more h : List Event) (s : ℕ) → IsLawful z (more ++ h) → NoneBy (owner z s) more → NoneStandsIn (after z (seen h)) s → NoneStandsIn (after z (seen (more ++ h))) s
 empty_stays z [] h s l n none k is' = none k is'
 empty_stays z (e ∷ more) h s l n none k is' =
-    empty_stays z more h s l.0 n.1 none k (stands_in z (seen (more ++ h)) k s (still_empty z (more ++ h) e s k l.1 (λ q. n.0 (sym q)) (has_value z (seen (e ∷ (more ++ h))) k s is')))
+    empty_stays z more h s l.0 n.1 none k (stands_in z (seen (more ++ h)) k s (still_empty z (more ++ h) e s k l.1 (linked_by_owner z (more ++ h) e s l.1 (λ q. n.0 (sym q))) (has_value z (seen (e ∷ (more ++ h))) k s is')))

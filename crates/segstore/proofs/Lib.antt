@@ -1,1 +1,4 @@
+pub mod Keeping
 pub mod Looks
+pub mod Refills
+pub mod Rows

@@ -1,2 +1,4 @@
 pub mod Reading
 pub mod Segments
+pub mod Rows
+pub mod Refilling

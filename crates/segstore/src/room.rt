@@ -1,5 +1,6 @@
 //! Whether a pass has a row left to store into.
-ghost use Rattle.std.specs.Prelude.{◌≡◌};
+ghost use Rattle.std.specs.Prelude.{◌≡◌, ◌↔◌, ◌<◌, ℕ, Some, false, IfOk, IsErr};
+ghost use Rattle.segbase.specs.Plain.{current_of, used_of};
 ghost use Rattle.segstore.specs.Segments.{has_room};
 
 use segbase::{Board, Pass};
@@ -12,11 +13,17 @@ pub struct NoRoom;
 pub fn has_room(board: &Board, pass: &Pass) -> bool
     ensures { result ≡ has_room board.now.shape pass.now }
 {
-    let Some(segment) = pass.current() else {
-        return false;
-    };
+    next_row(board, pass).is_ok()
+}
+
+/// The row that the pass stores into next: the first of its current segment that isn't used.
+pub fn next_row(board: &Board, pass: &Pass) -> Result<(u32, u32), NoRoom>
+    ensures next { IfOk result (λ next. (current_of pass.now ≡ Some next.0) × (used_of pass.now next.0 ≡ Some next.1) × (next.1 < board.now.shape.rows)) }
+    ensures no_room { IsErr result ↔ (has_room board.now.shape pass.now ≡ false) }
+{
+    let segment = pass.current().ok_or(NoRoom)?;
     match pass.used(segment) {
-        Some(used) => used < board.shape().rows,
-        None => false,
+        Some(used) if used < board.shape().rows => Ok((segment, used)),
+        _ => Err(NoRoom),
     }
 }
