@@ -3,3 +3,4 @@ pub mod Bits
 pub mod Taking
 pub mod Quiet
 pub mod Made
+pub mod Refills

@@ -3,6 +3,7 @@
 
 mod bucket;
 mod index;
+mod segment;
 
 pub use bucket::LockAnswer;
 pub use index::Index;

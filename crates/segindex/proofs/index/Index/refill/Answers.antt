@@ -1,0 +1,14 @@
+use Rattle.segindex.proofs.Refills.{refill_goes_on, refill_answers, refill_held}
+use Rattle.segindex.proofs.index.Index.refill.Goals as goal
+
+pub refill-requires : goal.refill-requires
+refill-requires c = record { pass = c.requires.pass.pass; segments = c.requires.pass.segments }
+
+pub returns-clause-on : goal.returns-clause-on
+returns-clause-on c = let r = c.refill.ensures in refill_goes_on _ c.args.segment c.refill.result _ _ c.requires.pass r.outcome r.segments
+
+pub returns-clause-answer : goal.returns-clause-answer
+returns-clause-answer c = refill_answers _ c.args.segment c.refill.result _ _ c.requires.pass c.refill.ensures.outcome
+
+pub returns-clause-held : goal.returns-clause-held
+returns-clause-held c = let r = c.refill.ensures in refill_held _ c.args.segment c.refill.result _ _ c.requires.pass r.outcome r.not_yours.0 r.in_use.0

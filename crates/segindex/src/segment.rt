@@ -1,0 +1,29 @@
+//! Segments given out again.
+ghost use Rattle.std.specs.Prelude.{◌≡◌, ◌↔◌, Some, None, true};
+ghost use Rattle.segmodel.specs.declared.answer.RefillAnswer.TheVariants.{NotYours, NotEvicted, Held};
+ghost use Rattle.segmodel.specs.declared.answer.SegState.TheVariants.{InUse, Evicted};
+
+use crate::index::Index;
+use segbase::Pass;
+use segmodel::RefillAnswer;
+
+impl Index {
+    ghost use Rattle.segbase.specs.Passes.{holding};
+    ghost use Rattle.segbase.specs.Plain.{state_of};
+    ghost use Rattle.segindex.specs.Index.{board_of};
+    ghost use Rattle.segindex.specs.Quiet.{is_held_in, IsQuiet};
+    ghost use Rattle.segindex.specs.Calls.{GoesOn};
+    ghost use Rattle.segindex.specs.Answers.{IsRefillAnswer};
+
+    /// Makes a segment of the pass's own, in which no key stands and no item is read or held, the one that it stores into.
+    pub fn refill(&self, pass: &mut Pass, segment: u32) -> RefillAnswer
+        requires pass { IsQuiet (board_of self.now) pass.old }
+        ensures on { GoesOn (board_of self.now) pass.old pass.new }
+        ensures answer { IsRefillAnswer segment result pass.old pass.new }
+        ensures not_yours { (result ≡ NotYours) ↔ (state_of pass.old segment ≡ None) }
+        ensures in_use { (result ≡ NotEvicted) ↔ (state_of pass.old segment ≡ Some InUse) }
+        ensures held { state_of pass.old segment ≡ Some Evicted → is_held_in (holding pass.old) segment ≡ true → result ≡ Held }
+    {
+        segstore::refill(&self.board, pass, segment)
+    }
+}
