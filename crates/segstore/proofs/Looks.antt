@@ -108,3 +108,15 @@ first_half words key value holds = rw (holds 0 (omega arith), holds 1 (omega ari
 
 pub second_half : (words : ℕ → ℕ) (key value : List ℕ) → ((place : ℕ) → place < 8 → words place ≡ slice_index (row_of key value) place) → drop 4 (row_of key value) ≡ four_words words 4
 second_half words key value holds = rw (holds 4 (omega arith), holds 5 (omega arith), holds 6 (omega arith), holds 7 (omega arith)) refl
+
+pub whole_row : (words : ℕ → ℕ) (key value : List ℕ) → ((place : ℕ) → place < 8 → words place ≡ slice_index (row_of key value) place) → row_of key value ≡ four_words words 0 ++ four_words words 4
+whole_row words key value holds = rw (
+  holds 0 (omega arith),
+  holds 1 (omega arith),
+  holds 2 (omega arith),
+  holds 3 (omega arith),
+  holds 4 (omega arith),
+  holds 5 (omega arith),
+  holds 6 (omega arith),
+  holds 7 (omega arith),
+) refl

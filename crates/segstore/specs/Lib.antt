@@ -1,3 +1,4 @@
+pub mod Linked
 pub mod Reading
 pub mod Segments
 pub mod Rows

@@ -5,7 +5,8 @@ use Rattle.segcore.specs.Lawful.{IsSegment}
 use Rattle.segcore.specs.Kind.{MayRead}
 use Rattle.segbase.specs.declared.board.Board.{Board}
 use Rattle.segbase.specs.declared.pass.Pass.{Pass}
-use Rattle.segbase.specs.Passes.{sight, number, trace, Did}
+use Rattle.segcore.specs.declared.event.Event.TheVariants.{Left}
+use Rattle.segbase.specs.Passes.{sight, number, trace, Did, Moved, Reads, ReadsIn}
 
 -- the pass only looked: it added nothing to what others did, and what it keeps is as it was
 pub record Looked (b : Board) (p q : Pass) : Type 0 where
@@ -26,3 +27,23 @@ pub record ReadsRow (b : Board) (p q : Pass) (segment row : ℕ) : Type 0 where
 -- four words in a row, from a place on
 abbrev pub four_words : (ℕ → ℕ) → ℕ → List ℕ
 four_words words from = words from ∷ words (from + 1) ∷ words (from + 2) ∷ words (from + 3) ∷ []
+
+-- ---- coming into segments, and leaving them
+
+-- the pass only read, is in each segment as often as before, and what it keeps is as it was
+pub record IsReader (b : Board) (p q : Pass) : Type 0 where
+  pub reads : Reads b p q
+  pub plain : q.plain ≡ p.plain
+  pub memo : (sight q).memo ≡ (sight p).memo
+
+-- and it is in one segment once more
+pub record IsReaderIn (b : Board) (p q : Pass) (segment : ℕ) : Type 0 where
+  pub reads : ReadsIn b p q segment
+  pub plain : q.plain ≡ p.plain
+  pub memo : (sight q).memo ≡ (sight p).memo
+
+-- it left a segment, and did nothing else
+pub record Leaves (b : Board) (p q : Pass) (segment : ℕ) : Type 0 where
+  pub moved : Moved b (Left (number p) segment ∷ []) p q
+  pub plain : q.plain ≡ p.plain
+  pub memo : (sight q).memo ≡ (sight p).memo

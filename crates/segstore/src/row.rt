@@ -1,12 +1,12 @@
 //! Rows that a pass may read, word by word.
-ghost use Rattle.std.specs.Prelude.{◌≡◌, ℕ, ◌≤◌, ◌↔◌, List, IfSome, IsSome};
+ghost use Rattle.std.specs.Prelude.{◌≡◌, ℕ, ◌≤◌, ◌↔◌, List, IfSome, IsSome, Some};
 ghost use Rattle.segword.specs.Bytes.{IsKey, IsValue};
 ghost use Rattle.segcore.specs.Row.{row_after, Holds};
 ghost use Rattle.segbase.specs.Passes.{trace, IsPassOf};
 ghost use Rattle.segstore.specs.Reading.{IsReadable, ReadsRow, four_words};
 
 use segbase::{Board, Pass};
-use segword::{KeyWords, Value, read_value};
+use segword::{Key, KeyWords, Value, read_row, read_value};
 
 // Four words of a row.
 fn load_words(board: &Board, pass: &mut Pass, segment: u32, row: u32, from: u8) -> [u64; 4]
@@ -56,4 +56,17 @@ pub fn value_of_row(board: &Board, pass: &mut Pass, segment: u32, row: u32, head
 {
     let words = load_words(board, pass, segment, row, 4);
     read_value(header, &words)
+}
+
+/// The key and the value of a row.
+pub fn pair_of_row(board: &Board, pass: &mut Pass, segment: u32, row: u32) -> Option<(Key, Value)>
+    requires pass { IsPassOf board.now pass.old }
+    requires readable { IsReadable board.now pass.old segment row }
+    ensures reads { ReadsRow board.now pass.old pass.new segment row }
+    ensures pair { (key value : List ℕ) → IsKey key → IsValue value
+        → Holds (row_after (trace pass.new) segment row) key value → result ≡ Some (key, value) }
+{
+    let [header, first, second, third] = load_words(board, pass, segment, row, 0);
+    let [fourth, fifth, sixth, seventh] = load_words(board, pass, segment, row, 4);
+    read_row(&[header, first, second, third, fourth, fifth, sixth, seventh])
 }

@@ -1,0 +1,29 @@
+-- A pass that reads, one call after another.
+use Rattle.std.proofs.Common.{◌≡◌, ℕ, ◌<◌, [], ◌∷◌, ◌∙◌}
+use Rattle.segcore.specs.declared.event.Event.TheVariants.{Entered, Left}
+use Rattle.segbase.specs.declared.board.Board.{Board}
+use Rattle.segbase.specs.declared.pass.Pass.{Pass}
+use Rattle.segbase.specs.Passes.{number, sight, IsPassOf, Moved}
+use Rattle.segbase.proofs.Moves as moves
+use Rattle.segstore.specs.Reading.{Looked, IsReader, IsReaderIn, Leaves}
+
+pub stays : (b : Board) (p : Pass) → IsPassOf b p → IsReader b p p
+stays b p is = record { reads = moves.reads_nothing b p p (moves.stays b p is); plain = refl; memo = refl }
+
+pub looks : (b : Board) (p q : Pass) → Looked b p q → IsReader b p q
+looks b p q l = record { reads = moves.reads_nothing b p q l.did.moved; plain = l.plain; memo = l.memo }
+
+pub enters : (b : Board) (p q : Pass) (segment : ℕ) → Moved b (Entered (number p) segment ∷ []) p q → q.plain ≡ p.plain → (sight q).memo ≡ (sight p).memo → IsReaderIn b p q segment
+enters b p q segment m plain memo = record { reads = moves.reads_enter b p q segment m; plain = plain; memo = memo }
+
+pub reader_then : (b : Board) (p q r : Pass) → IsReader b p q → IsReader b q r → IsReader b p r
+reader_then b p q r i j = record { reads = moves.reads_then b p q r i.reads j.reads; plain = j.plain ∙ i.plain; memo = j.memo ∙ i.memo }
+
+pub enter_then : (b : Board) (p q r : Pass) (segment : ℕ) → IsReader b p q → IsReaderIn b q r segment → IsReaderIn b p r segment
+enter_then b p q r segment i j = record { reads = moves.enter_then b p q r segment i.reads j.reads; plain = j.plain ∙ i.plain; memo = j.memo ∙ i.memo }
+
+pub then_reader : (b : Board) (p q r : Pass) (segment : ℕ) → IsReaderIn b p q segment → IsReader b q r → IsReaderIn b p r segment
+then_reader b p q r segment i j = record { reads = moves.then_reads b p q r segment i.reads j.reads; plain = j.plain ∙ i.plain; memo = j.memo ∙ i.memo }
+
+pub leave_then : (b : Board) (p q r : Pass) (segment : ℕ) → IsReaderIn b p q segment → Leaves b q r segment → IsReader b p r
+leave_then b p q r segment i j = record { reads = moves.leave_then b p q r segment i.reads j.moved; plain = j.plain ∙ i.plain; memo = j.memo ∙ i.memo }

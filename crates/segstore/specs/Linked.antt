@@ -1,0 +1,81 @@
+-- Item words that a pass looks at a second time, in whose segment it is: what stood there, and that its row is still the one.
+use Rattle.std.specs.Prelude.{◌≡◌, ◌≢◌, ℕ, ◌/◌, ◌%◌, ◌^◌, ◌<◌, List, Some}
+use Rattle.segword.specs.declared.shape.Shape.{Shape}
+use Rattle.segword.specs.Bytes.{IsKey, IsValue}
+use Rattle.segword.specs.ItemWord.{item_word, tag_part}
+use Rattle.segword.specs.SameItem.{IsSameItem}
+use Rattle.segmodel.specs.Places.{bucket_of, tag_of}
+use Rattle.segmodel.specs.Cache.{standing}
+use Rattle.segmodel.specs.History.{IsBetween, after}
+use Rattle.segcore.specs.declared.event.Event.{Event}
+use Rattle.segcore.specs.Event.{seen}
+use Rattle.segcore.specs.Row.{Holds, row_after}
+use Rattle.segcore.specs.Lawful.{IsLawful, IsSegment}
+use Rattle.segcore.specs.Word.{IsItemAt}
+use Rattle.segcore.specs.Word as core
+use Rattle.segcore.specs.Search.{KeyAt}
+use Rattle.segcore.specs.Standing.{cached}
+use Rattle.segbase.specs.declared.board.Board.{Board}
+use Rattle.segbase.specs.declared.pass.Pass.{Pass}
+use Rattle.segbase.specs.declared.place.Place.{Place}
+use Rattle.segbase.specs.Passes.{trace}
+use Rattle.segbase.specs.Spots.{IsPlace, cell_at, position, home_bucket}
+use Rattle.segstore.specs.declared.read.Linked.{Linked}
+use Rattle.segstore.specs.declared.read.Linked.TheVariants as linked
+use Rattle.segstore.specs.declared.read.Keyed.{Keyed}
+use Rattle.segstore.specs.declared.read.Keyed.TheVariants as keyed
+
+-- the segment and the row that an item word names
+abbrev pub segment_part : ℕ → ℕ
+segment_part word = word / 2 ^ 20 % 2 ^ 24
+
+abbrev pub row_part : ℕ → ℕ
+row_part word = word % 2 ^ 20
+
+-- the place is an item word of a chain
+pub record IsChained (shape : Shape) (trace : List Event) (place : Place) : Type 0 where
+  pub in_table : IsPlace shape place
+  pub at : IsItemAt shape trace (home_bucket shape trace place) (position shape trace place) (cell_at shape place)
+
+-- the word of a place at a moment
+abbrev pub word_at : Shape → List Event → Place → ℕ
+word_at shape trace place = core.word shape trace (cell_at shape place)
+
+-- At a moment this item word stood at the place, and was the key's: the key stood with the value in the word's segment, and the word's row held the pair.
+pub record WasLinked (shape : Shape) (place : Place) (word : ℕ) (key value : List ℕ) (at : List Event) : Type 0 where
+  pub lawful : IsLawful shape at
+  pub chained : IsChained shape at place
+  pub stood : word_at shape at place ≡ word
+  pub tag : tag_part word ≡ tag_of key
+  pub here : (bucket_of shape key ≡ home_bucket shape at place) × KeyAt shape key at (position shape at place)
+  pub valid : IsKey key × IsValue value
+  pub stands : standing (after shape (seen at)) key ≡ Some (cached value (segment_part word))
+  pub in_segment : IsSegment shape (segment_part word) × (row_part word < shape.rows)
+  pub linked : (row_after at (segment_part word) (row_part word)).linked ≡ Some key
+  pub holds : Holds (row_after at (segment_part word) (row_part word)) key value
+
+-- a look between p and q found the same item, now with this word, and its row is at q as it was then
+pub record FoundItem (b : Board) (place : Place) (word now : ℕ) (key value : List ℕ) (p q : Pass) : Type 0 where
+  pub at : List Event
+  pub between : IsBetween (trace p) (trace q) at
+  pub same : IsSameItem word now
+  pub was : WasLinked b.shape place now key value at
+  pub still : row_after (trace q) (segment_part now) (row_part now) ≡ row_after at (segment_part now) (row_part now)
+
+-- it found another word
+pub record FoundOther (b : Board) (place : Place) (word now : ℕ) (p q : Pass) : Type 0 where
+  pub at : List Event
+  pub between : IsBetween (trace p) (trace q) at
+  pub lawful : IsLawful b.shape at
+  pub stood : word_at b.shape at place ≡ now
+  pub other : ¬ (IsSameItem word now)
+
+abbrev pub IsLinked : Board → Place → ℕ → Linked → Pass → Pass → Type 0
+IsLinked b place word (linked.Same key value) p q = (now : ℕ) × FoundItem b place word now key value p q
+IsLinked b place word (linked.Changed now) p q = FoundOther b place word now p q
+
+-- for one who looks for a key
+abbrev pub IsKeyed : Board → Place → ℕ → List ℕ → Keyed → Pass → Pass → Type 0
+IsKeyed b place word key (keyed.Same value item) p q = FoundItem b place word (item_word item) key value p q
+IsKeyed b place word key (keyed.Other now) p q = (other value : List ℕ) × (other ≢ key) × FoundItem b place word now other value p q
+IsKeyed b place word key (keyed.Changed now) p q = FoundOther b place word now p q

@@ -1,0 +1,69 @@
+//! Second looks at item words, by a pass that is in their segment, and what their rows hold.
+ghost use Rattle.std.specs.Prelude.{◌≡◌, ℕ, ◌<◌};
+ghost use Rattle.segcore.specs.Segment.{inside};
+ghost use Rattle.segbase.specs.Passes.{number, trace, IsPassOf};
+ghost use Rattle.segstore.specs.Reading.{Looked};
+ghost use Rattle.segstore.specs.Linked.{segment_part, IsChained, IsLinked, IsKeyed};
+
+use crate::row::{pair_of_row, row_of_key, value_of_row};
+use segbase::{Board, Pass, Place};
+use segword::{Item, Key, KeyWords, Value, same_item};
+
+/// What a second look found.
+#[derive(Clone, Debug, Drop, PartialEq, Eq)]
+pub enum Linked {
+    /// The same item, its frequency aside: the pair of its row.
+    Same(Key, Value),
+    /// Another word.
+    Changed(u64),
+}
+
+/// What a second look found that was taken for a key.
+#[derive(Clone, Debug, Drop, PartialEq, Eq)]
+pub enum Keyed {
+    /// The same item, its frequency aside, and the key's: its value, and the item as it stands now.
+    Same(Value, Item),
+    /// The same item, and another key's: its word as it stands now.
+    Other(u64),
+    /// Another word.
+    Changed(u64),
+}
+
+/// Looks again at a word of a chain that had this item, whose segment the pass is in, and reads the item's row.
+pub fn read_linked(board: &Board, pass: &mut Pass, place: Place, word: u64) -> Linked
+    requires pass { IsPassOf board.now pass.old }
+    requires place { IsChained board.now.shape (trace pass.old) place }
+    requires inside { 0 < inside (trace pass.old) (number pass.old) (segment_part word) }
+    ensures looked { Looked board.now pass.old pass.new }
+    ensures linked { IsLinked board.now place word result pass.old pass.new }
+{
+    let now = board.look(pass, place);
+    if !same_item(word, now) {
+        return Linked::Changed(now);
+    }
+    let item = Item::unpack(now).unwrap();
+    let (key, value) = pair_of_row(board, pass, item.seg, item.row).unwrap();
+    Linked::Same(key, value)
+}
+
+/// The same for a key in hand, which is compared with the row word by word. A value is made for the key's row alone.
+pub fn read_keyed(board: &Board, pass: &mut Pass, place: Place, word: u64, key: &KeyWords) -> Keyed
+    requires pass { IsPassOf board.now pass.old }
+    requires place { IsChained board.now.shape (trace pass.old) place }
+    requires inside { 0 < inside (trace pass.old) (number pass.old) (segment_part word) }
+    ensures looked { Looked board.now pass.old pass.new }
+    ensures keyed { IsKeyed board.now place word key.now result pass.old pass.new }
+{
+    let now = board.look(pass, place);
+    if !same_item(word, now) {
+        return Keyed::Changed(now);
+    }
+    let item = Item::unpack(now).unwrap();
+    match row_of_key(board, pass, item.seg, item.row, key) {
+        Some(header) => {
+            let value = value_of_row(board, pass, item.seg, item.row, header);
+            Keyed::Same(value, item)
+        }
+        None => Keyed::Other(now),
+    }
+}
