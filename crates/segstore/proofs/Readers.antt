@@ -1,6 +1,6 @@
 -- A pass that reads, one call after another.
-use Rattle.std.proofs.Common.{◌≡◌, ℕ, ◌<◌, [], ◌∷◌, ◌∙◌}
-use Rattle.segcore.specs.declared.event.Event.TheVariants.{Entered, Left}
+use Rattle.std.proofs.Common.{◌≡◌, ℕ, [], ◌∷◌, refl, ◌∙◌}
+use Rattle.segcore.specs.declared.event.Event.TheVariants.{Entered}
 use Rattle.segbase.specs.declared.board.Board.{Board}
 use Rattle.segbase.specs.declared.pass.Pass.{Pass}
 use Rattle.segbase.specs.Passes.{number, sight, IsPassOf, Moved}
