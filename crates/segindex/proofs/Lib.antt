@@ -4,3 +4,9 @@ pub mod Taking
 pub mod Quiet
 pub mod Made
 pub mod Refills
+pub mod Still
+pub mod Bounces
+pub mod Idling
+pub mod Meanwhile
+pub mod Locking
+pub mod Meeting

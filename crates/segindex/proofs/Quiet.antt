@@ -22,7 +22,7 @@ use Rattle.segbase.specs.Plain.{locked_of, is_holding_of}
 use Rattle.segbase.proofs.Moves.{moved_on, moved_seen}
 use Rattle.segbase.proofs.Staying.{none_both}
 use Rattle.segstore.specs.Segments.{KeepsSegments}
-use Rattle.segindex.specs.Quiet.{IsLock, is_held_in, IsQuiet}
+use Rattle.segindex.specs.Quiet.{IsLock, IsHold, is_held_in, IsQuiet}
 use Rattle.segindex.specs.Taking.{HasCleanBit}
 use Rattle.segindex.specs.Calls.{GoesOn}
 use Rattle.segindex.proofs.UnderBit.{unchanged, moved_none}
@@ -69,6 +69,34 @@ may_enter b p q s quiet reads segment used =
 
 -- ---- quiet again
 
+in_hold : (o : Option Held) (hold : Held) → o ≡ Some hold → (let n : ℕ = cond (is_held_in o hold.segment) 1 0 in n) ≡ 1
+in_hold o hold is = ap (λ x. cond (is_held_in x hold.segment) 1 0) is ∙ cond-true (eqb hold.segment hold.segment) 1 0 (eq-eqb hold.segment hold.segment refl)
+
+-- what a call leaves of the segments that the pass is in: it is in each as often as before, and stayed there
+pub record SettlesIn (own : List Event) (p q : Pass) : Type 0 where
+  pub memo : holding q ≡ holding p
+  pub plain : is_holding_of q ≡ is_holding_of p
+  pub readings : (s : ℕ) → inside (trace q) (number p) s ≡ inside (trace p) (number p) s
+  pub stays : (s : ℕ) → 0 < inside (trace p) (number p) s → StaysIn own (trace p) (number p) s
+
+module _ (b : Board) (own : List Event) (p q : Pass) (quiet : IsQuiet b p) (m : Moved b own p q) (s : SettlesIn own p q) where
+  pub holds_again : is_holding_of q ≡ is_some (holding q)
+  holds_again = s.plain ∙ (quiet.holds ∙ ap is_some (sym s.memo))
+
+  pub inside_again : (segment : ℕ) → inside (trace q) (number q) segment ≡ (let n : ℕ = cond (is_held_in (holding q) segment) 1 0 in n)
+  inside_again segment = ap (λ n. inside (trace q) n segment) m.same ∙ (s.readings segment ∙ (quiet.inside segment ∙ ap (λ o. cond (is_held_in o segment) 1 0) (sym s.memo)))
+
+  pub hold_again : (hold : Held) → holding q ≡ Some hold → IsHold b.shape (trace q) hold
+  hold_again hold is =
+      let before = sym s.memo ∙ is in
+      let old = quiet.hold hold before in
+      let there : inside (trace p) (number p) hold.segment ≡ 1 = quiet.inside hold.segment ∙ in_hold (holding p) hold before in record {
+        more = m.more ++ old.more;
+        since = m.goes_on ∙ (ap (λ h. m.more ++ h) old.since ∙ sym (append_assoc m.more old.more hold.trace));
+        stood = old.stood;
+        kept = none_both hold.segment m.more old.more (m.kept hold.segment (s.stays hold.segment (omega arith))) old.kept;
+      }
+
 -- what a call leaves as it was, beside what it added by itself
 pub record Settles (b : Board) (own : List Event) (p q : Pass) : Type 0 where
   pub moved : Moved b own p q
@@ -76,25 +104,23 @@ pub record Settles (b : Board) (own : List Event) (p q : Pass) : Type 0 where
   pub locked_of : locked_of q ≡ locked_of p
   pub holding : is_holding_of q ≡ is_holding_of p
   pub segments : KeepsSegments b q
+  -- it has no bit that it hadn't, and did nothing in the bucket of its lock
   pub bits : (bucket : ℕ) → HasBit b.shape (trace q) (number q) bucket → HasBit b.shape (trace p) (number p) bucket
   pub untouched : (lock : Locked) → locked p ≡ Some lock → NoneAt b.shape lock.bucket own
   pub readings : (s : ℕ) → inside (trace q) (number p) s ≡ inside (trace p) (number p) s
   pub stays : (s : ℕ) → 0 < inside (trace p) (number p) s → StaysIn own (trace p) (number p) s
 
-in_hold : (o : Option Held) (hold : Held) → o ≡ Some hold → (let n : ℕ = cond (is_held_in o hold.segment) 1 0 in n) ≡ 1
-in_hold o hold is = ap (λ x. cond (is_held_in x hold.segment) 1 0) is ∙ cond-true (eqb hold.segment hold.segment) 1 0 (eq-eqb hold.segment hold.segment refl)
-
 pub quiet_again : (b : Board) (own : List Event) (p q : Pass) → IsQuiet b p → Settles b own p q → IsQuiet b q
 quiet_again b own p q quiet s =
     let m = s.moved in
-    let same_hold : holding q ≡ holding p = ap (λ (o : Memo). o.holding) s.memo in
-    let same_lock : locked q ≡ locked p = ap (λ (o : Memo). o.locked) s.memo in record {
+    let same : locked q ≡ locked p = ap (λ (x : Memo). x.locked) s.memo in
+    let there : SettlesIn own p q = record { memo = ap (λ (x : Memo). x.holding) s.memo; plain = s.holding; readings = s.readings; stays = s.stays } in record {
       pass = m.pass;
       segments = s.segments;
-      locks = s.locked_of ∙ (quiet.locks ∙ ap (λ o. option_map (λ (lock : Locked). lock.bucket) o) (sym same_lock));
+      locks = s.locked_of ∙ (quiet.locks ∙ ap (λ o. option_map (λ (lock : Locked). lock.bucket) o) (sym same));
       bits = λ bucket has. s.locked_of ∙ quiet.bits bucket (s.bits bucket has);
       lock = λ lock is.
-          let before = sym same_lock ∙ is in
+          let before = sym same ∙ is in
           let old = quiet.lock lock before in record {
             more = m.more ++ old.more;
             since = m.goes_on ∙ (ap (λ h. m.more ++ h) old.since ∙ sym (append_assoc m.more old.more lock.trace));
@@ -103,17 +129,9 @@ quiet_again b own p q quiet s =
             undrawn = old.undrawn;
             still = none_at_both b.shape lock.bucket m.more old.more (moved_none b own p q lock.bucket m (has_lock b p lock quiet before).bit (s.untouched lock before)) old.still;
           };
-      holds = s.holding ∙ (quiet.holds ∙ ap is_some (sym same_hold));
-      inside = λ segment. ap (λ n. inside (trace q) n segment) m.same ∙ (s.readings segment ∙ (quiet.inside segment ∙ ap (λ o. cond (is_held_in o segment) 1 0) (sym same_hold)));
-      hold = λ hold is.
-          let before = sym same_hold ∙ is in
-          let old = quiet.hold hold before in
-          let there : inside (trace p) (number p) hold.segment ≡ 1 = quiet.inside hold.segment ∙ in_hold (holding p) hold before in record {
-            more = m.more ++ old.more;
-            since = m.goes_on ∙ (ap (λ h. m.more ++ h) old.since ∙ sym (append_assoc m.more old.more hold.trace));
-            stood = old.stood;
-            kept = none_both hold.segment m.more old.more (m.kept hold.segment (s.stays hold.segment (omega arith))) old.kept;
-          };
+      holds = holds_again b own p q quiet m there;
+      inside = inside_again b own p q quiet m there;
+      hold = hold_again b own p q quiet m there;
     }
 
 -- what it has seen only grew

@@ -1,5 +1,5 @@
 -- What the answers of calls say, in the terms of the model.
-use Rattle.std.specs.Prelude.{◌≡◌, ◌≢◌, ◌⊎◌, ℕ, ◌+◌, ◌*◌, ◌<◌, ◌≤◌, true, List, Option, Some, None}
+use Rattle.std.specs.Prelude.{◌≡◌, ◌≢◌, ◌⊎◌, ℕ, ◌+◌, ◌*◌, ◌<◌, ◌≤◌, Bool, true, false, List, Option, Some, None}
 use Rattle.segword.specs.declared.shape.Shape.{Shape}
 use Rattle.segmodel.specs.declared.entry.Entry.{Entry}
 use Rattle.segmodel.specs.declared.entry.Entry.TheVariants.{Wrote, Refilled}
@@ -22,7 +22,8 @@ use Rattle.segcore.specs.Segment.{inside}
 use Rattle.segcore.specs.Mark.{Mark, entries, width, all_drawn}
 use Rattle.segbase.specs.declared.law.Locked.{Locked}
 use Rattle.segbase.specs.declared.pass.Pass.{Pass}
-use Rattle.segbase.specs.Passes.{number, trace, marked, mine, taken, bounced, holding, locked}
+use Rattle.segbase.specs.Passes.{number, trace, marked, seen, mine, taken, bounced, holding, locked}
+use Rattle.segbase.specs.Passes as passes
 use Rattle.segbase.specs.Plain.{current_of, state_of, used_of, locked_of, is_holding_of, SameSegments}
 use Rattle.segindex.specs.declared.bucket.LockAnswer.{LockAnswer}
 use Rattle.segindex.specs.declared.bucket.LockAnswer.TheVariants as lock
@@ -111,6 +112,20 @@ IsLockAnswer shape key lock.AlreadyLocked p q = ChangesNothing p q
 -- no entry of the bucket came in since it was locked
 abbrev pub NoneSince : Shape → Locked → List Entry → Type 0
 NoneSince shape lock now = Begins (event.seen lock.trace) now × (entries_of shape lock.bucket now ≡ entries_of shape lock.bucket (event.seen lock.trace))
+
+-- the bucket is locked no more, and no entry of it came in since it was locked
+pub record Unlocks (shape : Shape) (p q : Pass) : Type 0 where
+  pub entries : mine q ≡ mine p
+  pub locked : locked q ≡ None
+  pub locked_of : locked_of q ≡ None
+  pub none_since : (lock : Locked) → passes.locked p ≡ Some lock → NoneSince shape lock (seen q)
+  pub current : current_of q ≡ current_of p
+  pub segments : SameSegments p q
+  pub holding : (holding q ≡ holding p) × (is_holding_of q ≡ is_holding_of p)
+
+abbrev pub IsUnlockAnswer : Shape → Bool → Pass → Pass → Type 0
+IsUnlockAnswer shape true p q = Unlocks shape p q
+IsUnlockAnswer shape false p q = ChangesNothing p q
 
 -- ---- refilling
 

@@ -1,8 +1,11 @@
 //! Buckets taken and given back, for the time of a call or locked for longer.
-ghost use Rattle.std.specs.Prelude.{◌≡◌, ◌<◌};
+ghost use Rattle.std.specs.Prelude.{◌≡◌, ◌≢◌, ◌<◌, ◌↔◌, is_some, None, IfSome};
+ghost use Rattle.segcore.specs.Kind.{HasBit};
+ghost use Rattle.segindex.specs.declared.bucket.LockAnswer.TheVariants as lock;
 
 use crate::index::Index;
 use segbase::Pass;
+use segword::{Key, bucket_of, hash};
 
 /// The answer to a lock of a bucket.
 #[derive(Clone, Copy, Debug, PartialEq, Eq)]
@@ -18,10 +21,57 @@ pub enum LockAnswer {
 const TRIES: u32 = 64;
 
 impl Index {
-    ghost use Rattle.segbase.specs.Passes.{IsPassOf};
+    ghost use Rattle.segbase.specs.Passes.{number, trace, IsPassOf};
+    ghost use Rattle.segbase.specs.Plain.{locked_of};
     ghost use Rattle.segindex.specs.Index.{board_of, shape_of};
-    ghost use Rattle.segindex.specs.Calls.{memo};
-    ghost use Rattle.segindex.specs.Taking.{TakesBucket};
+    ghost use Rattle.segindex.specs.Quiet.{IsQuiet};
+    ghost use Rattle.segindex.specs.Calls.{memo, GoesOn};
+    ghost use Rattle.segindex.specs.Answers.{IsLockAnswer, IsUnlockAnswer};
+    ghost use Rattle.segindex.specs.Taking.{TakesBucket, SetsLock};
+
+    /// Locks the bucket of a key. Until it is unlocked no other pass writes in it, and every write to it is answered Busy.
+    pub fn lock_bucket(&self, pass: &mut Pass, key: &Key) -> LockAnswer
+        requires quiet { IsQuiet (board_of self.now) pass.old }
+        ensures goes_on { GoesOn (board_of self.now) pass.old pass.new }
+        ensures answer { IsLockAnswer (shape_of self.now) key.now result pass.old pass.new }
+        ensures already { (result ≡ lock.AlreadyLocked) ↔ (locked_of pass.old ≢ None) }
+    {
+        if pass.locked().is_some() {
+            return LockAnswer::AlreadyLocked;
+        }
+        let bucket = bucket_of(hash(key), self.shape().buckets);
+        if !self.take_bucket(pass, bucket) {
+            return LockAnswer::Busy;
+        }
+        self.set_lock(pass, Some(bucket));
+        LockAnswer::Locked
+    }
+
+    /// Unlocks the bucket that the pass has locked, and is false where there is none.
+    pub fn unlock_bucket(&self, pass: &mut Pass) -> bool
+        requires quiet { IsQuiet (board_of self.now) pass.old }
+        ensures goes_on { GoesOn (board_of self.now) pass.old pass.new }
+        ensures answer { IsUnlockAnswer (shape_of self.now) result pass.old pass.new }
+        ensures was_locked { result ≡ is_some (locked_of pass.old) }
+    {
+        let Some(bucket) = pass.locked() else {
+            return false;
+        };
+        self.board.release(pass, bucket, false);
+        self.set_lock(pass, None);
+        true
+    }
+
+    // Names the bucket that the pass has locked, as of what it has seen now.
+    fn set_lock(&self, pass: &mut Pass, bucket: Option<u32>)
+        requires pass { IsPassOf (board_of self.now) pass.old }
+        requires bit { IfSome bucket (HasBit (shape_of self.now) (trace pass.old) (number pass.old)) }
+        ensures pass { IsPassOf (board_of self.now) pass.new }
+        ensures sets { SetsLock bucket pass.old pass.new }
+    {
+        pass.set_locked(bucket);
+        self.board.remember(pass);
+    }
 
     // Takes the writer bit of a bucket, and is false where each try found it set.
     pub(crate) fn take_bucket(&self, pass: &mut Pass, bucket: u32) -> bool

@@ -3,6 +3,7 @@
 
 mod bucket;
 mod index;
+mod meet;
 mod segment;
 
 pub use bucket::LockAnswer;

@@ -1,0 +1,45 @@
+-- Calls that enter and leave no segment: the pass is where it was.
+use Rattle.std.proofs.Common.{◌≡◌, ℕ, ◌<◌, List, [], ◌∷◌, ◌++◌, sym, refl, ◌∙◌, subst}
+use Rattle.segcore.specs.declared.event.Event.{Event}
+use Rattle.segcore.specs.declared.event.Event.TheVariants.{Entered, Left}
+use Rattle.segcore.specs.Segment.{inside}
+use Rattle.segbase.specs.declared.board.Board.{Board}
+use Rattle.segbase.specs.declared.pass.Pass.{Pass}
+use Rattle.segbase.specs.Traces.{StaysIn}
+use Rattle.segbase.specs.Passes.{number, trace, holding, Moved}
+use Rattle.segbase.specs.Plain.{is_holding_of}
+use Rattle.segbase.proofs.Moves.{moved_inside}
+use Rattle.segindex.proofs.Quiet.{SettlesIn}
+
+abbrev pub IsStill : Event → Type 0
+IsStill (Entered p s) = ⊥
+IsStill (Left p s) = ⊥
+IsStill e = Unit {0}
+
+abbrev pub AreStill : List Event → Type 0
+AreStill [] = Unit {0}
+AreStill (e ∷ own) = IsStill e × AreStill own
+
+one_still : (e : Event) (h : List Event) (p s : ℕ) → IsStill e → inside (e ∷ h) p s ≡ inside h p s
+one_still (Entered q t) h p s still = absurd still
+one_still (Left q t) h p s still = absurd still
+one_still e h p s still = refl
+
+pub still_inside : (own h : List Event) (p s : ℕ) → AreStill own → inside (own ++ h) p s ≡ inside h p s
+still_inside [] h p s still = refl
+still_inside (e ∷ own) h p s still = one_still e (own ++ h) p s still.0 ∙ still_inside own h p s still.1
+
+pub still_stays : (own h : List Event) (p s : ℕ) → AreStill own → 0 < inside h p s → StaysIn own h p s
+still_stays [] h p s still there = there
+still_stays (e ∷ own) h p s still there = (
+  subst (λ n. 0 < n) (sym (still_inside (e ∷ own) h p s still)) there,
+  still_stays own h p s still.1 there,
+)
+
+pub settles_still : (b : Board) (own : List Event) (p q : Pass) → Moved b own p q → AreStill own → holding q ≡ holding p → is_holding_of q ≡ is_holding_of p → SettlesIn own p q
+settles_still b own p q m still memo plain = record {
+  memo = memo;
+  plain = plain;
+  readings = λ s. moved_inside b own p q s m ∙ still_inside own (trace p) (number p) s still;
+  stays = λ s there. still_stays own (trace p) (number p) s still there;
+}

@@ -1,0 +1,18 @@
+use Rattle.std.proofs.Common.{sym}
+use Rattle.segindex.proofs.Quiet.{has_locked}
+use Rattle.segindex.proofs.Locking.{unlocks_bucket}
+use Rattle.segindex.proofs.index.Index.unlock_bucket.Goals as goal
+
+pub release-requires : goal.release-requires
+release-requires c =
+    let quiet = c.requires.quiet in
+    let clean = has_locked c.args.self.now.board c.args.pass.now c.in-Some.bucket quiet (sym c.in-Some.ensures) in
+    (quiet.pass, (clean.bit, clean.unwritten, clean.undrawn, tt))
+
+pub returns-clause-goes_on : goal.returns-clause-goes_on
+returns-clause-goes_on c = let step = c.release.ensures.step.1 in
+    (unlocks_bucket c.args.self.now.board c.args.pass.now c.release.new.pass c.set_lock.new.pass c.in-Some.bucket c.requires.quiet (sym c.in-Some.ensures) c.release.ensures.did c.release.ensures.free step.plain step.memo c.set_lock.ensures.pass c.set_lock.ensures.sets).0
+
+pub returns-clause-answer : goal.returns-clause-answer
+returns-clause-answer c = let step = c.release.ensures.step.1 in
+    (unlocks_bucket c.args.self.now.board c.args.pass.now c.release.new.pass c.set_lock.new.pass c.in-Some.bucket c.requires.quiet (sym c.in-Some.ensures) c.release.ensures.did c.release.ensures.free step.plain step.memo c.set_lock.ensures.pass c.set_lock.ensures.sets).1
