@@ -4,6 +4,8 @@ use Rattle.std.specs.Prelude.{IfSome}
 use Rattle.segword.specs.SameItem.{IsSameItem}
 use Rattle.segword.specs.ItemWord.{item_word}
 use Rattle.segword.specs.declared.item.Item.{Item}
+use Rattle.segword.specs.declared.shape.Shape.{Shape}
+use Rattle.segcore.specs.declared.event.Event.{Event}
 use Rattle.segcore.specs.Row.{Row, Holds, row_after}
 use Rattle.segcore.specs.Segment.{inside}
 use Rattle.segbase.specs.declared.board.Board.{Board}
@@ -14,7 +16,7 @@ use Rattle.segbase.proofs.Moves.{moved_inside, moved_on}
 use Rattle.segcore.specs.Kind.{look}
 use Rattle.segbase.specs.Spots.{cell_at}
 use Rattle.segstore.specs.Reading.{Looked, IsReadable, ReadsRow}
-use Rattle.segstore.specs.Linked.{segment_part, row_part, word_at, IsChained, WasLinked, FoundItem, FoundOther}
+use Rattle.segstore.specs.Linked.{segment_part, row_part, word_at, IsChained, WasLinked, SawItem, FoundItem}
 use Rattle.segstore.proofs.Looks.{looked_then}
 use Rattle.segstore.proofs.Words.{segment_of_packed, row_of_packed, same_segment, chained_later, stood_item}
 
@@ -64,23 +66,20 @@ holds_item b q t place item now key value is was reads j lt =
     ap (λ (x : Row). x.words j) (reads.same ∙ e) ∙ was.holds j lt
 
 -- what was found, once the row is read
-pub found_item : (b : Board) (p q t : Pass) (place : Place) (word now : ℕ) (item : Item) (key value : List ℕ) → Did b [] p q → IsSameItem word now → item_word item ≡ now
-    → WasLinked b.shape place now key value (trace q) → ReadsRow b q t item.seg item.row → FoundItem b place word now key value p t
-found_item b p q t place word now item key value d same is was reads = record {
-  at = trace q;
-  between = (moved_on b [] p q d.moved, moved_on b [] q t reads.looked.did.moved);
-  same = same;
-  was = was;
+abbrev pub saw_item : (b : Board) (p q t : Pass) (place : Place) (now : ℕ) (key value : List ℕ) → Did b [] p q → Looked b q t → WasLinked b.shape place now key value (trace q) → SawItem b.shape place now key value (trace p) (trace t)
+saw_item b p q t place now key value d l was = record { at = trace q; between = (moved_on b [] p q d.moved, moved_on b [] q t l.did.moved); was = was }
+
+pub found_item : (b : Board) (p q t : Pass) (place : Place) (now : ℕ) (item : Item) (key value : List ℕ) → Did b [] p q → item_word item ≡ now
+    → WasLinked b.shape place now key value (trace q) → ReadsRow b q t item.seg item.row → FoundItem b.shape place now key value (trace p) (trace t)
+found_item b p q t place now item key value d is was reads = record {
+  saw = saw_item b p q t place now key value d reads.looked was;
   still = rw (← segment_of_item item now is, ← row_of_item item now is) reads.same;
 }
 
 -- by other names
-pub found_as : (b : Board) (p q : Pass) (place : Place) (word now other : ℕ) (key value key' value' : List ℕ) → other ≡ now → key ≡ key' → value' ≡ value → FoundItem b place word now key value p q → FoundItem b place word other key' value' p q
-found_as b p q place word now other key value key' value' en ek ev found =
-    subst (λ n. FoundItem b place word n key' value' p q) (sym en) (subst (λ k. FoundItem b place word now k value' p q) ek (subst (λ v. FoundItem b place word now key v p q) (sym ev) found))
-
-pub found_other : (b : Board) (p q : Pass) (place : Place) (word now : ℕ) → Did b [] p q → now ≡ word_at b.shape (trace q) place → ¬ (IsSameItem word now) → FoundOther b place word now p q
-found_other b p q place word now d is other = record { at = trace q; between = (moved_on b [] p q d.moved, ([], refl)); lawful = d.moved.pass.lawful; stood = sym is; other = other }
+pub found_as : (z : Shape) (h g : List Event) (place : Place) (now other : ℕ) (key value key' value' : List ℕ) → other ≡ now → key ≡ key' → value' ≡ value → FoundItem z place now key value h g → FoundItem z place other key' value' h g
+found_as z h g place now other key value key' value' en ek ev found =
+    subst (λ n. FoundItem z place n key' value' h g) (sym en) (subst (λ k. FoundItem z place now k value' h g) ek (subst (λ v. FoundItem z place now key v h g) (sym ev) found))
 
 pub then_row : (b : Board) (p q t : Pass) (s r : ℕ) → Looked b p q → ReadsRow b q t s r → Looked b p t
 then_row b p q t s r l reads = looked_then b p q t l reads.looked

@@ -15,10 +15,7 @@ use Rattle.segcore.specs.Word.{IsItemAt}
 use Rattle.segcore.specs.Word as core
 use Rattle.segcore.specs.Search.{KeyAt}
 use Rattle.segcore.specs.Standing.{cached}
-use Rattle.segbase.specs.declared.board.Board.{Board}
-use Rattle.segbase.specs.declared.pass.Pass.{Pass}
 use Rattle.segbase.specs.declared.place.Place.{Place}
-use Rattle.segbase.specs.Passes.{trace}
 use Rattle.segbase.specs.Spots.{IsPlace, cell_at, position, home_bucket}
 use Rattle.segstore.specs.declared.read.Linked.{Linked}
 use Rattle.segstore.specs.declared.read.Linked.TheVariants as linked
@@ -54,28 +51,31 @@ pub record WasLinked (shape : Shape) (place : Place) (word : ℕ) (key value : L
   pub linked : (row_after at (segment_part word) (row_part word)).linked ≡ Some key
   pub holds : Holds (row_after at (segment_part word) (row_part word)) key value
 
--- a look between p and q found the same item, now with this word, and its row is at q as it was then
-pub record FoundItem (b : Board) (place : Place) (word now : ℕ) (key value : List ℕ) (p q : Pass) : Type 0 where
+-- a look between two moments found this item word
+pub record SawItem (shape : Shape) (place : Place) (word : ℕ) (key value : List ℕ) (before now : List Event) : Type 0 where
   pub at : List Event
-  pub between : IsBetween (trace p) (trace q) at
-  pub same : IsSameItem word now
-  pub was : WasLinked b.shape place now key value at
-  pub still : row_after (trace q) (segment_part now) (row_part now) ≡ row_after at (segment_part now) (row_part now)
+  pub between : IsBetween before now at
+  pub was : WasLinked shape place word key value at
 
--- it found another word
-pub record FoundOther (b : Board) (place : Place) (word now : ℕ) (p q : Pass) : Type 0 where
+-- and now its row is as it was then
+pub record FoundItem (shape : Shape) (place : Place) (word : ℕ) (key value : List ℕ) (before now : List Event) : Type 0 where
+  pub saw : SawItem shape place word key value before now
+  pub still : row_after now (segment_part word) (row_part word) ≡ row_after saw.at (segment_part word) (row_part word)
+
+-- a look between them found this word
+pub record SawWord (shape : Shape) (place : Place) (word : ℕ) (before now : List Event) : Type 0 where
   pub at : List Event
-  pub between : IsBetween (trace p) (trace q) at
-  pub lawful : IsLawful b.shape at
-  pub stood : word_at b.shape at place ≡ now
-  pub other : ¬ (IsSameItem word now)
+  pub between : IsBetween before now at
+  pub lawful : IsLawful shape at
+  pub stood : word_at shape at place ≡ word
 
-abbrev pub IsLinked : Board → Place → ℕ → Linked → Pass → Pass → Type 0
-IsLinked b place word (linked.Same key value) p q = (now : ℕ) × FoundItem b place word now key value p q
-IsLinked b place word (linked.Changed now) p q = FoundOther b place word now p q
+-- the second look at an item word
+abbrev pub IsLinked : Shape → Place → ℕ → Linked → List Event → List Event → Type 0
+IsLinked shape place word (linked.Same key value) before now = (same : ℕ) × IsSameItem word same × FoundItem shape place same key value before now
+IsLinked shape place word (linked.Changed other) before now = SawWord shape place other before now × ¬ (IsSameItem word other)
 
--- for one who looks for a key
-abbrev pub IsKeyed : Board → Place → ℕ → List ℕ → Keyed → Pass → Pass → Type 0
-IsKeyed b place word key (keyed.Same value item) p q = FoundItem b place word (item_word item) key value p q
-IsKeyed b place word key (keyed.Other now) p q = (other value : List ℕ) × (other ≢ key) × FoundItem b place word now other value p q
-IsKeyed b place word key (keyed.Changed now) p q = FoundOther b place word now p q
+-- the same, taken for a key
+abbrev pub IsKeyed : Shape → Place → ℕ → List ℕ → Keyed → List Event → List Event → Type 0
+IsKeyed shape place word key (keyed.Same value item) before now = IsSameItem word (item_word item) × FoundItem shape place (item_word item) key value before now
+IsKeyed shape place word key (keyed.Other same) before now = IsSameItem word same × ((other value : List ℕ) × (other ≢ key) × SawItem shape place same other value before now)
+IsKeyed shape place word key (keyed.Changed other) before now = SawWord shape place other before now × ¬ (IsSameItem word other)

@@ -1,7 +1,8 @@
 //! Coming into a segment, so that it isn't filled again, and leaving it.
-ghost use Rattle.std.specs.Prelude.{◌≡◌, ℕ, ◌<◌, true};
+ghost use Rattle.std.specs.Prelude.{◌≡◌, ℕ, ◌<◌};
 ghost use Rattle.segcore.specs.Lawful.{IsSegment};
-ghost use Rattle.segcore.specs.Segment.{inside, was_used};
+ghost use Rattle.segcore.specs.Segment.{inside};
+ghost use Rattle.segcore.specs.Kind.{enter, May};
 ghost use Rattle.segbase.specs.Passes.{number, trace, IsPassOf};
 ghost use Rattle.segstore.specs.Reading.{IsReaderIn, Leaves};
 
@@ -10,9 +11,7 @@ use segbase::{Board, Pass};
 /// Comes into a segment in which an item was linked. A pass is in a segment at most twice.
 pub fn enter_segment(board: &Board, pass: &mut Pass, segment: u32)
     requires pass { IsPassOf board.now pass.old }
-    requires segment { IsSegment board.now.shape segment }
-    requires used { was_used (trace pass.old) segment ≡ true }
-    requires twice { inside (trace pass.old) (number pass.old) segment < 2 }
+    requires may { May board.now.shape (trace pass.old) (number pass.old) (enter segment) }
     ensures { IsReaderIn board.now pass.old pass.new segment }
 {
     board.enter(pass, segment);

@@ -35,7 +35,7 @@ pub fn read_linked(board: &Board, pass: &mut Pass, place: Place, word: u64) -> L
     requires place { IsChained board.now.shape (trace pass.old) place }
     requires inside { 0 < inside (trace pass.old) (number pass.old) (segment_part word) }
     ensures looked { Looked board.now pass.old pass.new }
-    ensures linked { IsLinked board.now place word result pass.old pass.new }
+    ensures linked { IsLinked board.now.shape place word result (trace pass.old) (trace pass.new) }
 {
     let now = board.look(pass, place);
     if !same_item(word, now) {
@@ -52,7 +52,7 @@ pub fn read_keyed(board: &Board, pass: &mut Pass, place: Place, word: u64, key: 
     requires place { IsChained board.now.shape (trace pass.old) place }
     requires inside { 0 < inside (trace pass.old) (number pass.old) (segment_part word) }
     ensures looked { Looked board.now pass.old pass.new }
-    ensures keyed { IsKeyed board.now place word key.now result pass.old pass.new }
+    ensures keyed { IsKeyed board.now.shape place word key.now result (trace pass.old) (trace pass.new) }
 {
     let now = board.look(pass, place);
     if !same_item(word, now) {

@@ -1,7 +1,9 @@
-use Rattle.std.proofs.Common.{refl}
+use Rattle.std.proofs.Common.{refl, sym, subst}
 use Rattle.std.proofs.lemmas.Bool.{false≢true}
 use Rattle.segword.specs.ItemWord.{item_word}
-use Rattle.segstore.proofs.Seconds.{unpacked, looked_at, second, readable_item, holds_item, found_item, found_as, then_row}
+use Rattle.segword.specs.SameItem.{IsSameItem}
+use Rattle.segbase.specs.Passes.{trace}
+use Rattle.segstore.proofs.Seconds.{unpacked, looked_at, second, readable_item, holds_item, saw_item, found_item, found_as, then_row}
 use Rattle.segstore.proofs.Looks.{reads_then}
 use Rattle.segstore.proofs.read.read_keyed.Goals as goal
 
@@ -26,9 +28,12 @@ returns-in-Some-clause-keyed c =
     let at = second b c.args.pass.now q c.args.place c.args.word c.look-now.result c.look-now.ensures.did c.requires.place c.requires.inside c.look-now.ensures.found same in
     let reads = reads_then b q c.row_of_key.new.pass c.value_of_row-value.new.pass item.seg item.row c.row_of_key.ensures.reads c.value_of_row-value.ensures.reads in
     let key = (c.in-Some.ensures.key at.key at.value at.was.valid.0 at.was.valid.1 (holds_item b q c.row_of_key.new.pass c.args.place item c.look-now.result at.key at.value is at.was c.row_of_key.ensures.reads)).0 refl in
-    let value = c.value_of_row-value.ensures.value at.key at.value at.was.valid.0 at.was.valid.1 (holds_item b q c.value_of_row-value.new.pass c.args.place item c.look-now.result at.key at.value is at.was reads) in
-    found_as b c.args.pass.now c.value_of_row-value.new.pass c.args.place c.args.word c.look-now.result (item_word item) at.key at.value _ _ is key value
-    (found_item b c.args.pass.now q c.value_of_row-value.new.pass c.args.place c.args.word c.look-now.result item at.key at.value c.look-now.ensures.did same is at.was reads)
+    let same' = subst (IsSameItem c.args.word) (sym is) same in
+    let value = c.value_of_row-value.ensures.value at.key at.value at.was.valid.0 at.was.valid.1 (holds_item b q c.value_of_row-value.new.pass c.args.place item c.look-now.result at.key at.value is at.was reads) in (
+      same',
+      found_as b.shape (trace c.args.pass.now) (trace c.value_of_row-value.new.pass) c.args.place c.look-now.result (item_word item) at.key at.value _ _ is key value
+          (found_item b c.args.pass.now q c.value_of_row-value.new.pass c.args.place c.look-now.result item at.key at.value c.look-now.ensures.did is at.was reads),
+    )
 
 pub returns-in-None-clause-keyed : goal.returns-in-None-clause-keyed
 returns-in-None-clause-keyed c =
@@ -36,4 +41,4 @@ returns-in-None-clause-keyed c =
     let is = unpacked c.unpack.result item c.look-now.result c.unpack.ensures.some c.unwrap-item.ensures in
     let at = second b c.args.pass.now q c.args.place c.args.word c.look-now.result c.look-now.ensures.did c.requires.place c.requires.inside c.look-now.ensures.found same in
     let key = c.in-None.ensures.key at.key at.value at.was.valid.0 at.was.valid.1 (holds_item b q c.row_of_key.new.pass c.args.place item c.look-now.result at.key at.value is at.was c.row_of_key.ensures.reads) in
-    (at.key, at.value, (λ e. false≢true (key.1 e)), found_item b c.args.pass.now q c.row_of_key.new.pass c.args.place c.args.word c.look-now.result item at.key at.value c.look-now.ensures.did same is at.was c.row_of_key.ensures.reads)
+    (same, (at.key, at.value, (λ e. false≢true (key.1 e)), saw_item b c.args.pass.now q c.row_of_key.new.pass c.args.place c.look-now.result at.key at.value c.look-now.ensures.did c.row_of_key.ensures.reads.looked at.was))

@@ -1,5 +1,6 @@
 use Rattle.std.proofs.Common.{refl, sym, ap, ◌∙◌}
 use Rattle.std.proofs.lemmas.Option.{same_Some}
+use Rattle.segbase.specs.Passes.{trace}
 use Rattle.segstore.proofs.Seconds.{unpacked, looked_at, second, readable_item, holds_item, found_item, found_as, then_row}
 use Rattle.segstore.proofs.read.read_linked.Goals as goal
 
@@ -29,6 +30,7 @@ returns-clause-linked c =
     let pair = c.pair_of_row.ensures.pair at.key at.value at.was.valid.0 at.was.valid.1 (holds_item b q c.pair_of_row.new.pass c.args.place item c.look-now.result at.key at.value is at.was c.pair_of_row.ensures.reads) in
     let one = same_Some _ _ (sym pair ∙ c.unwrap-key.ensures) in (
       c.look-now.result,
-      found_as b c.args.pass.now c.pair_of_row.new.pass c.args.place c.args.word c.look-now.result c.look-now.result at.key at.value _ _ refl (ap (λ x. x.0) one) (ap (λ x. x.1) (sym one))
-          (found_item b c.args.pass.now q c.pair_of_row.new.pass c.args.place c.args.word c.look-now.result item at.key at.value c.look-now.ensures.did same is at.was c.pair_of_row.ensures.reads),
+      same,
+      found_as b.shape (trace c.args.pass.now) (trace c.pair_of_row.new.pass) c.args.place c.look-now.result c.look-now.result at.key at.value _ _ refl (ap (λ x. x.0) one) (ap (λ x. x.1) (sym one))
+          (found_item b c.args.pass.now q c.pair_of_row.new.pass c.args.place c.look-now.result item at.key at.value c.look-now.ensures.did is at.was c.pair_of_row.ensures.reads),
     )
