@@ -10,3 +10,5 @@ pub mod Idling
 pub mod Meanwhile
 pub mod Locking
 pub mod Meeting
+pub mod Reading
+pub mod OnePass

@@ -29,7 +29,7 @@ use Rattle.segindex.specs.Quiet.{IsLock, IsQuiet}
 use Rattle.segindex.specs.Calls.{memo, GoesOn}
 use Rattle.segindex.specs.Answers.{NoneSince, Locks, Unlocks}
 use Rattle.segindex.specs.Taking.{bounces, TakesBucket, lock_now, SetsLock}
-use Rattle.segindex.proofs.Bits.{bit_before}
+use Rattle.segindex.proofs.Bits.{bit_before, no_new_bit}
 use Rattle.segindex.proofs.Bounces.{bounces_still, bounces_calm, bounces_seen}
 use Rattle.segindex.proofs.Meanwhile.{none_entries}
 use Rattle.segindex.proofs.Quiet.{has_locked, lock_of, SettlesIn, holds_again, inside_again, hold_again, goes_on}
@@ -156,10 +156,10 @@ module _ (b : Board) (p r q : Pass) (bucket : ℕ) (quiet : IsQuiet b p) (had : 
   unlocked_move = moved_to b freed_own p r q None quiet did.moved plain same is sets
 
   no_bit : (other : ℕ) → HasBit b.shape (trace q) (number q) other → ⊥
-  no_bit other bit = ⊎_elim
-      (λ e. none-some (number q) (sym (ap (λ (v : View). (bucket_after b.shape v.trace bucket).holder) sets.view ∙ freed) ∙ (ap (λ x. (bucket_after b.shape (trace q) x).holder) e ∙ bit.1)))
-      (λ apart. apart (same_Some bucket other (sym had ∙ quiet.bits other (bit_before b freed_own p q other unlocked_move (ne_eqb bucket other apart, tt) bit))))
-      (cases_eq bucket other)
+  no_bit other bit =
+      let free : (bucket_after b.shape (trace q) bucket).holder ≡ None = ap (λ (v : View). (bucket_after b.shape v.trace bucket).holder) sets.view ∙ freed in
+      let old = quiet.bits other (no_new_bit b freed_own p q bucket unlocked_move free (λ x apart. (ne_eqb bucket x apart, tt)) other bit) in
+      none-some (number q) (sym free ∙ (ap (λ x. (bucket_after b.shape (trace q) x).holder) (same_Some bucket other (sym had ∙ old)) ∙ bit.1))
 
   quiet_unlocked : IsQuiet b q
   quiet_unlocked = let stay = in_segments b freed_own p r q None quiet did.moved plain same is sets (tt, tt) in record {

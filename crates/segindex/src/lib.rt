@@ -3,9 +3,11 @@
 
 mod bucket;
 mod index;
+mod laws;
 mod meet;
 mod segment;
 
 pub use bucket::LockAnswer;
 pub use index::Index;
+pub use laws::one_pass;
 pub use segbase::{MakeFault, Pass};
