@@ -42,7 +42,7 @@ missed b p q step event place found old bucket n a is bit of at here adds_is oth
       did = miss b p q step event found old adds_is other s;
       other = other;
       is = found_is ∙ ap (λ t. word b.shape t (cell_at b.shape place)) (sym now);
-      higher = λ same low. higher b.shape s.told.more (trace p) (number p) bucket n old found a (cell_at b.shape place) is.valid is.lawful s.told.before s.told.others bit.1 at here same low found_is other;
+      higher = λ same low. higher b.shape s.told.more (trace p) (number p) bucket n old found a (cell_at b.shape place) is.valid is.lawful s.told.before s.told.others bit at here same low found_is other;
     }
 
 -- a draw that failed

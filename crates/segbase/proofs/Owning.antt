@@ -2,12 +2,13 @@
 use Rattle.std.proofs.Common.{◌≡◌, ◌≢◌, ℕ, ◌+◌, ◌-◌, cond, eqb, ◌&&◌, List, [], ◌∷◌, ◌++◌, Option, Some, None, refl, sym, ap, ◌∙◌, ⊎_elim}
 use Rattle.std.proofs.lemmas.Bool.{cases_Bool, eq-eqb, ne_eqb, false≢true}
 use Rattle.segcore.specs.declared.event.Event.{Event}
-use Rattle.segcore.specs.declared.event.Event.TheVariants.{Took, Bounced, Glanced, Replied, Linked, Unlinked, Entered, Left, Refilled}
-use Rattle.segcore.specs.Event.{by, entry_of, with_entry, removal, seen, NoneBy, AllBy}
+use Rattle.segcore.specs.declared.event.Event.TheVariants.{Took, Bounced, Glanced, Entered, Left}
+use Rattle.segcore.specs.Event.{by, entry_of, with_entry, seen, NoneBy, AllBy}
 use Rattle.segcore.specs.Segment.{inside}
 use Rattle.segmodel.specs.declared.entry.Entry.{Entry}
 use Rattle.segmodel.specs.History.{pass_of, mine}
 use Rattle.segcore.specs.Count.{taken, bounced, glanced}
+use Rattle.segcore.proofs.Counts.{mine_others, taken_others, bounced_others, glanced_others}
 use Rattle.segcore.proofs.Quiet.{quiet_inside}
 use Rattle.segbase.specs.Traces.{own_of}
 
@@ -50,43 +51,20 @@ mine_with : (p : ℕ) (o : Option Entry) (h g : List Entry) → mine p h ≡ min
 mine_with p None h g same = same
 mine_with p (Some added) h g same = ap (λ x. cond (eqb (pass_of added) p) (added ∷ x) x) same
 
-other_removal : (p q : ℕ) (key : List ℕ) (evicted : Option ℕ) (h : List Entry) → q ≢ p → mine p (removal q key evicted ∷ h) ≡ mine p h
-other_removal p q key None h n = rw (ne_eqb q p n) refl
-other_removal p q key (Some s) h n = rw (ne_eqb q p n) refl
-
-mine_skips : (p : ℕ) (e : Event) (h : List Event) → by e ≢ p → mine p (seen (e ∷ h)) ≡ mine p (seen h)
-mine_skips p (Replied q request reply) h n = rw (ne_eqb q p n) refl
-mine_skips p (Linked q request s r at) h n = rw (ne_eqb q p n) refl
-mine_skips p (Unlinked q key at evicted) h n = other_removal p q key evicted (seen h) n
-mine_skips p (Refilled q s) h n = rw (ne_eqb q p n) refl
-mine_skips p e h n = refl
-
 mine_follows : (p : ℕ) → Follows p (λ h. mine p (seen h))
-mine_follows p = record { again = λ e h g same. mine_with p (entry_of e) (seen h) (seen g) same; skips = mine_skips p }
+mine_follows p = record { again = λ e h g same. mine_with p (entry_of e) (seen h) (seen g) same; skips = λ e h n. mine_others p (e ∷ []) h (n, tt) }
 
 taken_again : (p : ℕ) (e : Event) (h g : List Event) → taken p h ≡ taken p g → taken p (e ∷ h) ≡ taken p (e ∷ g)
 taken_again p (Took q b) h g same = ap (λ n. cond (eqb q p) (n + 1) n) same
 taken_again p e h g same = same
 
-taken_skips : (p : ℕ) (e : Event) (h : List Event) → by e ≢ p → taken p (e ∷ h) ≡ taken p h
-taken_skips p (Took q b) h n = rw (ne_eqb q p n) refl
-taken_skips p e h n = refl
-
 bounced_again : (p b : ℕ) (e : Event) (h g : List Event) → bounced p b h ≡ bounced p b g → bounced p b (e ∷ h) ≡ bounced p b (e ∷ g)
 bounced_again p b (Bounced q a) h g same = ap (λ n. cond (eqb q p && eqb a b) (n + 1) n) same
 bounced_again p b e h g same = same
 
-bounced_skips : (p b : ℕ) (e : Event) (h : List Event) → by e ≢ p → bounced p b (e ∷ h) ≡ bounced p b h
-bounced_skips p b (Bounced q a) h n = rw (ne_eqb q p n) refl
-bounced_skips p b e h n = refl
-
 glanced_again : (p b : ℕ) (e : Event) (h g : List Event) → glanced p b h ≡ glanced p b g → glanced p b (e ∷ h) ≡ glanced p b (e ∷ g)
 glanced_again p b (Glanced q a) h g same = ap (λ n. cond (eqb q p && eqb a b) (n + 1) n) same
 glanced_again p b e h g same = same
-
-glanced_skips : (p b : ℕ) (e : Event) (h : List Event) → by e ≢ p → glanced p b (e ∷ h) ≡ glanced p b h
-glanced_skips p b (Glanced q a) h n = rw (ne_eqb q p n) refl
-glanced_skips p b e h n = refl
 
 pub own_inside : (more h : List Event) (p s : ℕ) → inside (more ++ h) p s ≡ inside (own_of p more ++ h) p s
 own_inside more h p s = own_same p (λ g. inside g p s) (inside_follows p s) more h
@@ -95,10 +73,10 @@ pub own_mine : (more h : List Event) (p : ℕ) → mine p (seen (more ++ h)) ≡
 own_mine more h p = own_same p (λ g. mine p (seen g)) (mine_follows p) more h
 
 pub own_taken : (more h : List Event) (p : ℕ) → taken p (more ++ h) ≡ taken p (own_of p more ++ h)
-own_taken more h p = own_same p (taken p) (record { again = taken_again p; skips = taken_skips p }) more h
+own_taken more h p = own_same p (taken p) (record { again = taken_again p; skips = λ e h n. taken_others p (e ∷ []) h (n, tt) }) more h
 
 pub own_bounced : (more h : List Event) (p b : ℕ) → bounced p b (more ++ h) ≡ bounced p b (own_of p more ++ h)
-own_bounced more h p b = own_same p (bounced p b) (record { again = bounced_again p b; skips = bounced_skips p b }) more h
+own_bounced more h p b = own_same p (bounced p b) (record { again = bounced_again p b; skips = λ e h n. bounced_others p b (e ∷ []) h (n, tt) }) more h
 
 pub own_glanced : (more h : List Event) (p b : ℕ) → glanced p b (more ++ h) ≡ glanced p b (own_of p more ++ h)
-own_glanced more h p b = own_same p (glanced p b) (record { again = glanced_again p b; skips = glanced_skips p b }) more h
+own_glanced more h p b = own_same p (glanced p b) (record { again = glanced_again p b; skips = λ e h n. glanced_others p b (e ∷ []) h (n, tt) }) more h

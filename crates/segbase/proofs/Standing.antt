@@ -1,23 +1,22 @@
 -- What the words of a chain are: at any moment, and for a pass that has the bucket's bit.
-use Rattle.std.proofs.Common.{◌≡◌, ◌≢◌, ℕ, ◌+◌, ◌*◌, ◌/◌, ◌%◌, ◌^◌, ◌<◌, ◌≤◌, eqb, ◌&&◌, List, [], ◌∷◌, ◌++◌, Some, refl, sym, ap, ◌∙◌, subst, ⊎_elim, arith}
-use Rattle.std.proofs.lemmas.Bool.{cases_Bool, cond-true, cond-false, eqb-true, and_parts}
+use Rattle.std.proofs.Common.{◌≡◌, ◌≢◌, ℕ, ◌+◌, ◌*◌, ◌/◌, ◌%◌, ◌^◌, ◌<◌, ◌≤◌, List, ◌++◌, Some, refl, sym, ap, ◌∙◌, subst, arith}
 use Rattle.std.proofs.lemmas.Nat.{div-mul-add, mod-mul-add}
 use Rattle.std.proofs.Math.Nat.{le-max_right}
-use Rattle.std.proofs.lemmas.Option.{none-some}
 use Rattle.segword.specs.declared.shape.Shape.{Shape}
 use Rattle.segword.specs.Fnv.{hash_of}
 use Rattle.segword.specs.Shape.{IsValid}
 use Rattle.segword.specs.SameItem.{IsSameItem}
 use Rattle.segcore.specs.declared.event.Event.{Event}
-use Rattle.segcore.specs.declared.event.Event.TheVariants.{Linked, Bumped}
 use Rattle.segcore.specs.declared.cell.Cell.{Cell}
 use Rattle.segcore.specs.Event.{NoneBy}
 use Rattle.segcore.specs.Bucket.{Slot, Content, nothing, item, next, copy, IsPosition, bucket_after}
-use Rattle.segcore.specs.Row.{row_after, frequency_of}
+use Rattle.segcore.specs.Row.{frequency_of}
 use Rattle.segmodel.specs.Places.{tag_of}
 use Rattle.segcore.specs.ItemWord.{packed}
 use Rattle.segcore.specs.Lawful.{IsLawful}
 use Rattle.segcore.specs.Word.{content_word, word, IsItemAt}
+use Rattle.segcore.specs.Kind.{HasBit}
+use Rattle.segcore.proofs.Meanwhile.{meanwhile}
 use Rattle.segcore.proofs.Quiet.{quiet}
 use Rattle.segcore.proofs.Limits.{low_row, low_segment, low_frequency}
 use Rattle.segcore.proofs.Coherent.{IsContent}
@@ -58,43 +57,21 @@ under_bit z more h p b n c l none held at =
     at_word z (more ++ h) b n c (at_stays z more h b n c l at.1) ∙ (word_content z (more ++ h) (bucket_after z (more ++ h) b) n (above (bucket_after z h b) n at.0)
     ∙ ap (λ u. content_word (more ++ h) (u.items n)) (quiet z more h p b l none held))
 
-rises : (e : Event) (z : Shape) (h : List Event) (s r f : ℕ) (key : List ℕ) → IsLawful z (e ∷ h) → (row_after h s r).linked ≡ Some key → f ≤ frequency_of h s r → f ≤ frequency_of (e ∷ h) s r
-rises (Linked q request t i n) z h s r f key l on le = ⊎_elim
-    (λ y. let w = and_parts (eqb t s) (eqb i r) y in let a = eqb-true t s w.0 in let d = eqb-true i r w.1 in
-    absurd (none-some key (sym l.1.suits.0.3 ∙ (λ j. (row_after h (a j) (d j)).linked) ∙ on)))
-    (λ n'. subst (λ x. f ≤ x) (sym (cond-false (eqb t s && eqb i r) 1 (frequency_of h s r) n')) le)
-    (cases_Bool (eqb t s && eqb i r))
-rises (Bumped q t i g) z h s r f key l on le = ⊎_elim
-    (λ y. let w = and_parts (eqb t s) (eqb i r) y in
-    let more : frequency_of h s r < g = subst (λ x. frequency_of h s x < g) (eqb-true i r w.1) (subst (λ x. frequency_of h x i < g) (eqb-true t s w.0) l.1.suits.0) in
-    subst (λ x. f ≤ x) (sym (cond-true (eqb t s && eqb i r) g (frequency_of h s r) y)) (omega arith))
-    (λ n'. subst (λ x. f ≤ x) (sym (cond-false (eqb t s && eqb i r) g (frequency_of h s r) n')) le)
-    (cases_Bool (eqb t s && eqb i r))
-rises e z h s r f key l on le = le
-
--- under the bit the frequency of an item only rises
-pub frequency_rises : (z : Shape) (more h : List Event) (p b n : ℕ) (a : Slot) → IsLawful z (more ++ h) → NoneBy p more → (bucket_after z h b).holder ≡ Some p → (bucket_after z h b).items n ≡ item a → frequency_of h a.segment a.row ≤ frequency_of (more ++ h) a.segment a.row
-frequency_rises z [] h p b n a l none held here = omega arith
-frequency_rises z (e ∷ more) h p b n a l none held here =
-    let same = quiet z more h p b l.0 none.1 held in
-    let st = (coherent z (more ++ h) l.0).items b n a (ap (λ u. u.items n) same ∙ here) in
-    rises e z (more ++ h) a.segment a.row (frequency_of h a.segment a.row) a.key l st.linked (frequency_rises z more h p b n a l.0 none.1 held here)
-
 below : (old before found t f g s r : ℕ) → before ≡ packed t f s r → found ≡ packed t g s r → f ≤ g → old ≤ before → found ≢ old → old < found
 below old before found t f g s r then now up low other = omega arith
 
 -- the item's word now, which an earlier word of it isn't
-pub higher : (z : Shape) (more h : List Event) (p b n old found : ℕ) (a : Slot) (c : Cell) → IsValid z → IsLawful z h → IsLawful z (more ++ h) → NoneBy p more → (bucket_after z h b).holder ≡ Some p → IsItemAt z h b n c → (bucket_after z h b).items n ≡ item a
+pub higher : (z : Shape) (more h : List Event) (p b n old found : ℕ) (a : Slot) (c : Cell) → IsValid z → IsLawful z h → IsLawful z (more ++ h) → NoneBy p more → HasBit z h p b → IsItemAt z h b n c → (bucket_after z h b).items n ≡ item a
     → IsSameItem old (word z h c) → old ≤ word z h c → found ≡ word z (more ++ h) c → found ≢ old → IsSameItem old found × (old < found)
-higher z more h p b n old found a c v l l' none held at here same low is other =
+higher z more h p b n old found a c v l l' none bit at here same low is other =
     let t = tag_of a.key in let s = a.segment in let r = a.row in
     let f : ℕ = frequency_of h s r in let g : ℕ = frequency_of (more ++ h) s r in
     let st = (coherent z h l).items b n a here in
     let ls = low_segment z s v st.within.0 in let lr = low_row z r v st.within.1 in
     let lf = low_frequency z h s r l in let lg = low_frequency z (more ++ h) s r l' in
     let then : word z h c ≡ packed t f s r = content_at z h b n c at ∙ ap (content_word h) here in
-    let now : found ≡ packed t g s r = is ∙ (under_bit z more h p b n c l' none held at ∙ ap (content_word (more ++ h)) here) in
-    let up : f ≤ g = frequency_rises z more h p b n a l' none held here in
+    let now : found ≡ packed t g s r = is ∙ (under_bit z more h p b n c l' none bit.1 at ∙ ap (content_word (more ++ h)) here) in
+    let up : f ≤ g = (meanwhile z p more h l' none).rises b n a bit here in
     let tags : word z h c / 2 ^ 52 ≡ found / 2 ^ 52 = ap (λ x. x / 2 ^ 52) then ∙ (tag_of_word t f s r lf ls lr ∙ sym (ap (λ x. x / 2 ^ 52) now ∙ tag_of_word t g s r lg ls lr)) in
     let places : word z h c % 2 ^ 44 ≡ found % 2 ^ 44 = ap (λ x. x % 2 ^ 44) then ∙ (place_of_word t f s r ls lr ∙ sym (ap (λ x. x % 2 ^ 44) now ∙ place_of_word t g s r ls lr)) in
     ((same.0, same.1 ∙ tags, same.2 ∙ places), below old (word z h c) found t f g s r then now up low other)

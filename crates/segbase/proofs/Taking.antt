@@ -1,44 +1,33 @@
 -- What a pass knows of a bucket whose bit it took, and what an information word tells it.
-use Rattle.std.proofs.Common.{◌≡◌, ℕ, ◌+◌, ◌*◌, ◌%◌, ◌^◌, ◌<◌, ◌≤◌, Bool, true, false, cond, eqb, List, [], ◌∷◌, ◌++◌, Option, Some, None, MatchOption, refl, sym, ap, ◌∙◌, subst, ⊎_elim, arith}
-use Rattle.std.proofs.lemmas.Bool.{cases_Bool, cond-true, cond-false, eqb-true, eq-eqb, false≢true}
+use Rattle.std.proofs.Common.{◌≡◌, ◌≢◌, ℕ, ◌+◌, ◌*◌, ◌%◌, ◌^◌, ◌≤◌, Bool, true, false, cond, eqb, List, [], ◌∷◌, ◌++◌, Option, Some, None, refl, sym, ap, ◌∙◌, subst, arith}
+use Rattle.std.proofs.lemmas.Bool.{cond-true, cond-false, eq-eqb}
 use Rattle.std.proofs.lemmas.Option.{none-some}
 use Rattle.segword.specs.declared.shape.Shape.{Shape}
 use Rattle.segword.specs.declared.info.Info.{Info}
 use Rattle.segword.specs.InfoWord.{info_word}
 use Rattle.segcore.specs.declared.event.Event.{Event}
-use Rattle.segcore.specs.declared.event.Event.TheVariants.{Took, Bounced, Freed}
+use Rattle.segcore.specs.declared.event.Event.TheVariants.{Took, Bounced}
 use Rattle.segcore.specs.declared.view.View.{View}
-use Rattle.segcore.specs.Event.{by}
-use Rattle.segcore.specs.Bucket.{Bucket, bucket_at, is, acts, bucket_after}
-use Rattle.segcore.specs.Lawful.{needs, Fits, IsLawful}
+use Rattle.segcore.specs.Bucket.{Bucket, is, acts, bucket_after}
+use Rattle.segcore.specs.Lawful.{IsLawful}
 use Rattle.segcore.specs.Kind.{take, info_look, unless_own, HasBit}
 use Rattle.segcore.specs.Word.{bit_of}
 use Rattle.segcore.specs.Word as core
 use Rattle.segcore.proofs.Quiet.{quiet}
+use Rattle.segcore.proofs.Homes.{spare_held}
 use Rattle.segcore.proofs.Versions.{free}
 use Rattle.segbase.specs.declared.board.Board.{Board}
 use Rattle.segbase.specs.declared.pass.Pass.{Pass}
 use Rattle.segbase.specs.Passes.{number, trace, Did, Stepped}
 use Rattle.segbase.specs.Steps.{has_bit, Takes}
 
-guard_at : (z : Shape) (h : List Event) (e : Event) (b : ℕ) (o : Option ℕ) → MatchOption o (Unit {0}) (λ b. (b < z.buckets) × ((bucket_after z h b).holder ≡ needs e)) → is o b ≡ true → (bucket_after z h b).holder ≡ needs e
-guard_at z h e b None g t = absurd (false≢true t)
-guard_at z h e b (Some a) g t = ap (λ x. (bucket_after z h x).holder) (sym (eqb-true a b t)) ∙ g.1
-
-spare_at : (z : Shape) (e : Event) (h : List Event) (b : ℕ) → Fits z h e → is (bucket_at z e) b ≡ true → (bucket_after z h b).holder ≡ needs e → (acts e (bucket_after z h b)).holder ≡ None → (acts e (bucket_after z h b)).spare ≡ None
-spare_at z (Freed p a c) h b f t g none = ap (λ x. (bucket_after z h x).spare) (sym (eqb-true a b t)) ∙ f.suits.1
-spare_at z (Took p a) h b f t g none = absurd (none-some p (sym none))
-spare_at z e h b f t g none = absurd (none-some (by e) (sym none ∙ g))
+no_spare : (o : Option ℕ) → ((m : ℕ) → o ≢ Some m) → o ≡ None
+no_spare None none = refl
+no_spare (Some m) none = absurd (none m refl)
 
 -- no overflow bucket waits under a bit that nobody has
 pub unspared : (z : Shape) (h : List Event) (b : ℕ) → IsLawful z h → (bucket_after z h b).holder ≡ None → (bucket_after z h b).spare ≡ None
-unspared z [] b l none = refl
-unspared z (e ∷ h) b l none = ⊎_elim
-    (λ t. let s = cond-true (is (bucket_at z e) b) (acts e (bucket_after z h b)) (bucket_after z h b) t in
-    ap (λ u. u.spare) s ∙ spare_at z e h b l.1 t (guard_at z h e b (bucket_at z e) l.1.guarded t) (ap (λ u. u.holder) (sym s) ∙ none))
-    (λ f. let s = cond-false (is (bucket_at z e) b) (acts e (bucket_after z h b)) (bucket_after z h b) f in
-    ap (λ u. u.spare) s ∙ unspared z h b l.0 (ap (λ u. u.holder) (sym s) ∙ none))
-    (cases_Bool (is (bucket_at z e) b))
+unspared z h b l none = no_spare (bucket_after z h b).spare (λ m is. let held = spare_held z h b m l is in none-some held.0 (sym none ∙ held.1))
 
 taken : (b : Board) (bucket found : ℕ) (own t : Bool) (p q : Pass) → eqb (found % 2) 0 ≡ t → own ≡ has_bit b p bucket → Stepped b (take bucket own) found p q → Takes b bucket t p q
 taken b bucket found own true p q t is s =
