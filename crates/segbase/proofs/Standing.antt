@@ -26,7 +26,7 @@ use Rattle.segcore.proofs.Standing.{coherent}
 use Rattle.segcore.proofs.StepKinds.{word_content, above}
 use Rattle.segbase.specs.Steps.{IsReadAs}
 
-some_tag : (key : List ℕ) → 1 ≤ tag_of key
+pub some_tag : (key : List ℕ) → 1 ≤ tag_of key
 some_tag key = le-max_right (hash_of key / 2 ^ 52) 1
 
 pub tag_of_word : (t f s r : ℕ) → f < 2 ^ 8 → s < 2 ^ 24 → r < 2 ^ 20 → packed t f s r / 2 ^ 52 ≡ t

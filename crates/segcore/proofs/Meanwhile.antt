@@ -38,7 +38,7 @@ pub is_pass : (z : Shape) (h : List Event) (p s : ℕ) → IsLawful z h → 0 < 
 is_pass z h p s l there = ⊎_elim (λ lt. lt) (λ le. let e = strangers z h p s l le in absurd (omega arith)) (cases_lt p z.passes)
 
 -- an event leaves the frequency of a linked row, or raises it
-one_rise : (z : Shape) (e : Event) (h : List Event) (s r : ℕ) (k : List ℕ) → IsLawful z (e ∷ h) → (row_after h s r).linked ≡ Some k → frequency_of h s r ≤ frequency_of (e ∷ h) s r
+pub one_rise : (z : Shape) (e : Event) (h : List Event) (s r : ℕ) (k : List ℕ) → IsLawful z (e ∷ h) → (row_after h s r).linked ≡ Some k → frequency_of h s r ≤ frequency_of (e ∷ h) s r
 one_rise z (Linked p q t i n) h s r k l on = ⊎_elim
     (λ y. let w = and_parts (eqb t s) (eqb i r) y in
     absurd (none-some k (sym l.1.suits.0.3 ∙ ((λ j. (row_after h (eqb-true t s w.0 j) (eqb-true i r w.1 j)).linked) ∙ on))))

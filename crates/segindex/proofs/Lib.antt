@@ -12,3 +12,9 @@ pub mod Locking
 pub mod Meeting
 pub mod Reading
 pub mod OnePass
+pub mod Items
+pub mod Places
+pub mod Searching
+pub mod Onward
+pub mod Rising
+pub mod Finding

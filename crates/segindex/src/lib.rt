@@ -2,6 +2,7 @@
 #![tactic(auto)]
 
 mod bucket;
+mod find;
 mod index;
 mod laws;
 mod meet;

@@ -1,0 +1,75 @@
+-- One turn of the search for a key's word: the word is looked at, and its row is read where it may be the key's.
+use Rattle.std.proofs.Common.{◌≡◌, ℕ, ◌+◌, ◌-◌, ◌*◌, ◌<◌, ◌≤◌, List, [], Option, Some, None, sym, ap, ◌∙◌, subst, inr, arith}
+use Rattle.segword.specs.SameItem.{IsSameItem}
+use Rattle.segmodel.specs.Places.{bucket_of}
+use Rattle.segcore.specs.Bucket.{bucket_after}
+use Rattle.segcore.specs.Kind.{HasBit}
+use Rattle.segcore.specs.Word.{word as word_at, IsItemAt}
+use Rattle.segbase.specs.declared.board.Board.{Board}
+use Rattle.segbase.specs.declared.pass.Pass.{Pass}
+use Rattle.segbase.specs.declared.place.Place.{Place}
+use Rattle.segbase.specs.Passes.{number, trace}
+use Rattle.segbase.specs.Spots.{cell_at, position}
+use Rattle.segbase.specs.Steps.{HasItemOf, IsReadAs}
+use Rattle.segstore.specs.Refilling.{Idles}
+use Rattle.segindex.specs.declared.find.Target.{Target}
+use Rattle.segindex.specs.Writing.{IsInChain, IsTarget, Updates, IsNext, Finds}
+use Rattle.segindex.proofs.Places.{idles_then, idle_bucket, idle_bit, same_position}
+use Rattle.segindex.proofs.Searching.{Searching, searching_later, reads_later, passes}
+use Rattle.segindex.proofs.Onward.{onward, ended}
+use Rattle.segindex.proofs.Rising.{word_rose}
+
+module _ (b : Board) (key : List ℕ) (first p q : Pass) (place : Place) (word : ℕ) (empty : Option Target) (s : Searching b key first p place empty)
+    (bit : HasBit b.shape (trace first) (number first) (bucket_of b.shape key)) (look : Idles b p q)
+    (tells : (bucket n : ℕ) → IsItemAt b.shape (trace q) bucket n (cell_at b.shape place) → IsReadAs ((bucket_after b.shape (trace q) bucket).items n) word) where
+  abbrev k : ℕ
+  k = bucket_of b.shape key
+
+  pub bit_before : HasBit b.shape (trace p) (number p) k
+  bit_before = idle_bit b first p k s.idles bit
+
+  pub bit_looked : HasBit b.shape (trace q) (number q) k
+  bit_looked = idle_bit b p q k look bit_before
+
+  looked : Searching b key first q place empty
+  looked = searching_later b key first p q look bit_before place empty s
+
+  pub chain_looked : IsInChain b k place q
+  chain_looked = looked.chain
+
+  pub reads_looked : IsReadAs ((bucket_after b.shape (trace q) k).items (position b.shape (trace q) place)) word
+  reads_looked = tells k (position b.shape (trace q) place) looked.chain.at
+
+  module _ (r : Pass) (read : Idles b q r) where
+    pub all_idle : Idles b first r
+    all_idle = idles_then b first q r looked.idles read
+
+    now : Searching b key first r place empty
+    now = searching_later b key first q r read bit_looked place empty looked
+
+    reads_now : IsReadAs ((bucket_after b.shape (trace r) k).items (position b.shape (trace r) place)) word
+    reads_now = reads_later b key first q r read bit_looked place word looked.chain reads_looked
+
+    -- it is the key's
+    pub is_target : HasItemOf b key place r → word ≡ word_at b.shape (trace q) (cell_at b.shape place) → IsTarget b key (record { place = place; word = word }) r
+    is_target has is =
+        let here = (λ t. (sym (idle_bucket b q r k read bit_looked) t).items (sym (same_position b [] q r k place read.moved looked.chain) t)) ∙ has.1 in
+        let rose = word_rose b [] q r k place read.moved bit_looked tt looked.chain has.0 looked.idles.moved.pass.valid looked.idles.moved.pass.lawful here in
+        record { chain = now.chain; is = inr (has, subst (λ w. IsSameItem w (word_at b.shape (trace r) (cell_at b.shape place)) × (w ≤ word_at b.shape (trace r) (cell_at b.shape place))) (sym is) rose) }
+
+    -- it isn't, and the chain goes on or ends
+    module _ (new : Option Target) (following : Option Place) (other : ¬ (HasItemOf b key place r)) (updates : Updates (record { place = place; word = word }) empty new) (next : IsNext b.shape place word following) where
+      pub go_on : (after : Place) → following ≡ Some after → Searching b key first r after new
+      go_on after same = (onward b key first r place word new (passes b key first r place word reads_now empty new now other updates) reads_now following after next same).0
+
+      pub smaller : (after : Place) → following ≡ Some after → 8 * (bucket_after b.shape (trace first) k).chained + 8 - position b.shape (trace r) after < 8 * (bucket_after b.shape (trace first) k).chained + 8 - position b.shape (trace p) place
+      smaller after same =
+          let on = onward b key first r place word new (passes b key first r place word reads_now empty new now other updates) reads_now following after next same in
+          let within = on.0.chain.at.0.0 in
+          let long : (bucket_after b.shape (trace r) k).chained ≡ (bucket_after b.shape (trace first) k).chained = ap (λ u. u.chained) (idle_bucket b first r k all_idle bit) in
+          let there = same_position b [] p q k place look.moved s.chain in
+          let still = same_position b [] q r k place read.moved looked.chain in
+          omega (arith, on.1, within, long, there, still)
+
+      pub finds : following ≡ None → Finds b key new r
+      finds same = ended b key first r place word new (passes b key first r place word reads_now empty new now other updates) reads_now following next same

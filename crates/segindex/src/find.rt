@@ -1,0 +1,109 @@
+//! The word of a key's chain that a write changes, found under the bucket's bit by one pass over the chain.
+ghost use Rattle.std.specs.Prelude.{◌≡◌, ◌≤◌, ◌<◌, ◌↔◌, IsTrue};
+ghost use Rattle.segmodel.specs.Places.{bucket_of, tag_of};
+ghost use Rattle.segcore.specs.Bucket.{bucket_after};
+ghost use Rattle.segcore.specs.Kind.{HasBit};
+
+use crate::index::Index;
+use segbase::{Pass, Place};
+use segword::{Chain, Item, KeyWords};
+
+/// A word of a chain, and what stood there: the item of a key, or 0 where the key is absent and the word is free for it.
+#[derive(Clone, Copy, Drop)]
+pub(crate) struct Target {
+    pub(crate) place: Place,
+    pub(crate) word: u64,
+}
+
+impl Target {
+    ghost use Rattle.segindex.specs.Writing.{Updates};
+
+    // The first empty word, of an earlier one and this.
+    fn or_earlier(self, earlier: Option<Target>) -> Option<Target>
+        ensures { Updates self earlier result }
+    {
+        if self.word == 0 && earlier.is_none() {
+            Some(self)
+        } else {
+            earlier
+        }
+    }
+}
+
+impl Index {
+    ghost use Rattle.segword.specs.Shape.{IsValid};
+    ghost use Rattle.segbase.specs.Passes.{number, trace, IsPassOf};
+    ghost use Rattle.segbase.specs.Spots.{position};
+    ghost use Rattle.segbase.specs.Steps.{IsReadAs, HasItemOf};
+    ghost use Rattle.segstore.specs.Refilling.{Idles};
+    ghost use Rattle.segindex.specs.Index.{board_of, shape_of};
+    ghost use Rattle.segindex.specs.Writing.{IsInChain, IsNext, Finds};
+
+    // The key's word; or the first empty one, where the key is absent; or neither.
+    pub(crate) fn find(
+        &self,
+        pass: &mut Pass,
+        bucket: u32,
+        key: &KeyWords,
+        tag: u16,
+    ) -> Option<Target>
+        requires pass { IsPassOf (board_of self.now) pass.old }
+        requires bucket { bucket ≡ bucket_of (shape_of self.now) key.now }
+        requires tag { tag ≡ tag_of key.now }
+        requires bit { HasBit (shape_of self.now) (trace pass.old) (number pass.old) bucket }
+        ensures idles { Idles (board_of self.now) pass.old pass.new }
+        ensures finds { Finds (board_of self.now) key.now result pass.new }
+    {
+        let mut place = Place { bucket, word: 1 };
+        let mut empty = None;
+        loop {
+            let word = self.board.look(pass, place);
+            let target = Target { place, word };
+            if self.is_item_of(pass, place, word, key, tag) {
+                return Some(target);
+            }
+            empty = target.or_earlier(empty);
+            match self.next_place(place, word) {
+                Some(next) => place = next,
+                None => return empty,
+            }
+        }
+    }
+
+    // Whether a word that the pass reads under the bit is that of an item of the key.
+    fn is_item_of(&self, pass: &mut Pass, place: Place, word: u64, key: &KeyWords, tag: u16) -> bool
+        requires pass { IsPassOf (board_of self.now) pass.old }
+        requires tag { tag ≡ tag_of key.now }
+        requires chain { IsInChain (board_of self.now) (bucket_of (shape_of self.now) key.now) place pass.old }
+        requires bit { HasBit (shape_of self.now) (trace pass.old) (number pass.old) (bucket_of (shape_of self.now) key.now) }
+        requires word { IsReadAs ((bucket_after (shape_of self.now) (trace pass.old) (bucket_of (shape_of self.now) key.now)).items (position (shape_of self.now) (trace pass.old) place)) word }
+        ensures idles { Idles (board_of self.now) pass.old pass.new }
+        ensures is { IsTrue result ↔ HasItemOf (board_of self.now) key.now place pass.new }
+    {
+        match Item::unpack(word) {
+            Some(item) if item.tag == tag => {
+                segstore::row_of_key(&self.board, pass, item.seg, item.row, key).is_some()
+            }
+            _ => false,
+        }
+    }
+
+    // The place that comes next along the chain of a place with this word, if one does.
+    fn next_place(&self, place: Place, word: u64) -> Option<Place>
+        requires valid { IsValid (shape_of self.now) }
+        requires word { place.word ≤ 7 }
+        ensures { IsNext (shape_of self.now) place word result }
+    {
+        if place.word < 7 {
+            return Some(Place {
+                word: place.word + 1,
+                ..place
+            });
+        }
+        let number = Chain::unpack(word)?;
+        Some(Place {
+            bucket: self.board.shape().buckets + number,
+            word: 1,
+        })
+    }
+}
