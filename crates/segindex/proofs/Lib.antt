@@ -18,3 +18,5 @@ pub mod Searching
 pub mod Onward
 pub mod Rising
 pub mod Finding
+pub mod Tries
+pub mod Scans

@@ -4,3 +4,4 @@ pub mod Taking
 pub mod Writing
 pub mod Calls
 pub mod Answers
+pub mod Scanning

@@ -5,6 +5,7 @@ mod bucket;
 mod find;
 mod index;
 mod laws;
+mod scan;
 mod meet;
 mod segment;
 

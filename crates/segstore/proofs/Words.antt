@@ -67,39 +67,64 @@ chained_later z h g place l s c =
 
 -- ---- the item of a place
 
--- where the word has a tag it is that of a key that stands
-pub stood_item : (z : Shape) (h : List Event) (place : Place) (w : ℕ) → IsValid z → IsLawful z h → IsChained z h place → word_at z h place ≡ w → 1 ≤ w / 2 ^ 52 → (key : List ℕ) × (value : List ℕ) × WasLinked z place w key value h
-stood_item z h place w v l c is tag =
+-- where the word has a tag it names a row
+pub record NamesIn (z : Shape) (h : List Event) (place : Place) (w : ℕ) : Type 0 where
+  pub tag : ℕ
+  pub segment : ℕ
+  pub row : ℕ
+  pub names : Names z h (home_bucket z h place) (position z h place) (cell_at z place) tag segment row
+  pub is_tag : w / 2 ^ 52 ≡ tag
+  pub is_segment : segment_part w ≡ segment
+  pub is_row : row_part w ≡ row
+
+named : (z : Shape) (h : List Event) (place : Place) (w t s r : ℕ) → IsValid z → word_at z h place ≡ w → Names z h (home_bucket z h place) (position z h place) (cell_at z place) t s r → NamesIn z h place w
+named z h place w t s r v is x =
+    let ls = low_segment z s v x.in_segment.0 in let lr = low_row z r v x.in_segment.1 in record {
+      tag = t;
+      segment = s;
+      row = r;
+      names = x;
+      is_tag = ap (λ m. m / 2 ^ 52) (sym is ∙ x.reads) ∙ tag_of_word t x.frequency s r x.small ls lr;
+      is_segment = ap segment_part (sym is ∙ x.reads) ∙ segment_of_packed t x.frequency s r ls lr;
+      is_row = ap row_part (sym is ∙ x.reads) ∙ row_of_packed t x.frequency s r lr;
+    }
+
+pub names_in : (z : Shape) (h : List Event) (place : Place) (w : ℕ) → IsValid z → IsLawful z h → IsChained z h place → word_at z h place ≡ w → 1 ≤ w / 2 ^ 52 → NamesIn z h place w
+names_in z h place w v l c is tag =
     let b = home_bucket z h place in let n = position z h place in let cell = cell_at z place in
     ⊎_elim
     (λ none. absurd (omega arith))
     (λ x. ⊎_elim
     (λ (on : ChainsOn z h b n cell). let few = few_drawn z v in let most = on.in_table in let reads = on.reads in absurd (omega arith))
-    (λ (of : IsOfKey z h b n cell). named (tag_of of.key) of.segment of.row of.names)
+    (λ (of : IsOfKey z h b n cell). named z h place w (tag_of of.key) of.segment of.row v is of.names)
     x)
     ((says_of_keys z h v l).readings b n cell (item_home z h b n place l c.at) c.at)
+
+-- and is that of a key that stands
+pub stood_item : (z : Shape) (h : List Event) (place : Place) (w : ℕ) → IsValid z → IsLawful z h → IsChained z h place → word_at z h place ≡ w → 1 ≤ w / 2 ^ 52 → (key : List ℕ) × (value : List ℕ) × WasLinked z place w key value h
+stood_item z h place w v l c is tag =
+    let x = names_in z h place w v l c is tag in
+    let b = home_bucket z h place in let n = position z h place in
+    let i = named_at z h b n (cell_at z place) x.tag x.segment x.row v l x.names in
+    let st = (coherent z h l).items b n i.slot i.here in
+    let es : segment_part w ≡ i.slot.segment = x.is_segment ∙ sym i.segment in
+    let er : row_part w ≡ i.slot.row = x.is_row ∙ sym i.row in
+    (i.slot.key, st.value, record {
+      lawful = l;
+      chained = c;
+      stood = is;
+      tag = x.is_tag ∙ sym i.tag;
+      here = (st.here, (i.slot, rw st.here i.here, refl));
+      valid = st.valid;
+      stands = rw es st.stands;
+      in_segment = rw (es, er) st.within;
+      linked = rw (es, er) st.linked;
+      holds = rw (es, er) st.holds;
+    })
+
+-- words with the parts of one item are of one item
+pub same_parts : (v w : ℕ) → 1 ≤ v / 2 ^ 52 → v / 2 ^ 52 ≡ w / 2 ^ 52 → segment_part v ≡ segment_part w → row_part v ≡ row_part w → IsSameItem v w
+same_parts v w low t s r = (low, t, place_from v ∙ ((λ i. s i * 2 ^ 20 + r i) ∙ sym (place_from w)))
   where
-    named : (t s r : ℕ) → Names z h (home_bucket z h place) (position z h place) (cell_at z place) t s r → (key : List ℕ) × (value : List ℕ) × WasLinked z place w key value h
-    named t s r x =
-        let b = home_bucket z h place in let n = position z h place in
-        let i = named_at z h b n (cell_at z place) t s r v l x in
-        let st = (coherent z h l).items b n i.slot i.here in
-        let ls = low_segment z s v x.in_segment.0 in let lr = low_row z r v x.in_segment.1 in
-        let es : segment_part w ≡ i.slot.segment = ap segment_part (sym is ∙ x.reads) ∙ (segment_of_packed t x.frequency s r ls lr ∙ sym i.segment) in
-        let er : row_part w ≡ i.slot.row = ap row_part (sym is ∙ x.reads) ∙ (row_of_packed t x.frequency s r lr ∙ sym i.row) in
-        let et : w / 2 ^ 52 ≡ t = ap (λ m. m / 2 ^ 52) (sym is ∙ x.reads) ∙ tag_of_word t x.frequency s r x.small ls lr in (
-          i.slot.key,
-          st.value,
-          record {
-            lawful = l;
-            chained = c;
-            stood = is;
-            tag = et ∙ sym i.tag;
-            here = (st.here, (i.slot, rw st.here i.here, refl));
-            valid = st.valid;
-            stands = rw es st.stands;
-            in_segment = rw (es, er) st.within;
-            linked = rw (es, er) st.linked;
-            holds = rw (es, er) st.holds;
-          },
-        )
+    place_from : (n : ℕ) → n % 2 ^ 44 ≡ n / 2 ^ 20 % 2 ^ 24 * 2 ^ 20 + n % 2 ^ 20
+    place_from n = omega arith

@@ -1,0 +1,58 @@
+use Rattle.std.proofs.Common.{◌≡◌, ◌+◌, ◌*◌, ◌<◌, [], refl, ap, arith}
+use Rattle.std.proofs.lemmas.Bool.{false≢true}
+use Rattle.segword.specs.declared.shape.Shape.{Shape}
+use Rattle.segword.specs.ItemWord.{item_word}
+use Rattle.segbase.specs.Passes.{trace}
+use Rattle.segbase.proofs.Moves.{moved_on}
+use Rattle.segcore.proofs.Searches.{key_first}
+use Rattle.segstore.proofs.Readers.{stays, reader_then, enter_then}
+use Rattle.segindex.proofs.Tries.{counts_none, counts_then, found_from}
+use Rattle.segindex.proofs.Scans.{first_bucket, bucket_of_depth, goes_on, ends, deep_enough}
+use Rattle.segindex.proofs.scan.scan_chain.Goals as goal
+
+pub loop-depth-init : goal.loop-depth-init
+loop-depth-init c = let b = c.args.board.now in let h = trace c.args.pass.now in record {
+  reads = stays b c.args.pass.now c.requires.pass;
+  few = omega arith;
+  counted = counts_none b.shape c.args.key.now 0 h h ([], refl);
+  bucket = first_bucket b.shape c.args.key.now c.args.bucket h c.requires.pass.valid c.requires.bucket;
+  ahead = key_first b.shape c.args.key.now h c.requires.pass.lawful;
+}
+
+pub visit_bucket-requires-clause-bucket : goal.visit_bucket-requires-clause-bucket
+visit_bucket-requires-clause-bucket c = bucket_of_depth c.args.board.now.shape c.args.key.now c.loop-depth.depth c.loop-depth.bucket (trace c.loop-depth.pass) c.loop-depth.invariant.bucket
+
+pub returns-in-Found-clause-reads : goal.returns-in-Found-clause-reads
+returns-in-Found-clause-reads c = enter_then c.args.board.now c.args.pass.now c.loop-depth.pass c.visit_bucket.new.pass c.in-Found.item.seg c.loop-depth.invariant.reads c.in-Found.ensures.reads
+
+pub returns-in-Found-clause-scan : goal.returns-in-Found-clause-scan
+returns-in-Found-clause-scan c = let b = c.args.board.now in
+    found_from b.shape c.in-Found.place (item_word c.in-Found.item) c.args.key.now c.in-Found.value (trace c.loop-depth.pass) (trace c.visit_bucket.new.pass) (trace c.args.pass.now) (moved_on b _ c.args.pass.now c.loop-depth.pass c.loop-depth.invariant.reads.reads.moved) c.in-Found.ensures.way
+
+pub returns-in_default-clause-reads : goal.returns-in_default-clause-reads
+returns-in_default-clause-reads c = reader_then c.args.board.now c.args.pass.now c.loop-depth.pass c.visit_bucket.new.pass c.loop-depth.invariant.reads c.in-Passed.ensures.reads
+
+pub returns-in_default-clause-scan : goal.returns-in_default-clause-scan
+returns-in_default-clause-scan c = let b = c.args.board.now in let i = c.loop-depth.invariant in let x = c.in-Passed.ensures in
+    ends b.shape c.args.key.now c.loop-depth.depth c.loop-depth.bucket c.in-Passed.word (trace c.args.pass.now) (trace c.loop-depth.pass) (trace c.visit_bucket.new.pass) c.requires.pass.valid (moved_on b _ c.args.pass.now c.loop-depth.pass i.reads.reads.moved) i.bucket i.ahead x.way.2
+    (λ is. false≢true (c.in_default.ensures.variant.1 is))
+
+pub returns-in-Busy-clause-reads : goal.returns-in-Busy-clause-reads
+returns-in-Busy-clause-reads c = reader_then c.args.board.now c.args.pass.now c.loop-depth.pass c.visit_bucket.new.pass c.loop-depth.invariant.reads c.in-Busy.ensures.reads
+
+pub loop-depth-preserved : goal.loop-depth-preserved
+loop-depth-preserved c = let b = c.args.board.now in let i = c.loop-depth.invariant in let x = c.in-Passed.ensures in let h = trace c.args.pass.now in let g = trace c.loop-depth.pass in let f = trace c.visit_bucket.new.pass in
+    let is : c.shape.result.buckets ≡ b.shape.buckets = ap (λ (z : Shape). z.buckets) c.shape.ensures in
+    let few : c.in-Some.number < 65536 = let e = c.in-Some.ensures.some in let w = (c.in-Some.ensures.variant.0 refl).1 in omega arith in
+    let on = goes_on b.shape c.args.key.now c.loop-depth.depth c.loop-depth.bucket c.in-Passed.word h g f c.requires.pass.valid (moved_on b _ c.args.pass.now c.loop-depth.pass i.reads.reads.moved) i.bucket i.ahead x.way.2
+    c.in-Some.number c.in-Some.ensures.some few x.reads.reads.moved.pass.lawful in record {
+      reads = reader_then b c.args.pass.now c.loop-depth.pass c.visit_bucket.new.pass i.reads x.reads;
+      few = x.way.0;
+      counted = counts_then b.shape c.args.key.now 0 c.loop-depth.tries c.in-Passed.counted h g f i.counted x.way.1;
+      bucket = rw is on.0;
+      ahead = on.1;
+    }
+
+pub returns-clause-scan : goal.returns-clause-scan
+returns-clause-scan c = let b = c.args.board.now in let deep = deep_enough b.shape c.args.key.now c.loop-depth.depth c.loop-depth.bucket (trace c.loop-depth.pass) c.loop-depth.invariant.reads.reads.moved.pass.lawful c.loop-depth.invariant.bucket in
+    let over = c.loop-depth-test.false in absurd (omega arith)
