@@ -20,3 +20,4 @@ pub mod Rising
 pub mod Finding
 pub mod Tries
 pub mod Scans
+pub mod Gets

@@ -1,15 +1,13 @@
 -- Visits to the words of a chain in turn, and to its buckets in turn.
-use Rattle.std.proofs.Common.{◌≡◌, ◌≢◌, ℕ, ◌+◌, ◌-◌, ◌*◌, ◌/◌, ◌%◌, ◌^◌, ◌<◌, ◌≤◌, Bool, true, false, cond, ltb, ◌⊎◌, List, [], ◌++◌, Option, Some, None, refl, sym, ap, ◌∙◌, subst, inl, inr, ⊎_elim, arith}
+use Rattle.std.proofs.Common.{◌≡◌, ◌≢◌, ℕ, ◌+◌, ◌-◌, ◌*◌, ◌%◌, ◌^◌, ◌<◌, ◌≤◌, Bool, true, false, cond, ltb, ◌⊎◌, List, [], Some, refl, sym, ap, ◌∙◌, subst, inl, inr, ⊎_elim, arith}
 use Rattle.std.proofs.lemmas.Bool.{cases_lt, lt-ltb, le-ltb}
 use Rattle.segword.specs.declared.shape.Shape.{Shape}
-use Rattle.segword.specs.declared.item.Item.{Item}
 use Rattle.segword.specs.Shape.{IsValid}
 use Rattle.segword.specs.ItemWord.{item_word}
 use Rattle.segword.specs.ChainWord.{chain_word, IsChainWord}
 use Rattle.segmodel.specs.Places.{bucket_of}
 use Rattle.segmodel.specs.History.{Begins}
 use Rattle.segcore.specs.declared.event.Event.{Event}
-use Rattle.segcore.specs.declared.cell.Cell.{Cell}
 use Rattle.segcore.specs.declared.cell.Cell.TheVariants.{OfBucket, OfOverflow}
 use Rattle.segcore.specs.Bucket.{bucket_after}
 use Rattle.segcore.specs.Overflow.{home, home_of}
@@ -25,15 +23,15 @@ use Rattle.segcore.proofs.Searches.{key_later, key_skipped, key_ended}
 use Rattle.segbase.specs.declared.board.Board.{Board}
 use Rattle.segbase.specs.declared.pass.Pass.{Pass}
 use Rattle.segbase.specs.declared.place.Place.{Place}
-use Rattle.segbase.specs.Spots.{IsPlace, cell_at, position, home_bucket, depth_of}
+use Rattle.segbase.specs.Spots.{cell_at, position, depth_of}
 use Rattle.segstore.specs.Reading.{IsReader}
-use Rattle.segstore.specs.Linked.{word_at, IsChained}
+use Rattle.segstore.specs.Linked.{word_at}
 use Rattle.segstore.proofs.Words.{at_place}
 use Rattle.segstore.proofs.Readers.{reader_then, enter_then}
 use Rattle.segindex.specs.declared.scan.Way.{Way}
 use Rattle.segindex.specs.declared.scan.Way.TheVariants.{Found, Passed, Busy}
 use Rattle.segindex.specs.Scanning.{bucket_depth, place_of, IsPlaceOf, IsBucketAt, IsBucketOf, IsOnWay, Counts, Brings, HasPassed, IsWay}
-use Rattle.segindex.proofs.Tries.{found_from, word_wider, counts_then, counts_later}
+use Rattle.segindex.proofs.Tries.{found_from, word_wider, counts_then}
 
 -- ---- buckets of a chain
 
@@ -55,31 +53,36 @@ bucket_of_depth z key depth bucket h of = subst (λ d. IsBucketAt z h key d buck
 pub place_in : (z : Shape) (key : List ℕ) (depth bucket w : ℕ) (h : List Event) → IsBucketAt z h key depth bucket → 0 < w → w < 8 → IsPlaceOf z h key (place_of bucket w) × (position z h (place_of bucket w) ≡ 8 * depth + w)
 place_in z key depth bucket w h of low high =
     let x = of w low high in let place = place_of bucket w in
-    let e = at_place z h (bucket_of z key) (8 * depth + w) place x.1.1 in ((
-      record {
-        in_table = x.0;
-        at = subst (λ b. IsItemAt z h b (position z h place) (cell_at z place)) (sym e.0) (subst (λ n. IsItemAt z h (bucket_of z key) n (cell_at z place)) (sym e.1) x.1);
-      },
-      e.0,
-    ), e.1)
+    let e = at_place z h (bucket_of z key) (8 * depth + w) place x.1.1 in (
+      (
+        record {
+          in_table = x.0;
+          at = subst (λ b. IsItemAt z h b (position z h place) (cell_at z place)) (sym e.0) (subst (λ n. IsItemAt z h (bucket_of z key) n (cell_at z place)) (sym e.1) x.1);
+        },
+        e.0,
+      ),
+      e.1,
+    )
 
 -- the bucket that the chain begins with
 pub first_bucket : (z : Shape) (key : List ℕ) (bucket : ℕ) (h : List Event) → IsValid z → bucket ≡ bucket_of z key → IsBucketAt z h key 0 bucket
 first_bucket z key bucket h v is w low high =
     let lt = bucket_in z key v in
     let t : ltb bucket z.buckets ≡ true = let lt' : bucket < z.buckets = omega arith in lt-ltb bucket z.buckets lt' in
-    let e : w ≡ 8 * 0 + w = omega arith in
-    (((let a : bucket < z.buckets + z.overflow = omega arith in a), low, high),
-    (((let a : 8 * 0 + w < 8 * (bucket_after z h (bucket_of z key)).chained + 8 = omega arith in a), (let a : 0 < (8 * 0 + w) % 8 = omega arith in a)), rw t (is, e, high)))
+    let e : w ≡ 8 * 0 + w = omega arith in (
+      ((let a : bucket < z.buckets + z.overflow = omega arith in a), low, high),
+      (((let a : 8 * 0 + w < 8 * (bucket_after z h (bucket_of z key)).chained + 8 = omega arith in a), (let a : 0 < (8 * 0 + w) % 8 = omega arith in a)), rw t (is, e, high)),
+    )
 
 -- and the one that a chain word leads to
 pub next_bucket : (z : Shape) (key : List ℕ) (depth number : ℕ) (h : List Event) → number < z.overflow → depth < (bucket_after z h (bucket_of z key)).chained → home_of h number ≡ Some (home (bucket_of z key) (depth + 1))
     → IsBucketAt z h key (depth + 1) (z.buckets + number)
 next_bucket z key depth number h few in' of w low high =
     let t : ltb (z.buckets + number) z.buckets ≡ false = le-ltb (z.buckets + number) z.buckets (omega arith) in
-    let e : z.buckets + number - z.buckets ≡ number = omega arith in
-    (((let a : z.buckets + number < z.buckets + z.overflow = omega arith in a), low, high),
-    (((let a : 8 * (depth + 1) + w < 8 * (bucket_after z h (bucket_of z key)).chained + 8 = omega arith in a), (let a : 0 < (8 * (depth + 1) + w) % 8 = omega arith in a)), rw (t, e) (depth + 1, of, refl, high)))
+    let e : z.buckets + number - z.buckets ≡ number = omega arith in (
+      ((let a : z.buckets + number < z.buckets + z.overflow = omega arith in a), low, high),
+      (((let a : 8 * (depth + 1) + w < 8 * (bucket_after z h (bucket_of z key)).chained + 8 = omega arith in a), (let a : 0 < (8 * (depth + 1) + w) % 8 = omega arith in a)), rw (t, e) (depth + 1, of, refl, high)),
+    )
 
 -- ---- one visit after another
 
@@ -160,14 +163,14 @@ module _ (z : Shape) (key : List ℕ) (depth bucket w : ℕ) (h g f : List Event
   pub ends : ¬ (IsChainWord w) → WasGone (KeyGone z key) h f
   ends none =
       let out : (word_at z p.last.at (place_of bucket 7) ≡ 0) ⊎ (2 ^ 52 ≤ word_at z p.last.at (place_of bucket 7)) = ⊎_elim
-          (λ lt. ⊎_elim
-          (λ low. let on = leads_on z p.last.at (bucket_of z key) depth (cell_at z (place_of bucket 7)) v p.last.lawful (bucket_in z key v) here low lt in
-          let most = few_drawn z v in let few = on.1.3 in let is : chain_word on.1.0 ≡ w = sym on.1.1 ∙ p.last.stood in
-          absurd (none ((let a : 1 ≤ w = omega arith in a), (let a : w ≤ 65536 = omega arith in a))))
-          (λ le. inl (let a : word_at z p.last.at (place_of bucket 7) ≡ 0 = omega arith in a))
-          (cases_lt 0 (word_at z p.last.at (place_of bucket 7))))
-          (λ le. inr le)
-          (cases_lt (word_at z p.last.at (place_of bucket 7)) (2 ^ 52)) in
+      (λ lt. ⊎_elim
+      (λ low. let on = leads_on z p.last.at (bucket_of z key) depth (cell_at z (place_of bucket 7)) v p.last.lawful (bucket_in z key v) here low lt in
+      let most = few_drawn z v in let few = on.1.3 in let is : chain_word on.1.0 ≡ w = sym on.1.1 ∙ p.last.stood in
+      absurd (none ((let a : 1 ≤ w = omega arith in a), (let a : w ≤ 65536 = omega arith in a))))
+      (λ le. inl (let a : word_at z p.last.at (place_of bucket 7) ≡ 0 = omega arith in a))
+      (cases_lt 0 (word_at z p.last.at (place_of bucket 7))))
+      (λ le. inr le)
+      (cases_lt (word_at z p.last.at (place_of bucket 7)) (2 ^ 52)) in
       let le = ends_there z p.last.at (bucket_of z key) depth (cell_at z (place_of bucket 7)) v p.last.lawful here.1 out in
       let gone = key_ended z key depth h p.last.at p.last.lawful le passed in
       (gone.0, gone.1, begins_on gone.0 p.last.at f gone.2 p.last.between.1, gone.3)

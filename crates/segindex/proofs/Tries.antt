@@ -1,6 +1,6 @@
 -- What a reader's looks at a word of the key's chain come to, and what its tries add up to.
-use Rattle.std.proofs.Common.{◌≡◌, ◌≢◌, ℕ, ◌+◌, ◌*◌, ◌/◌, ◌%◌, ◌^◌, ◌<◌, ◌≤◌, Bool, true, false, cond, eqb, ◌&&◌, ◌||◌, List, [], ◌∷◌, ◌++◌, Option, Some, None, refl, sym, ap, ◌∙◌, subst, ⊎_elim, arith}
-use Rattle.std.proofs.lemmas.Bool.{cases_Bool, cond-true, cond-false}
+use Rattle.std.proofs.Common.{◌≡◌, ◌≢◌, ℕ, ◌+◌, ◌/◌, ◌^◌, ◌<◌, ◌≤◌, Bool, true, false, cond, eqb, ◌&&◌, ◌||◌, List, [], ◌∷◌, Some, None, refl, sym, ap, ◌∙◌, subst, arith}
+use Rattle.std.proofs.lemmas.Bool.{cond-false}
 use Rattle.std.proofs.lemmas.Option.{none-some}
 use Rattle.segword.specs.declared.shape.Shape.{Shape}
 use Rattle.segword.specs.declared.item.Item.{Item}
@@ -8,7 +8,7 @@ use Rattle.segword.specs.Shape.{IsValid}
 use Rattle.segword.specs.ItemWord.{item_word}
 use Rattle.segword.specs.SameItem.{IsSameItem}
 use Rattle.segmodel.specs.Places.{bucket_of, tag_of}
-use Rattle.segmodel.specs.History.{Begins, IsBetween, entries_of}
+use Rattle.segmodel.specs.History.{Begins, entries_of}
 use Rattle.segcore.specs.declared.event.Event.{Event}
 use Rattle.segcore.specs.declared.event.Event.TheVariants.{Filled, Linked, Refilled}
 use Rattle.segcore.specs.Event.{seen}
@@ -16,7 +16,7 @@ use Rattle.segcore.specs.Bucket.{bucket_after}
 use Rattle.segcore.specs.Bucket as buckets
 use Rattle.segcore.specs.Word.{IsAt}
 use Rattle.segcore.specs.Standing.{Names}
-use Rattle.segcore.specs.Row.{Row, row_at, writes_row, row_after}
+use Rattle.segcore.specs.Row.{Row, writes_row, row_after}
 use Rattle.segcore.specs.Segment.{inside, was_used}
 use Rattle.segcore.specs.Lawful.{IsLawful}
 use Rattle.segcore.specs.Search.{KeyAt}
@@ -35,14 +35,13 @@ use Rattle.segbase.specs.Spots.{cell_at, position, home_bucket}
 use Rattle.segbase.specs.Passes.{Did}
 use Rattle.segbase.proofs.Standing.{tag_of_word}
 use Rattle.segbase.proofs.Moves.{moved_on}
-use Rattle.segstore.specs.Reading.{IsReader, IsReaderIn, Leaves}
-use Rattle.segstore.specs.Linked.{segment_part, word_at, IsChained, WasLinked, SawItem, FoundItem, SawWord, IsKeyed}
+use Rattle.segstore.specs.Reading.{IsReader}
+use Rattle.segstore.specs.Linked.{segment_part, word_at, IsChained, SawItem, FoundItem, SawWord, IsKeyed}
 use Rattle.segstore.specs.declared.read.Keyed.{Keyed}
 use Rattle.segstore.specs.declared.read.Keyed.TheVariants.{Same, Other, Changed}
 use Rattle.segstore.proofs.Words.{same_place, chained_later, names_in, stood_item, same_parts}
 use Rattle.segstore.proofs.Seconds.{segment_of_item}
-use Rattle.segstore.proofs.Readers.{leave_then}
-use Rattle.segindex.specs.Scanning.{IsPlaceOf, MayEnterAny, IsTrial, Counts, Brings, HasPassed}
+use Rattle.segindex.specs.Scanning.{IsPlaceOf, MayEnterAny, IsTrial, Counts, HasPassed}
 
 -- ---- seen between wider moments
 

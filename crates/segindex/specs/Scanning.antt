@@ -1,15 +1,13 @@
 -- A reader's way along the chain of a key, without the bucket's bit: what its looks found, and how many tries it counted.
 use Rattle.std.specs.Prelude.{◌≡◌, ℕ, ◌+◌, ◌-◌, ◌*◌, ◌<◌, ◌≤◌, nat_lt, List, if◌then◌else◌}
 use Rattle.segword.specs.declared.shape.Shape.{Shape}
-use Rattle.segword.specs.declared.item.Item.{Item}
 use Rattle.segword.specs.ItemWord.{item_word}
 use Rattle.segmodel.specs.Places.{bucket_of}
-use Rattle.segmodel.specs.History.{Begins, IsBetween, entries_of}
+use Rattle.segmodel.specs.History.{Begins, entries_of}
 use Rattle.segcore.specs.declared.event.Event.{Event}
 use Rattle.segcore.specs.Event.{seen}
 use Rattle.segcore.specs.Overflow.{home_of}
 use Rattle.segcore.specs.Segment.{inside}
-use Rattle.segcore.specs.Lawful.{IsLawful}
 use Rattle.segcore.specs.Word.{IsItemAt}
 use Rattle.segcore.specs.Ahead.{WasGone}
 use Rattle.segcore.specs.Search.{KeyGone, KeyAhead}
@@ -17,9 +15,9 @@ use Rattle.segbase.specs.declared.board.Board.{Board}
 use Rattle.segbase.specs.declared.pass.Pass.{Pass}
 use Rattle.segbase.specs.declared.place.Place.{Place}
 use Rattle.segbase.specs.Passes.{number, trace}
-use Rattle.segbase.specs.Spots.{IsPlace, cell_at, position, home_bucket, depth_of}
+use Rattle.segbase.specs.Spots.{IsPlace, cell_at, home_bucket, depth_of}
 use Rattle.segstore.specs.Reading.{IsReader, IsReaderIn}
-use Rattle.segstore.specs.Linked.{IsChained, word_at, SawWord, FoundItem}
+use Rattle.segstore.specs.Linked.{IsChained, SawWord, FoundItem}
 use Rattle.segstore.specs.declared.read.Keyed.{Keyed}
 use Rattle.segstore.specs.declared.read.Keyed.TheVariants as keyed
 use Rattle.segindex.specs.declared.scan.Way.{Way}

@@ -3,10 +3,11 @@
 
 mod bucket;
 mod find;
+mod get;
 mod index;
 mod laws;
-mod scan;
 mod meet;
+mod scan;
 mod segment;
 
 pub use bucket::LockAnswer;

@@ -8,9 +8,10 @@ ghost use Rattle.segbase.specs.Spots.{position};
 ghost use Rattle.segstore.specs.Linked.{IsChained, IsKeyed};
 ghost use Rattle.segindex.specs.Scanning.{bucket_depth, place_of, IsPlaceOf, IsBucketOf, MayEnterAny, IsTrial, IsOnWay, IsScanner, IsWay, IsScan};
 
+use crate::index::Index;
 use segbase::{Board, Pass, Place};
 use segstore::{Keyed, enter_segment, leave_segment, read_keyed};
-use segword::{Chain, Item, KeyWords, Value};
+use segword::{Chain, Item, Key, KeyWords, Value, bucket_of, hash, tag_of};
 
 // How far looks at words of a chain came.
 #[derive(Drop)]
@@ -49,13 +50,7 @@ fn item_of_tag(word: u64, tag: u16) -> Option<Item>
 }
 
 // Comes into the segment of an item that was seen, and looks a second time. The pass stays there where the item is the key's.
-fn try_item(
-    board: &Board,
-    pass: &mut Pass,
-    place: Place,
-    item: Item,
-    key: &KeyWords,
-) -> Keyed
+fn try_item(board: &Board, pass: &mut Pass, place: Place, item: Item, key: &KeyWords) -> Keyed
     requires pass { IsPassOf board.now pass.old }
     requires place { IsChained board.now.shape (trace pass.old) place }
     requires may { May board.now.shape (trace pass.old) (number pass.old) (enter item.seg) }
@@ -164,4 +159,22 @@ pub(crate) fn scan_chain(
         }
     }
     Scan::Absent
+}
+
+impl Index {
+    ghost use Rattle.segbase.specs.Passes.{trace};
+    ghost use Rattle.segindex.specs.Index.{board_of, shape_of};
+    ghost use Rattle.segindex.specs.Quiet.{IsQuiet};
+    ghost use Rattle.segindex.specs.Scanning.{IsScanner, IsScan};
+
+    // Looks for a key, whose hash and words are made here, once a call.
+    pub(crate) fn find(&self, pass: &mut Pass, key: &Key) -> Scan
+        requires pass { IsQuiet (board_of self.now) pass.old }
+        ensures reads { IsScanner (board_of self.now) result pass.old pass.new }
+        ensures scan { IsScan (shape_of self.now) key.now result (trace pass.old) (trace pass.new) }
+    {
+        let hash = hash(key);
+        let bucket = bucket_of(hash, self.board.shape().buckets);
+        scan_chain(&self.board, pass, bucket, &KeyWords::new(key), tag_of(hash))
+    }
 }

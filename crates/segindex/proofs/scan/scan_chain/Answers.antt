@@ -1,4 +1,4 @@
-use Rattle.std.proofs.Common.{◌≡◌, ◌+◌, ◌*◌, ◌<◌, [], refl, ap, arith}
+use Rattle.std.proofs.Common.{◌≡◌, ◌<◌, [], refl, ap, arith}
 use Rattle.std.proofs.lemmas.Bool.{false≢true}
 use Rattle.segword.specs.declared.shape.Shape.{Shape}
 use Rattle.segword.specs.ItemWord.{item_word}

@@ -1,8 +1,8 @@
-use Rattle.std.proofs.Common.{sym, subst, refl, ◌∙◌, ◌<◌, ap}
+use Rattle.std.proofs.Common.{sym, subst, refl, ◌∙◌}
 use Rattle.segword.specs.ItemWord.{item_word}
 use Rattle.segword.specs.SameItem.{IsSameItem}
 use Rattle.segstore.specs.Linked.{IsKeyed}
-use Rattle.segbase.specs.Passes.{trace, number}
+use Rattle.segbase.specs.Passes.{trace}
 use Rattle.segbase.proofs.Moves.{moved_on, is_inside}
 use Rattle.segstore.specs.Reading.{IsReaderIn}
 use Rattle.segstore.proofs.Words.{chained_later, same_segment}

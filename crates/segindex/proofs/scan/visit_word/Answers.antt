@@ -1,4 +1,4 @@
-use Rattle.std.proofs.Common.{◌≡◌, ◌∙◌, [], refl, sym, arith}
+use Rattle.std.proofs.Common.{◌∙◌, [], refl, arith}
 use Rattle.segbase.specs.Passes.{trace}
 use Rattle.segbase.proofs.Moves.{moved_on}
 use Rattle.segstore.proofs.Words.{chained_later}
@@ -11,9 +11,11 @@ pub returns-in_default-clause-reads : goal.returns-in_default-clause-reads
 returns-in_default-clause-reads c = looks c.args.board.now _ c.look-word.new.pass (looked_at c.args.board.now c.args.pass.now c.look-word.new.pass c.args.place c.look-word.result c.look-word.ensures.step)
 
 pub returns-in_default-clause-way : goal.returns-in_default-clause-way
-returns-in_default-clause-way c = let b = c.args.board.now in let h = trace c.args.pass.now in let g = trace c.look-word.new.pass in let l = c.look-word.ensures in
-    (c.requires.tries, counts_none b.shape c.args.key.now c.args.tries h g (moved_on b [] c.args.pass.now c.look-word.new.pass l.did.moved),
-    passed_word b.shape c.args.key.now c.args.place c.look-word.result c.args.tag h h g c.requires.pass.valid c.requires.place ([], refl) (saw_now b c.args.pass.now c.look-word.new.pass c.args.place c.look-word.result l.did l.found) c.requires.tag (c.in_default.ensures.none refl))
+returns-in_default-clause-way c = let b = c.args.board.now in let h = trace c.args.pass.now in let g = trace c.look-word.new.pass in let l = c.look-word.ensures in (
+  c.requires.tries,
+  counts_none b.shape c.args.key.now c.args.tries h g (moved_on b [] c.args.pass.now c.look-word.new.pass l.did.moved),
+  passed_word b.shape c.args.key.now c.args.place c.look-word.result c.args.tag h h g c.requires.pass.valid c.requires.place ([], refl) (saw_now b c.args.pass.now c.look-word.new.pass c.args.place c.look-word.result l.did l.found) c.requires.tag (c.in_default.ensures.none refl),
+)
 
 pub loop-count-init : goal.loop-count-init
 loop-count-init c = let b = c.args.board.now in let l = c.look-word.ensures in let x = c.in-Some.ensures.some in record {
@@ -42,18 +44,22 @@ returns-in-Other-clause-reads c = reader_then c.args.board.now c.args.pass.now c
 
 pub returns-in-Other-clause-way : goal.returns-in-Other-clause-way
 returns-in-Other-clause-way c = let b = c.args.board.now in let i = c.loop-count.invariant in let k = c.in-Other.ensures in
-    let h = trace c.args.pass.now in let g = trace c.loop-count.pass in let f = trace c.try_item.new.pass in
-    (c.loop-count-test.true, tried b.shape c.args.key.now c.args.place c.args.tries c.loop-count.item c.loop-count.count h g f (moved_on b _ c.loop-count.pass c.try_item.new.pass k.reads.reads.moved) i.trying,
-    passed_other b.shape c.args.key.now k.keyed.1.0 k.keyed.1.1 c.args.place c.in-Other.now h g f c.requires.place (moved_on b _ c.args.pass.now c.loop-count.pass i.reads.reads.moved) k.keyed.1.2 k.keyed.1.3)
+    let h = trace c.args.pass.now in let g = trace c.loop-count.pass in let f = trace c.try_item.new.pass in (
+      c.loop-count-test.true,
+      tried b.shape c.args.key.now c.args.place c.args.tries c.loop-count.item c.loop-count.count h g f (moved_on b _ c.loop-count.pass c.try_item.new.pass k.reads.reads.moved) i.trying,
+      passed_other b.shape c.args.key.now k.keyed.1.0 k.keyed.1.1 c.args.place c.in-Other.now h g f c.requires.place (moved_on b _ c.args.pass.now c.loop-count.pass i.reads.reads.moved) k.keyed.1.2 k.keyed.1.3,
+    )
 
 pub returns-in-None-clause-reads : goal.returns-in-None-clause-reads
 returns-in-None-clause-reads c = reader_then c.args.board.now c.args.pass.now c.loop-count.pass c.try_item.new.pass c.loop-count.invariant.reads c.in-Changed.ensures.reads
 
 pub returns-in-None-clause-way : goal.returns-in-None-clause-way
 returns-in-None-clause-way c = let b = c.args.board.now in let i = c.loop-count.invariant in let k = c.in-Changed.ensures in
-    let h = trace c.args.pass.now in let g = trace c.loop-count.pass in let f = trace c.try_item.new.pass in
-    (c.loop-count-test.true, tried b.shape c.args.key.now c.args.place c.args.tries c.loop-count.item c.loop-count.count h g f (moved_on b _ c.loop-count.pass c.try_item.new.pass k.reads.reads.moved) i.trying,
-    passed_word b.shape c.args.key.now c.args.place c.in-Changed.now c.args.tag h g f c.requires.pass.valid c.requires.place (moved_on b _ c.args.pass.now c.loop-count.pass i.reads.reads.moved) k.keyed.0 c.requires.tag (c.in-None.ensures.none refl))
+    let h = trace c.args.pass.now in let g = trace c.loop-count.pass in let f = trace c.try_item.new.pass in (
+      c.loop-count-test.true,
+      tried b.shape c.args.key.now c.args.place c.args.tries c.loop-count.item c.loop-count.count h g f (moved_on b _ c.loop-count.pass c.try_item.new.pass k.reads.reads.moved) i.trying,
+      passed_word b.shape c.args.key.now c.args.place c.in-Changed.now c.args.tag h g f c.requires.pass.valid c.requires.place (moved_on b _ c.args.pass.now c.loop-count.pass i.reads.reads.moved) k.keyed.0 c.requires.tag (c.in-None.ensures.none refl),
+    )
 
 pub loop-count-preserved : goal.loop-count-preserved
 loop-count-preserved c = let b = c.args.board.now in let i = c.loop-count.invariant in let k = c.in-Changed.ensures in let x = c.in-Some-item_of_tag.ensures.some in

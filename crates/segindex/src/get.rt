@@ -1,0 +1,52 @@
+//! Values read without any bit.
+ghost use Rattle.std.specs.Prelude.{◌≡◌};
+
+use crate::index::Index;
+use crate::scan::Scan;
+use segbase::{Pass, Place};
+use segmodel::GetAnswer;
+use segpolicy::next_frequency;
+use segstore::leave_segment;
+use segword::{Item, Key};
+
+impl Index {
+    ghost use Rattle.segbase.specs.Passes.{trace, seen, taken, IsPassOf};
+    ghost use Rattle.segstore.specs.Reading.{IsReader};
+    ghost use Rattle.segstore.specs.Linked.{IsChained};
+    ghost use Rattle.segindex.specs.Index.{board_of, shape_of};
+    ghost use Rattle.segindex.specs.Quiet.{IsQuiet};
+    ghost use Rattle.segindex.specs.Calls.{GoesOn, ChangesNothing};
+    ghost use Rattle.segindex.specs.Answers.{IsGetAnswer};
+
+    /// The value under a key. A hit raises the frequency of the key's item where the draw, a number at random, says so.
+    pub fn get(&self, pass: &mut Pass, key: &Key, draw: u32) -> GetAnswer
+        requires pass { IsQuiet (board_of self.now) pass.old }
+        ensures on { GoesOn (board_of self.now) pass.old pass.new }
+        ensures keeps { ChangesNothing pass.old pass.new }
+        ensures takes_no_bit { taken pass.new ≡ taken pass.old }
+        ensures answer { IsGetAnswer (shape_of self.now) key.now result (seen pass.old) (seen pass.new) }
+    {
+        match self.find(pass, key) {
+            Scan::Found(value, place, item) => {
+                self.count_hit(pass, place, item, draw);
+                leave_segment(&self.board, pass, item.seg);
+                GetAnswer::Found(value)
+            }
+            Scan::Absent => GetAnswer::Miss,
+            Scan::Busy => GetAnswer::Busy,
+        }
+    }
+
+    // Raises the frequency of an item that was read, where the draw says so. It is tried once.
+    fn count_hit(&self, pass: &mut Pass, place: Place, item: Item, draw: u32)
+        requires pass { IsPassOf (board_of self.now) pass.old }
+        requires place { IsChained (shape_of self.now) (trace pass.old) place }
+        ensures reads { IsReader (board_of self.now) pass.old pass.new }
+    {
+        let mut hit = item;
+        hit.freq = next_frequency(item.freq, draw);
+        if hit.freq > item.freq {
+            self.board.bump(pass, place, item, hit);
+        }
+    }
+}
