@@ -26,7 +26,7 @@ impl Index {
         ensures takes_no_bit { taken pass.new ≡ taken pass.old }
         ensures answer { IsGetAnswer (shape_of self.now) key.now result (seen pass.old) (seen pass.new) }
     {
-        match self.find(pass, key) {
+        match self.scan_for(pass, key) {
             Scan::Found(value, place, item) => {
                 self.count_hit(pass, place, item, draw);
                 leave_segment(&self.board, pass, item.seg);

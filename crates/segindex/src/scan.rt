@@ -168,7 +168,7 @@ impl Index {
     ghost use Rattle.segindex.specs.Scanning.{IsScanner, IsScan};
 
     // Looks for a key, whose hash and words are made here, once a call.
-    pub(crate) fn find(&self, pass: &mut Pass, key: &Key) -> Scan
+    pub(crate) fn scan_for(&self, pass: &mut Pass, key: &Key) -> Scan
         requires pass { IsQuiet (board_of self.now) pass.old }
         ensures reads { IsScanner (board_of self.now) result pass.old pass.new }
         ensures scan { IsScan (shape_of self.now) key.now result (trace pass.old) (trace pass.new) }

@@ -10,48 +10,48 @@ use Rattle.segindex.proofs.index.Index.get.Goals as goal
 
 pub count_hit-requires-clause-place : goal.count_hit-requires-clause-place
 count_hit-requires-clause-place c = let f = c.in-Found in
-    found_place (shape_of c.args.self.now) f.place (item_word f.item) c.args.key.now f.value (trace c.args.pass.now) (trace c.find.new.pass) f.ensures.reads.reads.moved.pass.lawful f.ensures.scan
+    found_place (shape_of c.args.self.now) f.place (item_word f.item) c.args.key.now f.value (trace c.args.pass.now) (trace c.scan_for.new.pass) f.ensures.reads.reads.moved.pass.lawful f.ensures.scan
 
 pub returns-in-Found-clause-on : goal.returns-in-Found-clause-on
 returns-in-Found-clause-on c = let b = board_of c.args.self.now in let p = c.args.pass.now in let f = c.in-Found in let r = c.leave_segment.new.pass in
-    let in' = then_reader b p c.find.new.pass c.count_hit.new.pass f.item.seg f.ensures.reads c.count_hit.ensures.reads in
+    let in' = then_reader b p c.scan_for.new.pass c.count_hit.new.pass f.item.seg f.ensures.reads c.count_hit.ensures.reads in
     let out = leave_then b p c.count_hit.new.pass r f.item.seg in' c.leave_segment.ensures in
     (read_on b p r c.requires.pass out.reads out.plain out.memo).0
 
 pub returns-in-Found-clause-keeps : goal.returns-in-Found-clause-keeps
 returns-in-Found-clause-keeps c = let b = board_of c.args.self.now in let p = c.args.pass.now in let f = c.in-Found in let r = c.leave_segment.new.pass in
-    let in' = then_reader b p c.find.new.pass c.count_hit.new.pass f.item.seg f.ensures.reads c.count_hit.ensures.reads in
+    let in' = then_reader b p c.scan_for.new.pass c.count_hit.new.pass f.item.seg f.ensures.reads c.count_hit.ensures.reads in
     let out = leave_then b p c.count_hit.new.pass r f.item.seg in' c.leave_segment.ensures in
     (read_on b p r c.requires.pass out.reads out.plain out.memo).1
 
 pub returns-in-Found-clause-takes_no_bit : goal.returns-in-Found-clause-takes_no_bit
 returns-in-Found-clause-takes_no_bit c = let b = board_of c.args.self.now in let p = c.args.pass.now in let f = c.in-Found in let r = c.leave_segment.new.pass in
-    let in' = then_reader b p c.find.new.pass c.count_hit.new.pass f.item.seg f.ensures.reads c.count_hit.ensures.reads in
+    let in' = then_reader b p c.scan_for.new.pass c.count_hit.new.pass f.item.seg f.ensures.reads c.count_hit.ensures.reads in
     let out = leave_then b p c.count_hit.new.pass r f.item.seg in' c.leave_segment.ensures in
     takes_none b p r out
 
 pub returns-in-Found-clause-answer : goal.returns-in-Found-clause-answer
-returns-in-Found-clause-answer c = let b = board_of c.args.self.now in let f = c.in-Found in let q = c.find.new.pass in let r = c.leave_segment.new.pass in
+returns-in-Found-clause-answer c = let b = board_of c.args.self.now in let f = c.in-Found in let q = c.scan_for.new.pass in let r = c.leave_segment.new.pass in
     let on = begins_on (trace q) (trace c.count_hit.new.pass) (trace r) (moved_on b _ q c.count_hit.new.pass c.count_hit.ensures.reads.reads.moved) (moved_on b _ c.count_hit.new.pass r c.leave_segment.ensures.moved) in
     found_reads (shape_of c.args.self.now) f.place (item_word f.item) c.args.key.now f.value (trace c.args.pass.now) (trace q) (trace r) on f.ensures.scan
 
 pub returns-in-Absent-clause-on : goal.returns-in-Absent-clause-on
-returns-in-Absent-clause-on c = let r = c.in-Absent.ensures.reads in (read_on (board_of c.args.self.now) c.args.pass.now c.find.new.pass c.requires.pass r.reads r.plain r.memo).0
+returns-in-Absent-clause-on c = let r = c.in-Absent.ensures.reads in (read_on (board_of c.args.self.now) c.args.pass.now c.scan_for.new.pass c.requires.pass r.reads r.plain r.memo).0
 
 pub returns-in-Absent-clause-keeps : goal.returns-in-Absent-clause-keeps
-returns-in-Absent-clause-keeps c = let r = c.in-Absent.ensures.reads in (read_on (board_of c.args.self.now) c.args.pass.now c.find.new.pass c.requires.pass r.reads r.plain r.memo).1
+returns-in-Absent-clause-keeps c = let r = c.in-Absent.ensures.reads in (read_on (board_of c.args.self.now) c.args.pass.now c.scan_for.new.pass c.requires.pass r.reads r.plain r.memo).1
 
 pub returns-in-Absent-clause-takes_no_bit : goal.returns-in-Absent-clause-takes_no_bit
-returns-in-Absent-clause-takes_no_bit c = takes_none (board_of c.args.self.now) c.args.pass.now c.find.new.pass c.in-Absent.ensures.reads
+returns-in-Absent-clause-takes_no_bit c = takes_none (board_of c.args.self.now) c.args.pass.now c.scan_for.new.pass c.in-Absent.ensures.reads
 
 pub returns-in-Absent-clause-answer : goal.returns-in-Absent-clause-answer
-returns-in-Absent-clause-answer c = gone_reads (shape_of c.args.self.now) c.args.key.now (trace c.args.pass.now) (trace c.find.new.pass) c.in-Absent.ensures.scan
+returns-in-Absent-clause-answer c = gone_reads (shape_of c.args.self.now) c.args.key.now (trace c.args.pass.now) (trace c.scan_for.new.pass) c.in-Absent.ensures.scan
 
 pub returns-in-Busy-clause-on : goal.returns-in-Busy-clause-on
-returns-in-Busy-clause-on c = let r = c.in-Busy.ensures.reads in (read_on (board_of c.args.self.now) c.args.pass.now c.find.new.pass c.requires.pass r.reads r.plain r.memo).0
+returns-in-Busy-clause-on c = let r = c.in-Busy.ensures.reads in (read_on (board_of c.args.self.now) c.args.pass.now c.scan_for.new.pass c.requires.pass r.reads r.plain r.memo).0
 
 pub returns-in-Busy-clause-keeps : goal.returns-in-Busy-clause-keeps
-returns-in-Busy-clause-keeps c = let r = c.in-Busy.ensures.reads in (read_on (board_of c.args.self.now) c.args.pass.now c.find.new.pass c.requires.pass r.reads r.plain r.memo).1
+returns-in-Busy-clause-keeps c = let r = c.in-Busy.ensures.reads in (read_on (board_of c.args.self.now) c.args.pass.now c.scan_for.new.pass c.requires.pass r.reads r.plain r.memo).1
 
 pub returns-in-Busy-clause-takes_no_bit : goal.returns-in-Busy-clause-takes_no_bit
-returns-in-Busy-clause-takes_no_bit c = takes_none (board_of c.args.self.now) c.args.pass.now c.find.new.pass c.in-Busy.ensures.reads
+returns-in-Busy-clause-takes_no_bit c = takes_none (board_of c.args.self.now) c.args.pass.now c.scan_for.new.pass c.in-Busy.ensures.reads
