@@ -75,3 +75,10 @@ gave_up b p q bucket quiet within tried plain same = ⊎_elim
       ),
     ))
     tried
+
+-- the pass did nothing by itself
+pub goes_nowhere : (b : Board) (p q : Pass) → IsQuiet b p → Moved b [] p q → q.plain ≡ p.plain → memo q ≡ memo p → GoesOn b p q
+goes_nowhere b p q quiet m plain same = (goes_idle b [] p q quiet m (idles_none b p) plain same).0
+
+pub does_nothing : (b : Board) (p q : Pass) → IsQuiet b p → Moved b [] p q → q.plain ≡ p.plain → memo q ≡ memo p → ChangesNothing p q
+does_nothing b p q quiet m plain same = (goes_idle b [] p q quiet m (idles_none b p) plain same).1
