@@ -59,12 +59,12 @@ word_wider z place w h g h' g' a c s = record { at = s.at; between = (begins_on 
 -- with p the pass before it, q in the segment, r after the second look, and t after it left
 pub keyed_from : (z : Shape) (place : Place) (w : ℕ) (key : List ℕ) (k : Keyed) (h g h' : List Event) → Begins h' h → IsKeyed z place w key k h g → IsKeyed z place w key k h' g
 keyed_from z place w key (Same value item) h g h' a x = (x.0, found_from z place (item_word item) key value h g h' a x.1)
-keyed_from z place w key (Other same) h g h' a x = (x.0, (x.1.0, x.1.1, x.1.2, saw_wider z place same x.1.0 x.1.1 h g h' g a ([], refl) x.1.3))
+keyed_from z place w key (Other same) h g h' a x = (x.0, (x.1.0, x.1.1, x.1.2, saw_wider z place (item_word same) x.1.0 x.1.1 h g h' g a ([], refl) x.1.3))
 keyed_from z place w key (Changed other) h g h' a x = (word_wider z place other h g h' g a ([], refl) x.0, x.1)
 
 pub keyed_left : (z : Shape) (place : Place) (w : ℕ) (key : List ℕ) (k : Keyed) (h g g' : List Event) → ((value : List ℕ) (item : Item) → k ≢ Same value item) → Begins g g' → IsKeyed z place w key k h g → IsKeyed z place w key k h g'
 keyed_left z place w key (Same value item) h g g' ne c x = absurd (ne value item refl)
-keyed_left z place w key (Other same) h g g' ne c x = (x.0, (x.1.0, x.1.1, x.1.2, saw_wider z place same x.1.0 x.1.1 h g h g' ([], refl) c x.1.3))
+keyed_left z place w key (Other same) h g g' ne c x = (x.0, (x.1.0, x.1.1, x.1.2, saw_wider z place (item_word same) x.1.0 x.1.1 h g h g' ([], refl) c x.1.3))
 keyed_left z place w key (Changed other) h g g' ne c x = (word_wider z place other h g h g' ([], refl) c x.0, x.1)
 
 pub trial_left : (b : Board) (k : Keyed) (p q : Pass) → ((value : List ℕ) (item : Item) → k ≢ Same value item) → IsReader b p q → IsTrial b k p q
@@ -201,7 +201,7 @@ pub may_enter : (b : Board) (p q : Pass) (place : Place) (item : Item) (h : List
 may_enter b p q place item h is outside reads c s =
     let z = b.shape in
     let w = stood_item z s.at place (item_word item) is.valid s.lawful (chained_later z h s.at place s.lawful s.between.0 c) s.stood (has_tag item) in
-    let seg = segment_of_item item (item_word item) refl in
+    let seg = segment_of_item item in
     let used : was_used (trace q) (segment_part (item_word item)) ≡ true = subst (λ g. was_used g (segment_part (item_word item)) ≡ true) (sym s.between.1.1) (used_stays s.between.1.0 s.at (segment_part (item_word item)) (linked_used s.at _ _ w.0 w.2.linked)) in
     let few : inside (trace q) (number q) item.seg < 2 = subst (λ n. inside (trace q) n item.seg < 2) (sym reads.reads.moved.same) (subst (λ n. n < 2) (sym (reads.reads.inside item.seg)) (outside item.seg)) in
     record { guarded = tt; follows = tt; suits = (is.one_of, rw seg w.2.in_segment.0, few, rw seg used) }

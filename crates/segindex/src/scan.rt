@@ -92,7 +92,7 @@ fn visit_word(
     for count in tries..TRIES {
         match try_item(board, pass, place, item, key) {
             Keyed::Same(value, now) => return Way::Found(value, place, now),
-            Keyed::Other(now) => return Way::Passed(now, count),
+            Keyed::Other(now) => return Way::Passed(now.pack(), count),
             Keyed::Changed(now) => match item_of_tag(now, tag) {
                 Some(other) => item = other,
                 None => return Way::Passed(now, count),

@@ -108,19 +108,22 @@ stood_item z h place w v l c is tag =
     let i = named_at z h b n (cell_at z place) x.tag x.segment x.row v l x.names in
     let st = (coherent z h l).items b n i.slot i.here in
     let es : segment_part w ≡ i.slot.segment = x.is_segment ∙ sym i.segment in
-    let er : row_part w ≡ i.slot.row = x.is_row ∙ sym i.row in
-    (i.slot.key, st.value, record {
-      lawful = l;
-      chained = c;
-      stood = is;
-      tag = x.is_tag ∙ sym i.tag;
-      here = (st.here, (i.slot, rw st.here i.here, refl));
-      valid = st.valid;
-      stands = rw es st.stands;
-      in_segment = rw (es, er) st.within;
-      linked = rw (es, er) st.linked;
-      holds = rw (es, er) st.holds;
-    })
+    let er : row_part w ≡ i.slot.row = x.is_row ∙ sym i.row in (
+      i.slot.key,
+      st.value,
+      record {
+        lawful = l;
+        chained = c;
+        stood = is;
+        tag = x.is_tag ∙ sym i.tag;
+        here = (st.here, (i.slot, rw st.here i.here, refl));
+        valid = st.valid;
+        stands = rw es st.stands;
+        in_segment = rw (es, er) st.within;
+        linked = rw (es, er) st.linked;
+        holds = rw (es, er) st.holds;
+      },
+    )
 
 -- words with the parts of one item are of one item
 pub same_parts : (v w : ℕ) → 1 ≤ v / 2 ^ 52 → v / 2 ^ 52 ≡ w / 2 ^ 52 → segment_part v ≡ segment_part w → row_part v ≡ row_part w → IsSameItem v w

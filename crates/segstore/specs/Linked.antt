@@ -2,6 +2,7 @@
 use Rattle.std.specs.Prelude.{◌≡◌, ◌≢◌, ℕ, ◌/◌, ◌%◌, ◌^◌, ◌<◌, List, Some}
 use Rattle.segword.specs.declared.shape.Shape.{Shape}
 use Rattle.segword.specs.Bytes.{IsKey, IsValue}
+use Rattle.segword.specs.declared.item.Item.{Item}
 use Rattle.segword.specs.ItemWord.{item_word, tag_part}
 use Rattle.segword.specs.SameItem.{IsSameItem}
 use Rattle.segmodel.specs.Places.{bucket_of, tag_of}
@@ -15,8 +16,12 @@ use Rattle.segcore.specs.Word.{IsItemAt}
 use Rattle.segcore.specs.Word as core
 use Rattle.segcore.specs.Search.{KeyAt}
 use Rattle.segcore.specs.Standing.{cached}
+use Rattle.segbase.specs.declared.board.Board.{Board}
+use Rattle.segbase.specs.declared.pass.Pass.{Pass}
 use Rattle.segbase.specs.declared.place.Place.{Place}
+use Rattle.segbase.specs.Passes.{trace}
 use Rattle.segbase.specs.Spots.{IsPlace, cell_at, position, home_bucket}
+use Rattle.segstore.specs.Reading.{IsReadable}
 use Rattle.segstore.specs.declared.read.Linked.{Linked}
 use Rattle.segstore.specs.declared.read.Linked.TheVariants as linked
 use Rattle.segstore.specs.declared.read.Keyed.{Keyed}
@@ -69,6 +74,14 @@ pub record SawWord (shape : Shape) (place : Place) (word : ℕ) (before now : Li
   pub lawful : IsLawful shape at
   pub stood : word_at shape at place ≡ word
 
+-- A second look saw the same item still: a key's, whose row the pass may read.
+pub record SeesAgain (b : Board) (place : Place) (word : ℕ) (item : Item) (q : Pass) : Type 0 where
+  pub same : IsSameItem word (item_word item)
+  pub key : List ℕ
+  pub value : List ℕ
+  pub was : WasLinked b.shape place (item_word item) key value (trace q)
+  pub readable : IsReadable b q item.seg item.row
+
 -- the second look at an item word
 abbrev pub IsLinked : Shape → Place → ℕ → Linked → List Event → List Event → Type 0
 IsLinked shape place word (linked.Same key value) before now = (same : ℕ) × IsSameItem word same × FoundItem shape place same key value before now
@@ -77,5 +90,5 @@ IsLinked shape place word (linked.Changed other) before now = SawWord shape plac
 -- the same, taken for a key
 abbrev pub IsKeyed : Shape → Place → ℕ → List ℕ → Keyed → List Event → List Event → Type 0
 IsKeyed shape place word key (keyed.Same value item) before now = IsSameItem word (item_word item) × FoundItem shape place (item_word item) key value before now
-IsKeyed shape place word key (keyed.Other same) before now = IsSameItem word same × ((other value : List ℕ) × (other ≢ key) × SawItem shape place same other value before now)
+IsKeyed shape place word key (keyed.Other item) before now = IsSameItem word (item_word item) × ((other value : List ℕ) × (other ≢ key) × SawItem shape place (item_word item) other value before now)
 IsKeyed shape place word key (keyed.Changed other) before now = SawWord shape place other before now × ¬ (IsSameItem word other)

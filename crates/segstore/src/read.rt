@@ -1,9 +1,10 @@
 //! Second looks at item words, by a pass that is in their segment, and what their rows hold.
-ghost use Rattle.std.specs.Prelude.{◌≡◌, ℕ, ◌<◌};
+ghost use Rattle.std.specs.Prelude.{◌<◌, IfOk, IfErr};
+ghost use Rattle.segword.specs.SameItem.{IsSameItem};
 ghost use Rattle.segcore.specs.Segment.{inside};
 ghost use Rattle.segbase.specs.Passes.{number, trace, IsPassOf};
 ghost use Rattle.segstore.specs.Reading.{Looked};
-ghost use Rattle.segstore.specs.Linked.{segment_part, IsChained, IsLinked, IsKeyed};
+ghost use Rattle.segstore.specs.Linked.{segment_part, IsChained, SawWord, SeesAgain, IsLinked, IsKeyed};
 
 use crate::row::{pair_of_row, row_of_key, value_of_row};
 use segbase::{Board, Pass, Place};
@@ -23,8 +24,8 @@ pub enum Linked {
 pub enum Keyed {
     /// The same item, its frequency aside, and the key's: its value, and the item as it stands now.
     Same(Value, Item),
-    /// The same item, and another key's: its word as it stands now.
-    Other(u64),
+    /// The same item, and another key's: the item as it stands now.
+    Other(Item),
     /// Another word.
     Changed(u64),
 }
@@ -37,13 +38,13 @@ pub fn read_linked(board: &Board, pass: &mut Pass, place: Place, word: u64) -> L
     ensures looked { Looked board.now pass.old pass.new }
     ensures linked { IsLinked board.now.shape place word result (trace pass.old) (trace pass.new) }
 {
-    let now = board.look(pass, place);
-    if !same_item(word, now) {
-        return Linked::Changed(now);
+    match look_again(board, pass, place, word) {
+        Ok(item) => {
+            let (key, value) = pair_of_row(board, pass, item.seg, item.row).unwrap();
+            Linked::Same(key, value)
+        }
+        Err(now) => Linked::Changed(now),
     }
-    let item = Item::unpack(now).unwrap();
-    let (key, value) = pair_of_row(board, pass, item.seg, item.row).unwrap();
-    Linked::Same(key, value)
 }
 
 /// The same for a key in hand, which is compared with the row word by word. A value is made for the key's row alone.
@@ -54,16 +55,30 @@ pub fn read_keyed(board: &Board, pass: &mut Pass, place: Place, word: u64, key: 
     ensures looked { Looked board.now pass.old pass.new }
     ensures keyed { IsKeyed board.now.shape place word key.now result (trace pass.old) (trace pass.new) }
 {
+    match look_again(board, pass, place, word) {
+        Ok(item) => match row_of_key(board, pass, item.seg, item.row, key) {
+            Some(header) => {
+                let value = value_of_row(board, pass, item.seg, item.row, header);
+                Keyed::Same(value, item)
+            }
+            None => Keyed::Other(item),
+        },
+        Err(now) => Keyed::Changed(now),
+    }
+}
+
+// The second look: the item as it stands now, its frequency aside the same, or the word that stands there.
+fn look_again(board: &Board, pass: &mut Pass, place: Place, word: u64) -> Result<Item, u64>
+    requires pass { IsPassOf board.now pass.old }
+    requires place { IsChained board.now.shape (trace pass.old) place }
+    requires inside { 0 < inside (trace pass.old) (number pass.old) (segment_part word) }
+    ensures looked { Looked board.now pass.old pass.new }
+    ensures same { IfOk result (λ item. SeesAgain board.now place word item pass.new) }
+    ensures other { IfErr result (λ now. SawWord board.now.shape place now (trace pass.old) (trace pass.new) × ¬ (IsSameItem word now)) }
+{
     let now = board.look(pass, place);
     if !same_item(word, now) {
-        return Keyed::Changed(now);
+        return Err(now);
     }
-    let item = Item::unpack(now).unwrap();
-    match row_of_key(board, pass, item.seg, item.row, key) {
-        Some(header) => {
-            let value = value_of_row(board, pass, item.seg, item.row, header);
-            Keyed::Same(value, item)
-        }
-        None => Keyed::Other(now),
-    }
+    Ok(Item::unpack(now).unwrap())
 }

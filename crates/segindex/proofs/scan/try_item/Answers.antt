@@ -1,4 +1,4 @@
-use Rattle.std.proofs.Common.{sym, subst, refl, ◌∙◌}
+use Rattle.std.proofs.Common.{sym, subst, ◌∙◌}
 use Rattle.segword.specs.ItemWord.{item_word}
 use Rattle.segword.specs.SameItem.{IsSameItem}
 use Rattle.segstore.specs.Linked.{IsKeyed}
@@ -23,7 +23,7 @@ leave_segment-requires c = let b = c.args.board.now in
 pub returns-in-Same-clause-reads : goal.returns-in-Same-clause-reads
 returns-in-Same-clause-reads c = let b = c.args.board.now in
     let i = then_reader b c.args.pass.now c.enter_segment.new.pass c.read_keyed.new.pass c.args.item.seg c.enter_segment.ensures (looks b c.enter_segment.new.pass c.read_keyed.new.pass c.read_keyed.ensures.looked) in
-    let same = segment_of_item c.args.item (item_word c.args.item) refl ∙ (same_segment (item_word c.args.item) (item_word c.in-Same.item) (subst (λ w. IsSameItem w (item_word c.in-Same.item)) c.pack.ensures c.in-Same.ensures.keyed.0) ∙ sym (segment_of_item c.in-Same.item (item_word c.in-Same.item) refl)) in
+    let same = segment_of_item c.args.item ∙ (same_segment (item_word c.args.item) (item_word c.in-Same.item) (subst (λ w. IsSameItem w (item_word c.in-Same.item)) c.pack.ensures c.in-Same.ensures.keyed.0) ∙ sym (segment_of_item c.in-Same.item)) in
     subst (IsReaderIn b c.args.pass.now c.read_keyed.new.pass) same i
 
 pub returns-in-Same-clause-keyed : goal.returns-in-Same-clause-keyed

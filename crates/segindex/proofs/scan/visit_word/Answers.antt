@@ -1,6 +1,7 @@
-use Rattle.std.proofs.Common.{◌∙◌, [], refl, arith}
+use Rattle.std.proofs.Common.{◌∙◌, [], refl, arith, sym, subst}
 use Rattle.segbase.specs.Passes.{trace}
 use Rattle.segbase.proofs.Moves.{moved_on}
+use Rattle.segstore.specs.Linked.{SawItem}
 use Rattle.segstore.proofs.Words.{chained_later}
 use Rattle.segstore.proofs.Seconds.{looked_at}
 use Rattle.segstore.proofs.Readers.{looks, reader_then, enter_then}
@@ -47,7 +48,7 @@ returns-in-Other-clause-way c = let b = c.args.board.now in let i = c.loop-count
     let h = trace c.args.pass.now in let g = trace c.loop-count.pass in let f = trace c.try_item.new.pass in (
       c.loop-count-test.true,
       tried b.shape c.args.key.now c.args.place c.args.tries c.loop-count.item c.loop-count.count h g f (moved_on b _ c.loop-count.pass c.try_item.new.pass k.reads.reads.moved) i.trying,
-      passed_other b.shape c.args.key.now k.keyed.1.0 k.keyed.1.1 c.args.place c.in-Other.now h g f c.requires.place (moved_on b _ c.args.pass.now c.loop-count.pass i.reads.reads.moved) k.keyed.1.2 k.keyed.1.3,
+      passed_other b.shape c.args.key.now k.keyed.1.0 k.keyed.1.1 c.args.place c.pack.result h g f c.requires.place (moved_on b _ c.args.pass.now c.loop-count.pass i.reads.reads.moved) k.keyed.1.2 (subst (λ w. SawItem b.shape c.args.place w k.keyed.1.0 k.keyed.1.1 g f) (sym c.pack.ensures) k.keyed.1.3),
     )
 
 pub returns-in-None-clause-reads : goal.returns-in-None-clause-reads
