@@ -9,6 +9,8 @@ mod laws;
 mod meet;
 mod scan;
 mod segment;
+#[cfg(test)]
+mod tests;
 
 pub use bucket::LockAnswer;
 pub use index::Index;

@@ -1,0 +1,74 @@
+//! Calls on threads of their own, and the words that they leave.
+ghost use Rattle.std.specs.Prelude.{◌≡◌, ℕ, slice_get, Some, IfSome};
+ghost use Rattle.segindex.specs.Index.{board_of};
+ghost use Rattle.segindex.specs.Quiet.{IsQuiet};
+
+use crate::{Index, LockAnswer, Pass};
+use segword::{Key, Shape};
+use std::test::Fail;
+use std::thread::{join, yield_now};
+
+// Two passes, one bucket.
+const SHAPE: Shape = Shape {
+    buckets: 1,
+    overflow: 0,
+    passes: 2,
+    segments_each: 1,
+    rows: 1024,
+    first_version: 0,
+};
+
+const TURNS: u32 = 1_000_000;
+
+// The last two of the passes.
+fn last_two(index: &Index, mut passes: Vec<Pass>) -> Option<(Pass, Pass)>
+    requires { (n : ℕ) (pass : Pass) → slice_get passes.items n ≡ Some pass → IsQuiet (board_of index.now) pass }
+    ensures { IfSome result (λ two. IsQuiet (board_of index.now) two.0 × IsQuiet (board_of index.now) two.1) }
+{
+    let second = passes.pop()?;
+    let first = passes.pop()?;
+    Some((first, second))
+}
+
+// Locks and unlocks the key's bucket, again while it is busy. It gives how often it did both.
+fn lock_in_turn(index: &Index, mut pass: Pass, key: &Key, times: u32) -> (Pass, u32)
+    requires { IsQuiet (board_of index.now) pass }
+    ensures { IsQuiet (board_of index.now) result.0 }
+{
+    let mut done = 0u32;
+    for _ in 0..TURNS {
+        if done >= times {
+            break;
+        }
+        if index.lock_bucket(&mut pass, key) == LockAnswer::Busy {
+            yield_now();
+        } else if index.unlock_bucket(&mut pass) {
+            done += 1;
+        }
+    }
+    (pass, done)
+}
+
+#[test]
+fn two_threads_lock_one_bucket(rt: HostRuntime) -> Result<(), Fail> {
+    let (index, passes) = Index::new(rt.alloc(), SHAPE)?;
+    let (first, second) = last_two(&index, passes).expect(&rt, "two passes");
+    let key = Key::new(b"a").expect(&rt, "a key");
+    let ((mut first, done), (_, done_too)) = join(
+        &rt,
+        || -> (Pass, u32)
+            requires { IsQuiet (board_of index) first }
+            ensures { IsQuiet (board_of index) result.0 }
+        { lock_in_turn(&index, first, &key, 1_000) },
+        || -> (Pass, u32)
+            requires { IsQuiet (board_of index) second }
+            ensures { IsQuiet (board_of index) result.0 }
+        { lock_in_turn(&index, second, &key, 1_000) },
+    );
+    assert_eq!(rt; (done, done_too), (1_000, 1_000));
+    // No lock counts as a write, and none is left.
+    let info = index.board.glance(&mut first, 0);
+    assert!(rt; !info.held);
+    assert_eq!(rt; info.version, 0);
+    Ok(())
+}
