@@ -15,3 +15,5 @@ pub mod Standing
 pub mod Staying
 pub mod Stepping
 pub mod Taking
+pub mod WalkAllowed
+pub mod Walking

@@ -7,3 +7,4 @@ pub mod Ruled
 pub mod Spots
 pub mod Steps
 pub mod Traces
+pub mod Walk

@@ -1,4 +1,6 @@
 //! The words of a board and the plain parts of its passes, by the format.
+mod words;
+
 use crate::{Board, MakeFault};
 use segmodel::SegState;
 use segword::{Shape, ShapeFault};
