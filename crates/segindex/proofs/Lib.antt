@@ -21,3 +21,8 @@ pub mod Finding
 pub mod Tries
 pub mod Scans
 pub mod Gets
+pub mod Linking
+pub mod Filling
+pub mod Storing
+pub mod UnderWrite
+pub mod Sets

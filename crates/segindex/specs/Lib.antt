@@ -5,3 +5,4 @@ pub mod Writing
 pub mod Calls
 pub mod Answers
 pub mod Scanning
+pub mod Storing

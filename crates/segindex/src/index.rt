@@ -9,6 +9,8 @@ use std::alloc::Global;
 #[derive(Drop)]
 pub struct Index {
     pub(crate) board: Board,
+    // Buckets don't grow yet.
+    ghost no_overflow: { board.shape.overflow ≡ 0 },
 }
 
 impl Index {

@@ -11,6 +11,7 @@ mod scan;
 mod segment;
 #[cfg(test)]
 mod tests;
+mod write;
 
 pub use bucket::LockAnswer;
 pub use index::Index;

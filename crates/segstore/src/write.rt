@@ -1,5 +1,6 @@
 //! Rows written before an item names them.
 ghost use Rattle.std.specs.Prelude.{◌≡◌};
+ghost use Rattle.segword.specs.Bytes.{IsValue};
 ghost use Rattle.segword.specs.Row.{row_of};
 ghost use Rattle.segcore.specs.Row.{Holds, row_after};
 ghost use Rattle.segcore.specs.Lawful.{IsOwnRow};
@@ -23,6 +24,7 @@ pub fn write_row(
     ensures moved { Moved board.now (fills (number pass.old) segment row (row_of key.now value.now) 8) pass.old pass.new }
     ensures own { IsOwnRow board.now.shape (trace pass.new) (number pass.new) segment row }
     ensures holds { Holds (row_after (trace pass.new) segment row) key.now value.now }
+    ensures valid { IsValue value.now }
     ensures plain { pass.new.plain ≡ pass.old.plain }
     ensures memo { (sight pass.new).memo ≡ (sight pass.old).memo }
 {

@@ -55,7 +55,8 @@ impl KeyWords {
 
     /// The eight words of this key and a value.
     pub fn row(&self, value: &Value) -> [u64; 8]
-        ensures { result ≡ row_of self.now value.now }
+        ensures row { result ≡ row_of self.now value.now }
+        ensures valid { IsValue value.now }
     {
         let bytes = value.as_bytes();
         let [length, first, second, third] = self.words;

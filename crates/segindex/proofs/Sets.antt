@@ -1,0 +1,153 @@
+-- The answers of a write that stored, and of one that found its bucket full.
+use Rattle.std.proofs.Common.{◌≡◌, ◌≢◌, ℕ, true, false, eqb, List, [], ◌∷◌, ◌++◌, Some, None, refl, sym, ap, ◌∙◌, subst, inr, append-nil, arith}
+use Rattle.std.proofs.lemmas.Bool.{cond-true, eq-eqb, ne_eqb}
+use Rattle.segword.specs.Row.{row_of}
+use Rattle.segmodel.specs.declared.entry.Entry.{Entry}
+use Rattle.segmodel.specs.declared.entry.Entry.TheVariants.{Wrote}
+use Rattle.segmodel.specs.declared.request.Request.{Request}
+use Rattle.segmodel.specs.declared.request.Reply.TheVariants.{Stored}
+use Rattle.segmodel.specs.Request.{key_of, value_of}
+use Rattle.segmodel.specs.Places.{bucket_of}
+use Rattle.segmodel.specs.Cache.{standing, keys_in}
+use Rattle.segmodel.specs.History.{after}
+use Rattle.segcore.specs.declared.event.Event.{Event}
+use Rattle.segcore.specs.declared.event.Event.TheVariants.{Freed}
+use Rattle.segcore.specs.Event as event
+use Rattle.segcore.specs.Bucket.{bucket_after}
+use Rattle.segcore.specs.Kind.{May, release}
+use Rattle.segcore.specs.Lawful.{NoneAt}
+use Rattle.segcore.proofs.Buckets.{says_of_buckets}
+use Rattle.segcore.proofs.KeyCounts.{counted_full, wide}
+use Rattle.segcore.proofs.Marked.{entries_marked}
+use Rattle.segcore.proofs.Moments.{marked_begins}
+use Rattle.segbase.specs.declared.board.Board.{Board}
+use Rattle.segbase.specs.declared.pass.Plain.{Plain}
+use Rattle.segbase.specs.declared.pass.Pass.{Pass}
+use Rattle.segbase.specs.Passes.{number, trace, marked, seen, IsPassOf, Moved, Did}
+use Rattle.segbase.specs.Passes as passes
+use Rattle.segbase.proofs.Moves.{moved_on, moved_then}
+use Rattle.segstore.specs.Segments.{KeepsSegments}
+use Rattle.segstore.specs.Refilling.{Idles}
+use Rattle.segstore.proofs.Keeping.{same_plain, keeps_plain}
+use Rattle.segindex.specs.Quiet.{IsQuiet}
+use Rattle.segindex.specs.Calls.{memo, GoesOn, ChangesNothing, AddsEntry}
+use Rattle.segindex.specs.Answers.{IsFull, WasFull, UsesRow}
+use Rattle.segindex.specs.Taking.{HasCleanBit}
+use Rattle.segindex.specs.Writing.{HasNoWord}
+use Rattle.segindex.specs.Storing.{TookToWrite, Stores, stores}
+use Rattle.segindex.proofs.Filling.{fills_nowhere, fills_still, fills_seen}
+use Rattle.segindex.proofs.UnderBit.{moved_bucket, moved_bit}
+use Rattle.segindex.proofs.UnderWrite.{took_moved, took_clean, took_keeps, tries, write_goes_on, write_adds}
+
+-- ---- after the search
+
+module _ (b : Board) (bucket : ℕ) (p q f : Pass) (quiet : IsQuiet b p) (took : TookToWrite b bucket p q) (idles : Idles b q f) where
+  pub found_clean : HasCleanBit b f bucket
+  found_clean =
+      let clean = took_clean b bucket p q quiet took in let same = moved_bucket b [] q f bucket idles.moved clean.bit tt in
+      record { bit = moved_bit b [] q f bucket idles.moved clean.bit tt; unwritten = ap (λ u. u.written) same ∙ clean.unwritten; undrawn = ap (λ u. u.spare) same ∙ clean.undrawn }
+
+  pub found_plain : f.plain ≡ p.plain
+  found_plain = idles.plain ∙ took.plain
+
+  pub found_keeps : KeepsSegments b f
+  found_keeps = keeps_plain b [] q f idles.moved tt idles.plain (took_keeps b bucket p q quiet took)
+
+  pub may_free : May b.shape (trace f) (number f) (release bucket false None)
+  may_free = (found_clean.bit, found_clean.unwritten, found_clean.undrawn, tt)
+
+-- ---- no word is left for a new key
+
+is_full : (b : Board) (key : List ℕ) (f : Pass) → IsPassOf b f → HasCleanBit b f (bucket_of b.shape key) → HasNoWord b key f → b.shape.overflow ≡ 0 → IsFull b.shape (marked f) key
+is_full b key f is clean none whole =
+    let z = b.shape in let h = trace f in let k = bucket_of z key in
+    let same = entries_marked h in
+    let full = counted_full z h k is.lawful none.taken in
+    let long = wide z h k is.lawful clean.undrawn in
+    let enough = (says_of_buckets z h is.lawful).enough in record {
+      new = ap (λ g. standing (after z g) key) same ∙ none.absent;
+      taken = ap (λ g. keys_in z (after z g) k) same ∙ omega (arith, full, long);
+      last = inr (omega (arith, enough, whole));
+    }
+
+module _ (b : Board) (key : List ℕ) (p q f s : Pass) (quiet : IsQuiet b p) (took : TookToWrite b (bucket_of b.shape key) p q) (idles : Idles b q f) (none : HasNoWord b key f) (whole : b.shape.overflow ≡ 0)
+    (freed : Did b (Freed (number f) (bucket_of b.shape key) false ∷ []) f s) (free : (bucket_after b.shape (trace s) (bucket_of b.shape key)).holder ≡ None) (plain : s.plain ≡ f.plain) (same : memo s ≡ memo f) where
+  abbrev k : ℕ
+  k = bucket_of b.shape key
+
+  plain_back : s.plain ≡ p.plain
+  plain_back = plain ∙ found_plain b k p q f quiet took idles
+
+  memo_back : memo s ≡ memo p
+  memo_back = same ∙ (idles.memo ∙ took.memo)
+
+  pub full_goes_on : GoesOn b p s
+  full_goes_on = write_goes_on b k p q quiet took f s [] [] false idles.moved (λ other apart. tt) tt (λ h. refl) freed free memo_back
+      (ap (λ (x : Plain). x.locked) plain_back) (ap (λ (x : Plain). x.is_holding) plain_back)
+      (keeps_plain b (Freed (number f) k false ∷ []) f s freed.moved (tt, tt) plain (found_keeps b k p q f quiet took idles))
+
+  pub full_answer : ChangesNothing p s × WasFull b.shape key (marked p) (marked s)
+  full_answer = (
+    record { entries = write_adds b k p q quiet took f s [] [] false idles.moved (λ other apart. tt) tt (λ h. refl) freed free; plain = plain_back; memo = memo_back },
+    (
+      marked f,
+      (
+        marked_begins (trace p) (trace f) (moved_on b (tries b k p q quiet took) p f (moved_then b (tries b k p q quiet took) [] p q f (took_moved b k p q quiet took) idles.moved)),
+        marked_begins (trace f) (trace s) (moved_on b (Freed (number f) k false ∷ []) f s freed.moved),
+      ),
+      is_full b key f idles.moved.pass (found_clean b k p q f quiet took idles) none whole,
+    ),
+  )
+
+-- ---- stored
+
+uses_around : (segment : ℕ) (p f r s : Pass) → UsesRow segment f r → f.plain ≡ p.plain → s.plain ≡ r.plain → memo f ≡ memo p → memo s ≡ memo r → UsesRow segment p s
+uses_around segment p f r s u before behind m n =
+    let old = same_plain p f before in let new = same_plain r s behind in record {
+      current = (sym old.1 ∙ u.current.0, new.1 ∙ u.current.1);
+      used = λ used is. new.0.used segment ∙ u.used used (old.0.used segment ∙ is);
+      others = λ other apart. new.0.used other ∙ (u.others other apart ∙ old.0.used other);
+      states = λ other. new.0.state other ∙ (u.states other ∙ old.0.state other);
+      locked = ap (λ (x : Plain). x.locked) behind ∙ (u.locked ∙ ap (λ (x : Plain). x.locked) before);
+      is_holding = ap (λ (x : Plain). x.is_holding) behind ∙ (u.is_holding ∙ ap (λ (x : Plain). x.is_holding) before);
+      memo = n ∙ (u.memo ∙ m);
+    }
+
+module _ (b : Board) (request : Request) (segment row : ℕ) (p q f r s : Pass) (quiet : IsQuiet b p) (took : TookToWrite b (bucket_of b.shape (key_of request)) p q) (idles : Idles b q f)
+    (done : Stores b request segment row f r) (keeps : KeepsSegments b r) (uses : UsesRow segment f r)
+    (freed : Did b (Freed (number r) (bucket_of b.shape (key_of request)) true ∷ []) r s) (free : (bucket_after b.shape (trace s) (bucket_of b.shape (key_of request))).holder ≡ None) (plain : s.plain ≡ r.plain) (same : memo s ≡ memo r) where
+  abbrev home : ℕ
+  home = bucket_of b.shape (key_of request)
+
+  abbrev words : List ℕ
+  words = row_of (key_of request) (value_of request)
+
+  abbrev own : List Event
+  own = stores (number f) request segment row done.0
+
+  abbrev entry : Entry
+  entry = Wrote (number f) request Stored (Some segment)
+
+  moved : Moved b own q r
+  moved = subst (λ es. Moved b es q r) (append-nil own) (moved_then b [] own q f r idles.moved done.1)
+
+  elsewhere : (other : ℕ) → home ≢ other → NoneAt b.shape other own
+  elsewhere other apart = (ne_eqb home other apart, fills_nowhere b.shape other (number f) segment row words 8)
+
+  adds : (h : List Event) → event.seen (own ++ h) ≡ (entry ∷ []) ++ event.seen h
+  adds h = ap (λ x. entry ∷ x) (fills_seen (number f) segment row words 8 h)
+
+  uses_all : UsesRow segment p s
+  uses_all = uses_around segment p f r s uses (found_plain b home p q f quiet took idles) plain (idles.memo ∙ took.memo) same
+
+  pub stored_goes_on : GoesOn b p s
+  stored_goes_on = write_goes_on b home p q quiet took r s own (entry ∷ []) true moved elsewhere (tt, fills_still (number f) segment row words 8) adds freed free
+      uses_all.memo uses_all.locked uses_all.is_holding (keeps_plain b (Freed (number r) home true ∷ []) r s freed.moved (tt, tt) plain keeps)
+
+  pub stored_answer : AddsEntry (Wrote (number p) request Stored (Some segment)) p s × UsesRow segment p s
+  stored_answer =
+      let one : number f ≡ number p = idles.moved.same ∙ (took_moved b home p q quiet took).same in (
+        write_adds b home p q quiet took r s own (entry ∷ []) true moved elsewhere (tt, fills_still (number f) segment row words 8) adds freed free
+            ∙ (cond-true (eqb (number f) (number p)) (entry ∷ passes.mine p) (passes.mine p) (eq-eqb (number f) (number p) one) ∙ ap (λ n. Wrote n request Stored (Some segment) ∷ passes.mine p) one),
+        uses_all,
+      )

@@ -1,0 +1,99 @@
+-- A write under the bit that it took for itself: the bit is given back at the end, and the pass is quiet again.
+use Rattle.std.proofs.Common.{◌≡◌, ◌≢◌, ℕ, ◌<◌, Bool, true, false, List, [], ◌∷◌, ◌++◌, Some, None, option_map, sym, ap, ◌∙◌, subst, ⊎_elim, append_assoc}
+use Rattle.std.proofs.lemmas.Bool.{cases_eq, ne_eqb}
+use Rattle.std.proofs.lemmas.Option.{none-some}
+use Rattle.segmodel.specs.declared.entry.Entry.{Entry}
+use Rattle.segmodel.specs.History as history
+use Rattle.segcore.specs.declared.event.Event.{Event}
+use Rattle.segcore.specs.declared.event.Event.TheVariants.{Took, Freed}
+use Rattle.segcore.specs.Event as event
+use Rattle.segcore.specs.Bucket.{bucket_after}
+use Rattle.segcore.specs.Kind.{HasBit}
+use Rattle.segcore.specs.Lawful.{NoneAt}
+use Rattle.segbase.specs.declared.board.Board.{Board}
+use Rattle.segbase.specs.declared.law.Locked.{Locked}
+use Rattle.segbase.specs.declared.law.Memo.{Memo}
+use Rattle.segbase.specs.declared.pass.Pass.{Pass}
+use Rattle.segbase.specs.Passes.{number, trace, mine, seen, locked, Moved, Did}
+use Rattle.segbase.specs.Plain.{locked_of, is_holding_of}
+use Rattle.segbase.proofs.Moves.{moved_then, moved_mine}
+use Rattle.segstore.specs.Segments.{KeepsSegments}
+use Rattle.segstore.proofs.Keeping.{keeps_plain}
+use Rattle.segindex.specs.Quiet.{IsQuiet}
+use Rattle.segindex.specs.Calls.{memo, GoesOn}
+use Rattle.segindex.specs.Taking.{bounces, TakesBucket, HasCleanBit}
+use Rattle.segindex.specs.Storing.{TookToWrite, TakesToWrite}
+use Rattle.segindex.proofs.Bits.{none_at_both, bit_before}
+use Rattle.segindex.proofs.Bounces.{bounces_still, bounces_calm, bounces_seen}
+use Rattle.segindex.proofs.Idling.{gave_up}
+use Rattle.segindex.proofs.Quiet.{quiet_again, goes_on}
+use Rattle.segindex.proofs.Still.{AreStill, settles_still}
+use Rattle.segindex.proofs.Taking.{bounces_none}
+
+pub takes_to_write : (b : Board) (bucket : ℕ) (t : Bool) (p q : Pass) → IsQuiet b p → bucket < b.shape.buckets → locked_of p ≢ Some bucket → TakesBucket b bucket t p q → q.plain ≡ p.plain → memo q ≡ memo p → TakesToWrite b bucket t p q
+takes_to_write b bucket true p q quiet within apart takes plain same = record { unlocked = apart; takes = takes; plain = plain; memo = same }
+takes_to_write b bucket false p q quiet within apart takes plain same = gave_up b p q bucket quiet within takes plain same
+
+still_both : (xs ys : List Event) → AreStill xs → AreStill ys → AreStill (xs ++ ys)
+still_both [] ys i j = j
+still_both (e ∷ xs) ys i j = (i.0, still_both xs ys i.1 j)
+
+module _ (b : Board) (bucket : ℕ) (p q : Pass) (quiet : IsQuiet b p) (took : TookToWrite b bucket p q) where
+  -- the tries and the one that took the bit
+  abbrev pub tries : List Event
+  tries = Took (number p) bucket ∷ bounces (number p) bucket took.takes.0
+
+  pub took_moved : Moved b tries p q
+  took_moved = took.takes.2
+
+  pub took_clean : HasCleanBit b q bucket
+  took_clean = took.takes.3
+
+  pub took_keeps : KeepsSegments b q
+  took_keeps = keeps_plain b tries p q took_moved (tt, bounces_calm (number p) bucket took.takes.0) took.plain quiet.segments
+
+  -- what is done under the bit, and the release
+  module _ (r s : Pass) (own : List Event) (added : List Entry) (counted : Bool) (m : Moved b own q r) (elsewhere : (other : ℕ) → bucket ≢ other → NoneAt b.shape other own) (still : AreStill own)
+      (adds : (h : List Event) → event.seen (own ++ h) ≡ added ++ event.seen h) (freed : Did b (Freed (number r) bucket counted ∷ []) r s) (free : (bucket_after b.shape (trace s) bucket).holder ≡ None) where
+    abbrev all : List Event
+    all = Freed (number p) bucket counted ∷ (own ++ tries)
+
+    moved_all : Moved b all p s
+    moved_all =
+        let both = moved_then b tries own p q r took_moved m in
+        subst (λ n. Moved b (Freed n bucket counted ∷ (own ++ tries)) p s) (m.same ∙ took_moved.same) (moved_then b (own ++ tries) (Freed (number r) bucket counted ∷ []) p r s both freed.moved)
+
+    none_elsewhere : (other : ℕ) → bucket ≢ other → NoneAt b.shape other all
+    none_elsewhere other apart = (ne_eqb bucket other apart, none_at_both b.shape other own tries (elsewhere other apart) (ne_eqb bucket other apart, bounces_none b.shape other (number p) bucket took.takes.0))
+
+    all_still : AreStill all
+    all_still = (tt, still_both own tries still (tt, bounces_still (number p) bucket took.takes.0))
+
+    lock_apart : (lock : Locked) → locked p ≡ Some lock → bucket ≢ lock.bucket
+    lock_apart lock is same = took.unlocked (quiet.locks ∙ (ap (λ o. option_map (λ (l : Locked). l.bucket) o) is ∙ ap Some (sym same)))
+
+    bit_back : (other : ℕ) → HasBit b.shape (trace s) (number s) other → HasBit b.shape (trace p) (number p) other
+    bit_back other has = ⊎_elim
+        (λ same. absurd (none-some (number s) (sym free ∙ (ap (λ k. (bucket_after b.shape (trace s) k).holder) same ∙ has.1))))
+        (λ apart. bit_before b all p s other moved_all (none_elsewhere other apart) has)
+        (cases_eq bucket other)
+
+    pub write_goes_on : memo s ≡ memo p → locked_of s ≡ locked_of p → is_holding_of s ≡ is_holding_of p → KeepsSegments b s → GoesOn b p s
+    write_goes_on same locks holds segments =
+        let there = settles_still b all p s moved_all all_still (ap (λ (x : Memo). x.holding) same) holds in
+        goes_on b all p s moved_all (quiet_again b all p s quiet (record {
+          moved = moved_all;
+          memo = same;
+          locked_of = locks;
+          holding = holds;
+          segments = segments;
+          bits = bit_back;
+          untouched = λ lock is. none_elsewhere lock.bucket (lock_apart lock is);
+          readings = there.readings;
+          stays = there.stays;
+        }))
+
+    -- its entries are those that were added under the bit
+    pub write_adds : mine s ≡ history.mine (number p) (added ++ seen p)
+    write_adds = moved_mine b all p s moved_all ∙ ap (history.mine (number p))
+        (ap event.seen (append_assoc own tries (trace p)) ∙ (adds (tries ++ trace p) ∙ ap (λ h. added ++ h) (bounces_seen (number p) bucket took.takes.0 (trace p))))
