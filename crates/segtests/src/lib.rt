@@ -1,0 +1,9 @@
+//! The index at work on threads: what no clause says, that calls get on beside each other. This crate has tests alone.
+#![tactic(auto)]
+
+#[cfg(test)]
+mod beside;
+#[cfg(test)]
+mod meeting;
+#[cfg(test)]
+mod passes;
