@@ -4,7 +4,9 @@ ghost use Rattle.segindex.specs.Index.{board_of};
 ghost use Rattle.segindex.specs.Quiet.{IsQuiet};
 
 use crate::{Index, LockAnswer, Pass};
-use segword::{Key, Shape};
+use segbase::Place;
+use segmodel::{RefillAnswer, WriteAnswer};
+use segword::{Key, Shape, Value};
 use std::test::Fail;
 use std::thread::{join, yield_now};
 
@@ -70,5 +72,67 @@ fn two_threads_lock_one_bucket(rt: HostRuntime) -> Result<(), Fail> {
     let info = index.board.glance(&mut first, 0);
     assert!(rt; !info.held);
     assert_eq!(rt; info.version, 0);
+    Ok(())
+}
+
+#[test]
+fn a_set_writes_its_words(rt: HostRuntime) -> Result<(), Fail> {
+    let (index, passes) = Index::new(rt.alloc(), SHAPE)?;
+    let (mut pass, _) = last_two(&index, passes).expect(&rt, "two passes");
+    let key = Key::new(b"a").expect(&rt, "a key");
+    let value = Value::new(b"1").expect(&rt, "a value");
+    assert_eq!(rt; index.refill(&mut pass, 0), RefillAnswer::Refilled);
+    assert_eq!(rt; index.set(&mut pass, &key, &value), WriteAnswer::Stored);
+    // Tag af6, frequency 1, segment 0, row 0.
+    let place = Place { bucket: 0, word: 1 };
+    assert_eq!(rt; index.board.look(&mut pass, place), 0xaf60_1000_0000_0000);
+    let info = index.board.glance(&mut pass, 0);
+    assert!(rt; !info.held);
+    assert_eq!(rt; info.version, 1);
+    Ok(())
+}
+
+// Sets the key so often, again while its bucket is busy. It gives how many sets were stored.
+fn set_in_turn(index: &Index, mut pass: Pass, key: &Key, value: &Value, times: u32) -> (Pass, u32)
+    requires { IsQuiet (board_of index.now) pass }
+    ensures { IsQuiet (board_of index.now) result.0 }
+{
+    let mut stored = 0u32;
+    for _ in 0..TURNS {
+        if stored >= times {
+            break;
+        }
+        match index.set(&mut pass, key, value) {
+            WriteAnswer::Stored => stored += 1,
+            _ => yield_now(),
+        }
+    }
+    (pass, stored)
+}
+
+#[test]
+fn the_version_counts_the_sets_of_two_threads(rt: HostRuntime) -> Result<(), Fail> {
+    let (index, passes) = Index::new(rt.alloc(), SHAPE)?;
+    let (mut first, mut second) = last_two(&index, passes).expect(&rt, "two passes");
+    let a = Key::new(b"a").expect(&rt, "a key");
+    let b = Key::new(b"b").expect(&rt, "a key");
+    let value = Value::new(b"1").expect(&rt, "a value");
+    assert_eq!(rt; index.refill(&mut first, 0), RefillAnswer::Refilled);
+    assert_eq!(rt; index.refill(&mut second, 1), RefillAnswer::Refilled);
+    let ((mut first, stored), (_, stored_too)) = join(
+        &rt,
+        || -> (Pass, u32)
+            requires { IsQuiet (board_of index) first }
+            ensures { IsQuiet (board_of index) result.0 }
+        { set_in_turn(&index, first, &a, &value, 1_000) },
+        || -> (Pass, u32)
+            requires { IsQuiet (board_of index) second }
+            ensures { IsQuiet (board_of index) result.0 }
+        { set_in_turn(&index, second, &b, &value, 1_000) },
+    );
+    assert_eq!(rt; (stored, stored_too), (1_000, 1_000));
+    let info = index.board.glance(&mut first, 0);
+    assert!(rt; !info.held);
+    assert_eq!(rt; info.version, 2_000);
     Ok(())
 }
