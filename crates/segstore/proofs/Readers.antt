@@ -1,11 +1,10 @@
 -- A pass that reads, one call after another.
-use Rattle.std.proofs.Common.{◌≡◌, ℕ, [], ◌∷◌, refl, ◌∙◌}
-use Rattle.segcore.specs.declared.event.Event.TheVariants.{Entered}
+use Rattle.std.proofs.Common.{ℕ, refl, ◌∙◌}
 use Rattle.segbase.specs.declared.board.Board.{Board}
 use Rattle.segbase.specs.declared.pass.Pass.{Pass}
-use Rattle.segbase.specs.Passes.{number, sight, IsPassOf, Moved}
+use Rattle.segbase.specs.Passes.{IsPassOf}
 use Rattle.segbase.proofs.Moves as moves
-use Rattle.segstore.specs.Reading.{Looked, IsReader, IsReaderIn, Leaves}
+use Rattle.segstore.specs.Reading.{Looked, IsReader, IsReaderIn, Enters, Leaves}
 
 pub stays : (b : Board) (p : Pass) → IsPassOf b p → IsReader b p p
 stays b p is = record { reads = moves.reads_nothing b p p (moves.stays b p is); plain = refl; memo = refl }
@@ -13,8 +12,8 @@ stays b p is = record { reads = moves.reads_nothing b p p (moves.stays b p is); 
 pub looks : (b : Board) (p q : Pass) → Looked b p q → IsReader b p q
 looks b p q l = record { reads = moves.reads_nothing b p q l.did.moved; plain = l.plain; memo = l.memo }
 
-pub enters : (b : Board) (p q : Pass) (segment : ℕ) → Moved b (Entered (number p) segment ∷ []) p q → q.plain ≡ p.plain → (sight q).memo ≡ (sight p).memo → IsReaderIn b p q segment
-enters b p q segment m plain memo = record { reads = moves.reads_enter b p q segment m; plain = plain; memo = memo }
+pub enters : (b : Board) (p q : Pass) (segment : ℕ) → Enters b p q segment → IsReaderIn b p q segment
+enters b p q segment i = record { reads = moves.reads_enter b p q segment i.moved; plain = i.plain; memo = i.memo }
 
 pub reader_then : (b : Board) (p q r : Pass) → IsReader b p q → IsReader b q r → IsReader b p r
 reader_then b p q r i j = record { reads = moves.reads_then b p q r i.reads j.reads; plain = j.plain ∙ i.plain; memo = j.memo ∙ i.memo }

@@ -5,7 +5,7 @@ use Rattle.segcore.specs.Lawful.{IsSegment}
 use Rattle.segcore.specs.Kind.{MayRead}
 use Rattle.segbase.specs.declared.board.Board.{Board}
 use Rattle.segbase.specs.declared.pass.Pass.{Pass}
-use Rattle.segcore.specs.declared.event.Event.TheVariants.{Left}
+use Rattle.segcore.specs.declared.event.Event.TheVariants.{Entered, Left}
 use Rattle.segbase.specs.Passes.{sight, number, trace, Did, Moved, Reads, ReadsIn}
 
 -- the pass only looked: it added nothing to what others did, and what it keeps is as it was
@@ -39,6 +39,12 @@ pub record IsReader (b : Board) (p q : Pass) : Type 0 where
 -- and it is in one segment once more
 pub record IsReaderIn (b : Board) (p q : Pass) (segment : ℕ) : Type 0 where
   pub reads : ReadsIn b p q segment
+  pub plain : q.plain ≡ p.plain
+  pub memo : (sight q).memo ≡ (sight p).memo
+
+-- it came into a segment, and did nothing else
+pub record Enters (b : Board) (p q : Pass) (segment : ℕ) : Type 0 where
+  pub moved : Moved b (Entered (number p) segment ∷ []) p q
   pub plain : q.plain ≡ p.plain
   pub memo : (sight q).memo ≡ (sight p).memo
 

@@ -4,7 +4,7 @@ ghost use Rattle.segcore.specs.Lawful.{IsSegment};
 ghost use Rattle.segcore.specs.Segment.{inside};
 ghost use Rattle.segcore.specs.Kind.{enter, May};
 ghost use Rattle.segbase.specs.Passes.{number, trace, IsPassOf};
-ghost use Rattle.segstore.specs.Reading.{IsReaderIn, Leaves};
+ghost use Rattle.segstore.specs.Reading.{Enters, Leaves};
 
 use segbase::{Board, Pass};
 
@@ -12,7 +12,7 @@ use segbase::{Board, Pass};
 pub fn enter_segment(board: &Board, pass: &mut Pass, segment: u32)
     requires pass { IsPassOf board.now pass.old }
     requires may { May board.now.shape (trace pass.old) (number pass.old) (enter segment) }
-    ensures { IsReaderIn board.now pass.old pass.new segment }
+    ensures { Enters board.now pass.old pass.new segment }
 {
     board.enter(pass, segment);
 }
