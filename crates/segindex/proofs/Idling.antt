@@ -3,16 +3,17 @@ use Rattle.std.proofs.Common.{◌≡◌, ℕ, ◌<◌, false, List, [], ◌++◌
 use Rattle.segmodel.specs.History as history
 use Rattle.segcore.specs.declared.event.Event.{Event}
 use Rattle.segcore.specs.Event as event
+use Rattle.segcore.specs.Count.{taken, bounced}
 use Rattle.segcore.specs.Lawful.{NoneAt}
 use Rattle.segbase.specs.declared.board.Board.{Board}
 use Rattle.segbase.specs.declared.law.Memo.{Memo}
 use Rattle.segbase.specs.declared.pass.Plain.{Plain}
 use Rattle.segbase.specs.declared.pass.Pass.{Pass}
 use Rattle.segbase.specs.Passes.{number, trace, Moved}
-use Rattle.segbase.proofs.Moves.{moved_mine, moved_taken, moved_bounced}
+use Rattle.segbase.proofs.Moves.{stays, moved_mine, moved_taken, moved_bounced}
 use Rattle.segstore.proofs.Keeping.{AreCalm, keeps_plain}
 use Rattle.segindex.specs.Quiet.{IsQuiet}
-use Rattle.segindex.specs.Calls.{memo, GoesOn, ChangesNothing}
+use Rattle.segindex.specs.Calls.{memo, GoesOn, ChangesNothing, TakesNoBit}
 use Rattle.segindex.specs.Answers.{IsBusy}
 use Rattle.segindex.specs.Taking.{bounces, TakesBucket}
 use Rattle.segindex.proofs.Bits.{bit_before}
@@ -82,3 +83,18 @@ goes_nowhere b p q quiet m plain same = (goes_idle b [] p q quiet m (idles_none 
 
 pub does_nothing : (b : Board) (p q : Pass) → IsQuiet b p → Moved b [] p q → q.plain ≡ p.plain → memo q ≡ memo p → ChangesNothing p q
 does_nothing b p q quiet m plain same = (goes_idle b [] p q quiet m (idles_none b p) plain same).1
+
+-- nothing was done at all
+pub goes_same : (b : Board) (p : Pass) → IsQuiet b p → GoesOn b p p
+goes_same b p quiet = goes_nowhere b p p quiet (stays b p quiet.pass) refl refl
+
+pub changes_nothing : (p : Pass) → ChangesNothing p p
+changes_nothing p = record { entries = refl; plain = refl; memo = refl }
+
+-- what it did took no bit and met none
+pub took_none : (b : Board) (own : List Event) (p q : Pass) → Moved b own p q → taken (number p) (own ++ trace p) ≡ taken (number p) (trace p)
+    → ((bucket : ℕ) → bounced (number p) bucket (own ++ trace p) ≡ bounced (number p) bucket (trace p)) → TakesNoBit p q
+took_none b own p q m takes meets = record {
+  taken = moved_taken b own p q m ∙ takes;
+  bounced = λ bucket. moved_bounced b own p q bucket m ∙ meets bucket;
+}

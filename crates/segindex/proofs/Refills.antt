@@ -12,7 +12,6 @@ use Rattle.segcore.specs.declared.event.Event.TheVariants.{Refilled}
 use Rattle.segcore.specs.Event.{by}
 use Rattle.segcore.specs.Segment.{inside, NoneRefills}
 use Rattle.segbase.specs.declared.board.Board.{Board}
-use Rattle.segbase.specs.declared.pass.Plain.{Plain}
 use Rattle.segbase.specs.declared.pass.Pass.{Pass}
 use Rattle.segbase.specs.Traces.{own_of}
 use Rattle.segbase.specs.Passes.{number, trace, mine, holding, Moved}
@@ -21,25 +20,13 @@ use Rattle.segbase.proofs.Moves.{moved_inside, moved_mine}
 use Rattle.segstore.specs.Segments.{KeepsSegments}
 use Rattle.segstore.specs.Refilling.{Idles, FillsAnew, IsOutcome}
 use Rattle.segindex.specs.Quiet.{is_held_in, IsQuiet}
-use Rattle.segindex.specs.Calls.{GoesOn, ChangesNothing}
+use Rattle.segindex.specs.Calls.{GoesOn, TakesNoBit}
 use Rattle.segindex.specs.Answers.{IsRead, IsRefillAnswer}
 use Rattle.segindex.proofs.Bits.{bit_before}
 use Rattle.segindex.proofs.Quiet.{Settles, quiet_again, goes_on}
+use Rattle.segindex.proofs.Idling.{goes_same, changes_nothing, goes_nowhere, does_nothing, took_none}
 
 -- ---- quiet again
-
-idles_settles : (b : Board) (p q : Pass) → Idles b p q → KeepsSegments b q → Settles b [] p q
-idles_settles b p q i segments = record {
-  moved = i.moved;
-  memo = i.memo;
-  locked_of = ap (λ (x : Plain). x.locked) i.plain;
-  holding = ap (λ (x : Plain). x.is_holding) i.plain;
-  segments = segments;
-  bits = λ bucket. bit_before b [] p q bucket i.moved tt;
-  untouched = λ lock is. tt;
-  readings = λ s. moved_inside b [] p q s i.moved;
-  stays = λ s there. there;
-}
 
 fills_settles : (b : Board) (s : ℕ) (p q : Pass) → FillsAnew b s p q → KeepsSegments b q → Settles b (Refilled (number p) s ∷ []) p q
 fills_settles b s p q f segments = record {
@@ -54,19 +41,13 @@ fills_settles b s p q f segments = record {
   stays = λ t there. (there, there);
 }
 
-settled : (b : Board) (own : List Event) (p q : Pass) → IsQuiet b p → Settles b own p q → GoesOn b p q
-settled b own p q quiet s = goes_on b own p q s.moved (quiet_again b own p q quiet s)
-
 pub refill_goes_on : (b : Board) (s : ℕ) (r : RefillAnswer) (p q : Pass) → IsQuiet b p → IsOutcome b s r p q → KeepsSegments b q → GoesOn b p q
-refill_goes_on b s refill.Refilled p q quiet is k = settled b (Refilled (number p) s ∷ []) p q quiet (fills_settles b s p q is k)
-refill_goes_on b s refill.NotYours p q quiet is k = settled b [] p q quiet (idles_settles b p q is k)
-refill_goes_on b s refill.NotEvicted p q quiet is k = settled b [] p q quiet (idles_settles b p q is k)
-refill_goes_on b s refill.Held p q quiet is k = settled b [] p q quiet (idles_settles b p q is.0 k)
+refill_goes_on b s refill.Refilled p q quiet is k = let own = Refilled (number p) s ∷ [] in goes_on b own p q is.moved (quiet_again b own p q quiet (fills_settles b s p q is k))
+refill_goes_on b s refill.NotYours p q quiet is k = rw is (goes_same b p quiet)
+refill_goes_on b s refill.NotEvicted p q quiet is k = rw is (goes_same b p quiet)
+refill_goes_on b s refill.Held p q quiet is k = goes_nowhere b p q quiet is.0.moved is.0.plain is.0.memo
 
 -- ---- the answer
-
-nothing : (b : Board) (p q : Pass) → Idles b p q → ChangesNothing p q
-nothing b p q i = record { entries = moved_mine b [] p q i.moved; plain = i.plain; memo = i.memo }
 
 -- a reader that is the pass itself holds an item there
 held_there : (t : Bool) → (let n : ℕ = cond t 1 0 in 0 < n) → t ≡ true
@@ -91,9 +72,22 @@ refill_answers b s refill.Refilled p q quiet is = record {
   is_holding = is.is_holding;
   memo = is.memo;
 }
-refill_answers b s refill.NotYours p q quiet is = nothing b p q is
-refill_answers b s refill.NotEvicted p q quiet is = nothing b p q is
-refill_answers b s refill.Held p q quiet is = (nothing b p q is.0, is_read b s is.1.0 p q quiet is.0 is.1.1)
+refill_answers b s refill.NotYours p q quiet is = rw is (changes_nothing p)
+refill_answers b s refill.NotEvicted p q quiet is = rw is (changes_nothing p)
+refill_answers b s refill.Held p q quiet is = (does_nothing b p q quiet is.0.moved is.0.plain is.0.memo, is_read b s is.1.0 p q quiet is.0 is.1.1)
+
+pub refill_takes_none : (b : Board) (s : ℕ) (r : RefillAnswer) (p q : Pass) → IsOutcome b s r p q → TakesNoBit p q
+refill_takes_none b s refill.Refilled p q is = took_none b (Refilled (number p) s ∷ []) p q is.moved refl (λ bucket. refl)
+refill_takes_none b s refill.NotYours p q is = rw is (record { taken = refl; bounced = λ bucket. refl })
+refill_takes_none b s refill.NotEvicted p q is = rw is (record { taken = refl; bounced = λ bucket. refl })
+refill_takes_none b s refill.Held p q is = took_none b [] p q is.0.moved refl (λ bucket. refl)
+
+-- a segment of another's, or in use, is left at once
+pub not_yours_same : (b : Board) (s : ℕ) (r : RefillAnswer) (p q : Pass) → IsOutcome b s r p q → r ≡ refill.NotYours → q ≡ p
+not_yours_same b s r p q is e = subst (λ x. IsOutcome b s x p q) e is
+
+pub in_use_same : (b : Board) (s : ℕ) (r : RefillAnswer) (p q : Pass) → IsOutcome b s r p q → r ≡ refill.NotEvicted → q ≡ p
+in_use_same b s r p q is e = subst (λ x. IsOutcome b s x p q) e is
 
 -- ---- a segment in which the pass holds an item
 

@@ -66,7 +66,7 @@ is_full b key f is clean none whole =
     let long = wide z h k is.lawful clean.undrawn in
     let enough = (says_of_buckets z h is.lawful).enough in record {
       new = ap (λ g. standing (after z g) key) same ∙ none.absent;
-      taken = ap (λ g. keys_in z (after z g) k) same ∙ omega (arith, full, long);
+      full = ap (λ g. keys_in z (after z g) k) same ∙ omega (arith, full, long);
       last = inr (omega (arith, enough, whole));
     }
 

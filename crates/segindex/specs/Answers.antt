@@ -51,7 +51,7 @@ IsBusy bucket p q = (locked_of p ≡ Some bucket) ⊎ ((bounced q bucket ≡ bou
 -- a new key finds no word in its bucket: all its words are taken, and its chain can't grow
 pub record IsFull (shape : Shape) (marks : List Mark) (key : List ℕ) : Type 0 where
   pub new : standing (after shape (entries marks)) key ≡ None
-  pub taken : keys_in shape (after shape (entries marks)) (bucket_of shape key) ≡ 6 * width marks (bucket_of shape key) + 1
+  pub full : keys_in shape (after shape (entries marks)) (bucket_of shape key) ≡ 6 * width marks (bucket_of shape key) + 1
   pub last : (width marks (bucket_of shape key) ≡ 4) ⊎ (all_drawn marks ≡ shape.overflow)
 
 abbrev pub WasFull : Shape → List ℕ → List Mark → List Mark → Type 0
@@ -92,13 +92,15 @@ IsSetAnswer _ = Unit {0}
 
 -- ---- locks
 
--- the bucket is locked, as of what the pass has seen now
+-- the bucket is locked, as of what the pass has seen now: it took one bit for that
 pub record Locks (bucket : ℕ) (p q : Pass) : Type 0 where
   pub entries : mine q ≡ mine p
   pub lock : Locked
   pub locked : locked q ≡ Some lock
   pub of : lock.bucket ≡ bucket
   pub since : lock.trace ≡ trace q
+  pub history : event.seen lock.trace ≡ seen q
+  pub taken : taken q ≡ taken p + 1
   pub locked_of : locked_of q ≡ Some bucket
   pub current : current_of q ≡ current_of p
   pub segments : SameSegments p q

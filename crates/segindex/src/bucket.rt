@@ -1,5 +1,5 @@
 //! Buckets taken and given back, for the time of a call or locked for longer.
-ghost use Rattle.std.specs.Prelude.{◌≡◌, ◌≢◌, ◌<◌, ◌↔◌, is_some, None, IfSome};
+ghost use Rattle.std.specs.Prelude.{◌≡◌, ◌≢◌, ◌<◌, ◌↔◌, is_some, None, IfSome, false};
 ghost use Rattle.segcore.specs.Kind.{HasBit};
 ghost use Rattle.segindex.specs.declared.bucket.LockAnswer.TheVariants as lock;
 
@@ -25,7 +25,7 @@ impl Index {
     ghost use Rattle.segbase.specs.Plain.{locked_of};
     ghost use Rattle.segindex.specs.Index.{board_of, shape_of};
     ghost use Rattle.segindex.specs.Quiet.{IsQuiet};
-    ghost use Rattle.segindex.specs.Calls.{memo, GoesOn};
+    ghost use Rattle.segindex.specs.Calls.{memo, GoesOn, TakesNoBit};
     ghost use Rattle.segindex.specs.Answers.{IsLockAnswer, IsUnlockAnswer};
     ghost use Rattle.segindex.specs.Taking.{TakesBucket, SetsLock};
 
@@ -35,6 +35,7 @@ impl Index {
         ensures goes_on { GoesOn (board_of self.now) pass.old pass.new }
         ensures answer { IsLockAnswer (shape_of self.now) key.now result pass.old pass.new }
         ensures already { (result ≡ lock.AlreadyLocked) ↔ (locked_of pass.old ≢ None) }
+        ensures untouched { result ≡ lock.AlreadyLocked → pass.new ≡ pass.old }
     {
         if pass.locked().is_some() {
             return LockAnswer::AlreadyLocked;
@@ -53,6 +54,8 @@ impl Index {
         ensures goes_on { GoesOn (board_of self.now) pass.old pass.new }
         ensures answer { IsUnlockAnswer (shape_of self.now) result pass.old pass.new }
         ensures was_locked { result ≡ is_some (locked_of pass.old) }
+        ensures takes_no_bit { TakesNoBit pass.old pass.new }
+        ensures untouched { result ≡ false → pass.new ≡ pass.old }
     {
         let Some(bucket) = pass.locked() else {
             return false;

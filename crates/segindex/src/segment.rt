@@ -1,5 +1,5 @@
 //! Segments given out again.
-ghost use Rattle.std.specs.Prelude.{◌≡◌, ◌↔◌, Some, None, true};
+ghost use Rattle.std.specs.Prelude.{◌≡◌, ◌↔◌, ◌⊎◌, Some, None, true};
 ghost use Rattle.segmodel.specs.declared.answer.RefillAnswer.TheVariants.{NotYours, NotEvicted, Held};
 ghost use Rattle.segmodel.specs.declared.answer.SegState.TheVariants.{InUse, Evicted};
 
@@ -12,7 +12,7 @@ impl Index {
     ghost use Rattle.segbase.specs.Plain.{state_of};
     ghost use Rattle.segindex.specs.Index.{board_of};
     ghost use Rattle.segindex.specs.Quiet.{is_held_in, IsQuiet};
-    ghost use Rattle.segindex.specs.Calls.{GoesOn};
+    ghost use Rattle.segindex.specs.Calls.{GoesOn, TakesNoBit};
     ghost use Rattle.segindex.specs.Answers.{IsRefillAnswer};
 
     /// Makes a segment of the pass's own, in which no key stands and no item is read or held, the one that it stores into.
@@ -22,6 +22,8 @@ impl Index {
         ensures answer { IsRefillAnswer segment result pass.old pass.new }
         ensures not_yours { (result ≡ NotYours) ↔ (state_of pass.old segment ≡ None) }
         ensures in_use { (result ≡ NotEvicted) ↔ (state_of pass.old segment ≡ Some InUse) }
+        ensures takes_no_bit { TakesNoBit pass.old pass.new }
+        ensures untouched { (result ≡ NotYours) ⊎ (result ≡ NotEvicted) → pass.new ≡ pass.old }
         ensures held { state_of pass.old segment ≡ Some Evicted → is_held_in (holding pass.old) segment ≡ true → result ≡ Held }
     {
         segstore::refill(&self.board, pass, segment)

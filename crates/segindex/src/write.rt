@@ -34,6 +34,7 @@ impl Index {
         ensures on { GoesOn (board_of self.now) pass.old pass.new }
         ensures answer { IsWriteAnswer (shape_of self.now) (Set key.now value.now) result pass.old pass.new }
         ensures set { IsSetAnswer result }
+        ensures untouched { result ≡ write.NoRoom → pass.new ≡ pass.old }
         ensures no_room { (result ≡ write.NoRoom) ↔ (has_room (shape_of self.now) pass.old ≡ false) }
         ensures locked { has_room (shape_of self.now) pass.old ≡ true → locked_of pass.old ≡ Some (bucket_of (shape_of self.now) key.now) → result ≡ write.Busy }
     {

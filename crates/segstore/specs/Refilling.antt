@@ -28,9 +28,9 @@ pub record FillsAnew (b : Board) (segment : ℕ) (p q : Pass) : Type 0 where
   pub is_holding : is_holding_of q ≡ is_holding_of p
   pub memo : (sight q).memo ≡ (sight p).memo
 
--- a segment that wasn't refilled because it is read has a reader at that moment
+-- a segment of another's or in use is left at once; one that wasn't refilled because it is read has a reader at that moment
 abbrev pub IsOutcome : Board → ℕ → RefillAnswer → Pass → Pass → Type 0
 IsOutcome b segment Refilled p q = FillsAnew b segment p q
-IsOutcome b segment NotYours p q = Idles b p q
-IsOutcome b segment NotEvicted p q = Idles b p q
+IsOutcome b segment NotYours p q = q ≡ p
+IsOutcome b segment NotEvicted p q = q ≡ p
 IsOutcome b segment Held p q = Idles b p q × ((other : ℕ) × (0 < inside (trace q) other segment))

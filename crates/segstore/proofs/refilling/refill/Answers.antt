@@ -3,14 +3,14 @@ use Rattle.std.proofs.lemmas.Bool.{false≢true}
 use Rattle.segmodel.specs.declared.answer.SegState.TheVariants.{InUse}
 use Rattle.segbase.proofs.Owned.{moved_still}
 use Rattle.segstore.proofs.Keeping.{owns_stated, same_plain, then_owner, same_memo, keeps_plain, keeps_refilled}
-use Rattle.segstore.proofs.Refills.{idles, may_refill, is_read, did_refill}
+use Rattle.segstore.proofs.Refills.{may_refill, is_read, did_refill}
 use Rattle.segstore.proofs.refilling.refill.Goals as goal
 
 pub returns-in_default-clause-outcome : goal.returns-in_default-clause-outcome
-returns-in_default-clause-outcome c = idles _ _ c.requires.pass
+returns-in_default-clause-outcome c = refl
 
 pub returns-then-eq-clause-outcome : goal.returns-then-eq-clause-outcome
-returns-then-eq-clause-outcome c = idles _ _ c.requires.pass
+returns-then-eq-clause-outcome c = refl
 
 pub none_reading-requires : goal.none_reading-requires
 none_reading-requires c =

@@ -1,4 +1,5 @@
-use Rattle.segindex.proofs.Refills.{refill_goes_on, refill_answers, refill_held}
+use Rattle.std.proofs.Common.{⊎_elim}
+use Rattle.segindex.proofs.Refills.{refill_goes_on, refill_answers, refill_takes_none, not_yours_same, in_use_same, refill_held}
 use Rattle.segindex.proofs.index.Index.refill.Goals as goal
 
 pub refill-requires : goal.refill-requires
@@ -9,6 +10,12 @@ returns-clause-on c = let r = c.refill.ensures in refill_goes_on _ c.args.segmen
 
 pub returns-clause-answer : goal.returns-clause-answer
 returns-clause-answer c = refill_answers _ c.args.segment c.refill.result _ _ c.requires.pass c.refill.ensures.outcome
+
+pub returns-clause-takes_no_bit : goal.returns-clause-takes_no_bit
+returns-clause-takes_no_bit c = refill_takes_none _ c.args.segment c.refill.result _ _ c.refill.ensures.outcome
+
+pub returns-clause-untouched : goal.returns-clause-untouched
+returns-clause-untouched c either = ⊎_elim (not_yours_same _ c.args.segment c.refill.result _ _ c.refill.ensures.outcome) (in_use_same _ c.args.segment c.refill.result _ _ c.refill.ensures.outcome) either
 
 pub returns-clause-held : goal.returns-clause-held
 returns-clause-held c = let r = c.refill.ensures in refill_held _ c.args.segment c.refill.result _ _ c.requires.pass r.outcome r.not_yours.0 r.in_use.0

@@ -1,6 +1,6 @@
 use Rattle.std.proofs.Common.{sym}
 use Rattle.segindex.proofs.Quiet.{has_locked}
-use Rattle.segindex.proofs.Locking.{unlocks_bucket}
+use Rattle.segindex.proofs.Locking.{takes_none, unlocks_bucket}
 use Rattle.segindex.proofs.index.Index.unlock_bucket.Goals as goal
 
 pub release-requires : goal.release-requires
@@ -12,6 +12,10 @@ release-requires c =
 pub returns-clause-goes_on : goal.returns-clause-goes_on
 returns-clause-goes_on c = let step = c.release.ensures.step.1 in
     (unlocks_bucket c.args.self.now.board c.args.pass.now c.release.new.pass c.set_lock.new.pass c.in-Some.bucket c.requires.quiet (sym c.in-Some.ensures) c.release.ensures.did c.release.ensures.free step.plain step.memo c.set_lock.ensures.pass c.set_lock.ensures.sets).0
+
+pub returns-clause-takes_no_bit : goal.returns-clause-takes_no_bit
+returns-clause-takes_no_bit c = let step = c.release.ensures.step.1 in
+    takes_none c.args.self.now.board c.args.pass.now c.release.new.pass c.set_lock.new.pass c.in-Some.bucket c.requires.quiet (sym c.in-Some.ensures) c.release.ensures.did c.release.ensures.free step.plain step.memo c.set_lock.ensures.pass c.set_lock.ensures.sets
 
 pub returns-clause-answer : goal.returns-clause-answer
 returns-clause-answer c = let step = c.release.ensures.step.1 in
