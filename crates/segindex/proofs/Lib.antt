@@ -26,3 +26,4 @@ pub mod Filling
 pub mod Storing
 pub mod UnderWrite
 pub mod Sets
+pub mod QuietPass

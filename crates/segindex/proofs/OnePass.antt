@@ -1,22 +1,26 @@
 -- Where an index has one pass, all that has happened is that pass's.
-use Rattle.std.proofs.Common.{◌≡◌, ℕ, ◌+◌, ◌*◌, ◌≤◌, eqb, List, [], ◌∷◌, Some, refl, sym, ap, ◌∙◌, subst, ⊎_elim, append-nil, arith}
+use Rattle.std.proofs.Common.{◌≡◌, ◌≢◌, ℕ, List, [], ◌∷◌, Some, refl, sym, ap, ◌∙◌, ⊎_elim, append-nil, arith}
 use Rattle.std.proofs.lemmas.Bool.{cases_Bool, cond-true, cond-false}
 use Rattle.std.proofs.lemmas.Option.{none-some, same_Some}
 use Rattle.segword.specs.declared.shape.Shape.{Shape}
 use Rattle.segcore.specs.declared.event.Event.{Event}
 use Rattle.segcore.specs.declared.event.Event.TheVariants.{Took, Bounced, Freed}
-use Rattle.segcore.specs.Event.{by, seen, AllBy}
+use Rattle.segcore.specs.Event.{by, seen, NoneBy, AllBy}
 use Rattle.segcore.specs.Bucket.{Bucket, bucket_at, is, acts, bucket_after}
 use Rattle.segcore.specs.Count.{bounced}
 use Rattle.segcore.specs.Lawful.{IsOther, IsLawful}
+use Rattle.segcore.specs.Segment.{inside}
 use Rattle.segcore.proofs.Counts.{mine_own}
-use Rattle.segcore.specs.Mark.{Mark, drawn, marked, drawn_for, chained_to, all_drawn}
-use Rattle.segcore.proofs.KeyCounts.{counted_few}
-use Rattle.segcore.proofs.Limits.{drawn_few}
-use Rattle.segcore.proofs.Marked.{chained_marked, drawn_marked}
-use Rattle.segcore.proofs.Orderly.{all_drawn_marked}
-use Rattle.segmodel.specs.Cache.{keys_in}
-use Rattle.segmodel.specs.History.{after, mine}
+use Rattle.segcore.proofs.Quiet.{quiet_inside}
+use Rattle.segbase.specs.declared.board.Board.{Board}
+use Rattle.segbase.specs.declared.pass.Pass.{Pass}
+use Rattle.segbase.specs.Passes.{number, trace}
+use Rattle.segbase.specs.Passes as passes
+use Rattle.segbase.specs.Plain.{locked_of}
+use Rattle.segindex.specs.Quiet.{IsQuiet}
+use Rattle.segindex.specs.Answers.{IsBusy}
+use Rattle.segmodel.specs.History.{mine, entries_of, stirred}
+use Rattle.segmodel.specs.Places.{bucket_of}
 
 pub all_mine : (p : ℕ) (h : List Event) → AllBy p h → mine p (seen h) ≡ seen h
 all_mine p h all = ap (λ x. mine p (seen x)) (sym (append-nil h)) ∙ (mine_own p h [] all ∙ append-nil (seen h))
@@ -42,16 +46,28 @@ none_bounced z p b (Bounced q a ∷ h) l all = let other : IsOther q (bucket_aft
     absurd (other.2 (alone_holds z p a other.0 h all.1 other.1 ∙ sym all.0))
 none_bounced z p b (e ∷ h) l all = none_bounced z p b h l.0 all.1
 
-drawn_fewer : (marks : List Mark) (b : ℕ) → drawn_for marks b ≤ all_drawn marks
-drawn_fewer [] b = omega arith
-drawn_fewer (drawn a ∷ marks) b = let few = drawn_fewer marks b in ⊎_elim (λ t. rw t (omega arith)) (λ f. rw f (omega arith)) (cases_Bool (eqb a b))
-drawn_fewer (mark ∷ marks) b = drawn_fewer marks b
+none_by : (p other : ℕ) (h : List Event) → other ≢ p → AllBy p h → NoneBy other h
+none_by p other [] apart all = tt
+none_by p other (e ∷ h) apart all = ((λ same. apart (sym same ∙ all.0)), none_by p other h apart all.1)
 
--- a chain has no more overflow buckets than were drawn
-pub chained_few : (z : Shape) (b : ℕ) (h : List Event) → IsLawful z h → chained_to (marked h) b ≤ z.overflow
-chained_few z b h l =
-    let drew = drawn_fewer (marked h) b in let all = all_drawn_marked h in let few = drawn_few z h l in
-    let joined = drawn_marked z h b l in let as_marked = chained_marked z h b in omega arith
+-- nobody else is in a segment
+pub nobody_inside : (p other s : ℕ) (h : List Event) → other ≢ p → AllBy p h → inside h other s ≡ 0
+nobody_inside p other s h apart all = ap (λ g. inside g other s) (sym (append-nil h)) ∙ quiet_inside h [] other s (none_by p other h apart all)
 
-pub keys_few : (z : Shape) (b : ℕ) (h : List Event) → IsLawful z h → keys_in z (after z (seen h)) b ≤ 6 * chained_to (marked h) b + 7
-keys_few z b h l = subst (λ n. keys_in z (after z (seen h)) b ≤ 6 * n + 7) (sym (chained_marked z h b)) (counted_few z h b l)
+-- ---- a pass that is alone, before a call and after it
+
+pub free_of_others : (b : Board) (p : Pass) (bucket : ℕ) → IsQuiet b p → b.shape.passes ≡ 1 → passes.bounced p bucket ≡ 0
+free_of_others b p bucket quiet one = none_bounced b.shape (number p) bucket (trace p) quiet.pass.lawful (quiet.pass.alone one)
+
+-- only its own lock refuses it
+pub busy_by_lock : (b : Board) (p q : Pass) (bucket : ℕ) → IsQuiet b p → IsQuiet b q → b.shape.passes ≡ 1 → IsBusy bucket p q → locked_of p ≡ Some bucket
+busy_by_lock b p q bucket before after one busy = ⊎_elim
+    (λ locked. locked)
+    (λ met. let none = free_of_others b p bucket before one in let still = free_of_others b q bucket after one in let more = met.0 in absurd (omega arith))
+    busy
+
+-- with no entry of its own there is none
+pub none_stirred : (b : Board) (p q : Pass) (key : List ℕ) → IsQuiet b p → IsQuiet b q → b.shape.passes ≡ 1 → passes.mine q ≡ passes.mine p → stirred b.shape key (passes.seen p) (passes.seen q) ≡ 0
+none_stirred b p q key before after one same =
+    let now : passes.seen q ≡ passes.seen p = sym (all_mine (number q) (trace q) (after.pass.alone one)) ∙ (same ∙ all_mine (number p) (trace p) (before.pass.alone one)) in
+    let count : entries_of b.shape (bucket_of b.shape key) (passes.seen q) ≡ entries_of b.shape (bucket_of b.shape key) (passes.seen p) = ap (entries_of b.shape (bucket_of b.shape key)) now in omega arith

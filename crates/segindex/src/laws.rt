@@ -1,18 +1,37 @@
 //! Laws of quiet passes, beside what the calls say. These functions do nothing: their contracts are the theorems.
-ghost use Rattle.std.specs.Prelude.{◌≡◌, ℕ, ◌+◌, ◌*◌, ◌≤◌};
+ghost use Rattle.std.specs.Prelude.{◌≡◌, ◌≢◌, ℕ, ◌+◌, ◌*◌, ◌<◌, ◌≤◌, ◌↔◌, nat_lt, is_some, IsSome, List, Some};
+ghost use Rattle.segmodel.specs.Places.{owner};
 ghost use Rattle.segmodel.specs.Cache.{keys_in};
-ghost use Rattle.segmodel.specs.History.{after};
-ghost use Rattle.segcore.specs.Mark.{chained_to};
+ghost use Rattle.segmodel.specs.History.{IsLegal, after, stirred};
+ghost use Rattle.segcore.specs.Mark.{entries, chained_to, linked_in};
+ghost use Rattle.segcore.specs.Segment.{inside};
+ghost use Rattle.segcore.specs.Lawful.{IsSegment};
+ghost use Rattle.segbase.specs.declared.law.Locked.{Locked};
 ghost use Rattle.segbase.specs.declared.pass.Pass.{Pass};
-ghost use Rattle.segbase.specs.Passes.{marked, seen, mine, bounced};
+ghost use Rattle.segbase.specs.Passes.{number, trace, marked, seen, mine, bounced, locked};
+ghost use Rattle.segbase.specs.Plain.{state_of, used_of, locked_of};
 ghost use Rattle.segindex.specs.declared.index.Index.{Index};
 ghost use Rattle.segindex.specs.Index.{board_of, shape_of};
 ghost use Rattle.segindex.specs.Quiet.{IsQuiet};
+ghost use Rattle.segindex.specs.Answers.{IsBusy, NoneSince};
 
-/// Where an index has one pass, each entry that it has seen is its own, and no bit that it met was another's. Of any index: seven keys of a bucket stand at most, and six more for each overflow bucket that joined its chain, and no more of these joined than there are.
+/// What a quiet pass has seen is a history of a cache of one thread, with marks. It knows just its own segments, and of their rows those are used that an item was linked to. No entry came into the bucket that it has locked. Seven keys of a bucket stand at most, and six more for each overflow bucket that joined its chain, and no more of these joined than there are.
+pub fn quiet_pass()
+    ensures legal { (index : Index) (pass : Pass) → IsQuiet (board_of index) pass → IsLegal (shape_of index) (seen pass) }
+    ensures unmarked { (index : Index) (pass : Pass) → IsQuiet (board_of index) pass → entries (marked pass) ≡ seen pass }
+    ensures owned { (index : Index) (pass : Pass) (segment : ℕ) → IsQuiet (board_of index) pass → IsSome (state_of pass segment) ↔ (owner (shape_of index) segment ≡ number pass) }
+    ensures in_table { (index : Index) (pass : Pass) (segment : ℕ) → IsQuiet (board_of index) pass → IsSome (state_of pass segment) → IsSegment (shape_of index) segment }
+    ensures rows { (index : Index) (pass : Pass) (segment used row : ℕ) → IsQuiet (board_of index) pass → used_of pass segment ≡ Some used → row < (shape_of index).rows → is_some (linked_in (marked pass) segment row) ≡ nat_lt row used }
+    ensures locked { (index : Index) (pass : Pass) (lock : Locked) → IsQuiet (board_of index) pass → locked pass ≡ Some lock → NoneSince (shape_of index) lock (seen pass) }
+    ensures few_keys { (index : Index) (pass : Pass) (bucket : ℕ) → IsQuiet (board_of index) pass → keys_in (shape_of index) (after (shape_of index) (seen pass)) bucket ≤ 6 * chained_to (marked pass) bucket + 7 }
+    ensures few_chained { (index : Index) (pass : Pass) (bucket : ℕ) → IsQuiet (board_of index) pass → chained_to (marked pass) bucket ≤ (shape_of index).overflow }
+{}
+
+/// Where an index has one pass, each entry that it has seen is its own, no bit that it met was another's, and nobody else is in a segment. It is Busy only at the bucket that it has locked itself, and while it adds no entry nothing is stirred.
 pub fn one_pass()
     ensures own { (index : Index) (pass : Pass) → IsQuiet (board_of index) pass → (shape_of index).passes ≡ 1 → mine pass ≡ seen pass }
     ensures free { (index : Index) (pass : Pass) (bucket : ℕ) → IsQuiet (board_of index) pass → (shape_of index).passes ≡ 1 → bounced pass bucket ≡ 0 }
-    ensures few_keys { (index : Index) (pass : Pass) (bucket : ℕ) → IsQuiet (board_of index) pass → keys_in (shape_of index) (after (shape_of index) (seen pass)) bucket ≤ 6 * chained_to (marked pass) bucket + 7 }
-    ensures few_chained { (index : Index) (pass : Pass) (bucket : ℕ) → IsQuiet (board_of index) pass → chained_to (marked pass) bucket ≤ (shape_of index).overflow }
+    ensures nobody { (index : Index) (pass : Pass) (other segment : ℕ) → IsQuiet (board_of index) pass → (shape_of index).passes ≡ 1 → other ≢ number pass → inside (trace pass) other segment ≡ 0 }
+    ensures unbusy { (index : Index) (before after : Pass) (bucket : ℕ) → IsQuiet (board_of index) before → IsQuiet (board_of index) after → (shape_of index).passes ≡ 1 → IsBusy bucket before after → locked_of before ≡ Some bucket }
+    ensures still { (index : Index) (before now : Pass) (key : List ℕ) → IsQuiet (board_of index) before → IsQuiet (board_of index) now → (shape_of index).passes ≡ 1 → mine now ≡ mine before → stirred (shape_of index) key (seen before) (seen now) ≡ 0 }
 {}

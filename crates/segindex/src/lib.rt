@@ -15,5 +15,5 @@ mod write;
 
 pub use bucket::LockAnswer;
 pub use index::Index;
-pub use laws::one_pass;
+pub use laws::{one_pass, quiet_pass};
 pub use segbase::{MakeFault, Pass};

@@ -1,0 +1,58 @@
+-- What is so of every quiet pass: what it has seen, and its own segments, rows and lock.
+use Rattle.std.proofs.Common.{◌≡◌, ℕ, ◌+◌, ◌*◌, ◌<◌, ◌≤◌, eqb, [], ◌∷◌, ⊎_elim, arith, nat_lt, List, is_some, Some, ap, sym, ◌∙◌, subst}
+use Rattle.std.proofs.lemmas.Bool.{cases_Bool}
+use Rattle.std.specs.Prelude.{◌↔◌, IsSome}
+use Rattle.segword.specs.declared.shape.Shape.{Shape}
+use Rattle.segmodel.specs.Places.{owner}
+use Rattle.segmodel.specs.Cache.{keys_in}
+use Rattle.segmodel.specs.History.{after}
+use Rattle.segmodel.specs.History as history
+use Rattle.segcore.specs.declared.event.Event.{Event}
+use Rattle.segcore.specs.Event.{seen}
+use Rattle.segcore.specs.Lawful.{IsLawful}
+use Rattle.segcore.specs.Mark.{Mark, drawn, linked_in, chained_to, drawn_for, all_drawn, marked}
+use Rattle.segcore.proofs.KeyCounts.{counted_few}
+use Rattle.segcore.proofs.Limits.{drawn_few}
+use Rattle.segcore.proofs.Marked.{chained_marked, drawn_marked}
+use Rattle.segcore.proofs.Moments.{seen_begins}
+use Rattle.segcore.proofs.Orderly.{all_drawn_marked, linked_marked}
+use Rattle.segbase.specs.declared.board.Board.{Board}
+use Rattle.segbase.specs.declared.law.Locked.{Locked}
+use Rattle.segbase.specs.declared.pass.Pass.{Pass}
+use Rattle.segbase.specs.Passes.{number, trace, locked}
+use Rattle.segbase.specs.Passes as passes
+use Rattle.segbase.specs.Plain.{state_of, used_of}
+use Rattle.segbase.proofs.Owned.{owns_state, state_owned}
+use Rattle.segindex.specs.Quiet.{IsQuiet}
+use Rattle.segindex.specs.Answers.{NoneSince}
+use Rattle.segindex.proofs.Meanwhile.{none_entries}
+
+-- a pass knows just the segments that it owns
+pub owned : (b : Board) (p : Pass) (s : ℕ) → IsQuiet b p → IsSome (state_of p s) ↔ (owner b.shape s ≡ number p)
+owned b p s quiet = (owns_state b p s quiet.pass, state_owned b p s quiet.pass)
+
+pub rows : (b : Board) (p : Pass) (s used row : ℕ) → IsQuiet b p → used_of p s ≡ Some used → row < b.shape.rows → is_some (linked_in (passes.marked p) s row) ≡ nat_lt row used
+rows b p s used row quiet is lt = ap is_some (linked_marked (trace p) s row) ∙ quiet.segments.rows s used row is lt
+
+-- nothing came into the bucket since it was locked
+pub none_since : (b : Board) (p : Pass) (lock : Locked) → IsQuiet b p → locked p ≡ Some lock → NoneSince b.shape lock (passes.seen p)
+none_since b p lock quiet is = let old = quiet.lock lock is in (
+  seen_begins lock.trace (trace p) (old.more, old.since),
+  ap (λ h. history.entries_of b.shape lock.bucket (seen h)) old.since ∙ none_entries b.shape lock.bucket old.more lock.trace old.still,
+)
+
+-- ---- chains
+
+drawn_fewer : (marks : List Mark) (b : ℕ) → drawn_for marks b ≤ all_drawn marks
+drawn_fewer [] b = omega arith
+drawn_fewer (drawn a ∷ marks) b = let few = drawn_fewer marks b in ⊎_elim (λ t. rw t (omega arith)) (λ f. rw f (omega arith)) (cases_Bool (eqb a b))
+drawn_fewer (mark ∷ marks) b = drawn_fewer marks b
+
+-- a chain has no more overflow buckets than were drawn
+pub chained_few : (z : Shape) (b : ℕ) (h : List Event) → IsLawful z h → chained_to (marked h) b ≤ z.overflow
+chained_few z b h l =
+    let drew = drawn_fewer (marked h) b in let all = all_drawn_marked h in let few = drawn_few z h l in
+    let joined = drawn_marked z h b l in let as_marked = chained_marked z h b in omega arith
+
+pub keys_few : (z : Shape) (b : ℕ) (h : List Event) → IsLawful z h → keys_in z (after z (seen h)) b ≤ 6 * chained_to (marked h) b + 7
+keys_few z b h l = subst (λ n. keys_in z (after z (seen h)) b ≤ 6 * n + 7) (sym (chained_marked z h b)) (counted_few z h b l)
