@@ -1,77 +1,123 @@
--- The state after a refill.
-use Rattle.std.proofs.Common.{◌≡◌, ◌≢◌, ℕ, ◌<◌, ◌≤◌, ◌==◌, true, false, cond, List, [], length, slice_index_or, Option, Some, None, refl, sym, ap, subst, ◌∙◌, arith, eq-eqb}
-use Rattle.std.proofs.lemmas.Bool.{ne_eqb, lt-ltb}
+-- With one pass, a refill is served as the model says.
+use Rattle.std.proofs.Common.{◌≡◌, ◌≢◌, ℕ, true, cond, [], ◌∷◌, length, is_some, Option, Some, None, refl, sym, ap, ◌∙◌, inl, inr, arith}
+use Rattle.std.specs.Prelude.{◌↔◌}
+use Rattle.std.proofs.lemmas.Bool.{false≢true}
 use Rattle.segword.specs.declared.shape.Shape.{Shape}
+use Rattle.segmodel.specs.declared.entry.Entry.TheVariants as entry
 use Rattle.segmodel.specs.declared.answer.SegState.{SegState}
 use Rattle.segmodel.specs.declared.answer.SegState.TheVariants.{Empty, InUse, Evicted}
+use Rattle.segmodel.specs.declared.answer.RefillAnswer.{RefillAnswer}
 use Rattle.segmodel.specs.declared.answer.RefillAnswer.TheVariants as refill
 use Rattle.segmodel.specs.declared.answer.Answer.TheVariants as answer
 use Rattle.segmodel.specs.declared.answer.Command.TheVariants as command
+use Rattle.segmodel.specs.declared.answer.Turn.TheVariants as turn
+use Rattle.segmodel.specs.declared.answer.Outcome.TheVariants as outcome
 use Rattle.segmodel.specs.Cache.{with_at}
-use Rattle.segmodel.specs.State.{State}
-use Rattle.segmodel.specs.Serving.{Serves, is_own, is_held, refill_answer, after_refill}
-use Rattle.segrun.specs.declared.words.Segment.{Segment}
-use Rattle.segrun.specs.Layout.{item_at, row_start, segment_part, RowHolds}
-use Rattle.segrun.specs.Words.{IsAt, IsFilled, IsLive}
+use Rattle.segmodel.specs.History.{after}
+use Rattle.segmodel.specs.State.{Filling, State}
+use Rattle.segmodel.specs.Serving.{is_own, is_held, refill_answer, after_refill}
+use Rattle.segbase.specs.declared.pass.Pass.{Pass}
+use Rattle.segbase.specs.Passes.{seen, number, holding}
+use Rattle.segbase.specs.Plain.{state_of, used_of, is_holding_of}
+use Rattle.segindex.specs.Calls.{ChangesNothing}
+use Rattle.segindex.specs.Quiet.{is_held_in}
+use Rattle.segindex.specs.Answers.{IsRead, Refills, IsRefillAnswer}
+use Rattle.segrun.specs.Passes.{if_own, IsAt, ServesTurn}
+use Rattle.segrun.proofs.OnePass.{same_at, Alone, same_seen, one_more_seen, own_is, not_own, none_if}
+use Rattle.segrun.proofs.Sets.{with_at-same, with_at-other, by_segment}
 
-abbrev begun : Segment
-begun = record { state = InUse; used = 0 }
+other_answer : refill.Refilled ≢ refill.NotYours
+other_answer e = cc
 
-pub with_at-same : {A : Type 0} (f : ℕ → A) (place n : ℕ) (value : A) → place ≡ n → with_at f place value n ≡ value
-with_at-same f place n value e = rw (eq-eqb place n e) refl
+in_use_answer : refill.Refilled ≢ refill.NotEvicted
+in_use_answer e = cc
 
-pub with_at-other : {A : Type 0} (f : ℕ → A) (place n : ℕ) (value : A) → (place ≡ n → ⊥) → with_at f place value n ≡ f n
-with_at-other f place n value ne = rw (ne_eqb place n ne) refl
+-- what the model answers
+abbrev told : Shape → State → ℕ → RefillAnswer
+told shape state segment = cond (is_own shape segment) (refill_answer state segment (state.filling segment).state) refill.NotYours
 
--- a segment in use is another
-pub IsLive-refill : (uses : ℕ → Segment) (segment word : ℕ) → (uses segment).state ≢ InUse → IsLive uses word → IsLive (with_at uses segment begun) word
-IsLive-refill uses segment word unused live =
-    let same : with_at uses segment begun (segment_part word) ≡ uses (segment_part word) =
-    with_at-other uses segment (segment_part word) begun (λ e. unused (ap (λ s. (uses s).state) e ∙ live.in_use)) in
-    record { freq = live.freq; in_use = rw same live.in_use; used = rw same live.used }
+served : (shape : Shape) (q : Pass) (state : State) (segment : ℕ) (given : RefillAnswer) → told shape state segment ≡ given → IsAt shape q (after_refill segment given state)
+    → ServesTurn shape state (turn.Serve (command.Refill segment)) (outcome.Answered (answer.Refill given)) q
+served shape q state segment given e at = (
+  after_refill segment given state,
+  (answer.Refill given, refl, (sym (ap answer.Refill e), sym (ap (λ g. after_refill segment g state) e))),
+  at,
+)
 
-pub IsFilled-refill : (shape : Shape) (words : List ℕ) (uses : ℕ → Segment) (state : State) (segment : ℕ) → IsFilled shape words uses state
-    → IsFilled shape words (with_at uses segment begun) (after_refill segment refill.Refilled state)
-IsFilled-refill shape words uses state segment filled = record {
-  states = λ s. elim (segment == s) as (λ b. (cond b (record { state = InUse; keys = [] }) (state.filling s)).state ≡ (cond b begun (uses s)).state) [ true ↦ refl | false ↦ filled.states s ];
-  lengths = λ s. elim (segment == s) as (λ b. length (cond b (record { state = InUse; keys = [] }) (state.filling s)).keys ≡ (cond b begun (uses s)).used) [ true ↦ refl | false ↦ filled.lengths s ];
-  fits = λ s. elim (segment == s) as (λ b. (cond b begun (uses s)).used ≤ shape.rows) [ true ↦ omega arith | false ↦ filled.fits s ];
-  keys = λ s row. elim (segment == s) as (λ b. row < (cond b begun (uses s)).used
-      → (value : List ℕ) × RowHolds words (row_start shape.rows s row) (slice_index_or (cond b (record { state = InUse; keys = [] }) (state.filling s)).keys row []) value)
-      [ true ↦ λ h. absurd (omega arith) | false ↦ filled.keys s row ];
-}
+module _ (shape : Shape) (p : Pass) (state : State) (segment : ℕ) (at : IsAt shape p state) where
+  not_yours : state_of p segment ≡ None → told shape state segment ≡ refill.NotYours
+  not_yours none = ap (λ b. cond b (refill_answer state segment (state.filling segment).state) refill.NotYours) (not_own shape segment (state.filling segment).state (sym (at.states segment) ∙ none))
 
-pub IsAt-refill : (shape : Shape) (words : List ℕ) (uses : ℕ → Segment) (current : Option ℕ) (state : State) (segment : ℕ)
-    → IsAt shape words uses current state → (uses segment).state ≢ InUse
-    → IsAt shape words (with_at uses segment begun) (Some segment) (after_refill segment refill.Refilled state)
-IsAt-refill shape words uses current state segment at unused = record {
-  counter = at.counter;
-  info = at.info;
-  unread = at.unread;
-  content = record { stands = at.content.stands; said = at.content.said; one = at.content.one; count = at.content.count; ordered = at.content.ordered };
-  live = λ place is ne. IsLive-refill uses segment (item_at words place) unused (at.live place is ne);
-  filled = IsFilled-refill shape words uses state segment at.filled;
-  current_is = refl;
-  in_use = λ s e. let same : segment ≡ s = cc in ap (λ (u : Segment). u.state) (with_at-same uses segment s begun same);
+  of_own : (is : SegState) → state_of p segment ≡ Some is → told shape state segment ≡ refill_answer state segment is
+  of_own is e =
+      let own = own_is shape segment (state.filling segment).state is (sym (at.states segment) ∙ e) in
+      λ i. cond (own.0 i) (refill_answer state segment (own.1 i)) refill.NotYours
+
+  refilled : (is : SegState) → is ≢ InUse → refill_answer state segment is ≡ refill.Refilled
+  refilled Empty ne = refl
+  refilled InUse ne = absurd (ne refl)
+  refilled Evicted ne = ap (λ o. cond (is_held o segment) refill.Held refill.Refilled) at.held
+
+-- the state after a refill
+at_refilled : (shape : Shape) (p q : Pass) (state : State) (segment : ℕ) → IsAt shape p state → is_own shape segment ≡ true → seen q ≡ entry.Refilled (number p) segment ∷ seen p
+    → Refills segment p q → IsAt shape q (after_refill segment refill.Refilled state)
+at_refilled shape p q state segment at own more refills = record {
+  cache = at.cache ∙ ap (after shape) (sym more);
+  states = by_segment (λ s. state_of q s ≡ if_own shape s (filling s).state) segment
+      (refills.state ∙ ap (λ (f : Filling). Some f.state) (sym here) ∙ sym (keeps (filling segment).state))
+      (λ s ne. refills.other_states s (λ e. ne (sym e)) ∙ at.states s ∙ ap (λ (f : Filling). if_own shape s f.state) (sym (other s ne)));
+  used = by_segment (λ s. used_of q s ≡ if_own shape s (length (filling s).keys)) segment
+      (refills.used ∙ ap (λ (f : Filling). Some (length f.keys)) (sym here) ∙ sym (keeps (length (filling segment).keys)))
+      (λ s ne. refills.other_used s (λ e. ne (sym e)) ∙ at.used s ∙ ap (λ (f : Filling). if_own shape s (length f.keys)) (sym (other s ne)));
+  current = sym refills.current;
+  locked = at.locked ∙ sym refills.locked;
+  unheld = refills.is_holding ∙ at.unheld;
+  held = at.held;
   width = at.width;
   drawn = at.drawn;
-  held = at.held;
-  locked = at.locked;
 }
+  where
+    begun : Filling
+    begun = record { state = InUse; keys = [] }
 
-refilled : (state : State) (segment : ℕ) (is : SegState) → is ≢ InUse → state.held ≡ None → refill_answer state segment is ≡ refill.Refilled
-refilled state segment Empty ne free = refl
-refilled state segment InUse ne free = absurd (ne refl)
-refilled state segment Evicted ne free = ap (λ o. cond (is_held o segment) refill.Held refill.Refilled) free
+    filling : ℕ → Filling
+    filling = with_at state.filling segment begun
 
-pub serves_refill : (shape : Shape) (words : List ℕ) (uses new : ℕ → Segment) (current : Option ℕ) (state : State) (segment : ℕ)
-    → IsAt shape words uses current state → segment < shape.segments_each → (uses segment).state ≢ InUse → new ≡ with_at uses segment begun
-    → (after : State) × Serves shape state (command.Refill segment) (answer.Refill refill.Refilled) after × IsAt shape words new (Some segment) after
-serves_refill shape words uses new current state segment at own unused e =
-    let yes : is_own shape segment ≡ true = lt-ltb segment shape.segments_each own in
-    let given : refill_answer state segment (state.filling segment).state ≡ refill.Refilled =
-    refilled state segment (state.filling segment).state (λ used. unused (sym (at.filled.states segment) ∙ used)) at.held in (
-      after_refill segment refill.Refilled state,
-      rw (yes, given) (refl, refl),
-      subst (λ u. IsAt shape words u (Some segment) (after_refill segment refill.Refilled state)) (sym e) (IsAt-refill shape words uses current state segment at unused),
+    here : filling segment ≡ begun
+    here = with_at-same state.filling segment segment begun refl
+
+    other : (s : ℕ) → (segment ≡ s → ⊥) → filling s ≡ state.filling s
+    other s ne = with_at-other state.filling segment s begun ne
+
+    keeps : {A : Type 0} (kept : A) → if_own shape segment kept ≡ Some kept
+    keeps kept = ap (λ b. cond b (Some kept) None) own
+
+-- nobody is in a segment: no other pass is there, and this one holds nothing
+unread : (shape : Shape) (p : Pass) (segment : ℕ) → Alone shape p → holding p ≡ None → IsRead segment p → ⊥
+unread shape p segment alone none (inl (other, apart, there)) = let nobody = alone.nobody other segment apart in omega arith
+unread shape p segment alone none (inr held) = false≢true (sym (ap (λ o. is_held_in o segment) none) ∙ held)
+
+pub serves_refill : (shape : Shape) (p q : Pass) (state : State) (segment : ℕ) (given : RefillAnswer) → Alone shape p → Alone shape q → IsAt shape p state → is_holding_of q ≡ is_some (holding q)
+    → IsRefillAnswer segment given p q → ((given ≡ refill.NotYours) ↔ (state_of p segment ≡ None)) → ((given ≡ refill.NotEvicted) ↔ (state_of p segment ≡ Some InUse))
+    → ServesTurn shape state (turn.Serve (command.Refill segment)) (outcome.Answered (answer.Refill given)) q
+serves_refill shape p q state segment given was is at unheld answered not_yours_where in_use_where = by given refl answered
+  where
+    left : ChangesNothing p q → IsAt shape q state
+    left nothing = same_at shape p q state nothing.plain (same_seen shape p q was is nothing.entries) at
+
+    -- a segment that is refilled is its own, and not in use
+    ready : (kept : Option SegState) → state_of p segment ≡ kept → given ≡ refill.Refilled → (told shape state segment ≡ refill.Refilled) × (is_own shape segment ≡ true)
+    ready None e r = absurd (other_answer (sym r ∙ not_yours_where.1 e))
+    ready (Some kept) e r = (
+      of_own shape p state segment at kept e ∙ refilled shape p state segment at kept (λ used. in_use_answer (sym r ∙ in_use_where.1 (e ∙ ap Some used))),
+      (own_is shape segment (state.filling segment).state kept (sym (at.states segment) ∙ e)).0,
     )
+
+    by : (told : RefillAnswer) → given ≡ told → IsRefillAnswer segment told p q → ServesTurn shape state (turn.Serve (command.Refill segment)) (outcome.Answered (answer.Refill told)) q
+    by refill.NotYours e nothing = served shape q state segment refill.NotYours (not_yours shape p state segment at (not_yours_where.0 e)) (left nothing)
+    by refill.NotEvicted e nothing = served shape q state segment refill.NotEvicted (of_own shape p state segment at InUse (in_use_where.0 e)) (left nothing)
+    by refill.Held e (nothing, read) = absurd (unread shape q segment is (none_if (holding q) (sym unheld ∙ (left nothing).unheld)) read)
+    by refill.Refilled e refills =
+        let is_ready = ready (state_of p segment) refl e in
+        served shape q state segment refill.Refilled is_ready.0
+        (at_refilled shape p q state segment at is_ready.1 (one_more_seen shape p q (entry.Refilled (number p) segment) was is refills.entry) refills)

@@ -209,6 +209,11 @@ pub none-cas : (parts : List (List ℕ)) → ((p : List ℕ × List ℕ × ℕ) 
 none-cas parts none (Serve (Write (Cas k v n))) fits same = none (k, v, n) fits.0 same
 none-cas parts none _ fits same = let e = fits.1 in cc
 
+-- the third word of these is no number
+pub none-third : (words : List (List ℕ)) (third : List ℕ) → get_or words 2 [] ≡ third → ((n : ℕ) → IsNumber n → third ≡ decimal n → ⊥)
+    → (t : List ℕ × List ℕ × ℕ) → IsTriple t → words ≡ triple_words t → ⊥
+none-third words third is none t fits same = none t.2 fits.2 (sym is ∙ ap (λ l. get_or l 2 []) same)
+
 -- a pass number has one word
 pub none-pass : (passes pass : ℕ) (word : List ℕ) → IsNumber pass × (take (length word - 1) (drop 1 word) ≡ decimal pass) → passes ≤ pass → (a : ℕ) → IsPass passes a → word ≡ pass_word a → ⊥
 none-pass passes pass word read high a fits same =

@@ -1,13 +1,10 @@
 pub mod Device
-pub mod Fault
 pub mod Known
-pub mod Layout
 pub mod Memory
+pub mod Passes
 pub mod Reading
 pub mod Run
 pub mod Running
-pub mod Segments
 pub mod Served
-pub mod Storing
+pub mod Server
 pub mod Verb
-pub mod Words

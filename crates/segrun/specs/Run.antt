@@ -4,8 +4,8 @@ use Rattle.segword.specs.declared.shape.Shape.{Shape}
 use Rattle.segword.specs.Shape.{IsValid}
 use Rattle.segmodel.specs.State.{State, fresh}
 use Rattle.segmodel.specs.Script.{Splits, IsServed, IsTextOf, IsFirstBad}
+use Rattle.segbase.specs.Made.{IsMakeFault}
 use Rattle.segrun.specs.Device.{IsBeginning, flushed}
-use Rattle.segrun.specs.Fault.{IsMakeFault}
 use Rattle.segrun.specs.Served.{is_served}
 use Rattle.segrun.specs.declared.fault.RunFault.{RunFault}
 use Rattle.segrun.specs.declared.fault.RunFault.TheVariants as fault

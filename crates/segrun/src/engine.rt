@@ -11,6 +11,9 @@ use segmodel::{Outcome, Turn};
 pub trait Engine {
     ghost shape: { Self → Shape };
 
+    /// What is so of it between turns.
+    ghost is_ready: { Self → Type 0 };
+
     /// What its answers show of it. Several states may fit it.
     ghost is_at: { Self → State → Type 0 };
 
@@ -22,6 +25,8 @@ pub trait Engine {
     fn turn(&mut self, pass: u32, turn: &Turn) -> Outcome
         requires pass { pass < (shape self.old).passes }
         requires served { is_served turn.now ≡ true }
+        requires ready { is_ready self.old }
+        ensures ready { is_ready self.new }
         ensures shape { shape self.new ≡ shape self.old }
         ensures turns { (old : State) → (shape self.old).passes ≡ 1 → is_at self.old old
             → (new : State) × Turns (shape self.old) old turn.now result new × is_at self.new new };

@@ -1,15 +1,6 @@
 //! What can go wrong in a run.
-use segword::ShapeFault;
+use segindex::MakeFault;
 use thiserror::Error;
-
-/// Why an index was not made.
-#[derive(Clone, Copy, Debug, PartialEq, Eq, Error)]
-pub enum MakeFault {
-    #[error("bad shape: {0}")]
-    Shape(ShapeFault),
-    #[error("out of memory")]
-    OutOfMemory,
-}
 
 /// Why a run of a script stopped.
 #[derive(Clone, Copy, Debug, PartialEq, Eq, Error)]

@@ -143,6 +143,8 @@ pub fn is_served(turn: &Turn) -> bool
     matches!(
         turn,
         Turn::Serve(Command::Refill(_) | Command::Write(Request::Set(_, _)) | Command::Get(_))
+            | Turn::Lock(_)
+            | Turn::Unlock
     )
 }
 

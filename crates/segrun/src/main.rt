@@ -9,11 +9,10 @@ mod memory;
 mod reply;
 mod run;
 mod script;
+mod server;
 mod standard;
-mod table;
 mod verb;
 mod word;
-mod words;
 
 use fault::RunFault;
 use script::run_script;

@@ -33,7 +33,9 @@ impl OpenLine {
     // Serves the line, whose end has come.
     fn serve<E: Engine, W: Sink>(&self, engine: &mut E, writer: &mut W) -> Result<(), RunFault>
         requires works { W.has_failed writer.old ≡ false }
+        requires ready { E.is_ready engine.old }
         ensures shape { E.shape engine.new ≡ E.shape engine.old }
+        ensures ready { E.is_ready engine.new }
         ensures outcome { (state : State) → ((E.shape engine.old).passes ≡ 1 → E.is_at engine.old state) →
             LineOutcome (E.shape engine.old) (E.is_at engine.new) (λ text. W.takes writer.old text writer.new)
             state self.now.bytes.items self.now.number result }
@@ -67,9 +69,11 @@ impl OpenLine {
         byte: u8,
     ) -> Result<(), RunFault>
         requires works { W.has_failed writer.old ≡ false }
+        requires ready { E.is_ready engine.old }
         requires few { self.old.number + 1 < 2 ^ 64 }
         ensures number { self.new.number ≤ self.old.number + 1 }
         ensures shape { E.shape engine.new ≡ E.shape engine.old }
+        ensures ready { E.is_ready engine.new }
         ensures outcome { (seen told : List ℕ) →
             Stands (E.shape engine.old) (E.is_at engine.old) seen told self.old.bytes.items self.old.number →
             FeedOutcome (E.shape engine.old) (E.is_at engine.new) (λ text. W.takes writer.old text writer.new)
@@ -104,9 +108,11 @@ impl OpenLine {
         bytes: &[u8],
     ) -> Result<(), RunFault>
         requires works { W.has_failed writer.old ≡ false }
+        requires ready { E.is_ready engine.old }
         requires few { self.old.number + length bytes.now < 2 ^ 64 }
         ensures number { self.new.number ≤ self.old.number + length bytes.now }
         ensures shape { E.shape engine.new ≡ E.shape engine.old }
+        ensures ready { E.is_ready engine.new }
         ensures outcome { (seen told : List ℕ) →
             Stands (E.shape engine.old) (E.is_at engine.old) seen told self.old.bytes.items self.old.number →
             FeedOutcome (E.shape engine.old) (E.is_at engine.new) (λ text. W.takes writer.old text writer.new)
@@ -127,6 +133,8 @@ impl OpenLine {
     // Serves the last line, after which no more bytes come, and flushes the writer.
     fn finish<E: Engine, W: Sink>(&self, engine: &mut E, writer: &mut W) -> Result<(), RunFault>
         requires works { W.has_failed writer.old ≡ false }
+        requires ready { E.is_ready engine.old }
+        ensures ready { E.is_ready engine.new }
         ensures outcome { (seen told : List ℕ) →
             Stands (E.shape engine.old) (E.is_at engine.old) seen told self.now.bytes.items self.now.number →
             FinishOutcome (E.shape engine.old) (λ text. W.takes writer.old text writer.new)
@@ -175,7 +183,9 @@ pub fn run<R: Source, W: Sink, E: Engine>(
 ) -> Result<(), RunFault>
     requires reader_works { R.has_failed reader.old ≡ false }
     requires writer_works { W.has_failed writer.old ≡ false }
+    requires ready { E.is_ready engine.old }
     requires fresh { E.is_at engine.old (fresh (E.shape engine.old)) }
+    ensures ready { E.is_ready engine.new }
     ensures outcome { RunOutcome (E.shape engine.old)
         (λ seen. R.hands reader.old seen reader.new) (R.is_at_end reader.new)
         (λ text. W.takes writer.old text writer.new) (W.flushes writer.old) (W.flushes writer.new) result }

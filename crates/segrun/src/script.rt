@@ -8,14 +8,15 @@ ghost use Rattle.segrun.specs.Served.{is_served};
 use crate::device::{Sink, Source};
 use crate::fault::RunFault;
 use crate::run::run;
-use crate::words::Words;
+use crate::server::Server;
 use segword::Shape;
 use std::alloc::Global;
 
 /// Makes an index of this shape, runs the script that the reader hands out, and writes the replies.
 ///
-/// For now the shape has one bucket, no overflow bucket and one pass, and a script has the lines `refill`, `set` and
-/// `get`. No memory is taken once the index is made.
+/// For now the shape has no overflow bucket, and a script has the lines `refill`, `set`, `get`, `lock` and `unlock`. Where
+/// it has one pass, the text is the one that the cache of one thread gives; where it has several, each turn has a reply.
+/// No memory is taken once the index is made.
 pub fn run_script<R: Source, W: Sink>(
     alloc: Global,
     reader: &mut R,
@@ -24,8 +25,6 @@ pub fn run_script<R: Source, W: Sink>(
 ) -> Result<(), RunFault>
     requires reader_works { R.has_failed reader.old ≡ false }
     requires writer_works { W.has_failed writer.old ≡ false }
-    requires one_bucket { shape.buckets ≡ 1 }
-    requires one_pass { shape.passes ≡ 1 }
     requires no_overflow { shape.overflow ≡ 0 }
 
     // How it ends, what it read and wrote, and which text belongs to that.
@@ -49,9 +48,11 @@ pub fn run_script<R: Source, W: Sink>(
         R.has_failed reader.new ≡ false → W.has_failed writer.new ≡ false → is_make_fault result ≡ false →
         IsOk result ⊎ (result ≡ Err RunFault.TooLong) }
 {
-    let mut words = match Words::new(alloc, &shape) {
-        Ok(words) => words,
+    let mut server = match Server::new(alloc, shape) {
+        Ok(server) => server,
         Err(fault) => return Err(RunFault::Make(fault)),
     };
-    run(reader, writer, &mut words)
+    let result = run(reader, writer, &mut server);
+    server.unlock_all();
+    result
 }

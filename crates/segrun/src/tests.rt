@@ -2,15 +2,17 @@
 mod bad_lines;
 mod cut_short;
 mod devices;
+mod locking;
 mod making;
 mod order;
 mod serving;
 
 ghost use Rattle.std.specs.Prelude.{◌≡◌, false};
 
-use crate::fault::{MakeFault, RunFault};
+use crate::fault::RunFault;
 use crate::memory::{MemSink, MemSource};
 use crate::script::run_script;
+use segindex::MakeFault;
 use segword::{Shape, ShapeFault};
 use std::alloc::Global;
 use std::process::Abort;
@@ -26,9 +28,7 @@ const REPLIES: &[u8] = b"REFILLED\nSTORED\nVALUE 1\n";
 
 /// One bucket, one pass, and one segment.
 fn shape_of(rows: u32) -> Shape
-    ensures buckets { result.buckets ≡ 1 }
-    ensures passes { result.passes ≡ 1 }
-    ensures overflow { result.overflow ≡ 0 }
+    ensures { result.overflow ≡ 0 }
 {
     Shape {
         buckets: 1,
@@ -54,17 +54,19 @@ fn reader_of(script: &[u8], step: usize, good: Option<usize>) -> MemSource<'_>
 fn check(
     rt: &impl Abort,
     alloc: Global,
-    rows: u32,
+    shape: Shape,
     script: &[u8],
     good: Option<usize>,
     end: Result<(), RunFault>,
     replies: &[u8],
-) -> Result<(), Fail> {
+) -> Result<(), Fail>
+    requires { shape.overflow ≡ 0 }
+{
     for step in STEPS {
         let mut reader = reader_of(script, step, good);
         let mut writer = MemSink::new(alloc, 1000)?;
         writer.step = step.max(1);
-        let found = run_script(alloc, &mut reader, &mut writer, shape_of(rows));
+        let found = run_script(alloc, &mut reader, &mut writer, shape);
         assert_eq!(rt; found, end, "in pieces of {step}");
         assert_eq!(rt; writer.taken.as_slice(), replies, "in pieces of {step}");
         assert_eq!(rt; writer.flushes, if end.is_ok() { 1 } else { 0 });
@@ -81,5 +83,5 @@ fn check_script(
     end: Result<(), RunFault>,
     replies: &[u8],
 ) -> Result<(), Fail> {
-    check(rt, alloc, rows, script, None, end, replies)
+    check(rt, alloc, shape_of(rows), script, None, end, replies)
 }

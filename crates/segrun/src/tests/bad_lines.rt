@@ -20,6 +20,8 @@ fn each_of_these_lines_is_bad(rt: HostRuntime) -> Result<(), Fail> {
         b"p0 get\n".as_slice(),
         b"p0 get a b\n".as_slice(),
         b"p0 set a\n".as_slice(),
+        b"p0 lock\n".as_slice(),
+        b"p0 unlock a\n".as_slice(),
         b"p0 look a\n".as_slice(),
         b"p0 get \xc3\n".as_slice(),
         b"p0 get a\xc3\n".as_slice(),
@@ -51,8 +53,6 @@ fn lines_of_later_commands_are_bad_so_far(rt: HostRuntime) -> Result<(), Fail> {
         b"p0 hold a".as_slice(),
         b"p0 held".as_slice(),
         b"p0 release".as_slice(),
-        b"p0 lock a".as_slice(),
-        b"p0 unlock".as_slice(),
     ] {
         check_script(&rt, rt.alloc(), 2, line, Err(RunFault::Line(1)), b"")?;
     }
@@ -76,16 +76,17 @@ fn empty_lines_are_skipped_and_counted(rt: HostRuntime) -> Result<(), Fail> {
 fn a_long_line_is_refused_at_its_129th_byte(rt: HostRuntime) -> Result<(), Fail> {
     let long = [b'x'; 130];
     let fault = Err(RunFault::Line(1));
+    let shape = shape_of(2);
     check(
         &rt,
         rt.alloc(),
-        2,
+        shape,
         &long[..128],
         Some(128),
         Err(RunFault::Read),
         b"",
     )?;
-    check(&rt, rt.alloc(), 2, &long[..129], Some(129), fault, b"")?;
-    check(&rt, rt.alloc(), 2, &long, Some(129), fault, b"")?;
+    check(&rt, rt.alloc(), shape, &long[..129], Some(129), fault, b"")?;
+    check(&rt, rt.alloc(), shape, &long, Some(129), fault, b"")?;
     check_script(&rt, rt.alloc(), 2, &long[..128], fault, b"")
 }

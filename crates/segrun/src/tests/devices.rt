@@ -15,7 +15,7 @@ fn a_reader_that_fails_leaves_the_replies_of_the_whole_lines(rt: HostRuntime) ->
         check(
             &rt,
             rt.alloc(),
-            2,
+            shape_of(2),
             SCRIPT,
             Some(good),
             end,

@@ -3,17 +3,22 @@ use super::*;
 
 #[test]
 fn a_bad_shape_is_answered_by_its_first_fault(rt: HostRuntime) -> Result<(), Fail> {
-    for (segments_each, rows, fault) in [
-        (0, 2, ShapeFault::BadSegments),
-        (1025, 2, ShapeFault::BadSegments),
-        (0, 0, ShapeFault::BadSegments),
-        (1, 0, ShapeFault::BadRows),
-        (1, 4097, ShapeFault::BadRows),
+    for (buckets, passes, segments_each, rows, fault) in [
+        (3, 1, 1, 2, ShapeFault::BadBuckets),
+        (0, 0, 1, 2, ShapeFault::BadBuckets),
+        (1, 0, 1, 2, ShapeFault::BadPasses),
+        (1, 65, 0, 2, ShapeFault::BadPasses),
+        (1, 1, 0, 2, ShapeFault::BadSegments),
+        (1, 1, 1025, 2, ShapeFault::BadSegments),
+        (1, 1, 0, 0, ShapeFault::BadSegments),
+        (1, 1, 1, 0, ShapeFault::BadRows),
+        (1, 1, 1, 4097, ShapeFault::BadRows),
+        (1, 64, 1024, 4096, ShapeFault::TooLarge),
     ] {
         let shape = Shape {
-            buckets: 1,
+            buckets,
             overflow: 0,
-            passes: 1,
+            passes,
             segments_each,
             rows,
             first_version: 0,

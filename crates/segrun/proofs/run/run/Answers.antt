@@ -11,6 +11,7 @@ loop-total-init g c = record {
   writes = c.requires.writer_works;
   unflushed = refl;
   shape = refl;
+  ready = c.requires.ready;
   few = omega arith;
   most = omega arith;
   buffer = refl;
@@ -42,6 +43,7 @@ loop-total-preserved g c = record {
   writes = c.in_default-feed_all.ensures.failed;
   unflushed = c.in_default-feed_all.ensures.flushes ∙ c.loop-total.invariant.unflushed;
   shape = c.in_default-feed_all.ensures.shape ∙ c.loop-total.invariant.shape;
+  ready = c.in_default-feed_all.ensures.ready;
   few = omega (arith, length-take {A = ℕ}, c.in_default-feed_all.ensures.number);
   most =
       let room = asked c.loop-total.piece c.read_piece.new.piece c.loop-total.total c.min-room.result c.loop-total.invariant.buffer c.min-room.ensures c.read_piece.auto.piece in

@@ -8,6 +8,7 @@ invariant-loop-total g l = record {
   writes : g.W.Sink.has_failed l.writer ≡ false;
   unflushed : g.W.Sink.flushes l.writer ≡ g.W.Sink.flushes l.fn.writer;
   shape : g.E.Engine.shape l.engine ≡ g.E.Engine.shape l.fn.engine;
+  ready : g.E.Engine.is_ready l.engine;
   few : l.line.number ≤ l.total + 1;
   most : l.total ≤ 2 ^ 63;
   buffer : length l.piece ≡ 4096;

@@ -8,6 +8,7 @@ loop-byte-init g c = record {
   works = c.requires.works;
   unflushed = refl;
   shape = refl;
+  ready = c.requires.ready;
   few = omega arith;
   fed = λ seen told here. fed_none _ g.W.Sink.takes g.met.W.Sink.takes_more _ seen told _ _ _ (g.met.W.Sink.takes_none _) here;
 }
@@ -24,6 +25,7 @@ loop-byte-preserved g c = record {
   works = c.in_default.ensures.failed;
   unflushed = c.in_default.ensures.flushes ∙ c.loop-byte.invariant.unflushed;
   shape = c.in_default.ensures.shape ∙ c.loop-byte.invariant.shape;
+  ready = c.in_default.ensures.ready;
   few = let grown : c.feed.new.self.number ≤ c.loop-byte.self.number + 1 = c.in_default.ensures.number in let few = c.loop-byte.invariant.few in omega arith;
   fed = λ seen told here.
       let fed = c.loop-byte.invariant.fed seen told here in
