@@ -136,3 +136,60 @@ fn the_version_counts_the_sets_of_two_threads(rt: HostRuntime) -> Result<(), Fai
     assert_eq!(rt; info.version, 2_000);
     Ok(())
 }
+
+const NINE_ROWS: Shape = Shape { rows: 9, ..SHAPE };
+
+// Sets a key of one byte to a value of one byte.
+fn set_byte(index: &Index, pass: &mut Pass, key: u8, value: u8) -> Option<WriteAnswer>
+    requires { IsQuiet (board_of index.now) pass.old }
+    ensures { IsQuiet (board_of index.now) pass.new }
+{
+    let key = Key::new(&[key])?;
+    let value = Value::new(&[value])?;
+    Some(index.set(pass, &key, &value))
+}
+
+#[test]
+fn a_full_bucket_takes_no_new_key(rt: HostRuntime) -> Result<(), Fail> {
+    let (index, passes) = Index::new(rt.alloc(), NINE_ROWS)?;
+    let (mut pass, _) = last_two(&index, passes).expect(&rt, "two passes");
+    assert_eq!(rt;
+        set_byte(&index, &mut pass, b'a', 1),
+        Some(WriteAnswer::NoRoom)
+    );
+    assert_eq!(rt; index.refill(&mut pass, 1), RefillAnswer::NotYours);
+    assert_eq!(rt; index.refill(&mut pass, 0), RefillAnswer::Refilled);
+    assert_eq!(rt; index.refill(&mut pass, 0), RefillAnswer::NotEvicted);
+    for key in b'a'..=b'g' {
+        assert_eq!(rt;
+            set_byte(&index, &mut pass, key, 1),
+            Some(WriteAnswer::Stored)
+        );
+    }
+    // Seven words, seven keys: an eighth is refused and uses no row, and each of the seven may be set again.
+    assert_eq!(rt;
+        set_byte(&index, &mut pass, b'h', 1),
+        Some(WriteAnswer::BucketFull)
+    );
+    assert_eq!(rt;
+        set_byte(&index, &mut pass, b'a', 2),
+        Some(WriteAnswer::Stored)
+    );
+    assert_eq!(rt;
+        set_byte(&index, &mut pass, b'g', 2),
+        Some(WriteAnswer::Stored)
+    );
+    // Nine rows, nine writes: no room goes before a full bucket.
+    assert_eq!(rt;
+        set_byte(&index, &mut pass, b'h', 1),
+        Some(WriteAnswer::NoRoom)
+    );
+    assert_eq!(rt;
+        set_byte(&index, &mut pass, b'a', 3),
+        Some(WriteAnswer::NoRoom)
+    );
+    let info = index.board.glance(&mut pass, 0);
+    assert!(rt; !info.held);
+    assert_eq!(rt; info.version, 9);
+    Ok(())
+}

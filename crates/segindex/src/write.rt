@@ -43,11 +43,11 @@ impl Index {
         };
         let hash = hash(key);
         let bucket = bucket_of(hash, self.board.shape().buckets);
+        let tag = tag_of(hash);
+        let words = KeyWords::new(key);
         if !self.take_to_write(pass, bucket) {
             return WriteAnswer::Busy;
         }
-        let words = KeyWords::new(key);
-        let tag = tag_of(hash);
         let Some(target) = self.find(pass, bucket, &words, tag) else {
             self.board.release(pass, bucket, false);
             return WriteAnswer::BucketFull;
