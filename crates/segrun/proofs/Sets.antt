@@ -123,7 +123,7 @@ module _ (shape : Shape) (p q : Pass) (state : State) (key value : List ℕ) (no
   seven : keys_in shape state.cache (bucket_of shape key) ≡ 7
   seven =
       let keys : keys_in shape (after shape (seen p)) (bucket_of shape key) ≡ 6 * width full.0 (bucket_of shape key) + 1 =
-      ap (λ h. keys_in shape (after shape h) (bucket_of shape key)) (sym then_is_now) ∙ full.2.taken in
+      ap (λ h. keys_in shape (after shape h) (bucket_of shape key)) (sym then_is_now) ∙ full.2.full in
       let few = was.few (bucket_of shape key) in
       ap (λ cache. keys_in shape cache (bucket_of shape key)) at.cache ∙ omega arith
 
