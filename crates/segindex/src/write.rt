@@ -91,7 +91,7 @@ impl Index {
         ensures uses { UsesRow segment pass.old pass.new }
         ensures bit { HasWritten (board_of self.now) pass.new (bucket_of (shape_of self.now) (key_of request)) }
     {
-        segstore::write_row(&self.board, pass, segment, row, key, value);
+        segstore::fill_row(&self.board, pass, segment, row, key, value);
         let item = Item {
             tag,
             freq: 1,

@@ -1,21 +1,6 @@
-use Rattle.std.proofs.Common.{refl, ◌∙◌, arith}
-use Rattle.segstore.proofs.Rows.{fills_none, own_stored, stored_words, fills_then}
+use Rattle.segstore.proofs.Keeping.{next_is_own}
 use Rattle.segstore.proofs.write.write_row.Goals as goal
 
-pub loop-place-init : goal.loop-place-init
-loop-place-init c = record {
-  moved = fills_none _ _ c.args.segment c.args.row c.row-words.result c.requires.pass;
-  own = c.requires.own;
-  holds = λ j lt. absurd (omega (arith, lt));
-  plain = refl;
-  memo = refl;
-}
-
-pub loop-place-preserved : goal.loop-place-preserved
-loop-place-preserved c = let i = c.loop-place.invariant in let d = c.row_store.ensures.did in record {
-  moved = fills_then _ _ _ _ c.args.segment c.args.row c.loop-place.place c.row-words.result i.moved d;
-  own = own_stored _ _ _ c.args.segment c.args.row c.loop-place.place _ d i.own;
-  holds = stored_words _ _ _ c.args.segment c.args.row c.loop-place.place c.row-words.result d i.own.2 i.holds;
-  plain = c.row_store.ensures.step.1.plain ∙ i.plain;
-  memo = c.row_store.ensures.step.1.memo ∙ i.memo;
-}
+pub fill_row-requires-clause-own : goal.fill_row-requires-clause-own
+fill_row-requires-clause-own c = let next = c.in_ok-segment.ensures.next in
+    next_is_own c.args.board.now c.args.pass.now c.in_ok-segment.segment c.in_ok-segment.row c.requires.pass c.requires.segments next.1 next.2

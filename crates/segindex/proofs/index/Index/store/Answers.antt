@@ -16,8 +16,8 @@ use Rattle.segindex.proofs.Filling.{fills_nowhere}
 use Rattle.segindex.proofs.Storing.{target_later, clean_later, reply_later, may_store, has_written, stores_all, keeps_all}
 use Rattle.segindex.proofs.index.Index.store.Goals as goal
 
-pub write_row-requires-clause-own : goal.write_row-requires-clause-own
-write_row-requires-clause-own g c = let r = c.requires in
+pub fill_row-requires-clause-own : goal.fill_row-requires-clause-own
+fill_row-requires-clause-own g c = let r = c.requires in
     next_is_own c.args.self.now.board c.args.pass.now c.args.segment c.args.row r.0 r.1.0 r.1.1.0.used r.1.1.0.fits
 
 pub invariant_of-item : goal.invariant_of-item
@@ -40,7 +40,7 @@ pair_of b request key value segment row p q k v m holds is_key is_value =
     (subst (λ y. Moved b (fills (number p) segment row (row_of key y) 8) p q × Holds (row_after (trace q) segment row) key y × IsKey key × IsValue y) (sym v) (m, holds, is_key, is_value))
 
 pub link-requires : goal.link-requires
-link-requires g c = let b = c.args.self.now.board in let r = c.requires in let w = c.write_row.ensures in
+link-requires g c = let b = c.args.self.now.board in let r = c.requires in let w = c.fill_row.ensures in
     let s = c.args.segment in let row = c.args.row in
     let asks = r.1.1.1.0 in let clean = r.1.1.1.1.1.1.0 in let found = r.1.1.1.1.1.1.1 in
     let pair = pair_of b g.request c.args.key.now c.args.value.now s row _ _ asks.of.0 asks.of.1 w.moved w.holds r.1.1.1.1.0 w.valid in
@@ -52,19 +52,19 @@ link-requires g c = let b = c.args.self.now.board in let r = c.requires in let w
     (pair.0.pass, ((r.1.1.1.1.1.0 ∙ ap tag_of (sym asks.of.0), refl), (target, may_store b g.request c.args.target s row _ clean_now target stored w.own pair.1 pair.2 pair.3)))
 
 pub returns-clause-stores : goal.returns-clause-stores
-returns-clause-stores g c = let b = c.args.self.now.board in let r = c.requires in let w = c.write_row.ensures in let u = c.set_used.ensures in
+returns-clause-stores g c = let b = c.args.self.now.board in let r = c.requires in let w = c.fill_row.ensures in let u = c.set_used.ensures in
     let asks = r.1.1.1.0 in
     let pair = pair_of b g.request c.args.key.now c.args.value.now c.args.segment c.args.row _ _ asks.of.0 asks.of.1 w.moved w.holds r.1.1.1.1.0 w.valid in
     stores_all b g.request c.args.target c.args.segment c.args.row _ _ _ _ r.1.1.0 pair.0 c.link.ensures.did u.seat u.same.owner
 
 pub returns-clause-segments : goal.returns-clause-segments
-returns-clause-segments g c = let b = c.args.self.now.board in let r = c.requires in let w = c.write_row.ensures in let u = c.set_used.ensures in
+returns-clause-segments g c = let b = c.args.self.now.board in let r = c.requires in let w = c.fill_row.ensures in let u = c.set_used.ensures in
     let asks = r.1.1.1.0 in
     let pair = pair_of b g.request c.args.key.now c.args.value.now c.args.segment c.args.row _ _ asks.of.0 asks.of.1 w.moved w.holds r.1.1.1.1.0 w.valid in
     keeps_all b g.request c.args.target c.args.segment c.args.row _ _ _ _ r.1.1.0 pair.0 c.link.ensures.did u.seat u.same.owner w.plain c.link.ensures.same.0 u.used u.others u.state u.same.current r.1.0
 
 pub returns-clause-bit : goal.returns-clause-bit
-returns-clause-bit g c = let b = c.args.self.now.board in let r = c.requires in let w = c.write_row.ensures in let u = c.set_used.ensures in
+returns-clause-bit g c = let b = c.args.self.now.board in let r = c.requires in let w = c.fill_row.ensures in let u = c.set_used.ensures in
     let asks = r.1.1.1.0 in let clean = r.1.1.1.1.1.1.0 in
     let pair = pair_of b g.request c.args.key.now c.args.value.now c.args.segment c.args.row _ _ asks.of.0 asks.of.1 w.moved w.holds r.1.1.1.1.0 w.valid in
     let own = fills (number c.args.pass.now) c.args.segment c.args.row (row_of (key_of g.request) (value_of g.request)) 8 in

@@ -4,7 +4,7 @@ use Rattle.segcore.specs.Row.{row_after}
 use Rattle.segcore.specs.Lawful.{IsOwnRow}
 use Rattle.segbase.specs.Passes.{sight, number, trace, Moved}
 use Rattle.segstore.specs.Rows.{fills}
-use Rattle.segstore.proofs.write.write_row.Given as goal
+use Rattle.segstore.proofs.write.fill_row.Given as goal
 
 abbrev pub invariant-loop-place : goal.invariant-loop-place
 invariant-loop-place l = record {
