@@ -5,7 +5,7 @@ ghost use Rattle.segindex.specs.Quiet.{IsQuiet};
 
 use crate::{Index, LockAnswer, Pass};
 use segbase::Place;
-use segmodel::{RefillAnswer, WriteAnswer};
+use segmodel::{GetAnswer, RefillAnswer, WriteAnswer};
 use segword::{Key, Shape, Value};
 use std::test::Fail;
 use std::thread::{join, yield_now};
@@ -191,5 +191,23 @@ fn a_full_bucket_takes_no_new_key(rt: HostRuntime) -> Result<(), Fail> {
     let info = index.board.glance(&mut pass, 0);
     assert!(rt; !info.held);
     assert_eq!(rt; info.version, 9);
+    Ok(())
+}
+
+#[test]
+fn hits_raise_the_frequency(rt: HostRuntime) -> Result<(), Fail> {
+    let (index, passes) = Index::new(rt.alloc(), SHAPE)?;
+    let (mut pass, _) = last_two(&index, passes).expect(&rt, "two passes");
+    let key = Key::new(b"a").expect(&rt, "a key");
+    let value = Value::new(b"1").expect(&rt, "a value");
+    assert_eq!(rt; index.refill(&mut pass, 0), RefillAnswer::Refilled);
+    assert_eq!(rt; index.set(&mut pass, &key, &value), WriteAnswer::Stored);
+    let found = GetAnswer::Found(value);
+    assert_eq!(rt; index.get(&mut pass, &key, 0), found);
+    assert_eq!(rt; index.get(&mut pass, &key, 0), found);
+    assert_eq!(rt; index.get(&mut pass, &key, 0), found);
+    // Tag af6, frequency 4, segment 0, row 0.
+    let place = Place { bucket: 0, word: 1 };
+    assert_eq!(rt; index.board.look(&mut pass, place), 0xaf60_4000_0000_0000);
     Ok(())
 }
