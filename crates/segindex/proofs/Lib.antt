@@ -27,3 +27,7 @@ pub mod Storing
 pub mod UnderWrite
 pub mod Sets
 pub mod QuietPass
+pub mod Before
+pub mod Disturbing
+pub mod OneMoment
+pub mod VersionScans

@@ -6,3 +6,4 @@ pub mod Calls
 pub mod Answers
 pub mod Scanning
 pub mod Storing
+pub mod Gets

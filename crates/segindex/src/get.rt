@@ -38,7 +38,7 @@ impl Index {
     }
 
     // Raises the frequency of an item that was read, where the draw says so. It is tried once.
-    fn count_hit(&self, pass: &mut Pass, place: Place, item: Item, draw: u32)
+    pub(crate) fn count_hit(&self, pass: &mut Pass, place: Place, item: Item, draw: u32)
         requires pass { IsPassOf (board_of self.now) pass.old }
         requires place { IsChained (shape_of self.now) (trace pass.old) place }
         ensures reads { IsReader (board_of self.now) pass.old pass.new }

@@ -11,6 +11,7 @@ mod scan;
 mod segment;
 #[cfg(test)]
 mod tests;
+mod versions;
 mod write;
 
 pub use bucket::LockAnswer;

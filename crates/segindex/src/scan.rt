@@ -35,13 +35,13 @@ pub(crate) enum Scan {
 }
 
 // How often a scan finds that an item with the key's tag has become another one before it gives up.
-const TRIES: u32 = 64;
+pub(crate) const TRIES: u32 = 64;
 
 // The most buckets that a chain has.
-const BUCKETS: u32 = 4;
+pub(crate) const BUCKETS: u32 = 4;
 
 // The item of a word, where it has the tag.
-fn item_of_tag(word: u64, tag: u16) -> Option<Item>
+pub(crate) fn item_of_tag(word: u64, tag: u16) -> Option<Item>
     requires { 1 ≤ tag }
     ensures some { IfSome result (λ item. (item_word item ≡ word) × (item.tag ≡ tag)) }
     ensures none { IsNone result → tag_part word ≢ tag }
@@ -50,7 +50,13 @@ fn item_of_tag(word: u64, tag: u16) -> Option<Item>
 }
 
 // Comes into the segment of an item that was seen, and looks a second time. The pass stays there where the item is the key's.
-fn try_item(board: &Board, pass: &mut Pass, place: Place, item: Item, key: &KeyWords) -> Keyed
+pub(crate) fn try_item(
+    board: &Board,
+    pass: &mut Pass,
+    place: Place,
+    item: Item,
+    key: &KeyWords,
+) -> Keyed
     requires pass { IsPassOf board.now pass.old }
     requires place { IsChained board.now.shape (trace pass.old) place }
     requires may { May board.now.shape (trace pass.old) (number pass.old) (enter item.seg) }

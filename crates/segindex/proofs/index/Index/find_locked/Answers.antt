@@ -1,0 +1,18 @@
+use Rattle.std.proofs.Common.{inr}
+use Rattle.segword.specs.ItemWord.{item_word}
+use Rattle.segbase.specs.Passes.{trace}
+use Rattle.segbase.proofs.Moves.{moved_on}
+use Rattle.segstore.proofs.Readers.{leave_then}
+use Rattle.segindex.specs.Index.{board_of, shape_of}
+use Rattle.segindex.proofs.Gets.{found_reads, gone_reads}
+use Rattle.segindex.proofs.index.Index.find_locked.Goals as goal
+
+pub returns-in-Found-clause-reads : goal.returns-in-Found-clause-reads
+returns-in-Found-clause-reads c = let f = c.in-Found in leave_then (board_of c.args.self.now) c.args.pass.now c.scan_for.new.pass c.leave_segment.new.pass f.item.seg f.ensures.reads c.leave_segment.ensures
+
+pub returns-in-Found-clause-answer : goal.returns-in-Found-clause-answer
+returns-in-Found-clause-answer c = let b = board_of c.args.self.now in let f = c.in-Found in let q = c.scan_for.new.pass in let r = c.leave_segment.new.pass in
+    inr (c.requires.locked, (_, found_reads (shape_of c.args.self.now) f.field-1 (item_word f.item) c.args.key.now f.field-0 (trace c.args.pass.now) (trace q) (trace r) (moved_on b _ q r c.leave_segment.ensures.moved) f.ensures.scan))
+
+pub returns-in-Absent-clause-answer : goal.returns-in-Absent-clause-answer
+returns-in-Absent-clause-answer c = gone_reads (shape_of c.args.self.now) c.args.key.now (trace c.args.pass.now) (trace c.scan_for.new.pass) c.in-Absent.ensures.scan
