@@ -1,0 +1,6 @@
+use Rattle.segindex.specs.Index.{board_of}
+use Rattle.segindex.specs.Quiet.{IsQuiet}
+use Rattle.segtime.proofs.work.fill.Given as goal
+
+abbrev pub invariant-loop-key : goal.invariant-loop-key
+invariant-loop-key l = IsQuiet (board_of l.index) l.pass

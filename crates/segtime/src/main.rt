@@ -1,0 +1,118 @@
+//! Times the index: nanoseconds for a set and for a get, on so many threads over so many keys.
+#![tactic(auto)]
+
+ghost use Rattle.std.specs.Prelude.{◌≡◌};
+
+mod work;
+
+use segindex::Index;
+use segword::{Key, Shape, Value};
+use std::alloc::{AllocError, Global};
+use std::time::Instant;
+use std::{env, io};
+use work::{Task, fill, pop, work_at_once};
+
+/// How often sets and gets are timed; the median is printed.
+const ROUNDS: usize = 5;
+
+/// As many segments of 4,096 rows for each pass as its sets use.
+const SEGMENTS: u32 = 256;
+
+// Up to 65,536 buckets, with two keys for each where there are fewer.
+fn shape_of(keys: u32) -> Shape
+    ensures { result.overflow ≡ 0 }
+{
+    let mut buckets = 1u32;
+    for _ in 0..16 {
+        if buckets < keys / 2 {
+            buckets = buckets.saturating_mul(2);
+        }
+    }
+    Shape {
+        buckets,
+        overflow: 0,
+        passes: 4,
+        segments_each: SEGMENTS,
+        rows: 4096,
+        first_version: 0,
+    }
+}
+
+fn keys_below(alloc: Global, count: u32) -> Result<Vec<Key>, AllocError> {
+    let mut keys = Vec::new(alloc);
+    for number in 0..count {
+        if let Some(key) = Key::new(&number.to_le_bytes()) {
+            keys.push(key)?;
+        }
+    }
+    Ok(keys)
+}
+
+// The one in the middle.
+fn median(times: &mut [u128; ROUNDS]) -> u128 {
+    times.sort_unstable();
+    times[ROUNDS / 2]
+}
+
+fn main(rt: HostRuntime) -> io::Result<()> {
+    let mut numbers = Vec::new(rt.alloc());
+    for word in env::args(&rt)?.skip(1) {
+        numbers.push(word.parse::<u32>().unwrap_or(0))?;
+    }
+    let &[threads, keys, times] = numbers.as_slice() else {
+        println!(rt; "segtime THREADS KEYS TIMES")?;
+        return Ok(());
+    };
+    let Ok((index, mut passes)) = Index::new(rt.alloc(), shape_of(keys)) else {
+        println!(rt; "no index of this shape")?;
+        return Ok(());
+    };
+    let keys = keys_below(rt.alloc(), keys)?;
+    let (Some(value), Some(a), Some(b), Some(c), Some(d)) = (
+        Value::new(b"0123456789abcdef"),
+        pop(&index, &mut passes),
+        pop(&index, &mut passes),
+        pop(&index, &mut passes),
+        pop(&index, &mut passes),
+    ) else {
+        return Ok(());
+    };
+    let mut four = (a, b, c, d);
+    fill(&index, &mut four.0, &keys, &value);
+    let mut sets = [0u128; ROUNDS];
+    let mut gets = [0u128; ROUNDS];
+    for round in 0..ROUNDS {
+        let start = Instant::now(&rt)?;
+        four = work_at_once(
+            &rt,
+            threads,
+            &index,
+            four,
+            &keys,
+            &value,
+            Task {
+                is_set: true,
+                times,
+            },
+        );
+        sets[round] = start.elapsed(&rt)?.as_nanos();
+        let start = Instant::now(&rt)?;
+        four = work_at_once(
+            &rt,
+            threads,
+            &index,
+            four,
+            &keys,
+            &value,
+            Task {
+                is_set: false,
+                times,
+            },
+        );
+        gets[round] = start.elapsed(&rt)?.as_nanos();
+    }
+    let each = u128::from(times.max(1));
+    let set = median(&mut sets) / each;
+    let get = median(&mut gets) / each;
+    println!(rt; "{set} ns for a set, {get} ns for a get")
+}
