@@ -16,11 +16,12 @@ use Rattle.segbase.specs.declared.pass.Pass.{Pass}
 use Rattle.segbase.specs.declared.place.Place.{Place}
 use Rattle.segbase.specs.Traces.{OnlyReads}
 use Rattle.segbase.specs.Passes.{number, trace, sight, taken, Moved, Did}
-use Rattle.segbase.proofs.Moves.{moved_inside, moved_taken}
+use Rattle.segbase.proofs.Moves.{moved_inside, moved_taken, moved_bounced}
 use Rattle.segstore.specs.Reading.{IsReader}
 use Rattle.segstore.specs.Linked.{IsChained, FoundItem}
 use Rattle.segstore.proofs.Words.{chained_later}
 use Rattle.segstore.proofs.Readers.{looks}
+use Rattle.segindex.specs.Calls.{TakesNoBit}
 use Rattle.segindex.specs.Answers.{ReadsBetween}
 
 -- ---- the answer
@@ -69,3 +70,18 @@ reads_set_none p (e ∷ own) h only = absurd only.0
 
 pub takes_none : (b : Board) (p q : Pass) → IsReader b p q → taken q ≡ taken p
 takes_none b p q i = moved_taken b i.reads.own p q i.reads.moved ∙ reads_set_none (number p) i.reads.own (trace p) i.reads.only
+
+-- and tries for none
+reads_try_none : (p b : ℕ) (own h : List Event) → OnlyReads own → count.bounced p b (own ++ h) ≡ count.bounced p b h
+reads_try_none p b [] h only = refl
+reads_try_none p b (Glanced q a ∷ own) h only = reads_try_none p b own h only.1
+reads_try_none p b (Bumped q s r f ∷ own) h only = reads_try_none p b own h only.1
+reads_try_none p b (Entered q s ∷ own) h only = reads_try_none p b own h only.1
+reads_try_none p b (Left q s ∷ own) h only = reads_try_none p b own h only.1
+reads_try_none p b (e ∷ own) h only = absurd only.0
+
+pub reads_no_bit : (b : Board) (p q : Pass) → IsReader b p q → TakesNoBit p q
+reads_no_bit b p q i = record {
+  taken = takes_none b p q i;
+  bounced = λ bucket. moved_bounced b i.reads.own p q bucket i.reads.moved ∙ reads_try_none (number p) bucket i.reads.own (trace p) i.reads.only;
+}

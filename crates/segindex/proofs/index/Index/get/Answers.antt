@@ -4,7 +4,7 @@ use Rattle.segbase.proofs.Moves.{moved_on}
 use Rattle.segstore.proofs.Readers.{then_reader, leave_then}
 use Rattle.segindex.specs.Index.{board_of, shape_of}
 use Rattle.segindex.proofs.Reading.{read_on}
-use Rattle.segindex.proofs.Gets.{found_reads, gone_reads, found_place, takes_none}
+use Rattle.segindex.proofs.Gets.{found_reads, gone_reads, found_place, reads_no_bit}
 use Rattle.segcore.proofs.Moments.{begins_on}
 use Rattle.segindex.proofs.index.Index.get.Goals as goal
 
@@ -28,7 +28,7 @@ pub returns-in-Found-clause-takes_no_bit : goal.returns-in-Found-clause-takes_no
 returns-in-Found-clause-takes_no_bit c = let b = board_of c.args.self.now in let p = c.args.pass.now in let f = c.in-Found in let r = c.leave_segment.new.pass in
     let in' = then_reader b p c.scan_for.new.pass c.count_hit.new.pass f.item.seg f.ensures.reads c.count_hit.ensures.reads in
     let out = leave_then b p c.count_hit.new.pass r f.item.seg in' c.leave_segment.ensures in
-    takes_none b p r out
+    reads_no_bit b p r out
 
 pub returns-in-Found-clause-answer : goal.returns-in-Found-clause-answer
 returns-in-Found-clause-answer c = let b = board_of c.args.self.now in let f = c.in-Found in let q = c.scan_for.new.pass in let r = c.leave_segment.new.pass in
@@ -42,7 +42,7 @@ pub returns-in-Absent-clause-keeps : goal.returns-in-Absent-clause-keeps
 returns-in-Absent-clause-keeps c = let r = c.in-Absent.ensures.reads in (read_on (board_of c.args.self.now) c.args.pass.now c.scan_for.new.pass c.requires.pass r.reads r.plain r.memo).1
 
 pub returns-in-Absent-clause-takes_no_bit : goal.returns-in-Absent-clause-takes_no_bit
-returns-in-Absent-clause-takes_no_bit c = takes_none (board_of c.args.self.now) c.args.pass.now c.scan_for.new.pass c.in-Absent.ensures.reads
+returns-in-Absent-clause-takes_no_bit c = reads_no_bit (board_of c.args.self.now) c.args.pass.now c.scan_for.new.pass c.in-Absent.ensures.reads
 
 pub returns-in-Absent-clause-answer : goal.returns-in-Absent-clause-answer
 returns-in-Absent-clause-answer c = gone_reads (shape_of c.args.self.now) c.args.key.now (trace c.args.pass.now) (trace c.scan_for.new.pass) c.in-Absent.ensures.scan
@@ -54,4 +54,4 @@ pub returns-in-Busy-clause-keeps : goal.returns-in-Busy-clause-keeps
 returns-in-Busy-clause-keeps c = let r = c.in-Busy.ensures.reads in (read_on (board_of c.args.self.now) c.args.pass.now c.scan_for.new.pass c.requires.pass r.reads r.plain r.memo).1
 
 pub returns-in-Busy-clause-takes_no_bit : goal.returns-in-Busy-clause-takes_no_bit
-returns-in-Busy-clause-takes_no_bit c = takes_none (board_of c.args.self.now) c.args.pass.now c.scan_for.new.pass c.in-Busy.ensures.reads
+returns-in-Busy-clause-takes_no_bit c = reads_no_bit (board_of c.args.self.now) c.args.pass.now c.scan_for.new.pass c.in-Busy.ensures.reads
