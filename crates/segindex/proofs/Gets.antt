@@ -60,7 +60,7 @@ hits b p q segment row frequency false d plain memo = looks b p q (record { did 
 -- ---- bits
 
 -- a reader sets none
-reads_set_none : (p : ℕ) (own h : List Event) → OnlyReads own → count.taken p (own ++ h) ≡ count.taken p h
+pub reads_set_none : (p : ℕ) (own h : List Event) → OnlyReads own → count.taken p (own ++ h) ≡ count.taken p h
 reads_set_none p [] h only = refl
 reads_set_none p (Glanced q b ∷ own) h only = reads_set_none p own h only.1
 reads_set_none p (Bumped q s r f ∷ own) h only = reads_set_none p own h only.1

@@ -31,3 +31,5 @@ pub mod Before
 pub mod Disturbing
 pub mod OneMoment
 pub mod VersionScans
+pub mod Holding
+pub mod HoldCalls

@@ -49,7 +49,7 @@ abbrev pub saw_wider : (z : Shape) (place : Place) (w : ℕ) (k v : List ℕ) (h
 saw_wider z place w k v h g h' g' a c s = record { at = s.at; between = (begins_on h' h s.at a s.between.0, begins_on s.at g g' s.between.1 c); was = s.was }
 
 abbrev pub found_from : (z : Shape) (place : Place) (w : ℕ) (k v : List ℕ) (h g h' : List Event) → Begins h' h → FoundItem z place w k v h g → FoundItem z place w k v h' g
-found_from z place w k v h g h' a f = record { saw = record { at = f.saw.at; between = (begins_on h' h f.saw.at a f.saw.between.0, f.saw.between.1); was = f.saw.was }; still = f.still }
+found_from z place w k v h g h' a f = record { saw = record { at = f.saw.at; between = (begins_on h' h f.saw.at a f.saw.between.0, f.saw.between.1); was = f.saw.was }; kept = f.kept; still = f.still }
 
 abbrev pub word_wider : (z : Shape) (place : Place) (w : ℕ) (h g h' g' : List Event) → Begins h' h → Begins g g' → SawWord z place w h g → SawWord z place w h' g'
 word_wider z place w h g h' g' a c s = record { at = s.at; between = (begins_on h' h s.at a s.between.0, begins_on s.at g g' s.between.1 c); lawful = s.lawful; stood = s.stood }

@@ -7,3 +7,4 @@ pub mod Answers
 pub mod Scanning
 pub mod Storing
 pub mod Gets
+pub mod Holds

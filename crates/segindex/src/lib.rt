@@ -4,6 +4,7 @@
 mod bucket;
 mod find;
 mod get;
+mod hold;
 mod index;
 mod laws;
 mod meet;
@@ -15,6 +16,7 @@ mod versions;
 mod write;
 
 pub use bucket::LockAnswer;
+pub use hold::{Hold, HoldAnswer, hold_stays};
 pub use index::Index;
 pub use laws::{one_pass, quiet_pass};
 pub use segbase::{MakeFault, Pass};

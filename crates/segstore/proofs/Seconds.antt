@@ -7,7 +7,7 @@ use Rattle.segword.specs.declared.item.Item.{Item}
 use Rattle.segword.specs.declared.shape.Shape.{Shape}
 use Rattle.segcore.specs.declared.event.Event.{Event}
 use Rattle.segcore.specs.Row.{Row, Holds, row_after}
-use Rattle.segcore.specs.Segment.{inside}
+use Rattle.segcore.specs.Segment.{inside, NoneRefills}
 use Rattle.segcore.specs.Lawful.{IsSegment}
 use Rattle.segbase.specs.declared.board.Board.{Board}
 use Rattle.segbase.specs.declared.pass.Pass.{Pass}
@@ -55,6 +55,7 @@ sees_again b p q place word now item d c there is same of =
       key = s.0;
       value = s.1;
       was = s.2;
+      entered = subst (λ n. 0 < n) (sym e) there;
       readable = (subst (IsSegment b.shape) (sym es) s.2.in_segment.0, subst (λ r. r < b.shape.rows) (sym er) s.2.in_segment.1, inr (inl (subst (λ n. 0 < n) (sym e) there, (s.0, ap (λ (x : Row). x.linked) (same_names item (trace q)) ∙ s.2.linked))));
     }
 
@@ -67,9 +68,10 @@ holds_item b q t place item key value was reads j lt =
 abbrev pub saw_item : (b : Board) (p q t : Pass) (place : Place) (w : ℕ) (key value : List ℕ) → Looked b p q → Looked b q t → WasLinked b.shape place w key value (trace q) → SawItem b.shape place w key value (trace p) (trace t)
 saw_item b p q t place w key value d l was = record { at = trace q; between = (moved_on b [] p q d.did.moved, moved_on b [] q t l.did.moved); was = was }
 
-pub found_item : (b : Board) (p q t : Pass) (place : Place) (item : Item) (key value : List ℕ) → Looked b p q → WasLinked b.shape place (item_word item) key value (trace q) → ReadsRow b q t item.seg item.row → FoundItem b.shape place (item_word item) key value (trace p) (trace t)
-found_item b p q t place item key value d was reads = record {
+pub found_item : (b : Board) (p q t : Pass) (place : Place) (item : Item) (key value : List ℕ) → Looked b p q → WasLinked b.shape place (item_word item) key value (trace q) → 0 < inside (trace q) (number q) item.seg → ReadsRow b q t item.seg item.row → FoundItem b.shape place (item_word item) key value (trace p) (trace t)
+found_item b p q t place item key value d was entered reads = let m = reads.looked.did.moved in record {
   saw = saw_item b p q t place (item_word item) key value d reads.looked was;
+  kept = (m.more, m.goes_on, subst (λ s. NoneRefills s m.more) (segment_of_item item) (m.kept item.seg entered));
   still = sym (same_names item (trace t)) ∙ (reads.same ∙ same_names item (trace q));
 }
 

@@ -1,5 +1,5 @@
 -- Item words that a pass looks at a second time, in whose segment it is: what stood there, and that its row is still the one.
-use Rattle.std.specs.Prelude.{◌≡◌, ◌≢◌, ℕ, ◌/◌, ◌%◌, ◌^◌, ◌<◌, List, Some}
+use Rattle.std.specs.Prelude.{◌≡◌, ◌≢◌, ℕ, ◌/◌, ◌%◌, ◌^◌, ◌<◌, List, ◌++◌, Some}
 use Rattle.segword.specs.declared.shape.Shape.{Shape}
 use Rattle.segword.specs.Bytes.{IsKey, IsValue}
 use Rattle.segword.specs.declared.item.Item.{Item}
@@ -12,6 +12,7 @@ use Rattle.segcore.specs.declared.event.Event.{Event}
 use Rattle.segcore.specs.Event.{seen}
 use Rattle.segcore.specs.Row.{Holds, row_after}
 use Rattle.segcore.specs.Lawful.{IsLawful, IsSegment}
+use Rattle.segcore.specs.Segment.{inside, NoneRefills}
 use Rattle.segcore.specs.Word.{IsItemAt}
 use Rattle.segcore.specs.Word as core
 use Rattle.segcore.specs.Search.{KeyAt}
@@ -19,7 +20,7 @@ use Rattle.segcore.specs.Standing.{cached}
 use Rattle.segbase.specs.declared.board.Board.{Board}
 use Rattle.segbase.specs.declared.pass.Pass.{Pass}
 use Rattle.segbase.specs.declared.place.Place.{Place}
-use Rattle.segbase.specs.Passes.{trace}
+use Rattle.segbase.specs.Passes.{number, trace}
 use Rattle.segbase.specs.Spots.{IsPlace, cell_at, position, home_bucket}
 use Rattle.segstore.specs.Reading.{IsReadable}
 use Rattle.segstore.specs.declared.read.Linked.{Linked}
@@ -62,9 +63,10 @@ pub record SawItem (shape : Shape) (place : Place) (word : ℕ) (key value : Lis
   pub between : IsBetween before now at
   pub was : WasLinked shape place word key value at
 
--- and now its row is as it was then
+-- and now its row is as it was then, since its segment wasn't filled again
 pub record FoundItem (shape : Shape) (place : Place) (word : ℕ) (key value : List ℕ) (before now : List Event) : Type 0 where
   pub saw : SawItem shape place word key value before now
+  pub kept : (more : List Event) × (now ≡ more ++ saw.at) × NoneRefills (segment_part word) more
   pub still : row_after now (segment_part word) (row_part word) ≡ row_after saw.at (segment_part word) (row_part word)
 
 -- a look between them found this word
@@ -74,12 +76,13 @@ pub record SawWord (shape : Shape) (place : Place) (word : ℕ) (before now : Li
   pub lawful : IsLawful shape at
   pub stood : word_at shape at place ≡ word
 
--- A second look saw the same item still: a key's, whose row the pass may read.
+-- A second look saw the same item still: a key's, in whose segment the pass is, so that it may read the row.
 pub record SeesAgain (b : Board) (place : Place) (word : ℕ) (item : Item) (q : Pass) : Type 0 where
   pub same : IsSameItem word (item_word item)
   pub key : List ℕ
   pub value : List ℕ
   pub was : WasLinked b.shape place (item_word item) key value (trace q)
+  pub entered : 0 < inside (trace q) (number q) item.seg
   pub readable : IsReadable b q item.seg item.row
 
 -- the second look at an item word

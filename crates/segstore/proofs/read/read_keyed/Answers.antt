@@ -16,7 +16,7 @@ returns-in-Some-clause-keyed c = let b = c.args.board.now in let x = c.in-Ok.ens
     let reads = reads_then b q k t item.seg item.row c.row_of_key.ensures.reads c.value_of_row-value.ensures.reads in
     let key = (c.in-Some.ensures.key x.key x.value x.was.valid.0 x.was.valid.1 (holds_item b q k c.args.place item x.key x.value x.was c.row_of_key.ensures.reads)).0 refl in
     let value = c.value_of_row-value.ensures.value x.key x.value x.was.valid.0 x.was.valid.1 (holds_item b q t c.args.place item x.key x.value x.was reads) in
-    (x.same, found_as b.shape (trace p) (trace t) c.args.place (item_word item) x.key x.value _ _ key value (found_item b p q t c.args.place item x.key x.value c.in-Ok.ensures.looked x.was reads))
+    (x.same, found_as b.shape (trace p) (trace t) c.args.place (item_word item) x.key x.value _ _ key value (found_item b p q t c.args.place item x.key x.value c.in-Ok.ensures.looked x.was x.entered reads))
 
 pub returns-in-None-clause-looked : goal.returns-in-None-clause-looked
 returns-in-None-clause-looked c = then_row c.args.board.now c.args.pass.now c.look_again.new.pass c.row_of_key.new.pass c.in-Ok.item.seg c.in-Ok.item.row c.in-Ok.ensures.looked c.row_of_key.ensures.reads

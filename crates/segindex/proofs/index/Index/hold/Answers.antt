@@ -1,0 +1,50 @@
+use Rattle.std.proofs.Common.{Some, refl, arith}
+use Rattle.segbase.specs.Passes.{trace}
+use Rattle.segindex.specs.Index.{board_of, shape_of}
+use Rattle.segindex.proofs.Gets.{gone_reads, takes_none}
+use Rattle.segindex.proofs.HoldCalls.{has_found, takes_hold, takes_no_bit}
+use Rattle.segindex.proofs.Holding.{held_at}
+use Rattle.segindex.proofs.Reading.{read_on}
+use Rattle.segindex.proofs.index.Index.hold.Goals as goal
+
+pub set_hold-requires : goal.set_hold-requires
+set_hold-requires c = let f = c.in-Found in
+    (f.ensures.reads.reads.moved.pass, (has_found (board_of c.args.self.now) c.args.pass.now c.scan_for.new.pass f.field-1 f.item c.args.key.now f.value f.ensures.reads f.ensures.scan, refl))
+
+pub returns-in-Found-clause-on : goal.returns-in-Found-clause-on
+returns-in-Found-clause-on c = let f = c.in-Found in
+    (takes_hold (board_of c.args.self.now) c.args.pass.now c.scan_for.new.pass c.set_hold.new.pass f.field-1 f.item c.args.key.now f.value (record { index = c.args.self; segment = f.item.seg; row = f.item.row })
+    c.requires.pass c.if-is_holding.ensures f.ensures.reads f.ensures.scan refl refl c.set_hold.ensures.pass c.set_hold.ensures.sets).0
+
+pub returns-in-Found-clause-takes_no_bit : goal.returns-in-Found-clause-takes_no_bit
+returns-in-Found-clause-takes_no_bit c = let b = board_of c.args.self.now in let f = c.in-Found in let r = f.ensures.reads in let p = c.args.pass.now in let q = c.scan_for.new.pass in
+    takes_no_bit b r.reads.own (Some (held_at (shape_of c.args.self.now) (trace q) c.args.key.now f.value f.item.seg)) p q c.set_hold.new.pass c.requires.pass r.reads.moved r.reads.only r.plain r.memo c.set_hold.ensures.pass c.set_hold.ensures.sets
+
+pub returns-in-Found-clause-answer : goal.returns-in-Found-clause-answer
+returns-in-Found-clause-answer c = let f = c.in-Found in
+    (takes_hold (board_of c.args.self.now) c.args.pass.now c.scan_for.new.pass c.set_hold.new.pass f.field-1 f.item c.args.key.now f.value (record { index = c.args.self; segment = f.item.seg; row = f.item.row })
+    c.requires.pass c.if-is_holding.ensures f.ensures.reads f.ensures.scan refl refl c.set_hold.ensures.pass c.set_hold.ensures.sets).1
+
+pub returns-in-Absent-clause-on : goal.returns-in-Absent-clause-on
+returns-in-Absent-clause-on c = let r = c.in-Absent.ensures.reads in (read_on (board_of c.args.self.now) c.args.pass.now c.scan_for.new.pass c.requires.pass r.reads r.plain r.memo).0
+
+pub returns-in-Absent-clause-takes_no_bit : goal.returns-in-Absent-clause-takes_no_bit
+returns-in-Absent-clause-takes_no_bit c = takes_none (board_of c.args.self.now) c.args.pass.now c.scan_for.new.pass c.in-Absent.ensures.reads
+
+pub returns-in-Absent-clause-answer : goal.returns-in-Absent-clause-answer
+returns-in-Absent-clause-answer c = let r = c.in-Absent.ensures.reads in (
+  (read_on (board_of c.args.self.now) c.args.pass.now c.scan_for.new.pass c.requires.pass r.reads r.plain r.memo).1,
+  gone_reads (shape_of c.args.self.now) c.args.key.now (trace c.args.pass.now) (trace c.scan_for.new.pass) c.in-Absent.ensures.scan,
+)
+
+pub returns-in-Busy-clause-on : goal.returns-in-Busy-clause-on
+returns-in-Busy-clause-on c = let r = c.in-Busy.ensures.reads in (read_on (board_of c.args.self.now) c.args.pass.now c.scan_for.new.pass c.requires.pass r.reads r.plain r.memo).0
+
+pub returns-in-Busy-clause-takes_no_bit : goal.returns-in-Busy-clause-takes_no_bit
+returns-in-Busy-clause-takes_no_bit c = takes_none (board_of c.args.self.now) c.args.pass.now c.scan_for.new.pass c.in-Busy.ensures.reads
+
+pub returns-in-Busy-clause-answer : goal.returns-in-Busy-clause-answer
+returns-in-Busy-clause-answer c = let r = c.in-Busy.ensures.reads in (
+  (read_on (board_of c.args.self.now) c.args.pass.now c.scan_for.new.pass c.requires.pass r.reads r.plain r.memo).1,
+  (let more = c.in-Busy.ensures.scan in omega arith),
+)

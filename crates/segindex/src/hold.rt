@@ -1,0 +1,121 @@
+//! Items held: a pass stays in the segment of an item, so that its value stands there until it is released, also where its key is deleted, stored again or evicted.
+ghost use Rattle.std.specs.Prelude.{◌≡◌, ◌↔◌, Option, Some, None, true, is_some, IfSome};
+ghost use Rattle.segbase.specs.declared.law.Held.{Held};
+ghost use Rattle.segbase.specs.declared.pass.Pass.{Pass};
+ghost use Rattle.segbase.specs.Passes.{trace, holding};
+ghost use Rattle.segword.specs.declared.shape.Shape.{Shape};
+ghost use Rattle.segindex.specs.declared.index.Index.{Index};
+ghost use Rattle.segindex.specs.declared.hold.Hold.{Hold};
+ghost use Rattle.segindex.specs.declared.hold.HoldAnswer.TheVariants as answer;
+ghost use Rattle.segindex.specs.Index.{shape_of, board_of};
+ghost use Rattle.segindex.specs.Quiet.{IsQuiet};
+ghost use Rattle.segindex.specs.Holds.{IsHoldOf, IsRowOf};
+
+use crate::index::Index;
+use crate::scan::Scan;
+use segbase::Pass;
+use segstore::value_of_row;
+use segword::{Key, Value};
+
+/// An item that a pass holds. It has to be released, with the pass that holds it.
+pub struct Hold<'i> {
+    // No call that ends the index is made while it stands.
+    pub(crate) index: &'i Index,
+    pub(crate) segment: u32,
+    pub(crate) row: u32,
+}
+
+/// The answer to a hold.
+pub enum HoldAnswer<'i> {
+    Holding(Hold<'i>),
+    Miss,
+    /// The words of the key's chain changed at each try.
+    Busy,
+    /// The pass holds an item.
+    AlreadyHolding,
+}
+
+impl Index {
+    ghost use Rattle.segbase.specs.Passes.{trace, taken, holding, IsPassOf};
+    ghost use Rattle.segbase.specs.Plain.{is_holding_of};
+    ghost use Rattle.segbase.specs.Minding.{HasHeld};
+    ghost use Rattle.segindex.specs.Index.{board_of, shape_of};
+    ghost use Rattle.segindex.specs.Quiet.{IsQuiet};
+    ghost use Rattle.segindex.specs.Calls.{GoesOn, ChangesNothing};
+    ghost use Rattle.segindex.specs.Holds.{IsHoldOf, IsHoldAnswer, Releases, SetsHold};
+
+    /// Holds the item of a key. Its value can be read until it is released, and a pass holds one item at most. No frequency changes.
+    pub fn hold<'i>(&'i self, pass: &mut Pass, key: &Key) -> HoldAnswer<'i>
+        requires pass { IsQuiet (board_of self.now) pass.old }
+        ensures on { GoesOn (board_of self.now) pass.old pass.new }
+        ensures takes_no_bit { taken pass.new ≡ taken pass.old }
+        ensures answer { IsHoldAnswer (shape_of self.now) key.now result pass.old pass.new }
+        ensures already { (result ≡ answer.AlreadyHolding) ↔ (is_holding_of pass.old ≡ true) }
+    {
+        if pass.is_holding() {
+            return HoldAnswer::AlreadyHolding;
+        }
+        match self.scan_for(pass, key) {
+            Scan::Found(value, _, item) => {
+                self.set_hold(pass, Some((key, &value, item.seg)));
+                HoldAnswer::Holding(Hold {
+                    index: self,
+                    segment: item.seg,
+                    row: item.row,
+                })
+            }
+            Scan::Absent => HoldAnswer::Miss,
+            Scan::Busy => HoldAnswer::Busy,
+        }
+    }
+
+    /// The value that is held: the one that stood under the key when it was held.
+    pub fn held_value(&self, pass: &mut Pass, hold: &Hold<'_>) -> Value
+        requires pass { IsQuiet (board_of self.now) pass.old }
+        requires hold { IsHoldOf (shape_of self.now) hold.now pass.old }
+        ensures on { GoesOn (board_of self.now) pass.old pass.new }
+        ensures keeps { ChangesNothing pass.old pass.new }
+        ensures takes_no_bit { taken pass.new ≡ taken pass.old }
+        ensures hold { IsHoldOf (shape_of self.now) hold.now pass.new }
+        ensures value { IfSome (holding pass.old) (λ held. result ≡ held.value) }
+    {
+        let header = self.board.row_load(pass, hold.segment, hold.row, 0);
+        value_of_row(&self.board, pass, hold.segment, hold.row, header)
+    }
+
+    /// Ends a hold. Up to then the segment wasn't filled again.
+    pub fn release(&self, pass: &mut Pass, hold: Hold<'_>)
+        requires pass { IsQuiet (board_of self.now) pass.old }
+        requires hold { IsHoldOf (shape_of self.now) hold pass.old }
+        ensures on { GoesOn (board_of self.now) pass.old pass.new }
+        ensures takes_no_bit { taken pass.new ≡ taken pass.old }
+        ensures releases { Releases pass.old pass.new }
+    {
+        let Hold {
+            index: _,
+            segment,
+            row: _,
+        } = hold;
+        self.board.leave(pass, segment);
+        self.set_hold(pass, None);
+    }
+
+    // Names what the pass holds: the item of this key, which stood with the value in the segment, or nothing.
+    fn set_hold(&self, pass: &mut Pass, item: Option<(&Key, &Value, u32)>)
+        ghost held: { Option Held }
+        requires pass { IsPassOf (board_of self.now) pass.old }
+        requires held { IfSome held (HasHeld (shape_of self.now) (trace pass.old)) }
+        requires item { is_some item ≡ is_some held }
+        ensures pass { IsPassOf (board_of self.now) pass.new }
+        ensures sets { SetsHold held pass.old pass.new }
+    {
+        pass.set_holding(item.is_some());
+        self.board.remember(pass);
+    }
+}
+
+/// A hold is a pass's own as long as the pass holds the same, whatever it does meanwhile, and its row holds the pair that long. This function does nothing: its contract is the theorem.
+pub fn hold_stays()
+    ensures stays { (shape : Shape) (hold : Hold) (p q : Pass) → IsHoldOf shape hold p → holding q ≡ holding p → IsHoldOf shape hold q }
+    ensures row { (index : Index) (hold : Hold) (p : Pass) (is : IsHoldOf (shape_of index) hold p) → IsQuiet (board_of index) p → IsRowOf (trace p) hold is.held }
+{}
