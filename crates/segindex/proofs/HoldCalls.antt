@@ -1,6 +1,6 @@
 -- A quiet pass that takes a hold, reads it, or ends it, is quiet.
-use Rattle.std.proofs.Common.{◌≡◌, ◌≢◌, ℕ, ◌+◌, ◌-◌, ◌<◌, Bool, true, false, cond, eqb, ◌&&◌, is_some, List, [], ◌∷◌, ◌++◌, Option, Some, None, IfSome, option_map, refl, sym, ap, ◌∙◌, subst, inl, inr, ⊎_elim, append_assoc, arith}
-use Rattle.std.proofs.lemmas.Bool.{cases_Bool, cond-true, cond-false, eq-eqb, false≢true}
+use Rattle.std.proofs.Common.{◌≡◌, ◌≢◌, ℕ, ◌+◌, ◌-◌, ◌<◌, Bool, true, false, cond, eqb, ◌&&◌, is_some, List, [], ◌∷◌, ◌++◌, Option, Some, None, IfSome, option_map, refl, sym, ap, ◌∙◌, subst, inl, inr, append_assoc, arith}
+use Rattle.std.proofs.lemmas.Bool.{cond-true, eq-eqb, false≢true}
 use Rattle.std.proofs.lemmas.Option.{none-some, same_Some}
 use Rattle.atomic_table.specs.declared.shared.Seat.{Seat}
 use Rattle.segword.specs.declared.shape.Shape.{Shape}
@@ -12,12 +12,12 @@ use Rattle.segmodel.specs.Cache.{standing}
 use Rattle.segmodel.specs.History.{Begins, after}
 use Rattle.segmodel.specs.History as history
 use Rattle.segcore.specs.declared.event.Event.{Event}
-use Rattle.segcore.specs.declared.event.Event.TheVariants.{Left, Replied, Linked, Unlinked, Refilled}
+use Rattle.segcore.specs.declared.event.Event.TheVariants.{Left, Unlinked, Refilled}
 use Rattle.segcore.specs.declared.view.View.{View}
 use Rattle.segcore.specs.Event as event
 use Rattle.segcore.specs.Event.{NoneBy}
 use Rattle.segcore.specs.Lawful.{IsLawful, IsSegment}
-use Rattle.segcore.specs.Row.{Row, row_after, Holds}
+use Rattle.segcore.specs.Row.{Row, row_after}
 use Rattle.segcore.specs.Segment.{inside, NoneRefills}
 use Rattle.segcore.proofs.Entered.{no_refill}
 use Rattle.segcore.specs.Standing.{cached}
@@ -31,11 +31,11 @@ use Rattle.segbase.specs.declared.pass.Pass.{Pass}
 use Rattle.segbase.specs.declared.pass.Plain.{Plain}
 use Rattle.segbase.specs.declared.place.Place.{Place}
 use Rattle.segbase.specs.Minding.{HasHeld, Minds}
-use Rattle.segbase.specs.Passes.{sight, number, trace, seen, mine, taken, holding, locked, IsPassOf, IsMemo, Moved, Did}
-use Rattle.segbase.specs.Plain.{current_of, locked_of, is_holding_of, SameSegments}
+use Rattle.segbase.specs.Passes.{sight, number, trace, seen, taken, holding, locked, IsPassOf, IsMemo, Moved, Did}
+use Rattle.segbase.specs.Plain.{is_holding_of}
 use Rattle.segbase.specs.Traces.{OnlyReads}
 use Rattle.segbase.proofs.Staying.{none_both}
-use Rattle.segbase.proofs.Moves.{moved_inside, moved_mine, moved_taken, moved_on}
+use Rattle.segbase.proofs.Moves.{moved_inside, moved_mine, moved_taken}
 use Rattle.segstore.specs.Linked.{segment_part, row_part, FoundItem}
 use Rattle.segstore.specs.Reading.{IsReadable, IsReaderIn}
 use Rattle.segstore.proofs.Keeping.{same_plain, keeps}
@@ -47,6 +47,7 @@ use Rattle.segindex.specs.Holds.{IsRowOf, IsHoldOf, KeepsButHold, TakesHold, Non
 use Rattle.segindex.proofs.Bits.{none_at_both, bit_before}
 use Rattle.segindex.proofs.Gets.{reads_set_none}
 use Rattle.segindex.proofs.Holding.{held_at, held_from, held_past, held_stood, has_held, is_hold, held_row, row_of_hold}
+use Rattle.segindex.proofs.Locking.{segments_then}
 use Rattle.segindex.proofs.Quiet.{has_lock, goes_on, reads_none}
 use Rattle.segindex.proofs.Reading.{reads_calm, reads_unseen}
 use Rattle.segindex.proofs.UnderBit.{moved_none}
@@ -96,13 +97,6 @@ pub stays : (shape : Shape) (hold : Hold) (p q : Pass) → IsHoldOf shape hold p
 stays shape hold p q is same = record { held = is.held; holds = same ∙ is.holds; segment = is.segment; in_table = is.in_table; valid = is.valid; row = is.row }
 
 -- ---- quiet again
-
-segments_then : (p q r : Pass) → SameSegments p q → SameSegments q r → SameSegments p r
-segments_then p q r i j = record {
-  owner = record { number = j.owner.number ∙ i.owner.number; first = j.owner.first ∙ i.owner.first; count = j.owner.count ∙ i.owner.count };
-  state = λ s. j.state s ∙ i.state s;
-  used = λ s. j.used s ∙ i.used s;
-}
 
 -- what a reader does, and then what the pass says of its hold
 module _ (b : Board) (own : List Event) (held : Option Held) (p r q : Pass) (quiet : IsQuiet b p) (m : Moved b own p r) (only : OnlyReads own) (plain : r.plain ≡ p.plain) (same : memo r ≡ memo p) (is : IsPassOf b q) (sets : SetsHold held r q) where

@@ -1,8 +1,6 @@
 -- The item that a pass holds: the moment at which it stood, and its row since.
-use Rattle.std.proofs.Common.{◌≡◌, ℕ, ◌<◌, Bool, true, false, cond, eqb, ◌&&◌, is_some, List, [], ◌∷◌, ◌++◌, Option, Some, None, IfSome, option_map, refl, sym, ap, ◌∙◌, subst, inl, inr, ⊎_elim, append_assoc, append-nil, arith}
+use Rattle.std.proofs.Common.{◌≡◌, ℕ, Bool, true, false, cond, eqb, ◌&&◌, List, [], ◌∷◌, ◌++◌, Option, Some, None, refl, sym, ap, ◌∙◌, subst, ⊎_elim}
 use Rattle.std.proofs.lemmas.Bool.{cases_Bool, cond-true, cond-false, eq-eqb, and_parts, and_from, eqb-true, false≢true}
-use Rattle.std.proofs.lemmas.Option.{none-some, same_Some}
-use Rattle.atomic_table.specs.declared.shared.Seat.{Seat}
 use Rattle.segword.specs.declared.shape.Shape.{Shape}
 use Rattle.segmodel.specs.declared.entry.Cached.{Cached}
 use Rattle.segmodel.specs.Cache.{standing}
@@ -11,7 +9,7 @@ use Rattle.segcore.specs.declared.event.Event.{Event}
 use Rattle.segcore.specs.Event.{seen}
 use Rattle.segcore.specs.Lawful.{IsLawful}
 use Rattle.segcore.specs.Mark.{same_key}
-use Rattle.segcore.specs.Row.{Row, row_after, Holds}
+use Rattle.segcore.specs.Row.{row_after}
 use Rattle.segcore.specs.Segment.{NoneRefills}
 use Rattle.segcore.specs.Standing.{cached}
 use Rattle.segcore.proofs.Keys.{key_true, same_true}

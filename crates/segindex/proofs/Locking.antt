@@ -39,7 +39,7 @@ use Rattle.segindex.proofs.Quiet.{has_locked, lock_of, SettlesIn, holds_again, i
 use Rattle.segindex.proofs.Still.{AreStill, settles_still}
 use Rattle.segindex.proofs.Taking.{bounces_none}
 
-segments_then : (p q r : Pass) → SameSegments p q → SameSegments q r → SameSegments p r
+pub segments_then : (p q r : Pass) → SameSegments p q → SameSegments q r → SameSegments p r
 segments_then p q r i j = record {
   owner = record { number = j.owner.number ∙ i.owner.number; first = j.owner.first ∙ i.owner.first; count = j.owner.count ∙ i.owner.count };
   state = λ s. j.state s ∙ i.state s;

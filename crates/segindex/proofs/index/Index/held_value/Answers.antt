@@ -1,6 +1,5 @@
-use Rattle.std.proofs.Common.{◌≡◌, Some, IfSome, sym, ap, subst, ◌∙◌, arith}
+use Rattle.std.proofs.Common.{◌≡◌, IfSome, sym, ap, subst, ◌∙◌, arith}
 use Rattle.segcore.specs.Row.{Row}
-use Rattle.segbase.specs.Passes.{holding}
 use Rattle.segstore.proofs.Looks.{loaded, may_load, reads_then}
 use Rattle.segstore.proofs.Readers.{looks}
 use Rattle.segindex.specs.Index.{board_of}
