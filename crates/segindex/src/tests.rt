@@ -3,9 +3,9 @@ ghost use Rattle.std.specs.Prelude.{◌≡◌, ℕ, slice_get, Some, IfSome};
 ghost use Rattle.segindex.specs.Index.{board_of};
 ghost use Rattle.segindex.specs.Quiet.{IsQuiet};
 
-use crate::{Index, LockAnswer, Pass};
+use crate::{HoldAnswer, Index, LockAnswer, Pass, hold_stays};
 use segbase::Place;
-use segmodel::{GetAnswer, RefillAnswer, WriteAnswer};
+use segmodel::{GetAnswer, GetsAnswer, RefillAnswer, WriteAnswer};
 use segword::{Key, Shape, Value};
 use std::test::Fail;
 use std::thread::{join, yield_now};
@@ -209,5 +209,63 @@ fn hits_raise_the_frequency(rt: HostRuntime) -> Result<(), Fail> {
     // Tag af6, frequency 4, segment 0, row 0.
     let place = Place { bucket: 0, word: 1 };
     assert_eq!(rt; index.board.look(&mut pass, place), 0xaf60_4000_0000_0000);
+    Ok(())
+}
+
+#[test]
+fn a_version_comes_with_its_value(rt: HostRuntime) -> Result<(), Fail> {
+    let shape = Shape {
+        first_version: 4_294_967_295,
+        ..SHAPE
+    };
+    let (index, passes) = Index::new(rt.alloc(), shape)?;
+    let (mut pass, _) = last_two(&index, passes).expect(&rt, "two passes");
+    let key = Key::new(b"a").expect(&rt, "a key");
+    let value = Value::new(b"1").expect(&rt, "a value");
+    assert_eq!(rt; index.refill(&mut pass, 0), RefillAnswer::Refilled);
+    assert_eq!(rt; index.gets(&mut pass, &key, 0), GetsAnswer::Miss);
+    assert_eq!(rt; index.set(&mut pass, &key, &value), WriteAnswer::Stored);
+    // The version wraps to 0.
+    let found = GetsAnswer::Found(value, 0);
+    assert_eq!(rt; index.gets(&mut pass, &key, 0), found);
+    assert_eq!(rt; index.lock_bucket(&mut pass, &key), LockAnswer::Locked);
+    assert_eq!(rt; index.gets(&mut pass, &key, 0), GetsAnswer::Busy);
+    let other = Key::new(b"b").expect(&rt, "a key");
+    assert_eq!(rt; index.gets(&mut pass, &other, 0), GetsAnswer::Miss);
+    assert!(rt; index.unlock_bucket(&mut pass));
+    assert_eq!(rt; index.gets(&mut pass, &key, 0), found);
+    Ok(())
+}
+
+// Holds the key while it is set to another value. It gives the value that was held then.
+fn hold_over_a_set(index: &Index, pass: &mut Pass, key: &Key, value: &Value) -> Option<Value>
+    requires { IsQuiet (board_of index.now) pass.old }
+    ensures { IsQuiet (board_of index.now) pass.new }
+{
+    match index.hold(pass, key) {
+        HoldAnswer::Holding(hold) => {
+            hold_stays();
+            index.set(pass, key, value);
+            let held = index.held_value(pass, &hold);
+            index.release(pass, hold);
+            Some(held)
+        }
+        HoldAnswer::Miss | HoldAnswer::Busy | HoldAnswer::AlreadyHolding => None,
+    }
+}
+
+#[test]
+fn a_held_value_outlives_a_set(rt: HostRuntime) -> Result<(), Fail> {
+    let (index, passes) = Index::new(rt.alloc(), SHAPE)?;
+    let (mut pass, _) = last_two(&index, passes).expect(&rt, "two passes");
+    let key = Key::new(b"a").expect(&rt, "a key");
+    let one = Value::new(b"1").expect(&rt, "a value");
+    let two = Value::new(b"2").expect(&rt, "a value");
+    assert_eq!(rt; index.refill(&mut pass, 0), RefillAnswer::Refilled);
+    assert_eq!(rt; hold_over_a_set(&index, &mut pass, &key, &one), None);
+    assert_eq!(rt; index.set(&mut pass, &key, &one), WriteAnswer::Stored);
+    assert_eq!(rt; hold_over_a_set(&index, &mut pass, &key, &two), Some(one));
+    assert!(rt; !pass.is_holding());
+    assert_eq!(rt; index.get(&mut pass, &key, 0), GetAnswer::Found(two));
     Ok(())
 }
