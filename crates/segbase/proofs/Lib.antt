@@ -3,6 +3,7 @@ pub mod Alone
 pub mod Begun
 pub mod Carried
 pub mod Dealt
+pub mod Entering
 pub mod Exchanging
 pub mod Minded
 pub mod Moves

@@ -1,3 +1,4 @@
+pub mod Entering
 pub mod Made
 pub mod Minding
 pub mod Opening

@@ -1,4 +1,5 @@
 //! The words of a board and the plain parts of its passes, by the format.
+mod entering;
 mod words;
 
 use crate::{Board, MakeFault};

@@ -1,0 +1,35 @@
+-- A board of two passes that both enter one segment: what a pass has to know for that.
+use Rattle.std.specs.Prelude.{◌≡◌, ℕ, true, List, [], ◌∷◌}
+use Rattle.segword.specs.declared.shape.Shape.{Shape}
+use Rattle.segmodel.specs.declared.request.Request.{Request}
+use Rattle.segmodel.specs.declared.request.Request.TheVariants.{Set}
+use Rattle.segcore.specs.Segment.{inside, was_used}
+use Rattle.segbase.specs.declared.pass.Pass.{Pass}
+use Rattle.segbase.specs.declared.board.Board.{Board}
+use Rattle.segbase.specs.Passes.{number, trace, IsPassOf}
+
+abbrev pub shape : Shape
+shape = record { buckets = 1; overflow = 0; passes = 2; segments_each = 1; rows = 1; first_version = 0 }
+
+-- the key is one byte 0, and the value is empty
+abbrev pub key : List ℕ
+key = 0 ∷ []
+
+abbrev pub set : Request
+set = Set key []
+
+-- a pass of a board of this shape, which isn't in segment 0
+pub record IsOutside (b : Board) (p : Pass) : Type 0 where
+  pub pass : IsPassOf b p
+  pub shape : b.shape ≡ shape
+  pub outside : inside (trace p) (number p) 0 ≡ 0
+
+-- nothing has happened that it has seen
+pub record IsNew (b : Board) (p : Pass) : Type 0 where
+  pub outside : IsOutside b p
+  pub nothing : trace p ≡ []
+
+-- it has seen that an item was linked in segment 0
+pub record KnowsUse (b : Board) (p : Pass) : Type 0 where
+  pub outside : IsOutside b p
+  pub used : was_used (trace p) 0 ≡ true
