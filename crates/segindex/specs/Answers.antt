@@ -1,26 +1,30 @@
 -- What the answers of calls say, in the terms of the model.
-use Rattle.std.specs.Prelude.{◌≡◌, ◌≢◌, ◌⊎◌, ℕ, ◌+◌, ◌*◌, ◌<◌, ◌≤◌, Bool, true, false, List, Option, Some, None}
+use Rattle.std.specs.Prelude.{◌≡◌, ◌≢◌, ◌↔◌, ◌⊎◌, ℕ, ◌+◌, ◌*◌, ◌<◌, ◌≤◌, Bool, true, false, List, Option, Some, None}
 use Rattle.segword.specs.declared.shape.Shape.{Shape}
 use Rattle.segmodel.specs.declared.entry.Entry.{Entry}
 use Rattle.segmodel.specs.declared.entry.Entry.TheVariants.{Wrote, Refilled}
 use Rattle.segmodel.specs.declared.request.Request.{Request}
+use Rattle.segmodel.specs.declared.request.Request.TheVariants.{Delete}
 use Rattle.segmodel.specs.declared.request.Reply.{Reply}
 use Rattle.segmodel.specs.declared.request.Reply.TheVariants as reply
 use Rattle.segmodel.specs.declared.answer.GetAnswer.{GetAnswer}
 use Rattle.segmodel.specs.declared.answer.GetAnswer.TheVariants as get
 use Rattle.segmodel.specs.declared.answer.WriteAnswer.{WriteAnswer}
 use Rattle.segmodel.specs.declared.answer.WriteAnswer.TheVariants as write
+use Rattle.segmodel.specs.declared.answer.DeleteAnswer.{DeleteAnswer}
+use Rattle.segmodel.specs.declared.answer.DeleteAnswer.TheVariants as delete
 use Rattle.segmodel.specs.declared.answer.RefillAnswer.{RefillAnswer}
 use Rattle.segmodel.specs.declared.answer.RefillAnswer.TheVariants as refill
 use Rattle.segmodel.specs.declared.answer.SegState.TheVariants.{InUse}
 use Rattle.segmodel.specs.Places.{bucket_of}
-use Rattle.segmodel.specs.Request.{key_of}
+use Rattle.segmodel.specs.Request.{key_of, adds_key}
 use Rattle.segmodel.specs.Cache.{standing, reads, keys_in}
 use Rattle.segmodel.specs.History.{after, Begins, IsBetween, entries_of, stirred}
 use Rattle.segcore.specs.Event as event
 use Rattle.segcore.specs.Segment.{inside}
 use Rattle.segcore.specs.Mark.{Mark, entries, width, all_drawn}
 use Rattle.segbase.specs.declared.law.Locked.{Locked}
+use Rattle.segbase.specs.declared.board.Board.{Board}
 use Rattle.segbase.specs.declared.pass.Pass.{Pass}
 use Rattle.segbase.specs.Passes.{number, trace, marked, seen, mine, taken, bounced, holding, locked}
 use Rattle.segbase.specs.Passes as passes
@@ -28,7 +32,8 @@ use Rattle.segbase.specs.Plain.{current_of, state_of, used_of, locked_of, is_hol
 use Rattle.segindex.specs.declared.bucket.LockAnswer.{LockAnswer}
 use Rattle.segindex.specs.declared.bucket.LockAnswer.TheVariants as lock
 use Rattle.segindex.specs.Quiet.{is_held_in}
-use Rattle.segindex.specs.Calls.{memo, ChangesNothing, AddsEntry}
+use Rattle.segstore.specs.Segments.{has_room}
+use Rattle.segindex.specs.Calls.{memo, GoesOn, ChangesNothing, AddsEntry}
 
 -- ---- readers
 
@@ -73,14 +78,14 @@ pub record UsesRow (segment : ℕ) (p q : Pass) : Type 0 where
 abbrev pub IsReplied : Request → Reply → Pass → Pass → Type 0
 IsReplied request told p q = AddsEntry (Wrote (number p) request told None) p q × (q.plain ≡ p.plain) × (memo q ≡ memo p)
 
--- a request to store was stored in the current segment, or refused by the cache with a reply, each by one entry; or refused for want of a row, a word or the bit, by none
+-- a request to store was stored in the current segment, or refused by the cache with a reply, each by one entry; or refused for want of a row, a word (which only a set or an add of a new key needs) or the bit, by none
 abbrev pub IsWriteAnswer : Shape → Request → WriteAnswer → Pass → Pass → Type 0
 IsWriteAnswer shape request write.Stored p q = (segment : ℕ) × AddsEntry (Wrote (number p) request reply.Stored (Some segment)) p q × UsesRow segment p q
 IsWriteAnswer shape request write.NotStored p q = IsReplied request reply.NotStored p q
 IsWriteAnswer shape request write.Exists p q = IsReplied request reply.Exists p q
 IsWriteAnswer shape request write.NotFound p q = IsReplied request reply.NotFound p q
 IsWriteAnswer shape request write.NoRoom p q = ChangesNothing p q
-IsWriteAnswer shape request write.BucketFull p q = ChangesNothing p q × WasFull shape (key_of request) (marked p) (marked q)
+IsWriteAnswer shape request write.BucketFull p q = ChangesNothing p q × (adds_key request false ≡ true) × WasFull shape (key_of request) (marked p) (marked q)
 IsWriteAnswer shape request write.Busy p q = ChangesNothing p q × IsBusy (bucket_of shape (key_of request)) p q
 
 -- a set is stored or refused
@@ -89,6 +94,26 @@ IsSetAnswer write.NotStored = ⊥
 IsSetAnswer write.Exists = ⊥
 IsSetAnswer write.NotFound = ⊥
 IsSetAnswer _ = Unit {0}
+
+-- a delete is replied by one entry, or refused for want of the bit by none
+abbrev pub IsDeleteAnswer : Shape → List ℕ → DeleteAnswer → Pass → Pass → Type 0
+IsDeleteAnswer shape key delete.Deleted p q = IsReplied (Delete key) reply.Deleted p q
+IsDeleteAnswer shape key delete.NotFound p q = IsReplied (Delete key) reply.NotFound p q
+IsDeleteAnswer shape key delete.Busy p q = ChangesNothing p q × IsBusy (bucket_of shape key) p q
+
+-- A set, an add, a replace or a cas is answered so. NoRoom comes first, exactly where the pass has no row left; then Busy, always where the pass itself has the bucket locked.
+pub record Writes (b : Board) (request : Request) (told : WriteAnswer) (p q : Pass) : Type 0 where
+  pub on : GoesOn b p q
+  pub answer : IsWriteAnswer b.shape request told p q
+  pub untouched : told ≡ write.NoRoom → q ≡ p
+  pub no_room : (told ≡ write.NoRoom) ↔ (has_room b.shape p ≡ false)
+  pub locked : has_room b.shape p ≡ true → locked_of p ≡ Some (bucket_of b.shape (key_of request)) → told ≡ write.Busy
+
+-- a delete is answered so; it needs no row
+pub record Deletes (b : Board) (key : List ℕ) (told : DeleteAnswer) (p q : Pass) : Type 0 where
+  pub on : GoesOn b p q
+  pub answer : IsDeleteAnswer b.shape key told p q
+  pub locked : locked_of p ≡ Some (bucket_of b.shape key) → told ≡ delete.Busy
 
 -- ---- locks
 

@@ -3,8 +3,10 @@ pub mod Quiet
 pub mod Taking
 pub mod Writing
 pub mod Calls
+pub mod Alone
 pub mod Answers
 pub mod Scanning
 pub mod Storing
+pub mod Evicting
 pub mod Gets
 pub mod Holds

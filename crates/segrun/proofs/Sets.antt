@@ -258,7 +258,7 @@ serves_set shape p q state key value given no_overflow was is in_use at answered
     by write.NotFound e answered set = absurd set
     by write.NoRoom e nothing set =
         as_refused shape q state key value write.NoRoom (no_room shape p state key value at in_use (no_room_where.0 e)) (left nothing)
-    by write.BucketFull e (nothing, full) set =
+    by write.BucketFull e (nothing, adds, full) set =
         as_refused shape q state key value write.BucketFull
         (bucket_full shape p state key value at in_use (room (λ n. full_no_room (sym e ∙ n))) (free (λ n. full_no_room (sym e ∙ n)) (λ n. full_busy (sym e ∙ n)))
         (none_left shape p q state key value no_overflow at (same_seen shape p q was is nothing.entries) was full))

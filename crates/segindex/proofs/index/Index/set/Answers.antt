@@ -37,7 +37,8 @@ returns-in_default-find-clause-answer c = let b = c.args.self.now.board in let k
     let freed = subst (λ k. Did b (Freed (number c.find.new.pass) k false ∷ []) c.find.new.pass c.release.new.pass) home c.release.ensures.did in
     let free = subst (λ k. (bucket_after b.shape (trace c.release.new.pass) k).holder ≡ None) home c.release.ensures.free in
     let step = c.release.ensures.step.1 in
-    full_answer b key _ _ _ _ c.requires.pass took c.find.ensures.idles none c.args.self.now.no_overflow freed free step.plain step.memo
+    let answer = full_answer b key _ _ _ _ c.requires.pass took c.find.ensures.idles none c.args.self.now.no_overflow freed free step.plain step.memo in
+    (answer.0, refl, answer.1)
 
 pub store-requires : goal.store-requires
 store-requires c = let b = c.args.self.now.board in let key = c.new-words.result in
