@@ -1,21 +1,23 @@
 -- The only pass of a board: all that has happened is its own, and it never finds a bit of another.
-use Rattle.std.proofs.Common.{◌≡◌, ◌≢◌, ℕ, ◌<◌, ◌≤◌, List, [], ◌∷◌, ◌++◌, Some, refl, sym, ap, ◌∙◌, subst, ⊎_elim, arith, append-nil}
-use Rattle.std.proofs.lemmas.Bool.{cases_eq}
+use Rattle.std.proofs.Common.{◌≡◌, ◌≢◌, ℕ, ◌+◌, ◌<◌, ◌≤◌, cond, eqb, ◌&&◌, List, [], ◌∷◌, ◌++◌, Some, refl, sym, ap, ◌∙◌, subst, ⊎_elim, arith, append-nil}
+use Rattle.std.proofs.lemmas.Bool.{cases_eq, eq-eqb}
 use Rattle.std.proofs.lemmas.Option.{none-some}
 use Rattle.segword.specs.declared.shape.Shape.{Shape}
 use Rattle.segmodel.specs.History as history
 use Rattle.segcore.specs.declared.event.Event.{Event}
-use Rattle.segcore.specs.declared.event.Event.TheVariants.{Bounced, Glanced}
+use Rattle.segcore.specs.declared.event.Event.TheVariants.{Bounced, Glanced, Drew}
 use Rattle.segcore.specs.Event.{by, NoneBy, AllBy}
 use Rattle.segcore.specs.Event as event
 use Rattle.segcore.specs.Bucket.{bucket_after}
 use Rattle.segcore.specs.Lawful.{IsLawful, IsOther}
 use Rattle.segcore.specs.Count as count
+use Rattle.segcore.specs.Mark.{drawn_for}
+use Rattle.segcore.specs.Mark as mark
 use Rattle.segcore.proofs.Counts.{mine_own}
 use Rattle.segcore.proofs.Quiet.{not_mine}
 use Rattle.segbase.specs.declared.board.Board.{Board}
 use Rattle.segbase.specs.declared.pass.Pass.{Pass}
-use Rattle.segbase.specs.Passes.{number, trace, seen, mine, bounced, glanced, IsPassOf, Moved}
+use Rattle.segbase.specs.Passes.{number, trace, marked, seen, mine, bounced, glanced, drew, IsPassOf, Moved}
 use Rattle.segbase.proofs.Owning.{own_all}
 
 all_first : (h : List Event) → ((n : ℕ) → 1 ≤ n → NoneBy n h) → AllBy 0 h
@@ -44,6 +46,13 @@ no_glance z p b [] l all = refl
 no_glance z p b (Glanced q a ∷ h) l all = absurd (no_other z p a h all.1 (subst (λ n. IsOther n (bucket_after z h a).holder) all.0 l.1.suits))
 no_glance z p b (e ∷ h) l all = no_glance z p b h l.0 all.1
 
+-- each overflow bucket of a bucket was drawn by it
+all_drew : (p b : ℕ) (h : List Event) → AllBy p h → drawn_for (mark.marked h) b ≡ count.drew p b h
+all_drew p b [] all = refl
+all_drew p b (Drew q a d m ∷ h) all = ap (λ n. cond (eqb a b) (n + 1) n) (all_drew p b h all.1)
+    ∙ sym (ap (λ t. cond (t && eqb a b) (count.drew p b h + 1) (count.drew p b h)) (eq-eqb q p all.0))
+all_drew p b (e ∷ h) all = all_drew p b h all.1
+
 -- ---- of a pass
 
 -- the history is its own
@@ -56,6 +65,9 @@ bounced_alone b p bucket is one = no_bounce b.shape (number p) bucket (trace p) 
 
 pub glanced_alone : (b : Board) (p : Pass) (bucket : ℕ) → IsPassOf b p → b.shape.passes ≡ 1 → glanced p bucket ≡ 0
 glanced_alone b p bucket is one = no_glance b.shape (number p) bucket (trace p) is.lawful (is.alone one)
+
+pub drew_alone : (b : Board) (p : Pass) (bucket : ℕ) → IsPassOf b p → b.shape.passes ≡ 1 → drawn_for (marked p) bucket ≡ drew p bucket
+drew_alone b p bucket is one = all_drew (number p) bucket (trace p) (is.alone one)
 
 all_front : (p : ℕ) (xs ys : List Event) → AllBy p (xs ++ ys) → AllBy p xs
 all_front p [] ys all = tt

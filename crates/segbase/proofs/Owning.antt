@@ -2,13 +2,13 @@
 use Rattle.std.proofs.Common.{◌≡◌, ◌≢◌, ℕ, ◌+◌, ◌-◌, cond, eqb, ◌&&◌, List, [], ◌∷◌, ◌++◌, Option, Some, None, refl, sym, ap, ◌∙◌, ⊎_elim}
 use Rattle.std.proofs.lemmas.Bool.{cases_Bool, eq-eqb, ne_eqb, false≢true}
 use Rattle.segcore.specs.declared.event.Event.{Event}
-use Rattle.segcore.specs.declared.event.Event.TheVariants.{Took, Bounced, Glanced, Entered, Left}
+use Rattle.segcore.specs.declared.event.Event.TheVariants.{Took, Bounced, Glanced, Drew, Entered, Left}
 use Rattle.segcore.specs.Event.{by, entry_of, with_entry, seen, NoneBy, AllBy}
 use Rattle.segcore.specs.Segment.{inside}
 use Rattle.segmodel.specs.declared.entry.Entry.{Entry}
 use Rattle.segmodel.specs.History.{pass_of, mine}
-use Rattle.segcore.specs.Count.{taken, bounced, glanced}
-use Rattle.segcore.proofs.Counts.{mine_others, taken_others, bounced_others, glanced_others}
+use Rattle.segcore.specs.Count.{taken, bounced, glanced, drew}
+use Rattle.segcore.proofs.Counts.{mine_others, taken_others, bounced_others, glanced_others, drew_others}
 use Rattle.segcore.proofs.Quiet.{quiet_inside}
 use Rattle.segbase.specs.Traces.{own_of}
 
@@ -80,3 +80,10 @@ own_bounced more h p b = own_same p (bounced p b) (record { again = bounced_agai
 
 pub own_glanced : (more h : List Event) (p b : ℕ) → glanced p b (more ++ h) ≡ glanced p b (own_of p more ++ h)
 own_glanced more h p b = own_same p (glanced p b) (record { again = glanced_again p b; skips = λ e h n. glanced_others p b (e ∷ []) h (n, tt) }) more h
+
+drew_again : (p b : ℕ) (e : Event) (h g : List Event) → drew p b h ≡ drew p b g → drew p b (e ∷ h) ≡ drew p b (e ∷ g)
+drew_again p b (Drew q a d m) h g same = ap (λ n. cond (eqb q p && eqb a b) (n + 1) n) same
+drew_again p b e h g same = same
+
+pub own_drew : (more h : List Event) (p b : ℕ) → drew p b (more ++ h) ≡ drew p b (own_of p more ++ h)
+own_drew more h p b = own_same p (drew p b) (record { again = drew_again p b; skips = λ e h n. drew_others p b (e ∷ []) h (n, tt) }) more h

@@ -62,6 +62,10 @@ bounced p bucket = count.bounced (number p) bucket (trace p)
 abbrev pub glanced : Pass → ℕ → ℕ
 glanced p bucket = count.glanced (number p) bucket (trace p)
 
+-- how many overflow buckets it drew for a bucket
+abbrev pub drew : Pass → ℕ → ℕ
+drew p bucket = count.drew (number p) bucket (trace p)
+
 -- what it holds and what it has locked
 abbrev pub holding : Pass → Option Held
 holding p = (sight p).memo.holding

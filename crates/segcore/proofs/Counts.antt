@@ -12,7 +12,7 @@ use Rattle.segcore.specs.declared.event.Event.TheVariants.{Took, Bounced, Glance
 use Rattle.segcore.specs.Event.{by, removal, entry_of, with_entry, seen, NoneBy, AllBy}
 use Rattle.segcore.specs.ItemWord.{packed}
 use Rattle.segcore.specs.Kind.{Step, take, release, info_look, glance, look, link, clear, draw, fill, chain, bump, row_store, row_load, enter, leave, none_reading, told, unless_own, adds}
-use Rattle.segcore.specs.Count.{taken, bounced, glanced, taken_by, bounced_by, glanced_by, IsCounted}
+use Rattle.segcore.specs.Count.{taken, bounced, glanced, drew, taken_by, bounced_by, glanced_by, drew_by, IsCounted}
 
 -- ---- entries
 
@@ -73,18 +73,25 @@ glanced_others p b [] h n = refl
 glanced_others p b (Glanced q a ∷ more) h n = off (eqb q p) (eqb a b) (ne_eqb q p n.0) _ (glanced p b (more ++ h)) ∙ glanced_others p b more h n.1
 glanced_others p b (e ∷ more) h n = glanced_others p b more h n.1
 
+pub drew_others : (p b : ℕ) (more h : List Event) → NoneBy p more → drew p b (more ++ h) ≡ drew p b h
+drew_others p b [] h n = refl
+drew_others p b (Drew q a d m ∷ more) h n = off (eqb q p) (eqb a b) (ne_eqb q p n.0) _ (drew p b (more ++ h)) ∙ drew_others p b more h n.1
+drew_others p b (e ∷ more) h n = drew_others p b more h n.1
+
 -- ---- what a step adds
 
--- the events that none of the three counts, and the steps that add only such ones
+-- the events that none of the four counts, and the steps that add only such ones
 abbrev IsPlain : Event → Type 0
 IsPlain (Took p b) = ⊥
 IsPlain (Bounced p b) = ⊥
 IsPlain (Glanced p b) = ⊥
+IsPlain (Drew p b d m) = ⊥
 IsPlain _ = Unit {0}
 
 abbrev IsPlainStep : Step → Type 0
 IsPlainStep (take b own) = ⊥
 IsPlainStep (glance b own) = ⊥
+IsPlainStep (draw b d from) = ⊥
 IsPlainStep _ = Unit {0}
 
 module _ (F : List Event → ℕ) (p : ℕ) (h : List Event) (skips : (e : Event) (g : List Event) → IsPlain e → F (e ∷ g) ≡ F g) where
@@ -100,13 +107,13 @@ module _ (F : List Event → ℕ) (p : ℕ) (h : List Event) (skips : (e : Event
   plain : (step : Step) (found : ℕ) → IsPlainStep step → F (adds step p found ++ h) ≡ F h
   plain (take b own) found i = absurd i
   plain (glance b own) found i = absurd i
+  plain (draw b d from) found i = absurd i
   plain (release b c said) found i = skips (Freed p b c) (told p said ++ h) tt ∙ of_told said
   plain (info_look b) found i = refl
   plain (look c) found i = refl
   plain (row_load s r j) found i = refl
   plain (link q s r n c old) found i = of_cond (eqb found old) (Linked p q s r n) tt
   plain (clear k n c old why) found i = of_cond (eqb found old) (Unlinked p k n why) tt
-  plain (draw b d from) found i = of_cond (eqb found from) (Drew p b d from) tt
   plain (fill b m w) found i = skips (Put p b w) h tt
   plain (chain b c old m) found i = of_cond (eqb found old) (Chained p b m) tt
   plain (bump b n c t s r f g) found i = of_cond (eqb found (packed t f s r)) (Bumped p s r g) tt
@@ -130,6 +137,15 @@ glanced_skips : (p x : ℕ) (e : Event) (g : List Event) → IsPlain e → glanc
 glanced_skips p x (Glanced q b) g i = absurd i
 glanced_skips p x e g i = refl
 
+drew_skips : (p x : ℕ) (e : Event) (g : List Event) → IsPlain e → drew p x (e ∷ g) ≡ drew p x g
+drew_skips p x (Drew q b d m) g i = absurd i
+drew_skips p x e g i = refl
+
+-- an exchange that adds what is counted elsewhere, or nothing
+elsewhere : (F : List Event → ℕ) (e : Event) (h : List Event) (t : Bool) → F (e ∷ h) ≡ F h → F (cond t (e ∷ []) [] ++ h) ≡ 0 + F h
+elsewhere F e h true same = omega (arith, same)
+elsewhere F e h false same = omega arith
+
 one_more : (t : Bool) (n : ℕ) → cond t (n + 1) n ≡ cond t 1 0 + n
 one_more true n = omega arith
 one_more false n = omega arith
@@ -148,6 +164,7 @@ module _ (p : ℕ) (h : List Event) where
   pub step_taken : (step : Step) (found : ℕ) → taken p (adds step p found ++ h) ≡ taken_by step found + taken p h
   step_taken (take b own) found = take_taken b own (eqb (found % 2) 0)
   step_taken (glance b own) found = glance_taken b own (eqb (found % 2) 0)
+  step_taken (draw b d from) found = elsewhere (taken p) (Drew p b d from) h (eqb found from) refl
   step_taken step found = adds_none (taken p) p h (taken_skips p) step found tt
 
   take_bounced : (x b : ℕ) (own t : Bool) → bounced p x (cond t (Took p b ∷ []) (unless_own own (Bounced p b)) ++ h) ≡ cond (not t && (not own && eqb b x)) 1 0 + bounced p x h
@@ -163,6 +180,7 @@ module _ (p : ℕ) (h : List Event) where
   pub step_bounced : (x : ℕ) (step : Step) (found : ℕ) → bounced p x (adds step p found ++ h) ≡ bounced_by x step found + bounced p x h
   step_bounced x (take b own) found = take_bounced x b own (eqb (found % 2) 0)
   step_bounced x (glance b own) found = glance_bounced x b own (eqb (found % 2) 0)
+  step_bounced x (draw b d from) found = elsewhere (bounced p x) (Drew p b d from) h (eqb found from) refl
   step_bounced x step found = adds_none (bounced p x) p h (bounced_skips p x) step found tt
 
   take_glanced : (x b : ℕ) (own t : Bool) → glanced p x (cond t (Took p b ∷ []) (unless_own own (Bounced p b)) ++ h) ≡ 0 + glanced p x h
@@ -178,7 +196,28 @@ module _ (p : ℕ) (h : List Event) where
   pub step_glanced : (x : ℕ) (step : Step) (found : ℕ) → glanced p x (adds step p found ++ h) ≡ glanced_by x step found + glanced p x h
   step_glanced x (take b own) found = take_glanced x b own (eqb (found % 2) 0)
   step_glanced x (glance b own) found = glance_glanced x b own (eqb (found % 2) 0)
+  step_glanced x (draw b d from) found = elsewhere (glanced p x) (Drew p b d from) h (eqb found from) refl
   step_glanced x step found = adds_none (glanced p x) p h (glanced_skips p x) step found tt
+
+  take_drew : (x b : ℕ) (own t : Bool) → drew p x (cond t (Took p b ∷ []) (unless_own own (Bounced p b)) ++ h) ≡ 0 + drew p x h
+  take_drew x b own true = omega arith
+  take_drew x b true false = omega arith
+  take_drew x b false false = omega arith
+
+  glance_drew : (x b : ℕ) (own t : Bool) → drew p x (cond t [] (unless_own own (Glanced p b)) ++ h) ≡ 0 + drew p x h
+  glance_drew x b own true = omega arith
+  glance_drew x b true false = omega arith
+  glance_drew x b false false = omega arith
+
+  draw_drew : (x b d from : ℕ) (t : Bool) → drew p x (cond t (Drew p b d from ∷ []) [] ++ h) ≡ cond (t && eqb b x) 1 0 + drew p x h
+  draw_drew x b d from true = rw (eq-eqb p p refl) (one_more (eqb b x) (drew p x h))
+  draw_drew x b d from false = omega arith
+
+  pub step_drew : (x : ℕ) (step : Step) (found : ℕ) → drew p x (adds step p found ++ h) ≡ drew_by x step found + drew p x h
+  step_drew x (take b own) found = take_drew x b own (eqb (found % 2) 0)
+  step_drew x (glance b own) found = glance_drew x b own (eqb (found % 2) 0)
+  step_drew x (draw b d from) found = draw_drew x b d from (eqb found from)
+  step_drew x step found = adds_none (drew p x) p h (drew_skips p x) step found tt
 
 -- all that a step adds is of its pass
 all_of_cond : (p : ℕ) (t : Bool) (xs ys : List Event) → AllBy p xs → AllBy p ys → AllBy p (cond t xs ys)
@@ -218,4 +257,5 @@ counted step p found more old n = record {
   takes = step_taken p (more ++ old) step found ∙ ap (λ x. taken_by step found + x) (taken_others p more old n);
   bounces = λ b. step_bounced p (more ++ old) b step found ∙ ap (λ x. bounced_by b step found + x) (bounced_others p b more old n);
   glances = λ b. step_glanced p (more ++ old) b step found ∙ ap (λ x. glanced_by b step found + x) (glanced_others p b more old n);
+  draws = λ b. step_drew p (more ++ old) b step found ∙ ap (λ x. drew_by b step found + x) (drew_others p b more old n);
 }

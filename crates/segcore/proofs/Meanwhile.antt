@@ -23,7 +23,7 @@ use Rattle.segcore.proofs.Quiet.{quiet, quiet_none, quiet_at, quiet_row, quiet_i
 use Rattle.segcore.proofs.Entered.{no_refill, entered_row}
 use Rattle.segcore.proofs.Readers.{empty_stays}
 use Rattle.segcore.proofs.Segments.{strangers}
-use Rattle.segcore.proofs.Counts.{mine_others, taken_others, bounced_others, glanced_others, counted}
+use Rattle.segcore.proofs.Counts.{mine_others, taken_others, bounced_others, glanced_others, drew_others, counted}
 
 refilled_event : (e : Event) (h : List Event) (s : ℕ) → ((q : ℕ) → e ≢ Refilled q s) → refills (e ∷ h) s ≡ refills h s
 refilled_event (Refilled q t) h s ne = cond-false (eqb t s) (refills h s + 1) (refills h s) (ne_eqb t s (λ e. ne q (ap (Refilled q) e)))
@@ -75,6 +75,7 @@ meanwhile z p more h l n = let early = lawful_before z more h l in record {
   takes = taken_others p more h n;
   bounces = λ b. bounced_others p b more h n;
   glances = λ b. glanced_others p b more h n;
+  draws = λ b. drew_others p b more h n;
   fits = λ e own now f. later z more h e l (subst (λ x. NoneBy x more) (sym own) n) now f;
 }
 

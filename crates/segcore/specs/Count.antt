@@ -2,9 +2,9 @@
 use Rattle.std.specs.Prelude.{◌≡◌, ℕ, ◌+◌, ◌%◌, ◌==◌, ◌&&◌, not, List, [], ◌∷◌, ◌++◌, if◌then◌else◌}
 use Rattle.segmodel.specs.History.{mine}
 use Rattle.segcore.specs.declared.event.Event.{Event}
-use Rattle.segcore.specs.declared.event.Event.TheVariants.{Took, Bounced, Glanced}
+use Rattle.segcore.specs.declared.event.Event.TheVariants.{Took, Bounced, Glanced, Drew}
 use Rattle.segcore.specs.Event.{seen}
-use Rattle.segcore.specs.Kind.{Step, take, glance, adds}
+use Rattle.segcore.specs.Kind.{Step, take, glance, draw, adds}
 
 -- how often the pass set a bit
 abbrev pub taken : ℕ → List Event → ℕ
@@ -24,6 +24,12 @@ glanced pass bucket [] = 0
 glanced pass bucket (Glanced q b ∷ trace) = if (q == pass) && (b == bucket) then glanced pass bucket trace + 1 else glanced pass bucket trace
 glanced pass bucket (_ ∷ trace) = glanced pass bucket trace
 
+-- how many overflow buckets it drew for the bucket
+abbrev pub drew : ℕ → ℕ → List Event → ℕ
+drew pass bucket [] = 0
+drew pass bucket (Drew q b depth number ∷ trace) = if (q == pass) && (b == bucket) then drew pass bucket trace + 1 else drew pass bucket trace
+drew pass bucket (_ ∷ trace) = drew pass bucket trace
+
 -- ---- what a step adds, by what it found
 
 abbrev pub taken_by : Step → ℕ → ℕ
@@ -39,9 +45,14 @@ abbrev pub glanced_by : ℕ → Step → ℕ → ℕ
 glanced_by bucket (glance b own) found = if not (found % 2 == 0) && (not own && (b == bucket)) then 1 else 0
 glanced_by bucket _ found = 0
 
+abbrev pub drew_by : ℕ → Step → ℕ → ℕ
+drew_by bucket (draw b depth from) found = if (found == from) && (b == bucket) then 1 else 0
+drew_by bucket _ found = 0
+
 -- the counts of a pass before a step of its own and after it
 pub record IsCounted (step : Step) (pass found : ℕ) (old new : List Event) : Type 0 where
   pub entries : mine pass (seen new) ≡ seen (adds step pass found) ++ mine pass (seen old)
   pub takes : taken pass new ≡ taken_by step found + taken pass old
   pub bounces : (bucket : ℕ) → bounced pass bucket new ≡ bounced_by bucket step found + bounced pass bucket old
   pub glances : (bucket : ℕ) → glanced pass bucket new ≡ glanced_by bucket step found + glanced pass bucket old
+  pub draws : (bucket : ℕ) → drew pass bucket new ≡ drew_by bucket step found + drew pass bucket old

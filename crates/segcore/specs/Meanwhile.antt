@@ -9,7 +9,7 @@ use Rattle.segcore.specs.Bucket.{Slot, item, bucket_after}
 use Rattle.segcore.specs.Row.{row_after, frequency_of}
 use Rattle.segcore.specs.Segment.{inside, refills, NoneRefills}
 use Rattle.segcore.specs.Lawful.{Fits, is_of_now, NoneAt}
-use Rattle.segcore.specs.Count.{taken, bounced, glanced}
+use Rattle.segcore.specs.Count.{taken, bounced, glanced, drew}
 use Rattle.segcore.specs.Kind.{HasBit}
 
 pub record Meanwhile (shape : Shape) (pass : ℕ) (more old : List Event) : Type 0 where
@@ -37,5 +37,6 @@ pub record Meanwhile (shape : Shape) (pass : ℕ) (more old : List Event) : Type
   pub takes : taken pass (more ++ old) ≡ taken pass old
   pub bounces : (bucket : ℕ) → bounced pass bucket (more ++ old) ≡ bounced pass bucket old
   pub glances : (bucket : ℕ) → glanced pass bucket (more ++ old) ≡ glanced pass bucket old
+  pub draws : (bucket : ℕ) → drew pass bucket (more ++ old) ≡ drew pass bucket old
   -- what it could do it still can, where that asks for nothing of the moment itself
   pub fits : (event : Event) → by event ≡ pass → is_of_now event ≡ false → Fits shape old event → Fits shape (more ++ old) event
