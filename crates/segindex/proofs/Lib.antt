@@ -33,3 +33,10 @@ pub mod OneMoment
 pub mod VersionScans
 pub mod Holding
 pub mod HoldCalls
+pub mod AlonePass
+pub mod AloneWidths
+pub mod AloneStarts
+pub mod AloneReads
+pub mod AloneLocks
+pub mod AloneHolds
+pub mod AloneRefills

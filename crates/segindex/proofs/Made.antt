@@ -22,7 +22,7 @@ unused (suc n) zero used e = sym (same_Some 0 used e)
 unused (suc n) (suc k) used e = unused n k used e
 
 -- no row of a segment of a new pass is used
-none_used : (b : Board) (n : ℕ) (p : Pass) (segment used : ℕ) → IsNewPlain b.shape n p.plain → used_of p segment ≡ Some used → used ≡ 0
+pub none_used : (b : Board) (n : ℕ) (p : Pass) (segment used : ℕ) → IsNewPlain b.shape n p.plain → used_of p segment ≡ Some used → used ≡ 0
 none_used b n p segment used new is =
     let first = p.plain.first in
     let got = slice_get p.plain.segments.items (segment - first) in ⊎_elim

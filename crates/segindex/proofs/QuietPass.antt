@@ -43,7 +43,7 @@ none_since b p lock quiet is = let old = quiet.lock lock is in (
 
 -- ---- chains
 
-drawn_fewer : (marks : List Mark) (b : ℕ) → drawn_for marks b ≤ all_drawn marks
+pub drawn_fewer : (marks : List Mark) (b : ℕ) → drawn_for marks b ≤ all_drawn marks
 drawn_fewer [] b = omega arith
 drawn_fewer (drawn a ∷ marks) b = let few = drawn_fewer marks b in ⊎_elim (λ t. rw t (omega arith)) (λ f. rw f (omega arith)) (cases_Bool (eqb a b))
 drawn_fewer (mark ∷ marks) b = drawn_fewer marks b

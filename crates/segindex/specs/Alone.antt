@@ -1,5 +1,5 @@
 -- The only pass of an index: which state of the model it is at, by what it has seen and what it keeps.
-use Rattle.std.specs.Prelude.{◌≡◌, ℕ, ◌==◌, List, [], ◌∷◌, ◌++◌, length, Option, Some, None, option_map, if◌then◌else◌}
+use Rattle.std.specs.Prelude.{◌≡◌, ℕ, ◌==◌, Bool, true, false, List, [], ◌∷◌, ◌++◌, length, Option, Some, None, option_map, if◌then◌else◌}
 use Rattle.segword.specs.declared.shape.Shape.{Shape}
 use Rattle.segmodel.specs.declared.request.Reply.TheVariants.{Stored}
 use Rattle.segmodel.specs.declared.entry.Entry.{Entry}
@@ -7,15 +7,26 @@ use Rattle.segmodel.specs.declared.entry.Entry.TheVariants.{Wrote, Refilled}
 use Rattle.segmodel.specs.declared.entry.Cached.{Cached}
 use Rattle.segmodel.specs.declared.answer.SegState.{SegState}
 use Rattle.segmodel.specs.declared.answer.SegState.TheVariants.{Empty}
+use Rattle.segmodel.specs.declared.answer.Command.{Command}
+use Rattle.segmodel.specs.declared.answer.Answer.{Answer}
+use Rattle.segmodel.specs.declared.answer.Turn.{Turn}
+use Rattle.segmodel.specs.declared.answer.Outcome.{Outcome}
+use Rattle.segmodel.specs.declared.answer.Outcome.TheVariants as outcome
 use Rattle.segmodel.specs.Request.{key_of}
 use Rattle.segmodel.specs.History.{after}
-use Rattle.segmodel.specs.State.{State}
+use Rattle.segmodel.specs.State.{State, IsKept}
+use Rattle.segmodel.specs.Serving.{Serves}
+use Rattle.segmodel.specs.Turns.{Turns}
 use Rattle.segcore.specs.Mark.{width, all_drawn}
 use Rattle.segbase.specs.declared.law.Held.{Held}
 use Rattle.segbase.specs.declared.board.Board.{Board}
 use Rattle.segbase.specs.declared.pass.Pass.{Pass}
 use Rattle.segbase.specs.Passes.{marked, seen, holding}
 use Rattle.segbase.specs.Plain.{current_of, state_of, used_of, locked_of}
+use Rattle.segindex.specs.declared.bucket.LockAnswer.{LockAnswer}
+use Rattle.segindex.specs.declared.bucket.LockAnswer.TheVariants as lock
+use Rattle.segindex.specs.declared.hold.HoldAnswer.{HoldAnswer}
+use Rattle.segindex.specs.declared.hold.HoldAnswer.TheVariants as hold
 use Rattle.segindex.specs.Quiet.{IsQuiet}
 
 -- the keys that were stored in a segment since it was last refilled, oldest first
@@ -45,8 +56,36 @@ state_at shape p = record {
   locked = locked_of p;
 }
 
--- it is quiet, and each key that was stored in a segment of its own used a row
+-- each key that was stored in a segment of its own used a row
+abbrev pub CountsRows : Pass → Type 0
+CountsRows p = (segment count : ℕ) → used_of p segment ≡ Some count → count ≡ length (stored_in (seen p) segment)
+
+-- the only pass of an index between calls: the rows that it counts are those of the keys stored, and of its state holds what always holds
 pub record IsAlone (b : Board) (p : Pass) : Type 0 where
   pub one : b.shape.passes ≡ 1
   pub quiet : IsQuiet b p
-  pub used : (segment count : ℕ) → used_of p segment ≡ Some count → count ≡ length (stored_in (seen p) segment)
+  pub used : CountsRows p
+  pub kept : IsKept b.shape (state_at b.shape p)
+
+-- a command, or a turn, was served as the model says, from the state that the pass was at to the one that it is at now
+abbrev pub ServesAlone : Board → Command → Answer → Pass → Pass → Type 0
+ServesAlone b command given p q = IsAlone b q × Serves b.shape (state_at b.shape p) command given (state_at b.shape q)
+
+abbrev pub TurnsAlone : Board → Turn → Outcome → Pass → Pass → Type 0
+TurnsAlone b turn given p q = IsAlone b q × Turns b.shape (state_at b.shape p) turn given (state_at b.shape q)
+
+-- the outcomes of the turns that lock, unlock and hold, by what the calls answer
+abbrev pub lock_outcome : LockAnswer → Outcome
+lock_outcome lock.Locked = outcome.Locked
+lock_outcome lock.Busy = outcome.Busy
+lock_outcome lock.AlreadyLocked = outcome.AlreadyLocked
+
+abbrev pub unlock_outcome : Bool → Outcome
+unlock_outcome true = outcome.Unlocked
+unlock_outcome false = outcome.NotLocked
+
+abbrev pub hold_outcome : HoldAnswer → Outcome
+hold_outcome (hold.Holding held) = outcome.Holding
+hold_outcome hold.Miss = outcome.Miss
+hold_outcome hold.Busy = outcome.Busy
+hold_outcome hold.AlreadyHolding = outcome.AlreadyHolding

@@ -1,0 +1,53 @@
+-- A new index with one pass is at the state at the start.
+use Rattle.std.proofs.Common.{◌≡◌, ℕ, zero, suc, ◌-◌, nat_le, cond, Bool, true, false, length, replicate, slice_get, None, option_map, refl, sym, ap, subst, ◌∙◌}
+use Rattle.segmodel.specs.declared.answer.SegState.TheVariants.{Empty}
+use Rattle.segmodel.specs.History.{after}
+use Rattle.segmodel.specs.State.{IsKept, fresh}
+use Rattle.segmodel.proofs.Kept.{IsKept-fresh, IsKept-same}
+use Rattle.segcore.specs.Event as event
+use Rattle.segcore.specs.Mark.{width, all_drawn}
+use Rattle.segcore.specs.Mark as mark
+use Rattle.segbase.specs.declared.board.Board.{Board}
+use Rattle.segbase.specs.declared.pass.Pass.{Pass}
+use Rattle.segbase.specs.Plain.{state_in, state_of}
+use Rattle.segbase.specs.Made.{unfilled, IsNewPass}
+use Rattle.segindex.specs.Alone.{stored_in, or_empty, item_of, state_at, IsAlone}
+use Rattle.segindex.proofs.AlonePass.{at_state}
+use Rattle.segindex.proofs.Made.{new_quiet, none_used}
+
+unfilled_at : (n k : ℕ) → or_empty (state_in (slice_get (replicate n unfilled) k)) ≡ Empty
+unfilled_at zero k = refl
+unfilled_at (suc n) zero = refl
+unfilled_at (suc n) (suc k) = unfilled_at n k
+
+module _ (b : Board) (p : Pass) (new : IsNewPass b 0 p) where
+  empty : (segment : ℕ) → or_empty (state_of p segment) ≡ Empty
+  empty segment =
+      ap (λ l. or_empty (state_in (cond (nat_le p.plain.first segment) (slice_get l (segment - p.plain.first)) None))) new.plain.segments
+      ∙ by (nat_le p.plain.first segment)
+    where
+      by : (here : Bool) → or_empty (state_in (cond here (slice_get (replicate b.shape.segments_each unfilled) (segment - p.plain.first)) None)) ≡ Empty
+      by true = unfilled_at b.shape.segments_each (segment - p.plain.first)
+      by false = refl
+
+  pub starts_fresh : state_at b.shape p ≡ fresh b.shape
+  starts_fresh = at_state b.shape p (fresh b.shape)
+      (ap (λ t. after b.shape (event.seen t)) new.nothing)
+      empty
+      (λ segment. ap (λ t. stored_in (event.seen t) segment) new.nothing)
+      new.plain.current
+      (λ bucket. ap (λ t. width (mark.marked t) bucket) new.nothing)
+      (ap (λ t. all_drawn (mark.marked t)) new.nothing)
+      (ap (option_map item_of) new.holding)
+      new.plain.locked
+
+  pub starts_alone : b.shape.passes ≡ 1 → IsAlone b p × (state_at b.shape p ≡ fresh b.shape)
+  starts_alone one = (
+    record {
+      one = one;
+      quiet = new_quiet b 0 p new;
+      used = λ segment count is. none_used b 0 p segment count new.plain is ∙ sym (ap (λ t. length (stored_in (event.seen t) segment)) new.nothing);
+      kept = IsKept-same starts_fresh (IsKept-fresh b.shape);
+    },
+    starts_fresh,
+  )
