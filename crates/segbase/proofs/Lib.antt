@@ -2,6 +2,7 @@ pub mod Allowed
 pub mod Alone
 pub mod Begun
 pub mod Carried
+pub mod Closed
 pub mod Dealt
 pub mod Entering
 pub mod Exchanging

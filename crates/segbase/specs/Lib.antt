@@ -1,3 +1,4 @@
+pub mod Closing
 pub mod Entering
 pub mod Made
 pub mod Minding

@@ -1,13 +1,20 @@
 -- Which word of the table a place or a spot is.
-use Rattle.std.specs.Prelude.{ℕ, ◌+◌, ◌*◌, ◌-◌, ◌<◌, nat_lt, List, Option, Some, None, if◌then◌else◌}
+use Rattle.std.specs.Prelude.{◌≡◌, ℕ, ◌+◌, ◌*◌, ◌-◌, ◌<◌, nat_lt, List, Option, Some, None, if◌then◌else◌}
 use Rattle.segword.specs.declared.shape.Shape.{Shape}
 use Rattle.segcore.specs.declared.event.Event.{Event}
 use Rattle.segcore.specs.declared.cell.Cell.{Cell}
 use Rattle.segcore.specs.declared.cell.Cell.TheVariants.{OfCounter, OfBucket, OfOverflow, OfSegment, OfRow}
 use Rattle.segcore.specs.Overflow.{Home, home_of}
+use Rattle.segcore.specs.Word.{segments_at, segment_size}
+use Rattle.segbase.specs.declared.layout.Layout.{Layout}
 use Rattle.segbase.specs.declared.place.Place.{Place}
 use Rattle.segbase.specs.declared.place.Spot.{Spot}
 use Rattle.segbase.specs.declared.place.Spot.TheVariants.{Counter, Info, Item, Overflow, Segment, Row}
+
+-- the layout of the table of this shape
+pub record IsLayoutOf (shape : Shape) (layout : Layout) : Type 0 where
+  pub front : layout.front ≡ segments_at shape
+  pub width : layout.segment_words ≡ segment_size shape
 
 -- overflow bucket n is bucket `buckets + n`
 abbrev pub cell_at : Shape → Place → Cell

@@ -1,10 +1,11 @@
 //! The board: the table of the index's words, and how it is made.
 ghost use Rattle.std.specs.Prelude.{◌≡◌, ℕ, ◌<◌, ◌≤◌, ◌^◌, [], IfOk, IfErr, length};
 ghost use Rattle.segword.specs.Shape.{word_count};
-ghost use Rattle.segcore.specs.Word.{segments_at, segment_size};
+ghost use Rattle.segbase.specs.Spots.{IsLayoutOf};
 
 use crate::fault::MakeFault;
 use crate::law::{Deal, Law, Sight};
+use crate::layout::Layout;
 use crate::opening::opening_words;
 use crate::pass::{OwnSegment, Pass, Plain};
 use atomic_table::{Seat, Table};
@@ -17,15 +18,12 @@ use std::alloc::{AllocError, Global};
 pub struct Board {
     pub(crate) table: Table<(), Sight, Shape, Law, Global>,
     pub(crate) shape: Shape,
-    // Where the segments begin, and how many words each has.
-    pub(crate) front: usize,
-    pub(crate) segment_words: usize,
+    pub(crate) layout: Layout,
     ghost same: { table.shared.key ≡ shape },
     ghost long: { table.shared.table_id.words ≡ word_count shape },
     ghost slots: { table.shared.table_id.slots ≡ 0 },
     ghost small: { word_count shape ≤ 2 ^ 26 },
-    ghost begins: { front ≡ segments_at shape },
-    ghost width: { segment_words ≡ segment_size shape },
+    ghost laid: { IsLayoutOf shape layout },
 }
 
 impl Board {
@@ -56,8 +54,7 @@ impl Board {
         let board = Board {
             table,
             shape,
-            front: 1 + 8 * (shape.buckets as usize + shape.overflow as usize),
-            segment_words: 1 + 8 * shape.rows as usize,
+            layout: Layout::new(&shape),
         };
         let passes = board.deal(alloc, seat)?;
         Ok((board, passes))

@@ -3,9 +3,11 @@
 
 mod board;
 mod bucket;
+mod closing;
 mod fault;
 mod item;
 mod law;
+mod layout;
 mod meeting;
 mod opening;
 mod overflow;
@@ -15,6 +17,7 @@ mod raw;
 mod segment;
 
 pub use board::Board;
+pub use closing::Words;
 pub use fault::MakeFault;
 pub use law::{Held, Locked, Memo, Sight};
 pub use pass::Pass;

@@ -6,33 +6,20 @@ ghost use Rattle.segcore.specs.Word.{IsCell, address};
 
 use crate::board::Board;
 use crate::pass::Pass;
-use crate::place::{Place, Spot};
+use crate::place::Spot;
 use std::marker::Brand;
 
 impl Board {
     ghost use Rattle.segbase.specs.Passes.{CanStep, Stepped};
     ghost use Rattle.segbase.specs.Spots.{cell_of};
 
-    // The place of a word in the table. An overflow bucket lies behind the buckets, so its number tells its place as theirs do.
+    // The place of a word in the table.
     fn index(&self, spot: Spot) -> usize
         requires { IsCell self.now.shape (cell_of self.now.shape spot) }
         ensures place { result ≡ address self.now.shape (cell_of self.now.shape spot) }
         ensures within { result < self.now.table.shared.table_id.words }
     {
-        match spot {
-            Spot::Counter(_) => 0,
-            Spot::Info(bucket) => 1 + 8 * bucket as usize,
-            Spot::Item(Place { bucket, word }) => 1 + 8 * bucket as usize + word as usize,
-            Spot::Overflow(number) => 2 + 8 * (self.shape.buckets as usize + number as usize),
-            Spot::Segment(segment) => self.front + self.segment_words * segment as usize,
-            Spot::Row(segment, row, word) => {
-                self.front
-                    + self.segment_words * segment as usize
-                    + 1
-                    + 8 * row as usize
-                    + word as usize
-            }
-        }
+        self.layout.index(&self.shape, spot)
     }
 
     pub(crate) fn load_at(&self, pass: &mut Pass, spot: Spot) -> u64

@@ -1,0 +1,102 @@
+//! A board at its end: its words at rest, which no pass changes any more.
+ghost use Rattle.std.specs.Prelude.{◌≡◌, ◌<◌, ◌≤◌, ◌^◌, ℕ, List, slice_index};
+ghost use Rattle.std.specs.Slots.{slots_len, IsFull};
+ghost use Rattle.segword.specs.Shape.{word_count};
+ghost use Rattle.segcore.specs.declared.event.Event.{Event};
+ghost use Rattle.segcore.specs.declared.cell.Cell.TheVariants.{OfRow};
+ghost use Rattle.segcore.specs.Lawful.{IsSegment};
+ghost use Rattle.segbase.specs.Spots.{IsLayoutOf};
+
+use crate::board::Board;
+use crate::layout::Layout;
+use crate::pass::Pass;
+use crate::place::{Place, Spot};
+use atomic_table::Closed;
+use segword::Shape;
+use std::alloc::Global;
+
+/// The words of a board that was closed.
+pub struct Words {
+    pub(crate) closed: Closed<(), Global>,
+    pub(crate) shape: Shape,
+    pub(crate) layout: Layout,
+    ghost full: { IsFull closed.words },
+    ghost long: { slots_len closed.words ≡ word_count shape },
+    ghost slots: { slots_len closed.slots ≡ 0 },
+    ghost small: { word_count shape ≤ 2 ^ 26 },
+    ghost laid: { IsLayoutOf shape layout },
+}
+
+impl Drop for Words {
+    fn drop(self) {
+        let Words {
+            closed,
+            shape: _,
+            layout: _,
+        } = self;
+        closed.free();
+    }
+}
+
+impl Board {
+    ghost use Rattle.segbase.specs.Passes.{IsPassOf};
+    ghost use Rattle.segbase.specs.Closing.{Closes};
+
+    /// Ends the board with one of its passes. What is left of the others takes no more steps.
+    pub fn close(self, pass: Pass) -> Words
+        requires { IsPassOf self pass }
+        ensures { (now : List Event) × Closes self pass result now }
+    {
+        let Board {
+            table,
+            shape,
+            layout,
+        } = self;
+        Words {
+            closed: table.close_with(pass.seat),
+            shape,
+            layout,
+        }
+    }
+}
+
+impl Words {
+    ghost use Rattle.segcore.specs.Word.{IsCell};
+    ghost use Rattle.segbase.specs.Spots.{IsPlace, cell_at, cell_of};
+    ghost use Rattle.segbase.specs.Closing.{shape_of, word_at};
+
+    /// The shape of the board.
+    pub fn shape(&self) -> Shape
+        ensures { result ≡ shape_of self.now }
+    {
+        self.shape
+    }
+
+    /// An item word.
+    pub fn item(&self, place: Place) -> u64
+        requires { IsPlace (shape_of self.now) place }
+        ensures { result ≡ word_at self.now (cell_at (shape_of self.now) place) }
+    {
+        self.word(Spot::Item(place))
+    }
+
+    /// The words of a row.
+    pub fn row(&self, segment: u32, row: u32) -> [u64; 8]
+        requires segment { IsSegment (shape_of self.now) segment }
+        requires row { row < (shape_of self.now).rows }
+        ensures { (place : ℕ) → place < 8 → slice_index result place ≡ word_at self.now (OfRow segment row place) }
+    {
+        let mut words = [0; 8];
+        for place in 0..8u8 {
+            words[place as usize] = self.word(Spot::Row(segment, row, place));
+        }
+        words
+    }
+
+    fn word(&self, spot: Spot) -> u64
+        requires { IsCell (shape_of self.now) (cell_of (shape_of self.now) spot) }
+        ensures { result ≡ word_at self.now (cell_of (shape_of self.now) spot) }
+    {
+        self.closed.word(self.layout.index(&self.shape, spot))
+    }
+}
