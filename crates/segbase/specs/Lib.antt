@@ -5,6 +5,7 @@ pub mod Minding
 pub mod Opening
 pub mod Passes
 pub mod Plain
+pub mod Props
 pub mod Ruled
 pub mod Spots
 pub mod Steps

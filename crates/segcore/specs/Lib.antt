@@ -11,6 +11,7 @@ pub mod Lawful
 pub mod Mark
 pub mod Meanwhile
 pub mod Overflow
+pub mod Props
 pub mod Row
 pub mod Says
 pub mod Scan

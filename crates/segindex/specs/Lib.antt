@@ -1,5 +1,6 @@
 pub mod Index
 pub mod Quiet
+pub mod Props
 pub mod Taking
 pub mod Writing
 pub mod Calls

@@ -1,4 +1,5 @@
 pub mod Linked
+pub mod Props
 pub mod Reading
 pub mod Segments
 pub mod Rows
