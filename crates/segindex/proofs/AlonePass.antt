@@ -5,6 +5,9 @@ use Rattle.std.proofs.lemmas.Option.{none-some}
 use Rattle.std.proofs.lemmas.Nat.{div-mul-add}
 use Rattle.segword.specs.declared.shape.Shape.{Shape}
 use Rattle.segmodel.specs.declared.entry.Entry.{Entry}
+use Rattle.segmodel.specs.declared.entry.Entry.TheVariants.{Wrote}
+use Rattle.segmodel.specs.declared.request.Request.{Request}
+use Rattle.segmodel.specs.declared.request.Reply.{Reply}
 use Rattle.segmodel.specs.declared.answer.SegState.{SegState}
 use Rattle.segmodel.specs.declared.answer.Command.{Command}
 use Rattle.segmodel.specs.declared.answer.Answer.{Answer}
@@ -13,20 +16,23 @@ use Rattle.segmodel.specs.declared.answer.Turn.TheVariants.{Serve}
 use Rattle.segmodel.specs.declared.answer.Outcome.{Outcome}
 use Rattle.segmodel.specs.declared.answer.Outcome.TheVariants.{Answered}
 use Rattle.segmodel.specs.Places.{owner, bucket_of}
-use Rattle.segmodel.specs.History.{after, IsBetween}
+use Rattle.segmodel.specs.Cache.{reply_in}
+use Rattle.segmodel.specs.History.{after, IsBetween, IsLegal}
 use Rattle.segmodel.specs.State.{State, is_locked, is_named}
 use Rattle.segmodel.specs.Serving.{is_own, Serves}
 use Rattle.segmodel.specs.Turns.{Turns}
 use Rattle.segmodel.proofs.ServingKeeps.{turns_keep}
 use Rattle.segmodel.proofs.Written.{first_owner}
 use Rattle.segcore.specs.Mark.{width, all_drawn}
+use Rattle.segcore.proofs.Standing.{legal}
+use Rattle.segbase.specs.declared.law.Memo.{Memo}
 use Rattle.segbase.specs.declared.board.Board.{Board}
 use Rattle.segbase.specs.declared.pass.Pass.{Pass}
-use Rattle.segbase.specs.Passes.{number, marked, seen, mine, holding}
+use Rattle.segbase.specs.Passes.{number, trace, marked, seen, mine, holding}
 use Rattle.segbase.specs.Plain.{current_of, state_of, used_of, own_segment, state_in, used_in, locked_of}
 use Rattle.segbase.proofs.Alone.{mine_alone}
 use Rattle.segindex.specs.Quiet.{IsQuiet}
-use Rattle.segindex.specs.Calls.{memo, GoesOn, ChangesNothing}
+use Rattle.segindex.specs.Calls.{memo, ChangesNothing, AddsEntry}
 use Rattle.segindex.specs.Alone.{stored_in, or_empty, item_of, state_at, CountsRows, IsAlone, ServesAlone, TurnsAlone}
 use Rattle.segindex.proofs.QuietPass.{owned}
 
@@ -126,6 +132,28 @@ left b p q was quiet nothing widths = as_was b.shape p q (same_seen b p q was qu
 
 pub counts_still : (p q : Pass) → CountsRows p → seen q ≡ seen p → ((segment : ℕ) → used_of q segment ≡ used_of p segment) → CountsRows q
 counts_still p q counts same used segment count is = counts segment count (sym (used segment) ∙ is) ∙ ap (λ h. length (stored_in h segment)) (sym same)
+
+-- ---- an entry that stores nothing
+
+-- it changes the cache alone
+pub as_replied : (b : Board) (p q : Pass) (added : Entry) → IsAlone b p → IsQuiet b q → AddsEntry added p q → q.plain ≡ p.plain → memo q ≡ memo p
+    → ((segment : ℕ) → stored_in (added ∷ seen p) segment ≡ stored_in (seen p) segment) → SameWidths p q → state_at b.shape q ≡ record (state_at b.shape p) { cache = after b.shape (added ∷ seen p) }
+as_replied b p q added was quiet adds plain same keeps widths =
+    let more = more_seen b p q (added ∷ []) was quiet adds in
+    at_state b.shape q (record (state_at b.shape p) { cache = after b.shape (added ∷ seen p) })
+    (ap (after b.shape) more) (λ segment. ap or_empty (same_states p q segment plain)) (λ segment. ap (λ h. stored_in h segment) more ∙ keeps segment)
+    (ap (λ plain. plain.current) plain) widths.wide widths.drawn (ap (λ (m : Memo). option_map item_of m.holding) same) (ap (λ plain. plain.locked) plain)
+
+pub counts_replied : (b : Board) (p q : Pass) (added : Entry) → IsAlone b p → IsQuiet b q → AddsEntry added p q → q.plain ≡ p.plain
+    → ((segment : ℕ) → stored_in (added ∷ seen p) segment ≡ stored_in (seen p) segment) → CountsRows q
+counts_replied b p q added was quiet adds plain keeps segment count is =
+    was.used segment count (sym (same_used p q segment plain) ∙ is)
+    ∙ sym (ap (λ h. length (stored_in h segment)) (more_seen b p q (added ∷ []) was quiet adds) ∙ ap (λ (keys : List (List ℕ)). length keys) (keeps segment))
+
+-- what was seen last was replied as the cache replied
+pub reply_then : (b : Board) (p q : Pass) (request : Request) (told : Reply) (segment : Option ℕ) → IsQuiet b q → seen q ≡ Wrote (number p) request told segment ∷ seen p
+    → told ≡ reply_in b.shape (after b.shape (seen p)) request
+reply_then b p q request told segment quiet more = (subst (IsLegal b.shape) more (legal b.shape (trace q) quiet.pass.lawful)).1.0
 
 -- ---- locks
 

@@ -40,3 +40,8 @@ pub mod AloneReads
 pub mod AloneLocks
 pub mod AloneHolds
 pub mod AloneRefills
+pub mod AloneRefusals
+pub mod AloneWrites
+pub mod AloneDeletes
+pub mod AloneEvictions
+pub mod AloneEvicts
