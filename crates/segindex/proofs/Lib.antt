@@ -26,6 +26,9 @@ pub mod Filling
 pub mod Storing
 pub mod UnderWrite
 pub mod Sets
+pub mod Refused
+pub mod Writes
+pub mod Told
 pub mod QuietPass
 pub mod Before
 pub mod Disturbing

@@ -52,16 +52,14 @@ module _ (b : Board) (bucket : ℕ) (p q : Pass) (quiet : IsQuiet b p) (took : T
   pub took_keeps : KeepsSegments b q
   took_keeps = keeps_plain b tries p q took_moved (tt, bounces_calm (number p) bucket took.takes.0) took.plain quiet.segments
 
-  -- what is done under the bit, and the release
-  module _ (r s : Pass) (own : List Event) (added : List Entry) (counted : Bool) (m : Moved b own q r) (elsewhere : (other : ℕ) → bucket ≢ other → NoneAt b.shape other own) (still : AreStill own)
-      (adds : (h : List Event) → event.seen (own ++ h) ≡ added ++ event.seen h) (freed : Did b (Freed (number r) bucket counted ∷ []) r s) (free : (bucket_after b.shape (trace s) bucket).holder ≡ None) where
+  -- what was done since the bit was taken, the release at its end
+  module _ (s : Pass) (own : List Event) (added : List Entry) (counted : Bool) (m : Moved b (Freed (number p) bucket counted ∷ own) q s) (elsewhere : (other : ℕ) → bucket ≢ other → NoneAt b.shape other own) (still : AreStill own)
+      (adds : (h : List Event) → event.seen (own ++ h) ≡ added ++ event.seen h) (free : (bucket_after b.shape (trace s) bucket).holder ≡ None) where
     abbrev all : List Event
     all = Freed (number p) bucket counted ∷ (own ++ tries)
 
     moved_all : Moved b all p s
-    moved_all =
-        let both = moved_then b tries own p q r took_moved m in
-        subst (λ n. Moved b (Freed n bucket counted ∷ (own ++ tries)) p s) (m.same ∙ took_moved.same) (moved_then b (own ++ tries) (Freed (number r) bucket counted ∷ []) p r s both freed.moved)
+    moved_all = moved_then b tries (Freed (number p) bucket counted ∷ own) p q s took_moved m
 
     none_elsewhere : (other : ℕ) → bucket ≢ other → NoneAt b.shape other all
     none_elsewhere other apart = (ne_eqb bucket other apart, none_at_both b.shape other own tries (elsewhere other apart) (ne_eqb bucket other apart, bounces_none b.shape other (number p) bucket took.takes.0))
@@ -78,8 +76,8 @@ module _ (b : Board) (bucket : ℕ) (p q : Pass) (quiet : IsQuiet b p) (took : T
         (λ apart. bit_before b all p s other moved_all (none_elsewhere other apart) has)
         (cases_eq bucket other)
 
-    pub write_goes_on : memo s ≡ memo p → locked_of s ≡ locked_of p → is_holding_of s ≡ is_holding_of p → KeepsSegments b s → GoesOn b p s
-    write_goes_on same locks holds segments =
+    pub ends_on : memo s ≡ memo p → locked_of s ≡ locked_of p → is_holding_of s ≡ is_holding_of p → KeepsSegments b s → GoesOn b p s
+    ends_on same locks holds segments =
         let there = settles_still b all p s moved_all all_still (ap (λ (x : Memo). x.holding) same) holds in
         goes_on b all p s moved_all (quiet_again b all p s quiet (record {
           moved = moved_all;
@@ -94,6 +92,18 @@ module _ (b : Board) (bucket : ℕ) (p q : Pass) (quiet : IsQuiet b p) (took : T
         }))
 
     -- its entries are those that were added under the bit
-    pub write_adds : mine s ≡ history.mine (number p) (added ++ seen p)
-    write_adds = moved_mine b all p s moved_all ∙ ap (history.mine (number p))
+    pub ends_adding : mine s ≡ history.mine (number p) (added ++ seen p)
+    ends_adding = moved_mine b all p s moved_all ∙ ap (history.mine (number p))
         (ap event.seen (append_assoc own tries (trace p)) ∙ (adds (tries ++ trace p) ∙ ap (λ h. added ++ h) (bounces_seen (number p) bucket took.takes.0 (trace p))))
+
+  -- the same where the release is a step of its own, that tells no entry
+  module _ (r s : Pass) (own : List Event) (added : List Entry) (counted : Bool) (m : Moved b own q r) (elsewhere : (other : ℕ) → bucket ≢ other → NoneAt b.shape other own) (still : AreStill own)
+      (adds : (h : List Event) → event.seen (own ++ h) ≡ added ++ event.seen h) (freed : Did b (Freed (number r) bucket counted ∷ []) r s) (free : (bucket_after b.shape (trace s) bucket).holder ≡ None) where
+    ended : Moved b (Freed (number p) bucket counted ∷ own) q s
+    ended = subst (λ n. Moved b (Freed n bucket counted ∷ own) q s) (m.same ∙ took_moved.same) (moved_then b own (Freed (number r) bucket counted ∷ []) q r s m freed.moved)
+
+    pub write_goes_on : memo s ≡ memo p → locked_of s ≡ locked_of p → is_holding_of s ≡ is_holding_of p → KeepsSegments b s → GoesOn b p s
+    write_goes_on = ends_on s own added counted ended elsewhere still adds free
+
+    pub write_adds : mine s ≡ history.mine (number p) (added ++ seen p)
+    write_adds = ends_adding s own added counted ended elsewhere still adds free

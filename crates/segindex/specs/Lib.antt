@@ -8,6 +8,7 @@ pub mod Alone
 pub mod Answers
 pub mod Scanning
 pub mod Storing
+pub mod Refusing
 pub mod Evicting
 pub mod Gets
 pub mod Holds

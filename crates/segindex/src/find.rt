@@ -3,6 +3,7 @@ ghost use Rattle.std.specs.Prelude.{◌≡◌, ◌≤◌, ◌<◌, ◌↔◌, Is
 ghost use Rattle.segmodel.specs.Places.{bucket_of, tag_of};
 ghost use Rattle.segcore.specs.Bucket.{bucket_after};
 ghost use Rattle.segcore.specs.Kind.{HasBit};
+ghost use Rattle.segindex.specs.Refusing.{has_key};
 
 use crate::index::Index;
 use segbase::{Pass, Place};
@@ -28,6 +29,13 @@ impl Target {
             earlier
         }
     }
+}
+
+// Whether a search found the key itself.
+pub(crate) fn has_key(found: Option<Target>) -> bool
+    ensures { result ≡ has_key found }
+{
+    matches!(found, Some(target) if target.word != 0)
 }
 
 impl Index {

@@ -1,42 +1,86 @@
 //! Writes of keys, each under the bit of its key's bucket.
-ghost use Rattle.std.specs.Prelude.{◌≡◌, ◌↔◌, ◌<◌, Some, true, false, [], ◌∷◌};
+ghost use Rattle.std.specs.Prelude.{◌≡◌, ◌^◌, ◌<◌, is_some, [], ◌∷◌};
 ghost use Rattle.segword.specs.Bytes.{IsKey};
 ghost use Rattle.segmodel.specs.declared.request.Request.{Request};
-ghost use Rattle.segmodel.specs.declared.request.Request.TheVariants.{Set};
-ghost use Rattle.segmodel.specs.declared.answer.WriteAnswer.TheVariants as write;
-ghost use Rattle.segmodel.specs.Request.{key_of};
+ghost use Rattle.segmodel.specs.declared.request.Request.TheVariants.{Set, Add, Replace, Cas};
+ghost use Rattle.segmodel.specs.Request.{key_of, value_of};
+ghost use Rattle.segmodel.specs.Cache.{present};
+ghost use Rattle.segmodel.specs.History.{after};
 ghost use Rattle.segmodel.specs.Places.{bucket_of, tag_of};
 ghost use Rattle.segcore.specs.declared.event.Event.TheVariants.{Linked};
-ghost use Rattle.segcore.specs.Lawful.{Fits};
-ghost use Rattle.segstore.specs.Segments.{KeepsSegments, has_room};
+ghost use Rattle.segcore.specs.Lawful.{Fits, IsRefusal};
+ghost use Rattle.segstore.specs.Segments.{KeepsSegments};
 
-use crate::find::Target;
+use crate::find::{Target, has_key};
 use crate::index::Index;
 use segbase::Pass;
 use segmodel::WriteAnswer;
 use segword::{Item, Key, KeyWords, Value, bucket_of, hash, tag_of};
 
+// Where a write stores.
+#[derive(Clone, Copy, Drop)]
+pub(crate) enum When {
+    Always,
+    // Where the key is absent.
+    Absent,
+    // Where the key is present.
+    Present,
+    // Where the key is present and its bucket still has this version.
+    Unchanged(u32),
+}
+
 impl Index {
-    ghost use Rattle.segbase.specs.Passes.{number, trace, IsPassOf, Did};
-    ghost use Rattle.segbase.specs.Plain.{locked_of};
+    ghost use Rattle.segbase.specs.Passes.{number, trace, seen, IsPassOf, Did};
     ghost use Rattle.segbase.specs.Spots.{position};
+    ghost use Rattle.segstore.specs.Refilling.{Idles};
     ghost use Rattle.segindex.specs.Index.{board_of, shape_of};
     ghost use Rattle.segindex.specs.Quiet.{IsQuiet};
-    ghost use Rattle.segindex.specs.Calls.{memo, GoesOn};
-    ghost use Rattle.segindex.specs.Answers.{UsesRow, IsWriteAnswer, IsSetAnswer};
+    ghost use Rattle.segindex.specs.Calls.{memo};
+    ghost use Rattle.segindex.specs.Answers.{UsesRow, IsSetAnswer, Writes};
     ghost use Rattle.segindex.specs.Taking.{HasCleanBit};
     ghost use Rattle.segindex.specs.Writing.{IsTarget};
     ghost use Rattle.segindex.specs.Storing.{TakesToWrite, IsNextRow, Requests, Stores, HasWritten};
+    ghost use Rattle.segindex.specs.Refusing.{request_of, IsToldBy, reply_now, Refuses};
 
     /// Stores the value under the key.
     pub fn set(&self, pass: &mut Pass, key: &Key, value: &Value) -> WriteAnswer
-        requires pass { IsQuiet (board_of self.now) pass.old }
-        ensures on { GoesOn (board_of self.now) pass.old pass.new }
-        ensures answer { IsWriteAnswer (shape_of self.now) (Set key.now value.now) result pass.old pass.new }
+        requires quiet { IsQuiet (board_of self.now) pass.old }
+        ensures writes { Writes (board_of self.now) (Set key.now value.now) result pass.old pass.new }
         ensures set { IsSetAnswer result }
-        ensures untouched { result ≡ write.NoRoom → pass.new ≡ pass.old }
-        ensures no_room { (result ≡ write.NoRoom) ↔ (has_room (shape_of self.now) pass.old ≡ false) }
-        ensures locked { has_room (shape_of self.now) pass.old ≡ true → locked_of pass.old ≡ Some (bucket_of (shape_of self.now) key.now) → result ≡ write.Busy }
+    {
+        self.write(pass, key, value, When::Always)
+    }
+
+    /// Stores the value under the key, which is absent: else it is NotStored.
+    pub fn add(&self, pass: &mut Pass, key: &Key, value: &Value) -> WriteAnswer
+        requires quiet { IsQuiet (board_of self.now) pass.old }
+        ensures writes { Writes (board_of self.now) (Add key.now value.now) result pass.old pass.new }
+    {
+        self.write(pass, key, value, When::Absent)
+    }
+
+    /// Stores the value under the key, which is present: else it is NotStored.
+    pub fn replace(&self, pass: &mut Pass, key: &Key, value: &Value) -> WriteAnswer
+        requires quiet { IsQuiet (board_of self.now) pass.old }
+        ensures writes { Writes (board_of self.now) (Replace key.now value.now) result pass.old pass.new }
+    {
+        self.write(pass, key, value, When::Present)
+    }
+
+    /// Stores the value under the key, whose bucket has the expected version: else it is Exists, or NotFound where the key is absent.
+    pub fn cas(&self, pass: &mut Pass, key: &Key, value: &Value, expected: u32) -> WriteAnswer
+        requires quiet { IsQuiet (board_of self.now) pass.old }
+        ensures writes { Writes (board_of self.now) (Cas key.now value.now expected) result pass.old pass.new }
+    {
+        self.write(pass, key, value, When::Unchanged(expected))
+    }
+
+    // Stores the value under the key where the cache doesn't refuse it.
+    fn write(&self, pass: &mut Pass, key: &Key, value: &Value, when: When) -> WriteAnswer
+        ghost request: { Request }
+        requires quiet { IsQuiet (board_of self.now) pass.old }
+        requires request { request ≡ request_of when key.now value.now }
+        ensures writes { Writes (board_of self.now) request result pass.old pass.new }
     {
         let Ok((segment, row)) = segstore::next_row(&self.board, pass) else {
             return WriteAnswer::NoRoom;
@@ -48,7 +92,12 @@ impl Index {
         if !self.take_to_write(pass, bucket) {
             return WriteAnswer::Busy;
         }
-        let Some(target) = self.find(pass, bucket, &words, tag) else {
+        let found = self.find(pass, bucket, &words, tag);
+        if let Some(refusal) = self.refusal(pass, bucket, has_key(found), when) {
+            self.refuse(pass, bucket);
+            return refusal;
+        }
+        let Some(target) = found else {
             self.board.release(pass, bucket, false);
             return WriteAnswer::BucketFull;
         };
@@ -58,12 +107,48 @@ impl Index {
     }
 
     // Takes the bit of a bucket for a write. It is false where the pass has the bucket locked itself, or found the bit set at each try.
-    fn take_to_write(&self, pass: &mut Pass, bucket: u32) -> bool
+    pub(crate) fn take_to_write(&self, pass: &mut Pass, bucket: u32) -> bool
         requires pass { IsQuiet (board_of self.now) pass.old }
         requires bucket { bucket < (shape_of self.now).buckets }
         ensures takes { TakesToWrite (board_of self.now) bucket result pass.old pass.new }
     {
         pass.locked() != Some(bucket) && self.take_bucket(pass, bucket)
+    }
+
+    // What the cache answers in place of storing. The version is looked at only where the write depends on it.
+    fn refusal(&self, pass: &mut Pass, bucket: u32, is_present: bool, when: When) -> Option<WriteAnswer>
+        ghost request: { Request }
+        requires pass { IsPassOf (board_of self.now) pass.old }
+        requires versions { (shape_of self.now).first_version < 2 ^ 32 }
+        requires clean { HasCleanBit (board_of self.now) pass.old bucket }
+        requires bucket { bucket ≡ bucket_of (shape_of self.now) (key_of request) }
+        requires present { is_present ≡ is_some (present (after (shape_of self.now) (seen pass.old)) (key_of request)) }
+        requires request { request ≡ request_of when (key_of request) (value_of request) }
+        ensures idles { Idles (board_of self.now) pass.old pass.new }
+        ensures told { IsToldBy (reply_now (board_of self.now) pass.new request) result }
+    {
+        match when {
+            When::Always => None,
+            When::Absent => is_present.then_some(WriteAnswer::NotStored),
+            When::Present => (!is_present).then_some(WriteAnswer::NotStored),
+            When::Unchanged(_) if !is_present => Some(WriteAnswer::NotFound),
+            When::Unchanged(version) => {
+                let info = self.board.info_look(pass, bucket);
+                (info.version != version).then_some(WriteAnswer::Exists)
+            }
+        }
+    }
+
+    // Gives back the bit of a write that the cache refuses. The refusal comes into the history with it.
+    pub(crate) fn refuse(&self, pass: &mut Pass, bucket: u32)
+        ghost request: { Request }
+        requires pass { IsPassOf (board_of self.now) pass.old }
+        requires clean { HasCleanBit (board_of self.now) pass.old bucket }
+        requires bucket { bucket ≡ bucket_of (shape_of self.now) (key_of request) }
+        requires refused { IsRefusal (reply_now (board_of self.now) pass.old request) }
+        ensures refuses { Refuses (board_of self.now) request (reply_now (board_of self.now) pass.old request) pass.old pass.new }
+    {
+        self.board.release(pass, bucket, false);
     }
 
     // Writes the pair into the next row, and lets the key's word name it.
