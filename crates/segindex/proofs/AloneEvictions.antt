@@ -1,12 +1,13 @@
 -- What evictions of a segment's keys, one entry for each, leave of a cache: it is without these keys, each of which stood in the segment before them.
-use Rattle.std.proofs.Common.{◌≡◌, ◌≢◌, ℕ, suc, ◌+◌, ◌||◌, ◌&&◌, not, Bool, true, false, cond, List, [], ◌∷◌, ◌++◌, length, filter, count_by, is_some, IsSomeAnd, Option, Some, None, refl, sym, ap, subst, ◌∙◌, ⊎_elim, arith, append_assoc, eqb, eq-eqb, length-append}
+use Rattle.std.proofs.Common.{◌≡◌, ◌≢◌, ℕ, ◌+◌, ◌||◌, not, Bool, true, false, cond, List, [], ◌∷◌, ◌++◌, length, filter, count_by, is_some, IsSomeAnd, Option, Some, None, refl, sym, ap, subst, ◌∙◌, arith, append_assoc, eqb, eq-eqb}
 use Rattle.std.specs.List.{AllByRecursion, list_any}
 use Rattle.std.specs.List.Sorted.{IsStrictlySortedBy}
 use Rattle.std.specs.Ordering.{is_eq}
 use Rattle.std.specs.Map.{lookup, keys_of}
 use Rattle.std.specs.BTreeMap.{is_at}
-use Rattle.std.proofs.lemmas.Bool.{false≢true, cases_Bool, cond-true, cond-false}
-use Rattle.std.proofs.lemmas.Option.{none-some, same_Some}
+use Rattle.std.proofs.lemmas.Bool.{false≢true}
+use Rattle.std.proofs.lemmas.List.{append_cancel_right}
+use Rattle.std.proofs.lemmas.Option.{none-some}
 use Rattle.segword.specs.declared.shape.Shape.{Shape}
 use Rattle.segmodel.specs.declared.entry.Entry.{Entry}
 use Rattle.segmodel.specs.declared.entry.Entry.TheVariants as entry
@@ -57,23 +58,6 @@ any_of p key (k ∷ keys) there is = by (is_at (key_cmp key) k) refl there (λ l
         or_true : (b : Bool) → (b || true) ≡ true
         or_true true = refl
         or_true false = refl
-
-abbrev first_or : {X : Type 0} → X → List X → X
-first_or other [] = other
-first_or other (x ∷ xs) = x
-
-abbrev rest_of : {X : Type 0} → List X → List X
-rest_of [] = []
-rest_of (x ∷ xs) = xs
-
--- what stands before one end is one list
-same_front : {X : Type 0} (xs ys end : List X) → xs ++ end ≡ ys ++ end → xs ≡ ys
-same_front [] [] end e = refl
-same_front {X = X} [] (y ∷ ys) end e =
-    let long : length end ≡ suc (length (ys ++ end)) = ap (λ (l : List X). length l) e in let parts = length-append ys end in absurd (omega arith)
-same_front {X = X} (x ∷ xs) [] end e =
-    let long : suc (length (xs ++ end)) ≡ length end = ap (λ (l : List X). length l) e in let parts = length-append xs end in absurd (omega arith)
-same_front (x ∷ xs) (y ∷ ys) end e = λ i. ap (first_or x) e i ∷ same_front xs ys end (ap rest_of e) i
 
 -- ---- maps
 
@@ -201,7 +185,7 @@ evicts_none shape pass segment bucket key = by_eviction (λ evictions. entries_o
 -- a moment on the way has some of the evictions
 pub on_the_way : (pass segment : ℕ) (evictions later earlier end : List Entry) → AreEvictions pass segment evictions → evictions ++ end ≡ later ++ (earlier ++ end) → AreEvictions pass segment earlier
 on_the_way pass segment evictions later earlier end all e =
-    ends later (subst (AreEvictions pass segment) (same_front evictions (later ++ earlier) end (e ∙ sym (append_assoc later earlier end))) all)
+    ends later (subst (AreEvictions pass segment) (append_cancel_right evictions (later ++ earlier) end (e ∙ sym (append_assoc later earlier end))) all)
   where
     ends : (later : List Entry) → AreEvictions pass segment (later ++ earlier) → AreEvictions pass segment earlier
     ends [] all = all

@@ -12,3 +12,4 @@ pub mod Refusing
 pub mod Evicting
 pub mod Gets
 pub mod Holds
+pub mod Served

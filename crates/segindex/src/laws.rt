@@ -8,12 +8,13 @@ ghost use Rattle.segcore.specs.Segment.{inside};
 ghost use Rattle.segcore.specs.Lawful.{IsSegment};
 ghost use Rattle.segbase.specs.declared.law.Locked.{Locked};
 ghost use Rattle.segbase.specs.declared.pass.Pass.{Pass};
-ghost use Rattle.segbase.specs.Passes.{number, trace, marked, seen, mine, bounced, locked};
+ghost use Rattle.segbase.specs.Passes.{number, trace, marked, seen, mine, bounced, glanced, locked};
 ghost use Rattle.segbase.specs.Plain.{state_of, used_of, locked_of};
 ghost use Rattle.segindex.specs.declared.index.Index.{Index};
 ghost use Rattle.segindex.specs.Index.{board_of, shape_of};
 ghost use Rattle.segindex.specs.Quiet.{IsQuiet};
 ghost use Rattle.segindex.specs.Answers.{IsBusy, NoneSince};
+ghost use Rattle.segindex.specs.Served.{StartsAlone, GetIsServed, GetsIsServed, WriteIsServed, DeleteIsServed, EvictIsServed, RefillIsServed, LockIsServed, UnlockIsServed, HoldIsServed, HeldIsServed, ReleaseIsServed, NothingIsHeld};
 
 /// What a quiet pass has seen is a history of a cache of one thread, with marks. It knows just its own segments, and of their rows those are used that an item was linked to. No entry came into the bucket that it has locked. Seven keys of a bucket stand at most, and six more for each overflow bucket that joined its chain, and no more of these joined than there are.
 pub fn quiet_pass()
@@ -27,11 +28,29 @@ pub fn quiet_pass()
     ensures few_chained { (index : Index) (pass : Pass) (bucket : ℕ) → IsQuiet (board_of index) pass → chained_to (marked pass) bucket ≤ (shape_of index).overflow }
 {}
 
-/// Where an index has one pass, each entry that it has seen is its own, no bit that it met was another's, and nobody else is in a segment. It is Busy only at the bucket that it has locked itself, and while it adds no entry nothing is stirred.
+/// Where an index has one pass, each entry that it has seen is its own, no bit that it met, by a take or a look, was another's, and nobody else is in a segment. It is Busy only at the bucket that it has locked itself, and while it adds no entry nothing is stirred.
 pub fn one_pass()
     ensures own { (index : Index) (pass : Pass) → IsQuiet (board_of index) pass → (shape_of index).passes ≡ 1 → mine pass ≡ seen pass }
     ensures free { (index : Index) (pass : Pass) (bucket : ℕ) → IsQuiet (board_of index) pass → (shape_of index).passes ≡ 1 → bounced pass bucket ≡ 0 }
+    ensures unglanced { (index : Index) (pass : Pass) (bucket : ℕ) → IsQuiet (board_of index) pass → (shape_of index).passes ≡ 1 → glanced pass bucket ≡ 0 }
     ensures nobody { (index : Index) (pass : Pass) (other segment : ℕ) → IsQuiet (board_of index) pass → (shape_of index).passes ≡ 1 → other ≢ number pass → inside (trace pass) other segment ≡ 0 }
     ensures unbusy { (index : Index) (before after : Pass) (bucket : ℕ) → IsQuiet (board_of index) before → IsQuiet (board_of index) after → (shape_of index).passes ≡ 1 → IsBusy bucket before after → locked_of before ≡ Some bucket }
     ensures still { (index : Index) (before now : Pass) (key : List ℕ) → IsQuiet (board_of index) before → IsQuiet (board_of index) now → (shape_of index).passes ≡ 1 → mine now ≡ mine before → stirred (shape_of index) key (seen before) (seen now) ≡ 0 }
+{}
+
+/// Where an index has one pass, each call is served as the model says, from the state of the model that the pass is at to the one that it is at then: what the call's contract says is enough. The states are told by what the pass has seen and keeps; a new index is at the one at the start.
+pub fn one_pass_is_served()
+    ensures start { StartsAlone }
+    ensures get { GetIsServed }
+    ensures gets { GetsIsServed }
+    ensures write { WriteIsServed }
+    ensures delete { DeleteIsServed }
+    ensures evict { EvictIsServed }
+    ensures refill { RefillIsServed }
+    ensures lock { LockIsServed }
+    ensures unlock { UnlockIsServed }
+    ensures hold { HoldIsServed }
+    ensures held { HeldIsServed }
+    ensures release { ReleaseIsServed }
+    ensures nothing { NothingIsHeld }
 {}

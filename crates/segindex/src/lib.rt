@@ -18,5 +18,5 @@ mod write;
 pub use bucket::LockAnswer;
 pub use hold::{Hold, HoldAnswer, hold_stays};
 pub use index::Index;
-pub use laws::{one_pass, quiet_pass};
+pub use laws::{one_pass, one_pass_is_served, quiet_pass};
 pub use segbase::{MakeFault, Pass};
