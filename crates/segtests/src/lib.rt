@@ -6,4 +6,6 @@ mod beside;
 #[cfg(test)]
 mod meeting;
 #[cfg(test)]
+mod owner;
+#[cfg(test)]
 mod passes;
