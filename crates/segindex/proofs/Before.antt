@@ -20,7 +20,7 @@ abbrev pub StandsIn : Shape → List Event → ℕ → Slot → Type 0
 StandsIn z h b a = (n : ℕ) × ((bucket_after z h b).items n ≡ item a)
 
 -- what an event left there stood there before, or its row wasn't linked
-one_before : (z : Shape) (e : Event) (h : List Event) (b n : ℕ) (a : Slot) → IsLawful z (e ∷ h) → (bucket_after z (e ∷ h) b).items n ≡ item a → StandsIn z h b a ⊎ ((row_after h a.segment a.row).linked ≡ None)
+pub one_before : (z : Shape) (e : Event) (h : List Event) (b n : ℕ) (a : Slot) → IsLawful z (e ∷ h) → (bucket_after z (e ∷ h) b).items n ≡ item a → StandsIn z h b a ⊎ ((row_after h a.segment a.row).linked ≡ None)
 one_before z (Linked p q s r m) h b n a l is' = let e = Linked p q s r m in let u = bucket_after z h b in let new = slot (key_of q) s r in ⊎_elim
     (λ t. let now : cond (eqb m n) (item new) (u.items n) ≡ item a = ap (λ v. v.items n) (sym (cond-true (eqb (bucket_of z (key_of q)) b) (acts e u) u t)) ∙ is' in ⊎_elim
     (λ hit. let same : new ≡ a = same_item new a (sym (cond-true (eqb m n) (item new) (u.items n) hit) ∙ now) in inr (subst (λ (x : Slot). (row_after h x.segment x.row).linked ≡ None) same l.1.suits.0.3))

@@ -36,7 +36,7 @@ same_item a c e = ap (slot_in a) e
     slot_in a c = a
 
 -- the item of a position whose word has a tag
-item_here : (z : Shape) (h : List Event) (b n word : ℕ) (x : Content) → IsValid z → IsLawful z h → IsContent h b (bucket_after z h b) n x → IsReadAs x word → 1 ≤ word / 2 ^ 52 → (a : Slot) × (x ≡ item a) × IsWordOf a word
+pub item_here : (z : Shape) (h : List Event) (b n word : ℕ) (x : Content) → IsValid z → IsLawful z h → IsContent h b (bucket_after z h b) n x → IsReadAs x word → 1 ≤ word / 2 ^ 52 → (a : Slot) × (x ≡ item a) × IsWordOf a word
 item_here z h b n word nothing v l is reads tag = absurd (omega (arith, reads, tag))
 item_here z h b n word (item a) v l is reads tag = (a, refl, reads.0)
 item_here z h b n word (next m) v l is reads tag =

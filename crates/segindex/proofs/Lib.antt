@@ -48,3 +48,10 @@ pub mod AloneWrites
 pub mod AloneDeletes
 pub mod AloneEvictions
 pub mod AloneEvicts
+pub mod Unnamed
+pub mod Seeking
+pub mod Clearing
+pub mod Unlinking
+pub mod StoredRows
+pub mod RowsOut
+pub mod Evictions

@@ -4,6 +4,7 @@ use Rattle.std.proofs.lemmas.Bool.{cases_lt, cond-false, le-ltb}
 use Rattle.std.proofs.lemmas.Option.{none-some, same_Some}
 use Rattle.std.specs.Prelude.{MatchOption}
 use Rattle.segword.specs.declared.shape.Shape.{Shape}
+use Rattle.segword.specs.Shape.{IsValid}
 use Rattle.segmodel.specs.declared.entry.Cached.{Cached}
 use Rattle.segmodel.specs.Places.{bucket_of}
 use Rattle.segmodel.specs.Cache.{standing}
@@ -33,17 +34,17 @@ use Rattle.segindex.proofs.Searching.{Searching, Passed, NoneBelow, IsFirstEmpty
 
 -- ---- the places of a chain
 
-depth_of_place : (z : Shape) (h : List Event) (b n : ℕ) (place : Place) (t : Bool) → IsAt h b n (cond t (OfBucket place.bucket place.word) (OfOverflow (place.bucket - z.buckets) place.word)) → (d : ℕ) × (n ≡ 8 * d + place.word)
+pub depth_of_place : (z : Shape) (h : List Event) (b n : ℕ) (place : Place) (t : Bool) → IsAt h b n (cond t (OfBucket place.bucket place.word) (OfOverflow (place.bucket - z.buckets) place.word)) → (d : ℕ) × (n ≡ 8 * d + place.word)
 depth_of_place z h b n place true at = (0, let e = at.1 in omega arith)
 depth_of_place z h b n place false at = (at.0, at.2)
 
-next_at : (z : Shape) (h : List Event) (b n : ℕ) (place : Place) (t : Bool) → place.word < 7 → IsAt h b n (cond t (OfBucket place.bucket place.word) (OfOverflow (place.bucket - z.buckets) place.word))
+pub next_at : (z : Shape) (h : List Event) (b n : ℕ) (place : Place) (t : Bool) → place.word < 7 → IsAt h b n (cond t (OfBucket place.bucket place.word) (OfOverflow (place.bucket - z.buckets) place.word))
     → IsAt h b (n + 1) (cond t (OfBucket place.bucket (place.word + 1)) (OfOverflow (place.bucket - z.buckets) (place.word + 1)))
 next_at z h b n place true lt at = (at.0, ap (λ w. w + 1) at.1, omega arith)
 next_at z h b n place false lt at = (at.0, at.1, (let e = at.2 in omega arith), omega arith)
 
 -- a chain word is that of the next bucket of the chain
-leads_to : (z : Shape) (h : List Event) (b n word number : ℕ) (x : Content) → IsLawful z h → IsContent h b (bucket_after z h b) n x → IsReadAs x word → number < 65536 → word ≡ number + 1
+pub leads_to : (z : Shape) (h : List Event) (b n word number : ℕ) (x : Content) → IsLawful z h → IsContent h b (bucket_after z h b) n x → IsReadAs x word → number < 65536 → word ≡ number + 1
     → (d : ℕ) × (d < (bucket_after z h b).chained) × (n ≡ 8 * d + 7) × (home_of h number ≡ Some (home b (d + 1)))
 leads_to z h b n word number nothing l is reads lt e = absurd (omega (arith, reads, e))
 leads_to z h b n word number (item a) l is reads lt e = let tag : 1 ≤ word / 2 ^ 52 = reads.1 in absurd (omega (arith, tag, lt, e))
@@ -51,12 +52,25 @@ leads_to z h b n word number (next m) l is reads lt e =
     let same : m ≡ number = omega (arith, reads, e) in (is.0, is.1, is.2, subst (λ k. home_of h k ≡ Some (home b (is.0 + 1))) same is.3)
 leads_to z h b n word number (copy w) l is reads lt e = absurd reads
 
-first_at : (z : Shape) (h : List Event) (b d number : ℕ) → home_of h number ≡ Some (home b (d + 1)) → IsAt h b (8 * d + 9) (cell_at z (first_word z number))
+pub first_at : (z : Shape) (h : List Event) (b d number : ℕ) → home_of h number ≡ Some (home b (d + 1)) → IsAt h b (8 * d + 9) (cell_at z (first_word z number))
 first_at z h b d number is =
     let low : ltb (z.buckets + number) z.buckets ≡ false = le-ltb (z.buckets + number) z.buckets (omega arith) in
     let off : z.buckets + number - z.buckets ≡ number = omega arith in
     subst (IsAt h b (8 * d + 9)) (sym (cond-false (ltb (z.buckets + number) z.buckets) (OfBucket (z.buckets + number) 1) (OfOverflow (z.buckets + number - z.buckets) 1) low))
     (subst (λ m. IsAt h b (8 * d + 9) (OfOverflow m 1)) (sym off) (d + 1, is, omega arith, omega arith))
+
+-- a last word that leads nowhere ends the chain
+pub chain_ends : (z : Shape) (h : List Event) (b n d word : ℕ) → IsValid z → IsLawful z h → n ≡ 8 * d + 7 → IsReadAs ((bucket_after z h b).items n) word → LeadsNowhere word → (bucket_after z h b).chained ≤ d
+chain_ends z h b n d word v l e reads nowhere = let u = bucket_after z h b in ⊎_elim
+    (λ lt.
+    let j = joins z h b d l lt in
+    let here : u.items n ≡ next j.0 = ap u.items e ∙ j.1 in
+    let content : IsContent h b u n (next j.0) = subst (IsContent h b u n) here ((chain_of z h l b).contents n) in
+    let few = few_drawn z v in
+    let in_table = home_in z h j.0 (home b (content.0 + 1)) l content.3 in
+    absurd (nowhere j.0 (omega (arith, few, in_table)) (subst (λ x. IsReadAs x word) here reads)))
+    (λ le. le)
+    (cases_lt d u.chained)
 
 module _ (b : Board) (key : List ℕ) (first p : Pass) (place : Place) (word : ℕ) (empty : Option Target) (passed : Passed b key first p place empty)
     (reads : IsReadAs ((bucket_after b.shape (trace p) (bucket_of b.shape key)).items (position b.shape (trace p) place)) word) where
@@ -126,18 +140,7 @@ module _ (b : Board) (key : List ℕ) (first p : Pass) (place : Place) (word : �
   -- ---- at the end
 
   ends : 7 ≤ place.word → LeadsNowhere word → u.chained ≤ depth.0
-  ends le nowhere = ⊎_elim
-      (λ lt.
-      let j = joins z (trace p) k depth.0 is.lawful lt in
-      let w = passed.chain.in_table in
-      let e : n ≡ 8 * depth.0 + 7 = omega (arith, depth.1, le, w.2) in
-      let here : u.items n ≡ next j.0 = ap u.items e ∙ j.1 in
-      let content : IsContent (trace p) k u n (next j.0) = subst (IsContent (trace p) k u n) here ((chain_of z (trace p) is.lawful k).contents n) in
-      let few = few_drawn z is.valid in
-      let in_table = home_in z (trace p) j.0 (home k (content.0 + 1)) is.lawful content.3 in
-      absurd (nowhere j.0 (omega (arith, few, in_table)) (subst (λ x. IsReadAs x word) here reads)))
-      (λ le'. le')
-      (cases_lt depth.0 u.chained)
+  ends le nowhere = let w = passed.chain.in_table in chain_ends z (trace p) k n depth.0 word is.valid is.lawful (omega (arith, depth.1, le, w.2)) reads nowhere
 
   absent_if : (o : Option Cached) → ((x : Cached) → o ≡ Some x → ⊥) → o ≡ None
   absent_if None none = refl

@@ -51,7 +51,7 @@ pub record Passed (b : Board) (key : List ℕ) (first p : Pass) (place : Place) 
 
 -- ---- the first word
 
-begins_at : (b : Board) (p : Pass) (bucket : ℕ) → bucket < b.shape.buckets → IsInChain b bucket (record { bucket = bucket; word = 1 }) p
+pub begins_at : (b : Board) (p : Pass) (bucket : ℕ) → bucket < b.shape.buckets → IsInChain b bucket (record { bucket = bucket; word = 1 }) p
 begins_at b p bucket lt =
     let z = b.shape in let place : Place = record { bucket = bucket; word = 1 } in
     let at : IsAt (trace p) bucket 1 (cell_at z place) = subst (IsAt (trace p) bucket 1) (sym (cond-true (ltb bucket z.buckets) (OfBucket bucket 1) (OfOverflow (bucket - z.buckets) 1) (lt-ltb bucket z.buckets lt))) (refl, refl, (let s : 1 < 8 = omega arith in s)) in record {

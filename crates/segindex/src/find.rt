@@ -97,7 +97,7 @@ impl Index {
     }
 
     // The place that comes next along the chain of a place with this word, if one does.
-    fn next_place(&self, place: Place, word: u64) -> Option<Place>
+    pub(crate) fn next_place(&self, place: Place, word: u64) -> Option<Place>
         requires valid { IsValid (shape_of self.now) }
         requires word { place.word ≤ 7 }
         ensures { IsNext (shape_of self.now) place word result }

@@ -2,6 +2,7 @@
 #![tactic(auto)]
 
 mod bucket;
+mod evict;
 mod find;
 mod get;
 mod hold;

@@ -106,7 +106,7 @@ calm_linked (Refilled p t) h s r calm = absurd calm
 calm_linked (Filled p t i place w) h s r calm = same_linked (eqb t s && eqb i r) (row_after h s r) (writes_row (Filled p t i place w) (row_after h s r)) refl
 calm_linked e h s r calm = refl
 
-own_linked : (z : Shape) (more h : List Event) (p s r : ℕ) → IsLawful z (more ++ h) → AreCalm (own_of p more) → owner z s ≡ p → (row_after (more ++ h) s r).linked ≡ (row_after h s r).linked
+pub own_linked : (z : Shape) (more h : List Event) (p s r : ℕ) → IsLawful z (more ++ h) → AreCalm (own_of p more) → owner z s ≡ p → (row_after (more ++ h) s r).linked ≡ (row_after h s r).linked
 own_linked z [] h p s r l calm own = refl
 own_linked z (e ∷ more) h p s r l calm own = ⊎_elim
     (λ t. let c : AreCalm (e ∷ own_of p more) = subst AreCalm (cond-true (eqb (by e) p) (e ∷ own_of p more) (own_of p more) t) calm in

@@ -1,3 +1,4 @@
+pub mod Held
 pub mod Keeping
 pub mod Looks
 pub mod Readers

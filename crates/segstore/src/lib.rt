@@ -12,5 +12,5 @@ pub use enter::{enter_segment, leave_segment};
 pub use read::{Keyed, Linked, read_keyed, read_linked};
 pub use refilling::refill;
 pub use room::{NoRoom, has_room, next_row};
-pub use row::{pair_of_row, row_of_key, value_of_row};
+pub use row::{key_of_row, pair_of_row, row_of_key, value_of_row};
 pub use write::{fill_row, write_row};

@@ -6,7 +6,7 @@ ghost use Rattle.segbase.specs.Passes.{trace, IsPassOf};
 ghost use Rattle.segstore.specs.Reading.{IsReadable, ReadsRow, four_words};
 
 use segbase::{Board, Pass};
-use segword::{Key, KeyWords, Value, read_row, read_value};
+use segword::{Key, KeyWords, Value, read_key, read_row, read_value};
 
 // Four words of a row.
 fn load_words(board: &Board, pass: &mut Pass, segment: u32, row: u32, from: u8) -> [u64; 4]
@@ -56,6 +56,17 @@ pub fn value_of_row(board: &Board, pass: &mut Pass, segment: u32, row: u32, head
 {
     let words = load_words(board, pass, segment, row, 4);
     read_value(header, &words)
+}
+
+/// The key of a row.
+pub fn key_of_row(board: &Board, pass: &mut Pass, segment: u32, row: u32) -> Option<Key>
+    requires pass { IsPassOf board.now pass.old }
+    requires readable { IsReadable board.now pass.old segment row }
+    ensures reads { ReadsRow board.now pass.old pass.new segment row }
+    ensures key { (key value : List ℕ) → IsKey key → IsValue value
+        → Holds (row_after (trace pass.new) segment row) key value → result ≡ Some key }
+{
+    read_key(&load_words(board, pass, segment, row, 0))
 }
 
 /// The key and the value of a row.

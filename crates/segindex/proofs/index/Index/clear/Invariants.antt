@@ -1,0 +1,17 @@
+use Rattle.std.proofs.Common.{◌≡◌, ◌-◌, ◌^◌}
+use Rattle.segindex.specs.Calls.{memo}
+use Rattle.segindex.proofs.Clearing.{Clearing}
+use Rattle.segindex.proofs.index.Index.clear.Given as goal
+
+abbrev pub ghost-clear : goal.ghost-clear
+ghost-clear g a = g.left
+
+abbrev pub invariant-loop-found : goal.invariant-loop-found
+invariant-loop-found g l = record {
+  clearing : Clearing l.self.board g.left l.target.place l.old l.fn.pass l.pass;
+  plain : l.pass.plain ≡ l.fn.pass.plain;
+  memo : memo l.pass ≡ memo l.fn.pass;
+}
+
+abbrev pub decreases-loop-found : goal.decreases-loop-found
+decreases-loop-found g l = 2 ^ 64 - l.old
