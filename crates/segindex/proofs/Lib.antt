@@ -22,6 +22,10 @@ pub mod Tries
 pub mod Scans
 pub mod Gets
 pub mod Linking
+pub mod Acting
+pub mod Joining
+pub mod Drawing
+pub mod Growing
 pub mod Filling
 pub mod Storing
 pub mod UnderWrite

@@ -29,7 +29,7 @@ use Rattle.segbase.specs.Spots.{cell_at, position, IsPlace}
 use Rattle.segbase.specs.Steps.{IsReadAs}
 use Rattle.segindex.specs.declared.find.Target.{Target}
 use Rattle.segindex.specs.Writing.{next_word, first_word, LeadsTo, LeadsNowhere, IsNext, Finds}
-use Rattle.segindex.proofs.Places.{position_at}
+use Rattle.segindex.proofs.Places.{position_at, overflow_at}
 use Rattle.segindex.proofs.Searching.{Searching, Passed, NoneBelow, IsFirstEmpty, position_of_item}
 
 -- ---- the places of a chain
@@ -53,11 +53,7 @@ leads_to z h b n word number (next m) l is reads lt e =
 leads_to z h b n word number (copy w) l is reads lt e = absurd reads
 
 pub first_at : (z : Shape) (h : List Event) (b d number : ℕ) → home_of h number ≡ Some (home b (d + 1)) → IsAt h b (8 * d + 9) (cell_at z (first_word z number))
-first_at z h b d number is =
-    let low : ltb (z.buckets + number) z.buckets ≡ false = le-ltb (z.buckets + number) z.buckets (omega arith) in
-    let off : z.buckets + number - z.buckets ≡ number = omega arith in
-    subst (IsAt h b (8 * d + 9)) (sym (cond-false (ltb (z.buckets + number) z.buckets) (OfBucket (z.buckets + number) 1) (OfOverflow (z.buckets + number - z.buckets) 1) low))
-    (subst (λ m. IsAt h b (8 * d + 9) (OfOverflow m 1)) (sym off) (d + 1, is, omega arith, omega arith))
+first_at z h b d number is = subst (λ n. IsAt h b n (cell_at z (first_word z number))) (omega arith) (overflow_at z h b (d + 1) number 1 is (omega arith))
 
 -- a last word that leads nowhere ends the chain
 pub chain_ends : (z : Shape) (h : List Event) (b n d word : ℕ) → IsValid z → IsLawful z h → n ≡ 8 * d + 7 → IsReadAs ((bucket_after z h b).items n) word → LeadsNowhere word → (bucket_after z h b).chained ≤ d

@@ -1,12 +1,13 @@
 -- Places of a chain stay where they are, and a pass that only looks leaves all of its bucket as it is.
-use Rattle.std.proofs.Common.{◌≡◌, ℕ, ◌+◌, ◌-◌, ◌*◌, Bool, true, false, cond, ltb, List, [], ◌++◌, sym, ap, ◌∙◌, subst}
+use Rattle.std.proofs.Common.{◌≡◌, ℕ, ◌+◌, ◌-◌, ◌*◌, ◌<◌, Bool, true, false, cond, ltb, List, [], ◌++◌, Some, refl, sym, ap, ◌∙◌, subst, arith}
+use Rattle.std.proofs.lemmas.Bool.{cond-false, le-ltb}
 use Rattle.segword.specs.declared.shape.Shape.{Shape}
 use Rattle.segcore.specs.declared.event.Event.{Event}
 use Rattle.segcore.specs.declared.cell.Cell.TheVariants.{OfBucket, OfOverflow}
 use Rattle.segcore.specs.Bucket.{bucket_after}
 use Rattle.segcore.specs.Kind.{Step, HasBit}
 use Rattle.segcore.specs.Lawful.{IsLawful}
-use Rattle.segcore.specs.Overflow.{home_of}
+use Rattle.segcore.specs.Overflow.{home, home_of}
 use Rattle.segcore.specs.Word.{IsAt, IsItemAt}
 use Rattle.segcore.proofs.Cells.{at_stays}
 use Rattle.segcore.proofs.Quiet.{position_stays}
@@ -65,3 +66,11 @@ module _ (b : Board) (own : List Event) (p q : Pass) (bucket : ℕ) (place : Pla
 
   pub chain_later : IsInChain b bucket place q
   chain_later = record { in_table = chain.in_table; at = subst (λ k. IsItemAt b.shape (trace q) bucket k (cell_at b.shape place)) (sym same_position) still_there }
+
+-- a word of an overflow bucket is at that depth of the chain for which the bucket was drawn
+pub overflow_at : (z : Shape) (h : List Event) (b depth number w : ℕ) → home_of h number ≡ Some (home b depth) → w < 8 → IsAt h b (8 * depth + w) (cell_at z (record { bucket = z.buckets + number; word = w }))
+overflow_at z h b depth number w is lt =
+    let low : ltb (z.buckets + number) z.buckets ≡ false = le-ltb (z.buckets + number) z.buckets (omega arith) in
+    let off : z.buckets + number - z.buckets ≡ number = omega arith in
+    subst (IsAt h b (8 * depth + w)) (sym (cond-false (ltb (z.buckets + number) z.buckets) (OfBucket (z.buckets + number) w) (OfOverflow (z.buckets + number - z.buckets) w) low))
+    (subst (λ m. IsAt h b (8 * depth + w) (OfOverflow m w)) (sym off) (depth, is, refl, lt))

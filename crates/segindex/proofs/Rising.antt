@@ -11,7 +11,7 @@ use Rattle.segcore.specs.ItemWord.{packed}
 use Rattle.segcore.specs.Kind.{HasBit}
 use Rattle.segcore.specs.Lawful.{IsLawful, NoneAt}
 use Rattle.segcore.specs.Row.{frequency_of}
-use Rattle.segcore.specs.Word.{content_word, word}
+use Rattle.segcore.specs.Word.{content_word, word, IsItemAt}
 use Rattle.segcore.proofs.Limits.{low_row, low_segment, low_frequency}
 use Rattle.segcore.proofs.Meanwhile.{one_rise}
 use Rattle.segcore.proofs.Standing.{coherent}
@@ -38,28 +38,38 @@ rose t f g s r some lf lg ls lr le =
     let one = tag_of_word t f s r lf ls lr in let two = tag_of_word t g s r lg ls lr in
     ((subst (λ x. 1 ≤ x) (sym one) some, one ∙ sym two, place_of_word t f s r ls lr ∙ sym (place_of_word t g s r ls lr)), omega (arith, le))
 
+-- the words of an item at two moments, whose frequency didn't fall
+pub item_rose : (z : Shape) (h g : List Event) (b n : ℕ) (cell : Cell) (a : Slot) → IsValid z → IsLawful z h → IsLawful z g → IsItemAt z h b n cell → IsItemAt z g b n cell → (bucket_after z h b).items n ≡ item a → (bucket_after z g b).items n ≡ item a
+    → frequency_of h a.segment a.row ≤ frequency_of g a.segment a.row → IsSameItem (word z h cell) (word z g cell) × (word z h cell ≤ word z g cell)
+item_rose z h g b n cell a v l l' before after here there up =
+    let stands = (coherent z h l).items b n a here in
+    let was : word z h cell ≡ packed (tag_of a.key) (frequency_of h a.segment a.row) a.segment a.row = content_at z h b n cell before ∙ ap (content_word h) here in
+    let now : word z g cell ≡ packed (tag_of a.key) (frequency_of g a.segment a.row) a.segment a.row = content_at z g b n cell after ∙ ap (content_word g) there in
+    let two = rose (tag_of a.key) (frequency_of h a.segment a.row) (frequency_of g a.segment a.row) a.segment a.row (some_tag a.key)
+    (low_frequency z h a.segment a.row l) (low_frequency z g a.segment a.row l') (low_segment z a.segment v stands.within.0) (low_row z a.row v stands.within.1) up in
+    subst (λ x. IsSameItem x (word z g cell) × (x ≤ word z g cell)) (sym was) (subst (λ y. IsSameItem (packed (tag_of a.key) (frequency_of h a.segment a.row) a.segment a.row) y × (packed (tag_of a.key) (frequency_of h a.segment a.row) a.segment a.row ≤ y)) (sym now) two)
+
+-- an earlier word of an item is one that it had also where its word rose since
+pub earlier_yet : (old before now : ℕ) → IsSameItem old before → old ≤ before → IsSameItem before now × (before ≤ now) → IsSameItem old now × (old ≤ now)
+earlier_yet old before now s le w = ((s.0, s.1 ∙ w.0.1, s.2 ∙ w.0.2), (let le' = w.1 in omega (arith, le, le')))
+
 module _ (b : Board) (own : List Event) (p q : Pass) (bucket : ℕ) (place : Place) (m : Moved b own p q) (bit : HasBit b.shape (trace p) (number p) bucket) (none : NoneAt b.shape bucket own) (chain : IsInChain b bucket place p) where
   abbrev cell : Cell
   cell = cell_at b.shape place
 
+  abbrev n : ℕ
+  n = position b.shape (trace p) place
+
   -- from one moment under the bit to a later one
-  pub word_rose : (a : Slot) → IsValid b.shape → IsLawful b.shape (trace p) → (bucket_after b.shape (trace p) bucket).items (position b.shape (trace p) place) ≡ item a
+  pub word_rose : (a : Slot) → IsValid b.shape → IsLawful b.shape (trace p) → (bucket_after b.shape (trace p) bucket).items n ≡ item a
       → IsSameItem (word b.shape (trace p) cell) (word b.shape (trace q) cell) × (word b.shape (trace p) cell ≤ word b.shape (trace q) cell)
   word_rose a v l here =
-      let z = b.shape in let h = trace p in let g = trace q in
-      let stands = (coherent z h l).items bucket (position z h place) a here in
-      let later = chain_later b own p q bucket place m chain in
-      let there : (bucket_after z g bucket).items (position z g place) ≡ item a = (λ t. (moved_bucket b own p q bucket m bit none t).items (same_position b own p q bucket place m chain t)) ∙ here in
-      let was : word z h cell ≡ packed (tag_of a.key) (frequency_of h a.segment a.row) a.segment a.row = content_at z h bucket (position z h place) cell chain.at ∙ ap (content_word h) here in
-      let now : word z g cell ≡ packed (tag_of a.key) (frequency_of g a.segment a.row) a.segment a.row = content_at z g bucket (position z g place) cell later.at ∙ ap (content_word g) there in
-      let up = rise z m.more h bucket (position z h place) a (subst (IsLawful z) m.goes_on m.pass.lawful) (moved_none b own p q bucket m bit none) here in
-      let up_to : frequency_of h a.segment a.row ≤ frequency_of g a.segment a.row = subst (λ t. frequency_of h a.segment a.row ≤ frequency_of t a.segment a.row) (sym m.goes_on) up in
-      let two = rose (tag_of a.key) (frequency_of h a.segment a.row) (frequency_of g a.segment a.row) a.segment a.row (some_tag a.key)
-      (low_frequency z h a.segment a.row l) (low_frequency z g a.segment a.row m.pass.lawful) (low_segment z a.segment v stands.within.0) (low_row z a.row v stands.within.1) up_to in
-      subst (λ x. IsSameItem x (word z g cell) × (x ≤ word z g cell)) (sym was) (subst (λ y. IsSameItem (packed (tag_of a.key) (frequency_of h a.segment a.row) a.segment a.row) y × (packed (tag_of a.key) (frequency_of h a.segment a.row) a.segment a.row ≤ y)) (sym now) two)
+      let z = b.shape in let h = trace p in
+      let later = subst (λ i. IsItemAt z (trace q) bucket i cell) (same_position b own p q bucket place m chain) (chain_later b own p q bucket place m chain).at in
+      let up = rise z m.more h bucket n a (subst (IsLawful z) m.goes_on m.pass.lawful) (moved_none b own p q bucket m bit none) here in
+      item_rose z h (trace q) bucket n cell a v l m.pass.lawful chain.at later here (ap (λ u. u.items n) (moved_bucket b own p q bucket m bit none) ∙ here)
+      (subst (λ t. frequency_of h a.segment a.row ≤ frequency_of t a.segment a.row) (sym m.goes_on) up)
 
   -- an earlier word of the item is one at the later moment too
-  pub earlier_later : (old : ℕ) (a : Slot) → IsValid b.shape → IsLawful b.shape (trace p) → (bucket_after b.shape (trace p) bucket).items (position b.shape (trace p) place) ≡ item a → IsEarlier b place old p → IsEarlier b place old q
-  earlier_later old a v l here e =
-      let w = word_rose a v l here in let s = e.0 in let t = w.0 in let le = e.1 in let le' = w.1 in
-      ((s.0, s.1 ∙ t.1, s.2 ∙ t.2), omega (arith, le, le'))
+  pub earlier_later : (old : ℕ) (a : Slot) → IsValid b.shape → IsLawful b.shape (trace p) → (bucket_after b.shape (trace p) bucket).items n ≡ item a → IsEarlier b place old p → IsEarlier b place old q
+  earlier_later old a v l here e = earlier_yet old (word b.shape (trace p) cell) (word b.shape (trace q) cell) e.0 e.1 (word_rose a v l here)

@@ -35,6 +35,7 @@ use Rattle.segindex.specs.Answers.{IsFull, WasFull, UsesRow}
 use Rattle.segindex.specs.Taking.{HasCleanBit}
 use Rattle.segindex.specs.Writing.{HasNoWord}
 use Rattle.segindex.specs.Storing.{TookToWrite, Stores, stores}
+use Rattle.segindex.proofs.Growing.{no_word}
 use Rattle.segindex.proofs.Filling.{fills_nowhere, fills_still, fills_seen}
 use Rattle.segindex.proofs.UnderBit.{moved_bucket, moved_bit}
 use Rattle.segindex.proofs.UnderWrite.{took_moved, took_clean, took_keeps, tries, write_goes_on, write_adds}
@@ -60,15 +61,8 @@ module _ (b : Board) (bucket : ℕ) (p q f : Pass) (quiet : IsQuiet b p) (took :
 
 is_full : (b : Board) (key : List ℕ) (f : Pass) → IsPassOf b f → HasCleanBit b f (bucket_of b.shape key) → HasNoWord b key f → b.shape.overflow ≡ 0 → IsFull b.shape (marked f) key
 is_full b key f is clean none whole =
-    let z = b.shape in let h = trace f in let k = bucket_of z key in
-    let same = entries_marked h in
-    let full = counted_full z h k is.lawful none.taken in
-    let long = wide z h k is.lawful clean.undrawn in
-    let enough = (says_of_buckets z h is.lawful).enough in record {
-      new = ap (λ g. standing (after z g) key) same ∙ none.absent;
-      full = ap (λ g. keys_in z (after z g) k) same ∙ omega (arith, full, long);
-      last = inr (omega (arith, enough, whole));
-    }
+    let enough = (says_of_buckets b.shape (trace f) is.lawful).enough in
+    record { no_word = no_word b.shape (trace f) key is.lawful none.taken clean.undrawn none.absent; last = inr (omega (arith, enough, whole)) }
 
 module _ (b : Board) (key : List ℕ) (p q f s : Pass) (quiet : IsQuiet b p) (took : TookToWrite b (bucket_of b.shape key) p q) (idles : Idles b q f) (none : HasNoWord b key f) (whole : b.shape.overflow ≡ 0)
     (freed : Did b (Freed (number f) (bucket_of b.shape key) false ∷ []) f s) (free : (bucket_after b.shape (trace s) (bucket_of b.shape key)).holder ≡ None) (plain : s.plain ≡ f.plain) (same : memo s ≡ memo f) where

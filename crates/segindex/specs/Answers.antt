@@ -53,14 +53,29 @@ IsGetAnswer shape key get.Busy before now = 64 ≤ stirred shape key before now
 abbrev pub IsBusy : ℕ → Pass → Pass → Type 0
 IsBusy bucket p q = (locked_of p ≡ Some bucket) ⊎ ((bounced q bucket ≡ bounced p bucket + 64) × (taken q ≡ taken p))
 
--- a new key finds no word in its bucket: all its words are taken, and its chain can't grow
-pub record IsFull (shape : Shape) (marks : List Mark) (key : List ℕ) : Type 0 where
+-- a new key finds no word in its bucket: all its words are taken
+pub record HasNoWord (shape : Shape) (marks : List Mark) (key : List ℕ) : Type 0 where
   pub new : standing (after shape (entries marks)) key ≡ None
   pub full : keys_in shape (after shape (entries marks)) (bucket_of shape key) ≡ 6 * width marks (bucket_of shape key) + 1
+
+-- and its chain can't grow
+pub record IsFull (shape : Shape) (marks : List Mark) (key : List ℕ) : Type 0 where
+  pub no_word : HasNoWord shape marks key
   pub last : (width marks (bucket_of shape key) ≡ 4) ⊎ (all_drawn marks ≡ shape.overflow)
 
 abbrev pub WasFull : Shape → List ℕ → List Mark → List Mark → Type 0
 WasFull shape key before now = (marks : List Mark) × IsBetween before now marks × IsFull shape marks key
+
+-- ---- growing
+
+-- a new key finds no word in its bucket, and its chain can grow
+pub record CanGrow (shape : Shape) (marks : List Mark) (key : List ℕ) : Type 0 where
+  pub no_word : HasNoWord shape marks key
+  pub short : width marks (bucket_of shape key) < 4
+  pub left : all_drawn marks < shape.overflow
+
+abbrev pub CouldGrow : Shape → List ℕ → List Mark → List Mark → Type 0
+CouldGrow shape key before now = (marks : List Mark) × IsBetween before now marks × CanGrow shape marks key
 
 -- ---- writes
 

@@ -9,6 +9,7 @@ pub mod Answers
 pub mod Scanning
 pub mod Storing
 pub mod Refusing
+pub mod Growing
 pub mod Evicting
 pub mod Unlinking
 pub mod Gets

@@ -16,6 +16,14 @@ pub(crate) struct Target {
     pub(crate) word: u64,
 }
 
+/// The last word of a chain none of whose words is empty: its place, the item word that stood there, and how many buckets the chain has.
+#[derive(Clone, Copy, Drop)]
+pub(crate) struct ChainEnd {
+    pub(crate) place: Place,
+    pub(crate) word: u64,
+    pub(crate) buckets: u32,
+}
+
 impl Target {
     ghost use Rattle.segindex.specs.Writing.{Updates};
 

@@ -5,6 +5,7 @@ mod bucket;
 mod evict;
 mod find;
 mod get;
+mod grow;
 mod hold;
 mod index;
 mod laws;

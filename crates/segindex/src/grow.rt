@@ -1,0 +1,78 @@
+//! Growing of a chain none of whose words is empty, under the bit of its bucket: an overflow bucket is drawn, and joins the chain with the item of its last word.
+ghost use Rattle.std.specs.Prelude.{◌<◌};
+ghost use Rattle.segcore.specs.Filled.{HasNoEmptyWord};
+
+use crate::find::{ChainEnd, Target};
+use crate::index::Index;
+use crate::scan::BUCKETS;
+use segbase::{Pass, Place};
+use segword::Item;
+
+impl Index {
+    ghost use Rattle.segbase.specs.Passes.{IsPassOf};
+    ghost use Rattle.segindex.specs.Index.{board_of};
+    ghost use Rattle.segindex.specs.Taking.{HasCleanBit};
+    ghost use Rattle.segindex.specs.Growing.{bucket_in, home_at, IsLast, IsChainEnd, Grows, Draws, HasSpare, TriesToJoin, Joins};
+
+    // Makes room for a new key of a bucket none of whose words is empty: word 2 of an overflow bucket that joins its chain. It is `None` where the chain can't grow.
+    pub(crate) fn grow(&self, pass: &mut Pass, bucket: u32, end: ChainEnd) -> Option<Target>
+        requires pass { IsPassOf (board_of self.now) pass.old }
+        requires clean { HasCleanBit (board_of self.now) pass.old bucket }
+        requires full { HasNoEmptyWord (bucket_in (board_of self.now) bucket pass.old) }
+        requires end { IsChainEnd (board_of self.now) bucket end pass.old }
+        ensures grows { Grows (board_of self.now) bucket result pass.old pass.new }
+    {
+        if end.buckets == BUCKETS {
+            return None;
+        }
+        let overflow = self.draw(pass, bucket)?;
+        self.join(pass, end.place, end.word, overflow);
+        let place = Place {
+            bucket: self.board.shape().buckets + overflow,
+            word: 2,
+        };
+        Some(Target { place, word: 0 })
+    }
+
+    // Draws the next overflow bucket for a bucket whose chain may grow. It is `None` where all of them are drawn.
+    fn draw(&self, pass: &mut Pass, bucket: u32) -> Option<u32>
+        requires pass { IsPassOf (board_of self.now) pass.old }
+        requires clean { HasCleanBit (board_of self.now) pass.old bucket }
+        requires short { (bucket_in (board_of self.now) bucket pass.old).chained < 3 }
+        ensures draws { Draws (board_of self.now) bucket result pass.old pass.new }
+    {
+        let mut from = 0;
+        while from < self.board.shape().overflow {
+            match self.board.draw_overflow(pass, bucket, from) {
+                Ok(()) => return Some(from),
+                Err(counter) => from = counter,
+            }
+        }
+        None
+    }
+
+    // Lets the overflow bucket that waits for the chain of a place join it. While the item that moves there is hit, its frequency rises, and the word is copied again.
+    fn join(&self, pass: &mut Pass, place: Place, word: u64, overflow: u32)
+        requires pass { IsPassOf (board_of self.now) pass.old }
+        requires spare { HasSpare (board_of self.now) (home_at (board_of self.now) place pass.old) overflow pass.old }
+        requires last { IsLast (board_of self.now) (home_at (board_of self.now) place pass.old) place word pass.old }
+        ensures joins { Joins (board_of self.now) (home_at (board_of self.now) place pass.old) overflow pass.old pass.new }
+    {
+        let mut old = word;
+        while let Err(found) = self.try_to_join(pass, place, old, overflow) {
+            old = found;
+        }
+    }
+
+    // Copies the word of the chain's last item to the overflow bucket, and lets the chain lead on to it where that word still stands. `Err` has the word that does.
+    fn try_to_join(&self, pass: &mut Pass, place: Place, word: u64, overflow: u32) -> Result<(), u64>
+        requires pass { IsPassOf (board_of self.now) pass.old }
+        requires spare { HasSpare (board_of self.now) (home_at (board_of self.now) place pass.old) overflow pass.old }
+        requires last { IsLast (board_of self.now) (home_at (board_of self.now) place pass.old) place word pass.old }
+        ensures tries { TriesToJoin (board_of self.now) (home_at (board_of self.now) place pass.old) overflow place word result pass.old pass.new }
+    {
+        let item = Item::unpack(word).unwrap();
+        self.board.fill_overflow(pass, overflow, item);
+        self.board.chain(pass, place, word, overflow)
+    }
+}
