@@ -120,10 +120,10 @@ module _ (shape : Shape) (p q : Pass) (request : Request) (same : seen q ≡ see
       let equal = widths.drawn in omega arith
 
   is_new : standing (after shape (seen p)) (key_of request) ≡ None
-  is_new = ap (λ h. standing (after shape h) (key_of request)) (sym then_is_now) ∙ full.2.new
+  is_new = ap (λ h. standing (after shape h) (key_of request)) (sym then_is_now) ∙ full.2.no_word.new
 
   no_word_left : keys_in shape (after shape (seen p)) (bucket_of shape (key_of request)) ≡ 6 * width (marked p) (bucket_of shape (key_of request)) + 1
-  no_word_left = ap (λ h. keys_in shape (after shape h) (bucket_of shape (key_of request))) (sym then_is_now) ∙ (full.2.full ∙ ap (λ n. 6 * n + 1) width_then)
+  no_word_left = ap (λ h. keys_in shape (after shape h) (bucket_of shape (key_of request))) (sym then_is_now) ∙ (full.2.no_word.full ∙ ap (λ n. 6 * n + 1) width_then)
 
   never_chains : may_chain shape (state_at shape p) (bucket_of shape (key_of request)) ≡ false
   never_chains = ⊎_elim

@@ -118,12 +118,12 @@ module _ (shape : Shape) (p q : Pass) (state : State) (key value : List ℕ) (no
       (entries_begin (passes.marked p) full.0 full.1.0, entries_begin full.0 (passes.marked q) full.1.1) ∙ before
 
   is_new : standing state.cache key ≡ None
-  is_new = ap (λ cache. standing cache key) (at.cache ∙ ap (after shape) (sym then_is_now)) ∙ full.2.new
+  is_new = ap (λ cache. standing cache key) (at.cache ∙ ap (after shape) (sym then_is_now)) ∙ full.2.no_word.new
 
   seven : keys_in shape state.cache (bucket_of shape key) ≡ 7
   seven =
       let keys : keys_in shape (after shape (seen p)) (bucket_of shape key) ≡ 6 * width full.0 (bucket_of shape key) + 1 =
-      ap (λ h. keys_in shape (after shape h) (bucket_of shape key)) (sym then_is_now) ∙ full.2.full in
+      ap (λ h. keys_in shape (after shape h) (bucket_of shape key)) (sym then_is_now) ∙ full.2.no_word.full in
       let few = was.few (bucket_of shape key) in
       ap (λ cache. keys_in shape cache (bucket_of shape key)) at.cache ∙ omega arith
 
