@@ -1,10 +1,11 @@
-//! A caller's own struct, which owns an index with a pass of it, and keeps what is so of them between calls.
-ghost use Rattle.segindex.specs.Index.{board_of};
+//! A caller's own structs, which keep a pass or a hold with what is so of it between calls.
+ghost use Rattle.segindex.specs.Index.{board_of, shape_of};
 ghost use Rattle.segindex.specs.Quiet.{IsQuiet};
-ghost use Rattle.segindex.specs.Props.{IsQuiet-prop};
+ghost use Rattle.segindex.specs.Holds.{IsHoldOf};
+ghost use Rattle.segindex.specs.Props.{IsQuiet-prop, IsHoldOf-prop};
 
 use crate::passes::last_two;
-use segindex::{Index, Pass};
+use segindex::{Hold, HoldAnswer, Index, Pass};
 use segmodel::{GetAnswer, RefillAnswer, WriteAnswer};
 use segword::{Key, Shape, Value};
 use std::test::Fail;
@@ -40,6 +41,30 @@ impl Cache {
     }
 }
 
+/// What a pass holds of an index. Its value can be read as often as it is asked for, until it is released.
+pub struct Holder<'i> {
+    pub index: &'i Index,
+    pub pass: Pass,
+    pub hold: Hold<'i>,
+    pub ghost quiet: { IsQuiet (board_of index.now) pass } by { IsQuiet-prop (board_of index.now) pass },
+    pub ghost holds: { IsHoldOf (shape_of index.now) hold pass } by { IsHoldOf-prop (shape_of index.now) hold pass },
+}
+
+impl Holder<'_> {
+    pub fn value(&mut self) -> Value {
+        self.index.held_value(&mut self.pass, &self.hold)
+    }
+
+    pub fn release(self) {
+        let Holder {
+            index,
+            mut pass,
+            hold,
+        } = self;
+        index.release(&mut pass, hold);
+    }
+}
+
 #[test]
 fn a_cache_sets_and_gets(rt: HostRuntime) -> Result<(), Fail> {
     let (index, passes) = Index::new(rt.alloc(), SHAPE)?;
@@ -51,5 +76,33 @@ fn a_cache_sets_and_gets(rt: HostRuntime) -> Result<(), Fail> {
     assert_eq!(rt; cache.refill(0), RefillAnswer::Refilled);
     assert_eq!(rt; cache.set(&key, &value), WriteAnswer::Stored);
     assert_eq!(rt; cache.get(&key), GetAnswer::Found(value));
+    Ok(())
+}
+
+// Holds the key, and reads what is held twice.
+fn read_twice(index: &Index, mut pass: Pass, key: &Key) -> Option<(Value, Value)>
+    requires { IsQuiet (board_of index.now) pass }
+{
+    match index.hold(&mut pass, key) {
+        HoldAnswer::Holding(hold) => {
+            let mut holder = Holder { index, pass, hold };
+            let twice = (holder.value(), holder.value());
+            holder.release();
+            Some(twice)
+        }
+        HoldAnswer::Miss | HoldAnswer::Busy | HoldAnswer::AlreadyHolding => None,
+    }
+}
+
+#[test]
+fn a_holder_reads_its_value(rt: HostRuntime) -> Result<(), Fail> {
+    let (index, passes) = Index::new(rt.alloc(), SHAPE)?;
+    let (mut pass, _) = last_two(&index, passes).expect(&rt, "two passes");
+    let key = Key::new(b"a").expect(&rt, "a key");
+    let value = Value::new(b"1").expect(&rt, "a value");
+    assert_eq!(rt; index.refill(&mut pass, 0), RefillAnswer::Refilled);
+    assert_eq!(rt; index.set(&mut pass, &key, &value), WriteAnswer::Stored);
+    let twice = (value.copy(), value);
+    assert_eq!(rt; read_twice(&index, pass, &key), Some(twice));
     Ok(())
 }
