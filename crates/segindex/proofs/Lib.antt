@@ -30,7 +30,9 @@ pub mod Filling
 pub mod Storing
 pub mod UnderWrite
 pub mod Sets
+pub mod Ending
 pub mod Refused
+pub mod Deleting
 pub mod Writes
 pub mod Told
 pub mod QuietPass
@@ -54,7 +56,6 @@ pub mod AloneEvictions
 pub mod AloneEvicts
 pub mod Unnamed
 pub mod Seeking
-pub mod Clearing
 pub mod Unlinking
 pub mod StoredRows
 pub mod RowsOut

@@ -1,10 +1,9 @@
 -- The answers of a write or delete that the cache refuses, and which refusal that is.
 use Rattle.std.proofs.Common.{◌≡◌, ◌≢◌, ℕ, ◌+◌, ◌/◌, ◌%◌, ◌^◌, ◌<◌, Bool, true, false, not, cond, eqb, is_some, List, [], ◌∷◌, ◌++◌, Option, Some, None, refl, sym, ap, ◌∙◌, subst, ⊎_elim, arith}
 use Rattle.std.specs.Bool.{then_some}
-use Rattle.std.proofs.lemmas.Bool.{cond-true, eq-eqb, ne_eqb}
+use Rattle.std.proofs.lemmas.Bool.{cases_Bool, cond-true, cond-false, eq-eqb, ne_eqb, false≢true}
 use Rattle.std.proofs.lemmas.Option.{same_Some, none-some}
 use Rattle.segword.specs.declared.shape.Shape.{Shape}
-use Rattle.segmodel.specs.declared.entry.Entry.{Entry}
 use Rattle.segmodel.specs.declared.entry.Entry.TheVariants.{Wrote}
 use Rattle.segmodel.specs.declared.request.Request.{Request}
 use Rattle.segmodel.specs.declared.request.Request.TheVariants.{Set, Add, Replace, Cas, Delete}
@@ -18,37 +17,31 @@ use Rattle.segmodel.specs.Cache.{present, standing}
 use Rattle.segmodel.specs.History.{after}
 use Rattle.segmodel.specs.Serving.{reply_of_write}
 use Rattle.segcore.specs.declared.event.Event.{Event}
-use Rattle.segcore.specs.declared.event.Event.TheVariants.{Freed, Replied}
+use Rattle.segcore.specs.declared.event.Event.TheVariants.{Replied}
 use Rattle.segcore.specs.Event as event
 use Rattle.segcore.specs.declared.cell.Cell.TheVariants.{OfBucket}
 use Rattle.segcore.specs.Bucket.{bucket_after}
 use Rattle.segcore.specs.Kind.{HasBit}
-use Rattle.segcore.specs.Lawful.{NoneAt, IsLawful, IsRefusal}
+use Rattle.segcore.specs.Lawful.{IsLawful, IsRefusal}
 use Rattle.segcore.specs.Word.{word}
 use Rattle.segcore.proofs.Buckets.{bit_small, unwritten_version}
 use Rattle.segcore.proofs.Standing.{coherent}
 use Rattle.segbase.specs.declared.board.Board.{Board}
-use Rattle.segbase.specs.declared.pass.Plain.{Plain}
 use Rattle.segbase.specs.declared.pass.Pass.{Pass}
-use Rattle.segbase.specs.Passes.{number, trace, seen, IsPassOf, Moved}
-use Rattle.segbase.specs.Passes as passes
-use Rattle.segbase.proofs.Moves.{moved_then}
+use Rattle.segbase.specs.Passes.{number, trace, seen, IsPassOf}
 use Rattle.segstore.specs.Refilling.{Idles}
-use Rattle.segstore.specs.Segments.{has_room}
-use Rattle.segstore.proofs.Keeping.{keeps_plain}
 use Rattle.segindex.specs.declared.find.Target.{Target}
 use Rattle.segindex.specs.declared.write.When.{When}
 use Rattle.segindex.specs.declared.write.When.TheVariants as when
 use Rattle.segindex.specs.Quiet.{IsQuiet}
-use Rattle.segindex.specs.Calls.{memo, GoesOn}
+use Rattle.segindex.specs.Calls.{GoesOn}
 use Rattle.segindex.specs.Answers.{IsReplied, IsWriteAnswer}
 use Rattle.segindex.specs.Taking.{HasCleanBit}
-use Rattle.segindex.specs.Writing.{Finds}
+use Rattle.segindex.specs.Writing.{IsTarget, IsAbsent, own_word, Finds}
 use Rattle.segindex.specs.Storing.{TookToWrite}
-use Rattle.segindex.specs.Refusing.{request_of, has_key, IsToldBy, reply_now, Refuses}
-use Rattle.segindex.proofs.Sets.{found_plain, found_keeps}
+use Rattle.segindex.specs.Refusing.{request_of, IsToldBy, reply_now, Refuses}
+use Rattle.segindex.proofs.Ending.{IsEntry, plain_back, memo_back, entered_on, entered}
 use Rattle.segindex.proofs.UnderBit.{moved_at}
-use Rattle.segindex.proofs.UnderWrite.{took_moved, ends_on, ends_adding}
 
 -- ---- which request it is, and which reply
 
@@ -58,16 +51,42 @@ asks when.Absent key value request is = (ap key_of is, ap value_of is, is ∙ (�
 asks when.Present key value request is = (ap key_of is, ap value_of is, is ∙ (λ i. Replace (sym (ap key_of is) i) (sym (ap value_of is) i)))
 asks (when.Unchanged n) key value request is = (ap key_of is, ap value_of is, is ∙ (λ i. Cas (sym (ap key_of is) i) (sym (ap value_of is) i) n))
 
--- the search found the key exactly where it is present
-pub has_where : (b : Board) (key : List ℕ) (found : Option Target) (p : Pass) → IsPassOf b p → Finds b key found p → has_key found ≡ is_some (present (after b.shape (seen p)) key)
-has_where b key None p is none = sym (ap is_some none.absent)
-has_where b key (Some target) p is found = ⊎_elim
-    (λ free. ap not (eq-eqb target.word 0 free.0) ∙ sym (ap is_some free.2))
+-- the search found the key's own word
+pub own_target : (b : Board) (key : List ℕ) (found : Option Target) (target : Target) (p : Pass) → Finds b key found p → own_word found ≡ Some target → IsTarget b key target p × (target.word ≢ 0)
+own_target b key None target p finds is = absurd (none-some target is)
+own_target b key (Some found) target p finds is = ⊎_elim
+    (λ t. absurd (none-some target (sym (cond-true (eqb found.word 0) None (Some found) t) ∙ is)))
+    (λ f.
+    let same = same_Some found target (sym (cond-false (eqb found.word 0) None (Some found) f) ∙ is) in
+    (subst (λ x. IsTarget b key x p) same finds, λ none. false≢true (sym f ∙ eq-eqb found.word 0 (ap (λ (x : Target). x.word) same ∙ none))))
+    (cases_Bool (eqb found.word 0))
+
+-- where there is none, the key is absent
+pub own_none : (b : Board) (key : List ℕ) (found : Option Target) (p : Pass) → Finds b key found p → own_word found ≡ None → IsAbsent b key p
+own_none b key None p none is = none.absent
+own_none b key (Some found) p finds is = ⊎_elim
+    (λ free. free.2)
+    (λ has. let some = has.1.0.0 in
+    absurd (none-some found (sym is ∙ cond-false (eqb found.word 0) None (Some found) (ne_eqb found.word 0 (λ none. absurd (omega (arith, some, none)))))))
+    finds.is
+
+-- an item of the key's own word stands
+pub own_stands : (b : Board) (key : List ℕ) (target : Target) (p : Pass) → IsPassOf b p → IsTarget b key target p → target.word ≢ 0 → is_some (present (after b.shape (seen p)) key) ≡ true
+own_stands b key target p is found some = ⊎_elim
+    (λ free. absurd (some free.0))
     (λ has.
-      let z = b.shape in let named = has.0 in let some = has.1.0.0 in
-      let stands = ((coherent z (trace p) is.lawful).items (bucket_of z key) _ named.0 named.1).stands in
-      ap not (ne_eqb target.word 0 (λ none. absurd (omega (arith, some, none)))) ∙ sym (ap is_some (ap (standing (after z (seen p))) (sym named.2) ∙ stands)))
+    let z = b.shape in let named = has.0 in
+    let stands = ((coherent z (trace p) is.lawful).items (bucket_of z key) _ named.0 named.1).stands in
+    ap is_some (ap (standing (after z (seen p))) (sym named.2) ∙ stands))
     found.is
+
+-- so there is one exactly where the key is present
+pub own_where : (b : Board) (key : List ℕ) (found : Option Target) (p : Pass) → IsPassOf b p → Finds b key found p → is_some (own_word found) ≡ is_some (present (after b.shape (seen p)) key)
+own_where b key found p is finds = by (own_word found) refl
+  where
+    by : (own : Option Target) → own_word found ≡ own → is_some own ≡ is_some (present (after b.shape (seen p)) key)
+    by None same = sym (ap is_some (own_none b key found p finds same))
+    by (Some target) same = let own = own_target b key found target p finds same in sym (own_stands b key target p is own.0 own.1)
 
 -- only a set or an add is stored under an absent key
 pub adds_absent : (request : Request) (version : ℕ) → reply_to request false version ≡ reply.Stored → adds_key request false ≡ true
@@ -108,40 +127,21 @@ told_by_look b request expected version bucket p q few is clean home there asked
 
 -- ---- the answer
 
+refusal_entry : (z : Shape) (request : Request) (said : Reply) → IsEntry z (bucket_of z (key_of request)) (λ pass. Replied pass request said) (λ pass. Wrote pass request said None)
+refusal_entry z request said = record { at = λ pass. refl; adds = λ pass. refl; of = λ pass. refl; still = λ pass. tt; calm = λ pass. tt }
+
 module _ (b : Board) (request : Request) (said : Reply) (p q f s : Pass) (quiet : IsQuiet b p) (took : TookToWrite b (bucket_of b.shape (key_of request)) p q) (idles : Idles b q f) (refuses : Refuses b request said f s) where
   abbrev home : ℕ
   home = bucket_of b.shape (key_of request)
 
-  abbrev own : List Event
-  own = Replied (number p) request said ∷ []
-
-  abbrev entry : Entry
-  entry = Wrote (number p) request said None
-
-  moved : Moved b (Freed (number p) home false ∷ own) q s
-  moved = subst (λ n. Moved b (Freed n home false ∷ Replied n request said ∷ []) q s) (idles.moved.same ∙ (took_moved b home p q quiet took).same)
-      (moved_then b [] (Freed (number f) home false ∷ Replied (number f) request said ∷ []) q f s idles.moved refuses.moved)
-
-  elsewhere : (other : ℕ) → home ≢ other → NoneAt b.shape other own
-  elsewhere other apart = (ne_eqb home other apart, tt)
-
-  plain_back : s.plain ≡ p.plain
-  plain_back = refuses.plain ∙ found_plain b home p q f quiet took idles
-
-  memo_back : memo s ≡ memo p
-  memo_back = refuses.memo ∙ (idles.memo ∙ took.memo)
-
   pub refused_goes_on : GoesOn b p s
-  refused_goes_on = ends_on b home p q quiet took s own (entry ∷ []) false moved elsewhere (tt, tt) (λ h. refl) refuses.free memo_back
-      (ap (λ (x : Plain). x.locked) plain_back) (ap (λ (x : Plain). x.is_holding) plain_back)
-      (keeps_plain b (Freed (number f) home false ∷ Replied (number f) request said ∷ []) f s refuses.moved (tt, (tt, tt)) refuses.plain (found_keeps b home p q f quiet took idles))
+  refused_goes_on = entered_on b home false (λ pass. Replied pass request said) (λ pass. Wrote pass request said None) (refusal_entry b.shape request said) p q f s quiet took idles refuses
 
   pub refused_replied : IsReplied request said p s
   refused_replied = (
-    ends_adding b home p q quiet took s own (entry ∷ []) false moved elsewhere (tt, tt) (λ h. refl) refuses.free
-        ∙ cond-true (eqb (number p) (number p)) (entry ∷ passes.mine p) (passes.mine p) (eq-eqb (number p) (number p) refl),
-    plain_back,
-    memo_back,
+    entered b home false (λ pass. Replied pass request said) (λ pass. Wrote pass request said None) (refusal_entry b.shape request said) p q f s quiet took idles refuses,
+    plain_back b home false (λ pass. Replied pass request said) (λ pass. Wrote pass request said None) (refusal_entry b.shape request said) p q f s quiet took idles refuses,
+    memo_back b home false (λ pass. Replied pass request said) (λ pass. Wrote pass request said None) (refusal_entry b.shape request said) p q f s quiet took idles refuses,
   )
 
   -- as the answer to a request to store

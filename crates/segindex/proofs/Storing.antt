@@ -1,6 +1,6 @@
 -- Storing under the bit: the row, the item word that names it, and the count of used rows.
 use Rattle.std.proofs.Common.{◌≡◌, ◌≢◌, ℕ, ◌+◌, eqb, List, [], ◌∷◌, ◌++◌, Some, refl, sym, ap, ◌∙◌, subst, inl, inr, ⊎_elim}
-use Rattle.std.proofs.lemmas.Bool.{cond-true, eq-eqb}
+use Rattle.std.proofs.lemmas.Bool.{eq-eqb}
 use Rattle.std.specs.Prelude.{is_some}
 use Rattle.atomic_table.specs.declared.shared.Seat.{Seat}
 use Rattle.segword.specs.Bytes.{IsKey, IsValue}
@@ -17,7 +17,6 @@ use Rattle.segcore.specs.Bucket.{acts, bucket_after}
 use Rattle.segcore.specs.Kind.{HasBit}
 use Rattle.segcore.specs.Lawful.{IsOwnRow, Fits, NoneAt}
 use Rattle.segcore.specs.Row.{Holds, row_after}
-use Rattle.segcore.proofs.Quiet.{quiet}
 use Rattle.segbase.specs.declared.board.Board.{Board}
 use Rattle.segbase.specs.declared.law.Sight.{Sight}
 use Rattle.segbase.specs.declared.pass.Pass.{Pass}
@@ -37,7 +36,7 @@ use Rattle.segindex.proofs.Filling.{fills_calm}
 use Rattle.segindex.proofs.Linking.{linked_by}
 use Rattle.segindex.proofs.Places.{same_position, chain_later}
 use Rattle.segindex.proofs.Rising.{earlier_later}
-use Rattle.segindex.proofs.UnderBit.{moved_bucket, moved_bit, moved_at}
+use Rattle.segindex.proofs.UnderBit.{moved_bucket, moved_bit, moved_at, did_acts}
 
 -- ---- what stays so while the row is written
 
@@ -85,10 +84,7 @@ module _ (b : Board) (request : Request) (target : Target) (segment row : ℕ) (
     home = bucket_of b.shape key
 
     linked_bucket : bucket_after b.shape (trace r) home ≡ acts (linked_by b request segment row target.place q) (bucket_after b.shape (trace q) home)
-    linked_bucket =
-        let e = linked_by b request segment row target.place q in
-        ap (λ h. bucket_after b.shape h home) d.now ∙ (cond-true (eqb home home) (acts e (bucket_after b.shape (d.others ++ trace q) home)) (bucket_after b.shape (d.others ++ trace q) home) (eq-eqb home home refl)
-        ∙ ap (acts e) (quiet b.shape d.others (trace q) (number q) home d.before d.none clean.bit.1))
+    linked_bucket = did_acts b (linked_by b request segment row target.place q) q r home d (eq-eqb home home refl) clean.bit
 
     -- what is so once the row is counted as used
     pub has_written : (s : Pass) → s.seat ≡ r.seat → HasWritten b s home

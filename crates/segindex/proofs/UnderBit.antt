@@ -1,5 +1,5 @@
 -- While a pass has a bucket's bit, nothing happens in the bucket but by its own steps.
-use Rattle.std.proofs.Common.{◌≡◌, ℕ, eqb, List, [], ◌∷◌, ◌++◌, Some, refl, sym, ap, ◌∙◌, subst, ⊎_elim}
+use Rattle.std.proofs.Common.{◌≡◌, ℕ, true, eqb, List, [], ◌∷◌, ◌++◌, Some, refl, sym, ap, ◌∙◌, subst, ⊎_elim}
 use Rattle.std.proofs.lemmas.Bool.{cases_Bool, cond-true, cond-false, eq-eqb, false≢true}
 use Rattle.segword.specs.declared.shape.Shape.{Shape}
 use Rattle.segmodel.specs.Places.{bucket_of}
@@ -10,11 +10,11 @@ use Rattle.segcore.specs.Event as event
 use Rattle.segcore.specs.Bucket.{bucket_at, is, acts, bucket_after}
 use Rattle.segcore.specs.Lawful.{NoneAt, IsLawful}
 use Rattle.segcore.specs.Kind.{HasBit}
-use Rattle.segcore.proofs.Quiet.{quiet_none, same_at}
+use Rattle.segcore.proofs.Quiet.{quiet, quiet_none, same_at}
 use Rattle.segbase.specs.declared.board.Board.{Board}
 use Rattle.segbase.specs.declared.pass.Pass.{Pass}
 use Rattle.segbase.specs.Traces.{own_of}
-use Rattle.segbase.specs.Passes.{number, trace, seen, Moved}
+use Rattle.segbase.specs.Passes.{number, trace, seen, Moved, Did}
 
 -- events none of which is of the bucket leave it
 pub unchanged : (z : Shape) (more h : List Event) (b : ℕ) → NoneAt z b more → bucket_after z (more ++ h) b ≡ bucket_after z h b
@@ -58,3 +58,9 @@ moved_bit b own p q bucket m bit none = (bit.0, ap (λ u. u.holder) (moved_bucke
 pub moved_at : (b : Board) (own : List Event) (p q : Pass) (key : List ℕ) → Moved b own p q → HasBit b.shape (trace p) (number p) (bucket_of b.shape key) → NoneAt b.shape (bucket_of b.shape key) own → IsSameAt b.shape (after b.shape (seen p)) (after b.shape (seen q)) key
 moved_at b own p q key m bit none =
     subst (λ h. IsSameAt b.shape (after b.shape (seen p)) (after b.shape (event.seen h)) key) (sym m.goes_on) (unchanged_at b.shape m.more (trace p) key (moved_none b own p q (bucket_of b.shape key) m bit none))
+
+-- a step of the pass's own in the bucket acts on what it was before
+pub did_acts : (b : Board) (e : Event) (q r : Pass) (bucket : ℕ) → Did b (e ∷ []) q r → is (bucket_at b.shape e) bucket ≡ true → HasBit b.shape (trace q) (number q) bucket → bucket_after b.shape (trace r) bucket ≡ acts e (bucket_after b.shape (trace q) bucket)
+did_acts b e q r bucket d here bit =
+    let before = bucket_after b.shape (d.others ++ trace q) bucket in
+    ap (λ h. bucket_after b.shape h bucket) d.now ∙ (cond-true (is (bucket_at b.shape e) bucket) (acts e before) before here ∙ ap (acts e) (quiet b.shape d.others (trace q) (number q) bucket d.before d.none bit.1))

@@ -31,11 +31,11 @@ use Rattle.segindex.specs.Quiet.{IsQuiet}
 use Rattle.segindex.specs.Calls.{memo, GoesOn}
 use Rattle.segindex.specs.Answers.{IsWriteAnswer, Writes, UsesRow}
 use Rattle.segindex.specs.Taking.{HasCleanBit}
-use Rattle.segindex.specs.Writing.{IsTarget, HasNoWord, Finds}
+use Rattle.segindex.specs.Writing.{IsTarget, own_word, Finds}
 use Rattle.segindex.specs.Storing.{TookToWrite, IsNextRow, Requests, Stores}
-use Rattle.segindex.specs.Refusing.{request_of, has_key, IsToldBy, reply_now, Refuses}
+use Rattle.segindex.specs.Refusing.{request_of, IsToldBy, reply_now, Refuses}
 use Rattle.segindex.proofs.Places.{idles_then, idle_bucket}
-use Rattle.segindex.proofs.Refused.{asks, has_where, adds_absent, refused_goes_on, refused_answer}
+use Rattle.segindex.proofs.Refused.{asks, own_where, adds_absent, refused_goes_on, refused_answer}
 use Rattle.segindex.proofs.Sets.{found_clean, found_plain, found_keeps, may_free, full_goes_on, full_answer, stored_goes_on, stored_answer}
 use Rattle.segindex.proofs.Storing.{target_later}
 use Rattle.segindex.proofs.UnderBit.{moved_at}
@@ -80,8 +80,8 @@ module _ (b : Board) (w : When) (request : Request) (key value words : List ℕ)
   found_it = subst (λ x. Finds b x found f) (copied ∙ sym key_is) finds
 
   -- what the refusal is told from
-  pub may_refuse : b.shape.first_version < 2 ^ 32 → (has : Bool) → has ≡ has_key found → IsPassOf b f × (b.shape.first_version < 2 ^ 32 × (HasCleanBit b f bucket × (bucket ≡ k × (has ≡ is_some (present (after b.shape (seen f)) (key_of request)) × request ≡ request_of w (key_of request) (value_of request)))))
-  may_refuse few has is = (search.moved.pass, (few, (clean, (at_home, (is ∙ has_where b (key_of request) found f search.moved.pass found_it, (asks w key value request asked).2)))))
+  pub may_refuse : b.shape.first_version < 2 ^ 32 → (has : Bool) → has ≡ is_some (own_word found) → IsPassOf b f × (b.shape.first_version < 2 ^ 32 × (HasCleanBit b f bucket × (bucket ≡ k × (has ≡ is_some (present (after b.shape (seen f)) (key_of request)) × request ≡ request_of w (key_of request) (value_of request)))))
+  may_refuse few has is = (search.moved.pass, (few, (clean, (at_home, (is ∙ own_where b (key_of request) found f search.moved.pass found_it, (asks w key value request asked).2)))))
 
   module _ (g : Pass) (refusal : Option WriteAnswer) (looks : Idles b f g) (told : IsToldBy (reply_now b g request) refusal) where
     idle : Idles b q g

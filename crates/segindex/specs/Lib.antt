@@ -10,6 +10,7 @@ pub mod Scanning
 pub mod Storing
 pub mod Refusing
 pub mod Growing
+pub mod Telling
 pub mod Evicting
 pub mod Unlinking
 pub mod Gets

@@ -1,5 +1,5 @@
 -- The word of a key's chain that a write of the key changes.
-use Rattle.std.specs.Prelude.{◌≡◌, ◌≢◌, ℕ, ◌+◌, ◌<◌, ◌≤◌, ◌⊎◌, List, true, is_some, Option, Some, None, MatchOption}
+use Rattle.std.specs.Prelude.{◌≡◌, ◌≢◌, ℕ, ◌+◌, ◌<◌, ◌≤◌, ◌==◌, ◌⊎◌, List, true, is_some, Option, Some, None, MatchOption, if◌then◌else◌}
 use Rattle.segword.specs.declared.shape.Shape.{Shape}
 use Rattle.segword.specs.ChainWord.{chain_word}
 use Rattle.segword.specs.SameItem.{IsSameItem}
@@ -48,6 +48,11 @@ pub record HasNoWord (b : Board) (key : List ℕ) (p : Pass) : Type 0 where
 
 abbrev pub Finds : Board → List ℕ → Option Target → Pass → Type 0
 Finds b key target p = MatchOption target (HasNoWord b key p) (λ found. IsTarget b key found p)
+
+-- the key's own word, where a search found it, and not one that is free for the key
+abbrev pub own_word : Option Target → Option Target
+own_word None = None
+own_word (Some target) = if target.word == 0 then None else Some target
 
 -- of the words of a search so far the first empty one, with one word more
 abbrev pub Updates : Target → Option Target → Option Target → Type 0

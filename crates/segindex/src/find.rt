@@ -3,7 +3,7 @@ ghost use Rattle.std.specs.Prelude.{◌≡◌, ◌≤◌, ◌<◌, ◌↔◌, Is
 ghost use Rattle.segmodel.specs.Places.{bucket_of, tag_of};
 ghost use Rattle.segcore.specs.Bucket.{bucket_after};
 ghost use Rattle.segcore.specs.Kind.{HasBit};
-ghost use Rattle.segindex.specs.Refusing.{has_key};
+ghost use Rattle.segindex.specs.Writing.{own_word};
 
 use crate::index::Index;
 use segbase::{Pass, Place};
@@ -39,11 +39,14 @@ impl Target {
     }
 }
 
-// Whether a search found the key itself.
-pub(crate) fn has_key(found: Option<Target>) -> bool
-    ensures { result ≡ has_key found }
+// The key's own word, where a search found it, and not a word that is free for the key.
+pub(crate) fn own_word(found: Option<Target>) -> Option<Target>
+    ensures { result ≡ own_word found }
 {
-    matches!(found, Some(target) if target.word != 0)
+    match found {
+        Some(target) if target.word != 0 => Some(target),
+        _ => None,
+    }
 }
 
 impl Index {

@@ -1,8 +1,15 @@
 //! Laws of quiet passes, beside what the calls say. These functions do nothing: their contracts are the theorems.
-ghost use Rattle.std.specs.Prelude.{◌≡◌, ◌≢◌, ℕ, ◌+◌, ◌*◌, ◌<◌, ◌≤◌, ◌↔◌, nat_lt, is_some, IsSome, List, Some};
+ghost use Rattle.std.specs.Prelude.{◌≡◌, ◌≢◌, ℕ, ◌+◌, ◌*◌, ◌^◌, ◌<◌, ◌≤◌, ◌↔◌, nat_lt, is_some, IsSome, List, Some};
+ghost use Rattle.segmodel.specs.declared.request.Request.{Request};
+ghost use Rattle.segmodel.specs.declared.request.Request.TheVariants.{Cas, Delete};
+ghost use Rattle.segmodel.specs.declared.request.Reply.{Reply};
+ghost use Rattle.segmodel.specs.declared.answer.WriteAnswer.{WriteAnswer};
+ghost use Rattle.segmodel.specs.declared.answer.DeleteAnswer.{DeleteAnswer};
+ghost use Rattle.segmodel.specs.declared.answer.GetsAnswer.TheVariants.{Found};
 ghost use Rattle.segmodel.specs.Places.{owner};
 ghost use Rattle.segmodel.specs.Cache.{keys_in};
-ghost use Rattle.segmodel.specs.History.{IsLegal, after, stirred};
+ghost use Rattle.segmodel.specs.History.{Begins, IsLegal, after, stirred};
+ghost use Rattle.segmodel.specs.Serving.{reply_of_write, reply_of_delete};
 ghost use Rattle.segcore.specs.Mark.{entries, chained_to, linked_in};
 ghost use Rattle.segcore.specs.Segment.{inside};
 ghost use Rattle.segcore.specs.Lawful.{IsSegment};
@@ -13,8 +20,10 @@ ghost use Rattle.segbase.specs.Plain.{state_of, used_of, locked_of};
 ghost use Rattle.segindex.specs.declared.index.Index.{Index};
 ghost use Rattle.segindex.specs.Index.{board_of, shape_of};
 ghost use Rattle.segindex.specs.Quiet.{IsQuiet};
-ghost use Rattle.segindex.specs.Answers.{IsBusy, NoneSince};
+ghost use Rattle.segindex.specs.Answers.{IsBusy, NoneSince, Writes, Deletes};
+ghost use Rattle.segindex.specs.Gets.{IsGetsAnswer};
 ghost use Rattle.segindex.specs.Served.{StartsAlone, GetIsServed, GetsIsServed, WriteIsServed, DeleteIsServed, EvictIsServed, RefillIsServed, LockIsServed, UnlockIsServed, HoldIsServed, HeldIsServed, ReleaseIsServed, NothingIsHeld};
+ghost use Rattle.segindex.specs.Telling.{WasTold, cas_reply};
 
 /// What a quiet pass has seen is a history of a cache of one thread, with marks. It knows just its own segments, and of their rows those are used that an item was linked to. No entry came into the bucket that it has locked. Seven keys of a bucket stand at most, and six more for each overflow bucket that joined its chain, and no more of these joined than there are.
 pub fn quiet_pass()
@@ -53,4 +62,22 @@ pub fn one_pass_is_served()
     ensures held { HeldIsServed }
     ensures release { ReleaseIsServed }
     ensures nothing { NothingIsHeld }
+{}
+
+/// A reply to a write or a delete is that of a cache of one thread at one moment of the call, at which its entry came into the history.
+pub fn replies_at_a_moment()
+    ensures writes { (index : Index) (before now : Pass) (request : Request) (told : WriteAnswer) (said : Reply) → Writes (board_of index) request told before now → reply_of_write told ≡ Some said
+        → WasTold (shape_of index) (number before) request said (seen before) (seen now) }
+    ensures deletes { (index : Index) (before now : Pass) (key : List ℕ) (told : DeleteAnswer) (said : Reply) → Deletes (board_of index) key told before now → reply_of_delete told ≡ Some said
+        → WasTold (shape_of index) (number before) (Delete key) said (seen before) (seen now) }
+{}
+
+/// A cas of a key with the version that a gets gave, entered later, is NotFound where the key is absent then; else it is Exists exactly where the writes of its bucket differ, modulo 2^32, at the moments of the two; else Stored. It is entered later than the gets where its pass had seen by then all that the gets had seen.
+pub fn cas_fails_where_written()
+    ensures entered_later { (index : Index) (reader reader_now before now : Pass) (key read value : List ℕ) (version : ℕ) (told : WriteAnswer) (said : Reply) → (shape_of index).first_version < 2 ^ 32
+        → (got : IsGetsAnswer (shape_of index) key (Found read version) reader reader_now) → Writes (board_of index) (Cas key value version) told before now → reply_of_write told ≡ Some said
+        → (was : WasTold (shape_of index) (number before) (Cas key value version) said (seen before) (seen now)) × (Begins got.0 was.1.0 → said ≡ cas_reply (shape_of index) key got.0 was.1.0) }
+    ensures called_later { (index : Index) (reader reader_now before now : Pass) (key read value : List ℕ) (version : ℕ) (told : WriteAnswer) (said : Reply) → (shape_of index).first_version < 2 ^ 32
+        → (got : IsGetsAnswer (shape_of index) key (Found read version) reader reader_now) → Begins (seen reader_now) (seen before) → Writes (board_of index) (Cas key value version) told before now → reply_of_write told ≡ Some said
+        → (was : WasTold (shape_of index) (number before) (Cas key value version) said (seen before) (seen now)) × (said ≡ cas_reply (shape_of index) key got.0 was.1.0) }
 {}

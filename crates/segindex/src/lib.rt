@@ -2,6 +2,7 @@
 #![tactic(auto)]
 
 mod bucket;
+mod delete;
 mod evict;
 mod find;
 mod get;
@@ -20,5 +21,7 @@ mod write;
 pub use bucket::LockAnswer;
 pub use hold::{Hold, HoldAnswer, hold_stays};
 pub use index::Index;
-pub use laws::{one_pass, one_pass_is_served, quiet_pass};
+pub use laws::{
+    cas_fails_where_written, one_pass, one_pass_is_served, quiet_pass, replies_at_a_moment,
+};
 pub use segbase::{MakeFault, Pass};

@@ -11,7 +11,7 @@ ghost use Rattle.segcore.specs.declared.event.Event.TheVariants.{Linked};
 ghost use Rattle.segcore.specs.Lawful.{Fits, IsRefusal};
 ghost use Rattle.segstore.specs.Segments.{KeepsSegments};
 
-use crate::find::{Target, has_key};
+use crate::find::{Target, own_word};
 use crate::index::Index;
 use segbase::Pass;
 use segmodel::WriteAnswer;
@@ -93,7 +93,8 @@ impl Index {
             return WriteAnswer::Busy;
         }
         let found = self.find(pass, bucket, &words, tag);
-        if let Some(refusal) = self.refusal(pass, bucket, has_key(found), when) {
+        let is_present = own_word(found).is_some();
+        if let Some(refusal) = self.refusal(pass, bucket, is_present, when) {
             self.refuse(pass, bucket);
             return refusal;
         }
@@ -116,7 +117,13 @@ impl Index {
     }
 
     // What the cache answers in place of storing. The version is looked at only where the write depends on it.
-    fn refusal(&self, pass: &mut Pass, bucket: u32, is_present: bool, when: When) -> Option<WriteAnswer>
+    fn refusal(
+        &self,
+        pass: &mut Pass,
+        bucket: u32,
+        is_present: bool,
+        when: When,
+    ) -> Option<WriteAnswer>
         ghost request: { Request }
         requires pass { IsPassOf (board_of self.now) pass.old }
         requires versions { (shape_of self.now).first_version < 2 ^ 32 }

@@ -1,6 +1,6 @@
 use Rattle.std.proofs.Common.{◌≡◌, ◌-◌, ◌^◌}
 use Rattle.segindex.specs.Calls.{memo}
-use Rattle.segindex.proofs.Clearing.{Clearing}
+use Rattle.segindex.proofs.Linking.{Retrying, unlink_event}
 use Rattle.segindex.proofs.index.Index.clear.Given as goal
 
 abbrev pub ghost-clear : goal.ghost-clear
@@ -8,7 +8,7 @@ ghost-clear g a = g.left
 
 abbrev pub invariant-loop-found : goal.invariant-loop-found
 invariant-loop-found g l = record {
-  clearing : Clearing l.self.board g.left l.target.place l.old l.fn.pass l.pass;
+  clearing : Retrying l.self.board g.left.0 (unlink_event g.left.0 g.left.1) l.target.place l.old l.fn.pass l.pass;
   plain : l.pass.plain ≡ l.fn.pass.plain;
   memo : memo l.pass ≡ memo l.fn.pass;
 }

@@ -1,6 +1,7 @@
 use Rattle.std.proofs.Common.{◌≡◌, ◌-◌, ◌^◌}
+use Rattle.segmodel.specs.Request.{key_of}
 use Rattle.segindex.specs.Calls.{memo}
-use Rattle.segindex.proofs.Linking.{Linking}
+use Rattle.segindex.proofs.Linking.{Retrying, link_event}
 use Rattle.segindex.proofs.index.Index.link.Given as goal
 
 abbrev pub ghost-link : goal.ghost-link
@@ -11,7 +12,7 @@ ghost-replace g a = g.request
 
 abbrev pub invariant-loop-found : goal.invariant-loop-found
 invariant-loop-found g l = record {
-  linking : Linking l.self.board g.request l.item l.target.place l.old l.fn.pass l.pass;
+  linking : Retrying l.self.board (key_of g.request) (link_event g.request l.item.seg l.item.row) l.target.place l.old l.fn.pass l.pass;
   plain : l.pass.plain ≡ l.fn.pass.plain;
   memo : memo l.pass ≡ memo l.fn.pass;
 }

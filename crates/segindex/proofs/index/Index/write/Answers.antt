@@ -1,4 +1,4 @@
-use Rattle.std.proofs.Common.{rules, ◌≡◌, ◌%◌, Some, None, refl, sym, ap, ◌∙◌, subst}
+use Rattle.std.proofs.Common.{rules, is_some, ◌≡◌, ◌%◌, Some, None, refl, sym, ap, ◌∙◌, subst}
 use Rattle.std.proofs.lemmas.Bool.{false≢true}
 use Rattle.segword.specs.Bytes.{IsKey}
 use Rattle.segword.specs.Fnv.{tag_from_hash}
@@ -9,7 +9,7 @@ use Rattle.segindex.proofs.index.Index.write.Goals as goal
 pub refusal-requires : goal.refusal-requires
 refusal-requires g c = let b = c.args.self.now.board in let words = c.new-words in let find = c.find-found in
     let home : c.bucket_of-bucket.result ≡ bucket_of b.shape c.args.key.now = c.bucket_of-bucket.ensures ∙ (λ i. c.hash-hash.ensures i % (c.shape.ensures i).buckets) in
-    may_refuse b c.args.when g.request _ _ _ _ c.requires.1 home words.ensures.value _ _ _ _ c.requires.0 c.if-not-take_to_write.ensures.takes find.ensures.idles find.ensures.finds (search rules) c.has_key.result c.has_key.ensures
+    may_refuse b c.args.when g.request _ _ _ _ c.requires.1 home words.ensures.value _ _ _ _ c.requires.0 c.if-not-take_to_write.ensures.takes find.ensures.idles find.ensures.finds (search rules) c.is_some-is_present.result (c.is_some-is_present.ensures ∙ ap is_some c.own_word.ensures)
 
 pub refuse-requires : goal.refuse-requires
 refuse-requires g c = let b = c.args.self.now.board in let words = c.new-words in let find = c.find-found in
@@ -29,8 +29,10 @@ release-requires g c = let b = c.args.self.now.board in let words = c.new-words 
 pub returns-in_default-found : goal.returns-in_default-found
 returns-in_default-found g c = let b = c.args.self.now.board in let words = c.new-words in let find = c.find-found in let step = c.release.ensures.step.1 in
     let home : c.bucket_of-bucket.result ≡ bucket_of b.shape c.args.key.now = c.bucket_of-bucket.ensures ∙ (λ i. c.hash-hash.ensures i % (c.shape.ensures i).buckets) in
-    record { writes = ends_full b c.args.when g.request _ _ _ _ c.requires.1 home words.ensures.value _ _ _ _ c.requires.0 c.if-not-take_to_write.ensures.takes find.ensures.idles find.ensures.finds _ _ c.refusal.ensures.idles c.refusal.ensures.told (λ none. false≢true (c.in-Ok.ensures.no_room.1 none)) _
-        c.in_default-refusal.is c.in_default-found.is c.args.self.now.no_overflow c.release.ensures.did c.release.ensures.free step.plain step.memo }
+    record {
+      writes = ends_full b c.args.when g.request _ _ _ _ c.requires.1 home words.ensures.value _ _ _ _ c.requires.0 c.if-not-take_to_write.ensures.takes find.ensures.idles find.ensures.finds _ _ c.refusal.ensures.idles c.refusal.ensures.told (λ none. false≢true (c.in-Ok.ensures.no_room.1 none)) _
+          c.in_default-refusal.is c.in_default-found.is c.args.self.now.no_overflow c.release.ensures.did c.release.ensures.free step.plain step.memo;
+    }
 
 pub store-requires : goal.store-requires
 store-requires g c = let b = c.args.self.now.board in let words = c.new-words in let find = c.find-found in
@@ -42,5 +44,7 @@ store-requires g c = let b = c.args.self.now.board in let words = c.new-words in
 pub returns : goal.returns
 returns g c = let b = c.args.self.now.board in let words = c.new-words in let find = c.find-found in let step = c.release-2.ensures.step.1 in let s = c.store.ensures in
     let home : c.bucket_of-bucket.result ≡ bucket_of b.shape c.args.key.now = c.bucket_of-bucket.ensures ∙ (λ i. c.hash-hash.ensures i % (c.shape.ensures i).buckets) in
-    record { writes = ends_stored b c.args.when g.request _ _ _ _ c.requires.1 home words.ensures.value _ _ _ _ c.requires.0 c.if-not-take_to_write.ensures.takes find.ensures.idles find.ensures.finds _ _ c.refusal.ensures.idles c.refusal.ensures.told (λ none. false≢true (c.in-Ok.ensures.no_room.1 none))
-        c.in-Ok.segment c.in-Ok.row _ _ s.stores s.segments s.uses c.release-2.ensures.did c.release-2.ensures.free step.plain step.memo }
+    record {
+      writes = ends_stored b c.args.when g.request _ _ _ _ c.requires.1 home words.ensures.value _ _ _ _ c.requires.0 c.if-not-take_to_write.ensures.takes find.ensures.idles find.ensures.finds _ _ c.refusal.ensures.idles c.refusal.ensures.told (λ none. false≢true (c.in-Ok.ensures.no_room.1 none))
+          c.in-Ok.segment c.in-Ok.row _ _ s.stores s.segments s.uses c.release-2.ensures.did c.release-2.ensures.free step.plain step.memo;
+    }
