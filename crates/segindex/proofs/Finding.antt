@@ -1,8 +1,9 @@
 -- One turn of the search for a key's word: the word is looked at, and its row is read where it may be the key's.
-use Rattle.std.proofs.Common.{◌≡◌, ℕ, ◌+◌, ◌-◌, ◌*◌, ◌<◌, ◌≤◌, List, [], Option, Some, None, sym, ap, ◌∙◌, subst, inr, arith}
+use Rattle.std.proofs.Common.{◌≡◌, ℕ, ◌+◌, ◌-◌, ◌*◌, ◌/◌, ◌<◌, ◌≤◌, eqb, List, [], Option, Some, None, refl, sym, ap, ◌∙◌, subst, inr, arith}
+use mir.Val.{bool_byte}
 use Rattle.segword.specs.SameItem.{IsSameItem}
 use Rattle.segmodel.specs.Places.{bucket_of}
-use Rattle.segcore.specs.Bucket.{bucket_after}
+use Rattle.segcore.specs.Bucket.{Slot, item, bucket_after}
 use Rattle.segcore.specs.Kind.{HasBit}
 use Rattle.segcore.specs.Word.{word as word_at, IsItemAt}
 use Rattle.segbase.specs.declared.board.Board.{Board}
@@ -13,10 +14,11 @@ use Rattle.segbase.specs.Spots.{cell_at, position}
 use Rattle.segbase.specs.Steps.{HasItemOf, IsReadAs}
 use Rattle.segstore.specs.Refilling.{Idles}
 use Rattle.segindex.specs.declared.find.Target.{Target}
-use Rattle.segindex.specs.Writing.{IsInChain, IsTarget, Updates, IsNext, Finds}
+use Rattle.segindex.specs.Writing.{IsInChain, IsEarlier, IsTarget, Updates, IsNext, Finds}
+use Rattle.segindex.specs.Growing.{IsChainEnd, Searches, or_end}
 use Rattle.segindex.proofs.Places.{idles_then, idle_bucket, idle_bit, same_position}
-use Rattle.segindex.proofs.Searching.{Searching, searching_later, reads_later, passes}
-use Rattle.segindex.proofs.Onward.{onward, ended}
+use Rattle.segindex.proofs.Searching.{Searching, Passed, IsFirstEmpty, searching_later, reads_later, passes}
+use Rattle.segindex.proofs.Onward.{onward, last_item, ends_at, ended}
 use Rattle.segindex.proofs.Rising.{word_rose}
 
 module _ (b : Board) (key : List ℕ) (first p q : Pass) (place : Place) (word : ℕ) (empty : Option Target) (s : Searching b key first p place empty)
@@ -50,12 +52,16 @@ module _ (b : Board) (key : List ℕ) (first p q : Pass) (place : Place) (word :
     reads_now : IsReadAs ((bucket_after b.shape (trace r) k).items (position b.shape (trace r) place)) word
     reads_now = reads_later b key first q r read bit_looked place word looked.chain reads_looked
 
+    -- the word is one that an item of the place had
+    earlier_now : (a : Slot) → (bucket_after b.shape (trace r) k).items (position b.shape (trace r) place) ≡ item a → word ≡ word_at b.shape (trace q) (cell_at b.shape place) → IsEarlier b place word r
+    earlier_now a here is =
+        let before = (λ t. (sym (idle_bucket b q r k read bit_looked) t).items (sym (same_position b [] q r k place read.moved looked.chain) t)) ∙ here in
+        let rose = word_rose b [] q r k place read.moved bit_looked tt looked.chain a looked.idles.moved.pass.valid looked.idles.moved.pass.lawful before in
+        subst (λ w. IsSameItem w (word_at b.shape (trace r) (cell_at b.shape place)) × (w ≤ word_at b.shape (trace r) (cell_at b.shape place))) (sym is) rose
+
     -- it is the key's
     pub is_target : HasItemOf b key place r → word ≡ word_at b.shape (trace q) (cell_at b.shape place) → IsTarget b key (record { place = place; word = word }) r
-    is_target has is =
-        let here = (λ t. (sym (idle_bucket b q r k read bit_looked) t).items (sym (same_position b [] q r k place read.moved looked.chain) t)) ∙ has.1 in
-        let rose = word_rose b [] q r k place read.moved bit_looked tt looked.chain has.0 looked.idles.moved.pass.valid looked.idles.moved.pass.lawful here in
-        record { chain = now.chain; is = inr (has, subst (λ w. IsSameItem w (word_at b.shape (trace r) (cell_at b.shape place)) × (w ≤ word_at b.shape (trace r) (cell_at b.shape place))) (sym is) rose) }
+    is_target has is = record { chain = now.chain; is = inr (has, earlier_now has.0 has.1 is) }
 
     -- it isn't, and the chain goes on or ends
     module _ (new : Option Target) (following : Option Place) (other : ¬ (HasItemOf b key place r)) (updates : Updates (record { place = place; word = word }) empty new) (next : IsNext b.shape place word following) where
@@ -71,5 +77,38 @@ module _ (b : Board) (key : List ℕ) (first p q : Pass) (place : Place) (word :
           let still = same_position b [] q r k place read.moved looked.chain in
           omega (arith, on.1, within, long, there, still)
 
-      pub finds : following ≡ None → Finds b key new r
-      finds same = ended b key first r place word new (passes b key first r place word reads_now empty new now other updates) reads_now following next same
+      -- the depth of the next place
+      pub deeper : (buckets : ℕ) (after : Place) → buckets ≡ position b.shape (trace p) place / 8 + 1 → following ≡ Some after → buckets + bool_byte (eqb after.word 1) ≡ position b.shape (trace r) after / 8 + 1
+      deeper buckets after deep same =
+          let on = onward b key first r place word new (passes b key first r place word reads_now empty new now other updates) reads_now following after next same in
+          let there = same_position b [] p q k place look.moved s.chain in
+          let still = same_position b [] q r k place read.moved looked.chain in
+          let e : position b.shape (trace r) after / 8 ≡ position b.shape (trace p) place / 8 + bool_byte (eqb after.word 1) = on.2 ∙ ap (λ n. n / 8 + bool_byte (eqb after.word 1)) (still ∙ there) in omega (arith, deep, e)
+
+      -- or it ends here
+      abbrev all_passed : Passed b key first r place new
+      all_passed = passes b key first r place word reads_now empty new now other updates
+
+      last_is : (buckets : ℕ) → following ≡ None → new ≡ None → word ≡ word_at b.shape (trace q) (cell_at b.shape place) → buckets ≡ position b.shape (trace p) place / 8 + 1 → IsChainEnd b k (record { place = place; word = word; buckets = buckets }) r
+      last_is buckets same none is deep =
+          let ends = ends_at b key first r place word new all_passed reads_now following next same in
+          let item_is = last_item b key first r place word new all_passed reads_now (subst (λ o. IsFirstEmpty b key (position b.shape (trace r) place + 1) o r) none all_passed.empty_is) ends in
+          let still = same_position b [] p q k place look.moved s.chain in let later = same_position b [] q r k place read.moved looked.chain in record {
+            last = record {
+              chain = now.chain;
+              ends = ends;
+              named = item_is.0;
+              here = item_is.1;
+              is = item_is.2;
+              earlier = earlier_now item_is.0 (ap (bucket_after b.shape (trace r) k).items ends ∙ item_is.1) is;
+            };
+            buckets = deep ∙ (let e : position b.shape (trace p) place ≡ 8 * (bucket_after b.shape (trace r) k).chained + 7 = sym (later ∙ still) ∙ ends in omega (arith, e));
+          }
+
+      pub found_end : (buckets : ℕ) → following ≡ None → word ≡ word_at b.shape (trace q) (cell_at b.shape place) → buckets ≡ position b.shape (trace p) place / 8 + 1 → Searches b key (or_end (record { place = place; word = word; buckets = buckets }) new) r
+      found_end buckets same is deep = with_end new refl (ended b key first r place word new all_passed reads_now following next same)
+        where
+          with_end : (o : Option Target) → new ≡ o → Finds b key o r → Searches b key (or_end (record { place = place; word = word; buckets = buckets }) o) r
+          with_end None none found = (found, last_is buckets same none is deep)
+          with_end (Some target) some found = found
+

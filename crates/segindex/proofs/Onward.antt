@@ -1,6 +1,7 @@
 -- A search goes on along its chain, or comes to the end of it.
-use Rattle.std.proofs.Common.{◌≡◌, ℕ, ◌+◌, ◌-◌, ◌*◌, ◌/◌, ◌^◌, ◌<◌, ◌≤◌, Bool, true, false, cond, ltb, List, Option, Some, None, refl, sym, ap, ◌∙◌, subst, inl, ⊎_elim, arith}
-use Rattle.std.proofs.lemmas.Bool.{cases_lt, cond-false, le-ltb}
+use Rattle.std.proofs.Common.{◌≡◌, ◌≢◌, ℕ, ◌+◌, ◌-◌, ◌*◌, ◌/◌, ◌^◌, ◌<◌, ◌≤◌, Bool, true, false, cond, eqb, ltb, List, Option, Some, None, refl, sym, ap, ◌∙◌, subst, inl, ⊎_elim, arith}
+use Rattle.std.proofs.lemmas.Bool.{cases_lt, ne_eqb}
+use mir.Val.{bool_byte}
 use Rattle.std.proofs.lemmas.Option.{none-some, same_Some}
 use Rattle.std.specs.Prelude.{MatchOption}
 use Rattle.segword.specs.declared.shape.Shape.{Shape}
@@ -11,7 +12,8 @@ use Rattle.segmodel.specs.Cache.{standing}
 use Rattle.segmodel.specs.History.{after}
 use Rattle.segcore.specs.declared.event.Event.{Event}
 use Rattle.segcore.specs.declared.cell.Cell.TheVariants.{OfBucket, OfOverflow}
-use Rattle.segcore.specs.Bucket.{Content, nothing, item, next, copy, Bucket, IsPosition, bucket_after}
+use Rattle.segcore.specs.Bucket.{Slot, Content, nothing, item, next, copy, Bucket, last, IsPosition, bucket_after}
+use Rattle.segcore.specs.ItemWord.{IsWordOf}
 use Rattle.segcore.specs.Lawful.{IsLawful}
 use Rattle.segcore.specs.Overflow.{home, home_of}
 use Rattle.segcore.specs.Word.{IsAt, IsItemAt}
@@ -83,7 +85,7 @@ module _ (b : Board) (key : List ℕ) (first p : Pass) (place : Place) (word : �
   n = position b.shape (trace p) place
 
   abbrev IsOn : Place → Type 0
-  IsOn after = Searching b key first p after empty × (n < position z (trace p) after)
+  IsOn after = Searching b key first p after empty × (n < position z (trace p) after) × (position z (trace p) after / 8 ≡ n / 8 + bool_byte (eqb after.word 1))
 
   is : IsPassOf b p
   is = passed.idles.moved.pass
@@ -102,8 +104,8 @@ module _ (b : Board) (key : List ℕ) (first p : Pass) (place : Place) (word : �
       first_empty None e = λ m lt here. ⊎_elim (λ less. e m less here) (λ le. absurd (gap m le lt here)) (cases_lt m (n + 1))
       first_empty (Some target) e = e
 
-  on_to : (after : Place) (n' : ℕ) → IsPlace z after → IsPosition u n' → IsAt (trace p) k n' (cell_at z after) → n < n' → ((m : ℕ) → n + 1 ≤ m → m < n' → ¬ (IsPosition u m)) → IsOn after
-  on_to after n' within here at lt gap =
+  on_to : (after : Place) (n' : ℕ) → IsPlace z after → IsPosition u n' → IsAt (trace p) k n' (cell_at z after) → n < n' → n' / 8 ≡ n / 8 + bool_byte (eqb after.word 1) → ((m : ℕ) → n + 1 ≤ m → m < n' → ¬ (IsPosition u m)) → IsOn after
+  on_to after n' within here at lt deep gap =
       let there : position z (trace p) after ≡ n' = position_at z (trace p) k n' after at in
       let below = none_between n' gap in (
         record {
@@ -113,18 +115,19 @@ module _ (b : Board) (key : List ℕ) (first p : Pass) (place : Place) (word : �
           empty_is = subst (λ i. IsFirstEmpty b key i empty p) (sym there) below.1;
         },
         subst (λ i. n < i) (sym there) lt,
+        subst (λ i. i / 8 ≡ n / 8 + bool_byte (eqb after.word 1)) (sym there) deep,
       )
 
   inner : place.word < 7 → IsOn (next_word place)
   inner lt = let d = depth in let t = passed.chain.in_table in let here = passed.chain.at.0 in
       on_to (next_word place) (n + 1) (t.0, omega arith, omega (arith, lt)) (omega (arith, here.0, d.1, lt), (let e : n + 1 ≡ 8 * d.0 + (place.word + 1) = omega (arith, d.1) in omega (arith, e, lt)))
-      (next_at z (trace p) k n place (ltb place.bucket z.buckets) lt passed.chain.at.1) (omega arith) (λ m le less here'. omega (arith, le, less))
+      (next_at z (trace p) k n place (ltb place.bucket z.buckets) lt passed.chain.at.1) (omega arith) (subst (λ t. (n + 1) / 8 ≡ n / 8 + bool_byte t) (sym (ne_eqb (place.word + 1) 1 (λ e. omega (arith, e, t.1)))) (omega (arith, d.1, lt))) (λ m le less here'. omega (arith, le, less))
 
   leads : (after : Place) → LeadsTo z word after → IsOn after
   leads after to =
       let on = leads_to z (trace p) k n word to.0 (u.items n) is.lawful ((chain_of z (trace p) is.lawful k).contents n) reads to.1 to.2 in
       let in_table = home_in z (trace p) to.0 (home k (on.0 + 1)) is.lawful on.3 in
-      subst IsOn (sym to.3) (on_to (first_word z to.0) (8 * on.0 + 9) (omega (arith, in_table), omega arith, omega arith) (omega (arith, on.1), omega arith) (first_at z (trace p) k on.0 to.0 on.3) (omega (arith, on.2))
+      subst IsOn (sym to.3) (on_to (first_word z to.0) (8 * on.0 + 9) (omega (arith, in_table), omega arith, omega arith) (omega (arith, on.1), omega arith) (first_at z (trace p) k on.0 to.0 on.3) (omega (arith, on.2)) (omega (arith, on.2))
       (λ m le less here'. let x = here'.1 in omega (arith, on.2, le, less, x)))
 
   pub onward : (following : Option Place) (after : Place) → IsNext z place word following → following ≡ Some after → IsOn after
@@ -138,9 +141,33 @@ module _ (b : Board) (key : List ℕ) (first p : Pass) (place : Place) (word : �
   ends : 7 ≤ place.word → LeadsNowhere word → u.chained ≤ depth.0
   ends le nowhere = let w = passed.chain.in_table in chain_ends z (trace p) k n depth.0 word is.valid is.lawful (omega (arith, depth.1, le, w.2)) reads nowhere
 
+  past_inner : (following : Option Place) → IsNext z place word following → following ≡ None → 7 ≤ place.word
+  past_inner following next_is same = ⊎_elim (λ lt. absurd (none-some (next_word place) (sym same ∙ next_is.inner lt))) (λ x. x) (cases_lt place.word 7)
+
+  leads_nowhere : (following : Option Place) → IsNext z place word following → following ≡ None → LeadsNowhere word
+  leads_nowhere following next_is same = subst (λ o. MatchOption o (LeadsNowhere word) (LeadsTo z word)) same (next_is.last (past_inner following next_is same))
+
   absent_if : (o : Option Cached) → ((x : Cached) → o ≡ Some x → ⊥) → o ≡ None
   absent_if None none = refl
   absent_if (Some x) none = absurd (none x refl)
+
+  -- no word was found empty, and an item stands in the last one
+  pub last_item : ((m : ℕ) → m < n + 1 → IsPosition u m → u.items m ≢ nothing) → n ≡ last u → (named : Slot) × (u.items (last u) ≡ item named) × IsWordOf named word
+  last_item none ends =
+      let lt : last u < n + 1 = omega (arith, ends) in
+      item_of (u.items (last u)) refl (subst (λ m. IsReadAs (u.items m) word) ends reads) ((chain_of z (trace p) is.lawful k).contents (last u)) (none (last u) lt (subst (IsPosition u) ends passed.chain.at.0))
+    where
+      item_of : (x : Content) → u.items (last u) ≡ x → IsReadAs x word → IsContent (trace p) k u (last u) x → x ≢ nothing → (named : Slot) × (u.items (last u) ≡ item named) × IsWordOf named word
+      item_of nothing here read at some = absurd (some refl)
+      item_of (item a) here read at some = (a, here, read.0)
+      item_of (next m) here read at some = absurd (omega (arith, at.1, at.2))
+      item_of (copy w) here read at some = absurd read
+
+  pub ends_at : (following : Option Place) → IsNext z place word following → following ≡ None → n ≡ last u
+  ends_at following next_is same =
+      let le = past_inner following next_is same in
+      let short = ends le (leads_nowhere following next_is same) in
+      let d = depth in let t = passed.chain.in_table in let here = passed.chain.at.0 in omega (arith, d.1, t.2, le, short, here.0)
 
   found_empty : (o : Option Target) → IsFirstEmpty b key (n + 1) o p → standing (after z (passes.seen p)) key ≡ None → ((m : ℕ) → IsPosition u m → m < n + 1) → Finds b key o p
   found_empty None e absent all = record { absent = absent; taken = λ m here. e m (all m here) here }
@@ -148,8 +175,8 @@ module _ (b : Board) (key : List ℕ) (first p : Pass) (place : Place) (word : �
 
   pub ended : (following : Option Place) → IsNext z place word following → following ≡ None → Finds b key empty p
   ended following next_is same =
-      let le : 7 ≤ place.word = ⊎_elim (λ lt. absurd (none-some (next_word place) (sym same ∙ next_is.inner lt))) (λ x. x) (cases_lt place.word 7) in
-      let nowhere = subst (λ o. MatchOption o (LeadsNowhere word) (LeadsTo z word)) same (next_is.last le) in
+      let le = past_inner following next_is same in
+      let nowhere = leads_nowhere following next_is same in
       let short = ends le nowhere in
       let d = depth in
       let all : (m : ℕ) → IsPosition u m → m < n + 1 = λ m here. omega (arith, here.0, short, d.1, le) in

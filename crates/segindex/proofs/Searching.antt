@@ -1,5 +1,5 @@
 -- A search along a chain under the bucket's bit: what it knows of the words that it has passed.
-use Rattle.std.proofs.Common.{◌≡◌, ◌≢◌, ◌⊎◌, ℕ, ◌+◌, ◌-◌, ◌<◌, true, ltb, is_some, List, [], Option, Some, None, refl, sym, ap, ◌∙◌, subst, inl, inr, ⊎_elim, arith}
+use Rattle.std.proofs.Common.{◌≡◌, ◌≢◌, ◌⊎◌, ℕ, ◌+◌, ◌-◌, ◌/◌, ◌<◌, true, ltb, is_some, List, [], Option, Some, None, refl, sym, ap, ◌∙◌, subst, inl, inr, ⊎_elim, arith}
 use Rattle.std.proofs.lemmas.Bool.{cases_eq, cond-true, lt-ltb, false≢true}
 use Rattle.segword.specs.declared.shape.Shape.{Shape}
 use Rattle.segmodel.specs.Places.{bucket_of}
@@ -69,6 +69,10 @@ searching_first b key p bucket of is lt =
       none = λ m a less here. let i = position_of_item z (trace p) (bucket_of z key) m a is.lawful here in absurd (omega (arith, less, one, i.1));
       empty_is = λ m less here. absurd (omega (arith, less, one, here.1));
     }
+
+-- it is in the first bucket of its chain
+pub first_bucket : (z : Shape) (h : List Event) (bucket : ℕ) → bucket < z.buckets → 1 ≡ position z h (record { bucket = bucket; word = 1 }) / 8 + 1
+first_bucket z h bucket lt = ap (λ n. n / 8 + 1) (sym (cond-true (ltb bucket z.buckets) 1 _ (lt-ltb bucket z.buckets lt)))
 
 -- ---- looking leaves what is known
 

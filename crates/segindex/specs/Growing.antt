@@ -17,10 +17,12 @@ use Rattle.segbase.specs.Steps.{depth_to_draw}
 use Rattle.segstore.specs.Refilling.{Idles}
 use Rattle.segindex.specs.declared.find.ChainEnd.{ChainEnd}
 use Rattle.segindex.specs.declared.find.Target.{Target}
+use Rattle.segindex.specs.declared.find.Found.{Found}
+use Rattle.segindex.specs.declared.find.Found.TheVariants.{Word, Full}
 use Rattle.segindex.specs.Calls.{memo}
 use Rattle.segindex.specs.Answers.{CouldGrow}
 use Rattle.segindex.specs.Taking.{HasCleanBit}
-use Rattle.segindex.specs.Writing.{IsInChain, IsEarlier, IsAbsent, IsTarget}
+use Rattle.segindex.specs.Writing.{IsInChain, IsEarlier, IsAbsent, IsTarget, HasNoWord}
 
 -- ---- the end of a chain
 
@@ -41,6 +43,19 @@ pub record IsLast (b : Board) (bucket : ℕ) (place : Place) (word : ℕ) (p : P
 pub record IsChainEnd (b : Board) (bucket : ℕ) (end : ChainEnd) (p : Pass) : Type 0 where
   pub last : IsLast b bucket end.place end.word p
   pub buckets : end.buckets ≡ (bucket_in b bucket p).chained + 1
+
+-- what a search comes to: a word for the key; or the end of the chain, where the key is absent and no word is empty
+abbrev pub Searches : Board → List ℕ → Found → Pass → Type 0
+Searches b key (Word target) p = IsTarget b key target p
+Searches b key (Full end) p = HasNoWord b key p × IsChainEnd b (bucket_of b.shape key) end p
+
+abbrev pub target_of : Found → Option Target
+target_of (Word target) = Some target
+target_of (Full end) = None
+
+abbrev pub or_end : ChainEnd → Option Target → Found
+or_end end None = Full end
+or_end end (Some target) = Word target
 
 -- the bucket whose chain a place is in
 abbrev pub home_at : Board → Place → Pass → ℕ

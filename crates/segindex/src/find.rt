@@ -1,4 +1,4 @@
-//! The word of a key's chain that a write changes, found under the bucket's bit by one pass over the chain.
+//! The word of a key's chain that a write changes, found under the bucket's bit by one pass over the chain, or the end of the chain where there is none.
 ghost use Rattle.std.specs.Prelude.{◌≡◌, ◌≤◌, ◌<◌, ◌↔◌, IsTrue};
 ghost use Rattle.segmodel.specs.Places.{bucket_of, tag_of};
 ghost use Rattle.segcore.specs.Bucket.{bucket_after};
@@ -24,6 +24,13 @@ pub(crate) struct ChainEnd {
     pub(crate) buckets: u32,
 }
 
+/// What a search comes to: a word for the key, or the end of its chain.
+#[derive(Clone, Copy, Drop)]
+pub(crate) enum Found {
+    Word(Target),
+    Full(ChainEnd),
+}
+
 impl Target {
     ghost use Rattle.segindex.specs.Writing.{Updates};
 
@@ -35,6 +42,31 @@ impl Target {
             Some(self)
         } else {
             earlier
+        }
+    }
+}
+
+impl ChainEnd {
+    ghost use Rattle.segindex.specs.Growing.{or_end};
+
+    // The first empty word of a chain that ends here, if it has one.
+    fn or_empty(self, empty: Option<Target>) -> Found
+        ensures { result ≡ or_end self empty }
+    {
+        empty.map_or(Found::Full(self), Found::Word)
+    }
+}
+
+impl Found {
+    ghost use Rattle.segindex.specs.Growing.{target_of};
+
+    // The word for the key, if there is one.
+    pub(crate) fn target(self) -> Option<Target>
+        ensures { result ≡ target_of self }
+    {
+        match self {
+            Found::Word(target) => Some(target),
+            Found::Full(_) => None,
         }
     }
 }
@@ -57,6 +89,7 @@ impl Index {
     ghost use Rattle.segstore.specs.Refilling.{Idles};
     ghost use Rattle.segindex.specs.Index.{board_of, shape_of};
     ghost use Rattle.segindex.specs.Writing.{IsInChain, IsNext, Finds};
+    ghost use Rattle.segindex.specs.Growing.{Searches};
 
     // The key's word; or the first empty one, where the key is absent; or neither.
     pub(crate) fn find(
@@ -73,18 +106,41 @@ impl Index {
         ensures idles { Idles (board_of self.now) pass.old pass.new }
         ensures finds { Finds (board_of self.now) key.now result pass.new }
     {
+        self.search(pass, bucket, key, tag).target()
+    }
+
+    // As `find`, but where there is neither it tells the end of the chain.
+    pub(crate) fn search(&self, pass: &mut Pass, bucket: u32, key: &KeyWords, tag: u16) -> Found
+        requires pass { IsPassOf (board_of self.now) pass.old }
+        requires bucket { bucket ≡ bucket_of (shape_of self.now) key.now }
+        requires tag { tag ≡ tag_of key.now }
+        requires bit { HasBit (shape_of self.now) (trace pass.old) (number pass.old) bucket }
+        ensures idles { Idles (board_of self.now) pass.old pass.new }
+        ensures searches { Searches (board_of self.now) key.now result pass.new }
+    {
         let mut place = Place { bucket, word: 1 };
+        let mut buckets = 1;
         let mut empty = None;
         loop {
             let word = self.board.look(pass, place);
             let target = Target { place, word };
             if self.is_item_of(pass, place, word, key, tag) {
-                return Some(target);
+                return Found::Word(target);
             }
             empty = target.or_earlier(empty);
             match self.next_place(place, word) {
-                Some(next) => place = next,
-                None => return empty,
+                Some(next) => {
+                    buckets += u32::from(next.word == 1);
+                    place = next;
+                }
+                None => {
+                    let end = ChainEnd {
+                        place,
+                        word,
+                        buckets,
+                    };
+                    return end.or_empty(empty);
+                }
             }
         }
     }
