@@ -43,7 +43,7 @@ module _ (b : Board) (p q : Pass) (key : List ℕ) (none : b.shape.overflow ≡ 
         serves_so false (free_here b.shape p key (λ locked. other (is.locked locked))) (
           is_reply ∙ ap Some was_replied,
           as_replied b p q (Wrote (number p) (Delete key) r None) was is.on.quiet answered.0 answered.1 answered.2 keeps (same_widths b p q none was.quiet is.on.quiet)
-          ∙ (sym leaves ∙ ap (λ r. after_reply b.shape (Delete key) r (state_at b.shape p)) was_replied),
+              ∙ (sym leaves ∙ ap (λ r. after_reply b.shape (Delete key) r (state_at b.shape p)) was_replied),
         ),
       )
     where

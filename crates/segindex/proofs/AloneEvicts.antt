@@ -89,6 +89,7 @@ module _ (b : Board) (p q : Pass) (segment count : ℕ) (none : b.shape.overflow
       → filter (λ e. not (is_evicted takes.evictions e.0)) (after b.shape (seen p)).items ≡ filter (λ e. not (goes e)) (after b.shape (seen p)).items
   left_items goes same = filter_alike (λ (e : List ℕ × Cached). is_evicted takes.evictions e.0) goes (after b.shape (seen p)).items
       (each_item (λ e. is_evicted takes.evictions e.0 ≡ goes e) (after b.shape (seen p)).items (sorted-after b.shape (seen p)) same)
+
   cache_left : (goes : List ℕ × Cached → Bool) → ((key : List ℕ) (item : Cached) → standing (after b.shape (seen p)) key ≡ Some item → is_evicted takes.evictions key ≡ goes (key, item))
       → after b.shape (seen q) ≡ (taken_out segment goes (state_at b.shape p)).cache
   cache_left goes same = ap (after b.shape) more ∙ (items_left b.shape (number p) segment (seen p) takes.evictions takes.all

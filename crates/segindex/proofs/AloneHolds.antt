@@ -69,7 +69,7 @@ module _ (b : Board) (p q : Pass) (none : b.shape.overflow ≡ 0) (was : IsAlone
       turned b (turn.Hold key) outcome.Holding p q was on.quiet (counts_still p q was.used same takes.same.segments.used) (
         (λ i. turns.hold_outcome (sym free i) (sym found i)),
         holds_alone takes.same
-        ∙ ap (λ o. record (state_at b.shape p) { held = o }) (ap (option_map item_of) takes.is.holds ∙ (λ i. turns.held_after (sym free i) (sym found i))),
+            ∙ ap (λ o. record (state_at b.shape p) { held = o }) (ap (option_map item_of) takes.is.holds ∙ (λ i. turns.held_after (sym free i) (sym found i))),
       )
   hold_turn key answer.Miss (nothing, gone) already =
       let free : option_map item_of (holding p) ≡ None = ap (option_map item_of) (free_hold answer.Miss already (λ e. cc)) in
@@ -77,7 +77,7 @@ module _ (b : Board) (p q : Pass) (none : b.shape.overflow ≡ 0) (was : IsAlone
       turned_still b (turn.Hold key) outcome.Miss p q was on.quiet nothing (
         (λ i. turns.hold_outcome (sym free i) (sym absent i)),
         left b p q was on.quiet nothing (same_widths b p q none was.quiet on.quiet)
-        ∙ ap (λ o. record (state_at b.shape p) { held = o }) (free ∙ (λ i. turns.held_after (sym free i) (sym absent i))),
+            ∙ ap (λ o. record (state_at b.shape p) { held = o }) (free ∙ (λ i. turns.held_after (sym free i) (sym absent i))),
       )
   hold_turn key answer.Busy (nothing, many) already = absurd (never_stirred b p q key was on nothing many)
   hold_turn key answer.AlreadyHolding same already =

@@ -49,7 +49,7 @@ module _ (b : Board) (p q : Pass) (none : b.shape.overflow ≡ 0) (was : IsAlone
       turned b (turn.Lock key) outcome.Locked p q was on.quiet (counts_still p q was.used (same_seen b p q was on.quiet locks.entries) locks.segments.used) (
         sym (ap turns.lock_outcome free),
         locks_alone b p q none was on locks.entries locks.segments locks.current locks.holding.0
-        ∙ ap (λ o. record (state_at b.shape p) { locked = o }) (locks.locked_of ∙ sym (ap (turns.locked_after (bucket_of b.shape key)) free)),
+            ∙ ap (λ o. record (state_at b.shape p) { locked = o }) (locks.locked_of ∙ sym (ap (turns.locked_after (bucket_of b.shape key)) free)),
       )
   lock_turn key lock.Busy (nothing, busy) already =
       let free = other_answer lock.Busy already (λ e. cc) in
@@ -70,7 +70,7 @@ module _ (b : Board) (p q : Pass) (none : b.shape.overflow ≡ 0) (was : IsAlone
       turned b turn.Unlock outcome.Unlocked p q was on.quiet (counts_still p q was.used (same_seen b p q was on.quiet unlocks.entries) unlocks.segments.used) (
         unlocks_one (locked_of p) was_locked,
         locks_alone b p q none was on unlocks.entries unlocks.segments unlocks.current unlocks.holding.0
-        ∙ ap (λ o. record (state_at b.shape p) { locked = o }) unlocks.locked_of,
+            ∙ ap (λ o. record (state_at b.shape p) { locked = o }) unlocks.locked_of,
       )
   unlock_turn false nothing was_locked =
       let free = none_if (locked_of p) (sym was_locked) in

@@ -135,10 +135,10 @@ module _ (b : Board) (p q : Pass) (segment : ℕ) (none : b.shape.overflow ≡ 0
       by None e = let no : refill.Refilled ≡ refill.NotYours = not_yours_where.1 e in cc
       by (Some is) e =
           let is_told : told ≡ refill.Refilled = of_own is e ∙ refilled_told is (λ used. let no : refill.Refilled ≡ refill.NotEvicted = in_use.1 (e ∙ ap Some used) in cc)
-              (λ evicted. ⊎_elim
-              (λ here. let no : refill.Refilled ≡ refill.Held = held (e ∙ ap Some evicted) here in cc)
-              (λ free. free)
-              (cases_Bool (is_held_in (holding p) segment))) in
+          (λ evicted. ⊎_elim
+          (λ here. let no : refill.Refilled ≡ refill.Held = held (e ∙ ap Some evicted) here in cc)
+          (λ free. free)
+          (cases_Bool (is_held_in (holding p) segment))) in
           served b (command.Refill segment) (answer.Refill refill.Refilled) p q was on.quiet (counts refills)
           (sym (ap answer.Refill is_told), at_refilled refills ∙ sym (ap (λ g. after_refill segment g (state_at b.shape p)) is_told))
 

@@ -1,5 +1,7 @@
 -- A new index with one pass is at the state at the start.
-use Rattle.std.proofs.Common.{◌≡◌, ℕ, zero, suc, ◌-◌, nat_le, cond, Bool, true, false, length, replicate, slice_get, None, option_map, refl, sym, ap, subst, ◌∙◌}
+use Rattle.std.proofs.Common.{◌≡◌, ℕ, zero, suc, ◌-◌, nat_le, cond, Bool, true, false, length, replicate, slice_get, List, [], ◌∷◌, ◌++◌, Some, None, option_map, refl, sym, ap, subst, ◌∙◌, arith}
+use Rattle.std.proofs.lemmas.List.{length_push}
+use Rattle.segword.specs.declared.shape.Shape.{Shape}
 use Rattle.segmodel.specs.declared.answer.SegState.TheVariants.{Empty}
 use Rattle.segmodel.specs.History.{after}
 use Rattle.segmodel.specs.State.{IsKept, fresh}
@@ -11,6 +13,9 @@ use Rattle.segbase.specs.declared.board.Board.{Board}
 use Rattle.segbase.specs.declared.pass.Pass.{Pass}
 use Rattle.segbase.specs.Plain.{state_in, state_of}
 use Rattle.segbase.specs.Made.{unfilled, IsNewPass}
+use Rattle.segindex.specs.declared.index.Index.{Index}
+use Rattle.segindex.specs.Index.{board_of}
+use Rattle.segindex.specs.Calls.{IsNew}
 use Rattle.segindex.specs.Alone.{stored_in, or_empty, item_of, state_at, IsAlone}
 use Rattle.segindex.proofs.AlonePass.{at_state}
 use Rattle.segindex.proofs.Made.{new_quiet, none_used}
@@ -51,3 +56,21 @@ module _ (b : Board) (p : Pass) (new : IsNewPass b 0 p) where
     },
     starts_fresh,
   )
+
+-- ---- of an index that was just made
+
+only_one : (left : List Pass) (p : Pass) → length (left ++ p ∷ []) ≡ 1 → slice_get (left ++ p ∷ []) 0 ≡ Some p
+only_one [] p one = refl
+only_one (other ∷ left) p one = let long = length_push left p in let more : suc (length (left ++ p ∷ [])) ≡ 1 = one in absurd (omega arith)
+
+pub starts_new : (shape : Shape) (index : Index) (passes : List Pass) (p : Pass) → IsNew shape index passes → shape.passes ≡ 1 → slice_get passes 0 ≡ Some p
+    → IsAlone (board_of index) p × (state_at shape p ≡ fresh shape)
+starts_new shape index passes p new one first =
+    let starts = starts_alone (board_of index) p (new.each 0 p first).0 (ap (λ s. s.passes) new.of ∙ one) in
+    (starts.0, subst (λ s. state_at s p ≡ fresh s) new.of starts.1)
+
+-- its only pass, the last of the list
+pub starts_last : (shape : Shape) (index : Index) (passes left : List Pass) (p : Pass) → IsNew shape index passes → shape.passes ≡ 1 → passes ≡ left ++ p ∷ []
+    → IsAlone (board_of index) p × (state_at shape p ≡ fresh shape)
+starts_last shape index passes left p new one last =
+    starts_new shape index passes p new one (ap (λ l. slice_get l 0) last ∙ only_one left p (ap (λ (l : List Pass). length l) (sym last) ∙ (new.long ∙ one)))

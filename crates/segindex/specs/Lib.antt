@@ -16,3 +16,4 @@ pub mod Unlinking
 pub mod Gets
 pub mod Holds
 pub mod Served
+pub mod Solo

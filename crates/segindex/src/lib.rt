@@ -13,6 +13,7 @@ mod laws;
 mod meet;
 mod scan;
 mod segment;
+mod solo;
 #[cfg(test)]
 mod tests;
 mod versions;
@@ -25,3 +26,4 @@ pub use laws::{
     cas_fails_where_written, one_pass, one_pass_is_served, quiet_pass, replies_at_a_moment,
 };
 pub use segbase::{MakeFault, Pass};
+pub use solo::Solo;

@@ -1,21 +1,17 @@
-use Rattle.std.proofs.Common.{◌≡◌, refl, ap, subst, ◌∙◌}
-use Rattle.segmodel.specs.State.{fresh}
-use Rattle.segindex.specs.Alone.{state_at}
+use Rattle.std.proofs.Common.{refl}
 use Rattle.segindex.proofs.AloneDeletes.{serves_delete}
 use Rattle.segindex.proofs.AloneEvicts.{serves_evict}
 use Rattle.segindex.proofs.AloneHolds.{turns_hold, turns_held, turns_release, turns_not_held, turns_not_released}
 use Rattle.segindex.proofs.AloneLocks.{turns_lock, turns_unlock}
 use Rattle.segindex.proofs.AloneReads.{serves_get, serves_gets}
 use Rattle.segindex.proofs.AloneRefills.{serves_refill}
-use Rattle.segindex.proofs.AloneStarts.{starts_alone}
+use Rattle.segindex.proofs.AloneStarts.{starts_new}
 use Rattle.segindex.proofs.AloneWrites.{serves_write}
 use Rattle.segindex.proofs.laws.one_pass_is_served.Goals as goal
 
 pub returns : goal.returns
 returns c = record {
-  start = λ shape index passes p new one first.
-      let starts = starts_alone index.board p (new.each 0 p first).0 (ap (λ s. s.passes) new.of ∙ one) in
-      (starts.0, subst (λ s. state_at s p ≡ fresh s) new.of starts.1);
+  start = starts_new;
   get = λ index p q key told. serves_get index.board p q key told index.no_overflow;
   gets = λ index p q key told. serves_gets index.board p q key told index.no_overflow;
   write = λ index p q request told store. serves_write index.board p q request told store index.no_overflow;

@@ -1,0 +1,11 @@
+-- An index with its one pass as contracts see it: its shape, and the state of the model that it is at.
+use Rattle.segword.specs.declared.shape.Shape.{Shape}
+use Rattle.segmodel.specs.State.{State}
+use Rattle.segindex.specs.declared.solo.Solo.{Solo}
+use Rattle.segindex.specs.Alone.{state_at}
+
+abbrev pub shape_of : Solo → Shape
+shape_of solo = solo.index.board.shape
+
+abbrev pub state_of : Solo → State
+state_of solo = state_at solo.index.board.shape solo.pass
