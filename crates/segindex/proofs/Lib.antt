@@ -29,6 +29,7 @@ pub mod Growing
 pub mod Filling
 pub mod Storing
 pub mod UnderWrite
+pub mod Rooms
 pub mod Sets
 pub mod Ending
 pub mod Refused

@@ -1,5 +1,5 @@
 -- The answers of a write that stored, and of one that found its bucket full.
-use Rattle.std.proofs.Common.{◌≡◌, ◌≢◌, ℕ, true, false, eqb, List, [], ◌∷◌, ◌++◌, Some, None, refl, sym, ap, ◌∙◌, subst, inr, append-nil, arith}
+use Rattle.std.proofs.Common.{◌≡◌, ◌≢◌, ℕ, true, false, eqb, List, [], ◌∷◌, ◌++◌, Some, None, refl, sym, ap, ◌∙◌, subst, inl, inr, ⊎_elim, append_assoc, arith}
 use Rattle.std.proofs.lemmas.Bool.{cond-true, eq-eqb, ne_eqb}
 use Rattle.segword.specs.Row.{row_of}
 use Rattle.segmodel.specs.declared.entry.Entry.{Entry}
@@ -16,8 +16,9 @@ use Rattle.segcore.specs.Event as event
 use Rattle.segcore.specs.Bucket.{bucket_after}
 use Rattle.segcore.specs.Kind.{May, release}
 use Rattle.segcore.specs.Lawful.{NoneAt}
-use Rattle.segcore.proofs.Buckets.{says_of_buckets}
 use Rattle.segcore.proofs.KeyCounts.{counted_full, wide}
+use Rattle.segcore.proofs.KeyCounts.{wide}
+use Rattle.segcore.proofs.Orderly.{all_drawn_marked}
 use Rattle.segcore.proofs.Marked.{entries_marked}
 use Rattle.segcore.proofs.Moments.{marked_begins}
 use Rattle.segbase.specs.declared.board.Board.{Board}
@@ -26,6 +27,7 @@ use Rattle.segbase.specs.declared.pass.Pass.{Pass}
 use Rattle.segbase.specs.Passes.{number, trace, marked, seen, IsPassOf, Moved, Did}
 use Rattle.segbase.specs.Passes as passes
 use Rattle.segbase.proofs.Moves.{moved_on, moved_then}
+use Rattle.segstore.specs.Rows.{fills}
 use Rattle.segstore.specs.Segments.{KeepsSegments}
 use Rattle.segstore.specs.Refilling.{Idles}
 use Rattle.segstore.proofs.Keeping.{same_plain, keeps_plain}
@@ -35,10 +37,14 @@ use Rattle.segindex.specs.Answers.{IsFull, WasFull, UsesRow}
 use Rattle.segindex.specs.Taking.{HasCleanBit}
 use Rattle.segindex.specs.Writing.{HasNoWord}
 use Rattle.segindex.specs.Storing.{TookToWrite, Stores, stores}
+use Rattle.segindex.specs.Growing.{CannotGrow}
+use Rattle.segindex.proofs.Bits.{none_at_both}
 use Rattle.segindex.proofs.Growing.{no_word}
+use Rattle.segindex.proofs.Rooms.{IsReady}
+use Rattle.segindex.proofs.Still.{AreStill}
 use Rattle.segindex.proofs.Filling.{fills_nowhere, fills_still, fills_seen}
 use Rattle.segindex.proofs.UnderBit.{moved_bucket, moved_bit}
-use Rattle.segindex.proofs.UnderWrite.{took_moved, took_clean, took_keeps, tries, write_goes_on, write_adds}
+use Rattle.segindex.proofs.UnderWrite.{took_moved, took_clean, took_keeps, tries, write_goes_on, write_adds, still_both}
 
 -- ---- after the search
 
@@ -59,12 +65,14 @@ module _ (b : Board) (bucket : ℕ) (p q f : Pass) (quiet : IsQuiet b p) (took :
 
 -- ---- no word is left for a new key
 
-is_full : (b : Board) (key : List ℕ) (f : Pass) → IsPassOf b f → HasCleanBit b f (bucket_of b.shape key) → HasNoWord b key f → b.shape.overflow ≡ 0 → IsFull b.shape (marked f) key
-is_full b key f is clean none whole =
-    let enough = (says_of_buckets b.shape (trace f) is.lawful).enough in
-    record { no_word = no_word b.shape (trace f) key is.lawful none.taken clean.undrawn none.absent; last = inr (omega (arith, enough, whole)) }
+is_full : (b : Board) (key : List ℕ) (f : Pass) → IsPassOf b f → HasCleanBit b f (bucket_of b.shape key) → HasNoWord b key f → CannotGrow b (bucket_of b.shape key) f → IsFull b.shape (marked f) key
+is_full b key f is clean none why =
+    let long = wide b.shape (trace f) (bucket_of b.shape key) is.lawful clean.undrawn in let count = all_drawn_marked (trace f) in record {
+      no_word = no_word b.shape (trace f) key is.lawful none.taken clean.undrawn none.absent;
+      last = ⊎_elim (λ longest. inl (omega (arith, long, longest))) (λ all. inr (count ∙ all)) why;
+    }
 
-module _ (b : Board) (key : List ℕ) (p q f s : Pass) (quiet : IsQuiet b p) (took : TookToWrite b (bucket_of b.shape key) p q) (idles : Idles b q f) (none : HasNoWord b key f) (whole : b.shape.overflow ≡ 0)
+module _ (b : Board) (key : List ℕ) (p q f s : Pass) (quiet : IsQuiet b p) (took : TookToWrite b (bucket_of b.shape key) p q) (idles : Idles b q f) (none : HasNoWord b key f) (why : CannotGrow b (bucket_of b.shape key) f)
     (freed : Did b (Freed (number f) (bucket_of b.shape key) false ∷ []) f s) (free : (bucket_after b.shape (trace s) (bucket_of b.shape key)).holder ≡ None) (plain : s.plain ≡ f.plain) (same : memo s ≡ memo f) where
   abbrev k : ℕ
   k = bucket_of b.shape key
@@ -89,7 +97,7 @@ module _ (b : Board) (key : List ℕ) (p q f s : Pass) (quiet : IsQuiet b p) (to
         marked_begins (trace p) (trace f) (moved_on b (tries b k p q quiet took) p f (moved_then b (tries b k p q quiet took) [] p q f (took_moved b k p q quiet took) idles.moved)),
         marked_begins (trace f) (trace s) (moved_on b (Freed (number f) k false ∷ []) f s freed.moved),
       ),
-      is_full b key f idles.moved.pass (found_clean b k p q f quiet took idles) none whole,
+      is_full b key f idles.moved.pass (found_clean b k p q f quiet took idles) none why,
     ),
   )
 
@@ -107,7 +115,7 @@ uses_around segment p f r s u before behind m n =
       memo = n ∙ (u.memo ∙ m);
     }
 
-module _ (b : Board) (request : Request) (segment row : ℕ) (p q f r s : Pass) (quiet : IsQuiet b p) (took : TookToWrite b (bucket_of b.shape (key_of request)) p q) (idles : Idles b q f)
+module _ (b : Board) (request : Request) (segment row : ℕ) (p q f r s : Pass) (quiet : IsQuiet b p) (took : TookToWrite b (bucket_of b.shape (key_of request)) p q) (before : List Event) (ready : IsReady b (bucket_of b.shape (key_of request)) before q f)
     (done : Stores b request segment row f r) (keeps : KeepsSegments b r) (uses : UsesRow segment f r)
     (freed : Did b (Freed (number r) (bucket_of b.shape (key_of request)) true ∷ []) r s) (free : (bucket_after b.shape (trace s) (bucket_of b.shape (key_of request))).holder ≡ None) (plain : s.plain ≡ r.plain) (same : memo s ≡ memo r) where
   abbrev home : ℕ
@@ -117,31 +125,34 @@ module _ (b : Board) (request : Request) (segment row : ℕ) (p q f r s : Pass) 
   words = row_of (key_of request) (value_of request)
 
   abbrev own : List Event
-  own = stores (number f) request segment row done.0
+  own = stores (number f) request segment row done.0 ++ before
 
   abbrev entry : Entry
   entry = Wrote (number f) request Stored (Some segment)
 
   moved : Moved b own q r
-  moved = subst (λ es. Moved b es q r) (append-nil own) (moved_then b [] own q f r idles.moved done.1)
+  moved = moved_then b before (stores (number f) request segment row done.0) q f r ready.moved done.1
 
   elsewhere : (other : ℕ) → home ≢ other → NoneAt b.shape other own
-  elsewhere other apart = (ne_eqb home other apart, fills_nowhere b.shape other (number f) segment row words 8)
+  elsewhere other apart = (ne_eqb home other apart, none_at_both b.shape other (fills (number f) segment row words 8) before (fills_nowhere b.shape other (number f) segment row words 8) (ready.elsewhere other apart))
+
+  still : AreStill own
+  still = (tt, still_both (fills (number f) segment row words 8) before (fills_still (number f) segment row words 8) ready.still)
 
   adds : (h : List Event) → event.seen (own ++ h) ≡ (entry ∷ []) ++ event.seen h
-  adds h = ap (λ x. entry ∷ x) (fills_seen (number f) segment row words 8 h)
+  adds h = ap (λ x. entry ∷ x) (ap event.seen (append_assoc (fills (number f) segment row words 8) before h) ∙ (fills_seen (number f) segment row words 8 (before ++ h) ∙ ready.silent h))
 
   uses_all : UsesRow segment p s
-  uses_all = uses_around segment p f r s uses (found_plain b home p q f quiet took idles) plain (idles.memo ∙ took.memo) same
+  uses_all = uses_around segment p f r s uses (ready.plain ∙ took.plain) plain (ready.memo ∙ took.memo) same
 
   pub stored_goes_on : GoesOn b p s
-  stored_goes_on = write_goes_on b home p q quiet took r s own (entry ∷ []) true moved elsewhere (tt, fills_still (number f) segment row words 8) adds freed free
+  stored_goes_on = write_goes_on b home p q quiet took r s own (entry ∷ []) true moved elsewhere still adds freed free
       uses_all.memo uses_all.locked uses_all.is_holding (keeps_plain b (Freed (number r) home true ∷ []) r s freed.moved (tt, tt) plain keeps)
 
   pub stored_answer : AddsEntry (Wrote (number p) request Stored (Some segment)) p s × UsesRow segment p s
   stored_answer =
-      let one : number f ≡ number p = idles.moved.same ∙ (took_moved b home p q quiet took).same in (
-        write_adds b home p q quiet took r s own (entry ∷ []) true moved elsewhere (tt, fills_still (number f) segment row words 8) adds freed free
+      let one : number f ≡ number p = ready.moved.same ∙ (took_moved b home p q quiet took).same in (
+        write_adds b home p q quiet took r s own (entry ∷ []) true moved elsewhere still adds freed free
             ∙ (cond-true (eqb (number f) (number p)) (entry ∷ passes.mine p) (passes.mine p) (eq-eqb (number f) (number p) one) ∙ ap (λ n. Wrote n request Stored (Some segment) ∷ passes.mine p) one),
         uses_all,
       )

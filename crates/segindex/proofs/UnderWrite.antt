@@ -34,7 +34,7 @@ pub takes_to_write : (b : Board) (bucket : ℕ) (t : Bool) (p q : Pass) → IsQu
 takes_to_write b bucket true p q quiet within apart takes plain same = record { unlocked = apart; takes = takes; plain = plain; memo = same }
 takes_to_write b bucket false p q quiet within apart takes plain same = gave_up b p q bucket quiet within takes plain same
 
-still_both : (xs ys : List Event) → AreStill xs → AreStill ys → AreStill (xs ++ ys)
+pub still_both : (xs ys : List Event) → AreStill xs → AreStill ys → AreStill (xs ++ ys)
 still_both [] ys i j = j
 still_both (e ∷ xs) ys i j = (i.0, still_both xs ys i.1 j)
 

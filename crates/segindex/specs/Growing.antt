@@ -5,6 +5,7 @@ use Rattle.segmodel.specs.History.{after, IsSameAt}
 use Rattle.segcore.specs.declared.event.Event.{Event}
 use Rattle.segcore.specs.declared.event.Event.TheVariants.{Drew, Put, Chained}
 use Rattle.segcore.specs.Bucket.{Slot, nothing, item, Bucket, last, bucket_after}
+use Rattle.segcore.specs.Filled.{HasNoEmptyWord}
 use Rattle.segcore.specs.ItemWord.{IsWordOf}
 use Rattle.segcore.specs.Kind.{HasBit}
 use Rattle.segcore.specs.Overflow.{drawn_in, home, home_of}
@@ -129,3 +130,15 @@ pub record Lengthens (b : Board) (bucket : ℕ) (target : Target) (p q : Pass) :
 abbrev pub Grows : Board → ℕ → Option Target → Pass → Pass → Type 0
 Grows b bucket None p q = Idles b p q × CannotGrow b bucket q
 Grows b bucket (Some target) p q = Lengthens b bucket target p q
+
+-- ---- room for a key
+
+-- where a search found no word empty, none is, and the end of the chain is where it was
+abbrev pub IsAsFound : Board → ℕ → Found → Pass → Type 0
+IsAsFound b bucket (Word target) p = Unit {0}
+IsAsFound b bucket (Full end) p = HasNoEmptyWord (bucket_in b bucket p) × IsChainEnd b bucket end p
+
+-- the word that a search found serves the key; or the chain grew, where it could
+abbrev pub MakesRoom : Board → ℕ → Found → Option Target → Pass → Pass → Type 0
+MakesRoom b bucket (Word target) room p q = (room ≡ Some target) × Idles b p q
+MakesRoom b bucket (Full end) room p q = Grows b bucket room p q

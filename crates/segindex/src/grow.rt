@@ -2,7 +2,7 @@
 ghost use Rattle.std.specs.Prelude.{◌<◌};
 ghost use Rattle.segcore.specs.Filled.{HasNoEmptyWord};
 
-use crate::find::{ChainEnd, Target};
+use crate::find::{ChainEnd, Found, Target};
 use crate::index::Index;
 use crate::scan::BUCKETS;
 use segbase::{Pass, Place};
@@ -12,10 +12,23 @@ impl Index {
     ghost use Rattle.segbase.specs.Passes.{IsPassOf};
     ghost use Rattle.segindex.specs.Index.{board_of};
     ghost use Rattle.segindex.specs.Taking.{HasCleanBit};
-    ghost use Rattle.segindex.specs.Growing.{bucket_in, home_at, IsLast, IsChainEnd, Grows, Draws, HasSpare, TriesToJoin, Joins};
+    ghost use Rattle.segindex.specs.Growing.{bucket_in, home_at, IsLast, IsChainEnd, IsAsFound, MakesRoom, Grows, Draws, HasSpare, TriesToJoin, Joins};
+
+    // The word for a key: the one that a search found, or one of an overflow bucket that joins the chain. It is `None` where the chain is full and can't grow.
+    pub(crate) fn make_room(&self, pass: &mut Pass, bucket: u32, found: Found) -> Option<Target>
+        requires pass { IsPassOf (board_of self.now) pass.old }
+        requires clean { HasCleanBit (board_of self.now) pass.old bucket }
+        requires found { IsAsFound (board_of self.now) bucket found pass.old }
+        ensures makes { MakesRoom (board_of self.now) bucket found result pass.old pass.new }
+    {
+        match found {
+            Found::Word(target) => Some(target),
+            Found::Full(end) => self.grow(pass, bucket, end),
+        }
+    }
 
     // Makes room for a new key of a bucket none of whose words is empty: word 2 of an overflow bucket that joins its chain. It is `None` where the chain can't grow.
-    pub(crate) fn grow(&self, pass: &mut Pass, bucket: u32, end: ChainEnd) -> Option<Target>
+    fn grow(&self, pass: &mut Pass, bucket: u32, end: ChainEnd) -> Option<Target>
         requires pass { IsPassOf (board_of self.now) pass.old }
         requires clean { HasCleanBit (board_of self.now) pass.old bucket }
         requires full { HasNoEmptyWord (bucket_in (board_of self.now) bucket pass.old) }

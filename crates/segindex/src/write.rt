@@ -92,13 +92,13 @@ impl Index {
         if !self.take_to_write(pass, bucket) {
             return WriteAnswer::Busy;
         }
-        let found = self.find(pass, bucket, &words, tag);
-        let is_present = own_word(found).is_some();
+        let found = self.search(pass, bucket, &words, tag);
+        let is_present = own_word(found.target()).is_some();
         if let Some(refusal) = self.refusal(pass, bucket, is_present, when) {
             self.refuse(pass, bucket);
             return refusal;
         }
-        let Some(target) = found else {
+        let Some(target) = self.make_room(pass, bucket, found) else {
             self.board.release(pass, bucket, false);
             return WriteAnswer::BucketFull;
         };
