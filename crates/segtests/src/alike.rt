@@ -1,0 +1,176 @@
+//! The index with its one pass beside the plain cache: over commands drawn at random both answer alike.
+ghost use Rattle.std.specs.Prelude.{◌<◌, IfSome};
+
+use rand_core::utils::NextWord;
+use rand_pcg::Lcg64Xsh32;
+use segindex::Solo;
+use segmodel::{
+    Answer, Command, DeleteAnswer, EvictAnswer, GetAnswer, GetsAnswer, Plain, RefillAnswer,
+    Request, Shelf, WriteAnswer, run,
+};
+use segword::{Key, Shape, Value};
+use std::alloc::Global;
+use std::process::Abort;
+use std::test::Fail;
+
+const COMMANDS: u32 = 10_000;
+
+// Few keys and few segments, so that each meets the others often. One number more stands for a segment that there isn't.
+const KEYS: u32 = 12;
+
+const SEGMENTS: u32 = 3;
+
+// A version before the last one, so that versions start again at 0.
+const FIRST_VERSION: u32 = 4_294_967_290;
+
+// A plain cache and an index, both of this shape.
+fn both(alloc: Global, buckets: u32, rows: u32) -> Result<(Plain, Solo), Fail> {
+    let shape = Shape {
+        buckets,
+        overflow: 0,
+        passes: 1,
+        segments_each: SEGMENTS,
+        rows,
+        first_version: FIRST_VERSION,
+    };
+    shape.check().ok().ok_or("no shape")?;
+    let plain = Plain::new(alloc, &shape).ok().ok_or("out of memory")?;
+    let solo = Solo::new(alloc, shape).ok().ok_or("out of memory")?;
+    Ok((plain, solo))
+}
+
+// A number below the limit.
+fn below(generator: &mut Lcg64Xsh32, limit: u32) -> u32
+    requires { 0 < limit }
+    ensures { result < limit }
+{
+    generator.next_word() % limit
+}
+
+fn key(generator: &mut Lcg64Xsh32) -> Result<Key, Fail> {
+    let number = below(generator, KEYS) as u8;
+    Ok(Key::new(&[b'k', b'a' + number]).ok_or("no key")?)
+}
+
+// The empty value, or one of a letter.
+fn value(generator: &mut Lcg64Xsh32) -> Result<Value, Fail> {
+    let number = below(generator, 26) as u8;
+    let bytes = [b'a' + number];
+    let long = if number == 0 { 0 } else { 1 };
+    Ok(Value::new(&bytes[..long]).ok_or("no value")?)
+}
+
+// A command; a cas expects the version that a gets found last.
+fn command(generator: &mut Lcg64Xsh32, version: u32) -> Result<Command, Fail> {
+    let kind = below(generator, 16);
+    let key = key(generator)?;
+    let value = value(generator)?;
+    let segment = below(generator, SEGMENTS + 1);
+    Ok(match kind {
+        0..=3 => Command::Write(Request::Set(key, value)),
+        4 => Command::Write(Request::Add(key, value)),
+        5 => Command::Write(Request::Replace(key, value)),
+        6 => Command::Write(Request::Cas(key, value, version)),
+        7 => Command::Write(Request::Delete(key)),
+        8..=9 => Command::Get(key),
+        10..=11 => Command::Gets(key),
+        12..=13 => Command::Evict(segment),
+        _ => Command::Refill(segment),
+    })
+}
+
+const KINDS: usize = 17;
+
+// Which kind of answer it is. No bucket is locked and nothing is held, so that none is Busy or Held.
+fn kind_of(answer: &Answer) -> Option<usize>
+    ensures { IfSome result (λ kind. kind < KINDS) }
+{
+    match answer {
+        Answer::Write(WriteAnswer::Stored) => Some(0),
+        Answer::Write(WriteAnswer::NotStored) => Some(1),
+        Answer::Write(WriteAnswer::Exists) => Some(2),
+        Answer::Write(WriteAnswer::NotFound) => Some(3),
+        Answer::Write(WriteAnswer::NoRoom) => Some(4),
+        Answer::Write(WriteAnswer::BucketFull) => Some(5),
+        Answer::Delete(DeleteAnswer::Deleted) => Some(6),
+        Answer::Delete(DeleteAnswer::NotFound) => Some(7),
+        Answer::Get(GetAnswer::Found(_)) => Some(8),
+        Answer::Get(GetAnswer::Miss) => Some(9),
+        Answer::Gets(GetsAnswer::Found(_, _)) => Some(10),
+        Answer::Gets(GetsAnswer::Miss) => Some(11),
+        Answer::Evict(EvictAnswer::Evicted(_)) => Some(12),
+        Answer::Evict(EvictAnswer::NotYours) => Some(13),
+        Answer::Refill(RefillAnswer::Refilled) => Some(14),
+        Answer::Refill(RefillAnswer::NotYours) => Some(15),
+        Answer::Refill(RefillAnswer::NotEvicted) => Some(16),
+        _ => None,
+    }
+}
+
+// Serves so many commands by both, each once the one before is answered. It gives which kinds of answer came.
+fn serve_alike(
+    rt: &impl Abort,
+    alloc: Global,
+    buckets: u32,
+    rows: u32,
+) -> Result<[bool; KINDS], Fail> {
+    let (mut plain, mut solo) = both(alloc, buckets, rows)?;
+    let mut generator = Lcg64Xsh32::new(u64::from(buckets), u64::from(rows));
+    let mut came = [false; KINDS];
+    let mut version = FIRST_VERSION;
+    for number in 0..COMMANDS {
+        let command = command(&mut generator, version)?;
+        let expected = plain.serve(&command).ok().ok_or("out of memory")?;
+        let given = solo.serve(&command).ok().ok_or("out of memory")?;
+        assert_eq!(rt; given, expected, "command {number}: {command:?}");
+        if let Answer::Gets(GetsAnswer::Found(_, found)) = expected {
+            version = found;
+        }
+        let kind = kind_of(&expected).ok_or("Busy or Held")?;
+        came[kind] = true;
+    }
+    Ok(came)
+}
+
+#[test]
+fn one_bucket_that_fills(rt: HostRuntime) -> Result<(), Fail> {
+    let came = serve_alike(&rt, rt.alloc(), 1, 8)?;
+    assert_eq!(rt; came, [true; KINDS]);
+    Ok(())
+}
+
+#[test]
+fn segments_that_run_out_of_rows(rt: HostRuntime) -> Result<(), Fail> {
+    let came = serve_alike(&rt, rt.alloc(), 1, 3)?;
+    assert!(rt; came[4]);
+    Ok(())
+}
+
+#[test]
+fn more_buckets_than_keys(rt: HostRuntime) -> Result<(), Fail> {
+    let came = serve_alike(&rt, rt.alloc(), 64, 5)?;
+    assert!(rt; !came[5]);
+    Ok(())
+}
+
+// A whole list of commands at once.
+#[test]
+fn a_run_of_commands(rt: HostRuntime) -> Result<(), Fail> {
+    let (mut plain, mut solo) = both(rt.alloc(), 2, 8)?;
+    let mut generator = Lcg64Xsh32::new(1, 2);
+    let mut commands = Vec::new(rt.alloc());
+    for _ in 0..1_000 {
+        commands.push(command(&mut generator, FIRST_VERSION)?)?;
+    }
+    let mut expected = Vec::new(rt.alloc());
+    let mut given = Vec::new(rt.alloc());
+    run(&mut plain, &commands, &mut expected)
+        .ok()
+        .ok_or("out of memory")?;
+    run(&mut solo, &commands, &mut given)
+        .ok()
+        .ok_or("out of memory")?;
+    assert_eq!(rt; given.len(), 1_000);
+    assert_eq!(rt; given, expected);
+    Ok(())
+}
