@@ -30,6 +30,7 @@ pub mod Filling
 pub mod Storing
 pub mod UnderWrite
 pub mod Rooms
+pub mod Draws
 pub mod Sets
 pub mod Ending
 pub mod Refused
