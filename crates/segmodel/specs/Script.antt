@@ -1,8 +1,7 @@
--- Scripts: their lines, the turns that these say, and the text of the replies. A script says only turns that are allowed.
-use Rattle.std.specs.Prelude.{◌⊎◌, ◌≡◌, ◌≢◌, ℕ, ◌+◌, ◌<◌, Bool, true, List, [], ◌∷◌, ◌++◌, length}
+-- Scripts: their lines, the turns that these say, and the text of the replies.
+use Rattle.std.specs.Prelude.{◌⊎◌, ◌≡◌, ◌≢◌, ℕ, ◌+◌, ◌<◌, List, [], ◌∷◌, ◌++◌, length}
 use Rattle.std.specs.List.{flat_map, AllByRecursion}
 use Rattle.segword.specs.declared.shape.Shape.{Shape}
-use Rattle.segmodel.specs.declared.answer.Turn.{Turn}
 use Rattle.segmodel.specs.declared.answer.Outcome.{Outcome}
 use Rattle.segmodel.specs.State.{State, fresh}
 use Rattle.segmodel.specs.Turns.{Turns, Runs}
@@ -25,23 +24,19 @@ pub record Splits (bytes : List ℕ) (lines : List (List ℕ)) (rest : List ℕ)
   pub each : AllByRecursion IsLine lines
   pub partial : IsLine rest
 
--- the pass is there, and the turn can be written and is allowed
-abbrev pub MaySay : ℕ → (Turn → Bool) → PassTurn → Type 0
-MaySay passes allows said = IsSayable passes said × (allows said.1 ≡ true)
-
 -- the lines say these turns, a line without bytes none
-abbrev pub Say : ℕ → (Turn → Bool) → List (List ℕ) → List PassTurn → Type 0
-Say passes allows [] [] = Unit {0}
-Say passes allows [] (said ∷ turns) = ⊥
-Say passes allows ([] ∷ lines) turns = Say passes allows lines turns
-Say passes allows ((byte ∷ line) ∷ lines) [] = ⊥
-Say passes allows ((byte ∷ line) ∷ lines) (said ∷ turns) =
-    MaySay passes allows said × (byte ∷ line ≡ spelling said) × Say passes allows lines turns
+abbrev pub Say : ℕ → List (List ℕ) → List PassTurn → Type 0
+Say passes [] [] = Unit {0}
+Say passes [] (said ∷ turns) = ⊥
+Say passes ([] ∷ lines) turns = Say passes lines turns
+Say passes ((byte ∷ line) ∷ lines) [] = ⊥
+Say passes ((byte ∷ line) ∷ lines) (said ∷ turns) =
+    IsSayable passes said × (byte ∷ line ≡ spelling said) × Say passes lines turns
 
 -- a bad line is too long, or has bytes and says nothing
-abbrev pub IsBad : ℕ → (Turn → Bool) → List ℕ → Type 0
-IsBad passes allows line =
-    (128 < length line) ⊎ ((0 < length line) × ((said : PassTurn) → MaySay passes allows said → line ≡ spelling said → ⊥))
+abbrev pub IsBad : ℕ → List ℕ → Type 0
+IsBad passes line =
+    (128 < length line) ⊎ ((0 < length line) × ((said : PassTurn) → IsSayable passes said → line ≡ spelling said → ⊥))
 
 -- ---- replies
 
@@ -50,25 +45,25 @@ abbrev pub Steps : Shape → State → PassTurn → Outcome → State → Type 0
 Steps shape old said outcome new = shape.passes ≡ 1 → Turns shape old said.1 outcome new
 
 -- from the old state on these lines are served, with this text of replies
-pub record IsServed (shape : Shape) (allows : Turn → Bool) (old : State) (lines : List (List ℕ)) (text : List ℕ) (new : State) : Type 0 where
+pub record IsServed (shape : Shape) (old : State) (lines : List (List ℕ)) (text : List ℕ) (new : State) : Type 0 where
   pub turns : List PassTurn
   pub outcomes : List Outcome
-  pub says : Say shape.passes allows lines turns
+  pub says : Say shape.passes lines turns
   pub run : Runs (Steps shape) old turns outcomes new
   pub told : text ≡ flat_map reply outcomes
 
 -- ---- whole scripts
 
 -- no line of the script is bad, and this is a text of replies that belongs to it. A line without an end counts where it has bytes.
-pub record IsTextOf (shape : Shape) (allows : Turn → Bool) (script text : List ℕ) : Type 0 where
+pub record IsTextOf (shape : Shape) (script text : List ℕ) : Type 0 where
   pub lines : List (List ℕ)
   pub last : List ℕ
   pub state : State
   pub splits : Splits script lines last
-  pub served : IsServed shape allows (fresh shape) (lines ++ last ∷ []) text state
+  pub served : IsServed shape (fresh shape) (lines ++ last ∷ []) text state
 
 -- the n-th line of the script is its first bad one, and this is a text of replies to the lines before it
-pub record IsFirstBad (shape : Shape) (allows : Turn → Bool) (script text : List ℕ) (n : ℕ) : Type 0 where
+pub record IsFirstBad (shape : Shape) (script text : List ℕ) (n : ℕ) : Type 0 where
   pub lines : List (List ℕ)
   pub bad : List ℕ
   pub after : List ℕ
@@ -78,6 +73,6 @@ pub record IsFirstBad (shape : Shape) (allows : Turn → Bool) (script text : Li
   pub unbroken : IsLine bad
   -- the line has its end, or the script ends with it
   pub ends : ((more : List ℕ) × (after ≡ 10 ∷ more)) ⊎ (after ≡ [])
-  pub is_bad : IsBad shape.passes allows bad
-  pub served : IsServed shape allows (fresh shape) lines text state
+  pub is_bad : IsBad shape.passes bad
+  pub served : IsServed shape (fresh shape) lines text state
   pub number : n ≡ length lines + 1

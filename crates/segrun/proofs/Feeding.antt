@@ -28,39 +28,39 @@ FirstBad-more shape seen more text n Ends bad = record {
 }
 
 -- these bytes were fed after seen, and what was written came after told
-pub record Fed (shape : Shape) {W : Type 0} (takes : W → List ℕ → W → Type 0) (old : W) (seen told bytes : List ℕ) (new : W) (At : State → Type 0) (line : List ℕ) (number : ℕ) : Type 0 where
+pub record Fed (shape : Shape) {W : Type 0} (takes : W → List ℕ → W → Type 0) (old : W) (seen told bytes : List ℕ) (new : W) (state : State) (line : List ℕ) (number : ℕ) : Type 0 where
   pub text : List ℕ
   pub took : takes old text new
-  pub here : Stands shape At (seen ++ bytes) (told ++ text) line number
+  pub here : Stands shape state (seen ++ bytes) (told ++ text) line number
 
 module _ (shape : Shape) {W : Type 0} (takes : W → List ℕ → W → Type 0) (more : (s t u : W) (a b : List ℕ) → takes s a t → takes t b u → takes s (a ++ b) u) where
-  pub fed_none : (old : W) (seen told : List ℕ) (At : State → Type 0) (line : List ℕ) (number : ℕ) → takes old [] old → Stands shape At seen told line number → Fed shape takes old seen told [] old At line number
-  fed_none old seen told At line number none here = record { text = []; took = none; here = rw (append-nil, append-nil) here }
+  pub fed_none : (old : W) (seen told : List ℕ) (state : State) (line : List ℕ) (number : ℕ) → takes old [] old → Stands shape state seen told line number → Fed shape takes old seen told [] old state line number
+  fed_none old seen told state line number none here = record { text = []; took = none; here = rw (append-nil, append-nil) here }
 
-  pub fed_more : (old mid new : W) (seen told bytes : List ℕ) (b : ℕ) (At At' : State → Type 0) (line line' : List ℕ) (number number' : ℕ) (longer : List ℕ)
-      (fed : Fed shape takes old seen told bytes mid At line number)
-      → (text : List ℕ) × takes mid text new × Stands shape At' ((seen ++ bytes) ++ b ∷ []) ((told ++ fed.text) ++ text) line' number'
-      → longer ≡ bytes ++ b ∷ [] → Fed shape takes old seen told longer new At' line' number'
-  fed_more old mid new seen told bytes b At At' line line' number number' longer fed next same = record {
+  pub fed_more : (old mid new : W) (seen told bytes : List ℕ) (b : ℕ) (state state' : State) (line line' : List ℕ) (number number' : ℕ) (longer : List ℕ)
+      (fed : Fed shape takes old seen told bytes mid state line number)
+      → (text : List ℕ) × takes mid text new × Stands shape state' ((seen ++ bytes) ++ b ∷ []) ((told ++ fed.text) ++ text) line' number'
+      → longer ≡ bytes ++ b ∷ [] → Fed shape takes old seen told longer new state' line' number'
+  fed_more old mid new seen told bytes b state state' line line' number number' longer fed next same = record {
     text = fed.text ++ next.0;
     took = more old mid new fed.text next.0 fed.took next.1;
     here = rw (same, ← append_assoc seen bytes (b ∷ []), ← append_assoc told fed.text next.0) next.2;
   }
 
-  pub fault_later : (old mid new : W) (seen told bytes : List ℕ) (b : ℕ) (rest all : List ℕ) (At At' : State → Type 0) (line line' : List ℕ) (number number' : ℕ) (f : RunFault)
-      (fed : Fed shape takes old seen told bytes mid At line number)
+  pub fault_later : (old mid new : W) (seen told bytes : List ℕ) (b : ℕ) (rest all : List ℕ) (state state' : State) (line line' : List ℕ) (number number' : ℕ) (f : RunFault)
+      (fed : Fed shape takes old seen told bytes mid state line number)
       → all ≡ (bytes ++ b ∷ []) ++ rest
-      → FeedOutcome shape At' (λ text. takes mid text new) ((seen ++ bytes) ++ b ∷ []) (told ++ fed.text) line' number' (Err f)
-      → FeedOutcome shape At' (λ text. takes old text new) (seen ++ all) told line' number' (Err f)
-  fault_later old mid new seen told bytes b rest all At At' line line' number number' fault.Read fed same out = absurd out
-  fault_later old mid new seen told bytes b rest all At At' line line' number number' (fault.Make m) fed same out = absurd out
-  fault_later old mid new seen told bytes b rest all At At' line line' number number' fault.TooLong fed same out = absurd out
-  fault_later old mid new seen told bytes b rest all At At' line line' number number' (fault.Line n) fed same out = (
+      → FeedOutcome shape state' (λ text. takes mid text new) ((seen ++ bytes) ++ b ∷ []) (told ++ fed.text) line' number' (Err f)
+      → FeedOutcome shape state' (λ text. takes old text new) (seen ++ all) told line' number' (Err f)
+  fault_later old mid new seen told bytes b rest all state state' line line' number number' fault.Read fed same out = absurd out
+  fault_later old mid new seen told bytes b rest all state state' line line' number number' (fault.Make m) fed same out = absurd out
+  fault_later old mid new seen told bytes b rest all state state' line line' number number' fault.TooLong fed same out = absurd out
+  fault_later old mid new seen told bytes b rest all state state' line line' number number' (fault.Line n) fed same out = (
     fed.text ++ out.0,
     more old mid new fed.text out.0 fed.took out.1,
     rw (same, ← append_assoc told fed.text out.0, ← append_assoc seen (bytes ++ b ∷ []) rest, ← append_assoc seen bytes (b ∷ [])) (FirstBad-more shape ((seen ++ bytes) ++ b ∷ []) rest _ n ⊥ out.2),
   )
-  fault_later old mid new seen told bytes b rest all At At' line line' number number' fault.Write fed same out = (
+  fault_later old mid new seen told bytes b rest all state state' line line' number number' fault.Write fed same out = (
     fed.text ++ out.0,
     out.1,
     out.2,
@@ -76,9 +76,9 @@ pub cut_at : (bytes : List ℕ) (i : ℕ) → i < length bytes → bytes ≡ (ta
 cut_at bytes i within = sym (take-append-drop i bytes) ∙ ap (λ r. take i bytes ++ r) (drop_more bytes i 0 within) ∙ sym (append_assoc (take i bytes) (get_or bytes i 0 ∷ []) (drop (i + 1) bytes))
 
 -- what became of bytes that were fed, where the shape is known under another name
-pub at_shape : (shape shape' : Shape) → shape' ≡ shape → (At At' : State → Type 0) (Wrote : List ℕ → Type 0) (line line' : List ℕ) (number number' : ℕ) (bytes : List ℕ) (result : Result (Unit {0}) RunFault)
-    → ((seen told : List ℕ) → Stands shape' At seen told line number → FeedOutcome shape' At' Wrote (seen ++ bytes) told line' number' result)
-    → (seen told : List ℕ) → Stands shape At seen told line number → FeedOutcome shape At' Wrote (seen ++ bytes) told line' number' result
-at_shape shape shape' same At At' Wrote line line' number number' bytes result outcome =
-    let P : Shape → Type 0 = λ s. (seen told : List ℕ) → Stands s At seen told line number → FeedOutcome s At' Wrote (seen ++ bytes) told line' number' result in
+pub at_shape : (shape shape' : Shape) → shape' ≡ shape → (state state' : State) (Wrote : List ℕ → Type 0) (line line' : List ℕ) (number number' : ℕ) (bytes : List ℕ) (result : Result (Unit {0}) RunFault)
+    → ((seen told : List ℕ) → Stands shape' state seen told line number → FeedOutcome shape' state' Wrote (seen ++ bytes) told line' number' result)
+    → (seen told : List ℕ) → Stands shape state seen told line number → FeedOutcome shape state' Wrote (seen ++ bytes) told line' number' result
+at_shape shape shape' same state state' Wrote line line' number number' bytes result outcome =
+    let P : Shape → Type 0 = λ s. (seen told : List ℕ) → Stands s state seen told line number → FeedOutcome s state' Wrote (seen ++ bytes) told line' number' result in
     subst P same outcome

@@ -8,18 +8,17 @@ use Rattle.segmodel.specs.Script.{IsLine, ended, IsFirstBad}
 use Rattle.segrun.specs.Device.{flushed}
 use Rattle.segrun.specs.Run.{RunOutcome, IsBadFrom}
 use Rattle.segrun.specs.Running.{Stands, FirstBad, FeedOutcome, FinishOutcome}
-use Rattle.segrun.specs.Served.{is_served}
 use Rattle.segrun.specs.declared.fault.RunFault.{RunFault}
 use Rattle.segrun.specs.declared.fault.RunFault.TheVariants as fault
 use Rattle.segrun.proofs.LineLemmas.{IsLine-append, reached, at_start}
 
 -- these bytes came, and this text was written
-pub record Going (shape : Shape) (At : State → Type 0) {R W : Type 0} (hands : R → List ℕ → R → Type 0) (takes : W → List ℕ → W → Type 0) (from reader : R) (to writer : W) (total : ℕ) (line : List ℕ) (number : ℕ) : Type 0 where
+pub record Going (shape : Shape) (state : State) {R W : Type 0} (hands : R → List ℕ → R → Type 0) (takes : W → List ℕ → W → Type 0) (from reader : R) (to writer : W) (total : ℕ) (line : List ℕ) (number : ℕ) : Type 0 where
   pub seen : List ℕ
   pub told : List ℕ
   pub came : hands from seen reader
   pub went : takes to told writer
-  pub here : Stands shape At seen told line number
+  pub here : Stands shape state seen told line number
   pub counted : length seen ≡ total
 
 -- the bytes up to the first byte 10, and the rest
@@ -74,7 +73,7 @@ known_bad shape seen text n bad more = elim bad.known [
 ]
 
 -- at the end of the input
-last_known : (shape : Shape) (seen text : List ℕ) (n : ℕ) (Ends : Type 0) → Ends → FirstBad shape (Unit {0}) seen text n → IsBadFrom shape seen text n ⊎ (Ends × IsFirstBad shape is_served seen text n)
+last_known : (shape : Shape) (seen text : List ℕ) (n : ℕ) (Ends : Type 0) → Ends → FirstBad shape (Unit {0}) seen text n → IsBadFrom shape seen text n ⊎ (Ends × IsFirstBad shape seen text n)
 last_known shape seen text n Ends ends bad = elim bad.known [
   | inl whole ↦ inr (
     ends,
@@ -132,23 +131,23 @@ module _ (shape : Shape) {R W : Type 0}
     (takes : W → List ℕ → W → Type 0) (takes_more : (s t u : W) (a b : List ℕ) → takes s a t → takes t b u → takes s (a ++ b) u)
     (flushes : W → ℕ)
   where
-    pub going_start : (At : State → Type 0) (from : R) (to : W) (line : List ℕ) → At (fresh shape) → line ≡ [] → hands from [] from → takes to [] to → Going shape At hands takes from from to to 0 line 1
-    going_start At from to line new none came went = record {
+    pub going_start : (state : State) (from : R) (to : W) (line : List ℕ) → state ≡ fresh shape → line ≡ [] → hands from [] from → takes to [] to → Going shape state hands takes from from to to 0 line 1
+    going_start state from to line new none came went = record {
       seen = [];
       told = [];
       came = came;
       went = went;
-      here = rw none (at_start shape At new);
+      here = rw (none, new) (at_start shape);
       counted = refl;
     }
 
     -- some bytes were read and fed
-    pub going_on : (At At' : State → Type 0) (from reader reader' : R) (to writer writer' : W) (total n : ℕ) (line line' : List ℕ) (number number' : ℕ) (bytes fed : List ℕ)
-        (going : Going shape At hands takes from reader to writer total line number)
+    pub going_on : (state state' : State) (from reader reader' : R) (to writer writer' : W) (total n : ℕ) (line line' : List ℕ) (number number' : ℕ) (bytes fed : List ℕ)
+        (going : Going shape state hands takes from reader to writer total line number)
         → hands reader bytes reader' → fed ≡ bytes → length bytes ≡ n
-        → (text : List ℕ) × takes writer text writer' × Stands shape At' (going.seen ++ fed) (going.told ++ text) line' number'
-        → Going shape At' hands takes from reader' to writer' (total + n) line' number'
-    going_on At At' from reader reader' to writer writer' total n line line' number number' bytes fed going came same count out = record {
+        → (text : List ℕ) × takes writer text writer' × Stands shape state' (going.seen ++ fed) (going.told ++ text) line' number'
+        → Going shape state' hands takes from reader' to writer' (total + n) line' number'
+    going_on state state' from reader reader' to writer writer' total n line line' number number' bytes fed going came same count out = record {
       seen = going.seen ++ bytes;
       told = going.told ++ out.0;
       came = hands_more from reader reader' going.seen bytes going.came came;
@@ -158,16 +157,16 @@ module _ (shape : Shape) {R W : Type 0}
     }
 
     -- a fault while bytes were fed
-    pub ends_fed : (At At' : State → Type 0) (from reader reader' : R) (to writer writer' : W) (total : ℕ) (line line' : List ℕ) (number number' : ℕ) (bytes fed : List ℕ) (Ends : Type 0) (f : RunFault)
-        (going : Going shape At hands takes from reader to writer total line number)
+    pub ends_fed : (state state' : State) (from reader reader' : R) (to writer writer' : W) (total : ℕ) (line line' : List ℕ) (number number' : ℕ) (bytes fed : List ℕ) (Ends : Type 0) (f : RunFault)
+        (going : Going shape state hands takes from reader to writer total line number)
         → flushes writer' ≡ flushes to
         → hands reader bytes reader' → fed ≡ bytes
-        → FeedOutcome shape At' (λ text. takes writer text writer') (going.seen ++ fed) going.told line' number' (Err f)
+        → FeedOutcome shape state' (λ text. takes writer text writer') (going.seen ++ fed) going.told line' number' (Err f)
         → RunOutcome shape (λ seen. hands from seen reader') Ends (λ text. takes to text writer') (flushes to) (flushes writer') (Err f)
-    ends_fed At At' from reader reader' to writer writer' total line line' number number' bytes fed Ends fault.Read going none came same out = absurd out
-    ends_fed At At' from reader reader' to writer writer' total line line' number number' bytes fed Ends fault.TooLong going none came same out = absurd out
-    ends_fed At At' from reader reader' to writer writer' total line line' number number' bytes fed Ends (fault.Make m) going none came same out = absurd out
-    ends_fed At At' from reader reader' to writer writer' total line line' number number' bytes fed Ends (fault.Line n) going none came same out = (
+    ends_fed state state' from reader reader' to writer writer' total line line' number number' bytes fed Ends fault.Read going none came same out = absurd out
+    ends_fed state state' from reader reader' to writer writer' total line line' number number' bytes fed Ends fault.TooLong going none came same out = absurd out
+    ends_fed state state' from reader reader' to writer writer' total line line' number number' bytes fed Ends (fault.Make m) going none came same out = absurd out
+    ends_fed state state' from reader reader' to writer writer' total line line' number number' bytes fed Ends (fault.Line n) going none came same out = (
       going.seen ++ bytes,
       going.told ++ out.0,
       hands_more from reader reader' going.seen bytes going.came came,
@@ -175,7 +174,7 @@ module _ (shape : Shape) {R W : Type 0}
       none,
       inl (rw same at (known_bad shape (going.seen ++ fed) (going.told ++ out.0) n out.2)),
     )
-    ends_fed At At' from reader reader' to writer writer' total line line' number number' bytes fed Ends fault.Write going none came same out = (
+    ends_fed state state' from reader reader' to writer writer' total line line' number number' bytes fed Ends fault.Write going none came same out = (
       going.seen ++ bytes,
       going.told ++ out.0,
       hands_more from reader reader' going.seen bytes going.came came,
@@ -184,37 +183,37 @@ module _ (shape : Shape) {R W : Type 0}
     )
 
     -- the reader failed
-    pub ends_read : (At : State → Type 0) (from reader reader' : R) (to writer : W) (total : ℕ) (line : List ℕ) (number : ℕ) (Ends : Type 0)
-        (going : Going shape At hands takes from reader to writer total line number)
+    pub ends_read : (state : State) (from reader reader' : R) (to writer : W) (total : ℕ) (line : List ℕ) (number : ℕ) (Ends : Type 0)
+        (going : Going shape state hands takes from reader to writer total line number)
         → flushes writer ≡ flushes to
         → hands reader [] reader'
         → RunOutcome shape (λ seen. hands from seen reader') Ends (λ text. takes to text writer) (flushes to) (flushes writer) (Err fault.Read)
-    ends_read At from reader reader' to writer total line number Ends going none came = (
+    ends_read state from reader reader' to writer total line number Ends going none came = (
       going.seen ++ [],
       going.told,
       hands_more from reader reader' going.seen [] going.came came,
       going.went,
       none,
-      rw append-nil (reached shape At going.seen going.told line number going.here),
+      rw append-nil (reached shape state going.seen going.told line number going.here),
     )
 
     -- too much was read
-    pub ends_long : (At : State → Type 0) (from reader : R) (to writer : W) (total : ℕ) (line : List ℕ) (number : ℕ) (Ends : Type 0)
-        (going : Going shape At hands takes from reader to writer total line number)
+    pub ends_long : (state : State) (from reader : R) (to writer : W) (total : ℕ) (line : List ℕ) (number : ℕ) (Ends : Type 0)
+        (going : Going shape state hands takes from reader to writer total line number)
         → flushes writer ≡ flushes to
         → total ≡ 2 ^ 63
         → RunOutcome shape (λ seen. hands from seen reader) Ends (λ text. takes to text writer) (flushes to) (flushes writer) (Err fault.TooLong)
-    ends_long At from reader to writer total line number Ends going none all =
-        (going.seen, going.told, going.came, going.went, none, reached shape At going.seen going.told line number going.here, going.counted ∙ all)
+    ends_long state from reader to writer total line number Ends going none all =
+        (going.seen, going.told, going.came, going.went, none, reached shape state going.seen going.told line number going.here, going.counted ∙ all)
 
     -- the end of the input
-    pub ends_finish : (At : State → Type 0) (from reader reader' : R) (to writer writer' : W) (total : ℕ) (line : List ℕ) (number : ℕ) (bytes : List ℕ) (Ends : Type 0) (result : Result (Unit {0}) RunFault)
-        (going : Going shape At hands takes from reader to writer total line number)
+    pub ends_finish : (state : State) (from reader reader' : R) (to writer writer' : W) (total : ℕ) (line : List ℕ) (number : ℕ) (bytes : List ℕ) (Ends : Type 0) (result : Result (Unit {0}) RunFault)
+        (going : Going shape state hands takes from reader to writer total line number)
         → flushes writer ≡ flushes to
         → hands reader bytes reader' → bytes ≡ [] → Ends
         → FinishOutcome shape (λ text. takes writer text writer') (flushes writer) (flushes writer') going.seen going.told result
         → RunOutcome shape (λ seen. hands from seen reader') Ends (λ text. takes to text writer') (flushes to) (flushes writer') result
-    ends_finish At from reader reader' to writer writer' total line number bytes Ends (Ok u) going none came empty ends out = (
+    ends_finish state from reader reader' to writer writer' total line number bytes Ends (Ok u) going none came empty ends out = (
       going.seen ++ bytes,
       going.told ++ out.0,
       hands_more from reader reader' going.seen bytes going.came came,
@@ -223,7 +222,7 @@ module _ (shape : Shape) {R W : Type 0}
       out.2 ∙ ap flushed none,
       rw (empty, append-nil) out.3,
     )
-    ends_finish At from reader reader' to writer writer' total line number bytes Ends (Err (fault.Line n)) going none came empty ends out = (
+    ends_finish state from reader reader' to writer writer' total line number bytes Ends (Err (fault.Line n)) going none came empty ends out = (
       going.seen ++ bytes,
       going.told ++ out.0,
       hands_more from reader reader' going.seen bytes going.came came,
@@ -231,7 +230,7 @@ module _ (shape : Shape) {R W : Type 0}
       out.2 ∙ none,
       rw (empty, append-nil) (last_known shape going.seen (going.told ++ out.0) n Ends ends out.3),
     )
-    ends_finish At from reader reader' to writer writer' total line number bytes Ends (Err fault.Write) going none came empty ends out = (
+    ends_finish state from reader reader' to writer writer' total line number bytes Ends (Err fault.Write) going none came empty ends out = (
       going.seen ++ bytes,
       going.told ++ out.0,
       hands_more from reader reader' going.seen bytes going.came came,
@@ -241,6 +240,6 @@ module _ (shape : Shape) {R W : Type 0}
         | inr all ↦ inr (all.0 ∙ ap flushed none, ends, rw (empty, append-nil) all.1)
       ],
     )
-    ends_finish At from reader reader' to writer writer' total line number bytes Ends (Err fault.Read) going none came empty ends out = absurd out
-    ends_finish At from reader reader' to writer writer' total line number bytes Ends (Err fault.TooLong) going none came empty ends out = absurd out
-    ends_finish At from reader reader' to writer writer' total line number bytes Ends (Err (fault.Make m)) going none came empty ends out = absurd out
+    ends_finish state from reader reader' to writer writer' total line number bytes Ends (Err fault.Read) going none came empty ends out = absurd out
+    ends_finish state from reader reader' to writer writer' total line number bytes Ends (Err fault.TooLong) going none came empty ends out = absurd out
+    ends_finish state from reader reader' to writer writer' total line number bytes Ends (Err (fault.Make m)) going none came empty ends out = absurd out

@@ -1,4 +1,3 @@
-pub mod Alone
 pub mod Devices
 pub mod Feeding
 pub mod Going
@@ -6,9 +5,7 @@ pub mod LineLemmas
 pub mod LineReadings
 pub mod Numbers
 pub mod OneBadLine
-pub mod OnePass
 pub mod OneTurn
-pub mod Refills
 pub mod Servers
-pub mod Sets
+pub mod Turning
 pub mod WordLemmas

@@ -14,7 +14,6 @@ use Rattle.segmodel.specs.Spelling.{PassTurn, IsNumber, IsWritable, value_word, 
 use Rattle.segmodel.specs.Script.{IsLine, ended, Say, IsBad, IsTextOf, IsFirstBad}
 use Rattle.segrun.specs.Device.{HandsOut}
 use Rattle.segrun.specs.Run.{RunOutcome, is_read_fault, is_write_fault, is_make_fault}
-use Rattle.segrun.specs.Served.{is_served}
 use Rattle.segrun.specs.declared.fault.RunFault.{RunFault}
 use Rattle.segrun.specs.declared.fault.RunFault.TheVariants as fault
 use Rattle.segrun.proofs.LineLemmas.{lines-append}
@@ -69,29 +68,29 @@ spelling_short pass Release there fits = let p = number_short pass there in simp
 spelling_short pass (Lock k) there fits = let p = number_short pass there in let key : length k ≤ 24 = fits.1 in simp length-append (omega arith)
 spelling_short pass Unlock there fits = let p = number_short pass there in simp length-append (omega arith)
 
-module _ (passes : ℕ) (allows : Turn → Bool) where
+module _ (passes : ℕ) where
   -- a line that is served isn't bad
-  good_line : (x : List ℕ) (xs : List (List ℕ)) (ts : List PassTurn) → Say passes allows (x ∷ xs) ts → IsBad passes allows x → ⊥
+  good_line : (x : List ℕ) (xs : List (List ℕ)) (ts : List PassTurn) → Say passes (x ∷ xs) ts → IsBad passes x → ⊥
   good_line [] xs ts says (inl long) = omega arith
   good_line [] xs ts says (inr bad) = omega (arith, bad.0)
   good_line (b ∷ bs) xs [] says bad = says
-  good_line (b ∷ bs) xs (t ∷ ts) says (inl long) = let short = spelling_short t.0 t.1 says.0.0.1 says.0.0.2 in let same = ap length says.1 in omega arith
+  good_line (b ∷ bs) xs (t ∷ ts) says (inl long) = let short = spelling_short t.0 t.1 says.0.1 says.0.2 in let same = ap length says.1 in omega arith
   good_line (b ∷ bs) xs (t ∷ ts) says (inr bad) = bad.1 t says.0 says.1
 
-  says_rest : (x : List ℕ) (xs : List (List ℕ)) (ts : List PassTurn) → Say passes allows (x ∷ xs) ts → (us : List PassTurn) × Say passes allows xs us
+  says_rest : (x : List ℕ) (xs : List (List ℕ)) (ts : List PassTurn) → Say passes (x ∷ xs) ts → (us : List PassTurn) × Say passes xs us
   says_rest [] xs ts says = (ts, says)
   says_rest (b ∷ bs) xs [] says = absurd says
   says_rest (b ∷ bs) xs (t ∷ ts) says = (ts, says.2)
 
   -- a bad line isn't where a line is that was served
-  not_here : (bad more x w : List ℕ) (xs : List (List ℕ)) (ts : List PassTurn) → IsLine bad → IsBad passes allows bad → IsLine x → Say passes allows (x ∷ xs) ts → bad ++ 10 ∷ more ≡ x ++ 10 ∷ w → ⊥
+  not_here : (bad more x w : List ℕ) (xs : List (List ℕ)) (ts : List PassTurn) → IsLine bad → IsBad passes bad → IsLine x → Say passes (x ∷ xs) ts → bad ++ 10 ∷ more ≡ x ++ 10 ∷ w → ⊥
   not_here bad more x w xs ts line is_bad lx says same =
       let one = one_line bad more x w line lx same in
       good_line x xs ts says (rw (← one.0) is_bad)
 
   -- lines that are served go no further than the first bad one
-  goes_past : (xs ys : List (List ℕ)) (bad more : List ℕ) (ts : List PassTurn) → AllByRecursion IsLine xs → Say passes allows xs ts
-      → AllByRecursion IsLine ys → IsLine bad → IsBad passes allows bad → flat_map ended ys ++ (bad ++ 10 ∷ more) ≡ flat_map ended xs ++ [] → ⊥
+  goes_past : (xs ys : List (List ℕ)) (bad more : List ℕ) (ts : List PassTurn) → AllByRecursion IsLine xs → Say passes xs ts
+      → AllByRecursion IsLine ys → IsLine bad → IsBad passes bad → flat_map ended ys ++ (bad ++ 10 ∷ more) ≡ flat_map ended xs ++ [] → ⊥
   goes_past [] [] bad more ts lxs says lys lb is_bad same = not_empty bad more same
   goes_past [] (y ∷ ys) bad more ts lxs says lys lb is_bad same = not_empty y _ (sym (step y ys (bad ++ 10 ∷ more)) ∙ same)
   goes_past (x ∷ xs) [] bad more ts lxs says lys lb is_bad same = not_here bad more x _ xs ts lb is_bad lxs.0 says (same ∙ step x xs [])
@@ -101,8 +100,8 @@ module _ (passes : ℕ) (allows : Turn → Bool) where
       goes_past xs ys bad more rest.0 lxs.1 rest.1 lys.1 lb is_bad one.1
 
   -- the first bad line is one
-  one_number : (xs ys : List (List ℕ)) (bad more bad' more' : List ℕ) (ts us : List PassTurn) → AllByRecursion IsLine xs → Say passes allows xs ts → IsLine bad → IsBad passes allows bad
-      → AllByRecursion IsLine ys → Say passes allows ys us → IsLine bad' → IsBad passes allows bad' → flat_map ended xs ++ (bad ++ 10 ∷ more) ≡ flat_map ended ys ++ (bad' ++ 10 ∷ more') → length xs ≡ length ys
+  one_number : (xs ys : List (List ℕ)) (bad more bad' more' : List ℕ) (ts us : List PassTurn) → AllByRecursion IsLine xs → Say passes xs ts → IsLine bad → IsBad passes bad
+      → AllByRecursion IsLine ys → Say passes ys us → IsLine bad' → IsBad passes bad' → flat_map ended xs ++ (bad ++ 10 ∷ more) ≡ flat_map ended ys ++ (bad' ++ 10 ∷ more') → length xs ≡ length ys
   one_number [] [] bad more bad' more' ts us lxs sx lb ib lys sy lb' ib' same = refl
   one_number [] (y ∷ ys) bad more bad' more' ts us lxs sx lb ib lys sy lb' ib' same = absurd (not_here bad more y _ ys us lb ib lys.0 sy (same ∙ step y ys (bad' ++ 10 ∷ more')))
   one_number (x ∷ xs) [] bad more bad' more' ts us lxs sx lb ib lys sy lb' ib' same = absurd (not_here bad' more' x _ xs ts lb' ib' lxs.0 sx (sym same ∙ step x xs (bad ++ 10 ∷ more)))
@@ -115,26 +114,26 @@ module _ (passes : ℕ) (allows : Turn → Bool) where
 
 module _ (shape : Shape) where
   -- with a byte 10 behind the script, its first bad line has an end
-  closed : {script text : List ℕ} {n : ℕ} (bad : IsFirstBad shape is_served script text n) → (more : List ℕ) × (script ++ 10 ∷ [] ≡ flat_map ended bad.lines ++ (bad.bad ++ 10 ∷ more))
+  closed : {script text : List ℕ} {n : ℕ} (bad : IsFirstBad shape script text n) → (more : List ℕ) × (script ++ 10 ∷ [] ≡ flat_map ended bad.lines ++ (bad.bad ++ 10 ∷ more))
   closed bad = elim bad.ends [
     | inl whole ↦ (whole.0 ++ 10 ∷ [], ap (λ b. b ++ 10 ∷ []) bad.whole ∙ simp append_assoc (ap (λ a. flat_map ended bad.lines ++ (bad.bad ++ (a ++ 10 ∷ []))) whole.1))
     | inr last ↦ ([], ap (λ b. b ++ 10 ∷ []) bad.whole ∙ simp append_assoc (ap (λ a. flat_map ended bad.lines ++ (bad.bad ++ (a ++ 10 ∷ []))) last))
   ]
 
-  pub IsFirstBad-one : (script text text' : List ℕ) (m n : ℕ) → IsFirstBad shape is_served script text m → IsFirstBad shape is_served script text' n → m ≡ n
+  pub IsFirstBad-one : (script text text' : List ℕ) (m n : ℕ) → IsFirstBad shape script text m → IsFirstBad shape script text' n → m ≡ n
   IsFirstBad-one script text text' m n first second =
       let one = closed first in
       let other = closed second in
       first.number
-      ∙ ap (λ k. k + 1) (one_number shape.passes is_served first.lines second.lines first.bad one.0 second.bad other.0 first.served.turns second.served.turns first.each first.served.says first.unbroken first.is_bad
+      ∙ ap (λ k. k + 1) (one_number shape.passes first.lines second.lines first.bad one.0 second.bad other.0 first.served.turns second.served.turns first.each first.served.says first.unbroken first.is_bad
       second.each second.served.says second.unbroken second.is_bad (sym one.1 ∙ other.1))
       ∙ sym second.number
 
   -- a script that has a text has no bad line
-  pub IsTextOf-good : (script text text' : List ℕ) (n : ℕ) → IsTextOf shape is_served script text → IsFirstBad shape is_served script text' n → ⊥
+  pub IsTextOf-good : (script text text' : List ℕ) (n : ℕ) → IsTextOf shape script text → IsFirstBad shape script text' n → ⊥
   IsTextOf-good script text text' n whole bad =
       let end = closed bad in
-      goes_past shape.passes is_served (whole.lines ++ whole.last ∷ []) bad.lines bad.bad end.0 whole.served.turns
+      goes_past shape.passes (whole.lines ++ whole.last ∷ []) bad.lines bad.bad end.0 whole.served.turns
       (lines-append whole.lines (whole.last ∷ []) whole.splits.each (whole.splits.partial, tt)) whole.served.says
       bad.each bad.unbroken bad.is_bad
       (sym end.1 ∙ ap (λ b. b ++ 10 ∷ []) whole.splits.whole ∙ simp (flat_map-append, append_assoc, append-nil))
@@ -145,7 +144,7 @@ module _ (shape : Shape) where
       (read write : Bool) (working : read ≡ false) (writing : write ≡ false)
     where
       pub ends_at_bad : (text : List ℕ) (n : ℕ) (result : Result (Unit {0}) RunFault) → read ≡ is_read_fault result → write ≡ is_write_fault result → is_make_fault result ≡ false
-          → IsFirstBad shape is_served script text n
+          → IsFirstBad shape script text n
           → RunOutcome shape (λ seen. hands old seen new) (is_at_end new) Wrote before flushes result
           → (result ≡ Err (fault.Line n)) ⊎ (result ≡ Err fault.TooLong)
       ends_at_bad text n (Ok u) r w made bad out =
@@ -163,7 +162,7 @@ module _ (shape : Shape) where
           ]))
 
       pub ends_well : (text : List ℕ) (result : Result (Unit {0}) RunFault) → read ≡ is_read_fault result → write ≡ is_write_fault result → is_make_fault result ≡ false
-          → IsTextOf shape is_served script text
+          → IsTextOf shape script text
           → RunOutcome shape (λ seen. hands old seen new) (is_at_end new) Wrote before flushes result
           → IsOk result ⊎ (result ≡ Err fault.TooLong)
       ends_well text (Ok u) r w made good out = inl refl

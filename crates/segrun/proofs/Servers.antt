@@ -1,24 +1,18 @@
--- A list of passes, one of which took a turn; a server that was just made; and one whose passes unlock.
-use Rattle.std.proofs.Common.{◌≡◌, ◌≢◌, ◌⊎◌, ℕ, zero, suc, ◌+◌, ◌-◌, ◌<◌, ◌≤◌, nat_le, nat_lt, Bool, true, false, is_some, cond, List, [], ◌∷◌, replicate, set, slice_get, Option, Some, None, refl, sym, ap, subst, ◌∙◌, inl, inr, arith}
-use Rattle.std.proofs.lemmas.Bool.{cases_lt, cond-true, cond-false, lt-ltb, le-ltb, le-leb}
-use Rattle.std.proofs.lemmas.Option.{same_Some, none-some}
+-- The passes of a server and their holds: lists of which one place changes, and a server that was just made.
+use Rattle.std.proofs.Common.{◌≡◌, ◌≢◌, ◌⊎◌, ℕ, zero, suc, ◌+◌, ◌<◌, ◌≤◌, List, [], ◌∷◌, ◌++◌, length, replicate, set, slice_get, Option, Some, None, refl, sym, ap, subst, subst₂, ◌∙◌, inl, inr, arith}
+use Rattle.std.proofs.lemmas.Option.{same_Some, none-some, slice_get_within}
 use Rattle.segword.specs.declared.shape.Shape.{Shape}
-use Rattle.segmodel.specs.declared.answer.SegState.TheVariants.{Empty}
-use Rattle.segmodel.specs.History.{after}
 use Rattle.segmodel.specs.State.{fresh}
-use Rattle.segmodel.specs.Serving.{is_own}
-use Rattle.segcore.specs.Event as event
 use Rattle.segbase.specs.declared.board.Board.{Board}
-use Rattle.segbase.specs.declared.pass.OwnSegment.{OwnSegment}
 use Rattle.segbase.specs.declared.pass.Pass.{Pass}
-use Rattle.segbase.specs.Passes.{number}
-use Rattle.segbase.specs.Plain.{own_segment, state_in, used_in, locked_of}
-use Rattle.segbase.specs.Made.{unfilled, IsNewPass}
+use Rattle.segbase.specs.Passes.{number, holding}
+use Rattle.segbase.specs.Plain.{locked_of}
+use Rattle.segbase.specs.Made.{IsNewPass}
+use Rattle.segindex.specs.declared.hold.Hold.{Hold}
 use Rattle.segindex.specs.Quiet.{IsQuiet}
-use Rattle.segindex.specs.Calls.{GoesOn}
-use Rattle.segindex.specs.Answers.{IsUnlockAnswer}
-use Rattle.segrun.specs.Passes.{AreInOrder, if_own, IsAt}
-use Rattle.segrun.proofs.OnePass.{none_if}
+use Rattle.segindex.specs.Alone.{state_at}
+use Rattle.segindex.proofs.AloneStarts.{starts_alone, starts_fresh}
+use Rattle.segrun.specs.Passes.{IsHoldKept, IsIdle, AreInOrder, first_state}
 
 -- ---- one of a list
 
@@ -33,70 +27,86 @@ found-set (y ∷ ys) (suc i) (suc n) a x e = elim (found-set ys i n a x e) [
   | inr found ↦ inr ((λ same. found.0 (omega arith)), found.1)
 ]
 
-pub still_in_order : (b : Board) (passes : List Pass) (n : ℕ) (p q : Pass) → AreInOrder b passes → slice_get passes n ≡ Some p → GoesOn b p q → AreInOrder b (set passes n q)
-still_in_order b passes n p q in_order at on m x e = elim (found-set passes n m q x e) [
-  | inl found ↦ subst (λ y. IsQuiet b y × (number y ≡ m)) (sym found.1) (on.quiet, on.same ∙ (in_order n p at).1 ∙ sym found.0)
-  | inr found ↦ in_order m x found.1
+pub still_in_order : (b : Board) (passes : List Pass) (holds : List (Option Hold)) (n : ℕ) (p q : Pass) (was is : Option Hold) → AreInOrder b passes holds
+    → slice_get passes n ≡ Some p → slice_get holds n ≡ Some was → number q ≡ number p → IsIdle b is q → AreInOrder b (set passes n q) (set holds n is)
+still_in_order b passes holds n p q was is in_order at held same idle m x hold e k = elim (found-set passes n m q x e) [
+  | inl found ↦ elim (found-set holds n m is hold k) [
+    | inl kept ↦ subst₂ (λ y kept. IsIdle b kept y × (number y ≡ m)) (sym found.1) (sym kept.1) (idle, same ∙ (in_order n p was at held).1 ∙ sym found.0)
+    | inr kept ↦ absurd (kept.0 found.0)
+  ]
+  | inr found ↦ elim (found-set holds n m is hold k) [
+    | inl kept ↦ absurd (found.0 kept.0)
+    | inr kept ↦ in_order m x hold found.1 kept.1
+  ]
 ]
+
+-- a place that is not the one that was set has what it had
+pub elsewhere : {A : Type 0} (xs : List A) (i n : ℕ) (a : A) → n ≢ i → slice_get (set xs i a) n ≡ slice_get xs n
+elsewhere [] i n a other = refl
+elsewhere (y ∷ ys) zero zero a other = absurd (other refl)
+elsewhere (y ∷ ys) zero (suc n) a other = refl
+elsewhere (y ∷ ys) (suc i) zero a other = refl
+elsewhere (y ∷ ys) (suc i) (suc n) a other = elsewhere ys i n a (λ same. other (ap suc same))
+
+-- and the place that was set has the new element
+pub set_there : {A : Type 0} (xs : List A) (n : ℕ) (a x : A) → slice_get xs n ≡ Some x → slice_get (set xs n a) n ≡ Some a
+set_there [] n a x at = absurd (none-some x at)
+set_there (y ∷ ys) zero a x at = refl
+set_there (y ∷ ys) (suc n) a x at = set_there ys n a x at
+
+-- ---- the state of the first pass
+
+pub first_is : (shape : Shape) (passes : List Pass) (p : Pass) → slice_get passes 0 ≡ Some p → first_state shape passes ≡ state_at shape p
+first_is shape [] p at = absurd (none-some p at)
+first_is shape (x ∷ passes) p at = ap (state_at shape) (same_Some x p at)
+
+pub first_then : (shape : Shape) (passes : List Pass) (p q : Pass) → slice_get passes 0 ≡ Some p → first_state shape (set passes 0 q) ≡ state_at shape q
+first_then shape [] p q at = absurd (none-some p at)
+first_then shape (x ∷ passes) p q at = refl
 
 -- ---- a server that was just made
 
-module _ (b : Board) (p : Pass) (new : IsNewPass b 0 p) where
-  unfilled_within : (n k : ℕ) → k < n → slice_get (replicate n unfilled) k ≡ Some unfilled
-  unfilled_within zero k lt = absurd (omega arith)
-  unfilled_within (suc n) zero lt = refl
-  unfilled_within (suc n) (suc k) lt = unfilled_within n k (omega arith)
+pub all_none : {A : Type 0} (count n : ℕ) (x : Option A) → slice_get (replicate {A = Option A} count None) n ≡ Some x → x ≡ None
+all_none {A = A} zero n x e = absurd (none-some x e)
+all_none {A = A} (suc count) zero x e = sym (same_Some None x e)
+all_none {A = A} (suc count) (suc n) x e = all_none {A = A} count n x e
 
-  unfilled_past : (n k : ℕ) → n ≤ k → slice_get (replicate n unfilled) k ≡ None
-  unfilled_past zero k le = refl
-  unfilled_past (suc n) zero le = absurd (omega arith)
-  unfilled_past (suc n) (suc k) le = unfilled_past n k (omega arith)
+pub new_idle : (b : Board) (n : ℕ) (p : Pass) (hold : Option Hold) → n < b.shape.passes → IsNewPass b n p → IsQuiet b p → hold ≡ None → IsIdle b hold p
+new_idle b n p hold few new quiet none = record {
+  quiet = quiet;
+  hold = subst (λ kept. IsHoldKept b.shape kept p) (sym none) new.holding;
+  alone = λ one. (starts_alone b p (subst (λ k. IsNewPass b k p) (omega arith) new) one).0;
+}
 
-  unfilled_at : (n k : ℕ) → slice_get (replicate n unfilled) k ≡ cond (nat_lt k n) (Some unfilled) None
-  unfilled_at n k = elim (cases_lt k n) [
-    | inl lt ↦ unfilled_within n k lt ∙ sym (cond-true (nat_lt k n) (Some unfilled) None (lt-ltb k n lt))
-    | inr le ↦ unfilled_past n k le ∙ sym (cond-false (nat_lt k n) (Some unfilled) None (le-ltb k n le))
-  ]
+pub new_first : (b : Board) (passes : List Pass) → ((n : ℕ) (p : Pass) → slice_get passes n ≡ Some p → IsNewPass b n p × IsQuiet b p) → first_state b.shape passes ≡ fresh b.shape
+new_first b [] each = refl
+new_first b (p ∷ passes) each = starts_fresh b p (each 0 p refl).0
 
-  kept : (segment : ℕ) → own_segment p.plain segment ≡ if_own b.shape segment unfilled
-  kept segment =
-      let first : p.plain.first ≡ 0 = new.plain.first ∙ omega arith in
-      let there : segment - 0 ≡ segment = omega arith in
-      (λ i. cond (nat_le (first i) segment) (slice_get (new.plain.segments i) (segment - first i)) None)
-      ∙ cond-true (nat_le 0 segment) (slice_get (replicate b.shape.segments_each unfilled) (segment - 0)) None (le-leb 0 segment (omega arith))
-      ∙ ap (slice_get (replicate b.shape.segments_each unfilled)) there
-      ∙ unfilled_at b.shape.segments_each segment
+-- ---- a server that ends: its holds go one after another, the last first
 
-  fresh_own : {A : Type 0} (part : Option OwnSegment → Option A) (a : A) (segment : ℕ) → part (Some unfilled) ≡ Some a → part None ≡ None → part (own_segment p.plain segment) ≡ if_own b.shape segment a
-  fresh_own part a segment some none = ap part (kept segment) ∙ by (is_own b.shape segment)
-    where
-      by : (own : _) → part (cond own (Some unfilled) None) ≡ cond own (Some a) None
-      by true = some
-      by false = none
+last_of : {A : Type 0} (xs : List A) (x : A) → slice_get (xs ++ x ∷ []) (length xs) ≡ Some x
+last_of [] x = refl
+last_of (y ∷ xs) x = last_of xs x
 
-  pub new_at : IsAt b.shape p (fresh b.shape)
-  new_at = record {
-    cache = sym (ap (λ t. after b.shape (event.seen t)) new.nothing);
-    states = λ segment. fresh_own state_in Empty segment refl refl;
-    used = λ segment. fresh_own used_in 0 segment refl refl;
-    current = sym new.plain.current;
-    locked = sym new.plain.locked;
-    unheld = new.plain.holding;
-    held = refl;
-    width = λ bucket. refl;
-    drawn = refl;
-  }
+front_of : {A : Type 0} (xs ys : List A) (n : ℕ) (x : A) → slice_get xs n ≡ Some x → slice_get (xs ++ ys) n ≡ Some x
+front_of [] ys n x e = absurd (none-some x e)
+front_of (y ∷ xs) ys zero x e = e
+front_of (y ∷ xs) ys (suc n) x e = front_of xs ys n x e
 
--- ---- a server whose passes unlock
+pub last_idle : (b : Board) (passes : List Pass) (holds : List (Option Hold)) (hold : Option Hold) (p : Pass) → AreInOrder b passes (holds ++ hold ∷ []) → slice_get passes (length holds) ≡ Some p → IsIdle b hold p
+last_idle b passes holds hold p in_order at = (in_order (length holds) p hold at (last_of holds hold)).0
 
-pub still_unlocked : (passes : List Pass) (n : ℕ) (q : Pass) → locked_of q ≡ None → ((m : ℕ) (p : Pass) → m < n → slice_get passes m ≡ Some p → locked_of p ≡ None)
-    → (m : ℕ) (p : Pass) → m < n + 1 → slice_get (set passes n q) m ≡ Some p → locked_of p ≡ None
-still_unlocked passes n q free before m p lt e = elim (found-set passes n m q p e) [
-  | inl found ↦ subst (λ y. locked_of y ≡ None) (sym found.1) free
+pub rest_in_order : (b : Board) (passes : List Pass) (holds : List (Option Hold)) (hold : Option Hold) (q : Pass) → AreInOrder b passes (holds ++ hold ∷ []) → AreInOrder b (set passes (length holds) q) holds
+rest_in_order b passes holds hold q in_order n x kept e k =
+    let within = slice_get_within holds n kept k in
+    in_order n x kept (sym (elsewhere passes (length holds) n q (λ same. omega arith)) ∙ e) (front_of holds (hold ∷ []) n kept k)
+
+-- of the passes from here on none keeps anything
+abbrev pub NoneKeepsFrom : ℕ → List Pass → Type 0
+NoneKeepsFrom from passes = (n : ℕ) (p : Pass) → from ≤ n → slice_get passes n ≡ Some p → (holding p ≡ None) × (locked_of p ≡ None)
+
+pub one_more_left : (passes : List Pass) (n : ℕ) (q : Pass) → (holding q ≡ None) × (locked_of q ≡ None) → NoneKeepsFrom (n + 1) passes → NoneKeepsFrom n (set passes n q)
+one_more_left passes n q none before m p le e = elim (found-set passes n m q p e) [
+  | inl found ↦ subst (λ y. (holding y ≡ None) × (locked_of y ≡ None)) (sym found.1) none
   | inr found ↦ before m p (let ne = found.0 in omega arith) found.1
 ]
-
--- an unlock leaves no bucket locked, also where there was none
-pub none_locked : (shape : Shape) (told : Bool) (p q : Pass) → told ≡ is_some (locked_of p) → IsUnlockAnswer shape told p q → locked_of q ≡ None
-none_locked shape true p q was unlocks = unlocks.locked_of
-none_locked shape false p q was nothing = ap (λ plain. plain.locked) nothing.plain ∙ none_if (locked_of p) (sym was)

@@ -5,6 +5,5 @@ pub mod Passes
 pub mod Reading
 pub mod Run
 pub mod Running
-pub mod Served
 pub mod Server
 pub mod Verb

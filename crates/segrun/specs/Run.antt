@@ -6,7 +6,6 @@ use Rattle.segmodel.specs.State.{State, fresh}
 use Rattle.segmodel.specs.Script.{Splits, IsServed, IsTextOf, IsFirstBad}
 use Rattle.segbase.specs.Made.{IsMakeFault}
 use Rattle.segrun.specs.Device.{IsBeginning, flushed}
-use Rattle.segrun.specs.Served.{is_served}
 use Rattle.segrun.specs.declared.fault.RunFault.{RunFault}
 use Rattle.segrun.specs.declared.fault.RunFault.TheVariants as fault
 
@@ -38,17 +37,17 @@ pub record Reaches (shape : Shape) (seen text : List ℕ) : Type 0 where
   pub state : State
   pub splits : Splits seen lines rest
   pub short : length rest ≤ 128
-  pub served : IsServed shape is_served (fresh shape) lines text state
+  pub served : IsServed shape (fresh shape) lines text state
 
 -- whatever comes after these bytes, line n is the first bad one
 abbrev pub IsBadFrom : Shape → List ℕ → List ℕ → ℕ → Type 0
-IsBadFrom shape seen text n = (more : List ℕ) → IsFirstBad shape is_served (seen ++ more) text n
+IsBadFrom shape seen text n = (more : List ℕ) → IsFirstBad shape (seen ++ more) text n
 
 -- a reply could not be written whole: a beginning of the text is written, that of the lines up to the one of this reply
 abbrev pub IsCutOff : Shape → List ℕ → List ℕ → Type 0
 IsCutOff shape seen part =
     (text : List ℕ) × IsBeginning part text
-    × (((front : List ℕ) × (rest : List ℕ) × (seen ≡ front ++ rest) × Reaches shape front text) ⊎ IsTextOf shape is_served seen text)
+    × (((front : List ℕ) × (rest : List ℕ) × (seen ≡ front ++ rest) × Reaches shape front text) ⊎ IsTextOf shape seen text)
 
 -- ---- how it ends
 
@@ -57,15 +56,15 @@ IsCutOff shape seen part =
 -- A fault in the making is none of a run.
 abbrev pub RunOutcome : Shape → (List ℕ → Type 0) → Type 0 → (List ℕ → Type 0) → ℕ → ℕ → Result (Unit {0}) RunFault → Type 0
 RunOutcome shape Read Ends Wrote before flushes (Ok _) =
-    (script : List ℕ) × (text : List ℕ) × Read script × Ends × Wrote text × (flushes ≡ flushed before) × IsTextOf shape is_served script text
+    (script : List ℕ) × (text : List ℕ) × Read script × Ends × Wrote text × (flushes ≡ flushed before) × IsTextOf shape script text
 RunOutcome shape Read Ends Wrote before flushes (Err fault.Read) =
     (seen : List ℕ) × (text : List ℕ) × Read seen × Wrote text × (flushes ≡ before) × Reaches shape seen text
 RunOutcome shape Read Ends Wrote before flushes (Err fault.TooLong) =
     (seen : List ℕ) × (text : List ℕ) × Read seen × Wrote text × (flushes ≡ before) × Reaches shape seen text × (length seen ≡ 2 ^ 63)
 RunOutcome shape Read Ends Wrote before flushes (Err (fault.Line n)) =
     (seen : List ℕ) × (text : List ℕ) × Read seen × Wrote text × (flushes ≡ before)
-    × (IsBadFrom shape seen text n ⊎ (Ends × IsFirstBad shape is_served seen text n))
+    × (IsBadFrom shape seen text n ⊎ (Ends × IsFirstBad shape seen text n))
 RunOutcome shape Read Ends Wrote before flushes (Err fault.Write) =
     (seen : List ℕ) × (part : List ℕ) × Read seen × Wrote part
-    × (((flushes ≡ before) × IsCutOff shape seen part) ⊎ ((flushes ≡ flushed before) × Ends × IsTextOf shape is_served seen part))
+    × (((flushes ≡ before) × IsCutOff shape seen part) ⊎ ((flushes ≡ flushed before) × Ends × IsTextOf shape seen part))
 RunOutcome shape Read Ends Wrote before flushes (Err (fault.Make f)) = Unit {0}

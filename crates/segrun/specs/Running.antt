@@ -6,25 +6,22 @@ use Rattle.segmodel.specs.State.{State, fresh}
 use Rattle.segmodel.specs.Script.{IsLine, ended, Splits, IsServed, IsBad, IsTextOf}
 use Rattle.segrun.specs.Device.{IsBeginning, flushed}
 use Rattle.segrun.specs.Run.{Reaches, IsCutOff}
-use Rattle.segrun.specs.Served.{is_served}
 use Rattle.segrun.specs.declared.fault.RunFault.{RunFault}
 use Rattle.segrun.specs.declared.fault.RunFault.TheVariants as fault
 
--- Where a run is: these bytes came, this text is written for their whole lines, the engine (if it has one pass) is at the
--- state after these, and the bytes of the line that has no end yet are kept, with its number.
-pub record Stands (shape : Shape) (At : State → Type 0) (seen text line : List ℕ) (number : ℕ) : Type 0 where
+-- Where a run is: these bytes came, this text is written for their whole lines, the engine is at the state after these (which
+-- says something of it where it has one pass), and the bytes of the line that has no end yet are kept, with its number.
+pub record Stands (shape : Shape) (state : State) (seen text line : List ℕ) (number : ℕ) : Type 0 where
   pub lines : List (List ℕ)
-  pub state : State
-  pub at : shape.passes ≡ 1 → At state
   pub splits : Splits seen lines line
   pub short : length line ≤ 128
-  pub served : IsServed shape is_served (fresh shape) lines text state
+  pub served : IsServed shape (fresh shape) lines text state
   pub numbered : number ≡ length lines + 1
 
 -- The reader handed out some bytes up to here, and up to here the writer took the replies to all their whole lines.
-abbrev pub AllReplied : {R W : Type 0} → Shape → (State → Type 0) → (R → List ℕ → R → Type 0) → (W → List ℕ → W → Type 0) → R → W → List ℕ → ℕ → Type 0
-AllReplied {R} {W} shape At hands takes reader writer line number =
-    (from : R) × (to : W) × (seen : List ℕ) × (told : List ℕ) × hands from seen reader × takes to told writer × Stands shape At seen told line number
+abbrev pub AllReplied : {R W : Type 0} → Shape → State → (R → List ℕ → R → Type 0) → (W → List ℕ → W → Type 0) → R → W → List ℕ → ℕ → Type 0
+AllReplied {R} {W} shape state hands takes reader writer line number =
+    (from : R) × (to : W) × (seen : List ℕ) × (told : List ℕ) × hands from seen reader × takes to told writer × Stands shape state seen told line number
 
 -- Line n of these bytes is bad, and none before it: it has its end, or its 129th byte, or (where Ends) nothing comes after it.
 pub record FirstBad (shape : Shape) (Ends : Type 0) (seen text : List ℕ) (n : ℕ) : Type 0 where
@@ -35,35 +32,34 @@ pub record FirstBad (shape : Shape) (Ends : Type 0) (seen text : List ℕ) (n : 
   pub whole : seen ≡ flat_map ended lines ++ (bad ++ after)
   pub each : AllByRecursion IsLine lines
   pub unbroken : IsLine bad
-  pub is_bad : IsBad shape.passes is_served bad
+  pub is_bad : IsBad shape.passes bad
   pub known : ((more : List ℕ) × (after ≡ 10 ∷ more)) ⊎ (length bad ≡ 129) ⊎ ((after ≡ []) × Ends)
-  pub served : IsServed shape is_served (fresh shape) lines text state
+  pub served : IsServed shape (fresh shape) lines text state
   pub number : n ≡ length lines + 1
 
--- What became of one whole line, in this state.
-abbrev pub LineOutcome : Shape → (State → Type 0) → (List ℕ → Type 0) → State → List ℕ → ℕ → Result (Unit {0}) RunFault → Type 0
-LineOutcome shape At Wrote state line number (Ok _) =
-    (text : List ℕ) × (new : State) × Wrote text × (shape.passes ≡ 1 → At new) × IsServed shape is_served state (line ∷ []) text new
-LineOutcome shape At Wrote state line number (Err (fault.Line n)) = Wrote [] × (n ≡ number) × IsBad shape.passes is_served line
-LineOutcome shape At Wrote state line number (Err fault.Write) =
-    (part : List ℕ) × (text : List ℕ) × (new : State) × Wrote part × IsBeginning part text × IsServed shape is_served state (line ∷ []) text new
-LineOutcome shape At Wrote state line number (Err _) = ⊥
+-- What became of one whole line, from the old state to the new one.
+abbrev pub LineOutcome : Shape → State → State → (List ℕ → Type 0) → List ℕ → ℕ → Result (Unit {0}) RunFault → Type 0
+LineOutcome shape old new Wrote line number (Ok _) = (text : List ℕ) × Wrote text × IsServed shape old (line ∷ []) text new
+LineOutcome shape old new Wrote line number (Err (fault.Line n)) = Wrote [] × (n ≡ number) × IsBad shape.passes line
+LineOutcome shape old new Wrote line number (Err fault.Write) =
+    (part : List ℕ) × (text : List ℕ) × Wrote part × IsBeginning part text × IsServed shape old (line ∷ []) text new
+LineOutcome shape old new Wrote line number (Err _) = ⊥
 
 -- What became of bytes that were fed: seen are all that came, theirs among them, and told is what was written before.
-abbrev pub FeedOutcome : Shape → (State → Type 0) → (List ℕ → Type 0) → List ℕ → List ℕ → List ℕ → ℕ → Result (Unit {0}) RunFault → Type 0
-FeedOutcome shape At Wrote seen told line number (Ok _) = (text : List ℕ) × Wrote text × Stands shape At seen (told ++ text) line number
-FeedOutcome shape At Wrote seen told line number (Err (fault.Line n)) = (text : List ℕ) × Wrote text × FirstBad shape ⊥ seen (told ++ text) n
-FeedOutcome shape At Wrote seen told line number (Err fault.Write) =
+abbrev pub FeedOutcome : Shape → State → (List ℕ → Type 0) → List ℕ → List ℕ → List ℕ → ℕ → Result (Unit {0}) RunFault → Type 0
+FeedOutcome shape state Wrote seen told line number (Ok _) = (text : List ℕ) × Wrote text × Stands shape state seen (told ++ text) line number
+FeedOutcome shape state Wrote seen told line number (Err (fault.Line n)) = (text : List ℕ) × Wrote text × FirstBad shape ⊥ seen (told ++ text) n
+FeedOutcome shape state Wrote seen told line number (Err fault.Write) =
     (part : List ℕ) × (text : List ℕ) × (front : List ℕ) × (rest : List ℕ) × Wrote part × IsBeginning (told ++ part) text × (seen ≡ front ++ rest) × Reaches shape front text
-FeedOutcome shape At Wrote seen told line number (Err _) = ⊥
+FeedOutcome shape state Wrote seen told line number (Err _) = ⊥
 
 -- What became of the last line, at the end of the script.
 abbrev pub FinishOutcome : Shape → (List ℕ → Type 0) → ℕ → ℕ → List ℕ → List ℕ → Result (Unit {0}) RunFault → Type 0
 FinishOutcome shape Wrote before flushes seen told (Ok _) =
-    (text : List ℕ) × Wrote text × (flushes ≡ flushed before) × IsTextOf shape is_served seen (told ++ text)
+    (text : List ℕ) × Wrote text × (flushes ≡ flushed before) × IsTextOf shape seen (told ++ text)
 FinishOutcome shape Wrote before flushes seen told (Err (fault.Line n)) =
     (text : List ℕ) × Wrote text × (flushes ≡ before) × FirstBad shape (Unit {0}) seen (told ++ text) n
 FinishOutcome shape Wrote before flushes seen told (Err fault.Write) =
     (part : List ℕ) × Wrote part
-    × (((flushes ≡ before) × IsCutOff shape seen (told ++ part)) ⊎ ((flushes ≡ flushed before) × IsTextOf shape is_served seen (told ++ part)))
+    × (((flushes ≡ before) × IsCutOff shape seen (told ++ part)) ⊎ ((flushes ≡ flushed before) × IsTextOf shape seen (told ++ part)))
 FinishOutcome shape Wrote before flushes seen told (Err _) = ⊥

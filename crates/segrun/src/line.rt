@@ -3,7 +3,6 @@ ghost use Rattle.std.specs.Prelude.{ℕ, ◌≡◌, ◌<◌, ◌==◌, ◌∷◌
 ghost use Rattle.std.specs.List.{slice_split};
 ghost use Rattle.segmodel.specs.Spelling.{PassTurn, IsNumber, IsKeyWord, IsSayable, spelling};
 ghost use Rattle.segrun.specs.Reading.{ReadsAs};
-ghost use Rattle.segrun.specs.Served.{is_served};
 ghost use Rattle.segrun.specs.Verb.{IsPair, pair_words, IsTriple, triple_words, IsTurnOf, arguments_of, line_words};
 
 use crate::verb::{Verb, verb_of};
@@ -134,18 +133,6 @@ pub fn read_line(line: &[u8], passes: u32) -> Option<(u32, Turn)>
 {
     let parts = parts_of(line)?;
     said_by(parts.as_slice(), passes)
-}
-
-/// Whether a script may have the turn.
-pub fn is_served(turn: &Turn) -> bool
-    ensures { result ≡ is_served turn.now }
-{
-    matches!(
-        turn,
-        Turn::Serve(Command::Refill(_) | Command::Write(Request::Set(_, _)) | Command::Get(_))
-            | Turn::Lock(_)
-            | Turn::Unlock
-    )
 }
 
 /// A line spells one turn of one pass.

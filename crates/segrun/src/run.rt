@@ -1,16 +1,15 @@
 //! Runs a script from a reader to a writer, over an engine.
 ghost use Rattle.std.specs.Prelude.{◌≡◌, ◌+◌, ◌<◌, ◌≤◌, ◌^◌, ◌++◌, ◌∷◌, [], ◌⊎◌, ℕ, List, length, take, false, IsOk, IfOk, OnErr, is_err};
 ghost use Rattle.segmodel.specs.Script.{IsTextOf, IsFirstBad};
-ghost use Rattle.segmodel.specs.State.{State, fresh};
+ghost use Rattle.segmodel.specs.State.{fresh};
 ghost use Rattle.segrun.specs.Device.{HandsOut};
 ghost use Rattle.segrun.specs.Running.{AllReplied};
 ghost use Rattle.segrun.specs.Run.{RunOutcome, is_read_fault, is_write_fault, is_make_fault};
-ghost use Rattle.segrun.specs.Served.{is_served};
 
 use crate::device::{Failed, Sink, Source, write_all};
 use crate::engine::Engine;
 use crate::fault::RunFault;
-use crate::line::{is_served, read_line};
+use crate::line::read_line;
 use crate::reply::reply_of;
 use arrayvec::ArrayVec;
 
@@ -36,9 +35,8 @@ impl OpenLine {
         requires ready { E.is_ready engine.old }
         ensures shape { E.shape engine.new ≡ E.shape engine.old }
         ensures ready { E.is_ready engine.new }
-        ensures outcome { (state : State) → ((E.shape engine.old).passes ≡ 1 → E.is_at engine.old state) →
-            LineOutcome (E.shape engine.old) (E.is_at engine.new) (λ text. W.takes writer.old text writer.new)
-            state self.now.bytes.items self.now.number result }
+        ensures outcome { LineOutcome (E.shape engine.old) (E.state engine.old) (E.state engine.new)
+            (λ text. W.takes writer.old text writer.new) self.now.bytes.items self.now.number result }
         ensures failed { W.has_failed writer.new ≡ is_write_fault result }
         ensures flushes { W.flushes writer.new ≡ W.flushes writer.old }
         ensures no_read { is_read_fault result ≡ false }
@@ -47,13 +45,9 @@ impl OpenLine {
         if self.bytes.is_empty() {
             return Ok(());
         }
-        let bad = RunFault::Line(self.number);
         let Some((pass, turn)) = read_line(self.bytes.as_slice(), engine.passes()) else {
-            return Err(bad);
+            return Err(RunFault::Line(self.number));
         };
-        if !is_served(&turn) {
-            return Err(bad);
-        }
         let outcome = engine.turn(pass, &turn);
         match write_all(writer, reply_of(&outcome).as_slice()) {
             Ok(()) => Ok(()),
@@ -75,8 +69,8 @@ impl OpenLine {
         ensures shape { E.shape engine.new ≡ E.shape engine.old }
         ensures ready { E.is_ready engine.new }
         ensures outcome { (seen told : List ℕ) →
-            Stands (E.shape engine.old) (E.is_at engine.old) seen told self.old.bytes.items self.old.number →
-            FeedOutcome (E.shape engine.old) (E.is_at engine.new) (λ text. W.takes writer.old text writer.new)
+            Stands (E.shape engine.old) (E.state engine.old) seen told self.old.bytes.items self.old.number →
+            FeedOutcome (E.shape engine.old) (E.state engine.new) (λ text. W.takes writer.old text writer.new)
             (seen ++ byte ∷ []) told self.new.bytes.items self.new.number result }
         ensures failed { W.has_failed writer.new ≡ is_write_fault result }
         ensures flushes { W.flushes writer.new ≡ W.flushes writer.old }
@@ -114,8 +108,8 @@ impl OpenLine {
         ensures shape { E.shape engine.new ≡ E.shape engine.old }
         ensures ready { E.is_ready engine.new }
         ensures outcome { (seen told : List ℕ) →
-            Stands (E.shape engine.old) (E.is_at engine.old) seen told self.old.bytes.items self.old.number →
-            FeedOutcome (E.shape engine.old) (E.is_at engine.new) (λ text. W.takes writer.old text writer.new)
+            Stands (E.shape engine.old) (E.state engine.old) seen told self.old.bytes.items self.old.number →
+            FeedOutcome (E.shape engine.old) (E.state engine.new) (λ text. W.takes writer.old text writer.new)
             (seen ++ bytes.now) told self.new.bytes.items self.new.number result }
         ensures failed { W.has_failed writer.new ≡ is_write_fault result }
         ensures flushes { W.flushes writer.new ≡ W.flushes writer.old }
@@ -136,7 +130,7 @@ impl OpenLine {
         requires ready { E.is_ready engine.old }
         ensures ready { E.is_ready engine.new }
         ensures outcome { (seen told : List ℕ) →
-            Stands (E.shape engine.old) (E.is_at engine.old) seen told self.now.bytes.items self.now.number →
+            Stands (E.shape engine.old) (E.state engine.old) seen told self.now.bytes.items self.now.number →
             FinishOutcome (E.shape engine.old) (λ text. W.takes writer.old text writer.new)
             (W.flushes writer.old) (W.flushes writer.new) seen told result }
         ensures failed { W.has_failed writer.new ≡ is_write_fault result }
@@ -163,7 +157,7 @@ fn read_piece<R: Source, W: Sink, E: Engine>(
 ) -> Result<usize, Failed>
     requires works { R.has_failed reader.old ≡ false }
     requires room { 0 < length piece.old }
-    requires replied { AllReplied (E.shape _engine.now) (E.is_at _engine.now) R.hands W.takes
+    requires replied { AllReplied (E.shape _engine.now) (E.state _engine.now) R.hands W.takes
         reader.old _writer.now _line.now.bytes.items _line.now.number }
     ensures count { IfOk result (λ n. n ≤ length piece.new) }
     ensures bytes { IfOk result (λ n. R.hands reader.old (take n piece.new) reader.new) }
@@ -184,7 +178,7 @@ pub fn run<R: Source, W: Sink, E: Engine>(
     requires reader_works { R.has_failed reader.old ≡ false }
     requires writer_works { W.has_failed writer.old ≡ false }
     requires ready { E.is_ready engine.old }
-    requires fresh { E.is_at engine.old (fresh (E.shape engine.old)) }
+    requires fresh { E.state engine.old ≡ fresh (E.shape engine.old) }
     ensures ready { E.is_ready engine.new }
     ensures outcome { RunOutcome (E.shape engine.old)
         (λ seen. R.hands reader.old seen reader.new) (R.is_at_end reader.new)
@@ -196,12 +190,12 @@ pub fn run<R: Source, W: Sink, E: Engine>(
     // Where the devices never failed, a script with a first bad line ends there, and any other ends well.
     ensures bad_line { (script text : List ℕ) (n : ℕ) →
         HandsOut R.hands R.is_at_end reader.old reader.new script →
-        IsFirstBad (E.shape engine.old) is_served script text n →
+        IsFirstBad (E.shape engine.old) script text n →
         R.has_failed reader.new ≡ false → W.has_failed writer.new ≡ false →
         (result ≡ Err (RunFault.Line n)) ⊎ (result ≡ Err RunFault.TooLong) }
     ensures no_bad_line { (script text : List ℕ) →
         HandsOut R.hands R.is_at_end reader.old reader.new script →
-        IsTextOf (E.shape engine.old) is_served script text →
+        IsTextOf (E.shape engine.old) script text →
         R.has_failed reader.new ≡ false → W.has_failed writer.new ≡ false →
         IsOk result ⊎ (result ≡ Err RunFault.TooLong) }
 {

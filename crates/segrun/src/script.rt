@@ -3,20 +3,20 @@ ghost use Rattle.std.specs.Prelude.{◌≡◌, ◌⊎◌, ℕ, List, true, false
 ghost use Rattle.segmodel.specs.Script.{IsTextOf, IsFirstBad};
 ghost use Rattle.segrun.specs.Device.{HandsOut};
 ghost use Rattle.segrun.specs.Run.{RunOutcome, ShapeIsAnswered, is_read_fault, is_write_fault, is_make_fault};
-ghost use Rattle.segrun.specs.Served.{is_served};
 
 use crate::device::{Sink, Source};
 use crate::fault::RunFault;
 use crate::run::run;
 use crate::server::Server;
+use segindex::{Index, MakeFault};
 use segword::Shape;
 use std::alloc::Global;
 
 /// Makes an index of this shape, runs the script that the reader hands out, and writes the replies.
 ///
-/// For now the shape has no overflow bucket, and a script has the lines `refill`, `set`, `get`, `lock` and `unlock`. Where
-/// it has one pass, the text is the one that the cache of one thread gives; where it has several, each turn has a reply.
-/// No memory is taken once the index is made.
+/// For now the shape has no overflow bucket. Where it has one pass, the text is the one that the cache of one thread gives;
+/// where it has several, they take turns on this thread, and each turn has a reply. No memory is taken once the index and
+/// the list of its holds are made.
 pub fn run_script<R: Source, W: Sink>(
     alloc: Global,
     reader: &mut R,
@@ -40,19 +40,22 @@ pub fn run_script<R: Source, W: Sink>(
 
     // Where the devices never failed, a script with a first bad line ends there, and any other ends well.
     ensures bad_line { (script text : List ℕ) (n : ℕ) →
-        HandsOut R.hands R.is_at_end reader.old reader.new script → IsFirstBad shape is_served script text n →
+        HandsOut R.hands R.is_at_end reader.old reader.new script → IsFirstBad shape script text n →
         R.has_failed reader.new ≡ false → W.has_failed writer.new ≡ false → is_make_fault result ≡ false →
         (result ≡ Err (RunFault.Line n)) ⊎ (result ≡ Err RunFault.TooLong) }
     ensures no_bad_line { (script text : List ℕ) →
-        HandsOut R.hands R.is_at_end reader.old reader.new script → IsTextOf shape is_served script text →
+        HandsOut R.hands R.is_at_end reader.old reader.new script → IsTextOf shape script text →
         R.has_failed reader.new ≡ false → W.has_failed writer.new ≡ false → is_make_fault result ≡ false →
         IsOk result ⊎ (result ≡ Err RunFault.TooLong) }
 {
-    let mut server = match Server::new(alloc, shape) {
-        Ok(server) => server,
+    let (index, passes) = match Index::new(alloc, shape) {
+        Ok(made) => made,
         Err(fault) => return Err(RunFault::Make(fault)),
     };
+    let Ok(mut server) = Server::new(alloc, &index, passes) else {
+        return Err(RunFault::Make(MakeFault::OutOfMemory));
+    };
     let result = run(reader, writer, &mut server);
-    server.unlock_all();
+    server.end();
     result
 }

@@ -1,140 +1,92 @@
 //! An index and its passes, which take turns on one thread.
-ghost use Rattle.std.specs.Prelude.{◌≡◌, true, IfOk, IfErr};
-ghost use Rattle.segword.specs.Shape.{IsValid};
-ghost use Rattle.segmodel.specs.declared.request.Request.TheVariants.{Set};
-ghost use Rattle.segmodel.specs.declared.answer.Command.TheVariants.{Write, Get, Refill};
-ghost use Rattle.segmodel.specs.declared.answer.Turn.TheVariants.{Serve, Lock, Unlock};
+ghost use Rattle.std.specs.Prelude.{◌≡◌, ◌<◌, length, IfOk};
 ghost use Rattle.segmodel.specs.State.{fresh};
-ghost use Rattle.segbase.specs.Made.{IsMakeFault};
-ghost use Rattle.segindex.specs.Index.{board_of, shape_of};
-ghost use Rattle.segindex.specs.Quiet.{IsQuiet};
-ghost use Rattle.segrun.specs.Served.{is_served};
-ghost use Rattle.segrun.specs.Passes.{TakesTurn};
+ghost use Rattle.segmodel.specs.Script.{Steps};
+ghost use Rattle.segindex.specs.Index.{shape_of};
+ghost use Rattle.segindex.specs.Calls.{IsNew};
 
 use crate::engine::Engine;
-use segindex::{Index, LockAnswer, MakeFault, Pass};
-use segmodel::{Answer, Command, Outcome, Request, Turn};
-use segword::{Key, Shape, Value};
-use std::alloc::Global;
+use crate::turns::{leave, take_turn};
+use segindex::{Hold, Index, Pass};
+use segmodel::{Outcome, Turn};
+use std::alloc::{AllocError, Global};
 
-/// The draw of each hit. No line of a script shows a frequency, so any number will do.
-const DRAW: u32 = 0;
-
-/// An index and its passes, in the order of their numbers.
-#[derive(Drop)]
-pub struct Server {
-    index: Index,
+/// An index and its passes, in the order of their numbers. At the place of each pass is the hold that it has.
+pub struct Server<'i> {
+    index: &'i Index,
     passes: Vec<Pass>,
+    holds: Vec<Option<Hold<'i>>>,
 }
 
-impl Server {
-    ghost use Rattle.segrun.specs.Server.{IsReady, is_at, NoneLocked};
+impl<'i> Server<'i> {
+    ghost use Rattle.segrun.specs.Server.{IsReady, state, NoneKeeps};
 
-    /// An index of this shape, in which nothing was done yet. Its turns take no more memory.
-    pub fn new(alloc: Global, shape: Shape) -> Result<Server, MakeFault>
-        requires no_overflow { shape.overflow ≡ 0 }
-        ensures shape { IfOk result (λ server. shape_of server.index ≡ shape) }
-        ensures valid { IfOk result (λ server. IsValid shape) }
+    /// A server of an index in which nothing was done yet. Its turns take no more memory.
+    pub fn new(alloc: Global, index: &'i Index, passes: Vec<Pass>) -> Result<Server<'i>, AllocError>
+        requires new { IsNew (shape_of index.now) index.now passes.items }
+        ensures shape { IfOk result (λ server. shape_of server.index.now ≡ shape_of index.now) }
         ensures ready { IfOk result IsReady }
-        ensures start { IfOk result (λ server. is_at server (fresh shape)) }
-        ensures fault { IfErr result (IsMakeFault shape) }
+        ensures start { IfOk result (λ server. state server ≡ fresh (shape_of index.now)) }
     {
-        match Index::new(alloc, shape) {
-            Ok((index, passes)) => Ok(Server { index, passes }),
-            Err(fault) => Err(fault),
+        let mut holds = Vec::with_capacity(alloc, passes.len())?;
+        for _ in 0..passes.len() {
+            holds.push_reserved(None);
         }
+        Ok(Server {
+            index,
+            passes,
+            holds,
+        })
     }
 
-    /// Unlocks each bucket that a pass has locked.
-    pub fn unlock_all(&mut self)
-        requires ready { IsReady self.old }
-        ensures unlocked { NoneLocked self.new }
+    /// Ends the turns: each hold is released, and each bucket unlocked.
+    pub fn end(self) -> Vec<Pass>
+        requires ready { IsReady self }
+        ensures all { length result.items ≡ (shape_of self.entry.index.now).passes }
+        ensures left { NoneKeeps result.items }
     {
-        for pass in self.passes.iter_mut() {
-            self.index.unlock_bucket(pass);
+        let Server {
+            index,
+            mut passes,
+            mut holds,
+        } = self;
+        while let Some(hold) = holds.pop() {
+            leave(index, &mut passes[holds.len()], hold);
         }
+        holds.destroy_empty();
+        passes
     }
 }
 
-impl Engine for Server {
-    ghost use Rattle.segrun.specs.Server.{IsReady, is_at};
+impl Engine for Server<'_> {
+    ghost use Rattle.segrun.specs.Server.{IsReady, state, TurnsOne};
 
-    ghost shape = { λ server. shape_of server.index };
+    ghost shape = { λ server. shape_of server.index.now };
 
     ghost is_ready = { IsReady };
 
-    ghost is_at = { is_at };
+    ghost state = { state };
 
     fn passes(&self) -> u32 {
         self.index.shape().passes
     }
 
-    fn turn(&mut self, pass: u32, turn: &Turn) -> Outcome {
-        take_turn(&self.index, &mut self.passes[pass as usize], turn)
-    }
-}
+    fn turn(&mut self, pass: u32, turn: &Turn) -> Outcome
+        requires pass { pass < (shape_of self.old.index.now).passes }
+        requires ready { IsReady self.old }
+        ensures ready { IsReady self.new }
+        ensures shape { shape_of self.new.index.now ≡ shape_of self.old.index.now }
+        ensures turns { Steps (shape_of self.old.index.now) (state self.old) (pass, turn.now) result (state self.new) }
 
-// One turn of a pass.
-fn take_turn(index: &Index, pass: &mut Pass, turn: &Turn) -> Outcome
-    requires no_overflow { (shape_of index.now).overflow ≡ 0 }
-    requires quiet { IsQuiet (board_of index.now) pass.old }
-    requires served { is_served turn.now ≡ true }
-    ensures { TakesTurn (board_of index.now) turn.now result pass.old pass.new }
-{
-    match turn {
-        Turn::Serve(Command::Get(key)) => get(index, pass, key),
-        Turn::Serve(Command::Write(Request::Set(key, value))) => set(index, pass, key, value),
-        Turn::Serve(Command::Refill(segment)) => refill(index, pass, *segment),
-        Turn::Lock(key) => lock(index, pass, key),
-        Turn::Unlock => unlock(index, pass),
-        _ => unreachable!(),
-    }
-}
-
-fn get(index: &Index, pass: &mut Pass, key: &Key) -> Outcome
-    requires no_overflow { (shape_of index.now).overflow ≡ 0 }
-    requires quiet { IsQuiet (board_of index.now) pass.old }
-    ensures { TakesTurn (board_of index.now) (Serve (Get key.now)) result pass.old pass.new }
-{
-    Outcome::Answered(Answer::Get(index.get(pass, key, DRAW)))
-}
-
-fn set(index: &Index, pass: &mut Pass, key: &Key, value: &Value) -> Outcome
-    requires no_overflow { (shape_of index.now).overflow ≡ 0 }
-    requires quiet { IsQuiet (board_of index.now) pass.old }
-    ensures { TakesTurn (board_of index.now) (Serve (Write (Set key.now value.now))) result pass.old pass.new }
-{
-    Outcome::Answered(Answer::Write(index.set(pass, key, value)))
-}
-
-fn refill(index: &Index, pass: &mut Pass, segment: u32) -> Outcome
-    requires no_overflow { (shape_of index.now).overflow ≡ 0 }
-    requires quiet { IsQuiet (board_of index.now) pass.old }
-    ensures { TakesTurn (board_of index.now) (Serve (Refill segment)) result pass.old pass.new }
-{
-    Outcome::Answered(Answer::Refill(index.refill(pass, segment)))
-}
-
-fn lock(index: &Index, pass: &mut Pass, key: &Key) -> Outcome
-    requires no_overflow { (shape_of index.now).overflow ≡ 0 }
-    requires quiet { IsQuiet (board_of index.now) pass.old }
-    ensures { TakesTurn (board_of index.now) (Lock key.now) result pass.old pass.new }
-{
-    match index.lock_bucket(pass, key) {
-        LockAnswer::Locked => Outcome::Locked,
-        LockAnswer::Busy => Outcome::Busy,
-        LockAnswer::AlreadyLocked => Outcome::AlreadyLocked,
-    }
-}
-
-fn unlock(index: &Index, pass: &mut Pass) -> Outcome
-    requires no_overflow { (shape_of index.now).overflow ≡ 0 }
-    requires quiet { IsQuiet (board_of index.now) pass.old }
-    ensures { TakesTurn (board_of index.now) Unlock result pass.old pass.new }
-{
-    if index.unlock_bucket(pass) {
-        Outcome::Unlocked
-    } else {
-        Outcome::NotLocked
+        // The turn was that pass's, and the others are as they were.
+        ensures one { TurnsOne pass turn.now result self.old self.new }
+    {
+        let place = pass as usize;
+        take_turn(
+            self.index,
+            &mut self.passes[place],
+            &mut self.holds[place],
+            turn,
+        )
     }
 }

@@ -2,10 +2,13 @@
 mod bad_lines;
 mod cut_short;
 mod devices;
+mod evicting;
+mod holding;
 mod locking;
 mod making;
 mod order;
 mod serving;
+mod writing;
 
 ghost use Rattle.std.specs.Prelude.{◌≡◌, false};
 
@@ -84,4 +87,25 @@ fn check_script(
     replies: &[u8],
 ) -> Result<(), Fail> {
     check(rt, alloc, shape_of(rows), script, None, end, replies)
+}
+
+/// Checks a script without bad lines. The shape has no overflow bucket, and this many buckets, passes, segments of a pass
+/// and rows of a segment.
+fn check_turns(
+    rt: &impl Abort,
+    alloc: Global,
+    [buckets, passes, segments_each, rows]: [u32; 4],
+    first_version: u32,
+    script: &[u8],
+    replies: &[u8],
+) -> Result<(), Fail> {
+    let shape = Shape {
+        buckets,
+        overflow: 0,
+        passes,
+        segments_each,
+        rows,
+        first_version,
+    };
+    check(rt, alloc, shape, script, None, Ok(()), replies)
 }

@@ -22,6 +22,22 @@ fn each_of_these_lines_is_bad(rt: HostRuntime) -> Result<(), Fail> {
         b"p0 set a\n".as_slice(),
         b"p0 lock\n".as_slice(),
         b"p0 unlock a\n".as_slice(),
+        b"p0 gets\n".as_slice(),
+        b"p0 add a\n".as_slice(),
+        b"p0 replace a 1 2\n".as_slice(),
+        b"p0 cas a 1\n".as_slice(),
+        b"p0 cas a 1 x\n".as_slice(),
+        b"p0 cas a 1 01\n".as_slice(),
+        b"p0 cas a 1 4294967296\n".as_slice(),
+        b"p0 delete\n".as_slice(),
+        b"p0 delete a 1\n".as_slice(),
+        b"p0 evict\n".as_slice(),
+        b"p0 evict a\n".as_slice(),
+        b"p0 hold\n".as_slice(),
+        b"p0 held a\n".as_slice(),
+        b"p0 release a\n".as_slice(),
+        b"p0 meet\n".as_slice(),
+        b"p0 close\n".as_slice(),
         b"p0 look a\n".as_slice(),
         b"p0 get \xc3\n".as_slice(),
         b"p0 get a\xc3\n".as_slice(),
@@ -35,24 +51,6 @@ fn each_of_these_lines_is_bad(rt: HostRuntime) -> Result<(), Fail> {
         b"p0 refill 99999999999999999999\n".as_slice(),
         b"p0 set abcdefghijklmnopqrstuvwxy 1\n".as_slice(),
         b"p0 set a vvvvvvvvvvvvvvvvvvvvvvvvvvvvvvvvv\n".as_slice(),
-    ] {
-        check_script(&rt, rt.alloc(), 2, line, Err(RunFault::Line(1)), b"")?;
-    }
-    Ok(())
-}
-
-#[test]
-fn lines_of_later_commands_are_bad_so_far(rt: HostRuntime) -> Result<(), Fail> {
-    for line in [
-        b"p0 add a 1".as_slice(),
-        b"p0 replace a 1".as_slice(),
-        b"p0 cas a 1 0".as_slice(),
-        b"p0 delete a".as_slice(),
-        b"p0 gets a".as_slice(),
-        b"p0 evict 0".as_slice(),
-        b"p0 hold a".as_slice(),
-        b"p0 held".as_slice(),
-        b"p0 release".as_slice(),
     ] {
         check_script(&rt, rt.alloc(), 2, line, Err(RunFault::Line(1)), b"")?;
     }

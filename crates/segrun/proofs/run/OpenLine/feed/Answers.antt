@@ -15,10 +15,10 @@ returns-then-byte-ne10-clause-outcome g c = λ seen told here.
 
 pub returns-in-Ok-clause-outcome : goal.returns-in-Ok-clause-outcome
 returns-in-Ok-clause-outcome g c = λ seen told here.
-    let out = c.in-Ok.ensures.outcome here.state here.at in
-    (out.0, out.2, rw (c.if-byte-ne10.false, c.clear.ensures) (at_end _ _ _ seen told out.0 _ _ out.1 here out.3 out.4))
+    let out = c.in-Ok.ensures.outcome in
+    (out.0, out.1, rw (c.if-byte-ne10.false, c.clear.ensures) (at_end _ _ _ seen told out.0 _ _ here out.2))
 
 pub returns-in-Err-clause-outcome : goal.returns-in-Err-clause-outcome
 returns-in-Err-clause-outcome g c = λ seen told here.
-    feed-fault _ _ (g.E.Engine.is_at c.serve.new.engine) (g.E.Engine.is_at c.serve.new.engine) _ seen told _ c.args.self.now.bytes.items _ c.args.self.now.number _ c.in-Err.fault
-    c.if-byte-ne10.false here (c.in-Err.ensures.outcome here.state here.at)
+    feed-fault _ _ (g.E.Engine.state c.serve.new.engine) (g.E.Engine.state c.serve.new.engine) _ seen told _ c.args.self.now.bytes.items _ c.args.self.now.number _ c.in-Err.fault
+    c.if-byte-ne10.false here c.in-Err.ensures.outcome

@@ -16,8 +16,8 @@ loop-byte-init g c = record {
 pub returns-in-Err-clause-outcome : goal.returns-in-Err-clause-outcome
 returns-in-Err-clause-outcome g c = λ seen told here.
     let fed = c.loop-byte.invariant.fed seen told here in
-    let outcome = at_shape _ _ c.loop-byte.invariant.shape (g.E.Engine.is_at c.loop-byte.engine) (g.E.Engine.is_at c.feed.new.engine) _ _ c.feed.new.self.bytes.items _ c.feed.new.self.number _ (Err c.in-Err.fault) c.in-Err.ensures.outcome in
-    fault_later _ g.W.Sink.takes g.met.W.Sink.takes_more _ _ _ seen told _ _ _ _ _ (g.E.Engine.is_at c.feed.new.engine) _ c.feed.new.self.bytes.items _ c.feed.new.self.number c.in-Err.fault fed
+    let outcome = at_shape _ _ c.loop-byte.invariant.shape (g.E.Engine.state c.loop-byte.engine) (g.E.Engine.state c.feed.new.engine) _ _ c.feed.new.self.bytes.items _ c.feed.new.self.number _ (Err c.in-Err.fault) c.in-Err.ensures.outcome in
+    fault_later _ g.W.Sink.takes g.met.W.Sink.takes_more _ _ _ seen told _ _ _ _ _ (g.E.Engine.state c.feed.new.engine) _ c.feed.new.self.bytes.items _ c.feed.new.self.number c.in-Err.fault fed
     (cut_at c.args.bytes.now c.loop-byte.byte-index c.loop-byte-test.true) (outcome _ _ fed.here)
 
 pub loop-byte-preserved : goal.loop-byte-preserved
