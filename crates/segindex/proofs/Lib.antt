@@ -62,3 +62,7 @@ pub mod Unlinking
 pub mod StoredRows
 pub mod RowsOut
 pub mod Evictions
+pub mod Pairs
+pub mod AtRest
+pub mod Listing
+pub mod Ended

@@ -17,3 +17,4 @@ pub mod Gets
 pub mod Holds
 pub mod Served
 pub mod Solo
+pub mod Closing

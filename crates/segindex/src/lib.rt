@@ -2,6 +2,7 @@
 #![tactic(auto)]
 
 mod bucket;
+mod close;
 mod delete;
 mod evict;
 mod find;
@@ -20,6 +21,7 @@ mod versions;
 mod write;
 
 pub use bucket::LockAnswer;
+pub use close::OutOfMemory;
 pub use hold::{Hold, HoldAnswer, hold_stays};
 pub use index::Index;
 pub use laws::{

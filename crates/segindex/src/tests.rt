@@ -3,6 +3,8 @@ ghost use Rattle.std.specs.Prelude.{◌≡◌, ℕ, slice_get, Some, IfSome};
 ghost use Rattle.segindex.specs.Index.{board_of};
 ghost use Rattle.segindex.specs.Quiet.{IsQuiet};
 
+mod closing;
+
 use crate::{HoldAnswer, Index, LockAnswer, Pass, hold_stays};
 use segbase::Place;
 use segmodel::{GetAnswer, GetsAnswer, RefillAnswer, WriteAnswer};

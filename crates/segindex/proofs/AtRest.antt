@@ -1,0 +1,158 @@
+-- What the words of a chain at rest say: the pair that a word names, the bucket that the last one leads on to, and where the chain ends.
+use Rattle.std.proofs.Common.{◌≡◌, ℕ, ◌+◌, ◌-◌, ◌*◌, ◌/◌, ◌%◌, ◌^◌, ◌<◌, ◌≤◌, ◌⊎◌, true, false, ltb, List, length, Some, None, refl, sym, ap, ◌∙◌, subst, inl, inr, ⊎_elim, arith}
+use Rattle.std.proofs.lemmas.Bool.{cases_lt, lt-ltb, le-ltb}
+use Rattle.std.proofs.lemmas.List.{ext_get_or}
+use Rattle.std.specs.Prelude.{slice_index, Option, option_map}
+use Rattle.segword.specs.declared.shape.Shape.{Shape}
+use Rattle.segword.specs.declared.item.Item.{Item}
+use Rattle.segword.specs.Shape.{IsValid}
+use Rattle.segword.specs.Bytes.{IsKey, IsValue}
+use Rattle.segword.specs.ItemWord.{item_word, tag_part}
+use Rattle.segword.specs.ChainWord.{chain_word, IsChainWord}
+use Rattle.segword.specs.Row.{row_of}
+use Rattle.segmodel.specs.declared.entry.Cached.{Cached}
+use Rattle.segcore.specs.declared.event.Event.{Event}
+use Rattle.segcore.specs.declared.cell.Cell.{Cell}
+use Rattle.segcore.specs.declared.cell.Cell.TheVariants.{OfRow}
+use Rattle.segcore.specs.Bucket.{bucket_after}
+use Rattle.segcore.specs.Overflow.{home as home_at, home_of}
+use Rattle.segcore.specs.Row.{row_after}
+use Rattle.segcore.specs.Lawful.{IsSegment}
+use Rattle.segcore.specs.Word.{word, IsAt, IsItemAt}
+use Rattle.segcore.specs.Search.{KeyAt}
+use Rattle.segcore.proofs.Chains.{chain_of}
+use Rattle.segcore.proofs.ChainWords.{other_tag, leads_on, ends_there}
+use Rattle.segcore.proofs.Exact.{tagged}
+use Rattle.segcore.proofs.Limits.{few_drawn}
+use Rattle.segcore.proofs.StepKinds.{cell_in}
+use Rattle.segbase.specs.declared.place.Place.{Place}
+use Rattle.segbase.specs.declared.closing.Words.{Words}
+use Rattle.segbase.specs.Spots.{cell_at, position, home_bucket}
+use Rattle.segbase.specs.Closing.{shape_of, word_at, IsAtRest}
+use Rattle.segbase.proofs.Placed.{item_home}
+use Rattle.segstore.specs.Linked.{segment_part, row_part, IsChained, WasLinked}
+use Rattle.segstore.proofs.Words.{at_place, stood_item, segment_of_packed, row_of_packed}
+use Rattle.segindex.specs.Scanning.{place_of}
+use Rattle.segindex.specs.Closing.{IsWordIn, IsBucketIn, IsPairAt}
+
+-- ---- a word
+
+module _ (words : Words) (trace : List Event) (home at : ℕ) (place : Place) (rest : IsAtRest words trace) (is : IsWordIn words trace home at place) where
+  abbrev z : Shape
+  z = shape_of words
+
+  abbrev cell : Cell
+  cell = cell_at z place
+
+  low : home < z.buckets
+  low = item_home z trace home at place rest.lawful is.1
+
+  same_word : word_at words cell ≡ word z trace cell
+  same_word = rest.each cell (cell_in z trace home at cell rest.lawful low is.1.1)
+
+  place_is : (home_bucket z trace place ≡ home) × (position z trace place ≡ at)
+  place_is = at_place z trace home at place is.1.1
+
+  chained : IsChained z trace place
+  chained = record {
+    in_table = is.0;
+    at = subst (λ b. IsItemAt z trace b (position z trace place) cell) (sym place_is.0) (subst (λ n. IsItemAt z trace home n cell) (sym place_is.1) is.1);
+  }
+
+  -- a word without a tag is no key's
+  pub no_pair : tag_part (word_at words cell) ≡ 0 → IsPairAt z trace home at None
+  no_pair none key of there =
+      let tag = tagged key in
+      other_tag z key trace at cell rest.valid rest.lawful (subst (λ b. IsAt trace b at cell) (sym of) is.1.1) (λ same. let tagless : word z trace cell / 2 ^ 52 ≡ 0 = ap (λ w. w / 2 ^ 52) (sym same_word) ∙ none in omega (arith, tag.0, same, tagless)) there
+
+  module _ (item : Item) (of : item_word item ≡ word_at words cell) where
+    linked : (key : List ℕ) × (value : List ℕ) × WasLinked z place (word_at words cell) key value trace
+    linked = stood_item z trace place (word_at words cell) rest.valid rest.lawful chained (sym same_word)
+        (let low_tag = item.tag_above_zero in let e = of in omega arith)
+
+    in_segment : segment_part (word_at words cell) ≡ item.seg
+    in_segment = ap segment_part (sym of) ∙ segment_of_packed item.tag item.freq item.seg item.row item.seg_in_range item.row_in_range
+
+    in_row : row_part (word_at words cell) ≡ item.row
+    in_row = ap row_part (sym of) ∙ row_of_packed item.tag item.freq item.seg item.row item.row_in_range
+
+    -- an item's row is in the table
+    pub row_in_table : IsSegment z item.seg × (item.row < z.rows)
+    row_in_table = let there = linked.2.in_segment in (subst (λ s. IsSegment z s) in_segment there.0, subst (λ r. r < z.rows) in_row there.1)
+
+    -- and its words are those of the key's pair
+    same_row : (row : List ℕ) → length row ≡ 8 → ((n : ℕ) → n < 8 → slice_index row n ≡ word_at words (OfRow item.seg item.row n)) → row_of linked.0 linked.1 ≡ row
+    same_row row long each = let x = linked.2 in
+        ext_get_or 0 (row_of linked.0 linked.1) row (sym long) (λ n lt.
+        sym (x.holds n lt) ∙ ((λ i. (row_after trace (in_segment i) (in_row i)).words n) ∙ (sym (rest.each (OfRow item.seg item.row n) (row_in_table.0, row_in_table.1, lt)) ∙ sym (each n lt))))
+
+    pub pair_is : (row : List ℕ) (result : Option (List ℕ × List ℕ)) → length row ≡ 8 → ((n : ℕ) → n < 8 → slice_index row n ≡ word_at words (OfRow item.seg item.row n))
+        → ((key value : List ℕ) → IsKey key → IsValue value → row_of key value ≡ row → result ≡ Some (key, value)) → IsPairAt z trace home at result
+    pair_is row result long each packed = let x = linked.2 in let key = linked.0 in let value = linked.1 in
+        subst (λ r. IsPairAt z trace home at r) (sym (packed key value x.valid.0 x.valid.1 (same_row row long each))) (
+          x.here.0 ∙ place_is.0,
+          subst (λ n. KeyAt z key trace n) place_is.1 x.here.1,
+          ap (option_map (λ (c : Cached). c.value)) x.stands,
+        )
+
+-- ---- the buckets of a chain
+
+-- the bucket that the chain begins with
+pub first_bucket : (words : Words) (trace : List Event) (home : ℕ) → IsValid (shape_of words) → home < (shape_of words).buckets → IsBucketIn words trace home 0 home
+first_bucket words trace home v lt w low high =
+    let z = shape_of words in
+    let t : ltb home z.buckets ≡ true = lt-ltb home z.buckets lt in
+    let e : w ≡ 8 * 0 + w = omega arith in (
+      ((let a : home < z.buckets + z.overflow = omega arith in a), low, high),
+      (((let a : 8 * 0 + w < 8 * (bucket_after z trace home).chained + 8 = omega arith in a), (let a : 0 < (8 * 0 + w) % 8 = omega arith in a)), rw t (refl, e, high)),
+    )
+
+module _ (words : Words) (trace : List Event) (home depth bucket : ℕ) (rest : IsAtRest words trace) (is : IsBucketIn words trace home depth bucket) where
+  abbrev shape : Shape
+  shape = shape_of words
+
+  abbrev last : Place
+  last = place_of bucket 7
+
+  last_in : IsWordIn words trace home (8 * depth + 7) last
+  last_in = is 7 (omega arith) (omega arith)
+
+  within : home < shape.buckets
+  within = low words trace home (8 * depth + 7) last rest last_in
+
+  last_word : word_at words (cell_at shape last) ≡ word shape trace (cell_at shape last)
+  last_word = same_word words trace home (8 * depth + 7) last rest last_in
+
+  -- the last word leads on
+  pub next_bucket : (number : ℕ) → chain_word number ≡ word_at words (cell_at shape last) → number < 65536 → IsBucketIn words trace home (depth + 1) (shape.buckets + number)
+  next_bucket number leads few w low high =
+      let found : word shape trace (cell_at shape last) ≡ number + 1 = sym last_word ∙ sym leads in
+      let on = leads_on shape trace home depth (cell_at shape last) rest.valid rest.lawful within last_in.1 (omega (arith, found)) (omega (arith, found, few)) in
+      let same : on.1.0 ≡ number = let e = on.1.1 in omega (arith, e, found) in
+      let of : home_of trace number ≡ Some (home_at home (depth + 1)) = subst (λ n. home_of trace n ≡ Some (home_at home (depth + 1))) same on.1.2 in
+      let most : number < shape.overflow = subst (λ n. n < shape.overflow) same on.1.3 in
+      let deep : depth < (bucket_after shape trace home).chained = on.0 in
+      let t : ltb (shape.buckets + number) shape.buckets ≡ false = le-ltb (shape.buckets + number) shape.buckets (omega arith) in
+      let e : shape.buckets + number - shape.buckets ≡ number = omega arith in (
+        ((let a : shape.buckets + number < shape.buckets + shape.overflow = omega arith in a), low, high),
+        (((let a : 8 * (depth + 1) + w < 8 * (bucket_after shape trace home).chained + 8 = omega arith in a), (let a : 0 < (8 * (depth + 1) + w) % 8 = omega arith in a)), rw (t, e) (depth + 1, of, refl, high)),
+      )
+
+  -- or ends the chain
+  pub chain_ends : ¬ (IsChainWord (word_at words (cell_at shape last))) → (bucket_after shape trace home).chained ≤ depth
+  chain_ends none =
+      let w = word shape trace (cell_at shape last) in
+      let no_chain : ¬ (IsChainWord w) = subst (λ n. ¬ (IsChainWord n)) last_word none in
+      ends_there shape trace home depth (cell_at shape last) rest.valid rest.lawful last_in.1.1 (⊎_elim
+      (λ lt. ⊎_elim
+      (λ some. let on = leads_on shape trace home depth (cell_at shape last) rest.valid rest.lawful within last_in.1 some lt in
+      let most = few_drawn shape rest.valid in let few = on.1.3 in let is_chain = on.1.1 in
+      absurd (no_chain (omega (arith, is_chain), omega (arith, is_chain, most, few))))
+      (λ le. inl (omega (arith, le)))
+      (cases_lt 0 w))
+      (λ le. inr le)
+      (cases_lt w (2 ^ 52)))
+
+  -- no chain is deeper
+  pub not_deeper : depth < 4
+  not_deeper = let deep = last_in.1.0.0 in let short = (chain_of shape trace rest.lawful home).short in omega (arith, deep, short)

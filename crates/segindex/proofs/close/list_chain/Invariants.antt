@@ -1,0 +1,9 @@
+use Rattle.std.proofs.Common.{◌+◌, ◌*◌, List}
+use Rattle.segcore.specs.declared.event.Event.{Event}
+use Rattle.segbase.specs.Closing.{IsAtRest}
+use Rattle.segindex.specs.Closing.{IsListed, IsBucketIn}
+use Rattle.segindex.proofs.close.list_chain.Given as goal
+
+abbrev pub invariant-loop-depth : goal.invariant-loop-depth
+invariant-loop-depth l = (trace : List Event) → IsAtRest l.words trace → IsBucketIn l.words trace l.home l.depth l.bucket
+    × (IsListed l.words trace l.home 1 l.fn.pairs.items → IsListed l.words trace l.home (8 * l.depth + 1) l.pairs.items)

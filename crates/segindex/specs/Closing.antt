@@ -1,0 +1,85 @@
+-- The content of an index at its end: the pairs of the cache after some history that goes on from what the closing pass has seen.
+use Rattle.std.specs.Prelude.{◌≡◌, ℕ, ◌+◌, ◌*◌, ◌<◌, ◌⊎◌, List, map, Option, None, Some}
+use Rattle.std.specs.List.{IsDistinct}
+use Rattle.std.specs.Ordering.{eq_by_cmp}
+use Rattle.std.specs.Map.{lookup, keys_of}
+use Rattle.std.specs.BTreeMap.{is_at}
+use Rattle.segword.specs.declared.shape.Shape.{Shape}
+use Rattle.segmodel.specs.declared.entry.Entry.{Entry}
+use Rattle.segmodel.specs.declared.entry.Cached.{Cached}
+use Rattle.segmodel.specs.Places.{bucket_of}
+use Rattle.segmodel.specs.Cache.{Cache, key_cmp, reads}
+use Rattle.segmodel.specs.History.{after, IsLegal, Begins}
+use Rattle.segmodel.specs.History as history
+use Rattle.segcore.specs.declared.event.Event.{Event}
+use Rattle.segcore.specs.Event as event
+use Rattle.segcore.specs.Word.{IsItemAt}
+use Rattle.segcore.specs.Search.{KeyAt}
+use Rattle.segbase.specs.declared.pass.Pass.{Pass}
+use Rattle.segbase.specs.declared.closing.Words.{Words}
+use Rattle.segbase.specs.declared.place.Place.{Place}
+use Rattle.segbase.specs.Passes.{number, seen, mine}
+use Rattle.segbase.specs.Spots.{IsPlace, cell_at}
+use Rattle.segbase.specs.Closing as closing
+use Rattle.segindex.specs.Scanning.{place_of}
+
+-- ---- the content
+
+abbrev pub Pairs : Type 0
+Pairs = List (List ℕ × List ℕ)
+
+abbrev pub pair_of : List ℕ × Cached → List ℕ × List ℕ
+pair_of entry = (entry.0, entry.1.value)
+
+-- the keys that stand, in their order, and the value of each
+abbrev pub pairs_of : Cache → Pairs
+pairs_of cache = map pair_of cache.items
+
+-- the history goes on from what the pass has seen, by entries of other passes
+pub record IsEnd (shape : Shape) (p : Pass) (now : List Entry) : Type 0 where
+  pub legal : IsLegal shape now
+  pub goes_on : Begins (seen p) now
+  pub mine : history.mine (number p) now ≡ mine p
+
+-- these are the pairs of the cache after such a history
+abbrev pub IsContent : Shape → Pass → Pairs → Type 0
+IsContent shape p content = (now : List Entry) × IsEnd shape p now × (content ≡ pairs_of (after shape now))
+
+-- the pairs of the cache after what the pass has seen
+abbrev pub IsContentSeen : Shape → Pass → Pairs → Type 0
+IsContentSeen shape p content = content ≡ pairs_of (after shape (seen p))
+
+-- ---- on the way
+
+-- the value that is listed under a key
+abbrev pub listed : Pairs → List ℕ → Option (List ℕ)
+listed pairs key = lookup (is_at (key_cmp key)) pairs
+
+-- the pairs that stand at some moment, of just those keys of which this is so, each once
+pub record Lists (shape : Shape) (trace : List Event) (Of : List ℕ → Type 0) (pairs : Pairs) : Type 0 where
+  pub distinct : IsDistinct (eq_by_cmp key_cmp) (keys_of pairs)
+  pub only : (key value : List ℕ) → listed pairs key ≡ Some value → Of key × (reads (after shape (event.seen trace)) key ≡ Some value)
+  pub all : (key value : List ℕ) → Of key → reads (after shape (event.seen trace)) key ≡ Some value → listed pairs key ≡ Some value
+
+-- the key's item is at a position below this one of the bucket's chain, or in a bucket before
+abbrev pub IsBefore : Shape → List Event → ℕ → ℕ → List ℕ → Type 0
+IsBefore shape trace bucket position key =
+    (bucket_of shape key < bucket) ⊎ ((bucket_of shape key ≡ bucket) × ((at : ℕ) × (at < position) × KeyAt shape key trace at))
+
+-- the chains of the buckets up to this one are listed, and of its own chain the words up to this position
+abbrev pub IsListed : Words → List Event → ℕ → ℕ → Pairs → Type 0
+IsListed words trace bucket position pairs = Lists (closing.shape_of words) trace (IsBefore (closing.shape_of words) trace bucket position) pairs
+
+-- the place is the word at a position of the chain of a bucket
+abbrev pub IsWordIn : Words → List Event → ℕ → ℕ → Place → Type 0
+IsWordIn words trace home at place = IsPlace (closing.shape_of words) place × IsItemAt (closing.shape_of words) trace home at (cell_at (closing.shape_of words) place)
+
+-- the bucket is the one at this depth of the chain that begins with the bucket `home`
+abbrev pub IsBucketIn : Words → List Event → ℕ → ℕ → ℕ → Type 0
+IsBucketIn words trace home depth bucket = (word : ℕ) → 0 < word → word < 8 → IsWordIn words trace home (8 * depth + word) (place_of bucket word)
+
+-- the key whose item is at a position of the chain, with its value, where one is
+abbrev pub IsPairAt : Shape → List Event → ℕ → ℕ → Option (List ℕ × List ℕ) → Type 0
+IsPairAt shape trace home at None = (key : List ℕ) → bucket_of shape key ≡ home → ¬ (KeyAt shape key trace at)
+IsPairAt shape trace home at (Some pair) =
+    (bucket_of shape pair.0 ≡ home) × KeyAt shape pair.0 trace at × (reads (after shape (event.seen trace)) pair.0 ≡ Some pair.1)

@@ -1,0 +1,92 @@
+//! The content of an index at its end, read from its words at rest.
+ghost use Rattle.std.specs.Prelude.{◌≡◌, ℕ, ◌+◌, ◌*◌, ◌<◌, List, IfOk, OnOk};
+ghost use Rattle.segcore.specs.declared.event.Event.{Event};
+ghost use Rattle.segbase.specs.Closing.{shape_of, IsAtRest};
+ghost use Rattle.segindex.specs.Closing.{IsListed, IsWordIn, IsBucketIn, IsPairAt};
+
+use crate::index::Index;
+use crate::scan::BUCKETS;
+use segbase::{Pass, Place, Words};
+use segword::{Chain, Item, Key, Value, read_row};
+use std::alloc::{AllocError, Global};
+use thiserror::Error;
+
+/// The memory for the content of an index was refused. The index is gone.
+#[derive(Clone, Copy, Debug, PartialEq, Eq, Error)]
+#[error("out of memory")]
+pub struct OutOfMemory;
+
+impl Index {
+    ghost use Rattle.segindex.specs.Index as index;
+    ghost use Rattle.segindex.specs.Quiet.{IsQuiet};
+    ghost use Rattle.segindex.specs.Closing.{IsContent, IsContentSeen};
+
+    /// Ends the index, and lists what stands in it: each key with its value, in the order of the keys. That is the content after all that any pass did, whether this one has seen it or not; buckets that are still locked are listed like the others. It can't be called while an item is held.
+    ///
+    /// It takes memory for the list. Where that is refused, index and pass are gone all the same.
+    pub fn close(self, alloc: Global, pass: Pass) -> Result<Vec<(Key, Value)>, OutOfMemory>
+        requires { IsQuiet (index.board_of self) pass }
+        ensures content { IfOk result (λ content. IsContent (index.shape_of self) pass content.items) }
+        ensures alone { (index.shape_of self).passes ≡ 1 → IfOk result (λ content. IsContentSeen (index.shape_of self) pass content.items) }
+    {
+        let Index { board } = self;
+        let words = board.close(pass);
+        let Ok(mut content) = list_pairs(alloc, &words) else {
+            return Err(OutOfMemory);
+        };
+        content.sort_unstable_by(|left, right| left.0.cmp(&right.0));
+        Ok(content)
+    }
+}
+
+// The pairs of all buckets.
+fn list_pairs(alloc: Global, words: &Words) -> Result<Vec<(Key, Value)>, AllocError>
+    requires rest { (trace : List Event) × IsAtRest words.now trace }
+    ensures { IfOk result (λ pairs. (trace : List Event) → IsAtRest words.now trace → IsListed words.now trace (shape_of words.now).buckets 1 pairs.items) }
+{
+    let mut pairs = Vec::new(alloc);
+    for bucket in 0..words.shape().buckets {
+        list_chain(words, bucket, &mut pairs)?;
+    }
+    Ok(pairs)
+}
+
+// Lists the pairs of a bucket's chain behind the others.
+fn list_chain(words: &Words, home: u32, pairs: &mut Vec<(Key, Value)>) -> Result<(), AllocError>
+    requires rest { (trace : List Event) × IsAtRest words.now trace }
+    requires home { home < (shape_of words.now).buckets }
+    ensures { OnOk result ((trace : List Event) → IsAtRest words.now trace → IsListed words.now trace home 1 pairs.old.items → IsListed words.now trace (home + 1) 1 pairs.new.items) }
+{
+    let mut bucket = home;
+    for depth in 0..BUCKETS {
+        list_bucket(words, bucket, pairs)?;
+        let Some(number) = Chain::unpack(words.item(Place { bucket, word: 7 })) else {
+            return Ok(());
+        };
+        bucket = words.shape().buckets + number;
+    }
+    Ok(())
+}
+
+// Lists the pairs of one bucket of a chain.
+fn list_bucket(words: &Words, bucket: u32, pairs: &mut Vec<(Key, Value)>) -> Result<(), AllocError>
+    requires { (trace : List Event) × (home : ℕ) × (depth : ℕ) × IsAtRest words.now trace × IsBucketIn words.now trace home depth bucket }
+    ensures { OnOk result ((trace : List Event) (home depth : ℕ) → IsAtRest words.now trace → IsBucketIn words.now trace home depth bucket
+        → IsListed words.now trace home (8 * depth + 1) pairs.old.items → IsListed words.now trace home (8 * depth + 8) pairs.new.items) }
+{
+    for word in 1..8u8 {
+        if let Some(pair) = pair_at(words, Place { bucket, word }) {
+            pairs.push(pair)?;
+        }
+    }
+    Ok(())
+}
+
+// The pair that a word of a chain names, if it names one.
+fn pair_at(words: &Words, place: Place) -> Option<(Key, Value)>
+    requires { (trace : List Event) × (home : ℕ) × (at : ℕ) × IsAtRest words.now trace × IsWordIn words.now trace home at place }
+    ensures { (trace : List Event) (home at : ℕ) → IsAtRest words.now trace → IsWordIn words.now trace home at place → IsPairAt (shape_of words.now) trace home at result }
+{
+    let item = Item::unpack(words.item(place))?;
+    read_row(&words.row(item.seg, item.row))
+}
