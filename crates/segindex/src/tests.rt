@@ -4,6 +4,7 @@ ghost use Rattle.segindex.specs.Index.{board_of};
 ghost use Rattle.segindex.specs.Quiet.{IsQuiet};
 
 mod closing;
+mod evictions;
 
 use crate::{HoldAnswer, Index, LockAnswer, Pass, hold_stays};
 use segbase::Place;
