@@ -1,5 +1,5 @@
 //! Readers and writers whose contracts tell the bytes that went through them.
-ghost use Rattle.std.specs.Prelude.{◌≡◌, ◌+◌, ◌%◌, ◌^◌, ◌<◌, ◌≤◌, ◌++◌, [], Bool, false, ℕ, List, length, take, IfOk, OnOk, OnErr, is_err};
+ghost use Rattle.std.specs.Prelude.{◌≡◌, ◌+◌, ◌%◌, ◌^◌, ◌<◌, ◌≤◌, ◌||◌, ◌++◌, [], Bool, false, ℕ, List, length, take, IfOk, OnOk, OnErr, is_err};
 ghost use Rattle.segrun.specs.Device.{took_nothing, TakesPart};
 
 /// A call of a reader or of a writer failed.
@@ -37,7 +37,8 @@ pub trait Sink {
     /// From one state to the other it took these bytes.
     ghost takes: { Self → List ℕ → Self → Type 0 };
 
-    /// A call of it has failed, or a write took none of its bytes. Such a writer is not asked again.
+    /// A call of it has failed, or a write took none of its bytes. Such a writer is not asked to write again; it may
+    /// still be flushed.
     ghost has_failed: { Self → Bool };
 
     /// How many flushes were asked of it, modulo 2^64.
@@ -55,9 +56,8 @@ pub trait Sink {
 
     /// Passes on what it holds back.
     fn flush(&mut self) -> Result<(), Failed>
-        requires works { has_failed self.old ≡ false }
         ensures bytes { takes self.old [] self.new }
-        ensures failed { has_failed self.new ≡ is_err result }
+        ensures failed { has_failed self.new ≡ (has_failed self.old || is_err result) }
         ensures flushes { flushes self.new ≡ (flushes self.old + 1) % 2 ^ 64 };
 
     ghost takes_none: { (s : Self) → takes s [] s };

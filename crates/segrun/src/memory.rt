@@ -133,8 +133,8 @@ impl Sink for MemSink {
 
     fn flush(&mut self) -> Result<(), Failed> {
         self.flushes = self.flushes.wrapping_add(1);
-        self.failed = self.flush_fails;
         if self.flush_fails {
+            self.failed = true;
             Err(Failed)
         } else {
             Ok(())
