@@ -11,6 +11,7 @@ mod run;
 mod script;
 mod server;
 mod standard;
+mod text;
 mod turns;
 mod verb;
 mod word;

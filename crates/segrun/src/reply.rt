@@ -4,15 +4,14 @@ ghost use Rattle.arrayvec.specs.ArrayVec.{array_vec_len};
 ghost use Rattle.segmodel.specs.Replies.{reply, answer_reply, write_reply, delete_reply, get_reply, gets_reply, evict_reply, refill_reply, value_reply};
 ghost use Rattle.segmodel.specs.Spelling.{value_word};
 
-use arrayvec::ArrayVec;
-use itoa::Buffer;
+use crate::text::{Line, line, put, put_number};
 use segmodel::{
     Answer, DeleteAnswer, EvictAnswer, GetAnswer, GetsAnswer, Outcome, RefillAnswer, WriteAnswer,
 };
 use segword::Value;
 
 /// A reply: at most `VALUE`, a value of 32 bytes and a number of ten digits.
-pub type Reply = ArrayVec<u8, 64>;
+pub type Reply = Line;
 
 /// The line of an outcome.
 pub fn reply_of(outcome: &Outcome) -> Reply
@@ -103,7 +102,7 @@ fn gets_reply(answer: &GetsAnswer) -> Reply
             let mut text = line(b"VALUE ");
             put_value(&mut text, value);
             put(&mut text, b" ");
-            put_number(&mut text, *version);
+            put_number(&mut text, u64::from(*version));
             put(&mut text, b"\n");
             text
         }
@@ -134,41 +133,13 @@ fn value_reply(value: &Value) -> Reply
 
 // The line of a word and a number.
 fn counted(word: &[u8], count: u32) -> Reply
-    requires { length word.now ≤ 50 }
+    requires { length word.now ≤ 40 }
     ensures { result.items ≡ word.now ++ decimal count ++ codes "\n" }
 {
     let mut text = line(word);
-    put_number(&mut text, count);
+    put_number(&mut text, u64::from(count));
     put(&mut text, b"\n");
     text
-}
-
-// A reply of these bytes.
-fn line(bytes: &[u8]) -> Reply
-    requires { length bytes.now ≤ 64 }
-    ensures text { result.items ≡ bytes.now }
-    ensures len { array_vec_len result ≡ length bytes.now }
-{
-    let mut text = ArrayVec::new();
-    put(&mut text, bytes);
-    text
-}
-
-fn put(text: &mut Reply, bytes: &[u8])
-    requires { array_vec_len text.old + length bytes.now ≤ 64 }
-    ensures text { text.new.items ≡ text.old.items ++ bytes.now }
-    ensures len { array_vec_len text.new ≡ array_vec_len text.old + length bytes.now }
-{
-    let _ = text.try_extend_from_slice(bytes);
-}
-
-fn put_number(text: &mut Reply, number: u32)
-    requires { array_vec_len text.old ≤ 54 }
-    ensures text { text.new.items ≡ text.old.items ++ decimal number }
-    ensures room { array_vec_len text.new ≤ array_vec_len text.old + 10 }
-{
-    let mut buffer = Buffer::new();
-    put(text, buffer.format(number).as_bytes());
 }
 
 fn put_value(text: &mut Reply, value: &Value)
