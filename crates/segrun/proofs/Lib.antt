@@ -1,6 +1,7 @@
 pub mod Devices
 pub mod Feeding
 pub mod Going
+pub mod HexWords
 pub mod LineLemmas
 pub mod LineReadings
 pub mod Numbers

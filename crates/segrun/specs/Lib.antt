@@ -1,4 +1,5 @@
 pub mod Device
+pub mod Explained
 pub mod Known
 pub mod Memory
 pub mod Passes

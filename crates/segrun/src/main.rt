@@ -3,6 +3,7 @@
 
 mod device;
 mod engine;
+mod explain;
 mod fault;
 mod line;
 mod memory;

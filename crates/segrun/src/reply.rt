@@ -102,7 +102,7 @@ fn gets_reply(answer: &GetsAnswer) -> Reply
             let mut text = line(b"VALUE ");
             put_value(&mut text, value);
             put(&mut text, b" ");
-            put_number(&mut text, u64::from(*version));
+            put_number(&mut text, *version);
             put(&mut text, b"\n");
             text
         }
@@ -137,7 +137,7 @@ fn counted(word: &[u8], count: u32) -> Reply
     ensures { result.items ≡ word.now ++ decimal count ++ codes "\n" }
 {
     let mut text = line(word);
-    put_number(&mut text, u64::from(count));
+    put_number(&mut text, count);
     put(&mut text, b"\n");
     text
 }

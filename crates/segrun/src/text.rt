@@ -1,9 +1,9 @@
 //! Short lines of text, put together on the stack.
-ghost use Rattle.std.specs.Prelude.{◌≡◌, ◌+◌, ◌≤◌, ◌++◌, length, decimal};
+ghost use Rattle.std.specs.Prelude.{◌≡◌, ◌+◌, ◌≤◌, ◌++◌, length};
 ghost use Rattle.arrayvec.specs.ArrayVec.{array_vec_len};
 
 use arrayvec::ArrayVec;
-use itoa::Buffer;
+use itoa::{Buffer, Integer};
 
 /// A line of at most 64 bytes.
 pub type Line = ArrayVec<u8, 64>;
@@ -29,10 +29,10 @@ pub fn put(text: &mut Line, bytes: &[u8])
 }
 
 /// Puts the decimal digits of a number at the end of the line.
-pub fn put_number(text: &mut Line, number: u64)
-    requires { array_vec_len text.old ≤ 44 }
-    ensures text { text.new.items ≡ text.old.items ++ decimal number }
-    ensures room { array_vec_len text.new ≤ array_vec_len text.old + 20 }
+pub fn put_number<I: Integer>(text: &mut Line, number: I)
+    requires { array_vec_len text.old + I.MAX_STR_LEN ≤ 64 }
+    ensures text { text.new.items ≡ text.old.items ++ I.text number }
+    ensures room { array_vec_len text.new ≤ array_vec_len text.old + I.MAX_STR_LEN }
 {
     let mut buffer = Buffer::new();
     put(text, buffer.format(number).as_bytes());
