@@ -1,7 +1,7 @@
 -- What was taken so far, one write on.
 use Rattle.std.proofs.Math.Dec.{eqb-suc-zero}
 use Rattle.std.proofs.lemmas.Bool.{true≢false}
-use Rattle.std.proofs.Common.{sym, ◌∙◌, Bool, ◌∷◌, arith, zero, suc, ◌≤◌, ◌<◌, eqb, false, ◌≡◌, ℕ, List, [], ◌++◌, length, take, drop, append_assoc}
+use Rattle.std.proofs.Common.{sym, ◌∙◌, Bool, ◌∷◌, arith, zero, suc, ◌≤◌, ◌<◌, eqb, false, ◌≡◌, ℕ, List, [], ◌++◌, length, take, drop, append_assoc, append-nil}
 use Rattle.std.proofs.lemmas.List.{take-append-drop}
 use Rattle.segrun.specs.Device.{TakesPart}
 
@@ -20,6 +20,10 @@ module _ {W : Type 0} (takes : W → List ℕ → W → Type 0) (more : (s t u :
   pub none_taken : (old new : W) (bytes : List ℕ) (n : ℕ) → n ≤ 0 → takes old (take n bytes) new → takes old [] new
   none_taken old new bytes zero none taken = taken
   none_taken old new bytes (suc n) none taken = absurd (omega arith)
+
+  -- a flush takes nothing
+  pub nothing_more : (old mid new : W) (text : List ℕ) → takes old text mid → takes mid [] new → takes old text new
+  nothing_more old mid new text all none = rw append-nil at (more old mid new text [] all none)
 
 pub not_zero : (n : ℕ) → 0 < n → eqb n 0 ≡ false
 not_zero zero h = absurd (omega arith)

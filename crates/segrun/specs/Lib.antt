@@ -1,8 +1,10 @@
 pub mod Device
 pub mod Explained
+pub mod Faults
 pub mod Known
 pub mod Memory
 pub mod Passes
+pub mod Printing
 pub mod Reading
 pub mod Run
 pub mod Running

@@ -8,6 +8,7 @@ mod fault;
 mod line;
 mod memory;
 mod reply;
+mod report;
 mod run;
 mod script;
 mod server;
