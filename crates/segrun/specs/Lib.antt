@@ -1,3 +1,4 @@
+pub mod Commands
 pub mod Device
 pub mod Explained
 pub mod Faults

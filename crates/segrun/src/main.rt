@@ -1,6 +1,7 @@
 //! Runs a script of the object index from standard input to standard output.
 #![tactic(auto)]
 
+mod command;
 mod device;
 mod engine;
 mod explain;
