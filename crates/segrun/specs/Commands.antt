@@ -27,8 +27,8 @@ pub record RanScript {R W : Type 0} (hands : R → List ℕ → R → Type 0) (i
 abbrev pub ScriptOutcome : {R W : Type 0} → (R → List ℕ → R → Type 0) → (R → Type 0) → (R → Bool) → (W → List ℕ → W → Type 0) → (W → Bool) → (W → ℕ) → Shape → R → R → W → W → Result (Unit {0}) ProgramFault → Type 0
 ScriptOutcome hands is_at_end read_failed takes write_failed flushes shape reader reader' writer writer' end =
     (shape.overflow ≡ 0 → (ended : Result (Unit {0}) RunFault)
-        × RanScript hands is_at_end read_failed takes write_failed flushes shape reader reader' writer writer' ended
-        × (end ≡ end_of_run ended))
+    × RanScript hands is_at_end read_failed takes write_failed flushes shape reader reader' writer writer' ended
+    × (end ≡ end_of_run ended))
     × ((shape.overflow ≢ 0) → (end ≡ Err fault.NoOverflow) × (reader' ≡ reader) × (writer' ≡ writer))
 
 -- ---- a word, and other texts

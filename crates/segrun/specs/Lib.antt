@@ -6,6 +6,7 @@ pub mod Known
 pub mod Memory
 pub mod Passes
 pub mod Printing
+pub mod Program
 pub mod Reading
 pub mod Run
 pub mod Running

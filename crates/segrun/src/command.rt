@@ -116,11 +116,7 @@ fn show<W: Sink>(text: &str, writer: &mut W) -> Result<(), ProgramFault>
 }
 
 // The status of what ended so; a fault is reported.
-fn conclude<W: Sink, E: Sink>(
-    end: Result<(), ProgramFault>,
-    writer: &mut W,
-    errors: &mut E,
-) -> u8
+fn conclude<W: Sink, E: Sink>(end: Result<(), ProgramFault>, writer: &mut W, errors: &mut E) -> u8
     requires errors_work { E.has_failed errors.old ≡ false }
     ensures { Concluded W.takes W.flushes E.takes E.has_failed E.flushes end writer.old writer.new errors.old errors.new result }
 {

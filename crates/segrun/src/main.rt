@@ -1,6 +1,7 @@
-//! Runs a script of the object index from standard input to standard output.
+//! The object index of a segment-structured cache as a program, which runs scripts of cache commands.
 #![tactic(auto)]
 
+mod arguments;
 mod command;
 mod device;
 mod engine;
@@ -8,6 +9,7 @@ mod explain;
 mod fault;
 mod line;
 mod memory;
+mod program;
 mod reply;
 mod report;
 mod run;
@@ -19,35 +21,43 @@ mod turns;
 mod verb;
 mod word;
 
-use fault::RunFault;
-use script::run_script;
-use segword::Shape;
+use program::run_program;
+use report::{ProgramFault, report};
 use standard::{ReadSource, WriteSink};
-use std::io;
 use std::process::ExitCode;
+use std::{env, io};
 
 #[cfg(test)]
 mod tests;
 
-/// One bucket, one pass, and one segment of eight rows.
-const SHAPE: Shape = Shape {
-    buckets: 1,
-    overflow: 0,
-    passes: 1,
-    segments_each: 1,
-    rows: 8,
-    first_version: 0,
-};
+// The words after the program's name.
+fn given_words(rt: &HostRuntime) -> Result<Vec<String>, ProgramFault> {
+    let words = match env::args(rt) {
+        Ok(words) => words,
+        Err(error) if error.kind() == io::ErrorKind::OutOfMemory => {
+            return Err(ProgramFault::OutOfMemory);
+        }
+        Err(_) => return Err(ProgramFault::BadArguments),
+    };
+    match words.skip(1).collect(rt.alloc()) {
+        Ok(words) => Ok(words),
+        Err(_) => Err(ProgramFault::OutOfMemory),
+    }
+}
 
 fn main(rt: HostRuntime) -> ExitCode {
     let mut reader = ReadSource::new(rt.reader());
-    let mut writer = WriteSink::new(io::writer(&rt));
-    let Err(fault) = run_script(rt.alloc(), &mut reader, &mut writer, SHAPE) else {
-        return ExitCode::SUCCESS;
+    let mut writer = WriteSink::new(rt.stdout());
+    let mut errors = WriteSink::new(rt.stderr());
+    let status = match given_words(&rt) {
+        Ok(words) => run_program(
+            rt.alloc(),
+            words.as_slice(),
+            &mut reader,
+            &mut writer,
+            &mut errors,
+        ),
+        Err(fault) => report(fault, &mut writer, &mut errors),
     };
-    let _ = eprintln!(rt; "{fault}");
-    match fault {
-        RunFault::Line(_) => ExitCode::from(2),
-        _ => ExitCode::from(3),
-    }
+    ExitCode::from(status)
 }

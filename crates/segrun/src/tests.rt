@@ -7,6 +7,7 @@ mod holding;
 mod locking;
 mod making;
 mod order;
+mod program;
 mod serving;
 mod writing;
 

@@ -1,0 +1,78 @@
+//! The program over memory: its words, and what it writes, prints and answers.
+mod devices;
+mod help;
+mod memory;
+mod options;
+mod scripts;
+mod words;
+
+use super::*;
+use crate::program::run_program;
+use std::alloc::AllocError;
+
+/// What came of a run of the program.
+#[derive(Drop)]
+struct Ended {
+    status: u8,
+    written: Vec<u8>,
+    printed: Vec<u8>,
+    /// How many flushes were asked of the writer and of the error writer.
+    flushes: (u64, u64),
+}
+
+/// The words as the program gets them.
+fn words_of(alloc: Global, words: &[&str]) -> Result<Vec<String>, AllocError> {
+    let mut list = Vec::new(alloc);
+    for word in words {
+        list.push(String::from_str(alloc, word)?)?;
+    }
+    Ok(list)
+}
+
+/// Runs the program with devices that don't fail.
+fn run(alloc: Global, words: &[&str], script: &[u8]) -> Result<Ended, AllocError> {
+    let words = words_of(alloc, words)?;
+    let mut source = MemSource::new(script);
+    let mut writer = MemSink::new(alloc, 10_000)?;
+    let mut errors = MemSink::new(alloc, 10_000)?;
+    let status = run_program(
+        alloc,
+        words.as_slice(),
+        &mut source,
+        &mut writer,
+        &mut errors,
+    );
+    Ok(Ended {
+        status,
+        flushes: (writer.flushes, errors.flushes),
+        written: writer.taken,
+        printed: errors.taken,
+    })
+}
+
+/// Checks what the program writes, prints and answers, and that it flushes once what it writes and prints.
+fn check_program(
+    rt: &impl Abort,
+    alloc: Global,
+    words: &[&str],
+    script: &[u8],
+    status: u8,
+    written: &[u8],
+    printed: &[u8],
+) -> Result<(), Fail> {
+    let ended = run(alloc, words, script)?;
+    assert_eq!(rt; ended.written.as_slice(), written, "{words:?}");
+    assert_eq!(rt; ended.printed.as_slice(), printed, "{words:?}");
+    assert_eq!(rt; ended.status, status, "{words:?}");
+    let flushes = if status == 0 { (1, 0) } else { (1, 1) };
+    assert_eq!(rt; ended.flushes, flushes, "{words:?}");
+    Ok(())
+}
+
+/// Whether the bytes are a text that has this part.
+fn has(bytes: &[u8], part: &str) -> bool {
+    match str::from_utf8(bytes) {
+        Ok(text) => text.contains(part),
+        Err(_) => false,
+    }
+}

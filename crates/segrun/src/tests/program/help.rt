@@ -1,0 +1,75 @@
+//! Help and the version.
+use super::*;
+
+/// Checks that the words are answered with a text that has these parts.
+fn check_shown(rt: &impl Abort, alloc: Global, words: &[&str], parts: &[&str]) -> Result<(), Fail> {
+    let ended = run(alloc, words, SCRIPT)?;
+    assert_eq!(rt; ended.status, 0, "{words:?}");
+    assert_eq!(rt; ended.printed.as_slice(), b"".as_slice(), "{words:?}");
+    for part in parts {
+        assert!(rt; has(ended.written.as_slice(), part), "{words:?}: {part}");
+    }
+    assert_eq!(rt; ended.flushes, (1, 0), "{words:?}");
+    Ok(())
+}
+
+#[test]
+fn help_tells_a_newcomer_what_to_do(rt: HostRuntime) -> Result<(), Fail> {
+    for words in [
+        ["--help"].as_slice(),
+        ["-h"].as_slice(),
+        ["help"].as_slice(),
+    ] {
+        let parts = [
+            "object index",
+            "Usage: segrun",
+            "script",
+            "word",
+            "| segrun script",
+            "Exit status",
+        ];
+        check_shown(&rt, rt.alloc(), words, &parts)?;
+    }
+    for words in [
+        ["script", "--help"].as_slice(),
+        ["script", "-h"].as_slice(),
+        ["help", "script"].as_slice(),
+    ] {
+        let parts = [
+            "Usage: segrun script",
+            "--buckets <N>",
+            "[default: 1]",
+            "--overflow <N>",
+            "[default: 0]",
+            "--passes <N>",
+            "--segments <N>",
+            "--rows <N>",
+            "[default: 8]",
+            "--first-version <N>",
+            "VALUE 1",
+            "Exit status",
+        ];
+        check_shown(&rt, rt.alloc(), words, &parts)?;
+    }
+    for words in [
+        ["word", "--help"].as_slice(),
+        ["word", "-h"].as_slice(),
+        ["help", "word"].as_slice(),
+    ] {
+        let parts = [
+            "Usage: segrun word <HEX>",
+            "item tag=af6 freq=1 seg=2 row=3",
+            "Exit status",
+        ];
+        check_shown(&rt, rt.alloc(), words, &parts)?;
+    }
+    Ok(())
+}
+
+#[test]
+fn the_version_is_told(rt: HostRuntime) -> Result<(), Fail> {
+    for words in [["--version"].as_slice(), ["-V"].as_slice()] {
+        check_program(&rt, rt.alloc(), words, b"", 0, b"segrun 0.1.0\n", b"")?;
+    }
+    Ok(())
+}

@@ -1,0 +1,149 @@
+//! The options of a shape, at the ends of what they take.
+use super::*;
+
+/// Checks that the words are a bad command line, and that its text has this part.
+fn check_refused(rt: &impl Abort, alloc: Global, words: &[&str], part: &str) -> Result<(), Fail> {
+    let ended = run(alloc, words, SCRIPT)?;
+    assert_eq!(rt; ended.status, 2, "{words:?}");
+    assert_eq!(rt; ended.written.as_slice(), b"".as_slice(), "{words:?}");
+    assert!(rt;
+        ended.printed.as_slice().starts_with(b"error: "),
+        "{words:?}"
+    );
+    assert!(rt; has(ended.printed.as_slice(), part), "{words:?}");
+    assert_eq!(rt; ended.flushes, (1, 1), "{words:?}");
+    Ok(())
+}
+
+#[test]
+fn an_option_takes_32_bits(rt: HostRuntime) -> Result<(), Fail> {
+    for (option, at_zero, at_largest) in [
+        (
+            "--buckets",
+            b"bad shape 1\n".as_slice(),
+            b"bad shape 1\n".as_slice(),
+        ),
+        (
+            "--passes",
+            b"bad shape 3\n".as_slice(),
+            b"bad shape 3\n".as_slice(),
+        ),
+        (
+            "--segments",
+            b"bad shape 4\n".as_slice(),
+            b"bad shape 4\n".as_slice(),
+        ),
+        (
+            "--rows",
+            b"bad shape 5\n".as_slice(),
+            b"bad shape 5\n".as_slice(),
+        ),
+    ] {
+        let words = ["script", option, "0"];
+        check_program(&rt, rt.alloc(), &words, SCRIPT, 3, b"", at_zero)?;
+        let words = ["script", option, "1"];
+        check_program(&rt, rt.alloc(), &words, SCRIPT, 0, REPLIES, b"")?;
+        let words = ["script", option, "4294967295"];
+        check_program(&rt, rt.alloc(), &words, SCRIPT, 3, b"", at_largest)?;
+    }
+    for version in ["0", "1", "4294967295"] {
+        let words = ["script", "--first-version", version];
+        check_program(&rt, rt.alloc(), &words, SCRIPT, 0, REPLIES, b"")?;
+    }
+    for option in [
+        "--buckets",
+        "--overflow",
+        "--passes",
+        "--segments",
+        "--rows",
+        "--first-version",
+    ] {
+        for number in ["4294967296", "-1", "x", "", "1.5"] {
+            let ended = run(rt.alloc(), &["script", option, number], SCRIPT)?;
+            assert_eq!(rt; ended.status, 2, "{option} {number}");
+        }
+        check_refused(&rt, rt.alloc(), &["script", option, "4294967296"], option)?;
+        check_refused(&rt, rt.alloc(), &["script", option], option)?;
+        check_refused(
+            &rt,
+            rt.alloc(),
+            &["script", option, "1", option, "1"],
+            option,
+        )?;
+    }
+    Ok(())
+}
+
+#[test]
+fn each_option_changes_its_own_part(rt: HostRuntime) -> Result<(), Fail> {
+    // The second pass, and the second segment of the first.
+    check_program(
+        &rt,
+        rt.alloc(),
+        &["script", "--passes", "2", "--segments", "2"],
+        b"p0 refill 1\np1 refill 1\np1 refill 3\np1 refill 4\n",
+        0,
+        b"REFILLED\nNOT_YOURS\nREFILLED\nNOT_YOURS\n",
+        b"",
+    )?;
+    check_program(
+        &rt,
+        rt.alloc(),
+        &["script", "--rows", "1"],
+        b"p0 refill 0\np0 set a 1\np0 set a 2\n",
+        0,
+        b"REFILLED\nSTORED\nNOROOM\n",
+        b"",
+    )?;
+    // Over two buckets the keys a and b have one each.
+    let locks = b"p0 lock a\np1 lock b\n";
+    check_program(
+        &rt,
+        rt.alloc(),
+        &["script", "--passes=2", "--buckets=2"],
+        locks,
+        0,
+        b"LOCKED\nLOCKED\n",
+        b"",
+    )?;
+    check_program(
+        &rt,
+        rt.alloc(),
+        &["script", "--passes=2", "--buckets=1"],
+        locks,
+        0,
+        b"LOCKED\nBUSY\n",
+        b"",
+    )
+}
+
+#[test]
+fn overflow_buckets_are_refused_so_far(rt: HostRuntime) -> Result<(), Fail> {
+    let words = ["script", "--overflow", "0"];
+    check_program(&rt, rt.alloc(), &words, SCRIPT, 0, REPLIES, b"")?;
+    for overflow in ["1", "4294967295"] {
+        let words = ["script", "--overflow", overflow];
+        let fault = b"bad option: no overflow buckets yet\n";
+        check_program(&rt, rt.alloc(), &words, SCRIPT, 2, b"", fault)?;
+    }
+    Ok(())
+}
+
+#[test]
+fn a_bad_command_line_says_what_is_wrong(rt: HostRuntime) -> Result<(), Fail> {
+    for (words, part) in [
+        (["--rows", "4"].as_slice(), "--rows"),
+        (["scrpt"].as_slice(), "script"),
+        (["script", "more"].as_slice(), "more"),
+        (["script", "--row", "4"].as_slice(), "--rows"),
+        (["word"].as_slice(), "HEX"),
+        (["word", "0000000000000000", "more"].as_slice(), "more"),
+        (["word", "--rows", "4"].as_slice(), "--rows"),
+        ([""].as_slice(), "segrun"),
+        (["--"].as_slice(), "segrun"),
+        (["help", "lode"].as_slice(), "lode"),
+    ] {
+        check_refused(&rt, rt.alloc(), words, part)?;
+    }
+    Ok(())
+}
