@@ -30,7 +30,7 @@ index finds an item by its key.";
 const AFTER: &str = "Without a command it does what `segrun script` does.
 
 Example:
-  printf 'p0 refill 0\np0 set a 1\np0 get a\n' | segrun
+  printf 'p0 refill 0\\np0 set a 1\\np0 get a\\n' | segrun
 writes REFILLED, STORED and VALUE 1, a line each.
 
 Exit status:
@@ -47,7 +47,7 @@ what it is about. A pass refills a segment before it sets its first key. The fir
 script.";
 
 const AFTER_SCRIPT: &str = "Example:
-  printf 'p0 refill 0\np0 set a 1\np0 get a\n' | segrun script --rows 100
+  printf 'p0 refill 0\\np0 set a 1\\np0 get a\\n' | segrun script --rows 100
 writes REFILLED, STORED and VALUE 1, a line each.
 
 Exit status:
@@ -136,6 +136,7 @@ fn program<'a>(alloc: Global) -> Result<clap::Command<'a>, AllocError> {
         .about(ABOUT)
         .long_about(LONG_ABOUT)
         .after_help(AFTER)
+        .override_usage("segrun [COMMAND]")
         .no_binary_name(true)
         .bin_name("segrun")?
         .subcommand_required(true)

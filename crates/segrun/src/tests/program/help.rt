@@ -25,7 +25,7 @@ fn help_tells_a_newcomer_what_to_do(rt: HostRuntime) -> Result<(), Fail> {
             "Usage: segrun",
             "script",
             "word",
-            "| segrun script",
+            "printf 'p0 refill 0\\np0 set a 1\\np0 get a\\n' | segrun",
             "Exit status",
         ];
         check_shown(&rt, rt.alloc(), words, &parts)?;
@@ -46,7 +46,7 @@ fn help_tells_a_newcomer_what_to_do(rt: HostRuntime) -> Result<(), Fail> {
             "--rows <N>",
             "[default: 8]",
             "--first-version <N>",
-            "VALUE 1",
+            "\\np0 get a\\n' | segrun script --rows 100",
             "Exit status",
         ];
         check_shown(&rt, rt.alloc(), words, &parts)?;
