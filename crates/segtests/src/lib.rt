@@ -6,6 +6,14 @@ mod alike;
 #[cfg(test)]
 mod beside;
 #[cfg(test)]
+mod closing;
+#[cfg(test)]
+mod counting;
+#[cfg(test)]
+mod digits;
+#[cfg(test)]
+mod evicting;
+#[cfg(test)]
 mod meeting;
 #[cfg(test)]
 mod owner;

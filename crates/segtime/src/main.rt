@@ -1,4 +1,4 @@
-//! Times the index: nanoseconds for a set and for a get, on so many threads over so many keys.
+//! Times the index: nanoseconds for a set, for a get and for a command of a mixed load, on so many threads over so many keys.
 #![tactic(auto)]
 
 ghost use Rattle.std.specs.Prelude.{◌≡◌};
@@ -10,9 +10,9 @@ use segword::{Key, Shape, Value};
 use std::alloc::{AllocError, Global};
 use std::time::Instant;
 use std::{env, io};
-use work::{Task, fill, pop, work_at_once};
+use work::{Four, Kind, Task, Worker, fill, pop, work_at_once};
 
-/// How often sets and gets are timed; the median is printed.
+/// How often each kind of work is timed; the median is printed.
 const ROUNDS: usize = 5;
 
 /// As many segments of 4,096 rows for each pass as its sets use.
@@ -77,42 +77,28 @@ fn main(rt: HostRuntime) -> io::Result<()> {
     ) else {
         return Ok(());
     };
-    let mut four = (a, b, c, d);
+    let mut four = (Worker::new(a), Worker::new(b), Worker::new(c), Worker::new(d));
     fill(&index, &mut four.0, &keys, &value);
-    let mut sets = [0u128; ROUNDS];
-    let mut gets = [0u128; ROUNDS];
-    for round in 0..ROUNDS {
-        let start = Instant::now(&rt)?;
-        four = work_at_once(
-            &rt,
-            threads,
-            &index,
-            four,
-            &keys,
-            &value,
-            Task {
-                is_set: true,
-                times,
-            },
-        );
-        sets[round] = start.elapsed(&rt)?.as_nanos();
-        let start = Instant::now(&rt)?;
-        four = work_at_once(
-            &rt,
-            threads,
-            &index,
-            four,
-            &keys,
-            &value,
-            Task {
-                is_set: false,
-                times,
-            },
-        );
-        gets[round] = start.elapsed(&rt)?.as_nanos();
+    for kind in [Kind::Sets, Kind::Gets, Kind::Mixed] {
+        let before = busy_of(&four);
+        let mut nanoseconds = [0u128; ROUNDS];
+        for round in 0..ROUNDS {
+            let start = Instant::now(&rt)?;
+            four = work_at_once(&rt, threads, &index, four, &keys, &value, Task { kind, times });
+            nanoseconds[round] = start.elapsed(&rt)?.as_nanos();
+        }
+        let each = median(&mut nanoseconds) / u128::from(times.max(1));
+        let busy = busy_of(&four).saturating_sub(before);
+        println!(rt; "{kind:?}: {each} ns, {busy} busy")?;
     }
-    let each = u128::from(times.max(1));
-    let set = median(&mut sets) / each;
-    let get = median(&mut gets) / each;
-    println!(rt; "{set} ns for a set, {get} ns for a get")
+    Ok(())
+}
+
+// How many answers were Busy.
+fn busy_of(four: &Four) -> u32 {
+    four.0
+        .busy
+        .saturating_add(four.1.busy)
+        .saturating_add(four.2.busy)
+        .saturating_add(four.3.busy)
 }

@@ -3,4 +3,4 @@ use Rattle.segindex.specs.Quiet.{IsQuiet}
 use Rattle.segtime.proofs.work.fill.Given as goal
 
 abbrev pub invariant-loop-key : goal.invariant-loop-key
-invariant-loop-key l = IsQuiet (board_of l.index) l.pass
+invariant-loop-key l = IsQuiet (board_of l.index) l.worker.pass

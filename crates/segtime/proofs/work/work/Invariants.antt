@@ -3,4 +3,4 @@ use Rattle.segindex.specs.Quiet.{IsQuiet}
 use Rattle.segtime.proofs.work.work.Given as goal
 
 abbrev pub invariant-loop : goal.invariant-loop
-invariant-loop l = IsQuiet (board_of l.index) l.pass
+invariant-loop l = IsQuiet (board_of l.index) l.worker.pass
