@@ -5,6 +5,7 @@ ghost use Rattle.segindex.specs.Quiet.{IsQuiet};
 
 mod closing;
 mod evictions;
+mod writes;
 
 use crate::{HoldAnswer, Index, LockAnswer, Pass, hold_stays};
 use segbase::Place;
