@@ -40,7 +40,7 @@ module _ (b : Board) (bucket from : ℕ) (first p q : Pass) (d : Drawing b from 
   drawn_now drew plain kept = (
     did_after b (Drew (number first) bucket (depth_to_draw b bucket first) from ∷ []) first p q d.did
         (subst (λ n. Did b (Drew n bucket (depth_to_draw b bucket first) from ∷ []) p q) d.did.moved.same
-            (subst (λ (u : Bucket). Did b (Drew (number p) bucket (u.chained + 1) from ∷ []) p q) same drew)),
+        (subst (λ (u : Bucket). Did b (Drew (number p) bucket (u.chained + 1) from ∷ []) p q) same drew)),
     plain ∙ d.plain,
     kept ∙ d.memo,
   )

@@ -111,4 +111,3 @@ module _ (b : Board) (key : List ℕ) (first p q : Pass) (place : Place) (word :
           with_end : (o : Option Target) → new ≡ o → Finds b key o r → Searches b key (or_end (record { place = place; word = word; buckets = buckets }) o) r
           with_end None none found = (found, last_is buckets same none is deep)
           with_end (Some target) some found = found
-

@@ -79,8 +79,11 @@ last_missed b p q bucket place word found bit l m =
         ends = ends;
         named = a;
         here = there;
-        is = (frequency_of (trace q) a.segment a.row, low_frequency z (trace q) a.segment a.row m.did.moved.pass.lawful,
-            m.is ∙ (content_at z (trace q) bucket (position z (trace q) place) (cell_at z place) later.at ∙ ap (content_word (trace q)) (ap (bucket_in b bucket q).items ends ∙ there)));
+        is = (
+          frequency_of (trace q) a.segment a.row,
+          low_frequency z (trace q) a.segment a.row m.did.moved.pass.lawful,
+          m.is ∙ (content_at z (trace q) bucket (position z (trace q) place) (cell_at z place) later.at ∙ ap (content_word (trace q)) (ap (bucket_in b bucket q).items ends ∙ there)),
+        );
         earlier = subst (λ y. IsSameItem found y × (found ≤ y)) m.is ((subst (λ t. 1 ≤ t) high.0.1 high.0.0, refl, refl), omega arith);
       },
       high.1,

@@ -78,7 +78,13 @@ impl Index {
     }
 
     // Copies the word of the chain's last item to the overflow bucket, and lets the chain lead on to it where that word still stands. `Err` has the word that does.
-    fn try_to_join(&self, pass: &mut Pass, place: Place, word: u64, overflow: u32) -> Result<(), u64>
+    fn try_to_join(
+        &self,
+        pass: &mut Pass,
+        place: Place,
+        word: u64,
+        overflow: u32,
+    ) -> Result<(), u64>
         requires pass { IsPassOf (board_of self.now) pass.old }
         requires spare { HasSpare (board_of self.now) (home_at (board_of self.now) place pass.old) overflow pass.old }
         requires last { IsLast (board_of self.now) (home_at (board_of self.now) place pass.old) place word pass.old }

@@ -77,14 +77,27 @@ fn main(rt: HostRuntime) -> io::Result<()> {
     ) else {
         return Ok(());
     };
-    let mut four = (Worker::new(a), Worker::new(b), Worker::new(c), Worker::new(d));
+    let mut four = (
+        Worker::new(a),
+        Worker::new(b),
+        Worker::new(c),
+        Worker::new(d),
+    );
     fill(&index, &mut four.0, &keys, &value);
     for kind in [Kind::Sets, Kind::Gets, Kind::Mixed] {
         let before = busy_of(&four);
         let mut nanoseconds = [0u128; ROUNDS];
         for round in 0..ROUNDS {
             let start = Instant::now(&rt)?;
-            four = work_at_once(&rt, threads, &index, four, &keys, &value, Task { kind, times });
+            four = work_at_once(
+                &rt,
+                threads,
+                &index,
+                four,
+                &keys,
+                &value,
+                Task { kind, times },
+            );
             nanoseconds[round] = start.elapsed(&rt)?.as_nanos();
         }
         let each = median(&mut nanoseconds) / u128::from(times.max(1));

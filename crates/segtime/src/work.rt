@@ -5,7 +5,9 @@ ghost use Rattle.segindex.specs.Index.{board_of};
 ghost use Rattle.segindex.specs.Quiet.{IsQuiet};
 
 use segindex::{Index, Pass};
-use segmodel::{DeleteAnswer, EvictAnswer, GetAnswer, GetsAnswer, RefillAnswer, SegState, WriteAnswer};
+use segmodel::{
+    DeleteAnswer, EvictAnswer, GetAnswer, GetsAnswer, RefillAnswer, SegState, WriteAnswer,
+};
 use segword::{Key, Value};
 use std::thread::{Threads, join};
 
@@ -54,7 +56,10 @@ impl Worker {
     fn draw(&mut self) -> u32
         ensures { self.new.pass ≡ self.old.pass }
     {
-        self.state = self.state.wrapping_mul(1_664_525).wrapping_add(1_013_904_223);
+        self.state = self
+            .state
+            .wrapping_mul(1_664_525)
+            .wrapping_add(1_013_904_223);
         self.state >> 8
     }
 

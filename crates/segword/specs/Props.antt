@@ -38,12 +38,12 @@ IsValue-prop bytes = hlevel props
 
 same_power : (i j : ℕ) → 2 ^ i ≡ 2 ^ j → i ≡ j
 same_power i j same = elim (cases_lt i j) [
-      inl less ↦ let below = pow_below i j less in absurd (omega arith)
-    | inr most ↦ elim (cases_lt j i) [
-          inl less ↦ let below = pow_below j i less in absurd (omega arith)
-        | inr least ↦ omega arith
-      ]
+  | inl less ↦ let below = pow_below i j less in absurd (omega arith)
+  | inr most ↦ elim (cases_lt j i) [
+    | inl less ↦ let below = pow_below j i less in absurd (omega arith)
+    | inr least ↦ omega arith
   ]
+]
 
 IsPowerOfTwo-prop : (n : ℕ) → IsProp (IsPowerOfTwo n)
 IsPowerOfTwo-prop n = pair-prop (λ k. hlevel props) (λ i j at on. same_power i j (sym at ∙ on))
