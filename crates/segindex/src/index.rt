@@ -18,7 +18,7 @@ impl Index {
     ghost use Rattle.segindex.specs.Index.{shape_of};
     ghost use Rattle.segindex.specs.Calls.{IsNew};
 
-    /// An index of this shape with its passes, in the order of their numbers. No later call takes memory.
+    /// An index of this shape with its passes, in the order of their numbers. No later call takes memory but `close`.
     /// Buckets don't grow yet, so callers ask for no overflow bucket.
     pub fn new(alloc: Global, shape: Shape) -> Result<(Index, Vec<Pass>), MakeFault>
         requires no_overflow { shape.overflow ≡ 0 }
