@@ -1,0 +1,5 @@
+pub mod Lists
+pub mod Counted
+pub mod Starting
+pub mod Gathered
+pub mod Loaded

@@ -1,0 +1,55 @@
+use Rattle.std.proofs.Common.{◌≡◌, suc, length, slice_get, sym, ap, subst, ◌∙◌, arith}
+use Rattle.segbase.specs.Made.{IsNewPass}
+use Rattle.segbase.specs.Passes.{number}
+use Rattle.segcore.specs.Event.{seen}
+use Rattle.segmodel.specs.History.{mine}
+use Rattle.segload.specs.Working.{Begins}
+use Rattle.segload.proofs.Lists.{AllAt, all_pushed, all_none}
+use Rattle.segload.proofs.load.begin_all.Goals as goal
+
+pub loop-pass-init : goal.loop-pass-init
+loop-pass-init c =
+    let into = c.into_iter-pass-iterator.ensures.into_iter_gives in
+    let made = c.in_ok-workers.ensures in
+    let new = c.requires.new in
+    record {
+      can = tt;
+      finite = tt;
+      room = let len = c.len.ensures in let capacity = made.capacity in omega (arith, into.1, made.len);
+      all = omega (arith, into.1, made.len);
+      rest = λ n pass at.
+          let is = new.each n pass (ap (λ l. slice_get l n) (sym into.0) ∙ at) in
+          (subst (λ m. IsNewPass c.args.index.now.board m pass) (omega (arith, made.len)) is.0, is.1);
+      begun = λ n worker at. all_none n worker (ap (λ l. slice_get l n) (sym made.items) ∙ at);
+    }
+
+pub new-requires-clause-quiet : goal.new-requires-clause-quiet
+new-requires-clause-quiet c = (c.loop-pass.invariant.rest 0 c.in-Some.pass (ap (λ l. slice_get l 0) c.in-Some.ensures.steps.0)).1
+
+pub new-requires-clause-nothing : goal.new-requires-clause-nothing
+new-requires-clause-nothing c =
+    let new = (c.loop-pass.invariant.rest 0 c.in-Some.pass (ap (λ l. slice_get l 0) c.in-Some.ensures.steps.0)).0 in
+    ap (λ t. mine (number c.in-Some.pass) (seen t)) new.nothing
+
+pub loop-pass-preserved : goal.loop-pass-preserved
+loop-pass-preserved c =
+    let b = c.args.index.now.board in
+    let was = c.loop-pass.invariant in
+    let steps = c.in-Some.ensures.steps in
+    let pushed = c.push_reserved.ensures in
+    let room = was.room in
+    let all = was.all in
+    let workers = c.loop-pass.workers in
+    let new = (was.rest 0 c.in-Some.pass (ap (λ l. slice_get l 0) steps.0)).0 in
+    let here : number c.in-Some.pass ≡ length workers.items = new.number ∙ omega (arith, workers.ok.0) in
+    record {
+      can = tt;
+      finite = tt;
+      room = omega (arith, steps.1, pushed.len, pushed.capacity);
+      all = omega (arith, steps.1, pushed.len);
+      rest = λ n pass at.
+          let is = was.rest (suc n) pass (ap (λ l. slice_get l (suc n)) steps.0 ∙ at) in
+          (subst (λ m. IsNewPass b m pass) (omega (arith, pushed.len)) is.0, is.1);
+      begun = subst (AllAt (λ n worker. Begins b n worker)) (sym pushed.items)
+          (all_pushed (λ n worker. Begins b n worker) workers.items c.new.result was.begun (subst (λ m. Begins b m c.new.result) here c.new.ensures));
+    }

@@ -1,0 +1,65 @@
+-- How the commands of a pass are counted, and which entries of a history are counted so.
+use Rattle.std.specs.Prelude.{◌≡◌, ℕ, ◌+◌, Bool, true, false, List, count_by}
+use Rattle.segmodel.specs.declared.request.Reply.{Reply}
+use Rattle.segmodel.specs.declared.request.Reply.TheVariants as reply
+use Rattle.segmodel.specs.declared.entry.Entry.{Entry}
+use Rattle.segmodel.specs.declared.entry.Entry.TheVariants.{Wrote}
+use Rattle.segload.specs.declared.totals.Tally.{Tally}
+use Rattle.segload.specs.declared.totals.Tally.TheVariants as tally
+use Rattle.segload.specs.declared.totals.Tallies.{Tallies}
+
+abbrev pub no_tallies : Tallies
+no_tallies = record {
+  hit = 0;
+  miss = 0;
+  stored = 0;
+  not_stored = 0;
+  exists = 0;
+  not_found = 0;
+  deleted = 0;
+  no_room = 0;
+  bucket_full = 0;
+  busy = 0;
+}
+
+-- one command more is counted
+abbrev pub counted : Tally → Tallies → Tallies
+counted tally.Hit tallies = record tallies { hit = tallies.hit + 1 }
+counted tally.Miss tallies = record tallies { miss = tallies.miss + 1 }
+counted tally.Stored tallies = record tallies { stored = tallies.stored + 1 }
+counted tally.NotStored tallies = record tallies { not_stored = tallies.not_stored + 1 }
+counted tally.Exists tallies = record tallies { exists = tallies.exists + 1 }
+counted tally.NotFound tallies = record tallies { not_found = tallies.not_found + 1 }
+counted tally.Deleted tallies = record tallies { deleted = tallies.deleted + 1 }
+counted tally.NoRoom tallies = record tallies { no_room = tallies.no_room + 1 }
+counted tally.BucketFull tallies = record tallies { bucket_full = tallies.bucket_full + 1 }
+counted tally.Busy tallies = record tallies { busy = tallies.busy + 1 }
+
+-- how many commands are counted in all
+abbrev pub all_of : Tallies → ℕ
+all_of tallies = tallies.hit + tallies.miss + tallies.stored + tallies.not_stored + tallies.exists + tallies.not_found + tallies.deleted + tallies.no_room + tallies.bucket_full + tallies.busy
+
+-- how many commands are counted with a reply
+abbrev pub tally_of : Reply → Tallies → ℕ
+tally_of reply.Stored tallies = tallies.stored
+tally_of reply.NotStored tallies = tallies.not_stored
+tally_of reply.Exists tallies = tallies.exists
+tally_of reply.NotFound tallies = tallies.not_found
+tally_of reply.Deleted tallies = tallies.deleted
+
+-- whether an entry is a write replied so
+abbrev pub tells : Reply → Entry → Bool
+tells reply.Stored (Wrote pass request reply.Stored segment) = true
+tells reply.NotStored (Wrote pass request reply.NotStored segment) = true
+tells reply.Exists (Wrote pass request reply.Exists segment) = true
+tells reply.NotFound (Wrote pass request reply.NotFound segment) = true
+tells reply.Deleted (Wrote pass request reply.Deleted segment) = true
+tells _ _ = false
+
+-- how many entries of a history are writes replied so
+abbrev pub replies : Reply → List Entry → ℕ
+replies told history = count_by (tells told) history
+
+-- the five tallies of replies count the writes of these entries
+abbrev pub CountsReplies : Tallies → List Entry → Type 0
+CountsReplies tallies entries = (told : Reply) → tally_of told tallies ≡ replies told entries

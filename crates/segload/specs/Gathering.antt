@@ -1,0 +1,47 @@
+-- How one pass comes to know all that the others did.
+use Rattle.std.specs.Prelude.{◌≡◌, ℕ, List, length, slice_get, Some}
+use Rattle.segword.specs.Shape.{IsValid}
+use Rattle.segmodel.specs.declared.entry.Entry.{Entry}
+use Rattle.segmodel.specs.History.{Begins, IsLegal}
+use Rattle.segmodel.specs.History.{mine as entries_by}
+use Rattle.segbase.specs.declared.board.Board.{Board}
+use Rattle.segbase.specs.declared.pass.Pass.{Pass}
+use Rattle.segbase.specs.Passes.{number, seen, mine}
+use Rattle.segindex.specs.Quiet.{IsQuiet}
+use Rattle.segindex.specs.Calls.{GoesOn}
+use Rattle.segload.specs.declared.worker.Worker.{Worker}
+
+-- the pass only looked: it goes on, and added no entry
+pub record Looked (b : Board) (p q : Pass) : Type 0 where
+  pub on : GoesOn b p q
+  pub mine : mine q ≡ mine p
+
+-- The first pass, from before to now, met another one, which only looked. It then has seen all that the other had seen; and what it had seen of the other's entries before, was a beginning of these.
+pub record HasMet (b : Board) (before now : Pass) (p q : Pass) : Type 0 where
+  pub looked : Looked b p q
+  pub told : Begins (seen p) (seen now)
+  pub known : Begins (entries_by (number p) (seen before)) (mine p)
+
+-- so it met each of them
+abbrev pub HasMetEach : Board → Pass → Pass → List Worker → List Worker → Type 0
+HasMetEach b before now old new = (n : ℕ) (worker after : Worker) → slice_get old n ≡ Some worker → slice_get new n ≡ Some after → HasMet b before now worker.client.pass after.client.pass
+
+-- each of the passes is quiet
+abbrev pub AreQuiet : Board → List Worker → Type 0
+AreQuiet b workers = (n : ℕ) (worker : Worker) → slice_get workers n ≡ Some worker → IsQuiet b worker.client.pass
+
+-- The pass knows all that the passes did: a legal history that it has seen has of each just the entries that it made. With one pass it is all that the pass has seen.
+pub record HasGathered (b : Board) (workers : List Worker) (pass : Pass) : Type 0 where
+  pub quiet : IsQuiet b pass
+  pub history : List Entry
+  pub legal : IsLegal b.shape history
+  pub goes_on : Begins history (seen pass)
+  pub alone : b.shape.passes ≡ 1 → seen pass ≡ history
+  pub each : (n : ℕ) (worker : Worker) → slice_get workers n ≡ Some worker → entries_by n history ≡ mine worker.client.pass
+
+-- these are the passes of an index, in the order of their numbers, and quiet
+pub record AreAll (b : Board) (workers : List Worker) : Type 0 where
+  pub valid : IsValid b.shape
+  pub long : length workers ≡ b.shape.passes
+  pub quiet : AreQuiet b workers
+  pub in_order : (n : ℕ) (worker : Worker) → slice_get workers n ≡ Some worker → number worker.client.pass ≡ n

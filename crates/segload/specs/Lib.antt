@@ -1,0 +1,4 @@
+pub mod Counting
+pub mod Working
+pub mod Gathering
+pub mod Loads

@@ -1,0 +1,41 @@
+-- What a load comes to.
+use Rattle.std.specs.Prelude.{◌≡◌, ℕ, ◌<◌, List, length, slice_get, Some}
+use Rattle.segword.specs.declared.shape.Shape.{Shape}
+use Rattle.segword.specs.Shape.{IsValid}
+use Rattle.segmodel.specs.declared.entry.Entry.{Entry}
+use Rattle.segmodel.specs.Cache.{Cache}
+use Rattle.segmodel.specs.History.{after, IsLegal, Begins, mine}
+use Rattle.segbase.specs.Made.{IsMakeFault}
+use Rattle.segload.specs.declared.fault.LoadFault.{LoadFault}
+use Rattle.segload.specs.declared.fault.LoadFault.TheVariants.{Make, Stopped, OutOfMemory}
+use Rattle.segload.specs.declared.totals.PassTotals.{PassTotals}
+use Rattle.segload.specs.declared.totals.Totals.{Totals}
+use Rattle.segload.specs.Counting.{all_of, CountsReplies}
+
+-- a pass made so many commands, each counted once, and its five tallies of replies count its own writes in a history
+pub record IsCounted (asked pass : ℕ) (history : List Entry) (totals : PassTotals) : Type 0 where
+  pub commands : totals.commands ≡ asked
+  pub all : all_of totals.tallies ≡ asked
+  pub replies : CountsReplies totals.tallies (mine pass history)
+
+-- how many keys stand
+abbrev pub keys_of : Cache → ℕ
+keys_of cache = length cache.items
+
+-- Each pass made so many commands, and one legal history has the writes of all of them as they are counted. So many keys stand at the end: after a legal history that goes on from that one, and is that one where there is one pass.
+pub record IsLoad (shape : Shape) (commands : ℕ) (totals : Totals) : Type 0 where
+  pub long : length totals.passes.items ≡ shape.passes
+  pub history : List Entry
+  pub legal : IsLegal shape history
+  pub each : (pass : ℕ) (of : PassTotals) → slice_get totals.passes.items pass ≡ Some of → IsCounted commands pass history of
+  pub end : List Entry
+  pub legal_end : IsLegal shape end
+  pub goes_on : Begins history end
+  pub alone : shape.passes ≡ 1 → end ≡ history
+  pub keys : totals.keys ≡ keys_of (after shape end)
+
+-- The index couldn't be made; or a pass of it was stopped before one of its commands, where the gate may stop it; or memory was wanted for a shape that an index may have.
+abbrev pub IsLoadFault : Shape → ℕ → (ℕ → ℕ → Type 0) → LoadFault → Type 0
+IsLoadFault shape commands may_stop (Make fault) = IsMakeFault shape fault
+IsLoadFault shape commands may_stop (Stopped pass) = IsValid shape × (pass < shape.passes) × ((call : ℕ) × (call < commands) × may_stop pass call)
+IsLoadFault shape commands may_stop OutOfMemory = IsValid shape

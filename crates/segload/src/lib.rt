@@ -1,0 +1,17 @@
+//! A load: each pass of an index makes its own commands, on a thread of its own, and what they came to is counted.
+#![tactic(auto)]
+
+mod client;
+mod fault;
+mod gate;
+mod gather;
+mod load;
+#[cfg(test)]
+mod tests;
+mod totals;
+mod worker;
+
+pub use fault::LoadFault;
+pub use gate::{Gate, OpenGate};
+pub use load::run_load;
+pub use totals::{PassTotals, Tallies, Tally, Totals};

@@ -1,0 +1,89 @@
+//! What a load counts.
+ghost use Rattle.std.specs.Prelude.{◌≡◌, ◌+◌, ◌^◌, ◌<◌};
+ghost use Rattle.segload.specs.Counting.{no_tallies, counted, all_of};
+
+/// What a command came to.
+#[derive(Clone, Copy, Debug, PartialEq, Eq)]
+pub enum Tally {
+    /// A get or a gets found its key.
+    Hit,
+    /// A get or a gets didn't.
+    Miss,
+    Stored,
+    NotStored,
+    Exists,
+    /// A cas or a delete didn't find its key.
+    NotFound,
+    Deleted,
+    NoRoom,
+    BucketFull,
+    Busy,
+}
+
+/// How many commands of a pass came to what.
+#[derive(Clone, Copy, Debug, PartialEq, Eq)]
+pub struct Tallies {
+    pub hit: u32,
+    pub miss: u32,
+    pub stored: u32,
+    pub not_stored: u32,
+    pub exists: u32,
+    pub not_found: u32,
+    pub deleted: u32,
+    pub no_room: u32,
+    pub bucket_full: u32,
+    pub busy: u32,
+}
+
+impl Tallies {
+    /// Nothing is counted yet.
+    pub fn new() -> Tallies
+        ensures { result ≡ no_tallies }
+    {
+        Tallies {
+            hit: 0,
+            miss: 0,
+            stored: 0,
+            not_stored: 0,
+            exists: 0,
+            not_found: 0,
+            deleted: 0,
+            no_room: 0,
+            bucket_full: 0,
+            busy: 0,
+        }
+    }
+
+    /// Counts one command more.
+    pub fn count(&mut self, tally: Tally)
+        requires fits { all_of self.old + 1 < 2 ^ 32 }
+        ensures counted { self.new ≡ counted tally self.old }
+    {
+        match tally {
+            Tally::Hit => self.hit += 1,
+            Tally::Miss => self.miss += 1,
+            Tally::Stored => self.stored += 1,
+            Tally::NotStored => self.not_stored += 1,
+            Tally::Exists => self.exists += 1,
+            Tally::NotFound => self.not_found += 1,
+            Tally::Deleted => self.deleted += 1,
+            Tally::NoRoom => self.no_room += 1,
+            Tally::BucketFull => self.bucket_full += 1,
+            Tally::Busy => self.busy += 1,
+        }
+    }
+}
+
+/// What the commands of one pass came to.
+#[derive(Debug, Drop, PartialEq, Eq)]
+pub struct PassTotals {
+    pub commands: u32,
+    pub tallies: Tallies,
+}
+
+/// What a load came to: for each pass, in the order of their numbers, and how many keys the index had at its end.
+#[derive(Debug, Drop, PartialEq, Eq)]
+pub struct Totals {
+    pub passes: Vec<PassTotals>,
+    pub keys: u32,
+}

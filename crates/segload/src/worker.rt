@@ -1,0 +1,67 @@
+//! A pass at its load.
+ghost use Rattle.std.specs.Prelude.{◌≡◌, ℕ, ◌+◌, ◌^◌, ◌<◌, ◌≤◌, []};
+ghost use Rattle.segindex.specs.Index.{board_of};
+
+use crate::client::Client;
+use crate::gate::Gate;
+use crate::totals::Tallies;
+use segindex::{Index, Pass};
+use segpolicy::{Ring, Workload};
+
+/// A pass with its commands, and what they came to so far.
+#[derive(Drop)]
+pub(crate) struct Worker {
+    pub(crate) client: Client,
+    workload: Workload,
+    pub(crate) tallies: Tallies,
+    pub(crate) is_stopped: bool,
+}
+
+impl Worker {
+    ghost use Rattle.segbase.specs.Passes.{number, mine};
+    ghost use Rattle.segbase.specs.Plain.{number_of};
+    ghost use Rattle.segindex.specs.Quiet.{IsQuiet};
+    ghost use Rattle.segload.specs.Working.{Begins, HasWorked};
+
+    /// A pass that made no command yet.
+    pub(crate) fn new(index: &Index, seed: u64, pass: Pass) -> Worker
+        requires quiet { IsQuiet (board_of index.now) pass }
+        requires nothing { mine pass ≡ [] }
+        ensures { Begins (board_of index.now) (number pass) result }
+    {
+        let number = pass.number();
+        let segments = index.shape().segments_each;
+        Worker {
+            client: Client::new(pass, Ring::new(number * segments, segments)),
+            workload: Workload::new(seed, number),
+            tallies: Tallies::new(),
+            is_stopped: false,
+        }
+    }
+
+    /// The number of its pass.
+    pub(crate) fn number(&self) -> u32
+        ensures { result ≡ number_of self.now.client.pass }
+    {
+        self.client.pass.number()
+    }
+
+    /// Makes its commands, until the gate stops it.
+    pub(crate) fn work<G: Gate>(mut self, index: &Index, gate: &G, commands: u32) -> Worker
+        requires begins { Begins (board_of index.now) (number self.client.pass) self }
+        ensures { HasWorked (board_of index.now) (G.may_stop gate.now) (number self.client.pass) commands result }
+    {
+        let pass = self.client.pass.number();
+        for call in 0..commands {
+            if !gate.enter(pass, call) {
+                self.is_stopped = true;
+                return self;
+            }
+            let load = self.workload.next();
+            let tally = self.client.serve(index, &load);
+            self.tallies.count(tally);
+            gate.answered(pass, call);
+        }
+        self
+    }
+}
