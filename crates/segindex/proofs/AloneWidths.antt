@@ -32,7 +32,7 @@ use Rattle.segindex.specs.Answers.{GrowsFor, CanGrow}
 use Rattle.segindex.specs.Alone.{state_at, IsAlone}
 use Rattle.segindex.proofs.QuietPass.{keys_few}
 use Rattle.segindex.proofs.AlonePass.{SameWidths, reply_then}
-use Rattle.segindex.proofs.Grown.{entries_begin, drawn_begin, all_begin, drawn_alone, one_of_two}
+use Rattle.segindex.proofs.Grown.{entries_begin, drawn_begin, all_begin, drawn_for_one, one_of_two}
 
 -- keys of a bucket stand at most for each word that its chain can have
 keys_fit : (b : Board) (p : Pass) (bucket : ℕ) → IsQuiet b p → keys_in b.shape (after b.shape (seen p)) bucket ≤ 6 * width (marked p) bucket + 1
@@ -56,7 +56,7 @@ module _ (b : Board) (p q : Pass) (was : IsAlone b p) (on : GoesOn b p q) where
   -- where it drew for one bucket alone
   all_drew : (bucket : ℕ) → ((other : ℕ) → other ≢ bucket → drew q other ≡ drew p other) → all_drawn (marked q) + drew p bucket ≡ all_drawn (marked p) + drew q bucket
   all_drew bucket others =
-      let alone = drawn_alone on.marked.0 bucket (λ other ne. let none = others other ne in let added = added_drew other in omega arith) in
+      let alone = drawn_for_one on.marked.0 bucket (λ other ne. let none = others other ne in let added = added_drew other in omega arith) in
       let added = added_drew bucket in
       let more = all_begin (marked p) (marked q) on.marked in omega arith
 

@@ -35,10 +35,10 @@ all_begin old new (more, e) = ap all_drawn e ∙ all_joined more old
 
 -- ---- drawn for one bucket alone
 
-pub drawn_alone : (marks : List Mark) (bucket : ℕ) → ((other : ℕ) → other ≢ bucket → drawn_for marks other ≡ 0) → all_drawn marks ≡ drawn_for marks bucket
-drawn_alone [] bucket none = refl
-drawn_alone (drawn a ∷ marks) bucket none = elim (cases_eq a bucket) [
-  | inl same ↦ ap (λ n. n + 1) (drawn_alone marks bucket (λ other ne. sym (past other (λ e. ne (sym e ∙ same))) ∙ none other ne)) ∙ sym (here bucket same)
+pub drawn_for_one : (marks : List Mark) (bucket : ℕ) → ((other : ℕ) → other ≢ bucket → drawn_for marks other ≡ 0) → all_drawn marks ≡ drawn_for marks bucket
+drawn_for_one [] bucket none = refl
+drawn_for_one (drawn a ∷ marks) bucket none = elim (cases_eq a bucket) [
+  | inl same ↦ ap (λ n. n + 1) (drawn_for_one marks bucket (λ other ne. sym (past other (λ e. ne (sym e ∙ same))) ∙ none other ne)) ∙ sym (here bucket same)
   | inr other ↦ let one = here a refl in let no = none a other in absurd (omega arith)
 ]
   where
@@ -47,7 +47,7 @@ drawn_alone (drawn a ∷ marks) bucket none = elim (cases_eq a bucket) [
 
     past : (b : ℕ) → a ≢ b → drawn_for (drawn a ∷ marks) b ≡ drawn_for marks b
     past b other = ap (λ t. cond t (drawn_for marks b + 1) (drawn_for marks b)) (ne_eqb a b other)
-drawn_alone (mark ∷ marks) bucket none = drawn_alone marks bucket none
+drawn_for_one (mark ∷ marks) bucket none = drawn_for_one marks bucket none
 
 -- ---- one entry more
 
