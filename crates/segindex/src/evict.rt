@@ -75,6 +75,7 @@ impl Index {
         requires ended { current_of pass.old ≢ Some segment }
         ensures on { GoesOn (board_of self.now) pass.old pass.new }
         ensures answer { IsEvictAnswer (shape_of self.now) segment result pass.old pass.new }
+        ensures draws_nothing { DrawsNothing pass.old pass.new }
         ensures yours { result ≢ NotYours }
     {
         let used = pass.used(segment).unwrap();
