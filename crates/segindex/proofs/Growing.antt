@@ -127,6 +127,7 @@ module _ (b : Board) (bucket overflow : ℕ) (place : Place) (word : ℕ) (p r :
           words = joined.0;
           prepares = subst (λ n. Prepares b (joins n bucket overflow joined.0 ++ draws ∷ []) bucket p q) drew.moved.same both;
           clean = joined.2.clean;
+          second = refl;
           free = λ key of absent. record {
             chain = subst (λ k. IsInChain b k room q) (sym of) (record { in_table = (omega (arith, overflow_in), omega arith, omega arith); at = subst (λ n. IsItemAt z (trace q) bucket n (cell_at z room)) (sym room_position) room_at });
             is = inl (refl, subst (λ k. (bucket_after z (trace q) k).items (position z (trace q) room) ≡ nothing) (sym of) (ap longer.items room_position ∙ joined.2.empty), (both.keys key of).stands ∙ absent);
