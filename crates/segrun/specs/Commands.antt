@@ -5,8 +5,8 @@ use Rattle.segword.specs.declared.reading.Reading.{Reading}
 use Rattle.segrun.specs.Explained.{Says, explanation}
 use Rattle.segrun.specs.Faults.{end_of_run, fault_line, fault_status, is_write_end}
 use Rattle.segrun.specs.Printing.{PrintOutcome, IsPrinted, IsFlushed}
-use Rattle.segrun.specs.Run.{RunOutcome, ShapeIsAnswered, is_read_fault, is_write_fault, is_make_fault}
-use Rattle.segrun.specs.declared.fault.RunFault.{RunFault}
+use Rattle.segscript.specs.Run.{RunOutcome, ShapeIsAnswered, is_read_fault, is_write_fault, is_make_fault}
+use Rattle.segscript.specs.declared.fault.RunFault.{RunFault}
 use Rattle.segrun.specs.declared.report.ProgramFault.{ProgramFault}
 use Rattle.segrun.specs.declared.report.ProgramFault.TheVariants as fault
 use Rattle.segrun.specs.declared.command.Command.{Command}

@@ -2,8 +2,8 @@
 use Rattle.std.specs.Prelude.{◌≡◌, ℕ, List, ◌++◌, codes, decimal, Result, Ok, Err, Bool, true, false}
 use Rattle.segword.specs.Shape.{fault_number}
 use Rattle.segbase.specs.declared.fault.MakeFault.TheVariants as made
-use Rattle.segrun.specs.declared.fault.RunFault.{RunFault}
-use Rattle.segrun.specs.declared.fault.RunFault.TheVariants as run
+use Rattle.segscript.specs.declared.fault.RunFault.{RunFault}
+use Rattle.segscript.specs.declared.fault.RunFault.TheVariants as run
 use Rattle.segrun.specs.declared.report.ProgramFault.{ProgramFault}
 use Rattle.segrun.specs.declared.report.ProgramFault.TheVariants as fault
 

@@ -1,14 +1,5 @@
 pub mod Commands
-pub mod Device
 pub mod Explained
 pub mod Faults
-pub mod Known
-pub mod Memory
-pub mod Passes
 pub mod Printing
 pub mod Program
-pub mod Reading
-pub mod Run
-pub mod Running
-pub mod Server
-pub mod Verb

@@ -1,7 +1,7 @@
 -- A text that is written and flushed.
 use Rattle.std.specs.Prelude.{◌⊎◌, ◌≡◌, ℕ, Bool, List, [], Result, Ok, Err, is_err}
-use Rattle.segrun.specs.Device.{IsBeginning, flushed}
-use Rattle.segrun.specs.declared.device.Failed.{Failed}
+use Rattle.segscript.specs.Device.{IsBeginning, flushed}
+use Rattle.segscript.specs.declared.device.Failed.{Failed}
 
 -- How the printing of a text ends: Wrote is what is so of the bytes that were written, and before and flushes are how many
 -- flushes were asked for before and then. Where it fails, it was cut short, or the flush failed.

@@ -1,14 +1,13 @@
 //! The commands of the program, and how each ends.
 ghost use Rattle.std.specs.Prelude.{◌≡◌, ◌≢◌, ℕ, false, Result};
-ghost use Rattle.segrun.specs.declared.fault.RunFault.{RunFault};
+ghost use Rattle.segscript.specs.declared.fault.RunFault.{RunFault};
 ghost use Rattle.segrun.specs.declared.report.ProgramFault.{ProgramFault};
 ghost use Rattle.segrun.specs.Faults.{end_of_run, is_write_end};
 ghost use Rattle.segrun.specs.Commands.{RanScript, WordOutcome, ShowOutcome, CommandOutcome, Concluded};
 
-use crate::device::{Failed, Sink, Source};
 use crate::explain::{explain, reading_of};
 use crate::report::{ProgramFault, print, report};
-use crate::script::run_script;
+use segscript::{Failed, Sink, Source, run_script};
 use segword::Shape;
 use std::alloc::Global;
 

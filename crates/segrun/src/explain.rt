@@ -5,7 +5,7 @@ ghost use Rattle.arrayvec.specs.ArrayVec.{array_vec_len};
 ghost use Rattle.segword.specs.declared.reading.Reading.{Reading};
 ghost use Rattle.segrun.specs.Explained.{IsHexWord, Says, tag_digits, explanation};
 
-use crate::text::{Line, line, put, put_number};
+use segscript::{Line, line_of, put, put_number};
 use segword::{Item, Reading};
 
 const DIGITS: [u8; 16] = *b"0123456789abcdef";
@@ -35,10 +35,10 @@ pub fn explain(reading: Reading) -> Line
     ensures { result.items ≡ explanation reading }
 {
     match reading {
-        Reading::Empty => line(b"empty\n"),
+        Reading::Empty => line_of(b"empty\n"),
         Reading::Item(item) => explain_item(item),
         Reading::Chain(number) => {
-            let mut text = line(b"chain ");
+            let mut text = line_of(b"chain ");
             put_number(&mut text, number);
             put(&mut text, b"\n");
             text
@@ -49,7 +49,7 @@ pub fn explain(reading: Reading) -> Line
 fn explain_item(item: Item) -> Line
     ensures { result.items ≡ explanation (Reading.Item item) }
 {
-    let mut text = line(b"item tag=");
+    let mut text = line_of(b"item tag=");
     put(&mut text, &tag_text(item.tag));
     put(&mut text, b" freq=");
     put_number(&mut text, item.freq);

@@ -3,27 +3,13 @@
 
 mod arguments;
 mod command;
-mod device;
-mod engine;
 mod explain;
-mod fault;
-mod line;
-mod memory;
 mod program;
-mod reply;
 mod report;
-mod run;
-mod script;
-mod server;
-mod standard;
-mod text;
-mod turns;
-mod verb;
-mod word;
 
 use program::run_program;
 use report::{ProgramFault, report};
-use standard::{ReadSource, WriteSink};
+use segscript::{ReadSource, WriteSink};
 use std::process::ExitCode;
 use std::{env, io};
 

@@ -7,8 +7,8 @@ ghost use Rattle.segrun.specs.Program.{default_shape, refusal_status, refusal_te
 
 use crate::arguments::{Refusal, read_command};
 use crate::command::run_command;
-use crate::device::{Sink, Source};
 use crate::report::{ProgramFault, print, report};
+use segscript::{Sink, Source};
 use std::alloc::Global;
 
 /// The status of a bad command line.

@@ -3,10 +3,8 @@ ghost use Rattle.std.specs.Prelude.{◌≡◌, ◌++◌, false, is_err};
 ghost use Rattle.segrun.specs.Faults.{fault_of_run, fault_line, fault_status};
 ghost use Rattle.segrun.specs.Printing.{PrintOutcome, IsPrinted, IsFlushed};
 
-use crate::device::{Failed, Sink, write_all};
-use crate::fault::RunFault;
-use crate::text::{Line, line, put, put_number};
 use segindex::MakeFault;
+use segscript::{Failed, Line, RunFault, Sink, line_of, put, put_number, write_all};
 use segword::ShapeFault;
 
 /// Why the program failed.
@@ -70,24 +68,24 @@ impl ProgramFault {
     {
         match self {
             ProgramFault::BadLine(number) => {
-                let mut text = line(b"bad line ");
+                let mut text = line_of(b"bad line ");
                 put_number(&mut text, number);
                 put(&mut text, b"\n");
                 text
             }
-            ProgramFault::BadWord => line(b"bad word\n"),
-            ProgramFault::BadArguments => line(b"bad arguments: not UTF-8\n"),
-            ProgramFault::NoOverflow => line(b"bad option: no overflow buckets yet\n"),
+            ProgramFault::BadWord => line_of(b"bad word\n"),
+            ProgramFault::BadArguments => line_of(b"bad arguments: not UTF-8\n"),
+            ProgramFault::NoOverflow => line_of(b"bad option: no overflow buckets yet\n"),
             ProgramFault::BadShape(fault) => {
-                let mut text = line(b"bad shape ");
+                let mut text = line_of(b"bad shape ");
                 put_number(&mut text, fault.number());
                 put(&mut text, b"\n");
                 text
             }
-            ProgramFault::OutOfMemory => line(b"out of memory\n"),
-            ProgramFault::Read => line(b"read failed\n"),
-            ProgramFault::Write => line(b"write failed\n"),
-            ProgramFault::TooLong => line(b"script too long\n"),
+            ProgramFault::OutOfMemory => line_of(b"out of memory\n"),
+            ProgramFault::Read => line_of(b"read failed\n"),
+            ProgramFault::Write => line_of(b"write failed\n"),
+            ProgramFault::TooLong => line_of(b"script too long\n"),
         }
     }
 }

@@ -1,48 +1,23 @@
-//! Whole runs over memory, in pieces of 1, 3 and 5000 bytes.
-mod bad_lines;
-mod cut_short;
+//! The program over memory: its words, and what it writes, prints and answers.
 mod devices;
-mod evicting;
-mod holding;
-mod locking;
-mod making;
-mod order;
-mod program;
-mod serving;
-mod writing;
+mod help;
+mod memory;
+mod options;
+mod scripts;
+mod words;
 
 ghost use Rattle.std.specs.Prelude.{◌≡◌, false};
 
-use crate::fault::RunFault;
-use crate::memory::{MemSink, MemSource};
-use crate::script::run_script;
-use segindex::MakeFault;
-use segword::{Shape, ShapeFault};
-use std::alloc::Global;
+use crate::program::run_program;
+use segscript::{MemSink, MemSource};
+use std::alloc::{AllocError, Global};
 use std::process::Abort;
 use std::test::Fail;
-
-/// How many bytes go through a device at a time.
-const STEPS: [usize; 3] = [1, 3, 5000];
 
 /// A script of three lines, and its replies.
 const SCRIPT: &[u8] = b"p0 refill 0\np0 set a 1\np0 get a\n";
 
 const REPLIES: &[u8] = b"REFILLED\nSTORED\nVALUE 1\n";
-
-/// One bucket, one pass, and one segment.
-fn shape_of(rows: u32) -> Shape
-    ensures { result.overflow ≡ 0 }
-{
-    Shape {
-        buckets: 1,
-        overflow: 0,
-        passes: 1,
-        segments_each: 1,
-        rows,
-        first_version: 0,
-    }
-}
 
 /// A reader of the script in pieces, which may fail after some bytes.
 fn reader_of(script: &[u8], step: usize, good: Option<usize>) -> MemSource<'_>
@@ -54,59 +29,69 @@ fn reader_of(script: &[u8], step: usize, good: Option<usize>) -> MemSource<'_>
     reader
 }
 
-/// Runs a script, and checks how it ends, what it wrote, and that it flushed once where it ended well, else not at all.
-fn check(
+/// What came of a run of the program.
+#[derive(Drop)]
+struct Ended {
+    status: u8,
+    written: Vec<u8>,
+    printed: Vec<u8>,
+    /// How many flushes were asked of the writer and of the error writer.
+    flushes: (u64, u64),
+}
+
+/// The words as the program gets them.
+fn words_of(alloc: Global, words: &[&str]) -> Result<Vec<String>, AllocError> {
+    let mut list = Vec::new(alloc);
+    for word in words {
+        list.push(String::from_str(alloc, word)?)?;
+    }
+    Ok(list)
+}
+
+/// Runs the program with devices that don't fail.
+fn run(alloc: Global, words: &[&str], script: &[u8]) -> Result<Ended, AllocError> {
+    let words = words_of(alloc, words)?;
+    let mut source = MemSource::new(script);
+    let mut writer = MemSink::new(alloc, 10_000)?;
+    let mut errors = MemSink::new(alloc, 10_000)?;
+    let status = run_program(
+        alloc,
+        words.as_slice(),
+        &mut source,
+        &mut writer,
+        &mut errors,
+    );
+    Ok(Ended {
+        status,
+        flushes: (writer.flushes, errors.flushes),
+        written: writer.taken,
+        printed: errors.taken,
+    })
+}
+
+/// Checks what the program writes, prints and answers, and that it flushes once what it writes and prints.
+fn check_program(
     rt: &impl Abort,
     alloc: Global,
-    shape: Shape,
+    words: &[&str],
     script: &[u8],
-    good: Option<usize>,
-    end: Result<(), RunFault>,
-    replies: &[u8],
-) -> Result<(), Fail>
-    requires { shape.overflow ≡ 0 }
-{
-    for step in STEPS {
-        let mut reader = reader_of(script, step, good);
-        let mut writer = MemSink::new(alloc, 1000)?;
-        writer.step = step.max(1);
-        let found = run_script(alloc, &mut reader, &mut writer, shape);
-        assert_eq!(rt; found, end, "in pieces of {step}");
-        assert_eq!(rt; writer.taken.as_slice(), replies, "in pieces of {step}");
-        assert_eq!(rt; writer.flushes, if end.is_ok() { 1 } else { 0 });
-    }
+    status: u8,
+    written: &[u8],
+    printed: &[u8],
+) -> Result<(), Fail> {
+    let ended = run(alloc, words, script)?;
+    assert_eq!(rt; ended.written.as_slice(), written, "{words:?}");
+    assert_eq!(rt; ended.printed.as_slice(), printed, "{words:?}");
+    assert_eq!(rt; ended.status, status, "{words:?}");
+    let flushes = if status == 0 { (1, 0) } else { (1, 1) };
+    assert_eq!(rt; ended.flushes, flushes, "{words:?}");
     Ok(())
 }
 
-/// Checks a script whose devices don't fail.
-fn check_script(
-    rt: &impl Abort,
-    alloc: Global,
-    rows: u32,
-    script: &[u8],
-    end: Result<(), RunFault>,
-    replies: &[u8],
-) -> Result<(), Fail> {
-    check(rt, alloc, shape_of(rows), script, None, end, replies)
-}
-
-/// Checks a script without bad lines. The shape has no overflow bucket, and this many buckets, passes, segments of a pass
-/// and rows of a segment.
-fn check_turns(
-    rt: &impl Abort,
-    alloc: Global,
-    [buckets, passes, segments_each, rows]: [u32; 4],
-    first_version: u32,
-    script: &[u8],
-    replies: &[u8],
-) -> Result<(), Fail> {
-    let shape = Shape {
-        buckets,
-        overflow: 0,
-        passes,
-        segments_each,
-        rows,
-        first_version,
-    };
-    check(rt, alloc, shape, script, None, Ok(()), replies)
+/// Whether the bytes are a text that has this part.
+fn has(bytes: &[u8], part: &str) -> bool {
+    match str::from_utf8(bytes) {
+        Ok(text) => text.contains(part),
+        Err(_) => false,
+    }
 }

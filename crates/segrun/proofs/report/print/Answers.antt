@@ -1,6 +1,6 @@
 use Rattle.std.proofs.Common.{◌∙◌, ap, inr}
-use Rattle.segrun.specs.Device.{flushed}
-use Rattle.segrun.proofs.Devices.{nothing_more}
+use Rattle.segscript.specs.Device.{flushed}
+use Rattle.segscript.proofs.Devices.{nothing_more}
 use Rattle.segrun.proofs.report.print.Goals as goal
 
 pub returns-in-Ok-clause-outcome : goal.returns-in-Ok-clause-outcome

@@ -1,0 +1,11 @@
+pub mod Devices
+pub mod Feeding
+pub mod Going
+pub mod LineLemmas
+pub mod LineReadings
+pub mod Numbers
+pub mod OneBadLine
+pub mod OneTurn
+pub mod Servers
+pub mod Turning
+pub mod WordLemmas

@@ -1,0 +1,210 @@
+-- Lines that are served one after another, and a run that goes on byte by byte.
+use Rattle.std.proofs.Common.{Err, Bool, ◌≡◌, ◌≢◌, ℕ, ◌+◌, ◌<◌, inl, inr, List, [], ◌∷◌, ◌++◌, length, true, eqb, refl, sym, ◌∙◌, ap, arith, append_assoc, append-nil, length-append}
+use Rattle.std.specs.List.{flat_map, AllByRecursion}
+use Rattle.std.proofs.lemmas.Grind.{flat_map-append}
+use Rattle.std.proofs.lemmas.Bool.{eqb-true}
+use Rattle.segword.specs.declared.shape.Shape.{Shape}
+use Rattle.segmodel.specs.declared.answer.Outcome.{Outcome}
+use Rattle.segmodel.specs.State.{State, fresh}
+use Rattle.segmodel.specs.Turns.{Runs}
+use Rattle.segmodel.specs.Spelling.{PassTurn, IsSayable, spelling}
+use Rattle.segmodel.specs.Replies.{reply}
+use Rattle.segmodel.specs.Script.{IsLine, ended, Splits, Say, Steps, IsServed, IsBad, IsTextOf}
+use Rattle.segscript.specs.Device.{IsBeginning}
+use Rattle.segscript.specs.Run.{Reaches}
+use Rattle.segscript.specs.Running.{Stands, FirstBad, LineOutcome, FeedOutcome, FinishOutcome}
+use Rattle.segscript.specs.declared.fault.RunFault.{RunFault}
+use Rattle.segscript.specs.declared.fault.RunFault.TheVariants as fault
+
+Say-append : (passes : ℕ) (xs ys : List (List ℕ)) (ts us : List PassTurn) → Say passes xs ts → Say passes ys us → Say passes (xs ++ ys) (ts ++ us)
+Say-append passes [] ys [] us first more = more
+Say-append passes [] ys (t ∷ ts) us first more = absurd first
+Say-append passes ([] ∷ xs) ys ts us first more = Say-append passes xs ys ts us first more
+Say-append passes ((b ∷ bs) ∷ xs) ys [] us first more = absurd first
+Say-append passes ((b ∷ bs) ∷ xs) ys (t ∷ ts) us first more = (first.0, first.1, Say-append passes xs ys ts us first.2 more)
+
+Runs-append : (shape : Shape) (old mid new : State) (ts us : List PassTurn) (rs ss : List Outcome) → Runs (Steps shape) old ts rs mid → Runs (Steps shape) mid us ss new → Runs (Steps shape) old (ts ++ us) (rs ++ ss) new
+Runs-append shape old mid new [] us [] ss first more = rw first at more
+Runs-append shape old mid new [] us (r ∷ rs) ss first more = absurd first
+Runs-append shape old mid new (t ∷ ts) us [] ss first more = absurd first
+Runs-append shape old mid new (t ∷ ts) us (r ∷ rs) ss first more = (first.0, first.1, Runs-append shape first.0 mid new ts us rs ss first.2 more)
+
+Say-one : (passes : ℕ) (line : List ℕ) (said : PassTurn) → 0 < length line → IsSayable passes said → line ≡ spelling said → Say passes (line ∷ []) (said ∷ [])
+Say-one passes [] said some may same = absurd (omega arith)
+Say-one passes (b ∷ bs) said some may same = (may, same, tt)
+
+pub IsLine-append : (xs ys : List ℕ) → IsLine xs → IsLine ys → IsLine (xs ++ ys)
+IsLine-append [] ys first more = more
+IsLine-append (x ∷ xs) ys first more = (first.0, IsLine-append xs ys first.1 more)
+
+pub lines-append : (xs ys : List (List ℕ)) → AllByRecursion IsLine xs → AllByRecursion IsLine ys → AllByRecursion IsLine (xs ++ ys)
+lines-append [] ys first more = more
+lines-append (x ∷ xs) ys first more = (first.0, lines-append xs ys first.1 more)
+
+-- one byte more of the line
+Splits-byte : (bytes : List ℕ) (lines : List (List ℕ)) (rest : List ℕ) (b : ℕ) → Splits bytes lines rest → b ≢ 10 → Splits (bytes ++ b ∷ []) lines (rest ++ b ∷ [])
+Splits-byte bytes lines rest b splits other = record {
+  whole = rw splits.whole (append_assoc (flat_map ended lines) rest (b ∷ []));
+  each = splits.each;
+  partial = IsLine-append rest (b ∷ []) splits.partial (other, tt);
+}
+
+-- the end of the line
+Splits-end : (bytes : List ℕ) (lines : List (List ℕ)) (rest : List ℕ) → Splits bytes lines rest → Splits (bytes ++ 10 ∷ []) (lines ++ rest ∷ []) []
+Splits-end bytes lines rest splits = record {
+  whole = rw splits.whole (simp (flat_map-append, append_assoc, append-nil));
+  each = lines-append lines (rest ∷ []) splits.each (splits.partial, tt);
+  partial = tt;
+}
+
+module _ (shape : Shape) where
+  -- more lines are served after some
+  IsServed-append : (old mid new : State) (xs ys : List (List ℕ)) (s t : List ℕ) → IsServed shape old xs s mid → IsServed shape mid ys t new → IsServed shape old (xs ++ ys) (s ++ t) new
+  IsServed-append old mid new xs ys s t first more = record {
+    turns = first.turns ++ more.turns;
+    outcomes = first.outcomes ++ more.outcomes;
+    says = Say-append shape.passes xs ys first.turns more.turns first.says more.says;
+    run = Runs-append shape old mid new first.turns more.turns first.outcomes more.outcomes first.run more.run;
+    told = rw (first.told, more.told) (sym (flat_map-append reply first.outcomes more.outcomes));
+  }
+
+  -- a line that says a turn is served by its outcome
+  pub IsServed-one : (old new : State) (line text : List ℕ) (said : PassTurn) (outcome : Outcome) → 0 < length line → IsSayable shape.passes said × (line ≡ spelling said) → Steps shape old said outcome new → text ≡ reply outcome → IsServed shape old (line ∷ []) text new
+  IsServed-one old new line text said outcome some says steps same = record {
+    turns = said ∷ [];
+    outcomes = outcome ∷ [];
+    says = Say-one shape.passes line said some says.0 says.1;
+    run = (new, steps, refl);
+    told = same ∙ sym (append-nil (reply outcome));
+  }
+
+  IsServed-none : (state : State) → IsServed shape state [] [] state
+  IsServed-none state = record { turns = []; outcomes = []; says = tt; run = refl; told = refl }
+
+  -- an empty line is skipped
+  pub IsServed-empty : (state : State) (line : List ℕ) (empty : Bool) → empty ≡ eqb (length line) 0 → empty ≡ true → IsServed shape state (line ∷ []) [] state
+  IsServed-empty state [] empty e is = record { turns = []; outcomes = []; says = tt; run = refl; told = refl }
+  IsServed-empty state (b ∷ bs) empty e is = let h : length (b ∷ bs) ≡ 0 = eqb-true (length (b ∷ bs)) 0 (sym e ∙ is) in absurd (omega arith)
+
+  module _ (state : State) where
+    -- a byte of the line has come
+    pub at_byte : (seen told line : List ℕ) (number b : ℕ) → Stands shape state seen told line number → b ≢ 10 → length line < 128 → Stands shape state (seen ++ b ∷ []) told (line ++ b ∷ []) number
+    at_byte seen told line number b here other room = record {
+      lines = here.lines;
+      splits = Splits-byte seen here.lines line b here.splits other;
+      short = simp length-append (omega arith);
+      served = here.served;
+      numbered = here.numbered;
+    }
+
+    -- the end of the line has come, and it was served
+    pub at_end : (new : State) (seen told text line : List ℕ) (number : ℕ) → Stands shape state seen told line number → IsServed shape state (line ∷ []) text new → Stands shape new (seen ++ 10 ∷ []) (told ++ text) [] (number + 1)
+    at_end new seen told text line number here served = record {
+      lines = here.lines ++ line ∷ [];
+      splits = Splits-end seen here.lines line here.splits;
+      short = omega arith;
+      served = IsServed-append (fresh shape) state new here.lines (line ∷ []) told text here.served served;
+      numbered = simp length-append (ap (λ n. n + 1) here.numbered);
+    }
+
+    pub reached : (seen told line : List ℕ) (number : ℕ) → Stands shape state seen told line number → Reaches shape seen told
+    reached seen told line number here = record { lines = here.lines; rest = line; state = state; splits = here.splits; short = here.short; served = here.served }
+
+    -- the byte is the 129th of its line
+    pub too_long : (seen told line : List ℕ) (number b : ℕ) → Stands shape state seen told line number → b ≢ 10 → length line ≡ 128 → FirstBad shape ⊥ (seen ++ b ∷ []) (told ++ []) number
+    too_long seen told line number b here other full = record {
+      lines = here.lines;
+      bad = line ++ b ∷ [];
+      after = [];
+      state = state;
+      whole = rw here.splits.whole (simp (append_assoc, append-nil));
+      each = here.splits.each;
+      unbroken = IsLine-append line (b ∷ []) here.splits.partial (other, tt);
+      is_bad = inl (simp length-append (omega arith));
+      known = inr (inl (simp length-append (omega arith)));
+      served = rw append-nil here.served;
+      number = here.numbered;
+    }
+
+    -- the line whose end has come is bad
+    whole_bad : (seen told line : List ℕ) (number : ℕ) → Stands shape state seen told line number → IsBad shape.passes line → FirstBad shape ⊥ (seen ++ 10 ∷ []) (told ++ []) number
+    whole_bad seen told line number here bad = record {
+      lines = here.lines;
+      bad = line;
+      after = 10 ∷ [];
+      state = state;
+      whole = rw here.splits.whole (simp append_assoc);
+      each = here.splits.each;
+      unbroken = here.splits.partial;
+      is_bad = bad;
+      known = inl ([], refl);
+      served = rw append-nil here.served;
+      number = here.numbered;
+    }
+
+    -- the last line is bad
+    last_bad : (seen told line : List ℕ) (number : ℕ) → Stands shape state seen told line number → IsBad shape.passes line → FirstBad shape (Unit {0}) seen (told ++ []) number
+    last_bad seen told line number here bad = record {
+      lines = here.lines;
+      bad = line;
+      after = [];
+      state = state;
+      whole = rw here.splits.whole (simp append-nil);
+      each = here.splits.each;
+      unbroken = here.splits.partial;
+      is_bad = bad;
+      known = inr (inr (refl, tt));
+      served = rw append-nil here.served;
+      number = here.numbered;
+    }
+
+    -- the last line was served
+    pub finish_text : (seen told text line : List ℕ) (number : ℕ) (new : State) → Stands shape state seen told line number → IsServed shape state (line ∷ []) text new → IsTextOf shape seen (told ++ text)
+    finish_text seen told text line number new here served = record {
+      lines = here.lines;
+      last = line;
+      state = new;
+      splits = here.splits;
+      served = IsServed-append (fresh shape) state new here.lines (line ∷ []) told text here.served served;
+    }
+
+  IsBeginning-told : (told part text : List ℕ) → IsBeginning part text → IsBeginning (told ++ part) (told ++ text)
+  IsBeginning-told told part text front = (front.0, rw front.1 (sym (append_assoc told part front.0)), front.2)
+
+  -- nothing has come yet
+  pub at_start : Stands shape (fresh shape) [] [] [] 1
+  at_start = record {
+    lines = [];
+    splits = record { whole = refl; each = tt; partial = tt };
+    short = omega arith;
+    served = IsServed-none (fresh shape);
+    numbered = refl;
+  }
+
+  -- a fault at the end of a line
+  pub feed-fault : (old new then : State) (Wrote : List ℕ → Type 0) (seen told line after : List ℕ) (number count b : ℕ) (f : RunFault) → b ≡ 10
+      → Stands shape old seen told line number → LineOutcome shape old new Wrote line number (Err f) → FeedOutcome shape then Wrote (seen ++ b ∷ []) told after count (Err f)
+  feed-fault old new then Wrote seen told line after number count b fault.Read ten here h = absurd h
+  feed-fault old new then Wrote seen told line after number count b fault.TooLong ten here h = absurd h
+  feed-fault old new then Wrote seen told line after number count b (fault.Make m) ten here h = absurd h
+  feed-fault old new then Wrote seen told line after number count b (fault.Line n) ten here h = ([], h.0, rw (ten, h.1) (whole_bad old seen told line number here h.2))
+  feed-fault old new then Wrote seen told line after number count b fault.Write ten here h = rw ten (
+    h.0,
+    told ++ h.1,
+    seen ++ 10 ∷ [],
+    [],
+    h.2,
+    IsBeginning-told told h.0 h.1 h.3,
+    sym (append-nil (seen ++ 10 ∷ [])),
+    reached new (seen ++ 10 ∷ []) (told ++ h.1) [] (number + 1) (at_end old new seen told h.1 line number here h.4),
+  )
+
+  -- a fault at the last line
+  pub finish-fault : (old new : State) (Wrote : List ℕ → Type 0) (before flushes : ℕ) (seen told line : List ℕ) (number : ℕ) (f : RunFault) → flushes ≡ before
+      → Stands shape old seen told line number → LineOutcome shape old new Wrote line number (Err f) → FinishOutcome shape Wrote before flushes seen told (Err f)
+  finish-fault old new Wrote before flushes seen told line number fault.Read none here h = absurd h
+  finish-fault old new Wrote before flushes seen told line number fault.TooLong none here h = absurd h
+  finish-fault old new Wrote before flushes seen told line number (fault.Make m) none here h = absurd h
+  finish-fault old new Wrote before flushes seen told line number (fault.Line n) none here h = ([], h.0, none, rw h.1 (last_bad old seen told line number here h.2))
+  finish-fault old new Wrote before flushes seen told line number fault.Write none here h =
+      (h.0, h.2, inl (none, (told ++ h.1, IsBeginning-told told h.0 h.1 h.3, inr (finish_text old seen told h.1 line number new here h.4))))

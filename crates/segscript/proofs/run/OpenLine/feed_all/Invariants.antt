@@ -1,0 +1,15 @@
+use Rattle.std.proofs.Common.{◌≡◌, ◌≤◌, ◌+◌, List, ℕ, take, false}
+use Rattle.segscript.specs.Running.{Stands}
+use Rattle.segscript.proofs.Feeding.{Fed}
+use Rattle.segscript.proofs.run.OpenLine.feed_all.Given as goal
+
+abbrev pub invariant-loop-byte : goal.invariant-loop-byte
+invariant-loop-byte g l = record {
+  works : g.W.Sink.has_failed l.writer ≡ false;
+  unflushed : g.W.Sink.flushes l.writer ≡ g.W.Sink.flushes l.fn.writer;
+  shape : g.E.Engine.shape l.engine ≡ g.E.Engine.shape l.fn.engine;
+  ready : g.E.Engine.is_ready l.engine;
+  few : l.self.number ≤ l.fn.self.number + l.byte-index;
+  fed : (seen told : List ℕ) → Stands (g.E.Engine.shape l.fn.engine) (g.E.Engine.state l.fn.engine) seen told l.fn.self.bytes.items l.fn.self.number →
+      Fed (g.E.Engine.shape l.fn.engine) g.W.Sink.takes l.fn.writer seen told (take l.byte-index l.bytes) l.writer (g.E.Engine.state l.engine) l.self.bytes.items l.self.number;
+}

@@ -1,0 +1,14 @@
+use Rattle.std.proofs.Common.{subst, sym, ◌∙◌}
+use Rattle.segindex.proofs.AloneHolds.{turns_release}
+use Rattle.segscript.specs.Passes.{IsHoldKept}
+use Rattle.segscript.proofs.turns.release.Goals as goal
+
+pub returns-in-Some-clause-turn : goal.returns-in-Some-clause-turn
+returns-in-Some-clause-turn c =
+    let b = c.args.index.now.board in
+    let e = c.release.ensures in
+    record {
+      goes_on = e.on;
+      alone = λ was. turns_release b c.args.pass.now c.release.new.pass c.in-Some.hold c.args.index.now.no_overflow was e.on
+          (subst (λ kept. IsHoldKept b.shape kept c.args.pass.now) (sym c.take.ensures.value ∙ c.in-Some.is) c.requires.hold) e.releases;
+    }

@@ -1,0 +1,13 @@
+use Rattle.std.proofs.Common.{true, false}
+use Rattle.segindex.proofs.AloneLocks.{turns_unlock}
+use Rattle.segscript.proofs.turns.unlock.Goals as goal
+
+pub returns-then-unlock_bucket-clause-turn : goal.returns-then-unlock_bucket-clause-turn
+returns-then-unlock_bucket-clause-turn c =
+    let e = c.if-unlock_bucket.ensures in
+    record { goes_on = e.goes_on; alone = λ was. turns_unlock c.args.index.now.board c.args.pass.now c.unlock_bucket.new.pass true c.args.index.now.no_overflow was e.goes_on e.answer e.was_locked }
+
+pub returns-else-unlock_bucket-clause-turn : goal.returns-else-unlock_bucket-clause-turn
+returns-else-unlock_bucket-clause-turn c =
+    let e = c.if-unlock_bucket.ensures in
+    record { goes_on = e.goes_on; alone = λ was. turns_unlock c.args.index.now.board c.args.pass.now c.unlock_bucket.new.pass false c.args.index.now.no_overflow was e.goes_on e.answer e.was_locked }

@@ -1,0 +1,9 @@
+pub mod Device
+pub mod Known
+pub mod Memory
+pub mod Passes
+pub mod Reading
+pub mod Run
+pub mod Running
+pub mod Server
+pub mod Verb

@@ -1,0 +1,32 @@
+-- An index and its passes as a script sees them.
+use Rattle.std.specs.Prelude.{◌≡◌, ◌≢◌, ℕ, List, length, Some, None, slice_get}
+use Rattle.segmodel.specs.declared.answer.Turn.{Turn}
+use Rattle.segmodel.specs.declared.answer.Outcome.{Outcome}
+use Rattle.segmodel.specs.State.{State}
+use Rattle.segbase.specs.declared.pass.Pass.{Pass}
+use Rattle.segbase.specs.Passes.{holding}
+use Rattle.segbase.specs.Plain.{locked_of}
+use Rattle.segindex.specs.Index.{board_of, shape_of}
+use Rattle.segscript.specs.declared.server.Server.{Server}
+use Rattle.segscript.specs.Passes.{AreInOrder, first_state, TakesTurn}
+
+-- between turns it has all its passes, each idle and at its place
+pub record IsReady (server : Server) : Type 0 where
+  pub all : length server.passes.items ≡ (shape_of server.index.now).passes
+  pub holds : length server.holds.items ≡ (shape_of server.index.now).passes
+  pub in_order : AreInOrder (board_of server.index.now) server.passes.items server.holds.items
+
+-- the state that its first pass is at
+abbrev pub state : Server → State
+state server = first_state (shape_of server.index.now) server.passes.items
+
+-- one pass took the turn, and the others are as they were
+pub record TurnsOne (pass : ℕ) (turn : Turn) (outcome : Outcome) (old new : Server) : Type 0 where
+  pub index : new.index.now ≡ old.index.now
+  pub takes : (p q : Pass) → slice_get old.passes.items pass ≡ Some p → slice_get new.passes.items pass ≡ Some q → TakesTurn (board_of old.index.now) turn outcome p q
+  pub others : (other : ℕ) → other ≢ pass
+      → (slice_get new.passes.items other ≡ slice_get old.passes.items other) × (slice_get new.holds.items other ≡ slice_get old.holds.items other)
+
+-- no pass holds an item or has a bucket locked
+abbrev pub NoneKeeps : List Pass → Type 0
+NoneKeeps passes = (n : ℕ) (p : Pass) → slice_get passes n ≡ Some p → (holding p ≡ None) × (locked_of p ≡ None)

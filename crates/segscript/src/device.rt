@@ -1,0 +1,84 @@
+//! Readers and writers whose contracts tell the bytes that went through them.
+ghost use Rattle.std.specs.Prelude.{◌≡◌, ◌+◌, ◌%◌, ◌^◌, ◌<◌, ◌≤◌, ◌||◌, ◌++◌, [], Bool, false, ℕ, List, length, take, IfOk, OnOk, OnErr, is_err};
+ghost use Rattle.segscript.specs.Device.{took_nothing, TakesPart};
+
+/// A call of a reader or of a writer failed.
+#[derive(Clone, Copy, Debug, PartialEq, Eq)]
+pub struct Failed;
+
+/// Where the bytes of a script come from.
+pub trait Source {
+    /// From one state to the other it handed out these bytes.
+    ghost hands: { Self → List ℕ → Self → Type 0 };
+
+    /// It has nothing more to hand out.
+    ghost is_at_end: { Self → Type 0 };
+
+    /// A call of it has failed. Such a reader is not asked again.
+    ghost has_failed: { Self → Bool };
+
+    /// Puts some bytes at the front of the buffer, and says how many: none only at the end.
+    fn read(&mut self, buffer: &mut [u8]) -> Result<usize, Failed>
+        requires works { has_failed self.old ≡ false }
+        requires room { 0 < length buffer.old }
+        ensures count { IfOk result (λ n. n ≤ length buffer.new) }
+        ensures bytes { IfOk result (λ n. hands self.old (take n buffer.new) self.new) }
+        ensures end { IfOk result (λ n. n ≡ 0 → is_at_end self.new) }
+        ensures err { OnErr result (hands self.old [] self.new) }
+        ensures failed { has_failed self.new ≡ is_err result };
+
+    ghost hands_none: { (s : Self) → hands s [] s };
+
+    ghost hands_more: { (s t u : Self) (a b : List ℕ) → hands s a t → hands t b u → hands s (a ++ b) u };
+}
+
+/// Where the replies go.
+pub trait Sink {
+    /// From one state to the other it took these bytes.
+    ghost takes: { Self → List ℕ → Self → Type 0 };
+
+    /// A call of it has failed, or a write took none of its bytes. Such a writer is not asked to write again; it may
+    /// still be flushed.
+    ghost has_failed: { Self → Bool };
+
+    /// How many flushes were asked of it, modulo 2^64.
+    ghost flushes: { Self → ℕ };
+
+    /// Takes some of the bytes from their front, and says how many.
+    fn write(&mut self, bytes: &[u8]) -> Result<usize, Failed>
+        requires works { has_failed self.old ≡ false }
+        requires some { 0 < length bytes.now }
+        ensures count { IfOk result (λ n. n ≤ length bytes.now) }
+        ensures bytes { IfOk result (λ n. takes self.old (take n bytes.now) self.new) }
+        ensures err { OnErr result (takes self.old [] self.new) }
+        ensures failed { has_failed self.new ≡ took_nothing result }
+        ensures flushes { flushes self.new ≡ flushes self.old };
+
+    /// Passes on what it holds back.
+    fn flush(&mut self) -> Result<(), Failed>
+        ensures bytes { takes self.old [] self.new }
+        ensures failed { has_failed self.new ≡ (has_failed self.old || is_err result) }
+        ensures flushes { flushes self.new ≡ (flushes self.old + 1) % 2 ^ 64 };
+
+    ghost takes_none: { (s : Self) → takes s [] s };
+
+    ghost takes_more: { (s t u : Self) (a b : List ℕ) → takes s a t → takes t b u → takes s (a ++ b) u };
+}
+
+/// Writes all of the bytes, or a beginning of them and then fails.
+pub fn write_all<W: Sink>(writer: &mut W, bytes: &[u8]) -> Result<(), Failed>
+    requires works { W.has_failed writer.old ≡ false }
+    ensures ok { OnOk result (W.takes writer.old bytes.now writer.new) }
+    ensures err { OnErr result (TakesPart W.takes writer.old bytes.now writer.new) }
+    ensures failed { W.has_failed writer.new ≡ is_err result }
+    ensures flushes { W.flushes writer.new ≡ W.flushes writer.old }
+{
+    let mut rest = bytes;
+    while !rest.is_empty() {
+        match writer.write(rest) {
+            Ok(taken) if taken > 0 => rest = &rest[taken..],
+            _ => return Err(Failed),
+        }
+    }
+    Ok(())
+}

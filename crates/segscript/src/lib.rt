@@ -1,0 +1,26 @@
+//! Scripts of cache commands over the object index: read from a source, served line by line, and answered to a sink.
+#![tactic(auto)]
+
+mod device;
+mod engine;
+mod fault;
+mod line;
+mod memory;
+mod reply;
+mod run;
+mod script;
+mod server;
+mod standard;
+#[cfg(test)]
+mod tests;
+mod text;
+mod turns;
+mod verb;
+mod word;
+
+pub use device::{Failed, Sink, Source, write_all};
+pub use fault::RunFault;
+pub use memory::{MemSink, MemSource, WhenFull};
+pub use script::run_script;
+pub use standard::{ReadSource, WriteSink};
+pub use text::{Line, line_of, put, put_number};

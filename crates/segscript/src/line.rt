@@ -1,0 +1,141 @@
+//! Reads one line of a script.
+ghost use Rattle.std.specs.Prelude.{ℕ, ◌≡◌, ◌<◌, ◌==◌, ◌∷◌, [], length, map, decimal, IfSome, IfNone};
+ghost use Rattle.std.specs.List.{slice_split};
+ghost use Rattle.segmodel.specs.Spelling.{PassTurn, IsNumber, IsKeyWord, IsSayable, spelling};
+ghost use Rattle.segscript.specs.Reading.{ReadsAs};
+ghost use Rattle.segscript.specs.Verb.{IsPair, pair_words, IsTriple, triple_words, IsTurnOf, arguments_of, line_words};
+
+use crate::verb::{Verb, verb_of};
+use crate::word::{key, number, pass, value};
+use arrayvec::ArrayVec;
+use segmodel::{Command, Request, Turn};
+use segword::{Key, Value};
+
+// The parts of a line between its spaces, where it has no more than 7.
+fn parts_of(line: &[u8]) -> Option<ArrayVec<&[u8], 7>>
+    ensures some { IfSome result (λ parts. map (λ part. part.now) parts.items ≡ slice_split (λ byte. byte == 32) line.now) }
+    ensures none { IfNone result (7 < length (slice_split (λ byte. byte == 32) line.now)) }
+{
+    let mut parts = ArrayVec::new();
+    let mut start = 0;
+    for (i, byte) in line.iter().enumerate() {
+        if *byte == b' ' {
+            if parts.is_full() {
+                return None;
+            }
+            parts.push(&line[start..i]);
+            start = i + 1;
+        }
+    }
+    if parts.is_full() {
+        return None;
+    }
+    parts.push(&line[start..]);
+    Some(parts)
+}
+
+fn one_number(words: &[&[u8]]) -> Option<u32>
+    ensures { ReadsAs IsNumber (λ n. decimal n ∷ []) (map (λ word. word.now) words.now) result }
+{
+    match words {
+        [word] => number(word),
+        _ => None,
+    }
+}
+
+fn one_key(words: &[&[u8]]) -> Option<Key>
+    ensures { ReadsAs IsKeyWord (λ key. key ∷ []) (map (λ word. word.now) words.now) result }
+{
+    match words {
+        [word] => key(word),
+        _ => None,
+    }
+}
+
+fn key_and_value(words: &[&[u8]]) -> Option<(Key, Value)>
+    ensures { ReadsAs IsPair pair_words (map (λ word. word.now) words.now) result }
+{
+    match words {
+        [first, second] => {
+            let key = key(first)?;
+            let value = value(second)?;
+            Some((key, value))
+        }
+        _ => None,
+    }
+}
+
+fn key_value_number(words: &[&[u8]]) -> Option<(Key, Value, u32)>
+    ensures { ReadsAs IsTriple triple_words (map (λ word. word.now) words.now) result }
+{
+    match words {
+        [first, second, third] => {
+            let key = key(first)?;
+            let value = value(second)?;
+            let number = number(third)?;
+            Some((key, value, number))
+        }
+        _ => None,
+    }
+}
+
+// The turn of a command with these words behind it.
+fn turn_of(verb: Verb, words: &[&[u8]]) -> Option<Turn>
+    ensures { ReadsAs (IsTurnOf verb) arguments_of (map (λ word. word.now) words.now) result }
+{
+    match verb {
+        Verb::Refill => Some(Turn::Serve(Command::Refill(one_number(words)?))),
+        Verb::Evict => Some(Turn::Serve(Command::Evict(one_number(words)?))),
+        Verb::Set => {
+            let (key, value) = key_and_value(words)?;
+            Some(Turn::Serve(Command::Write(Request::Set(key, value))))
+        }
+        Verb::Add => {
+            let (key, value) = key_and_value(words)?;
+            Some(Turn::Serve(Command::Write(Request::Add(key, value))))
+        }
+        Verb::Replace => {
+            let (key, value) = key_and_value(words)?;
+            Some(Turn::Serve(Command::Write(Request::Replace(key, value))))
+        }
+        Verb::Cas => {
+            let (key, value, expected) = key_value_number(words)?;
+            Some(Turn::Serve(Command::Write(Request::Cas(key, value, expected))))
+        }
+        Verb::Delete => Some(Turn::Serve(Command::Write(Request::Delete(one_key(words)?)))),
+        Verb::Get => Some(Turn::Serve(Command::Get(one_key(words)?))),
+        Verb::Gets => Some(Turn::Serve(Command::Gets(one_key(words)?))),
+        Verb::Hold => Some(Turn::Hold(one_key(words)?)),
+        Verb::Held if words.is_empty() => Some(Turn::Held),
+        Verb::Release if words.is_empty() => Some(Turn::Release),
+        Verb::Lock => Some(Turn::Lock(one_key(words)?)),
+        Verb::Unlock if words.is_empty() => Some(Turn::Unlock),
+        Verb::Held | Verb::Release | Verb::Unlock => None,
+    }
+}
+
+// The pass and the turn of a line with these words.
+fn said_by(words: &[&[u8]], passes: u32) -> Option<(u32, Turn)>
+    ensures { ReadsAs (IsSayable passes) line_words (map (λ word. word.now) words.now) result }
+{
+    if words.len() < 2 {
+        return None;
+    }
+    let pass = pass(words[0], passes)?;
+    let verb = verb_of(words[1])?;
+    let turn = turn_of(verb, &words[2..])?;
+    Some((pass, turn))
+}
+
+/// The pass and the turn that a line spells, where it spells them.
+pub fn read_line(line: &[u8], passes: u32) -> Option<(u32, Turn)>
+    ensures { ReadsAs (IsSayable passes) spelling line.now result }
+{
+    let parts = parts_of(line)?;
+    said_by(parts.as_slice(), passes)
+}
+
+/// A line spells one turn of one pass.
+pub fn one_turn()
+    ensures { (passes : ℕ) (left right : PassTurn) → IsSayable passes left → IsSayable passes right → spelling left ≡ spelling right → left ≡ right }
+{}

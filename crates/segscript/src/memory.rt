@@ -1,0 +1,147 @@
+//! A reader and a writer over memory, which fail where they are told to.
+ghost use Rattle.std.specs.Prelude.{◌≡◌, ◌+◌, ◌<◌, ◌≤◌, ◌++◌, [], false, vec_len, IfOk, refl};
+ghost use Rattle.std.specs.Vec.{vec_capacity};
+ghost use Rattle.segscript.specs.Memory.{hands_more, takes_more, takes_none};
+
+use crate::device::{Failed, Sink, Source};
+use std::alloc::{AllocError, Global};
+
+/// Hands out a slice, in pieces of at most `step` bytes.
+#[derive(Drop)]
+pub struct MemSource<'a> {
+    /// What is left to hand out.
+    pub left: &'a [u8],
+    pub step: usize,
+    /// It fails once this many more bytes were handed out.
+    pub good: Option<usize>,
+    /// A call of it has failed.
+    pub failed: bool,
+    ghost moves: { 0 < step },
+}
+
+impl<'a> MemSource<'a> {
+    /// A reader of these bytes, which hands out as many at a time as are asked for, and doesn't fail.
+    pub fn new(bytes: &'a [u8]) -> MemSource<'a>
+        ensures bytes { result.left.now ≡ bytes.now }
+        ensures works { result.failed ≡ false }
+    {
+        MemSource {
+            left: bytes,
+            step: usize::MAX,
+            good: None,
+            failed: false,
+        }
+    }
+}
+
+impl<'a> Source for MemSource<'a> {
+    ghost hands = { λ old bytes new. old.left.now ≡ bytes ++ new.left.now };
+
+    ghost is_at_end = { λ s. s.left.now ≡ [] };
+
+    ghost has_failed = { λ s. s.failed };
+
+    fn read(&mut self, buffer: &mut [u8]) -> Result<usize, Failed> {
+        let mut n = self.step.min(self.left.len()).min(buffer.len());
+        if let Some(good) = self.good {
+            if good == 0 {
+                self.failed = true;
+                return Err(Failed);
+            }
+            n = n.min(good);
+            self.good = Some(good - n);
+        }
+        let (front, back) = self.left.split_at(n);
+        buffer[..n].copy_from_slice(front);
+        self.left = back;
+        Ok(n)
+    }
+
+    ghost hands_none = { λ s. refl };
+
+    ghost hands_more = { λ s t u a b. hands_more s.left.now t.left.now u.left.now a b };
+}
+
+/// What a writer over memory does once it has no room left.
+#[derive(Clone, Copy, Debug, PartialEq, Eq)]
+pub enum WhenFull {
+    Fails,
+    /// A write takes none of its bytes.
+    TakesNone,
+}
+
+/// Keeps up to `room` more bytes, at most `step` of a call. The memory for them is reserved when it is made, so that
+/// no byte that it takes is lost.
+#[derive(Drop)]
+pub struct MemSink {
+    /// What it took.
+    pub taken: Vec<u8>,
+    pub step: usize,
+    /// How many more bytes it takes.
+    pub room: usize,
+    pub when_full: WhenFull,
+    pub flush_fails: bool,
+    /// A call of it has failed, or a write took none of its bytes.
+    pub failed: bool,
+    /// How many flushes were asked, modulo 2^64.
+    pub flushes: u64,
+    ghost moves: { 0 < step },
+    ghost reserved: { vec_len taken + room ≤ vec_capacity taken },
+}
+
+impl MemSink {
+    /// A writer that takes this many bytes in all, as many of a call as are offered.
+    pub fn new(alloc: Global, room: usize) -> Result<MemSink, AllocError>
+        ensures empty { IfOk result (λ sink. sink.taken.items ≡ []) }
+        ensures room { IfOk result (λ sink. sink.room ≡ room) }
+        ensures works { IfOk result (λ sink. sink.failed ≡ false) }
+    {
+        Ok(MemSink {
+            taken: Vec::with_capacity(alloc, room)?,
+            step: usize::MAX,
+            room,
+            when_full: WhenFull::Fails,
+            flush_fails: false,
+            failed: false,
+            flushes: 0,
+        })
+    }
+}
+
+impl Sink for MemSink {
+    ghost takes = { λ old bytes new. new.taken.items ≡ old.taken.items ++ bytes };
+
+    ghost has_failed = { λ s. s.failed };
+
+    ghost flushes = { λ s. s.flushes };
+
+    fn write(&mut self, bytes: &[u8]) -> Result<usize, Failed> {
+        let n = self.step.min(self.room).min(bytes.len());
+        if n == 0 {
+            self.failed = true;
+            return match self.when_full {
+                WhenFull::Fails => Err(Failed),
+                WhenFull::TakesNone => Ok(0),
+            };
+        }
+        let Ok(()) = self.taken.extend_from_slice(&bytes[..n]) else {
+            unreachable!();
+        };
+        self.room -= n;
+        Ok(n)
+    }
+
+    fn flush(&mut self) -> Result<(), Failed> {
+        self.flushes = self.flushes.wrapping_add(1);
+        if self.flush_fails {
+            self.failed = true;
+            Err(Failed)
+        } else {
+            Ok(())
+        }
+    }
+
+    ghost takes_none = { λ s. takes_none s.taken.items };
+
+    ghost takes_more = { λ s t u a b. takes_more s.taken.items t.taken.items u.taken.items a b };
+}

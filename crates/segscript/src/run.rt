@@ -1,0 +1,222 @@
+//! Runs a script from a reader to a writer, over an engine.
+ghost use Rattle.std.specs.Prelude.{◌≡◌, ◌+◌, ◌<◌, ◌≤◌, ◌^◌, ◌++◌, ◌∷◌, [], ◌⊎◌, ℕ, List, length, take, false, IsOk, IfOk, OnErr, is_err};
+ghost use Rattle.segmodel.specs.Script.{IsTextOf, IsFirstBad};
+ghost use Rattle.segmodel.specs.State.{fresh};
+ghost use Rattle.segscript.specs.Device.{HandsOut};
+ghost use Rattle.segscript.specs.Running.{AllReplied};
+ghost use Rattle.segscript.specs.Run.{RunOutcome, is_read_fault, is_write_fault, is_make_fault};
+
+use crate::device::{Failed, Sink, Source, write_all};
+use crate::engine::Engine;
+use crate::fault::RunFault;
+use crate::line::read_line;
+use crate::reply::reply_of;
+use arrayvec::ArrayVec;
+
+/// How many bytes a script may have, and one more.
+const LIMIT: u64 = 1 << 63;
+
+/// How many bytes are read at a time, at most.
+const PIECE: usize = 4096;
+
+/// The line whose end has not come yet: its bytes so far, and its number.
+#[derive(Drop)]
+struct OpenLine {
+    bytes: ArrayVec<u8, 128>,
+    number: u64,
+}
+
+impl OpenLine {
+    ghost use Rattle.segscript.specs.Running.{Stands, LineOutcome, FeedOutcome, FinishOutcome};
+
+    // Serves the line, whose end has come.
+    fn serve<E: Engine, W: Sink>(&self, engine: &mut E, writer: &mut W) -> Result<(), RunFault>
+        requires works { W.has_failed writer.old ≡ false }
+        requires ready { E.is_ready engine.old }
+        ensures shape { E.shape engine.new ≡ E.shape engine.old }
+        ensures ready { E.is_ready engine.new }
+        ensures outcome { LineOutcome (E.shape engine.old) (E.state engine.old) (E.state engine.new)
+            (λ text. W.takes writer.old text writer.new) self.now.bytes.items self.now.number result }
+        ensures failed { W.has_failed writer.new ≡ is_write_fault result }
+        ensures flushes { W.flushes writer.new ≡ W.flushes writer.old }
+        ensures no_read { is_read_fault result ≡ false }
+        ensures made { is_make_fault result ≡ false }
+    {
+        if self.bytes.is_empty() {
+            return Ok(());
+        }
+        let Some((pass, turn)) = read_line(self.bytes.as_slice(), engine.passes()) else {
+            return Err(RunFault::Line(self.number));
+        };
+        let outcome = engine.turn(pass, &turn);
+        match write_all(writer, reply_of(&outcome).as_slice()) {
+            Ok(()) => Ok(()),
+            Err(Failed) => Err(RunFault::Write),
+        }
+    }
+
+    // Takes the next byte of the script, and serves the line that it ends.
+    fn feed<E: Engine, W: Sink>(
+        &mut self,
+        engine: &mut E,
+        writer: &mut W,
+        byte: u8,
+    ) -> Result<(), RunFault>
+        requires works { W.has_failed writer.old ≡ false }
+        requires ready { E.is_ready engine.old }
+        requires few { self.old.number + 1 < 2 ^ 64 }
+        ensures number { self.new.number ≤ self.old.number + 1 }
+        ensures shape { E.shape engine.new ≡ E.shape engine.old }
+        ensures ready { E.is_ready engine.new }
+        ensures outcome { (seen told : List ℕ) →
+            Stands (E.shape engine.old) (E.state engine.old) seen told self.old.bytes.items self.old.number →
+            FeedOutcome (E.shape engine.old) (E.state engine.new) (λ text. W.takes writer.old text writer.new)
+            (seen ++ byte ∷ []) told self.new.bytes.items self.new.number result }
+        ensures failed { W.has_failed writer.new ≡ is_write_fault result }
+        ensures flushes { W.flushes writer.new ≡ W.flushes writer.old }
+        ensures no_read { is_read_fault result ≡ false }
+        ensures made { is_make_fault result ≡ false }
+    {
+        if byte != b'\n' {
+            if self.bytes.is_full() {
+                return Err(RunFault::Line(self.number));
+            }
+            self.bytes.push(byte);
+            return Ok(());
+        }
+        match self.serve(engine, writer) {
+            Ok(()) => {
+                self.bytes.clear();
+                self.number += 1;
+                Ok(())
+            }
+            Err(fault) => Err(fault),
+        }
+    }
+
+    // Takes the next bytes of the script, and serves the lines that they end.
+    fn feed_all<E: Engine, W: Sink>(
+        &mut self,
+        engine: &mut E,
+        writer: &mut W,
+        bytes: &[u8],
+    ) -> Result<(), RunFault>
+        requires works { W.has_failed writer.old ≡ false }
+        requires ready { E.is_ready engine.old }
+        requires few { self.old.number + length bytes.now < 2 ^ 64 }
+        ensures number { self.new.number ≤ self.old.number + length bytes.now }
+        ensures shape { E.shape engine.new ≡ E.shape engine.old }
+        ensures ready { E.is_ready engine.new }
+        ensures outcome { (seen told : List ℕ) →
+            Stands (E.shape engine.old) (E.state engine.old) seen told self.old.bytes.items self.old.number →
+            FeedOutcome (E.shape engine.old) (E.state engine.new) (λ text. W.takes writer.old text writer.new)
+            (seen ++ bytes.now) told self.new.bytes.items self.new.number result }
+        ensures failed { W.has_failed writer.new ≡ is_write_fault result }
+        ensures flushes { W.flushes writer.new ≡ W.flushes writer.old }
+        ensures no_read { is_read_fault result ≡ false }
+        ensures made { is_make_fault result ≡ false }
+    {
+        for byte in bytes {
+            if let Err(fault) = self.feed(engine, writer, *byte) {
+                return Err(fault);
+            }
+        }
+        Ok(())
+    }
+
+    // Serves the last line, after which no more bytes come, and flushes the writer.
+    fn finish<E: Engine, W: Sink>(&self, engine: &mut E, writer: &mut W) -> Result<(), RunFault>
+        requires works { W.has_failed writer.old ≡ false }
+        requires ready { E.is_ready engine.old }
+        ensures ready { E.is_ready engine.new }
+        ensures outcome { (seen told : List ℕ) →
+            Stands (E.shape engine.old) (E.state engine.old) seen told self.now.bytes.items self.now.number →
+            FinishOutcome (E.shape engine.old) (λ text. W.takes writer.old text writer.new)
+            (W.flushes writer.old) (W.flushes writer.new) seen told result }
+        ensures failed { W.has_failed writer.new ≡ is_write_fault result }
+        ensures no_read { is_read_fault result ≡ false }
+        ensures made { is_make_fault result ≡ false }
+    {
+        if let Err(fault) = self.serve(engine, writer) {
+            return Err(fault);
+        }
+        match writer.flush() {
+            Ok(()) => Ok(()),
+            Err(Failed) => Err(RunFault::Write),
+        }
+    }
+}
+
+// Reads once, and it is asked for only where the replies to all whole lines so far are written.
+fn read_piece<R: Source, W: Sink, E: Engine>(
+    reader: &mut R,
+    _writer: &W,
+    _engine: &E,
+    _line: &OpenLine,
+    piece: &mut [u8],
+) -> Result<usize, Failed>
+    requires works { R.has_failed reader.old ≡ false }
+    requires room { 0 < length piece.old }
+    requires replied { AllReplied (E.shape _engine.now) (E.state _engine.now) R.hands W.takes
+        reader.old _writer.now _line.now.bytes.items _line.now.number }
+    ensures count { IfOk result (λ n. n ≤ length piece.new) }
+    ensures bytes { IfOk result (λ n. R.hands reader.old (take n piece.new) reader.new) }
+    ensures end { IfOk result (λ n. n ≡ 0 → R.is_at_end reader.new) }
+    ensures err { OnErr result (R.hands reader.old [] reader.new) }
+    ensures failed { R.has_failed reader.new ≡ is_err result }
+{
+    reader.read(piece)
+}
+
+/// Runs the script that the reader hands out over an engine that is at its start, and writes the replies. The reply of
+/// each whole line is written before the next read.
+pub fn run<R: Source, W: Sink, E: Engine>(
+    reader: &mut R,
+    writer: &mut W,
+    engine: &mut E,
+) -> Result<(), RunFault>
+    requires reader_works { R.has_failed reader.old ≡ false }
+    requires writer_works { W.has_failed writer.old ≡ false }
+    requires ready { E.is_ready engine.old }
+    requires fresh { E.state engine.old ≡ fresh (E.shape engine.old) }
+    ensures ready { E.is_ready engine.new }
+    ensures outcome { RunOutcome (E.shape engine.old)
+        (λ seen. R.hands reader.old seen reader.new) (R.is_at_end reader.new)
+        (λ text. W.takes writer.old text writer.new) (W.flushes writer.old) (W.flushes writer.new) result }
+    ensures read { R.has_failed reader.new ≡ is_read_fault result }
+    ensures write { W.has_failed writer.new ≡ is_write_fault result }
+    ensures made { is_make_fault result ≡ false }
+
+    // Where the devices never failed, a script with a first bad line ends there, and any other ends well.
+    ensures bad_line { (script text : List ℕ) (n : ℕ) →
+        HandsOut R.hands R.is_at_end reader.old reader.new script →
+        IsFirstBad (E.shape engine.old) script text n →
+        R.has_failed reader.new ≡ false → W.has_failed writer.new ≡ false →
+        (result ≡ Err (RunFault.Line n)) ⊎ (result ≡ Err RunFault.TooLong) }
+    ensures no_bad_line { (script text : List ℕ) →
+        HandsOut R.hands R.is_at_end reader.old reader.new script →
+        IsTextOf (E.shape engine.old) script text →
+        R.has_failed reader.new ≡ false → W.has_failed writer.new ≡ false →
+        IsOk result ⊎ (result ≡ Err RunFault.TooLong) }
+{
+    let mut line = OpenLine {
+        bytes: ArrayVec::new(),
+        number: 1,
+    };
+    let mut piece = [0u8; PIECE];
+    let mut total: u64 = 0;
+    while total < LIMIT {
+        let room = (LIMIT - total).min(PIECE as u64) as usize;
+        let Ok(n) = read_piece(reader, writer, engine, &line, &mut piece[..room]) else {
+            return Err(RunFault::Read);
+        };
+        if n == 0 {
+            return line.finish(engine, writer);
+        }
+        if let Err(fault) = line.feed_all(engine, writer, &piece[..n]) {
+            return Err(fault);
+        }
+        total += n as u64;
+    }
+    Err(RunFault::TooLong)
+}

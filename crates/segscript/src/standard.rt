@@ -1,0 +1,104 @@
+//! Readers and writers of std, as standard input and output are, as a source and a sink.
+ghost use Rattle.std.specs.Prelude.{◌≡◌, false};
+ghost use Rattle.std.specs.Io.KnownBytes.{Consumes, Appends, IsAtEnd};
+ghost use Rattle.segscript.specs.Known.{Consumes-none, Consumes-more, Appends-none, Appends-more};
+
+use crate::device::{Failed, Sink, Source};
+use std::io::{Read, Write};
+
+/// A reader of std. Its bytes are told where std tells them.
+#[derive(Drop)]
+pub struct ReadSource<R: Read> {
+    inner: R,
+    failed: bool,
+}
+
+impl<R: Read> ReadSource<R> {
+    pub fn new(inner: R) -> ReadSource<R>
+        ensures { result.failed ≡ false }
+    {
+        ReadSource {
+            inner,
+            failed: false,
+        }
+    }
+}
+
+impl<R: Read> Source for ReadSource<R> {
+    ghost hands = { λ old bytes new. Consumes (R.remaining old.inner) (R.remaining new.inner) bytes };
+
+    ghost is_at_end = { λ s. IsAtEnd (R.remaining s.inner) };
+
+    ghost has_failed = { λ s. s.failed };
+
+    fn read(&mut self, buffer: &mut [u8]) -> Result<usize, Failed> {
+        match self.inner.read(buffer) {
+            Ok(n) => Ok(n),
+            Err(_) => {
+                self.failed = true;
+                Err(Failed)
+            }
+        }
+    }
+
+    ghost hands_none = { λ s. Consumes-none (R.remaining s.inner) };
+
+    ghost hands_more = { λ s t u a b. Consumes-more (R.remaining s.inner) (R.remaining t.inner) (R.remaining u.inner) a b };
+}
+
+/// A writer of std. Its bytes are told where std tells them.
+#[derive(Drop)]
+pub struct WriteSink<W: Write> {
+    inner: W,
+    failed: bool,
+    // How many flushes were asked, modulo 2^64.
+    flushes: u64,
+}
+
+impl<W: Write> WriteSink<W> {
+    pub fn new(inner: W) -> WriteSink<W>
+        ensures { result.failed ≡ false }
+    {
+        WriteSink {
+            inner,
+            failed: false,
+            flushes: 0,
+        }
+    }
+}
+
+impl<W: Write> Sink for WriteSink<W> {
+    ghost takes = { λ old bytes new. Appends (W.contents old.inner) (W.contents new.inner) bytes };
+
+    ghost has_failed = { λ s. s.failed };
+
+    ghost flushes = { λ s. s.flushes };
+
+    fn write(&mut self, bytes: &[u8]) -> Result<usize, Failed> {
+        match self.inner.write(bytes) {
+            Ok(n) => {
+                self.failed = n == 0;
+                Ok(n)
+            }
+            Err(_) => {
+                self.failed = true;
+                Err(Failed)
+            }
+        }
+    }
+
+    fn flush(&mut self) -> Result<(), Failed> {
+        self.flushes = self.flushes.wrapping_add(1);
+        match self.inner.flush() {
+            Ok(()) => Ok(()),
+            Err(_) => {
+                self.failed = true;
+                Err(Failed)
+            }
+        }
+    }
+
+    ghost takes_none = { λ s. Appends-none (W.contents s.inner) };
+
+    ghost takes_more = { λ s t u a b. Appends-more (W.contents s.inner) (W.contents t.inner) (W.contents u.inner) a b };
+}

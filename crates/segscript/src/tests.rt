@@ -1,0 +1,111 @@
+//! Whole runs over memory, in pieces of 1, 3 and 5000 bytes.
+mod bad_lines;
+mod cut_short;
+mod devices;
+mod evicting;
+mod holding;
+mod locking;
+mod making;
+mod order;
+mod serving;
+mod writing;
+
+ghost use Rattle.std.specs.Prelude.{◌≡◌, false};
+
+use crate::fault::RunFault;
+use crate::memory::{MemSink, MemSource};
+use crate::script::run_script;
+use segindex::MakeFault;
+use segword::{Shape, ShapeFault};
+use std::alloc::Global;
+use std::process::Abort;
+use std::test::Fail;
+
+/// How many bytes go through a device at a time.
+const STEPS: [usize; 3] = [1, 3, 5000];
+
+/// A script of three lines, and its replies.
+const SCRIPT: &[u8] = b"p0 refill 0\np0 set a 1\np0 get a\n";
+
+const REPLIES: &[u8] = b"REFILLED\nSTORED\nVALUE 1\n";
+
+/// One bucket, one pass, and one segment.
+fn shape_of(rows: u32) -> Shape
+    ensures { result.overflow ≡ 0 }
+{
+    Shape {
+        buckets: 1,
+        overflow: 0,
+        passes: 1,
+        segments_each: 1,
+        rows,
+        first_version: 0,
+    }
+}
+
+/// A reader of the script in pieces, which may fail after some bytes.
+fn reader_of(script: &[u8], step: usize, good: Option<usize>) -> MemSource<'_>
+    ensures { result.failed ≡ false }
+{
+    let mut reader = MemSource::new(script);
+    reader.step = step.max(1);
+    reader.good = good;
+    reader
+}
+
+/// Runs a script, and checks how it ends, what it wrote, and that it flushed once where it ended well, else not at all.
+fn check(
+    rt: &impl Abort,
+    alloc: Global,
+    shape: Shape,
+    script: &[u8],
+    good: Option<usize>,
+    end: Result<(), RunFault>,
+    replies: &[u8],
+) -> Result<(), Fail>
+    requires { shape.overflow ≡ 0 }
+{
+    for step in STEPS {
+        let mut reader = reader_of(script, step, good);
+        let mut writer = MemSink::new(alloc, 1000)?;
+        writer.step = step.max(1);
+        let found = run_script(alloc, &mut reader, &mut writer, shape);
+        assert_eq!(rt; found, end, "in pieces of {step}");
+        assert_eq!(rt; writer.taken.as_slice(), replies, "in pieces of {step}");
+        assert_eq!(rt; writer.flushes, if end.is_ok() { 1 } else { 0 });
+    }
+    Ok(())
+}
+
+/// Checks a script whose devices don't fail.
+fn check_script(
+    rt: &impl Abort,
+    alloc: Global,
+    rows: u32,
+    script: &[u8],
+    end: Result<(), RunFault>,
+    replies: &[u8],
+) -> Result<(), Fail> {
+    check(rt, alloc, shape_of(rows), script, None, end, replies)
+}
+
+/// Checks a script without bad lines. The shape has no overflow bucket, and this many buckets, passes, segments of a pass
+/// and rows of a segment.
+fn check_turns(
+    rt: &impl Abort,
+    alloc: Global,
+    [buckets, passes, segments_each, rows]: [u32; 4],
+    first_version: u32,
+    script: &[u8],
+    replies: &[u8],
+) -> Result<(), Fail> {
+    let shape = Shape {
+        buckets,
+        overflow: 0,
+        passes,
+        segments_each,
+        rows,
+        first_version,
+    };
+    check(rt, alloc, shape, script, None, Ok(()), replies)
+}

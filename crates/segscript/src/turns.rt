@@ -1,0 +1,149 @@
+//! The turns of a pass, each of which is one call of the index.
+ghost use Rattle.std.specs.Prelude.{◌≡◌, None};
+ghost use Rattle.segmodel.specs.declared.answer.Command.TheVariants.{Write};
+ghost use Rattle.segmodel.specs.declared.answer.Turn.TheVariants as turn;
+ghost use Rattle.segmodel.specs.declared.answer.Outcome.TheVariants.{Answered};
+ghost use Rattle.segbase.specs.Passes.{holding};
+ghost use Rattle.segbase.specs.Plain.{locked_of};
+ghost use Rattle.segindex.specs.Index.{board_of, shape_of};
+ghost use Rattle.segindex.specs.Quiet.{IsQuiet};
+ghost use Rattle.segscript.specs.Passes.{IsHoldKept, TakesTurn};
+
+use segindex::{Hold, HoldAnswer, Index, LockAnswer, Pass};
+use segmodel::{Answer, Command, Outcome, Request, Turn};
+use segword::Key;
+
+/// The draw of each hit. No line of a script shows a frequency, so any number will do.
+const DRAW: u32 = 0;
+
+/// One turn of a pass, beside which its hold is kept.
+pub fn take_turn<'i>(
+    index: &'i Index,
+    pass: &mut Pass,
+    held: &mut Option<Hold<'i>>,
+    turn: &Turn,
+) -> Outcome
+    requires quiet { IsQuiet (board_of index.now) pass.old }
+    requires hold { IsHoldKept (shape_of index.now) held.old pass.old }
+    ensures turn { TakesTurn (board_of index.now) turn.now result pass.old pass.new }
+    ensures hold { IsHoldKept (shape_of index.now) held.new pass.new }
+{
+    match turn {
+        Turn::Serve(command) => Outcome::Answered(serve(index, pass, command)),
+        Turn::Hold(key) => hold(index, pass, held, key),
+        Turn::Held => read_held(index, pass, held),
+        Turn::Release => release(index, pass, held),
+        Turn::Lock(key) => lock(index, pass, key),
+        Turn::Unlock => unlock(index, pass),
+    }
+}
+
+/// Releases the hold of a pass, and unlocks its bucket.
+pub fn leave(index: &Index, pass: &mut Pass, held: Option<Hold<'_>>)
+    requires quiet { IsQuiet (board_of index.now) pass.old }
+    requires hold { IsHoldKept (shape_of index.now) held pass.old }
+    ensures left { (holding pass.new ≡ None) × (locked_of pass.new ≡ None) }
+{
+    if let Some(hold) = held {
+        index.release(pass, hold);
+    }
+    index.unlock_bucket(pass);
+}
+
+fn serve(index: &Index, pass: &mut Pass, command: &Command) -> Answer
+    requires quiet { IsQuiet (board_of index.now) pass.old }
+    ensures turn { TakesTurn (board_of index.now) (turn.Serve command.now) (Answered result) pass.old pass.new }
+    ensures holding { holding pass.new ≡ holding pass.old }
+{
+    match command {
+        Command::Write(request) => write(index, pass, request),
+        Command::Get(key) => Answer::Get(index.get(pass, key, DRAW)),
+        Command::Gets(key) => Answer::Gets(index.gets(pass, key, DRAW)),
+        Command::Evict(segment) => Answer::Evict(index.evict(pass, *segment)),
+        Command::Refill(segment) => Answer::Refill(index.refill(pass, *segment)),
+    }
+}
+
+fn write(index: &Index, pass: &mut Pass, request: &Request) -> Answer
+    requires quiet { IsQuiet (board_of index.now) pass.old }
+    ensures turn { TakesTurn (board_of index.now) (turn.Serve (Write request.now)) (Answered result) pass.old pass.new }
+    ensures holding { holding pass.new ≡ holding pass.old }
+{
+    match request {
+        Request::Set(key, value) => Answer::Write(index.set(pass, key, value)),
+        Request::Add(key, value) => Answer::Write(index.add(pass, key, value)),
+        Request::Replace(key, value) => Answer::Write(index.replace(pass, key, value)),
+        Request::Cas(key, value, expected) => {
+            Answer::Write(index.cas(pass, key, value, *expected))
+        }
+        Request::Delete(key) => Answer::Delete(index.delete(pass, key)),
+    }
+}
+
+fn hold<'i>(index: &'i Index, pass: &mut Pass, held: &mut Option<Hold<'i>>, key: &Key) -> Outcome
+    requires quiet { IsQuiet (board_of index.now) pass.old }
+    requires hold { IsHoldKept (shape_of index.now) held.old pass.old }
+    ensures turn { TakesTurn (board_of index.now) (turn.Hold key.now) result pass.old pass.new }
+    ensures hold { IsHoldKept (shape_of index.now) held.new pass.new }
+{
+    match index.hold(pass, key) {
+        HoldAnswer::Holding(hold) => match held.replace(hold) {
+            None => Outcome::Holding,
+            Some(_other) => unreachable!(),
+        },
+        HoldAnswer::Miss => Outcome::Miss,
+        HoldAnswer::Busy => Outcome::Busy,
+        HoldAnswer::AlreadyHolding => Outcome::AlreadyHolding,
+    }
+}
+
+fn read_held(index: &Index, pass: &mut Pass, held: &Option<Hold<'_>>) -> Outcome
+    requires quiet { IsQuiet (board_of index.now) pass.old }
+    requires hold { IsHoldKept (shape_of index.now) held.now pass.old }
+    ensures turn { TakesTurn (board_of index.now) turn.Held result pass.old pass.new }
+    ensures holding { holding pass.new ≡ holding pass.old }
+{
+    match held {
+        Some(hold) => Outcome::Value(index.held_value(pass, hold)),
+        None => Outcome::NotHolding,
+    }
+}
+
+fn release(index: &Index, pass: &mut Pass, held: &mut Option<Hold<'_>>) -> Outcome
+    requires quiet { IsQuiet (board_of index.now) pass.old }
+    requires hold { IsHoldKept (shape_of index.now) held.old pass.old }
+    ensures turn { TakesTurn (board_of index.now) turn.Release result pass.old pass.new }
+    ensures hold { IsHoldKept (shape_of index.now) held.new pass.new }
+{
+    match held.take() {
+        Some(hold) => {
+            index.release(pass, hold);
+            Outcome::Released
+        }
+        None => Outcome::NotHolding,
+    }
+}
+
+fn lock(index: &Index, pass: &mut Pass, key: &Key) -> Outcome
+    requires quiet { IsQuiet (board_of index.now) pass.old }
+    ensures turn { TakesTurn (board_of index.now) (turn.Lock key.now) result pass.old pass.new }
+    ensures holding { holding pass.new ≡ holding pass.old }
+{
+    match index.lock_bucket(pass, key) {
+        LockAnswer::Locked => Outcome::Locked,
+        LockAnswer::Busy => Outcome::Busy,
+        LockAnswer::AlreadyLocked => Outcome::AlreadyLocked,
+    }
+}
+
+fn unlock(index: &Index, pass: &mut Pass) -> Outcome
+    requires quiet { IsQuiet (board_of index.now) pass.old }
+    ensures turn { TakesTurn (board_of index.now) turn.Unlock result pass.old pass.new }
+    ensures holding { holding pass.new ≡ holding pass.old }
+{
+    if index.unlock_bucket(pass) {
+        Outcome::Unlocked
+    } else {
+        Outcome::NotLocked
+    }
+}

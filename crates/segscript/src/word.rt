@@ -1,0 +1,66 @@
+//! Reads single words of a line.
+ghost use Rattle.std.specs.Prelude.{◌≡◌, ◌↔◌, decimal, IsTrue};
+ghost use Rattle.std.specs.List.{AllByRecursion};
+ghost use Rattle.segmodel.specs.Spelling.{IsNumber, IsKeyWord, IsValueWord, value_word, IsWordByte, pass_word};
+ghost use Rattle.segscript.specs.Reading.{ReadsAs, BeginsPlainly};
+ghost use Rattle.segscript.specs.Verb.{IsPass};
+
+use segword::{Key, Value};
+
+// Whether the word has no plus in front, and no zero before another digit.
+fn begins_plainly(word: &[u8]) -> bool
+    ensures { IsTrue result ↔ BeginsPlainly word.now }
+{
+    !matches!(word, [b'+', ..] | [b'0', _, ..])
+}
+
+/// A number below 2^32 in decimal digits, with no leading zero but `0` itself.
+pub fn number(word: &[u8]) -> Option<u32>
+    ensures { ReadsAs IsNumber decimal word.now result }
+{
+    if !begins_plainly(word) {
+        return None;
+    }
+    match str::from_utf8(word) {
+        Ok(text) => text.parse::<u32>().ok(),
+        Err(_) => None,
+    }
+}
+
+// Whether each byte may stand in a word.
+fn is_plain(bytes: &[u8]) -> bool
+    ensures { IsTrue result ↔ AllByRecursion IsWordByte bytes.now }
+{
+    bytes.iter().all(|byte| 33 <= *byte && *byte <= 126)
+}
+
+/// A key: 1 to 24 bytes, each from 33 to 126.
+pub fn key(word: &[u8]) -> Option<Key>
+    ensures { ReadsAs IsKeyWord (λ key. key) word.now result }
+{
+    if is_plain(word) { Key::new(word) } else { None }
+}
+
+/// A value: `-` for the empty one, else 1 to 32 bytes, each from 33 to 126.
+pub fn value(word: &[u8]) -> Option<Value>
+    ensures { ReadsAs IsValueWord value_word word.now result }
+{
+    if word.is_empty() || !is_plain(word) {
+        return None;
+    }
+    if word == b"-".as_slice() {
+        return Value::new(b"");
+    }
+    Value::new(word)
+}
+
+/// The pass of a word: `p` and its number, which is below the number of passes.
+pub fn pass(word: &[u8], passes: u32) -> Option<u32>
+    ensures { ReadsAs (IsPass passes) pass_word word.now result }
+{
+    if word.is_empty() || word[0] != b'p' {
+        return None;
+    }
+    let pass = number(&word[1..])?;
+    if pass < passes { Some(pass) } else { None }
+}
