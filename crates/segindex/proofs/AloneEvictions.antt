@@ -13,8 +13,8 @@ use Rattle.segmodel.specs.declared.entry.Entry.{Entry}
 use Rattle.segmodel.specs.declared.entry.Entry.TheVariants as entry
 use Rattle.segmodel.specs.declared.entry.Cached.{Cached}
 use Rattle.segmodel.specs.Places.{bucket_of}
-use Rattle.segmodel.specs.Cache.{Cache, key_cmp, standing, without}
-use Rattle.segmodel.specs.History.{after, next, is_of, entries_of, IsLegal, StandsIn}
+use Rattle.segmodel.specs.Cache.{key_cmp, standing, without}
+use Rattle.segmodel.specs.History.{after, is_of, entries_of, IsLegal, StandsIn}
 use Rattle.segmodel.proofs.Counts.{count_by-cons}
 use Rattle.segmodel.proofs.HistoryLemmas.{standing-without}
 use Rattle.segmodel.proofs.Keys.{same_key, at_self}

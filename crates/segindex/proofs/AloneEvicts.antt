@@ -1,13 +1,11 @@
 -- With one pass, an evict is served as the model says.
-use Rattle.std.proofs.Common.{◌≡◌, ◌≢◌, ℕ, ◌+◌, ◌≤◌, ◌&&◌, ◌==◌, not, Bool, true, false, cond, List, [], ◌∷◌, ◌++◌, length, filter, count_by, is_some, IsSomeAnd, Option, Some, None, option_map, refl, sym, ap, subst, ◌∙◌, inl, inr, ⊎_elim, arith, eqb, eq-eqb}
-use Rattle.std.specs.Prelude.{◌↔◌, Any, IsTrue, MatchBool}
-use Rattle.std.specs.List.{AllByRecursion, list_any, list_all}
-use Rattle.std.proofs.lemmas.Bool.{false≢true, cases_Bool, cases_eq, cond-true, cond-false, eqb-true}
+use Rattle.std.proofs.Common.{◌≡◌, ◌≢◌, ℕ, ◌+◌, ◌&&◌, not, Bool, true, false, cond, List, [], ◌∷◌, ◌++◌, length, filter, count_by, IsSomeAnd, Option, Some, None, option_map, refl, sym, ap, subst, ◌∙◌, inl, inr, ⊎_elim, arith, eqb, eq-eqb}
+use Rattle.std.specs.Prelude.{◌↔◌, MatchBool}
+use Rattle.std.specs.List.{list_any}
+use Rattle.std.proofs.lemmas.Bool.{false≢true, cases_Bool, eqb-true}
 use Rattle.std.proofs.lemmas.List.Folds.{Any-from_list_any}
-use Rattle.std.proofs.lemmas.Option.{none-some, same_Some}
+use Rattle.std.proofs.lemmas.Option.{same_Some}
 use Rattle.std.specs.BTreeMap.{is_at}
-use Rattle.segword.specs.declared.shape.Shape.{Shape}
-use Rattle.segmodel.specs.declared.entry.Entry.{Entry}
 use Rattle.segmodel.specs.declared.entry.Cached.{Cached}
 use Rattle.segmodel.specs.declared.answer.SegState.{SegState}
 use Rattle.segmodel.specs.declared.answer.SegState.TheVariants.{Empty, InUse, Evicted}
@@ -18,8 +16,8 @@ use Rattle.segmodel.specs.declared.answer.Command.TheVariants as command
 use Rattle.segmodel.specs.Places.{bucket_of}
 use Rattle.segmodel.specs.Cache.{Cache, key_cmp, standing, with_at}
 use Rattle.segmodel.specs.History.{after, entries_of, is_of, IsLegal, StandsIn, NoneStandsIn}
-use Rattle.segmodel.specs.State.{Filling, State, is_in, is_locked, is_named, is_stored}
-use Rattle.segmodel.specs.Serving.{is_own, may_go, taken_out, with_filling, Evicts, ServesEvict, IsGiven}
+use Rattle.segmodel.specs.State.{Filling, is_in, is_locked, is_named, is_stored}
+use Rattle.segmodel.specs.Serving.{may_go, taken_out, Evicts, ServesEvict, IsGiven}
 use Rattle.segmodel.proofs.Counts.{count_by-cons, count-split, both, and_true}
 use Rattle.segmodel.proofs.Ordered.{sorted-after}
 use Rattle.segmodel.proofs.ServingKeeps.{found_passes}
@@ -29,9 +27,9 @@ use Rattle.segbase.specs.declared.law.Memo.{Memo}
 use Rattle.segbase.specs.declared.board.Board.{Board}
 use Rattle.segbase.specs.declared.pass.Pass.{Pass}
 use Rattle.segbase.specs.Passes.{number, trace, seen, locked}
-use Rattle.segbase.specs.Plain.{current_of, state_of, used_of, locked_of}
+use Rattle.segbase.specs.Plain.{state_of, locked_of}
 use Rattle.segbase.proofs.Alone.{bounced_alone}
-use Rattle.segindex.specs.Calls.{GoesOn}
+use Rattle.segindex.specs.Calls.{GoesOn, DrawsNothing}
 use Rattle.segindex.specs.Evicting.{TakesOut, IsBarred, IsEvictAnswer}
 use Rattle.segindex.specs.Alone.{stored_in, or_empty, item_of, state_at, CountsRows, IsAlone, ServesAlone}
 use Rattle.segindex.proofs.QuietPass.{none_since}
@@ -62,7 +60,7 @@ found_there : (o : Option Cached) (segment : ℕ) → IsSomeAnd o (λ item. item
 found_there None segment none = absurd none
 found_there (Some item) segment there = (item, refl, there)
 
-module _ (b : Board) (p q : Pass) (segment count : ℕ) (none : b.shape.overflow ≡ 0) (was : IsAlone b p) (on : GoesOn b p q) (takes : TakesOut segment count p q) where
+module _ (b : Board) (p q : Pass) (segment count : ℕ) (was : IsAlone b p) (on : GoesOn b p q) (undrawn : DrawsNothing p q) (takes : TakesOut segment count p q) where
   more : seen q ≡ takes.evictions ++ seen p
   more = more_seen b p q takes.evictions was on.quiet takes.entries
 
@@ -120,7 +118,7 @@ module _ (b : Board) (p q : Pass) (segment count : ℕ) (none : b.shape.overflow
       → ((s : ℕ) → or_empty (state_of q s) ≡ (filling s).state) → ((s : ℕ) → stored_in (seen p) s ≡ (filling s).keys)
       → state_at b.shape q ≡ record (taken_out segment goes (state_at b.shape p)) { filling = filling }
   at_taken goes filling same states keys =
-      let widths = same_widths b p q none was.quiet on.quiet in
+      let widths = same_widths b p q was on undrawn in
       at_state b.shape q (record (taken_out segment goes (state_at b.shape p)) { filling = filling })
       (cache_left goes same) states (λ s. keys_then s ∙ keys s) takes.current widths.wide widths.drawn (ap (λ (m : Memo). option_map item_of m.holding) takes.memo) takes.locked
 
@@ -204,7 +202,7 @@ module _ (b : Board) (p q : Pass) (segment count : ℕ) (none : b.shape.overflow
 
 -- ---- served
 
-module _ (b : Board) (p q : Pass) (segment : ℕ) (none : b.shape.overflow ≡ 0) (was : IsAlone b p) (on : GoesOn b p q) where
+module _ (b : Board) (p q : Pass) (segment : ℕ) (was : IsAlone b p) (on : GoesOn b p q) (undrawn : DrawsNothing p q) where
   -- a command on an own segment
   own_serves : (told : EvictAnswer) (state : SegState) → CountsRows q → state_of p segment ≡ Some state → ServesEvict b.shape (state_at b.shape p) segment state told (state_at b.shape q)
       → ServesAlone b (command.Evict segment) (answer.Evict told) p q
@@ -227,7 +225,7 @@ module _ (b : Board) (p q : Pass) (segment : ℕ) (none : b.shape.overflow ≡ 0
 
   evict_serves : (told : EvictAnswer) → IsEvictAnswer b.shape segment told p q → ((told ≡ evict.NotYours) ↔ (state_of p segment ≡ None)) → ServesAlone b (command.Evict segment) (answer.Evict told) p q
   evict_serves (evict.Evicted count) (inl (before, takes, now, empty)) not_yours =
-      own_serves (evict.Evicted count) InUse (counts b p q segment count none was on takes) before (evicts_all b p q segment count none was on takes now empty)
+      own_serves (evict.Evicted count) InUse (counts b p q segment count was on undrawn takes) before (evicts_all b p q segment count was on undrawn takes now empty)
   evict_serves (evict.Evicted count) (inr (other, zero, same)) not_yours = by (state_of p segment) refl
     where
       by : (kept : Option SegState) → state_of p segment ≡ kept → ServesAlone b (command.Evict segment) (answer.Evict (evict.Evicted count)) p q
@@ -240,8 +238,8 @@ module _ (b : Board) (p q : Pass) (segment : ℕ) (none : b.shape.overflow ≡ 0
         (sym (not_own b p segment was (not_yours.0 refl))) (refl, ap (state_at b.shape) same),
   )
   evict_serves (evict.Busy count) (before, takes, now, barred) not_yours =
-      own_serves (evict.Busy count) InUse (counts b p q segment count none was on takes) before (evicts_some b p q segment count none was on takes before now barred)
+      own_serves (evict.Busy count) InUse (counts b p q segment count was on undrawn takes) before (evicts_some b p q segment count was on undrawn takes before now barred)
 
-pub serves_evict : (b : Board) (p q : Pass) (segment : ℕ) (told : EvictAnswer) → b.shape.overflow ≡ 0 → IsAlone b p → GoesOn b p q
+pub serves_evict : (b : Board) (p q : Pass) (segment : ℕ) (told : EvictAnswer) → IsAlone b p → GoesOn b p q → DrawsNothing p q
     → IsEvictAnswer b.shape segment told p q → ((told ≡ evict.NotYours) ↔ (state_of p segment ≡ None)) → ServesAlone b (command.Evict segment) (answer.Evict told) p q
-serves_evict b p q segment told none was on is not_yours = evict_serves b p q segment none was on told is not_yours
+serves_evict b p q segment told was on undrawn is not_yours = evict_serves b p q segment was on undrawn told is not_yours

@@ -1,9 +1,8 @@
 -- With one pass, a hold, a held and a release are served as the model says.
-use Rattle.std.proofs.Common.{◌≡◌, ◌≢◌, ℕ, ◌≤◌, Bool, true, false, List, is_some, Option, Some, None, option_map, refl, sym, ap, subst, ◌∙◌, ⊎_elim}
+use Rattle.std.proofs.Common.{◌≡◌, ◌≢◌, ℕ, true, false, List, is_some, Option, Some, None, option_map, refl, sym, ap, subst, ◌∙◌, ⊎_elim}
 use Rattle.std.specs.Prelude.{◌↔◌, IfSome}
 use Rattle.std.proofs.lemmas.Bool.{false≢true, cases_Bool}
 use Rattle.std.proofs.lemmas.Option.{none-some}
-use Rattle.segword.specs.declared.shape.Shape.{Shape}
 use Rattle.segmodel.specs.declared.entry.Cached.{Cached}
 use Rattle.segmodel.specs.declared.answer.Turn.TheVariants as turn
 use Rattle.segmodel.specs.declared.answer.Outcome.TheVariants as outcome
@@ -15,11 +14,11 @@ use Rattle.segbase.specs.declared.law.Held.{Held}
 use Rattle.segbase.specs.declared.board.Board.{Board}
 use Rattle.segbase.specs.declared.pass.Pass.{Pass}
 use Rattle.segbase.specs.Passes.{seen, mine, holding}
-use Rattle.segbase.specs.Plain.{locked_of, is_holding_of}
+use Rattle.segbase.specs.Plain.{is_holding_of}
 use Rattle.segindex.specs.declared.hold.Hold.{Hold}
 use Rattle.segindex.specs.declared.hold.HoldAnswer.{HoldAnswer}
 use Rattle.segindex.specs.declared.hold.HoldAnswer.TheVariants as answer
-use Rattle.segindex.specs.Calls.{GoesOn, ChangesNothing}
+use Rattle.segindex.specs.Calls.{GoesOn, ChangesNothing, DrawsNothing}
 use Rattle.segindex.specs.Holds.{IsHoldOf, IsHoldAnswer, KeepsButHold, Releases}
 use Rattle.segindex.specs.Alone.{item_of, state_at, IsAlone, TurnsAlone, hold_outcome}
 use Rattle.segindex.proofs.AlonePass.{none_if, same_moment, same_seen, as_was, left, counts_still, turned, turned_still}
@@ -34,11 +33,11 @@ holds_nothing b p was not = none_if (holding p) (sym was.quiet.holds ∙ not)
 untouched : (b : Board) (p q : Pass) → q ≡ p → state_at b.shape q ≡ state_at b.shape p
 untouched b p q same = ap (state_at b.shape) same
 
-module _ (b : Board) (p q : Pass) (none : b.shape.overflow ≡ 0) (was : IsAlone b p) (on : GoesOn b p q) where
+module _ (b : Board) (p q : Pass) (was : IsAlone b p) (on : GoesOn b p q) (undrawn : DrawsNothing p q) where
   -- another item is held, or none; the rest is as it was
   holds_alone : KeepsButHold p q → state_at b.shape q ≡ record (state_at b.shape p) { held = option_map item_of (holding q) }
   holds_alone keeps =
-      as_was b.shape p q (same_seen b p q was on.quiet keeps.entries) keeps.segments.state keeps.current (same_widths b p q none was.quiet on.quiet)
+      as_was b.shape p q (same_seen b p q was on.quiet keeps.entries) keeps.segments.state keeps.current (same_widths b p q was on undrawn)
       ∙ ap (λ o. record (state_at b.shape p) { held = option_map item_of (holding q); locked = o }) keeps.locked.1
 
   -- ---- hold
@@ -76,7 +75,7 @@ module _ (b : Board) (p q : Pass) (none : b.shape.overflow ≡ 0) (was : IsAlone
       let absent : present (after b.shape (seen p)) key ≡ None = none_present (present (after b.shape (seen p)) key) (read_then b p q key was on nothing None gone) in
       turned_still b (turn.Hold key) outcome.Miss p q was on.quiet nothing (
         (λ i. turns.hold_outcome (sym free i) (sym absent i)),
-        left b p q was on.quiet nothing (same_widths b p q none was.quiet on.quiet)
+        left b p q was on.quiet nothing (same_widths b p q was on undrawn)
             ∙ ap (λ o. record (state_at b.shape p) { held = o }) (free ∙ (λ i. turns.held_after (sym free i) (sym absent i))),
       )
   hold_turn key answer.Busy (nothing, many) already = absurd (never_stirred b p q key was on nothing many)
@@ -96,7 +95,7 @@ module _ (b : Board) (p q : Pass) (none : b.shape.overflow ≡ 0) (was : IsAlone
       → TurnsAlone b turn.Held (outcome.Value value) p q
   held_turn hold value is nothing reads = turned_still b turn.Held (outcome.Value value) p q was on.quiet nothing (
     ap outcome.Value (subst (λ (o : Option Held). IfSome o (λ (held : Held). value ≡ held.value)) is.holds reads) ∙ sym (ap (λ o. turns.held_outcome (option_map item_of o)) is.holds),
-    left b p q was on.quiet nothing (same_widths b p q none was.quiet on.quiet),
+    left b p q was on.quiet nothing (same_widths b p q was on undrawn),
   )
 
   -- ---- release
@@ -109,17 +108,17 @@ module _ (b : Board) (p q : Pass) (none : b.shape.overflow ≡ 0) (was : IsAlone
 
 -- ---- as turns
 
-pub turns_hold : (b : Board) (p q : Pass) (key : List ℕ) (told : HoldAnswer) → b.shape.overflow ≡ 0 → IsAlone b p → GoesOn b p q
+pub turns_hold : (b : Board) (p q : Pass) (key : List ℕ) (told : HoldAnswer) → IsAlone b p → GoesOn b p q → DrawsNothing p q
     → IsHoldAnswer b.shape key told p q → ((told ≡ answer.AlreadyHolding) ↔ (is_holding_of p ≡ true)) → TurnsAlone b (turn.Hold key) (hold_outcome told) p q
-turns_hold b p q key told none was on is already = hold_turn b p q none was on key told is already
+turns_hold b p q key told was on undrawn is already = hold_turn b p q was on undrawn key told is already
 
-pub turns_held : (b : Board) (p q : Pass) (hold : Hold) (value : List ℕ) → b.shape.overflow ≡ 0 → IsAlone b p → GoesOn b p q
+pub turns_held : (b : Board) (p q : Pass) (hold : Hold) (value : List ℕ) → IsAlone b p → GoesOn b p q → DrawsNothing p q
     → IsHoldOf b.shape hold p → ChangesNothing p q → IfSome (holding p) (λ held. value ≡ held.value) → TurnsAlone b turn.Held (outcome.Value value) p q
-turns_held b p q hold value none was on is nothing reads = held_turn b p q none was on hold value is nothing reads
+turns_held b p q hold value was on undrawn is nothing reads = held_turn b p q was on undrawn hold value is nothing reads
 
-pub turns_release : (b : Board) (p q : Pass) (hold : Hold) → b.shape.overflow ≡ 0 → IsAlone b p → GoesOn b p q
+pub turns_release : (b : Board) (p q : Pass) (hold : Hold) → IsAlone b p → GoesOn b p q → DrawsNothing p q
     → IsHoldOf b.shape hold p → Releases p q → TurnsAlone b turn.Release outcome.Released p q
-turns_release b p q hold none was on is releases = release_turn b p q none was on hold is releases
+turns_release b p q hold was on undrawn is releases = release_turn b p q was on undrawn hold is releases
 
 -- where nothing is held, no call is made
 

@@ -1,9 +1,8 @@
 -- With one pass, a lock and an unlock are served as the model says.
-use Rattle.std.proofs.Common.{◌≡◌, ◌≢◌, ℕ, Bool, true, false, List, is_some, Option, Some, None, option_map, refl, sym, ap, subst, ◌∙◌}
+use Rattle.std.proofs.Common.{◌≡◌, ◌≢◌, ℕ, Bool, true, false, List, is_some, Option, Some, None, option_map, refl, sym, ap, ◌∙◌}
 use Rattle.std.specs.Prelude.{◌↔◌}
 use Rattle.std.proofs.lemmas.Bool.{false≢true}
 use Rattle.std.proofs.lemmas.Option.{none-some}
-use Rattle.segword.specs.declared.shape.Shape.{Shape}
 use Rattle.segmodel.specs.declared.answer.Turn.TheVariants as turn
 use Rattle.segmodel.specs.declared.answer.Outcome.TheVariants as outcome
 use Rattle.segmodel.specs.Places.{bucket_of}
@@ -14,7 +13,7 @@ use Rattle.segbase.specs.Passes.{mine, holding}
 use Rattle.segbase.specs.Plain.{current_of, locked_of, SameSegments}
 use Rattle.segindex.specs.declared.bucket.LockAnswer.{LockAnswer}
 use Rattle.segindex.specs.declared.bucket.LockAnswer.TheVariants as lock
-use Rattle.segindex.specs.Calls.{GoesOn, ChangesNothing}
+use Rattle.segindex.specs.Calls.{GoesOn, DrawsNothing}
 use Rattle.segindex.specs.Answers.{IsLockAnswer, IsUnlockAnswer}
 use Rattle.segindex.specs.Alone.{item_of, state_at, IsAlone, TurnsAlone, lock_outcome, unlock_outcome}
 use Rattle.segindex.proofs.OnePass.{busy_by_lock}
@@ -22,13 +21,13 @@ use Rattle.segindex.proofs.AlonePass.{none_if, same_seen, as_was, left, counts_s
 use Rattle.segindex.proofs.AloneWidths.{same_widths}
 
 -- another bucket is locked, or none; the rest is as it was
-locks_alone : (b : Board) (p q : Pass) → b.shape.overflow ≡ 0 → IsAlone b p → GoesOn b p q → mine q ≡ mine p → SameSegments p q → current_of q ≡ current_of p → holding q ≡ holding p
+locks_alone : (b : Board) (p q : Pass) → IsAlone b p → GoesOn b p q → DrawsNothing p q → mine q ≡ mine p → SameSegments p q → current_of q ≡ current_of p → holding q ≡ holding p
     → state_at b.shape q ≡ record (state_at b.shape p) { locked = locked_of q }
-locks_alone b p q none was on same segments current held =
-    as_was b.shape p q (same_seen b p q was on.quiet same) segments.state current (same_widths b p q none was.quiet on.quiet)
+locks_alone b p q was on undrawn same segments current held =
+    as_was b.shape p q (same_seen b p q was on.quiet same) segments.state current (same_widths b p q was on undrawn)
     ∙ ap (λ o. record (state_at b.shape p) { held = option_map item_of o; locked = locked_of q }) held
 
-module _ (b : Board) (p q : Pass) (none : b.shape.overflow ≡ 0) (was : IsAlone b p) (on : GoesOn b p q) where
+module _ (b : Board) (p q : Pass) (was : IsAlone b p) (on : GoesOn b p q) (undrawn : DrawsNothing p q) where
   -- ---- lock
 
   other_answer : (told : LockAnswer) → ((told ≡ lock.AlreadyLocked) ↔ (locked_of p ≢ None)) → told ≢ lock.AlreadyLocked → locked_of p ≡ None
@@ -48,7 +47,7 @@ module _ (b : Board) (p q : Pass) (none : b.shape.overflow ≡ 0) (was : IsAlone
       let free = other_answer lock.Locked already (λ e. cc) in
       turned b (turn.Lock key) outcome.Locked p q was on.quiet (counts_still p q was.used (same_seen b p q was on.quiet locks.entries) locks.segments.used) (
         sym (ap turns.lock_outcome free),
-        locks_alone b p q none was on locks.entries locks.segments locks.current locks.holding.0
+        locks_alone b p q was on undrawn locks.entries locks.segments locks.current locks.holding.0
             ∙ ap (λ o. record (state_at b.shape p) { locked = o }) (locks.locked_of ∙ sym (ap (turns.locked_after (bucket_of b.shape key)) free)),
       )
   lock_turn key lock.Busy (nothing, busy) already =
@@ -57,7 +56,7 @@ module _ (b : Board) (p q : Pass) (none : b.shape.overflow ≡ 0) (was : IsAlone
   lock_turn key lock.AlreadyLocked nothing already =
       let stays = stays_locked (bucket_of b.shape key) (locked_of p) (already.0 refl) in
       turned_still b (turn.Lock key) outcome.AlreadyLocked p q was on.quiet nothing
-      (sym stays.0, left b p q was on.quiet nothing (same_widths b p q none was.quiet on.quiet) ∙ ap (λ o. record (state_at b.shape p) { locked = o }) (sym stays.1))
+      (sym stays.0, left b p q was on.quiet nothing (same_widths b p q was on undrawn) ∙ ap (λ o. record (state_at b.shape p) { locked = o }) (sym stays.1))
 
   -- ---- unlock
 
@@ -69,20 +68,20 @@ module _ (b : Board) (p q : Pass) (none : b.shape.overflow ≡ 0) (was : IsAlone
   unlock_turn true unlocks was_locked =
       turned b turn.Unlock outcome.Unlocked p q was on.quiet (counts_still p q was.used (same_seen b p q was on.quiet unlocks.entries) unlocks.segments.used) (
         unlocks_one (locked_of p) was_locked,
-        locks_alone b p q none was on unlocks.entries unlocks.segments unlocks.current unlocks.holding.0
+        locks_alone b p q was on undrawn unlocks.entries unlocks.segments unlocks.current unlocks.holding.0
             ∙ ap (λ o. record (state_at b.shape p) { locked = o }) unlocks.locked_of,
       )
   unlock_turn false nothing was_locked =
       let free = none_if (locked_of p) (sym was_locked) in
       turned_still b turn.Unlock outcome.NotLocked p q was on.quiet nothing
-      (sym (ap turns.unlock_outcome free), left b p q was on.quiet nothing (same_widths b p q none was.quiet on.quiet) ∙ ap (λ o. record (state_at b.shape p) { locked = o }) free)
+      (sym (ap turns.unlock_outcome free), left b p q was on.quiet nothing (same_widths b p q was on undrawn) ∙ ap (λ o. record (state_at b.shape p) { locked = o }) free)
 
 -- ---- as turns
 
-pub turns_lock : (b : Board) (p q : Pass) (key : List ℕ) (told : LockAnswer) → b.shape.overflow ≡ 0 → IsAlone b p → GoesOn b p q
+pub turns_lock : (b : Board) (p q : Pass) (key : List ℕ) (told : LockAnswer) → IsAlone b p → GoesOn b p q → DrawsNothing p q
     → IsLockAnswer b.shape key told p q → ((told ≡ lock.AlreadyLocked) ↔ (locked_of p ≢ None)) → TurnsAlone b (turn.Lock key) (lock_outcome told) p q
-turns_lock b p q key told none was on is already = lock_turn b p q none was on key told is already
+turns_lock b p q key told was on undrawn is already = lock_turn b p q was on undrawn key told is already
 
-pub turns_unlock : (b : Board) (p q : Pass) (told : Bool) → b.shape.overflow ≡ 0 → IsAlone b p → GoesOn b p q
+pub turns_unlock : (b : Board) (p q : Pass) (told : Bool) → IsAlone b p → GoesOn b p q → DrawsNothing p q
     → IsUnlockAnswer b.shape told p q → told ≡ is_some (locked_of p) → TurnsAlone b turn.Unlock (unlock_outcome told) p q
-turns_unlock b p q told none was on is was_locked = unlock_turn b p q none was on told is was_locked
+turns_unlock b p q told was on undrawn is was_locked = unlock_turn b p q was on undrawn told is was_locked

@@ -1,8 +1,6 @@
 -- With one pass, a get and a gets are served as the model says.
-use Rattle.std.proofs.Common.{◌≡◌, ◌≢◌, ℕ, ◌+◌, ◌-◌, ◌≤◌, Bool, true, false, List, Option, Some, None, option_map, refl, sym, ap, subst, ◌∙◌, inl, inr, arith}
+use Rattle.std.proofs.Common.{◌≡◌, ◌≢◌, ℕ, ◌≤◌, Bool, true, List, Option, Some, None, option_map, refl, sym, ap, ◌∙◌, inl, inr, arith}
 use Rattle.std.proofs.lemmas.Option.{none-some}
-use Rattle.segword.specs.declared.shape.Shape.{Shape}
-use Rattle.segmodel.specs.declared.entry.Entry.{Entry}
 use Rattle.segmodel.specs.declared.entry.Cached.{Cached}
 use Rattle.segmodel.specs.declared.answer.GetAnswer.{GetAnswer}
 use Rattle.segmodel.specs.declared.answer.GetAnswer.TheVariants as get
@@ -11,16 +9,16 @@ use Rattle.segmodel.specs.declared.answer.GetsAnswer.TheVariants as gets
 use Rattle.segmodel.specs.declared.answer.Answer.TheVariants as answer
 use Rattle.segmodel.specs.declared.answer.Command.TheVariants as command
 use Rattle.segmodel.specs.Places.{bucket_of}
-use Rattle.segmodel.specs.Cache.{Cache, present, reads, reads_version}
+use Rattle.segmodel.specs.Cache.{present, reads, reads_version}
 use Rattle.segmodel.specs.History.{after, stirred}
 use Rattle.segmodel.specs.State.{is_locked}
 use Rattle.segmodel.specs.Serving.{get_answer, gets_answer}
 use Rattle.segbase.specs.declared.board.Board.{Board}
 use Rattle.segbase.specs.declared.pass.Pass.{Pass}
-use Rattle.segbase.specs.Passes.{seen, glanced}
+use Rattle.segbase.specs.Passes.{seen}
 use Rattle.segbase.specs.Plain.{locked_of}
 use Rattle.segbase.proofs.Alone.{glanced_alone}
-use Rattle.segindex.specs.Calls.{GoesOn, ChangesNothing}
+use Rattle.segindex.specs.Calls.{GoesOn, ChangesNothing, DrawsNothing}
 use Rattle.segindex.specs.Answers.{IsGetAnswer, ReadsBetween}
 use Rattle.segindex.specs.Gets.{IsGetsAnswer, ReadsVersionBetween, disturbed}
 use Rattle.segindex.specs.Alone.{state_at, IsAlone, ServesAlone}
@@ -75,13 +73,13 @@ module _ (b : Board) (p q : Pass) (key : List ℕ) (was : IsAlone b p) (on : Goe
 
 -- ---- served
 
-pub serves_get : (b : Board) (p q : Pass) (key : List ℕ) (told : GetAnswer) → b.shape.overflow ≡ 0 → IsAlone b p → GoesOn b p q → ChangesNothing p q
+pub serves_get : (b : Board) (p q : Pass) (key : List ℕ) (told : GetAnswer) → IsAlone b p → GoesOn b p q → DrawsNothing p q → ChangesNothing p q
     → IsGetAnswer b.shape key told (seen p) (seen q) → ServesAlone b (command.Get key) (answer.Get told) p q
-serves_get b p q key told none was on nothing is = served_still b (command.Get key) (answer.Get told) p q was on.quiet nothing
-    (ap answer.Get (got b p q key was on nothing told is), left b p q was on.quiet nothing (same_widths b p q none was.quiet on.quiet))
+serves_get b p q key told was on undrawn nothing is = served_still b (command.Get key) (answer.Get told) p q was on.quiet nothing
+    (ap answer.Get (got b p q key was on nothing told is), left b p q was on.quiet nothing (same_widths b p q was on undrawn))
 
-pub serves_gets : (b : Board) (p q : Pass) (key : List ℕ) (told : GetsAnswer) → b.shape.overflow ≡ 0 → IsAlone b p → GoesOn b p q → ChangesNothing p q
+pub serves_gets : (b : Board) (p q : Pass) (key : List ℕ) (told : GetsAnswer) → IsAlone b p → GoesOn b p q → DrawsNothing p q → ChangesNothing p q
     → IsGetsAnswer b.shape key told p q → ((value : List ℕ) (version : ℕ) → told ≡ gets.Found value version → locked_of p ≢ Some (bucket_of b.shape key))
     → ServesAlone b (command.Gets key) (answer.Gets told) p q
-serves_gets b p q key told none was on nothing is unlocked = served_still b (command.Gets key) (answer.Gets told) p q was on.quiet nothing
-    (ap answer.Gets (versioned b p q key was on nothing told unlocked is), left b p q was on.quiet nothing (same_widths b p q none was.quiet on.quiet))
+serves_gets b p q key told was on undrawn nothing is unlocked = served_still b (command.Gets key) (answer.Gets told) p q was on.quiet nothing
+    (ap answer.Gets (versioned b p q key was on nothing told unlocked is), left b p q was on.quiet nothing (same_widths b p q was on undrawn))

@@ -1,9 +1,8 @@
 -- With one pass, a refill is served as the model says.
-use Rattle.std.proofs.Common.{◌≡◌, ◌≢◌, ℕ, ◌<◌, Bool, true, false, cond, List, [], ◌∷◌, length, Option, Some, None, option_map, refl, sym, ap, subst, ◌∙◌, inl, inr, ⊎_elim, arith, eqb, eq-eqb}
+use Rattle.std.proofs.Common.{◌≡◌, ◌≢◌, ℕ, Bool, true, false, cond, List, [], ◌∷◌, length, Option, Some, None, option_map, refl, sym, ap, subst, ◌∙◌, inl, inr, ⊎_elim, arith, eqb, eq-eqb}
 use Rattle.std.specs.Prelude.{◌↔◌}
 use Rattle.std.proofs.lemmas.Bool.{false≢true, cond-true, cond-false, cases_Bool, cases_eq, ne_eqb, eqb-true}
-use Rattle.std.proofs.lemmas.Option.{same_Some, none-some}
-use Rattle.segword.specs.declared.shape.Shape.{Shape}
+use Rattle.std.proofs.lemmas.Option.{same_Some}
 use Rattle.segmodel.specs.declared.entry.Entry.TheVariants as entry
 use Rattle.segmodel.specs.declared.answer.SegState.{SegState}
 use Rattle.segmodel.specs.declared.answer.SegState.TheVariants.{Empty, InUse, Evicted}
@@ -13,7 +12,7 @@ use Rattle.segmodel.specs.declared.answer.Answer.TheVariants as answer
 use Rattle.segmodel.specs.declared.answer.Command.TheVariants as command
 use Rattle.segmodel.specs.Cache.{with_at}
 use Rattle.segmodel.specs.History.{after}
-use Rattle.segmodel.specs.State.{Filling, State}
+use Rattle.segmodel.specs.State.{Filling}
 use Rattle.segmodel.specs.Serving.{is_own, is_held, refill_answer, after_refill}
 use Rattle.segbase.specs.declared.law.Held.{Held}
 use Rattle.segbase.specs.declared.law.Memo.{Memo}
@@ -22,7 +21,7 @@ use Rattle.segbase.specs.declared.pass.Pass.{Pass}
 use Rattle.segbase.specs.Passes.{seen, number, trace, holding}
 use Rattle.segbase.specs.Plain.{state_of, used_of}
 use Rattle.segindex.specs.Quiet.{is_held_in}
-use Rattle.segindex.specs.Calls.{memo, GoesOn, ChangesNothing}
+use Rattle.segindex.specs.Calls.{GoesOn, ChangesNothing, DrawsNothing}
 use Rattle.segindex.specs.Answers.{IsRead, Refills, IsRefillAnswer}
 use Rattle.segindex.specs.Alone.{stored_in, or_empty, item_of, state_at, CountsRows, IsAlone, ServesAlone}
 use Rattle.segindex.proofs.OnePass.{nobody_inside}
@@ -39,7 +38,7 @@ with_at-other f place n value ne = rw (ne_eqb place n ne) refl
 pub by_segment : (P : ℕ → Type 0) (segment : ℕ) → P segment → ((other : ℕ) → segment ≢ other → P other) → (other : ℕ) → P other
 by_segment P segment here rest other = elim (cases_eq segment other) [ inl e ↦ subst P e here | inr ne ↦ rest other ne ]
 
-module _ (b : Board) (p q : Pass) (segment : ℕ) (none : b.shape.overflow ≡ 0) (was : IsAlone b p) (on : GoesOn b p q) where
+module _ (b : Board) (p q : Pass) (segment : ℕ) (was : IsAlone b p) (on : GoesOn b p q) (undrawn : DrawsNothing p q) where
   -- what the model answers
   abbrev told : RefillAnswer
   told = cond (is_own b.shape segment) (refill_answer (state_at b.shape p) segment (or_empty (state_of p segment))) refill.NotYours
@@ -65,7 +64,7 @@ module _ (b : Board) (p q : Pass) (segment : ℕ) (none : b.shape.overflow ≡ 0
       → ServesAlone b (command.Refill segment) (answer.Refill given) p q
   still_serves given e nothing stays = served_still b (command.Refill segment) (answer.Refill given) p q was on.quiet nothing (
     sym (ap answer.Refill e),
-    left b p q was on.quiet nothing (same_widths b p q none was.quiet on.quiet) ∙ (sym stays ∙ sym (ap (λ g. after_refill segment g (state_at b.shape p)) e)),
+    left b p q was on.quiet nothing (same_widths b p q was on undrawn) ∙ (sym stays ∙ sym (ap (λ g. after_refill segment g (state_at b.shape p)) e)),
   )
 
   -- ---- Held
@@ -108,7 +107,7 @@ module _ (b : Board) (p q : Pass) (segment : ℕ) (none : b.shape.overflow ≡ 0
 
     at_refilled : state_at b.shape q ≡ after_refill segment refill.Refilled (state_at b.shape p)
     at_refilled =
-        let widths = same_widths b p q none was.quiet on.quiet in
+        let widths = same_widths b p q was on undrawn in
         at_state b.shape q (after_refill segment refill.Refilled (state_at b.shape p))
         (ap (after b.shape) more) state_then keys_then refills.current widths.wide widths.drawn (ap (λ (m : Memo). option_map item_of m.holding) refills.memo) refills.locked
 
@@ -144,7 +143,7 @@ module _ (b : Board) (p q : Pass) (segment : ℕ) (none : b.shape.overflow ≡ 0
 
 -- ---- served
 
-pub serves_refill : (b : Board) (p q : Pass) (segment : ℕ) (told : RefillAnswer) → b.shape.overflow ≡ 0 → IsAlone b p → GoesOn b p q → IsRefillAnswer segment told p q
+pub serves_refill : (b : Board) (p q : Pass) (segment : ℕ) (told : RefillAnswer) → IsAlone b p → GoesOn b p q → DrawsNothing p q → IsRefillAnswer segment told p q
     → ((told ≡ refill.NotYours) ↔ (state_of p segment ≡ None)) → ((told ≡ refill.NotEvicted) ↔ (state_of p segment ≡ Some InUse))
     → (state_of p segment ≡ Some Evicted → is_held_in (holding p) segment ≡ true → told ≡ refill.Held) → ServesAlone b (command.Refill segment) (answer.Refill told) p q
-serves_refill b p q segment told none was on is not_yours in_use held = refill_serves b p q segment none was on told is not_yours in_use held
+serves_refill b p q segment told was on undrawn is not_yours in_use held = refill_serves b p q segment was on undrawn told is not_yours in_use held

@@ -1,47 +1,29 @@
 -- With one pass, the model refuses a write where the call does: no row is left, or no word.
-use Rattle.std.proofs.Common.{◌≡◌, ◌≢◌, ℕ, ◌+◌, ◌*◌, ◌<◌, ◌≤◌, ◌==◌, ◌&&◌, not, nat_le, nat_lt, Bool, true, false, cond, List, [], ◌∷◌, ◌++◌, length, is_some, Option, Some, None, option_map, refl, sym, ap, subst, ◌∙◌, inl, inr, ⊎_elim, arith, eqb, eq-eqb}
-use Rattle.std.specs.Prelude.{◌↔◌, option_and_then}
-use Rattle.std.proofs.lemmas.Bool.{false≢true, cases_Bool, cases_lt, cond-true, cond-false, ne_eqb, lt-ltb, le-ltb, lt-leb, le-leb, and_right}
-use Rattle.std.proofs.lemmas.List.{length_push}
-use Rattle.std.proofs.lemmas.Option.{none-some, same_Some}
+use Rattle.std.proofs.Common.{◌≡◌, ℕ, ◌+◌, ◌*◌, ◌==◌, ◌&&◌, not, nat_le, nat_lt, true, false, length, is_some, Option, Some, None, refl, sym, ap, ◌∙◌, inl, inr, ⊎_elim, arith, eq-eqb}
+use Rattle.std.specs.Prelude.{option_and_then}
+use Rattle.std.proofs.lemmas.Bool.{cases_lt, lt-ltb, le-ltb, lt-leb, le-leb, and_right}
+use Rattle.std.proofs.lemmas.Option.{none-some}
 use Rattle.segword.specs.declared.shape.Shape.{Shape}
-use Rattle.segmodel.specs.declared.entry.Entry.{Entry}
-use Rattle.segmodel.specs.declared.entry.Entry.TheVariants.{Wrote}
 use Rattle.segmodel.specs.declared.request.Request.{Request}
-use Rattle.segmodel.specs.declared.request.Request.TheVariants.{Set, Add, Replace, Cas, Delete}
-use Rattle.segmodel.specs.declared.request.Reply.{Reply}
-use Rattle.segmodel.specs.declared.request.Reply.TheVariants as reply
 use Rattle.segmodel.specs.declared.answer.SegState.{SegState}
 use Rattle.segmodel.specs.declared.answer.SegState.TheVariants.{InUse}
-use Rattle.segmodel.specs.declared.answer.WriteAnswer.{WriteAnswer}
-use Rattle.segmodel.specs.declared.answer.WriteAnswer.TheVariants as write
-use Rattle.segmodel.specs.declared.answer.Answer.TheVariants as answer
-use Rattle.segmodel.specs.declared.answer.Command.TheVariants as command
 use Rattle.segmodel.specs.Places.{bucket_of}
-use Rattle.segmodel.specs.Request.{key_of, value_of, is_store, adds_key, reply_to}
-use Rattle.segmodel.specs.Cache.{put, standing, present, reply_in, keys_in, with_at}
-use Rattle.segmodel.specs.History.{after, Begins, IsLegal}
-use Rattle.segmodel.specs.State.{Filling, State, is_locked}
-use Rattle.segmodel.specs.Serving.{is_out_of_rows, may_chain, lacks_word, with_key, placed, chained, stored, after_reply, reply_of_write, ServesStore}
-use Rattle.segmodel.proofs.Stores.{serves_replied}
-use Rattle.segmodel.proofs.Stores as stores
-use Rattle.segcore.specs.Mark.{Mark, enters, drawn, entries, drawn_for, all_drawn, width}
+use Rattle.segmodel.specs.Request.{key_of, adds_key}
+use Rattle.segmodel.specs.Cache.{standing, keys_in}
+use Rattle.segmodel.specs.History.{after}
+use Rattle.segmodel.specs.Serving.{is_out_of_rows, may_chain, lacks_word}
+use Rattle.segcore.specs.Mark.{entries, all_drawn, width}
 use Rattle.segcore.proofs.Marked.{entries_marked}
-use Rattle.segcore.proofs.Standing.{legal}
-use Rattle.segbase.specs.declared.law.Memo.{Memo}
 use Rattle.segbase.specs.declared.board.Board.{Board}
 use Rattle.segbase.specs.declared.pass.OwnSegment.{OwnSegment}
 use Rattle.segbase.specs.declared.pass.Pass.{Pass}
-use Rattle.segbase.specs.Passes.{number, trace, marked, seen}
-use Rattle.segbase.specs.Plain.{current_of, state_of, used_of, own_segment, state_in, used_in, locked_of}
+use Rattle.segbase.specs.Passes.{trace, marked, seen}
+use Rattle.segbase.specs.Plain.{current_of, used_of, own_segment, state_in, used_in}
 use Rattle.segstore.specs.Segments.{has_room, is_below}
-use Rattle.segindex.specs.Calls.{memo, GoesOn, ChangesNothing}
-use Rattle.segindex.specs.Answers.{IsWriteAnswer, IsReplied, WasFull, UsesRow, Writes}
-use Rattle.segindex.specs.Alone.{stored_in, or_empty, item_of, state_at, CountsRows, IsAlone, ServesAlone}
-use Rattle.segindex.proofs.OnePass.{busy_by_lock}
-use Rattle.segindex.proofs.AlonePass.{same_moment, same_seen, more_seen, at_state, as_was, left, locked_here, free_here, counts_still, same_states, same_used, SameWidths, served, served_still}
-use Rattle.segindex.proofs.AloneRefills.{with_at-same, with_at-other, by_segment}
-use Rattle.segindex.proofs.AloneWidths.{same_widths, Grows, grown}
+use Rattle.segindex.specs.Answers.{WasFull}
+use Rattle.segindex.specs.Alone.{stored_in, state_at, IsAlone}
+use Rattle.segindex.proofs.AlonePass.{same_moment, SameWidths}
+use Rattle.segindex.proofs.Grown.{entries_begin, drawn_begin, all_begin}
 
 -- ---- rows
 
@@ -72,31 +54,6 @@ out_of_rows b p was = by (current_of p) refl
         reaches b.shape.rows (length (stored_in (seen p) segment)) ∙ sym (ap (λ o. not (is_below b.shape.rows o)) (rows_of b p segment was is))
 
 -- ---- a bucket that is full
-
--- of a growing marked history chains only grow
-drawn_more : (more old : List Mark) (bucket : ℕ) → drawn_for old bucket ≤ drawn_for (more ++ old) bucket
-drawn_more [] old bucket = omega arith
-drawn_more (drawn other ∷ more) old bucket = let rest = drawn_more more old bucket in ⊎_elim (λ t. rw t (omega arith)) (λ f. rw f (omega arith)) (cases_Bool (eqb other bucket))
-drawn_more (mark ∷ more) old bucket = drawn_more more old bucket
-
-all_more : (more old : List Mark) → all_drawn old ≤ all_drawn (more ++ old)
-all_more [] old = omega arith
-all_more (drawn other ∷ more) old = let rest = all_more more old in omega arith
-all_more (mark ∷ more) old = all_more more old
-
-entries_more : (more old : List Mark) → entries (more ++ old) ≡ entries more ++ entries old
-entries_more [] old = refl
-entries_more (enters added ∷ more) old = ap (λ l. added ∷ l) (entries_more more old)
-entries_more (_ ∷ more) old = entries_more more old
-
-entries_begin : (old new : List Mark) → Begins old new → Begins (entries old) (entries new)
-entries_begin old new (more, e) = (entries more, ap entries e ∙ entries_more more old)
-
-drawn_begin : (old new : List Mark) (bucket : ℕ) → Begins old new → drawn_for old bucket ≤ drawn_for new bucket
-drawn_begin old new bucket (more, e) = subst (λ (l : List Mark). drawn_for old bucket ≤ drawn_for l bucket) (sym e) (drawn_more more old bucket)
-
-all_begin : (old new : List Mark) → Begins old new → all_drawn old ≤ all_drawn new
-all_begin old new (more, e) = subst (λ (l : List Mark). all_drawn old ≤ all_drawn l) (sym e) (all_more more old)
 
 module _ (shape : Shape) (p q : Pass) (request : Request) (same : seen q ≡ seen p) (widths : SameWidths p q) (full : WasFull shape (key_of request) (marked p) (marked q)) where
   -- the moment at which the bucket was full has the history that the pass has seen, and the chains that there are

@@ -4,7 +4,7 @@ use Rattle.std.proofs.lemmas.List.{length_push}
 use Rattle.segword.specs.declared.shape.Shape.{Shape}
 use Rattle.segmodel.specs.declared.answer.SegState.TheVariants.{Empty}
 use Rattle.segmodel.specs.History.{after}
-use Rattle.segmodel.specs.State.{IsKept, fresh}
+use Rattle.segmodel.specs.State.{fresh}
 use Rattle.segmodel.proofs.Kept.{IsKept-fresh, IsKept-same}
 use Rattle.segcore.specs.Event as event
 use Rattle.segcore.specs.Mark.{width, all_drawn}

@@ -1,10 +1,8 @@
 -- With one pass, a set, an add, a replace and a cas are served as the model says.
-use Rattle.std.proofs.Common.{◌≡◌, ◌≢◌, ℕ, ◌+◌, ◌&&◌, not, Bool, true, false, cond, List, [], ◌∷◌, ◌++◌, length, is_some, Option, Some, None, option_map, refl, sym, ap, subst, ◌∙◌, ⊎_elim, eqb, eq-eqb}
-use Rattle.std.specs.Prelude.{◌↔◌}
-use Rattle.std.proofs.lemmas.Bool.{false≢true, cases_Bool, cond-true, cond-false, ne_eqb, eqb-true, and_left}
+use Rattle.std.proofs.Common.{◌≡◌, ◌≢◌, ℕ, ◌+◌, ◌&&◌, not, Bool, true, false, cond, List, [], ◌∷◌, ◌++◌, length, is_some, Some, None, option_map, refl, sym, ap, subst, ◌∙◌, ⊎_elim, eqb, eq-eqb}
+use Rattle.std.proofs.lemmas.Bool.{cases_Bool, cond-true, cond-false, ne_eqb, eqb-true, and_left}
 use Rattle.std.proofs.lemmas.List.{length_push}
 use Rattle.std.proofs.lemmas.Option.{same_Some}
-use Rattle.segword.specs.declared.shape.Shape.{Shape}
 use Rattle.segmodel.specs.declared.entry.Entry.TheVariants.{Wrote}
 use Rattle.segmodel.specs.declared.request.Request.{Request}
 use Rattle.segmodel.specs.declared.request.Request.TheVariants.{Set, Add, Replace, Cas, Delete}
@@ -16,8 +14,8 @@ use Rattle.segmodel.specs.declared.answer.Answer.TheVariants as answer
 use Rattle.segmodel.specs.declared.answer.Command.TheVariants as command
 use Rattle.segmodel.specs.Places.{bucket_of}
 use Rattle.segmodel.specs.Request.{key_of, value_of, is_store, adds_key, reply_to}
-use Rattle.segmodel.specs.Cache.{put, standing, present, reply_in, with_at}
-use Rattle.segmodel.specs.History.{after, IsLegal}
+use Rattle.segmodel.specs.Cache.{put, present, reply_in, with_at}
+use Rattle.segmodel.specs.History.{after}
 use Rattle.segmodel.specs.State.{Filling, State, is_locked}
 use Rattle.segmodel.specs.Serving.{is_out_of_rows, may_chain, lacks_word, with_key, placed, chained, stored, after_reply, reply_of_write, ServesStore}
 use Rattle.segmodel.proofs.Stores.{serves_replied}
@@ -25,8 +23,8 @@ use Rattle.segmodel.proofs.Stores as stores
 use Rattle.segbase.specs.declared.law.Memo.{Memo}
 use Rattle.segbase.specs.declared.board.Board.{Board}
 use Rattle.segbase.specs.declared.pass.Pass.{Pass}
-use Rattle.segbase.specs.Passes.{number, trace, seen}
-use Rattle.segbase.specs.Plain.{state_of, used_of, locked_of}
+use Rattle.segbase.specs.Passes.{number, seen}
+use Rattle.segbase.specs.Plain.{state_of, used_of}
 use Rattle.segstore.specs.Segments.{has_room}
 use Rattle.segindex.specs.Calls.{ChangesNothing}
 use Rattle.segindex.specs.Answers.{IsReplied, UsesRow, Writes}
@@ -105,7 +103,7 @@ module _ (b : Board) (p q : Pass) (request : Request) (segment : ℕ) (was : IsA
 
 -- ---- any request to store
 
-module _ (b : Board) (p q : Pass) (request : Request) (store : is_store request ≡ true) (none : b.shape.overflow ≡ 0) (was : IsAlone b p) where
+module _ (b : Board) (p q : Pass) (request : Request) (store : is_store request ≡ true) (was : IsAlone b p) where
   -- why the model refuses
   refused_rows : is_out_of_rows b.shape (state_at b.shape p).filling (state_at b.shape p).current ≡ true → ServesStore b.shape (state_at b.shape p) request write.NoRoom (state_at b.shape p)
   refused_rows out = rw out (refl, refl)
@@ -129,10 +127,10 @@ module _ (b : Board) (p q : Pass) (request : Request) (store : is_store request 
     unlocked : told ≢ write.NoRoom → told ≢ write.Busy → is_locked b.shape (state_at b.shape p) (key_of request) ≡ false
     unlocked rows other = free_here b.shape p (key_of request) (λ locked. other (is.locked (rows_left rows) locked))
 
-    refused : ChangesNothing p q → ServesStore b.shape (state_at b.shape p) request told (state_at b.shape p) → ServesAlone b (command.Write request) (answer.Write told) p q
-    refused nothing serves = served_still b (command.Write request) (answer.Write told) p q was is.on.quiet nothing
+    refused : told ≢ write.Stored → ChangesNothing p q → ServesStore b.shape (state_at b.shape p) request told (state_at b.shape p) → ServesAlone b (command.Write request) (answer.Write told) p q
+    refused unstored nothing serves = served_still b (command.Write request) (answer.Write told) p q was is.on.quiet nothing
         (stores.serves_write b.shape (state_at b.shape p) (state_at b.shape q) request told store
-        (subst (ServesStore b.shape (state_at b.shape p) request told) (sym (left b p q was is.on.quiet nothing (same_widths b p q none was.quiet is.on.quiet))) serves))
+        (subst (ServesStore b.shape (state_at b.shape p) request told) (sym (left b p q was is.on.quiet nothing (same_widths b p q was is.on (is.draws_nothing unstored)))) serves))
 
     -- replied by an entry that stores nothing
     replied : (r : Reply) → told ≢ write.NoRoom → told ≢ write.Busy → r ≢ reply.Stored → reply_of_write told ≡ Some r → IsReplied request r p q
@@ -152,14 +150,15 @@ module _ (b : Board) (p q : Pass) (request : Request) (store : is_store request 
         was_replied = reply_then b p q request r None is.on.quiet (more_seen b p q (Wrote (number p) request r None ∷ []) was is.on.quiet answered.0)
 
         same_state : state_at b.shape q ≡ state_at b.shape p
-        same_state = as_replied b p q (Wrote (number p) request r None) was is.on.quiet answered.0 answered.1 answered.2 keeps (same_widths b p q none was.quiet is.on.quiet)
+        same_state = as_replied b p q (Wrote (number p) request r None) was is.on.quiet answered.0 answered.1 answered.2 keeps
+            (same_widths b p q was is.on (is.draws_nothing (λ e. unstored (same_Some r reply.Stored (sym is_reply ∙ ap reply_of_write e)))))
             ∙ ap (λ cache. record (state_at b.shape p) { cache = cache }) leaves
 
   write_serves : (told : WriteAnswer) → Writes b request told p q → ServesAlone b (command.Write request) (answer.Write told) p q
   write_serves write.Stored is =
       let segment = is.answer.0 in let uses = is.answer.2 in
       let more : seen q ≡ Wrote (number p) request reply.Stored (Some segment) ∷ seen p = more_seen b p q (Wrote (number p) request reply.Stored (Some segment) ∷ []) was is.on.quiet is.answer.1 in
-      let grows = grown b p q request segment none was.quiet is.on.quiet more in
+      let grows = grown b p q request segment was is.on more is.grows in
       served b (command.Write request) (answer.Write write.Stored) p q was is.on.quiet (counts b p q request segment was more uses)
       (stores.serves_write b.shape (state_at b.shape p) (state_at b.shape q) request write.Stored store
       (serves_replied b.shape (state_at b.shape p) request write.Stored (state_at b.shape q) (has_rows write.Stored is (λ e. cc)) (unlocked write.Stored is (λ e. cc) (λ e. cc)) grows.fits
@@ -167,15 +166,15 @@ module _ (b : Board) (p q : Pass) (request : Request) (store : is_store request 
   write_serves write.NotStored is = replied write.NotStored is reply.NotStored (λ e. cc) (λ e. cc) (λ e. cc) refl is.answer (λ s. refl) refl refl
   write_serves write.Exists is = replied write.Exists is reply.Exists (λ e. cc) (λ e. cc) (λ e. cc) refl is.answer (λ s. refl) refl refl
   write_serves write.NotFound is = replied write.NotFound is reply.NotFound (λ e. cc) (λ e. cc) (λ e. cc) refl is.answer (λ s. refl) refl refl
-  write_serves write.NoRoom is = refused write.NoRoom is is.answer (refused_rows (out_of_rows b p was ∙ ap not (is.no_room.0 refl)))
+  write_serves write.NoRoom is = refused write.NoRoom is (λ e. cc) is.answer (refused_rows (out_of_rows b p was ∙ ap not (is.no_room.0 refl)))
   write_serves write.BucketFull is =
-      refused write.BucketFull is is.answer.0 (refused_word (has_rows write.BucketFull is (λ e. cc)) (unlocked write.BucketFull is (λ e. cc) (λ e. cc))
-      (none_left b.shape p q request (same_seen b p q was is.on.quiet is.answer.0.entries) (same_widths b p q none was.quiet is.on.quiet) is.answer.2 is.answer.1))
+      refused write.BucketFull is (λ e. cc) is.answer.0 (refused_word (has_rows write.BucketFull is (λ e. cc)) (unlocked write.BucketFull is (λ e. cc) (λ e. cc))
+      (none_left b.shape p q request (same_seen b p q was is.on.quiet is.answer.0.entries) (same_widths b p q was is.on (is.draws_nothing (λ e. cc))) is.answer.2 is.answer.1))
   write_serves write.Busy is =
-      refused write.Busy is is.answer.0 (refused_lock (has_rows write.Busy is (λ e. cc)) (locked_here b.shape p (key_of request) (busy_by_lock b p q (bucket_of b.shape (key_of request)) was.quiet is.on.quiet was.one is.answer.1)))
+      refused write.Busy is (λ e. cc) is.answer.0 (refused_lock (has_rows write.Busy is (λ e. cc)) (locked_here b.shape p (key_of request) (busy_by_lock b p q (bucket_of b.shape (key_of request)) was.quiet is.on.quiet was.one is.answer.1)))
 
 -- ---- served
 
-pub serves_write : (b : Board) (p q : Pass) (request : Request) (told : WriteAnswer) → is_store request ≡ true → b.shape.overflow ≡ 0 → IsAlone b p
+pub serves_write : (b : Board) (p q : Pass) (request : Request) (told : WriteAnswer) → is_store request ≡ true → IsAlone b p
     → Writes b request told p q → ServesAlone b (command.Write request) (answer.Write told) p q
-serves_write b p q request told store none was is = write_serves b p q request store none was told is
+serves_write b p q request told store was is = write_serves b p q request store was told is

@@ -6,6 +6,7 @@ use Rattle.segcore.specs.Event.{seen}
 use Rattle.segcore.specs.Count.{taken, bounced}
 use Rattle.segstore.proofs.Keeping.{AreCalm}
 use Rattle.segindex.specs.Taking.{bounces}
+use Rattle.segindex.proofs.Draws.{AreUndrawn}
 use Rattle.segindex.proofs.Still.{AreStill}
 use Rattle.segindex.proofs.Taking.{bounces_all}
 
@@ -14,6 +15,9 @@ bounces_still p b n = bounces_all AreStill p b n tt (λ own still. (tt, still))
 
 pub bounces_calm : (p b n : ℕ) → AreCalm (bounces p b n)
 bounces_calm p b n = bounces_all AreCalm p b n tt (λ own calm. (tt, calm))
+
+pub bounces_undrawn : (p b n : ℕ) → AreUndrawn (bounces p b n)
+bounces_undrawn p b n = bounces_all AreUndrawn p b n tt (λ own none. (tt, none))
 
 pub bounces_seen : (p b n : ℕ) (h : List Event) → seen (bounces p b n ++ h) ≡ seen h
 bounces_seen p b n h = bounces_all (λ own. seen (own ++ h) ≡ seen h) p b n refl (λ own same. same)

@@ -1,5 +1,5 @@
 -- Draws of the next overflow bucket, each from the number to which the one before it found that others had drawn.
-use Rattle.std.proofs.Common.{◌≡◌, ℕ, ◌+◌, ◌<◌, ◌≤◌, [], ◌∷◌, Some, None, refl, sym, ap, ◌∙◌, subst, arith}
+use Rattle.std.proofs.Common.{◌≡◌, ℕ, ◌+◌, ◌<◌, ◌≤◌, [], ◌∷◌, Some, None, refl, ap, ◌∙◌, subst, arith}
 use Rattle.segcore.specs.declared.event.Event.TheVariants.{Drew}
 use Rattle.segcore.specs.Bucket.{Bucket}
 use Rattle.segcore.specs.Kind.{draw, May}

@@ -22,7 +22,6 @@ use Rattle.segbase.specs.declared.board.Board.{Board}
 use Rattle.segbase.specs.declared.pass.Pass.{Pass}
 use Rattle.segbase.specs.declared.closing.Words.{Words}
 use Rattle.segbase.specs.Passes.{number, trace}
-use Rattle.segbase.specs.Passes as passes
 use Rattle.segbase.specs.Closing.{shape_of, IsAtRest, Closes}
 use Rattle.segindex.specs.Closing.{Pairs, pair_of, pairs_of, listed, IsListed, IsContent, IsContentSeen}
 use Rattle.segindex.proofs.Pairs.{AreDistinct, IsOrdered, ordered, listed_sorted, listed_unsorted, one_list}

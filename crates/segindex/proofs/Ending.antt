@@ -1,5 +1,5 @@
 -- A write or delete whose bit is given back after one event that added an entry: its answer is that entry, and the pass is quiet again.
-use Rattle.std.proofs.Common.{◌≡◌, ◌≢◌, ℕ, Bool, eqb, List, [], ◌∷◌, ◌++◌, Option, Some, refl, sym, ap, ◌∙◌, subst}
+use Rattle.std.proofs.Common.{◌≡◌, ◌≢◌, ℕ, Bool, eqb, List, [], ◌∷◌, Some, ap, ◌∙◌, subst}
 use Rattle.std.proofs.lemmas.Bool.{cond-true, eq-eqb, ne_eqb}
 use Rattle.segword.specs.declared.shape.Shape.{Shape}
 use Rattle.segmodel.specs.declared.entry.Entry.{Entry}
@@ -18,12 +18,13 @@ use Rattle.segbase.proofs.Moves.{moved_then}
 use Rattle.segstore.specs.Refilling.{Idles}
 use Rattle.segstore.proofs.Keeping.{IsCalm, keeps_plain}
 use Rattle.segindex.specs.Quiet.{IsQuiet}
-use Rattle.segindex.specs.Calls.{memo, GoesOn, AddsEntry}
+use Rattle.segindex.specs.Calls.{memo, GoesOn, DrawsNothing, AddsEntry}
 use Rattle.segindex.specs.Storing.{TookToWrite}
 use Rattle.segindex.specs.Refusing.{GivesBack}
+use Rattle.segindex.proofs.Draws.{IsUndrawn}
 use Rattle.segindex.proofs.Sets.{found_plain, found_keeps}
 use Rattle.segindex.proofs.Still.{IsStill}
-use Rattle.segindex.proofs.UnderWrite.{took_moved, ends_on, ends_adding}
+use Rattle.segindex.proofs.UnderWrite.{took_moved, ends_on, ends_adding, ends_undrawn}
 
 -- an event in the bucket, by its pass, adds an entry and stores nothing
 pub record IsEntry (shape : Shape) (bucket : ℕ) (act : ℕ → Event) (entry : ℕ → Entry) : Type 0 where
@@ -32,6 +33,7 @@ pub record IsEntry (shape : Shape) (bucket : ℕ) (act : ℕ → Event) (entry :
   pub of : (pass : ℕ) → pass_of (entry pass) ≡ pass
   pub still : (pass : ℕ) → IsStill (act pass)
   pub calm : (pass : ℕ) → IsCalm (act pass)
+  pub undrawn : (pass : ℕ) → IsUndrawn (act pass)
 
 module _ (b : Board) (bucket : ℕ) (counted : Bool) (act : ℕ → Event) (entry : ℕ → Entry) (is_entry : IsEntry b.shape bucket act entry) (p q f s : Pass) (quiet : IsQuiet b p) (took : TookToWrite b bucket p q) (idles : Idles b q f)
     (gives : GivesBack b bucket counted (act (number f) ∷ []) f s) where
@@ -62,3 +64,6 @@ module _ (b : Board) (bucket : ℕ) (counted : Bool) (act : ℕ → Event) (entr
   pub entered : AddsEntry (entry n) p s
   entered = ends_adding b bucket p q quiet took s (act n ∷ []) (entry n ∷ []) counted moved elsewhere (is_entry.still n, tt) adds gives.free
       ∙ cond-true (eqb (pass_of (entry n)) n) (entry n ∷ mine p) (mine p) (eq-eqb (pass_of (entry n)) n (is_entry.of n))
+
+  pub entered_undrawn : DrawsNothing p s
+  entered_undrawn = ends_undrawn b bucket p q quiet took s (act n ∷ []) (entry n ∷ []) counted moved elsewhere (is_entry.still n, tt) adds gives.free (is_entry.undrawn n, tt)

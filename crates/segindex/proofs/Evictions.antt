@@ -35,10 +35,11 @@ use Rattle.segstore.specs.Segments.{KeepsSegments}
 use Rattle.segstore.proofs.Keeping.{seat_trace, same_memo, same_plain}
 use Rattle.segindex.specs.declared.evict.RowAnswer.TheVariants as row_answer
 use Rattle.segindex.specs.Quiet.{IsQuiet}
-use Rattle.segindex.specs.Calls.{memo, GoesOn}
+use Rattle.segindex.specs.Calls.{memo, GoesOn, DrawsNothing}
 use Rattle.segindex.specs.Evicting.{AreEvictions, TakesOut, IsBarred, IsEvictAnswer}
 use Rattle.segindex.specs.Unlinking.{KeepsGone, EvictsRow}
 use Rattle.segindex.proofs.Bits.{bit_before}
+use Rattle.segindex.proofs.Draws.{moved_undrawn, draws_none_then}
 use Rattle.segindex.proofs.Idling.{goes_same}
 use Rattle.segindex.proofs.Quiet.{quiet_again, goes_on}
 use Rattle.segindex.proofs.RowsOut.{goes_then, keeps_gone_then}
@@ -52,6 +53,9 @@ module _ (b : Board) (p q : Pass) (quiet : IsQuiet b p) (seat : q.seat ≡ p.sea
 
   pub same_mine : mine q ≡ mine p
   same_mine = moved_mine b [] p q unmoved
+
+  pub same_drew : DrawsNothing p q
+  same_drew = moved_undrawn b [] p q unmoved tt
 
   pub plain_goes_on : locked_of q ≡ locked_of p → is_holding_of q ≡ is_holding_of p → KeepsSegments b q → GoesOn b p q
   plain_goes_on locks holds segments =
@@ -91,6 +95,7 @@ pub record Evicting (b : Board) (segment row taken : ℕ) (p q : Pass) : Type 0 
   pub keeps : KeepsGone b segment p q
   pub plain : q.plain ≡ p.plain
   pub memo : memo q ≡ memo p
+  pub draws_nothing : DrawsNothing p q
   pub evictions : List Entry
   pub counted : length evictions ≡ taken
   pub all : AreEvictions (number p) segment evictions
@@ -104,6 +109,7 @@ evicting_first b segment p quiet = record {
   keeps = record { grew = ([], refl); lasts = λ row gone. gone };
   plain = refl;
   memo = refl;
+  draws_nothing = λ bucket. refl;
   evictions = [];
   counted = refl;
   all = tt;
@@ -127,6 +133,7 @@ module _ (b : Board) (segment row taken : ℕ) (p q r : Pass) (e : Evicting b se
         keeps = keeps_gone_then b segment p q r e.keeps one.answer.0;
         plain = one.plain ∙ e.plain;
         memo = one.memo ∙ e.memo;
+        draws_nothing = draws_none_then p q r e.draws_nothing one.draws_nothing;
         evictions = entry.Evicted (number p) key segment ∷ e.evictions;
         counted = omega arith;
         all = ((key, refl), e.all);
@@ -142,6 +149,7 @@ module _ (b : Board) (segment row taken : ℕ) (p q r : Pass) (e : Evicting b se
     keeps = keeps_gone_then b segment p q r e.keeps one.answer.0;
     plain = one.plain ∙ e.plain;
     memo = one.memo ∙ e.memo;
+    draws_nothing = draws_none_then p q r e.draws_nothing one.draws_nothing;
     evictions = e.evictions;
     counted = e.counted;
     all = e.all;
@@ -202,6 +210,9 @@ module _ (b : Board) (segment row taken : ℕ) (p q : Pass) (in_use : state_of p
   module _ (r : Pass) (busy : EvictsRow b segment row row_answer.Busy q r) where
     pub barred_on : GoesOn b p r
     barred_on = goes_then b p q r e.on busy.on
+
+    pub barred_undrawn : DrawsNothing p r
+    barred_undrawn = draws_none_then p q r e.draws_nothing busy.draws_nothing
 
     barred_by : IsBarred b.shape segment p r
     barred_by =
@@ -268,6 +279,9 @@ module _ (b : Board) (segment row taken : ℕ) (p q : Pass) (in_use : state_of p
 
       pub emptied_on : GoesOn b p r
       emptied_on = goes_then b p q r e.on (plain_goes_on b q r e.on.quiet seat but.owner but.locked but.holding keeps_now)
+
+      pub emptied_undrawn : DrawsNothing p r
+      emptied_undrawn = draws_none_then p q r e.draws_nothing (same_drew b q r e.on.quiet seat but.owner)
 
       pub emptied_answer : IsEvictAnswer b.shape segment (evict.Evicted taken) p r
       emptied_answer = inl (

@@ -8,6 +8,7 @@ use Rattle.segcore.specs.Event.{seen}
 use Rattle.segcore.specs.Lawful.{NoneAt}
 use Rattle.segstore.specs.Rows.{fills}
 use Rattle.segstore.proofs.Keeping.{AreCalm}
+use Rattle.segindex.proofs.Draws.{AreUndrawn}
 use Rattle.segindex.proofs.Still.{AreStill}
 
 -- what goes on over one word more holds of so many
@@ -24,6 +25,9 @@ fills_calm p s r words n = fills_all AreCalm p s r words n tt (λ own place w ca
 
 pub fills_still : (p s r : ℕ) (words : List ℕ) (n : ℕ) → AreStill (fills p s r words n)
 fills_still p s r words n = fills_all AreStill p s r words n tt (λ own place w still. (tt, still))
+
+pub fills_undrawn : (p s r : ℕ) (words : List ℕ) (n : ℕ) → AreUndrawn (fills p s r words n)
+fills_undrawn p s r words n = fills_all AreUndrawn p s r words n tt (λ own place w none. (tt, none))
 
 pub fills_seen : (p s r : ℕ) (words : List ℕ) (n : ℕ) (h : List Event) → seen (fills p s r words n ++ h) ≡ seen h
 fills_seen p s r words n h = fills_all (λ own. seen (own ++ h) ≡ seen h) p s r words n refl (λ own place w same. same)

@@ -1,5 +1,5 @@
 -- A chain that grew: an overflow bucket was drawn where no word was left, joined the chain, and has an empty word for a new key.
-use Rattle.std.proofs.Common.{◌≡◌, ℕ, ◌+◌, ◌*◌, ◌%◌, ◌<◌, eqb, List, [], ◌∷◌, ◌++◌, Some, None, refl, sym, ap, ◌∙◌, subst, inl, append_assoc, arith}
+use Rattle.std.proofs.Common.{◌≡◌, ℕ, ◌+◌, ◌*◌, ◌<◌, List, [], ◌∷◌, ◌++◌, Some, None, refl, sym, ap, ◌∙◌, subst, inl, append_assoc, arith}
 use Rattle.std.proofs.lemmas.Bool.{eq-eqb}
 use Rattle.segword.specs.declared.shape.Shape.{Shape}
 use Rattle.segmodel.specs.Places.{bucket_of}
@@ -27,7 +27,7 @@ use Rattle.segbase.specs.Steps.{depth_to_draw}
 use Rattle.segindex.specs.Calls.{memo}
 use Rattle.segindex.specs.Answers.{HasNoWord, CanGrow, CouldGrow}
 use Rattle.segindex.specs.Taking.{HasCleanBit}
-use Rattle.segindex.specs.Writing.{IsInChain, IsAbsent, IsTarget}
+use Rattle.segindex.specs.Writing.{IsInChain, IsAbsent}
 use Rattle.segindex.specs.Growing.{bucket_in, IsLast, home_at, HasSpare, Prepares, joins, Joins, Lengthens}
 use Rattle.segindex.proofs.Acting.{as_seen, keys_as_seen, acted, prepares, prepares_then}
 use Rattle.segindex.proofs.Joining.{last_later, home_is}
@@ -127,6 +127,7 @@ module _ (b : Board) (bucket overflow : ℕ) (place : Place) (word : ℕ) (p r :
           words = joined.0;
           prepares = subst (λ n. Prepares b (joins n bucket overflow joined.0 ++ draws ∷ []) bucket p q) drew.moved.same both;
           clean = joined.2.clean;
+          second = refl;
           free = λ key of absent. record {
             chain = subst (λ k. IsInChain b k room q) (sym of) (record { in_table = (omega (arith, overflow_in), omega arith, omega arith); at = subst (λ n. IsItemAt z (trace q) bucket n (cell_at z room)) (sym room_position) room_at });
             is = inl (refl, subst (λ k. (bucket_after z (trace q) k).items (position z (trace q) room) ≡ nothing) (sym of) (ap longer.items room_position ∙ joined.2.empty), (both.keys key of).stands ∙ absent);

@@ -41,10 +41,11 @@ use Rattle.segstore.specs.Reading.{IsReadable, IsReaderIn}
 use Rattle.segstore.proofs.Keeping.{same_plain, keeps}
 use Rattle.segstore.proofs.Seconds.{segment_of_item, row_of_item}
 use Rattle.segindex.specs.declared.hold.Hold.{Hold}
-use Rattle.segindex.specs.Calls.{memo, GoesOn}
+use Rattle.segindex.specs.Calls.{memo, GoesOn, DrawsNothing}
 use Rattle.segindex.specs.Quiet.{IsLock, IsHold, is_held_in, IsQuiet}
 use Rattle.segindex.specs.Holds.{IsRowOf, IsHoldOf, KeepsButHold, TakesHold, NoneFills, IsUnfilled, Releases, SetsHold}
 use Rattle.segindex.proofs.Bits.{none_at_both, bit_before}
+use Rattle.segindex.proofs.Draws.{moved_undrawn, reads_undrawn}
 use Rattle.segindex.proofs.Gets.{reads_set_none}
 use Rattle.segindex.proofs.Holding.{held_at, held_from, held_past, held_stood, has_held, is_hold, held_row, row_of_hold}
 use Rattle.segindex.proofs.Locking.{segments_then}
@@ -144,6 +145,9 @@ module _ (b : Board) (own : List Event) (held : Option Held) (p r q : Pass) (qui
 
   pub takes_no_bit : taken q ≡ taken p
   takes_no_bit = moved_taken b own p q moved_to ∙ reads_set_none (number p) own (trace p) only
+
+  pub draws_nothing : DrawsNothing p q
+  draws_nothing = moved_undrawn b own p q moved_to (reads_undrawn own only)
 
 -- ---- a hold
 

@@ -1,12 +1,11 @@
 -- An overflow bucket joins a chain: the item of the chain's last word is copied to it, and that word then leads on to it, at the first try or after the item's frequency rose.
-use Rattle.std.proofs.Common.{◌≡◌, ℕ, ◌+◌, ◌*◌, ◌<◌, ◌≤◌, true, eqb, List, [], ◌∷◌, ◌++◌, Some, None, Result, Ok, Err, refl, sym, ap, ◌∙◌, subst, arith}
+use Rattle.std.proofs.Common.{◌≡◌, ℕ, ◌+◌, ◌*◌, ◌<◌, ◌≤◌, true, eqb, List, [], ◌∷◌, ◌++◌, Some, Result, Ok, Err, refl, sym, ap, ◌∙◌, subst, arith}
 use Rattle.std.proofs.lemmas.Bool.{cond-true, cond-false, eq-eqb, ne_eqb}
 use Rattle.std.specs.Prelude.{OnOk, IfErr}
 use Rattle.segword.specs.SameItem.{IsSameItem}
-use Rattle.segmodel.specs.Places.{tag_of}
 use Rattle.segcore.specs.declared.event.Event.{Event}
 use Rattle.segcore.specs.declared.event.Event.TheVariants.{Put, Chained}
-use Rattle.segcore.specs.Bucket.{Content, nothing, item, next, copy, Bucket, last, fresh, bucket_at, is, acts, bucket_after}
+use Rattle.segcore.specs.Bucket.{Content, nothing, item, next, copy, Bucket, last, fresh, bucket_at, is, acts}
 use Rattle.segcore.specs.Kind.{fill, chain, May, HasBit}
 use Rattle.segcore.specs.Lawful.{IsLawful}
 use Rattle.segcore.specs.Overflow.{home, home_of}

@@ -45,6 +45,7 @@ pub mod VersionScans
 pub mod Holding
 pub mod HoldCalls
 pub mod AlonePass
+pub mod Grown
 pub mod AloneWidths
 pub mod AloneStarts
 pub mod AloneReads

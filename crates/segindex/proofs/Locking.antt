@@ -28,11 +28,12 @@ use Rattle.segbase.proofs.Moves.{moved_mine, moved_taken}
 use Rattle.segstore.specs.Segments.{KeepsSegments}
 use Rattle.segstore.proofs.Keeping.{AreCalm, same_plain, keeps}
 use Rattle.segindex.specs.Quiet.{IsLock, IsQuiet}
-use Rattle.segindex.specs.Calls.{memo, GoesOn, TakesNoBit}
+use Rattle.segindex.specs.Calls.{memo, GoesOn, TakesNoBit, DrawsNothing}
 use Rattle.segindex.specs.Answers.{NoneSince, Locks, Unlocks}
 use Rattle.segindex.specs.Taking.{bounces, TakesBucket, lock_now, SetsLock}
 use Rattle.segindex.proofs.Bits.{bit_before, no_new_bit}
-use Rattle.segindex.proofs.Bounces.{bounces_still, bounces_calm, bounces_seen, bounces_taken}
+use Rattle.segindex.proofs.Bounces.{bounces_still, bounces_calm, bounces_undrawn, bounces_seen, bounces_taken}
+use Rattle.segindex.proofs.Draws.{moved_undrawn}
 use Rattle.segindex.proofs.Idling.{took_none}
 use Rattle.segindex.proofs.Meanwhile.{none_entries}
 use Rattle.segindex.proofs.Quiet.{has_locked, lock_of, SettlesIn, holds_again, inside_again, hold_again, goes_on}
@@ -137,6 +138,9 @@ module _ (b : Board) (p r q : Pass) (bucket : ℕ) (quiet : IsQuiet b p) (free :
   took_once = let n = number p in let before = bounces n bucket took.0 ++ trace p in
       moved_taken b took_own p q locked_move ∙ (cond-true (eqb n n) (taken n before + 1) (taken n before) (eq-eqb n n refl) ∙ ap (λ m. m + 1) (bounces_taken n bucket took.0 n (trace p)))
 
+  pub locks_undrawn : DrawsNothing p q
+  locks_undrawn = moved_undrawn b took_own p q locked_move (tt, bounces_undrawn (number p) bucket took.0)
+
   pub locks_bucket : GoesOn b p q × Locks bucket p q
   locks_bucket = (
     goes_on b took_own p q locked_move quiet_locked,
@@ -197,6 +201,9 @@ module _ (b : Board) (p r q : Pass) (bucket : ℕ) (quiet : IsQuiet b p) (had : 
 
   pub takes_none : TakesNoBit p q
   takes_none = took_none b freed_own p q unlocked_move refl (λ c. refl)
+
+  pub unlocks_undrawn : DrawsNothing p q
+  unlocks_undrawn = moved_undrawn b freed_own p q unlocked_move (tt, tt)
 
   pub unlocks_bucket : GoesOn b p q × Unlocks b.shape p q
   unlocks_bucket = (

@@ -1,5 +1,5 @@
 -- The answers of a write or delete that the cache refuses, and which refusal that is.
-use Rattle.std.proofs.Common.{◌≡◌, ◌≢◌, ℕ, ◌+◌, ◌/◌, ◌%◌, ◌^◌, ◌<◌, Bool, true, false, not, cond, eqb, is_some, List, [], ◌∷◌, ◌++◌, Option, Some, None, refl, sym, ap, ◌∙◌, subst, ⊎_elim, arith}
+use Rattle.std.proofs.Common.{◌≡◌, ◌≢◌, ℕ, ◌+◌, ◌/◌, ◌%◌, ◌^◌, ◌<◌, Bool, true, false, not, cond, eqb, is_some, List, [], Option, Some, None, refl, sym, ap, ◌∙◌, subst, ⊎_elim, arith}
 use Rattle.std.specs.Bool.{then_some}
 use Rattle.std.proofs.lemmas.Bool.{cases_Bool, cond-true, cond-false, eq-eqb, ne_eqb, false≢true}
 use Rattle.std.proofs.lemmas.Option.{same_Some, none-some}
@@ -34,13 +34,13 @@ use Rattle.segindex.specs.declared.find.Target.{Target}
 use Rattle.segindex.specs.declared.write.When.{When}
 use Rattle.segindex.specs.declared.write.When.TheVariants as when
 use Rattle.segindex.specs.Quiet.{IsQuiet}
-use Rattle.segindex.specs.Calls.{GoesOn}
+use Rattle.segindex.specs.Calls.{GoesOn, DrawsNothing}
 use Rattle.segindex.specs.Answers.{IsReplied, IsWriteAnswer}
 use Rattle.segindex.specs.Taking.{HasCleanBit}
 use Rattle.segindex.specs.Writing.{IsTarget, IsAbsent, own_word, Finds}
 use Rattle.segindex.specs.Storing.{TookToWrite}
 use Rattle.segindex.specs.Refusing.{request_of, IsToldBy, reply_now, Refuses}
-use Rattle.segindex.proofs.Ending.{IsEntry, plain_back, memo_back, entered_on, entered}
+use Rattle.segindex.proofs.Ending.{IsEntry, plain_back, memo_back, entered_on, entered, entered_undrawn}
 use Rattle.segindex.proofs.UnderBit.{moved_at}
 
 -- ---- which request it is, and which reply
@@ -128,7 +128,7 @@ told_by_look b request expected version bucket p q few is clean home there asked
 -- ---- the answer
 
 refusal_entry : (z : Shape) (request : Request) (said : Reply) → IsEntry z (bucket_of z (key_of request)) (λ pass. Replied pass request said) (λ pass. Wrote pass request said None)
-refusal_entry z request said = record { at = λ pass. refl; adds = λ pass. refl; of = λ pass. refl; still = λ pass. tt; calm = λ pass. tt }
+refusal_entry z request said = record { at = λ pass. refl; adds = λ pass. refl; of = λ pass. refl; still = λ pass. tt; calm = λ pass. tt; undrawn = λ pass. tt }
 
 module _ (b : Board) (request : Request) (said : Reply) (p q f s : Pass) (quiet : IsQuiet b p) (took : TookToWrite b (bucket_of b.shape (key_of request)) p q) (idles : Idles b q f) (refuses : Refuses b request said f s) where
   abbrev home : ℕ
@@ -143,6 +143,9 @@ module _ (b : Board) (request : Request) (said : Reply) (p q f s : Pass) (quiet 
     plain_back b home false (λ pass. Replied pass request said) (λ pass. Wrote pass request said None) (refusal_entry b.shape request said) p q f s quiet took idles refuses,
     memo_back b home false (λ pass. Replied pass request said) (λ pass. Wrote pass request said None) (refusal_entry b.shape request said) p q f s quiet took idles refuses,
   )
+
+  pub refused_undrawn : DrawsNothing p s
+  refused_undrawn = entered_undrawn b home false (λ pass. Replied pass request said) (λ pass. Wrote pass request said None) (refusal_entry b.shape request said) p q f s quiet took idles refuses
 
   -- as the answer to a request to store
   pub refused_answer : (told : WriteAnswer) → reply_of_write told ≡ Some said → IsRefusal said → IsWriteAnswer b.shape request told p s

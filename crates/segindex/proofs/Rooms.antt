@@ -1,34 +1,36 @@
 -- Room for a key under its bucket's bit: what is ready for the key's item, by the word that was found or by one of a chain that grew.
-use Rattle.std.proofs.Common.{◌≡◌, ◌≢◌, ℕ, ◌+◌, ◌*◌, List, [], ◌∷◌, ◌++◌, Option, Some, None, map, refl, sym, ap, ◌∙◌, subst, append-nil}
+use Rattle.std.proofs.Common.{◌≡◌, ◌≢◌, ◌⊎◌, ℕ, ◌+◌, List, [], ◌∷◌, ◌++◌, Option, Some, None, refl, sym, ap, ◌∙◌, subst, inl, inr, append-nil}
 use Rattle.std.proofs.lemmas.Bool.{ne_eqb}
 use Rattle.std.proofs.lemmas.Option.{none-some, same_Some}
 use Rattle.segword.specs.declared.shape.Shape.{Shape}
 use Rattle.segmodel.specs.Places.{bucket_of}
 use Rattle.segmodel.specs.History.{after, IsSameAt}
 use Rattle.segcore.specs.declared.event.Event.{Event}
-use Rattle.segcore.specs.declared.event.Event.TheVariants.{Drew, Put, Chained}
+use Rattle.segcore.specs.declared.event.Event.TheVariants.{Drew, Put}
 use Rattle.segcore.specs.Event as event
-use Rattle.segcore.specs.Bucket.{item, Bucket, last, bucket_after}
+use Rattle.segcore.specs.Count.{drew}
+use Rattle.segcore.specs.Mark.{Mark}
+use Rattle.segcore.specs.Bucket.{Bucket, last}
 use Rattle.segcore.specs.Filled.{HasNoEmptyWord}
 use Rattle.segcore.specs.Kind.{HasBit}
 use Rattle.segcore.specs.Lawful.{NoneAt}
+use Rattle.segcore.proofs.Moments.{begins_on, marked_begins}
 use Rattle.segbase.specs.declared.board.Board.{Board}
 use Rattle.segbase.specs.declared.pass.Pass.{Pass}
 use Rattle.segbase.specs.declared.place.Place.{Place}
-use Rattle.segbase.specs.Passes.{number, trace, seen, IsPassOf, Moved}
-use Rattle.segbase.specs.Spots.{position}
-use Rattle.segbase.proofs.Moves.{moved_then}
+use Rattle.segbase.specs.Passes.{number, trace, marked, seen, IsPassOf, Moved}
+use Rattle.segbase.proofs.Moves.{moved_on, moved_then}
 use Rattle.segstore.specs.Refilling.{Idles}
 use Rattle.segstore.proofs.Keeping.{AreCalm}
-use Rattle.segindex.specs.declared.find.ChainEnd.{ChainEnd}
 use Rattle.segindex.specs.declared.find.Found.{Found}
 use Rattle.segindex.specs.declared.find.Found.TheVariants.{Word, Full}
 use Rattle.segindex.specs.declared.find.Target.{Target}
 use Rattle.segindex.specs.Calls.{memo}
+use Rattle.segindex.specs.Answers.{CouldGrow}
 use Rattle.segindex.specs.Taking.{HasCleanBit}
 use Rattle.segindex.specs.Writing.{IsTarget, HasNoWord, Finds}
-use Rattle.segindex.specs.Growing.{bucket_in, IsLast, IsChainEnd, Searches, target_of, puts, lengthens, CannotGrow, Lengthens, IsAsFound, MakesRoom}
-use Rattle.segindex.proofs.Bits.{none_at_both}
+use Rattle.segindex.specs.Growing.{bucket_in, IsLast, Searches, target_of, puts, lengthens, CannotGrow, Lengthens, IsAsFound, MakesRoom}
+use Rattle.segindex.proofs.Draws.{longer_own, longer_other}
 use Rattle.segindex.proofs.Places.{idle_bucket, same_position, chain_later}
 use Rattle.segindex.proofs.Rising.{earlier_yet, word_rose}
 use Rattle.segindex.proofs.Still.{AreStill}
@@ -105,11 +107,18 @@ ready_longer b bucket target p q r i l =
 
 -- ---- where room was made, and where not
 
+-- Among these events of its own the pass drew one overflow bucket for the key's bucket, at a moment at which its chain could grow, or none; and for others none.
+pub record DrawsOnce (z : Shape) (key : List ℕ) (pass : ℕ) (own : List Event) (before now : List Mark) : Type 0 where
+  pub others : (bucket : ℕ) (h : List Event) → bucket ≢ bucket_of z key → drew pass bucket (own ++ h) ≡ drew pass bucket h
+  pub at_most : ((h : List Event) → drew pass (bucket_of z key) (own ++ h) ≡ drew pass (bucket_of z key) h)
+      ⊎ (((h : List Event) → drew pass (bucket_of z key) (own ++ h) ≡ drew pass (bucket_of z key) h + 1) × CouldGrow z key before now)
+
 pub record HasRoom (b : Board) (key : List ℕ) (target : Target) (p q r : Pass) : Type 0 where
   pub own : List Event
   pub ready : IsReady b (bucket_of b.shape key) own p r
   pub same : IsSameAt b.shape (after b.shape (seen q)) (after b.shape (seen r)) key
   pub target_is : IsTarget b key target r
+  pub draws : DrawsOnce b.shape key (number q) own (marked p) (marked r)
 
 module _ (b : Board) (key : List ℕ) (p q r : Pass) (i : Idles b p q) (is : IsPassOf b q) (clean : HasCleanBit b q (bucket_of b.shape key)) where
   abbrev k : ℕ
@@ -122,6 +131,7 @@ module _ (b : Board) (key : List ℕ) (p q r : Pass) (i : Idles b p q) (is : IsP
         ready = ready_idle b k p r idle (clean_later b [] q r key makes.1.moved is clean.bit tt clean);
         same = moved_at b [] q r key makes.1.moved clean.bit tt;
         target_is = target_later b [] q r key makes.1.moved is clean.bit tt target (subst (λ t. IsTarget b key t q) (same_Some word target (sym makes.0 ∙ given)) found);
+        draws = record { others = λ bucket h apart. refl; at_most = inl (λ h. refl) };
       }
   has_room (Full end) room target given found makes = longer (subst (λ o. MakesRoom b k (Full end) o q r) given makes)
     where
@@ -131,6 +141,13 @@ module _ (b : Board) (key : List ℕ) (p q r : Pass) (i : Idles b p q) (is : IsP
         ready = ready_longer b k target p q r i l;
         same = l.prepares.keys key refl;
         target_is = l.free key refl found.0.absent;
+        draws = let could = l.could key refl found.0.absent in record {
+          others = λ bucket h apart. longer_other (number q) k l.depth l.overflow bucket l.words h apart;
+          at_most = inr (
+            λ h. longer_own (number q) k l.depth l.overflow l.words h,
+            (could.0, (begins_on (marked p) (marked q) could.0 (marked_begins (trace p) (trace q) (moved_on b [] p q i.moved)) could.1.0, could.1.1), could.2),
+          );
+        };
       }
 
   pub no_room : (found : Found) (room : Option Target) → room ≡ None → Searches b key found q → MakesRoom b k found room q r → Idles b q r × CannotGrow b k r × HasNoWord b key r

@@ -1,5 +1,6 @@
 -- A search along a chain under the bucket's bit: what it knows of the words that it has passed.
-use Rattle.std.proofs.Common.{◌≡◌, ◌≢◌, ◌⊎◌, ℕ, ◌+◌, ◌-◌, ◌/◌, ◌<◌, true, ltb, is_some, List, [], Option, Some, None, refl, sym, ap, ◌∙◌, subst, inl, inr, ⊎_elim, arith}
+use Rattle.std.proofs.Common.{◌≡◌, ◌≢◌, ◌⊎◌, ℕ, ◌+◌, ◌-◌, ◌/◌, ◌<◌, ◌≤◌, Bool, true, false, ltb, is_some, List, [], Option, Some, None, refl, sym, ap, ◌∙◌, subst, inl, inr, ⊎_elim, arith}
+use mir.Val.{bool_byte}
 use Rattle.std.proofs.lemmas.Bool.{cases_eq, cond-true, lt-ltb, false≢true}
 use Rattle.segword.specs.declared.shape.Shape.{Shape}
 use Rattle.segmodel.specs.Places.{bucket_of}
@@ -73,6 +74,14 @@ searching_first b key p bucket of is lt =
 -- it is in the first bucket of its chain
 pub first_bucket : (z : Shape) (h : List Event) (bucket : ℕ) → bucket < z.buckets → 1 ≡ position z h (record { bucket = bucket; word = 1 }) / 8 + 1
 first_bucket z h bucket lt = ap (λ n. n / 8 + 1) (sym (cond-true (ltb bucket z.buckets) 1 _ (lt-ltb bucket z.buckets lt)))
+
+-- and in one of the first four, wherever it came to
+pub few_buckets : (b : Board) (key : List ℕ) (first p : Pass) (place : Place) (empty : Option Target) → Searching b key first p place empty → position b.shape (trace p) place / 8 < 4
+few_buckets b key first p place empty s = let short = (chain_of b.shape (trace p) s.idles.moved.pass.lawful (bucket_of b.shape key)).short in let within = s.chain.at.0.0 in omega arith
+
+pub one_at_most : (t : Bool) → bool_byte t ≤ 1
+one_at_most true = omega arith
+one_at_most false = omega arith
 
 -- ---- looking leaves what is known
 

@@ -1,5 +1,5 @@
 -- The answers of a write that stored, and of one that found its bucket full.
-use Rattle.std.proofs.Common.{◌≡◌, ◌≢◌, ℕ, true, false, eqb, List, [], ◌∷◌, ◌++◌, Some, None, refl, sym, ap, ◌∙◌, subst, inl, inr, ⊎_elim, append_assoc, arith}
+use Rattle.std.proofs.Common.{◌≡◌, ◌≢◌, ℕ, true, false, eqb, List, [], ◌∷◌, ◌++◌, ◌+◌, Some, None, refl, sym, ap, ◌∙◌, inl, inr, ⊎_elim, append_assoc, arith}
 use Rattle.std.proofs.lemmas.Bool.{cond-true, eq-eqb, ne_eqb}
 use Rattle.segword.specs.Row.{row_of}
 use Rattle.segmodel.specs.declared.entry.Entry.{Entry}
@@ -8,19 +8,17 @@ use Rattle.segmodel.specs.declared.request.Request.{Request}
 use Rattle.segmodel.specs.declared.request.Reply.TheVariants.{Stored}
 use Rattle.segmodel.specs.Request.{key_of, value_of}
 use Rattle.segmodel.specs.Places.{bucket_of}
-use Rattle.segmodel.specs.Cache.{standing, keys_in}
-use Rattle.segmodel.specs.History.{after}
 use Rattle.segcore.specs.declared.event.Event.{Event}
 use Rattle.segcore.specs.declared.event.Event.TheVariants.{Freed}
 use Rattle.segcore.specs.Event as event
+use Rattle.segcore.specs.Count.{drew}
 use Rattle.segcore.specs.Bucket.{bucket_after}
 use Rattle.segcore.specs.Kind.{May, release}
 use Rattle.segcore.specs.Lawful.{NoneAt}
-use Rattle.segcore.proofs.KeyCounts.{counted_full, wide}
+use Rattle.segcore.proofs.KeyCounts.{wide}
 use Rattle.segcore.proofs.KeyCounts.{wide}
 use Rattle.segcore.proofs.Orderly.{all_drawn_marked}
-use Rattle.segcore.proofs.Marked.{entries_marked}
-use Rattle.segcore.proofs.Moments.{marked_begins}
+use Rattle.segcore.proofs.Moments.{begins_on, marked_begins}
 use Rattle.segbase.specs.declared.board.Board.{Board}
 use Rattle.segbase.specs.declared.pass.Plain.{Plain}
 use Rattle.segbase.specs.declared.pass.Pass.{Pass}
@@ -32,19 +30,20 @@ use Rattle.segstore.specs.Segments.{KeepsSegments}
 use Rattle.segstore.specs.Refilling.{Idles}
 use Rattle.segstore.proofs.Keeping.{same_plain, keeps_plain}
 use Rattle.segindex.specs.Quiet.{IsQuiet}
-use Rattle.segindex.specs.Calls.{memo, GoesOn, ChangesNothing, AddsEntry}
-use Rattle.segindex.specs.Answers.{IsFull, WasFull, UsesRow}
+use Rattle.segindex.specs.Calls.{memo, GoesOn, ChangesNothing, DrawsNothing, AddsEntry}
+use Rattle.segindex.specs.Answers.{IsFull, WasFull, GrowsFor, UsesRow}
 use Rattle.segindex.specs.Taking.{HasCleanBit}
 use Rattle.segindex.specs.Writing.{HasNoWord}
 use Rattle.segindex.specs.Storing.{TookToWrite, Stores, stores}
 use Rattle.segindex.specs.Growing.{CannotGrow}
 use Rattle.segindex.proofs.Bits.{none_at_both}
 use Rattle.segindex.proofs.Growing.{no_word}
-use Rattle.segindex.proofs.Rooms.{IsReady}
+use Rattle.segindex.proofs.Draws.{undrawn}
+use Rattle.segindex.proofs.Rooms.{IsReady, DrawsOnce}
 use Rattle.segindex.proofs.Still.{AreStill}
-use Rattle.segindex.proofs.Filling.{fills_nowhere, fills_still, fills_seen}
+use Rattle.segindex.proofs.Filling.{fills_nowhere, fills_still, fills_undrawn, fills_seen}
 use Rattle.segindex.proofs.UnderBit.{moved_bucket, moved_bit}
-use Rattle.segindex.proofs.UnderWrite.{took_moved, took_clean, took_keeps, tries, write_goes_on, write_adds, still_both}
+use Rattle.segindex.proofs.UnderWrite.{took_moved, took_clean, took_keeps, tries, tries_undrawn, write_goes_on, write_adds, write_drew, write_undrawn, still_both}
 
 -- ---- after the search
 
@@ -87,6 +86,9 @@ module _ (b : Board) (key : List ℕ) (p q f s : Pass) (quiet : IsQuiet b p) (to
   full_goes_on = write_goes_on b k p q quiet took f s [] [] false idles.moved (λ other apart. tt) tt (λ h. refl) freed free memo_back
       (ap (λ (x : Plain). x.locked) plain_back) (ap (λ (x : Plain). x.is_holding) plain_back)
       (keeps_plain b (Freed (number f) k false ∷ []) f s freed.moved (tt, tt) plain (found_keeps b k p q f quiet took idles))
+
+  pub full_undrawn : DrawsNothing p s
+  full_undrawn = write_undrawn b k p q quiet took f s [] [] false idles.moved (λ other apart. tt) tt (λ h. refl) freed free tt
 
   pub full_answer : ChangesNothing p s × WasFull b.shape key (marked p) (marked s)
   full_answer = (
@@ -156,3 +158,32 @@ module _ (b : Board) (request : Request) (segment row : ℕ) (p q f r s : Pass) 
             ∙ (cond-true (eqb (number f) (number p)) (entry ∷ passes.mine p) (passes.mine p) (eq-eqb (number f) (number p) one) ∙ ap (λ n. Wrote n request Stored (Some segment) ∷ passes.mine p) one),
         uses_all,
       )
+
+  -- what was drawn was drawn to make room
+  module _ (draws : DrawsOnce b.shape (key_of request) (number p) before (marked q) (marked f)) where
+    abbrev since : List Event
+    since = tries b home p q quiet took ++ trace p
+
+    drew_before : (c : ℕ) → passes.drew s c ≡ drew (number p) c (before ++ since)
+    drew_before c = let storing = stores (number f) request segment row done.0 in
+        write_drew b home p q quiet took r s own (entry ∷ []) true moved elsewhere still adds freed free c
+        ∙ (ap (drew (number p) c) (append_assoc storing before since) ∙ undrawn (number p) c storing (before ++ since) (tt, fills_undrawn (number f) segment row words 8))
+
+    pub stored_grows : GrowsFor b.shape (key_of request) p s
+    stored_grows = let old = tries_undrawn b home p q quiet took in record {
+      others = λ c apart. drew_before c ∙ (draws.others c since apart ∙ old c);
+      own = ⊎_elim
+          (λ none. inl (drew_before home ∙ (none since ∙ old home)))
+          (λ one. let could = one.1 in inr (
+            drew_before home ∙ (one.0 since ∙ ap (λ n. n + 1) (old home)),
+            (
+              could.0,
+              (
+                begins_on (marked p) (marked q) could.0 (marked_begins (trace p) (trace q) (moved_on b (tries b home p q quiet took) p q (took_moved b home p q quiet took))) could.1.0,
+                begins_on could.0 (marked f) (marked s) could.1.1 (begins_on (marked f) (marked r) (marked s) (marked_begins (trace f) (trace r) (moved_on b _ f r done.1)) (marked_begins (trace r) (trace s) (moved_on b _ r s freed.moved))),
+              ),
+              could.2,
+            ),
+          ))
+          draws.at_most;
+    }

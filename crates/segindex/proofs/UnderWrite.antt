@@ -7,6 +7,7 @@ use Rattle.segmodel.specs.History as history
 use Rattle.segcore.specs.declared.event.Event.{Event}
 use Rattle.segcore.specs.declared.event.Event.TheVariants.{Took, Freed}
 use Rattle.segcore.specs.Event as event
+use Rattle.segcore.specs.Count as count
 use Rattle.segcore.specs.Bucket.{bucket_after}
 use Rattle.segcore.specs.Kind.{HasBit}
 use Rattle.segcore.specs.Lawful.{NoneAt}
@@ -14,17 +15,18 @@ use Rattle.segbase.specs.declared.board.Board.{Board}
 use Rattle.segbase.specs.declared.law.Locked.{Locked}
 use Rattle.segbase.specs.declared.law.Memo.{Memo}
 use Rattle.segbase.specs.declared.pass.Pass.{Pass}
-use Rattle.segbase.specs.Passes.{number, trace, mine, seen, locked, Moved, Did}
+use Rattle.segbase.specs.Passes.{number, trace, mine, seen, drew, locked, Moved, Did}
 use Rattle.segbase.specs.Plain.{locked_of, is_holding_of}
-use Rattle.segbase.proofs.Moves.{moved_then, moved_mine}
+use Rattle.segbase.proofs.Moves.{moved_then, moved_mine, moved_drew}
 use Rattle.segstore.specs.Segments.{KeepsSegments}
 use Rattle.segstore.proofs.Keeping.{keeps_plain}
 use Rattle.segindex.specs.Quiet.{IsQuiet}
-use Rattle.segindex.specs.Calls.{memo, GoesOn}
+use Rattle.segindex.specs.Calls.{memo, GoesOn, DrawsNothing}
 use Rattle.segindex.specs.Taking.{bounces, TakesBucket, HasCleanBit}
 use Rattle.segindex.specs.Storing.{TookToWrite, TakesToWrite}
 use Rattle.segindex.proofs.Bits.{none_at_both, bit_before}
-use Rattle.segindex.proofs.Bounces.{bounces_still, bounces_calm, bounces_seen}
+use Rattle.segindex.proofs.Bounces.{bounces_still, bounces_calm, bounces_undrawn, bounces_seen}
+use Rattle.segindex.proofs.Draws.{AreUndrawn, undrawn}
 use Rattle.segindex.proofs.Idling.{gave_up}
 use Rattle.segindex.proofs.Quiet.{quiet_again, goes_on}
 use Rattle.segindex.proofs.Still.{AreStill, settles_still}
@@ -48,6 +50,9 @@ module _ (b : Board) (bucket : ℕ) (p q : Pass) (quiet : IsQuiet b p) (took : T
 
   pub took_clean : HasCleanBit b q bucket
   took_clean = took.takes.3
+
+  pub tries_undrawn : (c : ℕ) → count.drew (number p) c (tries ++ trace p) ≡ drew p c
+  tries_undrawn c = undrawn (number p) c tries (trace p) (tt, bounces_undrawn (number p) bucket took.takes.0)
 
   pub took_keeps : KeepsSegments b q
   took_keeps = keeps_plain b tries p q took_moved (tt, bounces_calm (number p) bucket took.takes.0) took.plain quiet.segments
@@ -96,6 +101,13 @@ module _ (b : Board) (bucket : ℕ) (p q : Pass) (quiet : IsQuiet b p) (took : T
     ends_adding = moved_mine b all p s moved_all ∙ ap (history.mine (number p))
         (ap event.seen (append_assoc own tries (trace p)) ∙ (adds (tries ++ trace p) ∙ ap (λ h. added ++ h) (bounces_seen (number p) bucket took.takes.0 (trace p))))
 
+    -- it drew what was drawn under the bit
+    pub ends_drew : (c : ℕ) → drew s c ≡ count.drew (number p) c (own ++ (tries ++ trace p))
+    ends_drew c = moved_drew b all p s c moved_all ∙ ap (count.drew (number p) c) (append_assoc own tries (trace p))
+
+    pub ends_undrawn : AreUndrawn own → DrawsNothing p s
+    ends_undrawn none c = ends_drew c ∙ (undrawn (number p) c own (tries ++ trace p) none ∙ tries_undrawn c)
+
   -- the same where the release is a step of its own, that tells no entry
   module _ (r s : Pass) (own : List Event) (added : List Entry) (counted : Bool) (m : Moved b own q r) (elsewhere : (other : ℕ) → bucket ≢ other → NoneAt b.shape other own) (still : AreStill own)
       (adds : (h : List Event) → event.seen (own ++ h) ≡ added ++ event.seen h) (freed : Did b (Freed (number r) bucket counted ∷ []) r s) (free : (bucket_after b.shape (trace s) bucket).holder ≡ None) where
@@ -107,3 +119,9 @@ module _ (b : Board) (bucket : ℕ) (p q : Pass) (quiet : IsQuiet b p) (took : T
 
     pub write_adds : mine s ≡ history.mine (number p) (added ++ seen p)
     write_adds = ends_adding s own added counted ended elsewhere still adds free
+
+    pub write_drew : (c : ℕ) → drew s c ≡ count.drew (number p) c (own ++ (tries ++ trace p))
+    write_drew = ends_drew s own added counted ended elsewhere still adds free
+
+    pub write_undrawn : AreUndrawn own → DrawsNothing p s
+    write_undrawn = ends_undrawn s own added counted ended elsewhere still adds free

@@ -1,10 +1,8 @@
 -- A write of a key, from the take of the bit to its answer: what was found, what the cache replies, and each way in which it ends.
-use Rattle.std.proofs.Common.{◌≡◌, ◌≢◌, ◌↔◌, ℕ, ◌^◌, ◌<◌, Bool, true, false, is_some, List, [], ◌∷◌, Option, Some, None, refl, sym, ap, ◌∙◌, subst, inl, inr, ⊎_elim}
-use Rattle.std.proofs.lemmas.Bool.{cases_Bool}
-use Rattle.std.proofs.lemmas.Option.{same_Some, none-some}
+use Rattle.std.proofs.Common.{◌≡◌, ◌≢◌, ℕ, ◌^◌, ◌<◌, Bool, true, false, is_some, List, [], ◌∷◌, Option, Some, None, refl, sym, ap, ◌∙◌, subst}
+use Rattle.std.proofs.lemmas.Option.{none-some}
 use Rattle.segword.specs.Bytes.{IsKey}
 use Rattle.segmodel.specs.declared.request.Request.{Request}
-use Rattle.segmodel.specs.declared.request.Reply.TheVariants as reply
 use Rattle.segmodel.specs.declared.answer.WriteAnswer.{WriteAnswer}
 use Rattle.segmodel.specs.declared.answer.WriteAnswer.TheVariants as write
 use Rattle.segmodel.specs.Request.{key_of, value_of, reply_to}
@@ -14,14 +12,12 @@ use Rattle.segmodel.specs.History.{after}
 use Rattle.segmodel.specs.Serving.{reply_of_write}
 use Rattle.segcore.specs.declared.event.Event.TheVariants.{Freed}
 use Rattle.segcore.specs.Bucket.{bucket_after}
-use Rattle.segcore.specs.Filled.{HasNoEmptyWord}
 use Rattle.segcore.specs.Kind.{HasBit, May, release}
 use Rattle.segcore.specs.Lawful.{IsRefusal}
 use Rattle.segbase.specs.declared.board.Board.{Board}
-use Rattle.segbase.specs.declared.pass.Plain.{Plain}
 use Rattle.segbase.specs.declared.pass.Pass.{Pass}
-use Rattle.segbase.specs.Passes.{number, trace, seen, IsPassOf, Did}
-use Rattle.segbase.specs.Plain.{current_of, used_of, locked_of}
+use Rattle.segbase.specs.Passes.{number, trace, marked, seen, IsPassOf, Did}
+use Rattle.segbase.specs.Plain.{current_of, used_of}
 use Rattle.segstore.specs.Segments.{KeepsSegments, has_room}
 use Rattle.segstore.specs.Refilling.{Idles}
 use Rattle.segstore.proofs.Keeping.{same_plain, keeps_plain}
@@ -29,30 +25,32 @@ use Rattle.segindex.specs.declared.find.Found.{Found}
 use Rattle.segindex.specs.declared.find.Target.{Target}
 use Rattle.segindex.specs.declared.write.When.{When}
 use Rattle.segindex.specs.Quiet.{IsQuiet}
-use Rattle.segindex.specs.Calls.{memo, GoesOn}
-use Rattle.segindex.specs.Answers.{IsWriteAnswer, Writes, UsesRow}
+use Rattle.segindex.specs.Calls.{memo, GoesOn, DrawsNothing}
+use Rattle.segindex.specs.Answers.{IsWriteAnswer, Writes, GrowsFor, UsesRow}
 use Rattle.segindex.specs.Taking.{HasCleanBit}
 use Rattle.segindex.specs.Writing.{IsTarget, HasNoWord, own_word}
 use Rattle.segindex.specs.Growing.{Searches, target_of, CannotGrow, IsAsFound, MakesRoom}
 use Rattle.segindex.specs.Storing.{TookToWrite, IsNextRow, Requests, Stores}
 use Rattle.segindex.specs.Refusing.{request_of, IsToldBy, reply_now, Refuses}
-use Rattle.segindex.proofs.Places.{idles_then, idle_bucket}
-use Rattle.segindex.proofs.Refused.{asks, own_where, adds_absent, refused_goes_on, refused_answer}
-use Rattle.segindex.proofs.Rooms.{searches_later, finds_of, as_found, HasRoom, has_room as room_for, no_room}
-use Rattle.segindex.proofs.Sets.{found_clean, may_free, full_goes_on, full_answer, stored_goes_on, stored_answer}
-use Rattle.segindex.proofs.Storing.{target_later}
+use Rattle.segindex.proofs.Draws.{grows_none}
+use Rattle.segindex.proofs.Places.{idles_then}
+use Rattle.segindex.proofs.Refused.{asks, own_where, adds_absent, refused_goes_on, refused_undrawn, refused_answer}
+use Rattle.segindex.proofs.Rooms.{searches_later, finds_of, as_found, DrawsOnce, HasRoom, has_room as room_for, no_room}
+use Rattle.segindex.proofs.Sets.{found_clean, may_free, full_goes_on, full_undrawn, full_answer, stored_goes_on, stored_answer, stored_grows}
 use Rattle.segindex.proofs.UnderBit.{moved_at}
-use Rattle.segindex.proofs.UnderWrite.{took_keeps}
+use Rattle.segindex.proofs.UnderWrite.{took_moved, took_keeps}
 
 -- all that follows where there is room, and the bit was taken
 writes_with : (b : Board) (request : Request) (told : WriteAnswer) (p q s : Pass) → ¬ (has_room b.shape p ≡ false) → TookToWrite b (bucket_of b.shape (key_of request)) p q → told ≢ write.NoRoom
-    → GoesOn b p s → IsWriteAnswer b.shape request told p s → Writes b request told p s
-writes_with b request told p q s room took some on answer = record {
+    → GoesOn b p s → IsWriteAnswer b.shape request told p s → GrowsFor b.shape (key_of request) p s → (told ≢ write.Stored → DrawsNothing p s) → Writes b request told p s
+writes_with b request told p q s room took some on answer grows none = record {
   on = on;
   answer = answer;
   untouched = λ none. absurd (some none);
   no_room = (λ none. absurd (some none), λ none. absurd (room none));
   locked = λ has locked. absurd (took.unlocked locked);
+  grows = grows;
+  draws_nothing = none;
 }
 
 module _ (b : Board) (w : When) (request : Request) (key value words : List ℕ) (bucket : ℕ) (asked : request ≡ request_of w key value) (home : bucket ≡ bucket_of b.shape key) (copied : words ≡ key)
@@ -94,9 +92,11 @@ module _ (b : Board) (w : When) (request : Request) (key value words : List ℕ)
       pub ends_refused : (answer : WriteAnswer) (s : Pass) → refusal ≡ Some answer → Refuses b request (reply_now b g request) g s → Writes b request answer p s
       ends_refused answer s is refuses =
           let why = subst (IsToldBy (reply_now b g request)) is told in
+          let undrawn = refused_undrawn b request (reply_now b g request) p q g s quiet took_it idle refuses in
           writes_with b request answer p q s room took_it (λ none. none-some (reply_now b g request) (sym (ap reply_of_write none) ∙ why.0))
           (refused_goes_on b request (reply_now b g request) p q g s quiet took_it idle refuses)
           (refused_answer b request (reply_now b g request) p q g s quiet took_it idle refuses answer why.0 why.1)
+          (grows_none b.shape (key_of request) p s undrawn) (λ other. undrawn)
 
     -- what the refusal asks for
     pub may_tell : (answer : WriteAnswer) → refusal ≡ Some answer → IsPassOf b g × (HasCleanBit b g bucket × (bucket ≡ k × IsRefusal (reply_now b g request)))
@@ -134,12 +134,17 @@ module _ (b : Board) (w : When) (request : Request) (key value words : List ℕ)
             let version = (after b.shape (seen g)).version k in
             let absent = sym (moved_at b [] g r (key_of request) none.0.moved clean_there.bit tt).stands ∙ none.2.absent in
             let adds = adds_absent request version (ap (λ o. reply_to request (is_some o) version) (sym absent) ∙ stored) in
+            let undrawn = full_undrawn b (key_of request) p q r s quiet took_it idle_yet none.2 none.1 freed' free' plain same in
             writes_with b request write.BucketFull p q s rows took_it (λ e. cc) (full_goes_on b (key_of request) p q r s quiet took_it idle_yet none.2 none.1 freed' free' plain same) (answer.0, adds, answer.1)
+            (grows_none b.shape (key_of request) p s undrawn) (λ other. undrawn)
 
       -- it is stored
       module _ (target : Target) (given : room ≡ Some target) where
         there : HasRoom b (key_of request) target q g r
         there = room_for b (key_of request) q g r idle idle.moved.pass clean_there found room target given found_now made
+
+        draws : DrawsOnce b.shape (key_of request) (number p) there.own (marked q) (marked r)
+        draws = subst (λ n. DrawsOnce b.shape (key_of request) n there.own (marked q) (marked r)) (idle.moved.same ∙ (took_moved b bucket p q quiet took).same) there.draws
 
         keeps : KeepsSegments b r
         keeps = keeps_plain b there.own q r there.ready.moved there.ready.calm there.ready.plain (took_keeps b bucket p q quiet took)
@@ -162,3 +167,4 @@ module _ (b : Board) (w : When) (request : Request) (key value words : List ℕ)
             let answer = stored_answer b request segment row p q r t s quiet took_it there.own there.ready done kept uses freed' free' plain same in
             writes_with b request write.Stored p q s rows took_it (λ e. cc)
             (stored_goes_on b request segment row p q r t s quiet took_it there.own there.ready done kept uses freed' free' plain same) (segment, answer.0, answer.1)
+            (stored_grows b request segment row p q r t s quiet took_it there.own there.ready done kept uses freed' free' plain same draws) (λ other. absurd (other refl))

@@ -26,14 +26,14 @@ use Rattle.segcore.specs.Mark.{Mark, entries, width, all_drawn}
 use Rattle.segbase.specs.declared.law.Locked.{Locked}
 use Rattle.segbase.specs.declared.board.Board.{Board}
 use Rattle.segbase.specs.declared.pass.Pass.{Pass}
-use Rattle.segbase.specs.Passes.{number, trace, marked, seen, mine, taken, bounced, holding, locked}
+use Rattle.segbase.specs.Passes.{number, trace, marked, seen, mine, taken, bounced, drew, holding, locked}
 use Rattle.segbase.specs.Passes as passes
 use Rattle.segbase.specs.Plain.{current_of, state_of, used_of, locked_of, is_holding_of, SameSegments}
 use Rattle.segindex.specs.declared.bucket.LockAnswer.{LockAnswer}
 use Rattle.segindex.specs.declared.bucket.LockAnswer.TheVariants as lock
 use Rattle.segindex.specs.Quiet.{is_held_in}
 use Rattle.segstore.specs.Segments.{has_room}
-use Rattle.segindex.specs.Calls.{memo, GoesOn, ChangesNothing, AddsEntry}
+use Rattle.segindex.specs.Calls.{memo, GoesOn, ChangesNothing, DrawsNothing, AddsEntry}
 
 -- ---- readers
 
@@ -76,6 +76,11 @@ pub record CanGrow (shape : Shape) (marks : List Mark) (key : List ℕ) : Type 0
 
 abbrev pub CouldGrow : Shape → List ℕ → List Mark → List Mark → Type 0
 CouldGrow shape key before now = (marks : List Mark) × IsBetween before now marks × CanGrow shape marks key
+
+-- for the key's bucket one overflow bucket was drawn at most, and only where the key was new and found no word; for the others none
+pub record GrowsFor (shape : Shape) (key : List ℕ) (p q : Pass) : Type 0 where
+  pub others : (bucket : ℕ) → bucket ≢ bucket_of shape key → drew q bucket ≡ drew p bucket
+  pub own : (drew q (bucket_of shape key) ≡ drew p (bucket_of shape key)) ⊎ ((drew q (bucket_of shape key) ≡ drew p (bucket_of shape key) + 1) × CouldGrow shape key (marked p) (marked q))
 
 -- ---- writes
 
@@ -123,12 +128,15 @@ pub record Writes (b : Board) (request : Request) (told : WriteAnswer) (p q : Pa
   pub untouched : told ≡ write.NoRoom → q ≡ p
   pub no_room : (told ≡ write.NoRoom) ↔ (has_room b.shape p ≡ false)
   pub locked : has_room b.shape p ≡ true → locked_of p ≡ Some (bucket_of b.shape (key_of request)) → told ≡ write.Busy
+  pub grows : GrowsFor b.shape (key_of request) p q
+  pub draws_nothing : told ≢ write.Stored → DrawsNothing p q
 
 -- a delete is answered so; it needs no row
 pub record Deletes (b : Board) (key : List ℕ) (told : DeleteAnswer) (p q : Pass) : Type 0 where
   pub on : GoesOn b p q
   pub answer : IsDeleteAnswer b.shape key told p q
   pub locked : locked_of p ≡ Some (bucket_of b.shape key) → told ≡ delete.Busy
+  pub draws_nothing : DrawsNothing p q
 
 -- ---- locks
 

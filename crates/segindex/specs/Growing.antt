@@ -124,6 +124,7 @@ pub record Lengthens (b : Board) (bucket : ℕ) (target : Target) (p q : Pass) :
   pub words : List ℕ
   pub prepares : Prepares b (lengthens (number p) bucket depth overflow words) bucket p q
   pub clean : HasCleanBit b q bucket
+  pub second : target.place ≡ record { bucket = b.shape.buckets + overflow; word = 2 }
   pub free : (key : List ℕ) → bucket_of b.shape key ≡ bucket → IsAbsent b key p → IsTarget b key target q
   pub could : (key : List ℕ) → bucket_of b.shape key ≡ bucket → IsAbsent b key p → CouldGrow b.shape key (marked p) (marked q)
 

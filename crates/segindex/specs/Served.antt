@@ -1,4 +1,4 @@
--- Where an index has one pass, each of its calls is served as the model says. One statement a call: what the call's contract says is enough.
+-- Where an index has one pass, each of its calls is served as the model says. One statement a call: what the call's contract says is enough. But for a write no call draws an overflow bucket.
 use Rattle.std.specs.Prelude.{◌≡◌, ◌≢◌, ◌↔◌, ℕ, Bool, true, false, is_some, List, Some, None, IfSome, slice_get}
 use Rattle.segword.specs.declared.shape.Shape.{Shape}
 use Rattle.segmodel.specs.declared.request.Request.{Request}
@@ -31,7 +31,7 @@ use Rattle.segindex.specs.declared.hold.HoldAnswer.{HoldAnswer}
 use Rattle.segindex.specs.declared.hold.HoldAnswer.TheVariants as hold
 use Rattle.segindex.specs.Index.{board_of, shape_of}
 use Rattle.segindex.specs.Quiet.{is_held_in}
-use Rattle.segindex.specs.Calls.{GoesOn, ChangesNothing, IsNew}
+use Rattle.segindex.specs.Calls.{GoesOn, ChangesNothing, DrawsNothing, IsNew}
 use Rattle.segindex.specs.Answers.{IsGetAnswer, Writes, Deletes, IsRefillAnswer, IsLockAnswer, IsUnlockAnswer}
 use Rattle.segindex.specs.Gets.{IsGetsAnswer}
 use Rattle.segindex.specs.Evicting.{IsEvictAnswer}
@@ -46,11 +46,11 @@ StartsAlone = (shape : Shape) (index : Index) (passes : List Pass) (p : Pass) �
 -- ---- commands
 
 abbrev pub GetIsServed : Type 0
-GetIsServed = (index : Index) (p q : Pass) (key : List ℕ) (told : GetAnswer) → IsAlone (board_of index) p → GoesOn (board_of index) p q → ChangesNothing p q
+GetIsServed = (index : Index) (p q : Pass) (key : List ℕ) (told : GetAnswer) → IsAlone (board_of index) p → GoesOn (board_of index) p q → DrawsNothing p q → ChangesNothing p q
     → IsGetAnswer (shape_of index) key told (seen p) (seen q) → ServesAlone (board_of index) (command.Get key) (answer.Get told) p q
 
 abbrev pub GetsIsServed : Type 0
-GetsIsServed = (index : Index) (p q : Pass) (key : List ℕ) (told : GetsAnswer) → IsAlone (board_of index) p → GoesOn (board_of index) p q → ChangesNothing p q
+GetsIsServed = (index : Index) (p q : Pass) (key : List ℕ) (told : GetsAnswer) → IsAlone (board_of index) p → GoesOn (board_of index) p q → DrawsNothing p q → ChangesNothing p q
     → IsGetsAnswer (shape_of index) key told p q → ((value : List ℕ) (version : ℕ) → told ≡ gets.Found value version → locked_of p ≢ Some (bucket_of (shape_of index) key))
     → ServesAlone (board_of index) (command.Gets key) (answer.Gets told) p q
 
@@ -64,36 +64,36 @@ DeleteIsServed = (index : Index) (p q : Pass) (key : List ℕ) (told : DeleteAns
     → Deletes (board_of index) key told p q → ServesAlone (board_of index) (command.Write (Delete key)) (answer.Delete told) p q
 
 abbrev pub EvictIsServed : Type 0
-EvictIsServed = (index : Index) (p q : Pass) (segment : ℕ) (told : EvictAnswer) → IsAlone (board_of index) p → GoesOn (board_of index) p q
+EvictIsServed = (index : Index) (p q : Pass) (segment : ℕ) (told : EvictAnswer) → IsAlone (board_of index) p → GoesOn (board_of index) p q → DrawsNothing p q
     → IsEvictAnswer (shape_of index) segment told p q → ((told ≡ evict.NotYours) ↔ (state_of p segment ≡ None)) → ServesAlone (board_of index) (command.Evict segment) (answer.Evict told) p q
 
 abbrev pub RefillIsServed : Type 0
-RefillIsServed = (index : Index) (p q : Pass) (segment : ℕ) (told : RefillAnswer) → IsAlone (board_of index) p → GoesOn (board_of index) p q → IsRefillAnswer segment told p q
+RefillIsServed = (index : Index) (p q : Pass) (segment : ℕ) (told : RefillAnswer) → IsAlone (board_of index) p → GoesOn (board_of index) p q → DrawsNothing p q → IsRefillAnswer segment told p q
     → ((told ≡ refill.NotYours) ↔ (state_of p segment ≡ None)) → ((told ≡ refill.NotEvicted) ↔ (state_of p segment ≡ Some InUse))
     → (state_of p segment ≡ Some Evicted → is_held_in (holding p) segment ≡ true → told ≡ refill.Held) → ServesAlone (board_of index) (command.Refill segment) (answer.Refill told) p q
 
 -- ---- locks
 
 abbrev pub LockIsServed : Type 0
-LockIsServed = (index : Index) (p q : Pass) (key : List ℕ) (told : LockAnswer) → IsAlone (board_of index) p → GoesOn (board_of index) p q → IsLockAnswer (shape_of index) key told p q
+LockIsServed = (index : Index) (p q : Pass) (key : List ℕ) (told : LockAnswer) → IsAlone (board_of index) p → GoesOn (board_of index) p q → DrawsNothing p q → IsLockAnswer (shape_of index) key told p q
     → ((told ≡ lock.AlreadyLocked) ↔ (locked_of p ≢ None)) → TurnsAlone (board_of index) (turn.Lock key) (lock_outcome told) p q
 
 abbrev pub UnlockIsServed : Type 0
-UnlockIsServed = (index : Index) (p q : Pass) (told : Bool) → IsAlone (board_of index) p → GoesOn (board_of index) p q → IsUnlockAnswer (shape_of index) told p q
+UnlockIsServed = (index : Index) (p q : Pass) (told : Bool) → IsAlone (board_of index) p → GoesOn (board_of index) p q → DrawsNothing p q → IsUnlockAnswer (shape_of index) told p q
     → told ≡ is_some (locked_of p) → TurnsAlone (board_of index) turn.Unlock (unlock_outcome told) p q
 
 -- ---- holds
 
 abbrev pub HoldIsServed : Type 0
-HoldIsServed = (index : Index) (p q : Pass) (key : List ℕ) (told : HoldAnswer) → IsAlone (board_of index) p → GoesOn (board_of index) p q → IsHoldAnswer (shape_of index) key told p q
+HoldIsServed = (index : Index) (p q : Pass) (key : List ℕ) (told : HoldAnswer) → IsAlone (board_of index) p → GoesOn (board_of index) p q → DrawsNothing p q → IsHoldAnswer (shape_of index) key told p q
     → ((told ≡ hold.AlreadyHolding) ↔ (is_holding_of p ≡ true)) → TurnsAlone (board_of index) (turn.Hold key) (hold_outcome told) p q
 
 abbrev pub HeldIsServed : Type 0
-HeldIsServed = (index : Index) (p q : Pass) (hold : Hold) (value : List ℕ) → IsAlone (board_of index) p → GoesOn (board_of index) p q → IsHoldOf (shape_of index) hold p → ChangesNothing p q
+HeldIsServed = (index : Index) (p q : Pass) (hold : Hold) (value : List ℕ) → IsAlone (board_of index) p → GoesOn (board_of index) p q → DrawsNothing p q → IsHoldOf (shape_of index) hold p → ChangesNothing p q
     → IfSome (holding p) (λ held. value ≡ held.value) → TurnsAlone (board_of index) turn.Held (outcome.Value value) p q
 
 abbrev pub ReleaseIsServed : Type 0
-ReleaseIsServed = (index : Index) (p q : Pass) (hold : Hold) → IsAlone (board_of index) p → GoesOn (board_of index) p q → IsHoldOf (shape_of index) hold p → Releases p q
+ReleaseIsServed = (index : Index) (p q : Pass) (hold : Hold) → IsAlone (board_of index) p → GoesOn (board_of index) p q → DrawsNothing p q → IsHoldOf (shape_of index) hold p → Releases p q
     → TurnsAlone (board_of index) turn.Release outcome.Released p q
 
 -- a pass that holds nothing makes no call for a held or a release

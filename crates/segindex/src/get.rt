@@ -15,7 +15,7 @@ impl Index {
     ghost use Rattle.segstore.specs.Linked.{IsChained};
     ghost use Rattle.segindex.specs.Index.{board_of, shape_of};
     ghost use Rattle.segindex.specs.Quiet.{IsQuiet};
-    ghost use Rattle.segindex.specs.Calls.{GoesOn, ChangesNothing, TakesNoBit};
+    ghost use Rattle.segindex.specs.Calls.{GoesOn, ChangesNothing, TakesNoBit, DrawsNothing};
     ghost use Rattle.segindex.specs.Answers.{IsGetAnswer};
 
     /// The value under a key. A hit raises the frequency of the key's item where the draw, a number at random, says so.
@@ -24,6 +24,7 @@ impl Index {
         ensures on { GoesOn (board_of self.now) pass.old pass.new }
         ensures keeps { ChangesNothing pass.old pass.new }
         ensures takes_no_bit { TakesNoBit pass.old pass.new }
+        ensures draws_nothing { DrawsNothing pass.old pass.new }
         ensures answer { IsGetAnswer (shape_of self.now) key.now result (seen pass.old) (seen pass.new) }
     {
         match self.scan_for(pass, key) {

@@ -9,8 +9,6 @@ use std::alloc::Global;
 #[derive(Drop)]
 pub struct Index {
     pub(crate) board: Board,
-    // Buckets don't grow yet.
-    ghost no_overflow: { board.shape.overflow ≡ 0 },
 }
 
 impl Index {
@@ -19,9 +17,7 @@ impl Index {
     ghost use Rattle.segindex.specs.Calls.{IsNew};
 
     /// An index of this shape with its passes, in the order of their numbers. No later call takes memory but `close`.
-    /// Buckets don't grow yet, so callers ask for no overflow bucket.
     pub fn new(alloc: Global, shape: Shape) -> Result<(Index, Vec<Pass>), MakeFault>
-        requires no_overflow { shape.overflow ≡ 0 }
         ensures made { IfOk result (λ made. IsNew shape made.0 made.1.items) }
         ensures fault { IfErr result (IsMakeFault shape) }
     {

@@ -30,10 +30,8 @@ impl Solo {
     ghost use Rattle.segindex.specs.Solo.{shape_of, state_of};
 
     /// An index of this shape, which has one pass, with nothing stored. It takes all its memory here.
-    /// Buckets don't grow yet, so callers ask for no overflow bucket.
     pub fn new(alloc: Global, shape: Shape) -> Result<Solo, MakeFault>
         requires one_pass { shape.passes ≡ 1 }
-        requires no_overflow { shape.overflow ≡ 0 }
         ensures shape { IfOk result (λ solo. shape_of solo ≡ shape) }
         ensures start { IfOk result (λ solo. state_of solo ≡ fresh shape) }
         ensures fault { IfErr result (IsMakeFault shape) }

@@ -42,7 +42,7 @@ impl Index {
     ghost use Rattle.segstore.specs.Reading.{IsReader};
     ghost use Rattle.segindex.specs.Index.{board_of, shape_of};
     ghost use Rattle.segindex.specs.Quiet.{IsQuiet};
-    ghost use Rattle.segindex.specs.Calls.{GoesOn, ChangesNothing};
+    ghost use Rattle.segindex.specs.Calls.{GoesOn, ChangesNothing, DrawsNothing};
     ghost use Rattle.segindex.specs.Scanning.{bucket_depth, place_of, IsPlaceOf, IsBucketOf, MayEnterAny};
     ghost use Rattle.segindex.specs.Gets.{IsGetsAnswer, HasNoBit, IsVersioned, IsVisited, IsVersionScan};
 
@@ -52,6 +52,7 @@ impl Index {
         ensures on { GoesOn (board_of self.now) pass.old pass.new }
         ensures keeps { ChangesNothing pass.old pass.new }
         ensures takes_no_bit { taken pass.new ≡ taken pass.old }
+        ensures draws_nothing { DrawsNothing pass.old pass.new }
         ensures answer { IsGetsAnswer (shape_of self.now) key.now result pass.old pass.new }
         ensures unlocked { (value : List ℕ) (version : ℕ) → result ≡ gets.Found value version → locked_of pass.old ≢ Some (bucket_of (shape_of self.now) key.now) }
     {

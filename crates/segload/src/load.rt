@@ -156,7 +156,6 @@ pub fn run_load<R: Threads + Wait + AllocGlobal + Sync, G: Gate>(
     commands: u32,
     gate: &G,
 ) -> Result<Totals, LoadFault>
-    requires no_overflow { shape.overflow ≡ 0 }
     ensures load { IfOk result (IsLoad shape commands) }
     ensures fault { IfErr result (IsLoadFault shape commands (G.may_stop gate.now)) }
 {

@@ -1,5 +1,5 @@
 -- A word in hexadecimal digits, read by std's `from_str_radix`.
-use Rattle.std.proofs.Common.{◌≡◌, ◌≢◌, ◌==◌, ℕ, ◌<◌, ◌^◌, List, slice_index, false, Result, Ok, Some, arith, ap, rules}
+use Rattle.std.proofs.Common.{◌≡◌, ◌≢◌, ℕ, ◌<◌, ◌^◌, List, slice_index, Result, Some, arith, ap}
 use Rattle.std.specs.Str.Parse.{ParsesUnsigned, digits_value, without_leading_plus}
 use Rattle.std.specs.Result.{result_ok}
 use Rattle.std.proofs.lemmas.Result.{Ok-from_Ok_iff}

@@ -1,5 +1,5 @@
 -- How the commands of the program end, and what is reported then.
-use Rattle.std.specs.Prelude.{◌≡◌, ◌≢◌, ℕ, Bool, true, List, [], Result, Ok, Err, string_bytes}
+use Rattle.std.specs.Prelude.{◌≡◌, ℕ, Bool, true, List, [], Result, Ok, Err, string_bytes}
 use Rattle.segword.specs.declared.shape.Shape.{Shape}
 use Rattle.segword.specs.declared.reading.Reading.{Reading}
 use Rattle.segrun.specs.Explained.{Says, explanation}
@@ -23,13 +23,11 @@ pub record RanScript {R W : Type 0} (hands : R → List ℕ → R → Type 0) (i
   pub answered : ShapeIsAnswered shape end
   pub made : is_make_fault end ≡ true → (reader' ≡ reader) × (writer' ≡ writer)
 
--- Overflow buckets can't be asked for yet; nothing is read or written then.
 abbrev pub ScriptOutcome : {R W : Type 0} → (R → List ℕ → R → Type 0) → (R → Type 0) → (R → Bool) → (W → List ℕ → W → Type 0) → (W → Bool) → (W → ℕ) → Shape → R → R → W → W → Result (Unit {0}) ProgramFault → Type 0
 ScriptOutcome hands is_at_end read_failed takes write_failed flushes shape reader reader' writer writer' end =
-    (shape.overflow ≡ 0 → (ended : Result (Unit {0}) RunFault)
+    (ended : Result (Unit {0}) RunFault)
     × RanScript hands is_at_end read_failed takes write_failed flushes shape reader reader' writer writer' ended
-    × (end ≡ end_of_run ended))
-    × ((shape.overflow ≢ 0) → (end ≡ Err fault.NoOverflow) × (reader' ≡ reader) × (writer' ≡ writer))
+    × (end ≡ end_of_run ended)
 
 -- ---- a word, and other texts
 

@@ -1,5 +1,5 @@
 -- The faults of the program: their lines and statuses.
-use Rattle.std.specs.Prelude.{◌≡◌, ℕ, List, ◌++◌, codes, decimal, Result, Ok, Err, Bool, true, false}
+use Rattle.std.specs.Prelude.{ℕ, List, ◌++◌, codes, decimal, Result, Ok, Err, Bool, true, false}
 use Rattle.segword.specs.Shape.{fault_number}
 use Rattle.segbase.specs.declared.fault.MakeFault.TheVariants as made
 use Rattle.segscript.specs.declared.fault.RunFault.{RunFault}
@@ -26,7 +26,6 @@ abbrev pub fault_line : ProgramFault → List ℕ
 fault_line (fault.BadLine n) = codes "bad line " ++ decimal n ++ codes "\n"
 fault_line fault.BadWord = codes "bad word\n"
 fault_line fault.BadArguments = codes "bad arguments: not UTF-8\n"
-fault_line fault.NoOverflow = codes "bad option: no overflow buckets yet\n"
 fault_line (fault.BadShape f) = codes "bad shape " ++ decimal (fault_number f) ++ codes "\n"
 fault_line fault.OutOfMemory = codes "out of memory\n"
 fault_line fault.Read = codes "read failed\n"
@@ -38,7 +37,6 @@ abbrev pub fault_status : ProgramFault → ℕ
 fault_status (fault.BadLine n) = 2
 fault_status fault.BadWord = 2
 fault_status fault.BadArguments = 2
-fault_status fault.NoOverflow = 2
 fault_status (fault.BadShape f) = 3
 fault_status fault.OutOfMemory = 3
 fault_status fault.Read = 3

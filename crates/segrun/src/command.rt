@@ -71,16 +71,11 @@ fn perform_script<S: Source, W: Sink>(
 ) -> Result<(), ProgramFault>
     requires source_works { S.has_failed source.old ≡ false }
     requires writer_works { W.has_failed writer.old ≡ false }
-    ensures ran { shape.overflow ≡ 0 → (end : Result (Unit {0}) RunFault)
+    ensures { (end : Result (Unit {0}) RunFault)
         × RanScript S.hands S.is_at_end S.has_failed W.takes W.has_failed W.flushes shape
         source.old source.new writer.old writer.new end
         × (result ≡ end_of_run end) }
-    ensures refused { (shape.overflow ≢ 0) →
-        (result ≡ Err ProgramFault.NoOverflow) × (source.new ≡ source.old) × (writer.new ≡ writer.old) }
 {
-    if shape.overflow != 0 {
-        return Err(ProgramFault::NoOverflow);
-    }
     match run_script(alloc, source, writer, shape) {
         Ok(()) => Ok(()),
         Err(fault) => Err(ProgramFault::of_run(fault)),

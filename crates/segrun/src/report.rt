@@ -16,8 +16,6 @@ pub enum ProgramFault {
     BadWord,
     /// The arguments aren't text.
     BadArguments,
-    /// Overflow buckets were asked for, which a script can't have yet.
-    NoOverflow,
     /// An index can't have this shape.
     BadShape(ShapeFault),
     /// Memory was wanted and not had.
@@ -50,10 +48,7 @@ impl ProgramFault {
         ensures { result ≡ fault_status self }
     {
         match self {
-            ProgramFault::BadLine(_)
-            | ProgramFault::BadWord
-            | ProgramFault::BadArguments
-            | ProgramFault::NoOverflow => 2,
+            ProgramFault::BadLine(_) | ProgramFault::BadWord | ProgramFault::BadArguments => 2,
             ProgramFault::BadShape(_)
             | ProgramFault::OutOfMemory
             | ProgramFault::Read
@@ -75,7 +70,6 @@ impl ProgramFault {
             }
             ProgramFault::BadWord => line_of(b"bad word\n"),
             ProgramFault::BadArguments => line_of(b"bad arguments: not UTF-8\n"),
-            ProgramFault::NoOverflow => line_of(b"bad option: no overflow buckets yet\n"),
             ProgramFault::BadShape(fault) => {
                 let mut text = line_of(b"bad shape ");
                 put_number(&mut text, fault.number());

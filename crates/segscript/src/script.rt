@@ -14,9 +14,8 @@ use std::alloc::Global;
 
 /// Makes an index of this shape, runs the script that the reader hands out, and writes the replies.
 ///
-/// For now the shape has no overflow bucket. Where it has one pass, the text is the one that the cache of one thread gives;
-/// where it has several, they take turns on this thread, and each turn has a reply. No memory is taken once the index and
-/// the list of its holds are made.
+/// Where the shape has one pass, the text is the one that the cache of one thread gives; where it has several, they take
+/// turns on this thread, and each turn has a reply. No memory is taken once the index and the list of its holds are made.
 pub fn run_script<R: Source, W: Sink>(
     alloc: Global,
     reader: &mut R,
@@ -25,7 +24,6 @@ pub fn run_script<R: Source, W: Sink>(
 ) -> Result<(), RunFault>
     requires reader_works { R.has_failed reader.old ≡ false }
     requires writer_works { W.has_failed writer.old ≡ false }
-    requires no_overflow { shape.overflow ≡ 0 }
 
     // How it ends, what it read and wrote, and which text belongs to that.
     ensures outcome { RunOutcome shape

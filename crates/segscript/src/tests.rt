@@ -30,9 +30,7 @@ const SCRIPT: &[u8] = b"p0 refill 0\np0 set a 1\np0 get a\n";
 const REPLIES: &[u8] = b"REFILLED\nSTORED\nVALUE 1\n";
 
 /// One bucket, one pass, and one segment.
-fn shape_of(rows: u32) -> Shape
-    ensures { result.overflow ≡ 0 }
-{
+fn shape_of(rows: u32) -> Shape {
     Shape {
         buckets: 1,
         overflow: 0,
@@ -62,9 +60,7 @@ fn check(
     good: Option<usize>,
     end: Result<(), RunFault>,
     replies: &[u8],
-) -> Result<(), Fail>
-    requires { shape.overflow ≡ 0 }
-{
+) -> Result<(), Fail> {
     for step in STEPS {
         let mut reader = reader_of(script, step, good);
         let mut writer = MemSink::new(alloc, 1000)?;

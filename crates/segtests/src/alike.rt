@@ -16,21 +16,38 @@ use std::test::Fail;
 const COMMANDS: u32 = 10_000;
 
 // Few keys and few segments, so that each meets the others often. One number more stands for a segment that there isn't.
-const KEYS: u32 = 12;
+const KEYS: u32 = 26;
 
 const SEGMENTS: u32 = 3;
 
 // A version before the last one, so that versions start again at 0.
 const FIRST_VERSION: u32 = 4_294_967_290;
 
+// What an index has, and how its commands are drawn: sixteen of the draws are spread over all kinds, and the others are sets.
+#[derive(Clone, Copy)]
+struct Load {
+    buckets: u32,
+    overflow: u32,
+    rows: u32,
+    draws: u32,
+}
+
+// One bucket of seven words.
+const ONE_BUCKET: Load = Load {
+    buckets: 1,
+    overflow: 0,
+    rows: 8,
+    draws: 16,
+};
+
 // A plain cache and an index, both of this shape.
-fn both(alloc: Global, buckets: u32, rows: u32) -> Result<(Plain, Solo), Fail> {
+fn both(alloc: Global, load: Load) -> Result<(Plain, Solo), Fail> {
     let shape = Shape {
-        buckets,
-        overflow: 0,
+        buckets: load.buckets,
+        overflow: load.overflow,
         passes: 1,
         segments_each: SEGMENTS,
-        rows,
+        rows: load.rows,
         first_version: FIRST_VERSION,
     };
     shape.check().ok().ok_or("no shape")?;
@@ -61,8 +78,10 @@ fn value(generator: &mut Lcg64Xsh32) -> Result<Value, Fail> {
 }
 
 // A command; a cas expects the version that a gets found last.
-fn command(generator: &mut Lcg64Xsh32, version: u32) -> Result<Command, Fail> {
-    let kind = below(generator, 16);
+fn command(generator: &mut Lcg64Xsh32, draws: u32, version: u32) -> Result<Command, Fail>
+    requires { 0 < draws }
+{
+    let kind = below(generator, draws);
     let key = key(generator)?;
     let value = value(generator)?;
     let segment = below(generator, SEGMENTS + 1);
@@ -75,7 +94,8 @@ fn command(generator: &mut Lcg64Xsh32, version: u32) -> Result<Command, Fail> {
         8..=9 => Command::Get(key),
         10..=11 => Command::Gets(key),
         12..=13 => Command::Evict(segment),
-        _ => Command::Refill(segment),
+        14..=15 => Command::Refill(segment),
+        _ => Command::Write(Request::Set(key, value)),
     })
 }
 
@@ -108,18 +128,15 @@ fn kind_of(answer: &Answer) -> Option<usize>
 }
 
 // Serves so many commands by both, each once the one before is answered. It gives which kinds of answer came.
-fn serve_alike(
-    rt: &impl Abort,
-    alloc: Global,
-    buckets: u32,
-    rows: u32,
-) -> Result<[bool; KINDS], Fail> {
-    let (mut plain, mut solo) = both(alloc, buckets, rows)?;
-    let mut generator = Lcg64Xsh32::new(u64::from(buckets), u64::from(rows));
+fn serve_alike(rt: &impl Abort, alloc: Global, load: Load) -> Result<[bool; KINDS], Fail>
+    requires { 0 < load.draws }
+{
+    let (mut plain, mut solo) = both(alloc, load)?;
+    let mut generator = Lcg64Xsh32::new(u64::from(load.buckets), u64::from(load.rows));
     let mut came = [false; KINDS];
     let mut version = FIRST_VERSION;
     for number in 0..COMMANDS {
-        let command = command(&mut generator, version)?;
+        let command = command(&mut generator, load.draws, version)?;
         let expected = plain.serve(&command).ok().ok_or("out of memory")?;
         let given = solo.serve(&command).ok().ok_or("out of memory")?;
         assert_eq!(rt; given, expected, "command {number}: {command:?}");
@@ -134,33 +151,90 @@ fn serve_alike(
 
 #[test]
 fn one_bucket_that_fills(rt: HostRuntime) -> Result<(), Fail> {
-    let came = serve_alike(&rt, rt.alloc(), 1, 8)?;
+    let came = serve_alike(&rt, rt.alloc(), ONE_BUCKET)?;
     assert_eq!(rt; came, [true; KINDS]);
     Ok(())
 }
 
 #[test]
 fn segments_that_run_out_of_rows(rt: HostRuntime) -> Result<(), Fail> {
-    let came = serve_alike(&rt, rt.alloc(), 1, 3)?;
+    let load = Load {
+        rows: 3,
+        ..ONE_BUCKET
+    };
+    let came = serve_alike(&rt, rt.alloc(), load)?;
     assert!(rt; came[4]);
     Ok(())
 }
 
 #[test]
 fn more_buckets_than_keys(rt: HostRuntime) -> Result<(), Fail> {
-    let came = serve_alike(&rt, rt.alloc(), 64, 5)?;
+    let load = Load {
+        buckets: 64,
+        rows: 5,
+        ..ONE_BUCKET
+    };
+    let came = serve_alike(&rt, rt.alloc(), load)?;
     assert!(rt; !came[5]);
+    Ok(())
+}
+
+// Three buckets take 19 of the 26 keys.
+#[test]
+fn a_chain_that_takes_all_overflow_buckets(rt: HostRuntime) -> Result<(), Fail> {
+    let load = Load {
+        overflow: 2,
+        rows: 40,
+        draws: 64,
+        ..ONE_BUCKET
+    };
+    let came = serve_alike(&rt, rt.alloc(), load)?;
+    assert_eq!(rt; came, [true; KINDS]);
+    Ok(())
+}
+
+// Four buckets take 25, and no chain has a fifth.
+#[test]
+fn a_chain_of_four_buckets(rt: HostRuntime) -> Result<(), Fail> {
+    let load = Load {
+        overflow: 9,
+        rows: 60,
+        draws: 128,
+        ..ONE_BUCKET
+    };
+    let came = serve_alike(&rt, rt.alloc(), load)?;
+    assert!(rt; came[5]);
+    Ok(())
+}
+
+// One of two chains gets the overflow bucket.
+#[test]
+fn two_chains_and_one_overflow_bucket(rt: HostRuntime) -> Result<(), Fail> {
+    let load = Load {
+        buckets: 2,
+        overflow: 1,
+        rows: 40,
+        draws: 128,
+    };
+    let came = serve_alike(&rt, rt.alloc(), load)?;
+    assert!(rt; came[5]);
     Ok(())
 }
 
 // A whole list of commands at once.
 #[test]
 fn a_run_of_commands(rt: HostRuntime) -> Result<(), Fail> {
-    let (mut plain, mut solo) = both(rt.alloc(), 2, 8)?;
+    let (mut plain, mut solo) = both(
+        rt.alloc(),
+        Load {
+            buckets: 2,
+            ..ONE_BUCKET
+        },
+    )?;
     let mut generator = Lcg64Xsh32::new(1, 2);
     let mut commands = Vec::new(rt.alloc());
     for _ in 0..1_000 {
-        commands.push(command(&mut generator, FIRST_VERSION)?)?;
+        commands.push(command(&mut generator, ONE_BUCKET.draws, FIRST_VERSION)?)?;
     }
     let mut expected = Vec::new(rt.alloc());
     let mut given = Vec::new(rt.alloc());

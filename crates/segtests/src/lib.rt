@@ -14,6 +14,8 @@ mod digits;
 #[cfg(test)]
 mod evicting;
 #[cfg(test)]
+mod growing;
+#[cfg(test)]
 mod meeting;
 #[cfg(test)]
 mod owner;

@@ -118,13 +118,22 @@ fn each_option_changes_its_own_part(rt: HostRuntime) -> Result<(), Fail> {
 }
 
 #[test]
-fn overflow_buckets_are_refused_so_far(rt: HostRuntime) -> Result<(), Fail> {
-    let words = ["script", "--overflow", "0"];
-    check_program(&rt, rt.alloc(), &words, SCRIPT, 0, REPLIES, b"")?;
-    for overflow in ["1", "4294967295"] {
+fn a_full_bucket_takes_an_overflow_bucket(rt: HostRuntime) -> Result<(), Fail> {
+    let script =
+        b"p0 refill 0\np0 set a 1\np0 set b 1\np0 set c 1\np0 set d 1\np0 set e 1\np0 set f 1\np0 set g 1\np0 set h 1\np0 get h\n";
+    let words = ["script", "--overflow", "0", "--rows", "8"];
+    let full =
+        b"REFILLED\nSTORED\nSTORED\nSTORED\nSTORED\nSTORED\nSTORED\nSTORED\nBUCKETFULL\nMISS\n";
+    check_program(&rt, rt.alloc(), &words, script, 0, full, b"")?;
+    for overflow in ["1", "65536"] {
+        let words = ["script", "--overflow", overflow, "--rows", "8"];
+        let grown =
+            b"REFILLED\nSTORED\nSTORED\nSTORED\nSTORED\nSTORED\nSTORED\nSTORED\nSTORED\nVALUE 1\n";
+        check_program(&rt, rt.alloc(), &words, script, 0, grown, b"")?;
+    }
+    for overflow in ["65537", "4294967295"] {
         let words = ["script", "--overflow", overflow];
-        let fault = b"bad option: no overflow buckets yet\n";
-        check_program(&rt, rt.alloc(), &words, SCRIPT, 2, b"", fault)?;
+        check_program(&rt, rt.alloc(), &words, SCRIPT, 3, b"", b"bad shape 2\n")?;
     }
     Ok(())
 }

@@ -3,21 +3,23 @@ use super::*;
 
 #[test]
 fn a_bad_shape_is_answered_by_its_first_fault(rt: HostRuntime) -> Result<(), Fail> {
-    for (buckets, passes, segments_each, rows, fault) in [
-        (3, 1, 1, 2, ShapeFault::BadBuckets),
-        (0, 0, 1, 2, ShapeFault::BadBuckets),
-        (1, 0, 1, 2, ShapeFault::BadPasses),
-        (1, 65, 0, 2, ShapeFault::BadPasses),
-        (1, 1, 0, 2, ShapeFault::BadSegments),
-        (1, 1, 1025, 2, ShapeFault::BadSegments),
-        (1, 1, 0, 0, ShapeFault::BadSegments),
-        (1, 1, 1, 0, ShapeFault::BadRows),
-        (1, 1, 1, 4097, ShapeFault::BadRows),
-        (1, 64, 1024, 4096, ShapeFault::TooLarge),
+    for (buckets, overflow, passes, segments_each, rows, fault) in [
+        (3, 0, 1, 1, 2, ShapeFault::BadBuckets),
+        (0, 0, 0, 1, 2, ShapeFault::BadBuckets),
+        (1, 65_537, 1, 1, 2, ShapeFault::BadOverflow),
+        (1, 65_537, 0, 1, 2, ShapeFault::BadOverflow),
+        (1, 0, 0, 1, 2, ShapeFault::BadPasses),
+        (1, 0, 65, 0, 2, ShapeFault::BadPasses),
+        (1, 0, 1, 0, 2, ShapeFault::BadSegments),
+        (1, 0, 1, 1025, 2, ShapeFault::BadSegments),
+        (1, 0, 1, 0, 0, ShapeFault::BadSegments),
+        (1, 0, 1, 1, 0, ShapeFault::BadRows),
+        (1, 0, 1, 1, 4097, ShapeFault::BadRows),
+        (1, 0, 64, 1024, 4096, ShapeFault::TooLarge),
     ] {
         let shape = Shape {
             buckets,
-            overflow: 0,
+            overflow,
             passes,
             segments_each,
             rows,

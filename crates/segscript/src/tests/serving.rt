@@ -39,6 +39,24 @@ fn a_bucket_of_seven_keys_is_full_for_another_and_not_for_one_of_them(
     )
 }
 
+// With one overflow bucket a bucket takes 13 keys.
+#[test]
+fn a_full_bucket_takes_the_overflow_bucket(rt: HostRuntime) -> Result<(), Fail> {
+    let shape = Shape {
+        overflow: 1,
+        ..shape_of(32)
+    };
+    check(
+        &rt,
+        rt.alloc(),
+        shape,
+        b"p0 refill 0\np0 set a 1\np0 set b 1\np0 set c 1\np0 set d 1\np0 set e 1\np0 set f 1\np0 set g 1\np0 set h 1\np0 set i 1\np0 set j 1\np0 set k 1\np0 set l 1\np0 set m 1\np0 set n 1\np0 set m 2\np0 get a\np0 get m\np0 get n\np0 delete h\np0 set n 1\n",
+        None,
+        Ok(()),
+        b"REFILLED\nSTORED\nSTORED\nSTORED\nSTORED\nSTORED\nSTORED\nSTORED\nSTORED\nSTORED\nSTORED\nSTORED\nSTORED\nSTORED\nBUCKETFULL\nSTORED\nVALUE 1\nVALUE 2\nMISS\nDELETED\nSTORED\n",
+    )
+}
+
 #[test]
 fn the_longest_key_and_value_are_kept(rt: HostRuntime) -> Result<(), Fail> {
     check_script(

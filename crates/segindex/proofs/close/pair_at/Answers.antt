@@ -1,5 +1,5 @@
 use Rattle.std.proofs.Common.{◌∙◌, rules}
-use Rattle.segindex.proofs.AtRest.{row_in_table, no_pair, pair_is}
+use Rattle.segindex.proofs.AtRest.{row_in_table, pair_is}
 use Rattle.segindex.proofs.close.pair_at.Goals as goal
 
 pub row-requires-clause-segment : goal.row-requires-clause-segment

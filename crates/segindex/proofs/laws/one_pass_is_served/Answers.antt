@@ -12,16 +12,16 @@ use Rattle.segindex.proofs.laws.one_pass_is_served.Goals as goal
 pub returns : goal.returns
 returns c = record {
   start = starts_new;
-  get = λ index p q key told. serves_get index.board p q key told index.no_overflow;
-  gets = λ index p q key told. serves_gets index.board p q key told index.no_overflow;
-  write = λ index p q request told store. serves_write index.board p q request told store index.no_overflow;
-  delete = λ index p q key told. serves_delete index.board p q key told index.no_overflow;
-  evict = λ index p q segment told. serves_evict index.board p q segment told index.no_overflow;
-  refill = λ index p q segment told. serves_refill index.board p q segment told index.no_overflow;
-  lock = λ index p q key told. turns_lock index.board p q key told index.no_overflow;
-  unlock = λ index p q told. turns_unlock index.board p q told index.no_overflow;
-  hold = λ index p q key told. turns_hold index.board p q key told index.no_overflow;
-  held = λ index p q hold value. turns_held index.board p q hold value index.no_overflow;
-  release = λ index p q hold. turns_release index.board p q hold index.no_overflow;
+  get = λ index p q key told. serves_get index.board p q key told;
+  gets = λ index p q key told. serves_gets index.board p q key told;
+  write = λ index p q request told store. serves_write index.board p q request told store;
+  delete = λ index p q key told. serves_delete index.board p q key told;
+  evict = λ index p q segment told. serves_evict index.board p q segment told;
+  refill = λ index p q segment told. serves_refill index.board p q segment told;
+  lock = λ index p q key told. turns_lock index.board p q key told;
+  unlock = λ index p q told. turns_unlock index.board p q told;
+  hold = λ index p q key told. turns_hold index.board p q key told;
+  held = λ index p q hold value. turns_held index.board p q hold value;
+  release = λ index p q hold. turns_release index.board p q hold;
   nothing = λ index p was not. (turns_not_held index.board p p was refl not, turns_not_released index.board p p was refl not);
 }

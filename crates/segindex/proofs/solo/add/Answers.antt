@@ -4,4 +4,4 @@ use Rattle.segindex.proofs.AloneWrites.{serves_write}
 use Rattle.segindex.proofs.solo.add.Goals as goal
 
 pub returns : goal.returns
-returns c = serves_write c.args.index.now.board c.args.pass.now c.add.new.pass (Add c.args.key.now c.args.value.now) c.add.result refl c.args.index.now.no_overflow c.requires.alone c.add.ensures.writes
+returns c = serves_write c.args.index.now.board c.args.pass.now c.add.new.pass (Add c.args.key.now c.args.value.now) c.add.result refl c.requires.alone c.add.ensures.writes

@@ -2,4 +2,4 @@ use Rattle.segindex.proofs.AloneDeletes.{serves_delete}
 use Rattle.segindex.proofs.solo.delete.Goals as goal
 
 pub returns : goal.returns
-returns c = serves_delete c.args.index.now.board c.args.pass.now c.delete.new.pass c.args.key.now c.delete.result c.args.index.now.no_overflow c.requires.alone c.delete.ensures.deletes
+returns c = serves_delete c.args.index.now.board c.args.pass.now c.delete.new.pass c.args.key.now c.delete.result c.requires.alone c.delete.ensures.deletes

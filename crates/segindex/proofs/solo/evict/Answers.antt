@@ -2,4 +2,4 @@ use Rattle.segindex.proofs.AloneEvicts.{serves_evict}
 use Rattle.segindex.proofs.solo.evict.Goals as goal
 
 pub returns : goal.returns
-returns c = serves_evict c.args.index.now.board c.args.pass.now c.evict.new.pass c.args.segment c.evict.result c.args.index.now.no_overflow c.requires.alone c.evict.ensures.on c.evict.ensures.answer c.evict.ensures.not_yours
+returns c = serves_evict c.args.index.now.board c.args.pass.now c.evict.new.pass c.args.segment c.evict.result c.requires.alone c.evict.ensures.on c.evict.ensures.draws_nothing c.evict.ensures.answer c.evict.ensures.not_yours

@@ -2,4 +2,4 @@ use Rattle.segindex.proofs.AloneReads.{serves_get}
 use Rattle.segindex.proofs.solo.get.Goals as goal
 
 pub returns : goal.returns
-returns c = serves_get c.args.index.now.board c.args.pass.now c.get.new.pass c.args.key.now c.get.result c.args.index.now.no_overflow c.requires.alone c.get.ensures.on c.get.ensures.keeps c.get.ensures.answer
+returns c = serves_get c.args.index.now.board c.args.pass.now c.get.new.pass c.args.key.now c.get.result c.requires.alone c.get.ensures.on c.get.ensures.draws_nothing c.get.ensures.keeps c.get.ensures.answer

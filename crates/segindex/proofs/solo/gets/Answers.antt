@@ -2,4 +2,4 @@ use Rattle.segindex.proofs.AloneReads.{serves_gets}
 use Rattle.segindex.proofs.solo.gets.Goals as goal
 
 pub returns : goal.returns
-returns c = serves_gets c.args.index.now.board c.args.pass.now c.gets.new.pass c.args.key.now c.gets.result c.args.index.now.no_overflow c.requires.alone c.gets.ensures.on c.gets.ensures.keeps c.gets.ensures.answer c.gets.ensures.unlocked
+returns c = serves_gets c.args.index.now.board c.args.pass.now c.gets.new.pass c.args.key.now c.gets.result c.requires.alone c.gets.ensures.on c.gets.ensures.draws_nothing c.gets.ensures.keeps c.gets.ensures.answer c.gets.ensures.unlocked

@@ -9,6 +9,6 @@ returns-in-Some-clause-turn c =
     let e = c.held_value.ensures in
     record {
       goes_on = e.on;
-      alone = λ was. turns_held b c.args.pass.now c.held_value.new.pass c.in-Some.hold c.held_value.result c.args.index.now.no_overflow was e.on
+      alone = λ was. turns_held b c.args.pass.now c.held_value.new.pass c.in-Some.hold c.held_value.result was e.on e.draws_nothing
           (subst (λ kept. IsHoldKept b.shape kept c.args.pass.now) c.in-Some.is c.requires.hold) e.keeps e.value;
     }

@@ -9,6 +9,6 @@ returns-in-Some-clause-turn c =
     let e = c.release.ensures in
     record {
       goes_on = e.on;
-      alone = λ was. turns_release b c.args.pass.now c.release.new.pass c.in-Some.hold c.args.index.now.no_overflow was e.on
+      alone = λ was. turns_release b c.args.pass.now c.release.new.pass c.in-Some.hold was e.on e.draws_nothing
           (subst (λ kept. IsHoldKept b.shape kept c.args.pass.now) (sym c.take.ensures.value ∙ c.in-Some.is) c.requires.hold) e.releases;
     }

@@ -1,12 +1,17 @@
-use Rattle.std.proofs.Common.{◌≡◌, ◌%◌, refl, sym, ap, ◌∙◌, subst}
+use Rattle.std.proofs.Common.{◌≡◌, ◌%◌, false, refl, sym, ap, ◌∙◌, subst}
 use Rattle.segword.specs.Fnv.{tag_from_hash}
 use Rattle.segmodel.specs.declared.request.Request.TheVariants.{Delete}
 use Rattle.segmodel.specs.Places.{bucket_of, tag_of}
-use Rattle.segindex.specs.Storing.{TookToWrite}
+use Rattle.segindex.specs.Storing.{TookToWrite, TakesToWrite}
 use Rattle.segindex.specs.Refusing.{Removes}
-use Rattle.segindex.proofs.Deleting.{deletes}
+use Rattle.segindex.proofs.Deleting.{deletes, deletes_nothing}
 use Rattle.segindex.proofs.UnderWrite.{took_moved, took_clean}
 use Rattle.segindex.proofs.index.Index.delete.Goals as goal
+
+pub returns-then-not-take_to_write : goal.returns-then-not-take_to_write
+returns-then-not-take_to_write c =
+    let home : c.bucket_of-bucket.result ≡ bucket_of c.args.self.now.board.shape c.args.key.now = c.bucket_of-bucket.ensures ∙ (λ i. c.hash-hash.ensures i % (c.shape.ensures i).buckets) in
+    record { deletes = deletes_nothing c.args.self.now.board c.args.key.now c.args.pass.now c.take_to_write.new.pass (subst (λ k. TakesToWrite c.args.self.now.board k false c.args.pass.now c.take_to_write.new.pass) home c.if-not-take_to_write.ensures.takes) }
 
 pub remove-requires : goal.remove-requires
 remove-requires c = let b = c.args.self.now.board in let words = c.new in let took = c.if-not-take_to_write.ensures.takes in

@@ -3,6 +3,7 @@ use Rattle.segbase.specs.Passes.{trace}
 use Rattle.segbase.proofs.Moves.{moved_on}
 use Rattle.segstore.proofs.Readers.{then_reader, leave_then}
 use Rattle.segindex.specs.Index.{board_of, shape_of}
+use Rattle.segindex.proofs.Draws.{reader_draws_none}
 use Rattle.segindex.proofs.Reading.{read_on}
 use Rattle.segindex.proofs.Gets.{found_reads, gone_reads, found_place, reads_no_bit}
 use Rattle.segcore.proofs.Moments.{begins_on}
@@ -55,3 +56,15 @@ returns-in-Busy-clause-keeps c = let r = c.in-Busy.ensures.reads in (read_on (bo
 
 pub returns-in-Busy-clause-takes_no_bit : goal.returns-in-Busy-clause-takes_no_bit
 returns-in-Busy-clause-takes_no_bit c = reads_no_bit (board_of c.args.self.now) c.args.pass.now c.scan_for.new.pass c.in-Busy.ensures.reads
+
+pub returns-in-Found-clause-draws_nothing : goal.returns-in-Found-clause-draws_nothing
+returns-in-Found-clause-draws_nothing c = let b = board_of c.args.self.now in let p = c.args.pass.now in let f = c.in-Found in let r = c.leave_segment.new.pass in
+    let in' = then_reader b p c.scan_for.new.pass c.count_hit.new.pass f.item.seg f.ensures.reads c.count_hit.ensures.reads in
+    let out = leave_then b p c.count_hit.new.pass r f.item.seg in' c.leave_segment.ensures in
+    reader_draws_none b p r out.reads
+
+pub returns-in-Absent-clause-draws_nothing : goal.returns-in-Absent-clause-draws_nothing
+returns-in-Absent-clause-draws_nothing c = reader_draws_none (board_of c.args.self.now) c.args.pass.now c.scan_for.new.pass c.in-Absent.ensures.reads.reads
+
+pub returns-in-Busy-clause-draws_nothing : goal.returns-in-Busy-clause-draws_nothing
+returns-in-Busy-clause-draws_nothing c = reader_draws_none (board_of c.args.self.now) c.args.pass.now c.scan_for.new.pass c.in-Busy.ensures.reads.reads

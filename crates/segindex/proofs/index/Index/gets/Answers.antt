@@ -1,6 +1,7 @@
 use Rattle.std.proofs.Common.{subst}
 use Rattle.segindex.specs.Index.{board_of}
 use Rattle.segindex.specs.Gets.{IsVersionScan}
+use Rattle.segindex.proofs.Draws.{reader_draws_none}
 use Rattle.segindex.proofs.Reading.{read_on}
 use Rattle.segindex.proofs.Gets.{takes_none}
 use Rattle.segindex.proofs.VersionScans.{scan_answers}
@@ -27,3 +28,9 @@ returns-clause-takes_no_bit c = takes_none (board_of c.args.self.now) c.args.pas
 pub returns-clause-answer : goal.returns-clause-answer
 returns-clause-answer c = let b = board_of c.args.self.now in let p = c.args.pass.now in let v = c.scan_versions in
     scan_answers b c.args.key.now v.result p v.new.pass v.ensures.reads (subst (λ k. IsVersionScan b.shape k v.result p v.new.pass) c.new.ensures.value v.ensures.scan)
+
+pub returns-then-eq-clause-draws_nothing : goal.returns-then-eq-clause-draws_nothing
+returns-then-eq-clause-draws_nothing c = reader_draws_none (board_of c.args.self.now) c.args.pass.now c.find_locked.new.pass c.find_locked.ensures.reads.reads
+
+pub returns-clause-draws_nothing : goal.returns-clause-draws_nothing
+returns-clause-draws_nothing c = reader_draws_none (board_of c.args.self.now) c.args.pass.now c.scan_versions.new.pass c.scan_versions.ensures.reads.reads

@@ -3,7 +3,7 @@ use Rattle.segword.specs.declared.shape.Shape.{Shape}
 use Rattle.segcore.proofs.Chains.{chain_of}
 use Rattle.segbase.specs.Passes.{trace}
 use Rattle.segstore.proofs.Refills.{idles}
-use Rattle.segindex.specs.Growing.{home_at, IsLast, HasSpare, Joins, Lengthens}
+use Rattle.segindex.specs.Growing.{IsLast, HasSpare, Joins, Lengthens}
 use Rattle.segindex.proofs.Growing.{spare_drawn, last_drawn, home_drawn, lengthened}
 use Rattle.segindex.proofs.index.Index.grow.Goals as goal
 

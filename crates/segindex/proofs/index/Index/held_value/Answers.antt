@@ -3,6 +3,7 @@ use Rattle.segcore.specs.Row.{Row}
 use Rattle.segstore.proofs.Looks.{loaded, may_load, reads_then}
 use Rattle.segstore.proofs.Readers.{looks}
 use Rattle.segindex.specs.Index.{board_of}
+use Rattle.segindex.proofs.Draws.{reader_draws_none}
 use Rattle.segindex.proofs.Gets.{takes_none}
 use Rattle.segindex.proofs.HoldCalls.{may_read, has_row}
 use Rattle.segindex.proofs.Reading.{read_on}
@@ -35,3 +36,7 @@ returns-clause-value c = let b = board_of c.args.self.now in let p = c.args.pass
     let reads = reads_then b p l.new.pass v.new.pass hold.segment hold.row (loaded b p l.new.pass hold.segment hold.row 0 l.result (may_read b p hold c.requires.pass is) l.ensures.step) v.ensures.reads in
     let is_value = v.ensures.value is.held.key is.held.value is.valid.0 is.valid.1 (λ j lt. ap (λ (u : Row). u.words j) reads.same ∙ (has_row b p hold c.requires.pass is).pair j lt) in
     subst (λ o. IfSome o (λ held. v.result ≡ held.value)) (sym is.holds) is_value
+
+pub returns-clause-draws_nothing : goal.returns-clause-draws_nothing
+returns-clause-draws_nothing c = let b = board_of c.args.self.now in let p = c.args.pass.now in let hold = c.args.hold.now in let l = c.row_load-header in let v = c.value_of_row in
+    reader_draws_none b p v.new.pass (looks b p v.new.pass (reads_then b p l.new.pass v.new.pass hold.segment hold.row (loaded b p l.new.pass hold.segment hold.row 0 l.result (may_read b p hold c.requires.pass c.requires.hold) l.ensures.step) v.ensures.reads).looked).reads

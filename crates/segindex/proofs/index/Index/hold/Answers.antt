@@ -1,8 +1,9 @@
 use Rattle.std.proofs.Common.{Some, refl, arith}
 use Rattle.segbase.specs.Passes.{trace}
 use Rattle.segindex.specs.Index.{board_of, shape_of}
+use Rattle.segindex.proofs.Draws.{reader_draws_none}
 use Rattle.segindex.proofs.Gets.{gone_reads, takes_none}
-use Rattle.segindex.proofs.HoldCalls.{has_found, takes_hold, takes_no_bit}
+use Rattle.segindex.proofs.HoldCalls.{has_found, takes_hold, takes_no_bit, draws_nothing}
 use Rattle.segindex.proofs.Holding.{held_at}
 use Rattle.segindex.proofs.Reading.{read_on}
 use Rattle.segindex.proofs.index.Index.hold.Goals as goal
@@ -48,3 +49,13 @@ returns-in-Busy-clause-answer c = let r = c.in-Busy.ensures.reads in (
   (read_on (board_of c.args.self.now) c.args.pass.now c.scan_for.new.pass c.requires.pass r.reads r.plain r.memo).1,
   (let more = c.in-Busy.ensures.scan in omega arith),
 )
+
+pub returns-in-Found-clause-draws_nothing : goal.returns-in-Found-clause-draws_nothing
+returns-in-Found-clause-draws_nothing c = let b = board_of c.args.self.now in let f = c.in-Found in let r = f.ensures.reads in let p = c.args.pass.now in let q = c.scan_for.new.pass in
+    draws_nothing b r.reads.own (Some (held_at (shape_of c.args.self.now) (trace q) c.args.key.now f.value f.item.seg)) p q c.set_hold.new.pass c.requires.pass r.reads.moved r.reads.only r.plain r.memo c.set_hold.ensures.pass c.set_hold.ensures.sets
+
+pub returns-in-Absent-clause-draws_nothing : goal.returns-in-Absent-clause-draws_nothing
+returns-in-Absent-clause-draws_nothing c = reader_draws_none (board_of c.args.self.now) c.args.pass.now c.scan_for.new.pass c.in-Absent.ensures.reads.reads
+
+pub returns-in-Busy-clause-draws_nothing : goal.returns-in-Busy-clause-draws_nothing
+returns-in-Busy-clause-draws_nothing c = reader_draws_none (board_of c.args.self.now) c.args.pass.now c.scan_for.new.pass c.in-Busy.ensures.reads.reads

@@ -1,4 +1,5 @@
 use Rattle.std.proofs.Common.{[], refl, rules}
+use Rattle.segindex.proofs.Draws.{moved_undrawn}
 use Rattle.segindex.proofs.Idling.{goes_nowhere, does_nothing, took_none}
 use Rattle.segindex.proofs.Meeting.{meets}
 use Rattle.segindex.proofs.index.Index.meet.Goals as goal
@@ -17,3 +18,9 @@ returns-clause-take_no_bit c = let b = c.args.self.now.board in (
 
 pub returns-clause-meets : goal.returns-clause-meets
 returns-clause-meets c = let met = meets c.args.self.now.board c.args.first.now c.args.second.now in search (rules, met)
+
+pub returns-clause-draw_nothing : goal.returns-clause-draw_nothing
+returns-clause-draw_nothing c = let b = c.args.self.now.board in (
+  moved_undrawn b [] c.args.first.now c.meet.new.first c.meet.ensures.first.0 tt,
+  moved_undrawn b [] c.args.second.now c.meet.new.second c.meet.ensures.second.0 tt,
+)

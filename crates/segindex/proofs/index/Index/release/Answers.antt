@@ -2,7 +2,7 @@ use Rattle.segindex.specs.Index.{board_of}
 use Rattle.std.proofs.Common.{None, [], ◌∷◌}
 use Rattle.segcore.specs.declared.event.Event.TheVariants.{Left}
 use Rattle.segbase.specs.Passes.{number}
-use Rattle.segindex.proofs.HoldCalls.{releases, takes_no_bit}
+use Rattle.segindex.proofs.HoldCalls.{releases, takes_no_bit, draws_nothing}
 use Rattle.segindex.proofs.index.Index.release.Goals as goal
 
 pub returns-clause-on : goal.returns-clause-on
@@ -16,3 +16,7 @@ returns-clause-takes_no_bit c = let st = c.leave.ensures.step.1 in let p = c.arg
 pub returns-clause-releases : goal.returns-clause-releases
 returns-clause-releases c = let st = c.leave.ensures.step.1 in
     (releases (board_of c.args.self.now) c.args.pass.now c.leave.new.pass c.set_hold.new.pass c.args.hold c.requires.pass c.requires.hold c.leave.ensures.did st.plain st.memo c.set_hold.ensures.pass c.set_hold.ensures.sets).1
+
+pub returns-clause-draws_nothing : goal.returns-clause-draws_nothing
+returns-clause-draws_nothing c = let st = c.leave.ensures.step.1 in let p = c.args.pass.now in
+    draws_nothing (board_of c.args.self.now) (Left (number p) c.args.hold.segment ∷ []) None p c.leave.new.pass c.set_hold.new.pass c.requires.pass c.leave.ensures.did.moved (tt, tt) st.plain st.memo c.set_hold.ensures.pass c.set_hold.ensures.sets

@@ -1,4 +1,4 @@
-use Rattle.std.proofs.Common.{◌+◌, ◌-◌, ◌*◌, ◌<◌, sym, ap, ◌∙◌, subst}
+use Rattle.std.proofs.Common.{eqb, ◌+◌, ◌-◌, ◌*◌, ◌<◌, sym, ap, ◌∙◌, subst, arith}
 use Rattle.std.proofs.lemmas.Bool.{both_ways}
 use Rattle.segcore.specs.Bucket.{bucket_after}
 use Rattle.segcore.specs.Kind.{HasBit}
@@ -6,7 +6,7 @@ use Rattle.segbase.specs.Spots.{position}
 use Rattle.segbase.specs.Passes.{number, trace}
 use Rattle.segindex.proofs.Places.{idles_then, step_idles}
 use Rattle.segindex.specs.Growing.{Searches}
-use Rattle.segindex.proofs.Searching.{searching_first, first_bucket}
+use Rattle.segindex.proofs.Searching.{searching_first, first_bucket, few_buckets, one_at_most}
 use Rattle.segindex.proofs.Finding.{bit_looked, chain_looked, reads_looked, is_target, go_on, smaller, deeper, found_end}
 use Rattle.segindex.proofs.index.Index.search.Goals as goal
 
@@ -15,6 +15,10 @@ loop-place-init c = record {
   searching = searching_first c.args.self.now.board c.args.key.now c.args.pass.now c.args.bucket c.requires.bucket c.requires.pass c.requires.bit.0;
   deep = first_bucket c.args.self.now.board.shape (trace c.args.pass.now) c.args.bucket c.requires.bit.0;
 }
+
+pub overflow_add-buckets : goal.overflow_add-buckets
+overflow_add-buckets c = let few = few_buckets c.args.self.now.board c.args.key.now c.args.pass.now c.loop-place.pass c.loop-place.place c.loop-place.empty c.loop-place.invariant.searching in
+    let deep = c.loop-place.invariant.deep in let one = c.from-buckets.ensures in let few_more = one_at_most (eqb c.in-Some.next.word 1) in omega arith
 
 pub is_item_of-requires-clause-chain : goal.is_item_of-requires-clause-chain
 is_item_of-requires-clause-chain c = let l = c.look-word in let b = c.args.self.now.board in

@@ -1,6 +1,6 @@
 use Rattle.std.proofs.Common.{sym}
 use Rattle.segindex.proofs.Quiet.{has_locked}
-use Rattle.segindex.proofs.Locking.{takes_none, unlocks_bucket}
+use Rattle.segindex.proofs.Locking.{takes_none, unlocks_bucket, unlocks_undrawn}
 use Rattle.segindex.proofs.index.Index.unlock_bucket.Goals as goal
 
 pub release-requires : goal.release-requires
@@ -20,3 +20,7 @@ returns-clause-takes_no_bit c = let step = c.release.ensures.step.1 in
 pub returns-clause-answer : goal.returns-clause-answer
 returns-clause-answer c = let step = c.release.ensures.step.1 in
     (unlocks_bucket c.args.self.now.board c.args.pass.now c.release.new.pass c.set_lock.new.pass c.in-Some.bucket c.requires.quiet (sym c.in-Some.ensures) c.release.ensures.did c.release.ensures.free step.plain step.memo c.set_lock.ensures.pass c.set_lock.ensures.sets).1
+
+pub returns-clause-draws_nothing : goal.returns-clause-draws_nothing
+returns-clause-draws_nothing c = let step = c.release.ensures.step.1 in
+    unlocks_undrawn c.args.self.now.board c.args.pass.now c.release.new.pass c.set_lock.new.pass c.in-Some.bucket c.requires.quiet (sym c.in-Some.ensures) c.release.ensures.did c.release.ensures.free step.plain step.memo c.set_lock.ensures.pass c.set_lock.ensures.sets

@@ -1,4 +1,4 @@
-use Rattle.std.proofs.Common.{rules, is_some, ◌≡◌, ◌%◌, Some, None, refl, sym, ap, ◌∙◌, subst}
+use Rattle.std.proofs.Common.{rules, is_some, ◌≡◌, ◌%◌, sym, ap, ◌∙◌, subst}
 use Rattle.std.proofs.lemmas.Bool.{false≢true}
 use Rattle.segword.specs.Bytes.{IsKey}
 use Rattle.segword.specs.Fnv.{tag_from_hash}

@@ -1,0 +1,152 @@
+//! Chains that grow on threads: two writers draw from one counter, and a reader finds a key whose item moves on.
+ghost use Rattle.std.specs.Prelude.{◌<◌};
+ghost use Rattle.segindex.specs.Index.{board_of};
+ghost use Rattle.segindex.specs.Quiet.{IsQuiet};
+
+use crate::passes::last_two;
+use segindex::{Index, Pass};
+use segmodel::{GetAnswer, RefillAnswer, WriteAnswer};
+use segword::{Key, Shape, Value};
+use std::test::Fail;
+use std::thread::join;
+
+// As many keys as a chain of four buckets has words for.
+const KEYS: u8 = 25;
+
+const ROUNDS: u32 = 20;
+
+const READS: u32 = 2_000;
+
+// Whether a key of one byte was stored. Its value is its byte.
+fn is_stored(index: &Index, pass: &mut Pass, byte: u8) -> bool
+    requires { IsQuiet (board_of index.now) pass.old }
+    ensures { IsQuiet (board_of index.now) pass.new }
+{
+    let (Some(key), Some(value)) = (Key::new(&[byte]), Value::new(&[byte])) else {
+        return false;
+    };
+    index.set(pass, &key, &value) == WriteAnswer::Stored
+}
+
+// Whether a key of one byte is found, with its value.
+fn is_found(index: &Index, pass: &mut Pass, byte: u8, draw: u32) -> bool
+    requires { IsQuiet (board_of index.now) pass.old }
+    ensures { IsQuiet (board_of index.now) pass.new }
+{
+    let (Some(key), Some(value)) = (Key::new(&[byte]), Value::new(&[byte])) else {
+        return false;
+    };
+    index.get(pass, &key, draw) == GetAnswer::Found(value)
+}
+
+// Sets the keys with bytes of this parity, which are those of one bucket of two. It gives how many were stored.
+fn fill_bucket(index: &Index, mut pass: Pass, parity: u8) -> (Pass, u32)
+    requires quiet { IsQuiet (board_of index.now) pass }
+    requires parity { parity < 2 }
+    ensures { IsQuiet (board_of index.now) result.0 }
+{
+    let mut stored = 0u32;
+    for half in 0..KEYS {
+        let is_stored = is_stored(index, &mut pass, 2 * half + parity);
+        stored = stored.saturating_add(u32::from(is_stored));
+    }
+    (pass, stored)
+}
+
+// How many of the keys of both buckets are found.
+fn count_found(index: &Index, pass: &mut Pass) -> u32
+    requires { IsQuiet (board_of index.now) pass.old }
+    ensures { IsQuiet (board_of index.now) pass.new }
+{
+    let mut found = 0u32;
+    for byte in 0..2 * KEYS {
+        let is_found = is_found(index, pass, byte, u32::MAX);
+        found = found.saturating_add(u32::from(is_found));
+    }
+    found
+}
+
+#[test]
+fn two_chains_share_the_overflow_buckets(rt: HostRuntime) -> Result<(), Fail> {
+    let shape = Shape {
+        buckets: 2,
+        overflow: 4,
+        passes: 2,
+        segments_each: 1,
+        rows: 32,
+        first_version: 0,
+    };
+    for _ in 0..ROUNDS {
+        let (index, passes) = Index::new(rt.alloc(), shape)?;
+        let (mut first, mut second) = last_two(&index, passes).expect(&rt, "two passes");
+        assert_eq!(rt; index.refill(&mut first, 0), RefillAnswer::Refilled);
+        assert_eq!(rt; index.refill(&mut second, 1), RefillAnswer::Refilled);
+        let ((mut first, stored), (mut second, stored_too)) = join(
+            &rt,
+            || -> (Pass, u32)
+                requires { IsQuiet (board_of index) first }
+                ensures { IsQuiet (board_of index) result.0 }
+            { fill_bucket(&index, first, 0) },
+            || -> (Pass, u32)
+                requires { IsQuiet (board_of index) second }
+                ensures { IsQuiet (board_of index) result.0 }
+            { fill_bucket(&index, second, 1) },
+        );
+        // Seven words each, and six more for each of the four buckets, however the two shared these.
+        assert_eq!(rt; stored.saturating_add(stored_too), 38);
+        assert_eq!(rt; stored % 6, 1);
+        index.meet(&mut first, &mut second);
+        assert_eq!(rt; count_found(&index, &mut first), 38);
+        assert_eq!(rt; count_found(&index, &mut second), 38);
+    }
+    Ok(())
+}
+
+// Reads a key again and again, and gives whether it was found each time from the first time on. Each hit raises its frequency.
+fn stays_found(index: &Index, mut pass: Pass, byte: u8) -> (Pass, bool)
+    requires { IsQuiet (board_of index.now) pass }
+    ensures { IsQuiet (board_of index.now) result.0 }
+{
+    let mut was_found = false;
+    let mut stays = true;
+    for _ in 0..READS {
+        let is_found = is_found(index, &mut pass, byte, 0);
+        stays = stays && (is_found || !was_found);
+        was_found = was_found || is_found;
+    }
+    (pass, stays)
+}
+
+#[test]
+fn a_key_that_moves_on_stays_found(rt: HostRuntime) -> Result<(), Fail> {
+    let shape = Shape {
+        buckets: 2,
+        overflow: 3,
+        passes: 2,
+        segments_each: 1,
+        rows: 32,
+        first_version: 0,
+    };
+    // Bytes of the 7th, 13th and 19th key: each is in the chain's last word as the chain grows.
+    for byte in [12u8, 24, 36] {
+        for _ in 0..ROUNDS {
+            let (index, passes) = Index::new(rt.alloc(), shape)?;
+            let (mut writer, reader) = last_two(&index, passes).expect(&rt, "two passes");
+            assert_eq!(rt; index.refill(&mut writer, 0), RefillAnswer::Refilled);
+            let ((_, stored), (_, stays)) = join(
+                &rt,
+                || -> (Pass, u32)
+                    requires { IsQuiet (board_of index) writer }
+                    ensures { IsQuiet (board_of index) result.0 }
+                { fill_bucket(&index, writer, 0) },
+                || -> (Pass, bool)
+                    requires { IsQuiet (board_of index) reader }
+                    ensures { IsQuiet (board_of index) result.0 }
+                { stays_found(&index, reader, byte) },
+            );
+            assert_eq!(rt; stored, 25);
+            assert!(rt; stays);
+        }
+    }
+    Ok(())
+}
