@@ -134,7 +134,6 @@ fn plain_loop(
     commands: u32,
 ) -> Result<([u32; PLACES], u32), Fail>
     requires one_pass { shape.passes ≡ 1 }
-    requires no_overflow { shape.overflow ≡ 0 }
     requires some { (1 ≤ shape.segments_each) × (shape.segments_each < 2 ^ 32) }
 {
     let mut solo = Solo::new(alloc, shape).ok().ok_or("an index")?;
@@ -177,7 +176,6 @@ fn counts_as_plain<R: Threads + Wait + AllocGlobal + Abort + Sync>(
     commands: u32,
 ) -> Result<(), Fail>
     requires one_pass { shape.passes ≡ 1 }
-    requires no_overflow { shape.overflow ≡ 0 }
     requires some { (1 ≤ shape.segments_each) × (shape.segments_each < 2 ^ 32) }
 {
     let first = run_load(rt, rt.alloc(), shape, SEED, commands, &OpenGate)?;
