@@ -3,6 +3,7 @@ mod bad_lines;
 mod cut_short;
 mod devices;
 mod evicting;
+mod growing;
 mod holding;
 mod locking;
 mod making;

@@ -17,6 +17,9 @@ const ROUNDS: u32 = 20;
 
 const READS: u32 = 2_000;
 
+/// How often a thread tries again while it is told that the bucket is busy.
+const TURNS: u32 = 1_000_000;
+
 // Whether a key of one byte was stored. Its value is its byte.
 fn is_stored(index: &Index, pass: &mut Pass, byte: u8) -> bool
     requires { IsQuiet (board_of index.now) pass.old }
@@ -64,6 +67,75 @@ fn count_found(index: &Index, pass: &mut Pass) -> u32
         found = found.saturating_add(u32::from(is_found));
     }
     found
+}
+
+// Adds a key of one byte, again while its bucket is busy, and gives what that is answered.
+fn add(index: &Index, pass: &mut Pass, byte: u8) -> WriteAnswer
+    requires { IsQuiet (board_of index.now) pass.old }
+    ensures { IsQuiet (board_of index.now) pass.new }
+{
+    let (Some(key), Some(value)) = (Key::new(&[byte]), Value::new(&[byte])) else {
+        return WriteAnswer::Busy;
+    };
+    for _ in 0..TURNS {
+        let answer = index.add(pass, &key, &value);
+        if answer != WriteAnswer::Busy {
+            return answer;
+        }
+    }
+    WriteAnswer::Busy
+}
+
+// Adds the keys with bytes of this parity, and gives how many were stored, and for how many the bucket was full.
+fn add_all(index: &Index, mut pass: Pass, parity: u8) -> (Pass, u32, u32)
+    requires quiet { IsQuiet (board_of index.now) pass }
+    requires parity { parity < 2 }
+    ensures { IsQuiet (board_of index.now) result.0 }
+{
+    let mut stored = 0u32;
+    let mut full = 0u32;
+    for half in 0..KEYS {
+        let answer = add(index, &mut pass, 2 * half + parity);
+        stored = stored.saturating_add(u32::from(answer == WriteAnswer::Stored));
+        full = full.saturating_add(u32::from(answer == WriteAnswer::BucketFull));
+    }
+    (pass, stored, full)
+}
+
+#[test]
+fn two_threads_fill_one_bucket(rt: HostRuntime) -> Result<(), Fail> {
+    let shape = Shape {
+        buckets: 1,
+        overflow: 5,
+        passes: 2,
+        segments_each: 1,
+        rows: 32,
+        first_version: 0,
+    };
+    for _ in 0..ROUNDS {
+        let (index, passes) = Index::new(rt.alloc(), shape)?;
+        let (mut first, mut second) = last_two(&index, passes).expect(&rt, "two passes");
+        assert_eq!(rt; index.refill(&mut first, 0), RefillAnswer::Refilled);
+        assert_eq!(rt; index.refill(&mut second, 1), RefillAnswer::Refilled);
+        let ((mut first, stored, full), (mut second, stored_too, full_too)) = join(
+            &rt,
+            || -> (Pass, u32, u32)
+                requires { IsQuiet (board_of index) first }
+                ensures { IsQuiet (board_of index) result.0 }
+            { add_all(&index, first, 0) },
+            || -> (Pass, u32, u32)
+                requires { IsQuiet (board_of index) second }
+                ensures { IsQuiet (board_of index) result.0 }
+            { add_all(&index, second, 1) },
+        );
+        // Of 50 keys 25 have a word.
+        assert_eq!(rt; stored.saturating_add(stored_too), 25);
+        assert_eq!(rt; full.saturating_add(full_too), 25);
+        index.meet(&mut first, &mut second);
+        assert_eq!(rt; count_found(&index, &mut first), 25);
+        assert_eq!(rt; count_found(&index, &mut second), 25);
+    }
+    Ok(())
 }
 
 #[test]

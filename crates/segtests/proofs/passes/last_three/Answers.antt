@@ -1,4 +1,4 @@
-use Rattle.std.proofs.Common.{◌≡◌, length, slice_get, ap, ◌∙◌, sym}
+use Rattle.std.proofs.Common.{length, slice_get, ap, ◌∙◌}
 use Rattle.segtests.proofs.Ends.{last_of, front_of}
 use Rattle.segtests.proofs.passes.last_three.Goals as goal
 
