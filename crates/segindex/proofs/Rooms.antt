@@ -34,6 +34,7 @@ use Rattle.segindex.proofs.Draws.{longer_own, longer_other}
 use Rattle.segindex.proofs.Places.{idle_bucket, same_position, chain_later}
 use Rattle.segindex.proofs.Rising.{earlier_yet, word_rose}
 use Rattle.segindex.proofs.Still.{AreStill}
+use Rattle.segindex.proofs.TakenBits.{AreNoTries}
 use Rattle.segindex.proofs.Storing.{target_later, clean_later}
 use Rattle.segindex.proofs.UnderBit.{moved_bucket, moved_at}
 
@@ -87,10 +88,11 @@ pub record IsReady (b : Board) (bucket : ℕ) (own : List Event) (p q : Pass) : 
   pub elsewhere : (other : ℕ) → bucket ≢ other → NoneAt b.shape other own
   pub still : AreStill own
   pub calm : AreCalm own
+  pub untried : AreNoTries own
   pub silent : (h : List Event) → event.seen (own ++ h) ≡ event.seen h
 
 pub ready_idle : (b : Board) (bucket : ℕ) (p q : Pass) → Idles b p q → HasCleanBit b q bucket → IsReady b bucket [] p q
-ready_idle b bucket p q i clean = record { moved = i.moved; plain = i.plain; memo = i.memo; clean = clean; elsewhere = λ other apart. tt; still = tt; calm = tt; silent = λ h. refl }
+ready_idle b bucket p q i clean = record { moved = i.moved; plain = i.plain; memo = i.memo; clean = clean; elsewhere = λ other apart. tt; still = tt; calm = tt; untried = tt; silent = λ h. refl }
 
 pub ready_longer : (b : Board) (bucket : ℕ) (target : Target) (p q r : Pass) → Idles b p q → (l : Lengthens b bucket target q r) → IsReady b bucket (lengthens (number q) bucket l.depth l.overflow l.words) p r
 ready_longer b bucket target p q r i l =
@@ -102,6 +104,7 @@ ready_longer b bucket target p q r i l =
       elsewhere = λ other apart. let off = ne_eqb bucket other apart in (off, puts_all (NoneAt b.shape other) n bucket l.words drew (off, tt) (λ es w none. (off, none)));
       still = (tt, puts_all AreStill n bucket l.words drew (tt, tt) (λ es w still. (tt, still)));
       calm = (tt, puts_all AreCalm n bucket l.words drew (tt, tt) (λ es w calm. (tt, calm)));
+      untried = (tt, puts_all AreNoTries n bucket l.words drew (tt, tt) (λ es w none. (tt, none)));
       silent = λ h. puts_all (λ es. event.seen (es ++ h) ≡ event.seen h) n bucket l.words drew refl (λ es w same. same);
     }
 
