@@ -5,9 +5,9 @@ use Rattle.segword.specs.Bytes.{IsKey}
 use Rattle.segmodel.specs.declared.request.Request.{Request}
 use Rattle.segmodel.specs.declared.answer.WriteAnswer.{WriteAnswer}
 use Rattle.segmodel.specs.declared.answer.WriteAnswer.TheVariants as write
-use Rattle.segmodel.specs.Request.{key_of, value_of, reply_to}
+use Rattle.segmodel.specs.Request.{key_of, value_of, adds_key, reply_to}
 use Rattle.segmodel.specs.Places.{bucket_of, tag_of}
-use Rattle.segmodel.specs.Cache.{present}
+use Rattle.segmodel.specs.Cache.{present, standing}
 use Rattle.segmodel.specs.History.{after}
 use Rattle.segmodel.specs.Serving.{reply_of_write}
 use Rattle.segcore.specs.declared.event.Event.TheVariants.{Freed}
@@ -16,7 +16,7 @@ use Rattle.segcore.specs.Kind.{HasBit, May, release}
 use Rattle.segcore.specs.Lawful.{IsRefusal}
 use Rattle.segbase.specs.declared.board.Board.{Board}
 use Rattle.segbase.specs.declared.pass.Pass.{Pass}
-use Rattle.segbase.specs.Passes.{number, trace, marked, seen, IsPassOf, Did}
+use Rattle.segbase.specs.Passes.{number, trace, seen, IsPassOf, Did}
 use Rattle.segbase.specs.Plain.{current_of, used_of}
 use Rattle.segstore.specs.Segments.{KeepsSegments, has_room}
 use Rattle.segstore.specs.Refilling.{Idles}
@@ -42,7 +42,7 @@ use Rattle.segindex.proofs.UnderWrite.{took_moved, took_keeps}
 
 -- all that follows where there is room, and the bit was taken
 writes_with : (b : Board) (request : Request) (told : WriteAnswer) (p q s : Pass) → ¬ (has_room b.shape p ≡ false) → TookToWrite b (bucket_of b.shape (key_of request)) p q → told ≢ write.NoRoom
-    → GoesOn b p s → IsWriteAnswer b.shape request told p s → TakesOneBit (bucket_of b.shape (key_of request)) p s → GrowsFor b.shape (key_of request) p s → (told ≢ write.Stored → DrawsNothing p s) → Writes b request told p s
+    → GoesOn b p s → IsWriteAnswer b.shape request told p s → TakesOneBit (bucket_of b.shape (key_of request)) p s → GrowsFor b.shape request p s → (told ≢ write.Stored → DrawsNothing p s) → Writes b request told p s
 writes_with b request told p q s room took some on answer takes grows none = record {
   on = on;
   answer = answer;
@@ -98,7 +98,7 @@ module _ (b : Board) (w : When) (request : Request) (key value words : List ℕ)
           (refused_goes_on b request (reply_now b g request) p q g s quiet took_it idle refuses)
           (refused_answer b request (reply_now b g request) p q g s quiet took_it idle refuses answer why.0 why.1)
           (refused_takes b request (reply_now b g request) p q g s quiet took_it idle refuses)
-          (grows_none b.shape (key_of request) p s undrawn) (λ other. undrawn)
+          (grows_none b.shape request p s undrawn) (λ other. undrawn)
 
     -- what the refusal asks for
     pub may_tell : (answer : WriteAnswer) → refusal ≡ Some answer → IsPassOf b g × (HasCleanBit b g bucket × (bucket ≡ k × IsRefusal (reply_now b g request)))
@@ -139,15 +139,15 @@ module _ (b : Board) (w : When) (request : Request) (key value words : List ℕ)
             let undrawn = full_undrawn b (key_of request) p q r s quiet took_it idle_yet none.2 none.1 freed' free' plain same in
             writes_with b request write.BucketFull p q s rows took_it (λ e. cc) (full_goes_on b (key_of request) p q r s quiet took_it idle_yet none.2 none.1 freed' free' plain same) (answer.0, adds, answer.1)
             (full_takes b (key_of request) p q r s quiet took_it idle_yet none.2 none.1 freed' free' plain same)
-            (grows_none b.shape (key_of request) p s undrawn) (λ other. undrawn)
+            (grows_none b.shape request p s undrawn) (λ other. undrawn)
 
       -- it is stored
       module _ (target : Target) (given : room ≡ Some target) where
         there : HasRoom b (key_of request) target q g r
         there = room_for b (key_of request) q g r idle idle.moved.pass clean_there found room target given found_now made
 
-        draws : DrawsOnce b.shape (key_of request) (number p) there.own (marked q) (marked r)
-        draws = subst (λ n. DrawsOnce b.shape (key_of request) n there.own (marked q) (marked r)) (idle.moved.same ∙ (took_moved b bucket p q quiet took).same) there.draws
+        draws : DrawsOnce b.shape (key_of request) (number p) there.own (seen g) (trace q) (trace r)
+        draws = subst (λ n. DrawsOnce b.shape (key_of request) n there.own (seen g) (trace q) (trace r)) (idle.moved.same ∙ (took_moved b bucket p q quiet took).same) there.draws
 
         keeps : KeepsSegments b r
         keeps = keeps_plain b there.own q r there.ready.moved there.ready.calm there.ready.plain (took_keeps b bucket p q quiet took)
@@ -162,13 +162,15 @@ module _ (b : Board) (w : When) (request : Request) (key value words : List ℕ)
             let requests : Requests b request words value r = record { of = (a.0 ∙ sym copied, a.1); stored = stored ∙ (λ i. reply_to request (is_some ((sym there.same.stands) i)) ((sym there.same.version) i)) } in
             (there.ready.moved.pass, (keeps, (row_is, (requests, (key_of_words, (tagged, (there.ready.clean, there.target_is)))))))
 
-        pub ends_stored : ¬ (has_room b.shape p ≡ false) → (segment row : ℕ) (t s : Pass) → Stores b request segment row r t → KeepsSegments b t → UsesRow segment r t
+        pub ends_stored : ¬ (has_room b.shape p ≡ false) → refusal ≡ None → (segment row : ℕ) (t s : Pass) → Stores b request segment row r t → KeepsSegments b t → UsesRow segment r t
             → Did b (Freed (number t) bucket true ∷ []) t s → (bucket_after b.shape (trace s) bucket).holder ≡ None → s.plain ≡ t.plain → memo s ≡ memo t → Writes b request write.Stored p s
-        ends_stored rows segment row t s done kept uses freed free plain same =
+        ends_stored rows unrefused segment row t s done kept uses freed free plain same =
             let freed' = subst (λ n. Did b (Freed (number t) n true ∷ []) t s) at_home freed in
             let free' = subst (λ n. (bucket_after b.shape (trace s) n).holder ≡ None) at_home free in
             let answer = stored_answer b request segment row p q r t s quiet took_it there.own there.ready done kept uses freed' free' plain same in
+            let version = (after b.shape (seen g)).version k in
+            let adds : standing (after b.shape (seen g)) (key_of request) ≡ None → adds_key request false ≡ true = λ absent. adds_absent request version (ap (λ o. reply_to request (is_some o) version) (sym absent) ∙ subst (IsToldBy (reply_now b g request)) unrefused told) in
             writes_with b request write.Stored p q s rows took_it (λ e. cc)
             (stored_goes_on b request segment row p q r t s quiet took_it there.own there.ready done kept uses freed' free' plain same) (segment, answer.0, answer.1)
             (stored_takes b request segment row p q r t s quiet took_it there.own there.ready done kept uses freed' free' plain same)
-            (stored_grows b request segment row p q r t s quiet took_it there.own there.ready done kept uses freed' free' plain same draws) (λ other. absurd (other refl))
+            (stored_grows b request segment row p q r t s quiet took_it there.own there.ready done kept uses freed' free' plain same (seen g) draws adds) (λ other. absurd (other refl))

@@ -1,5 +1,5 @@
 -- What the answers of calls say, in the terms of the model.
-use Rattle.std.specs.Prelude.{◌≡◌, ◌≢◌, ◌↔◌, ◌⊎◌, ℕ, ◌+◌, ◌*◌, ◌<◌, ◌≤◌, Bool, true, false, List, Option, Some, None}
+use Rattle.std.specs.Prelude.{◌≡◌, ◌≢◌, ◌↔◌, ◌⊎◌, ℕ, ◌+◌, ◌*◌, ◌<◌, ◌≤◌, Bool, true, false, List, ◌∷◌, Option, Some, None}
 use Rattle.segword.specs.declared.shape.Shape.{Shape}
 use Rattle.segmodel.specs.declared.entry.Entry.{Entry}
 use Rattle.segmodel.specs.declared.entry.Entry.TheVariants.{Wrote, Refilled}
@@ -20,9 +20,12 @@ use Rattle.segmodel.specs.Places.{bucket_of}
 use Rattle.segmodel.specs.Request.{key_of, adds_key}
 use Rattle.segmodel.specs.Cache.{standing, reads, keys_in}
 use Rattle.segmodel.specs.History.{after, Begins, IsBetween, entries_of, stirred}
+use Rattle.segcore.specs.declared.event.Event.{Event}
+use Rattle.segcore.specs.declared.event.Event.TheVariants.{Drew}
 use Rattle.segcore.specs.Event as event
 use Rattle.segcore.specs.Segment.{inside}
 use Rattle.segcore.specs.Mark.{Mark, entries, width, all_drawn}
+use Rattle.segcore.specs.Mark as mark
 use Rattle.segbase.specs.declared.law.Locked.{Locked}
 use Rattle.segbase.specs.declared.board.Board.{Board}
 use Rattle.segbase.specs.declared.pass.Pass.{Pass}
@@ -74,13 +77,20 @@ pub record CanGrow (shape : Shape) (marks : List Mark) (key : List ℕ) : Type 0
   pub short : width marks (bucket_of shape key) < 4
   pub left : all_drawn marks < shape.overflow
 
-abbrev pub CouldGrow : Shape → List ℕ → List Mark → List Mark → Type 0
-CouldGrow shape key before now = (marks : List Mark) × IsBetween before now marks × CanGrow shape marks key
+-- at the moment at which the pass drew an overflow bucket for the bucket of a key, between one trace and a longer one, the key was new and found no word, and the chain could grow
+pub record DrewInNeed (shape : Shape) (key : List ℕ) (pass : ℕ) (before now : List Event) : Type 0 where
+  pub at : List Event
+  pub depth : ℕ
+  pub overflow : ℕ
+  pub since : Begins before at
+  pub draw : Begins (Drew pass (bucket_of shape key) depth overflow ∷ at) now
+  pub could : CanGrow shape (mark.marked at) key
 
--- for the key's bucket one overflow bucket was drawn at most, and only where the key was new and found no word; for the others none
-pub record GrowsFor (shape : Shape) (key : List ℕ) (p q : Pass) : Type 0 where
-  pub others : (bucket : ℕ) → bucket ≢ bucket_of shape key → drew q bucket ≡ drew p bucket
-  pub own : (drew q (bucket_of shape key) ≡ drew p (bucket_of shape key)) ⊎ ((drew q (bucket_of shape key) ≡ drew p (bucket_of shape key) + 1) × CouldGrow shape key (marked p) (marked q))
+-- for the bucket of the request's key one overflow bucket was drawn at most, and only where it was needed, by a request that adds keys; for the others none
+pub record GrowsFor (shape : Shape) (request : Request) (p q : Pass) : Type 0 where
+  pub others : (bucket : ℕ) → bucket ≢ bucket_of shape (key_of request) → drew q bucket ≡ drew p bucket
+  pub own : (drew q (bucket_of shape (key_of request)) ≡ drew p (bucket_of shape (key_of request)))
+      ⊎ ((drew q (bucket_of shape (key_of request)) ≡ drew p (bucket_of shape (key_of request)) + 1) × (adds_key request false ≡ true) × DrewInNeed shape (key_of request) (number p) (trace p) (trace q))
 
 -- ---- writes
 
@@ -129,7 +139,7 @@ pub record Writes (b : Board) (request : Request) (told : WriteAnswer) (p q : Pa
   pub no_room : (told ≡ write.NoRoom) ↔ (has_room b.shape p ≡ false)
   pub locked : has_room b.shape p ≡ true → locked_of p ≡ Some (bucket_of b.shape (key_of request)) → told ≡ write.Busy
   pub takes : told ≢ write.NoRoom → told ≢ write.Busy → TakesOneBit (bucket_of b.shape (key_of request)) p q
-  pub grows : GrowsFor b.shape (key_of request) p q
+  pub grows : GrowsFor b.shape request p q
   pub draws_nothing : told ≢ write.Stored → DrawsNothing p q
 
 -- a delete is answered so; it needs no row
