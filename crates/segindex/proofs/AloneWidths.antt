@@ -1,5 +1,5 @@
 -- With one pass, chains are as many buckets wider as it drew: none, or one for a new key that found no empty word, as the model has it.
-use Rattle.std.proofs.Common.{◌≡◌, ◌≢◌, ℕ, ◌+◌, ◌*◌, ◌≤◌, ◌==◌, ◌&&◌, not, Bool, true, false, cond, List, ◌∷◌, is_some, Option, Some, None, refl, sym, ap, subst, ◌∙◌, inl, inr, ⊎_elim, arith, eqb, eq-eqb}
+use Rattle.std.proofs.Common.{◌≡◌, ◌≢◌, ℕ, ◌+◌, ◌*◌, ◌≤◌, ◌==◌, ◌&&◌, not, Bool, true, false, cond, List, [], ◌∷◌, is_some, Option, Some, None, refl, sym, ap, subst, ◌∙◌, inl, inr, ⊎_elim, arith, eqb, eq-eqb}
 use Rattle.std.specs.List.Sorted.{IsStrictlySortedBy}
 use Rattle.std.specs.Map.{keys_of}
 use Rattle.std.proofs.lemmas.Bool.{cases_eq, ne_eqb, eqb-true, and_left, and_right, lt-ltb}
@@ -11,7 +11,7 @@ use Rattle.segmodel.specs.declared.request.Request.{Request}
 use Rattle.segmodel.specs.declared.request.Request.TheVariants.{Set, Add, Replace, Cas, Delete}
 use Rattle.segmodel.specs.declared.request.Reply.TheVariants.{Stored}
 use Rattle.segmodel.specs.Places.{bucket_of}
-use Rattle.segmodel.specs.Request.{key_of, value_of, adds_key, reply_to}
+use Rattle.segmodel.specs.Request.{key_of, value_of, adds_key}
 use Rattle.segmodel.specs.Cache.{key_cmp, standing, keys_in, put}
 use Rattle.segmodel.specs.History.{after, IsBetween}
 use Rattle.segmodel.specs.State.{State}
@@ -19,9 +19,12 @@ use Rattle.segmodel.specs.Serving.{lacks_word, may_chain, chained}
 use Rattle.segmodel.proofs.HistoryLemmas.{standing-put}
 use Rattle.segmodel.proofs.Keys.{at_self}
 use Rattle.segmodel.proofs.Ordered.{sorted-after}
+use Rattle.segcore.specs.declared.event.Event.TheVariants.{Drew}
 use Rattle.segcore.specs.Mark.{Mark, entries, drawn_for, all_drawn, width}
+use Rattle.segcore.specs.Mark as mark
 use Rattle.segcore.proofs.KeyCounts.{count_put, if_there}
 use Rattle.segcore.proofs.Marked.{entries_marked, chained_marked, drawn_marked}
+use Rattle.segcore.proofs.Moments.{begins_on, marked_begins}
 use Rattle.segbase.specs.declared.board.Board.{Board}
 use Rattle.segbase.specs.declared.pass.Pass.{Pass}
 use Rattle.segbase.specs.Passes.{number, trace, marked, seen, drew}
@@ -31,7 +34,7 @@ use Rattle.segindex.specs.Calls.{GoesOn, DrawsNothing}
 use Rattle.segindex.specs.Answers.{GrowsFor, CanGrow}
 use Rattle.segindex.specs.Alone.{state_at, IsAlone}
 use Rattle.segindex.proofs.QuietPass.{keys_few}
-use Rattle.segindex.proofs.AlonePass.{SameWidths, reply_then}
+use Rattle.segindex.proofs.AlonePass.{SameWidths}
 use Rattle.segindex.proofs.Grown.{entries_begin, drawn_begin, all_begin, drawn_for_one, one_of_two}
 
 -- keys of a bucket stand at most for each word that its chain can have
@@ -81,14 +84,6 @@ adds_none (Replace key value) = refl
 adds_none (Cas key value expected) = refl
 adds_none (Delete key) = refl
 
--- what stores an absent key is a set or an add
-adds_absent : (request : Request) (version : ℕ) → Stored ≡ reply_to request false version → adds_key request false ≡ true
-adds_absent (Set key value) version is = refl
-adds_absent (Add key value) version is = refl
-adds_absent (Replace key value) version is = absurd cc
-adds_absent (Cas key value expected) version is = absurd cc
-adds_absent (Delete key) version is = absurd cc
-
 -- a new key that was put, where the chain stays, has a word, so that one was left
 had_word : (shape : Shape) (state : State) (request : Request) (segment : ℕ) → IsStrictlySortedBy key_cmp (keys_of state.cache.items)
     → keys_in shape (put shape (key_of request) (value_of request) segment state.cache) (bucket_of shape (key_of request)) ≤ 6 * state.width (bucket_of shape (key_of request)) + 1 → lacks_word shape state request ≡ false
@@ -126,7 +121,7 @@ module _ (b : Board) (p q : Pass) (request : Request) (segment : ℕ) (was : IsA
 
   -- One was drawn: at a moment of the call the key was new and found no word, and so it was from the start, since no entry came between.
   module _ (others : (bucket : ℕ) → bucket ≢ bucket_of b.shape (key_of request) → drew q bucket ≡ drew p bucket)
-      (one : drew q (bucket_of b.shape (key_of request)) ≡ drew p (bucket_of b.shape (key_of request)) + 1)
+      (one : drew q (bucket_of b.shape (key_of request)) ≡ drew p (bucket_of b.shape (key_of request)) + 1) (adds : adds_key request false ≡ true)
       (marks : List Mark) (between : IsBetween (marked p) (marked q) marks) (can : CanGrow b.shape marks (key_of request)) where
     abbrev bucket : ℕ
     bucket = bucket_of b.shape (key_of request)
@@ -165,10 +160,7 @@ module _ (b : Board) (p q : Pass) (request : Request) (segment : ℕ) (was : IsA
     lacks : lacks_word b.shape (state_at b.shape p) request ≡ true
     lacks =
         (λ i. adds_key request (is_some (is_new i)) && (no_word i == 6 * width (marked p) bucket + 1))
-        ∙ ((λ i. adds i && eq-eqb (6 * width (marked p) bucket + 1) (6 * width (marked p) bucket + 1) refl i))
-      where
-        adds : adds_key request false ≡ true
-        adds = adds_absent request ((after b.shape (seen p)).version bucket) (reply_then b p q request Stored (Some segment) on.quiet more ∙ ap (λ o. reply_to request (is_some o) ((after b.shape (seen p)).version bucket)) is_new)
+        ∙ (λ i. adds i && eq-eqb (6 * width (marked p) bucket + 1) (6 * width (marked p) bucket + 1) refl i)
 
     may_grow : may_chain b.shape (state_at b.shape p) bucket ≡ true
     may_grow =
@@ -192,11 +184,12 @@ module _ (b : Board) (p q : Pass) (request : Request) (segment : ℕ) (was : IsA
             ap (width (marked q)) (sym (eqb-true bucket other is)) ∙ (let e : width (marked q) bucket ≡ width (marked p) bucket + 1 = omega arith in e)
         by other false is = let wider = width_drew b p q was on other in let none = others other (λ e. let same = eq-eqb bucket other (sym e) in cc) in omega arith
 
-  pub grown : GrowsFor b.shape (key_of request) p q → Grows b.shape p q request
+  pub grown : GrowsFor b.shape request p q → Grows b.shape p q request
   grown grows = ⊎_elim
       (λ none. grown_none (λ bucket. elim (cases_eq bucket (bucket_of b.shape (key_of request))) [
         | inl same ↦ subst (λ n. drew q n ≡ drew p n) (sym same) none
         | inr other ↦ grows.others bucket other
       ]))
-      (λ (one, (marks, between, can)). grown_one grows.others one marks between can)
+      (λ (one, adds, need). grown_one grows.others one adds (mark.marked need.at)
+      (marked_begins (trace p) need.at need.since, marked_begins need.at (trace q) (begins_on need.at (Drew (number p) (bucket_of b.shape (key_of request)) need.depth need.overflow ∷ need.at) (trace q) (Drew (number p) (bucket_of b.shape (key_of request)) need.depth need.overflow ∷ [], refl) need.draw)) need.could)
       grows.own

@@ -1,6 +1,6 @@
 -- What tries that found a bit set leave: nothing but their count.
-use Rattle.std.proofs.Common.{◌≡◌, ℕ, zero, suc, ◌+◌, eqb, ◌&&◌, List, ◌++◌, refl, ◌∙◌, arith}
-use Rattle.std.proofs.lemmas.Bool.{cond-true, eq-eqb, and_from}
+use Rattle.std.proofs.Common.{◌≡◌, ◌≢◌, ℕ, zero, suc, ◌+◌, eqb, ◌&&◌, List, ◌++◌, refl, sym, ◌∙◌, arith}
+use Rattle.std.proofs.lemmas.Bool.{cond-true, cond-false, eq-eqb, ne_eqb, and_from, and_right}
 use Rattle.segcore.specs.declared.event.Event.{Event}
 use Rattle.segcore.specs.Event.{seen}
 use Rattle.segcore.specs.Count.{taken, bounced}
@@ -24,6 +24,11 @@ bounces_seen p b n h = bounces_all (λ own. seen (own ++ h) ≡ seen h) p b n re
 
 pub bounces_taken : (p b n q : ℕ) (h : List Event) → taken q (bounces p b n ++ h) ≡ taken q h
 bounces_taken p b n q h = bounces_all (λ own. taken q (own ++ h) ≡ taken q h) p b n refl (λ own same. same)
+
+-- none is of another bucket
+pub bounces_elsewhere : (p b c n : ℕ) (h : List Event) → c ≢ b → bounced p c (bounces p b n ++ h) ≡ bounced p c h
+bounces_elsewhere p b c n h apart = bounces_all (λ own. bounced p c (own ++ h) ≡ bounced p c h) p b n refl
+    (λ own same. cond-false (eqb p p && eqb b c) (bounced p c (own ++ h) + 1) (bounced p c (own ++ h)) (and_right (eqb p p) (eqb b c) (ne_eqb b c (λ e. apart (sym e)))) ∙ same)
 
 -- each is counted once
 pub bounces_counted : (p b n : ℕ) (h : List Event) → bounced p b (bounces p b n ++ h) ≡ bounced p b h + n

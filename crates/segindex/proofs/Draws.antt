@@ -2,17 +2,21 @@
 use Rattle.std.proofs.Common.{◌≡◌, ◌≢◌, ℕ, ◌+◌, Bool, true, false, cond, eqb, List, [], ◌∷◌, ◌++◌, refl, sym, ◌∙◌, inl, arith}
 use Rattle.std.proofs.lemmas.Bool.{eq-eqb, ne_eqb}
 use Rattle.segword.specs.declared.shape.Shape.{Shape}
+use Rattle.segmodel.specs.declared.request.Request.{Request}
+use Rattle.segmodel.specs.Request.{key_of}
 use Rattle.segmodel.specs.Places.{bucket_of}
+use Rattle.segmodel.specs.History.{Begins}
 use Rattle.segcore.specs.declared.event.Event.{Event}
 use Rattle.segcore.specs.declared.event.Event.TheVariants.{Drew}
 use Rattle.segcore.specs.Count.{drew}
+use Rattle.segcore.proofs.Moments.{begins_on}
 use Rattle.segbase.specs.declared.board.Board.{Board}
 use Rattle.segbase.specs.declared.pass.Pass.{Pass}
 use Rattle.segbase.specs.Passes.{number, trace, Moved, Reads}
 use Rattle.segbase.specs.Traces.{IsReading, OnlyReads}
 use Rattle.segbase.proofs.Moves.{moved_drew}
 use Rattle.segindex.specs.Calls.{DrawsNothing}
-use Rattle.segindex.specs.Answers.{GrowsFor}
+use Rattle.segindex.specs.Answers.{DrewInNeed, GrowsFor}
 use Rattle.segindex.specs.Growing.{puts, lengthens}
 
 abbrev pub IsUndrawn : Event → Type 0
@@ -56,8 +60,19 @@ pub draws_none_then : (p q r : Pass) → DrawsNothing p q → DrawsNothing q r �
 draws_none_then p q r i j = λ bucket. j bucket ∙ i bucket
 
 -- so no chain grew
-pub grows_none : (z : Shape) (key : List ℕ) (p q : Pass) → DrawsNothing p q → GrowsFor z key p q
-grows_none z key p q none = record { others = λ bucket apart. none bucket; own = inl (none (bucket_of z key)) }
+pub grows_none : (z : Shape) (request : Request) (p q : Pass) → DrawsNothing p q → GrowsFor z request p q
+grows_none z request p q none = record { others = λ bucket apart. none bucket; own = inl (none (bucket_of z (key_of request))) }
+
+-- a draw between wider moments
+pub in_need_wider : (z : Shape) (key : List ℕ) (pass : ℕ) (h g h' g' : List Event) → Begins h' h → Begins g g' → DrewInNeed z key pass h g → DrewInNeed z key pass h' g'
+in_need_wider z key pass h g h' g' before after d = record {
+  at = d.at;
+  depth = d.depth;
+  overflow = d.overflow;
+  since = begins_on h' h d.at before d.since;
+  draw = begins_on (Drew pass (bucket_of z key) d.depth d.overflow ∷ d.at) g g' d.draw after;
+  could = d.could;
+}
 
 -- ---- a chain that grew
 

@@ -10,6 +10,7 @@ use Rattle.segstore.specs.Rows.{fills}
 use Rattle.segstore.proofs.Keeping.{AreCalm}
 use Rattle.segindex.proofs.Draws.{AreUndrawn}
 use Rattle.segindex.proofs.Still.{AreStill}
+use Rattle.segindex.proofs.TakenBits.{AreNoTries}
 
 -- what goes on over one word more holds of so many
 fills_all : (P : List Event → Type 0) (p s r : ℕ) (words : List ℕ) (n : ℕ) → P [] → ((own : List Event) (place w : ℕ) → P own → P (Filled p s r place w ∷ own)) → P (fills p s r words n)
@@ -28,6 +29,9 @@ fills_still p s r words n = fills_all AreStill p s r words n tt (λ own place w 
 
 pub fills_undrawn : (p s r : ℕ) (words : List ℕ) (n : ℕ) → AreUndrawn (fills p s r words n)
 fills_undrawn p s r words n = fills_all AreUndrawn p s r words n tt (λ own place w none. (tt, none))
+
+pub fills_untried : (p s r : ℕ) (words : List ℕ) (n : ℕ) → AreNoTries (fills p s r words n)
+fills_untried p s r words n = fills_all AreNoTries p s r words n tt (λ own place w none. (tt, none))
 
 pub fills_seen : (p s r : ℕ) (words : List ℕ) (n : ℕ) (h : List Event) → seen (fills p s r words n ++ h) ≡ seen h
 fills_seen p s r words n h = fills_all (λ own. seen (own ++ h) ≡ seen h) p s r words n refl (λ own place w same. same)

@@ -1,10 +1,10 @@
 -- A chain that grew: an overflow bucket was drawn where no word was left, joined the chain, and has an empty word for a new key.
-use Rattle.std.proofs.Common.{◌≡◌, ℕ, ◌+◌, ◌*◌, ◌<◌, List, [], ◌∷◌, ◌++◌, Some, None, refl, sym, ap, ◌∙◌, subst, inl, append_assoc, arith}
+use Rattle.std.proofs.Common.{◌≡◌, ℕ, ◌+◌, ◌*◌, ◌<◌, List, [], ◌∷◌, ◌++◌, Some, None, refl, sym, ap, ◌∙◌, subst, inl, arith}
 use Rattle.std.proofs.lemmas.Bool.{eq-eqb}
 use Rattle.segword.specs.declared.shape.Shape.{Shape}
 use Rattle.segmodel.specs.Places.{bucket_of}
 use Rattle.segmodel.specs.Cache.{standing, keys_in}
-use Rattle.segmodel.specs.History.{after}
+use Rattle.segmodel.specs.History.{after, Begins}
 use Rattle.segcore.specs.declared.event.Event.{Event}
 use Rattle.segcore.specs.declared.event.Event.TheVariants.{Drew}
 use Rattle.segcore.specs.Event as event
@@ -16,7 +16,6 @@ use Rattle.segcore.specs.Word.{IsItemAt}
 use Rattle.segcore.proofs.KeyCounts.{counted_full, wide}
 use Rattle.segcore.proofs.Limits.{home_in}
 use Rattle.segcore.proofs.Marked.{entries_marked}
-use Rattle.segcore.proofs.Moments.{marked_begins}
 use Rattle.segcore.proofs.Orderly.{all_drawn_marked}
 use Rattle.segbase.specs.declared.board.Board.{Board}
 use Rattle.segbase.specs.declared.pass.Pass.{Pass}
@@ -25,7 +24,7 @@ use Rattle.segbase.specs.Passes.{number, trace, IsPassOf, Did}
 use Rattle.segbase.specs.Spots.{cell_at, position}
 use Rattle.segbase.specs.Steps.{depth_to_draw}
 use Rattle.segindex.specs.Calls.{memo}
-use Rattle.segindex.specs.Answers.{HasNoWord, CanGrow, CouldGrow}
+use Rattle.segindex.specs.Answers.{HasNoWord, CanGrow, DrewInNeed}
 use Rattle.segindex.specs.Taking.{HasCleanBit}
 use Rattle.segindex.specs.Writing.{IsInChain, IsAbsent}
 use Rattle.segindex.specs.Growing.{bucket_in, IsLast, home_at, HasSpare, Prepares, joins, Joins, Lengthens}
@@ -99,16 +98,16 @@ module _ (b : Board) (bucket overflow : ℕ) (place : Place) (word : ℕ) (p r :
     lawful_now : IsLawful z (trace q)
     lawful_now = joined.1.moved.pass.lawful
 
-    could_grow : (key : List ℕ) → bucket_of z key ≡ bucket → IsAbsent b key p → CouldGrow z key (mark.marked (trace p)) (mark.marked (trace q))
-    could_grow key of absent =
-        let on = joined.1.moved in (
-          mark.marked then,
-          (
-            marked_begins (trace p) then (drew.others, refl),
-            marked_begins then (trace q) (on.more ++ draws ∷ [], on.goes_on ∙ (ap (λ h. on.more ++ h) drew.now ∙ sym (append_assoc on.more (draws ∷ []) then))),
-          ),
-          can_grow all key of absent,
-        )
+    in_need : (key : List ℕ) → bucket_of z key ≡ bucket → IsAbsent b key p → DrewInNeed z key (number p) (trace p) (trace q)
+    in_need key of absent =
+        let on = joined.1.moved in let deep = depth_to_draw b bucket p in record {
+          at = then;
+          depth = deep;
+          overflow = overflow;
+          since = (drew.others, refl);
+          draw = subst (λ k. Begins (Drew (number p) k deep overflow ∷ then) (trace q)) (sym of) (on.more, on.goes_on ∙ ap (λ h. on.more ++ h) drew.now);
+          could = can_grow all key of absent;
+        }
 
     room_at : IsItemAt z (trace q) bucket (8 * longer.chained + 2) (cell_at z room)
     room_at = ((omega arith, omega arith), overflow_at z (trace q) bucket longer.chained overflow 2 joined.2.home (omega arith))
@@ -132,5 +131,5 @@ module _ (b : Board) (bucket overflow : ℕ) (place : Place) (word : ℕ) (p r :
             chain = subst (λ k. IsInChain b k room q) (sym of) (record { in_table = (omega (arith, overflow_in), omega arith, omega arith); at = subst (λ n. IsItemAt z (trace q) bucket n (cell_at z room)) (sym room_position) room_at });
             is = inl (refl, subst (λ k. (bucket_after z (trace q) k).items (position z (trace q) room) ≡ nothing) (sym of) (ap longer.items room_position ∙ joined.2.empty), (both.keys key of).stands ∙ absent);
           };
-          could = could_grow;
+          could = in_need;
         }

@@ -17,7 +17,7 @@ use Rattle.segindex.specs.Calls.{memo, GoesOn, ChangesNothing, TakesNoBit, Draws
 use Rattle.segindex.specs.Answers.{IsBusy}
 use Rattle.segindex.specs.Taking.{bounces, TakesBucket}
 use Rattle.segindex.proofs.Bits.{bit_before}
-use Rattle.segindex.proofs.Bounces.{bounces_still, bounces_calm, bounces_undrawn, bounces_seen, bounces_taken, bounces_counted}
+use Rattle.segindex.proofs.Bounces.{bounces_still, bounces_calm, bounces_undrawn, bounces_seen, bounces_taken, bounces_counted, bounces_elsewhere}
 use Rattle.segindex.proofs.Draws.{moved_undrawn}
 use Rattle.segindex.proofs.Quiet.{quiet_again, goes_on}
 use Rattle.segindex.proofs.Still.{AreStill, settles_still}
@@ -63,18 +63,27 @@ idles_bounces b p bucket times = record {
   unseen = bounces_seen (number p) bucket times (trace p);
 }
 
+-- what it did took no bit and met none
+pub took_none : (b : Board) (own : List Event) (p q : Pass) → Moved b own p q → taken (number p) (own ++ trace p) ≡ taken (number p) (trace p)
+    → ((bucket : ℕ) → bounced (number p) bucket (own ++ trace p) ≡ bounced (number p) bucket (trace p)) → TakesNoBit p q
+took_none b own p q m takes meets = record {
+  taken = moved_taken b own p q m ∙ takes;
+  bounced = λ bucket. moved_bounced b own p q bucket m ∙ meets bucket;
+}
+
 -- 64 tries were in vain
 pub gave_up : (b : Board) (p q : Pass) (bucket : ℕ) → IsQuiet b p → bucket < b.shape.buckets → TakesBucket b bucket false p q → q.plain ≡ p.plain → memo q ≡ memo p → GoesOn b p q × ChangesNothing p q × IsBusy bucket p q × DrawsNothing p q
 gave_up b p q bucket quiet within tried plain same = ⊎_elim
     (λ t. let idle = goes_idle b [] p q quiet t.1 (idles_none b p) plain same in
-    (idle.0, idle.1, inl (quiet.bits bucket (has b p bucket within t.0)), moved_undrawn b [] p q t.1 tt))
+    (idle.0, idle.1, inl (quiet.bits bucket (has b p bucket within t.0), took_none b [] p q t.1 refl (λ c. refl)), moved_undrawn b [] p q t.1 tt))
     (λ f. let own = bounces (number p) bucket 64 in let idle = goes_idle b own p q quiet f.1 (idles_bounces b p bucket 64) plain same in (
       idle.0,
       idle.1,
-      inr (
-        moved_bounced b own p q bucket f.1 ∙ bounces_counted (number p) bucket 64 (trace p),
-        moved_taken b own p q f.1 ∙ bounces_taken (number p) bucket 64 (number p) (trace p),
-      ),
+      inr (record {
+        taken = moved_taken b own p q f.1 ∙ bounces_taken (number p) bucket 64 (number p) (trace p);
+        tries = moved_bounced b own p q bucket f.1 ∙ bounces_counted (number p) bucket 64 (trace p);
+        others = λ other apart. moved_bounced b own p q other f.1 ∙ bounces_elsewhere (number p) bucket other 64 (trace p) apart;
+      }),
       moved_undrawn b own p q f.1 (bounces_undrawn (number p) bucket 64),
     ))
     tried
@@ -92,11 +101,3 @@ goes_same b p quiet = goes_nowhere b p p quiet (stays b p quiet.pass) refl refl
 
 pub changes_nothing : (p : Pass) → ChangesNothing p p
 changes_nothing p = record { entries = refl; plain = refl; memo = refl }
-
--- what it did took no bit and met none
-pub took_none : (b : Board) (own : List Event) (p q : Pass) → Moved b own p q → taken (number p) (own ++ trace p) ≡ taken (number p) (trace p)
-    → ((bucket : ℕ) → bounced (number p) bucket (own ++ trace p) ≡ bounced (number p) bucket (trace p)) → TakesNoBit p q
-took_none b own p q m takes meets = record {
-  taken = moved_taken b own p q m ∙ takes;
-  bounced = λ bucket. moved_bounced b own p q bucket m ∙ meets bucket;
-}

@@ -6,6 +6,7 @@ pub mod Made
 pub mod Refills
 pub mod Still
 pub mod Bounces
+pub mod TakenBits
 pub mod Idling
 pub mod Meanwhile
 pub mod Locking

@@ -1,6 +1,6 @@
 -- A quiet pass that locked a bucket, or unlocked it, is quiet.
-use Rattle.std.proofs.Common.{◌≡◌, ◌≢◌, ℕ, false, true, List, [], ◌∷◌, ◌++◌, ◌+◌, eqb, Option, Some, None, is_some, IfSome, option_map, refl, sym, ap, ◌∙◌, subst, ⊎_elim, append_assoc}
-use Rattle.std.proofs.lemmas.Bool.{cases_eq, ne_eqb, eq-eqb, cond-true, false≢true}
+use Rattle.std.proofs.Common.{◌≡◌, ◌≢◌, ℕ, false, true, List, [], ◌∷◌, ◌++◌, Option, Some, None, is_some, IfSome, option_map, refl, sym, ap, ◌∙◌, subst, ⊎_elim, append_assoc}
+use Rattle.std.proofs.lemmas.Bool.{cases_eq, ne_eqb, false≢true}
 use Rattle.std.proofs.lemmas.Option.{none-some, same_Some}
 use Rattle.atomic_table.specs.declared.shared.Seat.{Seat}
 use Rattle.segmodel.specs.History as history
@@ -8,7 +8,6 @@ use Rattle.segcore.specs.declared.event.Event.{Event}
 use Rattle.segcore.specs.declared.event.Event.TheVariants.{Took, Freed}
 use Rattle.segcore.specs.declared.view.View.{View}
 use Rattle.segcore.specs.Event as event
-use Rattle.segcore.specs.Count.{taken}
 use Rattle.segcore.specs.Bucket.{bucket_after}
 use Rattle.segcore.specs.Lawful.{NoneAt}
 use Rattle.segcore.specs.Kind.{HasBit}
@@ -21,10 +20,9 @@ use Rattle.segbase.specs.declared.law.Sight.{Sight}
 use Rattle.segbase.specs.Minding.{HasLocked, Minds}
 use Rattle.segbase.specs.declared.pass.Plain.{Plain}
 use Rattle.segbase.specs.declared.pass.Pass.{Pass}
-use Rattle.segbase.specs.Passes as passes
 use Rattle.segbase.specs.Passes.{sight, number, trace, seen, holding, locked, IsPassOf, IsMemo, Moved, Did}
 use Rattle.segbase.specs.Plain.{current_of, locked_of, is_holding_of, SameSegments}
-use Rattle.segbase.proofs.Moves.{moved_mine, moved_taken}
+use Rattle.segbase.proofs.Moves.{moved_mine}
 use Rattle.segstore.specs.Segments.{KeepsSegments}
 use Rattle.segstore.proofs.Keeping.{AreCalm, same_plain, keeps}
 use Rattle.segindex.specs.Quiet.{IsLock, IsQuiet}
@@ -32,12 +30,13 @@ use Rattle.segindex.specs.Calls.{memo, GoesOn, TakesNoBit, DrawsNothing}
 use Rattle.segindex.specs.Answers.{NoneSince, Locks, Unlocks}
 use Rattle.segindex.specs.Taking.{bounces, TakesBucket, lock_now, SetsLock}
 use Rattle.segindex.proofs.Bits.{bit_before, no_new_bit}
-use Rattle.segindex.proofs.Bounces.{bounces_still, bounces_calm, bounces_undrawn, bounces_seen, bounces_taken}
+use Rattle.segindex.proofs.Bounces.{bounces_still, bounces_calm, bounces_undrawn, bounces_seen}
 use Rattle.segindex.proofs.Draws.{moved_undrawn}
 use Rattle.segindex.proofs.Idling.{took_none}
 use Rattle.segindex.proofs.Meanwhile.{none_entries}
 use Rattle.segindex.proofs.Quiet.{has_locked, lock_of, SettlesIn, holds_again, inside_again, hold_again, goes_on}
 use Rattle.segindex.proofs.Still.{AreStill, settles_still}
+use Rattle.segindex.proofs.TakenBits.{took_one}
 use Rattle.segindex.proofs.Taking.{bounces_none}
 
 pub segments_then : (p q r : Pass) → SameSegments p q → SameSegments q r → SameSegments p r
@@ -134,10 +133,6 @@ module _ (b : Board) (p r q : Pass) (bucket : ℕ) (quiet : IsQuiet b p) (free :
     hold = hold_again b took_own p q quiet locked_move stay;
   }
 
-  took_once : passes.taken q ≡ passes.taken p + 1
-  took_once = let n = number p in let before = bounces n bucket took.0 ++ trace p in
-      moved_taken b took_own p q locked_move ∙ (cond-true (eqb n n) (taken n before + 1) (taken n before) (eq-eqb n n refl) ∙ ap (λ m. m + 1) (bounces_taken n bucket took.0 n (trace p)))
-
   pub locks_undrawn : DrawsNothing p q
   locks_undrawn = moved_undrawn b took_own p q locked_move (tt, bounces_undrawn (number p) bucket took.0)
 
@@ -151,7 +146,7 @@ module _ (b : Board) (p r q : Pass) (bucket : ℕ) (quiet : IsQuiet b p) (free :
       of = refl;
       since = ap (λ (v : View). v.trace) (sym sets.view);
       history = ap (λ (v : View). event.seen v.trace) (sym sets.view);
-      taken = took_once;
+      takes = took_one b bucket took.0 [] p q took.1 tt locked_move;
       locked_of = sets.locked_of;
       current = current_stays b took_own p r q (Some bucket) quiet took.2 plain same is sets;
       segments = segments_stay b took_own p r q (Some bucket) quiet took.2 plain same is sets;

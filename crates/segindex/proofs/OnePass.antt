@@ -62,8 +62,8 @@ free_of_others b p bucket quiet one = none_bounced b.shape (number p) bucket (tr
 -- only its own lock refuses it
 pub busy_by_lock : (b : Board) (p q : Pass) (bucket : ℕ) → IsQuiet b p → IsQuiet b q → b.shape.passes ≡ 1 → IsBusy bucket p q → locked_of p ≡ Some bucket
 busy_by_lock b p q bucket before after one busy = ⊎_elim
-    (λ locked. locked)
-    (λ met. let none = free_of_others b p bucket before one in let still = free_of_others b q bucket after one in let more = met.0 in absurd (omega arith))
+    (λ own. own.0)
+    (λ met. let none = free_of_others b p bucket before one in let still = free_of_others b q bucket after one in let more = met.tries in absurd (omega arith))
     busy
 
 -- with no entry of its own there is none

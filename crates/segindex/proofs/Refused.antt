@@ -34,13 +34,13 @@ use Rattle.segindex.specs.declared.find.Target.{Target}
 use Rattle.segindex.specs.declared.write.When.{When}
 use Rattle.segindex.specs.declared.write.When.TheVariants as when
 use Rattle.segindex.specs.Quiet.{IsQuiet}
-use Rattle.segindex.specs.Calls.{GoesOn, DrawsNothing}
+use Rattle.segindex.specs.Calls.{GoesOn, TakesOneBit, DrawsNothing}
 use Rattle.segindex.specs.Answers.{IsReplied, IsWriteAnswer}
 use Rattle.segindex.specs.Taking.{HasCleanBit}
 use Rattle.segindex.specs.Writing.{IsTarget, IsAbsent, own_word, Finds}
 use Rattle.segindex.specs.Storing.{TookToWrite}
 use Rattle.segindex.specs.Refusing.{request_of, IsToldBy, reply_now, Refuses}
-use Rattle.segindex.proofs.Ending.{IsEntry, plain_back, memo_back, entered_on, entered, entered_undrawn}
+use Rattle.segindex.proofs.Ending.{IsEntry, plain_back, memo_back, entered_on, entered, entered_undrawn, entered_taking}
 use Rattle.segindex.proofs.UnderBit.{moved_at}
 
 -- ---- which request it is, and which reply
@@ -128,7 +128,7 @@ told_by_look b request expected version bucket p q few is clean home there asked
 -- ---- the answer
 
 refusal_entry : (z : Shape) (request : Request) (said : Reply) → IsEntry z (bucket_of z (key_of request)) (λ pass. Replied pass request said) (λ pass. Wrote pass request said None)
-refusal_entry z request said = record { at = λ pass. refl; adds = λ pass. refl; of = λ pass. refl; still = λ pass. tt; calm = λ pass. tt; undrawn = λ pass. tt }
+refusal_entry z request said = record { at = λ pass. refl; adds = λ pass. refl; of = λ pass. refl; still = λ pass. tt; calm = λ pass. tt; undrawn = λ pass. tt; untried = λ pass. tt }
 
 module _ (b : Board) (request : Request) (said : Reply) (p q f s : Pass) (quiet : IsQuiet b p) (took : TookToWrite b (bucket_of b.shape (key_of request)) p q) (idles : Idles b q f) (refuses : Refuses b request said f s) where
   abbrev home : ℕ
@@ -146,6 +146,9 @@ module _ (b : Board) (request : Request) (said : Reply) (p q f s : Pass) (quiet 
 
   pub refused_undrawn : DrawsNothing p s
   refused_undrawn = entered_undrawn b home false (λ pass. Replied pass request said) (λ pass. Wrote pass request said None) (refusal_entry b.shape request said) p q f s quiet took idles refuses
+
+  pub refused_takes : TakesOneBit home p s
+  refused_takes = entered_taking b home false (λ pass. Replied pass request said) (λ pass. Wrote pass request said None) (refusal_entry b.shape request said) p q f s quiet took idles refuses
 
   -- as the answer to a request to store
   pub refused_answer : (told : WriteAnswer) → reply_of_write told ≡ Some said → IsRefusal said → IsWriteAnswer b.shape request told p s

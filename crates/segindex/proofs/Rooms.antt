@@ -3,22 +3,22 @@ use Rattle.std.proofs.Common.{◌≡◌, ◌≢◌, ◌⊎◌, ℕ, ◌+◌, Lis
 use Rattle.std.proofs.lemmas.Bool.{ne_eqb}
 use Rattle.std.proofs.lemmas.Option.{none-some, same_Some}
 use Rattle.segword.specs.declared.shape.Shape.{Shape}
+use Rattle.segmodel.specs.declared.entry.Entry.{Entry}
 use Rattle.segmodel.specs.Places.{bucket_of}
+use Rattle.segmodel.specs.Cache.{standing}
 use Rattle.segmodel.specs.History.{after, IsSameAt}
 use Rattle.segcore.specs.declared.event.Event.{Event}
 use Rattle.segcore.specs.declared.event.Event.TheVariants.{Drew, Put}
 use Rattle.segcore.specs.Event as event
 use Rattle.segcore.specs.Count.{drew}
-use Rattle.segcore.specs.Mark.{Mark}
 use Rattle.segcore.specs.Bucket.{Bucket, last}
 use Rattle.segcore.specs.Filled.{HasNoEmptyWord}
 use Rattle.segcore.specs.Kind.{HasBit}
 use Rattle.segcore.specs.Lawful.{NoneAt}
-use Rattle.segcore.proofs.Moments.{begins_on, marked_begins}
 use Rattle.segbase.specs.declared.board.Board.{Board}
 use Rattle.segbase.specs.declared.pass.Pass.{Pass}
 use Rattle.segbase.specs.declared.place.Place.{Place}
-use Rattle.segbase.specs.Passes.{number, trace, marked, seen, IsPassOf, Moved}
+use Rattle.segbase.specs.Passes.{number, trace, seen, IsPassOf, Moved}
 use Rattle.segbase.proofs.Moves.{moved_on, moved_then}
 use Rattle.segstore.specs.Refilling.{Idles}
 use Rattle.segstore.proofs.Keeping.{AreCalm}
@@ -26,14 +26,15 @@ use Rattle.segindex.specs.declared.find.Found.{Found}
 use Rattle.segindex.specs.declared.find.Found.TheVariants.{Word, Full}
 use Rattle.segindex.specs.declared.find.Target.{Target}
 use Rattle.segindex.specs.Calls.{memo}
-use Rattle.segindex.specs.Answers.{CouldGrow}
+use Rattle.segindex.specs.Answers.{DrewInNeed}
 use Rattle.segindex.specs.Taking.{HasCleanBit}
 use Rattle.segindex.specs.Writing.{IsTarget, HasNoWord, Finds}
 use Rattle.segindex.specs.Growing.{bucket_in, IsLast, Searches, target_of, puts, lengthens, CannotGrow, Lengthens, IsAsFound, MakesRoom}
-use Rattle.segindex.proofs.Draws.{longer_own, longer_other}
+use Rattle.segindex.proofs.Draws.{in_need_wider, longer_own, longer_other}
 use Rattle.segindex.proofs.Places.{idle_bucket, same_position, chain_later}
 use Rattle.segindex.proofs.Rising.{earlier_yet, word_rose}
 use Rattle.segindex.proofs.Still.{AreStill}
+use Rattle.segindex.proofs.TakenBits.{AreNoTries}
 use Rattle.segindex.proofs.Storing.{target_later, clean_later}
 use Rattle.segindex.proofs.UnderBit.{moved_bucket, moved_at}
 
@@ -87,10 +88,11 @@ pub record IsReady (b : Board) (bucket : ℕ) (own : List Event) (p q : Pass) : 
   pub elsewhere : (other : ℕ) → bucket ≢ other → NoneAt b.shape other own
   pub still : AreStill own
   pub calm : AreCalm own
+  pub untried : AreNoTries own
   pub silent : (h : List Event) → event.seen (own ++ h) ≡ event.seen h
 
 pub ready_idle : (b : Board) (bucket : ℕ) (p q : Pass) → Idles b p q → HasCleanBit b q bucket → IsReady b bucket [] p q
-ready_idle b bucket p q i clean = record { moved = i.moved; plain = i.plain; memo = i.memo; clean = clean; elsewhere = λ other apart. tt; still = tt; calm = tt; silent = λ h. refl }
+ready_idle b bucket p q i clean = record { moved = i.moved; plain = i.plain; memo = i.memo; clean = clean; elsewhere = λ other apart. tt; still = tt; calm = tt; untried = tt; silent = λ h. refl }
 
 pub ready_longer : (b : Board) (bucket : ℕ) (target : Target) (p q r : Pass) → Idles b p q → (l : Lengthens b bucket target q r) → IsReady b bucket (lengthens (number q) bucket l.depth l.overflow l.words) p r
 ready_longer b bucket target p q r i l =
@@ -102,23 +104,24 @@ ready_longer b bucket target p q r i l =
       elsewhere = λ other apart. let off = ne_eqb bucket other apart in (off, puts_all (NoneAt b.shape other) n bucket l.words drew (off, tt) (λ es w none. (off, none)));
       still = (tt, puts_all AreStill n bucket l.words drew (tt, tt) (λ es w still. (tt, still)));
       calm = (tt, puts_all AreCalm n bucket l.words drew (tt, tt) (λ es w calm. (tt, calm)));
+      untried = (tt, puts_all AreNoTries n bucket l.words drew (tt, tt) (λ es w none. (tt, none)));
       silent = λ h. puts_all (λ es. event.seen (es ++ h) ≡ event.seen h) n bucket l.words drew refl (λ es w same. same);
     }
 
 -- ---- where room was made, and where not
 
--- Among these events of its own the pass drew one overflow bucket for the key's bucket, at a moment at which its chain could grow, or none; and for others none.
-pub record DrawsOnce (z : Shape) (key : List ℕ) (pass : ℕ) (own : List Event) (before now : List Mark) : Type 0 where
+-- Among these events of its own the pass drew one overflow bucket for the key's bucket where it needed one, the key being absent from what it had seen, or none; and for others none.
+pub record DrawsOnce (z : Shape) (key : List ℕ) (pass : ℕ) (own : List Event) (was : List Entry) (before now : List Event) : Type 0 where
   pub others : (bucket : ℕ) (h : List Event) → bucket ≢ bucket_of z key → drew pass bucket (own ++ h) ≡ drew pass bucket h
   pub at_most : ((h : List Event) → drew pass (bucket_of z key) (own ++ h) ≡ drew pass (bucket_of z key) h)
-      ⊎ (((h : List Event) → drew pass (bucket_of z key) (own ++ h) ≡ drew pass (bucket_of z key) h + 1) × CouldGrow z key before now)
+      ⊎ (((h : List Event) → drew pass (bucket_of z key) (own ++ h) ≡ drew pass (bucket_of z key) h + 1) × (standing (after z was) key ≡ None) × DrewInNeed z key pass before now)
 
 pub record HasRoom (b : Board) (key : List ℕ) (target : Target) (p q r : Pass) : Type 0 where
   pub own : List Event
   pub ready : IsReady b (bucket_of b.shape key) own p r
   pub same : IsSameAt b.shape (after b.shape (seen q)) (after b.shape (seen r)) key
   pub target_is : IsTarget b key target r
-  pub draws : DrawsOnce b.shape key (number q) own (marked p) (marked r)
+  pub draws : DrawsOnce b.shape key (number q) own (seen q) (trace p) (trace r)
 
 module _ (b : Board) (key : List ℕ) (p q r : Pass) (i : Idles b p q) (is : IsPassOf b q) (clean : HasCleanBit b q (bucket_of b.shape key)) where
   abbrev k : ℕ
@@ -141,11 +144,12 @@ module _ (b : Board) (key : List ℕ) (p q r : Pass) (i : Idles b p q) (is : IsP
         ready = ready_longer b k target p q r i l;
         same = l.prepares.keys key refl;
         target_is = l.free key refl found.0.absent;
-        draws = let could = l.could key refl found.0.absent in record {
+        draws = record {
           others = λ bucket h apart. longer_other (number q) k l.depth l.overflow bucket l.words h apart;
           at_most = inr (
             λ h. longer_own (number q) k l.depth l.overflow l.words h,
-            (could.0, (begins_on (marked p) (marked q) could.0 (marked_begins (trace p) (trace q) (moved_on b [] p q i.moved)) could.1.0, could.1.1), could.2),
+            found.0.absent,
+            in_need_wider b.shape key (number q) (trace q) (trace r) (trace p) (trace r) (moved_on b [] p q i.moved) ([], refl) (l.could key refl found.0.absent),
           );
         };
       }

@@ -94,10 +94,10 @@ module _ (b : Board) (bucket : ℕ) (sought : Item) (p f : Pass) (quiet : IsQuie
         stored.key,
         (seen f, (goes_looking.seen, busy.0.seen), named_stands b bucket sought f i.moved.pass stored target n),
         ⊎_elim
-            (λ locked. inl (sym (ap (λ (x : Plain). x.locked) i.plain) ∙ (locked ∙ ap Some stored.home)))
+            (λ own. inl (sym (ap (λ (x : Plain). x.locked) i.plain) ∙ (own.0 ∙ ap Some stored.home)))
             (λ tried.
             let same : bounced f bucket ≡ bounced p bucket = moved_bounced b [] p f bucket i.moved in
-            inr (subst (λ k. bounced p k + 64 ≤ bounced q k) stored.home (let e = tried.0 in omega arith)))
+            inr (subst (λ k. bounced p k + 64 ≤ bounced q k) stored.home (let e = tried.tries in omega arith)))
             busy.2,
       ),
     );

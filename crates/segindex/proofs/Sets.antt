@@ -6,8 +6,10 @@ use Rattle.segmodel.specs.declared.entry.Entry.{Entry}
 use Rattle.segmodel.specs.declared.entry.Entry.TheVariants.{Wrote}
 use Rattle.segmodel.specs.declared.request.Request.{Request}
 use Rattle.segmodel.specs.declared.request.Reply.TheVariants.{Stored}
-use Rattle.segmodel.specs.Request.{key_of, value_of}
+use Rattle.segmodel.specs.Request.{key_of, value_of, adds_key}
 use Rattle.segmodel.specs.Places.{bucket_of}
+use Rattle.segmodel.specs.Cache.{standing}
+use Rattle.segmodel.specs.History.{after}
 use Rattle.segcore.specs.declared.event.Event.{Event}
 use Rattle.segcore.specs.declared.event.Event.TheVariants.{Freed}
 use Rattle.segcore.specs.Event as event
@@ -30,7 +32,7 @@ use Rattle.segstore.specs.Segments.{KeepsSegments}
 use Rattle.segstore.specs.Refilling.{Idles}
 use Rattle.segstore.proofs.Keeping.{same_plain, keeps_plain}
 use Rattle.segindex.specs.Quiet.{IsQuiet}
-use Rattle.segindex.specs.Calls.{memo, GoesOn, ChangesNothing, DrawsNothing, AddsEntry}
+use Rattle.segindex.specs.Calls.{memo, GoesOn, ChangesNothing, TakesOneBit, DrawsNothing, AddsEntry}
 use Rattle.segindex.specs.Answers.{IsFull, WasFull, GrowsFor, UsesRow}
 use Rattle.segindex.specs.Taking.{HasCleanBit}
 use Rattle.segindex.specs.Writing.{HasNoWord}
@@ -38,12 +40,13 @@ use Rattle.segindex.specs.Storing.{TookToWrite, Stores, stores}
 use Rattle.segindex.specs.Growing.{CannotGrow}
 use Rattle.segindex.proofs.Bits.{none_at_both}
 use Rattle.segindex.proofs.Growing.{no_word}
-use Rattle.segindex.proofs.Draws.{undrawn}
+use Rattle.segindex.proofs.Draws.{undrawn, in_need_wider}
 use Rattle.segindex.proofs.Rooms.{IsReady, DrawsOnce}
 use Rattle.segindex.proofs.Still.{AreStill}
-use Rattle.segindex.proofs.Filling.{fills_nowhere, fills_still, fills_undrawn, fills_seen}
+use Rattle.segindex.proofs.TakenBits.{both_no_tries}
+use Rattle.segindex.proofs.Filling.{fills_nowhere, fills_still, fills_undrawn, fills_untried, fills_seen}
 use Rattle.segindex.proofs.UnderBit.{moved_bucket, moved_bit}
-use Rattle.segindex.proofs.UnderWrite.{took_moved, took_clean, took_keeps, tries, tries_undrawn, write_goes_on, write_adds, write_drew, write_undrawn, still_both}
+use Rattle.segindex.proofs.UnderWrite.{took_moved, took_clean, took_keeps, tries, tries_undrawn, write_goes_on, write_adds, write_drew, write_undrawn, write_takes, still_both}
 
 -- ---- after the search
 
@@ -89,6 +92,9 @@ module _ (b : Board) (key : List ℕ) (p q f s : Pass) (quiet : IsQuiet b p) (to
 
   pub full_undrawn : DrawsNothing p s
   full_undrawn = write_undrawn b k p q quiet took f s [] [] false idles.moved (λ other apart. tt) tt (λ h. refl) freed free tt
+
+  pub full_takes : TakesOneBit k p s
+  full_takes = write_takes b k p q quiet took f s [] [] false idles.moved (λ other apart. tt) tt (λ h. refl) freed free tt
 
   pub full_answer : ChangesNothing p s × WasFull b.shape key (marked p) (marked s)
   full_answer = (
@@ -159,8 +165,12 @@ module _ (b : Board) (request : Request) (segment row : ℕ) (p q f r s : Pass) 
         uses_all,
       )
 
+  pub stored_takes : TakesOneBit home p s
+  stored_takes = write_takes b home p q quiet took r s own (entry ∷ []) true moved elsewhere still adds freed free
+      (tt, both_no_tries (fills (number f) segment row words 8) before (fills_untried (number f) segment row words 8) ready.untried)
+
   -- what was drawn was drawn to make room
-  module _ (draws : DrawsOnce b.shape (key_of request) (number p) before (marked q) (marked f)) where
+  module _ (old : List Entry) (draws : DrawsOnce b.shape (key_of request) (number p) before old (trace q) (trace f)) (adds_new : standing (after b.shape old) (key_of request) ≡ None → adds_key request false ≡ true) where
     abbrev since : List Event
     since = tries b home p q quiet took ++ trace p
 
@@ -169,21 +179,16 @@ module _ (b : Board) (request : Request) (segment row : ℕ) (p q f r s : Pass) 
         write_drew b home p q quiet took r s own (entry ∷ []) true moved elsewhere still adds freed free c
         ∙ (ap (drew (number p) c) (append_assoc storing before since) ∙ undrawn (number p) c storing (before ++ since) (tt, fills_undrawn (number f) segment row words 8))
 
-    pub stored_grows : GrowsFor b.shape (key_of request) p s
-    stored_grows = let old = tries_undrawn b home p q quiet took in record {
-      others = λ c apart. drew_before c ∙ (draws.others c since apart ∙ old c);
+    pub stored_grows : GrowsFor b.shape request p s
+    stored_grows = let tried = tries_undrawn b home p q quiet took in record {
+      others = λ c apart. drew_before c ∙ (draws.others c since apart ∙ tried c);
       own = ⊎_elim
-          (λ none. inl (drew_before home ∙ (none since ∙ old home)))
-          (λ one. let could = one.1 in inr (
-            drew_before home ∙ (one.0 since ∙ ap (λ n. n + 1) (old home)),
-            (
-              could.0,
-              (
-                begins_on (marked p) (marked q) could.0 (marked_begins (trace p) (trace q) (moved_on b (tries b home p q quiet took) p q (took_moved b home p q quiet took))) could.1.0,
-                begins_on could.0 (marked f) (marked s) could.1.1 (begins_on (marked f) (marked r) (marked s) (marked_begins (trace f) (trace r) (moved_on b _ f r done.1)) (marked_begins (trace r) (trace s) (moved_on b _ r s freed.moved))),
-              ),
-              could.2,
-            ),
+          (λ none. inl (drew_before home ∙ (none since ∙ tried home)))
+          (λ one. inr (
+            drew_before home ∙ (one.0 since ∙ ap (λ n. n + 1) (tried home)),
+            adds_new one.1,
+            in_need_wider b.shape (key_of request) (number p) (trace q) (trace f) (trace p) (trace s) (moved_on b (tries b home p q quiet took) p q (took_moved b home p q quiet took))
+                (begins_on (trace f) (trace r) (trace s) (moved_on b _ f r done.1) (moved_on b _ r s freed.moved)) one.2,
           ))
           draws.at_most;
     }

@@ -21,7 +21,7 @@ use Rattle.segbase.proofs.Moves.{moved_then, moved_mine, moved_drew}
 use Rattle.segstore.specs.Segments.{KeepsSegments}
 use Rattle.segstore.proofs.Keeping.{keeps_plain}
 use Rattle.segindex.specs.Quiet.{IsQuiet}
-use Rattle.segindex.specs.Calls.{memo, GoesOn, DrawsNothing}
+use Rattle.segindex.specs.Calls.{memo, GoesOn, TakesOneBit, DrawsNothing}
 use Rattle.segindex.specs.Taking.{bounces, TakesBucket, HasCleanBit}
 use Rattle.segindex.specs.Storing.{TookToWrite, TakesToWrite}
 use Rattle.segindex.proofs.Bits.{none_at_both, bit_before}
@@ -30,6 +30,7 @@ use Rattle.segindex.proofs.Draws.{AreUndrawn, undrawn}
 use Rattle.segindex.proofs.Idling.{gave_up}
 use Rattle.segindex.proofs.Quiet.{quiet_again, goes_on}
 use Rattle.segindex.proofs.Still.{AreStill, settles_still}
+use Rattle.segindex.proofs.TakenBits.{AreNoTries, took_one}
 use Rattle.segindex.proofs.Taking.{bounces_none}
 
 pub takes_to_write : (b : Board) (bucket : ℕ) (t : Bool) (p q : Pass) → IsQuiet b p → bucket < b.shape.buckets → locked_of p ≢ Some bucket → TakesBucket b bucket t p q → q.plain ≡ p.plain → memo q ≡ memo p → TakesToWrite b bucket t p q
@@ -108,6 +109,10 @@ module _ (b : Board) (bucket : ℕ) (p q : Pass) (quiet : IsQuiet b p) (took : T
     pub ends_undrawn : AreUndrawn own → DrawsNothing p s
     ends_undrawn none c = ends_drew c ∙ (undrawn (number p) c own (tries ++ trace p) none ∙ tries_undrawn c)
 
+    -- it took one bit
+    pub ends_taking : AreNoTries own → TakesOneBit bucket p s
+    ends_taking none = took_one b bucket took.takes.0 (Freed (number p) bucket counted ∷ own) p s took.takes.1 (tt, none) moved_all
+
   -- the same where the release is a step of its own, that tells no entry
   module _ (r s : Pass) (own : List Event) (added : List Entry) (counted : Bool) (m : Moved b own q r) (elsewhere : (other : ℕ) → bucket ≢ other → NoneAt b.shape other own) (still : AreStill own)
       (adds : (h : List Event) → event.seen (own ++ h) ≡ added ++ event.seen h) (freed : Did b (Freed (number r) bucket counted ∷ []) r s) (free : (bucket_after b.shape (trace s) bucket).holder ≡ None) where
@@ -125,3 +130,6 @@ module _ (b : Board) (bucket : ℕ) (p q : Pass) (quiet : IsQuiet b p) (took : T
 
     pub write_undrawn : AreUndrawn own → DrawsNothing p s
     write_undrawn = ends_undrawn s own added counted ended elsewhere still adds free
+
+    pub write_takes : AreNoTries own → TakesOneBit bucket p s
+    write_takes = ends_taking s own added counted ended elsewhere still adds free

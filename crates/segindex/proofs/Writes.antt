@@ -5,9 +5,9 @@ use Rattle.segword.specs.Bytes.{IsKey}
 use Rattle.segmodel.specs.declared.request.Request.{Request}
 use Rattle.segmodel.specs.declared.answer.WriteAnswer.{WriteAnswer}
 use Rattle.segmodel.specs.declared.answer.WriteAnswer.TheVariants as write
-use Rattle.segmodel.specs.Request.{key_of, value_of, reply_to}
+use Rattle.segmodel.specs.Request.{key_of, value_of, adds_key, reply_to}
 use Rattle.segmodel.specs.Places.{bucket_of, tag_of}
-use Rattle.segmodel.specs.Cache.{present}
+use Rattle.segmodel.specs.Cache.{present, standing}
 use Rattle.segmodel.specs.History.{after}
 use Rattle.segmodel.specs.Serving.{reply_of_write}
 use Rattle.segcore.specs.declared.event.Event.TheVariants.{Freed}
@@ -16,7 +16,7 @@ use Rattle.segcore.specs.Kind.{HasBit, May, release}
 use Rattle.segcore.specs.Lawful.{IsRefusal}
 use Rattle.segbase.specs.declared.board.Board.{Board}
 use Rattle.segbase.specs.declared.pass.Pass.{Pass}
-use Rattle.segbase.specs.Passes.{number, trace, marked, seen, IsPassOf, Did}
+use Rattle.segbase.specs.Passes.{number, trace, seen, IsPassOf, Did}
 use Rattle.segbase.specs.Plain.{current_of, used_of}
 use Rattle.segstore.specs.Segments.{KeepsSegments, has_room}
 use Rattle.segstore.specs.Refilling.{Idles}
@@ -25,7 +25,7 @@ use Rattle.segindex.specs.declared.find.Found.{Found}
 use Rattle.segindex.specs.declared.find.Target.{Target}
 use Rattle.segindex.specs.declared.write.When.{When}
 use Rattle.segindex.specs.Quiet.{IsQuiet}
-use Rattle.segindex.specs.Calls.{memo, GoesOn, DrawsNothing}
+use Rattle.segindex.specs.Calls.{memo, GoesOn, TakesOneBit, DrawsNothing}
 use Rattle.segindex.specs.Answers.{IsWriteAnswer, Writes, GrowsFor, UsesRow}
 use Rattle.segindex.specs.Taking.{HasCleanBit}
 use Rattle.segindex.specs.Writing.{IsTarget, HasNoWord, own_word}
@@ -34,21 +34,22 @@ use Rattle.segindex.specs.Storing.{TookToWrite, IsNextRow, Requests, Stores}
 use Rattle.segindex.specs.Refusing.{request_of, IsToldBy, reply_now, Refuses}
 use Rattle.segindex.proofs.Draws.{grows_none}
 use Rattle.segindex.proofs.Places.{idles_then}
-use Rattle.segindex.proofs.Refused.{asks, own_where, adds_absent, refused_goes_on, refused_undrawn, refused_answer}
+use Rattle.segindex.proofs.Refused.{asks, own_where, adds_absent, refused_goes_on, refused_undrawn, refused_takes, refused_answer}
 use Rattle.segindex.proofs.Rooms.{searches_later, finds_of, as_found, DrawsOnce, HasRoom, has_room as room_for, no_room}
-use Rattle.segindex.proofs.Sets.{found_clean, may_free, full_goes_on, full_undrawn, full_answer, stored_goes_on, stored_answer, stored_grows}
+use Rattle.segindex.proofs.Sets.{found_clean, may_free, full_goes_on, full_undrawn, full_takes, full_answer, stored_goes_on, stored_answer, stored_takes, stored_grows}
 use Rattle.segindex.proofs.UnderBit.{moved_at}
 use Rattle.segindex.proofs.UnderWrite.{took_moved, took_keeps}
 
 -- all that follows where there is room, and the bit was taken
 writes_with : (b : Board) (request : Request) (told : WriteAnswer) (p q s : Pass) → ¬ (has_room b.shape p ≡ false) → TookToWrite b (bucket_of b.shape (key_of request)) p q → told ≢ write.NoRoom
-    → GoesOn b p s → IsWriteAnswer b.shape request told p s → GrowsFor b.shape (key_of request) p s → (told ≢ write.Stored → DrawsNothing p s) → Writes b request told p s
-writes_with b request told p q s room took some on answer grows none = record {
+    → GoesOn b p s → IsWriteAnswer b.shape request told p s → TakesOneBit (bucket_of b.shape (key_of request)) p s → GrowsFor b.shape request p s → (told ≢ write.Stored → DrawsNothing p s) → Writes b request told p s
+writes_with b request told p q s room took some on answer takes grows none = record {
   on = on;
   answer = answer;
   untouched = λ none. absurd (some none);
   no_room = (λ none. absurd (some none), λ none. absurd (room none));
   locked = λ has locked. absurd (took.unlocked locked);
+  takes = λ some free. takes;
   grows = grows;
   draws_nothing = none;
 }
@@ -96,7 +97,8 @@ module _ (b : Board) (w : When) (request : Request) (key value words : List ℕ)
           writes_with b request answer p q s room took_it (λ none. none-some (reply_now b g request) (sym (ap reply_of_write none) ∙ why.0))
           (refused_goes_on b request (reply_now b g request) p q g s quiet took_it idle refuses)
           (refused_answer b request (reply_now b g request) p q g s quiet took_it idle refuses answer why.0 why.1)
-          (grows_none b.shape (key_of request) p s undrawn) (λ other. undrawn)
+          (refused_takes b request (reply_now b g request) p q g s quiet took_it idle refuses)
+          (grows_none b.shape request p s undrawn) (λ other. undrawn)
 
     -- what the refusal asks for
     pub may_tell : (answer : WriteAnswer) → refusal ≡ Some answer → IsPassOf b g × (HasCleanBit b g bucket × (bucket ≡ k × IsRefusal (reply_now b g request)))
@@ -136,15 +138,16 @@ module _ (b : Board) (w : When) (request : Request) (key value words : List ℕ)
             let adds = adds_absent request version (ap (λ o. reply_to request (is_some o) version) (sym absent) ∙ stored) in
             let undrawn = full_undrawn b (key_of request) p q r s quiet took_it idle_yet none.2 none.1 freed' free' plain same in
             writes_with b request write.BucketFull p q s rows took_it (λ e. cc) (full_goes_on b (key_of request) p q r s quiet took_it idle_yet none.2 none.1 freed' free' plain same) (answer.0, adds, answer.1)
-            (grows_none b.shape (key_of request) p s undrawn) (λ other. undrawn)
+            (full_takes b (key_of request) p q r s quiet took_it idle_yet none.2 none.1 freed' free' plain same)
+            (grows_none b.shape request p s undrawn) (λ other. undrawn)
 
       -- it is stored
       module _ (target : Target) (given : room ≡ Some target) where
         there : HasRoom b (key_of request) target q g r
         there = room_for b (key_of request) q g r idle idle.moved.pass clean_there found room target given found_now made
 
-        draws : DrawsOnce b.shape (key_of request) (number p) there.own (marked q) (marked r)
-        draws = subst (λ n. DrawsOnce b.shape (key_of request) n there.own (marked q) (marked r)) (idle.moved.same ∙ (took_moved b bucket p q quiet took).same) there.draws
+        draws : DrawsOnce b.shape (key_of request) (number p) there.own (seen g) (trace q) (trace r)
+        draws = subst (λ n. DrawsOnce b.shape (key_of request) n there.own (seen g) (trace q) (trace r)) (idle.moved.same ∙ (took_moved b bucket p q quiet took).same) there.draws
 
         keeps : KeepsSegments b r
         keeps = keeps_plain b there.own q r there.ready.moved there.ready.calm there.ready.plain (took_keeps b bucket p q quiet took)
@@ -159,12 +162,15 @@ module _ (b : Board) (w : When) (request : Request) (key value words : List ℕ)
             let requests : Requests b request words value r = record { of = (a.0 ∙ sym copied, a.1); stored = stored ∙ (λ i. reply_to request (is_some ((sym there.same.stands) i)) ((sym there.same.version) i)) } in
             (there.ready.moved.pass, (keeps, (row_is, (requests, (key_of_words, (tagged, (there.ready.clean, there.target_is)))))))
 
-        pub ends_stored : ¬ (has_room b.shape p ≡ false) → (segment row : ℕ) (t s : Pass) → Stores b request segment row r t → KeepsSegments b t → UsesRow segment r t
+        pub ends_stored : ¬ (has_room b.shape p ≡ false) → refusal ≡ None → (segment row : ℕ) (t s : Pass) → Stores b request segment row r t → KeepsSegments b t → UsesRow segment r t
             → Did b (Freed (number t) bucket true ∷ []) t s → (bucket_after b.shape (trace s) bucket).holder ≡ None → s.plain ≡ t.plain → memo s ≡ memo t → Writes b request write.Stored p s
-        ends_stored rows segment row t s done kept uses freed free plain same =
+        ends_stored rows unrefused segment row t s done kept uses freed free plain same =
             let freed' = subst (λ n. Did b (Freed (number t) n true ∷ []) t s) at_home freed in
             let free' = subst (λ n. (bucket_after b.shape (trace s) n).holder ≡ None) at_home free in
             let answer = stored_answer b request segment row p q r t s quiet took_it there.own there.ready done kept uses freed' free' plain same in
+            let version = (after b.shape (seen g)).version k in
+            let adds : standing (after b.shape (seen g)) (key_of request) ≡ None → adds_key request false ≡ true = λ absent. adds_absent request version (ap (λ o. reply_to request (is_some o) version) (sym absent) ∙ subst (IsToldBy (reply_now b g request)) unrefused told) in
             writes_with b request write.Stored p q s rows took_it (λ e. cc)
             (stored_goes_on b request segment row p q r t s quiet took_it there.own there.ready done kept uses freed' free' plain same) (segment, answer.0, answer.1)
-            (stored_grows b request segment row p q r t s quiet took_it there.own there.ready done kept uses freed' free' plain same draws) (λ other. absurd (other refl))
+            (stored_takes b request segment row p q r t s quiet took_it there.own there.ready done kept uses freed' free' plain same)
+            (stored_grows b request segment row p q r t s quiet took_it there.own there.ready done kept uses freed' free' plain same (seen g) draws adds) (λ other. absurd (other refl))

@@ -1,5 +1,5 @@
 -- What the answers of calls say, in the terms of the model.
-use Rattle.std.specs.Prelude.{◌≡◌, ◌≢◌, ◌↔◌, ◌⊎◌, ℕ, ◌+◌, ◌*◌, ◌<◌, ◌≤◌, Bool, true, false, List, Option, Some, None}
+use Rattle.std.specs.Prelude.{◌≡◌, ◌≢◌, ◌↔◌, ◌⊎◌, ℕ, ◌+◌, ◌*◌, ◌<◌, ◌≤◌, Bool, true, false, List, ◌∷◌, Option, Some, None}
 use Rattle.segword.specs.declared.shape.Shape.{Shape}
 use Rattle.segmodel.specs.declared.entry.Entry.{Entry}
 use Rattle.segmodel.specs.declared.entry.Entry.TheVariants.{Wrote, Refilled}
@@ -20,20 +20,23 @@ use Rattle.segmodel.specs.Places.{bucket_of}
 use Rattle.segmodel.specs.Request.{key_of, adds_key}
 use Rattle.segmodel.specs.Cache.{standing, reads, keys_in}
 use Rattle.segmodel.specs.History.{after, Begins, IsBetween, entries_of, stirred}
+use Rattle.segcore.specs.declared.event.Event.{Event}
+use Rattle.segcore.specs.declared.event.Event.TheVariants.{Drew}
 use Rattle.segcore.specs.Event as event
 use Rattle.segcore.specs.Segment.{inside}
 use Rattle.segcore.specs.Mark.{Mark, entries, width, all_drawn}
+use Rattle.segcore.specs.Mark as mark
 use Rattle.segbase.specs.declared.law.Locked.{Locked}
 use Rattle.segbase.specs.declared.board.Board.{Board}
 use Rattle.segbase.specs.declared.pass.Pass.{Pass}
-use Rattle.segbase.specs.Passes.{number, trace, marked, seen, mine, taken, bounced, drew, holding, locked}
+use Rattle.segbase.specs.Passes.{number, trace, marked, seen, mine, drew, holding, locked}
 use Rattle.segbase.specs.Passes as passes
 use Rattle.segbase.specs.Plain.{current_of, state_of, used_of, locked_of, is_holding_of, SameSegments}
 use Rattle.segindex.specs.declared.bucket.LockAnswer.{LockAnswer}
 use Rattle.segindex.specs.declared.bucket.LockAnswer.TheVariants as lock
 use Rattle.segindex.specs.Quiet.{is_held_in}
 use Rattle.segstore.specs.Segments.{has_room}
-use Rattle.segindex.specs.Calls.{memo, GoesOn, ChangesNothing, DrawsNothing, AddsEntry}
+use Rattle.segindex.specs.Calls.{memo, GoesOn, ChangesNothing, TakesNoBit, TakesOneBit, TriesInVain, DrawsNothing, AddsEntry}
 
 -- ---- readers
 
@@ -49,9 +52,9 @@ IsGetAnswer shape key get.Busy before now = 64 ≤ stirred shape key before now
 
 -- ---- refusals
 
--- the pass itself has the bucket locked, or it found the bit of another set 64 times, and took none
+-- the pass itself has the bucket locked, and tried for no bit; or it found the bucket's bit set by another 64 times
 abbrev pub IsBusy : ℕ → Pass → Pass → Type 0
-IsBusy bucket p q = (locked_of p ≡ Some bucket) ⊎ ((bounced q bucket ≡ bounced p bucket + 64) × (taken q ≡ taken p))
+IsBusy bucket p q = ((locked_of p ≡ Some bucket) × TakesNoBit p q) ⊎ TriesInVain bucket p q
 
 -- a new key finds no word in its bucket: all its words are taken
 pub record HasNoWord (shape : Shape) (marks : List Mark) (key : List ℕ) : Type 0 where
@@ -74,13 +77,20 @@ pub record CanGrow (shape : Shape) (marks : List Mark) (key : List ℕ) : Type 0
   pub short : width marks (bucket_of shape key) < 4
   pub left : all_drawn marks < shape.overflow
 
-abbrev pub CouldGrow : Shape → List ℕ → List Mark → List Mark → Type 0
-CouldGrow shape key before now = (marks : List Mark) × IsBetween before now marks × CanGrow shape marks key
+-- at the moment at which the pass drew an overflow bucket for the bucket of a key, between one trace and a longer one, the key was new and found no word, and the chain could grow
+pub record DrewInNeed (shape : Shape) (key : List ℕ) (pass : ℕ) (before now : List Event) : Type 0 where
+  pub at : List Event
+  pub depth : ℕ
+  pub overflow : ℕ
+  pub since : Begins before at
+  pub draw : Begins (Drew pass (bucket_of shape key) depth overflow ∷ at) now
+  pub could : CanGrow shape (mark.marked at) key
 
--- for the key's bucket one overflow bucket was drawn at most, and only where the key was new and found no word; for the others none
-pub record GrowsFor (shape : Shape) (key : List ℕ) (p q : Pass) : Type 0 where
-  pub others : (bucket : ℕ) → bucket ≢ bucket_of shape key → drew q bucket ≡ drew p bucket
-  pub own : (drew q (bucket_of shape key) ≡ drew p (bucket_of shape key)) ⊎ ((drew q (bucket_of shape key) ≡ drew p (bucket_of shape key) + 1) × CouldGrow shape key (marked p) (marked q))
+-- for the bucket of the request's key one overflow bucket was drawn at most, and only where it was needed, by a request that adds keys; for the others none
+pub record GrowsFor (shape : Shape) (request : Request) (p q : Pass) : Type 0 where
+  pub others : (bucket : ℕ) → bucket ≢ bucket_of shape (key_of request) → drew q bucket ≡ drew p bucket
+  pub own : (drew q (bucket_of shape (key_of request)) ≡ drew p (bucket_of shape (key_of request)))
+      ⊎ ((drew q (bucket_of shape (key_of request)) ≡ drew p (bucket_of shape (key_of request)) + 1) × (adds_key request false ≡ true) × DrewInNeed shape (key_of request) (number p) (trace p) (trace q))
 
 -- ---- writes
 
@@ -121,14 +131,15 @@ IsDeleteAnswer shape key delete.Deleted p q = IsReplied (Delete key) reply.Delet
 IsDeleteAnswer shape key delete.NotFound p q = IsReplied (Delete key) reply.NotFound p q
 IsDeleteAnswer shape key delete.Busy p q = ChangesNothing p q × IsBusy (bucket_of shape key) p q
 
--- A set, an add, a replace or a cas is answered so. NoRoom comes first, exactly where the pass has no row left; then Busy, always where the pass itself has the bucket locked.
+-- A set, an add, a replace or a cas is answered so. NoRoom comes first, exactly where the pass has no row left; then Busy, always where the pass itself has the bucket locked. For any other answer it took one bit.
 pub record Writes (b : Board) (request : Request) (told : WriteAnswer) (p q : Pass) : Type 0 where
   pub on : GoesOn b p q
   pub answer : IsWriteAnswer b.shape request told p q
   pub untouched : told ≡ write.NoRoom → q ≡ p
   pub no_room : (told ≡ write.NoRoom) ↔ (has_room b.shape p ≡ false)
   pub locked : has_room b.shape p ≡ true → locked_of p ≡ Some (bucket_of b.shape (key_of request)) → told ≡ write.Busy
-  pub grows : GrowsFor b.shape (key_of request) p q
+  pub takes : told ≢ write.NoRoom → told ≢ write.Busy → TakesOneBit (bucket_of b.shape (key_of request)) p q
+  pub grows : GrowsFor b.shape request p q
   pub draws_nothing : told ≢ write.Stored → DrawsNothing p q
 
 -- a delete is answered so; it needs no row
@@ -136,11 +147,12 @@ pub record Deletes (b : Board) (key : List ℕ) (told : DeleteAnswer) (p q : Pas
   pub on : GoesOn b p q
   pub answer : IsDeleteAnswer b.shape key told p q
   pub locked : locked_of p ≡ Some (bucket_of b.shape key) → told ≡ delete.Busy
+  pub takes : told ≢ delete.Busy → TakesOneBit (bucket_of b.shape key) p q
   pub draws_nothing : DrawsNothing p q
 
 -- ---- locks
 
--- the bucket is locked, as of what the pass has seen now: it took one bit for that
+-- the bucket is locked, as of what the pass has seen now: it took its bit for that
 pub record Locks (bucket : ℕ) (p q : Pass) : Type 0 where
   pub entries : mine q ≡ mine p
   pub lock : Locked
@@ -148,7 +160,7 @@ pub record Locks (bucket : ℕ) (p q : Pass) : Type 0 where
   pub of : lock.bucket ≡ bucket
   pub since : lock.trace ≡ trace q
   pub history : event.seen lock.trace ≡ seen q
-  pub taken : taken q ≡ taken p + 1
+  pub takes : TakesOneBit bucket p q
   pub locked_of : locked_of q ≡ Some bucket
   pub current : current_of q ≡ current_of p
   pub segments : SameSegments p q

@@ -1,5 +1,5 @@
 -- What calls do to the pass that makes them.
-use Rattle.std.specs.Prelude.{◌≡◌, ℕ, List, ◌∷◌, length, Some, slice_get}
+use Rattle.std.specs.Prelude.{◌≡◌, ◌≢◌, ℕ, ◌+◌, ◌<◌, List, ◌∷◌, length, Some, slice_get}
 use Rattle.segword.specs.declared.shape.Shape.{Shape}
 use Rattle.segword.specs.Shape.{IsValid}
 use Rattle.segmodel.specs.declared.entry.Entry.{Entry}
@@ -34,6 +34,18 @@ pub record ChangesNothing (p q : Pass) : Type 0 where
 pub record TakesNoBit (p q : Pass) : Type 0 where
   pub taken : taken q ≡ taken p
   pub bounced : (bucket : ℕ) → bounced q bucket ≡ bounced p bucket
+
+-- it took one bit, after at most 63 tries that found that of the bucket set, and tried for that of no other
+pub record TakesOneBit (bucket : ℕ) (p q : Pass) : Type 0 where
+  pub taken : taken q ≡ taken p + 1
+  pub tries : bounced q bucket < bounced p bucket + 64
+  pub others : (other : ℕ) → other ≢ bucket → bounced q other ≡ bounced p other
+
+-- it took none: 64 tries found that of the bucket set, and it tried for that of no other
+pub record TriesInVain (bucket : ℕ) (p q : Pass) : Type 0 where
+  pub taken : taken q ≡ taken p
+  pub tries : bounced q bucket ≡ bounced p bucket + 64
+  pub others : (other : ℕ) → other ≢ bucket → bounced q other ≡ bounced p other
 
 -- it drew no overflow bucket
 abbrev pub DrawsNothing : Pass → Pass → Type 0

@@ -12,7 +12,7 @@ use Rattle.segcore.specs.Overflow.{drawn_in, home, home_of}
 use Rattle.segbase.specs.declared.board.Board.{Board}
 use Rattle.segbase.specs.declared.pass.Pass.{Pass}
 use Rattle.segbase.specs.declared.place.Place.{Place}
-use Rattle.segbase.specs.Passes.{number, trace, marked, seen, Moved, Did}
+use Rattle.segbase.specs.Passes.{number, trace, seen, Moved, Did}
 use Rattle.segbase.specs.Spots.{position, home_bucket}
 use Rattle.segbase.specs.Steps.{depth_to_draw}
 use Rattle.segstore.specs.Refilling.{Idles}
@@ -21,7 +21,7 @@ use Rattle.segindex.specs.declared.find.Target.{Target}
 use Rattle.segindex.specs.declared.find.Found.{Found}
 use Rattle.segindex.specs.declared.find.Found.TheVariants.{Word, Full}
 use Rattle.segindex.specs.Calls.{memo}
-use Rattle.segindex.specs.Answers.{CouldGrow}
+use Rattle.segindex.specs.Answers.{DrewInNeed}
 use Rattle.segindex.specs.Taking.{HasCleanBit}
 use Rattle.segindex.specs.Writing.{IsInChain, IsEarlier, IsAbsent, IsTarget, HasNoWord}
 
@@ -126,7 +126,7 @@ pub record Lengthens (b : Board) (bucket : ℕ) (target : Target) (p q : Pass) :
   pub clean : HasCleanBit b q bucket
   pub second : target.place ≡ record { bucket = b.shape.buckets + overflow; word = 2 }
   pub free : (key : List ℕ) → bucket_of b.shape key ≡ bucket → IsAbsent b key p → IsTarget b key target q
-  pub could : (key : List ℕ) → bucket_of b.shape key ≡ bucket → IsAbsent b key p → CouldGrow b.shape key (marked p) (marked q)
+  pub could : (key : List ℕ) → bucket_of b.shape key ≡ bucket → IsAbsent b key p → DrewInNeed b.shape key (number p) (trace p) (trace q)
 
 abbrev pub Grows : Board → ℕ → Option Target → Pass → Pass → Type 0
 Grows b bucket None p q = Idles b p q × CannotGrow b bucket q

@@ -1,5 +1,5 @@
 //! The content of an index at its end, read from its words at rest.
-ghost use Rattle.std.specs.Prelude.{◌≡◌, ℕ, ◌+◌, ◌*◌, ◌<◌, List, IfOk, OnOk};
+ghost use Rattle.std.specs.Prelude.{◌≡◌, ℕ, ◌+◌, ◌*◌, ◌<◌, ◌≤◌, List, IfOk, OnOk, vec_len};
 ghost use Rattle.segcore.specs.declared.event.Event.{Event};
 ghost use Rattle.segbase.specs.Closing.{shape_of, IsAtRest};
 ghost use Rattle.segindex.specs.Closing.{IsListed, IsWordIn, IsBucketIn, IsPairAt};
@@ -23,10 +23,11 @@ impl Index {
 
     /// Ends the index, and lists what stands in it: each key with its value, in the order of the keys. That is the content after all that any pass did, whether this one has seen it or not; buckets that are still locked are listed like the others. It can't be called while an item is held.
     ///
-    /// It takes memory for the list. Where that is refused, index and pass are gone all the same.
+    /// Each bucket has four times seven words at most, so it lists no more pairs. It takes memory for the list. Where that is refused, index and pass are gone all the same.
     pub fn close(self, alloc: Global, pass: Pass) -> Result<Vec<(Key, Value)>, OutOfMemory>
         requires { IsQuiet (index.board_of self) pass }
         ensures content { IfOk result (λ content. IsContent (index.shape_of self) pass content.items) }
+        ensures few { IfOk result (λ content. vec_len content ≤ 28 * (index.shape_of self).buckets) }
         ensures alone { (index.shape_of self).passes ≡ 1 → IfOk result (λ content. IsContentSeen (index.shape_of self) pass content.items) }
     {
         let Index { board } = self;
@@ -42,7 +43,8 @@ impl Index {
 // The pairs of all buckets.
 fn list_pairs(alloc: Global, words: &Words) -> Result<Vec<(Key, Value)>, AllocError>
     requires rest { (trace : List Event) × IsAtRest words.now trace }
-    ensures { IfOk result (λ pairs. (trace : List Event) → IsAtRest words.now trace → IsListed words.now trace (shape_of words.now).buckets 1 pairs.items) }
+    ensures lists { IfOk result (λ pairs. (trace : List Event) → IsAtRest words.now trace → IsListed words.now trace (shape_of words.now).buckets 1 pairs.items) }
+    ensures few { IfOk result (λ pairs. vec_len pairs ≤ 28 * (shape_of words.now).buckets) }
 {
     let mut pairs = Vec::new(alloc);
     for bucket in 0..words.shape().buckets {
@@ -55,7 +57,8 @@ fn list_pairs(alloc: Global, words: &Words) -> Result<Vec<(Key, Value)>, AllocEr
 fn list_chain(words: &Words, home: u32, pairs: &mut Vec<(Key, Value)>) -> Result<(), AllocError>
     requires rest { (trace : List Event) × IsAtRest words.now trace }
     requires home { home < (shape_of words.now).buckets }
-    ensures { OnOk result ((trace : List Event) → IsAtRest words.now trace → IsListed words.now trace home 1 pairs.old.items → IsListed words.now trace (home + 1) 1 pairs.new.items) }
+    ensures lists { OnOk result ((trace : List Event) → IsAtRest words.now trace → IsListed words.now trace home 1 pairs.old.items → IsListed words.now trace (home + 1) 1 pairs.new.items) }
+    ensures few { OnOk result (vec_len pairs.new ≤ vec_len pairs.old + 28) }
 {
     let mut bucket = home;
     for depth in 0..BUCKETS {
@@ -71,8 +74,9 @@ fn list_chain(words: &Words, home: u32, pairs: &mut Vec<(Key, Value)>) -> Result
 // Lists the pairs of one bucket of a chain.
 fn list_bucket(words: &Words, bucket: u32, pairs: &mut Vec<(Key, Value)>) -> Result<(), AllocError>
     requires { (trace : List Event) × (home : ℕ) × (depth : ℕ) × IsAtRest words.now trace × IsBucketIn words.now trace home depth bucket }
-    ensures { OnOk result ((trace : List Event) (home depth : ℕ) → IsAtRest words.now trace → IsBucketIn words.now trace home depth bucket
+    ensures lists { OnOk result ((trace : List Event) (home depth : ℕ) → IsAtRest words.now trace → IsBucketIn words.now trace home depth bucket
         → IsListed words.now trace home (8 * depth + 1) pairs.old.items → IsListed words.now trace home (8 * depth + 8) pairs.new.items) }
+    ensures few { OnOk result (vec_len pairs.new ≤ vec_len pairs.old + 7) }
 {
     for word in 1..8u8 {
         if let Some(pair) = pair_at(words, Place { bucket, word }) {

@@ -1,5 +1,5 @@
 //! An index with its one pass, which serves commands one after the other, as the cache of one thread does.
-ghost use Rattle.std.specs.Prelude.{◌≡◌, IfOk, IfErr};
+ghost use Rattle.std.specs.Prelude.{◌≡◌, IsOk, IfOk, IfErr};
 ghost use Rattle.segmodel.specs.declared.request.Request.TheVariants.{Set, Add, Replace, Cas, Delete};
 ghost use Rattle.segmodel.specs.declared.answer.Command.TheVariants.{Write, Get, Gets, Evict, Refill};
 ghost use Rattle.segmodel.specs.State.{fresh};
@@ -59,7 +59,11 @@ impl Shelf for Solo {
 
     ghost state = { state_of };
 
-    fn serve(&mut self, command: &Command) -> Result<Answer, PlainFault> {
+    fn serve(&mut self, command: &Command) -> Result<Answer, PlainFault>
+        ensures never_fails { IsOk result }
+        ensures shape { shape_of self.new ≡ shape_of self.old }
+        ensures serves { IfOk result (λ answer. Serves (shape_of self.old) (state_of self.old) command.now answer (state_of self.new)) }
+    {
         Ok(self.answer(command))
     }
 }

@@ -65,6 +65,7 @@ loaded b may_stop commands workers totals first all_there worked none long are a
   where
     ending : (end : List Entry) → IsLegal b.shape end → Begins all.history end → (b.shape.passes ≡ 1 → end ≡ all.history) → totals.keys ≡ keys_of (after b.shape end) → IsLoad b.shape commands totals
     ending end legal goes_on one keys = record {
+      valid = all.quiet.pass.valid;
       long = sym long ∙ all_there;
       history = all.history;
       legal = all.legal;

@@ -24,6 +24,7 @@ keys_of cache = length cache.items
 
 -- Each pass made so many commands, and one legal history has the writes of all of them as they are counted. So many keys stand at the end: after a legal history that goes on from that one, and is that one where there is one pass.
 pub record IsLoad (shape : Shape) (commands : ℕ) (totals : Totals) : Type 0 where
+  pub valid : IsValid shape
   pub long : length totals.passes.items ≡ shape.passes
   pub history : List Entry
   pub legal : IsLegal shape history

@@ -142,7 +142,7 @@ fn count_keys(alloc: Global, index: Index, pass: Pass) -> Option<u32>
     ensures alone { (shape_of index).passes ≡ 1 → IfSome result (λ keys. keys ≡ keys_of (after (shape_of index) (seen pass))) }
 {
     let content = index.close(alloc, pass).ok()?;
-    u32::try_from(content.len()).ok()
+    Some(content.len() as u32)
 }
 
 /// Runs a load: each pass of a new index makes so many commands of its own, drawn with this seed, on a thread of its own, and the gate is asked before each.

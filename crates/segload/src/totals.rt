@@ -1,5 +1,6 @@
 //! What a load counts.
-ghost use Rattle.std.specs.Prelude.{◌≡◌, ◌+◌, ◌^◌, ◌<◌};
+ghost use Rattle.std.specs.Prelude.{◌≡◌, ◌+◌, ◌^◌, ◌<◌, vec_len, sum_by};
+ghost use Rattle.segload.specs.declared.totals.PassTotals.{PassTotals};
 ghost use Rattle.segload.specs.Counting.{no_tallies, counted, all_of};
 
 /// What a command came to.
@@ -86,4 +87,18 @@ pub struct PassTotals {
 pub struct Totals {
     pub passes: Vec<PassTotals>,
     pub keys: u32,
+}
+
+impl Totals {
+    /// How many commands the passes made together.
+    pub fn commands(&self) -> u64
+        requires few { vec_len self.now.passes < 2 ^ 32 }
+        ensures { result ≡ sum_by (λ (of : PassTotals). of.commands) self.now.passes.items }
+    {
+        let mut commands = 0;
+        for pass in self.passes.iter() {
+            commands += u64::from(pass.commands);
+        }
+        commands
+    }
 }

@@ -62,6 +62,7 @@ fn passes_work_at_the_same_time(rt: HostRuntime) -> Result<(), Fail> {
     };
     let totals = run_load(&rt, rt.alloc(), shape, 1, 100, &gate)?;
     assert_eq!(rt; totals.passes.len(), 2);
+    assert_eq!(rt; totals.commands(), 200);
     Ok(())
 }
 

@@ -11,16 +11,25 @@ pair_at-requires c = let r = c.requires in let low = c.loop-word.auto.word in le
     (r.0, r.1, _, r.3, r.4 c.loop-word.word (omega arith) high)
 
 pub loop-word-preserved : goal.loop-word-preserved
-loop-word-preserved c = λ trace home depth rest is lists.
-    let words = c.args.words.now in let w = c.loop-word.word in let low = c.loop-word.auto.word in let high = c.loop-word-test.true in
-    let items : c.match-pair_at.pairs.items ≡ c.loop-word.pairs.items ++ option_to_list c.pair_at.result = elim c.match-pair_at.branch [
-      | in-Some+in_ok-push x ↦ ap (λ (ps : Vec (List ℕ × List ℕ) Global). ps.items) x.pairs-is ∙ (x.in_ok-push.ensures.items ∙ ap (λ o. c.loop-word.pairs.items ++ option_to_list o) (sym x.in-Some.is))
-      | in_default x ↦ ap (λ (ps : Vec (List ℕ × List ℕ) Global). ps.items) x.pairs-is ∙ (sym (append-nil c.loop-word.pairs.items) ∙ ap (λ o. c.loop-word.pairs.items ++ option_to_list o) (sym x.in_default.is))
-    ] in
-    let more = lists_word (shape_of words) trace rest.lawful home (8 * depth + w) c.pair_at.result c.loop-word.pairs.items (c.pair_at.ensures trace home (8 * depth + w) rest (is w (omega arith) high)) (c.loop-word.invariant trace home depth rest is lists) in
-    subst (λ n. IsListed words trace home n c.match-pair_at.pairs.items) (let e : 8 * depth + w + 1 ≡ 8 * depth + (w + 1) = omega arith in e) (subst (λ ps. IsListed words trace home (8 * depth + w + 1) ps) (sym items) more)
+loop-word-preserved c = record {
+  lists = λ trace home depth rest is lists.
+      let words = c.args.words.now in let w = c.loop-word.word in let low = c.loop-word.auto.word in let high = c.loop-word-test.true in
+      let items : c.match-pair_at.pairs.items ≡ c.loop-word.pairs.items ++ option_to_list c.pair_at.result = elim c.match-pair_at.branch [
+        | in-Some+in_ok-push x ↦ ap (λ (ps : Vec (List ℕ × List ℕ) Global). ps.items) x.pairs-is ∙ (x.in_ok-push.ensures.items ∙ ap (λ o. c.loop-word.pairs.items ++ option_to_list o) (sym x.in-Some.is))
+        | in_default x ↦ ap (λ (ps : Vec (List ℕ × List ℕ) Global). ps.items) x.pairs-is ∙ (sym (append-nil c.loop-word.pairs.items) ∙ ap (λ o. c.loop-word.pairs.items ++ option_to_list o) (sym x.in_default.is))
+      ] in
+      let more = lists_word (shape_of words) trace rest.lawful home (8 * depth + w) c.pair_at.result c.loop-word.pairs.items (c.pair_at.ensures trace home (8 * depth + w) rest (is w (omega arith) high)) (c.loop-word.invariant.lists trace home depth rest is lists) in
+      subst (λ n. IsListed words trace home n c.match-pair_at.pairs.items) (let e : 8 * depth + w + 1 ≡ 8 * depth + (w + 1) = omega arith in e) (subst (λ ps. IsListed words trace home (8 * depth + w + 1) ps) (sym items) more);
+  few = let few = c.loop-word.invariant.few in elim c.match-pair_at.branch [
+    | in-Some+in_ok-push x ↦ omega (arith, few, x.in_ok-push.ensures.len, ap (λ (ps : Vec (List ℕ × List ℕ) Global). ps.len) x.pairs-is)
+    | in_default x ↦ omega (arith, few, ap (λ (ps : Vec (List ℕ × List ℕ) Global). ps.len) x.pairs-is)
+  ];
+}
 
 pub returns : goal.returns
-returns c = λ trace home depth rest is lists.
-    let end : c.loop-word.word ≡ 8 = let over = c.loop-word-test.false in let up = c.loop-word.auto.word-end in omega arith in
-    subst (λ w. IsListed c.args.words.now trace home (8 * depth + w) c.loop-word.pairs.items) end (c.loop-word.invariant trace home depth rest is lists)
+returns c = record {
+  lists = λ trace home depth rest is lists.
+      let end : c.loop-word.word ≡ 8 = let over = c.loop-word-test.false in let up = c.loop-word.auto.word-end in omega arith in
+      subst (λ w. IsListed c.args.words.now trace home (8 * depth + w) c.loop-word.pairs.items) end (c.loop-word.invariant.lists trace home depth rest is lists);
+  few = let over = c.loop-word-test.false in let up = c.loop-word.auto.word-end in let few = c.loop-word.invariant.few in omega (arith, few, up);
+}

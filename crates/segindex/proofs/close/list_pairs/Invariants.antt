@@ -1,8 +1,12 @@
-use Rattle.std.proofs.Common.{List}
+use Rattle.std.proofs.Common.{◌*◌, ◌≤◌, List}
+use Rattle.std.specs.Vec.{vec_len}
 use Rattle.segcore.specs.declared.event.Event.{Event}
 use Rattle.segbase.specs.Closing.{IsAtRest}
 use Rattle.segindex.specs.Closing.{IsListed}
 use Rattle.segindex.proofs.close.list_pairs.Given as goal
 
 abbrev pub invariant-loop-bucket : goal.invariant-loop-bucket
-invariant-loop-bucket l = (trace : List Event) → IsAtRest l.words trace → IsListed l.words trace l.bucket 1 l.pairs.items
+invariant-loop-bucket l = record {
+  lists : (trace : List Event) → IsAtRest l.words trace → IsListed l.words trace l.bucket 1 l.pairs.items;
+  few : vec_len l.pairs ≤ 28 * l.bucket;
+}

@@ -9,11 +9,11 @@ use Rattle.segindex.proofs.index.Index.close.Goals as goal
 pub returns-clause-content : goal.returns-clause-content
 returns-clause-content c =
     let ended = c.close-words.ensures in
-    some_content c.args.self.board c.args.pass c.close-words.result ended.0 ended.1 c.in-Ok.content.items c.sort_unstable_by.new.self.items (c.in-Ok.ensures ended.0 ended.1.rest) c.sort_unstable_by.ensures.permutation
+    some_content c.args.self.board c.args.pass c.close-words.result ended.0 ended.1 c.in-Ok.content.items c.sort_unstable_by.new.self.items (c.in-Ok.ensures.lists ended.0 ended.1.rest) c.sort_unstable_by.ensures.permutation
     (c.sort_unstable_by.ensures.sorted (λ p q. is_lt (key_cmp p.0 q.0)) (ranks_by nat_list_cmp_total (λ (p : List ℕ × List ℕ). p.0)) (answers_always _ _ _ (λ f a r g h. search rules)))
 
 pub returns-clause-alone : goal.returns-clause-alone
 returns-clause-alone c =
     let ended = c.close-words.ensures in
-    alone_content c.args.self.board c.args.pass c.close-words.result ended.0 ended.1 c.in-Ok.content.items c.sort_unstable_by.new.self.items (c.in-Ok.ensures ended.0 ended.1.rest) c.sort_unstable_by.ensures.permutation
+    alone_content c.args.self.board c.args.pass c.close-words.result ended.0 ended.1 c.in-Ok.content.items c.sort_unstable_by.new.self.items (c.in-Ok.ensures.lists ended.0 ended.1.rest) c.sort_unstable_by.ensures.permutation
     (c.sort_unstable_by.ensures.sorted (λ p q. is_lt (key_cmp p.0 q.0)) (ranks_by nat_list_cmp_total (λ (p : List ℕ × List ℕ). p.0)) (answers_always _ _ _ (λ f a r g h. search rules)))

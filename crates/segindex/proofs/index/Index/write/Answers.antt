@@ -57,5 +57,5 @@ pub returns : goal.returns
 returns g c = let b = c.args.self.now.board in let words = c.new-words in let find = c.search-found in let step = c.release-2.ensures.step.1 in let s = c.store.ensures in
     let home : c.bucket_of-bucket.result ≡ bucket_of b.shape c.args.key.now = c.bucket_of-bucket.ensures ∙ (λ i. c.hash-hash.ensures i % (c.shape.ensures i).buckets) in record {
       writes = ends_stored b c.args.when g.request _ _ _ _ c.requires.1 home words.ensures.value _ _ _ _ c.requires.0 c.if-not-take_to_write.ensures.takes find.ensures.idles find.ensures.searches _ _ c.refusal.ensures.idles c.refusal.ensures.told _ c.make_room.result c.make_room.ensures.makes c.in-Some-make_room.target c.in-Some-make_room.is
-          (λ none. false≢true (c.in-Ok.ensures.no_room.1 none)) c.in-Ok.segment c.in-Ok.row _ _ s.stores s.segments s.uses c.release-2.ensures.did c.release-2.ensures.free step.plain step.memo;
+          (λ none. false≢true (c.in-Ok.ensures.no_room.1 none)) c.in_default-refusal.is c.in-Ok.segment c.in-Ok.row _ _ s.stores s.segments s.uses c.release-2.ensures.did c.release-2.ensures.free step.plain step.memo;
     }
