@@ -1,7 +1,6 @@
 //! Times the index: nanoseconds for a set, for a get and for a command of a mixed load, on so many threads over so many keys.
 #![tactic(auto)]
 
-ghost use Rattle.std.specs.Prelude.{◌≡◌};
 
 mod work;
 
@@ -18,10 +17,11 @@ const ROUNDS: usize = 5;
 /// As many segments of 4,096 rows for each pass as its sets use.
 const SEGMENTS: u32 = 256;
 
+/// Overflow buckets for those that have more keys than words.
+const OVERFLOW: u32 = 4096;
+
 // Up to 65,536 buckets, with two keys for each where there are fewer.
-fn shape_of(keys: u32) -> Shape
-    ensures { result.overflow ≡ 0 }
-{
+fn shape_of(keys: u32) -> Shape {
     let mut buckets = 1u32;
     for _ in 0..16 {
         if buckets < keys / 2 {
@@ -30,7 +30,7 @@ fn shape_of(keys: u32) -> Shape
     }
     Shape {
         buckets,
-        overflow: 0,
+        overflow: OVERFLOW,
         passes: 4,
         segments_each: SEGMENTS,
         rows: 4096,
