@@ -1,6 +1,7 @@
 -- Where an index has one pass, all that has happened is that pass's.
-use Rattle.std.proofs.Common.{◌≡◌, ◌≢◌, ℕ, List, [], ◌∷◌, Some, refl, sym, ap, ◌∙◌, ⊎_elim, append-nil, arith}
-use Rattle.std.proofs.lemmas.Bool.{cases_Bool, cond-true, cond-false}
+use Rattle.std.specs.Prelude.{MatchOption}
+use Rattle.std.proofs.Common.{◌≡◌, ◌≢◌, ℕ, ◌+◌, ◌<◌, true, List, [], ◌∷◌, Option, Some, None, refl, sym, ap, subst, ◌∙◌, ⊎_elim, append-nil, arith}
+use Rattle.std.proofs.lemmas.Bool.{cases_Bool, cond-true, cond-false, eqb-true, false≢true}
 use Rattle.std.proofs.lemmas.Option.{none-some, same_Some}
 use Rattle.segword.specs.declared.shape.Shape.{Shape}
 use Rattle.segcore.specs.declared.event.Event.{Event}
@@ -8,9 +9,13 @@ use Rattle.segcore.specs.declared.event.Event.TheVariants.{Took, Bounced, Freed}
 use Rattle.segcore.specs.Event.{by, seen, NoneBy, AllBy}
 use Rattle.segcore.specs.Bucket.{Bucket, bucket_at, is, acts, bucket_after}
 use Rattle.segcore.specs.Count.{bounced}
-use Rattle.segcore.specs.Lawful.{IsOther, IsLawful}
+use Rattle.segcore.specs.Lawful.{needs, IsOther, IsLawful}
+use Rattle.segcore.specs.Mark.{width, chained_to}
 use Rattle.segcore.specs.Segment.{inside}
 use Rattle.segcore.proofs.Counts.{mine_own}
+use Rattle.segcore.proofs.Homes.{spare_held}
+use Rattle.segcore.proofs.KeyCounts.{wide}
+use Rattle.segcore.proofs.Marked.{chained_marked}
 use Rattle.segcore.proofs.Quiet.{quiet_inside}
 use Rattle.segbase.specs.declared.board.Board.{Board}
 use Rattle.segbase.specs.declared.pass.Pass.{Pass}
@@ -19,6 +24,7 @@ use Rattle.segbase.specs.Passes as passes
 use Rattle.segbase.specs.Plain.{locked_of}
 use Rattle.segindex.specs.Quiet.{IsQuiet}
 use Rattle.segindex.specs.Answers.{IsBusy}
+use Rattle.segindex.proofs.Quiet.{has_locked}
 use Rattle.segmodel.specs.History.{mine, entries_of, stirred}
 use Rattle.segmodel.specs.Places.{bucket_of}
 
@@ -58,6 +64,32 @@ nobody_inside p other s h apart all = ap (λ g. inside g other s) (sym (append-n
 
 pub free_of_others : (b : Board) (p : Pass) (bucket : ℕ) → IsQuiet b p → b.shape.passes ≡ 1 → passes.bounced p bucket ≡ 0
 free_of_others b p bucket quiet one = none_bounced b.shape (number p) bucket (trace p) quiet.pass.lawful (quiet.pass.alone one)
+
+-- a bit that somebody has is that of a bucket of the table
+in_table : (z : Shape) (h : List Event) (e : Event) (b : ℕ) (o : Option ℕ) → MatchOption o (Unit {0}) (λ a. (a < z.buckets) × ((bucket_after z h a).holder ≡ needs e)) → is o b ≡ true → b < z.buckets
+in_table z h e b None guarded here = absurd (false≢true here)
+in_table z h e b (Some a) guarded here = subst (λ n. n < z.buckets) (eqb-true a b here) guarded.0
+
+held_in : (z : Shape) (b x : ℕ) (h : List Event) → IsLawful z h → (bucket_after z h b).holder ≡ Some x → b < z.buckets
+held_in z b x [] l held = absurd (none-some x held)
+held_in z b x (e ∷ h) l held = let u = bucket_after z h b in ⊎_elim
+    (λ t. in_table z h e b (bucket_at z e) l.1.guarded t)
+    (λ f. held_in z b x h l.0 (ap (λ v. v.holder) (sym (cond-false (is (bucket_at z e) b) (acts e u) u f)) ∙ held))
+    (cases_Bool (is (bucket_at z e) b))
+
+-- no overflow bucket waits for a chain: it would wait under a bit, which would be that of the pass's lock, and nothing was drawn under that
+none_waits : (b : Board) (p : Pass) (bucket : ℕ) (o : Option ℕ) → IsQuiet b p → b.shape.passes ≡ 1 → (bucket_after b.shape (trace p) bucket).spare ≡ o → o ≡ None
+none_waits b p bucket None quiet one waits = refl
+none_waits b p bucket (Some m) quiet one waits =
+    let holder = spare_held b.shape (trace p) bucket m quiet.pass.lawful waits in
+    let own = alone_holds b.shape (number p) bucket holder.0 (trace p) (quiet.pass.alone one) holder.1 in
+    let locked = quiet.bits bucket (held_in b.shape bucket holder.0 (trace p) quiet.pass.lawful holder.1, holder.1 ∙ ap Some own) in
+    sym waits ∙ (has_locked b p bucket quiet locked).undrawn
+
+-- so a bucket is as wide as its chain is long
+pub all_joined : (b : Board) (p : Pass) (bucket : ℕ) → IsQuiet b p → b.shape.passes ≡ 1 → width (passes.marked p) bucket ≡ chained_to (passes.marked p) bucket + 1
+all_joined b p bucket quiet one =
+    wide b.shape (trace p) bucket quiet.pass.lawful (none_waits b p bucket (bucket_after b.shape (trace p) bucket).spare quiet one refl) ∙ ap (λ n. n + 1) (sym (chained_marked b.shape (trace p) bucket))
 
 -- only its own lock refuses it
 pub busy_by_lock : (b : Board) (p q : Pass) (bucket : ℕ) → IsQuiet b p → IsQuiet b q → b.shape.passes ≡ 1 → IsBusy bucket p q → locked_of p ≡ Some bucket

@@ -10,7 +10,7 @@ ghost use Rattle.segmodel.specs.Places.{owner};
 ghost use Rattle.segmodel.specs.Cache.{keys_in};
 ghost use Rattle.segmodel.specs.History.{Begins, IsLegal, after, stirred};
 ghost use Rattle.segmodel.specs.Serving.{reply_of_write, reply_of_delete};
-ghost use Rattle.segcore.specs.Mark.{entries, chained_to, linked_in};
+ghost use Rattle.segcore.specs.Mark.{entries, width, chained_to, linked_in};
 ghost use Rattle.segcore.specs.Segment.{inside};
 ghost use Rattle.segcore.specs.Lawful.{IsSegment};
 ghost use Rattle.segbase.specs.declared.law.Locked.{Locked};
@@ -37,13 +37,14 @@ pub fn quiet_pass()
     ensures few_chained { (index : Index) (pass : Pass) (bucket : ℕ) → IsQuiet (board_of index) pass → chained_to (marked pass) bucket ≤ (shape_of index).overflow }
 {}
 
-/// Where an index has one pass, each entry that it has seen is its own, no bit that it met, by a take or a look, was another's, and nobody else is in a segment. It is Busy only at the bucket that it has locked itself, and while it adds no entry nothing is stirred.
+/// Where an index has one pass, each entry that it has seen is its own, no bit that it met, by a take or a look, was another's, and nobody else is in a segment. It is Busy only at the bucket that it has locked itself, each overflow bucket that was drawn has joined its chain, and while it adds no entry nothing is stirred.
 pub fn one_pass()
     ensures own { (index : Index) (pass : Pass) → IsQuiet (board_of index) pass → (shape_of index).passes ≡ 1 → mine pass ≡ seen pass }
     ensures free { (index : Index) (pass : Pass) (bucket : ℕ) → IsQuiet (board_of index) pass → (shape_of index).passes ≡ 1 → bounced pass bucket ≡ 0 }
     ensures unglanced { (index : Index) (pass : Pass) (bucket : ℕ) → IsQuiet (board_of index) pass → (shape_of index).passes ≡ 1 → glanced pass bucket ≡ 0 }
     ensures nobody { (index : Index) (pass : Pass) (other segment : ℕ) → IsQuiet (board_of index) pass → (shape_of index).passes ≡ 1 → other ≢ number pass → inside (trace pass) other segment ≡ 0 }
     ensures unbusy { (index : Index) (before after : Pass) (bucket : ℕ) → IsQuiet (board_of index) before → IsQuiet (board_of index) after → (shape_of index).passes ≡ 1 → IsBusy bucket before after → locked_of before ≡ Some bucket }
+    ensures joined { (index : Index) (pass : Pass) (bucket : ℕ) → IsQuiet (board_of index) pass → (shape_of index).passes ≡ 1 → width (marked pass) bucket ≡ chained_to (marked pass) bucket + 1 }
     ensures still { (index : Index) (before now : Pass) (key : List ℕ) → IsQuiet (board_of index) before → IsQuiet (board_of index) now → (shape_of index).passes ≡ 1 → mine now ≡ mine before → stirred (shape_of index) key (seen before) (seen now) ≡ 0 }
 {}
 
