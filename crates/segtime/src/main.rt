@@ -1,7 +1,6 @@
 //! Times the index: nanoseconds for a set, for a get and for a command of a mixed load, on so many threads over so many keys.
 #![tactic(auto)]
 
-
 mod work;
 
 use segindex::Index;
