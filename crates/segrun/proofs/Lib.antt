@@ -1,1 +1,3 @@
 pub mod HexWords
+pub mod Showing
+pub mod TotalsText

@@ -3,10 +3,14 @@ use Rattle.std.specs.Prelude.{◌≡◌, ℕ, Bool, true, List, [], Result, Ok, 
 use Rattle.segword.specs.declared.shape.Shape.{Shape}
 use Rattle.segword.specs.declared.reading.Reading.{Reading}
 use Rattle.segrun.specs.Explained.{Says, explanation}
-use Rattle.segrun.specs.Faults.{end_of_run, fault_line, fault_status, is_write_end}
+use Rattle.segrun.specs.Faults.{end_of_run, fault_of_load, fault_line, fault_status, is_write_end}
 use Rattle.segrun.specs.Printing.{PrintOutcome, IsPrinted, IsFlushed}
+use Rattle.segrun.specs.Totals.{totals_text}
 use Rattle.segscript.specs.Run.{RunOutcome, ShapeIsAnswered, is_read_fault, is_write_fault, is_make_fault}
 use Rattle.segscript.specs.declared.fault.RunFault.{RunFault}
+use Rattle.segload.specs.Loads.{IsLoad, IsLoadFault}
+use Rattle.segload.specs.declared.fault.LoadFault.{LoadFault}
+use Rattle.segload.specs.declared.totals.Totals.{Totals}
 use Rattle.segrun.specs.declared.report.ProgramFault.{ProgramFault}
 use Rattle.segrun.specs.declared.report.ProgramFault.TheVariants as fault
 use Rattle.segrun.specs.declared.command.Command.{Command}
@@ -42,11 +46,30 @@ abbrev pub WordOutcome : List ℕ → (List ℕ → Type 0) → ℕ → ℕ → 
 WordOutcome text Wrote before flushes (Err fault.BadWord) = ((reading : Reading) → Says text reading → ⊥) × Wrote [] × (flushes ≡ before)
 WordOutcome text Wrote before flushes end = (reading : Reading) × Says text reading × ShowOutcome (explanation reading) Wrote before flushes end
 
+-- ---- a load
+
+-- why a load of this shape has no totals to show: no pass of it is stopped
+abbrev pub IsFaultOfLoad : Shape → ℕ → ProgramFault → Type 0
+IsFaultOfLoad shape commands f = (why : LoadFault) × IsLoadFault shape commands (λ pass call. ⊥) why × (f ≡ fault_of_load why)
+
+-- The totals of a load of this shape, in which each pass made so many commands, were shown; or there are none to show, and
+-- nothing was written.
+abbrev pub LoadOutcome : Shape → ℕ → (List ℕ → Type 0) → ℕ → ℕ → Result (Unit {0}) ProgramFault → Type 0
+LoadOutcome shape commands Wrote before flushes (Ok _) =
+    (totals : Totals) × IsLoad shape commands totals × ShowOutcome (totals_text totals) Wrote before flushes (Ok tt)
+LoadOutcome shape commands Wrote before flushes (Err fault.Write) =
+    (totals : Totals) × IsLoad shape commands totals × ShowOutcome (totals_text totals) Wrote before flushes (Err fault.Write)
+LoadOutcome shape commands Wrote before flushes (Err f) =
+    IsFaultOfLoad shape commands f × Wrote [] × (flushes ≡ before)
+
 -- ---- commands
 
 abbrev pub CommandOutcome : {R W : Type 0} → (R → List ℕ → R → Type 0) → (R → Type 0) → (R → Bool) → (W → List ℕ → W → Type 0) → (W → Bool) → (W → ℕ) → Command → R → R → W → W → Result (Unit {0}) ProgramFault → Type 0
 CommandOutcome hands is_at_end read_failed takes write_failed flushes (command.Script shape) reader reader' writer writer' end =
     ScriptOutcome hands is_at_end read_failed takes write_failed flushes shape reader reader' writer writer' end
+CommandOutcome hands is_at_end read_failed takes write_failed flushes (command.Load shape seed commands) reader reader' writer writer' end =
+    (reader' ≡ reader) × (write_failed writer' ≡ is_write_end end)
+    × LoadOutcome shape commands (λ part. takes writer part writer') (flushes writer) (flushes writer') end
 CommandOutcome hands is_at_end read_failed takes write_failed flushes (command.Word text) reader reader' writer writer' end =
     (reader' ≡ reader) × (write_failed writer' ≡ is_write_end end)
     × WordOutcome text.now (λ part. takes writer part writer') (flushes writer) (flushes writer') end

@@ -3,3 +3,4 @@ pub mod Explained
 pub mod Faults
 pub mod Printing
 pub mod Program
+pub mod Totals

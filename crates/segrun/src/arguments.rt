@@ -18,11 +18,14 @@ pub const SHAPE: Shape = Shape {
     first_version: 0,
 };
 
-const ABOUT: &str =
-    "Runs scripts of cache commands over the object index of a segment-structured cache";
+/// The seed of a load, and how many commands each of its passes makes, where no option says it.
+const SEED: u64 = 1;
 
-const LONG_ABOUT: &str =
-    "Runs scripts of cache commands over the object index of a segment-structured cache
+const COMMANDS: u32 = 1000;
+
+const ABOUT: &str = "Runs scripts and loads over the object index of a segment-structured cache";
+
+const LONG_ABOUT: &str = "Runs scripts and loads over the object index of a segment-structured cache
 
 Such a cache keeps items in segments, which are filled, evicted and refilled as a whole. Its object
 index finds an item by its key.";
@@ -54,6 +57,24 @@ Exit status:
   0  the whole script was run
   2  a bad line, or a bad command line
   3  a bad shape, a reader or a writer that failed, a script that is too long, or want of memory";
+
+const LOAD: &str = "Runs a load, in which all passes make commands at once, and prints its totals";
+
+const LONG_LOAD: &str =
+    "Runs a load, in which all passes make commands at once, and prints its totals
+
+The index is made first, of the shape that the options give. Then each pass makes its commands on a
+thread of its own. Which they are is drawn with the seed. The totals are a line for each pass, with
+what its commands came to, and a line for all, with how many keys stand at the end.";
+
+const AFTER_LOAD: &str = "Example:
+  segrun load --passes 4 --buckets 16 --commands 100000
+writes the lines of p0, p1, p2, p3 and total.
+
+Exit status:
+  0  the load was run
+  2  a bad command line
+  3  a bad shape, a writer that failed, a pass that was stopped, or want of memory";
 
 const WORD: &str = "Explains an item word, one of the words in which the index keeps its items";
 
@@ -111,6 +132,11 @@ fn refused<'a>(alloc: Global, error: &Error) -> Result<Command<'a>, Refusal> {
 
 fn command_of<'a>(matches: &ArgMatches<'a>) -> Command<'a> {
     match matches.subcommand() {
+        Some(("load", matches)) => Command::Load {
+            shape: shape_of(matches),
+            seed: matches.get_one("seed").unwrap_or(SEED),
+            commands: matches.get_one("commands").unwrap_or(COMMANDS),
+        },
         Some(("word", matches)) => Command::Word(matches.get_str("HEX").unwrap_or("")),
         Some((_, matches)) => Command::Script(shape_of(matches)),
         None => Command::Script(SHAPE),
@@ -141,6 +167,7 @@ fn program<'a>(alloc: Global) -> Result<clap::Command<'a>, AllocError> {
         .bin_name("segrun")?
         .subcommand_required(true)
         .subcommand(script(alloc)?)?
+        .subcommand(load(alloc)?)?
         .subcommand(word(alloc)?)
 }
 
@@ -150,6 +177,25 @@ fn script<'a>(alloc: Global) -> Result<clap::Command<'a>, AllocError> {
         .long_about(LONG_SCRIPT)
         .after_help(AFTER_SCRIPT);
     with_shape(alloc, command)
+}
+
+fn load<'a>(alloc: Global) -> Result<clap::Command<'a>, AllocError> {
+    let command = clap::Command::new(alloc, "load")
+        .about(LOAD)
+        .long_about(LONG_LOAD)
+        .after_help(AFTER_LOAD);
+    let seed = Arg::new(alloc, "seed")
+        .long("seed")
+        .value_name("N")
+        .value_parser(value_parser!(u64))
+        .default_value("1")
+        .help("The number from which the commands are drawn");
+    with_shape(alloc, command)?.arg(seed)?.arg(number(
+        alloc,
+        "commands",
+        "1000",
+        "How many commands each pass makes",
+    ))
 }
 
 fn word<'a>(alloc: Global) -> Result<clap::Command<'a>, AllocError> {

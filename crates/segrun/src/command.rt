@@ -1,30 +1,44 @@
 //! The commands of the program, and how each ends.
-ghost use Rattle.std.specs.Prelude.{◌≡◌, ◌≢◌, ℕ, false, Result};
+ghost use Rattle.std.specs.Prelude.{◌≡◌, ℕ, false, Result, IfOk, IfErr};
 ghost use Rattle.segscript.specs.declared.fault.RunFault.{RunFault};
+ghost use Rattle.segload.specs.declared.totals.Totals.{Totals};
+ghost use Rattle.segload.specs.Loads.{IsLoad};
 ghost use Rattle.segrun.specs.declared.report.ProgramFault.{ProgramFault};
 ghost use Rattle.segrun.specs.Faults.{end_of_run, is_write_end};
-ghost use Rattle.segrun.specs.Commands.{RanScript, WordOutcome, ShowOutcome, CommandOutcome, Concluded};
+ghost use Rattle.segrun.specs.Totals.{totals_text};
+ghost use Rattle.segrun.specs.Commands.{ScriptOutcome, IsFaultOfLoad, LoadOutcome, WordOutcome, ShowOutcome, CommandOutcome, Concluded};
 
 use crate::explain::{explain, reading_of};
 use crate::report::{ProgramFault, print, report};
+use crate::totals::text_of;
+use segload::{OpenGate, run_load};
 use segscript::{Failed, Sink, Source, run_script};
 use segword::Shape;
-use std::alloc::Global;
+use std::alloc::{AllocError, AllocGlobal, Global};
+use std::sync::Wait;
+use std::thread::Threads;
 
 /// What the program is asked to do.
 #[derive(Debug, Drop)]
 pub enum Command<'a> {
     /// Runs the script of the reader over an index of this shape.
     Script(Shape),
+    /// Runs a load over an index of this shape: each pass makes so many commands, drawn with this seed.
+    Load {
+        shape: Shape,
+        seed: u64,
+        commands: u32,
+    },
     /// Explains the item word of these hexadecimal digits.
     Word(&'a str),
     /// Prints a text, as help.
     Show(String),
 }
 
-/// Carries out a command, and answers the exit status. Replies and explanations go to the writer; a fault is one line to
+/// Carries out a command, and answers the exit status. Replies, totals and explanations go to the writer; a fault is one line to
 /// the error writer, after a flush of the writer.
-pub fn run_command<S: Source, W: Sink, E: Sink>(
+pub fn run_command<R: Threads + Wait + AllocGlobal + Sync, S: Source, W: Sink, E: Sink>(
+    rt: &R,
     alloc: Global,
     command: &Command<'_>,
     source: &mut S,
@@ -41,11 +55,12 @@ pub fn run_command<S: Source, W: Sink, E: Sink>(
         source.old source.new writer.old there end
         × Concluded W.takes W.flushes E.takes E.has_failed E.flushes end there writer.new errors.old errors.new result }
 {
-    let end = perform(alloc, command, source, writer);
+    let end = perform(rt, alloc, command, source, writer);
     conclude(end, writer, errors)
 }
 
-fn perform<S: Source, W: Sink>(
+fn perform<R: Threads + Wait + AllocGlobal + Sync, S: Source, W: Sink>(
+    rt: &R,
     alloc: Global,
     command: &Command<'_>,
     source: &mut S,
@@ -58,8 +73,13 @@ fn perform<S: Source, W: Sink>(
 {
     match command {
         Command::Script(shape) => perform_script(alloc, *shape, source, writer),
+        Command::Load {
+            shape,
+            seed,
+            commands,
+        } => perform_load(rt, alloc, *shape, *seed, *commands, writer),
         Command::Word(text) => perform_word(text, writer),
-        Command::Show(text) => show(text.as_str(), writer),
+        Command::Show(text) => show(text.as_bytes(), writer),
     }
 }
 
@@ -71,14 +91,52 @@ fn perform_script<S: Source, W: Sink>(
 ) -> Result<(), ProgramFault>
     requires source_works { S.has_failed source.old ≡ false }
     requires writer_works { W.has_failed writer.old ≡ false }
-    ensures { (end : Result (Unit {0}) RunFault)
-        × RanScript S.hands S.is_at_end S.has_failed W.takes W.has_failed W.flushes shape
-        source.old source.new writer.old writer.new end
-        × (result ≡ end_of_run end) }
+    ensures { ScriptOutcome S.hands S.is_at_end S.has_failed W.takes W.has_failed W.flushes shape
+        source.old source.new writer.old writer.new result }
 {
     match run_script(alloc, source, writer, shape) {
         Ok(()) => Ok(()),
         Err(fault) => Err(ProgramFault::of_run(fault)),
+    }
+}
+
+fn perform_load<R: Threads + Wait + AllocGlobal + Sync, W: Sink>(
+    rt: &R,
+    alloc: Global,
+    shape: Shape,
+    seed: u64,
+    commands: u32,
+    writer: &mut W,
+) -> Result<(), ProgramFault>
+    requires writer_works { W.has_failed writer.old ≡ false }
+    ensures outcome { LoadOutcome shape commands (λ part. W.takes writer.old part writer.new)
+        (W.flushes writer.old) (W.flushes writer.new) result }
+    ensures failed { W.has_failed writer.new ≡ is_write_end result }
+{
+    match load_text(rt, alloc, shape, seed, commands) {
+        Ok(text) => show(text.as_slice(), writer),
+        Err(fault) => Err(fault),
+    }
+}
+
+// Runs a load, and gives the text of its totals.
+fn load_text<R: Threads + Wait + AllocGlobal + Sync>(
+    rt: &R,
+    alloc: Global,
+    shape: Shape,
+    seed: u64,
+    commands: u32,
+) -> Result<Vec<u8>, ProgramFault>
+    ensures text { IfOk result (λ text. (totals : Totals) × IsLoad shape commands totals × (text.items ≡ totals_text totals)) }
+    ensures fault { IfErr result (IsFaultOfLoad shape commands) }
+{
+    let totals = match run_load(rt, alloc, shape, seed, commands, &OpenGate) {
+        Ok(totals) => totals,
+        Err(fault) => return Err(ProgramFault::of_load(fault)),
+    };
+    match text_of(alloc, &totals) {
+        Ok(text) => Ok(text),
+        Err(AllocError) => Err(ProgramFault::OutOfMemory),
     }
 }
 
@@ -88,22 +146,20 @@ fn perform_word<W: Sink>(text: &str, writer: &mut W) -> Result<(), ProgramFault>
         (W.flushes writer.old) (W.flushes writer.new) result }
     ensures failed { W.has_failed writer.new ≡ is_write_end result }
 {
-    let Some(reading) = reading_of(text) else {
-        return Err(ProgramFault::BadWord);
-    };
-    match print(writer, explain(reading).as_slice()) {
-        Ok(()) => Ok(()),
-        Err(Failed) => Err(ProgramFault::Write),
+    match reading_of(text) {
+        Some(reading) => show(explain(reading).as_slice(), writer),
+        None => Err(ProgramFault::BadWord),
     }
 }
 
-fn show<W: Sink>(text: &str, writer: &mut W) -> Result<(), ProgramFault>
+// Prints a text to the writer.
+fn show<W: Sink>(text: &[u8], writer: &mut W) -> Result<(), ProgramFault>
     requires writer_works { W.has_failed writer.old ≡ false }
     ensures outcome { ShowOutcome text.now (λ part. W.takes writer.old part writer.new)
         (W.flushes writer.old) (W.flushes writer.new) result }
     ensures failed { W.has_failed writer.new ≡ is_write_end result }
 {
-    match print(writer, text.as_bytes()) {
+    match print(writer, text) {
         Ok(()) => Ok(()),
         Err(Failed) => Err(ProgramFault::Write),
     }

@@ -6,6 +6,7 @@ mod command;
 mod explain;
 mod program;
 mod report;
+mod totals;
 
 use program::run_program;
 use report::{ProgramFault, report};
@@ -37,6 +38,7 @@ fn main(rt: HostRuntime) -> ExitCode {
     let mut errors = WriteSink::new(rt.stderr());
     let status = match given_words(&rt) {
         Ok(words) => run_program(
+            &rt,
             rt.alloc(),
             words.as_slice(),
             &mut reader,

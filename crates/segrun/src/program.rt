@@ -9,7 +9,9 @@ use crate::arguments::{Refusal, read_command};
 use crate::command::run_command;
 use crate::report::{ProgramFault, print, report};
 use segscript::{Sink, Source};
-use std::alloc::Global;
+use std::alloc::{AllocGlobal, Global};
+use std::sync::Wait;
+use std::thread::Threads;
 
 /// The status of a bad command line.
 const BAD_USAGE: u8 = 2;
@@ -17,7 +19,8 @@ const BAD_USAGE: u8 = 2;
 /// Does what the words after the program's name ask for, with a script from the source, and answers the exit status: 0
 /// where it was done, 2 for a bad line, a bad word or a bad command line, and else 3. Faults are printed to the error
 /// writer.
-pub fn run_program<S: Source, W: Sink, E: Sink>(
+pub fn run_program<R: Threads + Wait + AllocGlobal + Sync, S: Source, W: Sink, E: Sink>(
+    rt: &R,
     alloc: Global,
     words: &[String],
     source: &mut S,
@@ -32,7 +35,7 @@ pub fn run_program<S: Source, W: Sink, E: Sink>(
         source.old source.new writer.old writer.new errors.old errors.new result }
 {
     match read_command(alloc, words) {
-        Ok(command) => run_command(alloc, &command, source, writer, errors),
+        Ok(command) => run_command(rt, alloc, &command, source, writer, errors),
         Err(refusal) => refuse(&refusal, writer, errors),
     }
 }

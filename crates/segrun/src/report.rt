@@ -1,9 +1,10 @@
 //! What the program prints beside replies: texts, and the lines of its faults.
 ghost use Rattle.std.specs.Prelude.{◌≡◌, ◌++◌, false, is_err};
-ghost use Rattle.segrun.specs.Faults.{fault_of_run, fault_line, fault_status};
+ghost use Rattle.segrun.specs.Faults.{fault_of_run, fault_of_load, fault_line, fault_status};
 ghost use Rattle.segrun.specs.Printing.{PrintOutcome, IsPrinted, IsFlushed};
 
 use segindex::MakeFault;
+use segload::LoadFault;
 use segscript::{Failed, Line, RunFault, Sink, line_of, put, put_number, write_all};
 use segword::ShapeFault;
 
@@ -26,6 +27,8 @@ pub enum ProgramFault {
     Write,
     /// After 2^63 bytes the script had no end.
     TooLong,
+    /// This pass of a load was stopped.
+    Stopped(u32),
 }
 
 impl ProgramFault {
@@ -43,6 +46,19 @@ impl ProgramFault {
         }
     }
 
+    /// What the fault of a load is to the program.
+    pub fn of_load(fault: LoadFault) -> ProgramFault
+        ensures { result ≡ fault_of_load fault }
+    {
+        match fault {
+            LoadFault::Make(MakeFault::Shape(fault)) => ProgramFault::BadShape(fault),
+            LoadFault::Make(MakeFault::OutOfMemory) | LoadFault::OutOfMemory => {
+                ProgramFault::OutOfMemory
+            }
+            LoadFault::Stopped(pass) => ProgramFault::Stopped(pass),
+        }
+    }
+
     /// The exit status: 2 where what the program was given is wrong, else 3.
     pub fn status(self) -> u8
         ensures { result ≡ fault_status self }
@@ -53,7 +69,8 @@ impl ProgramFault {
             | ProgramFault::OutOfMemory
             | ProgramFault::Read
             | ProgramFault::Write
-            | ProgramFault::TooLong => 3,
+            | ProgramFault::TooLong
+            | ProgramFault::Stopped(_) => 3,
         }
     }
 
@@ -80,6 +97,12 @@ impl ProgramFault {
             ProgramFault::Read => line_of(b"read failed\n"),
             ProgramFault::Write => line_of(b"write failed\n"),
             ProgramFault::TooLong => line_of(b"script too long\n"),
+            ProgramFault::Stopped(pass) => {
+                let mut text = line_of(b"stopped pass ");
+                put_number(&mut text, pass);
+                put(&mut text, b"\n");
+                text
+            }
         }
     }
 }

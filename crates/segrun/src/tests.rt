@@ -1,6 +1,7 @@
 //! The program over memory: its words, and what it writes, prints and answers.
 mod devices;
 mod help;
+mod loads;
 mod memory;
 mod options;
 mod scripts;
@@ -10,14 +11,20 @@ ghost use Rattle.std.specs.Prelude.{◌≡◌, false};
 
 use crate::program::run_program;
 use segscript::{MemSink, MemSource};
-use std::alloc::{AllocError, Global};
+use std::alloc::{AllocError, AllocGlobal, Global};
 use std::process::Abort;
+use std::sync::Wait;
 use std::test::Fail;
+use std::thread::Threads;
 
 /// A script of three lines, and its replies.
 const SCRIPT: &[u8] = b"p0 refill 0\np0 set a 1\np0 get a\n";
 
 const REPLIES: &[u8] = b"REFILLED\nSTORED\nVALUE 1\n";
+
+/// What a load without commands prints.
+const NO_TOTALS: &[u8] =
+    b"p0 commands=0 hit=0 miss=0 stored=0 not_stored=0 exists=0 not_found=0 deleted=0 noroom=0 bucketfull=0 busy=0\ntotal commands=0 keys=0\n";
 
 /// A reader of the script in pieces, which may fail after some bytes.
 fn reader_of(script: &[u8], step: usize, good: Option<usize>) -> MemSource<'_>
@@ -49,13 +56,18 @@ fn words_of(alloc: Global, words: &[&str]) -> Result<Vec<String>, AllocError> {
 }
 
 /// Runs the program with devices that don't fail.
-fn run(alloc: Global, words: &[&str], script: &[u8]) -> Result<Ended, AllocError> {
-    let words = words_of(alloc, words)?;
+fn run<R: Threads + Wait + AllocGlobal + Sync>(
+    rt: &R,
+    words: &[&str],
+    script: &[u8],
+) -> Result<Ended, AllocError> {
+    let words = words_of(rt.alloc(), words)?;
     let mut source = MemSource::new(script);
-    let mut writer = MemSink::new(alloc, 10_000)?;
-    let mut errors = MemSink::new(alloc, 10_000)?;
+    let mut writer = MemSink::new(rt.alloc(), 10_000)?;
+    let mut errors = MemSink::new(rt.alloc(), 10_000)?;
     let status = run_program(
-        alloc,
+        rt,
+        rt.alloc(),
         words.as_slice(),
         &mut source,
         &mut writer,
@@ -70,16 +82,15 @@ fn run(alloc: Global, words: &[&str], script: &[u8]) -> Result<Ended, AllocError
 }
 
 /// Checks what the program writes, prints and answers, and that it flushes once what it writes and prints.
-fn check_program(
-    rt: &impl Abort,
-    alloc: Global,
+fn check_program<R: Threads + Wait + AllocGlobal + Abort + Sync>(
+    rt: &R,
     words: &[&str],
     script: &[u8],
     status: u8,
     written: &[u8],
     printed: &[u8],
 ) -> Result<(), Fail> {
-    let ended = run(alloc, words, script)?;
+    let ended = run(rt, words, script)?;
     assert_eq!(rt; ended.written.as_slice(), written, "{words:?}");
     assert_eq!(rt; ended.printed.as_slice(), printed, "{words:?}");
     assert_eq!(rt; ended.status, status, "{words:?}");

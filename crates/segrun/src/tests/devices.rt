@@ -3,9 +3,8 @@ use super::*;
 use segscript::WhenFull;
 
 /// Checks a run whose reader hands out so many bytes, and whose writers take so many, before they fail.
-fn check_failing(
-    rt: &impl Abort,
-    alloc: Global,
+fn check_failing<R: Threads + Wait + AllocGlobal + Abort + Sync>(
+    rt: &R,
     words: &[&str],
     good: Option<usize>,
     rooms: (usize, usize),
@@ -14,14 +13,15 @@ fn check_failing(
     printed: &[u8],
 ) -> Result<(), Fail> {
     for when_full in [WhenFull::Fails, WhenFull::TakesNone] {
-        let words = words_of(alloc, words)?;
+        let words = words_of(rt.alloc(), words)?;
         let mut source = reader_of(SCRIPT, 5000, good);
-        let mut writer = MemSink::new(alloc, rooms.0)?;
+        let mut writer = MemSink::new(rt.alloc(), rooms.0)?;
         writer.when_full = when_full;
-        let mut errors = MemSink::new(alloc, rooms.1)?;
+        let mut errors = MemSink::new(rt.alloc(), rooms.1)?;
         errors.when_full = when_full;
         let found = run_program(
-            alloc,
+            rt,
+            rt.alloc(),
             words.as_slice(),
             &mut source,
             &mut writer,
@@ -45,7 +45,6 @@ fn a_reader_that_fails_is_told(rt: HostRuntime) -> Result<(), Fail> {
         };
         check_failing(
             &rt,
-            rt.alloc(),
             &[],
             Some(good),
             (100, 100),
@@ -62,7 +61,6 @@ fn a_writer_that_fails_is_told(rt: HostRuntime) -> Result<(), Fail> {
     for room in 0..24usize {
         check_failing(
             &rt,
-            rt.alloc(),
             &["script"],
             None,
             (room, 100),
@@ -75,7 +73,6 @@ fn a_writer_that_fails_is_told(rt: HostRuntime) -> Result<(), Fail> {
     for room in 0..32usize {
         check_failing(
             &rt,
-            rt.alloc(),
             &["word", "af60100000200003"],
             None,
             (room, 100),
@@ -84,11 +81,21 @@ fn a_writer_that_fails_is_told(rt: HostRuntime) -> Result<(), Fail> {
             b"write failed\n",
         )?;
     }
+    for room in 0..NO_TOTALS.len() {
+        check_failing(
+            &rt,
+            &["load", "--commands", "0"],
+            None,
+            (room, 100),
+            3,
+            &NO_TOTALS[..room],
+            b"write failed\n",
+        )?;
+    }
     let version = b"segrun 0.1.0\n";
     for room in 0..13usize {
         check_failing(
             &rt,
-            rt.alloc(),
             &["--version"],
             None,
             (room, 100),
@@ -106,7 +113,6 @@ fn a_fault_that_can_not_be_printed_keeps_its_status(rt: HostRuntime) -> Result<(
     for room in 0..=9usize {
         check_failing(
             &rt,
-            rt.alloc(),
             &["word", "0"],
             None,
             (100, room),
@@ -119,7 +125,6 @@ fn a_fault_that_can_not_be_printed_keeps_its_status(rt: HostRuntime) -> Result<(
     for room in 0..=12usize {
         check_failing(
             &rt,
-            rt.alloc(),
             &["script"],
             Some(20),
             (100, room),
@@ -134,6 +139,7 @@ fn a_fault_that_can_not_be_printed_keeps_its_status(rt: HostRuntime) -> Result<(
         let mut writer = MemSink::new(rt.alloc(), 100)?;
         let mut errors = MemSink::new(rt.alloc(), room)?;
         let status = run_program(
+            &rt,
             rt.alloc(),
             words.as_slice(),
             &mut source,
@@ -154,14 +160,16 @@ fn a_flush_that_fails_is_a_fault_of_the_writer(rt: HostRuntime) -> Result<(), Fa
             ["word", "0000000000000000"].as_slice(),
             b"empty\n".as_slice(),
         ),
+        (["load", "--commands", "0"].as_slice(), NO_TOTALS),
         (["--version"].as_slice(), b"segrun 0.1.0\n".as_slice()),
     ] {
         let words = words_of(rt.alloc(), words)?;
         let mut source = reader_of(SCRIPT, 5000, None);
-        let mut writer = MemSink::new(rt.alloc(), 100)?;
+        let mut writer = MemSink::new(rt.alloc(), 1000)?;
         writer.flush_fails = true;
         let mut errors = MemSink::new(rt.alloc(), 100)?;
         let status = run_program(
+            &rt,
             rt.alloc(),
             words.as_slice(),
             &mut source,
@@ -181,6 +189,7 @@ fn a_flush_that_fails_is_a_fault_of_the_writer(rt: HostRuntime) -> Result<(), Fa
     let mut errors = MemSink::new(rt.alloc(), 100)?;
     errors.flush_fails = true;
     let status = run_program(
+        &rt,
         rt.alloc(),
         words.as_slice(),
         &mut source,

@@ -2,8 +2,12 @@
 use super::*;
 
 /// Checks that the words are answered with a text that has these parts.
-fn check_shown(rt: &impl Abort, alloc: Global, words: &[&str], parts: &[&str]) -> Result<(), Fail> {
-    let ended = run(alloc, words, SCRIPT)?;
+fn check_shown<R: Threads + Wait + AllocGlobal + Abort + Sync>(
+    rt: &R,
+    words: &[&str],
+    parts: &[&str],
+) -> Result<(), Fail> {
+    let ended = run(rt, words, SCRIPT)?;
     assert_eq!(rt; ended.status, 0, "{words:?}");
     assert_eq!(rt; ended.printed.as_slice(), b"".as_slice(), "{words:?}");
     for part in parts {
@@ -24,11 +28,12 @@ fn help_tells_a_newcomer_what_to_do(rt: HostRuntime) -> Result<(), Fail> {
             "object index",
             "Usage: segrun",
             "script",
+            "load",
             "word",
             "printf 'p0 refill 0\\np0 set a 1\\np0 get a\\n' | segrun",
             "Exit status",
         ];
-        check_shown(&rt, rt.alloc(), words, &parts)?;
+        check_shown(&rt, words, &parts)?;
     }
     for words in [
         ["script", "--help"].as_slice(),
@@ -49,7 +54,25 @@ fn help_tells_a_newcomer_what_to_do(rt: HostRuntime) -> Result<(), Fail> {
             "\\np0 get a\\n' | segrun script --rows 100",
             "Exit status",
         ];
-        check_shown(&rt, rt.alloc(), words, &parts)?;
+        check_shown(&rt, words, &parts)?;
+    }
+    for words in [
+        ["load", "--help"].as_slice(),
+        ["load", "-h"].as_slice(),
+        ["help", "load"].as_slice(),
+    ] {
+        let parts = [
+            "Usage: segrun load",
+            "--passes <N>",
+            "--first-version <N>",
+            "--seed <N>",
+            "[default: 1]",
+            "--commands <N>",
+            "[default: 1000]",
+            "segrun load --passes 4 --buckets 16 --commands 100000",
+            "Exit status",
+        ];
+        check_shown(&rt, words, &parts)?;
     }
     for words in [
         ["word", "--help"].as_slice(),
@@ -61,7 +84,7 @@ fn help_tells_a_newcomer_what_to_do(rt: HostRuntime) -> Result<(), Fail> {
             "item tag=af6 freq=1 seg=2 row=3",
             "Exit status",
         ];
-        check_shown(&rt, rt.alloc(), words, &parts)?;
+        check_shown(&rt, words, &parts)?;
     }
     Ok(())
 }
@@ -69,7 +92,7 @@ fn help_tells_a_newcomer_what_to_do(rt: HostRuntime) -> Result<(), Fail> {
 #[test]
 fn the_version_is_told(rt: HostRuntime) -> Result<(), Fail> {
     for words in [["--version"].as_slice(), ["-V"].as_slice()] {
-        check_program(&rt, rt.alloc(), words, b"", 0, b"segrun 0.1.0\n", b"")?;
+        check_program(&rt, words, b"", 0, b"segrun 0.1.0\n", b"")?;
     }
     Ok(())
 }

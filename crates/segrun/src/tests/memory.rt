@@ -11,13 +11,16 @@ fn want_of_memory_is_told(rt: HostRuntime) -> Result<(), Fail> {
         (["scrpt"].as_slice(), 2),
         (["word", "af60100000200003"].as_slice(), 0),
         (["word"].as_slice(), 2),
+        (["load", "--commands", "9"].as_slice(), 0),
+        (["load", "--passes=3", "--commands=3"].as_slice(), 0),
+        (["load", "--seed"].as_slice(), 2),
         (["--help"].as_slice(), 0),
         (["help", "script"].as_slice(), 0),
         (["word", "--help"].as_slice(), 0),
         (["--version"].as_slice(), 0),
     ] {
         // The test itself may be the one that is refused.
-        let Ok(ended) = run(rt.alloc(), words, SCRIPT) else {
+        let Ok(ended) = run(&rt, words, SCRIPT) else {
             return Ok(());
         };
         if ended.status == 3 {

@@ -2,8 +2,12 @@
 use super::*;
 
 /// Checks that the words are a bad command line, and that its text has this part.
-fn check_refused(rt: &impl Abort, alloc: Global, words: &[&str], part: &str) -> Result<(), Fail> {
-    let ended = run(alloc, words, SCRIPT)?;
+fn check_refused<R: Threads + Wait + AllocGlobal + Abort + Sync>(
+    rt: &R,
+    words: &[&str],
+    part: &str,
+) -> Result<(), Fail> {
+    let ended = run(rt, words, SCRIPT)?;
     assert_eq!(rt; ended.status, 2, "{words:?}");
     assert_eq!(rt; ended.written.as_slice(), b"".as_slice(), "{words:?}");
     assert!(rt;
@@ -40,15 +44,15 @@ fn an_option_takes_32_bits(rt: HostRuntime) -> Result<(), Fail> {
         ),
     ] {
         let words = ["script", option, "0"];
-        check_program(&rt, rt.alloc(), &words, SCRIPT, 3, b"", at_zero)?;
+        check_program(&rt, &words, SCRIPT, 3, b"", at_zero)?;
         let words = ["script", option, "1"];
-        check_program(&rt, rt.alloc(), &words, SCRIPT, 0, REPLIES, b"")?;
+        check_program(&rt, &words, SCRIPT, 0, REPLIES, b"")?;
         let words = ["script", option, "4294967295"];
-        check_program(&rt, rt.alloc(), &words, SCRIPT, 3, b"", at_largest)?;
+        check_program(&rt, &words, SCRIPT, 3, b"", at_largest)?;
     }
     for version in ["0", "1", "4294967295"] {
         let words = ["script", "--first-version", version];
-        check_program(&rt, rt.alloc(), &words, SCRIPT, 0, REPLIES, b"")?;
+        check_program(&rt, &words, SCRIPT, 0, REPLIES, b"")?;
     }
     for option in [
         "--buckets",
@@ -59,17 +63,40 @@ fn an_option_takes_32_bits(rt: HostRuntime) -> Result<(), Fail> {
         "--first-version",
     ] {
         for number in ["4294967296", "-1", "x", "", "1.5"] {
-            let ended = run(rt.alloc(), &["script", option, number], SCRIPT)?;
+            let ended = run(&rt, &["script", option, number], SCRIPT)?;
             assert_eq!(rt; ended.status, 2, "{option} {number}");
         }
-        check_refused(&rt, rt.alloc(), &["script", option, "4294967296"], option)?;
-        check_refused(&rt, rt.alloc(), &["script", option], option)?;
-        check_refused(
-            &rt,
-            rt.alloc(),
-            &["script", option, "1", option, "1"],
-            option,
-        )?;
+        check_refused(&rt, &["script", option, "4294967296"], option)?;
+        check_refused(&rt, &["script", option], option)?;
+        check_refused(&rt, &["script", option, "1", option, "1"], option)?;
+    }
+    Ok(())
+}
+
+#[test]
+fn a_load_takes_a_seed_and_a_number_of_commands(rt: HostRuntime) -> Result<(), Fail> {
+    for seed in ["0", "1", "18446744073709551615"] {
+        let words = ["load", "--commands", "0", "--seed", seed];
+        check_program(&rt, &words, b"", 0, NO_TOTALS, b"")?;
+    }
+    let one = run(&rt, &["load", "--commands", "1"], b"")?;
+    assert_eq!(rt; one.status, 0);
+    assert!(rt; has(one.written.as_slice(), "\ntotal commands=1 keys="));
+    // Without rows the most commands there are take no time.
+    let words = ["load", "--commands", "4294967295", "--rows", "0"];
+    check_program(&rt, &words, b"", 3, b"", b"bad shape 5\n")?;
+    for (option, above) in [
+        ("--seed", "18446744073709551616"),
+        ("--commands", "4294967296"),
+    ] {
+        for number in [above, "-1", "x", "", "1.5"] {
+            let ended = run(&rt, &["load", option, number], b"")?;
+            assert_eq!(rt; ended.status, 2, "{option} {number}");
+        }
+        check_refused(&rt, &["load", option, above], option)?;
+        check_refused(&rt, &["load", option], option)?;
+        check_refused(&rt, &["load", option, "1", option, "1"], option)?;
+        check_refused(&rt, &["script", option, "1"], option)?;
     }
     Ok(())
 }
@@ -79,7 +106,6 @@ fn each_option_changes_its_own_part(rt: HostRuntime) -> Result<(), Fail> {
     // The second pass, and the second segment of the first.
     check_program(
         &rt,
-        rt.alloc(),
         &["script", "--passes", "2", "--segments", "2"],
         b"p0 refill 1\np1 refill 1\np1 refill 3\np1 refill 4\n",
         0,
@@ -88,7 +114,6 @@ fn each_option_changes_its_own_part(rt: HostRuntime) -> Result<(), Fail> {
     )?;
     check_program(
         &rt,
-        rt.alloc(),
         &["script", "--rows", "1"],
         b"p0 refill 0\np0 set a 1\np0 set a 2\n",
         0,
@@ -99,7 +124,6 @@ fn each_option_changes_its_own_part(rt: HostRuntime) -> Result<(), Fail> {
     let locks = b"p0 lock a\np1 lock b\n";
     check_program(
         &rt,
-        rt.alloc(),
         &["script", "--passes=2", "--buckets=2"],
         locks,
         0,
@@ -108,7 +132,6 @@ fn each_option_changes_its_own_part(rt: HostRuntime) -> Result<(), Fail> {
     )?;
     check_program(
         &rt,
-        rt.alloc(),
         &["script", "--passes=2", "--buckets=1"],
         locks,
         0,
@@ -124,16 +147,16 @@ fn a_full_bucket_takes_an_overflow_bucket(rt: HostRuntime) -> Result<(), Fail> {
     let words = ["script", "--overflow", "0", "--rows", "8"];
     let full =
         b"REFILLED\nSTORED\nSTORED\nSTORED\nSTORED\nSTORED\nSTORED\nSTORED\nBUCKETFULL\nMISS\n";
-    check_program(&rt, rt.alloc(), &words, script, 0, full, b"")?;
+    check_program(&rt, &words, script, 0, full, b"")?;
     for overflow in ["1", "65536"] {
         let words = ["script", "--overflow", overflow, "--rows", "8"];
         let grown =
             b"REFILLED\nSTORED\nSTORED\nSTORED\nSTORED\nSTORED\nSTORED\nSTORED\nSTORED\nVALUE 1\n";
-        check_program(&rt, rt.alloc(), &words, script, 0, grown, b"")?;
+        check_program(&rt, &words, script, 0, grown, b"")?;
     }
     for overflow in ["65537", "4294967295"] {
         let words = ["script", "--overflow", overflow];
-        check_program(&rt, rt.alloc(), &words, SCRIPT, 3, b"", b"bad shape 2\n")?;
+        check_program(&rt, &words, SCRIPT, 3, b"", b"bad shape 2\n")?;
     }
     Ok(())
 }
@@ -148,11 +171,13 @@ fn a_bad_command_line_says_what_is_wrong(rt: HostRuntime) -> Result<(), Fail> {
         (["word"].as_slice(), "HEX"),
         (["word", "0000000000000000", "more"].as_slice(), "more"),
         (["word", "--rows", "4"].as_slice(), "--rows"),
+        (["load", "more"].as_slice(), "more"),
+        (["load", "--command", "4"].as_slice(), "--commands"),
         ([""].as_slice(), "segrun"),
         (["--"].as_slice(), "segrun"),
         (["help", "lode"].as_slice(), "lode"),
     ] {
-        check_refused(&rt, rt.alloc(), words, part)?;
+        check_refused(&rt, words, part)?;
     }
     Ok(())
 }

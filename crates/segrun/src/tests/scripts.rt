@@ -3,9 +3,9 @@ use super::*;
 
 #[test]
 fn no_words_run_a_script(rt: HostRuntime) -> Result<(), Fail> {
-    check_program(&rt, rt.alloc(), &[], SCRIPT, 0, REPLIES, b"")?;
-    check_program(&rt, rt.alloc(), &["script"], SCRIPT, 0, REPLIES, b"")?;
-    check_program(&rt, rt.alloc(), &[], b"", 0, b"", b"")
+    check_program(&rt, &[], SCRIPT, 0, REPLIES, b"")?;
+    check_program(&rt, &["script"], SCRIPT, 0, REPLIES, b"")?;
+    check_program(&rt, &[], b"", 0, b"", b"")
 }
 
 #[test]
@@ -13,7 +13,6 @@ fn a_bad_line_ends_the_script(rt: HostRuntime) -> Result<(), Fail> {
     let rows = ["script", "--rows", "4"];
     check_program(
         &rt,
-        rt.alloc(),
         &rows,
         b"p0 refill 0\np0 set abcdefghijklmnopqrstuvwx 0123456789abcdef0123456789abcdef\np0 get abcdefghijklmnopqrstuvwx\n",
         0,
@@ -22,7 +21,6 @@ fn a_bad_line_ends_the_script(rt: HostRuntime) -> Result<(), Fail> {
     )?;
     check_program(
         &rt,
-        rt.alloc(),
         &rows,
         b"p0 refill 0\np0 set abcdefghijklmnopqrstuvwxy 1\n",
         2,
@@ -31,7 +29,6 @@ fn a_bad_line_ends_the_script(rt: HostRuntime) -> Result<(), Fail> {
     )?;
     check_program(
         &rt,
-        rt.alloc(),
         &rows,
         b"p0 refill 0\np0 set a -\np0 get a\n",
         0,
@@ -45,7 +42,6 @@ fn a_last_line_needs_no_newline(rt: HostRuntime) -> Result<(), Fail> {
     let rows = ["script", "--rows", "2"];
     check_program(
         &rt,
-        rt.alloc(),
         &rows,
         b"p0 refill 0\np0 set a 1\np0 get",
         2,
@@ -54,7 +50,6 @@ fn a_last_line_needs_no_newline(rt: HostRuntime) -> Result<(), Fail> {
     )?;
     check_program(
         &rt,
-        rt.alloc(),
         &rows,
         b"p0 refill 0\np0 set a 1\np0 get a",
         0,
@@ -81,19 +76,10 @@ fn lines_that_no_command_is_read_from_are_bad(rt: HostRuntime) -> Result<(), Fai
             b"bad line 1\n".as_slice(),
         ),
     ] {
-        check_program(
-            &rt,
-            rt.alloc(),
-            &["script", "--rows=2"],
-            script,
-            2,
-            b"",
-            fault,
-        )?;
+        check_program(&rt, &["script", "--rows=2"], script, 2, b"", fault)?;
     }
     check_program(
         &rt,
-        rt.alloc(),
         &["script", "--rows=2"],
         b"p0 refill 4294967295\n",
         0,
@@ -122,11 +108,10 @@ fn a_shape_that_can_not_be_had_has_a_number(rt: HostRuntime) -> Result<(), Fail>
             b"bad shape 5\n".as_slice(),
         ),
     ] {
-        check_program(&rt, rt.alloc(), &words, b"p0 refill 0\n", 3, b"", fault)?;
+        check_program(&rt, &words, b"p0 refill 0\n", 3, b"", fault)?;
     }
     check_program(
         &rt,
-        rt.alloc(),
         &["script", "--passes=64", "--segments=1024", "--rows=128"],
         b"p0 refill 0\n",
         3,

@@ -1,8 +1,12 @@
 //! Item words that are explained.
 use super::*;
 
-fn check_word(rt: &impl Abort, alloc: Global, word: &str, explanation: &[u8]) -> Result<(), Fail> {
-    check_program(rt, alloc, &["word", word], b"", 0, explanation, b"")
+fn check_word<R: Threads + Wait + AllocGlobal + Abort + Sync>(
+    rt: &R,
+    word: &str,
+    explanation: &[u8],
+) -> Result<(), Fail> {
+    check_program(rt, &["word", word], b"", 0, explanation, b"")
 }
 
 #[test]
@@ -24,7 +28,7 @@ fn a_word_has_three_readings(rt: HostRuntime) -> Result<(), Fail> {
             b"item tag=fff freq=255 seg=16777215 row=1048575\n".as_slice(),
         ),
     ] {
-        check_word(&rt, rt.alloc(), word, explanation)?;
+        check_word(&rt, word, explanation)?;
     }
     Ok(())
 }
@@ -32,11 +36,10 @@ fn a_word_has_three_readings(rt: HostRuntime) -> Result<(), Fail> {
 #[test]
 fn digits_have_either_case(rt: HostRuntime) -> Result<(), Fail> {
     for word in ["AF60100000200003", "aF60100000200003"] {
-        check_word(&rt, rt.alloc(), word, b"item tag=af6 freq=1 seg=2 row=3\n")?;
+        check_word(&rt, word, b"item tag=af6 freq=1 seg=2 row=3\n")?;
     }
     check_word(
         &rt,
-        rt.alloc(),
         "ABCDEF0123456789",
         b"item tag=abc freq=222 seg=15733300 row=354185\n",
     )
@@ -55,7 +58,7 @@ fn other_words_are_bad(rt: HostRuntime) -> Result<(), Fail> {
         "000000000000000 ",
         "00000000000000é",
     ] {
-        check_program(&rt, rt.alloc(), &["word", word], b"", 2, b"", b"bad word\n")?;
+        check_program(&rt, &["word", word], b"", 2, b"", b"bad word\n")?;
     }
     Ok(())
 }
