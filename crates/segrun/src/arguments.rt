@@ -64,8 +64,9 @@ const LONG_LOAD: &str =
     "Runs a load, in which all passes make commands at once, and prints its totals
 
 The index is made first, of the shape that the options give. Then each pass makes its commands on a
-thread of its own. Which they are is drawn with the seed. The totals are a line for each pass, with
-what its commands came to, and a line for all, with how many keys stand at the end.";
+thread of its own: gets, writes and deletes of 64 keys, drawn with the seed. The totals are a line
+for each pass, with what its commands came to, and a line for all, with how many keys stand at the
+end.";
 
 const AFTER_LOAD: &str = "Example:
   segrun load --passes 4 --buckets 16 --commands 100000
@@ -74,7 +75,7 @@ writes the lines of p0, p1, p2, p3 and total.
 Exit status:
   0  the load was run
   2  a bad command line
-  3  a bad shape, a writer that failed, a pass that was stopped, or want of memory";
+  3  a bad shape, a writer that failed, or want of memory";
 
 const WORD: &str = "Explains an item word, one of the words in which the index keeps its items";
 

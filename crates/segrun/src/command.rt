@@ -35,8 +35,8 @@ pub enum Command<'a> {
     Show(String),
 }
 
-/// Carries out a command, and answers the exit status. Replies, totals and explanations go to the writer; a fault is one line to
-/// the error writer, after a flush of the writer.
+/// Carries out a command, and answers the exit status. Replies, totals and explanations go to the writer; a fault is one line
+/// to the error writer, after a flush of the writer.
 pub fn run_command<R: Threads + Wait + AllocGlobal + Sync, S: Source, W: Sink, E: Sink>(
     rt: &R,
     alloc: Global,
