@@ -5,9 +5,10 @@ use Rattle.segcore.specs.declared.event.Event.{Event}
 use Rattle.segcore.specs.declared.cell.Cell.{Cell}
 use Rattle.segcore.specs.declared.cell.Cell.TheVariants.{OfCounter, OfBucket, OfOverflow, OfSegment, OfRow}
 use Rattle.segcore.specs.Overflow.{Home, home_of}
-use Rattle.segcore.specs.Word.{segments_at, segment_size}
+use Rattle.segcore.specs.Word.{address, segments_at, segment_size}
 use Rattle.segbase.specs.declared.layout.Layout.{Layout}
 use Rattle.segbase.specs.declared.place.Place.{Place}
+use Rattle.segbase.specs.declared.place.RowPlace.{RowPlace}
 use Rattle.segbase.specs.declared.place.Spot.{Spot}
 use Rattle.segbase.specs.declared.place.Spot.TheVariants.{Counter, Info, Item, Overflow, Segment, Row}
 
@@ -15,6 +16,10 @@ use Rattle.segbase.specs.declared.place.Spot.TheVariants.{Counter, Info, Item, O
 pub record IsLayoutOf (shape : Shape) (layout : Layout) : Type 0 where
   pub front : layout.front ≡ segments_at shape
   pub width : layout.segment_words ≡ segment_size shape
+
+-- the words of the row begin at its place
+abbrev pub IsRowAt : Shape → RowPlace → Type 0
+IsRowAt shape row = row.start ≡ address shape (OfRow row.segment row.row 0)
 
 -- overflow bucket n is bucket `buckets + n`
 abbrev pub cell_at : Shape → Place → Cell

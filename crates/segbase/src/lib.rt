@@ -21,7 +21,7 @@ pub use closing::Words;
 pub use fault::MakeFault;
 pub use law::{Held, Locked, Memo, Sight};
 pub use pass::Pass;
-pub use place::Place;
+pub use place::{Place, RowPlace};
 
 #[cfg(test)]
 mod tests;

@@ -7,6 +7,14 @@ pub struct Place {
     pub word: u8,
 }
 
+/// A row of a segment, with the place in the table at which its words begin.
+#[derive(Clone, Copy, Drop)]
+pub struct RowPlace {
+    pub(crate) segment: u32,
+    pub(crate) row: u32,
+    pub(crate) start: usize,
+}
+
 // A word of the table.
 #[derive(Clone, Copy, Drop)]
 pub(crate) enum Spot {

@@ -14,7 +14,7 @@ impl Board {
     ghost use Rattle.segbase.specs.Spots.{cell_of};
 
     // The place of a word in the table.
-    fn index(&self, spot: Spot) -> usize
+    pub(crate) fn index(&self, spot: Spot) -> usize
         requires { IsCell self.now.shape (cell_of self.now.shape spot) }
         ensures place { result ≡ address self.now.shape (cell_of self.now.shape spot) }
         ensures within { result < self.now.table.shared.table_id.words }
@@ -28,6 +28,17 @@ impl Board {
         ensures { Stepped self.now step result pass.old pass.new }
     {
         let index = self.index(spot);
+        self.load_index(pass, spot, index)
+    }
+
+    // As `load_at`, where the place of the word in the table is known.
+    pub(crate) fn load_index(&self, pass: &mut Pass, spot: Spot, index: usize) -> u64
+        ghost step: { Step }
+        requires can { CanStep self.now pass.old step spot (λ n. n) }
+        requires place { index ≡ address self.now.shape (cell_of self.now.shape spot) }
+        requires within { index < self.now.table.shared.table_id.words }
+        ensures { Stepped self.now step result pass.old pass.new }
+    {
         self.table.shared.load::<Brand>(&mut pass.seat, index)
     }
 

@@ -3,11 +3,14 @@ ghost use Rattle.std.specs.Prelude.{◌≡◌, ℕ, ◌+◌, ◌<◌, ◌==◌, 
 ghost use Rattle.segcore.specs.declared.event.Event.TheVariants.{Filled, Entered, Left, Refilled};
 ghost use Rattle.segcore.specs.Row.{row_after};
 ghost use Rattle.segcore.specs.Segment.{inside};
+ghost use Rattle.segcore.specs.declared.cell.Cell.TheVariants.{OfRow};
+ghost use Rattle.segcore.specs.Word.{IsCell};
+ghost use Rattle.segbase.specs.Spots.{IsRowAt};
 ghost use Rattle.segcore.specs.Kind.{row_store, row_load, enter, leave, none_reading, May};
 
 use crate::board::Board;
 use crate::pass::Pass;
-use crate::place::Spot;
+use crate::place::{RowPlace, Spot};
 
 impl Board {
     ghost use Rattle.segbase.specs.Passes.{number, trace, IsPassOf, Did, Stepped};
@@ -31,6 +34,32 @@ impl Board {
         ensures word { result ≡ (row_after (trace pass.new) segment row).words word }
     {
         self.load_at(pass, Spot::Row(segment, row, word))
+    }
+
+    /// A row with the place at which its words begin, for several loads of one row.
+    pub fn row_at(&self, segment: u32, row: u32) -> RowPlace
+        requires row { IsCell self.now.shape (OfRow segment row 0) }
+        ensures row { (result.segment ≡ segment) × (result.row ≡ row) }
+        ensures start { IsRowAt self.now.shape result }
+    {
+        RowPlace {
+            segment,
+            row,
+            start: self.index(Spot::Row(segment, row, 0)),
+        }
+    }
+
+    /// As `row_load`, for a row whose place is known.
+    pub fn row_load_at(&self, pass: &mut Pass, row: RowPlace, word: u8) -> u64
+        requires pass { IsPassOf self.now pass.old }
+        requires start { IsRowAt self.now.shape row }
+        requires may { May self.now.shape (trace pass.old) (number pass.old) (row_load row.segment row.row word) }
+        ensures step { Stepped self.now (row_load row.segment row.row word) result pass.old pass.new }
+        ensures did { Did self.now [] pass.old pass.new }
+        ensures word { result ≡ (row_after (trace pass.new) row.segment row.row).words word }
+    {
+        let RowPlace { segment, row, start } = row;
+        self.load_index(pass, Spot::Row(segment, row, word), start + word as usize)
     }
 
     /// One reader more.

@@ -110,6 +110,7 @@ impl Index {
     }
 
     // As `find`, but where there is neither it tells the end of the chain.
+    #[inline(always)]
     pub(crate) fn search(&self, pass: &mut Pass, bucket: u32, key: &KeyWords, tag: u16) -> Found
         requires pass { IsPassOf (board_of self.now) pass.old }
         requires bucket { bucket ≡ bucket_of (shape_of self.now) key.now }

@@ -50,6 +50,7 @@ pub(crate) fn item_of_tag(word: u64, tag: u16) -> Option<Item>
 }
 
 // Comes into the segment of an item that was seen, and looks a second time. The pass stays there where the item is the key's.
+#[inline(always)]
 pub(crate) fn try_item(
     board: &Board,
     pass: &mut Pass,
@@ -74,6 +75,7 @@ pub(crate) fn try_item(
 }
 
 // Looks at a word until it is found to be the key's or not.
+#[inline(always)]
 fn visit_word(
     board: &Board,
     pass: &mut Pass,

@@ -151,6 +151,7 @@ impl Index {
     }
 
     // Looks at a word until it is found to be the key's or not.
+    #[inline(always)]
     fn visit_version(
         &self,
         pass: &mut Pass,
@@ -192,6 +193,7 @@ impl Index {
     }
 
     // One try at an item that was seen. Where it is the key's, the bucket's information is looked at between two looks at the item's word: with the bit clear, its version is that of a moment at which the item stood.
+    #[inline(always)]
     fn try_version(
         &self,
         pass: &mut Pass,

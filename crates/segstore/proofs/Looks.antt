@@ -17,6 +17,7 @@ use Rattle.segcore.proofs.Moments.{lawful_before}
 use Rattle.segcore.proofs.Standing.{coherent}
 use Rattle.segbase.specs.declared.board.Board.{Board}
 use Rattle.segbase.specs.declared.pass.Pass.{Pass}
+use Rattle.segbase.specs.declared.place.RowPlace.{RowPlace}
 use Rattle.segbase.specs.Passes.{number, trace, Did, Stepped}
 use Rattle.segbase.proofs.Moves.{moved_then}
 use Rattle.segstore.specs.Reading.{Looked, IsReadable, ReadsRow, four_words}
@@ -101,6 +102,16 @@ may_load b p s r w may lt = (may.0, may.1, lt, may.2)
 -- a word that was read before
 pub word_before : (b : Board) (p q : Pass) (s r w found : ℕ) → ReadsRow b p q s r → found ≡ (row_after (trace p) s r).words w → found ≡ (row_after (trace q) s r).words w
 word_before b p q s r w found i is = is ∙ ap (λ (x : Row). x.words w) (sym i.same)
+
+-- the row of a place, by the numbers that the place was asked for
+pub same_readable : (b : Board) (p : Pass) (at : RowPlace) (s r : ℕ) → (at.segment ≡ s) × (at.row ≡ r) → IsReadable b p s r → IsReadable b p at.segment at.row
+same_readable b p at s r is may = subst (λ t. IsReadable b p t at.row) (sym is.0) (subst (IsReadable b p s) (sym is.1) may)
+
+pub same_reads : (b : Board) (p q : Pass) (at : RowPlace) (s r : ℕ) → (at.segment ≡ s) × (at.row ≡ r) → ReadsRow b p q at.segment at.row → ReadsRow b p q s r
+same_reads b p q at s r is reads = subst (λ t. ReadsRow b p q t r) is.0 (subst (ReadsRow b p q at.segment) is.1 reads)
+
+pub same_words : (b : Board) (q : Pass) (at : RowPlace) (s r from : ℕ) (words : List ℕ) → (at.segment ≡ s) × (at.row ≡ r) → words ≡ four_words (row_after (trace q) at.segment at.row).words from → words ≡ four_words (row_after (trace q) s r).words from
+same_words b q at s r from words is these = subst (λ t. words ≡ four_words (row_after (trace q) t r).words from) is.0 (subst (λ n. words ≡ four_words (row_after (trace q) at.segment n).words from) is.1 these)
 
 -- the two halves of a row of a pair
 pub first_half : (words : ℕ → ℕ) (key value : List ℕ) → ((place : ℕ) → place < 8 → words place ≡ slice_index (row_of key value) place) → take 4 (row_of key value) ≡ four_words words 0

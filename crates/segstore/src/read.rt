@@ -48,6 +48,7 @@ pub fn read_linked(board: &Board, pass: &mut Pass, place: Place, word: u64) -> L
 }
 
 /// The same for a key in hand, which is compared with the row word by word. A value is made for the key's row alone.
+#[inline(always)]
 pub fn read_keyed(board: &Board, pass: &mut Pass, place: Place, word: u64, key: &KeyWords) -> Keyed
     requires pass { IsPassOf board.now pass.old }
     requires place { IsChained board.now.shape (trace pass.old) place }

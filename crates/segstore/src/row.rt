@@ -16,14 +16,16 @@ fn load_words(board: &Board, pass: &mut Pass, segment: u32, row: u32, from: u8) 
     ensures reads { ReadsRow board.now pass.old pass.new segment row }
     ensures words { result ≡ four_words (row_after (trace pass.new) segment row).words from }
 {
-    let first = board.row_load(pass, segment, row, from);
-    let second = board.row_load(pass, segment, row, from + 1);
-    let third = board.row_load(pass, segment, row, from + 2);
-    let fourth = board.row_load(pass, segment, row, from + 3);
+    let at = board.row_at(segment, row);
+    let first = board.row_load_at(pass, at, from);
+    let second = board.row_load_at(pass, at, from + 1);
+    let third = board.row_load_at(pass, at, from + 2);
+    let fourth = board.row_load_at(pass, at, from + 3);
     [first, second, third, fourth]
 }
 
 /// Word 0 of a row, where the row is one of the key: its first four words are compared with the key's.
+#[inline(always)]
 pub fn row_of_key(
     board: &Board,
     pass: &mut Pass,
@@ -46,6 +48,7 @@ pub fn row_of_key(
 }
 
 /// The value of a row with this word 0.
+#[inline(always)]
 pub fn value_of_row(board: &Board, pass: &mut Pass, segment: u32, row: u32, header: u64) -> Value
     requires pass { IsPassOf board.now pass.old }
     requires readable { IsReadable board.now pass.old segment row }

@@ -1,13 +1,5 @@
-use Rattle.std.proofs.Common.{refl}
-use Rattle.segbase.proofs.Allowed.{step_of}
-use Rattle.segbase.proofs.Stepping.{in_table, stepped}
+use Rattle.segbase.proofs.Stepping.{in_table}
 use Rattle.segbase.proofs.board.Board.load_at.Goals as goal
 
 pub index-index-requires : goal.index-index-requires
 index-index-requires g c = in_table c.args.self.now c.args.pass.now g.step c.args.spot _ c.requires
-
-pub load-requires : goal.load-requires
-load-requires g c = step_of c.args.self.now c.args.pass.now g.step c.args.spot _ _ c.requires c.index-index.ensures.place c.index-index.ensures.within
-
-pub returns : goal.returns
-returns g c = stepped c.args.self.now g.step c.args.spot _ c.load.result c.args.pass.now _ c.requires c.load.ensures.0 c.load.ensures.2 refl

@@ -1,5 +1,4 @@
-use Rattle.segbase.specs.Ruled.{Tells}
 use Rattle.segbase.proofs.board.Board.load_at.Given as goal
 
-abbrev pub ghosts-load : goal.ghosts-load
-ghosts-load g a = record { then = Tells a.self.now.key g.step }
+abbrev pub ghost-load_index : goal.ghost-load_index
+ghost-load_index g a = g.step
