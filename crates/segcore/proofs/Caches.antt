@@ -34,7 +34,7 @@ pub same_either : {A : Type 0} (t : Bool) (x : A) → cond t x x ≡ x
 same_either true x = refl
 same_either false x = refl
 
-one_test : (s t : Bool) → (s ≡ true → t ≡ true) → (t ≡ true → s ≡ true) → s ≡ t
+pub one_test : (s t : Bool) → (s ≡ true → t ≡ true) → (t ≡ true → s ≡ true) → s ≡ t
 one_test true true f g = refl
 one_test true false f g = sym (f refl)
 one_test false true f g = g refl

@@ -1,5 +1,5 @@
 -- A cell of a chain has one position, a position one cell; and what an event does to the words of the table.
-use Rattle.std.proofs.Common.{◌≡◌, ℕ, ◌+◌, ◌*◌, ◌<◌, ◌≤◌, Bool, true, false, cond, eqb, ◌&&◌, List, [], ◌∷◌, ◌++◌, Option, Some, None, sym, refl, ap, ◌∙◌, subst, ⊎_elim, arith}
+use Rattle.std.proofs.Common.{◌≡◌, ℕ, ◌+◌, ◌*◌, ◌<◌, ◌≤◌, true, false, cond, eqb, ◌&&◌, List, [], ◌∷◌, ◌++◌, Option, Some, None, sym, refl, ap, ◌∙◌, subst, ⊎_elim, arith}
 use Rattle.std.proofs.lemmas.Bool.{cases_Bool, cond-true, cond-false, eqb-true, eq-eqb, and_parts, and_from}
 use Rattle.std.proofs.lemmas.Option.{same_Some, none-some}
 use Rattle.segword.specs.declared.shape.Shape.{Shape}
@@ -13,6 +13,7 @@ use Rattle.segcore.specs.Overflow.{Home, drawn_in, home_of}
 use Rattle.segcore.specs.Row.{row_after}
 use Rattle.segcore.specs.Segment.{readers}
 use Rattle.segcore.specs.Word.{IsCell, same_cell, word_in, overflow_word, word, IsAt}
+use Rattle.segcore.proofs.Caches.{one_test}
 use Rattle.segcore.proofs.Quiet.{home_stays, home_drawn}
 use Rattle.segcore.proofs.Chains.{chain_of}
 use Rattle.segcore.proofs.Addresses.{same_place}
@@ -88,12 +89,6 @@ same_itself (OfBucket b w) = and_from (eqb b b) (eqb w w) (eq-eqb b b refl) (eq-
 same_itself (OfOverflow b w) = and_from (eqb b b) (eqb w w) (eq-eqb b b refl) (eq-eqb w w refl)
 same_itself (OfSegment s) = eq-eqb s s refl
 same_itself (OfRow s r j) = and_from (eqb s s) (eqb r r && eqb j j) (eq-eqb s s refl) (and_from (eqb r r) (eqb j j) (eq-eqb r r refl) (eq-eqb j j refl))
-
-one_test : (s t : Bool) → (s ≡ true → t ≡ true) → (t ≡ true → s ≡ true) → s ≡ t
-one_test true true f g = refl
-one_test true false f g = sym (f refl)
-one_test false true f g = g refl
-one_test false false f g = refl
 
 at_same : (z : Shape) (h : List Event) (b0 n0 b n : ℕ) (c0 c : Cell) → IsLawful z h → IsAt h b0 n0 c0 → IsAt h b n c → (eqb b0 b && eqb n0 n) ≡ same_cell c0 c
 at_same z h b0 n0 b n c0 c l i j = one_test (eqb b0 b && eqb n0 n) (same_cell c0 c)

@@ -12,7 +12,8 @@ use Rattle.segcore.specs.declared.event.Event.TheVariants.{Took, Bounced, Glance
 use Rattle.segcore.specs.Event.{by, removal, entry_of, with_entry, seen, NoneBy, AllBy}
 use Rattle.segcore.specs.ItemWord.{packed}
 use Rattle.segcore.specs.Kind.{Step, take, release, info_look, glance, look, link, clear, draw, fill, chain, bump, row_store, row_load, enter, leave, none_reading, told, unless_own, adds}
-use Rattle.segcore.specs.Count.{taken, bounced, glanced, drew, taken_by, bounced_by, glanced_by, drew_by, IsCounted}
+use Rattle.segcore.proofs.Quiet.{off}
+use Rattle.segcore.specs.Count.{taken, bounced, glanced, drew, raised, taken_by, bounced_by, glanced_by, drew_by, raised_by, IsCounted}
 
 -- ---- entries
 
@@ -55,9 +56,6 @@ mine_own p (e ∷ es) h a = own_entry p e (es ++ h) a.0 ∙ (ap (with_entry (ent
 
 -- ---- counts
 
-off : (a b : Bool) → a ≡ false → (x y : ℕ) → cond (a && b) x y ≡ y
-off a b f x y = rw f refl
-
 pub taken_others : (p : ℕ) (more h : List Event) → NoneBy p more → taken p (more ++ h) ≡ taken p h
 taken_others p [] h n = refl
 taken_others p (Took q b ∷ more) h n = cond-false (eqb q p) _ (taken p (more ++ h)) (ne_eqb q p n.0) ∙ taken_others p more h n.1
@@ -78,20 +76,27 @@ drew_others p b [] h n = refl
 drew_others p b (Drew q a d m ∷ more) h n = off (eqb q p) (eqb a b) (ne_eqb q p n.0) _ (drew p b (more ++ h)) ∙ drew_others p b more h n.1
 drew_others p b (e ∷ more) h n = drew_others p b more h n.1
 
+pub raised_others : (p : ℕ) (more h : List Event) → NoneBy p more → raised p (more ++ h) ≡ raised p h
+raised_others p [] h n = refl
+raised_others p (Bumped q s r f ∷ more) h n = cond-false (eqb q p) _ (raised p (more ++ h)) (ne_eqb q p n.0) ∙ raised_others p more h n.1
+raised_others p (e ∷ more) h n = raised_others p more h n.1
+
 -- ---- what a step adds
 
--- the events that none of the four counts, and the steps that add only such ones
+-- the events that none of the five counts, and the steps that add only such ones
 abbrev IsPlain : Event → Type 0
 IsPlain (Took p b) = ⊥
 IsPlain (Bounced p b) = ⊥
 IsPlain (Glanced p b) = ⊥
 IsPlain (Drew p b d m) = ⊥
+IsPlain (Bumped p s r f) = ⊥
 IsPlain _ = Unit {0}
 
 abbrev IsPlainStep : Step → Type 0
 IsPlainStep (take b own) = ⊥
 IsPlainStep (glance b own) = ⊥
 IsPlainStep (draw b d from) = ⊥
+IsPlainStep (bump b n c t s r f g) = ⊥
 IsPlainStep _ = Unit {0}
 
 module _ (F : List Event → ℕ) (p : ℕ) (h : List Event) (skips : (e : Event) (g : List Event) → IsPlain e → F (e ∷ g) ≡ F g) where
@@ -108,6 +113,7 @@ module _ (F : List Event → ℕ) (p : ℕ) (h : List Event) (skips : (e : Event
   plain (take b own) found i = absurd i
   plain (glance b own) found i = absurd i
   plain (draw b d from) found i = absurd i
+  plain (bump b n c t s r f g) found i = absurd i
   plain (release b c said) found i = skips (Freed p b c) (told p said ++ h) tt ∙ of_told said
   plain (info_look b) found i = refl
   plain (look c) found i = refl
@@ -116,7 +122,6 @@ module _ (F : List Event → ℕ) (p : ℕ) (h : List Event) (skips : (e : Event
   plain (clear k n c old why) found i = of_cond (eqb found old) (Unlinked p k n why) tt
   plain (fill b m w) found i = skips (Put p b w) h tt
   plain (chain b c old m) found i = of_cond (eqb found old) (Chained p b m) tt
-  plain (bump b n c t s r f g) found i = of_cond (eqb found (packed t f s r)) (Bumped p s r g) tt
   plain (row_store s r j w) found i = skips (Filled p s r j w) h tt
   plain (enter s) found i = skips (Entered p s) h tt
   plain (leave s) found i = skips (Left p s) h tt
@@ -140,6 +145,10 @@ glanced_skips p x e g i = refl
 drew_skips : (p x : ℕ) (e : Event) (g : List Event) → IsPlain e → drew p x (e ∷ g) ≡ drew p x g
 drew_skips p x (Drew q b d m) g i = absurd i
 drew_skips p x e g i = refl
+
+raised_skips : (p : ℕ) (e : Event) (g : List Event) → IsPlain e → raised p (e ∷ g) ≡ raised p g
+raised_skips p (Bumped q s r f) g i = absurd i
+raised_skips p e g i = refl
 
 -- an exchange that adds what is counted elsewhere, or nothing
 elsewhere : (F : List Event → ℕ) (e : Event) (h : List Event) (t : Bool) → F (e ∷ h) ≡ F h → F (cond t (e ∷ []) [] ++ h) ≡ 0 + F h
@@ -165,6 +174,7 @@ module _ (p : ℕ) (h : List Event) where
   step_taken (take b own) found = take_taken b own (eqb (found % 2) 0)
   step_taken (glance b own) found = glance_taken b own (eqb (found % 2) 0)
   step_taken (draw b d from) found = elsewhere (taken p) (Drew p b d from) h (eqb found from) refl
+  step_taken (bump b n c t s r f g) found = elsewhere (taken p) (Bumped p s r g) h (eqb found (packed t f s r)) refl
   step_taken step found = adds_none (taken p) p h (taken_skips p) step found tt
 
   take_bounced : (x b : ℕ) (own t : Bool) → bounced p x (cond t (Took p b ∷ []) (unless_own own (Bounced p b)) ++ h) ≡ cond (not t && (not own && eqb b x)) 1 0 + bounced p x h
@@ -181,6 +191,7 @@ module _ (p : ℕ) (h : List Event) where
   step_bounced x (take b own) found = take_bounced x b own (eqb (found % 2) 0)
   step_bounced x (glance b own) found = glance_bounced x b own (eqb (found % 2) 0)
   step_bounced x (draw b d from) found = elsewhere (bounced p x) (Drew p b d from) h (eqb found from) refl
+  step_bounced x (bump b n c t s r f g) found = elsewhere (bounced p x) (Bumped p s r g) h (eqb found (packed t f s r)) refl
   step_bounced x step found = adds_none (bounced p x) p h (bounced_skips p x) step found tt
 
   take_glanced : (x b : ℕ) (own t : Bool) → glanced p x (cond t (Took p b ∷ []) (unless_own own (Bounced p b)) ++ h) ≡ 0 + glanced p x h
@@ -197,6 +208,7 @@ module _ (p : ℕ) (h : List Event) where
   step_glanced x (take b own) found = take_glanced x b own (eqb (found % 2) 0)
   step_glanced x (glance b own) found = glance_glanced x b own (eqb (found % 2) 0)
   step_glanced x (draw b d from) found = elsewhere (glanced p x) (Drew p b d from) h (eqb found from) refl
+  step_glanced x (bump b n c t s r f g) found = elsewhere (glanced p x) (Bumped p s r g) h (eqb found (packed t f s r)) refl
   step_glanced x step found = adds_none (glanced p x) p h (glanced_skips p x) step found tt
 
   take_drew : (x b : ℕ) (own t : Bool) → drew p x (cond t (Took p b ∷ []) (unless_own own (Bounced p b)) ++ h) ≡ 0 + drew p x h
@@ -217,7 +229,29 @@ module _ (p : ℕ) (h : List Event) where
   step_drew x (take b own) found = take_drew x b own (eqb (found % 2) 0)
   step_drew x (glance b own) found = glance_drew x b own (eqb (found % 2) 0)
   step_drew x (draw b d from) found = draw_drew x b d from (eqb found from)
+  step_drew x (bump b n c t s r f g) found = elsewhere (drew p x) (Bumped p s r g) h (eqb found (packed t f s r)) refl
   step_drew x step found = adds_none (drew p x) p h (drew_skips p x) step found tt
+
+  take_raised : (b : ℕ) (own t : Bool) → raised p (cond t (Took p b ∷ []) (unless_own own (Bounced p b)) ++ h) ≡ 0 + raised p h
+  take_raised b own true = omega arith
+  take_raised b true false = omega arith
+  take_raised b false false = omega arith
+
+  glance_raised : (b : ℕ) (own t : Bool) → raised p (cond t [] (unless_own own (Glanced p b)) ++ h) ≡ 0 + raised p h
+  glance_raised b own true = omega arith
+  glance_raised b true false = omega arith
+  glance_raised b false false = omega arith
+
+  bump_raised : (s r g : ℕ) (t : Bool) → raised p (cond t (Bumped p s r g ∷ []) [] ++ h) ≡ cond t 1 0 + raised p h
+  bump_raised s r g true = rw (eq-eqb p p refl) (omega arith)
+  bump_raised s r g false = omega arith
+
+  pub step_raised : (step : Step) (found : ℕ) → raised p (adds step p found ++ h) ≡ raised_by step found + raised p h
+  step_raised (take b own) found = take_raised b own (eqb (found % 2) 0)
+  step_raised (glance b own) found = glance_raised b own (eqb (found % 2) 0)
+  step_raised (draw b d from) found = elsewhere (raised p) (Drew p b d from) h (eqb found from) refl
+  step_raised (bump b n c t s r f g) found = bump_raised s r g (eqb found (packed t f s r))
+  step_raised step found = adds_none (raised p) p h (raised_skips p) step found tt
 
 -- all that a step adds is of its pass
 all_of_cond : (p : ℕ) (t : Bool) (xs ys : List Event) → AllBy p xs → AllBy p ys → AllBy p (cond t xs ys)
@@ -228,7 +262,7 @@ all_unless : (p : ℕ) (own : Bool) (e : Event) → by e ≡ p → AllBy p (unle
 all_unless p true e is = tt
 all_unless p false e is = (is, tt)
 
-all_told : (p : ℕ) (said : Option (Request × Reply)) → AllBy p (told p said)
+pub all_told : (p : ℕ) (said : Option (Request × Reply)) → AllBy p (told p said)
 all_told p None = tt
 all_told p (Some said) = (refl, tt)
 
@@ -258,4 +292,5 @@ counted step p found more old n = record {
   bounces = λ b. step_bounced p (more ++ old) b step found ∙ ap (λ x. bounced_by b step found + x) (bounced_others p b more old n);
   glances = λ b. step_glanced p (more ++ old) b step found ∙ ap (λ x. glanced_by b step found + x) (glanced_others p b more old n);
   draws = λ b. step_drew p (more ++ old) b step found ∙ ap (λ x. drew_by b step found + x) (drew_others p b more old n);
+  raises = step_raised p (more ++ old) step found ∙ ap (λ x. raised_by step found + x) (raised_others p more old n);
 }

@@ -6,7 +6,7 @@ use Rattle.segcore.specs.declared.event.Event.TheVariants.{Took, Bounced, Glance
 use Rattle.segcore.specs.Bucket.{slot, bucket_after}
 use Rattle.segcore.specs.Row.{Row, Holds, row_after}
 use Rattle.segcore.specs.Lawful.{IsOwnRow, Fits, IsLawful}
-use Rattle.segcore.specs.Example.{shape, a, b, stored, bumped, moved, added, refused, replaced, evicted, refilled}
+use Rattle.segcore.specs.Example.{shape, a, b, stored, bumped, moved, added, refused, replaced, evicted, elsewhere, refilled}
 
 -- ---- keys, values and rows
 
@@ -186,9 +186,18 @@ evicted_next = (
   freed _ 0 false refl refl refl,
 )
 
+pub elsewhere_next : IsLawful shape elsewhere
+elsewhere_next = (
+  (
+    (evicted_next, record { guarded = tt; follows = tt; suits = (omega arith, omega arith, omega arith, refl) }),
+    record { guarded = tt; follows = tt; suits = (omega arith, omega arith, omega arith) },
+  ),
+  record { guarded = tt; follows = tt; suits = (omega arith, omega arith, omega arith, refl) },
+)
+
 -- the whole of it
 pub example : IsLawful shape refilled
 example = (
-  (evicted_next, record { guarded = tt; follows = tt; suits = (omega arith, omega arith, omega arith, refl) }),
+  elsewhere_next,
   record { guarded = tt; follows = ((λ k i. i), refl); suits = (omega arith, refl, refl) },
 )

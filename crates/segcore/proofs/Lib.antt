@@ -30,6 +30,7 @@ pub mod Segments
 pub mod Passes
 pub mod Searches
 pub mod Counts
+pub mod Readable
 pub mod Meanwhile
 pub mod Changed
 pub mod ChainWords

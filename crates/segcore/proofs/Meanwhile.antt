@@ -1,6 +1,6 @@
 -- What others leave alone, put together.
 use Rattle.std.proofs.Common.{◌≡◌, ◌≢◌, ℕ, ◌+◌, ◌<◌, ◌≤◌, eqb, ◌&&◌, List, [], ◌∷◌, ◌++◌, Some, sym, refl, ap, ◌∙◌, subst, ⊎_elim, append_assoc, arith}
-use Rattle.std.proofs.lemmas.Bool.{cases_Bool, cases_lt, cond-false, ne_eqb, eqb-true, and_parts}
+use Rattle.std.proofs.lemmas.Bool.{cases_Bool, cond-false, ne_eqb, eqb-true, and_parts}
 use Rattle.std.proofs.lemmas.Option.{none-some}
 use Rattle.segcore.specs.Bucket.{Slot, item, bucket_after}
 use Rattle.segcore.specs.Row.{row_after, frequency_of}
@@ -10,20 +10,22 @@ use Rattle.segcore.specs.declared.event.Event.{Event}
 use Rattle.segcore.specs.declared.event.Event.TheVariants.{Linked, Bumped, Refilled}
 use Rattle.segcore.specs.declared.view.View.{View}
 use Rattle.segcore.specs.Event.{seen, NoneBy}
-use Rattle.segcore.specs.Segment.{inside, refills, NoneRefills}
+use Rattle.segcore.specs.Segment.{refills, NoneRefills}
 use Rattle.segcore.specs.Lawful.{IsLawful}
-use Rattle.segcore.specs.Kind.{Step, adds}
+use Rattle.segcore.specs.Word.{info_word, word}
+use Rattle.segcore.specs.Kind.{Step, info_look, row_load, cell, adds, May}
 use Rattle.segmodel.specs.History.{Begins}
 use Rattle.segcore.specs.Mark.{marked}
 use Rattle.segcore.specs.World.{Told}
 use Rattle.segcore.specs.Count.{IsCounted}
-use Rattle.segcore.specs.Meanwhile.{Meanwhile}
+use Rattle.segcore.specs.Meanwhile.{FindsKnown, Meanwhile}
 use Rattle.segcore.proofs.Moments.{lawful_before, seen_begins, marked_begins}
-use Rattle.segcore.proofs.Quiet.{quiet, quiet_none, quiet_at, quiet_row, quiet_inside, not_mine, later}
-use Rattle.segcore.proofs.Entered.{no_refill, entered_row}
+use Rattle.segcore.proofs.Quiet.{quiet, quiet_none, quiet_at, quiet_inside, not_mine, later}
+use Rattle.segcore.proofs.Entered.{no_refill}
 use Rattle.segcore.proofs.Readers.{empty_stays}
-use Rattle.segcore.proofs.Segments.{strangers}
-use Rattle.segcore.proofs.Counts.{mine_others, taken_others, bounced_others, glanced_others, drew_others, counted}
+use Rattle.segcore.proofs.Segments.{is_pass}
+use Rattle.segcore.proofs.Readable.{read_row, may_read}
+use Rattle.segcore.proofs.Counts.{mine_others, taken_others, bounced_others, glanced_others, drew_others, raised_others, counted}
 
 refilled_event : (e : Event) (h : List Event) (s : ℕ) → ((q : ℕ) → e ≢ Refilled q s) → refills (e ∷ h) s ≡ refills h s
 refilled_event (Refilled q t) h s ne = cond-false (eqb t s) (refills h s + 1) (refills h s) (ne_eqb t s (λ e. ne q (ap (Refilled q) e)))
@@ -32,10 +34,6 @@ refilled_event e h s ne = refl
 pub same_refills : (more h : List Event) (s : ℕ) → NoneRefills s more → refills (more ++ h) s ≡ refills h s
 same_refills [] h s n = refl
 same_refills (e ∷ more) h s n = refilled_event e (more ++ h) s n.0 ∙ same_refills more h s n.1
-
--- a pass that is in a segment is one of the passes
-pub is_pass : (z : Shape) (h : List Event) (p s : ℕ) → IsLawful z h → 0 < inside h p s → p < z.passes
-is_pass z h p s l there = ⊎_elim (λ lt. lt) (λ le. let e = strangers z h p s l le in absurd (omega arith)) (cases_lt p z.passes)
 
 -- an event leaves the frequency of a linked row, or raises it
 pub one_rise : (z : Shape) (e : Event) (h : List Event) (s r : ℕ) (k : List ℕ) → IsLawful z (e ∷ h) → (row_after h s r).linked ≡ Some k → frequency_of h s r ≤ frequency_of (e ∷ h) s r
@@ -58,6 +56,11 @@ rise z (e ∷ more) h p b n a l none held is' =
     let there = (coherent z (more ++ h) l.0).items b n a (ap (λ u. u.items n) (quiet z more h p b l.0 none.1 held) ∙ is') in
     let one = one_rise z e (more ++ h) a.segment a.row a.key l there.linked in omega arith
 
+known_word : (z : Shape) (p : ℕ) (more h : List Event) → IsLawful z (more ++ h) → NoneBy p more → (step : Step) → FindsKnown step → May z h p step → word z (more ++ h) (cell step) ≡ word z h (cell step)
+known_word z p more h l n (info_look b) is may = ap (info_word z) (quiet z more h p b l n may.1)
+known_word z p more h l n (row_load s r j) is may = ap (λ u. u.words j) (read_row z more h p s r l n may.3)
+known_word z p more h l n _ is may = absurd is
+
 pub meanwhile : (z : Shape) (p : ℕ) (more h : List Event) → IsLawful z (more ++ h) → NoneBy p more → Meanwhile z p more h
 meanwhile z p more h l n = let early = lawful_before z more h l in record {
   untouched = λ b has. quiet_none z more h p b l n has.1;
@@ -65,17 +68,18 @@ meanwhile z p more h l n = let early = lawful_before z more h l in record {
   keys = λ k has. quiet_at z more h p k l n has.1;
   rises = λ b k a has is'. rise z more h p b k a l n has.1 is';
   bits = λ b ne. not_mine z more h p b n ne;
-  own_rows = λ s r own. quiet_row z more h s r l (subst (λ x. NoneBy x more) (sym own) n);
+  readable = λ s r may. (read_row z more h p s r l n may, may_read z more h p s r l n may);
+  known = known_word z p more h l n;
   none_stands = λ s own none. empty_stays z more h s l (subst (λ x. NoneBy x more) (sym own) n) none;
   stays = λ s. quiet_inside more h p s n;
   not_refilled = λ s there. no_refill z more h p s (is_pass z h p s early there) l n there;
   filling = λ s there. same_refills more h s (no_refill z more h p s (is_pass z h p s early there) l n there);
-  rows = λ s r k there on. entered_row z more h p s r k (is_pass z h p s early there) l n there on;
   entries = mine_others p more h n;
   takes = taken_others p more h n;
   bounces = λ b. bounced_others p b more h n;
   glances = λ b. glanced_others p b more h n;
   draws = λ b. drew_others p b more h n;
+  raises = raised_others p more h n;
   fits = λ e own now f. later z more h e l (subst (λ x. NoneBy x more) (sym own) n) now f;
 }
 

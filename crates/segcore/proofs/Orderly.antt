@@ -1,6 +1,6 @@
 -- What a lawful trace's marks count is what its events do: readers, rows, frequencies and drawn buckets; and they come in order.
 use Rattle.std.proofs.Common.{◌≡◌, ℕ, ◌+◌, ◌<◌, ◌≤◌, Bool, true, false, cond, eqb, ◌&&◌, ◌||◌, List, [], ◌∷◌, Option, Some, None, sym, refl, ap, ◌∙◌, subst, ⊎_elim, arith}
-use Rattle.std.proofs.lemmas.Bool.{cases_Bool, eqb-true}
+use Rattle.std.proofs.lemmas.Bool.{cases_Bool, eqb-true, and_parts}
 use Rattle.segword.specs.declared.shape.Shape.{Shape}
 use Rattle.segmodel.specs.Request.{key_of}
 use Rattle.segcore.specs.declared.event.Event.{Event}
@@ -10,7 +10,7 @@ use Rattle.segcore.specs.Overflow.{drawn_in}
 use Rattle.segcore.specs.Row.{Row, writes_row, row_after, frequency_of}
 use Rattle.segcore.specs.Segment.{inside, readers, was_used}
 use Rattle.segcore.specs.Lawful.{IsLawful}
-use Rattle.segcore.specs.Mark.{Mark, enters, marked, all_drawn, all_entered, all_left, is_named, linked_in, frequency_in, IsOrderly}
+use Rattle.segcore.specs.Mark.{Mark, enters, marked, all_drawn, all_entered, all_left, entered_by, left_by, is_named, linked_in, frequency_in, IsOrderly}
 use Rattle.segcore.proofs.Readers.{is_counted}
 
 pub all_drawn_marked : (h : List Event) → all_drawn (marked h) ≡ drawn_in h
@@ -65,6 +65,14 @@ readers_marked z (Left p t ∷ h) s l = let i = readers_marked z h s l.0 in ⊎_
     let b : 0 < inside h p s = subst (λ x. 0 < inside h p x) (eqb-true t s y) l.1.suits.2 in rw y (omega arith))
     (λ f. rw f i) (cases_Bool (eqb t s))
 readers_marked z (e ∷ h) s l = readers_marked z h s l.0
+
+pub inside_marked : (z : Shape) (h : List Event) (p s : ℕ) → IsLawful z h → inside h p s + left_by p (marked h) s ≡ entered_by p (marked h) s
+inside_marked z [] p s l = refl
+inside_marked z (Entered q t ∷ h) p s l = let i = inside_marked z h p s l.0 in ⊎_elim (λ y. rw y (omega arith)) (λ f. rw f i) (cases_Bool (eqb q p && eqb t s))
+inside_marked z (Left q t ∷ h) p s l = let i = inside_marked z h p s l.0 in ⊎_elim
+    (λ y. let w = and_parts (eqb q p) (eqb t s) y in let b : 0 < inside h p s = rw (← eqb-true q p w.0, ← eqb-true t s w.1) l.1.suits.2 in rw y (omega arith))
+    (λ f. rw f i) (cases_Bool (eqb q p && eqb t s))
+inside_marked z (e ∷ h) p s l = inside_marked z h p s l.0
 
 -- ---- the order of the marks
 

@@ -89,7 +89,7 @@ quiet_row z (e ∷ more) h s r l n =
 
 -- ---- readers
 
-off : (a b : Bool) → a ≡ false → (x y : ℕ) → cond (a && b) x y ≡ y
+pub off : (a b : Bool) → a ≡ false → (x y : ℕ) → cond (a && b) x y ≡ y
 off a b f x y = rw f refl
 
 same_inside : (e : Event) (h : List Event) (p s : ℕ) → by e ≢ p → inside (e ∷ h) p s ≡ inside h p s

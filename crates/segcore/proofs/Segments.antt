@@ -1,5 +1,5 @@
 -- What a lawful trace says of segments: nobody is in one that is refilled, and its linked rows keep their pairs.
-use Rattle.std.proofs.Common.{◌≡◌, ℕ, ◌≤◌, eqb, ◌&&◌, List, [], ◌∷◌, ◌++◌, Some, sym, refl, ap, ◌∙◌, subst, ⊎_elim, arith}
+use Rattle.std.proofs.Common.{◌≡◌, ℕ, ◌<◌, ◌≤◌, eqb, ◌&&◌, List, [], ◌∷◌, ◌++◌, Some, sym, refl, ap, ◌∙◌, subst, ⊎_elim, arith}
 use Rattle.std.proofs.lemmas.Bool.{cond-true, cond-false, cases_lt, eq-eqb, and_parts, and_from, eqb-true, false_from_ne_true}
 use Rattle.std.proofs.lemmas.Option.{none-some}
 use Rattle.segword.specs.declared.shape.Shape.{Shape}
@@ -17,7 +17,8 @@ use Rattle.segcore.specs.Mark.{same_key}
 use Rattle.segcore.specs.Says.{NoneLinks, IsKeptRow, SaysOfSegments}
 use Rattle.segcore.proofs.Keys.{same_true}
 use Rattle.segcore.proofs.Caches.{stands, stands_wrote}
-use Rattle.segcore.proofs.Orderly.{readers_marked}
+use Rattle.segcore.proofs.Moments.{lawful_before}
+use Rattle.segcore.proofs.Orderly.{readers_marked, inside_marked}
 use Rattle.segcore.proofs.Entered.{row_stays, none_in}
 
 -- a pass that isn't there is in no segment
@@ -27,12 +28,12 @@ strangers z (Entered q t ∷ h) p s l le = let lt = l.1.suits.0 in cond-false (e
 strangers z (Left q t ∷ h) p s l le = let lt = l.1.suits.0 in cond-false (eqb q p && eqb t s) _ (inside h p s) (false_from_ne_true (eqb q p && eqb t s) (λ y. let e = eqb-true q p (and_parts (eqb q p) (eqb t s) y).0 in omega arith)) ∙ strangers z h p s l.0 le
 strangers z (e ∷ h) p s l le = strangers z h p s l.0 le
 
-lawful_since : (z : Shape) (more h : List Event) → IsLawful z (more ++ h) → IsLawful z h
-lawful_since z [] h l = l
-lawful_since z (e ∷ more) h l = lawful_since z more h l.0
+-- a pass that is in a segment is one of the passes
+pub is_pass : (z : Shape) (h : List Event) (p s : ℕ) → IsLawful z h → 0 < inside h p s → p < z.passes
+is_pass z h p s l there = ⊎_elim (λ lt. lt) (λ le. let e = strangers z h p s l le in absurd (omega arith)) (cases_lt p z.passes)
 
 pub none_inside : (z : Shape) (more h : List Event) (q p s : ℕ) → IsLawful z (more ++ (Refilled q s ∷ h)) → inside h p s ≡ 0
-none_inside z more h q p s l = ⊎_elim (λ few. none_in z more h q p s few l) (λ le. strangers z h p s (lawful_since z more (Refilled q s ∷ h) l).0 le) (cases_lt p z.passes)
+none_inside z more h q p s l = ⊎_elim (λ few. none_in z more h q p s few l) (λ le. strangers z h p s (lawful_before z more (Refilled q s ∷ h) l).0 le) (cases_lt p z.passes)
 
 -- ---- rows
 
@@ -55,13 +56,14 @@ kept_row z more h p q s r n l none =
     let on : (row_after (e ∷ h) s r).linked ≡ Some k = ap (λ u. u.linked) (at_link h p q s r n) in
     record {
       once = none_links z more (e ∷ h) s r k l none on;
-      holds = λ j lt. ap (λ (u : Row). u.words j) (row_since z more (e ∷ h) s r k l none on ∙ at_link h p q s r n) ∙ (lawful_since z more (e ∷ h) l).1.suits.1 j lt;
+      holds = λ j lt. ap (λ (u : Row). u.words j) (row_since z more (e ∷ h) s r k l none on ∙ at_link h p q s r n) ∙ (lawful_before z more (e ∷ h) l).1.suits.1 j lt;
       stood = stands_wrote z p q Stored (Some s) (seen h) k ∙ cond-true (same_key k k) (Some (cached (value_of q) s)) (stands z (seen h) k) (same_true k k refl);
     }
 
 pub says_of_segments : (z : Shape) (h : List Event) → IsLawful z h → SaysOfSegments z h
 says_of_segments z h l = record {
   readers = λ s. readers_marked z h s l;
+  marks = λ p s. inside_marked z h p s l;
   refilled = λ more g q p s is'. none_inside z more g q p s (subst (IsLawful z) is' l);
   rows = λ more g p q s r n is' none. subst (λ x. IsKeptRow z x more g p q s r n) (sym is') (kept_row z more g p q s r n (subst (IsLawful z) is' l) none);
 }

@@ -33,6 +33,7 @@ use Rattle.segcore.proofs.Chains.{chain_of}
 use Rattle.segcore.proofs.Standing.{coherent}
 use Rattle.segcore.proofs.Cells.{Elsewhere, at_stays, at_word, touch, change_at}
 use Rattle.segcore.proofs.Caches.{same_either}
+use Rattle.segcore.proofs.Counts.{all_told}
 use Rattle.segcore.proofs.Readers.{counted, is_counted, empty_stays}
 use Rattle.segcore.proofs.Limits.{few_passes, few_drawn, low_row, low_segment, low_frequency, drawn_few}
 
@@ -150,10 +151,6 @@ told_bucket : (z : Shape) (p : ℕ) (said : Option (Request × Reply)) (now : Li
 told_bucket z p None now b = refl
 told_bucket z p (Some a) now b = same_either (eqb (bucket_of z (key_of a.0)) b) (bucket_after z now b)
 
-told_by : (p : ℕ) (said : Option (Request × Reply)) → AllBy p (told p said)
-told_by p None = tt
-told_by p (Some a) = (refl, tt)
-
 released : (z : Shape) (u : Bucket) (p b : ℕ) (c : Bool) (said : Option (Request × Reply)) → u.holder ≡ Some p → becomes (release b c said) (info_word z u) ≡ info_word z (acts (Freed p b c) u)
 released z u p b true said held = rw held (counted_word z.first_version u.version)
 released z u p b false said held = rw held (plain_word z.first_version u.version)
@@ -164,7 +161,7 @@ release_at z p b c said now held w spared l =
     let e = Freed p b c in
     let x = info_word z (acts e (bucket_after z now b)) in
     let then = told p said ++ now in
-    made z (release b c said) p now (e ∷ told p said) x refl (released z (bucket_after z now b) p b c said held.1) (held.0, omega arith) (refl, told_by p said)
+    made z (release b c said) p now (e ∷ told p said) x refl (released z (bucket_after z now b) p b c said held.1) (held.0, omega arith) (refl, all_told p said)
     (l, record { guarded = (held.0, ap (λ u. u.holder) same_b ∙ held.1); follows = tt; suits = (ap (λ u. u.written) same_b ∙ w, ap (λ u. u.spare) same_b ∙ spared) })
     (λ d i. touch z then e b 0 x (OfBucket b 0) l (refl, refl, omega arith) (record { homes = λ m. refl; drawn = refl; rows = λ s r j. refl; readers = λ s. refl })
     (change_at z then e b 0 x (λ k. refl)

@@ -2,9 +2,10 @@
 use Rattle.std.specs.Prelude.{◌≡◌, ℕ, ◌+◌, ◌%◌, ◌==◌, ◌&&◌, not, List, [], ◌∷◌, ◌++◌, if◌then◌else◌}
 use Rattle.segmodel.specs.History.{mine}
 use Rattle.segcore.specs.declared.event.Event.{Event}
-use Rattle.segcore.specs.declared.event.Event.TheVariants.{Took, Bounced, Glanced, Drew}
+use Rattle.segcore.specs.declared.event.Event.TheVariants.{Took, Bounced, Glanced, Drew, Bumped}
 use Rattle.segcore.specs.Event.{seen}
-use Rattle.segcore.specs.Kind.{Step, take, glance, draw, adds}
+use Rattle.segcore.specs.ItemWord.{packed}
+use Rattle.segcore.specs.Kind.{Step, take, glance, draw, bump, adds}
 
 -- how often the pass set a bit
 abbrev pub taken : ℕ → List Event → ℕ
@@ -30,6 +31,12 @@ drew pass bucket [] = 0
 drew pass bucket (Drew q b depth number ∷ trace) = if (q == pass) && (b == bucket) then drew pass bucket trace + 1 else drew pass bucket trace
 drew pass bucket (_ ∷ trace) = drew pass bucket trace
 
+-- how often it raised the frequency of an item
+abbrev pub raised : ℕ → List Event → ℕ
+raised pass [] = 0
+raised pass (Bumped q segment row frequency ∷ trace) = if q == pass then raised pass trace + 1 else raised pass trace
+raised pass (_ ∷ trace) = raised pass trace
+
 -- ---- what a step adds, by what it found
 
 abbrev pub taken_by : Step → ℕ → ℕ
@@ -49,6 +56,10 @@ abbrev pub drew_by : ℕ → Step → ℕ → ℕ
 drew_by bucket (draw b depth from) found = if (found == from) && (b == bucket) then 1 else 0
 drew_by bucket _ found = 0
 
+abbrev pub raised_by : Step → ℕ → ℕ
+raised_by (bump bucket position of tag segment row frequency higher) found = if found == packed tag frequency segment row then 1 else 0
+raised_by _ found = 0
+
 -- the counts of a pass before a step of its own and after it
 pub record IsCounted (step : Step) (pass found : ℕ) (old new : List Event) : Type 0 where
   pub entries : mine pass (seen new) ≡ seen (adds step pass found) ++ mine pass (seen old)
@@ -56,3 +67,4 @@ pub record IsCounted (step : Step) (pass found : ℕ) (old new : List Event) : T
   pub bounces : (bucket : ℕ) → bounced pass bucket new ≡ bounced_by bucket step found + bounced pass bucket old
   pub glances : (bucket : ℕ) → glanced pass bucket new ≡ glanced_by bucket step found + glanced pass bucket old
   pub draws : (bucket : ℕ) → drew pass bucket new ≡ drew_by bucket step found + drew pass bucket old
+  pub raises : raised pass new ≡ raised_by step found + raised pass old

@@ -57,9 +57,13 @@ replaced = Freed 0 0 true ∷ Linked 0 (Replace a two) 0 1 9 ∷ Filled 0 0 1 4 
 abbrev pub evicted : List Event
 evicted = Freed 0 0 false ∷ Unlinked 0 a 9 (Some 0) ∷ Took 0 0 ∷ Freed 0 0 true ∷ Unlinked 0 b 1 None ∷ Took 0 0 ∷ replaced
 
--- pass 1 comes to read elsewhere
+-- pass 1 comes into that segment, and pass 0 finds it read
+abbrev pub read : List Event
+read = Entered 1 0 ∷ evicted
+
+-- pass 1 leaves it, and comes to read elsewhere
 abbrev pub elsewhere : List Event
-elsewhere = Entered 1 2 ∷ evicted
+elsewhere = Entered 1 2 ∷ Left 1 0 ∷ read
 
 -- and pass 0's segment is refilled
 abbrev pub refilled : List Event
@@ -117,4 +121,5 @@ to_evicted = (0, release 0 false None) ∷ (0, clear a 9 (OfOverflow 0 1) 0xaf60
     ∷ (0, release 0 true None) ∷ (0, clear b 1 (OfBucket 0 1) 0xaf60_1000_0020_0000 None) ∷ (0, take 0 false) ∷ to_replaced
 
 abbrev pub to_refilled : List (ℕ × Step)
-to_refilled = (0, none_reading 0) ∷ (1, enter 2) ∷ to_evicted
+-- a first try to refill the segment finds a reader
+to_refilled = (0, none_reading 0) ∷ (1, enter 2) ∷ (1, leave 0) ∷ (0, none_reading 0) ∷ (1, enter 0) ∷ to_evicted

@@ -145,6 +145,17 @@ all_left [] segment = 0
 all_left (left pass s ∷ marks) segment = if s == segment then all_left marks segment + 1 else all_left marks segment
 all_left (_ ∷ marks) segment = all_left marks segment
 
+-- how often this pass came into it, and how often it left it
+abbrev pub entered_by : ℕ → List Mark → ℕ → ℕ
+entered_by pass [] segment = 0
+entered_by pass (entered q s ∷ marks) segment = if (q == pass) && (s == segment) then entered_by pass marks segment + 1 else entered_by pass marks segment
+entered_by pass (_ ∷ marks) segment = entered_by pass marks segment
+
+abbrev pub left_by : ℕ → List Mark → ℕ → ℕ
+left_by pass [] segment = 0
+left_by pass (left q s ∷ marks) segment = if (q == pass) && (s == segment) then left_by pass marks segment + 1 else left_by pass marks segment
+left_by pass (_ ∷ marks) segment = left_by pass marks segment
+
 -- whether an `at` names the segment
 abbrev pub is_named : List Mark → ℕ → Bool
 is_named [] segment = false

@@ -18,7 +18,7 @@ use Rattle.segcore.specs.Row.{Holds, row_after}
 use Rattle.segcore.specs.Segment.{inside, NoneRefills}
 use Rattle.segcore.specs.Lawful.{NoneAt}
 use Rattle.segcore.specs.Word.{word}
-use Rattle.segcore.specs.Mark.{marked, all_entered, all_left, IsPlaced, IsOrderly}
+use Rattle.segcore.specs.Mark.{marked, all_entered, all_left, entered_by, left_by, IsPlaced, IsOrderly}
 use Rattle.segcore.specs.Kind.{HasBit}
 use Rattle.segcore.specs.World.{World}
 use Rattle.segcore.specs.Standing.{cached, SaysOfKeys}
@@ -41,6 +41,8 @@ pub record IsKeptRow (shape : Shape) (trace more before : List Event) (pass : �
 pub record SaysOfSegments (shape : Shape) (trace : List Event) : Type 0 where
   -- the segment word counts who came and hasn't left
   pub readers : (segment : ℕ) → word shape trace (OfSegment segment) + all_left (marked trace) segment ≡ all_entered (marked trace) segment
+  -- a pass is in a segment as often as its marks say that it came and hasn't left
+  pub marks : (pass segment : ℕ) → inside trace pass segment + left_by pass (marked trace) segment ≡ entered_by pass (marked trace) segment
   -- at a refilling no pass is in the segment
   pub refilled : (more before : List Event) (filler pass segment : ℕ) → trace ≡ more ++ (Refilled filler segment ∷ before) → inside before pass segment ≡ 0
   pub rows : (more before : List Event) (pass : ℕ) (request : Request) (segment row position : ℕ)

@@ -28,7 +28,7 @@ ghost use Rattle.segcore.specs.Count.{IsCounted};
 ghost use Rattle.segcore.specs.Filled.{items_below, HasNoEmptyWord};
 ghost use Rattle.segcore.specs.Kind.{Step, HasBit, May, Kept};
 ghost use Rattle.segcore.specs.Meanwhile.{Meanwhile};
-ghost use Rattle.segcore.specs.Example.{shape, a, two, stored, bumped, moved, replaced, refilled, elsewhere, view_of, after_steps, to_refilled};
+ghost use Rattle.segcore.specs.Example.{shape, a, two, stored, bumped, moved, replaced, read, refilled, elsewhere, view_of, after_steps, to_refilled};
 ghost use Rattle.segcore.specs.World.{Told, World, SeeMore, Reaches, IsLawfulWorld};
 
 /// Whatever steps the passes take, in whatever order, the world that they reach is lawful, and what each pass has seen only grows.
@@ -156,5 +156,6 @@ pub fn example()
     ensures versions { (standing (after shape (seen replaced)) a ≡ Some (cached two 0)) × (standing (after shape (seen refilled)) a ≡ None) × ((after shape (seen refilled)).version 0 ≡ 4) }
     ensures reached { Reaches shape to_refilled (after_steps to_refilled) }
     ensures traced { (after_steps to_refilled).trace ≡ refilled }
+    ensures waited { (word shape read (OfSegment 0) ≡ 1) × (word shape elsewhere (OfSegment 0) ≡ 0) }
     ensures different { (after_steps to_refilled).views ≡ view_of 0 refilled ∷ view_of 1 elsewhere ∷ [] }
 {}

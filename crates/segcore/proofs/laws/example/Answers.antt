@@ -14,5 +14,6 @@ returns c = record {
   versions = (refl, refl, refl);
   reached = reached;
   traced = refl;
+  waited = (refl, refl);
   different = refl;
 }
