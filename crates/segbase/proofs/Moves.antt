@@ -7,7 +7,7 @@ use Rattle.segcore.specs.declared.event.Event.TheVariants.{Entered, Left}
 use Rattle.segmodel.specs.declared.entry.Entry.{Entry}
 use Rattle.segcore.specs.Event.{entry_of, with_entry, seen}
 use Rattle.segcore.specs.Segment.{inside}
-use Rattle.segcore.specs.Count.{taken, bounced, glanced, drew}
+use Rattle.segcore.specs.Count.{taken, bounced, glanced, drew, raised}
 use Rattle.segbase.specs.declared.board.Board.{Board}
 use Rattle.segbase.specs.declared.pass.Pass.{Pass}
 use Rattle.segbase.specs.Traces.{own_of, StaysIn, OnlyReads}
@@ -17,7 +17,7 @@ use Rattle.segbase.specs.Steps.{Takes}
 use Rattle.segcore.specs.Bucket.{bucket_after}
 use Rattle.segcore.specs.Kind.{HasBit, May, release}
 use Rattle.segcore.proofs.Quiet.{quiet}
-use Rattle.segbase.proofs.Owning.{own_both, own_inside, own_mine, own_taken, own_bounced, own_glanced, own_drew}
+use Rattle.segbase.proofs.Owning.{own_both, own_inside, own_mine, own_taken, own_bounced, own_glanced, own_drew, own_raised}
 use Rattle.segbase.proofs.Staying.{stays_now, stays_first, stays_last, stays_both, none_both}
 
 -- nothing was done
@@ -43,6 +43,9 @@ moved_glanced b own p q c m = ap (λ n. glanced n c (trace q)) m.same ∙ (ap (g
 
 pub moved_drew : (b : Board) (own : List Event) (p q : Pass) (c : ℕ) → Moved b own p q → passes.drew q c ≡ drew (number p) c (own ++ trace p)
 moved_drew b own p q c m = ap (λ n. drew n c (trace q)) m.same ∙ (ap (drew (number p) c) m.goes_on ∙ (own_drew m.more (trace p) (number p) c ∙ ap (λ es. drew (number p) c (es ++ trace p)) m.adds))
+
+pub moved_raised : (b : Board) (own : List Event) (p q : Pass) → Moved b own p q → passes.raised q ≡ raised (number p) (own ++ trace p)
+moved_raised b own p q m = ap (λ n. raised n (trace q)) m.same ∙ (ap (raised (number p)) m.goes_on ∙ (own_raised m.more (trace p) (number p) ∙ ap (λ es. raised (number p) (es ++ trace p)) m.adds))
 
 -- what it has seen only grows
 pub moved_on : (b : Board) (own : List Event) (p q : Pass) → Moved b own p q → Begins (trace p) (trace q)

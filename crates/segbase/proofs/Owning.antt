@@ -2,13 +2,13 @@
 use Rattle.std.proofs.Common.{◌≡◌, ◌≢◌, ℕ, ◌+◌, ◌-◌, cond, eqb, ◌&&◌, List, [], ◌∷◌, ◌++◌, Option, Some, None, refl, sym, ap, ◌∙◌, ⊎_elim}
 use Rattle.std.proofs.lemmas.Bool.{cases_Bool, eq-eqb, ne_eqb, false≢true}
 use Rattle.segcore.specs.declared.event.Event.{Event}
-use Rattle.segcore.specs.declared.event.Event.TheVariants.{Took, Bounced, Glanced, Drew, Entered, Left}
+use Rattle.segcore.specs.declared.event.Event.TheVariants.{Took, Bounced, Glanced, Drew, Bumped, Entered, Left}
 use Rattle.segcore.specs.Event.{by, entry_of, with_entry, seen, NoneBy, AllBy}
 use Rattle.segcore.specs.Segment.{inside}
 use Rattle.segmodel.specs.declared.entry.Entry.{Entry}
 use Rattle.segmodel.specs.History.{pass_of, mine}
-use Rattle.segcore.specs.Count.{taken, bounced, glanced, drew}
-use Rattle.segcore.proofs.Counts.{mine_others, taken_others, bounced_others, glanced_others, drew_others}
+use Rattle.segcore.specs.Count.{taken, bounced, glanced, drew, raised}
+use Rattle.segcore.proofs.Counts.{mine_others, taken_others, bounced_others, glanced_others, drew_others, raised_others}
 use Rattle.segcore.proofs.Quiet.{quiet_inside}
 use Rattle.segbase.specs.Traces.{own_of}
 
@@ -87,3 +87,10 @@ drew_again p b e h g same = same
 
 pub own_drew : (more h : List Event) (p b : ℕ) → drew p b (more ++ h) ≡ drew p b (own_of p more ++ h)
 own_drew more h p b = own_same p (drew p b) (record { again = drew_again p b; skips = λ e h n. drew_others p b (e ∷ []) h (n, tt) }) more h
+
+raised_again : (p : ℕ) (e : Event) (h g : List Event) → raised p h ≡ raised p g → raised p (e ∷ h) ≡ raised p (e ∷ g)
+raised_again p (Bumped q s r f) h g same = ap (λ n. cond (eqb q p) (n + 1) n) same
+raised_again p e h g same = same
+
+pub own_raised : (more h : List Event) (p : ℕ) → raised p (more ++ h) ≡ raised p (own_of p more ++ h)
+own_raised more h p = own_same p (raised p) (record { again = raised_again p; skips = λ e h n. raised_others p (e ∷ []) h (n, tt) }) more h

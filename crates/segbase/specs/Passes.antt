@@ -66,6 +66,10 @@ glanced p bucket = count.glanced (number p) bucket (trace p)
 abbrev pub drew : Pass → ℕ → ℕ
 drew p bucket = count.drew (number p) bucket (trace p)
 
+-- how often it raised the frequency of an item
+abbrev pub raised : Pass → ℕ
+raised p = count.raised (number p) (trace p)
+
 -- what it holds and what it has locked
 abbrev pub holding : Pass → Option Held
 holding p = (sight p).memo.holding
