@@ -12,8 +12,8 @@ use Rattle.segcore.specs.Kind.{MayRead, May, row_load}
 use Rattle.segcore.proofs.Caches.{stands_in}
 use Rattle.segcore.proofs.Quiet.{quiet, quiet_row, quiet_inside}
 use Rattle.segcore.proofs.Entered.{row_stays, entered_row}
-use Rattle.segcore.proofs.Meanwhile.{is_pass}
-use Rattle.segcore.proofs.Moments.{lawful_before}
+use Rattle.segcore.proofs.Readable.{read_row, may_read}
+use Rattle.segcore.proofs.Moments.{none_both}
 use Rattle.segcore.proofs.Standing.{coherent}
 use Rattle.segbase.specs.declared.board.Board.{Board}
 use Rattle.segbase.specs.declared.pass.Pass.{Pass}
@@ -24,16 +24,12 @@ use Rattle.segstore.specs.Reading.{Looked, IsReadable, ReadsRow, four_words}
 
 -- ---- looks, one after another
 
-none_by_both : (p : ℕ) (xs ys : List Event) → NoneBy p xs → NoneBy p ys → NoneBy p (xs ++ ys)
-none_by_both p [] ys a b = b
-none_by_both p (e ∷ xs) ys a b = (a.0, none_by_both p xs ys a.1 b)
-
 pub did_then : (b : Board) (p q r : Pass) → Did b [] p q → Did b [] q r → Did b [] p r
 did_then b p q r d e =
     let now : trace r ≡ (e.others ++ d.others) ++ trace p = e.now ∙ (ap (λ h. e.others ++ h) d.now ∙ sym (append_assoc e.others d.others (trace p))) in record {
       moved = moved_then b [] [] p q r d.moved e.moved;
       others = e.others ++ d.others;
-      none = none_by_both (number p) e.others d.others (subst (λ n. NoneBy n e.others) d.moved.same e.none) d.none;
+      none = none_both (number p) e.others d.others (subst (λ n. NoneBy n e.others) d.moved.same e.none) d.none;
       before = subst (IsLawful b.shape) now e.moved.pass.lawful;
       now = now;
     }
@@ -42,35 +38,6 @@ pub looked_then : (b : Board) (p q r : Pass) → Looked b p q → Looked b q r �
 looked_then b p q r l k = record { did = did_then b p q r l.did k.did; plain = k.plain ∙ l.plain; memo = k.memo ∙ l.memo }
 
 -- ---- rows that a pass may read
-
--- the row that an item names stays as it is for one event more: its segment isn't refilled while the key stands there
-named_once : (z : Shape) (e : Event) (h : List Event) (b n : ℕ) (a : Slot) → IsLawful z (e ∷ h) → (bucket_after z h b).items n ≡ item a → row_after (e ∷ h) a.segment a.row ≡ row_after h a.segment a.row
-named_once z e h b n a l is =
-    let i = (coherent z h l.0).items b n a is in
-    row_stays z e h a.segment a.row a.key l
-    (λ p same. (subst (λ x. IsLawful z (x ∷ h)) same l).1.follows.0 a.key (stands_in z (seen h) a.key a.segment (i.value, i.stands)))
-    i.linked
-
--- and under the bucket's bit for any number
-named_row : (z : Shape) (more h : List Event) (p b n : ℕ) (a : Slot) → IsLawful z (more ++ h) → NoneBy p more → (bucket_after z h b).holder ≡ Some p → (bucket_after z h b).items n ≡ item a → row_after (more ++ h) a.segment a.row ≡ row_after h a.segment a.row
-named_row z [] h p b n a l none held is = refl
-named_row z (e ∷ more) h p b n a l none held is =
-    named_once z e (more ++ h) b n a l (ap (λ u. u.items n) (quiet z more h p b l.0 none.1 held) ∙ is) ∙ named_row z more h p b n a l.0 none.1 held is
-
--- what a pass may read stays as it is, and it may go on reading it
-pub read_row : (z : Shape) (more h : List Event) (p s r : ℕ) → IsLawful z (more ++ h) → NoneBy p more → MayRead z h p s r → row_after (more ++ h) s r ≡ row_after h s r
-read_row z more h p s r l none (inl own) = quiet_row z more h s r l (subst (λ x. NoneBy x more) (sym own) none)
-read_row z more h p s r l none (inr (inl (there, on))) = entered_row z more h p s r on.0 (is_pass z h p s (lawful_before z more h l) there) l none there on.1
-read_row z more h p s r l none (inr (inr (b, n, a, bit, is, es, er))) =
-    subst (λ x. row_after (more ++ h) s x ≡ row_after h s x) er (subst (λ x. row_after (more ++ h) x a.row ≡ row_after h x a.row) es (named_row z more h p b n a l none bit.1 is))
-
-pub may_read : (z : Shape) (more h : List Event) (p s r : ℕ) → IsLawful z (more ++ h) → NoneBy p more → MayRead z h p s r → MayRead z (more ++ h) p s r
-may_read z more h p s r l none (inl own) = inl own
-may_read z more h p s r l none (inr (inl (there, on))) =
-    inr (inl (subst (λ x. 0 < x) (sym (quiet_inside more h p s none)) there, (on.0, ap (λ u. u.linked) (read_row z more h p s r l none (inr (inl (there, on)))) ∙ on.1)))
-may_read z more h p s r l none (inr (inr (b, n, a, bit, is, es, er))) =
-    let same = quiet z more h p b l none bit.1 in
-    inr (inr (b, n, a, (bit.0, ap (λ u. u.holder) same ∙ bit.1), ap (λ u. u.items n) same ∙ is, es, er))
 
 pub same_row : (b : Board) (p q : Pass) (s r : ℕ) → Did b [] p q → IsReadable b p s r → row_after (trace q) s r ≡ row_after (trace p) s r
 same_row b p q s r d may = ap (λ h. row_after h s r) d.now ∙ read_row b.shape d.others (trace p) (number p) s r d.before d.none may.2
