@@ -1,20 +1,13 @@
 -- A pass that only looks: looks add up, and what it may read stays as it is.
-use Rattle.std.proofs.Common.{◌≡◌, ℕ, ◌<◌, List, [], ◌∷◌, ◌++◌, take, drop, Some, refl, sym, ap, ◌∙◌, subst, inl, inr, append_assoc, arith}
+use Rattle.std.proofs.Common.{◌≡◌, ℕ, ◌<◌, List, [], ◌++◌, take, drop, refl, sym, ap, ◌∙◌, subst, append_assoc, arith}
 use Rattle.std.specs.Prelude.{slice_index}
-use Rattle.segword.specs.declared.shape.Shape.{Shape}
-use Rattle.segcore.specs.declared.event.Event.{Event}
-use Rattle.segcore.specs.Event.{NoneBy, seen}
-use Rattle.segcore.specs.Bucket.{Slot, item, bucket_after}
+use Rattle.segcore.specs.Event.{NoneBy}
 use Rattle.segword.specs.Row.{row_of}
 use Rattle.segcore.specs.Row.{Row, row_after}
 use Rattle.segcore.specs.Lawful.{IsLawful}
 use Rattle.segcore.specs.Kind.{MayRead, May, row_load}
-use Rattle.segcore.proofs.Caches.{stands_in}
-use Rattle.segcore.proofs.Quiet.{quiet, quiet_row, quiet_inside}
-use Rattle.segcore.proofs.Entered.{row_stays, entered_row}
 use Rattle.segcore.proofs.Readable.{read_row, may_read}
 use Rattle.segcore.proofs.Moments.{none_both}
-use Rattle.segcore.proofs.Standing.{coherent}
 use Rattle.segbase.specs.declared.board.Board.{Board}
 use Rattle.segbase.specs.declared.pass.Pass.{Pass}
 use Rattle.segbase.specs.declared.place.RowPlace.{RowPlace}
