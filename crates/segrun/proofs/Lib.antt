@@ -1,3 +1,7 @@
+pub mod Building
 pub mod HexWords
+pub mod NoHelp
+pub mod Options
 pub mod Showing
 pub mod TotalsText
+pub mod WordsRead

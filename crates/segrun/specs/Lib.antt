@@ -1,3 +1,5 @@
+pub mod Asked
+pub mod CommandLine
 pub mod Commands
 pub mod Explained
 pub mod Faults

@@ -1,6 +1,5 @@
 -- What the program does with the words that it is given.
 use Rattle.std.specs.Prelude.{◌≡◌, ℕ, Bool, List, Result, Ok, Err, string_bytes}
-use Rattle.segword.specs.declared.shape.Shape.{Shape}
 use Rattle.segrun.specs.Commands.{CommandOutcome, Concluded}
 use Rattle.segrun.specs.Faults.{fault_line, fault_status}
 use Rattle.segrun.specs.Printing.{IsPrinted, IsFlushed}
@@ -9,10 +8,6 @@ use Rattle.segrun.specs.declared.arguments.Refusal.TheVariants as refusal
 use Rattle.segrun.specs.declared.command.Command.{Command}
 use Rattle.segrun.specs.declared.report.ProgramFault.{ProgramFault}
 use Rattle.segrun.specs.declared.report.ProgramFault.TheVariants as fault
-
--- the shape that no option changes
-abbrev pub default_shape : Shape
-default_shape = record { buckets = 1; overflow = 0; passes = 1; segments_each = 1; rows = 8; first_version = 0 }
 
 -- the status where no command was read, and the text that says why
 abbrev pub refusal_status : Refusal → ℕ

@@ -3,6 +3,7 @@
 
 mod arguments;
 mod command;
+mod command_line;
 mod explain;
 mod program;
 mod report;

@@ -1,9 +1,10 @@
 //! The program, over the words after its name.
-ghost use Rattle.std.specs.Prelude.{◌≡◌, [], false, Result, Ok};
+ghost use Rattle.std.specs.Prelude.{◌≡◌, false, map, string_bytes, Result};
 ghost use Rattle.segrun.specs.declared.arguments.Refusal.{Refusal};
 ghost use Rattle.segrun.specs.declared.command.Command.{Command as Asked};
 ghost use Rattle.segrun.specs.Printing.{IsPrinted, IsFlushed};
-ghost use Rattle.segrun.specs.Program.{default_shape, refusal_status, refusal_text, ProgramOutcome};
+ghost use Rattle.segrun.specs.Asked.{IsRead};
+ghost use Rattle.segrun.specs.Program.{refusal_status, refusal_text, ProgramOutcome};
 
 use crate::arguments::{Refusal, read_command};
 use crate::command::run_command;
@@ -30,7 +31,7 @@ pub fn run_program<R: Threads + Wait + AllocGlobal + Sync, S: Source, W: Sink, E
     requires source_works { S.has_failed source.old ≡ false }
     requires writer_works { W.has_failed writer.old ≡ false }
     requires errors_work { E.has_failed errors.old ≡ false }
-    ensures outcome { (read : Result Asked Refusal) × (words.now ≡ [] → read ≡ Ok (Asked.Script default_shape))
+    ensures outcome { (read : Result Asked Refusal) × IsRead (map (λ word. string_bytes word) words.now) read
         × ProgramOutcome S.hands S.is_at_end S.has_failed W.takes W.has_failed W.flushes E.takes E.has_failed E.flushes read
         source.old source.new writer.old writer.new errors.old errors.new result }
 {

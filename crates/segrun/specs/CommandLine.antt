@@ -1,0 +1,106 @@
+-- The command line of the program as data: its commands, and what `clap` reads of each.
+use Rattle.std.specs.Prelude.{◌≡◌, ◌==◌, ◌++◌, ℕ, pos, true, false, List, [], ◌∷◌, fold, map, Some, if◌then◌else◌, codes, decimal}
+use Rattle.segword.specs.declared.shape.Shape.{Shape}
+use Rattle.clap.specs.Walk.{Rule, Text}
+use Rattle.clap.specs.Simple.{App, Shape as CommandRules, app_of, new_rule, new_shape, with_rule, with_subcommand}
+use Rattle.clap.specs.declared.builder.command.Command.{Command}
+use Rattle.clap.specs.declared.builder.command.Command.TheViews.{out-Command as fields_of}
+use Rattle.clap.specs.declared.builder.value_parser.ValueParser.{ValueParser}
+use Rattle.clap.specs.declared.builder.value_parser.ValueParser.TheVariants as parser
+
+-- the shape that no option changes
+abbrev pub default_shape : Shape
+default_shape = record { buckets = 1; overflow = 0; passes = 1; segments_each = 1; rows = 8; first_version = 0 }
+
+-- ---- options
+
+-- `--NAME N`, where N is a number of so many bits, and is this one where the words don't say it
+pub record NumberOption : Type 0 where
+  pub name : Text
+  pub bits : ℕ
+  pub default : ℕ
+
+abbrev pub of_32_bits : Text → ℕ → NumberOption
+of_32_bits name default = record { name = name; bits = 32; default = default }
+
+abbrev pub buckets_option : NumberOption
+buckets_option = of_32_bits (codes "buckets") default_shape.buckets
+
+abbrev pub overflow_option : NumberOption
+overflow_option = of_32_bits (codes "overflow") default_shape.overflow
+
+abbrev pub passes_option : NumberOption
+passes_option = of_32_bits (codes "passes") default_shape.passes
+
+abbrev pub segments_option : NumberOption
+segments_option = of_32_bits (codes "segments") default_shape.segments_each
+
+abbrev pub rows_option : NumberOption
+rows_option = of_32_bits (codes "rows") default_shape.rows
+
+abbrev pub first_version_option : NumberOption
+first_version_option = of_32_bits (codes "first-version") default_shape.first_version
+
+abbrev pub seed_option : NumberOption
+seed_option = record { name = codes "seed"; bits = 64; default = 1 }
+
+abbrev pub commands_option : NumberOption
+commands_option = of_32_bits (codes "commands") 1000
+
+abbrev pub shape_options : List NumberOption
+shape_options = buckets_option ∷ overflow_option ∷ passes_option ∷ segments_option ∷ rows_option ∷ first_version_option ∷ []
+
+-- what takes numbers of so many bits
+abbrev pub number_parser : ℕ → ValueParser
+number_parser bits = if bits == 64 then parser.Unsigned 0 18446744073709551615 else parser.Signed (pos 0) (pos 4294967295)
+
+-- an option of this name, whose values this parser takes, and which has this value where it isn't given
+abbrev pub option_rule : Text → ValueParser → Text → Rule
+option_rule name takes default =
+    record (new_rule name) { long = Some name; value_names = 1; parser = Some takes; defaults = default ∷ [] }
+
+abbrev pub rule_of_option : NumberOption → Rule
+rule_of_option option = option_rule option.name (number_parser option.bits) (decimal option.default)
+
+-- the hexadecimal digits of `word`, which have to be given
+abbrev pub hex : Text
+hex = codes "HEX"
+
+abbrev pub hex_rule : Rule
+hex_rule = record (new_rule hex) { required = true }
+
+-- ---- commands
+
+abbrev pub command_rules : Text → List Rule → CommandRules
+command_rules name rules = record (new_shape name) { rules = rules }
+
+abbrev pub script_rules : CommandRules
+script_rules = command_rules (codes "script") (map rule_of_option shape_options)
+
+abbrev pub load_rules : CommandRules
+load_rules = command_rules (codes "load") (map rule_of_option (shape_options ++ seed_option ∷ commands_option ∷ []))
+
+abbrev pub word_rules : CommandRules
+word_rules = command_rules (codes "word") (hex_rule ∷ [])
+
+-- the program itself, which reads the words after its name, and wants a command among them
+abbrev pub program_rules : CommandRules
+program_rules = record (new_shape (codes "segrun")) { no_binary_name = true; has_version = true; subcommand_required = true }
+
+-- a command with no commands below it
+abbrev pub alone : CommandRules → App
+alone rules = record { top = rules; subs = [] }
+
+-- The words after the program's name: one of three commands with its options. `clap` adds the options for help, and for the
+-- version above the commands, and the command `help`.
+unfoldable pub command_line : App
+command_line = with_subcommand (with_subcommand (with_subcommand (alone program_rules) script_rules) load_rules) word_rules
+
+-- ---- as `clap` holds them
+
+abbrev pub with_options : App → List NumberOption → App
+with_options app options = fold (λ a option. with_rule a (rule_of_option option)) app options
+
+-- a parse by this command reads this of it
+abbrev pub Builds : App → Command → Type 0
+Builds app command = (app_of command ≡ app) × ((fields_of command).has_globals ≡ false)
