@@ -4,4 +4,5 @@ pub mod NoHelp
 pub mod Options
 pub mod Showing
 pub mod TotalsText
+mod WordsFacts
 pub mod WordsRead
