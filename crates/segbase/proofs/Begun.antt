@@ -1,10 +1,7 @@
 -- Traces that begin others.
-use Rattle.std.proofs.Common.{List, [], ◌++◌, refl, sym, ap, ◌∙◌, append_assoc}
+use Rattle.std.proofs.Common.{List, ◌++◌, sym, ap, ◌∙◌, append_assoc}
 use Rattle.segcore.specs.declared.event.Event.{Event}
 use Rattle.segmodel.specs.History.{Begins}
-
-pub begins_self : (h : List Event) → Begins h h
-begins_self h = ([], refl)
 
 pub begins_on : (more h g : List Event) → Begins h g → Begins h (more ++ g)
 begins_on more h g b = (more ++ b.0, ap (λ x. more ++ x) b.1 ∙ sym (append_assoc more b.0 h))

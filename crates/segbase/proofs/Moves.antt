@@ -64,10 +64,6 @@ moved_seen b own p q m = (seen m.more, ap seen m.goes_on ∙ seen_both m.more (t
 
 -- ---- one after the other
 
--- the later events, for what the pass knew before both
-inside_then : (b : Board) (first : List Event) (p q : Pass) (s : ℕ) → Moved b first p q → inside (trace q) (number q) s ≡ inside (first ++ trace p) (number q) s
-inside_then b first p q s m = subst (λ n. inside (trace q) n s ≡ inside (first ++ trace p) n s) (sym m.same) (moved_inside b first p q s m)
-
 pub moved_then : (b : Board) (first second : List Event) (p q r : Pass) → Moved b first p q → Moved b second q r → Moved b (second ++ first) p r
 moved_then b first second p q r m k = record {
   pass = k.pass;

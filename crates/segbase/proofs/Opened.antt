@@ -1,5 +1,5 @@
 -- The words of a table at the start.
-use Rattle.std.proofs.Common.{◌≡◌, ◌≢◌, ℕ, zero, suc, ◌+◌, ◌*◌, ◌%◌, ◌^◌, ◌<◌, ◌≤◌, ◌⊎◌, List, [], length, get_or, set, replicate, eqb, refl, sym, ap, ◌∙◌, subst, inl, inr, ⊎_elim, arith, get_or-set_same, get_or-set_other}
+use Rattle.std.proofs.Common.{◌≡◌, ◌≢◌, ℕ, zero, suc, ◌+◌, ◌*◌, ◌%◌, ◌^◌, ◌<◌, ◌≤◌, ◌⊎◌, List, [], length, get_or, set, eqb, sym, ap, ◌∙◌, subst, inl, inr, ⊎_elim, arith, get_or-set_same, get_or-set_other}
 use Rattle.std.proofs.lemmas.Bool.{cases_Bool, eqb-true, eq-eqb, false≢true}
 use Rattle.std.proofs.Math.Nat.{mod-eq_of_lt}
 use Rattle.segword.specs.declared.shape.Shape.{Shape}
@@ -13,14 +13,6 @@ use Rattle.segbase.specs.Opening.{IsOpened}
 pub record IsBegun (v buckets : ℕ) (words : List ℕ) : Type 0 where
   pub done : (k : ℕ) → k < buckets → get_or words (1 + 8 * k) 0 ≡ v
   pub rest : (i : ℕ) → ((k : ℕ) → k < buckets → i ≢ 1 + 8 * k) → get_or words i 0 ≡ 0
-
-same_word : (n i : ℕ) → let z : ℕ = 0 in get_or (replicate n z) i z ≡ z
-same_word zero i = refl
-same_word (suc n) zero = refl
-same_word (suc n) (suc i) = same_word n i
-
-pub begun_none : (v n : ℕ) → IsBegun v 0 (replicate n 0)
-begun_none v n = record { done = λ k lt. absurd (omega arith); rest = λ i none. same_word n i }
 
 decide : (k b : ℕ) → (k ≡ b) ⊎ (k ≢ b)
 decide k b = ⊎_elim (λ t. inl (eqb-true k b t)) (λ f. inr (λ e. false≢true (sym f ∙ eq-eqb k b e))) (cases_Bool (eqb k b))

@@ -8,7 +8,7 @@ use Rattle.segword.specs.Shape.{IsValid}
 use Rattle.segbase.specs.declared.law.Sight.{Sight}
 use Rattle.segbase.specs.declared.pass.Pass.{Pass}
 use Rattle.segbase.specs.declared.board.Board.{Board}
-use Rattle.segbase.specs.Ruled.{first_sight, dealer, newcomer}
+use Rattle.segbase.specs.Ruled.{dealer, newcomer}
 use Rattle.segbase.specs.Passes.{sight, view, number, trace}
 use Rattle.segbase.proofs.Minded.{nothing_minded}
 use Rattle.segbase.specs.Made.{unfilled, IsNewPlain, IsNewPass, IsDealt}
@@ -58,9 +58,6 @@ new_pass b n p x valid few table me pass of nothing none free plain =
       locked = ap (λ (y : Sight). y.memo.locked) is ∙ free;
       plain = plain;
     }
-
-pub first_pass : (b : Board) (p : Pass) → IsValid b.shape → 0 < b.shape.passes → p.seat.table_id ≡ b.table.shared.table_id → p.seat.me ≡ (first_sight, []) → IsNewPlain b.shape 0 p.plain → IsNewPass b 0 p
-first_pass b p valid few table me plain = new_pass b 0 p first_sight valid few table me refl refl refl refl refl plain
 
 pub one_more : (b : Board) (count : ℕ) (ps : List Pass) (x p : Pass) (seat : Seat (Unit {0}) Sight) → IsValid b.shape → IsDealt b count ps → slice_get ps 0 ≡ Some x → (view x).dealt ≡ count → count < b.shape.passes
     → seat.table_id ≡ x.seat.table_id → seat.me ≡ (dealer x.seat.me.0, x.seat.me.1) → p.seat.table_id ≡ x.seat.table_id → p.seat.me ≡ (newcomer x.seat.me.0, []) → IsNewPlain b.shape count p.plain

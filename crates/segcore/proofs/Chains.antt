@@ -19,17 +19,9 @@ pub slot_of : Content → Option Slot
 slot_of (item a) = Some a
 slot_of _ = None
 
-pub word_of : Content → Option ℕ
-word_of (copy w) = Some w
-word_of _ = None
-
 pub same_item : (a c : Slot) → item a ≡ item c → a ≡ c
 unfolding slot_of
 same_item a c e = same_Some a c (ap slot_of e)
-
-pub same_copy : (v w : ℕ) → copy v ≡ copy w → v ≡ w
-unfolding word_of
-same_copy v w e = same_Some v w (ap word_of e)
 
 pub no_item : (a : Slot) → nothing ≢ item a
 unfolding slot_of

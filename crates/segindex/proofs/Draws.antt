@@ -35,10 +35,6 @@ pub undrawn : (p bucket : ℕ) (own h : List Event) → AreUndrawn own → drew 
 undrawn p bucket [] h none = refl
 undrawn p bucket (e ∷ own) h none = one_undrawn p bucket e (own ++ h) none.0 ∙ undrawn p bucket own h none.1
 
-pub both_undrawn : (xs ys : List Event) → AreUndrawn xs → AreUndrawn ys → AreUndrawn (xs ++ ys)
-both_undrawn [] ys i j = j
-both_undrawn (e ∷ xs) ys i j = (i.0, both_undrawn xs ys i.1 j)
-
 -- ---- calls that draw none
 
 pub moved_undrawn : (b : Board) (own : List Event) (p q : Pass) → Moved b own p q → AreUndrawn own → DrawsNothing p q

@@ -7,7 +7,6 @@ use Rattle.segmodel.specs.declared.entry.Entry.TheVariants as entry
 use Rattle.segmodel.specs.declared.entry.Cached.{Cached}
 use Rattle.segmodel.specs.declared.answer.EvictAnswer.{EvictAnswer}
 use Rattle.segmodel.specs.declared.answer.EvictAnswer.TheVariants as evict
-use Rattle.segmodel.specs.declared.answer.SegState.{SegState}
 use Rattle.segmodel.specs.declared.answer.SegState.TheVariants.{InUse, Evicted}
 use Rattle.segmodel.specs.Places.{bucket_of}
 use Rattle.segmodel.specs.History.{Begins, after, NoneStandsIn}
@@ -24,11 +23,10 @@ use Rattle.segcore.proofs.Moments.{begins_on}
 use Rattle.segcore.proofs.Standing.{coherent}
 use Rattle.segbase.specs.declared.board.Board.{Board}
 use Rattle.segbase.specs.declared.law.Memo.{Memo}
-use Rattle.segbase.specs.declared.pass.OwnSegment.{OwnSegment}
 use Rattle.segbase.specs.declared.pass.Plain.{Plain}
 use Rattle.segbase.specs.declared.pass.Pass.{Pass}
 use Rattle.segbase.specs.Passes.{number, trace, seen, mine, bounced, Moved}
-use Rattle.segbase.specs.Plain.{current_of, state_of, used_of, locked_of, is_holding_of, own_segment, state_in, used_in, SameOwner, SameSegments, SameButSegments}
+use Rattle.segbase.specs.Plain.{current_of, state_of, used_of, locked_of, is_holding_of, SameOwner, SameSegments, SameButSegments}
 use Rattle.segbase.proofs.Moves.{stays, moved_mine}
 use Rattle.segbase.proofs.Owned.{moved_still}
 use Rattle.segstore.specs.Segments.{KeepsSegments}
@@ -40,7 +38,6 @@ use Rattle.segindex.specs.Evicting.{AreEvictions, TakesOut, IsBarred, IsEvictAns
 use Rattle.segindex.specs.Unlinking.{KeepsGone, EvictsRow}
 use Rattle.segindex.proofs.Bits.{bit_before}
 use Rattle.segindex.proofs.Draws.{moved_undrawn, draws_none_then}
-use Rattle.segindex.proofs.Idling.{goes_same}
 use Rattle.segindex.proofs.Quiet.{quiet_again, goes_on}
 use Rattle.segindex.proofs.RowsOut.{goes_then, keeps_gone_then}
 use Rattle.segindex.proofs.Still.{settles_still}
@@ -102,21 +99,6 @@ pub record Evicting (b : Board) (segment row taken : ℕ) (p q : Pass) : Type 0 
   pub entries : mine q ≡ evictions ++ mine p
   pub below : (r : ℕ) → r < row → RowGone b.shape segment r (trace q)
   pub few : taken ≤ row
-
-pub evicting_first : (b : Board) (segment : ℕ) (p : Pass) → IsQuiet b p → Evicting b segment 0 0 p p
-evicting_first b segment p quiet = record {
-  on = goes_same b p quiet;
-  keeps = record { grew = ([], refl); lasts = λ row gone. gone };
-  plain = refl;
-  memo = refl;
-  draws_nothing = λ bucket. refl;
-  evictions = [];
-  counted = refl;
-  all = tt;
-  entries = refl;
-  below = λ r lt. absurd (omega (arith, lt));
-  few = omega arith;
-}
 
 module _ (b : Board) (segment row taken : ℕ) (p q r : Pass) (e : Evicting b segment row taken p q) where
   gone_below : KeepsGone b segment q r → RowGone b.shape segment row (trace r) → (n : ℕ) → n < row + 1 → RowGone b.shape segment n (trace r)
@@ -180,13 +162,6 @@ not_but segment (Some n) is = ⊎_elim
     (cases_Bool (eqb n segment))
 
 -- ---- the answer
-
-used_where : (o : Option OwnSegment) (state : SegState) → state_in o ≡ Some state → is_some (used_in o) ≡ true
-used_where None state is = absurd (none-some state is)
-used_where (Some own) state is = refl
-
-pub has_used : (p : Pass) (segment : ℕ) (state : SegState) → state_of p segment ≡ Some state → is_some (used_of p segment) ≡ true
-has_used p segment state is = used_where (own_segment p.plain segment) state is
 
 module _ (b : Board) (segment row taken : ℕ) (p q : Pass) (in_use : state_of p segment ≡ Some InUse) (ended : current_of p ≢ Some segment) (e : Evicting b segment row taken p q) where
   same : SameSegments p q × (current_of q ≡ current_of p)

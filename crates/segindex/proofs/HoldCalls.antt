@@ -15,7 +15,6 @@ use Rattle.segcore.specs.declared.event.Event.{Event}
 use Rattle.segcore.specs.declared.event.Event.TheVariants.{Left, Unlinked, Refilled}
 use Rattle.segcore.specs.declared.view.View.{View}
 use Rattle.segcore.specs.Event as event
-use Rattle.segcore.specs.Event.{NoneBy}
 use Rattle.segcore.specs.Lawful.{IsLawful, IsSegment}
 use Rattle.segcore.specs.Row.{Row, row_after}
 use Rattle.segcore.specs.Segment.{inside, NoneRefills}

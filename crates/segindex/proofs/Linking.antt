@@ -8,7 +8,7 @@ use Rattle.segmodel.specs.Places.{bucket_of}
 use Rattle.segcore.specs.declared.event.Event.{Event}
 use Rattle.segcore.specs.declared.event.Event.TheVariants.{Linked, Unlinked}
 use Rattle.segcore.specs.Event.{by, NoneBy}
-use Rattle.segcore.specs.Kind.{link, clear, May, HasBit}
+use Rattle.segcore.specs.Kind.{link, May, HasBit}
 use Rattle.segcore.specs.Lawful.{Fits, IsLawful, is_of_now}
 use Rattle.segcore.proofs.Quiet.{later}
 use Rattle.segbase.specs.declared.board.Board.{Board}
@@ -124,7 +124,3 @@ unlink_event key evicted pass at = Unlinked pass key at evicted
 
 pub is_unlink : (key : List ℕ) (evicted : Option ℕ) → IsExchange (unlink_event key evicted)
 is_unlink key evicted = record { by_pass = λ pass at. refl; settled = λ pass at. refl }
-
-pub may_clear : (b : Board) (key : List ℕ) (evicted : Option ℕ) (place : Place) (old : ℕ) (first p : Pass) → Retrying b key (unlink_event key evicted) place old first p
-    → May b.shape (trace p) (number p) (clear key (position b.shape (trace p) place) (cell_at b.shape place) old evicted)
-may_clear b key evicted place old first p l = (l.fits, l.chain.at)

@@ -1,14 +1,14 @@
 -- A pass that was quiet before a call is quiet after it.
-use Rattle.std.proofs.Common.{◌≡◌, ℕ, ◌<◌, ◌≤◌, Bool, true, false, eqb, cond, is_some, List, [], ◌∷◌, ◌++◌, Option, Some, None, option_map, refl, sym, ap, ◌∙◌, subst, append_assoc, arith}
+use Rattle.std.proofs.Common.{◌≡◌, ℕ, ◌<◌, eqb, cond, is_some, List, [], ◌∷◌, ◌++◌, Option, Some, None, option_map, refl, sym, ap, ◌∙◌, subst, append_assoc, arith}
 use Rattle.std.proofs.lemmas.Bool.{cond-true, eq-eqb}
 use Rattle.std.proofs.lemmas.Option.{none-some, same_Some}
 use Rattle.segword.specs.declared.shape.Shape.{Shape}
 use Rattle.segcore.specs.declared.event.Event.{Event}
 use Rattle.segcore.specs.declared.event.Event.TheVariants.{Glanced, Bumped, Entered, Left}
 use Rattle.segcore.specs.Bucket.{bucket_after}
-use Rattle.segcore.specs.Segment.{inside, was_used}
-use Rattle.segcore.specs.Lawful.{NoneAt, IsSegment}
-use Rattle.segcore.specs.Kind.{HasBit, May, enter}
+use Rattle.segcore.specs.Segment.{inside}
+use Rattle.segcore.specs.Lawful.{NoneAt}
+use Rattle.segcore.specs.Kind.{HasBit}
 use Rattle.segcore.proofs.Moments.{marked_begins}
 use Rattle.segbase.specs.declared.board.Board.{Board}
 use Rattle.segbase.specs.declared.law.Held.{Held}
@@ -52,20 +52,6 @@ lock_of b p bucket quiet is = the_lock (locked p) bucket (sym is ∙ quiet.locks
 
 pub has_locked : (b : Board) (p : Pass) (bucket : ℕ) → IsQuiet b p → locked_of p ≡ Some bucket → HasCleanBit b p bucket
 has_locked b p bucket quiet is = let l = lock_of b p bucket quiet is in subst (HasCleanBit b p) l.2 (has_lock b p l.0 quiet l.1)
-
-once : (t : Bool) → cond t 1 0 ≤ 1
-once true = omega arith
-once false = omega arith
-
--- it is in no segment twice
-pub inside_once : (b : Board) (p : Pass) (s : ℕ) → IsQuiet b p → inside (trace p) (number p) s ≤ 1
-inside_once b p s quiet = subst (λ n. n ≤ 1) (sym (quiet.inside s)) (once (is_held_in (holding p) s))
-
--- so it may enter any segment in which an item was ever linked, also after it has read
-pub may_enter : (b : Board) (p q : Pass) (s : ℕ) → IsQuiet b p → Reads b p q → IsSegment b.shape s → was_used (trace q) s ≡ true → May b.shape (trace q) (number q) (enter s)
-may_enter b p q s quiet reads segment used =
-    let few : inside (trace q) (number q) s ≤ 1 = subst (λ n. inside (trace q) n s ≤ 1) (sym reads.moved.same) (subst (λ n. n ≤ 1) (sym (reads.inside s)) (inside_once b p s quiet)) in
-    record { guarded = tt; follows = tt; suits = (reads.moved.pass.one_of, segment, (let lt : inside (trace q) (number q) s < 2 = omega arith in lt), used) }
 
 -- ---- quiet again
 

@@ -52,9 +52,6 @@ abbrev pub Tried : Board → ℕ → ℕ → Pass → Pass → Type 0
 Tried b bucket times p q =
     ((has_bit b p bucket ≡ true) × Moved b [] p q) ⊎ ((has_bit b p bucket ≡ false) × Moved b (bounces (number p) bucket times) p q)
 
-pub tried_pass : (b : Board) (bucket n : ℕ) (p q : Pass) → Tried b bucket n p q → IsPassOf b q
-tried_pass b bucket n p q tried = ⊎_elim (λ t. t.1.pass) (λ f. f.1.pass) tried
-
 pub none_tried : (b : Board) (bucket : ℕ) (p : Pass) → IsPassOf b p → Tried b bucket 0 p p
 none_tried b bucket p is = ⊎_elim
     (λ t. inl (t, stays b p is))

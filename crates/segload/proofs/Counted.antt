@@ -2,15 +2,12 @@
 use Rattle.std.proofs.Common.{◌≡◌, ℕ, List, [], ◌∷◌, ◌++◌, Option, Some, None, refl, sym, ap, ◌∙◌, subst, inl, inr, zero-add, arith}
 use Rattle.segmodel.proofs.Counts.{count_by-cons}
 use Rattle.segmodel.specs.declared.request.Request.{Request}
-use Rattle.segmodel.specs.declared.request.Request.TheVariants.{Delete}
 use Rattle.segmodel.specs.declared.request.Reply.{Reply}
 use Rattle.segmodel.specs.declared.request.Reply.TheVariants as reply
 use Rattle.segmodel.specs.declared.entry.Entry.{Entry}
 use Rattle.segmodel.specs.declared.entry.Entry.TheVariants.{Wrote, Evicted, Refilled}
 use Rattle.segmodel.specs.declared.answer.WriteAnswer.{WriteAnswer}
 use Rattle.segmodel.specs.declared.answer.WriteAnswer.TheVariants as write
-use Rattle.segmodel.specs.declared.answer.DeleteAnswer.{DeleteAnswer}
-use Rattle.segmodel.specs.declared.answer.DeleteAnswer.TheVariants as delete
 use Rattle.segmodel.specs.declared.answer.EvictAnswer.{EvictAnswer}
 use Rattle.segmodel.specs.declared.answer.EvictAnswer.TheVariants as evict
 use Rattle.segmodel.specs.declared.answer.RefillAnswer.{RefillAnswer}
@@ -19,13 +16,13 @@ use Rattle.segword.specs.declared.shape.Shape.{Shape}
 use Rattle.segbase.specs.declared.board.Board.{Board}
 use Rattle.segbase.specs.declared.pass.Pass.{Pass}
 use Rattle.segbase.specs.Passes.{number, mine}
-use Rattle.segindex.specs.Answers.{Writes, Deletes, IsRefillAnswer}
+use Rattle.segindex.specs.Answers.{Writes, IsRefillAnswer}
 use Rattle.segindex.specs.Evicting.{AreEvictions, TakesOut, IsEvictAnswer}
 use Rattle.segload.specs.declared.totals.Tally.{Tally}
 use Rattle.segload.specs.declared.totals.Tally.TheVariants as tally
 use Rattle.segload.specs.declared.totals.Tallies.{Tallies}
 use Rattle.segload.specs.Counting.{tally_of, counted, tells, replies}
-use Rattle.segload.specs.Working.{write_tally, delete_tally, TellsNothing, Tells}
+use Rattle.segload.specs.Working.{write_tally, TellsNothing, Tells}
 
 -- how a reply is counted
 reply_tally : Reply → Tally
@@ -149,9 +146,3 @@ found_no_room p q r same nothing = untold tally.NoRoom p r no_room (untold_then 
 
 pub made_again : (counted_as : Tally) (p q r s : Pass) → q ≡ p → TellsNothing q r → Tells counted_as r s → Tells counted_as p s
 made_again counted_as p q r s same nothing tells t counts = tells t (λ told. counts told ∙ sym (nothing told ∙ same_untold p q same told))
-
-pub counts_delete : (b : Board) (key : List ℕ) (told : DeleteAnswer) (p q : Pass) → Deletes b key told p q → Tells (delete_tally told) p q
-unfolding reply_tally
-counts_delete b key delete.Deleted p q deletes = replied reply.Deleted (number p) (Delete key) None p q deletes.answer.0
-counts_delete b key delete.NotFound p q deletes = replied reply.NotFound (number p) (Delete key) None p q deletes.answer.0
-counts_delete b key delete.Busy p q deletes = untold tally.Busy p q busy (unchanged p q deletes.answer.0.entries)

@@ -1,6 +1,5 @@
 -- What the calls of the index say, as turns of a pass; and holds that are kept from call to call.
-use Rattle.std.proofs.Common.{◌≡◌, ℕ, true, false, List, is_some, Option, Some, None, refl, sym, ap, ◌∙◌, inl, inr}
-use Rattle.std.proofs.lemmas.Option.{none-some}
+use Rattle.std.proofs.Common.{◌≡◌, ℕ, List, refl, ap, inl, inr}
 use Rattle.segword.specs.declared.shape.Shape.{Shape}
 use Rattle.segmodel.specs.declared.answer.Answer.{Answer}
 use Rattle.segmodel.specs.declared.answer.Command.{Command}
@@ -19,14 +18,11 @@ use Rattle.segbase.specs.declared.board.Board.{Board}
 use Rattle.segbase.specs.declared.law.Memo.{Memo}
 use Rattle.segbase.specs.declared.pass.Pass.{Pass}
 use Rattle.segbase.specs.Passes.{holding}
-use Rattle.segbase.specs.Plain.{is_holding_of}
-use Rattle.segindex.specs.declared.hold.Hold.{Hold}
-use Rattle.segindex.specs.Quiet.{IsQuiet}
 use Rattle.segindex.specs.Calls.{memo, GoesOn}
 use Rattle.segindex.specs.Answers.{IsWriteAnswer, IsDeleteAnswer, IsRefillAnswer}
 use Rattle.segindex.specs.Evicting.{IsEvictAnswer}
 use Rattle.segindex.specs.Alone.{IsAlone, ServesAlone}
-use Rattle.segscript.specs.Passes.{IsHoldKept, TakesTurn}
+use Rattle.segscript.specs.Passes.{TakesTurn}
 
 -- a command that was served is a turn
 pub as_turn : (b : Board) (command : Command) (told : Answer) (p q : Pass) → GoesOn b p q → (IsAlone b p → ServesAlone b command told p q) → TakesTurn b (turn.Serve command) (outcome.Answered told) p q
@@ -67,17 +63,3 @@ refill_holds segment refill.Refilled p q is = held_then p q is.memo
 refill_holds segment refill.NotYours p q is = held_then p q is.memo
 refill_holds segment refill.NotEvicted p q is = held_then p q is.memo
 refill_holds segment refill.Held p q is = held_then p q is.0.memo
-
--- a hold is kept as long as the pass holds the same
-pub stays_kept : (shape : Shape) (kept : Option Hold) (p q : Pass) → IsHoldKept shape kept p → holding q ≡ holding p → IsHoldKept shape kept q
-stays_kept shape None p q is same = same ∙ is
-stays_kept shape (Some hold) p q is same = record { held = is.held; holds = same ∙ is.holds; segment = is.segment; in_table = is.in_table; valid = is.valid; row = is.row }
-
--- a pass beside which a hold is kept is holding
-pub kept_holds : (b : Board) (kept : Option Hold) (hold : Hold) (p : Pass) → IsQuiet b p → IsHoldKept b.shape kept p → kept ≡ Some hold → is_holding_of p ≡ true
-kept_holds b None hold p quiet is some = absurd (none-some hold some)
-kept_holds b (Some other) hold p quiet is some = quiet.holds ∙ ap is_some is.holds
-
-pub kept_nothing : (b : Board) (kept : Option Hold) (p : Pass) → IsQuiet b p → IsHoldKept b.shape kept p → kept ≡ None → is_holding_of p ≡ false
-kept_nothing b None p quiet is none = quiet.holds ∙ ap is_some is
-kept_nothing b (Some hold) p quiet is none = absurd (none-some hold (sym none))

@@ -1,5 +1,5 @@
 -- A pass that only looks: looks add up, and what it may read stays as it is.
-use Rattle.std.proofs.Common.{◌≡◌, ℕ, ◌<◌, List, [], ◌++◌, take, drop, refl, sym, ap, ◌∙◌, subst, append_assoc, arith}
+use Rattle.std.proofs.Common.{◌≡◌, ℕ, ◌<◌, List, [], ◌++◌, refl, sym, ap, ◌∙◌, subst, append_assoc, arith}
 use Rattle.std.specs.Prelude.{slice_index}
 use Rattle.segcore.specs.Event.{NoneBy}
 use Rattle.segword.specs.Row.{row_of}
@@ -72,13 +72,6 @@ same_reads b p q at s r is reads = subst (λ t. ReadsRow b p q t r) is.0 (subst 
 
 pub same_words : (b : Board) (q : Pass) (at : RowPlace) (s r from : ℕ) (words : List ℕ) → (at.segment ≡ s) × (at.row ≡ r) → words ≡ four_words (row_after (trace q) at.segment at.row).words from → words ≡ four_words (row_after (trace q) s r).words from
 same_words b q at s r from words is these = subst (λ t. words ≡ four_words (row_after (trace q) t r).words from) is.0 (subst (λ n. words ≡ four_words (row_after (trace q) at.segment n).words from) is.1 these)
-
--- the two halves of a row of a pair
-pub first_half : (words : ℕ → ℕ) (key value : List ℕ) → ((place : ℕ) → place < 8 → words place ≡ slice_index (row_of key value) place) → take 4 (row_of key value) ≡ four_words words 0
-first_half words key value holds = rw (holds 0 (omega arith), holds 1 (omega arith), holds 2 (omega arith), holds 3 (omega arith)) refl
-
-pub second_half : (words : ℕ → ℕ) (key value : List ℕ) → ((place : ℕ) → place < 8 → words place ≡ slice_index (row_of key value) place) → drop 4 (row_of key value) ≡ four_words words 4
-second_half words key value holds = rw (holds 4 (omega arith), holds 5 (omega arith), holds 6 (omega arith), holds 7 (omega arith)) refl
 
 pub whole_row : (words : ℕ → ℕ) (key value : List ℕ) → ((place : ℕ) → place < 8 → words place ≡ slice_index (row_of key value) place) → row_of key value ≡ four_words words 0 ++ four_words words 4
 whole_row words key value holds = rw (

@@ -1,5 +1,5 @@
 -- Rows of a pass's own: what others leave of them, and what its own stores make of them.
-use Rattle.std.proofs.Common.{◌≡◌, ℕ, ◌+◌, ◌<◌, eqb, List, [], ◌∷◌, refl, sym, ap, ◌∙◌, subst, ⊎_elim, arith, cond, add-one, true}
+use Rattle.std.proofs.Common.{◌≡◌, ℕ, ◌+◌, ◌<◌, eqb, List, [], ◌∷◌, refl, sym, ap, ◌∙◌, subst, ⊎_elim, arith, cond, add-one}
 use Rattle.std.proofs.lemmas.Bool.{cases_eq, cond-true, cond-false, eq-eqb, ne_eqb, and_from}
 use Rattle.std.specs.Prelude.{slice_index}
 use Rattle.segmodel.specs.Cache.{with_at}
@@ -15,10 +15,6 @@ use Rattle.segbase.specs.declared.pass.Pass.{Pass}
 use Rattle.segbase.specs.Passes.{number, trace, IsPassOf, Moved, Did}
 use Rattle.segbase.proofs.Moves.{stays, moved_then}
 use Rattle.segstore.specs.Rows.{fills}
-
--- an event of the row leaves this of it
-pub writes : (e : Event) (h : List Event) (s r : ℕ) → row_at e s r ≡ true → row_after (e ∷ h) s r ≡ writes_row e (row_after h s r)
-writes e h s r t = cond-true (row_at e s r) (writes_row e (row_after h s r)) (row_after h s r) t
 
 -- a step with one own event
 pub stepped_row : (b : Board) (e : Event) (p q : Pass) (s r : ℕ) → Did b (e ∷ []) p q → owner b.shape s ≡ number p → row_after (trace q) s r ≡ cond (row_at e s r) (writes_row e (row_after (trace p) s r)) (row_after (trace p) s r)

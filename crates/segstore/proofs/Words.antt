@@ -35,9 +35,6 @@ row_of_packed t f s r b = ap (λ n. n % 2 ^ 20) (let e : packed t f s r ≡ ((t 
 segment_in_place : (w : ℕ) → w / 2 ^ 20 % 2 ^ 24 ≡ w % 2 ^ 44 / 2 ^ 20
 segment_in_place w = omega arith
 
-row_in_place : (w : ℕ) → w % 2 ^ 20 ≡ w % 2 ^ 44 % 2 ^ 20
-row_in_place w = omega arith
-
 -- words of one item name one segment
 pub same_segment : (v w : ℕ) → IsSameItem v w → segment_part v ≡ segment_part w
 same_segment v w e = segment_in_place v ∙ (ap (λ n. n / 2 ^ 20) e.2 ∙ sym (segment_in_place w))

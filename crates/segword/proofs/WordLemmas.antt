@@ -1,7 +1,7 @@
 -- Bytes as the digits of words.
 use Rattle.std.proofs.Common.{◌≡◌, ℕ, zero, suc, ◌+◌, ◌-◌, ◌*◌, ◌/◌, ◌%◌, ◌^◌, ◌<◌, ◌≤◌, List, [], ◌∷◌, length, get_or, take, drop, bit_or, refl, sym, ap, ◌∙◌, inl, inr, arith}
 use Rattle.std.specs.List.{All}
-use Rattle.std.specs.Int.{w32, w64, from_le_bytes, to_le_bytes}
+use Rattle.std.specs.Int.{w32, from_le_bytes}
 use Rattle.std.proofs.Math.Nat.{pow-suc}
 use Rattle.std.proofs.lemmas.Nat.{shr-shr, shr_le, or_shifted}
 use Rattle.std.proofs.lemmas.Bool.{cases_lt}
@@ -95,17 +95,6 @@ none_above w k a l h =
 pub read_4 : (xs : List ℕ) → length xs ≡ 4 → from_le_bytes w32 xs ≡ word_of xs
 read_4 (a ∷ b ∷ c ∷ d ∷ []) l = omega arith
 read_4 xs l = absurd (omega arith)
-
-pub written_byte : (w j : ℕ) → j < 8 → get_or (to_le_bytes w64 w) j 0 ≡ w / 2 ^ (8 * j) % 256
-written_byte w zero h = omega arith
-written_byte w (suc zero) h = refl
-written_byte w (suc (suc zero)) h = refl
-written_byte w (suc (suc (suc zero))) h = refl
-written_byte w (suc (suc (suc (suc zero)))) h = refl
-written_byte w (suc (suc (suc (suc (suc zero))))) h = refl
-written_byte w (suc (suc (suc (suc (suc (suc zero)))))) h = refl
-written_byte w (suc (suc (suc (suc (suc (suc (suc zero))))))) h = refl
-written_byte w (suc (suc (suc (suc (suc (suc (suc (suc j)))))))) h = absurd (omega arith)
 
 -- the first bytes, and the last ones without those that are among the first
 split_4 : (xs : List ℕ) → word_of xs ≡ word_of (drop 4 xs) * 2 ^ 32 + word_of (take 4 xs)
