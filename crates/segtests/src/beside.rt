@@ -13,7 +13,11 @@ const SEGMENTS: u32 = 16;
 
 const ROWS: u32 = 4096;
 
-const READS: u32 = 1_000_000;
+// The last number that is stored.
+const LAST: u32 = SEGMENTS * ROWS;
+
+// How often the reader may read before it reads the last number.
+const READS: u32 = 1_000_000_000;
 
 // The value of a number: its four bytes, eight times, so that each word of the row has them.
 fn value_of(number: u32) -> Option<Value> {
@@ -54,7 +58,7 @@ fn store_numbers(index: &Index, mut pass: Pass, key: &Key) -> (Pass, u32)
     (pass, last)
 }
 
-// Reads the key so often. It gives the last number, and whether each was one, and none below an earlier one.
+// Reads the key until it reads the last number. It gives the last one that it read, and whether each was a number, and none below an earlier one.
 fn read_numbers(index: &Index, mut pass: Pass, key: &Key) -> (Pass, u32, bool)
     requires { IsQuiet (board_of index.now) pass }
     ensures { IsQuiet (board_of index.now) result.0 }
@@ -62,6 +66,9 @@ fn read_numbers(index: &Index, mut pass: Pass, key: &Key) -> (Pass, u32, bool)
     let mut last = 0;
     let mut is_well = true;
     for draw in 0..READS {
+        if last == LAST {
+            break;
+        }
         match index.get(&mut pass, key, draw) {
             GetAnswer::Found(value) => match number_of(&value) {
                 Some(number) => {
@@ -102,12 +109,10 @@ fn a_reader_beside_a_writer(rt: HostRuntime) -> Result<(), Fail> {
         { read_numbers(&index, reader, &key) },
     );
     assert!(rt; is_well);
-    assert_eq!(rt; stored, SEGMENTS * ROWS);
-    assert!(rt; read <= stored);
+    assert_eq!(rt; stored, LAST);
+    assert_eq!(rt; read, LAST);
     index.meet(&mut writer, &mut reader);
-    let Some(last) = value_of(stored) else {
-        return Ok(());
-    };
+    let last = value_of(LAST).expect(&rt, "a value");
     assert_eq!(rt; index.get(&mut reader, &key, 0), GetAnswer::Found(last));
     Ok(())
 }

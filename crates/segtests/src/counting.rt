@@ -3,9 +3,9 @@ ghost use Rattle.segindex.specs.Index.{board_of};
 ghost use Rattle.segindex.specs.Quiet.{IsQuiet};
 
 use crate::digits::{number_of, value_of};
-use crate::passes::last_two;
+use crate::passes::two_that_fill;
 use segindex::{Index, Pass};
-use segmodel::{GetsAnswer, RefillAnswer, WriteAnswer};
+use segmodel::{GetsAnswer, WriteAnswer};
 use segword::{Key, Shape, Value};
 use std::test::Fail;
 use std::thread::join;
@@ -67,10 +67,7 @@ fn two_threads_count_in_one_key(rt: HostRuntime) -> Result<(), Fail> {
         rows: 128,
         first_version: 0,
     };
-    let (index, passes) = Index::new(rt.alloc(), shape)?;
-    let (mut first, mut second) = last_two(&index, passes).expect(&rt, "two passes");
-    assert_eq!(rt; index.refill(&mut first, 0), RefillAnswer::Refilled);
-    assert_eq!(rt; index.refill(&mut second, 1), RefillAnswer::Refilled);
+    let (index, mut first, mut second) = two_that_fill(rt.alloc(), shape)?;
     let key = Key::new(b"n").expect(&rt, "a key");
     let zero = Value::new(b"0").expect(&rt, "a value");
     assert_eq!(rt; index.set(&mut first, &key, &zero), WriteAnswer::Stored);

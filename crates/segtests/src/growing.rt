@@ -3,9 +3,9 @@ ghost use Rattle.std.specs.Prelude.{◌<◌};
 ghost use Rattle.segindex.specs.Index.{board_of};
 ghost use Rattle.segindex.specs.Quiet.{IsQuiet};
 
-use crate::passes::last_two;
+use crate::passes::two_that_fill;
 use segindex::{Index, Pass};
-use segmodel::{GetAnswer, RefillAnswer, WriteAnswer};
+use segmodel::{GetAnswer, WriteAnswer};
 use segword::{Key, Shape, Value};
 use std::test::Fail;
 use std::thread::join;
@@ -113,10 +113,7 @@ fn two_threads_fill_one_bucket(rt: HostRuntime) -> Result<(), Fail> {
         first_version: 0,
     };
     for _ in 0..ROUNDS {
-        let (index, passes) = Index::new(rt.alloc(), shape)?;
-        let (mut first, mut second) = last_two(&index, passes).expect(&rt, "two passes");
-        assert_eq!(rt; index.refill(&mut first, 0), RefillAnswer::Refilled);
-        assert_eq!(rt; index.refill(&mut second, 1), RefillAnswer::Refilled);
+        let (index, first, second) = two_that_fill(rt.alloc(), shape)?;
         let ((mut first, stored, full), (mut second, stored_too, full_too)) = join(
             &rt,
             || -> (Pass, u32, u32)
@@ -149,10 +146,7 @@ fn two_chains_share_the_overflow_buckets(rt: HostRuntime) -> Result<(), Fail> {
         first_version: 0,
     };
     for _ in 0..ROUNDS {
-        let (index, passes) = Index::new(rt.alloc(), shape)?;
-        let (mut first, mut second) = last_two(&index, passes).expect(&rt, "two passes");
-        assert_eq!(rt; index.refill(&mut first, 0), RefillAnswer::Refilled);
-        assert_eq!(rt; index.refill(&mut second, 1), RefillAnswer::Refilled);
+        let (index, first, second) = two_that_fill(rt.alloc(), shape)?;
         let ((mut first, stored), (mut second, stored_too)) = join(
             &rt,
             || -> (Pass, u32)
@@ -202,10 +196,8 @@ fn a_key_that_moves_on_stays_found(rt: HostRuntime) -> Result<(), Fail> {
     // Bytes of the 7th, 13th and 19th key: each is in the chain's last word as the chain grows.
     for byte in [12u8, 24, 36] {
         for _ in 0..ROUNDS {
-            let (index, passes) = Index::new(rt.alloc(), shape)?;
-            let (mut writer, reader) = last_two(&index, passes).expect(&rt, "two passes");
-            assert_eq!(rt; index.refill(&mut writer, 0), RefillAnswer::Refilled);
-            let ((_, stored), (_, stays)) = join(
+            let (index, writer, reader) = two_that_fill(rt.alloc(), shape)?;
+            let ((mut writer, stored), (mut reader, stays)) = join(
                 &rt,
                 || -> (Pass, u32)
                     requires { IsQuiet (board_of index) writer }
@@ -218,6 +210,8 @@ fn a_key_that_moves_on_stays_found(rt: HostRuntime) -> Result<(), Fail> {
             );
             assert_eq!(rt; stored, 25);
             assert!(rt; stays);
+            index.meet(&mut writer, &mut reader);
+            assert!(rt; is_found(&index, &mut reader, byte, 0));
         }
     }
     Ok(())

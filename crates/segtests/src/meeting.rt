@@ -2,17 +2,17 @@
 ghost use Rattle.segindex.specs.Index.{board_of};
 ghost use Rattle.segindex.specs.Quiet.{IsQuiet};
 
-use crate::passes::last_two;
+use crate::passes::two_that_fill;
 use segindex::{Index, Pass};
-use segmodel::{GetAnswer, RefillAnswer, WriteAnswer};
+use segmodel::{GetAnswer, WriteAnswer};
 use segword::{Key, Shape, Value};
 use std::test::Fail;
-use std::thread::{join, yield_now};
+use std::thread::{Threads, join, yield_now};
 
 const TURNS: u32 = 1_000_000;
 
-/// Stores the value, again while the bucket is busy.
-pub fn set_in_turn(index: &Index, mut pass: Pass, key: &Key, value: &Value) -> (Pass, WriteAnswer)
+// Stores the value, again while the bucket is busy.
+fn set_in_turn(index: &Index, mut pass: Pass, key: &Key, value: &Value) -> (Pass, WriteAnswer)
     requires { IsQuiet (board_of index.now) pass }
     ensures { IsQuiet (board_of index.now) result.0 }
 {
@@ -27,6 +27,34 @@ pub fn set_in_turn(index: &Index, mut pass: Pass, key: &Key, value: &Value) -> (
     (pass, answer)
 }
 
+/// What a thread stores: a pass, and its pair.
+type Store<'a> = (Pass, &'a Key, &'a Value);
+
+/// Two passes each store their pair, on threads of their own. It gives the passes, and what their sets were answered.
+pub fn set_at_once<R: Threads + Sync>(
+    rt: &R,
+    index: &Index,
+    first: Store<'_>,
+    second: Store<'_>,
+) -> ((Pass, WriteAnswer), (Pass, WriteAnswer))
+    requires { IsQuiet (board_of index.now) first.0 × IsQuiet (board_of index.now) second.0 }
+    ensures { IsQuiet (board_of index.now) result.0.0 × IsQuiet (board_of index.now) result.1.0 }
+{
+    let (first, key, value) = first;
+    let (second, other_key, other_value) = second;
+    join(
+        rt,
+        || -> (Pass, WriteAnswer)
+            requires { IsQuiet (board_of index.now) first }
+            ensures { IsQuiet (board_of index.entry.now) result.0 }
+        { set_in_turn(index, first, key, value) },
+        || -> (Pass, WriteAnswer)
+            requires { IsQuiet (board_of index.now) second }
+            ensures { IsQuiet (board_of index.entry.now) result.0 }
+        { set_in_turn(index, second, other_key, other_value) },
+    )
+}
+
 #[test]
 fn two_threads_store_and_meet(rt: HostRuntime) -> Result<(), Fail> {
     let shape = Shape {
@@ -37,24 +65,16 @@ fn two_threads_store_and_meet(rt: HostRuntime) -> Result<(), Fail> {
         rows: 4,
         first_version: 0,
     };
-    let (index, passes) = Index::new(rt.alloc(), shape)?;
-    let (mut first, mut second) = last_two(&index, passes).expect(&rt, "two passes");
-    assert_eq!(rt; index.refill(&mut first, 0), RefillAnswer::Refilled);
-    assert_eq!(rt; index.refill(&mut second, 1), RefillAnswer::Refilled);
+    let (index, first, second) = two_that_fill(rt.alloc(), shape)?;
     let a = Key::new(b"a").expect(&rt, "a key");
     let b = Key::new(b"b").expect(&rt, "a key");
     let one = Value::new(b"1").expect(&rt, "a value");
     let two = Value::new(b"2").expect(&rt, "a value");
-    let ((mut first, stored), (mut second, stored_too)) = join(
+    let ((mut first, stored), (mut second, stored_too)) = set_at_once(
         &rt,
-        || -> (Pass, WriteAnswer)
-            requires { IsQuiet (board_of index) first }
-            ensures { IsQuiet (board_of index) result.0 }
-        { set_in_turn(&index, first, &a, &one) },
-        || -> (Pass, WriteAnswer)
-            requires { IsQuiet (board_of index) second }
-            ensures { IsQuiet (board_of index) result.0 }
-        { set_in_turn(&index, second, &b, &two) },
+        &index,
+        (first, &a, &one),
+        (second, &b, &two),
     );
     assert_eq!(rt; stored, WriteAnswer::Stored);
     assert_eq!(rt; stored_too, WriteAnswer::Stored);
