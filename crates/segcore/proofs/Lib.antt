@@ -22,6 +22,7 @@ pub mod Entered
 pub mod Says
 pub mod ExampleTrace
 pub mod ExampleSchedule
+pub mod ExampleScan
 pub mod Allowed
 pub mod Homes
 pub mod Drafts

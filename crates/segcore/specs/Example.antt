@@ -1,6 +1,6 @@
 -- A trace in which each kind of event comes, and a schedule with each kind of step by which two passes reach it, so that the theorems are seen to speak of something.
 -- One bucket, so that the keys a and b share it, one overflow bucket, and two passes of two segments each, of two rows. A trace is named after what was done last.
-use Rattle.std.specs.Prelude.{ℕ, true, false, List, [], ◌∷◌, Some, None, replicate, slice_index_or}
+use Rattle.std.specs.Prelude.{ℕ, true, false, List, [], ◌∷◌, ◌++◌, Some, None, replicate, slice_index_or}
 use Rattle.segword.specs.declared.shape.Shape.{Shape}
 use Rattle.segmodel.specs.declared.request.Request.TheVariants.{Set, Add, Replace}
 use Rattle.segmodel.specs.declared.request.Reply.TheVariants.{NotStored}
@@ -9,6 +9,7 @@ use Rattle.segcore.specs.declared.event.Event.TheVariants.{Took, Bounced, Glance
 use Rattle.segcore.specs.declared.view.View.{View}
 use Rattle.segcore.specs.declared.cell.Cell.TheVariants.{OfBucket, OfOverflow}
 use Rattle.segcore.specs.Kind.{Step, take, release, info_look, glance, look, link, clear, draw, fill, chain, bump, row_store, row_load, enter, leave, none_reading}
+use Rattle.segcore.specs.Mark.{Mark, marked}
 use Rattle.segcore.specs.World.{World, after_step}
 
 abbrev pub shape : Shape
@@ -68,6 +69,12 @@ elsewhere = Entered 1 2 ∷ Left 1 0 ∷ read
 -- and pass 0's segment is refilled
 abbrev pub refilled : List Event
 refilled = Refilled 0 0 ∷ elsewhere
+
+-- ---- a scan
+
+-- the looks of a scan for a but the first: up to word 6 a is in word 7 still, it has moved on when that is looked at, and is gone when the overflow bucket is
+abbrev pub looks : List (List Mark)
+looks = replicate 5 (marked stored) ++ marked moved ∷ replicate 7 (marked evicted)
 
 -- ---- a schedule
 

@@ -28,7 +28,7 @@ ghost use Rattle.segcore.specs.Count.{IsCounted};
 ghost use Rattle.segcore.specs.Filled.{items_below, HasNoEmptyWord};
 ghost use Rattle.segcore.specs.Kind.{Step, HasBit, May, Kept};
 ghost use Rattle.segcore.specs.Meanwhile.{Meanwhile};
-ghost use Rattle.segcore.specs.Example.{shape, a, two, stored, bumped, moved, replaced, read, refilled, elsewhere, view_of, after_steps, to_refilled};
+ghost use Rattle.segcore.specs.Example.{shape, a, two, stored, bumped, moved, replaced, read, evicted, refilled, elsewhere, looks, view_of, after_steps, to_refilled};
 ghost use Rattle.segcore.specs.World.{Told, World, SeeMore, Reaches, IsLawfulWorld};
 
 /// Whatever steps the passes take, in whatever order, the world that they reach is lawful, and what each pass has seen only grows.
@@ -145,7 +145,7 @@ pub fn keys_of_bucket()
         → (bucket_after shape now bucket).items position ≢ nothing }
 {}
 
-/// The example is lawful, and its words are those of the format. Two passes reach it by steps of each kind, and have then seen different ends of it.
+/// The example is lawful, and its words are those of the format. A scan for a key that moves on, and then goes, finds it nowhere, and no word that names its row. Two passes reach it by steps of each kind, and have then seen different ends of it.
 pub fn example()
     ensures lawful { IsLawful shape refilled }
     ensures item { (word shape stored (OfBucket 0 7) ≡ 0xaf60_1000_0000_0000) × (word shape bumped (OfBucket 0 7) ≡ 0xaf60_2000_0000_0000) }
@@ -154,6 +154,7 @@ pub fn example()
     ensures held { word shape (Took 1 0 ∷ moved) (OfBucket 0 0) ≡ 0x1_0000_0001 }
     ensures emptied { (word shape refilled (OfOverflow 0 1) ≡ 0) × (word shape refilled (OfBucket 0 1) ≡ 0) × (word shape refilled (OfSegment 2) ≡ 1) }
     ensures versions { (standing (after shape (seen replaced)) a ≡ Some (cached two 0)) × (standing (after shape (seen refilled)) a ≡ None) × ((after shape (seen refilled)).version 0 ≡ 4) }
+    ensures scanned { IsScanOf shape a (marked stored) looks (marked evicted) × IsRowScanOf shape a 0 0 (marked stored) looks (marked evicted) }
     ensures reached { Reaches shape to_refilled (after_steps to_refilled) }
     ensures traced { (after_steps to_refilled).trace ≡ refilled }
     ensures waited { (word shape read (OfSegment 0) ≡ 1) × (word shape elsewhere (OfSegment 0) ≡ 0) }
