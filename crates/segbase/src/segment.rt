@@ -58,7 +58,11 @@ impl Board {
         ensures did { Did self.now [] pass.old pass.new }
         ensures word { result ≡ (row_after (trace pass.new) row.segment row.row).words word }
     {
-        let RowPlace { segment, row, start } = row;
+        let RowPlace {
+            segment,
+            row,
+            start,
+        } = row;
         self.load_index(pass, Spot::Row(segment, row, word), start + word as usize)
     }
 

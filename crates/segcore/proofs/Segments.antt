@@ -19,6 +19,7 @@ use Rattle.segcore.proofs.Keys.{same_true}
 use Rattle.segcore.proofs.Caches.{stands, stands_wrote}
 use Rattle.segcore.proofs.Moments.{lawful_before}
 use Rattle.segcore.proofs.Orderly.{readers_marked, inside_marked}
+use Rattle.segcore.proofs.Readers.{at_most, counted, some_reader}
 use Rattle.segcore.proofs.Entered.{row_stays, none_in}
 
 -- a pass that isn't there is in no segment
@@ -64,6 +65,9 @@ pub says_of_segments : (z : Shape) (h : List Event) → IsLawful z h → SaysOfS
 says_of_segments z h l = record {
   readers = λ s. readers_marked z h s l;
   marks = λ p s. inside_marked z h p s l;
+  few = λ p s. at_most z h l p s;
+  low = λ s. let c = counted z h l s in omega arith;
+  reader = λ s there. some_reader z h l s there;
   refilled = λ more g q p s is'. none_inside z more g q p s (subst (IsLawful z) is' l);
   rows = λ more g p q s r n is' none. subst (λ x. IsKeptRow z x more g p q s r n) (sym is') (kept_row z more g p q s r n (subst (IsLawful z) is' l) none);
 }

@@ -1,5 +1,5 @@
 -- What a lawful world says: every fact about its words, its history and its passes.
-use Rattle.std.specs.Prelude.{◌≡◌, ◌≢◌, ℕ, ◌+◌, ◌%◌, ◌^◌, ◌<◌, List, [], ◌∷◌, ◌++◌, length, Some}
+use Rattle.std.specs.Prelude.{◌≡◌, ◌≢◌, ℕ, ◌+◌, ◌*◌, ◌%◌, ◌^◌, ◌<◌, ◌≤◌, List, [], ◌∷◌, ◌++◌, length, Some}
 use mathlib.Core.Option.{some}
 use lib.ListN.{get_elem?}
 use Rattle.segword.specs.declared.shape.Shape.{Shape}
@@ -43,6 +43,10 @@ pub record SaysOfSegments (shape : Shape) (trace : List Event) : Type 0 where
   pub readers : (segment : ℕ) → word shape trace (OfSegment segment) + all_left (marked trace) segment ≡ all_entered (marked trace) segment
   -- a pass is in a segment as often as its marks say that it came and hasn't left
   pub marks : (pass segment : ℕ) → inside trace pass segment + left_by pass (marked trace) segment ≡ entered_by pass (marked trace) segment
+  -- at most twice, so that few readers are counted; and where one is counted a pass is there
+  pub few : (pass segment : ℕ) → inside trace pass segment ≤ 2
+  pub low : (segment : ℕ) → word shape trace (OfSegment segment) ≤ 2 * shape.passes
+  pub reader : (segment : ℕ) → 0 < word shape trace (OfSegment segment) → (pass : ℕ) × (0 < inside trace pass segment)
   -- at a refilling no pass is in the segment
   pub refilled : (more before : List Event) (filler pass segment : ℕ) → trace ≡ more ++ (Refilled filler segment ∷ before) → inside before pass segment ≡ 0
   pub rows : (more before : List Event) (pass : ℕ) (request : Request) (segment row position : ℕ)
