@@ -1,8 +1,8 @@
 -- A pass sets a key in a bucket whose words it has found empty, beside another pass; and passes enter and leave the segment.
 use Rattle.std.proofs.Common.{◌≡◌, ℕ, zero, suc, ◌+◌, ◌*◌, ◌<◌, Bool, true, false, length, get_or, slice_get, ⊎_elim, List, [], ◌∷◌, ◌++◌, Option, Some, None, refl, sym, ap, ◌∙◌, subst, inl, arith}
 use Rattle.std.proofs.lemmas.Bool.{cases_lt}
-use Rattle.std.proofs.lemmas.Option.{none-some}
 use Rattle.std.specs.Prelude.{option_to_list}
+use Rattle.segmodel.proofs.ListPlaces.{last_of, front_of}
 use Rattle.segword.specs.declared.shape.Shape.{Shape}
 use Rattle.segword.specs.Bytes.{IsKey, IsValue}
 use Rattle.segword.specs.Shape.{IsValid}
@@ -236,15 +236,6 @@ then_frees b p q h d = let own = Freed (number p) 0 true ∷ [] in knows_then b 
 
 new_outside : (b : Board) (n : ℕ) (p : Pass) → b.shape ≡ shape → IsNewPass b n p → IsNew b p
 new_outside b n p is new = record { outside = record { pass = new.pass; shape = is; outside = ap (λ h. inside h (number p) 0) new.nothing }; nothing = new.nothing }
-
-last_of : {A : Type 0} (xs : List A) (a : A) → slice_get (xs ++ a ∷ []) (length xs) ≡ Some a
-last_of [] a = refl
-last_of (x ∷ xs) a = last_of xs a
-
-front_of : {A : Type 0} (xs ys : List A) (n : ℕ) (a : A) → slice_get xs n ≡ Some a → slice_get (xs ++ ys) n ≡ Some a
-front_of [] ys n a e = absurd (none-some a e)
-front_of (x ∷ xs) ys zero a e = e
-front_of (x ∷ xs) ys (suc n) a e = front_of xs ys n a e
 
 -- the last two passes that are taken from the new ones
 pub last_new : (b : Board) (all left : List Pass) (o : Option Pass) (p : Pass) → IsMade shape b all → all ≡ left ++ option_to_list o → o ≡ Some p → IsNew b p

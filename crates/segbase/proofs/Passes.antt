@@ -2,6 +2,7 @@
 use Rattle.std.proofs.Common.{◌≡◌, ℕ, zero, suc, ◌+◌, ◌*◌, ◌<◌, ◌⊎◌, List, [], ◌∷◌, ◌++◌, length, get_or, set, Some, None, true, slice_get, refl, sym, ap, ◌∙◌, subst, inl, inr, ⊎_elim, arith, length-append, length-set}
 use Rattle.std.proofs.lemmas.List.{length-replicate}
 use Rattle.std.proofs.lemmas.Option.{same_Some, none-some}
+use Rattle.segmodel.proofs.ListPlaces.{front_or_last}
 use Rattle.atomic_table.specs.declared.shared.Seat.{Seat}
 use Rattle.atomic_table.specs.Table.{Me}
 use Rattle.segword.specs.Shape.{IsValid}
@@ -25,12 +26,6 @@ set_first (x ∷ xs) a b (suc n) e = inr e
 head_set : {A : Type 0} (l : List A) (a b x : A) (more : List A) → slice_get l 0 ≡ Some x → slice_get (set l 0 a ++ more) 0 ≡ Some b → a ≡ b
 head_set [] a b x more some e = absurd (none-some x some)
 head_set (y ∷ ys) a b x more some e = same_Some a b e
-
-get_last : {A : Type 0} (l : List A) (a b : A) (n : ℕ) → slice_get (l ++ a ∷ []) n ≡ Some b → (slice_get l n ≡ Some b) ⊎ ((n ≡ length l) × (a ≡ b))
-get_last [] a b zero e = inr (refl, same_Some a b e)
-get_last [] a b (suc n) e = absurd (none-some b e)
-get_last (x ∷ xs) a b zero e = inl e
-get_last (x ∷ xs) a b (suc n) e = ⊎_elim (λ t. inl t) (λ t. inr (ap suc t.0, t.1)) (get_last xs a b n e)
 
 -- a pass with a seat that has seen nothing
 new_pass : (b : Board) (n : ℕ) (p : Pass) (x : Sight) → IsValid b.shape → n < b.shape.passes → p.seat.table_id ≡ b.table.shared.table_id → p.seat.me ≡ (x, [])
@@ -77,7 +72,7 @@ one_more b count ps x p seat valid dealt first here few table me table' me' plai
             (λ o. dealt.each n q o)
             (set_first ps x' q n t))
             (λ t. subst (λ m. IsNewPass b m q) (sym (t.0 ∙ long)) (subst (IsNewPass b count) t.1 new))
-            (get_last (set ps 0 x') p q n e);
+            (front_or_last (set ps 0 x') p q n e);
       },
       λ y e. subst (λ (q : Pass). (view q).dealt ≡ count + 1) (head_set ps x' y x (p ∷ []) first e) (ap (λ (m : Me (Unit {0}) Sight). m.0.view.dealt) me ∙ ap (λ n. n + 1) here),
     )

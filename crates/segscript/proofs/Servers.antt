@@ -1,6 +1,7 @@
 -- The passes of a server and their holds: lists of which one place changes, and a server that was just made.
-use Rattle.std.proofs.Common.{◌≡◌, ◌≢◌, ◌⊎◌, ℕ, zero, suc, ◌+◌, ◌<◌, ◌≤◌, List, [], ◌∷◌, ◌++◌, length, replicate, set, slice_get, Option, Some, None, refl, sym, ap, subst, subst₂, ◌∙◌, inl, inr, arith}
+use Rattle.std.proofs.Common.{◌≡◌, ℕ, zero, suc, ◌+◌, ◌<◌, ◌≤◌, List, [], ◌∷◌, ◌++◌, length, replicate, set, slice_get, Option, Some, None, refl, sym, ap, subst, subst₂, ◌∙◌, inl, inr, arith}
 use Rattle.std.proofs.lemmas.Option.{same_Some, none-some, slice_get_within}
+use Rattle.segmodel.proofs.ListPlaces.{last_of, front_of, found_set, elsewhere}
 use Rattle.segword.specs.declared.shape.Shape.{Shape}
 use Rattle.segmodel.specs.State.{fresh}
 use Rattle.segbase.specs.declared.board.Board.{Board}
@@ -16,37 +17,18 @@ use Rattle.segscript.specs.Passes.{IsHoldKept, IsIdle, AreInOrder, first_state}
 
 -- ---- one of a list
 
--- after one place was set, what is found at a place is the new element there, or the old one elsewhere
-pub found-set : {A : Type 0} (xs : List A) (i n : ℕ) (a x : A) → slice_get (set xs i a) n ≡ Some x → ((n ≡ i) × (x ≡ a)) ⊎ ((n ≢ i) × (slice_get xs n ≡ Some x))
-found-set [] i n a x e = absurd (none-some x e)
-found-set (y ∷ ys) zero zero a x e = inl (refl, sym (same_Some a x e))
-found-set (y ∷ ys) zero (suc n) a x e = inr ((λ same. omega arith), e)
-found-set (y ∷ ys) (suc i) zero a x e = inr ((λ same. omega arith), e)
-found-set (y ∷ ys) (suc i) (suc n) a x e = elim (found-set ys i n a x e) [
-  | inl found ↦ inl (ap suc found.0, found.1)
-  | inr found ↦ inr ((λ same. found.0 (omega arith)), found.1)
-]
-
 pub still_in_order : (b : Board) (passes : List Pass) (holds : List (Option Hold)) (n : ℕ) (p q : Pass) (was is : Option Hold) → AreInOrder b passes holds
     → slice_get passes n ≡ Some p → slice_get holds n ≡ Some was → number q ≡ number p → IsIdle b is q → AreInOrder b (set passes n q) (set holds n is)
-still_in_order b passes holds n p q was is in_order at held same idle m x hold e k = elim (found-set passes n m q x e) [
-  | inl found ↦ elim (found-set holds n m is hold k) [
+still_in_order b passes holds n p q was is in_order at held same idle m x hold e k = elim (found_set passes n m q x e) [
+  | inl found ↦ elim (found_set holds n m is hold k) [
     | inl kept ↦ subst₂ (λ y kept. IsIdle b kept y × (number y ≡ m)) (sym found.1) (sym kept.1) (idle, same ∙ (in_order n p was at held).1 ∙ sym found.0)
     | inr kept ↦ absurd (kept.0 found.0)
   ]
-  | inr found ↦ elim (found-set holds n m is hold k) [
+  | inr found ↦ elim (found_set holds n m is hold k) [
     | inl kept ↦ absurd (found.0 kept.0)
     | inr kept ↦ in_order m x hold found.1 kept.1
   ]
 ]
-
--- a place that is not the one that was set has what it had
-pub elsewhere : {A : Type 0} (xs : List A) (i n : ℕ) (a : A) → n ≢ i → slice_get (set xs i a) n ≡ slice_get xs n
-elsewhere [] i n a other = refl
-elsewhere (y ∷ ys) zero zero a other = absurd (other refl)
-elsewhere (y ∷ ys) zero (suc n) a other = refl
-elsewhere (y ∷ ys) (suc i) zero a other = refl
-elsewhere (y ∷ ys) (suc i) (suc n) a other = elsewhere ys i n a (λ same. other (ap suc same))
 
 -- and the place that was set has the new element
 pub set_there : {A : Type 0} (xs : List A) (n : ℕ) (a x : A) → slice_get xs n ≡ Some x → slice_get (set xs n a) n ≡ Some a
@@ -84,15 +66,6 @@ new_first b (p ∷ passes) each = starts_fresh b p (each 0 p refl).0
 
 -- ---- a server that ends: its holds go one after another, the last first
 
-last_of : {A : Type 0} (xs : List A) (x : A) → slice_get (xs ++ x ∷ []) (length xs) ≡ Some x
-last_of [] x = refl
-last_of (y ∷ xs) x = last_of xs x
-
-front_of : {A : Type 0} (xs ys : List A) (n : ℕ) (x : A) → slice_get xs n ≡ Some x → slice_get (xs ++ ys) n ≡ Some x
-front_of [] ys n x e = absurd (none-some x e)
-front_of (y ∷ xs) ys zero x e = e
-front_of (y ∷ xs) ys (suc n) x e = front_of xs ys n x e
-
 pub last_idle : (b : Board) (passes : List Pass) (holds : List (Option Hold)) (hold : Option Hold) (p : Pass) → AreInOrder b passes (holds ++ hold ∷ []) → slice_get passes (length holds) ≡ Some p → IsIdle b hold p
 last_idle b passes holds hold p in_order at = (in_order (length holds) p hold at (last_of holds hold)).0
 
@@ -106,7 +79,7 @@ abbrev pub NoneKeepsFrom : ℕ → List Pass → Type 0
 NoneKeepsFrom from passes = (n : ℕ) (p : Pass) → from ≤ n → slice_get passes n ≡ Some p → (holding p ≡ None) × (locked_of p ≡ None)
 
 pub one_more_left : (passes : List Pass) (n : ℕ) (q : Pass) → (holding q ≡ None) × (locked_of q ≡ None) → NoneKeepsFrom (n + 1) passes → NoneKeepsFrom n (set passes n q)
-one_more_left passes n q none before m p le e = elim (found-set passes n m q p e) [
+one_more_left passes n q none before m p le e = elim (found_set passes n m q p e) [
   | inl found ↦ subst (λ y. (holding y ≡ None) × (locked_of y ≡ None)) (sym found.1) none
   | inr found ↦ before m p (let ne = found.0 in omega arith) found.1
 ]

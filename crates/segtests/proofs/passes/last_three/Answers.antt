@@ -1,5 +1,5 @@
 use Rattle.std.proofs.Common.{length, slice_get, ap, ◌∙◌}
-use Rattle.segtests.proofs.Ends.{last_of, front_of}
+use Rattle.segmodel.proofs.ListPlaces.{last_of, front_of}
 use Rattle.segtests.proofs.passes.last_three.Goals as goal
 
 pub last_two-requires : goal.last_two-requires

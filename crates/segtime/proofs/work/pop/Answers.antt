@@ -1,10 +1,7 @@
-use Rattle.std.proofs.Common.{◌≡◌, ℕ, zero, suc, List, [], ◌∷◌, ◌++◌, length, take, Some, slice_get, refl, sym, ap, ◌∙◌}
+use Rattle.std.proofs.Common.{◌≡◌, ℕ, zero, suc, List, [], ◌∷◌, length, take, Some, slice_get, sym, ap, ◌∙◌}
 use Rattle.std.proofs.lemmas.Option.{none-some}
+use Rattle.segmodel.proofs.ListPlaces.{last_of}
 use Rattle.segtime.proofs.work.pop.Goals as goal
-
-last_of : {A : Type 0} (xs : List A) (a : A) → slice_get (xs ++ a ∷ []) (length xs) ≡ Some a
-last_of [] a = refl
-last_of (x ∷ xs) a = last_of xs a
 
 taken_of : {A : Type 0} (k : ℕ) (l : List A) (n : ℕ) (a : A) → slice_get (take k l) n ≡ Some a → slice_get l n ≡ Some a
 taken_of zero l n a e = absurd (none-some a e)

@@ -4,7 +4,8 @@ use Rattle.std.proofs.lemmas.Option.{slice_get_read, same_Some}
 use Rattle.segmodel.specs.Turns.{Turns}
 use Rattle.segindex.specs.Index.{shape_of}
 use Rattle.segscript.specs.Passes.{first_state, TakesTurn}
-use Rattle.segscript.proofs.Servers.{still_in_order, elsewhere, set_there, first_is, first_then}
+use Rattle.segmodel.proofs.ListPlaces.{elsewhere}
+use Rattle.segscript.proofs.Servers.{still_in_order, set_there, first_is, first_then}
 use Rattle.segscript.proofs.server.ServerEngine.turn.Goals as goal
 
 pub take_turn-requires-clause-quiet : goal.take_turn-requires-clause-quiet
