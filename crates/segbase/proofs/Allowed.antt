@@ -1,6 +1,6 @@
 -- A step that its pass may take is allowed by the table's rule, and tells what its kind says.
-use Rattle.std.proofs.Common.{◌≡◌, ℕ, zero, suc, ◌<◌, ◌≤◌, List, [], ◌∷◌, ◌++◌, length, get_or, set, true, refl, sym, ap, ◌∙◌, subst, ⊎_elim, arith, length-set}
-use mathlib.Core.Option.{some, some-ne-none}
+use Rattle.std.proofs.Common.{◌≡◌, ℕ, ◌<◌, ◌≤◌, List, [], ◌++◌, get_or, set, true, refl, sym, ap, ◌∙◌, subst, ⊎_elim, arith, length-set}
+use mathlib.Core.Option.{some}
 use lib.ListN.{get_elem?}
 use Rattle.atomic_table.specs.Table.{State, Me, keeps, stepped, Allows}
 use Rattle.atomic_table.proofs.Lists.{at_set, set_here, set_else}
@@ -11,7 +11,7 @@ use Rattle.segcore.specs.Lawful.{IsLawful}
 use Rattle.segcore.specs.Word.{address, word}
 use Rattle.segcore.specs.World.{Told}
 use Rattle.segcore.specs.Kind.{Step, cell, becomes, adds, May}
-use Rattle.segcore.proofs.Kept.{steps}
+use Rattle.segcore.proofs.Kept.{steps, inside_list}
 use Rattle.segcore.proofs.Schedules.{kept_at}
 use Rattle.segbase.specs.declared.law.Sight.{Sight}
 use Rattle.segbase.specs.declared.board.Board.{Board}
@@ -21,11 +21,6 @@ use Rattle.segbase.specs.Ruled.{IsSight, Rule, Learns}
 use Rattle.segbase.specs.Spots.{cell_of}
 use Rattle.segbase.specs.Passes.{CanStep}
 use Rattle.segbase.proofs.Begun.{begins_on}
-
-pub inside_list : {A : Type 0} (l : List A) (i : ℕ) (a : A) → get_elem? l i ≡ some a → i < length l
-inside_list [] i a e = absurd (some-ne-none a (sym e))
-inside_list (x ∷ xs) zero a e = omega arith
-inside_list (x ∷ xs) (suc i) a e = let h = inside_list xs i a e in omega arith
 
 -- a seat that keeps its number, and stays a pass if it is one, keeps the passes' numbers apart
 pub apart_kept : (views : List Sight) (id : ℕ) (x u : Sight) → ((i j : ℕ) (a b : Sight) → get_elem? views i ≡ some a → get_elem? views j ≡ some b → a.is_pass ≡ true → b.is_pass ≡ true → a.view.number ≡ b.view.number → i ≡ j)

@@ -28,7 +28,7 @@ all_first (e ∷ h) none = (⊎_elim (λ same. same) (λ other. absurd ((none (b
 pub only_by : (passes p : ℕ) (h : List Event) → passes ≡ 1 → p < passes → ((n : ℕ) → passes ≤ n → NoneBy n h) → AllBy p h
 only_by passes p h one few none = subst (λ n. AllBy n h) (let e : 0 ≡ p = omega arith in e) (all_first h (λ n some. none n (omega arith)))
 
-none_by : (p q : ℕ) (h : List Event) → q ≢ p → AllBy p h → NoneBy q h
+pub none_by : (p q : ℕ) (h : List Event) → q ≢ p → AllBy p h → NoneBy q h
 none_by p q [] other all = tt
 none_by p q (e ∷ h) other all = ((λ is. other (sym is ∙ all.0)), none_by p q h other all.1)
 

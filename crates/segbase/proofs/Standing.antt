@@ -25,6 +25,7 @@ use Rattle.segcore.proofs.Cells.{at_stays, at_word}
 use Rattle.segcore.proofs.Standing.{coherent}
 use Rattle.segcore.proofs.StepKinds.{word_content, above}
 use Rattle.segbase.specs.Steps.{IsReadAs}
+use Rattle.segcore.proofs.Exact.{content_at}
 
 pub some_tag : (key : List ℕ) → 1 ≤ tag_of key
 some_tag key = le-max_right (hash_of key / 2 ^ 52) 1
@@ -34,10 +35,6 @@ tag_of_word t f s r a b c = ap (λ n. n / 2 ^ 52) (let e : packed t f s r ≡ t 
 
 pub place_of_word : (t f s r : ℕ) → s < 2 ^ 24 → r < 2 ^ 20 → packed t f s r % 2 ^ 44 ≡ s * 2 ^ 20 + r
 place_of_word t f s r b c = ap (λ n. n % 2 ^ 44) (let e : packed t f s r ≡ (t * 2 ^ 8 + f) * 2 ^ 44 + (s * 2 ^ 20 + r) = omega arith in e) ∙ mod-mul-add (t * 2 ^ 8 + f) (2 ^ 44) (s * 2 ^ 20 + r) (omega arith)
-
--- the word at a position of a chain
-pub content_at : (z : Shape) (h : List Event) (b n : ℕ) (c : Cell) → IsItemAt z h b n c → word z h c ≡ content_word h ((bucket_after z h b).items n)
-content_at z h b n c at = at_word z h b n c at.1 ∙ word_content z h (bucket_after z h b) n (above (bucket_after z h b) n at.0)
 
 read_as : (z : Shape) (h : List Event) (b n : ℕ) (x : Content) → IsValid z → IsLawful z h → IsPosition (bucket_after z h b) n → (bucket_after z h b).items n ≡ x → IsContent h b (bucket_after z h b) n x → IsReadAs x (content_word h x)
 read_as z h b n nothing v l at e is = refl

@@ -1,18 +1,13 @@
 -- A segment in which a pass stays isn't filled again.
-use Rattle.std.proofs.Common.{◌≡◌, ◌≢◌, ℕ, ◌<◌, List, [], ◌∷◌, ◌++◌, sym, subst, append_assoc, arith}
+use Rattle.std.proofs.Common.{◌≡◌, ℕ, ◌<◌, List, [], ◌∷◌, ◌++◌, sym, subst, append_assoc}
 use Rattle.segword.specs.declared.shape.Shape.{Shape}
 use Rattle.segcore.specs.declared.event.Event.{Event}
-use Rattle.segcore.specs.declared.event.Event.TheVariants.{Refilled}
 use Rattle.segcore.specs.Segment.{inside}
 use Rattle.segcore.specs.Lawful.{IsLawful}
 use Rattle.segcore.specs.Segment.{NoneRefills}
-use Rattle.segcore.proofs.Readers.{is_counted}
 use Rattle.segbase.specs.Traces.{StaysIn}
 use Rattle.segbase.proofs.Owning.{inside_follows}
-
-not_refilled : (z : Shape) (e : Event) (h : List Event) (p s : ℕ) → p < z.passes → IsLawful z (e ∷ h) → 0 < inside h p s → (q : ℕ) → e ≢ Refilled q s
-not_refilled z e h p s few l in' q is' =
-    let f = (subst (λ x. IsLawful z (x ∷ h)) is' l).1.suits in let a = is_counted z h l.0 p s few in let b = f.2 in omega arith
+use Rattle.segcore.proofs.Entered.{not_refilled}
 
 pub inside_on : (es h g : List Event) (p s : ℕ) → inside h p s ≡ inside g p s → inside (es ++ h) p s ≡ inside (es ++ g) p s
 inside_on [] h g p s same = same

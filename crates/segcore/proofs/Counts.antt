@@ -155,7 +155,7 @@ elsewhere : (F : List Event → ℕ) (e : Event) (h : List Event) (t : Bool) →
 elsewhere F e h true same = omega (arith, same)
 elsewhere F e h false same = omega arith
 
-one_more : (t : Bool) (n : ℕ) → cond t (n + 1) n ≡ cond t 1 0 + n
+pub one_more : (t : Bool) (n : ℕ) → cond t (n + 1) n ≡ cond t 1 0 + n
 one_more true n = omega arith
 one_more false n = omega arith
 

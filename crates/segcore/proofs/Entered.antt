@@ -19,7 +19,7 @@ row_stays z (Filled p t i j w) h s r k l ne on = cond-false (row_at (Filled p t 
 row_stays z (Linked p q t i n) h s r k l ne on = cond-false (row_at (Linked p q t i n) s r) (writes_row (Linked p q t i n) (row_after h s r)) (row_after h s r) (false_from_ne_true (row_at (Linked p q t i n) s r) (λ y. none-some k (sym (at_unlinked z h (Linked p q t i n) s r l.1.suits (λ p' t' same. cc) y) ∙ on)))
 row_stays z e h s r k l ne on = refl
 
-not_refilled : (z : Shape) (e : Event) (h : List Event) (p s : ℕ) → p < z.passes → IsLawful z (e ∷ h) → 0 < inside h p s → (q : ℕ) → e ≢ Refilled q s
+pub not_refilled : (z : Shape) (e : Event) (h : List Event) (p s : ℕ) → p < z.passes → IsLawful z (e ∷ h) → 0 < inside h p s → (q : ℕ) → e ≢ Refilled q s
 not_refilled z e h p s few l in' q is' =
     let f = (subst (λ x. IsLawful z (x ∷ h)) is' l).1.suits in let a = is_counted z h l.0 p s few in let b = f.2 in omega arith
 

@@ -35,17 +35,13 @@ use Rattle.segcore.proofs.Chains.{chain_of}
 use Rattle.segcore.proofs.Marked.{one_if, drawn_marked}
 use Rattle.segcore.proofs.Exact.{content_at}
 use Rattle.segcore.proofs.Filled.{same_below, changed_below, none_past, to_end, few, full}
+use Rattle.segmodel.proofs.Words.{above_absent}
 
 -- ---- the keys of a map
 
 -- a count that is left out where the key isn't there
 abbrev pub if_there : Bool → ℕ → ℕ
 if_there here n = cond here n 0
-
--- a key below all others isn't among them
-above_absent : (k : List ℕ) (es : List (List ℕ × Cached)) → Above k (keys_of es) → lookup (is_at (key_cmp k)) es ≡ None
-above_absent k [] above = refl
-above_absent k (e ∷ es) above = ap (λ r. cond (is_eq r) (Some e.1) (lookup (is_at (key_cmp k)) es)) above.0 ∙ above_absent k es above.1
 
 absent : (k : List ℕ) (es : List (List ℕ × Cached)) (n : ℕ) → Above k (keys_of es) → if_there (is_some (lookup (is_at (key_cmp k)) es)) n ≡ 0
 absent k es n above = ap (λ o. if_there (is_some o) n) (above_absent k es above)

@@ -2,7 +2,6 @@
 use Rattle.std.proofs.Common.{◌≡◌, ◌≢◌, ℕ, ◌+◌, ◌||◌, not, Bool, true, false, cond, List, [], ◌∷◌, ◌++◌, length, filter, count_by, is_some, IsSomeAnd, Option, Some, None, refl, sym, ap, subst, ◌∙◌, arith, append_assoc, eqb, eq-eqb}
 use Rattle.std.specs.List.{AllByRecursion, list_any}
 use Rattle.std.specs.List.Sorted.{IsStrictlySortedBy}
-use Rattle.std.specs.Ordering.{is_eq}
 use Rattle.std.specs.Map.{lookup, keys_of}
 use Rattle.std.specs.BTreeMap.{is_at}
 use Rattle.std.proofs.lemmas.Bool.{false≢true}
@@ -22,6 +21,7 @@ use Rattle.segmodel.proofs.Ordered.{Above, sorted-after}
 use Rattle.segcore.proofs.KeyCounts.{count_without, if_there}
 use Rattle.segindex.specs.Alone.{stored_in}
 use Rattle.segindex.specs.Evicting.{AreEvictions}
+use Rattle.segmodel.proofs.Words.{above_absent}
 
 -- ---- lists
 
@@ -61,10 +61,6 @@ any_of p key (k ∷ keys) there is = by (is_at (key_cmp key) k) refl there (λ l
 
 -- ---- maps
 
-none_above : (key : List ℕ) (items : List (List ℕ × Cached)) → Above key (keys_of items) → lookup (is_at (key_cmp key)) items ≡ None
-none_above key [] above = refl
-none_above key (e ∷ items) above = ap (λ r. cond (is_eq r) (Some e.1) (lookup (is_at (key_cmp key)) items)) above.0 ∙ none_above key items above.1
-
 -- what is so of whatever is found is so of each item
 pub each_item : (P : List ℕ × Cached → Type 0) (items : List (List ℕ × Cached)) → IsStrictlySortedBy key_cmp (keys_of items)
     → ((key : List ℕ) (item : Cached) → lookup (is_at (key_cmp key)) items ≡ Some item → P (key, item)) → AllByRecursion P items
@@ -76,7 +72,7 @@ each_item P (e ∷ items) sorted found = (
 )
   where
     by : (key : List ℕ) (item : Cached) (here : Bool) → is_at (key_cmp key) e.0 ≡ here → lookup (is_at (key_cmp key)) items ≡ Some item → cond here (Some e.1) (lookup (is_at (key_cmp key)) items) ≡ Some item
-    by key item true same is = absurd (none-some item (sym (none_above key items (subst (λ k. Above k (keys_of items)) (sym (same_key key e.0 same)) sorted.0)) ∙ is))
+    by key item true same is = absurd (none-some item (sym (above_absent key items (subst (λ k. Above k (keys_of items)) (sym (same_key key e.0 same)) sorted.0)) ∙ is))
     by key item false same is = is
 
 count_keys : (items : List (List ℕ × Cached)) → count_by (λ key. true) (keys_of items) ≡ length items

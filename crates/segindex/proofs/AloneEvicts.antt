@@ -1,5 +1,5 @@
 -- With one pass, an evict is served as the model says.
-use Rattle.std.proofs.Common.{◌≡◌, ◌≢◌, ℕ, ◌+◌, ◌&&◌, not, Bool, true, false, cond, List, [], ◌∷◌, ◌++◌, length, filter, count_by, IsSomeAnd, Option, Some, None, option_map, refl, sym, ap, subst, ◌∙◌, inl, inr, ⊎_elim, arith, eqb, eq-eqb}
+use Rattle.std.proofs.Common.{◌≡◌, ◌≢◌, ℕ, ◌+◌, ◌&&◌, not, Bool, true, false, cond, List, ◌++◌, length, filter, count_by, IsSomeAnd, Option, Some, None, option_map, refl, sym, ap, subst, ◌∙◌, inl, inr, ⊎_elim, arith, eqb, eq-eqb}
 use Rattle.std.specs.Prelude.{◌↔◌, MatchBool}
 use Rattle.std.specs.List.{list_any}
 use Rattle.std.proofs.lemmas.Bool.{false≢true, cases_Bool, eqb-true}
@@ -18,7 +18,7 @@ use Rattle.segmodel.specs.Cache.{Cache, key_cmp, standing, with_at}
 use Rattle.segmodel.specs.History.{after, entries_of, is_of, IsLegal, StandsIn, NoneStandsIn}
 use Rattle.segmodel.specs.State.{Filling, is_in, is_locked, is_named, is_stored}
 use Rattle.segmodel.specs.Serving.{may_go, taken_out, Evicts, ServesEvict, IsGiven}
-use Rattle.segmodel.proofs.Counts.{count_by-cons, count-split, both, and_true}
+use Rattle.segmodel.proofs.Counts.{count-split, both, and_true}
 use Rattle.segmodel.proofs.Ordered.{sorted-after}
 use Rattle.segmodel.proofs.ServingKeeps.{found_passes}
 use Rattle.segcore.proofs.Standing.{legal}
@@ -37,16 +37,8 @@ use Rattle.segindex.proofs.AlonePass.{more_seen, at_state, not_own, own_is, lock
 use Rattle.segindex.proofs.AloneRefills.{with_at-same, with_at-other, by_segment}
 use Rattle.segindex.proofs.AloneWidths.{same_widths}
 use Rattle.segindex.proofs.AloneEvictions.{is_evicted, filter_alike, any_of, each_item, items_left, stood_before, stands_still, stood_in, length_left, stored_still, evicts_none, on_the_way}
-
-alike : (one other : Bool) → (one ≡ true → other ≡ true) → (other ≡ true → one ≡ true) → one ≡ other
-alike true true to from = refl
-alike true false to from = absurd (false≢true (to refl))
-alike false true to from = absurd (false≢true (from refl))
-alike false false to from = refl
-
-count_more : {X : Type 0} (p : X → Bool) (xs ys : List X) → count_by p (xs ++ ys) ≡ count_by p xs + count_by p ys
-count_more p [] ys = omega arith
-count_more p (x ∷ xs) ys = let rest = count_more p xs ys in let all = count_by-cons p x (xs ++ ys) in let front = count_by-cons p x xs in omega arith
+use Rattle.segcore.proofs.Caches.{one_test}
+use Rattle.segmodel.proofs.LawLemmas.{count_by-append}
 
 -- a found item is in the segment where its key stands in it
 in_segment : (o : Option Cached) (segment : ℕ) (key : List ℕ) (item : Cached) → o ≡ Some item → IsSomeAnd o (λ item. item.segment ≡ segment) → is_in segment (key, item) ≡ true
@@ -78,7 +70,7 @@ module _ (b : Board) (p q : Pass) (segment count : ℕ) (was : IsAlone b p) (on 
           let before = (none_since b p lock was.quiet held).1 in
           let now = (none_since b q lock on.quiet (ap (λ (m : Memo). m.locked) takes.memo ∙ held)).1 in
           let all : entries_of b.shape lock.bucket (seen q) ≡ entries_of b.shape lock.bucket takes.evictions + entries_of b.shape lock.bucket (seen p) =
-          ap (entries_of b.shape lock.bucket) more ∙ count_more (is_of b.shape lock.bucket) takes.evictions (seen p) in
+          ap (entries_of b.shape lock.bucket) more ∙ count_by-append (is_of b.shape lock.bucket) takes.evictions (seen p) in
           evicts_none b.shape (number p) segment lock.bucket key takes.evictions takes.all (omega arith) is (sym same)
 
   -- ---- what is left
@@ -133,7 +125,7 @@ module _ (b : Board) (p q : Pass) (segment count : ℕ) (was : IsAlone b p) (on 
         (cases_Bool (is_evicted takes.evictions key))
 
     same_items : (key : List ℕ) (item : Cached) → standing (after b.shape (seen p)) key ≡ Some item → is_evicted takes.evictions key ≡ is_in segment (key, item)
-    same_items key item is = alike (is_evicted takes.evictions key) (is_in segment (key, item)) (evicted_here key item is)
+    same_items key item is = one_test (is_evicted takes.evictions key) (is_in segment (key, item)) (evicted_here key item is)
         (λ there. all_evicted key (stands_there (standing (after b.shape (seen p)) key) segment key item is there))
 
     abbrev emptied : Filling
@@ -165,7 +157,7 @@ module _ (b : Board) (p q : Pass) (segment count : ℕ) (was : IsAlone b p) (on 
     goes = may_go b.shape (state_at b.shape p) segment (is_evicted takes.evictions)
 
     same_some : (key : List ℕ) (item : Cached) → standing (after b.shape (seen p)) key ≡ Some item → is_evicted takes.evictions key ≡ goes (key, item)
-    same_some key item is = alike (is_evicted takes.evictions key) (goes (key, item))
+    same_some key item is = one_test (is_evicted takes.evictions key) (goes (key, item))
         (λ gone. and_true (is_in segment (key, item) && not (is_locked b.shape (state_at b.shape p) key)) (is_evicted takes.evictions key)
         (and_true (is_in segment (key, item)) (not (is_locked b.shape (state_at b.shape p) key)) (evicted_here key item is gone) (ap not (unlocked key gone))) gone)
         (λ may. (both (is_in segment (key, item) && not (is_locked b.shape (state_at b.shape p) key)) (is_evicted takes.evictions key) may).1)

@@ -8,7 +8,6 @@ use Rattle.segword.specs.declared.shape.Shape.{Shape}
 use Rattle.segmodel.specs.declared.entry.Cached.{Cached}
 use Rattle.segmodel.specs.declared.entry.Entry.TheVariants.{Wrote}
 use Rattle.segmodel.specs.declared.request.Request.{Request}
-use Rattle.segmodel.specs.declared.request.Request.TheVariants.{Set, Add, Replace, Cas, Delete}
 use Rattle.segmodel.specs.declared.request.Reply.TheVariants.{Stored}
 use Rattle.segmodel.specs.Places.{bucket_of}
 use Rattle.segmodel.specs.Request.{key_of, value_of, adds_key}
@@ -36,6 +35,7 @@ use Rattle.segindex.specs.Alone.{state_at, IsAlone}
 use Rattle.segindex.proofs.QuietPass.{keys_few}
 use Rattle.segindex.proofs.AlonePass.{SameWidths}
 use Rattle.segindex.proofs.Grown.{entries_begin, drawn_begin, all_begin, drawn_for_one, one_of_two}
+use Rattle.segmodel.proofs.Words.{adds_none}
 
 -- keys of a bucket stand at most for each word that its chain can have
 keys_fit : (b : Board) (p : Pass) (bucket : ℕ) → IsQuiet b p → keys_in b.shape (after b.shape (seen p)) bucket ≤ 6 * width (marked p) bucket + 1
@@ -76,13 +76,6 @@ pub record Grows (shape : Shape) (p q : Pass) (request : Request) : Type 0 where
   pub wide : (bucket : ℕ) → width (marked q) bucket ≡ (chained (bucket_of shape (key_of request)) (lacks_word shape (state_at shape p) request) (state_at shape p)).width bucket
   pub drawn : all_drawn (marked q) ≡ (chained (bucket_of shape (key_of request)) (lacks_word shape (state_at shape p) request) (state_at shape p)).drawn
   pub fits : (lacks_word shape (state_at shape p) request && not (may_chain shape (state_at shape p) (bucket_of shape (key_of request)))) ≡ false
-
-adds_none : (request : Request) → adds_key request true ≡ false
-adds_none (Set key value) = refl
-adds_none (Add key value) = refl
-adds_none (Replace key value) = refl
-adds_none (Cas key value expected) = refl
-adds_none (Delete key) = refl
 
 -- a new key that was put, where the chain stays, has a word, so that one was left
 had_word : (shape : Shape) (state : State) (request : Request) (segment : ℕ) → IsStrictlySortedBy key_cmp (keys_of state.cache.items)

@@ -1,5 +1,5 @@
 -- How many overflow buckets the events of a call draw for a bucket: none, or one where its chain grew.
-use Rattle.std.proofs.Common.{◌≡◌, ◌≢◌, ℕ, ◌+◌, Bool, true, false, cond, eqb, List, [], ◌∷◌, ◌++◌, refl, sym, ◌∙◌, inl, arith}
+use Rattle.std.proofs.Common.{◌≡◌, ◌≢◌, ℕ, ◌+◌, cond, eqb, List, [], ◌∷◌, ◌++◌, refl, sym, ◌∙◌, inl, arith}
 use Rattle.std.proofs.lemmas.Bool.{eq-eqb, ne_eqb}
 use Rattle.segword.specs.declared.shape.Shape.{Shape}
 use Rattle.segmodel.specs.declared.request.Request.{Request}
@@ -18,6 +18,7 @@ use Rattle.segbase.proofs.Moves.{moved_drew}
 use Rattle.segindex.specs.Calls.{DrawsNothing}
 use Rattle.segindex.specs.Answers.{DrewInNeed, GrowsFor}
 use Rattle.segindex.specs.Growing.{puts, lengthens}
+use Rattle.segcore.proofs.Counts.{one_more}
 
 abbrev pub IsUndrawn : Event → Type 0
 IsUndrawn (Drew p b d m) = ⊥
@@ -76,10 +77,6 @@ past_puts : (p home bucket : ℕ) (words : List ℕ) (rest h : List Event) → d
 unfolding puts
 past_puts p home bucket [] rest h = refl
 past_puts p home bucket (w ∷ words) rest h = past_puts p home bucket words rest h
-
-one_more : (t : Bool) (n : ℕ) → cond t (n + 1) n ≡ cond t 1 0 + n
-one_more true n = omega arith
-one_more false n = omega arith
 
 -- one more was drawn for its bucket
 pub longer_drew : (p home depth overflow bucket : ℕ) (words : List ℕ) (h : List Event) → drew p bucket (lengthens p home depth overflow words ++ h) ≡ cond (eqb home bucket) 1 0 + drew p bucket h

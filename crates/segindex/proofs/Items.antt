@@ -12,7 +12,7 @@ use Rattle.segcore.specs.ItemWord.{IsWordOf}
 use Rattle.segcore.specs.Kind.{HasBit}
 use Rattle.segcore.specs.Lawful.{IsLawful}
 use Rattle.segcore.specs.Row.{Holds, row_after}
-use Rattle.segcore.proofs.Chains.{chain_of}
+use Rattle.segcore.proofs.Chains.{chain_of, same_item}
 use Rattle.segcore.proofs.Coherent.{IsContent}
 use Rattle.segcore.proofs.Limits.{few_drawn, home_in, low_row, low_segment}
 use Rattle.segcore.proofs.Standing.{coherent}
@@ -27,13 +27,6 @@ use Rattle.segstore.specs.Reading.{IsReadable}
 use Rattle.segstore.specs.Refilling.{Idles}
 use Rattle.segindex.specs.Writing.{IsInChain}
 use Rattle.segindex.proofs.Places.{idle_bucket, same_position}
-
-pub same_item : (a c : Slot) → item a ≡ item c → a ≡ c
-same_item a c e = ap (slot_in a) e
-  where
-    slot_in : Slot → Content → Slot
-    slot_in a (item c) = c
-    slot_in a c = a
 
 -- the item of a position whose word has a tag
 pub item_here : (z : Shape) (h : List Event) (b n word : ℕ) (x : Content) → IsValid z → IsLawful z h → IsContent h b (bucket_after z h b) n x → IsReadAs x word → 1 ≤ word / 2 ^ 52 → (a : Slot) × (x ≡ item a) × IsWordOf a word

@@ -23,7 +23,7 @@ use Rattle.segbase.specs.declared.place.Place.{Place}
 use Rattle.segbase.specs.Passes.{number, trace, IsPassOf, Did}
 use Rattle.segbase.specs.Spots.{cell_at, position, home_bucket, home_in, drawn_for}
 use Rattle.segbase.specs.Steps.{Missed}
-use Rattle.segbase.proofs.Standing.{content_at}
+use Rattle.segcore.proofs.Exact.{content_at}
 use Rattle.segstore.proofs.Words.{at_place}
 use Rattle.segstore.proofs.Refills.{idles}
 use Rattle.segindex.specs.Calls.{memo}

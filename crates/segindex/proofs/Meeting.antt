@@ -16,7 +16,7 @@ use Rattle.segbase.proofs.Moves.{moved_on, moved_mine}
 use Rattle.segindex.specs.Calls.{Meets}
 
 -- a pass's entries in a longer history go on from those in a shorter one
-mine_begins : (n : ℕ) (h g : List Entry) → Begins h g → Begins (history.mine n h) (history.mine n g)
+pub mine_begins : (n : ℕ) (h g : List Entry) → Begins h g → Begins (history.mine n h) (history.mine n g)
 mine_begins n h g b = (history.mine n b.0, ap (history.mine n) b.1 ∙ filter-append (λ x. pass_of x == n) b.0 h)
 
 one_of : {A : Type 0} (F : List Event → List A) → ((h g : List Event) → Begins h g → Begins (F h) (F g)) → (h g : List Event) → AreOne h g → AreOne (F h) (F g)

@@ -6,7 +6,7 @@ use Rattle.std.proofs.lemmas.Option.{none-some, same_Some}
 use Rattle.segword.specs.declared.shape.Shape.{Shape}
 use Rattle.segcore.specs.declared.event.Event.{Event}
 use Rattle.segcore.specs.declared.event.Event.TheVariants.{Took, Bounced, Freed}
-use Rattle.segcore.specs.Event.{by, seen, NoneBy, AllBy}
+use Rattle.segcore.specs.Event.{by, seen, AllBy}
 use Rattle.segcore.specs.Bucket.{Bucket, bucket_at, is, acts, bucket_after}
 use Rattle.segcore.specs.Count.{bounced}
 use Rattle.segcore.specs.Lawful.{needs, IsOther, IsLawful}
@@ -27,6 +27,7 @@ use Rattle.segindex.specs.Answers.{IsBusy}
 use Rattle.segindex.proofs.Quiet.{has_locked}
 use Rattle.segmodel.specs.History.{mine, entries_of, stirred}
 use Rattle.segmodel.specs.Places.{bucket_of}
+use Rattle.segbase.proofs.Alone.{none_by}
 
 pub all_mine : (p : ℕ) (h : List Event) → AllBy p h → mine p (seen h) ≡ seen h
 all_mine p h all = ap (λ x. mine p (seen x)) (sym (append-nil h)) ∙ (mine_own p h [] all ∙ append-nil (seen h))
@@ -51,10 +52,6 @@ none_bounced z p b [] l all = refl
 none_bounced z p b (Bounced q a ∷ h) l all = let other : IsOther q (bucket_after z h a).holder = l.1.suits in
     absurd (other.2 (alone_holds z p a other.0 h all.1 other.1 ∙ sym all.0))
 none_bounced z p b (e ∷ h) l all = none_bounced z p b h l.0 all.1
-
-none_by : (p other : ℕ) (h : List Event) → other ≢ p → AllBy p h → NoneBy other h
-none_by p other [] apart all = tt
-none_by p other (e ∷ h) apart all = ((λ same. apart (sym same ∙ all.0)), none_by p other h apart all.1)
 
 -- nobody else is in a segment
 pub nobody_inside : (p other s : ℕ) (h : List Event) → other ≢ p → AllBy p h → inside h other s ≡ 0

@@ -20,7 +20,8 @@ use Rattle.segbase.specs.declared.pass.Pass.{Pass}
 use Rattle.segbase.specs.declared.place.Place.{Place}
 use Rattle.segbase.specs.Passes.{number, trace, Moved}
 use Rattle.segbase.specs.Spots.{cell_at, position}
-use Rattle.segbase.proofs.Standing.{some_tag, tag_of_word, place_of_word, content_at}
+use Rattle.segbase.proofs.Standing.{some_tag, tag_of_word, place_of_word}
+use Rattle.segcore.proofs.Exact.{content_at}
 use Rattle.segindex.specs.Writing.{IsInChain, IsEarlier}
 use Rattle.segindex.proofs.UnderBit.{unchanged, moved_none, moved_bucket}
 use Rattle.segindex.proofs.Places.{same_position, chain_later}

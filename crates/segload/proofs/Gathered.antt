@@ -1,9 +1,7 @@
 -- How one pass meets others, one after the other, and what it knows of them after two rounds.
-use Rattle.std.proofs.Common.{◌≡◌, ◌==◌, ℕ, zero, suc, List, [], ◌∷◌, ◌++◌, length, drop, slice_get, Some, refl, sym, ap, subst, ◌∙◌, arith, length-append}
+use Rattle.std.proofs.Common.{◌≡◌, ℕ, zero, suc, List, [], ◌∷◌, ◌++◌, length, drop, slice_get, Some, refl, sym, ap, subst, ◌∙◌, arith, length-append}
 use Rattle.std.proofs.lemmas.Option.{same_Some, none-some}
-use Rattle.std.proofs.lemmas.List.Elements.{filter-append}
-use Rattle.segmodel.specs.declared.entry.Entry.{Entry}
-use Rattle.segmodel.specs.History.{Begins, pass_of}
+use Rattle.segmodel.specs.History.{Begins}
 use Rattle.segmodel.specs.History as history
 use Rattle.segcore.proofs.Moments.{begins_on}
 use Rattle.segcore.proofs.Standing.{legal}
@@ -14,10 +12,7 @@ use Rattle.segindex.specs.Calls.{GoesOn, ChangesNothing, Meets}
 use Rattle.segindex.proofs.OnePass.{all_mine}
 use Rattle.segload.specs.declared.worker.Worker.{Worker}
 use Rattle.segload.specs.Gathering.{Looked, HasMet, HasMetEach, AreAll, HasGathered}
-
--- its own entries of a beginning are a beginning of its own entries
-own_begins : (n : ℕ) (old new : List Entry) → Begins old new → Begins (history.mine n old) (history.mine n new)
-own_begins n old new begins = (history.mine n begins.0, ap (history.mine n) begins.1 ∙ filter-append (λ entry. pass_of entry == n) begins.0 old)
+use Rattle.segindex.proofs.Meeting.{mine_begins}
 
 -- what only looked twice, only looked
 pub looked_then : (b : Board) (p q r : Pass) → Looked b p q → GoesOn b q r → ChangesNothing q r → Looked b p r
@@ -40,7 +35,7 @@ pub met_now : (b : Board) (before now later p q : Pass) → Looked b before now 
 met_now b before now later p q looked meets on nothing = record {
   looked = record { on = on; mine = nothing.entries };
   told = meets.first.1;
-  known = begins_on (history.mine (number p) (seen before)) (history.mine (number p) (seen now)) (mine p) (own_begins (number p) (seen before) (seen now) looked.on.seen) meets.of_second;
+  known = begins_on (history.mine (number p) (seen before)) (history.mine (number p) (seen now)) (mine p) (mine_begins (number p) (seen before) (seen now) looked.on.seen) meets.of_second;
 }
 
 -- the worker that was there is the one that was met, and the one that is there now has its pass
@@ -80,7 +75,7 @@ just_own b before now later p q r first second =
     let known = subst (λ own. Begins (history.mine (number q) (seen now)) own) first.looked.mine second.known in
     both_begin (history.mine (number p) (seen now)) (mine p)
     (subst (λ n. Begins (history.mine n (seen now)) (mine p)) first.looked.on.same known)
-    (own_begins (number p) (seen p) (seen now) first.told)
+    (mine_begins (number p) (seen p) (seen now) first.told)
 
 pub gathered : (b : Board) (workers met again : List Worker) (first : Worker) (now later : Pass) → AreAll b workers → slice_get workers 0 ≡ Some first
     → Looked b first.client.pass now → HasMetEach b first.client.pass now (drop 1 workers) met → length met ≡ length (drop 1 workers)

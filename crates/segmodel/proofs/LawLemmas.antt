@@ -93,7 +93,7 @@ cas_fails shape before now key seen value version small legal begins read = by (
     by false = refl
 
 -- entries of two lists in a row
-count_by-append : {X : Type 0} (p : X → Bool) (xs ys : List X) → count_by p (xs ++ ys) ≡ count_by p xs + count_by p ys
+pub count_by-append : {X : Type 0} (p : X → Bool) (xs ys : List X) → count_by p (xs ++ ys) ≡ count_by p xs + count_by p ys
 count_by-append p [] ys = omega arith
 count_by-append p (x ∷ xs) ys =
     let rest = count_by-append p xs ys in

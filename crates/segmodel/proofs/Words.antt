@@ -34,7 +34,7 @@ count-keys_put p k x (e ∷ es) =
     ]
 
 -- a key below all others isn't among them
-above_absent : (k : List ℕ) (es : List (List ℕ × Cached)) → Above k (keys_of es) → lookup (is_at (key_cmp k)) es ≡ None
+pub above_absent : (k : List ℕ) (es : List (List ℕ × Cached)) → Above k (keys_of es) → lookup (is_at (key_cmp k)) es ≡ None
 above_absent k [] above = refl
 above_absent k (e ∷ es) above = ap (λ r. cond (is_eq r) (Some e.1) (lookup (is_at (key_cmp k)) es)) above.0 ∙ above_absent k es above.1
 
@@ -71,7 +71,7 @@ adds_new (Cas key value expected) version is = cc
 adds_new (Delete key) version is = cc
 
 -- and one that is stored where it stands doesn't
-adds_none : (request : Request) → adds_key request true ≡ false
+pub adds_none : (request : Request) → adds_key request true ≡ false
 adds_none (Set key value) = refl
 adds_none (Add key value) = refl
 adds_none (Replace key value) = refl

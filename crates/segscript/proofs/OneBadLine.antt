@@ -1,22 +1,19 @@
 -- A script has one first bad line at most, and none where it has a text. So a run whose devices never failed ends at that line, or ends well.
-use Rattle.std.proofs.Common.{lit<, Bool, false, Ok, Err, Result, ◌≡◌, ℕ, ◌+◌, ◌≤◌, ◌⊎◌, inl, inr, List, [], ◌∷◌, ◌++◌, length, refl, sym, ◌∙◌, ap, arith, append_assoc, append-nil, length-append}
+use Rattle.std.proofs.Common.{Bool, false, Ok, Err, Result, ◌≡◌, ℕ, ◌+◌, ◌⊎◌, inl, inr, List, [], ◌∷◌, ◌++◌, length, refl, sym, ◌∙◌, ap, arith, append_assoc, append-nil}
 use Rattle.std.specs.List.{flat_map, AllByRecursion}
-use Rattle.std.specs.Prelude.{decimal, IsOk}
+use Rattle.std.specs.Prelude.{IsOk}
 use Rattle.std.proofs.lemmas.Bool.{true≢false}
 use Rattle.std.proofs.lemmas.Grind.{flat_map-append}
-use Rattle.std.proofs.lemmas.Fmt.{length-decimal-le}
 use Rattle.segword.specs.declared.shape.Shape.{Shape}
-use Rattle.segmodel.specs.declared.request.Request.TheVariants.{Set, Add, Replace, Cas, Delete}
-use Rattle.segmodel.specs.declared.answer.Command.TheVariants.{Write, Get, Gets, Evict, Refill}
-use Rattle.segmodel.specs.declared.answer.Turn.{Turn}
-use Rattle.segmodel.specs.declared.answer.Turn.TheVariants.{Serve, Hold, Held, Release, Lock, Unlock}
-use Rattle.segmodel.specs.Spelling.{PassTurn, IsNumber, IsWritable, value_word, spelling}
+use Rattle.segmodel.specs.declared.answer.Command.TheVariants.{Write}
+use Rattle.segmodel.specs.Spelling.{PassTurn}
 use Rattle.segmodel.specs.Script.{IsLine, ended, Say, IsBad, IsTextOf, IsFirstBad}
 use Rattle.segscript.specs.Device.{HandsOut}
 use Rattle.segscript.specs.Run.{RunOutcome, is_read_fault, is_write_fault, is_make_fault}
 use Rattle.segscript.specs.declared.fault.RunFault.{RunFault}
 use Rattle.segscript.specs.declared.fault.RunFault.TheVariants as fault
 use Rattle.segscript.proofs.LineLemmas.{lines-append}
+use Rattle.segmodel.proofs.Lines.{lines_fit}
 
 -- ---- lines that are cut in two ways
 
@@ -43,38 +40,13 @@ not_empty (a ∷ x) p same = cc
 step : (x : List ℕ) (xs : List (List ℕ)) (r : List ℕ) → flat_map ended (x ∷ xs) ++ r ≡ x ++ 10 ∷ (flat_map ended xs ++ r)
 step x xs r = simp append_assoc
 
--- ---- no line that says a turn is long
-
-value_short : (value : List ℕ) → length value ≤ 32 → length (value_word value) ≤ 32
-value_short [] h = omega arith
-value_short (b ∷ bs) h = h
-
-number_short : (n : ℕ) → IsNumber n → length (decimal n) ≤ 10
-number_short n fits = length-decimal-le 10 n (lit< tt) (omega arith) (omega arith)
-
-spelling_short : (pass : ℕ) (turn : Turn) → IsNumber pass → IsWritable turn → length (spelling (pass, turn)) ≤ 128
-spelling_short pass (Serve (Refill n)) there fits = let p = number_short pass there in let d = number_short n fits in simp length-append (omega arith)
-spelling_short pass (Serve (Evict n)) there fits = let p = number_short pass there in let d = number_short n fits in simp length-append (omega arith)
-spelling_short pass (Serve (Write (Set k v))) there fits = let p = number_short pass there in let w = value_short v fits.1.0 in let key : length k ≤ 24 = fits.0.1 in simp length-append (omega arith)
-spelling_short pass (Serve (Write (Add k v))) there fits = let p = number_short pass there in let w = value_short v fits.1.0 in let key : length k ≤ 24 = fits.0.1 in simp length-append (omega arith)
-spelling_short pass (Serve (Write (Replace k v))) there fits = let p = number_short pass there in let w = value_short v fits.1.0 in let key : length k ≤ 24 = fits.0.1 in simp length-append (omega arith)
-spelling_short pass (Serve (Write (Cas k v n))) there fits = let p = number_short pass there in let d = number_short n fits.2 in let w = value_short v fits.1.0 in let key : length k ≤ 24 = fits.0.1 in simp length-append (omega arith)
-spelling_short pass (Serve (Write (Delete k))) there fits = let p = number_short pass there in let key : length k ≤ 24 = fits.1 in simp length-append (omega arith)
-spelling_short pass (Serve (Get k)) there fits = let p = number_short pass there in let key : length k ≤ 24 = fits.1 in simp length-append (omega arith)
-spelling_short pass (Serve (Gets k)) there fits = let p = number_short pass there in let key : length k ≤ 24 = fits.1 in simp length-append (omega arith)
-spelling_short pass (Hold k) there fits = let p = number_short pass there in let key : length k ≤ 24 = fits.1 in simp length-append (omega arith)
-spelling_short pass Held there fits = let p = number_short pass there in simp length-append (omega arith)
-spelling_short pass Release there fits = let p = number_short pass there in simp length-append (omega arith)
-spelling_short pass (Lock k) there fits = let p = number_short pass there in let key : length k ≤ 24 = fits.1 in simp length-append (omega arith)
-spelling_short pass Unlock there fits = let p = number_short pass there in simp length-append (omega arith)
-
 module _ (passes : ℕ) where
   -- a line that is served isn't bad
   good_line : (x : List ℕ) (xs : List (List ℕ)) (ts : List PassTurn) → Say passes (x ∷ xs) ts → IsBad passes x → ⊥
   good_line [] xs ts says (inl long) = omega arith
   good_line [] xs ts says (inr bad) = omega (arith, bad.0)
   good_line (b ∷ bs) xs [] says bad = says
-  good_line (b ∷ bs) xs (t ∷ ts) says (inl long) = let short = spelling_short t.0 t.1 says.0.1 says.0.2 in let same = ap length says.1 in omega arith
+  good_line (b ∷ bs) xs (t ∷ ts) says (inl long) = let short = lines_fit passes t says.0 in let same = ap length says.1 in omega arith
   good_line (b ∷ bs) xs (t ∷ ts) says (inr bad) = bad.1 t says.0 says.1
 
   says_rest : (x : List ℕ) (xs : List (List ℕ)) (ts : List PassTurn) → Say passes (x ∷ xs) ts → (us : List PassTurn) × Say passes xs us
