@@ -67,7 +67,9 @@ IsRefused k (Err (refusal.Usage text)) = (is_request k ≡ false) × (k ≢ kind
 IsRefused k (Err refusal.OutOfMemory) = ⊤
 
 -- What is read of one word or more. `clap` finds no fault in a command. A request for help or for the version is a fault to
--- it, with a text that is shown; and any other fault is a bad command line. Memory may be wanted in each case.
+-- it, with a text that is shown; and any other fault is a bad command line. Memory may be wanted in each case. There is one
+-- kind of fault, but for a word that may be an argument or a command, which is bad as either, and for what stands behind the
+-- command `help`: `clap` says only that its help is shown, or that it is no command.
 abbrev pub IsReadByClap : List Text → Result Command Refusal → Type 0
 IsReadByClap words (Ok (command.Show text)) = list_any is_request (fault_of command_line words) ≡ true
 IsReadByClap words (Ok asked) =

@@ -31,6 +31,8 @@ pub fn run_program<R: Threads + Wait + AllocGlobal + Sync, S: Source, W: Sink, E
     requires source_works { S.has_failed source.old ≡ false }
     requires writer_works { W.has_failed writer.old ≡ false }
     requires errors_work { E.has_failed errors.old ≡ false }
+
+    // What is read of the words is carried out, or refused.
     ensures outcome { (read : Result Asked Refusal) × IsRead (map (λ word. string_bytes word) words.now) read
         × ProgramOutcome S.hands S.is_at_end S.has_failed W.takes W.has_failed W.flushes E.takes E.has_failed E.flushes read
         source.old source.new writer.old writer.new errors.old errors.new result }
