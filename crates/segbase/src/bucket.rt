@@ -26,7 +26,7 @@ impl Board {
         self.or_at(pass, Spot::Info(bucket), 1) % 2 == 0
     }
 
-    /// Clears the bit. Where counted, the version grows by 1 in the same event. A refused write is told with it.
+    /// Gives the bit back, and in the same event counts the write, where one is to be counted. A refused write is told with it.
     pub fn release(&self, pass: &mut Pass, bucket: u32, counted: bool)
         ghost said: { Option (Request × Reply) }
         requires pass { IsPassOf self.now pass.old }

@@ -121,7 +121,7 @@ MayMark shape marks (enters (entry.Wrote pass request reply segment)) = IsAfterA
 MayMark shape marks (chained bucket) = drawn_for marks bucket ≡ chained_to marks bucket + 1
 MayMark shape marks _ = Unit {0}
 
--- each `at` names a word of its key's chain at that point, and the key's place where the key stands just before; each Stored follows an `at` of its key; and a bucket that joins a chain was drawn for it and is the only one that waits
+-- an `at` is in the chain that its key had then, and where the key stood already it is where that was; nothing is stored but right after its `at`; and a bucket that joins a chain was drawn for it and is the only one that waits
 abbrev pub IsPlaced : Shape → List Mark → Type 0
 IsPlaced shape [] = Unit {0}
 IsPlaced shape (mark ∷ marks) = IsPlaced shape marks × MayMark shape marks mark

@@ -55,7 +55,7 @@ pub record SaysOfSegments (shape : Shape) (trace : List Event) : Type 0 where
 
 -- ---- passes
 
--- what a pass has seen: past it stands nothing of that pass, and nothing of a bucket whose bit it has; and what it knows of its own rows, and of the overflow bucket that it drew, is so
+-- what a pass has seen: others alone went on from there, and did nothing in the buckets that it has the bits of; and what it knows of its own rows, and of the overflow bucket that it drew, is so
 pub record SaysOfPass (shape : Shape) (trace : List Event) (pass : ℕ) (view : View) : Type 0 where
   pub number : view.number ≡ pass
   pub more : List Event

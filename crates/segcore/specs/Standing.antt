@@ -79,6 +79,6 @@ pub record SaysOfKeys (shape : Shape) (trace : List Event) : Type 0 where
   -- and no two of them name one row
   pub once : (b p c q : ℕ) (left right : Cell) (tag other segment row : ℕ)
       → Names shape trace b p left tag segment row → Names shape trace c q right other segment row → (b ≡ c) × (p ≡ q) × (left ≡ right)
-  -- each has the frequency of the last `at` or `bumped` of its row
+  -- and its frequency is what the mark says that gave it to its row last
   pub frequencies : (bucket position : ℕ) (cell : Cell) (tag segment row : ℕ) (names : Names shape trace bucket position cell tag segment row)
       → names.frequency ≡ frequency_in (marked trace) segment row

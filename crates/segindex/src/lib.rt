@@ -1,4 +1,4 @@
-//! The object index: its calls, for many passes on threads of their own. Each answer is the one that a cache of one thread gives at a moment of one growing history.
+//! The object index: its calls, for many passes on threads of their own. What a call answers is what a cache used by one thread alone would, after some part of the history that all passes share.
 #![tactic(auto)]
 
 mod bucket;

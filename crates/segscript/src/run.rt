@@ -168,8 +168,8 @@ fn read_piece<R: Source, W: Sink, E: Engine>(
     reader.read(piece)
 }
 
-/// Runs the script that the reader hands out over an engine that is at its start, and writes the replies. The reply of
-/// each whole line is written before the next read.
+/// Runs the script that the reader hands out over an engine that is at its start, and writes the replies. No
+/// more is read before the lines that are there have their replies.
 pub fn run<R: Source, W: Sink, E: Engine>(
     reader: &mut R,
     writer: &mut W,
