@@ -44,6 +44,7 @@ pub mod Disturbing
 pub mod OneMoment
 pub mod VersionScans
 pub mod Holding
+pub mod Hits
 pub mod HoldCalls
 pub mod AlonePass
 pub mod Grown

@@ -3,7 +3,6 @@ use Rattle.std.proofs.Common.{◌≡◌, ◌≢◌, ℕ, ◌+◌, ◌-◌, ◌*�
 use Rattle.std.proofs.lemmas.Bool.{cases_lt, lt-ltb, le-ltb}
 use Rattle.segword.specs.declared.shape.Shape.{Shape}
 use Rattle.segword.specs.Shape.{IsValid}
-use Rattle.segword.specs.ItemWord.{item_word}
 use Rattle.segword.specs.ChainWord.{chain_word, IsChainWord}
 use Rattle.segmodel.specs.Places.{bucket_of}
 use Rattle.segmodel.specs.History.{Begins}
@@ -31,7 +30,7 @@ use Rattle.segstore.proofs.Readers.{reader_then, enter_then}
 use Rattle.segindex.specs.declared.scan.Way.{Way}
 use Rattle.segindex.specs.declared.scan.Way.TheVariants.{Found, Passed, Busy}
 use Rattle.segindex.specs.Scanning.{bucket_depth, place_of, IsPlaceOf, IsBucketAt, IsBucketOf, IsOnWay, Counts, Brings, HasPassed, IsWay}
-use Rattle.segindex.proofs.Tries.{found_from, word_wider, counts_then}
+use Rattle.segindex.proofs.Tries.{hit_from, word_wider, counts_then}
 
 -- ---- buckets of a chain
 
@@ -87,7 +86,7 @@ next_bucket z key depth number h few in' of w low high =
 -- ---- one visit after another
 
 pub on_way : (b : Board) (w : Way) (p q r : Pass) → IsReader b p q → IsOnWay b w q r → IsOnWay b w p r
-on_way b (Found value place item) p q r i j = enter_then b p q r item.seg i j
+on_way b (Found hit) p q r i j = enter_then b p q r hit.item.seg i j
 on_way b (Passed word tries) p q r i j = reader_then b p q r i j
 on_way b Busy p q r i j = reader_then b p q r i j
 
@@ -116,14 +115,14 @@ way_as z key n d place tries w g f e x = subst (λ m. IsWay z key (8 * d + 7) m 
 -- a visit that ends the way
 pub way_stops : (z : Shape) (key : List ℕ) (from to from' to' : ℕ) (last last' : Place) (some tries : ℕ) (w : Way) (h g f : List Event) → ((word counted : ℕ) → w ≢ Passed word counted) → Begins h g → Counts z key some tries h g
     → IsWay z key from to last tries w g f → IsWay z key from' to' last' some w h f
-way_stops z key from to from' to' last last' some tries (Found value place item) h g f ne up c x = found_from z place (item_word item) key value g f h up x
+way_stops z key from to from' to' last last' some tries (Found hit) h g f ne up c x = hit_from z hit.place hit.item hit.header key g f h up x
 way_stops z key from to from' to' last last' some tries (Passed word counted) h g f ne up c x = absurd (ne word counted refl)
 way_stops z key from to from' to' last last' some tries Busy h g f ne up c x = counts_then z key some tries 64 h g f c x
 
 -- the last visit
 pub way_ends : (z : Shape) (key : List ℕ) (from mid to : ℕ) (last : Place) (some tries : ℕ) (w : Way) (h g f : List Event) → Begins h g → Counts z key some tries h g → Brings z key from mid h g
     → IsWay z key mid to last tries w g f → IsWay z key from to last some w h f
-way_ends z key from mid to last some tries (Found value place item) h g f up c b x = found_from z place (item_word item) key value g f h up x
+way_ends z key from mid to last some tries (Found hit) h g f up c b x = hit_from z hit.place hit.item hit.header key g f h up x
 way_ends z key from mid to last some tries (Passed word counted) h g f up c b x = (x.0, counts_then z key some tries counted h g f c x.1, passed_then z key from mid to last word h g f up b x.2)
 way_ends z key from mid to last some tries Busy h g f up c b x = counts_then z key some tries 64 h g f c x
 

@@ -36,7 +36,7 @@ use Rattle.segbase.specs.Passes.{Did}
 use Rattle.segbase.proofs.Standing.{tag_of_word}
 use Rattle.segbase.proofs.Moves.{moved_on}
 use Rattle.segstore.specs.Reading.{IsReader}
-use Rattle.segstore.specs.Linked.{segment_part, word_at, IsChained, SawItem, FoundItem, SawWord, IsKeyed}
+use Rattle.segstore.specs.Linked.{segment_part, word_at, IsChained, SawItem, FoundItem, FoundKey, SawWord, IsKeyed}
 use Rattle.segstore.specs.declared.read.Keyed.{Keyed}
 use Rattle.segstore.specs.declared.read.Keyed.TheVariants.{Same, Other, Changed}
 use Rattle.segstore.proofs.Words.{same_place, chained_later, names_in, stood_item, same_parts}
@@ -51,6 +51,9 @@ saw_wider z place w k v h g h' g' a c s = record { at = s.at; between = (begins_
 abbrev pub found_from : (z : Shape) (place : Place) (w : ℕ) (k v : List ℕ) (h g h' : List Event) → Begins h' h → FoundItem z place w k v h g → FoundItem z place w k v h' g
 found_from z place w k v h g h' a f = record { saw = record { at = f.saw.at; between = (begins_on h' h f.saw.at a f.saw.between.0, f.saw.between.1); was = f.saw.was }; kept = f.kept; still = f.still }
 
+pub hit_from : (z : Shape) (place : Place) (item : Item) (header : ℕ) (k : List ℕ) (h g h' : List Event) → Begins h' h → FoundKey z place item header k h g → FoundKey z place item header k h' g
+hit_from z place item header k h g h' a f = record { value = f.value; found = found_from z place (item_word item) k f.value h g h' a f.found; begins = f.begins }
+
 abbrev pub word_wider : (z : Shape) (place : Place) (w : ℕ) (h g h' g' : List Event) → Begins h' h → Begins g g' → SawWord z place w h g → SawWord z place w h' g'
 word_wider z place w h g h' g' a c s = record { at = s.at; between = (begins_on h' h s.at a s.between.0, begins_on s.at g g' s.between.1 c); lawful = s.lawful; stood = s.stood }
 
@@ -58,17 +61,17 @@ word_wider z place w h g h' g' a c s = record { at = s.at; between = (begins_on 
 
 -- with p the pass before it, q in the segment, r after the second look, and t after it left
 pub keyed_from : (z : Shape) (place : Place) (w : ℕ) (key : List ℕ) (k : Keyed) (h g h' : List Event) → Begins h' h → IsKeyed z place w key k h g → IsKeyed z place w key k h' g
-keyed_from z place w key (Same value item) h g h' a x = (x.0, found_from z place (item_word item) key value h g h' a x.1)
+keyed_from z place w key (Same item header) h g h' a x = (x.0, hit_from z place item header key h g h' a x.1)
 keyed_from z place w key (Other same) h g h' a x = (x.0, (x.1.0, x.1.1, x.1.2, saw_wider z place (item_word same) x.1.0 x.1.1 h g h' g a ([], refl) x.1.3))
 keyed_from z place w key (Changed other) h g h' a x = (word_wider z place other h g h' g a ([], refl) x.0, x.1)
 
-pub keyed_left : (z : Shape) (place : Place) (w : ℕ) (key : List ℕ) (k : Keyed) (h g g' : List Event) → ((value : List ℕ) (item : Item) → k ≢ Same value item) → Begins g g' → IsKeyed z place w key k h g → IsKeyed z place w key k h g'
-keyed_left z place w key (Same value item) h g g' ne c x = absurd (ne value item refl)
+pub keyed_left : (z : Shape) (place : Place) (w : ℕ) (key : List ℕ) (k : Keyed) (h g g' : List Event) → ((item : Item) (header : ℕ) → k ≢ Same item header) → Begins g g' → IsKeyed z place w key k h g → IsKeyed z place w key k h g'
+keyed_left z place w key (Same item header) h g g' ne c x = absurd (ne item header refl)
 keyed_left z place w key (Other same) h g g' ne c x = (x.0, (x.1.0, x.1.1, x.1.2, saw_wider z place (item_word same) x.1.0 x.1.1 h g h g' ([], refl) c x.1.3))
 keyed_left z place w key (Changed other) h g g' ne c x = (word_wider z place other h g h g' ([], refl) c x.0, x.1)
 
-pub trial_left : (b : Board) (k : Keyed) (p q : Pass) → ((value : List ℕ) (item : Item) → k ≢ Same value item) → IsReader b p q → IsTrial b k p q
-trial_left b (Same value item) p q ne r = absurd (ne value item refl)
+pub trial_left : (b : Board) (k : Keyed) (p q : Pass) → ((item : Item) (header : ℕ) → k ≢ Same item header) → IsReader b p q → IsTrial b k p q
+trial_left b (Same item header) p q ne r = absurd (ne item header refl)
 trial_left b (Other word) p q ne r = r
 trial_left b (Changed word) p q ne r = r
 

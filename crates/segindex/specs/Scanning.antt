@@ -1,7 +1,6 @@
 -- A reader's way along the chain of a key, without the bucket's bit: what its looks found, and how many tries it counted.
 use Rattle.std.specs.Prelude.{◌≡◌, ℕ, ◌+◌, ◌-◌, ◌*◌, ◌<◌, ◌≤◌, nat_lt, List, if◌then◌else◌}
 use Rattle.segword.specs.declared.shape.Shape.{Shape}
-use Rattle.segword.specs.ItemWord.{item_word}
 use Rattle.segmodel.specs.Places.{bucket_of}
 use Rattle.segmodel.specs.History.{Begins, entries_of}
 use Rattle.segcore.specs.declared.event.Event.{Event}
@@ -17,7 +16,7 @@ use Rattle.segbase.specs.declared.place.Place.{Place}
 use Rattle.segbase.specs.Passes.{number, trace}
 use Rattle.segbase.specs.Spots.{IsPlace, cell_at, home_bucket, depth_of}
 use Rattle.segstore.specs.Reading.{IsReader, IsReaderIn}
-use Rattle.segstore.specs.Linked.{IsChained, SawWord, FoundItem}
+use Rattle.segstore.specs.Linked.{IsChained, SawWord, FoundKey}
 use Rattle.segstore.specs.declared.read.Keyed.{Keyed}
 use Rattle.segstore.specs.declared.read.Keyed.TheVariants as keyed
 use Rattle.segindex.specs.declared.scan.Way.{Way}
@@ -55,17 +54,17 @@ MayEnterAny p = (segment : ℕ) → inside (trace p) (number p) segment < 2
 
 -- after a try it is in the item's segment where that was the key's
 abbrev pub IsTrial : Board → Keyed → Pass → Pass → Type 0
-IsTrial b (keyed.Same value item) p q = IsReaderIn b p q item.seg
+IsTrial b (keyed.Same item header) p q = IsReaderIn b p q item.seg
 IsTrial b (keyed.Other word) p q = IsReader b p q
 IsTrial b (keyed.Changed word) p q = IsReader b p q
 
 abbrev pub IsOnWay : Board → Way → Pass → Pass → Type 0
-IsOnWay b (way.Found value place item) p q = IsReaderIn b p q item.seg
+IsOnWay b (way.Found hit) p q = IsReaderIn b p q hit.item.seg
 IsOnWay b (way.Passed word tries) p q = IsReader b p q
 IsOnWay b way.Busy p q = IsReader b p q
 
 abbrev pub IsScanner : Board → Scan → Pass → Pass → Type 0
-IsScanner b (scan.Found value place item) p q = IsReaderIn b p q item.seg
+IsScanner b (scan.Found hit) p q = IsReaderIn b p q hit.item.seg
 IsScanner b scan.Absent p q = IsReader b p q
 IsScanner b scan.Busy p q = IsReader b p q
 
@@ -86,12 +85,12 @@ pub record HasPassed (shape : Shape) (key : List ℕ) (from to : ℕ) (place : P
 
 -- looks at the words of the key's chain from one position up to another, the last of which is at this place
 abbrev pub IsWay : Shape → List ℕ → ℕ → ℕ → Place → ℕ → Way → List Event → List Event → Type 0
-IsWay shape key from to last tries (way.Found value place item) before now = FoundItem shape place (item_word item) key value before now
+IsWay shape key from to last tries (way.Found hit) before now = FoundKey shape hit.place hit.item hit.header key before now
 IsWay shape key from to last tries (way.Passed word counted) before now = (counted < 64) × Counts shape key tries counted before now × HasPassed shape key from to last word before now
 IsWay shape key from to last tries way.Busy before now = Counts shape key tries 64 before now
 
 -- a scan of the whole chain
 abbrev pub IsScan : Shape → List ℕ → Scan → List Event → List Event → Type 0
-IsScan shape key (scan.Found value place item) before now = FoundItem shape place (item_word item) key value before now
+IsScan shape key (scan.Found hit) before now = FoundKey shape hit.place hit.item hit.header key before now
 IsScan shape key scan.Absent before now = WasGone (KeyGone shape key) before now
 IsScan shape key scan.Busy before now = Counts shape key 0 64 before now

@@ -6,7 +6,7 @@ use crate::scan::Scan;
 use segbase::{Pass, Place};
 use segmodel::GetAnswer;
 use segpolicy::next_frequency;
-use segstore::leave_segment;
+use segstore::{leave_segment, value_of_row};
 use segword::{Item, Key};
 
 impl Index {
@@ -28,9 +28,10 @@ impl Index {
         ensures answer { IsGetAnswer (shape_of self.now) key.now result (seen pass.old) (seen pass.new) }
     {
         match self.scan_for(pass, key) {
-            Scan::Found(value, place, item) => {
-                self.count_hit(pass, place, item, draw);
-                leave_segment(&self.board, pass, item.seg);
+            Scan::Found(hit) => {
+                let value = value_of_row(&self.board, pass, hit.item.seg, hit.item.row, hit.header);
+                self.count_hit(pass, hit.place, hit.item, draw);
+                leave_segment(&self.board, pass, hit.item.seg);
                 GetAnswer::Found(value)
             }
             Scan::Absent => GetAnswer::Miss,

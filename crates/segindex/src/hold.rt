@@ -57,7 +57,9 @@ impl Index {
             return HoldAnswer::AlreadyHolding;
         }
         match self.scan_for(pass, key) {
-            Scan::Found(value, _, item) => {
+            Scan::Found(hit) => {
+                let item = hit.item;
+                let value = value_of_row(&self.board, pass, item.seg, item.row, hit.header);
                 self.set_hold(pass, Some((key, &value, item.seg)));
                 HoldAnswer::Holding(Hold {
                     index: self,

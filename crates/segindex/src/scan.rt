@@ -11,13 +11,20 @@ ghost use Rattle.segindex.specs.Scanning.{bucket_depth, place_of, IsPlaceOf, IsB
 use crate::index::Index;
 use segbase::{Board, Pass, Place};
 use segstore::{Keyed, enter_segment, leave_segment, read_keyed};
-use segword::{Chain, Item, Key, KeyWords, Value, bucket_of, hash, tag_of};
+use segword::{Chain, Item, Key, KeyWords, bucket_of, hash, tag_of};
+
+// An item of the key, in whose segment the pass is: where it stands, and word 0 of its row.
+#[derive(Clone, Copy, Drop)]
+pub(crate) struct Hit {
+    pub(crate) place: Place,
+    pub(crate) item: Item,
+    pub(crate) header: u64,
+}
 
 // How far looks at words of a chain came.
 #[derive(Drop)]
 pub(crate) enum Way {
-    // The key's item stands at this place, and the pass is in its segment.
-    Found(Value, Place, Item),
+    Found(Hit),
     // None was the key's: the word of the last one, and how many tries are counted so far.
     Passed(u64, u32),
     // The words changed at each try.
@@ -27,8 +34,7 @@ pub(crate) enum Way {
 // What a scan of a whole chain came to.
 #[derive(Drop)]
 pub(crate) enum Scan {
-    // The key's item stands at this place, and the pass is in its segment.
-    Found(Value, Place, Item),
+    Found(Hit),
     Absent,
     // The words changed at each try.
     Busy,
@@ -66,7 +72,7 @@ pub(crate) fn try_item(
 {
     enter_segment(board, pass, item.seg);
     match read_keyed(board, pass, place, item.pack(), key) {
-        Keyed::Same(value, item) => Keyed::Same(value, item),
+        Keyed::Same(item, header) => Keyed::Same(item, header),
         other => {
             leave_segment(board, pass, item.seg);
             other
@@ -99,7 +105,13 @@ fn visit_word(
     };
     for count in tries..TRIES {
         match try_item(board, pass, place, item, key) {
-            Keyed::Same(value, now) => return Way::Found(value, place, now),
+            Keyed::Same(item, header) => {
+                return Way::Found(Hit {
+                    place,
+                    item,
+                    header,
+                });
+            }
             Keyed::Other(now) => return Way::Passed(now.pack(), count),
             Keyed::Changed(now) => match item_of_tag(now, tag) {
                 Some(other) => item = other,
@@ -155,7 +167,7 @@ pub(crate) fn scan_chain(
     let mut tries = 0;
     for depth in 0..BUCKETS {
         match visit_bucket(board, pass, bucket, key, tag, tries) {
-            Way::Found(value, place, item) => return Scan::Found(value, place, item),
+            Way::Found(hit) => return Scan::Found(hit),
             Way::Passed(word, counted) => {
                 let Some(number) = Chain::unpack(word) else {
                     return Scan::Absent;

@@ -6,7 +6,7 @@ use crate::index::Index;
 use crate::scan::{BUCKETS, Scan, TRIES, item_of_tag, try_item};
 use segbase::{Pass, Place};
 use segmodel::GetsAnswer;
-use segstore::{Keyed, leave_segment};
+use segstore::{Keyed, leave_segment, value_of_row};
 use segword::{Chain, Item, Key, KeyWords, Value, bucket_of, hash, same_item, tag_of};
 
 // What one try at an item with the key's tag came to.
@@ -73,8 +73,8 @@ impl Index {
         ensures none { (value : List ℕ) (version : ℕ) → result ≢ gets.Found value version }
     {
         match self.scan_for(pass, key) {
-            Scan::Found(_, _, item) => {
-                leave_segment(&self.board, pass, item.seg);
+            Scan::Found(hit) => {
+                leave_segment(&self.board, pass, hit.item.seg);
                 GetsAnswer::Busy
             }
             Scan::Absent => GetsAnswer::Miss,
@@ -213,7 +213,8 @@ impl Index {
         ensures versioned { IsVersioned (shape_of self.now) key.now place (item_word item) result pass.old pass.new }
     {
         match try_item(&self.board, pass, place, item, key) {
-            Keyed::Same(value, item) => {
+            Keyed::Same(item, header) => {
+                let value = value_of_row(&self.board, pass, item.seg, item.row, header);
                 let info = self.board.glance(pass, home);
                 let now = self.board.look(pass, place);
                 if info.held {

@@ -1,6 +1,7 @@
 -- A second look at an item word, and reads of the item's row after it.
-use Rattle.std.proofs.Common.{◌≡◌, ℕ, ◌/◌, ◌^◌, ◌<◌, ◌≤◌, List, [], Option, Some, sym, ap, ◌∙◌, subst, inl, inr}
+use Rattle.std.proofs.Common.{◌≡◌, ℕ, ◌/◌, ◌^◌, ◌<◌, ◌≤◌, List, [], ◌++◌, Option, Some, refl, sym, ap, ◌∙◌, subst, inl, inr, append_assoc}
 use Rattle.std.specs.Prelude.{IfSome}
+use Rattle.segword.specs.Bytes.{IsKey, IsValue}
 use Rattle.segword.specs.SameItem.{IsSameItem}
 use Rattle.segword.specs.ItemWord.{item_word}
 use Rattle.segword.specs.declared.item.Item.{Item}
@@ -13,11 +14,13 @@ use Rattle.segbase.specs.declared.board.Board.{Board}
 use Rattle.segbase.specs.declared.pass.Pass.{Pass}
 use Rattle.segbase.specs.declared.place.Place.{Place}
 use Rattle.segbase.specs.Passes.{number, trace, Did, Stepped}
+use Rattle.segcore.proofs.Moments.{begins_on}
 use Rattle.segbase.proofs.Moves.{moved_inside, moved_on}
+use Rattle.segbase.proofs.Staying.{none_both}
 use Rattle.segcore.specs.Kind.{look}
 use Rattle.segbase.specs.Spots.{cell_at}
-use Rattle.segstore.specs.Reading.{Looked, ReadsRow}
-use Rattle.segstore.specs.Linked.{segment_part, row_part, word_at, IsChained, WasLinked, SawItem, FoundItem, SeesAgain}
+use Rattle.segstore.specs.Reading.{Looked, IsReadable, ReadsRow}
+use Rattle.segstore.specs.Linked.{segment_part, row_part, word_at, IsChained, WasLinked, SawItem, FoundItem, FoundKey, SeesAgain}
 use Rattle.segstore.proofs.Looks.{looked_then}
 use Rattle.segstore.proofs.Words.{segment_of_packed, row_of_packed, same_segment, chained_later, stood_item}
 
@@ -81,3 +84,29 @@ found_as z h g place w key value key' value' ek ev found = subst (λ k. FoundIte
 
 pub then_row : (b : Board) (p q t : Pass) (s r : ℕ) → Looked b p q → ReadsRow b q t s r → Looked b p t
 then_row b p q t s r l reads = looked_then b p q t l reads.looked
+
+-- ---- the value of an item that was found, read later
+
+pub found_readable : (b : Board) (p : Pass) (place : Place) (item : Item) (header : ℕ) (key : List ℕ) (h : List Event) → 0 < inside (trace p) (number p) item.seg → FoundKey b.shape place item header key h (trace p) → IsReadable b p item.seg item.row
+found_readable b p place item header key h there f =
+    let was = f.found.saw.was in let es = segment_of_item item in let er = row_of_item item in (
+      subst (IsSegment b.shape) (sym es) was.in_segment.0,
+      subst (λ r. r < b.shape.rows) (sym er) was.in_segment.1,
+      inr (inl (there, (key, ap (λ (x : Row). x.linked) (same_names item (trace p) ∙ f.found.still) ∙ was.linked))),
+    )
+
+-- the row of an item that was found holds the pair still
+holds_still : (b : Board) (p q : Pass) (place : Place) (item : Item) (key value : List ℕ) (h : List Event) → FoundItem b.shape place (item_word item) key value h (trace p) → ReadsRow b p q item.seg item.row → Holds (row_after (trace q) item.seg item.row) key value
+holds_still b p q place item key value h f reads j lt =
+    ap (λ (x : Row). x.words j) (reads.same ∙ (same_names item (trace p) ∙ f.still)) ∙ f.saw.was.holds j lt
+
+pub found_value : (b : Board) (p q : Pass) (place : Place) (item : Item) (header : ℕ) (key value : List ℕ) (h : List Event) → 0 < inside (trace p) (number p) item.seg → FoundKey b.shape place item header key h (trace p) → ReadsRow b p q item.seg item.row
+    → ((k v : List ℕ) → IsKey k → IsValue v → Holds (row_after (trace q) item.seg item.row) k v → value ≡ v) → FoundItem b.shape place (item_word item) key value h (trace q)
+found_value b p q place item header key value h there f reads is =
+    let m = reads.looked.did.moved in let saw = f.found.saw in
+    let same = is key f.value saw.was.valid.0 saw.was.valid.1 (holds_still b p q place item key f.value h f.found reads) in
+    found_as b.shape h (trace q) place (item_word item) key f.value key value refl same (record {
+      saw = record { at = saw.at; between = (saw.between.0, begins_on saw.at (trace p) (trace q) saw.between.1 (moved_on b [] p q m)); was = saw.was };
+      kept = (m.more ++ f.found.kept.0, m.goes_on ∙ (ap (λ x. m.more ++ x) f.found.kept.1 ∙ sym (append_assoc m.more f.found.kept.0 saw.at)), none_both (segment_part (item_word item)) m.more f.found.kept.0 (subst (λ s. NoneRefills s m.more) (segment_of_item item) (m.kept item.seg there)) f.found.kept.2);
+      still = sym (same_names item (trace q)) ∙ (reads.same ∙ (same_names item (trace p) ∙ f.found.still));
+    })

@@ -69,6 +69,12 @@ pub record FoundItem (shape : Shape) (place : Place) (word : ℕ) (key value : L
   pub kept : (more : List Event) × (now ≡ more ++ saw.at) × NoneRefills (segment_part word) more
   pub still : row_after now (segment_part word) (row_part word) ≡ row_after saw.at (segment_part word) (row_part word)
 
+-- The key's item was found, and its value is the row's: this is word 0 of it.
+pub record FoundKey (shape : Shape) (place : Place) (item : Item) (header : ℕ) (key : List ℕ) (before now : List Event) : Type 0 where
+  pub value : List ℕ
+  pub found : FoundItem shape place (item_word item) key value before now
+  pub begins : header ≡ (row_after now item.seg item.row).words 0
+
 -- a look between them found this word
 pub record SawWord (shape : Shape) (place : Place) (word : ℕ) (before now : List Event) : Type 0 where
   pub at : List Event
@@ -92,6 +98,6 @@ IsLinked shape place word (linked.Changed other) before now = SawWord shape plac
 
 -- the same, taken for a key
 abbrev pub IsKeyed : Shape → Place → ℕ → List ℕ → Keyed → List Event → List Event → Type 0
-IsKeyed shape place word key (keyed.Same value item) before now = IsSameItem word (item_word item) × FoundItem shape place (item_word item) key value before now
+IsKeyed shape place word key (keyed.Same item header) before now = IsSameItem word (item_word item) × FoundKey shape place item header key before now
 IsKeyed shape place word key (keyed.Other item) before now = IsSameItem word (item_word item) × ((other value : List ℕ) × (other ≢ key) × SawItem shape place (item_word item) other value before now)
 IsKeyed shape place word key (keyed.Changed other) before now = SawWord shape place other before now × ¬ (IsSameItem word other)

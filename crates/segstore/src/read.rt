@@ -6,7 +6,7 @@ ghost use Rattle.segbase.specs.Passes.{number, trace, IsPassOf};
 ghost use Rattle.segstore.specs.Reading.{Looked};
 ghost use Rattle.segstore.specs.Linked.{segment_part, IsChained, SawWord, SeesAgain, IsLinked, IsKeyed};
 
-use crate::row::{pair_of_row, row_of_key, value_of_row};
+use crate::row::{pair_of_row, row_of_key};
 use segbase::{Board, Pass, Place};
 use segword::{Item, Key, KeyWords, Value, same_item};
 
@@ -22,8 +22,8 @@ pub enum Linked {
 /// What a second look found that was taken for a key.
 #[derive(Clone, Debug, Drop, PartialEq, Eq)]
 pub enum Keyed {
-    /// The same item, its frequency aside, and the key's: its value, and the item as it stands now.
-    Same(Value, Item),
+    /// The same item, its frequency aside, and the key's: the item as it stands now, and word 0 of its row.
+    Same(Item, u64),
     /// The same item, and another key's: the item as it stands now.
     Other(Item),
     /// Another word.
@@ -47,7 +47,7 @@ pub fn read_linked(board: &Board, pass: &mut Pass, place: Place, word: u64) -> L
     }
 }
 
-/// The same for a key in hand, which is compared with the row word by word. A value is made for the key's row alone.
+/// The same for a key in hand, which is compared with the row word by word. The value isn't read.
 #[inline(always)]
 pub fn read_keyed(board: &Board, pass: &mut Pass, place: Place, word: u64, key: &KeyWords) -> Keyed
     requires pass { IsPassOf board.now pass.old }
@@ -58,10 +58,7 @@ pub fn read_keyed(board: &Board, pass: &mut Pass, place: Place, word: u64, key: 
 {
     match look_again(board, pass, place, word) {
         Ok(item) => match row_of_key(board, pass, item.seg, item.row, key) {
-            Some(header) => {
-                let value = value_of_row(board, pass, item.seg, item.row, header);
-                Keyed::Same(value, item)
-            }
+            Some(header) => Keyed::Same(item, header),
             None => Keyed::Other(item),
         },
         Err(now) => Keyed::Changed(now),

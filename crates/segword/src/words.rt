@@ -19,7 +19,10 @@ pub(crate) fn words_of<const N: usize>(bytes: &[u8]) -> [u64; N]
 fn word_at(bytes: &[u8], from: usize) -> u64
     ensures { result ≡ word_at bytes.now from }
 {
-    let rest = &bytes[from.min(bytes.len())..];
+    if bytes.len() <= from {
+        return 0;
+    }
+    let rest = &bytes[from..];
     match rest.first_chunk() {
         Some(chunk) => u64::from_le_bytes(*chunk),
         None => short_word(rest),

@@ -1,12 +1,11 @@
 use Rattle.std.proofs.Common.{◌≡◌, ◌<◌, [], refl, ap, arith}
 use Rattle.std.proofs.lemmas.Bool.{false≢true}
 use Rattle.segword.specs.declared.shape.Shape.{Shape}
-use Rattle.segword.specs.ItemWord.{item_word}
 use Rattle.segbase.specs.Passes.{trace}
 use Rattle.segbase.proofs.Moves.{moved_on}
 use Rattle.segcore.proofs.Searches.{key_first}
 use Rattle.segstore.proofs.Readers.{stays, reader_then, enter_then}
-use Rattle.segindex.proofs.Tries.{counts_none, counts_then, found_from}
+use Rattle.segindex.proofs.Tries.{counts_none, counts_then, hit_from}
 use Rattle.segindex.proofs.Scans.{first_bucket, bucket_of_depth, goes_on, ends, deep_enough}
 use Rattle.segindex.proofs.scan.scan_chain.Goals as goal
 
@@ -23,11 +22,11 @@ pub visit_bucket-requires-clause-bucket : goal.visit_bucket-requires-clause-buck
 visit_bucket-requires-clause-bucket c = bucket_of_depth c.args.board.now.shape c.args.key.now c.loop-depth.depth c.loop-depth.bucket (trace c.loop-depth.pass) c.loop-depth.invariant.bucket
 
 pub returns-in-Found-clause-reads : goal.returns-in-Found-clause-reads
-returns-in-Found-clause-reads c = enter_then c.args.board.now c.args.pass.now c.loop-depth.pass c.visit_bucket.new.pass c.in-Found.item.seg c.loop-depth.invariant.reads c.in-Found.ensures.reads
+returns-in-Found-clause-reads c = enter_then c.args.board.now c.args.pass.now c.loop-depth.pass c.visit_bucket.new.pass c.in-Found.hit.item.seg c.loop-depth.invariant.reads c.in-Found.ensures.reads
 
 pub returns-in-Found-clause-scan : goal.returns-in-Found-clause-scan
 returns-in-Found-clause-scan c = let b = c.args.board.now in
-    found_from b.shape c.in-Found.place (item_word c.in-Found.item) c.args.key.now c.in-Found.value (trace c.loop-depth.pass) (trace c.visit_bucket.new.pass) (trace c.args.pass.now) (moved_on b _ c.args.pass.now c.loop-depth.pass c.loop-depth.invariant.reads.reads.moved) c.in-Found.ensures.way
+    (let hit = c.in-Found.hit in hit_from b.shape hit.place hit.item hit.header c.args.key.now) (trace c.loop-depth.pass) (trace c.visit_bucket.new.pass) (trace c.args.pass.now) (moved_on b _ c.args.pass.now c.loop-depth.pass c.loop-depth.invariant.reads.reads.moved) c.in-Found.ensures.way
 
 pub returns-in_default-clause-reads : goal.returns-in_default-clause-reads
 returns-in_default-clause-reads c = reader_then c.args.board.now c.args.pass.now c.loop-depth.pass c.visit_bucket.new.pass c.loop-depth.invariant.reads c.in-Passed.ensures.reads

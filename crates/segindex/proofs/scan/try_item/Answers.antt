@@ -9,7 +9,7 @@ use Rattle.segstore.specs.Reading.{IsReaderIn}
 use Rattle.segstore.proofs.Words.{chained_later, same_segment}
 use Rattle.segstore.proofs.Seconds.{segment_of_item}
 use Rattle.segstore.proofs.Readers.{looks, enters, then_reader, leave_then}
-use Rattle.segindex.proofs.Tries.{keyed_from, keyed_left, trial_left, found_from}
+use Rattle.segindex.proofs.Tries.{keyed_from, keyed_left, trial_left, hit_from}
 use Rattle.segindex.proofs.scan.try_item.Goals as goal
 
 pub read_keyed-requires-clause-place : goal.read_keyed-requires-clause-place
@@ -34,7 +34,7 @@ returns-in-Same-clause-reads c = let b = c.args.board.now in
 
 pub returns-in-Same-clause-keyed : goal.returns-in-Same-clause-keyed
 returns-in-Same-clause-keyed c = let b = c.args.board.now in let x = c.in-Same.ensures.keyed in
-    (subst (λ w. IsSameItem w (item_word c.in-Same.item)) c.pack.ensures x.0, found_from b.shape c.args.place (item_word c.in-Same.item) c.args.key.now c.in-Same.value (trace c.enter_segment.new.pass) (trace c.read_keyed.new.pass) (trace c.args.pass.now) (moved_on b _ c.args.pass.now c.enter_segment.new.pass c.enter_segment.ensures.moved) x.1)
+    (subst (λ w. IsSameItem w (item_word c.in-Same.item)) c.pack.ensures x.0, hit_from b.shape c.args.place c.in-Same.item c.in-Same.header c.args.key.now (trace c.enter_segment.new.pass) (trace c.read_keyed.new.pass) (trace c.args.pass.now) (moved_on b _ c.args.pass.now c.enter_segment.new.pass c.enter_segment.ensures.moved) x.1)
 
 pub returns-in_default : goal.returns-in_default
 returns-in_default c = let b = c.args.board.now in let k = c.read_keyed.result in

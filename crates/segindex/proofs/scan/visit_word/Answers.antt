@@ -5,7 +5,7 @@ use Rattle.segstore.specs.Linked.{SawItem}
 use Rattle.segstore.proofs.Words.{chained_later}
 use Rattle.segstore.proofs.Seconds.{looked_at}
 use Rattle.segstore.proofs.Readers.{looks, reader_then, enter_then}
-use Rattle.segindex.proofs.Tries.{counts_none, trying_first, trying_on, tried, saw_now, passed_word, passed_other, found_from, may_enter}
+use Rattle.segindex.proofs.Tries.{counts_none, trying_first, trying_on, tried, saw_now, passed_word, passed_other, hit_from, may_enter}
 use Rattle.segindex.proofs.scan.visit_word.Goals as goal
 
 pub returns-in_default-clause-reads : goal.returns-in_default-clause-reads
@@ -34,11 +34,11 @@ try_item-requires-clause-may c = let i = c.loop-count.invariant in
     may_enter c.args.board.now c.args.pass.now c.loop-count.pass c.args.place c.loop-count.item (trace c.args.pass.now) i.reads.reads.moved.pass c.requires.reader i.reads c.requires.place.0 i.trying.saw
 
 pub returns-in-Same-clause-reads : goal.returns-in-Same-clause-reads
-returns-in-Same-clause-reads c = enter_then c.args.board.now c.args.pass.now c.loop-count.pass c.try_item.new.pass c.in-Same.now.seg c.loop-count.invariant.reads c.in-Same.ensures.reads
+returns-in-Same-clause-reads c = enter_then c.args.board.now c.args.pass.now c.loop-count.pass c.try_item.new.pass c.in-Same.item.seg c.loop-count.invariant.reads c.in-Same.ensures.reads
 
 pub returns-in-Same-clause-way : goal.returns-in-Same-clause-way
 returns-in-Same-clause-way c = let b = c.args.board.now in let m = c.loop-count.invariant.reads.reads.moved in
-    found_from b.shape c.args.place _ c.args.key.now c.in-Same.value (trace c.loop-count.pass) (trace c.try_item.new.pass) (trace c.args.pass.now) (moved_on b _ c.args.pass.now c.loop-count.pass m) c.in-Same.ensures.keyed.1
+    hit_from b.shape c.args.place c.in-Same.item c.in-Same.header c.args.key.now (trace c.loop-count.pass) (trace c.try_item.new.pass) (trace c.args.pass.now) (moved_on b _ c.args.pass.now c.loop-count.pass m) c.in-Same.ensures.keyed.1
 
 pub returns-in-Other-clause-reads : goal.returns-in-Other-clause-reads
 returns-in-Other-clause-reads c = reader_then c.args.board.now c.args.pass.now c.loop-count.pass c.try_item.new.pass c.loop-count.invariant.reads c.in-Other.ensures.reads

@@ -8,11 +8,11 @@ use Rattle.segindex.proofs.Gets.{found_reads, gone_reads}
 use Rattle.segindex.proofs.index.Index.find_locked.Goals as goal
 
 pub returns-in-Found-clause-reads : goal.returns-in-Found-clause-reads
-returns-in-Found-clause-reads c = let f = c.in-Found in leave_then (board_of c.args.self.now) c.args.pass.now c.scan_for.new.pass c.leave_segment.new.pass f.item.seg f.ensures.reads c.leave_segment.ensures
+returns-in-Found-clause-reads c = let f = c.in-Found in leave_then (board_of c.args.self.now) c.args.pass.now c.scan_for.new.pass c.leave_segment.new.pass f.hit.item.seg f.ensures.reads c.leave_segment.ensures
 
 pub returns-in-Found-clause-answer : goal.returns-in-Found-clause-answer
 returns-in-Found-clause-answer c = let b = board_of c.args.self.now in let f = c.in-Found in let q = c.scan_for.new.pass in let r = c.leave_segment.new.pass in
-    inr (c.requires.locked, (_, found_reads (shape_of c.args.self.now) f.field-1 (item_word f.item) c.args.key.now f.field-0 (trace c.args.pass.now) (trace q) (trace r) (moved_on b _ q r c.leave_segment.ensures.moved) f.ensures.scan))
+    inr (c.requires.locked, (_, found_reads (shape_of c.args.self.now) f.hit.place (item_word f.hit.item) c.args.key.now f.ensures.scan.value (trace c.args.pass.now) (trace q) (trace r) (moved_on b _ q r c.leave_segment.ensures.moved) f.ensures.scan.found))
 
 pub returns-in-Absent-clause-answer : goal.returns-in-Absent-clause-answer
 returns-in-Absent-clause-answer c = gone_reads (shape_of c.args.self.now) c.args.key.now (trace c.args.pass.now) (trace c.scan_for.new.pass) c.in-Absent.ensures.scan

@@ -1,40 +1,58 @@
 use Rattle.segword.specs.ItemWord.{item_word}
 use Rattle.segbase.specs.Passes.{trace}
-use Rattle.segbase.proofs.Moves.{moved_on}
+use Rattle.segbase.proofs.Moves.{moved_on, is_inside}
 use Rattle.segstore.proofs.Readers.{then_reader, leave_then}
 use Rattle.segindex.specs.Index.{board_of, shape_of}
 use Rattle.segindex.proofs.Draws.{reader_draws_none}
+use Rattle.segindex.proofs.Hits.{hit_readable, read_in, read_value}
 use Rattle.segindex.proofs.Reading.{read_on}
 use Rattle.segindex.proofs.Gets.{found_reads, gone_reads, found_place, reads_no_bit}
 use Rattle.segcore.proofs.Moments.{begins_on}
 use Rattle.segindex.proofs.index.Index.get.Goals as goal
 
+pub value_of_row-value-requires-clause-readable : goal.value_of_row-value-requires-clause-readable
+value_of_row-value-requires-clause-readable c = let f = c.in-Found in let hit = f.hit in
+    hit_readable (board_of c.args.self.now) c.args.pass.now c.scan_for.new.pass hit.place hit.item hit.header c.args.key.now f.ensures.reads f.ensures.scan
+
+pub value_of_row-value-requires-clause-header : goal.value_of_row-value-requires-clause-header
+value_of_row-value-requires-clause-header c = c.in-Found.ensures.scan.begins
+
 pub count_hit-requires-clause-place : goal.count_hit-requires-clause-place
-count_hit-requires-clause-place c = let f = c.in-Found in
-    found_place (shape_of c.args.self.now) f.place (item_word f.item) c.args.key.now f.value (trace c.args.pass.now) (trace c.scan_for.new.pass) f.ensures.reads.reads.moved.pass.lawful f.ensures.scan
+count_hit-requires-clause-place c = let b = board_of c.args.self.now in let p = c.args.pass.now in let f = c.in-Found in let hit = f.hit in let v = c.value_of_row-value in
+    found_place b.shape hit.place (item_word hit.item) c.args.key.now v.result (trace p) (trace v.new.pass) v.ensures.reads.looked.did.moved.pass.lawful
+    (read_value b p c.scan_for.new.pass v.new.pass hit.place hit.item hit.header c.args.key.now v.result f.ensures.reads f.ensures.scan v.ensures.reads v.ensures.value)
+
+pub leave_segment-requires-clause-inside : goal.leave_segment-requires-clause-inside
+leave_segment-requires-clause-inside c = let b = board_of c.args.self.now in let p = c.args.pass.now in let f = c.in-Found in let hit = f.hit in let v = c.value_of_row-value in
+    let read = read_in b p c.scan_for.new.pass v.new.pass hit.item.seg hit.item.row f.ensures.reads v.ensures.reads in
+    is_inside b p c.count_hit.new.pass hit.item.seg (then_reader b p v.new.pass c.count_hit.new.pass hit.item.seg read c.count_hit.ensures.reads).reads
 
 pub returns-in-Found-clause-on : goal.returns-in-Found-clause-on
-returns-in-Found-clause-on c = let b = board_of c.args.self.now in let p = c.args.pass.now in let f = c.in-Found in let r = c.leave_segment.new.pass in
-    let in' = then_reader b p c.scan_for.new.pass c.count_hit.new.pass f.item.seg f.ensures.reads c.count_hit.ensures.reads in
-    let out = leave_then b p c.count_hit.new.pass r f.item.seg in' c.leave_segment.ensures in
+returns-in-Found-clause-on c = let b = board_of c.args.self.now in let p = c.args.pass.now in let f = c.in-Found in let hit = f.hit in let v = c.value_of_row-value in let r = c.leave_segment.new.pass in
+    let read = read_in b p c.scan_for.new.pass v.new.pass hit.item.seg hit.item.row f.ensures.reads v.ensures.reads in
+    let in' = then_reader b p v.new.pass c.count_hit.new.pass hit.item.seg read c.count_hit.ensures.reads in
+    let out = leave_then b p c.count_hit.new.pass r hit.item.seg in' c.leave_segment.ensures in
     (read_on b p r c.requires.pass out.reads out.plain out.memo).0
 
 pub returns-in-Found-clause-keeps : goal.returns-in-Found-clause-keeps
-returns-in-Found-clause-keeps c = let b = board_of c.args.self.now in let p = c.args.pass.now in let f = c.in-Found in let r = c.leave_segment.new.pass in
-    let in' = then_reader b p c.scan_for.new.pass c.count_hit.new.pass f.item.seg f.ensures.reads c.count_hit.ensures.reads in
-    let out = leave_then b p c.count_hit.new.pass r f.item.seg in' c.leave_segment.ensures in
+returns-in-Found-clause-keeps c = let b = board_of c.args.self.now in let p = c.args.pass.now in let f = c.in-Found in let hit = f.hit in let v = c.value_of_row-value in let r = c.leave_segment.new.pass in
+    let read = read_in b p c.scan_for.new.pass v.new.pass hit.item.seg hit.item.row f.ensures.reads v.ensures.reads in
+    let in' = then_reader b p v.new.pass c.count_hit.new.pass hit.item.seg read c.count_hit.ensures.reads in
+    let out = leave_then b p c.count_hit.new.pass r hit.item.seg in' c.leave_segment.ensures in
     (read_on b p r c.requires.pass out.reads out.plain out.memo).1
 
 pub returns-in-Found-clause-takes_no_bit : goal.returns-in-Found-clause-takes_no_bit
-returns-in-Found-clause-takes_no_bit c = let b = board_of c.args.self.now in let p = c.args.pass.now in let f = c.in-Found in let r = c.leave_segment.new.pass in
-    let in' = then_reader b p c.scan_for.new.pass c.count_hit.new.pass f.item.seg f.ensures.reads c.count_hit.ensures.reads in
-    let out = leave_then b p c.count_hit.new.pass r f.item.seg in' c.leave_segment.ensures in
+returns-in-Found-clause-takes_no_bit c = let b = board_of c.args.self.now in let p = c.args.pass.now in let f = c.in-Found in let hit = f.hit in let v = c.value_of_row-value in let r = c.leave_segment.new.pass in
+    let read = read_in b p c.scan_for.new.pass v.new.pass hit.item.seg hit.item.row f.ensures.reads v.ensures.reads in
+    let in' = then_reader b p v.new.pass c.count_hit.new.pass hit.item.seg read c.count_hit.ensures.reads in
+    let out = leave_then b p c.count_hit.new.pass r hit.item.seg in' c.leave_segment.ensures in
     reads_no_bit b p r out
 
 pub returns-in-Found-clause-answer : goal.returns-in-Found-clause-answer
-returns-in-Found-clause-answer c = let b = board_of c.args.self.now in let f = c.in-Found in let q = c.scan_for.new.pass in let r = c.leave_segment.new.pass in
-    let on = begins_on (trace q) (trace c.count_hit.new.pass) (trace r) (moved_on b _ q c.count_hit.new.pass c.count_hit.ensures.reads.reads.moved) (moved_on b _ c.count_hit.new.pass r c.leave_segment.ensures.moved) in
-    found_reads (shape_of c.args.self.now) f.place (item_word f.item) c.args.key.now f.value (trace c.args.pass.now) (trace q) (trace r) on f.ensures.scan
+returns-in-Found-clause-answer c = let b = board_of c.args.self.now in let p = c.args.pass.now in let f = c.in-Found in let hit = f.hit in let v = c.value_of_row-value in let r = c.leave_segment.new.pass in
+    let on = begins_on (trace v.new.pass) (trace c.count_hit.new.pass) (trace r) (moved_on b _ v.new.pass c.count_hit.new.pass c.count_hit.ensures.reads.reads.moved) (moved_on b _ c.count_hit.new.pass r c.leave_segment.ensures.moved) in
+    found_reads b.shape hit.place (item_word hit.item) c.args.key.now v.result (trace p) (trace v.new.pass) (trace r) on
+    (read_value b p c.scan_for.new.pass v.new.pass hit.place hit.item hit.header c.args.key.now v.result f.ensures.reads f.ensures.scan v.ensures.reads v.ensures.value)
 
 pub returns-in-Absent-clause-on : goal.returns-in-Absent-clause-on
 returns-in-Absent-clause-on c = let r = c.in-Absent.ensures.reads in (read_on (board_of c.args.self.now) c.args.pass.now c.scan_for.new.pass c.requires.pass r.reads r.plain r.memo).0
@@ -58,9 +76,10 @@ pub returns-in-Busy-clause-takes_no_bit : goal.returns-in-Busy-clause-takes_no_b
 returns-in-Busy-clause-takes_no_bit c = reads_no_bit (board_of c.args.self.now) c.args.pass.now c.scan_for.new.pass c.in-Busy.ensures.reads
 
 pub returns-in-Found-clause-draws_nothing : goal.returns-in-Found-clause-draws_nothing
-returns-in-Found-clause-draws_nothing c = let b = board_of c.args.self.now in let p = c.args.pass.now in let f = c.in-Found in let r = c.leave_segment.new.pass in
-    let in' = then_reader b p c.scan_for.new.pass c.count_hit.new.pass f.item.seg f.ensures.reads c.count_hit.ensures.reads in
-    let out = leave_then b p c.count_hit.new.pass r f.item.seg in' c.leave_segment.ensures in
+returns-in-Found-clause-draws_nothing c = let b = board_of c.args.self.now in let p = c.args.pass.now in let f = c.in-Found in let hit = f.hit in let v = c.value_of_row-value in let r = c.leave_segment.new.pass in
+    let read = read_in b p c.scan_for.new.pass v.new.pass hit.item.seg hit.item.row f.ensures.reads v.ensures.reads in
+    let in' = then_reader b p v.new.pass c.count_hit.new.pass hit.item.seg read c.count_hit.ensures.reads in
+    let out = leave_then b p c.count_hit.new.pass r hit.item.seg in' c.leave_segment.ensures in
     reader_draws_none b p r out.reads
 
 pub returns-in-Absent-clause-draws_nothing : goal.returns-in-Absent-clause-draws_nothing

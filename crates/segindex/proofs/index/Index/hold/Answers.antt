@@ -3,28 +3,43 @@ use Rattle.segbase.specs.Passes.{trace}
 use Rattle.segindex.specs.Index.{board_of, shape_of}
 use Rattle.segindex.proofs.Draws.{reader_draws_none}
 use Rattle.segindex.proofs.Gets.{gone_reads, takes_none}
+use Rattle.segindex.proofs.Hits.{hit_readable, read_in, read_value}
 use Rattle.segindex.proofs.HoldCalls.{has_found, takes_hold, takes_no_bit, draws_nothing}
 use Rattle.segindex.proofs.Holding.{held_at}
 use Rattle.segindex.proofs.Reading.{read_on}
 use Rattle.segindex.proofs.index.Index.hold.Goals as goal
 
+pub value_of_row-value-requires-clause-readable : goal.value_of_row-value-requires-clause-readable
+value_of_row-value-requires-clause-readable c = let f = c.in-Found in let hit = f.hit in
+    hit_readable (board_of c.args.self.now) c.args.pass.now c.scan_for.new.pass hit.place hit.item hit.header c.args.key.now f.ensures.reads f.ensures.scan
+
+pub value_of_row-value-requires-clause-header : goal.value_of_row-value-requires-clause-header
+value_of_row-value-requires-clause-header c = c.in-Found.ensures.scan.begins
+
 pub set_hold-requires : goal.set_hold-requires
-set_hold-requires c = let f = c.in-Found in
-    (f.ensures.reads.reads.moved.pass, (has_found (board_of c.args.self.now) c.args.pass.now c.scan_for.new.pass f.field-1 f.item c.args.key.now f.value f.ensures.reads f.ensures.scan, refl))
+set_hold-requires c = let b = board_of c.args.self.now in let p = c.args.pass.now in let f = c.in-Found in let hit = f.hit in let v = c.value_of_row-value in
+    let read = read_in b p c.scan_for.new.pass v.new.pass hit.item.seg hit.item.row f.ensures.reads v.ensures.reads in
+    let found = read_value b p c.scan_for.new.pass v.new.pass hit.place hit.item hit.header c.args.key.now v.result f.ensures.reads f.ensures.scan v.ensures.reads v.ensures.value in
+    (read.reads.moved.pass, (has_found b p v.new.pass hit.place hit.item c.args.key.now v.result read found, refl))
 
 pub returns-in-Found-clause-on : goal.returns-in-Found-clause-on
-returns-in-Found-clause-on c = let f = c.in-Found in
-    (takes_hold (board_of c.args.self.now) c.args.pass.now c.scan_for.new.pass c.set_hold.new.pass f.field-1 f.item c.args.key.now f.value (record { index = c.args.self; segment = f.item.seg; row = f.item.row })
-    c.requires.pass c.if-is_holding.ensures f.ensures.reads f.ensures.scan refl refl c.set_hold.ensures.pass c.set_hold.ensures.sets).0
+returns-in-Found-clause-on c = let b = board_of c.args.self.now in let p = c.args.pass.now in let f = c.in-Found in let hit = f.hit in let v = c.value_of_row-value in
+    let read = read_in b p c.scan_for.new.pass v.new.pass hit.item.seg hit.item.row f.ensures.reads v.ensures.reads in
+    let found = read_value b p c.scan_for.new.pass v.new.pass hit.place hit.item hit.header c.args.key.now v.result f.ensures.reads f.ensures.scan v.ensures.reads v.ensures.value in
+    (takes_hold b p v.new.pass c.set_hold.new.pass hit.place hit.item c.args.key.now v.result (record { index = c.args.self; segment = hit.item.seg; row = hit.item.row })
+    c.requires.pass c.if-is_holding.ensures read found refl refl c.set_hold.ensures.pass c.set_hold.ensures.sets).0
 
 pub returns-in-Found-clause-takes_no_bit : goal.returns-in-Found-clause-takes_no_bit
-returns-in-Found-clause-takes_no_bit c = let b = board_of c.args.self.now in let f = c.in-Found in let r = f.ensures.reads in let p = c.args.pass.now in let q = c.scan_for.new.pass in
-    takes_no_bit b r.reads.own (Some (held_at (shape_of c.args.self.now) (trace q) c.args.key.now f.value f.item.seg)) p q c.set_hold.new.pass c.requires.pass r.reads.moved r.reads.only r.plain r.memo c.set_hold.ensures.pass c.set_hold.ensures.sets
+returns-in-Found-clause-takes_no_bit c = let b = board_of c.args.self.now in let p = c.args.pass.now in let f = c.in-Found in let hit = f.hit in let v = c.value_of_row-value in
+    let r = read_in b p c.scan_for.new.pass v.new.pass hit.item.seg hit.item.row f.ensures.reads v.ensures.reads in
+    takes_no_bit b r.reads.own (Some (held_at (shape_of c.args.self.now) (trace v.new.pass) c.args.key.now v.result hit.item.seg)) p v.new.pass c.set_hold.new.pass c.requires.pass r.reads.moved r.reads.only r.plain r.memo c.set_hold.ensures.pass c.set_hold.ensures.sets
 
 pub returns-in-Found-clause-answer : goal.returns-in-Found-clause-answer
-returns-in-Found-clause-answer c = let f = c.in-Found in
-    (takes_hold (board_of c.args.self.now) c.args.pass.now c.scan_for.new.pass c.set_hold.new.pass f.field-1 f.item c.args.key.now f.value (record { index = c.args.self; segment = f.item.seg; row = f.item.row })
-    c.requires.pass c.if-is_holding.ensures f.ensures.reads f.ensures.scan refl refl c.set_hold.ensures.pass c.set_hold.ensures.sets).1
+returns-in-Found-clause-answer c = let b = board_of c.args.self.now in let p = c.args.pass.now in let f = c.in-Found in let hit = f.hit in let v = c.value_of_row-value in
+    let read = read_in b p c.scan_for.new.pass v.new.pass hit.item.seg hit.item.row f.ensures.reads v.ensures.reads in
+    let found = read_value b p c.scan_for.new.pass v.new.pass hit.place hit.item hit.header c.args.key.now v.result f.ensures.reads f.ensures.scan v.ensures.reads v.ensures.value in
+    (takes_hold b p v.new.pass c.set_hold.new.pass hit.place hit.item c.args.key.now v.result (record { index = c.args.self; segment = hit.item.seg; row = hit.item.row })
+    c.requires.pass c.if-is_holding.ensures read found refl refl c.set_hold.ensures.pass c.set_hold.ensures.sets).1
 
 pub returns-in-Absent-clause-on : goal.returns-in-Absent-clause-on
 returns-in-Absent-clause-on c = let r = c.in-Absent.ensures.reads in (read_on (board_of c.args.self.now) c.args.pass.now c.scan_for.new.pass c.requires.pass r.reads r.plain r.memo).0
@@ -51,8 +66,9 @@ returns-in-Busy-clause-answer c = let r = c.in-Busy.ensures.reads in (
 )
 
 pub returns-in-Found-clause-draws_nothing : goal.returns-in-Found-clause-draws_nothing
-returns-in-Found-clause-draws_nothing c = let b = board_of c.args.self.now in let f = c.in-Found in let r = f.ensures.reads in let p = c.args.pass.now in let q = c.scan_for.new.pass in
-    draws_nothing b r.reads.own (Some (held_at (shape_of c.args.self.now) (trace q) c.args.key.now f.value f.item.seg)) p q c.set_hold.new.pass c.requires.pass r.reads.moved r.reads.only r.plain r.memo c.set_hold.ensures.pass c.set_hold.ensures.sets
+returns-in-Found-clause-draws_nothing c = let b = board_of c.args.self.now in let p = c.args.pass.now in let f = c.in-Found in let hit = f.hit in let v = c.value_of_row-value in
+    let r = read_in b p c.scan_for.new.pass v.new.pass hit.item.seg hit.item.row f.ensures.reads v.ensures.reads in
+    draws_nothing b r.reads.own (Some (held_at (shape_of c.args.self.now) (trace v.new.pass) c.args.key.now v.result hit.item.seg)) p v.new.pass c.set_hold.new.pass c.requires.pass r.reads.moved r.reads.only r.plain r.memo c.set_hold.ensures.pass c.set_hold.ensures.sets
 
 pub returns-in-Absent-clause-draws_nothing : goal.returns-in-Absent-clause-draws_nothing
 returns-in-Absent-clause-draws_nothing c = reader_draws_none (board_of c.args.self.now) c.args.pass.now c.scan_for.new.pass c.in-Absent.ensures.reads.reads
