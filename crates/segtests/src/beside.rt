@@ -2,7 +2,7 @@
 ghost use Rattle.segindex.specs.Index.{board_of};
 ghost use Rattle.segindex.specs.Quiet.{IsQuiet};
 
-use crate::passes::last_two;
+use crate::passes::{SHAPE, last_two};
 use segindex::{Index, Pass};
 use segmodel::{GetAnswer, RefillAnswer, WriteAnswer};
 use segword::{Key, Shape, Value};
@@ -87,12 +87,9 @@ fn read_numbers(index: &Index, mut pass: Pass, key: &Key) -> (Pass, u32, bool)
 #[test]
 fn a_reader_beside_a_writer(rt: HostRuntime) -> Result<(), Fail> {
     let shape = Shape {
-        buckets: 1,
-        overflow: 0,
-        passes: 2,
         segments_each: SEGMENTS,
         rows: ROWS,
-        first_version: 0,
+        ..SHAPE
     };
     let (index, passes) = Index::new(rt.alloc(), shape)?;
     let (writer, reader) = last_two(&index, passes).expect(&rt, "two passes");

@@ -1,6 +1,6 @@
 //! Two threads that store, and an index that ends with the pass that hasn't seen all of it.
 use crate::meeting::set_at_once;
-use crate::passes::two_that_fill;
+use crate::passes::{SHAPE, two_that_fill};
 use segmodel::WriteAnswer;
 use segword::{Key, Shape, Value};
 use std::test::Fail;
@@ -9,11 +9,7 @@ use std::test::Fail;
 fn close_forgets_others(rt: HostRuntime) -> Result<(), Fail> {
     let shape = Shape {
         buckets: 4,
-        overflow: 0,
-        passes: 2,
-        segments_each: 1,
-        rows: 4,
-        first_version: 0,
+        ..SHAPE
     };
     let (index, first, second) = two_that_fill(rt.alloc(), shape)?;
     let a = Key::new(b"a").expect(&rt, "a key");

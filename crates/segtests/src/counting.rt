@@ -3,7 +3,7 @@ ghost use Rattle.segindex.specs.Index.{board_of};
 ghost use Rattle.segindex.specs.Quiet.{IsQuiet};
 
 use crate::digits::{number_of, value_of};
-use crate::passes::two_that_fill;
+use crate::passes::{SHAPE, two_that_fill};
 use segindex::{Index, Pass};
 use segmodel::{GetsAnswer, WriteAnswer};
 use segword::{Key, Shape, Value};
@@ -59,14 +59,7 @@ fn count_up(index: &Index, mut pass: Pass, key: &Key) -> (Pass, u32)
 
 #[test]
 fn two_threads_count_in_one_key(rt: HostRuntime) -> Result<(), Fail> {
-    let shape = Shape {
-        buckets: 1,
-        overflow: 0,
-        passes: 2,
-        segments_each: 1,
-        rows: 128,
-        first_version: 0,
-    };
+    let shape = Shape { rows: 128, ..SHAPE };
     let (index, mut first, mut second) = two_that_fill(rt.alloc(), shape)?;
     let key = Key::new(b"n").expect(&rt, "a key");
     let zero = Value::new(b"0").expect(&rt, "a value");

@@ -3,7 +3,7 @@ ghost use Rattle.segindex.specs.Index.{board_of};
 ghost use Rattle.segindex.specs.Quiet.{IsQuiet};
 
 use crate::digits::{number_of, value_of};
-use crate::passes::last_three;
+use crate::passes::{SHAPE, last_three};
 use segindex::{HoldAnswer, Index, Pass};
 use segmodel::{EvictAnswer, RefillAnswer, WriteAnswer};
 use segword::{Key, Shape, Value};
@@ -98,12 +98,9 @@ fn hold_in_turn(index: &Index, mut pass: Pass, key: &Key) -> (Pass, u32)
 #[test]
 fn held_values_outlive_evictions(rt: HostRuntime) -> Result<(), Fail> {
     let shape = Shape {
-        buckets: 1,
-        overflow: 0,
         passes: 3,
-        segments_each: 1,
         rows: 2,
-        first_version: 0,
+        ..SHAPE
     };
     let (index, passes) = Index::new(rt.alloc(), shape)?;
     let (first, second, third) = last_three(&index, passes).expect(&rt, "three passes");

@@ -3,7 +3,7 @@ ghost use Rattle.std.specs.Prelude.{◌<◌};
 ghost use Rattle.segindex.specs.Index.{board_of};
 ghost use Rattle.segindex.specs.Quiet.{IsQuiet};
 
-use crate::passes::two_that_fill;
+use crate::passes::{SHAPE, two_that_fill};
 use segindex::{Index, Pass};
 use segmodel::{GetAnswer, WriteAnswer};
 use segword::{Key, Shape, Value};
@@ -105,12 +105,9 @@ fn add_all(index: &Index, mut pass: Pass, parity: u8) -> (Pass, u32, u32)
 #[test]
 fn two_threads_fill_one_bucket(rt: HostRuntime) -> Result<(), Fail> {
     let shape = Shape {
-        buckets: 1,
         overflow: 5,
-        passes: 2,
-        segments_each: 1,
         rows: 32,
-        first_version: 0,
+        ..SHAPE
     };
     for _ in 0..ROUNDS {
         let (index, first, second) = two_that_fill(rt.alloc(), shape)?;
@@ -140,10 +137,8 @@ fn two_chains_share_the_overflow_buckets(rt: HostRuntime) -> Result<(), Fail> {
     let shape = Shape {
         buckets: 2,
         overflow: 4,
-        passes: 2,
-        segments_each: 1,
         rows: 32,
-        first_version: 0,
+        ..SHAPE
     };
     for _ in 0..ROUNDS {
         let (index, first, second) = two_that_fill(rt.alloc(), shape)?;
@@ -188,10 +183,8 @@ fn a_key_that_moves_on_stays_found(rt: HostRuntime) -> Result<(), Fail> {
     let shape = Shape {
         buckets: 2,
         overflow: 3,
-        passes: 2,
-        segments_each: 1,
         rows: 32,
-        first_version: 0,
+        ..SHAPE
     };
     // Bytes of the 7th, 13th and 19th key: each is in the chain's last word as the chain grows.
     for byte in [12u8, 24, 36] {

@@ -2,10 +2,10 @@
 ghost use Rattle.segindex.specs.Index.{board_of};
 ghost use Rattle.segindex.specs.Quiet.{IsQuiet};
 
-use crate::passes::two_that_fill;
+use crate::passes::{SHAPE, two_that_fill};
 use segindex::{Index, Pass};
 use segmodel::{GetAnswer, WriteAnswer};
-use segword::{Key, Shape, Value};
+use segword::{Key, Value};
 use std::test::Fail;
 use std::thread::{Threads, join, yield_now};
 
@@ -57,15 +57,7 @@ pub fn set_at_once<R: Threads + Sync>(
 
 #[test]
 fn two_threads_store_and_meet(rt: HostRuntime) -> Result<(), Fail> {
-    let shape = Shape {
-        buckets: 1,
-        overflow: 0,
-        passes: 2,
-        segments_each: 1,
-        rows: 4,
-        first_version: 0,
-    };
-    let (index, first, second) = two_that_fill(rt.alloc(), shape)?;
+    let (index, first, second) = two_that_fill(rt.alloc(), SHAPE)?;
     let a = Key::new(b"a").expect(&rt, "a key");
     let b = Key::new(b"b").expect(&rt, "a key");
     let one = Value::new(b"1").expect(&rt, "a value");

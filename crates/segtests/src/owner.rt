@@ -4,20 +4,11 @@ ghost use Rattle.segindex.specs.Quiet.{IsQuiet};
 ghost use Rattle.segindex.specs.Holds.{IsHoldOf};
 ghost use Rattle.segindex.specs.Props.{IsQuiet-prop, IsHoldOf-prop};
 
-use crate::passes::last_two;
+use crate::passes::{SHAPE, last_two};
 use segindex::{Hold, HoldAnswer, Index, Pass};
 use segmodel::{GetAnswer, RefillAnswer, WriteAnswer};
-use segword::{Key, Shape, Value};
+use segword::{Key, Value};
 use std::test::Fail;
-
-const SHAPE: Shape = Shape {
-    buckets: 1,
-    overflow: 0,
-    passes: 2,
-    segments_each: 1,
-    rows: 4,
-    first_version: 0,
-};
 
 /// An index with one of its passes. Its calls ask for nothing, since the pass is quiet between them.
 #[derive(Drop)]

@@ -9,6 +9,16 @@ use segword::Shape;
 use std::alloc::Global;
 use std::test::Fail;
 
+/// One bucket, and two passes with a segment of four rows each.
+pub const SHAPE: Shape = Shape {
+    buckets: 1,
+    overflow: 0,
+    passes: 2,
+    segments_each: 1,
+    rows: 4,
+    first_version: 0,
+};
+
 /// The last two of the passes.
 pub fn last_two(index: &Index, mut passes: Vec<Pass>) -> Option<(Pass, Pass)>
     requires { (n : ℕ) (pass : Pass) → slice_get passes.items n ≡ Some pass → IsQuiet (board_of index.now) pass }
