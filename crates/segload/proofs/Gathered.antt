@@ -7,8 +7,9 @@ use Rattle.segcore.proofs.Moments.{begins_on}
 use Rattle.segcore.proofs.Standing.{legal}
 use Rattle.segbase.specs.declared.board.Board.{Board}
 use Rattle.segbase.specs.declared.pass.Pass.{Pass}
-use Rattle.segbase.specs.Passes.{number, seen, mine, marked, trace}
+use Rattle.segbase.specs.Passes.{number, seen, mine, trace}
 use Rattle.segindex.specs.Calls.{GoesOn, ChangesNothing, Meets}
+use Rattle.segindex.proofs.RowsOut.{goes_then}
 use Rattle.segindex.proofs.OnePass.{all_mine}
 use Rattle.segload.specs.declared.worker.Worker.{Worker}
 use Rattle.segload.specs.Gathering.{Looked, HasMet, HasMetEach, AreAll, HasGathered}
@@ -16,15 +17,7 @@ use Rattle.segindex.proofs.Meeting.{mine_begins}
 
 -- what only looked twice, only looked
 pub looked_then : (b : Board) (p q r : Pass) → Looked b p q → GoesOn b q r → ChangesNothing q r → Looked b p r
-looked_then b p q r first on nothing = record {
-  on = record {
-    quiet = on.quiet;
-    same = on.same ∙ first.on.same;
-    marked = begins_on (marked p) (marked q) (marked r) first.on.marked on.marked;
-    seen = begins_on (seen p) (seen q) (seen r) first.on.seen on.seen;
-  };
-  mine = nothing.entries ∙ first.mine;
-}
+looked_then b p q r first on nothing = record { on = goes_then b p q r first.on on; mine = nothing.entries ∙ first.mine }
 
 -- the first pass has seen more by now
 pub met_then : (b : Board) (before now later p q : Pass) → HasMet b before now p q → Begins (seen now) (seen later) → HasMet b before later p q

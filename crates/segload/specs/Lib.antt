@@ -1,4 +1,5 @@
 pub mod Counting
+pub mod Gates
 pub mod Working
 pub mod Gathering
 pub mod Loads

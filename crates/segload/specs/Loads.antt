@@ -1,5 +1,5 @@
 -- What a load comes to.
-use Rattle.std.specs.Prelude.{◌≡◌, ℕ, ◌<◌, List, length, slice_get, Some}
+use Rattle.std.specs.Prelude.{◌≡◌, ℕ, ◌<◌, Bool, List, length, slice_get, Some}
 use Rattle.segword.specs.declared.shape.Shape.{Shape}
 use Rattle.segword.specs.Shape.{IsValid}
 use Rattle.segmodel.specs.declared.entry.Entry.{Entry}
@@ -10,6 +10,7 @@ use Rattle.segload.specs.declared.fault.LoadFault.{LoadFault}
 use Rattle.segload.specs.declared.fault.LoadFault.TheVariants.{Make, Stopped, OutOfMemory}
 use Rattle.segload.specs.declared.totals.PassTotals.{PassTotals}
 use Rattle.segload.specs.declared.totals.Totals.{Totals}
+use Rattle.segload.specs.Gates.{LetsThrough, Stops}
 use Rattle.segload.specs.Counting.{all_of, CountsReplies}
 
 -- a pass made so many commands, each counted once, and its five tallies of replies count its own writes in a history
@@ -35,8 +36,19 @@ pub record IsLoad (shape : Shape) (commands : ℕ) (totals : Totals) : Type 0 wh
   pub alone : shape.passes ≡ 1 → end ≡ history
   pub keys : totals.keys ≡ keys_of (after shape end)
 
--- The index couldn't be made; or a pass of it was stopped before one of its commands, where the gate may stop it; or memory was wanted for a shape that an index may have.
-abbrev pub IsLoadFault : Shape → ℕ → (ℕ → ℕ → Type 0) → LoadFault → Type 0
-IsLoadFault shape commands may_stop (Make fault) = IsMakeFault shape fault
-IsLoadFault shape commands may_stop (Stopped pass) = IsValid shape × (pass < shape.passes) × ((call : ℕ) × (call < commands) × may_stop pass call)
-IsLoadFault shape commands may_stop OutOfMemory = IsValid shape
+-- the gate let each command of each pass through
+abbrev pub IsLetThrough : Shape → ℕ → (ℕ → ℕ → Bool → Type 0) → Type 0
+IsLetThrough shape commands may_answer = (pass : ℕ) → pass < shape.passes → LetsThrough may_answer commands pass
+
+-- the gate stopped a pass before one of its commands, and let each command of each pass below it through
+pub record IsStopped (shape : Shape) (commands : ℕ) (may_answer : ℕ → ℕ → Bool → Type 0) (pass : ℕ) : Type 0 where
+  pub valid : IsValid shape
+  pub one_of : pass < shape.passes
+  pub stops : Stops may_answer commands pass
+  pub lowest : (lower : ℕ) → lower < pass → LetsThrough may_answer commands lower
+
+-- the index couldn't be made; or a pass of it was stopped, and none below it; or memory was wanted for a shape that an index may have
+abbrev pub IsLoadFault : Shape → ℕ → (ℕ → ℕ → Bool → Type 0) → LoadFault → Type 0
+IsLoadFault shape commands may_answer (Make fault) = IsMakeFault shape fault
+IsLoadFault shape commands may_answer (Stopped pass) = IsStopped shape commands may_answer pass
+IsLoadFault shape commands may_answer OutOfMemory = IsValid shape

@@ -1,7 +1,7 @@
 //! A pass of an index, which makes the commands of a load.
 ghost use Rattle.std.specs.Prelude.{◌≡◌, ◌^◌, ◌<◌};
 ghost use Rattle.segmodel.specs.declared.answer.WriteAnswer.TheVariants.{NoRoom};
-ghost use Rattle.segload.specs.Working.{write_tally, delete_tally, StaysQuiet, TellsNothing, Tells};
+ghost use Rattle.segload.specs.Working.{write_tally, delete_tally, TellsNothing, Tells};
 
 use crate::totals::Tally;
 use segindex::{Index, Pass};
@@ -45,6 +45,7 @@ fn tally_of_delete(answer: DeleteAnswer) -> Tally
 impl Client {
     ghost use Rattle.segindex.specs.Index.{board_of};
     ghost use Rattle.segindex.specs.Quiet.{IsQuiet};
+    ghost use Rattle.segindex.specs.Calls.{GoesOn};
 
     /// A pass that made no command yet.
     pub(crate) fn new(pass: Pass, segments: Ring) -> Client
@@ -72,7 +73,7 @@ impl Client {
     /// Makes a command, and says what it came to.
     pub(crate) fn serve(&mut self, index: &Index, load: &Load) -> Tally
         requires quiet { IsQuiet (board_of index.now) self.old.pass }
-        ensures quiet { StaysQuiet (board_of index.now) self.old.pass self.new.pass }
+        ensures on { GoesOn (board_of index.now) self.old.pass self.new.pass }
         ensures tells { Tells result self.old.pass self.new.pass }
     {
         match load.kind {
@@ -87,7 +88,7 @@ impl Client {
 
     fn get(&mut self, index: &Index, load: &Load) -> Tally
         requires quiet { IsQuiet (board_of index.now) self.old.pass }
-        ensures quiet { StaysQuiet (board_of index.now) self.old.pass self.new.pass }
+        ensures on { GoesOn (board_of index.now) self.old.pass self.new.pass }
         ensures tells { Tells result self.old.pass self.new.pass }
     {
         match index.get(&mut self.pass, &load.key, load.draw) {
@@ -100,7 +101,7 @@ impl Client {
     // It remembers the version for the next cas.
     fn gets(&mut self, index: &Index, load: &Load) -> Tally
         requires quiet { IsQuiet (board_of index.now) self.old.pass }
-        ensures quiet { StaysQuiet (board_of index.now) self.old.pass self.new.pass }
+        ensures on { GoesOn (board_of index.now) self.old.pass self.new.pass }
         ensures tells { Tells result self.old.pass self.new.pass }
     {
         match index.gets(&mut self.pass, &load.key, load.draw) {
@@ -116,7 +117,7 @@ impl Client {
     // A write. Where it finds no room it is made once more, if room could be made.
     fn store(&mut self, index: &Index, load: &Load) -> WriteAnswer
         requires quiet { IsQuiet (board_of index.now) self.old.pass }
-        ensures quiet { StaysQuiet (board_of index.now) self.old.pass self.new.pass }
+        ensures on { GoesOn (board_of index.now) self.old.pass self.new.pass }
         ensures tells { Tells (write_tally result) self.old.pass self.new.pass }
     {
         let answer = self.write(index, load);
@@ -131,7 +132,7 @@ impl Client {
 
     fn write(&mut self, index: &Index, load: &Load) -> WriteAnswer
         requires quiet { IsQuiet (board_of index.now) self.old.pass }
-        ensures quiet { StaysQuiet (board_of index.now) self.old.pass self.new.pass }
+        ensures on { GoesOn (board_of index.now) self.old.pass self.new.pass }
         ensures tells { Tells (write_tally result) self.old.pass self.new.pass }
         ensures untouched { result ≡ NoRoom → self.new.pass ≡ self.old.pass }
     {
@@ -147,7 +148,7 @@ impl Client {
     // Gives up the next of its segments for new keys, and says whether that came about.
     fn make_room(&mut self, index: &Index) -> bool
         requires quiet { IsQuiet (board_of index.now) self.old.pass }
-        ensures quiet { StaysQuiet (board_of index.now) self.old.pass self.new.pass }
+        ensures on { GoesOn (board_of index.now) self.old.pass self.new.pass }
         ensures tells { TellsNothing self.old.pass self.new.pass }
     {
         let segment = self.segments.next();

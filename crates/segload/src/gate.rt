@@ -1,14 +1,15 @@
 //! What lets the commands of a load through.
-ghost use Rattle.std.specs.Prelude.{◌≡◌, ℕ, ⊤, false};
+ghost use Rattle.std.specs.Prelude.{ℕ, Bool, ⊤};
+ghost use Rattle.segload.specs.Gates.{lets_all_through};
 
 /// It is asked before each command of each pass, from the pass's own thread, and told when the command was answered. The commands of a pass are numbered from 0.
 pub trait Gate: Sync {
-    /// Before which commands of which passes it may stop.
-    ghost may_stop: { Self → ℕ → ℕ → Type 0 } = { λ gate pass call. ⊤ };
+    /// What it may answer before a command of a pass.
+    ghost may_answer: { Self → ℕ → ℕ → Bool → Type 0 } = { λ gate pass call answer. ⊤ };
 
     /// Whether the pass may make the command. Where it may not, the pass stops.
     fn enter(&self, pass: u32, call: u32) -> bool
-        ensures { result ≡ false → may_stop self.now pass call };
+        ensures { may_answer self.now pass call result };
 
     /// The command was answered.
     fn answered(&self, pass: u32, call: u32);
@@ -19,7 +20,7 @@ pub trait Gate: Sync {
 pub struct OpenGate;
 
 impl Gate for OpenGate {
-    ghost may_stop = { λ gate pass call. ⊥ };
+    ghost may_answer = { λ gate. lets_all_through };
 
     fn enter(&self, _pass: u32, _call: u32) -> bool {
         true

@@ -9,8 +9,8 @@ ghost use Rattle.segindex.specs.Index.{board_of, shape_of};
 ghost use Rattle.segindex.specs.Quiet.{IsQuiet};
 ghost use Rattle.segindex.specs.Calls.{IsNew};
 ghost use Rattle.segindex.specs.Closing.{IsEnd};
-ghost use Rattle.segload.specs.Working.{Begins, HasWorked};
-ghost use Rattle.segload.specs.Loads.{keys_of, IsLoad, IsLoadFault};
+ghost use Rattle.segload.specs.Working.{Begins, HasWorked, NoneStopped, IsFirstStopped};
+ghost use Rattle.segload.specs.Loads.{keys_of, IsLoad, IsLetThrough, IsLoadFault};
 
 use crate::fault::LoadFault;
 use crate::gate::Gate;
@@ -37,7 +37,7 @@ impl<'i, G: Gate> Promise<Worker> for Worked<'i, G> {
     ghost use Rattle.segindex.specs.Index.{board_of};
     ghost use Rattle.segload.specs.Working.{HasWorked};
 
-    ghost kept_by = { λ promise worker. HasWorked (board_of promise.index.now) (G.may_stop promise.gate.now) promise.pass promise.commands worker };
+    ghost kept_by = { λ promise worker. HasWorked (board_of promise.index.now) (G.may_answer promise.gate.now) promise.pass promise.commands worker };
 }
 
 // Each worker at work on a thread of its own. A thread that can't be had doesn't stop the others.
@@ -51,14 +51,14 @@ fn work_at_once<R: Threads + Wait + Sync, G: Gate>(
 ) -> Result<Vec<Worker>, AllocError>
     requires ready { (n : ℕ) (worker : Worker) → slice_get workers.items n ≡ Some worker → Begins (board_of index.now) n worker }
     ensures long { IfOk result (λ worked. vec_len worked ≡ vec_len workers) }
-    ensures each { IfOk result (λ worked. (n : ℕ) (worker : Worker) → slice_get worked.items n ≡ Some worker → HasWorked (board_of index.now) (G.may_stop gate.now) n commands worker) }
+    ensures each { IfOk result (λ worked. (n : ℕ) (worker : Worker) → slice_get worked.items n ≡ Some worker → HasWorked (board_of index.now) (G.may_answer gate.now) n commands worker) }
 {
     thread::scope(
         thread::scope_env(),
         rt,
         move |scope| -> Result<Vec<Worker>, AllocError>
             requires { IsSync G.row × ((n : ℕ) (worker : Worker) → slice_get workers.items n ≡ Some worker → Begins (board_of index.now) n worker) }
-            ensures { IfOk result (λ worked. (vec_len worked ≡ vec_len workers) × ((n : ℕ) (worker : Worker) → slice_get worked.items n ≡ Some worker → HasWorked (board_of index.entry.now) (G.may_stop gate.entry.now) n commands worker)) }
+            ensures { IfOk result (λ worked. (vec_len worked ≡ vec_len workers) × ((n : ℕ) (worker : Worker) → slice_get worked.items n ≡ Some worker → HasWorked (board_of index.entry.now) (G.may_answer gate.entry.now) n commands worker)) }
         {
             let count = workers.len();
             let mut threads = Vec::with_capacity(alloc, count)?;
@@ -71,7 +71,7 @@ fn work_at_once<R: Threads + Wait + Sync, G: Gate>(
                 };
                 let work = move || -> Worker
                     requires { IsSync G.row × Begins (board_of index.now) (number worker.client.pass) worker }
-                    ensures { HasWorked (board_of index.entry.now) (G.may_stop gate.entry.now) (number worker.client.pass) commands result }
+                    ensures { HasWorked (board_of index.entry.now) (G.may_answer gate.entry.now) (number worker.client.pass) commands result }
                 { worker.work(index, gate, commands) };
                 if let Ok(thread) = scope.spawn_with(worked, work) {
                     threads.push_reserved(thread);
@@ -105,8 +105,8 @@ fn begin_all(
 
 // The lowest of the passes that the gate stopped.
 fn first_stopped(workers: &Vec<Worker>) -> Option<u32>
-    ensures some { IfSome result (λ pass. (n : ℕ) × (worker : Worker) × (slice_get workers.now.items n ≡ Some worker) × (worker.is_stopped ≡ true) × (pass ≡ number_of worker.client.pass)) }
-    ensures none { result ≡ None → (n : ℕ) (worker : Worker) → slice_get workers.now.items n ≡ Some worker → worker.is_stopped ≡ false }
+    ensures some { IfSome result (IsFirstStopped workers.now.items) }
+    ensures none { result ≡ None → NoneStopped workers.now.items }
 {
     for worker in workers.iter() {
         if worker.is_stopped {
@@ -157,7 +157,8 @@ pub fn run_load<R: Threads + Wait + AllocGlobal + Sync, G: Gate>(
     gate: &G,
 ) -> Result<Totals, LoadFault>
     ensures load { IfOk result (IsLoad shape commands) }
-    ensures fault { IfErr result (IsLoadFault shape commands (G.may_stop gate.now)) }
+    ensures let_through { IfOk result (λ _. IsLetThrough shape commands (G.may_answer gate.now)) }
+    ensures fault { IfErr result (IsLoadFault shape commands (G.may_answer gate.now)) }
 {
     let (index, passes) = match Index::new(alloc, shape) {
         Ok(made) => made,

@@ -1,5 +1,5 @@
 //! What a load counts.
-ghost use Rattle.std.specs.Prelude.{◌≡◌, ◌+◌, ◌^◌, ◌<◌, vec_len, sum_by};
+ghost use Rattle.std.specs.Prelude.{◌≡◌, ◌+◌, ◌^◌, ◌<◌, sum_by};
 ghost use Rattle.segload.specs.declared.totals.PassTotals.{PassTotals};
 ghost use Rattle.segload.specs.Counting.{no_tallies, counted, all_of};
 
@@ -56,7 +56,7 @@ impl Tallies {
     }
 
     /// Counts one command more.
-    pub fn count(&mut self, tally: Tally)
+    pub(crate) fn count(&mut self, tally: Tally)
         requires fits { all_of self.old + 1 < 2 ^ 32 }
         ensures counted { self.new ≡ counted tally self.old }
     {
@@ -91,13 +91,12 @@ pub struct Totals {
 
 impl Totals {
     /// How many commands the passes made together.
-    pub fn commands(&self) -> u64
-        requires few { vec_len self.now.passes < 2 ^ 32 }
+    pub fn commands(&self) -> u128
         ensures { result ≡ sum_by (λ (of : PassTotals). of.commands) self.now.passes.items }
     {
         let mut commands = 0;
         for pass in self.passes.iter() {
-            commands += u64::from(pass.commands);
+            commands += u128::from(pass.commands);
         }
         commands
     }

@@ -49,7 +49,7 @@ impl Worker {
     /// Makes its commands, until the gate stops it.
     pub(crate) fn work<G: Gate>(mut self, index: &Index, gate: &G, commands: u32) -> Worker
         requires begins { Begins (board_of index.now) (number self.client.pass) self }
-        ensures { HasWorked (board_of index.now) (G.may_stop gate.now) (number self.client.pass) commands result }
+        ensures { HasWorked (board_of index.now) (G.may_answer gate.now) (number self.client.pass) commands result }
     {
         let pass = self.client.pass.number();
         for call in 0..commands {

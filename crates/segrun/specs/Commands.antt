@@ -8,6 +8,7 @@ use Rattle.segrun.specs.Printing.{PrintOutcome, IsPrinted, IsFlushed}
 use Rattle.segrun.specs.Totals.{totals_text}
 use Rattle.segscript.specs.Run.{RunOutcome, ShapeIsAnswered, is_read_fault, is_write_fault, is_make_fault}
 use Rattle.segscript.specs.declared.fault.RunFault.{RunFault}
+use Rattle.segload.specs.Gates.{lets_all_through}
 use Rattle.segload.specs.Loads.{IsLoad, IsLoadFault}
 use Rattle.segload.specs.declared.fault.LoadFault.{LoadFault}
 use Rattle.segload.specs.declared.totals.Totals.{Totals}
@@ -50,7 +51,7 @@ WordOutcome text Wrote before flushes end = (reading : Reading) × Says text rea
 
 -- why a load of this shape has no totals to show: no pass of it is stopped
 abbrev pub IsFaultOfLoad : Shape → ℕ → ProgramFault → Type 0
-IsFaultOfLoad shape commands f = (why : LoadFault) × IsLoadFault shape commands (λ pass call. ⊥) why × (f ≡ fault_of_load why)
+IsFaultOfLoad shape commands f = (why : LoadFault) × IsLoadFault shape commands lets_all_through why × (f ≡ fault_of_load why)
 
 -- The totals of a load of this shape, in which each pass made so many commands, were shown; or there are none to show, and
 -- nothing was written.

@@ -1,5 +1,5 @@
 //! What the program prints of a load.
-ghost use Rattle.std.specs.Prelude.{◌≡◌, ◌<◌, ◌^◌, ◌++◌, IfOk, vec_len};
+ghost use Rattle.std.specs.Prelude.{◌≡◌, ◌++◌, IfOk};
 ghost use Rattle.segrun.specs.Totals.{pass_line, tallies_text, total_line, totals_text};
 
 use itoa::{Buffer, Integer};
@@ -48,7 +48,7 @@ fn put_pass(text: &mut Vec<u8>, number: usize, pass: &PassTotals) -> Result<(), 
 }
 
 // Puts the line of all passes at the end of the text.
-fn put_total(text: &mut Vec<u8>, commands: u64, keys: u32) -> Result<(), AllocError>
+fn put_total(text: &mut Vec<u8>, commands: u128, keys: u32) -> Result<(), AllocError>
     ensures text { IfOk result (λ _. text.new.items ≡ text.old.items ++ total_line commands keys) }
 {
     put_count(text, b"total commands=", commands)?;
@@ -58,7 +58,6 @@ fn put_total(text: &mut Vec<u8>, commands: u64, keys: u32) -> Result<(), AllocEr
 
 /// The text of a load's totals: a line for each pass, in the order of their numbers, and one for all.
 pub fn text_of(alloc: Global, totals: &Totals) -> Result<Vec<u8>, AllocError>
-    requires few { vec_len totals.now.passes < 2 ^ 32 }
     ensures text { IfOk result (λ text. text.items ≡ totals_text totals.now) }
 {
     let mut text = Vec::new(alloc);

@@ -6,8 +6,15 @@ use Rattle.segload.proofs.load.first_stopped.Goals as goal
 pub returns-then-worker-clause-some : goal.returns-then-worker-clause-some
 returns-then-worker-clause-some c =
     let items = c.deref-worker-items in
-    let at = slice_get_read items.result.now (length items.result.now) c.loop-worker.worker-index c.worker-item.result refl c.loop-worker-test.true c.worker-item.is in
-    (c.loop-worker.worker-index, c.worker-item.result, ap (λ l. slice_get l c.loop-worker.worker-index) (sym items.ensures.value) ∙ at, c.if-worker.true, c.number.ensures)
+    let i = c.loop-worker.worker-index in
+    let at = slice_get_read items.result.now (length items.result.now) i c.worker-item.result refl c.loop-worker-test.true c.worker-item.is in record {
+      place = i;
+      worker = c.worker-item.result;
+      there = ap (λ l. slice_get l i) (sym items.ensures.value) ∙ at;
+      stopped = c.if-worker.true;
+      of = c.number.ensures;
+      first = λ n lower below there. c.loop-worker.invariant n lower there below;
+    }
 
 pub loop-worker-preserved : goal.loop-worker-preserved
 loop-worker-preserved c n worker at below =

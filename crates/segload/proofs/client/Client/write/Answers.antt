@@ -13,7 +13,7 @@ returns-in-Cas-clause-tells c = counts_write c.args.index.now.board (Cas c.args.
 
 pub returns-in_default : goal.returns-in_default
 returns-in_default c = record {
-  quiet = record { quiet = c.set.ensures.writes.on.quiet; same = c.set.ensures.writes.on.same };
+  on = c.set.ensures.writes.on;
   tells = counts_write c.args.index.now.board (Set c.args.load.now.key c.args.load.now.value) c.set.result c.args.self.now.pass c.set.new.pass c.set.ensures.writes;
   untouched = c.set.ensures.writes.untouched;
 }

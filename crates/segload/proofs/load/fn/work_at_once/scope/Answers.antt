@@ -45,7 +45,7 @@ spawn_with-requires-clause-keeps g c =
     let b = c.captures.index.now.board in
     let begins = first_begins b (c.len-count.result - into_iter_len c.loop-worker.worker-iterator) c.in-Some.worker (into_iter_items c.next.new.self) (into_iter_items c.loop-worker.worker-iterator)
     c.in-Some.ensures.steps.0 c.loop-worker.invariant.rest in
-    λ κs h r worked. subst (λ n. HasWorked b (g.G.Gate.may_stop c.captures.gate.now) n c.captures.commands r) (sym (c.number.ensures ∙ begins.at_work.quiet.pass.numbered)) worked
+    λ κs h r worked. subst (λ n. HasWorked b (g.G.Gate.may_answer c.captures.gate.now) n c.captures.commands r) (sym (c.number.ensures ∙ begins.at_work.quiet.pass.numbered)) worked
 
 pub loop-worker-preserved-in-Ok : goal.loop-worker-preserved-in-Ok
 loop-worker-preserved-in-Ok g c =
@@ -107,6 +107,6 @@ returns g c =
           let kept = (joined.each n worker here).1 in
           let there = slice_get_read threads.items (vec_len threads) n kept.handle threads.ok.0 here kept.handle_is in
           let ours = was.ours n kept.handle there in
-          worked_there b kept.handle.promise.index.now.board (g.G.Gate.may_stop c.captures.gate.now) (g.G.Gate.may_stop kept.handle.promise.gate.now) n kept.handle.promise.pass c.captures.commands kept.handle.promise.commands worker (slice_index_or worked.items n worker)
-          ours.0 (ap (λ gate. g.G.Gate.may_stop gate) ours.1) (was.in_order (omega (arith, all, over.0)) n kept.handle there) ours.2 (get_or_from_slice_get worked.items n worker worker at) kept.kept,
+          worked_there b kept.handle.promise.index.now.board (g.G.Gate.may_answer c.captures.gate.now) (g.G.Gate.may_answer kept.handle.promise.gate.now) n kept.handle.promise.pass c.captures.commands kept.handle.promise.commands worker (slice_index_or worked.items n worker)
+          ours.0 (ap (λ gate. g.G.Gate.may_answer gate) ours.1) (was.in_order (omega (arith, all, over.0)) n kept.handle there) ours.2 (get_or_from_slice_get worked.items n worker worker at) kept.kept,
     )

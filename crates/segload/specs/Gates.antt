@@ -1,0 +1,17 @@
+-- What a gate answers before the commands of a load, by what it may answer before each command of each pass.
+use Rattle.std.specs.Prelude.{◌≡◌, ℕ, ◌<◌, Bool, false, true}
+
+-- each command of each pass is let through
+abbrev pub lets_all_through : ℕ → ℕ → Bool → Type 0
+lets_all_through pass call answer = answer ≡ true
+
+-- it lets the first commands of a pass through, so many
+abbrev pub LetsThrough : (ℕ → ℕ → Bool → Type 0) → ℕ → ℕ → Type 0
+LetsThrough may_answer commands pass = (call : ℕ) → call < commands → may_answer pass call true
+
+-- it stops a pass before one of so many commands, and lets those before it through
+pub record Stops (may_answer : ℕ → ℕ → Bool → Type 0) (commands pass : ℕ) : Type 0 where
+  pub call : ℕ
+  pub below : call < commands
+  pub until : LetsThrough may_answer call pass
+  pub stopped : may_answer pass call false
