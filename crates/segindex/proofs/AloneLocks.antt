@@ -1,5 +1,5 @@
 -- With one pass, a lock and an unlock are served as the model says.
-use Rattle.std.proofs.Common.{◌≡◌, ◌≢◌, ℕ, Bool, true, false, List, is_some, Option, Some, None, option_map, refl, sym, ap, ◌∙◌}
+use Rattle.std.proofs.Common.{◌≡◌, ◌≢◌, ℕ, Bool, true, false, List, is_some, Option, Some, None, option_map, refl, sym, ap, ◌∙◌, inr}
 use Rattle.std.specs.Prelude.{◌↔◌}
 use Rattle.std.proofs.lemmas.Bool.{false≢true}
 use Rattle.std.proofs.lemmas.Option.{none-some}
@@ -50,9 +50,9 @@ module _ (b : Board) (p q : Pass) (was : IsAlone b p) (on : GoesOn b p q) (undra
         locks_alone b p q was on undrawn locks.entries locks.segments locks.current locks.holding.0
             ∙ ap (λ o. record (state_at b.shape p) { locked = o }) (locks.locked_of ∙ sym (ap (turns.locked_after (bucket_of b.shape key)) free)),
       )
-  lock_turn key lock.Busy (nothing, busy) already =
+  lock_turn key lock.Busy (nothing, vain) already =
       let free = other_answer lock.Busy already (λ e. cc) in
-      absurd (none-some (bucket_of b.shape key) (sym free ∙ busy_by_lock b p q (bucket_of b.shape key) was.quiet on.quiet was.one busy))
+      absurd (none-some (bucket_of b.shape key) (sym free ∙ busy_by_lock b p q (bucket_of b.shape key) was.quiet on.quiet was.one (inr vain)))
   lock_turn key lock.AlreadyLocked nothing already =
       let stays = stays_locked (bucket_of b.shape key) (locked_of p) (already.0 refl) in
       turned_still b (turn.Lock key) outcome.AlreadyLocked p q was on.quiet nothing

@@ -23,7 +23,7 @@ use Rattle.segbase.specs.declared.pass.Pass.{Pass}
 use Rattle.segbase.specs.declared.closing.Words.{Words}
 use Rattle.segbase.specs.Passes.{number, trace}
 use Rattle.segbase.specs.Closing.{shape_of, IsAtRest, Closes}
-use Rattle.segindex.specs.Closing.{Pairs, pair_of, pairs_of, listed, IsListed, IsContent, IsContentSeen}
+use Rattle.segindex.specs.Closing.{Pairs, pair_of, pairs_of, listed, IsListed, IsEnd, IsContent, IsContentSeen, HasContent, WantsMemory}
 use Rattle.segindex.proofs.Pairs.{AreDistinct, IsOrdered, ordered, listed_sorted, listed_unsorted, one_list}
 
 same_options : {A : Type 0} (a b : Option A) → ((x : A) → a ≡ Some x → b ≡ Some x) → ((x : A) → b ≡ Some x → a ≡ Some x) → a ≡ b
@@ -54,21 +54,29 @@ module _ (words : Words) (now : List Event) (rest : IsAtRest words now) (pairs s
       one_list sorted (map pair_of items) in_order.1 (subst (λ ks. IsStrictlySortedBy key_cmp ks) (sym (keys_of_pairs items)) (sorted-after z (seen now)))
       (λ key. same_value key ∙ sym (lookup-map_values (λ (c : Cached). c.value) (is_at (key_cmp key)) items))
 
+module _ (b : Board) (p : Pass) (words : Words) (now : List Event) (closed : Closes b p words now) where
+  is_end : IsEnd b.shape p (seen now)
+  is_end = record {
+    legal = subst (λ (z : Shape). history.IsLegal z (seen now)) closed.of (legal (shape_of words) now closed.rest.lawful);
+    goes_on = seen_begins (trace p) now (closed.more, closed.goes_on);
+    mine = ap (λ h. history.mine (number p) (seen h)) closed.goes_on ∙ mine_others (number p) closed.more (trace p) closed.others;
+  }
+
+  pub wants_memory : HasContent (shape_of words) (seen now) → WantsMemory b.shape p
+  wants_memory content = record {
+    end = seen now;
+    is_end = is_end;
+    alone = λ one. ap seen (closed.alone one);
+    content = subst (λ (z : Shape). HasContent z (seen now)) closed.of content;
+  }
+
 module _ (b : Board) (p : Pass) (words : Words) (now : List Event) (closed : Closes b p words now) (pairs sorted : Pairs) (all : IsListed words now (shape_of words).buckets 1 pairs)
     (moves : IsPermutation pairs sorted) (up : IsSortedBy (λ p q. is_lt (key_cmp p.0 q.0)) sorted) where
   of_board : sorted ≡ pairs_of (after b.shape (seen now))
   of_board = is_content words now closed.rest pairs sorted all moves up ∙ ap (λ (z : Shape). pairs_of (after z (seen now))) closed.of
 
   pub some_content : IsContent b.shape p sorted
-  some_content = (
-    seen now,
-    record {
-      legal = subst (λ (z : Shape). history.IsLegal z (seen now)) closed.of (legal (shape_of words) now closed.rest.lawful);
-      goes_on = seen_begins (trace p) now (closed.more, closed.goes_on);
-      mine = ap (λ h. history.mine (number p) (seen h)) closed.goes_on ∙ mine_others (number p) closed.more (trace p) closed.others;
-    },
-    of_board,
-  )
+  some_content = (seen now, is_end b p words now closed, of_board)
 
   pub alone_content : b.shape.passes ≡ 1 → IsContentSeen b.shape p sorted
   alone_content one = of_board ∙ ap (λ h. pairs_of (after b.shape (seen h))) (closed.alone one)

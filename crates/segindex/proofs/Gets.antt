@@ -72,7 +72,7 @@ pub takes_none : (b : Board) (p q : Pass) → IsReader b p q → taken q ≡ tak
 takes_none b p q i = moved_taken b i.reads.own p q i.reads.moved ∙ reads_set_none (number p) i.reads.own (trace p) i.reads.only
 
 -- and tries for none
-reads_try_none : (p b : ℕ) (own h : List Event) → OnlyReads own → count.bounced p b (own ++ h) ≡ count.bounced p b h
+pub reads_try_none : (p b : ℕ) (own h : List Event) → OnlyReads own → count.bounced p b (own ++ h) ≡ count.bounced p b h
 reads_try_none p b [] h only = refl
 reads_try_none p b (Glanced q a ∷ own) h only = reads_try_none p b own h only.1
 reads_try_none p b (Bumped q s r f ∷ own) h only = reads_try_none p b own h only.1

@@ -30,22 +30,23 @@ use Rattle.segbase.specs.declared.pass.Pass.{Pass}
 use Rattle.segbase.specs.declared.pass.Plain.{Plain}
 use Rattle.segbase.specs.declared.place.Place.{Place}
 use Rattle.segbase.specs.Minding.{HasHeld, Minds}
-use Rattle.segbase.specs.Passes.{sight, number, trace, seen, taken, holding, locked, IsPassOf, IsMemo, Moved, Did}
+use Rattle.segbase.specs.Passes.{sight, number, trace, seen, holding, locked, IsPassOf, IsMemo, Moved, Did}
 use Rattle.segbase.specs.Plain.{is_holding_of}
 use Rattle.segbase.specs.Traces.{OnlyReads}
 use Rattle.segbase.proofs.Staying.{none_both}
-use Rattle.segbase.proofs.Moves.{moved_inside, moved_mine, moved_taken}
+use Rattle.segbase.proofs.Moves.{moved_inside, moved_mine}
 use Rattle.segstore.specs.Linked.{segment_part, row_part, FoundItem}
 use Rattle.segstore.specs.Reading.{IsReadable, IsReaderIn}
 use Rattle.segstore.proofs.Keeping.{same_plain, keeps}
 use Rattle.segstore.proofs.Seconds.{segment_of_item, row_of_item}
 use Rattle.segindex.specs.declared.hold.Hold.{Hold}
-use Rattle.segindex.specs.Calls.{memo, GoesOn, DrawsNothing}
+use Rattle.segindex.specs.Calls.{memo, GoesOn, TakesNoBit, DrawsNothing}
 use Rattle.segindex.specs.Quiet.{IsLock, IsHold, is_held_in, IsQuiet}
 use Rattle.segindex.specs.Holds.{IsRowOf, IsHoldOf, KeepsButHold, TakesHold, NoneFills, IsUnfilled, Releases, SetsHold}
 use Rattle.segindex.proofs.Bits.{none_at_both, bit_before}
 use Rattle.segindex.proofs.Draws.{moved_undrawn, reads_undrawn}
-use Rattle.segindex.proofs.Gets.{reads_set_none}
+use Rattle.segindex.proofs.Gets.{reads_set_none, reads_try_none}
+use Rattle.segindex.proofs.Idling.{took_none}
 use Rattle.segindex.proofs.Holding.{held_at, held_from, held_past, held_stood, has_held, is_hold, held_row, row_of_hold}
 use Rattle.segindex.proofs.Locking.{segments_then}
 use Rattle.segindex.proofs.Quiet.{has_lock, goes_on, reads_none}
@@ -142,8 +143,8 @@ module _ (b : Board) (own : List Event) (held : Option Held) (p r q : Pass) (qui
     hold = λ x here. subst (λ (v : View). IsHold b.shape v.trace x) (sym sets.view) (hold x (sym sets.holding ∙ here));
   })
 
-  pub takes_no_bit : taken q ≡ taken p
-  takes_no_bit = moved_taken b own p q moved_to ∙ reads_set_none (number p) own (trace p) only
+  pub takes_no_bit : TakesNoBit p q
+  takes_no_bit = took_none b own p q moved_to (reads_set_none (number p) own (trace p) only) (λ bucket. reads_try_none (number p) bucket own (trace p) only)
 
   pub draws_nothing : DrawsNothing p q
   draws_nothing = moved_undrawn b own p q moved_to (reads_undrawn own only)

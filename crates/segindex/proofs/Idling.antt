@@ -1,5 +1,6 @@
 -- Calls of a quiet pass that do nothing but look, and those that gave up at a bit.
-use Rattle.std.proofs.Common.{◌≡◌, ℕ, ◌<◌, false, List, [], ◌++◌, refl, ap, ◌∙◌, inl, inr, ⊎_elim}
+use Rattle.std.proofs.Common.{◌≡◌, ℕ, ◌<◌, false, List, [], ◌++◌, None, refl, sym, ap, ◌∙◌, inl, inr, ⊎_elim}
+use Rattle.std.proofs.lemmas.Option.{none-some}
 use Rattle.segmodel.specs.History as history
 use Rattle.segcore.specs.declared.event.Event.{Event}
 use Rattle.segcore.specs.Event as event
@@ -10,10 +11,11 @@ use Rattle.segbase.specs.declared.law.Memo.{Memo}
 use Rattle.segbase.specs.declared.pass.Plain.{Plain}
 use Rattle.segbase.specs.declared.pass.Pass.{Pass}
 use Rattle.segbase.specs.Passes.{number, trace, Moved}
+use Rattle.segbase.specs.Plain.{locked_of}
 use Rattle.segbase.proofs.Moves.{stays, moved_mine, moved_taken, moved_bounced}
 use Rattle.segstore.proofs.Keeping.{AreCalm, keeps_plain}
 use Rattle.segindex.specs.Quiet.{IsQuiet}
-use Rattle.segindex.specs.Calls.{memo, GoesOn, ChangesNothing, TakesNoBit, DrawsNothing}
+use Rattle.segindex.specs.Calls.{memo, GoesOn, ChangesNothing, TakesNoBit, TriesInVain, DrawsNothing}
 use Rattle.segindex.specs.Answers.{IsBusy}
 use Rattle.segindex.specs.Taking.{bounces, TakesBucket}
 use Rattle.segindex.proofs.Bits.{bit_before}
@@ -87,6 +89,11 @@ gave_up b p q bucket quiet within tried plain same = ⊎_elim
       moved_undrawn b own p q f.1 (bounces_undrawn (number p) bucket 64),
     ))
     tried
+
+-- a pass that has no bucket locked was in the way of nobody but another
+pub in_vain : (p q : Pass) (bucket : ℕ) → locked_of p ≡ None → IsBusy bucket p q → TriesInVain bucket p q
+in_vain p q bucket free (inl (own, none)) = absurd (none-some bucket (sym free ∙ own))
+in_vain p q bucket free (inr vain) = vain
 
 -- the pass did nothing by itself
 pub goes_nowhere : (b : Board) (p q : Pass) → IsQuiet b p → Moved b [] p q → q.plain ≡ p.plain → memo q ≡ memo p → GoesOn b p q

@@ -2,7 +2,7 @@
 use Rattle.std.proofs.Common.{◌≡◌, ℕ, ◌+◌, ◌*◌, ◌<◌, ◌≤◌, ◌⊎◌, List, [], ◌∷◌, ◌++◌, Option, Some, None, refl, sym, ap, ◌∙◌, subst, inl, inr, ⊎_elim, arith, append-nil}
 use Rattle.std.proofs.lemmas.Bool.{cases_eq}
 use Rattle.std.proofs.lemmas.Option.{none-some, same_Some}
-use Rattle.std.specs.Prelude.{option_map}
+use Rattle.std.specs.Prelude.{option_map, Result, Ok, Err, OnErr}
 use Rattle.std.specs.Option.{option_to_list}
 use Rattle.segword.specs.declared.shape.Shape.{Shape}
 use Rattle.segmodel.specs.declared.entry.Cached.{Cached}
@@ -19,6 +19,11 @@ use Rattle.segcore.proofs.Coherent.{place}
 use Rattle.segcore.proofs.Standing.{coherent}
 use Rattle.segindex.specs.Closing.{Pairs, listed, Lists, IsBefore, IsPairAt}
 use Rattle.segindex.proofs.Pairs.{none_distinct, listed_before, listed_last, listed_then, distinct_then}
+
+-- what is so anyway is so where there is an error
+pub on_err : {T E P : Type 0} (r : Result T E) → P → OnErr r P
+on_err (Ok done) here = tt
+on_err (Err fault) here = here
 
 module _ (z : Shape) (h : List Event) (l : IsLawful z h) where
   abbrev read : List ℕ → Option (List ℕ)

@@ -168,7 +168,7 @@ pub record Locks (bucket : ℕ) (p q : Pass) : Type 0 where
 
 abbrev pub IsLockAnswer : Shape → List ℕ → LockAnswer → Pass → Pass → Type 0
 IsLockAnswer shape key lock.Locked p q = Locks (bucket_of shape key) p q
-IsLockAnswer shape key lock.Busy p q = ChangesNothing p q × IsBusy (bucket_of shape key) p q
+IsLockAnswer shape key lock.Busy p q = ChangesNothing p q × TriesInVain (bucket_of shape key) p q
 IsLockAnswer shape key lock.AlreadyLocked p q = ChangesNothing p q
 
 -- no entry of the bucket came in since it was locked

@@ -49,7 +49,22 @@ IsContent shape p content = (now : List Entry) × IsEnd shape p now × (content 
 abbrev pub IsContentSeen : Shape → Pass → Pairs → Type 0
 IsContentSeen shape p content = content ≡ pairs_of (after shape (seen p))
 
+-- some key stands after the history
+abbrev pub HasContent : Shape → List Entry → Type 0
+HasContent shape now = (key : List ℕ) × (value : List ℕ) × (reads (after shape now) key ≡ Some value)
+
+-- there was content to be listed at the end, after such a history; with one pass, after what the pass has seen
+pub record WantsMemory (shape : Shape) (p : Pass) : Type 0 where
+  pub end : List Entry
+  pub is_end : IsEnd shape p end
+  pub alone : shape.passes ≡ 1 → end ≡ seen p
+  pub content : HasContent shape end
+
 -- ---- on the way
+
+-- some key stands whatever made the words what they are
+abbrev pub HasPairs : Words → Type 0
+HasPairs words = (trace : List Event) → closing.IsAtRest words trace → HasContent (closing.shape_of words) (event.seen trace)
 
 -- the value that is listed under a key
 abbrev pub listed : Pairs → List ℕ → Option (List ℕ)

@@ -36,19 +36,19 @@ pub enum HoldAnswer<'i> {
 }
 
 impl Index {
-    ghost use Rattle.segbase.specs.Passes.{trace, taken, holding, IsPassOf};
+    ghost use Rattle.segbase.specs.Passes.{trace, holding, IsPassOf};
     ghost use Rattle.segbase.specs.Plain.{is_holding_of};
     ghost use Rattle.segbase.specs.Minding.{HasHeld};
     ghost use Rattle.segindex.specs.Index.{board_of, shape_of};
     ghost use Rattle.segindex.specs.Quiet.{IsQuiet};
-    ghost use Rattle.segindex.specs.Calls.{GoesOn, ChangesNothing, DrawsNothing};
+    ghost use Rattle.segindex.specs.Calls.{GoesOn, ChangesNothing, TakesNoBit, DrawsNothing};
     ghost use Rattle.segindex.specs.Holds.{IsHoldOf, IsHoldAnswer, Releases, SetsHold};
 
     /// Holds the item of a key. Its value can be read until it is released, and a pass holds one item at most. No frequency changes.
     pub fn hold<'i>(&'i self, pass: &mut Pass, key: &Key) -> HoldAnswer<'i>
         requires pass { IsQuiet (board_of self.now) pass.old }
         ensures on { GoesOn (board_of self.now) pass.old pass.new }
-        ensures takes_no_bit { taken pass.new ≡ taken pass.old }
+        ensures takes_no_bit { TakesNoBit pass.old pass.new }
         ensures draws_nothing { DrawsNothing pass.old pass.new }
         ensures answer { IsHoldAnswer (shape_of self.now) key.now result pass.old pass.new }
         ensures already { (result ≡ answer.AlreadyHolding) ↔ (is_holding_of pass.old ≡ true) }
@@ -78,7 +78,7 @@ impl Index {
         requires hold { IsHoldOf (shape_of self.now) hold.now pass.old }
         ensures on { GoesOn (board_of self.now) pass.old pass.new }
         ensures keeps { ChangesNothing pass.old pass.new }
-        ensures takes_no_bit { taken pass.new ≡ taken pass.old }
+        ensures takes_no_bit { TakesNoBit pass.old pass.new }
         ensures draws_nothing { DrawsNothing pass.old pass.new }
         ensures hold { IsHoldOf (shape_of self.now) hold.now pass.new }
         ensures value { IfSome (holding pass.old) (λ held. result ≡ held.value) }
@@ -92,7 +92,7 @@ impl Index {
         requires pass { IsQuiet (board_of self.now) pass.old }
         requires hold { IsHoldOf (shape_of self.now) hold pass.old }
         ensures on { GoesOn (board_of self.now) pass.old pass.new }
-        ensures takes_no_bit { taken pass.new ≡ taken pass.old }
+        ensures takes_no_bit { TakesNoBit pass.old pass.new }
         ensures draws_nothing { DrawsNothing pass.old pass.new }
         ensures releases { Releases pass.old pass.new }
     {

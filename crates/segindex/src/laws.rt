@@ -6,9 +6,11 @@ ghost use Rattle.segmodel.specs.declared.request.Reply.{Reply};
 ghost use Rattle.segmodel.specs.declared.answer.WriteAnswer.{WriteAnswer};
 ghost use Rattle.segmodel.specs.declared.answer.DeleteAnswer.{DeleteAnswer};
 ghost use Rattle.segmodel.specs.declared.answer.GetsAnswer.TheVariants.{Found};
+ghost use Rattle.segmodel.specs.declared.answer.SegState.{SegState};
+ghost use Rattle.segmodel.specs.declared.answer.SegState.TheVariants.{InUse};
 ghost use Rattle.segmodel.specs.Places.{owner};
 ghost use Rattle.segmodel.specs.Cache.{keys_in};
-ghost use Rattle.segmodel.specs.History.{Begins, IsLegal, after, stirred};
+ghost use Rattle.segmodel.specs.History.{Begins, IsLegal, after, stirred, NoneStandsIn};
 ghost use Rattle.segmodel.specs.Serving.{reply_of_write, reply_of_delete};
 ghost use Rattle.segcore.specs.Mark.{entries, width, chained_to, linked_in};
 ghost use Rattle.segcore.specs.Segment.{inside};
@@ -16,7 +18,7 @@ ghost use Rattle.segcore.specs.Lawful.{IsSegment};
 ghost use Rattle.segbase.specs.declared.law.Locked.{Locked};
 ghost use Rattle.segbase.specs.declared.pass.Pass.{Pass};
 ghost use Rattle.segbase.specs.Passes.{number, trace, marked, seen, mine, bounced, glanced, locked};
-ghost use Rattle.segbase.specs.Plain.{state_of, used_of, locked_of};
+ghost use Rattle.segbase.specs.Plain.{current_of, state_of, used_of, locked_of};
 ghost use Rattle.segindex.specs.declared.index.Index.{Index};
 ghost use Rattle.segindex.specs.Index.{board_of, shape_of};
 ghost use Rattle.segindex.specs.Quiet.{IsQuiet};
@@ -25,13 +27,15 @@ ghost use Rattle.segindex.specs.Gets.{IsGetsAnswer};
 ghost use Rattle.segindex.specs.Served.{StartsAlone, GetIsServed, GetsIsServed, WriteIsServed, DeleteIsServed, EvictIsServed, RefillIsServed, LockIsServed, UnlockIsServed, HoldIsServed, HeldIsServed, ReleaseIsServed, NothingIsHeld};
 ghost use Rattle.segindex.specs.Telling.{WasTold, cas_reply};
 
-/// What a quiet pass has seen is a history of a cache of one thread, with marks. It knows just its own segments, and of their rows those are used that an item was linked to. No entry came into the bucket that it has locked. Seven keys of a bucket stand at most, and six more for each overflow bucket that joined its chain, and no more of these joined than there are.
+/// What a quiet pass has seen is a history of a cache of one thread, with marks. It knows just its own segments, and of their rows those are used that an item was linked to. The one that it stores into is in use, and no key stands in one that isn't. No entry came into the bucket that it has locked. Seven keys of a bucket stand at most, and six more for each overflow bucket that joined its chain, and no more of these joined than there are.
 pub fn quiet_pass()
     ensures legal { (index : Index) (pass : Pass) → IsQuiet (board_of index) pass → IsLegal (shape_of index) (seen pass) }
     ensures unmarked { (index : Index) (pass : Pass) → IsQuiet (board_of index) pass → entries (marked pass) ≡ seen pass }
     ensures owned { (index : Index) (pass : Pass) (segment : ℕ) → IsQuiet (board_of index) pass → IsSome (state_of pass segment) ↔ (owner (shape_of index) segment ≡ number pass) }
     ensures in_table { (index : Index) (pass : Pass) (segment : ℕ) → IsQuiet (board_of index) pass → IsSome (state_of pass segment) → IsSegment (shape_of index) segment }
     ensures rows { (index : Index) (pass : Pass) (segment used row : ℕ) → IsQuiet (board_of index) pass → used_of pass segment ≡ Some used → row < (shape_of index).rows → is_some (linked_in (marked pass) segment row) ≡ nat_lt row used }
+    ensures current { (index : Index) (pass : Pass) (segment : ℕ) → IsQuiet (board_of index) pass → current_of pass ≡ Some segment → state_of pass segment ≡ Some InUse }
+    ensures unused { (index : Index) (pass : Pass) (segment : ℕ) (state : SegState) → IsQuiet (board_of index) pass → state_of pass segment ≡ Some state → state ≢ InUse → NoneStandsIn (after (shape_of index) (seen pass)) segment }
     ensures locked { (index : Index) (pass : Pass) (lock : Locked) → IsQuiet (board_of index) pass → locked pass ≡ Some lock → NoneSince (shape_of index) lock (seen pass) }
     ensures few_keys { (index : Index) (pass : Pass) (bucket : ℕ) → IsQuiet (board_of index) pass → keys_in (shape_of index) (after (shape_of index) (seen pass)) bucket ≤ 6 * chained_to (marked pass) bucket + 7 }
     ensures few_chained { (index : Index) (pass : Pass) (bucket : ℕ) → IsQuiet (board_of index) pass → chained_to (marked pass) bucket ≤ (shape_of index).overflow }

@@ -1,8 +1,8 @@
 use Rattle.std.proofs.Common.{◌≡◌, ℕ, ◌+◌, ◌*◌, List, ◌++◌, Vec, Global, sym, ap, subst, ◌∙◌, arith, append-nil}
 use Rattle.std.specs.Option.{option_to_list}
 use Rattle.segbase.specs.Closing.{shape_of}
-use Rattle.segindex.specs.Closing.{IsListed}
-use Rattle.segindex.proofs.Listing.{lists_word}
+use Rattle.segindex.specs.Closing.{IsListed, IsPairAt}
+use Rattle.segindex.proofs.Listing.{on_err, lists_word}
 use Rattle.segindex.proofs.close.list_bucket.Goals as goal
 use Rattle.segindex.proofs.close.list_bucket.Goals.{in-Some+in_ok-push, in_default}
 
@@ -26,10 +26,16 @@ loop-word-preserved c = record {
   ];
 }
 
+pub returns-in_err-push-clause-wanted : goal.returns-in_err-push-clause-wanted
+returns-in_err-push-clause-wanted c = on_err c.from_residual.result (λ trace home depth rest is.
+    let words = c.args.words.now in let w = c.loop-word.word in let low = c.loop-word.auto.word in let high = c.loop-word-test.true in
+    let at = subst (IsPairAt (shape_of words) trace home (8 * depth + w)) c.in-Some.is (c.pair_at.ensures trace home (8 * depth + w) rest (is w (omega arith) high)) in (c.in-Some.pair.0, c.in-Some.pair.1, at.2))
+
 pub returns : goal.returns
 returns c = record {
   lists = λ trace home depth rest is lists.
       let end : c.loop-word.word ≡ 8 = let over = c.loop-word-test.false in let up = c.loop-word.auto.word-end in omega arith in
       subst (λ w. IsListed c.args.words.now trace home (8 * depth + w) c.loop-word.pairs.items) end (c.loop-word.invariant.lists trace home depth rest is lists);
   few = let over = c.loop-word-test.false in let up = c.loop-word.auto.word-end in let few = c.loop-word.invariant.few in omega (arith, few, up);
+  wanted = tt;
 }

@@ -5,7 +5,7 @@ use Rattle.segword.specs.ChainWord.{IsChainWord}
 use Rattle.segbase.specs.Closing.{shape_of}
 use Rattle.segindex.specs.Closing.{IsBucketIn}
 use Rattle.segindex.proofs.AtRest.{first_bucket, next_bucket, chain_ends, not_deeper}
-use Rattle.segindex.proofs.Listing.{lists_bucket, lists_chain}
+use Rattle.segindex.proofs.Listing.{on_err, lists_bucket, lists_chain}
 use Rattle.segindex.proofs.close.list_chain.Goals as goal
 
 pub loop-depth-init : goal.loop-depth-init
@@ -17,6 +17,10 @@ list_bucket-requires c = let r = c.requires.rest in (r.0, c.args.home, c.loop-de
 pub item-requires : goal.item-requires
 item-requires c = let r = c.requires.rest in ((c.loop-depth.invariant.lists r.0 r.1).0 7 (omega arith) (omega arith)).0
 
+pub returns-in_err-list_bucket-clause-wanted : goal.returns-in_err-list_bucket-clause-wanted
+returns-in_err-list_bucket-clause-wanted c =
+    on_err c.from_residual.result (λ trace rest. c.in_err-list_bucket.ensures.wanted trace c.args.home c.loop-depth.depth rest (c.loop-depth.invariant.lists trace rest).0)
+
 pub returns-in_default : goal.returns-in_default
 returns-in_default c = record {
   lists = λ trace rest lists.
@@ -25,6 +29,7 @@ returns-in_default c = record {
       (chain_ends words trace home depth c.loop-depth.bucket rest inv.0 (λ is. false≢true (c.in_default.ensures.variant.1 (subst IsChainWord (sym c.item.ensures) is))))
       (c.in_ok-list_bucket.ensures.lists trace home depth rest inv.0 (inv.1 lists));
   few = let test = c.loop-depth-test.true in let few = c.loop-depth.invariant.few in omega (arith, few, test, c.in_ok-list_bucket.ensures.few);
+  wanted = tt;
 }
 
 pub loop-depth-preserved : goal.loop-depth-preserved
@@ -44,4 +49,5 @@ returns c = record {
   lists = λ trace rest lists.
       let deep = not_deeper c.args.words.now trace c.args.home c.loop-depth.depth c.loop-depth.bucket rest (c.loop-depth.invariant.lists trace rest).0 in let over = c.loop-depth-test.false in absurd (omega arith);
   few = let up = c.loop-depth.auto.depth-end in let few = c.loop-depth.invariant.few in omega (arith, few, up);
+  wanted = tt;
 }

@@ -3,8 +3,11 @@ use Rattle.std.proofs.lemmas.Cmp.{nat_list_cmp_total}
 use Rattle.std.proofs.lemmas.List.Sorted.{ranks_by, answers_always}
 use Rattle.std.specs.Ordering.{is_lt}
 use Rattle.segmodel.specs.Cache.{key_cmp}
-use Rattle.segindex.proofs.Ended.{some_content, alone_content}
+use Rattle.segindex.proofs.Ended.{wants_memory, some_content, alone_content}
 use Rattle.segindex.proofs.index.Index.close.Goals as goal
+
+pub returns-in_default-clause-wanted : goal.returns-in_default-clause-wanted
+returns-in_default-clause-wanted c = let ended = c.close-words.ensures in wants_memory c.args.self.board c.args.pass c.close-words.result ended.0 ended.1 (c.in_default.ensures.wanted ended.0 ended.1.rest)
 
 pub returns-clause-content : goal.returns-clause-content
 returns-clause-content c =

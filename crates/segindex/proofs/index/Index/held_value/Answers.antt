@@ -4,7 +4,7 @@ use Rattle.segstore.proofs.Looks.{loaded, may_load, reads_then}
 use Rattle.segstore.proofs.Readers.{looks}
 use Rattle.segindex.specs.Index.{board_of}
 use Rattle.segindex.proofs.Draws.{reader_draws_none}
-use Rattle.segindex.proofs.Gets.{takes_none}
+use Rattle.segindex.proofs.Gets.{reads_no_bit}
 use Rattle.segindex.proofs.HoldCalls.{may_read, has_row}
 use Rattle.segindex.proofs.Reading.{read_on}
 use Rattle.segindex.proofs.index.Index.held_value.Goals as goal
@@ -29,7 +29,7 @@ returns-clause-keeps c = let b = board_of c.args.self.now in let p = c.args.pass
 
 pub returns-clause-takes_no_bit : goal.returns-clause-takes_no_bit
 returns-clause-takes_no_bit c = let b = board_of c.args.self.now in let p = c.args.pass.now in let hold = c.args.hold.now in let l = c.row_load-header in let v = c.value_of_row in
-    takes_none b p v.new.pass (looks b p v.new.pass (reads_then b p l.new.pass v.new.pass hold.segment hold.row (loaded b p l.new.pass hold.segment hold.row 0 l.result (may_read b p hold c.requires.pass c.requires.hold) l.ensures.step) v.ensures.reads).looked)
+    reads_no_bit b p v.new.pass (looks b p v.new.pass (reads_then b p l.new.pass v.new.pass hold.segment hold.row (loaded b p l.new.pass hold.segment hold.row 0 l.result (may_read b p hold c.requires.pass c.requires.hold) l.ensures.step) v.ensures.reads).looked)
 
 pub returns-clause-value : goal.returns-clause-value
 returns-clause-value c = let b = board_of c.args.self.now in let p = c.args.pass.now in let hold = c.args.hold.now in let l = c.row_load-header in let v = c.value_of_row in let is = c.requires.hold in

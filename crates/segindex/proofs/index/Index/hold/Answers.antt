@@ -2,7 +2,7 @@ use Rattle.std.proofs.Common.{Some, refl, arith}
 use Rattle.segbase.specs.Passes.{trace}
 use Rattle.segindex.specs.Index.{board_of, shape_of}
 use Rattle.segindex.proofs.Draws.{reader_draws_none}
-use Rattle.segindex.proofs.Gets.{gone_reads, takes_none}
+use Rattle.segindex.proofs.Gets.{gone_reads, reads_no_bit}
 use Rattle.segindex.proofs.Hits.{hit_readable, read_in, read_value}
 use Rattle.segindex.proofs.HoldCalls.{has_found, takes_hold, takes_no_bit, draws_nothing}
 use Rattle.segindex.proofs.Holding.{held_at}
@@ -45,7 +45,7 @@ pub returns-in-Absent-clause-on : goal.returns-in-Absent-clause-on
 returns-in-Absent-clause-on c = let r = c.in-Absent.ensures.reads in (read_on (board_of c.args.self.now) c.args.pass.now c.scan_for.new.pass c.requires.pass r.reads r.plain r.memo).0
 
 pub returns-in-Absent-clause-takes_no_bit : goal.returns-in-Absent-clause-takes_no_bit
-returns-in-Absent-clause-takes_no_bit c = takes_none (board_of c.args.self.now) c.args.pass.now c.scan_for.new.pass c.in-Absent.ensures.reads
+returns-in-Absent-clause-takes_no_bit c = reads_no_bit (board_of c.args.self.now) c.args.pass.now c.scan_for.new.pass c.in-Absent.ensures.reads
 
 pub returns-in-Absent-clause-answer : goal.returns-in-Absent-clause-answer
 returns-in-Absent-clause-answer c = let r = c.in-Absent.ensures.reads in (
@@ -57,7 +57,7 @@ pub returns-in-Busy-clause-on : goal.returns-in-Busy-clause-on
 returns-in-Busy-clause-on c = let r = c.in-Busy.ensures.reads in (read_on (board_of c.args.self.now) c.args.pass.now c.scan_for.new.pass c.requires.pass r.reads r.plain r.memo).0
 
 pub returns-in-Busy-clause-takes_no_bit : goal.returns-in-Busy-clause-takes_no_bit
-returns-in-Busy-clause-takes_no_bit c = takes_none (board_of c.args.self.now) c.args.pass.now c.scan_for.new.pass c.in-Busy.ensures.reads
+returns-in-Busy-clause-takes_no_bit c = reads_no_bit (board_of c.args.self.now) c.args.pass.now c.scan_for.new.pass c.in-Busy.ensures.reads
 
 pub returns-in-Busy-clause-answer : goal.returns-in-Busy-clause-answer
 returns-in-Busy-clause-answer c = let r = c.in-Busy.ensures.reads in (

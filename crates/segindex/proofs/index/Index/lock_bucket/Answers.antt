@@ -1,7 +1,7 @@
 use Rattle.std.proofs.Common.{◌≡◌, ◌%◌, ◌<◌, sym, ◌∙◌, subst}
 use Rattle.segmodel.specs.Places.{bucket_of}
 use Rattle.segcore.proofs.Limits.{bucket_in}
-use Rattle.segindex.proofs.Idling.{gave_up}
+use Rattle.segindex.proofs.Idling.{gave_up, in_vain}
 use Rattle.segindex.proofs.Locking.{unlocked, locks_bucket, locks_undrawn}
 use Rattle.segindex.proofs.index.Index.lock_bucket.Goals as goal
 
@@ -18,7 +18,8 @@ returns-then-not-take_bucket-clause-answer c =
     let home : c.bucket_of-bucket.result ≡ bucket_of b.shape c.args.key.now = c.bucket_of-bucket.ensures ∙ (λ i. c.hash.ensures i % (c.shape.ensures i).buckets) in
     let within : c.bucket_of-bucket.result < b.shape.buckets = subst (λ n. n < b.shape.buckets) (sym home) (bucket_in b.shape c.args.key.now quiet.pass.valid) in
     let gave = gave_up b c.args.pass.now c.take_bucket.new.pass c.bucket_of-bucket.result quiet within c.if-not-take_bucket.ensures.takes c.if-not-take_bucket.ensures.same.0 c.if-not-take_bucket.ensures.same.1 in
-    rw (← home) (gave.1, gave.2)
+    let free = sym c.locked.ensures ∙ unlocked c.locked.result c.if-is_some.ensures in
+    rw (← home) (gave.1, in_vain c.args.pass.now c.take_bucket.new.pass c.bucket_of-bucket.result free gave.2)
 
 pub returns-clause-goes_on : goal.returns-clause-goes_on
 returns-clause-goes_on c =
