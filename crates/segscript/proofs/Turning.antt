@@ -22,12 +22,14 @@ use Rattle.segindex.specs.Calls.{memo, GoesOn}
 use Rattle.segindex.specs.Answers.{IsWriteAnswer, IsDeleteAnswer, IsRefillAnswer}
 use Rattle.segindex.specs.Evicting.{IsEvictAnswer}
 use Rattle.segindex.specs.Alone.{IsAlone, ServesAlone}
+use Rattle.segscript.specs.Told.{TellsCommand}
 use Rattle.segscript.specs.Passes.{TakesTurn}
 
 -- a command that was served is a turn
-pub as_turn : (b : Board) (command : Command) (told : Answer) (p q : Pass) → GoesOn b p q → (IsAlone b p → ServesAlone b command told p q) → TakesTurn b (turn.Serve command) (outcome.Answered told) p q
-as_turn b command told p q on serves = record {
+pub as_turn : (b : Board) (command : Command) (told : Answer) (p q : Pass) → GoesOn b p q → TellsCommand b command told p q → (IsAlone b p → ServesAlone b command told p q) → TakesTurn b (turn.Serve command) (outcome.Answered told) p q
+as_turn b command told p q on tells serves = record {
   goes_on = on;
+  tells = tells;
   alone = λ was. let served = serves was in (served.0, (told, refl, served.1));
 }
 

@@ -6,4 +6,5 @@ pub mod Reading
 pub mod Run
 pub mod Running
 pub mod Server
+pub mod Told
 pub mod Verb

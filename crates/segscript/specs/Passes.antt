@@ -12,6 +12,7 @@ use Rattle.segindex.specs.Quiet.{IsQuiet}
 use Rattle.segindex.specs.Calls.{GoesOn}
 use Rattle.segindex.specs.Holds.{IsHoldOf}
 use Rattle.segindex.specs.Alone.{state_at, IsAlone, TurnsAlone}
+use Rattle.segscript.specs.Told.{Tells}
 
 -- the hold that is kept is the one that the pass has
 abbrev pub IsHoldKept : Shape → Option Hold → Pass → Type 0
@@ -33,7 +34,8 @@ abbrev pub first_state : Shape → List Pass → State
 first_state shape [] = fresh shape
 first_state shape (p ∷ passes) = state_at shape p
 
--- the pass took the turn, and is quiet again; the turn of the only pass was served
+-- the pass took the turn, and is quiet again; the outcome is the answer of one call, and the turn of the only pass was served
 pub record TakesTurn (b : Board) (turn : Turn) (outcome : Outcome) (p q : Pass) : Type 0 where
   pub goes_on : GoesOn b p q
+  pub tells : Tells b turn outcome p q
   pub alone : IsAlone b p → TurnsAlone b turn outcome p q

@@ -1,4 +1,4 @@
-use Rattle.std.proofs.Common.{subst, sym, ◌∙◌}
+use Rattle.std.proofs.Common.{subst, sym, ap, is_some, ◌∙◌}
 use Rattle.segindex.proofs.AloneHolds.{turns_release}
 use Rattle.segscript.specs.Passes.{IsHoldKept}
 use Rattle.segscript.proofs.turns.release.Goals as goal
@@ -7,8 +7,9 @@ pub returns-in-Some-clause-turn : goal.returns-in-Some-clause-turn
 returns-in-Some-clause-turn c =
     let b = c.args.index.now.board in
     let e = c.release.ensures in
+    let kept = subst (λ kept. IsHoldKept b.shape kept c.args.pass.now) (sym c.take.ensures.value ∙ c.in-Some.is) c.requires.hold in
     record {
       goes_on = e.on;
-      alone = λ was. turns_release b c.args.pass.now c.release.new.pass c.in-Some.hold was e.on e.draws_nothing
-          (subst (λ kept. IsHoldKept b.shape kept c.args.pass.now) (sym c.take.ensures.value ∙ c.in-Some.is) c.requires.hold) e.releases;
+      tells = (e.releases, ap is_some kept.holds);
+      alone = λ was. turns_release b c.args.pass.now c.release.new.pass c.in-Some.hold was e.on e.draws_nothing kept e.releases;
     }
