@@ -40,7 +40,7 @@ TellsCommand b (command.Refill segment) (answer.Refill told) p q =
 TellsCommand b _ _ p q = ⊥
 
 abbrev pub Tells : Board → Turn → Outcome → Pass → Pass → Type 0
-Tells b (turn.Serve command) (outcome.Answered told) p q = TellsCommand b command told p q
+Tells b (turn.Serve asked) (outcome.Answered told) p q = TellsCommand b asked told p q
 Tells b (turn.Hold key) told p q = (given : HoldAnswer) × (told ≡ hold_outcome given) × IsHoldAnswer b.shape key given p q × ((given ≡ hold.AlreadyHolding) ↔ (is_holding_of p ≡ true))
 Tells b turn.Held (outcome.Value value) p q = ChangesNothing p q × ((held : Held) × (holding p ≡ Some held) × (value ≡ held.value))
 Tells b turn.Held outcome.NotHolding p q = (q ≡ p) × (holding p ≡ None)
