@@ -1,5 +1,5 @@
 //! A pass of an index, which makes the commands of a load.
-ghost use Rattle.std.specs.Prelude.{◌≡◌, ◌^◌, ◌<◌};
+ghost use Rattle.std.specs.Prelude.{◌≡◌};
 ghost use Rattle.segmodel.specs.declared.answer.WriteAnswer.TheVariants.{NoRoom};
 ghost use Rattle.segload.specs.Working.{write_tally, delete_tally, TellsNothing, Tells};
 

@@ -1,10 +1,9 @@
 //! How a load is run: a thread for each pass.
-ghost use Rattle.std.specs.Prelude.{◌≡◌, ℕ, ◌<◌, ◌^◌, List, slice_get, Some, None, IfOk, IfErr, IfSome, vec_len, true, false};
+ghost use Rattle.std.specs.Prelude.{◌≡◌, ℕ, List, slice_get, Some, None, IfOk, IfErr, IfSome, vec_len};
 ghost use Rattle.std.specs.Thread.{IsSync};
 ghost use Rattle.segmodel.specs.declared.entry.Entry.{Entry};
 ghost use Rattle.segmodel.specs.History.{after};
 ghost use Rattle.segbase.specs.Passes.{number, seen};
-ghost use Rattle.segbase.specs.Plain.{number_of};
 ghost use Rattle.segindex.specs.Index.{board_of, shape_of};
 ghost use Rattle.segindex.specs.Quiet.{IsQuiet};
 ghost use Rattle.segindex.specs.Calls.{IsNew};

@@ -1,5 +1,5 @@
 //! A pass at its load.
-ghost use Rattle.std.specs.Prelude.{◌≡◌, ℕ, ◌+◌, ◌^◌, ◌<◌, ◌≤◌, []};
+ghost use Rattle.std.specs.Prelude.{◌≡◌, []};
 ghost use Rattle.segindex.specs.Index.{board_of};
 
 use crate::client::Client;
