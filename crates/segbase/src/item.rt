@@ -16,7 +16,7 @@ use crate::place::{Place, Spot};
 use segword::Item;
 
 impl Board {
-    ghost use Rattle.segbase.specs.Passes.{number, trace, IsPassOf, CanStep, Did, Stepped};
+    ghost use Rattle.segbase.specs.Passes.{number, trace, raised, IsPassOf, CanStep, Did, Stepped};
     ghost use Rattle.segbase.specs.Spots.{item_spot, cell_at, position, home_bucket, IsPlace};
     ghost use Rattle.segbase.specs.Steps.{IsReadAs, IsFree, HasItemOf, Missed};
 
@@ -90,6 +90,7 @@ impl Board {
         requires chain { IsItemAt self.now.shape (trace pass.old) (home_bucket self.now.shape (trace pass.old) place) (position self.now.shape (trace pass.old) place) (cell_at self.now.shape place) }
         ensures step { (found : ℕ) × Stepped self.now (bump (home_bucket self.now.shape (trace pass.old) place) (position self.now.shape (trace pass.old) place) (cell_at self.now.shape place) old.tag old.seg old.row old.freq new.freq) found pass.old pass.new × (result ≡ (found == item_word old)) }
         ensures did { Did self.now (if result then Bumped (number pass.old) old.seg old.row new.freq ∷ [] else []) pass.old pass.new }
+        ensures raises { raised pass.new ≡ (if result then 1 else 0) + raised pass.old }
     {
         let expected = old.pack();
         self.put(pass, place, expected, new) == expected

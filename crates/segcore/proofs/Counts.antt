@@ -242,7 +242,7 @@ module _ (p : ℕ) (h : List Event) where
   glance_raised b true false = omega arith
   glance_raised b false false = omega arith
 
-  bump_raised : (s r g : ℕ) (t : Bool) → raised p (cond t (Bumped p s r g ∷ []) [] ++ h) ≡ cond t 1 0 + raised p h
+  pub bump_raised : (s r g : ℕ) (t : Bool) → raised p (cond t (Bumped p s r g ∷ []) [] ++ h) ≡ cond t 1 0 + raised p h
   bump_raised s r g true = rw (eq-eqb p p refl) (omega arith)
   bump_raised s r g false = omega arith
 
