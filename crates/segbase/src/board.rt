@@ -1,5 +1,5 @@
 //! The board: the table of the index's words, and how it is made.
-ghost use Rattle.std.specs.Prelude.{◌≡◌, ℕ, ◌<◌, ◌≤◌, ◌^◌, [], IfOk, IfErr, length};
+ghost use Rattle.std.specs.Prelude.{◌≡◌, ◌<◌, ◌≤◌, ◌^◌, [], IfOk, IfErr};
 ghost use Rattle.segword.specs.Shape.{word_count};
 ghost use Rattle.segbase.specs.Spots.{IsLayoutOf};
 

@@ -1,5 +1,5 @@
 //! Steps at a bucket's information word: the writer bit and the version.
-ghost use Rattle.std.specs.Prelude.{◌≡◌, ◌≢◌, ℕ, ◌+◌, ◌%◌, ◌^◌, ◌<◌, ◌==◌, Option, Some, None, true, false, [], ◌∷◌};
+ghost use Rattle.std.specs.Prelude.{◌≡◌, ℕ, ◌+◌, ◌%◌, ◌^◌, ◌<◌, ◌==◌, Option, None, true, [], ◌∷◌};
 ghost use Rattle.segword.specs.InfoWord.{info_word};
 ghost use Rattle.segmodel.specs.declared.request.Request.{Request};
 ghost use Rattle.segmodel.specs.declared.request.Reply.{Reply};

@@ -1,11 +1,11 @@
 //! Steps at item words.
-ghost use Rattle.std.specs.Prelude.{◌≡◌, ◌≢◌, ℕ, ◌+◌, ◌^◌, ◌<◌, ◌==◌, List, [], ◌∷◌, Option, None, if◌then◌else◌, OnOk, IfErr};
+ghost use Rattle.std.specs.Prelude.{◌≡◌, ℕ, ◌+◌, ◌<◌, ◌==◌, List, [], ◌∷◌, Option, if◌then◌else◌, OnOk, IfErr};
 ghost use prog.Atomic.{either};
 ghost use Rattle.segword.specs.ItemWord.{item_word};
 ghost use Rattle.segmodel.specs.Request.{key_of};
 ghost use Rattle.segmodel.specs.declared.request.Request.{Request};
 ghost use Rattle.segcore.specs.declared.event.Event.TheVariants.{Linked, Unlinked, Bumped};
-ghost use Rattle.segcore.specs.Bucket.{nothing, bucket_after};
+ghost use Rattle.segcore.specs.Bucket.{bucket_after};
 ghost use Rattle.segmodel.specs.Places.{tag_of};
 ghost use Rattle.segcore.specs.Kind.{Step, look, link, clear, bump, May};
 ghost use Rattle.segcore.specs.Word.{word, IsItemAt};

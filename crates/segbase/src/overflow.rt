@@ -1,10 +1,9 @@
 //! Steps that lengthen a bucket's chain: an overflow bucket is drawn, its first word filled, and then chained.
-ghost use Rattle.std.specs.Prelude.{◌≡◌, ◌≢◌, ℕ, ◌+◌, ◌<◌, ◌≤◌, ◌==◌, [], ◌∷◌, OnOk, IfErr};
+ghost use Rattle.std.specs.Prelude.{ℕ, ◌<◌, ◌==◌, [], ◌∷◌, OnOk, IfErr};
 ghost use prog.Atomic.{either};
 ghost use Rattle.segword.specs.ItemWord.{item_word};
 ghost use Rattle.segword.specs.ChainWord.{chain_word};
 ghost use Rattle.segcore.specs.declared.event.Event.TheVariants.{Drew, Put, Chained};
-ghost use Rattle.segcore.specs.Bucket.{bucket_after};
 ghost use Rattle.segcore.specs.Kind.{Step, draw, fill, chain, May};
 
 use crate::board::Board;

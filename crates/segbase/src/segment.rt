@@ -1,8 +1,7 @@
 //! Steps at segments: their rows, and who reads in them.
-ghost use Rattle.std.specs.Prelude.{◌≡◌, ℕ, ◌+◌, ◌<◌, ◌==◌, [], ◌∷◌, if◌then◌else◌};
+ghost use Rattle.std.specs.Prelude.{◌≡◌, ℕ, ◌==◌, [], ◌∷◌, if◌then◌else◌};
 ghost use Rattle.segcore.specs.declared.event.Event.TheVariants.{Filled, Entered, Left, Refilled};
 ghost use Rattle.segcore.specs.Row.{row_after};
-ghost use Rattle.segcore.specs.Segment.{inside};
 ghost use Rattle.segcore.specs.declared.cell.Cell.TheVariants.{OfRow};
 ghost use Rattle.segcore.specs.Word.{IsCell};
 ghost use Rattle.segbase.specs.Spots.{IsRowAt};

@@ -1,12 +1,11 @@
 //! Evictions: the keys that stand in a segment of the pass's own are taken out of it, one after the other.
-ghost use Rattle.std.specs.Prelude.{◌≡◌, ◌≢◌, ◌≤◌, ◌<◌, ◌↔◌, List, ℕ, Option, Some, None, [], ◌∷◌};
+ghost use Rattle.std.specs.Prelude.{◌≡◌, ◌≢◌, ◌<◌, ◌↔◌, List, ℕ, Option, Some, None, [], ◌∷◌};
 ghost use Rattle.segmodel.specs.declared.answer.SegState.TheVariants.{InUse};
 ghost use Rattle.segmodel.specs.declared.answer.EvictAnswer.TheVariants.{NotYours};
 ghost use Rattle.segmodel.specs.Places.{bucket_of};
 ghost use Rattle.segmodel.specs.State.{but_for};
 ghost use Rattle.segcore.specs.declared.event.Event.TheVariants.{Unlinked};
 ghost use Rattle.segcore.specs.Lawful.{Fits};
-ghost use Rattle.segbase.specs.declared.pass.Pass.{Pass};
 ghost use Rattle.segbase.specs.Plain.{current_of, locked_of, is_holding_of, SameSegments};
 
 use crate::find::Target;

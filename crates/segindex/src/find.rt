@@ -1,5 +1,5 @@
 //! The word of a key's chain that a write changes, found under the bucket's bit by one pass over the chain, or the end of the chain where there is none.
-ghost use Rattle.std.specs.Prelude.{◌≡◌, ◌≤◌, ◌<◌, ◌↔◌, IsTrue};
+ghost use Rattle.std.specs.Prelude.{◌≡◌, ◌≤◌, ◌↔◌, IsTrue};
 ghost use Rattle.segmodel.specs.Places.{bucket_of, tag_of};
 ghost use Rattle.segcore.specs.Bucket.{bucket_after};
 ghost use Rattle.segcore.specs.Kind.{HasBit};

@@ -1,5 +1,4 @@
 //! Values read without any bit.
-ghost use Rattle.std.specs.Prelude.{◌≡◌};
 
 use crate::index::Index;
 use crate::scan::Scan;

@@ -1,5 +1,5 @@
 //! Items held: a pass stays in the segment of an item, so that its value stands there until it is released, also where its key is deleted, stored again or evicted.
-ghost use Rattle.std.specs.Prelude.{◌≡◌, ◌↔◌, Option, Some, None, true, is_some, IfSome};
+ghost use Rattle.std.specs.Prelude.{◌≡◌, ◌↔◌, Option, true, is_some, IfSome};
 ghost use Rattle.segbase.specs.declared.law.Held.{Held};
 ghost use Rattle.segbase.specs.declared.pass.Pass.{Pass};
 ghost use Rattle.segbase.specs.Passes.{trace, holding};

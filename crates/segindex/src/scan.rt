@@ -1,5 +1,5 @@
 //! A reader's way along the chain of a key, without the bucket's bit: a look at each word, and at a word with the key's tag a second look from within the item's segment.
-ghost use Rattle.std.specs.Prelude.{◌≡◌, ◌≢◌, ℕ, ◌+◌, ◌*◌, ◌<◌, ◌≤◌, IfSome, IsNone};
+ghost use Rattle.std.specs.Prelude.{◌≡◌, ◌≢◌, ◌+◌, ◌*◌, ◌<◌, ◌≤◌, IfSome, IsNone};
 ghost use Rattle.segword.specs.ItemWord.{item_word, tag_part};
 ghost use Rattle.segmodel.specs.Places.{bucket_of, tag_of};
 ghost use Rattle.segcore.specs.Kind.{May, enter};

@@ -1,5 +1,5 @@
 //! Values with the version of their bucket, both of one moment, read without any bit.
-ghost use Rattle.std.specs.Prelude.{◌≡◌, ◌≢◌, ℕ, ◌+◌, ◌*◌, ◌^◌, ◌<◌, ◌≤◌, List, Some};
+ghost use Rattle.std.specs.Prelude.{◌≡◌, ◌≢◌, ℕ, ◌+◌, ◌*◌, ◌^◌, ◌<◌, List, Some};
 ghost use Rattle.segmodel.specs.declared.answer.GetsAnswer.TheVariants as gets;
 
 use crate::index::Index;

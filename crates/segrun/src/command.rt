@@ -1,10 +1,9 @@
 //! The commands of the program, and how each ends.
-ghost use Rattle.std.specs.Prelude.{◌≡◌, ℕ, false, Result, IfOk, IfErr};
-ghost use Rattle.segscript.specs.declared.fault.RunFault.{RunFault};
+ghost use Rattle.std.specs.Prelude.{◌≡◌, false, Result, IfOk, IfErr};
 ghost use Rattle.segload.specs.declared.totals.Totals.{Totals};
 ghost use Rattle.segload.specs.Loads.{IsLoad};
 ghost use Rattle.segrun.specs.declared.report.ProgramFault.{ProgramFault};
-ghost use Rattle.segrun.specs.Faults.{end_of_run, is_write_end};
+ghost use Rattle.segrun.specs.Faults.{is_write_end};
 ghost use Rattle.segrun.specs.Totals.{totals_text};
 ghost use Rattle.segrun.specs.Commands.{ScriptOutcome, IsFaultOfLoad, LoadOutcome, WordOutcome, ShowOutcome, CommandOutcome, Concluded};
 

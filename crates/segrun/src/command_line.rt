@@ -1,5 +1,5 @@
 //! The command line of the program: its commands and options with their texts, as `clap` takes them.
-ghost use Rattle.std.specs.Prelude.{◌≡◌, [], false, IfOk};
+ghost use Rattle.std.specs.Prelude.{◌≡◌, false, IfOk};
 ghost use Rattle.clap.specs.Words.{App, rule_of};
 ghost use Rattle.segrun.specs.CommandLine.{Builds, alone, with_options, shape_options, option_rule, program_rules, script_rules, load_rules, word_rules, command_line};
 

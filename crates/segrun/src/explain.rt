@@ -1,7 +1,6 @@
 //! Explains an item word that is given in hexadecimal digits.
-ghost use Rattle.std.specs.Prelude.{◌≡◌, ◌+◌, ◌<◌, ◌≤◌, ◌++◌, Some, IfSome};
+ghost use Rattle.std.specs.Prelude.{◌≡◌, ◌<◌, Some, IfSome};
 ghost use Rattle.std.specs.Str.Parse.{digits_value};
-ghost use Rattle.arrayvec.specs.ArrayVec.{array_vec_len};
 ghost use Rattle.segword.specs.declared.reading.Reading.{Reading};
 ghost use Rattle.segrun.specs.Explained.{IsHexWord, Says, tag_digits, explanation};
 

@@ -1,5 +1,5 @@
 //! What the program prints beside replies: texts, and the lines of its faults.
-ghost use Rattle.std.specs.Prelude.{◌≡◌, ◌++◌, false, is_err};
+ghost use Rattle.std.specs.Prelude.{◌≡◌, false, is_err};
 ghost use Rattle.segrun.specs.Faults.{fault_of_run, fault_of_load, fault_line, fault_status};
 ghost use Rattle.segrun.specs.Printing.{PrintOutcome, IsPrinted, IsFlushed};
 

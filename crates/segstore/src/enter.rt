@@ -1,5 +1,5 @@
 //! Coming into a segment, so that it isn't filled again, and leaving it.
-ghost use Rattle.std.specs.Prelude.{◌≡◌, ℕ, ◌<◌};
+ghost use Rattle.std.specs.Prelude.{◌<◌};
 ghost use Rattle.segcore.specs.Lawful.{IsSegment};
 ghost use Rattle.segcore.specs.Segment.{inside};
 ghost use Rattle.segcore.specs.Kind.{enter, May};

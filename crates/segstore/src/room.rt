@@ -1,5 +1,5 @@
 //! Whether a pass has a row left to store into.
-ghost use Rattle.std.specs.Prelude.{◌≡◌, ◌↔◌, ◌<◌, ℕ, Some, false, IfOk, IsErr};
+ghost use Rattle.std.specs.Prelude.{◌≡◌, ◌↔◌, ◌<◌, Some, false, IfOk, IsErr};
 ghost use Rattle.segbase.specs.Plain.{current_of, used_of};
 ghost use Rattle.segstore.specs.Segments.{has_room};
 
