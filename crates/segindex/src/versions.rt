@@ -36,13 +36,13 @@ impl Index {
     ghost use Rattle.segword.specs.ItemWord.{item_word};
     ghost use Rattle.segmodel.specs.Places.{bucket_of, tag_of};
     ghost use Rattle.segcore.specs.Kind.{May, enter};
-    ghost use Rattle.segbase.specs.Passes.{number, trace, taken, IsPassOf};
+    ghost use Rattle.segbase.specs.Passes.{number, trace, IsPassOf};
     ghost use Rattle.segbase.specs.Plain.{locked_of};
     ghost use Rattle.segbase.specs.Spots.{position};
     ghost use Rattle.segstore.specs.Reading.{IsReader};
     ghost use Rattle.segindex.specs.Index.{board_of, shape_of};
     ghost use Rattle.segindex.specs.Quiet.{IsQuiet};
-    ghost use Rattle.segindex.specs.Calls.{GoesOn, ChangesNothing, DrawsNothing};
+    ghost use Rattle.segindex.specs.Calls.{GoesOn, ChangesNothing, TakesNoBit, DrawsNothing};
     ghost use Rattle.segindex.specs.Scanning.{bucket_depth, place_of, IsPlaceOf, IsBucketOf, MayEnterAny};
     ghost use Rattle.segindex.specs.Gets.{IsGetsAnswer, HasNoBit, IsVersioned, IsVisited, IsVersionScan};
 
@@ -51,7 +51,7 @@ impl Index {
         requires pass { IsQuiet (board_of self.now) pass.old }
         ensures on { GoesOn (board_of self.now) pass.old pass.new }
         ensures keeps { ChangesNothing pass.old pass.new }
-        ensures takes_no_bit { taken pass.new ≡ taken pass.old }
+        ensures takes_no_bit { TakesNoBit pass.old pass.new }
         ensures draws_nothing { DrawsNothing pass.old pass.new }
         ensures answer { IsGetsAnswer (shape_of self.now) key.now result pass.old pass.new }
         ensures unlocked { (value : List ℕ) (version : ℕ) → result ≡ gets.Found value version → locked_of pass.old ≢ Some (bucket_of (shape_of self.now) key.now) }

@@ -3,7 +3,7 @@ use Rattle.segindex.specs.Index.{board_of}
 use Rattle.segindex.specs.Gets.{IsVersionScan}
 use Rattle.segindex.proofs.Draws.{reader_draws_none}
 use Rattle.segindex.proofs.Reading.{read_on}
-use Rattle.segindex.proofs.Gets.{takes_none}
+use Rattle.segindex.proofs.Gets.{reads_no_bit}
 use Rattle.segindex.proofs.VersionScans.{scan_answers}
 use Rattle.segindex.proofs.index.Index.gets.Goals as goal
 
@@ -14,7 +14,7 @@ pub returns-then-eq-clause-keeps : goal.returns-then-eq-clause-keeps
 returns-then-eq-clause-keeps c = let i = c.find_locked.ensures.reads in (read_on (board_of c.args.self.now) c.args.pass.now c.find_locked.new.pass c.requires.pass i.reads i.plain i.memo).1
 
 pub returns-then-eq-clause-takes_no_bit : goal.returns-then-eq-clause-takes_no_bit
-returns-then-eq-clause-takes_no_bit c = takes_none (board_of c.args.self.now) c.args.pass.now c.find_locked.new.pass c.find_locked.ensures.reads
+returns-then-eq-clause-takes_no_bit c = reads_no_bit (board_of c.args.self.now) c.args.pass.now c.find_locked.new.pass c.find_locked.ensures.reads
 
 pub returns-clause-on : goal.returns-clause-on
 returns-clause-on c = let i = c.scan_versions.ensures.reads in (read_on (board_of c.args.self.now) c.args.pass.now c.scan_versions.new.pass c.requires.pass i.reads i.plain i.memo).0
@@ -23,7 +23,7 @@ pub returns-clause-keeps : goal.returns-clause-keeps
 returns-clause-keeps c = let i = c.scan_versions.ensures.reads in (read_on (board_of c.args.self.now) c.args.pass.now c.scan_versions.new.pass c.requires.pass i.reads i.plain i.memo).1
 
 pub returns-clause-takes_no_bit : goal.returns-clause-takes_no_bit
-returns-clause-takes_no_bit c = takes_none (board_of c.args.self.now) c.args.pass.now c.scan_versions.new.pass c.scan_versions.ensures.reads
+returns-clause-takes_no_bit c = reads_no_bit (board_of c.args.self.now) c.args.pass.now c.scan_versions.new.pass c.scan_versions.ensures.reads
 
 pub returns-clause-answer : goal.returns-clause-answer
 returns-clause-answer c = let b = board_of c.args.self.now in let p = c.args.pass.now in let v = c.scan_versions in
