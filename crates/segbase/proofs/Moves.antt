@@ -7,7 +7,7 @@ use Rattle.segcore.specs.declared.event.Event.TheVariants.{Entered, Left}
 use Rattle.segmodel.specs.declared.entry.Entry.{Entry}
 use Rattle.segcore.specs.Event.{entry_of, with_entry, seen}
 use Rattle.segcore.specs.Segment.{inside}
-use Rattle.segcore.specs.Count.{taken, bounced, glanced, drew, raised}
+use Rattle.segcore.specs.Count.{taken, bounced, glanced, drew, raised, entered}
 use Rattle.segbase.specs.declared.board.Board.{Board}
 use Rattle.segbase.specs.declared.pass.Pass.{Pass}
 use Rattle.segbase.specs.Traces.{own_of, StaysIn, OnlyReads}
@@ -17,7 +17,7 @@ use Rattle.segbase.specs.Steps.{Takes}
 use Rattle.segcore.specs.Bucket.{bucket_after}
 use Rattle.segcore.specs.Kind.{HasBit, May, release}
 use Rattle.segcore.proofs.Quiet.{quiet}
-use Rattle.segbase.proofs.Owning.{own_both, own_inside, own_mine, own_taken, own_bounced, own_glanced, own_drew, own_raised}
+use Rattle.segbase.proofs.Owning.{own_both, own_inside, own_mine, own_taken, own_bounced, own_glanced, own_drew, own_raised, own_entered}
 use Rattle.segbase.proofs.Staying.{stays_now, stays_first, stays_last, stays_both, none_both}
 
 -- nothing was done
@@ -46,6 +46,9 @@ moved_drew b own p q c m = ap (λ n. drew n c (trace q)) m.same ∙ (ap (drew (n
 
 pub moved_raised : (b : Board) (own : List Event) (p q : Pass) → Moved b own p q → passes.raised q ≡ raised (number p) (own ++ trace p)
 moved_raised b own p q m = ap (λ n. raised n (trace q)) m.same ∙ (ap (raised (number p)) m.goes_on ∙ (own_raised m.more (trace p) (number p) ∙ ap (λ es. raised (number p) (es ++ trace p)) m.adds))
+
+pub moved_entered : (b : Board) (own : List Event) (p q : Pass) → Moved b own p q → passes.entered q ≡ entered (number p) (own ++ trace p)
+moved_entered b own p q m = ap (λ n. entered n (trace q)) m.same ∙ (ap (entered (number p)) m.goes_on ∙ (own_entered m.more (trace p) (number p) ∙ ap (λ es. entered (number p) (es ++ trace p)) m.adds))
 
 -- what it has seen only grows
 pub moved_on : (b : Board) (own : List Event) (p q : Pass) → Moved b own p q → Begins (trace p) (trace q)
@@ -104,11 +107,11 @@ reads_then b p q r i j = record {
   stays = λ s there. stays_then b i.own j.own p q s i.moved (i.stays s) (j.stays s) there;
 }
 
-entered : (p segment s : ℕ) (h : List Event) → inside (Entered p segment ∷ h) p s ≡ cond (eqb segment s) (inside h p s + 1) (inside h p s)
-entered p segment s h = ap (λ t. cond (t && eqb segment s) (inside h p s + 1) (inside h p s)) (eq-eqb p p refl)
+once_more : (p segment s : ℕ) (h : List Event) → inside (Entered p segment ∷ h) p s ≡ cond (eqb segment s) (inside h p s + 1) (inside h p s)
+once_more p segment s h = ap (λ t. cond (t && eqb segment s) (inside h p s + 1) (inside h p s)) (eq-eqb p p refl)
 
-left : (p segment s : ℕ) (h : List Event) → inside (Left p segment ∷ h) p s ≡ cond (eqb segment s) (inside h p s - 1) (inside h p s)
-left p segment s h = ap (λ t. cond (t && eqb segment s) (inside h p s - 1) (inside h p s)) (eq-eqb p p refl)
+once_less : (p segment s : ℕ) (h : List Event) → inside (Left p segment ∷ h) p s ≡ cond (eqb segment s) (inside h p s - 1) (inside h p s)
+once_less p segment s h = ap (λ t. cond (t && eqb segment s) (inside h p s - 1) (inside h p s)) (eq-eqb p p refl)
 
 at_least : (t : Bool) (m : ℕ) → 0 < m → 0 < cond t (m + 1) m
 at_least true m lt = omega arith
@@ -124,8 +127,8 @@ reads_enter b p q segment m = record {
   own = Entered (number p) segment ∷ [];
   moved = m;
   only = (tt, tt);
-  inside = λ s. moved_inside b (Entered (number p) segment ∷ []) p q s m ∙ entered (number p) segment s (trace p);
-  stays = λ s there. (subst (λ n. 0 < n) (sym (entered (number p) segment s (trace p))) (at_least (eqb segment s) (inside (trace p) (number p) s) there), there);
+  inside = λ s. moved_inside b (Entered (number p) segment ∷ []) p q s m ∙ once_more (number p) segment s (trace p);
+  stays = λ s there. (subst (λ n. 0 < n) (sym (once_more (number p) segment s (trace p))) (at_least (eqb segment s) (inside (trace p) (number p) s) there), there);
 }
 
 pub enter_then : (b : Board) (p q r : Pass) (segment : ℕ) → Reads b p q → ReadsIn b q r segment → ReadsIn b p r segment
@@ -154,7 +157,7 @@ is_inside b p q segment i = subst (λ n. 0 < inside (trace q) n segment) (sym i.
 pub leave_then : (b : Board) (p q r : Pass) (segment : ℕ) → ReadsIn b p q segment → Moved b (Left (number q) segment ∷ []) q r → Reads b p r
 leave_then b p q r segment i m =
     let out : (s : ℕ) → inside (trace r) (number p) s ≡ inside (trace p) (number p) s = λ s.
-    subst (λ n. inside (trace r) n s ≡ cond (eqb segment s) (inside (trace q) n s - 1) (inside (trace q) n s)) i.moved.same (moved_inside b (Left (number q) segment ∷ []) q r s m ∙ left (number q) segment s (trace q))
+    subst (λ n. inside (trace r) n s ≡ cond (eqb segment s) (inside (trace q) n s - 1) (inside (trace q) n s)) i.moved.same (moved_inside b (Left (number q) segment ∷ []) q r s m ∙ once_less (number q) segment s (trace q))
     ∙ (ap (λ n. cond (eqb segment s) (n - 1) n) (i.inside s) ∙ one_less (eqb segment s) (inside (trace p) (number p) s)) in record {
       own = Left (number q) segment ∷ i.own;
       moved = moved_then b i.own (Left (number q) segment ∷ []) p q r i.moved m;

@@ -7,8 +7,8 @@ use Rattle.segcore.specs.Event.{by, entry_of, with_entry, seen, NoneBy, AllBy}
 use Rattle.segcore.specs.Segment.{inside}
 use Rattle.segmodel.specs.declared.entry.Entry.{Entry}
 use Rattle.segmodel.specs.History.{pass_of, mine}
-use Rattle.segcore.specs.Count.{taken, bounced, glanced, drew, raised}
-use Rattle.segcore.proofs.Counts.{mine_others, taken_others, bounced_others, glanced_others, drew_others, raised_others}
+use Rattle.segcore.specs.Count.{taken, bounced, glanced, drew, raised, entered}
+use Rattle.segcore.proofs.Counts.{mine_others, taken_others, bounced_others, glanced_others, drew_others, raised_others, entered_others}
 use Rattle.segcore.proofs.Quiet.{quiet_inside}
 use Rattle.segbase.specs.Traces.{own_of}
 
@@ -94,3 +94,10 @@ raised_again p e h g same = same
 
 pub own_raised : (more h : List Event) (p : ℕ) → raised p (more ++ h) ≡ raised p (own_of p more ++ h)
 own_raised more h p = own_same p (raised p) (record { again = raised_again p; skips = λ e h n. raised_others p (e ∷ []) h (n, tt) }) more h
+
+entered_again : (p : ℕ) (e : Event) (h g : List Event) → entered p h ≡ entered p g → entered p (e ∷ h) ≡ entered p (e ∷ g)
+entered_again p (Entered q s) h g same = ap (λ n. cond (eqb q p) (n + 1) n) same
+entered_again p e h g same = same
+
+pub own_entered : (more h : List Event) (p : ℕ) → entered p (more ++ h) ≡ entered p (own_of p more ++ h)
+own_entered more h p = own_same p (entered p) (record { again = entered_again p; skips = λ e h n. entered_others p (e ∷ []) h (n, tt) }) more h

@@ -70,6 +70,10 @@ drew p bucket = count.drew (number p) bucket (trace p)
 abbrev pub raised : Pass → ℕ
 raised p = count.raised (number p) (trace p)
 
+-- how often it came into a segment
+abbrev pub entered : Pass → ℕ
+entered p = count.entered (number p) (trace p)
+
 -- what it holds and what it has locked
 abbrev pub holding : Pass → Option Held
 holding p = (sight p).memo.holding

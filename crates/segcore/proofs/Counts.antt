@@ -13,7 +13,7 @@ use Rattle.segcore.specs.Event.{by, removal, entry_of, with_entry, seen, NoneBy,
 use Rattle.segcore.specs.ItemWord.{packed}
 use Rattle.segcore.specs.Kind.{Step, take, release, info_look, glance, look, link, clear, draw, fill, chain, bump, row_store, row_load, enter, leave, none_reading, told, unless_own, adds}
 use Rattle.segcore.proofs.Quiet.{off}
-use Rattle.segcore.specs.Count.{taken, bounced, glanced, drew, raised, taken_by, bounced_by, glanced_by, drew_by, raised_by, IsCounted}
+use Rattle.segcore.specs.Count.{taken, bounced, glanced, drew, raised, entered, taken_by, bounced_by, glanced_by, drew_by, raised_by, entered_by, IsCounted}
 
 -- ---- entries
 
@@ -81,15 +81,21 @@ raised_others p [] h n = refl
 raised_others p (Bumped q s r f ∷ more) h n = cond-false (eqb q p) _ (raised p (more ++ h)) (ne_eqb q p n.0) ∙ raised_others p more h n.1
 raised_others p (e ∷ more) h n = raised_others p more h n.1
 
+pub entered_others : (p : ℕ) (more h : List Event) → NoneBy p more → entered p (more ++ h) ≡ entered p h
+entered_others p [] h n = refl
+entered_others p (Entered q s ∷ more) h n = cond-false (eqb q p) _ (entered p (more ++ h)) (ne_eqb q p n.0) ∙ entered_others p more h n.1
+entered_others p (e ∷ more) h n = entered_others p more h n.1
+
 -- ---- what a step adds
 
--- the events that none of the five counts, and the steps that add only such ones
+-- the events that none of the six counts, and the steps that add only such ones
 abbrev IsPlain : Event → Type 0
 IsPlain (Took p b) = ⊥
 IsPlain (Bounced p b) = ⊥
 IsPlain (Glanced p b) = ⊥
 IsPlain (Drew p b d m) = ⊥
 IsPlain (Bumped p s r f) = ⊥
+IsPlain (Entered p s) = ⊥
 IsPlain _ = Unit {0}
 
 abbrev IsPlainStep : Step → Type 0
@@ -97,6 +103,7 @@ IsPlainStep (take b own) = ⊥
 IsPlainStep (glance b own) = ⊥
 IsPlainStep (draw b d from) = ⊥
 IsPlainStep (bump b n c t s r f g) = ⊥
+IsPlainStep (enter s) = ⊥
 IsPlainStep _ = Unit {0}
 
 module _ (F : List Event → ℕ) (p : ℕ) (h : List Event) (skips : (e : Event) (g : List Event) → IsPlain e → F (e ∷ g) ≡ F g) where
@@ -123,7 +130,7 @@ module _ (F : List Event → ℕ) (p : ℕ) (h : List Event) (skips : (e : Event
   plain (fill b m w) found i = skips (Put p b w) h tt
   plain (chain b c old m) found i = of_cond (eqb found old) (Chained p b m) tt
   plain (row_store s r j w) found i = skips (Filled p s r j w) h tt
-  plain (enter s) found i = skips (Entered p s) h tt
+  plain (enter s) found i = absurd i
   plain (leave s) found i = skips (Left p s) h tt
   plain (none_reading s) found i = of_cond (eqb found 0) (Refilled p s) tt
 
@@ -150,6 +157,10 @@ raised_skips : (p : ℕ) (e : Event) (g : List Event) → IsPlain e → raised p
 raised_skips p (Bumped q s r f) g i = absurd i
 raised_skips p e g i = refl
 
+entered_skips : (p : ℕ) (e : Event) (g : List Event) → IsPlain e → entered p (e ∷ g) ≡ entered p g
+entered_skips p (Entered q s) g i = absurd i
+entered_skips p e g i = refl
+
 -- an exchange that adds what is counted elsewhere, or nothing
 elsewhere : (F : List Event → ℕ) (e : Event) (h : List Event) (t : Bool) → F (e ∷ h) ≡ F h → F (cond t (e ∷ []) [] ++ h) ≡ 0 + F h
 elsewhere F e h true same = omega (arith, same)
@@ -175,6 +186,7 @@ module _ (p : ℕ) (h : List Event) where
   step_taken (glance b own) found = glance_taken b own (eqb (found % 2) 0)
   step_taken (draw b d from) found = elsewhere (taken p) (Drew p b d from) h (eqb found from) refl
   step_taken (bump b n c t s r f g) found = elsewhere (taken p) (Bumped p s r g) h (eqb found (packed t f s r)) refl
+  step_taken (enter s) found = elsewhere (taken p) (Entered p s) h true refl
   step_taken step found = adds_none (taken p) p h (taken_skips p) step found tt
 
   take_bounced : (x b : ℕ) (own t : Bool) → bounced p x (cond t (Took p b ∷ []) (unless_own own (Bounced p b)) ++ h) ≡ cond (not t && (not own && eqb b x)) 1 0 + bounced p x h
@@ -192,6 +204,7 @@ module _ (p : ℕ) (h : List Event) where
   step_bounced x (glance b own) found = glance_bounced x b own (eqb (found % 2) 0)
   step_bounced x (draw b d from) found = elsewhere (bounced p x) (Drew p b d from) h (eqb found from) refl
   step_bounced x (bump b n c t s r f g) found = elsewhere (bounced p x) (Bumped p s r g) h (eqb found (packed t f s r)) refl
+  step_bounced x (enter s) found = elsewhere (bounced p x) (Entered p s) h true refl
   step_bounced x step found = adds_none (bounced p x) p h (bounced_skips p x) step found tt
 
   take_glanced : (x b : ℕ) (own t : Bool) → glanced p x (cond t (Took p b ∷ []) (unless_own own (Bounced p b)) ++ h) ≡ 0 + glanced p x h
@@ -209,6 +222,7 @@ module _ (p : ℕ) (h : List Event) where
   step_glanced x (glance b own) found = glance_glanced x b own (eqb (found % 2) 0)
   step_glanced x (draw b d from) found = elsewhere (glanced p x) (Drew p b d from) h (eqb found from) refl
   step_glanced x (bump b n c t s r f g) found = elsewhere (glanced p x) (Bumped p s r g) h (eqb found (packed t f s r)) refl
+  step_glanced x (enter s) found = elsewhere (glanced p x) (Entered p s) h true refl
   step_glanced x step found = adds_none (glanced p x) p h (glanced_skips p x) step found tt
 
   take_drew : (x b : ℕ) (own t : Bool) → drew p x (cond t (Took p b ∷ []) (unless_own own (Bounced p b)) ++ h) ≡ 0 + drew p x h
@@ -230,6 +244,7 @@ module _ (p : ℕ) (h : List Event) where
   step_drew x (glance b own) found = glance_drew x b own (eqb (found % 2) 0)
   step_drew x (draw b d from) found = draw_drew x b d from (eqb found from)
   step_drew x (bump b n c t s r f g) found = elsewhere (drew p x) (Bumped p s r g) h (eqb found (packed t f s r)) refl
+  step_drew x (enter s) found = elsewhere (drew p x) (Entered p s) h true refl
   step_drew x step found = adds_none (drew p x) p h (drew_skips p x) step found tt
 
   take_raised : (b : ℕ) (own t : Bool) → raised p (cond t (Took p b ∷ []) (unless_own own (Bounced p b)) ++ h) ≡ 0 + raised p h
@@ -251,7 +266,26 @@ module _ (p : ℕ) (h : List Event) where
   step_raised (glance b own) found = glance_raised b own (eqb (found % 2) 0)
   step_raised (draw b d from) found = elsewhere (raised p) (Drew p b d from) h (eqb found from) refl
   step_raised (bump b n c t s r f g) found = bump_raised s r g (eqb found (packed t f s r))
+  step_raised (enter s) found = elsewhere (raised p) (Entered p s) h true refl
   step_raised step found = adds_none (raised p) p h (raised_skips p) step found tt
+
+  take_entered : (b : ℕ) (own t : Bool) → entered p (cond t (Took p b ∷ []) (unless_own own (Bounced p b)) ++ h) ≡ 0 + entered p h
+  take_entered b own true = omega arith
+  take_entered b true false = omega arith
+  take_entered b false false = omega arith
+
+  glance_entered : (b : ℕ) (own t : Bool) → entered p (cond t [] (unless_own own (Glanced p b)) ++ h) ≡ 0 + entered p h
+  glance_entered b own true = omega arith
+  glance_entered b true false = omega arith
+  glance_entered b false false = omega arith
+
+  pub step_entered : (step : Step) (found : ℕ) → entered p (adds step p found ++ h) ≡ entered_by step + entered p h
+  step_entered (take b own) found = take_entered b own (eqb (found % 2) 0)
+  step_entered (glance b own) found = glance_entered b own (eqb (found % 2) 0)
+  step_entered (draw b d from) found = elsewhere (entered p) (Drew p b d from) h (eqb found from) refl
+  step_entered (bump b n c t s r f g) found = elsewhere (entered p) (Bumped p s r g) h (eqb found (packed t f s r)) refl
+  step_entered (enter s) found = rw (eq-eqb p p refl) (omega arith)
+  step_entered step found = adds_none (entered p) p h (entered_skips p) step found tt
 
 -- all that a step adds is of its pass
 all_of_cond : (p : ℕ) (t : Bool) (xs ys : List Event) → AllBy p xs → AllBy p ys → AllBy p (cond t xs ys)
@@ -293,4 +327,5 @@ counted step p found more old n = record {
   glances = λ b. step_glanced p (more ++ old) b step found ∙ ap (λ x. glanced_by b step found + x) (glanced_others p b more old n);
   draws = λ b. step_drew p (more ++ old) b step found ∙ ap (λ x. drew_by b step found + x) (drew_others p b more old n);
   raises = step_raised p (more ++ old) step found ∙ ap (λ x. raised_by step found + x) (raised_others p more old n);
+  enters = step_entered p (more ++ old) step found ∙ ap (λ x. entered_by step + x) (entered_others p more old n);
 }

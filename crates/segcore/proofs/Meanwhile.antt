@@ -25,7 +25,7 @@ use Rattle.segcore.proofs.Entered.{no_refill}
 use Rattle.segcore.proofs.Readers.{empty_stays}
 use Rattle.segcore.proofs.Segments.{is_pass}
 use Rattle.segcore.proofs.Readable.{read_row, may_read}
-use Rattle.segcore.proofs.Counts.{mine_others, taken_others, bounced_others, glanced_others, drew_others, raised_others, counted}
+use Rattle.segcore.proofs.Counts.{mine_others, taken_others, bounced_others, glanced_others, drew_others, raised_others, entered_others, counted}
 
 refilled_event : (e : Event) (h : List Event) (s : ℕ) → ((q : ℕ) → e ≢ Refilled q s) → refills (e ∷ h) s ≡ refills h s
 refilled_event (Refilled q t) h s ne = cond-false (eqb t s) (refills h s + 1) (refills h s) (ne_eqb t s (λ e. ne q (ap (Refilled q) e)))
@@ -80,6 +80,7 @@ meanwhile z p more h l n = let early = lawful_before z more h l in record {
   glances = λ b. glanced_others p b more h n;
   draws = λ b. drew_others p b more h n;
   raises = raised_others p more h n;
+  enters = entered_others p more h n;
   fits = λ e own now f. later z more h e l (subst (λ x. NoneBy x more) (sym own) n) now f;
 }
 

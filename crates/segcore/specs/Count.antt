@@ -2,10 +2,10 @@
 use Rattle.std.specs.Prelude.{◌≡◌, ℕ, ◌+◌, ◌%◌, ◌==◌, ◌&&◌, not, List, [], ◌∷◌, ◌++◌, if◌then◌else◌}
 use Rattle.segmodel.specs.History.{mine}
 use Rattle.segcore.specs.declared.event.Event.{Event}
-use Rattle.segcore.specs.declared.event.Event.TheVariants.{Took, Bounced, Glanced, Drew, Bumped}
+use Rattle.segcore.specs.declared.event.Event.TheVariants.{Took, Bounced, Glanced, Drew, Bumped, Entered}
 use Rattle.segcore.specs.Event.{seen}
 use Rattle.segcore.specs.ItemWord.{packed}
-use Rattle.segcore.specs.Kind.{Step, take, glance, draw, bump, adds}
+use Rattle.segcore.specs.Kind.{Step, take, glance, draw, bump, enter, adds}
 
 -- how often the pass set a bit
 abbrev pub taken : ℕ → List Event → ℕ
@@ -37,6 +37,12 @@ raised pass [] = 0
 raised pass (Bumped q segment row frequency ∷ trace) = if q == pass then raised pass trace + 1 else raised pass trace
 raised pass (_ ∷ trace) = raised pass trace
 
+-- how often it came into a segment
+abbrev pub entered : ℕ → List Event → ℕ
+entered pass [] = 0
+entered pass (Entered q segment ∷ trace) = if q == pass then entered pass trace + 1 else entered pass trace
+entered pass (_ ∷ trace) = entered pass trace
+
 -- ---- what a step adds, by what it found
 
 abbrev pub taken_by : Step → ℕ → ℕ
@@ -60,6 +66,10 @@ abbrev pub raised_by : Step → ℕ → ℕ
 raised_by (bump bucket position of tag segment row frequency higher) found = if found == packed tag frequency segment row then 1 else 0
 raised_by _ found = 0
 
+abbrev pub entered_by : Step → ℕ
+entered_by (enter segment) = 1
+entered_by _ = 0
+
 -- the counts of a pass before a step of its own and after it
 pub record IsCounted (step : Step) (pass found : ℕ) (old new : List Event) : Type 0 where
   pub entries : mine pass (seen new) ≡ seen (adds step pass found) ++ mine pass (seen old)
@@ -68,3 +78,4 @@ pub record IsCounted (step : Step) (pass found : ℕ) (old new : List Event) : T
   pub glances : (bucket : ℕ) → glanced pass bucket new ≡ glanced_by bucket step found + glanced pass bucket old
   pub draws : (bucket : ℕ) → drew pass bucket new ≡ drew_by bucket step found + drew pass bucket old
   pub raises : raised pass new ≡ raised_by step found + raised pass old
+  pub enters : entered pass new ≡ entered_by step + entered pass old

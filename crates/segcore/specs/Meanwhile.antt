@@ -9,7 +9,7 @@ use Rattle.segcore.specs.Bucket.{Slot, item, bucket_after}
 use Rattle.segcore.specs.Row.{row_after, frequency_of}
 use Rattle.segcore.specs.Segment.{inside, refills, NoneRefills}
 use Rattle.segcore.specs.Lawful.{Fits, is_of_now, NoneAt}
-use Rattle.segcore.specs.Count.{taken, bounced, glanced, drew, raised}
+use Rattle.segcore.specs.Count.{taken, bounced, glanced, drew, raised, entered}
 use Rattle.segcore.specs.Kind.{Step, info_look, row_load, cell, HasBit, MayRead, May}
 use Rattle.segcore.specs.Word.{word}
 
@@ -47,5 +47,6 @@ pub record Meanwhile (shape : Shape) (pass : ℕ) (more old : List Event) : Type
   pub glances : (bucket : ℕ) → glanced pass bucket (more ++ old) ≡ glanced pass bucket old
   pub draws : (bucket : ℕ) → drew pass bucket (more ++ old) ≡ drew pass bucket old
   pub raises : raised pass (more ++ old) ≡ raised pass old
+  pub enters : entered pass (more ++ old) ≡ entered pass old
   -- what it could do it still can, where that asks for nothing of the moment itself
   pub fits : (event : Event) → by event ≡ pass → is_of_now event ≡ false → Fits shape old event → Fits shape (more ++ old) event
