@@ -24,7 +24,7 @@ use Rattle.segindex.specs.declared.find.Target.{Target}
 use Rattle.segindex.specs.declared.evict.RowAnswer.{RowAnswer}
 use Rattle.segindex.specs.declared.evict.RowAnswer.TheVariants as row_answer
 use Rattle.segindex.specs.Quiet.{IsQuiet}
-use Rattle.segindex.specs.Calls.{memo, GoesOn, ChangesNothing, DrawsNothing}
+use Rattle.segindex.specs.Calls.{memo, GoesOn, ChangesNothing, DrawsNothing, RaisesNothing}
 use Rattle.segindex.specs.Answers.{IsBusy}
 use Rattle.segindex.specs.Storing.{TookToWrite}
 use Rattle.segindex.specs.Unlinking.{IsStoredIn, IsNamedAt, FindsRow, TakesRow, KeepsGone, EvictsRow}
@@ -32,8 +32,8 @@ use Rattle.segindex.proofs.Bounces.{bounces_calm}
 use Rattle.segindex.proofs.Draws.{AreUndrawn, moved_undrawn, draws_none_then}
 use Rattle.segindex.proofs.Idling.{goes_nowhere, does_nothing}
 use Rattle.segindex.proofs.Seeking.{stored_over}
-use Rattle.segindex.proofs.Still.{AreStill}
-use Rattle.segindex.proofs.UnderWrite.{tries, took_moved, took_keeps, write_goes_on, write_adds, write_undrawn}
+use Rattle.segindex.proofs.Still.{AreStill, raises_none}
+use Rattle.segindex.proofs.UnderWrite.{tries, took_moved, took_keeps, write_goes_on, write_adds, write_undrawn, write_unraised}
 use Rattle.segindex.proofs.Unlinking.{named_stands}
 use Rattle.segindex.proofs.Unnamed.{gone_over}
 
@@ -68,6 +68,9 @@ module _ (b : Board) (bucket : ℕ) (sought : Item) (p f : Pass) (quiet : IsQuie
   undrawn_looking : DrawsNothing p f
   undrawn_looking = moved_undrawn b [] p f i.moved tt
 
+  unraised_looking : RaisesNothing p f
+  unraised_looking = raises_none b [] p f i.moved tt
+
   gone_looking : KeepsGone b sought.seg p f
   gone_looking = keeps_gone b sought.seg [] p f i.moved tt own_before
 
@@ -78,16 +81,18 @@ module _ (b : Board) (bucket : ℕ) (sought : Item) (p f : Pass) (quiet : IsQuie
     plain = i.plain;
     memo = i.memo;
     draws_nothing = undrawn_looking;
+    raises_nothing = unraised_looking;
     answer = (gone_looking, gone, (does_nothing b p f quiet i.moved i.plain i.memo).entries);
   }
 
   -- the bit can't be had
-  pub row_is_barred : (q : Pass) (target : Target) → IsNamedAt b bucket sought target f → GoesOn b f q × ChangesNothing f q × IsBusy bucket f q × DrawsNothing f q → EvictsRow b sought.seg sought.row row_answer.Busy p q
+  pub row_is_barred : (q : Pass) (target : Target) → IsNamedAt b bucket sought target f → GoesOn b f q × ChangesNothing f q × IsBusy bucket f q × DrawsNothing f q × RaisesNothing f q → EvictsRow b sought.seg sought.row row_answer.Busy p q
   row_is_barred q target n busy = record {
     on = goes_then b p f q goes_looking busy.0;
     plain = busy.1.plain ∙ i.plain;
     memo = busy.1.memo ∙ i.memo;
     draws_nothing = draws_none_then p f q undrawn_looking busy.3;
+    raises_nothing = busy.4 ∙ unraised_looking;
     answer = (
       busy.1.entries ∙ (does_nothing b p f quiet i.moved i.plain i.memo).entries,
       (
@@ -138,6 +143,9 @@ module _ (b : Board) (bucket : ℕ) (sought : Item) (p f : Pass) (quiet : IsQuie
       undrawn_all : AreUndrawn own → DrawsNothing p s
       undrawn_all none = draws_none_then p f s undrawn_looking (write_undrawn b bucket f q quiet_looking took r s own added false m elsewhere still adds freed free none)
 
+      unraised_all : RaisesNothing p s
+      unraised_all = write_unraised b bucket f q quiet_looking took r s own added false m elsewhere still adds freed free ∙ unraised_looking
+
       gone_all : KeepsGone b sought.seg p s
       gone_all = keeps_gone_then b sought.seg p q s gone_taken (keeps_gone_then b sought.seg q r s (keeps_gone b sought.seg own q r m calm stored_taken.own)
           (keeps_gone b sought.seg (Freed (number r) bucket false ∷ []) r s freed.moved (tt, tt) (stored_taken.own ∙ sym m.same)))
@@ -154,6 +162,7 @@ module _ (b : Board) (bucket : ℕ) (sought : Item) (p f : Pass) (quiet : IsQuie
           plain = plain_all r s own added t.takes.3 (tt, tt) elsewhere (tt, tt) (λ h. refl) freed free plain same plain' same';
           memo = memo_all r s own added t.takes.3 (tt, tt) elsewhere (tt, tt) (λ h. refl) freed free plain same plain' same';
           draws_nothing = undrawn_all r s own added t.takes.3 (tt, tt) elsewhere (tt, tt) (λ h. refl) freed free plain same plain' same' (tt, tt);
+          raises_nothing = unraised_all r s own added t.takes.3 (tt, tt) elsewhere (tt, tt) (λ h. refl) freed free plain same plain' same';
           answer = (
             gone_all r s own added t.takes.3 (tt, tt) elsewhere (tt, tt) (λ h. refl) freed free plain same plain' same',
             gone_over b (Freed (number r) bucket false ∷ []) r s sought.seg sought.row freed.moved (tt, tt) (stored_taken.own ∙ sym t.takes.3.same) t.gone,
@@ -174,6 +183,7 @@ module _ (b : Board) (bucket : ℕ) (sought : Item) (p f : Pass) (quiet : IsQuie
       plain = plain_all r s [] [] t.takes tt (λ other apart. tt) tt (λ h. refl) freed free plain same plain' same';
       memo = memo_all r s [] [] t.takes tt (λ other apart. tt) tt (λ h. refl) freed free plain same plain' same';
       draws_nothing = undrawn_all r s [] [] t.takes tt (λ other apart. tt) tt (λ h. refl) freed free plain same plain' same' tt;
+      raises_nothing = unraised_all r s [] [] t.takes tt (λ other apart. tt) tt (λ h. refl) freed free plain same plain' same';
       answer = (
         gone_all r s [] [] t.takes tt (λ other apart. tt) tt (λ h. refl) freed free plain same plain' same',
         gone_over b (Freed (number r) bucket false ∷ []) r s sought.seg sought.row freed.moved (tt, tt) (stored_taken.own ∙ sym t.takes.same) t.gone,

@@ -1,17 +1,20 @@
--- Calls that enter and leave no segment: the pass is where it was.
+-- Calls that enter and leave no segment, and raise no frequency: the pass is where it was.
 use Rattle.std.proofs.Common.{◌≡◌, ℕ, ◌<◌, List, [], ◌∷◌, ◌++◌, sym, refl, ◌∙◌, subst}
 use Rattle.segcore.specs.declared.event.Event.{Event}
-use Rattle.segcore.specs.declared.event.Event.TheVariants.{Entered, Left}
+use Rattle.segcore.specs.declared.event.Event.TheVariants.{Bumped, Entered, Left}
 use Rattle.segcore.specs.Segment.{inside}
+use Rattle.segcore.specs.Count.{raised}
 use Rattle.segbase.specs.declared.board.Board.{Board}
 use Rattle.segbase.specs.declared.pass.Pass.{Pass}
 use Rattle.segbase.specs.Traces.{StaysIn}
 use Rattle.segbase.specs.Passes.{number, trace, holding, Moved}
 use Rattle.segbase.specs.Plain.{is_holding_of}
-use Rattle.segbase.proofs.Moves.{moved_inside}
+use Rattle.segbase.proofs.Moves.{moved_inside, moved_raised}
+use Rattle.segindex.specs.Calls.{RaisesNothing}
 use Rattle.segindex.proofs.Quiet.{SettlesIn}
 
 abbrev pub IsStill : Event → Type 0
+IsStill (Bumped p s r f) = ⊥
 IsStill (Entered p s) = ⊥
 IsStill (Left p s) = ⊥
 IsStill e = Unit {0}
@@ -35,6 +38,17 @@ still_stays (e ∷ own) h p s still there = (
   subst (λ n. 0 < n) (sym (still_inside (e ∷ own) h p s still)) there,
   still_stays own h p s still.1 there,
 )
+
+one_raised : (p : ℕ) (e : Event) (h : List Event) → IsStill e → raised p (e ∷ h) ≡ raised p h
+one_raised p (Bumped q s r f) h still = absurd still
+one_raised p e h still = refl
+
+still_raised : (p : ℕ) (own h : List Event) → AreStill own → raised p (own ++ h) ≡ raised p h
+still_raised p [] h still = refl
+still_raised p (e ∷ own) h still = one_raised p e (own ++ h) still.0 ∙ still_raised p own h still.1
+
+pub raises_none : (b : Board) (own : List Event) (p q : Pass) → Moved b own p q → AreStill own → RaisesNothing p q
+raises_none b own p q m still = moved_raised b own p q m ∙ still_raised (number p) own (trace p) still
 
 pub settles_still : (b : Board) (own : List Event) (p q : Pass) → Moved b own p q → AreStill own → holding q ≡ holding p → is_holding_of q ≡ is_holding_of p → SettlesIn own p q
 settles_still b own p q m still memo plain = record {

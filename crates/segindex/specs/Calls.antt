@@ -8,7 +8,7 @@ use Rattle.segmodel.specs.History as history
 use Rattle.segbase.specs.declared.board.Board.{Board}
 use Rattle.segbase.specs.declared.law.Memo.{Memo}
 use Rattle.segbase.specs.declared.pass.Pass.{Pass}
-use Rattle.segbase.specs.Passes.{sight, number, marked, seen, mine, taken, bounced, drew}
+use Rattle.segbase.specs.Passes.{sight, number, marked, seen, mine, taken, bounced, drew, raised}
 use Rattle.segbase.specs.Made.{IsNewPass}
 use Rattle.segindex.specs.declared.index.Index.{Index}
 use Rattle.segindex.specs.Index.{board_of, shape_of}
@@ -50,6 +50,10 @@ pub record TriesInVain (bucket : ℕ) (p q : Pass) : Type 0 where
 -- it drew no overflow bucket
 abbrev pub DrawsNothing : Pass → Pass → Type 0
 DrawsNothing p q = (bucket : ℕ) → drew q bucket ≡ drew p bucket
+
+-- it raised the frequency of no item
+abbrev pub RaisesNothing : Pass → Pass → Type 0
+RaisesNothing p q = raised q ≡ raised p
 
 -- it added one entry of its own
 abbrev pub AddsEntry : Entry → Pass → Pass → Type 0
