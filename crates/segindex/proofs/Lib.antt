@@ -19,7 +19,9 @@ pub mod Searching
 pub mod Onward
 pub mod Rising
 pub mod Finding
+pub mod ComingIn
 pub mod Tries
+pub mod Raising
 pub mod Scans
 pub mod Gets
 pub mod Linking

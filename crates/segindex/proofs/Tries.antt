@@ -128,7 +128,7 @@ counts_then z key some more most h g f c d = omega arith
 tag_of_item : (item : Item) → item_word item / 2 ^ 52 ≡ item.tag
 tag_of_item item = tag_of_word item.tag item.freq item.seg item.row item.freq_in_range item.seg_in_range item.row_in_range
 
-has_tag : (item : Item) → 1 ≤ item_word item / 2 ^ 52
+pub has_tag : (item : Item) → 1 ≤ item_word item / 2 ^ 52
 has_tag item = subst (λ n. 1 ≤ n) (sym (tag_of_item item)) item.tag_above_zero
 
 -- the tries at a word, up to g: the item was seen at some point, and each try before it found another

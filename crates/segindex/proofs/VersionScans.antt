@@ -21,9 +21,12 @@ use Rattle.segstore.specs.Reading.{IsReader}
 use Rattle.segstore.proofs.Words.{same_place, chained_later}
 use Rattle.segindex.specs.declared.versions.Visited.{Visited}
 use Rattle.segindex.specs.declared.versions.Visited.TheVariants.{Found, Passed, Busy}
+use Rattle.segindex.specs.Calls.{RaisesNothing}
+use Rattle.segindex.specs.Hits.{GetsRaises}
 use Rattle.segindex.specs.Scanning.{IsPlaceOf, Brings, HasPassed}
-use Rattle.segindex.specs.Gets.{ReadsVersionBetween, Disturbs, disturbed, IsVisited, IsVersionScan, IsGetsAnswer}
+use Rattle.segindex.specs.Gets.{ReadsVersionBetween, Disturbs, disturbed, VisitRaises, IsVisited, IsVersionScan, IsGetsAnswer}
 use Rattle.segindex.proofs.Scans.{passed_then}
+use Rattle.segindex.proofs.Raising.{raises_later}
 use Rattle.segindex.proofs.Gets.{gone_reads}
 use Rattle.segindex.proofs.Disturbing.{glances_grow, disturbs_then}
 
@@ -54,6 +57,12 @@ visited_stops z key from to from' to' last last' some tries (Found value version
 visited_stops z key from to from' to' last last' some tries (Passed word counted) p q r ne up c x = absurd (ne word counted refl)
 visited_stops z key from to from' to' last last' some tries Busy p q r ne up c x = disturbs_then z key some tries 64 p q r c x
 
+-- after visits that raised nothing
+pub visit_raises : (b : Board) (key : List ℕ) (draw : ℕ) (w : Visited) (p q r : Pass) → IsReader b p q → RaisesNothing p q → VisitRaises b.shape key draw w q r → VisitRaises b.shape key draw w p r
+visit_raises b key draw (Found value version) p q r i none x = raises_later b.shape key draw p q r i.reads.moved.same (moved_on b i.reads.own p q i.reads.moved) none x
+visit_raises b key draw (Passed word counted) p q r i none x = x ∙ none
+visit_raises b key draw Busy p q r i none x = x ∙ none
+
 -- the last visit
 pub visited_ends : (b : Board) (key : List ℕ) (from mid to : ℕ) (last : Place) (some tries : ℕ) (w : Visited) (p q r : Pass) → IsReader b p q → Disturbs b.shape key some tries p q → Brings b.shape key from mid (trace p) (trace q)
     → IsVisited b.shape key mid to last tries w q r → IsVisited b.shape key from to last some w p r
@@ -73,3 +82,9 @@ scan_answers b key (gets.Found value version) p q i x = x
 scan_answers b key gets.Miss p q i x = gone_reads b.shape key (trace p) (trace q) x
 scan_answers b key gets.Busy p q i x =
     inl (is_disturbed b.shape key p q (entries_begin b.shape (bucket_of b.shape key) (trace p) (trace q) (moved_on b i.reads.own p q i.reads.moved)) (glances_grow b i.reads.own p q (bucket_of b.shape key) i.reads.moved) x)
+
+-- an answer that isn't a hit
+pub unfound_raises : (z : Shape) (key : List ℕ) (draw : ℕ) (w : GetsAnswer) (p q : Pass) → ((value : List ℕ) (version : ℕ) → w ≢ gets.Found value version) → RaisesNothing p q → GetsRaises z key draw w p q
+unfound_raises z key draw (gets.Found value version) p q ne none = absurd (ne value version refl)
+unfound_raises z key draw gets.Miss p q ne none = none
+unfound_raises z key draw gets.Busy p q ne none = none

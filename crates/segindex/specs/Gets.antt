@@ -21,7 +21,9 @@ use Rattle.segindex.specs.declared.versions.Versioned.{Versioned}
 use Rattle.segindex.specs.declared.versions.Versioned.TheVariants as versioned
 use Rattle.segindex.specs.declared.versions.Visited.{Visited}
 use Rattle.segindex.specs.declared.versions.Visited.TheVariants as visited
+use Rattle.segindex.specs.Calls.{RaisesNothing}
 use Rattle.segindex.specs.Answers.{ReadsBetween}
+use Rattle.segindex.specs.Hits.{RaisesOne}
 use Rattle.segindex.specs.Scanning.{HasPassed}
 
 -- ---- the answer
@@ -55,6 +57,20 @@ abbrev pub Disturbs : Shape → List ℕ → ℕ → ℕ → Pass → Pass → T
 Disturbs shape key some more p q =
     let bucket = bucket_of shape key in
     entries_of shape bucket (seen p) + glanced p bucket + more ≤ entries_of shape bucket (seen q) + glanced q bucket + some
+
+-- how many tries were counted when looks ended so; the last one of those that found the key, or gave up, is its word's own
+abbrev pub visits : Visited → ℕ
+visits (visited.Passed word tries) = tries
+visits _ = 63
+
+-- only a hit raises a frequency
+abbrev pub TryRaises : Shape → List ℕ → ℕ → Versioned → Pass → Pass → Type 0
+TryRaises shape key draw (versioned.Found value version) p q = RaisesOne shape key draw p q
+TryRaises shape key draw _ p q = RaisesNothing p q
+
+abbrev pub VisitRaises : Shape → List ℕ → ℕ → Visited → Pass → Pass → Type 0
+VisitRaises shape key draw (visited.Found value version) p q = RaisesOne shape key draw p q
+VisitRaises shape key draw _ p q = RaisesNothing p q
 
 -- one try at a place where this item word was seen
 abbrev pub IsVersioned : Shape → List ℕ → Place → ℕ → Versioned → Pass → Pass → Type 0

@@ -13,6 +13,7 @@ pub mod Growing
 pub mod Telling
 pub mod Evicting
 pub mod Unlinking
+pub mod Hits
 pub mod Gets
 pub mod Holds
 pub mod Served

@@ -13,7 +13,7 @@ use Rattle.segcore.specs.Search.{KeyGone, KeyAhead}
 use Rattle.segbase.specs.declared.board.Board.{Board}
 use Rattle.segbase.specs.declared.pass.Pass.{Pass}
 use Rattle.segbase.specs.declared.place.Place.{Place}
-use Rattle.segbase.specs.Passes.{number, trace}
+use Rattle.segbase.specs.Passes.{number, trace, entered}
 use Rattle.segbase.specs.Spots.{IsPlace, cell_at, home_bucket, depth_of}
 use Rattle.segstore.specs.Reading.{IsReader, IsReaderIn}
 use Rattle.segstore.specs.Linked.{IsChained, SawWord, FoundKey}
@@ -23,6 +23,7 @@ use Rattle.segindex.specs.declared.scan.Way.{Way}
 use Rattle.segindex.specs.declared.scan.Way.TheVariants as way
 use Rattle.segindex.specs.declared.scan.Scan.{Scan}
 use Rattle.segindex.specs.declared.scan.Scan.TheVariants as scan
+use Rattle.segindex.specs.Calls.{RaisesNothing}
 
 -- ---- chains
 
@@ -67,6 +68,26 @@ abbrev pub IsScanner : Board → Scan → Pass → Pass → Type 0
 IsScanner b (scan.Found hit) p q = IsReaderIn b p q hit.item.seg
 IsScanner b scan.Absent p q = IsReader b p q
 IsScanner b scan.Busy p q = IsReader b p q
+
+-- ---- tries
+
+-- it came into a segment once, and raised the frequency of no item
+abbrev pub IsTry : Pass → Pass → Type 0
+IsTry p q = (entered q ≡ entered p + 1) × RaisesNothing p q
+
+-- it came into segments at most once for each try that was counted, from some to more, and once for each of so many words
+abbrev pub ComesIn : ℕ → ℕ → ℕ → Pass → Pass → Type 0
+ComesIn words some more p q = entered q + some ≤ entered p + more + words
+
+-- and it raised the frequency of no item
+pub record Tries (words some more : ℕ) (p q : Pass) : Type 0 where
+  pub comes_in : ComesIn words some more p q
+  pub raises_nothing : RaisesNothing p q
+
+-- how many tries were counted when looks ended so; the last one of those that found the key, or gave up, is its word's own
+abbrev pub counted : Way → ℕ
+counted (way.Passed word tries) = tries
+counted _ = 63
 
 -- ---- what was found
 

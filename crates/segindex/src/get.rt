@@ -9,13 +9,17 @@ use segstore::{leave_segment, value_of_row};
 use segword::{Item, Key};
 
 impl Index {
-    ghost use Rattle.segbase.specs.Passes.{trace, seen, IsPassOf};
+    ghost use Rattle.std.specs.Prelude.{◌≡◌, ◌<◌, ℕ, List, Some};
+    ghost use Rattle.segcore.specs.Row.{row_after};
+    ghost use Rattle.segcore.specs.Segment.{inside};
+    ghost use Rattle.segbase.specs.Passes.{number, trace, seen, entered, IsPassOf};
     ghost use Rattle.segstore.specs.Reading.{IsReader};
     ghost use Rattle.segstore.specs.Linked.{IsChained};
     ghost use Rattle.segindex.specs.Index.{board_of, shape_of};
     ghost use Rattle.segindex.specs.Quiet.{IsQuiet};
     ghost use Rattle.segindex.specs.Calls.{GoesOn, ChangesNothing, TakesNoBit, DrawsNothing};
     ghost use Rattle.segindex.specs.Answers.{IsGetAnswer};
+    ghost use Rattle.segindex.specs.Hits.{TriesFew, RaisesOne, GetRaises};
 
     /// The value under a key. A hit raises the frequency of the key's item where the draw, a number at random, says so.
     pub fn get(&self, pass: &mut Pass, key: &Key, draw: u32) -> GetAnswer
@@ -24,6 +28,8 @@ impl Index {
         ensures keeps { ChangesNothing pass.old pass.new }
         ensures takes_no_bit { TakesNoBit pass.old pass.new }
         ensures draws_nothing { DrawsNothing pass.old pass.new }
+        ensures tries { TriesFew pass.old pass.new }
+        ensures raises { GetRaises (shape_of self.now) key.now draw result pass.old pass.new }
         ensures answer { IsGetAnswer (shape_of self.now) key.now result (seen pass.old) (seen pass.new) }
     {
         match self.scan_for(pass, key) {
@@ -43,6 +49,8 @@ impl Index {
         requires pass { IsPassOf (board_of self.now) pass.old }
         requires place { IsChained (shape_of self.now) (trace pass.old) place }
         ensures reads { IsReader (board_of self.now) pass.old pass.new }
+        ensures stays_out { entered pass.new ≡ entered pass.old }
+        ensures raises { (key : List ℕ) → 0 < inside (trace pass.old) (number pass.old) item.seg → (row_after (trace pass.old) item.seg item.row).linked ≡ Some key → RaisesOne (shape_of self.now) key draw pass.old pass.new }
     {
         let mut hit = item;
         hit.freq = next_frequency(item.freq, draw);

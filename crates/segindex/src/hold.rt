@@ -43,6 +43,7 @@ impl Index {
     ghost use Rattle.segindex.specs.Quiet.{IsQuiet};
     ghost use Rattle.segindex.specs.Calls.{GoesOn, ChangesNothing, TakesNoBit, DrawsNothing, RaisesNothing};
     ghost use Rattle.segindex.specs.Holds.{IsHoldOf, IsHoldAnswer, Releases, SetsHold};
+    ghost use Rattle.segindex.specs.Hits.{TriesFew};
 
     /// Holds the item of a key. Its value can be read until it is released, and a pass holds one item at most. No frequency changes.
     pub fn hold<'i>(&'i self, pass: &mut Pass, key: &Key) -> HoldAnswer<'i>
@@ -50,6 +51,8 @@ impl Index {
         ensures on { GoesOn (board_of self.now) pass.old pass.new }
         ensures takes_no_bit { TakesNoBit pass.old pass.new }
         ensures draws_nothing { DrawsNothing pass.old pass.new }
+        ensures raises_nothing { RaisesNothing pass.old pass.new }
+        ensures tries { TriesFew pass.old pass.new }
         ensures answer { IsHoldAnswer (shape_of self.now) key.now result pass.old pass.new }
         ensures already { (result ≡ answer.AlreadyHolding) ↔ (is_holding_of pass.old ≡ true) }
     {

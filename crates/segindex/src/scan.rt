@@ -6,7 +6,7 @@ ghost use Rattle.segcore.specs.Kind.{May, enter};
 ghost use Rattle.segbase.specs.Passes.{number, trace, IsPassOf};
 ghost use Rattle.segbase.specs.Spots.{position};
 ghost use Rattle.segstore.specs.Linked.{IsChained, IsKeyed};
-ghost use Rattle.segindex.specs.Scanning.{bucket_depth, place_of, IsPlaceOf, IsBucketOf, MayEnterAny, IsTrial, IsOnWay, IsScanner, IsWay, IsScan};
+ghost use Rattle.segindex.specs.Scanning.{bucket_depth, place_of, IsPlaceOf, IsBucketOf, MayEnterAny, IsTrial, IsOnWay, IsScanner, IsTry, Tries, counted, IsWay, IsScan};
 
 use crate::index::Index;
 use segbase::{Board, Pass, Place};
@@ -68,6 +68,7 @@ pub(crate) fn try_item(
     requires place { IsChained board.now.shape (trace pass.old) place }
     requires may { May board.now.shape (trace pass.old) (number pass.old) (enter item.seg) }
     ensures reads { IsTrial board.now result pass.old pass.new }
+    ensures once { IsTry pass.old pass.new }
     ensures keyed { IsKeyed board.now.shape place (item_word item) key.now result (trace pass.old) (trace pass.new) }
 {
     enter_segment(board, pass, item.seg);
@@ -96,6 +97,7 @@ fn visit_word(
     requires tag { tag ≡ tag_of key.now }
     requires tries { tries < 64 }
     ensures reads { IsOnWay board.now result pass.old pass.new }
+    ensures tries { Tries 1 tries (counted result) pass.old pass.new }
     ensures way { let at = position board.now.shape (trace pass.old) place in
         IsWay board.now.shape key.now at (at + 1) place tries result (trace pass.old) (trace pass.new) }
 {
@@ -137,6 +139,7 @@ fn visit_bucket(
     requires tag { tag ≡ tag_of key.now }
     requires tries { tries < 64 }
     ensures reads { IsOnWay board.now result pass.old pass.new }
+    ensures tries { Tries 7 tries (counted result) pass.old pass.new }
     ensures way { let first = 8 * bucket_depth board.now.shape (trace pass.old) bucket in
         IsWay board.now.shape key.now (first + 1) (first + 8) (place_of bucket 7) tries result (trace pass.old) (trace pass.new) }
 {
@@ -162,6 +165,7 @@ pub(crate) fn scan_chain(
     requires bucket { bucket ≡ bucket_of board.now.shape key.now }
     requires tag { tag ≡ tag_of key.now }
     ensures reads { IsScanner board.now result pass.old pass.new }
+    ensures tries { Tries 28 0 63 pass.old pass.new }
     ensures scan { IsScan board.now.shape key.now result (trace pass.old) (trace pass.new) }
 {
     let mut tries = 0;
@@ -185,12 +189,13 @@ impl Index {
     ghost use Rattle.segbase.specs.Passes.{trace};
     ghost use Rattle.segindex.specs.Index.{board_of, shape_of};
     ghost use Rattle.segindex.specs.Quiet.{IsQuiet};
-    ghost use Rattle.segindex.specs.Scanning.{IsScanner, IsScan};
+    ghost use Rattle.segindex.specs.Scanning.{IsScanner, Tries, IsScan};
 
     // Looks for a key, whose hash and words are made here, once a call.
     pub(crate) fn scan_for(&self, pass: &mut Pass, key: &Key) -> Scan
         requires pass { IsQuiet (board_of self.now) pass.old }
         ensures reads { IsScanner (board_of self.now) result pass.old pass.new }
+        ensures tries { Tries 28 0 63 pass.old pass.new }
         ensures scan { IsScan (shape_of self.now) key.now result (trace pass.old) (trace pass.new) }
     {
         let hash = hash(key);

@@ -36,15 +36,16 @@ impl Index {
     ghost use Rattle.segword.specs.ItemWord.{item_word};
     ghost use Rattle.segmodel.specs.Places.{bucket_of, tag_of};
     ghost use Rattle.segcore.specs.Kind.{May, enter};
-    ghost use Rattle.segbase.specs.Passes.{number, trace, IsPassOf};
+    ghost use Rattle.segbase.specs.Passes.{number, trace, entered, IsPassOf};
     ghost use Rattle.segbase.specs.Plain.{locked_of};
     ghost use Rattle.segbase.specs.Spots.{position};
     ghost use Rattle.segstore.specs.Reading.{IsReader};
     ghost use Rattle.segindex.specs.Index.{board_of, shape_of};
     ghost use Rattle.segindex.specs.Quiet.{IsQuiet};
     ghost use Rattle.segindex.specs.Calls.{GoesOn, ChangesNothing, TakesNoBit, DrawsNothing};
-    ghost use Rattle.segindex.specs.Scanning.{bucket_depth, place_of, IsPlaceOf, IsBucketOf, MayEnterAny};
-    ghost use Rattle.segindex.specs.Gets.{IsGetsAnswer, HasNoBit, IsVersioned, IsVisited, IsVersionScan};
+    ghost use Rattle.segindex.specs.Scanning.{bucket_depth, place_of, IsPlaceOf, IsBucketOf, MayEnterAny, ComesIn, Tries};
+    ghost use Rattle.segindex.specs.Hits.{TriesFew, GetsRaises};
+    ghost use Rattle.segindex.specs.Gets.{IsGetsAnswer, HasNoBit, IsVersioned, IsVisited, IsVersionScan, visits, TryRaises, VisitRaises};
 
     /// The value under a key with the version of the key's bucket, for a later compare-and-swap. It is Busy where the pass has the bucket locked by itself and the key stands. A hit raises the frequency of the key's item where the draw, a number at random, says so.
     pub fn gets(&self, pass: &mut Pass, key: &Key, draw: u32) -> GetsAnswer
@@ -53,6 +54,8 @@ impl Index {
         ensures keeps { ChangesNothing pass.old pass.new }
         ensures takes_no_bit { TakesNoBit pass.old pass.new }
         ensures draws_nothing { DrawsNothing pass.old pass.new }
+        ensures tries { TriesFew pass.old pass.new }
+        ensures raises { GetsRaises (shape_of self.now) key.now draw result pass.old pass.new }
         ensures answer { IsGetsAnswer (shape_of self.now) key.now result pass.old pass.new }
         ensures unlocked { (value : List ℕ) (version : ℕ) → result ≡ gets.Found value version → locked_of pass.old ≢ Some (bucket_of (shape_of self.now) key.now) }
     {
@@ -71,6 +74,7 @@ impl Index {
         ensures reads { IsReader (board_of self.now) pass.old pass.new }
         ensures answer { IsGetsAnswer (shape_of self.now) key.now result pass.old pass.new }
         ensures none { (value : List ℕ) (version : ℕ) → result ≢ gets.Found value version }
+        ensures tries { Tries 28 0 63 pass.old pass.new }
     {
         match self.scan_for(pass, key) {
             Scan::Found(hit) => {
@@ -98,6 +102,8 @@ impl Index {
         requires free { HasNoBit (shape_of self.now) key.now pass.old }
         requires versions { (shape_of self.now).first_version < 2 ^ 32 }
         ensures reads { IsReader (board_of self.now) pass.old pass.new }
+        ensures tries { ComesIn 28 0 63 pass.old pass.new }
+        ensures raises { GetsRaises (shape_of self.now) key.now draw result pass.old pass.new }
         ensures scan { IsVersionScan (shape_of self.now) key.now result pass.old pass.new }
     {
         let mut bucket = home;
@@ -138,6 +144,8 @@ impl Index {
         requires versions { (shape_of self.now).first_version < 2 ^ 32 }
         requires tries { tries < 64 }
         ensures reads { IsReader (board_of self.now) pass.old pass.new }
+        ensures tries { ComesIn 7 tries (visits result) pass.old pass.new }
+        ensures raises { VisitRaises (shape_of self.now) key.now draw result pass.old pass.new }
         ensures visited { let first = 8 * bucket_depth (shape_of self.now) (trace pass.old) bucket in
             IsVisited (shape_of self.now) key.now (first + 1) (first + 8) (place_of bucket 7) tries result pass.old pass.new }
     {
@@ -171,6 +179,8 @@ impl Index {
         requires versions { (shape_of self.now).first_version < 2 ^ 32 }
         requires tries { tries < 64 }
         ensures reads { IsReader (board_of self.now) pass.old pass.new }
+        ensures tries { ComesIn 1 tries (visits result) pass.old pass.new }
+        ensures raises { VisitRaises (shape_of self.now) key.now draw result pass.old pass.new }
         ensures visited { let at = position (shape_of self.now) (trace pass.old) place in
             IsVisited (shape_of self.now) key.now at (at + 1) place tries result pass.old pass.new }
     {
@@ -210,6 +220,8 @@ impl Index {
         requires free { HasNoBit (shape_of self.now) key.now pass.old }
         requires versions { (shape_of self.now).first_version < 2 ^ 32 }
         ensures reads { IsReader (board_of self.now) pass.old pass.new }
+        ensures once { entered pass.new ≡ entered pass.old + 1 }
+        ensures raises { TryRaises (shape_of self.now) key.now draw result pass.old pass.new }
         ensures versioned { IsVersioned (shape_of self.now) key.now place (item_word item) result pass.old pass.new }
     {
         match try_item(&self.board, pass, place, item, key) {

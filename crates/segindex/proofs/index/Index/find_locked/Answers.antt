@@ -4,6 +4,7 @@ use Rattle.segbase.specs.Passes.{trace}
 use Rattle.segbase.proofs.Moves.{moved_on}
 use Rattle.segstore.proofs.Readers.{leave_then}
 use Rattle.segindex.specs.Index.{board_of, shape_of}
+use Rattle.segindex.proofs.ComingIn.{leaves, tries_out}
 use Rattle.segindex.proofs.Gets.{found_reads, gone_reads}
 use Rattle.segindex.proofs.index.Index.find_locked.Goals as goal
 
@@ -16,3 +17,7 @@ returns-in-Found-clause-answer c = let b = board_of c.args.self.now in let f = c
 
 pub returns-in-Absent-clause-answer : goal.returns-in-Absent-clause-answer
 returns-in-Absent-clause-answer c = gone_reads (shape_of c.args.self.now) c.args.key.now (trace c.args.pass.now) (trace c.scan_for.new.pass) c.in-Absent.ensures.scan
+
+pub returns-in-Found-clause-tries : goal.returns-in-Found-clause-tries
+returns-in-Found-clause-tries c = let q = c.scan_for.new.pass in let r = c.leave_segment.new.pass in
+    tries_out 28 0 63 c.args.pass.now q r c.in-Found.ensures.tries (leaves (board_of c.args.self.now) c.in-Found.hit.item.seg q r c.leave_segment.ensures.moved)

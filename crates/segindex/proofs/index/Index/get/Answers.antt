@@ -1,10 +1,12 @@
+use Rattle.std.proofs.Common.{arith}
 use Rattle.segword.specs.ItemWord.{item_word}
 use Rattle.segbase.specs.Passes.{trace}
 use Rattle.segbase.proofs.Moves.{moved_on, is_inside}
 use Rattle.segstore.proofs.Readers.{then_reader, leave_then}
 use Rattle.segindex.specs.Index.{board_of, shape_of}
 use Rattle.segindex.proofs.Draws.{reader_draws_none}
-use Rattle.segindex.proofs.Hits.{hit_readable, read_in, read_value}
+use Rattle.segindex.proofs.ComingIn.{looked, leaves, tries_out}
+use Rattle.segindex.proofs.Hits.{hit_readable, read_in, read_value, found_linked, hit_raises}
 use Rattle.segindex.proofs.Reading.{read_on}
 use Rattle.segindex.proofs.Gets.{found_reads, gone_reads, found_place, reads_no_bit}
 use Rattle.segcore.proofs.Moments.{begins_on}
@@ -87,3 +89,29 @@ returns-in-Absent-clause-draws_nothing c = reader_draws_none (board_of c.args.se
 
 pub returns-in-Busy-clause-draws_nothing : goal.returns-in-Busy-clause-draws_nothing
 returns-in-Busy-clause-draws_nothing c = reader_draws_none (board_of c.args.self.now) c.args.pass.now c.scan_for.new.pass c.in-Busy.ensures.reads.reads
+
+pub returns-in-Found-clause-tries : goal.returns-in-Found-clause-tries
+returns-in-Found-clause-tries c = let b = board_of c.args.self.now in let p = c.args.pass.now in let q = c.scan_for.new.pass in let v = c.value_of_row-value in let t = c.count_hit.new.pass in
+    let few = (tries_out 28 0 63 p q v.new.pass c.in-Found.ensures.tries (looked b q v.new.pass v.ensures.reads.looked.did.moved)).comes_in in
+    let same = c.count_hit.ensures.stays_out in let out = (leaves b c.in-Found.hit.item.seg t c.leave_segment.new.pass c.leave_segment.ensures.moved).0 in omega arith
+
+pub returns-in-Found-clause-raises : goal.returns-in-Found-clause-raises
+returns-in-Found-clause-raises c = let b = board_of c.args.self.now in let p = c.args.pass.now in let q = c.scan_for.new.pass in let f = c.in-Found in let hit = f.hit in let v = c.value_of_row-value in let t = c.count_hit.new.pass in let r = c.leave_segment.new.pass in
+    let read = read_in b p q v.new.pass hit.item.seg hit.item.row f.ensures.reads v.ensures.reads in
+    let found = read_value b p q v.new.pass hit.place hit.item hit.header c.args.key.now v.result f.ensures.reads f.ensures.scan v.ensures.reads v.ensures.value in
+    hit_raises b c.args.key.now c.args.draw p v.new.pass t r read.reads.moved.same (moved_on b _ p v.new.pass read.reads.moved) (moved_on b _ t r c.leave_segment.ensures.moved)
+    (tries_out 28 0 63 p q v.new.pass f.ensures.tries (looked b q v.new.pass v.ensures.reads.looked.did.moved)).raises_nothing
+    (c.count_hit.ensures.raises c.args.key.now (is_inside b p v.new.pass hit.item.seg read.reads) (found_linked b.shape hit.place hit.item c.args.key.now v.result (trace p) (trace v.new.pass) found))
+    (leaves b hit.item.seg t r c.leave_segment.ensures.moved).1
+
+pub returns-in-Absent-clause-tries : goal.returns-in-Absent-clause-tries
+returns-in-Absent-clause-tries c = let few = c.in-Absent.ensures.tries.comes_in in omega arith
+
+pub returns-in-Absent-clause-raises : goal.returns-in-Absent-clause-raises
+returns-in-Absent-clause-raises c = c.in-Absent.ensures.tries.raises_nothing
+
+pub returns-in-Busy-clause-tries : goal.returns-in-Busy-clause-tries
+returns-in-Busy-clause-tries c = let few = c.in-Busy.ensures.tries.comes_in in omega arith
+
+pub returns-in-Busy-clause-raises : goal.returns-in-Busy-clause-raises
+returns-in-Busy-clause-raises c = c.in-Busy.ensures.tries.raises_nothing

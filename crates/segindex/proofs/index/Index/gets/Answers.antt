@@ -1,10 +1,11 @@
-use Rattle.std.proofs.Common.{subst}
-use Rattle.segindex.specs.Index.{board_of}
+use Rattle.std.proofs.Common.{subst, arith}
+use Rattle.segindex.specs.Index.{board_of, shape_of}
 use Rattle.segindex.specs.Gets.{IsVersionScan}
+use Rattle.segindex.specs.Hits.{GetsRaises}
 use Rattle.segindex.proofs.Draws.{reader_draws_none}
 use Rattle.segindex.proofs.Reading.{read_on}
 use Rattle.segindex.proofs.Gets.{reads_no_bit}
-use Rattle.segindex.proofs.VersionScans.{scan_answers}
+use Rattle.segindex.proofs.VersionScans.{scan_answers, unfound_raises}
 use Rattle.segindex.proofs.index.Index.gets.Goals as goal
 
 pub returns-then-eq-clause-on : goal.returns-then-eq-clause-on
@@ -34,3 +35,15 @@ returns-then-eq-clause-draws_nothing c = reader_draws_none (board_of c.args.self
 
 pub returns-clause-draws_nothing : goal.returns-clause-draws_nothing
 returns-clause-draws_nothing c = reader_draws_none (board_of c.args.self.now) c.args.pass.now c.scan_versions.new.pass c.scan_versions.ensures.reads.reads
+
+pub returns-then-eq-clause-tries : goal.returns-then-eq-clause-tries
+returns-then-eq-clause-tries c = let few = c.find_locked.ensures.tries.comes_in in omega arith
+
+pub returns-then-eq-clause-raises : goal.returns-then-eq-clause-raises
+returns-then-eq-clause-raises c = let f = c.find_locked in unfound_raises (shape_of c.args.self.now) c.args.key.now c.args.draw f.result c.args.pass.now f.new.pass f.ensures.none f.ensures.tries.raises_nothing
+
+pub returns-clause-tries : goal.returns-clause-tries
+returns-clause-tries c = let few = c.scan_versions.ensures.tries in omega arith
+
+pub returns-clause-raises : goal.returns-clause-raises
+returns-clause-raises c = let v = c.scan_versions in subst (λ k. GetsRaises (shape_of c.args.self.now) k c.args.draw v.result c.args.pass.now v.new.pass) c.new.ensures.value v.ensures.raises

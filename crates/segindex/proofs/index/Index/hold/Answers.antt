@@ -3,6 +3,7 @@ use Rattle.segbase.specs.Passes.{trace}
 use Rattle.segindex.specs.Index.{board_of, shape_of}
 use Rattle.segindex.proofs.Draws.{reader_draws_none}
 use Rattle.segindex.proofs.Gets.{gone_reads, reads_no_bit}
+use Rattle.segindex.proofs.ComingIn.{looked, same_view, out_then, tries_out}
 use Rattle.segindex.proofs.Hits.{hit_readable, read_in, read_value}
 use Rattle.segindex.proofs.HoldCalls.{has_found, takes_hold, takes_no_bit, draws_nothing}
 use Rattle.segindex.proofs.Holding.{held_at}
@@ -75,3 +76,23 @@ returns-in-Absent-clause-draws_nothing c = reader_draws_none (board_of c.args.se
 
 pub returns-in-Busy-clause-draws_nothing : goal.returns-in-Busy-clause-draws_nothing
 returns-in-Busy-clause-draws_nothing c = reader_draws_none (board_of c.args.self.now) c.args.pass.now c.scan_for.new.pass c.in-Busy.ensures.reads.reads
+
+pub returns-in-Found-clause-tries : goal.returns-in-Found-clause-tries
+returns-in-Found-clause-tries c = let p = c.args.pass.now in let q = c.scan_for.new.pass in let v = c.value_of_row-value in let r = c.set_hold.new.pass in
+    let few = (tries_out 28 0 63 p q r c.in-Found.ensures.tries (out_then q v.new.pass r (looked (board_of c.args.self.now) q v.new.pass v.ensures.reads.looked.did.moved) (same_view v.new.pass r c.set_hold.ensures.sets.view))).comes_in in omega arith
+
+pub returns-in-Found-clause-raises_nothing : goal.returns-in-Found-clause-raises_nothing
+returns-in-Found-clause-raises_nothing c = let p = c.args.pass.now in let q = c.scan_for.new.pass in let v = c.value_of_row-value in let r = c.set_hold.new.pass in
+    (tries_out 28 0 63 p q r c.in-Found.ensures.tries (out_then q v.new.pass r (looked (board_of c.args.self.now) q v.new.pass v.ensures.reads.looked.did.moved) (same_view v.new.pass r c.set_hold.ensures.sets.view))).raises_nothing
+
+pub returns-in-Absent-clause-tries : goal.returns-in-Absent-clause-tries
+returns-in-Absent-clause-tries c = let few = c.in-Absent.ensures.tries.comes_in in omega arith
+
+pub returns-in-Absent-clause-raises_nothing : goal.returns-in-Absent-clause-raises_nothing
+returns-in-Absent-clause-raises_nothing c = c.in-Absent.ensures.tries.raises_nothing
+
+pub returns-in-Busy-clause-tries : goal.returns-in-Busy-clause-tries
+returns-in-Busy-clause-tries c = let few = c.in-Busy.ensures.tries.comes_in in omega arith
+
+pub returns-in-Busy-clause-raises_nothing : goal.returns-in-Busy-clause-raises_nothing
+returns-in-Busy-clause-raises_nothing c = c.in-Busy.ensures.tries.raises_nothing

@@ -1,4 +1,4 @@
-use Rattle.std.proofs.Common.{◌≡◌, ◌<◌, Some, refl, ap, arith}
+use Rattle.std.proofs.Common.{◌≡◌, ◌+◌, ◌*◌, ◌<◌, ◌∙◌, Some, refl, ap, arith}
 use Rattle.std.proofs.lemmas.Bool.{false≢true}
 use Rattle.segword.specs.declared.shape.Shape.{Shape}
 use Rattle.segbase.specs.Passes.{trace, seen}
@@ -7,6 +7,8 @@ use Rattle.segcore.proofs.Searches.{key_first}
 use Rattle.segstore.proofs.Readers.{stays, reader_then}
 use Rattle.segindex.specs.Index.{board_of, shape_of}
 use Rattle.segindex.proofs.Scans.{first_bucket, bucket_of_depth, goes_on, ends, deep_enough}
+use Rattle.segindex.proofs.ComingIn.{tries_none, tries_then, comes_then, at_most}
+use Rattle.segindex.proofs.Raising.{raises_later}
 use Rattle.segindex.proofs.Disturbing.{still_no_bit, disturbs_none, disturbs_then}
 use Rattle.segindex.proofs.VersionScans.{reads_from}
 use Rattle.segindex.proofs.index.Index.scan_versions.Goals as goal
@@ -15,6 +17,7 @@ pub loop-depth-init : goal.loop-depth-init
 loop-depth-init c = let b = board_of c.args.self.now in let p = c.args.pass.now in record {
   reads = stays b p c.requires.pass;
   few = omega arith;
+  tried = tries_none 0 p;
   counted = disturbs_none b c.args.key.now 0 p p (stays b p c.requires.pass);
   bucket = first_bucket b.shape c.args.key.now c.args.home (trace p) c.requires.pass.valid c.requires.home;
   ahead = key_first b.shape c.args.key.now (trace p) c.requires.pass.lawful;
@@ -55,6 +58,7 @@ loop-depth-preserved c = let b = board_of c.args.self.now in let i = c.loop-dept
     c.in-Some.number c.in-Some.ensures.some few x.reads.reads.moved.pass.lawful in record {
       reads = reader_then b p q r i.reads x.reads;
       few = x.visited.0;
+      tried = at_most (7 * c.loop-depth.depth + 7) (7 * (c.loop-depth.depth + 1)) 0 c.in-Passed.counted c.in-Passed.counted p r (omega arith) (tries_then (7 * c.loop-depth.depth) 7 0 c.loop-depth.tries c.in-Passed.counted p q r i.tried (record { comes_in = x.tries; raises_nothing = x.raises }));
       counted = disturbs_then b.shape c.args.key.now 0 c.loop-depth.tries c.in-Passed.counted p q r i.counted x.visited.1;
       bucket = rw is on.0;
       ahead = on.1;
@@ -63,3 +67,30 @@ loop-depth-preserved c = let b = board_of c.args.self.now in let i = c.loop-dept
 pub returns-clause-scan : goal.returns-clause-scan
 returns-clause-scan c = let b = board_of c.args.self.now in let deep = deep_enough b.shape c.args.key.now c.loop-depth.depth c.loop-depth.bucket (trace c.loop-depth.pass) c.loop-depth.invariant.reads.reads.moved.pass.lawful c.loop-depth.invariant.bucket in
     let over = c.loop-depth-test.false in absurd (omega arith)
+
+-- ---- coming into segments, and what is raised
+
+pub returns-in-Found-clause-tries : goal.returns-in-Found-clause-tries
+returns-in-Found-clause-tries c = let deep = c.loop-depth-test.true in comes_then (7 * c.loop-depth.depth) 7 28 0 c.loop-depth.tries 63 63 c.args.pass.now c.loop-depth.pass c.visit_versions.new.pass (omega arith) c.loop-depth.invariant.tried c.in-Found.ensures.tries
+
+pub returns-in-Found-clause-raises : goal.returns-in-Found-clause-raises
+returns-in-Found-clause-raises c = let b = board_of c.args.self.now in let m = c.loop-depth.invariant.reads.reads.moved in
+    raises_later b.shape c.args.key.now c.args.draw c.args.pass.now c.loop-depth.pass c.visit_versions.new.pass m.same (moved_on b _ c.args.pass.now c.loop-depth.pass m) c.loop-depth.invariant.tried.raises_nothing c.in-Found.ensures.raises
+
+pub returns-in_default-clause-tries : goal.returns-in_default-clause-tries
+returns-in_default-clause-tries c = let deep = c.loop-depth-test.true in let few = c.in-Passed.ensures.visited.0 in comes_then (7 * c.loop-depth.depth) 7 28 0 c.loop-depth.tries c.in-Passed.counted 63 c.args.pass.now c.loop-depth.pass c.visit_versions.new.pass (omega arith) c.loop-depth.invariant.tried c.in-Passed.ensures.tries
+
+pub returns-in_default-clause-raises : goal.returns-in_default-clause-raises
+returns-in_default-clause-raises c = c.in-Passed.ensures.raises ∙ c.loop-depth.invariant.tried.raises_nothing
+
+pub returns-in-Busy-clause-tries : goal.returns-in-Busy-clause-tries
+returns-in-Busy-clause-tries c = let deep = c.loop-depth-test.true in comes_then (7 * c.loop-depth.depth) 7 28 0 c.loop-depth.tries 63 63 c.args.pass.now c.loop-depth.pass c.visit_versions.new.pass (omega arith) c.loop-depth.invariant.tried c.in-Busy.ensures.tries
+
+pub returns-in-Busy-clause-raises : goal.returns-in-Busy-clause-raises
+returns-in-Busy-clause-raises c = c.in-Busy.ensures.raises ∙ c.loop-depth.invariant.tried.raises_nothing
+
+pub returns-clause-tries : goal.returns-clause-tries
+returns-clause-tries c = let over = c.loop-depth-test.false in let end = c.loop-depth.auto.depth-end in let few = c.loop-depth.invariant.few in (at_most (7 * c.loop-depth.depth) 28 0 c.loop-depth.tries 63 c.args.pass.now c.loop-depth.pass (omega arith) c.loop-depth.invariant.tried).comes_in
+
+pub returns-clause-raises : goal.returns-clause-raises
+returns-clause-raises c = c.loop-depth.invariant.tried.raises_nothing

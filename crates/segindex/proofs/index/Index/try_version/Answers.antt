@@ -1,4 +1,4 @@
-use Rattle.std.proofs.Common.{◌≡◌, ◌+◌, ◌%◌, ◌^◌, ◌<◌, [], None, refl, sym, subst, arith}
+use Rattle.std.proofs.Common.{◌≡◌, ◌+◌, ◌%◌, ◌^◌, ◌<◌, ◌∙◌, [], None, refl, sym, subst, arith}
 use Rattle.std.proofs.lemmas.Bool.{false≢true}
 use Rattle.segword.specs.ItemWord.{item_word}
 use Rattle.segword.specs.SameItem.{IsSameItem}
@@ -12,12 +12,13 @@ use Rattle.segbase.proofs.Moves.{moved_on, is_inside}
 use Rattle.segstore.specs.Linked.{SawItem}
 use Rattle.segstore.proofs.Words.{chained_later}
 use Rattle.segstore.proofs.Seconds.{looked_at, segment_of_item}
-use Rattle.segstore.proofs.Readers.{looks, then_reader, leave_then}
+use Rattle.segstore.proofs.Readers.{looks, reader_then, then_reader, leave_then}
 use Rattle.segindex.specs.Index.{board_of, shape_of}
 use Rattle.segindex.proofs.Tries.{saw_now, word_wider, passed_other}
 use Rattle.segindex.proofs.Gets.{found_place}
 use Rattle.segindex.proofs.Disturbing.{still_no_bit, glances_grow, set_reads, clear_reads}
-use Rattle.segindex.proofs.Hits.{hit_readable, read_in, read_value}
+use Rattle.segindex.proofs.ComingIn.{leaves, try_out, looked_again}
+use Rattle.segindex.proofs.Hits.{hit_readable, read_in, read_value, found_linked, linked_later, hit_raises}
 use Rattle.segindex.proofs.OneMoment.{same_as, one_moment}
 use Rattle.segindex.proofs.index.Index.try_version.Goals as goal
 
@@ -119,3 +120,51 @@ returns-else-not-same_item-clause-versioned c = let b = board_of c.args.self.now
 pub returns-in-Other-clause-versioned : goal.returns-in-Other-clause-versioned
 returns-in-Other-clause-versioned c = let b = board_of c.args.self.now in let k = c.in-Other.ensures.keyed in let h = trace c.args.pass.now in let g = trace c.try_item.new.pass in
     passed_other b.shape c.args.key.now k.1.0 k.1.1 c.args.place c.pack-in-Other.result h h g c.requires.place ([], refl) k.1.2 (subst (λ w. SawItem b.shape c.args.place w k.1.0 k.1.1 h g) (sym c.pack-in-Other.ensures) k.1.3)
+
+-- ---- coming into the segment, and what is raised
+
+pub returns-then-info-clause-once : goal.returns-then-info-clause-once
+returns-then-info-clause-once c = let b = board_of c.args.self.now in let p = c.args.pass.now in let v = c.value_of_row-value in let g = c.glance-info in let l = c.look-now in
+    (try_out p l.new.pass c.leave_segment.new.pass (looked_again b c.args.home g.result p c.try_item.new.pass v.new.pass g.new.pass l.new.pass c.in-Same.ensures.once v.ensures.reads.looked.did.moved g.ensures.glances l.ensures.did.moved) (leaves b c.in-Same.item.seg l.new.pass c.leave_segment.new.pass c.leave_segment.ensures.moved)).0
+
+pub returns-then-info-clause-raises : goal.returns-then-info-clause-raises
+returns-then-info-clause-raises c = let b = board_of c.args.self.now in let p = c.args.pass.now in let v = c.value_of_row-value in let g = c.glance-info in let l = c.look-now in
+    (try_out p l.new.pass c.leave_segment.new.pass (looked_again b c.args.home g.result p c.try_item.new.pass v.new.pass g.new.pass l.new.pass c.in-Same.ensures.once v.ensures.reads.looked.did.moved g.ensures.glances l.ensures.did.moved) (leaves b c.in-Same.item.seg l.new.pass c.leave_segment.new.pass c.leave_segment.ensures.moved)).1
+
+pub returns-then-not-same_item-clause-once : goal.returns-then-not-same_item-clause-once
+returns-then-not-same_item-clause-once c = let b = board_of c.args.self.now in let p = c.args.pass.now in let v = c.value_of_row-value in let g = c.glance-info in let l = c.look-now in let u = c.leave_segment-then-not-same_item in
+    (try_out p l.new.pass u.new.pass (looked_again b c.args.home g.result p c.try_item.new.pass v.new.pass g.new.pass l.new.pass c.in-Same.ensures.once v.ensures.reads.looked.did.moved g.ensures.glances l.ensures.did.moved) (leaves b c.in-Same.item.seg l.new.pass u.new.pass u.ensures.moved)).0
+
+pub returns-then-not-same_item-clause-raises : goal.returns-then-not-same_item-clause-raises
+returns-then-not-same_item-clause-raises c = let b = board_of c.args.self.now in let p = c.args.pass.now in let v = c.value_of_row-value in let g = c.glance-info in let l = c.look-now in let u = c.leave_segment-then-not-same_item in
+    (try_out p l.new.pass u.new.pass (looked_again b c.args.home g.result p c.try_item.new.pass v.new.pass g.new.pass l.new.pass c.in-Same.ensures.once v.ensures.reads.looked.did.moved g.ensures.glances l.ensures.did.moved) (leaves b c.in-Same.item.seg l.new.pass u.new.pass u.ensures.moved)).1
+
+pub returns-else-not-same_item-clause-once : goal.returns-else-not-same_item-clause-once
+returns-else-not-same_item-clause-once c = let b = board_of c.args.self.now in let p = c.args.pass.now in let v = c.value_of_row-value in let g = c.glance-info in let l = c.look-now in let u = c.leave_segment-in-Same in
+    (leaves b c.in-Same.item.seg c.count_hit.new.pass u.new.pass u.ensures.moved).0
+    ∙ (c.count_hit.ensures.stays_out ∙ (looked_again b c.args.home g.result p c.try_item.new.pass v.new.pass g.new.pass l.new.pass c.in-Same.ensures.once v.ensures.reads.looked.did.moved g.ensures.glances l.ensures.did.moved).0)
+
+pub returns-else-not-same_item-clause-raises : goal.returns-else-not-same_item-clause-raises
+returns-else-not-same_item-clause-raises c = let b = board_of c.args.self.now in let p = c.args.pass.now in let tried = c.in-Same.ensures in let item = c.in-Same.item in let v = c.value_of_row-value in let q = v.new.pass in let g = c.glance-info in let l = c.look-now in let t = c.count_hit.new.pass in let u = c.leave_segment-in-Same in
+    let x = read_in b p c.try_item.new.pass q item.seg item.row tried.reads v.ensures.reads in
+    let i = clear_reads b c.args.home q g.new.pass g.result g.ensures.glances c.if-info.false g.ensures.step.plain g.ensures.step.memo in
+    let since = reader_then b q g.new.pass l.new.pass i.0 (looks b g.new.pass l.new.pass (looked_at b g.new.pass l.new.pass c.args.place l.result l.ensures.step)) in
+    let at = then_reader b p q l.new.pass item.seg x since in
+    let found = read_value b p c.try_item.new.pass q c.args.place item c.in-Same.header c.args.key.now v.result tried.reads tried.keyed.1 v.ensures.reads v.ensures.value in
+    let linked = linked_later b q l.new.pass item.seg item.row c.args.key.now since (is_inside b p q item.seg x.reads) (found_linked b.shape c.args.place item c.args.key.now v.result (trace p) (trace q) found) in
+    hit_raises b c.args.key.now c.args.draw p l.new.pass t u.new.pass at.reads.moved.same (moved_on b _ p l.new.pass at.reads.moved) (moved_on b _ t u.new.pass u.ensures.moved)
+    (looked_again b c.args.home g.result p c.try_item.new.pass q g.new.pass l.new.pass tried.once v.ensures.reads.looked.did.moved g.ensures.glances l.ensures.did.moved).1
+    (c.count_hit.ensures.raises c.args.key.now (is_inside b p l.new.pass item.seg at.reads) linked)
+    (leaves b item.seg t u.new.pass u.ensures.moved).1
+
+pub returns-in-Other-clause-once : goal.returns-in-Other-clause-once
+returns-in-Other-clause-once c = c.in-Other.ensures.once.0
+
+pub returns-in-Other-clause-raises : goal.returns-in-Other-clause-raises
+returns-in-Other-clause-raises c = c.in-Other.ensures.once.1
+
+pub returns-in-Changed-clause-once : goal.returns-in-Changed-clause-once
+returns-in-Changed-clause-once c = c.in-Changed.ensures.once.0
+
+pub returns-in-Changed-clause-raises : goal.returns-in-Changed-clause-raises
+returns-in-Changed-clause-raises c = c.in-Changed.ensures.once.1

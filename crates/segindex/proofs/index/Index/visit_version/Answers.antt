@@ -6,6 +6,8 @@ use Rattle.segstore.proofs.Seconds.{looked_at}
 use Rattle.segstore.proofs.Readers.{stays, looks, reader_then}
 use Rattle.segindex.specs.Index.{board_of}
 use Rattle.segindex.proofs.Tries.{saw_now, passed_word, may_enter}
+use Rattle.segindex.proofs.ComingIn.{looked, tries_none, tries_out, tries_once, comes_once, at_most}
+use Rattle.segindex.proofs.Raising.{raises_later}
 use Rattle.segindex.proofs.Disturbing.{TryingVersion, still_no_bit, disturbs_none, first_try, changed_try, held_try, all_tries}
 use Rattle.segindex.proofs.VersionScans.{reads_from, place_later, passed_from}
 use Rattle.segindex.proofs.index.Index.visit_version.Goals.{in-Changed+in-Some-item_of_tag, in-Held}
@@ -25,6 +27,7 @@ pub loop-count-init : goal.loop-count-init
 loop-count-init c = let b = board_of c.args.self.now in let p = c.args.pass.now in let l = c.look-word in let x = c.in-Some.ensures.some in
     let i = looks b p l.new.pass (looked_at b p l.new.pass c.args.place l.result l.ensures.step) in record {
       reads = i;
+      tried = tries_out 0 c.args.tries c.args.tries p p l.new.pass (tries_none c.args.tries p) (looked b p l.new.pass l.ensures.did.moved);
       trying = first_try b c.args.key.now c.args.place c.args.tries c.in-Some.item l.result p l.new.pass i (saw_now b p l.new.pass c.args.place l.result l.ensures.did l.ensures.found) x.0 (x.1 ∙ c.requires.tag);
     }
 
@@ -75,6 +78,12 @@ loop-count-preserved c = let b = board_of c.args.self.now in let i = c.loop-coun
     | in-Changed+in-Some-item_of_tag w ↦ reader_then b p q r i.reads w.in-Changed.ensures.reads
     | in-Held w ↦ reader_then b p q r i.reads w.in-Held.ensures.reads
   ];
+  tried = elim c.match-try_version.branch [
+    | in-Changed+in-Some-item_of_tag w ↦ let k = w.in-Changed.ensures in
+        at_most 1 0 c.args.tries c.loop-count.count (c.loop-count.count + 1) p r (omega arith) (tries_once c.args.tries c.loop-count.count p q r i.tried (k.once, k.raises))
+    | in-Held w ↦ let k = w.in-Held.ensures in
+        at_most 1 0 c.args.tries c.loop-count.count (c.loop-count.count + 1) p r (omega arith) (tries_once c.args.tries c.loop-count.count p q r i.tried (k.once, k.raises))
+  ];
   trying = elim c.match-try_version.branch [
     | in-Changed+in-Some-item_of_tag w ↦ let x = w.in-Some-item_of_tag.ensures.some in let k = w.in-Changed.ensures in
         subst (λ (item : Item). TryingVersion b.shape c.args.key.now c.args.place c.args.tries item (c.loop-count.count + 1) p r) (sym w.item-is)
@@ -92,3 +101,36 @@ pub returns-clause-visited : goal.returns-clause-visited
 returns-clause-visited c = let b = board_of c.args.self.now in let i = c.loop-count.invariant in let q = c.loop-count.pass in
     let all = all_tries b c.args.key.now c.args.place c.args.tries c.loop-count.item c.loop-count.count c.args.pass.now q q (stays b q i.reads.reads.moved.pass) i.trying in
     let over = c.loop-count-test.false in omega arith
+
+-- ---- coming into segments, and what is raised
+
+pub returns-in_default-clause-tries : goal.returns-in_default-clause-tries
+returns-in_default-clause-tries c = let out = (looked (board_of c.args.self.now) c.args.pass.now c.look-word.new.pass c.look-word.ensures.did.moved).0 in omega arith
+
+pub returns-in_default-clause-raises : goal.returns-in_default-clause-raises
+returns-in_default-clause-raises c = (looked (board_of c.args.self.now) c.args.pass.now c.look-word.new.pass c.look-word.ensures.did.moved).1
+
+pub returns-in-Found-clause-tries : goal.returns-in-Found-clause-tries
+returns-in-Found-clause-tries c = let few = c.loop-count-test.true in comes_once c.args.tries c.loop-count.count 63 c.args.pass.now c.loop-count.pass c.try_version.new.pass (omega arith) c.loop-count.invariant.tried c.in-Found.ensures.once
+
+pub returns-in-Found-clause-raises : goal.returns-in-Found-clause-raises
+returns-in-Found-clause-raises c = let b = board_of c.args.self.now in let m = c.loop-count.invariant.reads.reads.moved in
+    raises_later b.shape c.args.key.now c.args.draw c.args.pass.now c.loop-count.pass c.try_version.new.pass m.same (moved_on b _ c.args.pass.now c.loop-count.pass m) c.loop-count.invariant.tried.raises_nothing c.in-Found.ensures.raises
+
+pub returns-in-Other-clause-tries : goal.returns-in-Other-clause-tries
+returns-in-Other-clause-tries c = comes_once c.args.tries c.loop-count.count c.loop-count.count c.args.pass.now c.loop-count.pass c.try_version.new.pass (omega arith) c.loop-count.invariant.tried c.in-Other.ensures.once
+
+pub returns-in-Other-clause-raises : goal.returns-in-Other-clause-raises
+returns-in-Other-clause-raises c = c.in-Other.ensures.raises ∙ c.loop-count.invariant.tried.raises_nothing
+
+pub returns-in-None-clause-tries : goal.returns-in-None-clause-tries
+returns-in-None-clause-tries c = comes_once c.args.tries c.loop-count.count c.loop-count.count c.args.pass.now c.loop-count.pass c.try_version.new.pass (omega arith) c.loop-count.invariant.tried c.in-Changed.ensures.once
+
+pub returns-in-None-clause-raises : goal.returns-in-None-clause-raises
+returns-in-None-clause-raises c = c.in-Changed.ensures.raises ∙ c.loop-count.invariant.tried.raises_nothing
+
+pub returns-clause-tries : goal.returns-clause-tries
+returns-clause-tries c = let end = c.loop-count.auto.count-end in (at_most 0 1 c.args.tries c.loop-count.count 63 c.args.pass.now c.loop-count.pass (omega arith) c.loop-count.invariant.tried).comes_in
+
+pub returns-clause-raises : goal.returns-clause-raises
+returns-clause-raises c = c.loop-count.invariant.tried.raises_nothing

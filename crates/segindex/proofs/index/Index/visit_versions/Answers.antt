@@ -1,18 +1,21 @@
-use Rattle.std.proofs.Common.{◌≡◌, ◌+◌, ◌*◌, subst, arith}
+use Rattle.std.proofs.Common.{◌≡◌, ◌+◌, ◌-◌, ◌*◌, subst, arith}
 use Rattle.segbase.specs.Passes.{trace}
 use Rattle.segbase.proofs.Moves.{moved_on, moved_seen}
 use Rattle.segstore.proofs.Readers.{stays, reader_then}
 use Rattle.segindex.specs.Index.{board_of}
 use Rattle.segindex.specs.Scanning.{bucket_depth, place_of, Brings}
 use Rattle.segindex.proofs.Scans.{bucket_later, place_in, brings_none, brings_now, passed_as}
+use Rattle.segindex.specs.Gets.{visits}
+use Rattle.segindex.proofs.ComingIn.{tries_none, tries_then, comes_then, at_most}
 use Rattle.segindex.proofs.Disturbing.{still_no_bit, disturbs_none, disturbs_then}
-use Rattle.segindex.proofs.VersionScans.{visited_as, visited_stops, visited_ends}
+use Rattle.segindex.proofs.VersionScans.{visited_as, visited_stops, visited_ends, visit_raises}
 use Rattle.segindex.proofs.index.Index.visit_versions.Goals as goal
 
 pub loop-word-init : goal.loop-word-init
 loop-word-init c = let b = board_of c.args.self.now in let p = c.args.pass.now in let h = trace p in record {
   reads = stays b p c.requires.pass;
   few = c.requires.tries;
+  tried = tries_none c.args.tries p;
   counted = disturbs_none b c.args.key.now c.args.tries p p (stays b p c.requires.pass);
   brings = brings_none b.shape c.args.key.now (8 * bucket_depth b.shape h c.args.bucket + 1) h;
 }
@@ -27,6 +30,8 @@ visit_version-requires-clause-free c = let i = c.loop-word.invariant.reads.reads
 pub returns-in_default : goal.returns-in_default
 returns-in_default c = let b = board_of c.args.self.now in let i = c.loop-word.invariant in let v = c.visit_version in let p = c.args.pass.now in let q = c.loop-word.pass in record {
   reads = reader_then b p q v.new.pass i.reads v.ensures.reads;
+  tries = let high = c.loop-word-test.true in comes_then (c.loop-word.word - 1) 1 7 c.args.tries c.loop-word.tries (visits v.result) (visits v.result) p q v.new.pass (omega arith) i.tried v.ensures.tries;
+  raises = visit_raises b c.args.key.now c.args.draw v.result p q v.new.pass i.reads i.tried.raises_nothing v.ensures.raises;
   visited = visited_stops b.shape c.args.key.now _ _ _ _ (place_of c.args.bucket c.loop-word.word) (place_of c.args.bucket 7) c.args.tries c.loop-word.tries v.result p q v.new.pass c.in_default.not-Passed (moved_seen b _ p q i.reads.reads.moved) i.counted v.ensures.visited;
 }
 
@@ -36,6 +41,8 @@ loop-word-preserved c = let b = board_of c.args.self.now in let i = c.loop-word.
     let at = place_in b.shape c.args.key.now d c.args.bucket c.loop-word.word g (bucket_later b.shape c.args.key.now d c.args.bucket h g i.reads.reads.moved.pass.lawful up c.requires.bucket) (let low = c.loop-word.auto.word in omega arith) (let high = c.loop-word-test.true in omega arith) in record {
       reads = reader_then b p q r i.reads x.reads;
       few = x.visited.0;
+      tried = let low = c.loop-word.auto.word in
+          at_most (c.loop-word.word - 1 + 1) (c.loop-word.word + 1 - 1) c.args.tries c.in-Passed.counted c.in-Passed.counted p r (omega arith) (tries_then (c.loop-word.word - 1) 1 c.args.tries c.loop-word.tries c.in-Passed.counted p q r i.tried (record { comes_in = x.tries; raises_nothing = x.raises }));
       counted = disturbs_then b.shape c.args.key.now c.args.tries c.loop-word.tries c.in-Passed.counted p q r i.counted x.visited.1;
       brings = brings_now b.shape c.args.key.now (8 * d + 1) (8 * d + c.loop-word.word) (8 * d + (c.loop-word.word + 1)) (place_of c.args.bucket c.loop-word.word) c.in-Passed.field-0 h g f x.reads.reads.moved.pass.lawful up i.brings
           (passed_as b.shape c.args.key.now _ d c.loop-word.word (place_of c.args.bucket c.loop-word.word) c.in-Passed.field-0 g f at.1 x.visited.2);
@@ -59,3 +66,10 @@ returns-clause-visited c = let b = board_of c.args.self.now in let i = c.loop-wo
     visited_ends b c.args.key.now (8 * d + 1) (8 * d + 7) (8 * d + 8) (place_of c.args.bucket 7) c.args.tries c.loop-word.tries v.result p q v.new.pass i.reads i.counted
     (subst (λ w. Brings b.shape c.args.key.now (8 * d + 1) (8 * d + w) h g) word i.brings)
     (visited_as b.shape c.args.key.now _ d (place_of c.args.bucket 7) c.loop-word.tries v.result q v.new.pass at.1 v.ensures.visited)
+
+pub returns-clause-tries : goal.returns-clause-tries
+returns-clause-tries c = let v = c.visit_version-2 in let over = c.loop-word-test.false in let end = c.loop-word.auto.word-end in
+    comes_then (c.loop-word.word - 1) 1 7 c.args.tries c.loop-word.tries (visits v.result) (visits v.result) c.args.pass.now c.loop-word.pass v.new.pass (omega arith) c.loop-word.invariant.tried v.ensures.tries
+
+pub returns-clause-raises : goal.returns-clause-raises
+returns-clause-raises c = let v = c.visit_version-2 in visit_raises (board_of c.args.self.now) c.args.key.now c.args.draw v.result c.args.pass.now c.loop-word.pass v.new.pass c.loop-word.invariant.reads c.loop-word.invariant.tried.raises_nothing v.ensures.raises

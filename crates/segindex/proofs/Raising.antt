@@ -1,0 +1,137 @@
+-- What a hit raises: the frequency of the key's item, by one, at a moment at which the key stands and the draw counts.
+use Rattle.std.proofs.Common.{◌≡◌, ℕ, ◌+◌, ◌<◌, Bool, true, false, cond, eqb, List, [], ◌∷◌, ◌++◌, Some, refl, sym, ap, ◌∙◌, subst, inl, inr, arith}
+use Rattle.std.proofs.lemmas.Bool.{cond-true, eq-eqb, eqb-true}
+use Rattle.std.proofs.lemmas.Option.{same_Some}
+use Rattle.segword.specs.declared.shape.Shape.{Shape}
+use Rattle.segword.specs.Shape.{IsValid}
+use Rattle.segword.specs.declared.item.Item.{Item}
+use Rattle.segword.specs.ItemWord.{item_word}
+use Rattle.segmodel.specs.Places.{tag_of}
+use Rattle.segmodel.specs.History.{Begins}
+use Rattle.segmodel.specs.Cache.{standing}
+use Rattle.segmodel.specs.History.{after}
+use Rattle.segcore.specs.declared.event.Event.{Event}
+use Rattle.segcore.specs.declared.event.Event.TheVariants.{Bumped}
+use Rattle.segcore.specs.declared.view.View.{View}
+use Rattle.segcore.specs.Event.{seen}
+use Rattle.segcore.specs.Bucket.{bucket_after}
+use Rattle.segcore.specs.Bucket as buckets
+use Rattle.segcore.specs.Mark.{marked, last_at}
+use Rattle.segcore.proofs.Orderly.{frequency_marked}
+use Rattle.segcore.specs.ItemWord.{packed}
+use Rattle.segcore.specs.Kind.{bump}
+use Rattle.segcore.specs.Row.{Row, row_after, frequency_of}
+use Rattle.segcore.specs.Segment.{inside}
+use Rattle.segcore.specs.Standing.{cached}
+use Rattle.segcore.specs.Word.{content_word}
+use Rattle.segcore.proofs.Entered.{no_refill}
+use Rattle.segcore.proofs.Exact.{content_at}
+use Rattle.segcore.proofs.Moments.{begins_on}
+use Rattle.segcore.proofs.Limits.{low_row, low_segment, low_frequency}
+use Rattle.segcore.proofs.Segments.{row_since}
+use Rattle.segcore.proofs.Standing.{coherent}
+use Rattle.segpolicy.specs.Frequency.{counts, frequency_after_hit}
+use Rattle.segbase.specs.declared.board.Board.{Board}
+use Rattle.segbase.specs.declared.pass.Pass.{Pass}
+use Rattle.segbase.specs.declared.place.Place.{Place}
+use Rattle.segbase.specs.Passes.{number, trace, raised, entered, IsPassOf, Moved, Stepped}
+use Rattle.segbase.specs.Spots.{cell_at, position, home_bucket}
+use Rattle.segbase.proofs.Moves.{moved_entered}
+use Rattle.segstore.specs.Linked.{row_part, IsChained, WasLinked}
+use Rattle.segstore.proofs.Words.{chained_later, stood_item}
+use Rattle.segstore.proofs.Seconds.{segment_of_item, row_of_item}
+use Rattle.segindex.specs.Calls.{RaisesNothing}
+use Rattle.segindex.specs.Hits.{HasFrequency, CountsHit, RaisesOne}
+use Rattle.segindex.proofs.Tries.{has_tag}
+
+-- an item whose word stands at a place is its key's, and has the word's frequency
+pub has_frequency : (z : Shape) (h : List Event) (place : Place) (item : Item) (key value : List ℕ) → IsValid z → WasLinked z place (item_word item) key value h → HasFrequency z key item.seg item.row item.freq h
+has_frequency z h place item key value v was =
+    let b = home_bucket z h place in let n = position z h place in let slot = was.here.1.0 in
+    let here = ap (λ m. (bucket_after z h m).items n) (sym was.here.0) ∙ was.here.1.1 in
+    let stands = (coherent z h was.lawful).items b n slot here in
+    let reads : item_word item ≡ packed (tag_of slot.key) (frequency_of h slot.segment slot.row) slot.segment slot.row = sym was.stood ∙ (content_at z h b n (cell_at z place) was.chained.at ∙ ap (content_word h) here) in
+    let low = low_frequency z h slot.segment slot.row was.lawful in
+    let low_s = low_segment z slot.segment v stands.within.0 in let low_r = low_row z slot.row v stands.within.1 in
+    let f = item.freq_in_range in let s = item.seg_in_range in let r = item.row_in_range in
+    let es : slot.segment ≡ item.seg = omega arith in
+    let er : slot.row ≡ item.row = omega arith in
+    let ef : frequency_of h slot.segment slot.row ≡ item.freq = omega arith in
+    let is : Some (buckets.slot slot.key slot.segment slot.row) ≡ Some (buckets.slot key item.seg item.row) = λ i. Some (buckets.slot (was.here.1.2 i) (es i) (er i)) in record {
+      stands = (value, subst (λ s. standing (after z (seen h)) key ≡ Some (cached value s)) (sym (segment_of_item item)) was.stands);
+      last = subst (λ k. last_at (marked h) k ≡ Some (buckets.slot key item.seg item.row)) was.here.1.2 (stands.last ∙ is);
+      had = frequency_marked h item.seg item.row ∙ subst (λ m. frequency_of h m item.row ≡ item.freq) es (subst (λ m. frequency_of h slot.segment m ≡ item.freq) er ef);
+    }
+
+-- a frequency that the draw makes higher is one more
+one_higher : (f draw : ℕ) (t : Bool) → f < cond t (f + 1) f → (t ≡ true) × (cond t (f + 1) f ≡ f + 1)
+one_higher f draw true up = (refl, refl)
+one_higher f draw false up = absurd (omega (arith, up))
+
+-- with p the pass before the exchange that came about, and q after it
+module _ (b : Board) (p q : Pass) (place : Place) (item : Item) (higher draw found : ℕ) (key : List ℕ)
+    (is : IsPassOf b p) (chained : IsChained b.shape (trace p) place) (there : 0 < inside (trace p) (number p) item.seg) (linked : (row_after (trace p) item.seg item.row).linked ≡ Some key)
+    (step : Stepped b (bump (home_bucket b.shape (trace p) place) (position b.shape (trace p) place) (cell_at b.shape place) item.tag item.seg item.row item.freq higher) found p q) (same : found ≡ item_word item)
+    (by : higher ≡ frequency_after_hit item.freq draw) (up : item.freq < higher) where
+  abbrev at : List Event
+  at = step.told.more ++ trace p
+
+  one : (counts item.freq draw ≡ true) × (frequency_after_hit item.freq draw ≡ item.freq + 1)
+  one = one_higher item.freq draw (counts item.freq draw) (subst (λ n. item.freq < n) by up)
+
+  stood : (k : List ℕ) × (value : List ℕ) × WasLinked b.shape place (item_word item) k value (step.told.more ++ trace p)
+  stood = stood_item b.shape at place (item_word item) is.valid step.told.before (chained_later b.shape (trace p) at place step.told.before (step.told.more, refl) chained) (sym step.told.found_is ∙ same) (has_tag item)
+
+  row_then : (row_after (step.told.more ++ trace p) item.seg item.row).linked ≡ Some key
+  row_then = ap (λ (r : Row). r.linked) (row_since b.shape step.told.more (trace p) item.seg item.row key step.told.before (no_refill b.shape step.told.more (trace p) (number p) item.seg is.one_of step.told.before step.told.others there) linked) ∙ linked
+
+  is_key : stood.0 ≡ key
+  is_key = same_Some stood.0 key (sym stood.2.linked ∙ (ap (λ n. (row_after at n (row_part (item_word item))).linked) (sym (segment_of_item item)) ∙ (ap (λ n. (row_after at item.seg n).linked) (sym (row_of_item item)) ∙ row_then)))
+
+  now : trace q ≡ Bumped (number p) item.seg item.row higher ∷ (step.told.more ++ trace p)
+  now = ap (λ (u : View). u.trace) step.told.now ∙ ap (λ es. es ++ at) (cond-true (eqb found (packed item.tag item.freq item.seg item.row)) (Bumped (number p) item.seg item.row higher ∷ []) [] (eq-eqb found (packed item.tag item.freq item.seg item.row) same))
+
+  pub counts_hit : CountsHit b.shape key draw (number p) (trace p) (trace q)
+  counts_hit = record {
+    at = at;
+    segment = item.seg;
+    row = item.row;
+    frequency = item.freq;
+    since = (step.told.more, refl);
+    had = subst (λ k. HasFrequency b.shape k item.seg item.row item.freq at) is_key (has_frequency b.shape at place item stood.0 stood.1 is.valid stood.2);
+    counted = one.0;
+    raise = ([], now ∙ ap (λ n. Bumped (number p) item.seg item.row n ∷ at) (by ∙ one.1));
+  }
+
+-- between wider moments
+counts_wider : (z : Shape) (key : List ℕ) (draw n : ℕ) (h g f e : List Event) → Begins h g → Begins f e → CountsHit z key draw n g f → CountsHit z key draw n h e
+counts_wider z key draw n h g f e before after c = record {
+  at = c.at;
+  segment = c.segment;
+  row = c.row;
+  frequency = c.frequency;
+  since = begins_on h g c.at before c.since;
+  had = c.had;
+  counted = c.counted;
+  raise = begins_on (Bumped n c.segment c.row (c.frequency + 1) ∷ c.at) f e c.raise after;
+}
+
+-- an exchange that is tried once
+pub raised_by : (b : Board) (p q : Pass) (place : Place) (item : Item) (higher draw found : ℕ) (key : List ℕ) (result : Bool) → IsPassOf b p → IsChained b.shape (trace p) place → 0 < inside (trace p) (number p) item.seg → (row_after (trace p) item.seg item.row).linked ≡ Some key
+    → Stepped b (bump (home_bucket b.shape (trace p) place) (position b.shape (trace p) place) (cell_at b.shape place) item.tag item.seg item.row item.freq higher) found p q → result ≡ eqb found (item_word item)
+    → raised q ≡ cond result 1 0 + raised p → higher ≡ frequency_after_hit item.freq draw → item.freq < higher → RaisesOne b.shape key draw p q
+raised_by b p q place item higher draw found key true is chained there linked step same more by up = inr (omega (arith, more), counts_hit b p q place item higher draw found key is chained there linked step (eqb-true found (item_word item) (sym same)) by up)
+raised_by b p q place item higher draw found key false is chained there linked step same more by up = inl (omega (arith, more))
+
+pub raises_later : (z : Shape) (key : List ℕ) (draw : ℕ) (p q r : Pass) → number q ≡ number p → Begins (trace p) (trace q) → RaisesNothing p q → RaisesOne z key draw q r → RaisesOne z key draw p r
+raises_later z key draw p q r same up none (inl i) = inl (i ∙ none)
+raises_later z key draw p q r same up none (inr i) = inr (i.0 ∙ ap (λ n. n + 1) none, subst (λ n. CountsHit z key draw n (trace p) (trace r)) same (counts_wider z key draw (number q) (trace p) (trace q) (trace r) (trace r) up ([], refl) i.1))
+
+pub raises_sooner : (z : Shape) (key : List ℕ) (draw : ℕ) (p q r : Pass) → Begins (trace q) (trace r) → RaisesOne z key draw p q → RaisesNothing q r → RaisesOne z key draw p r
+raises_sooner z key draw p q r up (inl i) none = inl (none ∙ i)
+raises_sooner z key draw p q r up (inr i) none = inr (none ∙ i.0, counts_wider z key draw (number p) (trace p) (trace p) (trace q) (trace r) ([], refl) up i.1)
+
+-- an exchange comes into no segment
+pub stays_out : (b : Board) (p q : Pass) (segment row frequency : ℕ) (result : Bool) → Moved b (cond result (Bumped (number p) segment row frequency ∷ []) []) p q → entered q ≡ entered p
+stays_out b p q segment row frequency true m = moved_entered b _ p q m
+stays_out b p q segment row frequency false m = moved_entered b _ p q m
