@@ -6,6 +6,7 @@ use Rattle.segrun.specs.Explained.{Says, explanation}
 use Rattle.segrun.specs.Faults.{end_of_run, fault_of_load, fault_line, fault_status, is_write_end}
 use Rattle.segrun.specs.Printing.{PrintOutcome, IsPrinted, IsFlushed}
 use Rattle.segrun.specs.Totals.{totals_text}
+use Rattle.segscript.specs.EachTurn.{EachTurn}
 use Rattle.segscript.specs.Run.{RunOutcome, ShapeIsAnswered, is_read_fault, is_write_fault, is_make_fault}
 use Rattle.segscript.specs.declared.fault.RunFault.{RunFault}
 use Rattle.segload.specs.Gates.{lets_all_through}
@@ -19,10 +20,11 @@ use Rattle.segrun.specs.declared.command.Command.TheVariants as command
 
 -- ---- a script
 
--- The script of the reader was run, and that ended so: what was read and written belongs to it, and a fault in the making
--- comes before anything is read or written.
+-- The script of the reader was run, and that ended so: what was read and written belongs to it, each of its turns was one of the
+-- pass that its line names, and a fault in the making comes before anything is read or written.
 pub record RanScript {R W : Type 0} (hands : R → List ℕ → R → Type 0) (is_at_end : R → Type 0) (read_failed : R → Bool) (takes : W → List ℕ → W → Type 0) (write_failed : W → Bool) (flushes : W → ℕ) (shape : Shape) (reader reader' : R) (writer writer' : W) (end : Result (Unit {0}) RunFault) : Type 0 where
   pub outcome : RunOutcome shape (λ seen. hands reader seen reader') (is_at_end reader') (λ text. takes writer text writer') (flushes writer) (flushes writer') end
+  pub each_turn : EachTurn shape (λ seen. hands reader seen reader') (λ text. takes writer text writer') end
   pub read : read_failed reader' ≡ is_read_fault end
   pub write : write_failed writer' ≡ is_write_fault end
   pub answered : ShapeIsAnswered shape end

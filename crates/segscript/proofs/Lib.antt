@@ -1,4 +1,5 @@
 pub mod Devices
+pub mod Endings
 pub mod Feeding
 pub mod Going
 pub mod LineLemmas

@@ -3,16 +3,13 @@ use Rattle.std.proofs.Common.{Err, Bool, ◌≡◌, ◌≢◌, ℕ, ◌+◌, ◌
 use Rattle.std.specs.List.{flat_map, AllByRecursion}
 use Rattle.std.proofs.lemmas.Grind.{flat_map-append}
 use Rattle.std.proofs.lemmas.Bool.{eqb-true}
-use Rattle.segword.specs.declared.shape.Shape.{Shape}
 use Rattle.segmodel.specs.declared.answer.Outcome.{Outcome}
-use Rattle.segmodel.specs.State.{State, fresh}
-use Rattle.segmodel.specs.Turns.{Runs}
 use Rattle.segmodel.specs.Spelling.{PassTurn, IsSayable, spelling}
 use Rattle.segmodel.specs.Replies.{reply}
-use Rattle.segmodel.specs.Script.{IsLine, ended, Splits, Say, Steps, IsServed, IsBad, IsTextOf}
+use Rattle.segmodel.specs.Script.{IsLine, ended, Splits, Say, IsBad}
 use Rattle.segscript.specs.Device.{IsBeginning}
-use Rattle.segscript.specs.Run.{Reaches}
-use Rattle.segscript.specs.Running.{Stands, FirstBad, LineOutcome, FeedOutcome, FinishOutcome}
+use Rattle.segscript.specs.Served.{Follow, Serves}
+use Rattle.segscript.specs.Running.{Stands, Comes, Completes, FirstBad, LineOutcome, FeedOutcome, FinishOutcome}
 use Rattle.segscript.specs.declared.fault.RunFault.{RunFault}
 use Rattle.segscript.specs.declared.fault.RunFault.TheVariants as fault
 
@@ -23,11 +20,11 @@ Say-append passes ([] ∷ xs) ys ts us first more = Say-append passes xs ys ts u
 Say-append passes ((b ∷ bs) ∷ xs) ys [] us first more = absurd first
 Say-append passes ((b ∷ bs) ∷ xs) ys (t ∷ ts) us first more = (first.0, first.1, Say-append passes xs ys ts us first.2 more)
 
-Runs-append : (shape : Shape) (old mid new : State) (ts us : List PassTurn) (rs ss : List Outcome) → Runs (Steps shape) old ts rs mid → Runs (Steps shape) mid us ss new → Runs (Steps shape) old (ts ++ us) (rs ++ ss) new
-Runs-append shape old mid new [] us [] ss first more = rw first at more
-Runs-append shape old mid new [] us (r ∷ rs) ss first more = absurd first
-Runs-append shape old mid new (t ∷ ts) us [] ss first more = absurd first
-Runs-append shape old mid new (t ∷ ts) us (r ∷ rs) ss first more = (first.0, first.1, Runs-append shape first.0 mid new ts us rs ss first.2 more)
+Follow-append : {S : Type 0} (step : S → PassTurn → Outcome → S → Type 0) (old mid new : S) (ts us : List PassTurn) (rs ss : List Outcome) → Follow step old ts rs mid → Follow step mid us ss new → Follow step old (ts ++ us) (rs ++ ss) new
+Follow-append step old mid new [] us [] ss first more = rw first at more
+Follow-append step old mid new [] us (r ∷ rs) ss first more = absurd first
+Follow-append step old mid new (t ∷ ts) us [] ss first more = absurd first
+Follow-append step old mid new (t ∷ ts) us (r ∷ rs) ss first more = (first.0, first.1, Follow-append step first.0 mid new ts us rs ss first.2 more)
 
 Say-one : (passes : ℕ) (line : List ℕ) (said : PassTurn) → 0 < length line → IsSayable passes said → line ≡ spelling said → Say passes (line ∷ []) (said ∷ [])
 Say-one passes [] said some may same = absurd (omega arith)
@@ -57,38 +54,38 @@ Splits-end bytes lines rest splits = record {
   partial = tt;
 }
 
-module _ (shape : Shape) where
+module _ (passes : ℕ) {S : Type 0} (step : S → PassTurn → Outcome → S → Type 0) where
   -- more lines are served after some
-  IsServed-append : (old mid new : State) (xs ys : List (List ℕ)) (s t : List ℕ) → IsServed shape old xs s mid → IsServed shape mid ys t new → IsServed shape old (xs ++ ys) (s ++ t) new
-  IsServed-append old mid new xs ys s t first more = record {
+  Serves-append : (old mid new : S) (xs ys : List (List ℕ)) (s t : List ℕ) → Serves passes step old xs s mid → Serves passes step mid ys t new → Serves passes step old (xs ++ ys) (s ++ t) new
+  Serves-append old mid new xs ys s t first more = record {
     turns = first.turns ++ more.turns;
     outcomes = first.outcomes ++ more.outcomes;
-    says = Say-append shape.passes xs ys first.turns more.turns first.says more.says;
-    run = Runs-append shape old mid new first.turns more.turns first.outcomes more.outcomes first.run more.run;
+    says = Say-append passes xs ys first.turns more.turns first.says more.says;
+    run = Follow-append step old mid new first.turns more.turns first.outcomes more.outcomes first.run more.run;
     told = rw (first.told, more.told) (sym (flat_map-append reply first.outcomes more.outcomes));
   }
 
   -- a line that says a turn is served by its outcome
-  pub IsServed-one : (old new : State) (line text : List ℕ) (said : PassTurn) (outcome : Outcome) → 0 < length line → IsSayable shape.passes said × (line ≡ spelling said) → Steps shape old said outcome new → text ≡ reply outcome → IsServed shape old (line ∷ []) text new
-  IsServed-one old new line text said outcome some says steps same = record {
+  pub Serves-one : (old new : S) (line text : List ℕ) (said : PassTurn) (outcome : Outcome) → 0 < length line → IsSayable passes said × (line ≡ spelling said) → step old said outcome new → text ≡ reply outcome → Serves passes step old (line ∷ []) text new
+  Serves-one old new line text said outcome some says steps same = record {
     turns = said ∷ [];
     outcomes = outcome ∷ [];
-    says = Say-one shape.passes line said some says.0 says.1;
+    says = Say-one passes line said some says.0 says.1;
     run = (new, steps, refl);
     told = same ∙ sym (append-nil (reply outcome));
   }
 
-  IsServed-none : (state : State) → IsServed shape state [] [] state
-  IsServed-none state = record { turns = []; outcomes = []; says = tt; run = refl; told = refl }
+  Serves-none : (state : S) → Serves passes step state [] [] state
+  Serves-none state = record { turns = []; outcomes = []; says = tt; run = refl; told = refl }
 
   -- an empty line is skipped
-  pub IsServed-empty : (state : State) (line : List ℕ) (empty : Bool) → empty ≡ eqb (length line) 0 → empty ≡ true → IsServed shape state (line ∷ []) [] state
-  IsServed-empty state [] empty e is = record { turns = []; outcomes = []; says = tt; run = refl; told = refl }
-  IsServed-empty state (b ∷ bs) empty e is = let h : length (b ∷ bs) ≡ 0 = eqb-true (length (b ∷ bs)) 0 (sym e ∙ is) in absurd (omega arith)
+  pub Serves-empty : (state : S) (line : List ℕ) (empty : Bool) → empty ≡ eqb (length line) 0 → empty ≡ true → Serves passes step state (line ∷ []) [] state
+  Serves-empty state [] empty e is = record { turns = []; outcomes = []; says = tt; run = refl; told = refl }
+  Serves-empty state (b ∷ bs) empty e is = let h : length (b ∷ bs) ≡ 0 = eqb-true (length (b ∷ bs)) 0 (sym e ∙ is) in absurd (omega arith)
 
-  module _ (state : State) where
+  module _ (start state : S) where
     -- a byte of the line has come
-    pub at_byte : (seen told line : List ℕ) (number b : ℕ) → Stands shape state seen told line number → b ≢ 10 → length line < 128 → Stands shape state (seen ++ b ∷ []) told (line ++ b ∷ []) number
+    pub at_byte : (seen told line : List ℕ) (number b : ℕ) → Stands passes step start state seen told line number → b ≢ 10 → length line < 128 → Stands passes step start state (seen ++ b ∷ []) told (line ++ b ∷ []) number
     at_byte seen told line number b here other room = record {
       lines = here.lines;
       splits = Splits-byte seen here.lines line b here.splits other;
@@ -98,20 +95,20 @@ module _ (shape : Shape) where
     }
 
     -- the end of the line has come, and it was served
-    pub at_end : (new : State) (seen told text line : List ℕ) (number : ℕ) → Stands shape state seen told line number → IsServed shape state (line ∷ []) text new → Stands shape new (seen ++ 10 ∷ []) (told ++ text) [] (number + 1)
+    pub at_end : (new : S) (seen told text line : List ℕ) (number : ℕ) → Stands passes step start state seen told line number → Serves passes step state (line ∷ []) text new → Stands passes step start new (seen ++ 10 ∷ []) (told ++ text) [] (number + 1)
     at_end new seen told text line number here served = record {
       lines = here.lines ++ line ∷ [];
       splits = Splits-end seen here.lines line here.splits;
       short = omega arith;
-      served = IsServed-append (fresh shape) state new here.lines (line ∷ []) told text here.served served;
+      served = Serves-append start state new here.lines (line ∷ []) told text here.served served;
       numbered = simp length-append (ap (λ n. n + 1) here.numbered);
     }
 
-    pub reached : (seen told line : List ℕ) (number : ℕ) → Stands shape state seen told line number → Reaches shape seen told
+    pub reached : (seen told line : List ℕ) (number : ℕ) → Stands passes step start state seen told line number → Comes passes step start seen told
     reached seen told line number here = record { lines = here.lines; rest = line; state = state; splits = here.splits; short = here.short; served = here.served }
 
     -- the byte is the 129th of its line
-    pub too_long : (seen told line : List ℕ) (number b : ℕ) → Stands shape state seen told line number → b ≢ 10 → length line ≡ 128 → FirstBad shape ⊥ (seen ++ b ∷ []) (told ++ []) number
+    pub too_long : (seen told line : List ℕ) (number b : ℕ) → Stands passes step start state seen told line number → b ≢ 10 → length line ≡ 128 → FirstBad passes step start ⊥ (seen ++ b ∷ []) (told ++ []) number
     too_long seen told line number b here other full = record {
       lines = here.lines;
       bad = line ++ b ∷ [];
@@ -127,7 +124,7 @@ module _ (shape : Shape) where
     }
 
     -- the line whose end has come is bad
-    whole_bad : (seen told line : List ℕ) (number : ℕ) → Stands shape state seen told line number → IsBad shape.passes line → FirstBad shape ⊥ (seen ++ 10 ∷ []) (told ++ []) number
+    whole_bad : (seen told line : List ℕ) (number : ℕ) → Stands passes step start state seen told line number → IsBad passes line → FirstBad passes step start ⊥ (seen ++ 10 ∷ []) (told ++ []) number
     whole_bad seen told line number here bad = record {
       lines = here.lines;
       bad = line;
@@ -143,7 +140,7 @@ module _ (shape : Shape) where
     }
 
     -- the last line is bad
-    last_bad : (seen told line : List ℕ) (number : ℕ) → Stands shape state seen told line number → IsBad shape.passes line → FirstBad shape (Unit {0}) seen (told ++ []) number
+    last_bad : (seen told line : List ℕ) (number : ℕ) → Stands passes step start state seen told line number → IsBad passes line → FirstBad passes step start (Unit {0}) seen (told ++ []) number
     last_bad seen told line number here bad = record {
       lines = here.lines;
       bad = line;
@@ -159,36 +156,36 @@ module _ (shape : Shape) where
     }
 
     -- the last line was served
-    pub finish_text : (seen told text line : List ℕ) (number : ℕ) (new : State) → Stands shape state seen told line number → IsServed shape state (line ∷ []) text new → IsTextOf shape seen (told ++ text)
+    pub finish_text : (seen told text line : List ℕ) (number : ℕ) (new : S) → Stands passes step start state seen told line number → Serves passes step state (line ∷ []) text new → Completes passes step start seen (told ++ text)
     finish_text seen told text line number new here served = record {
       lines = here.lines;
       last = line;
       state = new;
       splits = here.splits;
-      served = IsServed-append (fresh shape) state new here.lines (line ∷ []) told text here.served served;
+      served = Serves-append start state new here.lines (line ∷ []) told text here.served served;
     }
 
   IsBeginning-told : (told part text : List ℕ) → IsBeginning part text → IsBeginning (told ++ part) (told ++ text)
   IsBeginning-told told part text front = (front.0, rw front.1 (sym (append_assoc told part front.0)), front.2)
 
   -- nothing has come yet
-  pub at_start : Stands shape (fresh shape) [] [] [] 1
-  at_start = record {
+  pub at_start : (start : S) → Stands passes step start start [] [] [] 1
+  at_start start = record {
     lines = [];
     splits = record { whole = refl; each = tt; partial = tt };
     short = omega arith;
-    served = IsServed-none (fresh shape);
+    served = Serves-none start;
     numbered = refl;
   }
 
   -- a fault at the end of a line
-  pub feed-fault : (old new then : State) (Wrote : List ℕ → Type 0) (seen told line after : List ℕ) (number count b : ℕ) (f : RunFault) → b ≡ 10
-      → Stands shape old seen told line number → LineOutcome shape old new Wrote line number (Err f) → FeedOutcome shape then Wrote (seen ++ b ∷ []) told after count (Err f)
-  feed-fault old new then Wrote seen told line after number count b fault.Read ten here h = absurd h
-  feed-fault old new then Wrote seen told line after number count b fault.TooLong ten here h = absurd h
-  feed-fault old new then Wrote seen told line after number count b (fault.Make m) ten here h = absurd h
-  feed-fault old new then Wrote seen told line after number count b (fault.Line n) ten here h = ([], h.0, rw (ten, h.1) (whole_bad old seen told line number here h.2))
-  feed-fault old new then Wrote seen told line after number count b fault.Write ten here h = rw ten (
+  pub feed-fault : (start old new then : S) (Wrote : List ℕ → Type 0) (seen told line after : List ℕ) (number count b : ℕ) (f : RunFault) → b ≡ 10
+      → Stands passes step start old seen told line number → LineOutcome passes step old new Wrote line number (Err f) → FeedOutcome passes step start then Wrote (seen ++ b ∷ []) told after count (Err f)
+  feed-fault start old new then Wrote seen told line after number count b fault.Read ten here h = absurd h
+  feed-fault start old new then Wrote seen told line after number count b fault.TooLong ten here h = absurd h
+  feed-fault start old new then Wrote seen told line after number count b (fault.Make m) ten here h = absurd h
+  feed-fault start old new then Wrote seen told line after number count b (fault.Line n) ten here h = ([], h.0, rw (ten, h.1) (whole_bad start old seen told line number here h.2))
+  feed-fault start old new then Wrote seen told line after number count b fault.Write ten here h = rw ten (
     h.0,
     told ++ h.1,
     seen ++ 10 ∷ [],
@@ -196,15 +193,15 @@ module _ (shape : Shape) where
     h.2,
     IsBeginning-told told h.0 h.1 h.3,
     sym (append-nil (seen ++ 10 ∷ [])),
-    reached new (seen ++ 10 ∷ []) (told ++ h.1) [] (number + 1) (at_end old new seen told h.1 line number here h.4),
+    reached start new (seen ++ 10 ∷ []) (told ++ h.1) [] (number + 1) (at_end start old new seen told h.1 line number here h.4),
   )
 
   -- a fault at the last line
-  pub finish-fault : (old new : State) (Wrote : List ℕ → Type 0) (before flushes : ℕ) (seen told line : List ℕ) (number : ℕ) (f : RunFault) → flushes ≡ before
-      → Stands shape old seen told line number → LineOutcome shape old new Wrote line number (Err f) → FinishOutcome shape Wrote before flushes seen told (Err f)
-  finish-fault old new Wrote before flushes seen told line number fault.Read none here h = absurd h
-  finish-fault old new Wrote before flushes seen told line number fault.TooLong none here h = absurd h
-  finish-fault old new Wrote before flushes seen told line number (fault.Make m) none here h = absurd h
-  finish-fault old new Wrote before flushes seen told line number (fault.Line n) none here h = ([], h.0, none, rw h.1 (last_bad old seen told line number here h.2))
-  finish-fault old new Wrote before flushes seen told line number fault.Write none here h =
-      (h.0, h.2, inl (none, (told ++ h.1, IsBeginning-told told h.0 h.1 h.3, inr (finish_text old seen told h.1 line number new here h.4))))
+  pub finish-fault : (start old new : S) (Wrote : List ℕ → Type 0) (before flushes : ℕ) (seen told line : List ℕ) (number : ℕ) (f : RunFault) → flushes ≡ before
+      → Stands passes step start old seen told line number → LineOutcome passes step old new Wrote line number (Err f) → FinishOutcome passes step start Wrote before flushes seen told (Err f)
+  finish-fault start old new Wrote before flushes seen told line number fault.Read none here h = absurd h
+  finish-fault start old new Wrote before flushes seen told line number fault.TooLong none here h = absurd h
+  finish-fault start old new Wrote before flushes seen told line number (fault.Make m) none here h = absurd h
+  finish-fault start old new Wrote before flushes seen told line number (fault.Line n) none here h = ([], h.0, none, rw h.1 (last_bad start old seen told line number here h.2))
+  finish-fault start old new Wrote before flushes seen told line number fault.Write none here h =
+      (h.0, h.2, inl (none, (told ++ h.1, IsBeginning-told told h.0 h.1 h.3, inr (finish_text start old seen told h.1 line number new here h.4))))

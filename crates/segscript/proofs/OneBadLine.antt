@@ -5,7 +5,6 @@ use Rattle.std.specs.Prelude.{IsOk}
 use Rattle.std.proofs.lemmas.Bool.{true≢false}
 use Rattle.std.proofs.lemmas.Grind.{flat_map-append}
 use Rattle.segword.specs.declared.shape.Shape.{Shape}
-use Rattle.segmodel.specs.declared.answer.Command.TheVariants.{Write}
 use Rattle.segmodel.specs.Spelling.{PassTurn}
 use Rattle.segmodel.specs.Script.{IsLine, ended, Say, IsBad, IsTextOf, IsFirstBad}
 use Rattle.segscript.specs.Device.{HandsOut}

@@ -1,10 +1,12 @@
 pub mod Device
+pub mod EachTurn
 pub mod Known
 pub mod Memory
 pub mod Passes
 pub mod Reading
 pub mod Run
 pub mod Running
+pub mod Served
 pub mod Server
 pub mod Told
 pub mod Verb

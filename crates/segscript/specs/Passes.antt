@@ -1,9 +1,10 @@
 -- The passes of an index between turns, each with the hold that is kept beside it, and the turns that they take.
-use Rattle.std.specs.Prelude.{◌≡◌, ℕ, List, [], ◌∷◌, Option, Some, None, slice_get}
+use Rattle.std.specs.Prelude.{◌≡◌, ◌≢◌, ℕ, List, [], ◌∷◌, Option, Some, None, slice_get}
 use Rattle.segword.specs.declared.shape.Shape.{Shape}
 use Rattle.segmodel.specs.declared.answer.Turn.{Turn}
 use Rattle.segmodel.specs.declared.answer.Outcome.{Outcome}
 use Rattle.segmodel.specs.State.{State, fresh}
+use Rattle.segmodel.specs.Spelling.{PassTurn}
 use Rattle.segbase.specs.declared.board.Board.{Board}
 use Rattle.segbase.specs.declared.pass.Pass.{Pass}
 use Rattle.segbase.specs.Passes.{number, holding}
@@ -39,3 +40,12 @@ pub record TakesTurn (b : Board) (turn : Turn) (outcome : Outcome) (p q : Pass) 
   pub goes_on : GoesOn b p q
   pub tells : Tells b turn outcome p q
   pub alone : IsAlone b p → TurnsAlone b turn outcome p q
+
+-- the pass of this number took the turn, and the others are as they were
+pub record OneTakes (b : Board) (old : List Pass) (said : PassTurn) (outcome : Outcome) (new : List Pass) : Type 0 where
+  pub before : Pass
+  pub after : Pass
+  pub was : slice_get old said.0 ≡ Some before
+  pub is : slice_get new said.0 ≡ Some after
+  pub takes : TakesTurn b said.1 outcome before after
+  pub others : (other : ℕ) → other ≢ said.0 → slice_get new other ≡ slice_get old other

@@ -1,65 +1,111 @@
--- What the parts of a run do, between its reads.
-use Rattle.std.specs.Prelude.{◌⊎◌, ◌≡◌, ℕ, ◌+◌, ◌≤◌, List, [], ◌∷◌, ◌++◌, length, Result, Ok, Err}
+-- What the parts of a run do, between its reads. Their turns are taken by whatever stands behind the script: it has this many
+-- passes, and step says what one turn of it is.
+use Rattle.std.specs.Prelude.{◌⊎◌, ◌≡◌, ℕ, ◌+◌, ◌^◌, ◌≤◌, List, [], ◌∷◌, ◌++◌, length, Result, Ok, Err}
 use Rattle.std.specs.List.{flat_map, AllByRecursion}
-use Rattle.segword.specs.declared.shape.Shape.{Shape}
-use Rattle.segmodel.specs.State.{State, fresh}
-use Rattle.segmodel.specs.Script.{IsLine, ended, Splits, IsServed, IsBad, IsTextOf}
+use Rattle.segmodel.specs.declared.answer.Outcome.{Outcome}
+use Rattle.segmodel.specs.Spelling.{PassTurn}
+use Rattle.segmodel.specs.Script.{IsLine, ended, Splits, IsBad}
 use Rattle.segscript.specs.Device.{IsBeginning, flushed}
-use Rattle.segscript.specs.Run.{Reaches, IsCutOff}
+use Rattle.segscript.specs.Served.{Serves}
 use Rattle.segscript.specs.declared.fault.RunFault.{RunFault}
 use Rattle.segscript.specs.declared.fault.RunFault.TheVariants as fault
 
--- Where a run is: these bytes came, this text is written for their whole lines, the engine is at the state after these (which
--- says something of it where it has one pass), and the bytes of the line that has no end yet are kept, with its number.
-pub record Stands (shape : Shape) (state : State) (seen text line : List ℕ) (number : ℕ) : Type 0 where
+-- Where a run is: these bytes came, this text is written for their whole lines, what stands behind the script is as these
+-- left it, and the bytes of the line that has no end yet are kept, with its number.
+pub record Stands (passes : ℕ) {S : Type 0} (step : S → PassTurn → Outcome → S → Type 0) (start now : S) (seen text line : List ℕ) (number : ℕ) : Type 0 where
   pub lines : List (List ℕ)
   pub splits : Splits seen lines line
   pub short : length line ≤ 128
-  pub served : IsServed shape (fresh shape) lines text state
+  pub served : Serves passes step start lines text now
   pub numbered : number ≡ length lines + 1
 
 -- The reader handed out some bytes up to here, and up to here the writer took the replies to all their whole lines.
-abbrev pub AllReplied : {R W : Type 0} → Shape → State → (R → List ℕ → R → Type 0) → (W → List ℕ → W → Type 0) → R → W → List ℕ → ℕ → Type 0
-AllReplied {R} {W} shape state hands takes reader writer line number =
-    (from : R) × (to : W) × (seen : List ℕ) × (told : List ℕ) × hands from seen reader × takes to told writer × Stands shape state seen told line number
+abbrev pub AllReplied : (passes : ℕ) {S : Type 0} (step : S → PassTurn → Outcome → S → Type 0) {R W : Type 0} → (R → List ℕ → R → Type 0) → (W → List ℕ → W → Type 0) → S → R → W → List ℕ → ℕ → Type 0
+AllReplied passes {S} step {R} {W} hands takes now reader writer line number =
+    (start : S) × (from : R) × (to : W) × (seen : List ℕ) × (told : List ℕ) × hands from seen reader × takes to told writer × Stands passes step start now seen told line number
+
+-- ---- how far a run came
+
+-- all whole lines of the bytes that came are served, with this text of replies, and the line after them is not too long so far
+pub record Comes (passes : ℕ) {S : Type 0} (step : S → PassTurn → Outcome → S → Type 0) (start : S) (seen text : List ℕ) : Type 0 where
+  pub lines : List (List ℕ)
+  pub rest : List ℕ
+  pub state : S
+  pub splits : Splits seen lines rest
+  pub short : length rest ≤ 128
+  pub served : Serves passes step start lines text state
+
+-- the script is served to its end, with this text of replies
+pub record Completes (passes : ℕ) {S : Type 0} (step : S → PassTurn → Outcome → S → Type 0) (start : S) (script text : List ℕ) : Type 0 where
+  pub lines : List (List ℕ)
+  pub last : List ℕ
+  pub state : S
+  pub splits : Splits script lines last
+  pub served : Serves passes step start (lines ++ last ∷ []) text state
+
+-- a reply could not be written whole: a beginning of the text is written, that of the lines up to the one of this reply
+abbrev pub BreaksOff : (passes : ℕ) {S : Type 0} (step : S → PassTurn → Outcome → S → Type 0) → S → List ℕ → List ℕ → Type 0
+BreaksOff passes step start seen part =
+    (text : List ℕ) × IsBeginning part text
+    × (((front : List ℕ) × (rest : List ℕ) × (seen ≡ front ++ rest) × Comes passes step start front text) ⊎ Completes passes step start seen text)
 
 -- Line n of these bytes is bad, and none before it: it has its end, or its 129th byte, or (where Ends) nothing comes after it.
-pub record FirstBad (shape : Shape) (Ends : Type 0) (seen text : List ℕ) (n : ℕ) : Type 0 where
+pub record FirstBad (passes : ℕ) {S : Type 0} (step : S → PassTurn → Outcome → S → Type 0) (start : S) (Ends : Type 0) (seen text : List ℕ) (n : ℕ) : Type 0 where
   pub lines : List (List ℕ)
   pub bad : List ℕ
   pub after : List ℕ
-  pub state : State
+  pub state : S
   pub whole : seen ≡ flat_map ended lines ++ (bad ++ after)
   pub each : AllByRecursion IsLine lines
   pub unbroken : IsLine bad
-  pub is_bad : IsBad shape.passes bad
+  pub is_bad : IsBad passes bad
   pub known : ((more : List ℕ) × (after ≡ 10 ∷ more)) ⊎ (length bad ≡ 129) ⊎ ((after ≡ []) × Ends)
-  pub served : IsServed shape (fresh shape) lines text state
+  pub served : Serves passes step start lines text state
   pub number : n ≡ length lines + 1
 
--- What became of one whole line, from the old state to the new one.
-abbrev pub LineOutcome : Shape → State → State → (List ℕ → Type 0) → List ℕ → ℕ → Result (Unit {0}) RunFault → Type 0
-LineOutcome shape old new Wrote line number (Ok _) = (text : List ℕ) × Wrote text × IsServed shape old (line ∷ []) text new
-LineOutcome shape old new Wrote line number (Err (fault.Line n)) = Wrote [] × (n ≡ number) × IsBad shape.passes line
-LineOutcome shape old new Wrote line number (Err fault.Write) =
-    (part : List ℕ) × (text : List ℕ) × Wrote part × IsBeginning part text × IsServed shape old (line ∷ []) text new
-LineOutcome shape old new Wrote line number (Err _) = ⊥
+-- ---- what became of the parts
 
--- What became of bytes that were fed: seen are all that came, theirs among them, and told is what was written before.
-abbrev pub FeedOutcome : Shape → State → (List ℕ → Type 0) → List ℕ → List ℕ → List ℕ → ℕ → Result (Unit {0}) RunFault → Type 0
-FeedOutcome shape state Wrote seen told line number (Ok _) = (text : List ℕ) × Wrote text × Stands shape state seen (told ++ text) line number
-FeedOutcome shape state Wrote seen told line number (Err (fault.Line n)) = (text : List ℕ) × Wrote text × FirstBad shape ⊥ seen (told ++ text) n
-FeedOutcome shape state Wrote seen told line number (Err fault.Write) =
-    (part : List ℕ) × (text : List ℕ) × (front : List ℕ) × (rest : List ℕ) × Wrote part × IsBeginning (told ++ part) text × (seen ≡ front ++ rest) × Reaches shape front text
-FeedOutcome shape state Wrote seen told line number (Err _) = ⊥
+module _ (passes : ℕ) {S : Type 0} (step : S → PassTurn → Outcome → S → Type 0) where
+  -- what became of one whole line, from the old state to the new one
+  abbrev pub LineOutcome : S → S → (List ℕ → Type 0) → List ℕ → ℕ → Result (Unit {0}) RunFault → Type 0
+  LineOutcome old new Wrote line number (Ok _) = (text : List ℕ) × Wrote text × Serves passes step old (line ∷ []) text new
+  LineOutcome old new Wrote line number (Err (fault.Line n)) = Wrote [] × (n ≡ number) × IsBad passes line
+  LineOutcome old new Wrote line number (Err fault.Write) =
+      (part : List ℕ) × (text : List ℕ) × Wrote part × IsBeginning part text × Serves passes step old (line ∷ []) text new
+  LineOutcome old new Wrote line number (Err _) = ⊥
 
--- What became of the last line, at the end of the script.
-abbrev pub FinishOutcome : Shape → (List ℕ → Type 0) → ℕ → ℕ → List ℕ → List ℕ → Result (Unit {0}) RunFault → Type 0
-FinishOutcome shape Wrote before flushes seen told (Ok _) =
-    (text : List ℕ) × Wrote text × (flushes ≡ flushed before) × IsTextOf shape seen (told ++ text)
-FinishOutcome shape Wrote before flushes seen told (Err (fault.Line n)) =
-    (text : List ℕ) × Wrote text × (flushes ≡ before) × FirstBad shape (Unit {0}) seen (told ++ text) n
-FinishOutcome shape Wrote before flushes seen told (Err fault.Write) =
-    (part : List ℕ) × Wrote part
-    × (((flushes ≡ before) × IsCutOff shape seen (told ++ part)) ⊎ ((flushes ≡ flushed before) × IsTextOf shape seen (told ++ part)))
-FinishOutcome shape Wrote before flushes seen told (Err _) = ⊥
+  -- what became of bytes that were fed: seen are all that came, theirs among them, and told is what was written before
+  abbrev pub FeedOutcome : S → S → (List ℕ → Type 0) → List ℕ → List ℕ → List ℕ → ℕ → Result (Unit {0}) RunFault → Type 0
+  FeedOutcome start now Wrote seen told line number (Ok _) = (text : List ℕ) × Wrote text × Stands passes step start now seen (told ++ text) line number
+  FeedOutcome start now Wrote seen told line number (Err (fault.Line n)) = (text : List ℕ) × Wrote text × FirstBad passes step start ⊥ seen (told ++ text) n
+  FeedOutcome start now Wrote seen told line number (Err fault.Write) =
+      (part : List ℕ) × (text : List ℕ) × (front : List ℕ) × (rest : List ℕ) × Wrote part × IsBeginning (told ++ part) text × (seen ≡ front ++ rest) × Comes passes step start front text
+  FeedOutcome start now Wrote seen told line number (Err _) = ⊥
+
+  -- what became of the last line, at the end of the script
+  abbrev pub FinishOutcome : S → (List ℕ → Type 0) → ℕ → ℕ → List ℕ → List ℕ → Result (Unit {0}) RunFault → Type 0
+  FinishOutcome start Wrote before flushes seen told (Ok _) =
+      (text : List ℕ) × Wrote text × (flushes ≡ flushed before) × Completes passes step start seen (told ++ text)
+  FinishOutcome start Wrote before flushes seen told (Err (fault.Line n)) =
+      (text : List ℕ) × Wrote text × (flushes ≡ before) × FirstBad passes step start (Unit {0}) seen (told ++ text) n
+  FinishOutcome start Wrote before flushes seen told (Err fault.Write) =
+      (part : List ℕ) × Wrote part
+      × (((flushes ≡ before) × BreaksOff passes step start seen (told ++ part)) ⊎ ((flushes ≡ flushed before) × Completes passes step start seen (told ++ part)))
+  FinishOutcome start Wrote before flushes seen told (Err _) = ⊥
+
+  -- What became of a whole run. Read is what is so of all bytes that were read, Wrote of all that were written, and Ends that
+  -- the reader is at its end.
+  abbrev pub EndOfRun : S → (List ℕ → Type 0) → Type 0 → (List ℕ → Type 0) → ℕ → ℕ → Result (Unit {0}) RunFault → Type 0
+  EndOfRun start Read Ends Wrote before flushes (Ok _) =
+      (script : List ℕ) × (text : List ℕ) × Read script × Ends × Wrote text × (flushes ≡ flushed before) × Completes passes step start script text
+  EndOfRun start Read Ends Wrote before flushes (Err fault.Read) =
+      (seen : List ℕ) × (text : List ℕ) × Read seen × Wrote text × (flushes ≡ before) × Comes passes step start seen text
+  EndOfRun start Read Ends Wrote before flushes (Err fault.TooLong) =
+      (seen : List ℕ) × (text : List ℕ) × Read seen × Wrote text × (flushes ≡ before) × Comes passes step start seen text × (length seen ≡ 2 ^ 63)
+  EndOfRun start Read Ends Wrote before flushes (Err (fault.Line n)) =
+      (seen : List ℕ) × (text : List ℕ) × Read seen × Wrote text × (flushes ≡ before)
+      × (FirstBad passes step start ⊥ seen text n ⊎ (Ends × FirstBad passes step start (Unit {0}) seen text n))
+  EndOfRun start Read Ends Wrote before flushes (Err fault.Write) =
+      (seen : List ℕ) × (part : List ℕ) × Read seen × Wrote part
+      × (((flushes ≡ before) × BreaksOff passes step start seen part) ⊎ ((flushes ≡ flushed before) × Ends × Completes passes step start seen part))
+  EndOfRun start Read Ends Wrote before flushes (Err (fault.Make f)) = ⊥

@@ -1,14 +1,15 @@
 -- An index and its passes as a script sees them.
 use Rattle.std.specs.Prelude.{◌≡◌, ◌≢◌, ℕ, List, length, Some, None, slice_get}
-use Rattle.segmodel.specs.declared.answer.Turn.{Turn}
 use Rattle.segmodel.specs.declared.answer.Outcome.{Outcome}
 use Rattle.segmodel.specs.State.{State}
+use Rattle.segmodel.specs.Spelling.{PassTurn}
+use Rattle.segmodel.specs.Script.{Steps}
 use Rattle.segbase.specs.declared.pass.Pass.{Pass}
 use Rattle.segbase.specs.Passes.{holding}
 use Rattle.segbase.specs.Plain.{locked_of}
 use Rattle.segindex.specs.Index.{board_of, shape_of}
 use Rattle.segscript.specs.declared.server.Server.{Server}
-use Rattle.segscript.specs.Passes.{AreInOrder, first_state, TakesTurn}
+use Rattle.segscript.specs.Passes.{AreInOrder, first_state, OneTakes}
 
 -- between turns it has all its passes, each idle and at its place
 pub record IsReady (server : Server) : Type 0 where
@@ -20,12 +21,12 @@ pub record IsReady (server : Server) : Type 0 where
 abbrev pub state : Server → State
 state server = first_state (shape_of server.index.now) server.passes.items
 
--- one pass took the turn, and the others are as they were
-pub record TurnsOne (pass : ℕ) (turn : Turn) (outcome : Outcome) (old new : Server) : Type 0 where
+-- one pass took the turn, and the others and their holds are as they were; the turns of the only pass are served one after the other
+pub record TurnsOne (old : Server) (said : PassTurn) (outcome : Outcome) (new : Server) : Type 0 where
   pub index : new.index.now ≡ old.index.now
-  pub takes : (p q : Pass) → slice_get old.passes.items pass ≡ Some p → slice_get new.passes.items pass ≡ Some q → TakesTurn (board_of old.index.now) turn outcome p q
-  pub others : (other : ℕ) → other ≢ pass
-      → (slice_get new.passes.items other ≡ slice_get old.passes.items other) × (slice_get new.holds.items other ≡ slice_get old.holds.items other)
+  pub one : OneTakes (board_of old.index.now) old.passes.items said outcome new.passes.items
+  pub holds : (other : ℕ) → other ≢ said.0 → slice_get new.holds.items other ≡ slice_get old.holds.items other
+  pub served : Steps (shape_of old.index.now) (state old) said outcome (state new)
 
 -- no pass holds an item or has a bucket locked
 abbrev pub NoneKeeps : List Pass → Type 0

@@ -1,8 +1,8 @@
 //! What stands behind a script.
 ghost use Rattle.std.specs.Prelude.{◌≡◌, ◌<◌};
 ghost use Rattle.segword.specs.declared.shape.Shape.{Shape};
-ghost use Rattle.segmodel.specs.State.{State};
-ghost use Rattle.segmodel.specs.Script.{Steps};
+ghost use Rattle.segmodel.specs.Spelling.{PassTurn};
+ghost use Rattle.segmodel.specs.declared.answer.Outcome.{Outcome};
 
 use segmodel::{Outcome, Turn};
 
@@ -13,18 +13,18 @@ pub trait Engine {
     /// What is so of it between turns.
     ghost is_ready: { Self → Type 0 };
 
-    /// The state of the model that it is at. With several passes it says nothing.
-    ghost state: { Self → State };
+    /// One turn of a pass, with this outcome, leads from the one to the other.
+    ghost turns: { Self → PassTurn → Outcome → Self → Type 0 };
 
     /// How many passes it has.
     fn passes(&self) -> u32
         ensures { result ≡ (shape self.now).passes };
 
-    /// Takes one turn of a pass. With one pass, its turns are served one after the other.
+    /// Takes one turn of a pass.
     fn turn(&mut self, pass: u32, turn: &Turn) -> Outcome
         requires pass { pass < (shape self.old).passes }
         requires ready { is_ready self.old }
         ensures ready { is_ready self.new }
         ensures shape { shape self.new ≡ shape self.old }
-        ensures turns { Steps (shape self.old) (state self.old) (pass, turn.now) result (state self.new) };
+        ensures turns { turns self.old (pass, turn.now) result self.new };
 }

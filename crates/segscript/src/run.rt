@@ -1,10 +1,7 @@
 //! Runs a script from a reader to a writer, over an engine.
 ghost use Rattle.std.specs.Prelude.{◌≡◌, ◌+◌, ◌<◌, ◌≤◌, ◌^◌, ◌++◌, ◌∷◌, [], ◌⊎◌, ℕ, List, length, take, false, IsOk, IfOk, OnErr, is_err};
-ghost use Rattle.segmodel.specs.Script.{IsTextOf, IsFirstBad};
-ghost use Rattle.segmodel.specs.State.{fresh};
-ghost use Rattle.segscript.specs.Device.{HandsOut};
-ghost use Rattle.segscript.specs.Running.{AllReplied};
-ghost use Rattle.segscript.specs.Run.{RunOutcome, is_read_fault, is_write_fault, is_make_fault};
+ghost use Rattle.segscript.specs.Running.{AllReplied, EndOfRun};
+ghost use Rattle.segscript.specs.Run.{is_read_fault, is_write_fault, is_make_fault};
 
 use crate::device::{Failed, Sink, Source, write_all};
 use crate::engine::Engine;
@@ -35,7 +32,7 @@ impl OpenLine {
         requires ready { E.is_ready engine.old }
         ensures shape { E.shape engine.new ≡ E.shape engine.old }
         ensures ready { E.is_ready engine.new }
-        ensures outcome { LineOutcome (E.shape engine.old) (E.state engine.old) (E.state engine.new)
+        ensures outcome { LineOutcome (E.shape engine.old).passes E.turns engine.old engine.new
             (λ text. W.takes writer.old text writer.new) self.now.bytes.items self.now.number result }
         ensures failed { W.has_failed writer.new ≡ is_write_fault result }
         ensures flushes { W.flushes writer.new ≡ W.flushes writer.old }
@@ -68,9 +65,9 @@ impl OpenLine {
         ensures number { self.new.number ≤ self.old.number + 1 }
         ensures shape { E.shape engine.new ≡ E.shape engine.old }
         ensures ready { E.is_ready engine.new }
-        ensures outcome { (seen told : List ℕ) →
-            Stands (E.shape engine.old) (E.state engine.old) seen told self.old.bytes.items self.old.number →
-            FeedOutcome (E.shape engine.old) (E.state engine.new) (λ text. W.takes writer.old text writer.new)
+        ensures outcome { (start : E) (seen told : List ℕ) →
+            Stands (E.shape engine.old).passes E.turns start engine.old seen told self.old.bytes.items self.old.number →
+            FeedOutcome (E.shape engine.old).passes E.turns start engine.new (λ text. W.takes writer.old text writer.new)
             (seen ++ byte ∷ []) told self.new.bytes.items self.new.number result }
         ensures failed { W.has_failed writer.new ≡ is_write_fault result }
         ensures flushes { W.flushes writer.new ≡ W.flushes writer.old }
@@ -107,9 +104,9 @@ impl OpenLine {
         ensures number { self.new.number ≤ self.old.number + length bytes.now }
         ensures shape { E.shape engine.new ≡ E.shape engine.old }
         ensures ready { E.is_ready engine.new }
-        ensures outcome { (seen told : List ℕ) →
-            Stands (E.shape engine.old) (E.state engine.old) seen told self.old.bytes.items self.old.number →
-            FeedOutcome (E.shape engine.old) (E.state engine.new) (λ text. W.takes writer.old text writer.new)
+        ensures outcome { (start : E) (seen told : List ℕ) →
+            Stands (E.shape engine.old).passes E.turns start engine.old seen told self.old.bytes.items self.old.number →
+            FeedOutcome (E.shape engine.old).passes E.turns start engine.new (λ text. W.takes writer.old text writer.new)
             (seen ++ bytes.now) told self.new.bytes.items self.new.number result }
         ensures failed { W.has_failed writer.new ≡ is_write_fault result }
         ensures flushes { W.flushes writer.new ≡ W.flushes writer.old }
@@ -129,9 +126,9 @@ impl OpenLine {
         requires works { W.has_failed writer.old ≡ false }
         requires ready { E.is_ready engine.old }
         ensures ready { E.is_ready engine.new }
-        ensures outcome { (seen told : List ℕ) →
-            Stands (E.shape engine.old) (E.state engine.old) seen told self.now.bytes.items self.now.number →
-            FinishOutcome (E.shape engine.old) (λ text. W.takes writer.old text writer.new)
+        ensures outcome { (start : E) (seen told : List ℕ) →
+            Stands (E.shape engine.old).passes E.turns start engine.old seen told self.now.bytes.items self.now.number →
+            FinishOutcome (E.shape engine.old).passes E.turns start (λ text. W.takes writer.old text writer.new)
             (W.flushes writer.old) (W.flushes writer.new) seen told result }
         ensures failed { W.has_failed writer.new ≡ is_write_fault result }
         ensures no_read { is_read_fault result ≡ false }
@@ -157,7 +154,7 @@ fn read_piece<R: Source, W: Sink, E: Engine>(
 ) -> Result<usize, Failed>
     requires works { R.has_failed reader.old ≡ false }
     requires room { 0 < length piece.old }
-    requires replied { AllReplied (E.shape _engine.now) (E.state _engine.now) R.hands W.takes
+    requires replied { AllReplied (E.shape _engine.now).passes E.turns R.hands W.takes _engine.now
         reader.old _writer.now _line.now.bytes.items _line.now.number }
     ensures count { IfOk result (λ n. n ≤ length piece.new) }
     ensures bytes { IfOk result (λ n. R.hands reader.old (take n piece.new) reader.new) }
@@ -168,7 +165,7 @@ fn read_piece<R: Source, W: Sink, E: Engine>(
     reader.read(piece)
 }
 
-/// Runs the script that the reader hands out over an engine that is at its start, and writes the replies. No
+/// Runs the script that the reader hands out over an engine, and writes the replies. No
 /// more is read before the lines that are there have their replies.
 pub fn run<R: Source, W: Sink, E: Engine>(
     reader: &mut R,
@@ -178,26 +175,13 @@ pub fn run<R: Source, W: Sink, E: Engine>(
     requires reader_works { R.has_failed reader.old ≡ false }
     requires writer_works { W.has_failed writer.old ≡ false }
     requires ready { E.is_ready engine.old }
-    requires fresh { E.state engine.old ≡ fresh (E.shape engine.old) }
     ensures ready { E.is_ready engine.new }
-    ensures outcome { RunOutcome (E.shape engine.old)
+    ensures outcome { EndOfRun (E.shape engine.old).passes E.turns engine.old
         (λ seen. R.hands reader.old seen reader.new) (R.is_at_end reader.new)
         (λ text. W.takes writer.old text writer.new) (W.flushes writer.old) (W.flushes writer.new) result }
     ensures read { R.has_failed reader.new ≡ is_read_fault result }
     ensures write { W.has_failed writer.new ≡ is_write_fault result }
     ensures made { is_make_fault result ≡ false }
-
-    // Where the devices never failed, a script with a first bad line ends there, and any other ends well.
-    ensures bad_line { (script text : List ℕ) (n : ℕ) →
-        HandsOut R.hands R.is_at_end reader.old reader.new script →
-        IsFirstBad (E.shape engine.old) script text n →
-        R.has_failed reader.new ≡ false → W.has_failed writer.new ≡ false →
-        (result ≡ Err (RunFault.Line n)) ⊎ (result ≡ Err RunFault.TooLong) }
-    ensures no_bad_line { (script text : List ℕ) →
-        HandsOut R.hands R.is_at_end reader.old reader.new script →
-        IsTextOf (E.shape engine.old) script text →
-        R.has_failed reader.new ≡ false → W.has_failed writer.new ≡ false →
-        IsOk result ⊎ (result ≡ Err RunFault.TooLong) }
 {
     let mut line = OpenLine {
         bytes: ArrayVec::new(),

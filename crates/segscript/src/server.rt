@@ -1,7 +1,6 @@
 //! An index and its passes, which take turns on one thread.
 ghost use Rattle.std.specs.Prelude.{◌≡◌, ◌<◌, length, IfOk};
 ghost use Rattle.segmodel.specs.State.{fresh};
-ghost use Rattle.segmodel.specs.Script.{Steps};
 ghost use Rattle.segindex.specs.Index.{shape_of};
 ghost use Rattle.segindex.specs.Calls.{IsNew};
 
@@ -24,7 +23,7 @@ impl<'i> Server<'i> {
     /// A server of an index in which nothing was done yet. Its turns take no more memory.
     pub fn new(alloc: Global, index: &'i Index, passes: Vec<Pass>) -> Result<Server<'i>, AllocError>
         requires new { IsNew (shape_of index.now) index.now passes.items }
-        ensures shape { IfOk result (λ server. shape_of server.index.now ≡ shape_of index.now) }
+        ensures holds { IfOk result (λ server. (server.index.now ≡ index.now) × (server.passes.items ≡ passes.items)) }
         ensures ready { IfOk result IsReady }
         ensures start { IfOk result (λ server. state server ≡ fresh (shape_of index.now)) }
     {
@@ -59,13 +58,13 @@ impl<'i> Server<'i> {
 }
 
 impl Engine for Server<'_> {
-    ghost use Rattle.segscript.specs.Server.{IsReady, state, TurnsOne};
+    ghost use Rattle.segscript.specs.Server.{IsReady, TurnsOne};
 
     ghost shape = { λ server. shape_of server.index.now };
 
     ghost is_ready = { IsReady };
 
-    ghost state = { state };
+    ghost turns = { TurnsOne };
 
     fn passes(&self) -> u32 {
         self.index.shape().passes
@@ -76,10 +75,9 @@ impl Engine for Server<'_> {
         requires ready { IsReady self.old }
         ensures ready { IsReady self.new }
         ensures shape { shape_of self.new.index.now ≡ shape_of self.old.index.now }
-        ensures turns { Steps (shape_of self.old.index.now) (state self.old) (pass, turn.now) result (state self.new) }
 
         // The turn was that pass's, and the others are as they were.
-        ensures one { TurnsOne pass turn.now result self.old self.new }
+        ensures turns { TurnsOne self.old (pass, turn.now) result self.new }
     {
         let place = pass as usize;
         take_turn(

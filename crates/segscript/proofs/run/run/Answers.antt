@@ -1,8 +1,8 @@
-use Rattle.std.proofs.Common.{Err, sym, ℕ, refl, arith, length-append, length-drop, length-take, take, ap, ◌∙◌}
+use Rattle.std.proofs.Common.{Err, ℕ, refl, arith, length-append, length-drop, length-take, take, ap, ◌∙◌}
 use Rattle.std.proofs.lemmas.List.{take-append-le}
-use Rattle.segscript.proofs.Feeding.{at_shape}
+use Rattle.segword.specs.declared.shape.Shape.{Shape}
+use Rattle.segscript.proofs.Feeding.{at_passes}
 use Rattle.segscript.proofs.Going.{asked, going_start, going_on, ends_fed, ends_read, ends_finish}
-use Rattle.segscript.proofs.OneBadLine.{ends_at_bad, ends_well}
 use Rattle.segscript.proofs.run.run.Goals as goal
 
 pub loop-total-init : goal.loop-total-init
@@ -15,25 +15,25 @@ loop-total-init g c = record {
   few = omega arith;
   most = omega arith;
   buffer = refl;
-  going = going_start _ g.R.Source.hands g.met.R.Source.hands_more g.W.Sink.takes g.met.W.Sink.takes_more g.W.Sink.flushes _ _ _ _ c.requires.fresh c.new.ensures (g.met.R.Source.hands_none _) (g.met.W.Sink.takes_none _);
+  going = going_start _ _ _ g.R.Source.hands g.met.R.Source.hands_more g.W.Sink.takes g.met.W.Sink.takes_more g.W.Sink.flushes _ _ _ _ refl c.new.ensures (g.met.R.Source.hands_none _) (g.met.W.Sink.takes_none _);
 }
 
 pub returns-in_default-clause-outcome : goal.returns-in_default-clause-outcome
 returns-in_default-clause-outcome g c =
-    ends_read _ g.R.Source.hands g.met.R.Source.hands_more g.W.Sink.takes g.met.W.Sink.takes_more g.W.Sink.flushes _ _ _ _ _ _ _ _ _ (g.R.Source.is_at_end c.read_piece.new.reader) c.loop-total.invariant.going c.loop-total.invariant.unflushed c.in_default.ensures.err
+    ends_read _ _ _ g.R.Source.hands g.met.R.Source.hands_more g.W.Sink.takes g.met.W.Sink.takes_more g.W.Sink.flushes _ _ _ _ _ _ _ _ _ (g.R.Source.is_at_end c.read_piece.new.reader) c.loop-total.invariant.going c.loop-total.invariant.unflushed c.in_default.ensures.err
 
 pub returns-then-n-eq0-clause-outcome : goal.returns-then-n-eq0-clause-outcome
 returns-then-n-eq0-clause-outcome g c =
     let going = c.loop-total.invariant.going in
-    let outcome = rw c.loop-total.invariant.shape at c.finish.ensures.outcome in
-    ends_finish _ g.R.Source.hands g.met.R.Source.hands_more g.W.Sink.takes g.met.W.Sink.takes_more g.W.Sink.flushes _ _ _ _ _ _ _ _ _ _ _ (g.R.Source.is_at_end c.read_piece.new.reader) c.finish.result going c.loop-total.invariant.unflushed
+    let outcome = rw c.loop-total.invariant.shape at c.finish.ensures.outcome _ in
+    ends_finish _ _ _ g.R.Source.hands g.met.R.Source.hands_more g.W.Sink.takes g.met.W.Sink.takes_more g.W.Sink.flushes _ _ _ _ _ _ _ _ _ _ _ (g.R.Source.is_at_end c.read_piece.new.reader) c.finish.result going c.loop-total.invariant.unflushed
     c.in-Ok.ensures.bytes (ap (λ k. take k c.read_piece.new.piece) c.if-n-eq0.true) (c.in-Ok.ensures.end c.if-n-eq0.true) (outcome _ _ going.here)
 
 pub returns-in-Err-clause-outcome : goal.returns-in-Err-clause-outcome
 returns-in-Err-clause-outcome g c =
     let going = c.loop-total.invariant.going in
-    let outcome = at_shape _ _ c.loop-total.invariant.shape (g.E.Engine.state c.loop-total.engine) (g.E.Engine.state c.feed_all.new.engine) _ _ c.feed_all.new.self.bytes.items _ c.feed_all.new.self.number _ (Err c.in-Err.fault) c.in-Err.ensures.outcome in
-    ends_fed _ g.R.Source.hands g.met.R.Source.hands_more g.W.Sink.takes g.met.W.Sink.takes_more g.W.Sink.flushes _ (g.E.Engine.state c.feed_all.new.engine) _ _ _ _ _ _ _ _ c.feed_all.new.self.bytes.items _ c.feed_all.new.self.number _ _ (g.R.Source.is_at_end c.read_piece.new.reader) c.in-Err.fault going
+    let outcome = at_passes _ _ (ap (λ (s : Shape). s.passes) c.loop-total.invariant.shape) _ c.args.engine.now c.loop-total.engine c.feed_all.new.engine _ _ c.feed_all.new.self.bytes.items _ c.feed_all.new.self.number _ (Err c.in-Err.fault) c.in-Err.ensures.outcome in
+    ends_fed _ _ _ g.R.Source.hands g.met.R.Source.hands_more g.W.Sink.takes g.met.W.Sink.takes_more g.W.Sink.flushes _ c.feed_all.new.engine _ _ _ _ _ _ _ _ c.feed_all.new.self.bytes.items _ c.feed_all.new.self.number _ _ (g.R.Source.is_at_end c.read_piece.new.reader) c.in-Err.fault going
     (c.in-Err.ensures.flushes ∙ c.loop-total.invariant.unflushed)
     c.in-Ok.ensures.bytes (take-append-le c.in-Ok.n _ _ c.in-Ok.ensures.count) (outcome _ _ going.here)
 
@@ -54,32 +54,12 @@ loop-total-preserved g c = record {
       simp (length-append, length-drop) (omega arith);
   going =
       let going = c.loop-total.invariant.going in
-      let outcome = rw c.loop-total.invariant.shape at c.in_default-feed_all.ensures.outcome in
-      going_on _ g.R.Source.hands g.met.R.Source.hands_more g.W.Sink.takes g.met.W.Sink.takes_more g.W.Sink.flushes _ _ _ _ _ _ _ _ _ _ _ _ _ _ _ _ going c.in-Ok.ensures.bytes (take-append-le c.in-Ok.n _ _ c.in-Ok.ensures.count)
+      let outcome = rw c.loop-total.invariant.shape at c.in_default-feed_all.ensures.outcome _ in
+      going_on _ _ _ g.R.Source.hands g.met.R.Source.hands_more g.W.Sink.takes g.met.W.Sink.takes_more g.W.Sink.flushes _ _ _ _ _ _ _ _ _ _ _ _ _ _ _ _ going c.in-Ok.ensures.bytes (take-append-le c.in-Ok.n _ _ c.in-Ok.ensures.count)
       (length-take c.in-Ok.n c.read_piece.new.piece ∙ omega (arith, c.in-Ok.ensures.count)) (outcome _ _ going.here);
 }
-
-pub returns-then-n-eq0-clause-bad_line : goal.returns-then-n-eq0-clause-bad_line
-returns-then-n-eq0-clause-bad_line g c = λ script text n all bad working writing.
-    ends_at_bad _ g.R.Source.hands g.R.Source.is_at_end _ _ _ _ _ script all _ _ working writing text n c.finish.result (c.in-Ok.ensures.failed ∙ sym c.finish.ensures.no_read) c.finish.ensures.failed c.finish.ensures.made bad
-    (returns-then-n-eq0-clause-outcome g c)
-
-pub returns-then-n-eq0-clause-no_bad_line : goal.returns-then-n-eq0-clause-no_bad_line
-returns-then-n-eq0-clause-no_bad_line g c = λ script text all good working writing.
-    ends_well _ g.R.Source.hands g.R.Source.is_at_end _ _ _ _ _ script all _ _ working writing text c.finish.result (c.in-Ok.ensures.failed ∙ sym c.finish.ensures.no_read) c.finish.ensures.failed c.finish.ensures.made good
-    (returns-then-n-eq0-clause-outcome g c)
-
-pub returns-in-Err-clause-bad_line : goal.returns-in-Err-clause-bad_line
-returns-in-Err-clause-bad_line g c = λ script text n all bad working writing.
-    ends_at_bad _ g.R.Source.hands g.R.Source.is_at_end _ _ _ _ _ script all _ _ working writing text n (Err c.in-Err.fault) (c.in-Ok.ensures.failed ∙ sym c.in-Err.ensures.no_read) c.in-Err.ensures.failed c.in-Err.ensures.made bad
-    (returns-in-Err-clause-outcome g c)
-
-pub returns-in-Err-clause-no_bad_line : goal.returns-in-Err-clause-no_bad_line
-returns-in-Err-clause-no_bad_line g c = λ script text all good working writing.
-    ends_well _ g.R.Source.hands g.R.Source.is_at_end _ _ _ _ _ script all _ _ working writing text (Err c.in-Err.fault) (c.in-Ok.ensures.failed ∙ sym c.in-Err.ensures.no_read) c.in-Err.ensures.failed c.in-Err.ensures.made good
-    (returns-in-Err-clause-outcome g c)
 
 pub read_piece-requires-clause-replied : goal.read_piece-requires-clause-replied
 read_piece-requires-clause-replied g c =
     let going = c.loop-total.invariant.going in
-    (c.args.reader.now, c.args.writer.now, going.seen, going.told, going.came, going.went, rw (← c.loop-total.invariant.shape) at going.here)
+    (c.args.engine.now, c.args.reader.now, c.args.writer.now, going.seen, going.told, going.came, going.went, rw (← c.loop-total.invariant.shape) at going.here)

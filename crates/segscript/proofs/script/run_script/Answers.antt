@@ -3,6 +3,8 @@ use Rattle.segword.specs.declared.shape.Shape.{Shape}
 use Rattle.segmodel.specs.State.{fresh}
 use Rattle.segindex.specs.Index.{shape_of}
 use Rattle.segindex.specs.Calls.{IsNew}
+use Rattle.segscript.proofs.Endings.{at_shape, model_ends, passes_end}
+use Rattle.segscript.proofs.OneBadLine.{ends_at_bad, ends_well}
 use Rattle.segscript.proofs.script.run_script.Goals as goal
 
 pub new-requires-2 : goal.new-requires-2
@@ -10,20 +12,24 @@ new-requires-2 g c =
     let made = c.in-Ok.ensures.made in
     record { new = subst (λ (shape : Shape). IsNew shape c.in-Ok.made.0 c.in-Ok.made.1.items) (sym made.of) made }
 
-pub run-result-requires-clause-fresh : goal.run-result-requires-clause-fresh
-run-result-requires-clause-fresh g c = c.in-Ok-new.ensures.start ∙ ap fresh (sym c.in-Ok-new.ensures.shape)
-
 pub returns-clause-outcome : goal.returns-clause-outcome
 returns-clause-outcome g c =
-    let of : shape_of c.in-Ok-new.server.index.now ≡ c.args.shape = c.in-Ok-new.ensures.shape ∙ c.in-Ok.ensures.made.of in
-    rw of at c.run-result.ensures.outcome
+    let of : shape_of c.in-Ok-new.server.index.now ≡ c.args.shape = ap shape_of c.in-Ok-new.ensures.holds.0 ∙ c.in-Ok.ensures.made.of in
+    let start = c.in-Ok-new.ensures.start ∙ ap fresh c.in-Ok.ensures.made.of in
+    model_ends c.args.shape c.in-Ok-new.server of start _ _ _ _ _ c.run-result.result (at_shape c.args.shape c.in-Ok-new.server of _ _ _ _ _ c.run-result.result c.run-result.ensures.outcome)
+
+pub returns-clause-each_turn : goal.returns-clause-each_turn
+returns-clause-each_turn g c =
+    let of : shape_of c.in-Ok-new.server.index.now ≡ c.args.shape = ap shape_of c.in-Ok-new.ensures.holds.0 ∙ c.in-Ok.ensures.made.of in
+    let new : IsNew c.args.shape c.in-Ok-new.server.index.now c.in-Ok-new.server.passes.items = rw (c.in-Ok-new.ensures.holds.0, c.in-Ok-new.ensures.holds.1) c.in-Ok.ensures.made in
+    passes_end c.args.shape c.in-Ok-new.server of new _ _ _ _ _ c.run-result.result (at_shape c.args.shape c.in-Ok-new.server of _ _ _ _ _ c.run-result.result c.run-result.ensures.outcome)
 
 pub returns-clause-bad_line : goal.returns-clause-bad_line
 returns-clause-bad_line g c = λ script text n all bad reads writes made.
-    let of : shape_of c.in-Ok-new.server.index.now ≡ c.args.shape = c.in-Ok-new.ensures.shape ∙ c.in-Ok.ensures.made.of in
-    c.run-result.ensures.bad_line script text n all (rw of bad) reads writes
+    ends_at_bad c.args.shape g.R.Source.hands g.R.Source.is_at_end _ _ _ _ _ script all _ _ reads writes text n c.run-result.result c.run-result.ensures.read c.run-result.ensures.write c.run-result.ensures.made bad
+    (returns-clause-outcome g c)
 
 pub returns-clause-no_bad_line : goal.returns-clause-no_bad_line
 returns-clause-no_bad_line g c = λ script text all good reads writes made.
-    let of : shape_of c.in-Ok-new.server.index.now ≡ c.args.shape = c.in-Ok-new.ensures.shape ∙ c.in-Ok.ensures.made.of in
-    c.run-result.ensures.no_bad_line script text all (rw of good) reads writes
+    ends_well c.args.shape g.R.Source.hands g.R.Source.is_at_end _ _ _ _ _ script all _ _ reads writes text c.run-result.result c.run-result.ensures.read c.run-result.ensures.write c.run-result.ensures.made good
+    (returns-clause-outcome g c)

@@ -1,9 +1,9 @@
 use Rattle.std.proofs.Common.{◌≡◌, set, slice_get, refl, sym, ap, subst₂, ◌∙◌, arith}
 use Rattle.std.proofs.lemmas.List.{length-set}
-use Rattle.std.proofs.lemmas.Option.{slice_get_read, same_Some}
+use Rattle.std.proofs.lemmas.Option.{slice_get_read}
 use Rattle.segmodel.specs.Turns.{Turns}
 use Rattle.segindex.specs.Index.{shape_of}
-use Rattle.segscript.specs.Passes.{first_state, TakesTurn}
+use Rattle.segscript.specs.Passes.{first_state}
 use Rattle.segmodel.proofs.ListPlaces.{elsewhere}
 use Rattle.segscript.proofs.Servers.{still_in_order, set_there, first_is, first_then}
 use Rattle.segscript.proofs.server.ServerEngine.turn.Goals as goal
@@ -43,28 +43,28 @@ returns-clause-ready c =
     }
 
 pub returns-clause-turns : goal.returns-clause-turns
-returns-clause-turns c = λ one.
+returns-clause-turns c =
     let ready = c.requires.ready in
     let shape = shape_of c.args.self.now.index.now in
     let passes = c.args.self.now.passes.items in
     let p = c.index_mut.result.now in
     let at = slice_get_read passes shape.passes c.args.pass p (sym ready.all) c.requires.pass c.index_mut.ensures.value in
     let held = slice_get_read c.args.self.now.holds.items shape.passes c.args.pass c.index_mut-2.result.now (sym ready.holds) c.requires.pass c.index_mut-2.ensures.value in
-    let was = (ready.in_order c.args.pass p c.index_mut-2.result.now at held).0 in
-    let first : c.args.pass ≡ 0 = (let lt = c.requires.pass in omega arith) in
-    let at_first = ap (slice_get passes) (sym first) ∙ at in
-    let then = ap (λ n. first_state shape (set passes n c.take_turn.new.pass)) first ∙ first_then shape passes p c.take_turn.new.pass at_first in
-    subst₂ (λ old new. Turns shape old c.args.turn.now c.take_turn.result new) (sym (first_is shape passes p at_first)) (sym then) (c.take_turn.ensures.turn.alone (was.alone one)).1
-
-pub returns-clause-one : goal.returns-clause-one
-returns-clause-one c =
-    let b = c.args.self.now.index.now.board in
-    let passes = c.args.self.now.passes.items in
-    let at = slice_get_read passes b.shape.passes c.args.pass c.index_mut.result.now (sym c.requires.ready.all) c.requires.pass c.index_mut.ensures.value in
     record {
       index = refl;
-      takes = λ p q there then.
-          subst₂ (λ x y. TakesTurn b c.args.turn.now c.take_turn.result x y) (same_Some c.index_mut.result.now p (sym at ∙ there)) (same_Some c.take_turn.new.pass q (sym (set_there passes c.args.pass c.take_turn.new.pass c.index_mut.result.now at) ∙ then))
-          c.take_turn.ensures.turn;
-      others = λ other apart. (elsewhere passes c.args.pass other c.take_turn.new.pass apart, elsewhere c.args.self.now.holds.items c.args.pass other c.take_turn.new.held apart);
+      one = record {
+        before = p;
+        after = c.take_turn.new.pass;
+        was = at;
+        is = set_there passes c.args.pass c.take_turn.new.pass p at;
+        takes = c.take_turn.ensures.turn;
+        others = λ other apart. elsewhere passes c.args.pass other c.take_turn.new.pass apart;
+      };
+      holds = λ other apart. elsewhere c.args.self.now.holds.items c.args.pass other c.take_turn.new.held apart;
+      served = λ one.
+          let was = (ready.in_order c.args.pass p c.index_mut-2.result.now at held).0 in
+          let first : c.args.pass ≡ 0 = (let lt = c.requires.pass in omega arith) in
+          let at_first = ap (slice_get passes) (sym first) ∙ at in
+          let then = ap (λ n. first_state shape (set passes n c.take_turn.new.pass)) first ∙ first_then shape passes p c.take_turn.new.pass at_first in
+          subst₂ (λ old new. Turns shape old c.args.turn.now c.take_turn.result new) (sym (first_is shape passes p at_first)) (sym then) (c.take_turn.ensures.turn.alone (was.alone one)).1;
     }
