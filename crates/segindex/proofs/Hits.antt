@@ -1,24 +1,26 @@
 -- The value of a hit, read from within its segment.
-use Rattle.std.proofs.Common.{◌≡◌, ℕ, ◌<◌, List, Some, ap, ◌∙◌, subst}
+use Rattle.std.proofs.Common.{◌≡◌, ℕ, ◌<◌, List, [], ◌++◌, sym, ap, ◌∙◌, subst, append_assoc}
 use Rattle.segword.specs.Bytes.{IsKey, IsValue}
 use Rattle.segword.specs.ItemWord.{item_word}
 use Rattle.segword.specs.declared.item.Item.{Item}
 use Rattle.segmodel.specs.History.{Begins}
-use Rattle.segword.specs.declared.shape.Shape.{Shape}
 use Rattle.segcore.specs.declared.event.Event.{Event}
 use Rattle.segcore.specs.Lawful.{IsLawful}
 use Rattle.segcore.specs.Row.{Row, Holds, row_after}
-use Rattle.segcore.specs.Segment.{inside}
+use Rattle.segcore.specs.Segment.{inside, NoneRefills}
+use Rattle.segcore.proofs.Moments.{begins_on}
 use Rattle.segcore.proofs.Segments.{row_since}
 use Rattle.segbase.specs.declared.board.Board.{Board}
 use Rattle.segbase.specs.declared.pass.Pass.{Pass}
 use Rattle.segbase.specs.declared.place.Place.{Place}
-use Rattle.segbase.specs.Passes.{number, trace}
-use Rattle.segbase.proofs.Moves.{is_inside}
-use Rattle.segstore.specs.Reading.{IsReadable, IsReader, IsReaderIn, ReadsRow}
-use Rattle.segstore.specs.Linked.{segment_part, FoundItem, FoundKey}
+use Rattle.segbase.specs.Passes.{number, trace, Moved}
+use Rattle.segbase.proofs.Alone.{moved_alone}
+use Rattle.segbase.proofs.Moves.{moved_on, is_inside}
+use Rattle.segbase.proofs.Staying.{none_both}
+use Rattle.segstore.specs.Reading.{IsReadable, IsReaderIn, ReadsRow}
+use Rattle.segstore.specs.Linked.{segment_part, row_part, FoundItem, FoundKey}
 use Rattle.segstore.proofs.Readers.{looks, then_reader}
-use Rattle.segstore.proofs.Seconds.{segment_of_item, row_of_item, found_readable, found_value}
+use Rattle.segstore.proofs.Seconds.{segment_of_item, found_readable, found_value}
 use Rattle.segindex.specs.Calls.{RaisesNothing}
 use Rattle.segindex.specs.Hits.{RaisesOne}
 use Rattle.segindex.proofs.Raising.{raises_later, raises_sooner}
@@ -34,15 +36,16 @@ pub read_value : (b : Board) (p q v : Pass) (place : Place) (item : Item) (heade
     → ((k w : List ℕ) → IsKey k → IsValue w → Holds (row_after (trace v) item.seg item.row) k w → value ≡ w) → FoundItem b.shape place (item_word item) key value (trace p) (trace v)
 read_value b p q v place item header key value i f reads is = found_value b q v place item header key value (trace p) (is_inside b p q item.seg i.reads) f reads is
 
--- the row of what was found is the key's
-pub found_linked : (z : Shape) (place : Place) (item : Item) (key value : List ℕ) (h g : List Event) → FoundItem z place (item_word item) key value h g → (row_after g item.seg item.row).linked ≡ Some key
-found_linked z place item key value h g f =
-    ap (λ n. (row_after g n item.row).linked) (segment_of_item item) ∙ (ap (λ n. (row_after g (segment_part (item_word item)) n).linked) (row_of_item item) ∙ (ap (λ (r : Row). r.linked) f.still ∙ f.saw.was.linked))
-
--- and stays so while the pass is in its segment
-pub linked_later : (b : Board) (p q : Pass) (segment row : ℕ) (key : List ℕ) → IsReader b p q → 0 < inside (trace p) (number p) segment → (row_after (trace p) segment row).linked ≡ Some key → (row_after (trace q) segment row).linked ≡ Some key
-linked_later b p q segment row key i there linked = let m = i.reads.moved in
-    ap (λ h. (row_after h segment row).linked) m.goes_on ∙ (ap (λ (r : Row). r.linked) (row_since b.shape m.more (trace p) segment row key (subst (IsLawful b.shape) m.goes_on m.pass.lawful) (m.kept segment (i.reads.stays segment there)) linked) ∙ linked)
+-- what was found is so still, while the pass only looks
+pub found_on : (b : Board) (p q : Pass) (place : Place) (item : Item) (key value : List ℕ) (h : List Event) → 0 < inside (trace p) (number p) item.seg → Moved b [] p q → FoundItem b.shape place (item_word item) key value h (trace p) → FoundItem b.shape place (item_word item) key value h (trace q)
+found_on b p q place item key value h there m f =
+    let s = segment_part (item_word item) in let r = row_part (item_word item) in
+    let none : NoneRefills s m.more = subst (λ s. NoneRefills s m.more) (segment_of_item item) (m.kept item.seg there) in record {
+      saw = record { at = f.saw.at; between = (f.saw.between.0, begins_on f.saw.at (trace p) (trace q) f.saw.between.1 (moved_on b [] p q m)); was = f.saw.was };
+      kept = (m.more ++ f.kept.0, m.goes_on ∙ (ap (λ x. m.more ++ x) f.kept.1 ∙ sym (append_assoc m.more f.kept.0 f.saw.at)), none_both s m.more f.kept.0 none f.kept.2);
+      still = ap (λ g. row_after g s r) m.goes_on ∙ (row_since b.shape m.more (trace p) s r key (subst (IsLawful b.shape) m.goes_on m.pass.lawful) none (ap (λ (x : Row). x.linked) f.still ∙ f.saw.was.linked) ∙ f.still);
+      alone = λ one. moved_alone b [] p q m one ∙ f.alone one;
+    }
 
 -- ---- what a hit raises
 

@@ -1,6 +1,6 @@
 -- What a hit raises: the frequency of the key's item, by one, at a moment at which the key stands and the draw counts.
-use Rattle.std.proofs.Common.{◌≡◌, ℕ, ◌+◌, ◌<◌, Bool, true, false, cond, eqb, List, [], ◌∷◌, ◌++◌, Some, refl, sym, ap, ◌∙◌, subst, inl, inr, arith}
-use Rattle.std.proofs.lemmas.Bool.{cond-true, eq-eqb, eqb-true}
+use Rattle.std.proofs.Common.{◌≡◌, ℕ, ◌+◌, ◌<◌, ◌≤◌, Bool, true, false, cond, eqb, List, [], ◌∷◌, ◌++◌, Some, refl, sym, ap, ◌∙◌, subst, inl, inr, arith}
+use Rattle.std.proofs.lemmas.Bool.{cond-true, cond-false, eq-eqb, eqb-true, false≢true}
 use Rattle.std.proofs.lemmas.Option.{same_Some}
 use Rattle.segword.specs.declared.shape.Shape.{Shape}
 use Rattle.segword.specs.Shape.{IsValid}
@@ -23,7 +23,7 @@ use Rattle.segcore.specs.Kind.{bump}
 use Rattle.segcore.specs.Row.{Row, row_after, frequency_of}
 use Rattle.segcore.specs.Segment.{inside}
 use Rattle.segcore.specs.Standing.{cached}
-use Rattle.segcore.specs.Word.{content_word}
+use Rattle.segcore.specs.Word.{content_word, word}
 use Rattle.segcore.proofs.Entered.{no_refill}
 use Rattle.segcore.proofs.Exact.{content_at}
 use Rattle.segcore.proofs.Moments.{begins_on}
@@ -34,14 +34,15 @@ use Rattle.segpolicy.specs.Frequency.{counts, frequency_after_hit}
 use Rattle.segbase.specs.declared.board.Board.{Board}
 use Rattle.segbase.specs.declared.pass.Pass.{Pass}
 use Rattle.segbase.specs.declared.place.Place.{Place}
-use Rattle.segbase.specs.Passes.{number, trace, raised, entered, IsPassOf, Moved, Stepped}
+use Rattle.segbase.specs.Passes.{number, trace, raised, entered, IsPassOf, Moved, Did, Stepped}
 use Rattle.segbase.specs.Spots.{cell_at, position, home_bucket}
+use Rattle.segbase.proofs.Alone.{moved_alone}
 use Rattle.segbase.proofs.Moves.{moved_entered}
-use Rattle.segstore.specs.Linked.{row_part, IsChained, WasLinked}
+use Rattle.segstore.specs.Linked.{segment_part, row_part, IsChained, WasLinked, FoundItem}
 use Rattle.segstore.proofs.Words.{chained_later, stood_item}
 use Rattle.segstore.proofs.Seconds.{segment_of_item, row_of_item}
 use Rattle.segindex.specs.Calls.{RaisesNothing}
-use Rattle.segindex.specs.Hits.{HasFrequency, CountsHit, RaisesOne}
+use Rattle.segindex.specs.Hits.{HasFrequency, CountsHit, PassesHit, RaisesOne}
 use Rattle.segindex.proofs.Tries.{has_tag}
 
 -- an item whose word stands at a place is its key's, and has the word's frequency
@@ -63,15 +64,20 @@ has_frequency z h place item key value v was =
       had = frequency_marked h item.seg item.row ∙ subst (λ m. frequency_of h m item.row ≡ item.freq) es (subst (λ m. frequency_of h slot.segment m ≡ item.freq) er ef);
     }
 
+-- the row of what was found is the key's
+found_linked : (z : Shape) (place : Place) (item : Item) (key value : List ℕ) (h g : List Event) → FoundItem z place (item_word item) key value h g → (row_after g item.seg item.row).linked ≡ Some key
+found_linked z place item key value h g f =
+    ap (λ n. (row_after g n item.row).linked) (segment_of_item item) ∙ (ap (λ n. (row_after g (segment_part (item_word item)) n).linked) (row_of_item item) ∙ (ap (λ (r : Row). r.linked) f.still ∙ f.saw.was.linked))
+
 -- a frequency that the draw makes higher is one more
 one_higher : (f draw : ℕ) (t : Bool) → f < cond t (f + 1) f → (t ≡ true) × (cond t (f + 1) f ≡ f + 1)
 one_higher f draw true up = (refl, refl)
 one_higher f draw false up = absurd (omega (arith, up))
 
--- with p the pass before the exchange that came about, and q after it
-module _ (b : Board) (p q : Pass) (place : Place) (item : Item) (higher draw found : ℕ) (key : List ℕ)
-    (is : IsPassOf b p) (chained : IsChained b.shape (trace p) place) (there : 0 < inside (trace p) (number p) item.seg) (linked : (row_after (trace p) item.seg item.row).linked ≡ Some key)
-    (step : Stepped b (bump (home_bucket b.shape (trace p) place) (position b.shape (trace p) place) (cell_at b.shape place) item.tag item.seg item.row item.freq higher) found p q) (same : found ≡ item_word item)
+-- with p the pass before the exchange that came about, and q after it; h is where its call began
+module _ (b : Board) (p q : Pass) (place : Place) (item : Item) (higher draw found : ℕ) (key value : List ℕ) (h : List Event)
+    (is : IsPassOf b p) (chained : IsChained b.shape (trace p) place) (there : 0 < inside (trace p) (number p) item.seg) (saw : FoundItem b.shape place (item_word item) key value h (trace p))
+    (step : Stepped b (bump (home_bucket b.shape (trace p) place) (position b.shape (trace p) place) (cell_at b.shape place) item.tag item.seg item.row item.freq higher) found p q)
     (by : higher ≡ frequency_after_hit item.freq draw) (up : item.freq < higher) where
   abbrev at : List Event
   at = step.told.more ++ trace p
@@ -79,31 +85,79 @@ module _ (b : Board) (p q : Pass) (place : Place) (item : Item) (higher draw fou
   one : (counts item.freq draw ≡ true) × (frequency_after_hit item.freq draw ≡ item.freq + 1)
   one = one_higher item.freq draw (counts item.freq draw) (subst (λ n. item.freq < n) by up)
 
-  stood : (k : List ℕ) × (value : List ℕ) × WasLinked b.shape place (item_word item) k value (step.told.more ++ trace p)
-  stood = stood_item b.shape at place (item_word item) is.valid step.told.before (chained_later b.shape (trace p) at place step.told.before (step.told.more, refl) chained) (sym step.told.found_is ∙ same) (has_tag item)
+  module _ (same : found ≡ item_word item) where
+    stood : (k : List ℕ) × (v : List ℕ) × WasLinked b.shape place (item_word item) k v (step.told.more ++ trace p)
+    stood = stood_item b.shape at place (item_word item) is.valid step.told.before (chained_later b.shape (trace p) at place step.told.before (step.told.more, refl) chained) (sym step.told.found_is ∙ same) (has_tag item)
 
-  row_then : (row_after (step.told.more ++ trace p) item.seg item.row).linked ≡ Some key
-  row_then = ap (λ (r : Row). r.linked) (row_since b.shape step.told.more (trace p) item.seg item.row key step.told.before (no_refill b.shape step.told.more (trace p) (number p) item.seg is.one_of step.told.before step.told.others there) linked) ∙ linked
+    linked : (row_after (trace p) item.seg item.row).linked ≡ Some key
+    linked = found_linked b.shape place item key value h (trace p) saw
 
-  is_key : stood.0 ≡ key
-  is_key = same_Some stood.0 key (sym stood.2.linked ∙ (ap (λ n. (row_after at n (row_part (item_word item))).linked) (sym (segment_of_item item)) ∙ (ap (λ n. (row_after at item.seg n).linked) (sym (row_of_item item)) ∙ row_then)))
+    row_then : (row_after (step.told.more ++ trace p) item.seg item.row).linked ≡ Some key
+    row_then = ap (λ (r : Row). r.linked) (row_since b.shape step.told.more (trace p) item.seg item.row key step.told.before (no_refill b.shape step.told.more (trace p) (number p) item.seg is.one_of step.told.before step.told.others there) linked) ∙ linked
 
-  now : trace q ≡ Bumped (number p) item.seg item.row higher ∷ (step.told.more ++ trace p)
-  now = ap (λ (u : View). u.trace) step.told.now ∙ ap (λ es. es ++ at) (cond-true (eqb found (packed item.tag item.freq item.seg item.row)) (Bumped (number p) item.seg item.row higher ∷ []) [] (eq-eqb found (packed item.tag item.freq item.seg item.row) same))
+    is_key : stood.0 ≡ key
+    is_key = same_Some stood.0 key (sym stood.2.linked ∙ (ap (λ n. (row_after at n (row_part (item_word item))).linked) (sym (segment_of_item item)) ∙ (ap (λ n. (row_after at item.seg n).linked) (sym (row_of_item item)) ∙ row_then)))
 
-  pub counts_hit : CountsHit b.shape key draw (number p) (trace p) (trace q)
-  counts_hit = record {
-    at = at;
+    now : trace q ≡ Bumped (number p) item.seg item.row higher ∷ (step.told.more ++ trace p)
+    now = ap (λ (u : View). u.trace) step.told.now ∙ ap (λ es. es ++ at) (cond-true (eqb found (packed item.tag item.freq item.seg item.row)) (Bumped (number p) item.seg item.row higher ∷ []) [] (eq-eqb found (packed item.tag item.freq item.seg item.row) same))
+
+    pub counts_hit : CountsHit b.shape key draw (number p) (trace p) (trace q)
+    counts_hit = record {
+      at = at;
+      segment = item.seg;
+      row = item.row;
+      frequency = item.freq;
+      since = (step.told.more, refl);
+      had = subst (λ k. HasFrequency b.shape k item.seg item.row item.freq at) is_key (has_frequency b.shape at place item stood.0 stood.1 is.valid stood.2);
+      counted = one.0;
+      raise = ([], now ∙ ap (λ n. Bumped (number p) item.seg item.row n ∷ at) (by ∙ one.1));
+    }
+
+  -- with one pass it can't fail
+  pub comes_about : b.shape.passes ≡ 1 → eqb found (item_word item) ≡ false → Moved b [] p q → ⊥
+  comes_about single other nothing =
+      let unchanged : trace q ≡ step.told.more ++ trace p = ap (λ (u : View). u.trace) step.told.now ∙ ap (λ es. es ++ at) (cond-false (eqb found (packed item.tag item.freq item.seg item.row)) (Bumped (number p) item.seg item.row higher ∷ []) [] other) in
+      let then : step.told.more ++ trace p ≡ saw.saw.at = sym unchanged ∙ (moved_alone b [] p q nothing single ∙ saw.alone single) in
+      let same = step.told.found_is ∙ (ap (λ g. word b.shape g (cell_at b.shape place)) then ∙ saw.saw.was.stood) in
+      false≢true (sym other ∙ eq-eqb found (item_word item) same)
+
+-- an exchange that is tried once
+pub raised_by : (b : Board) (p q : Pass) (place : Place) (item : Item) (higher draw found : ℕ) (key value : List ℕ) (h : List Event) (result : Bool) → IsPassOf b p → IsChained b.shape (trace p) place → 0 < inside (trace p) (number p) item.seg
+    → FoundItem b.shape place (item_word item) key value h (trace p)
+    → Stepped b (bump (home_bucket b.shape (trace p) place) (position b.shape (trace p) place) (cell_at b.shape place) item.tag item.seg item.row item.freq higher) found p q → result ≡ eqb found (item_word item)
+    → Did b (cond result (Bumped (number p) item.seg item.row higher ∷ []) []) p q → raised q ≡ cond result 1 0 + raised p → higher ≡ frequency_after_hit item.freq draw → item.freq < higher → RaisesOne b.shape key draw p q
+raised_by b p q place item higher draw found key value h true is chained there saw step same did more by up =
+    inl (omega (arith, more), counts_hit b p q place item higher draw found key value h is chained there saw step by up (eqb-true found (item_word item) (sym same)))
+raised_by b p q place item higher draw found key value h false is chained there saw step same did more by up =
+    inr (omega (arith, more), λ single. absurd (comes_about b p q place item higher draw found key value h is chained there saw step by up single (sym same) did.moved))
+
+-- a frequency that the draw leaves
+one_lower : (f draw : ℕ) (t : Bool) → cond t (f + 1) f ≤ f → t ≡ false
+one_lower f draw true low = absurd (omega (arith, low))
+one_lower f draw false low = refl
+
+pub raised_none : (b : Board) (p : Pass) (place : Place) (item : Item) (higher draw : ℕ) (key value : List ℕ) (h : List Event) → IsPassOf b p → FoundItem b.shape place (item_word item) key value h (trace p) → higher ≡ frequency_after_hit item.freq draw → higher ≤ item.freq → RaisesOne b.shape key draw p p
+raised_none b p place item higher draw key value h is saw by low = inr (
+  refl,
+  λ single. record {
+    at = saw.saw.at;
     segment = item.seg;
     row = item.row;
     frequency = item.freq;
-    since = (step.told.more, refl);
-    had = subst (λ k. HasFrequency b.shape k item.seg item.row item.freq at) is_key (has_frequency b.shape at place item stood.0 stood.1 is.valid stood.2);
-    counted = one.0;
-    raise = ([], now ∙ ap (λ n. Bumped (number p) item.seg item.row n ∷ at) (by ∙ one.1));
-  }
+    since = ([], sym (saw.alone single));
+    until = saw.saw.between.1;
+    had = has_frequency b.shape saw.saw.at place item key value is.valid saw.saw.was;
+    uncounted = one_lower item.freq draw (counts item.freq draw) (subst (λ n. n ≤ item.freq) by low);
+  },
+)
 
--- between wider moments
+-- an exchange comes into no segment
+pub stays_out : (b : Board) (p q : Pass) (segment row frequency : ℕ) (result : Bool) → Moved b (cond result (Bumped (number p) segment row frequency ∷ []) []) p q → entered q ≡ entered p
+stays_out b p q segment row frequency true m = moved_entered b _ p q m
+stays_out b p q segment row frequency false m = moved_entered b _ p q m
+
+-- ---- one after another
+
 counts_wider : (z : Shape) (key : List ℕ) (draw n : ℕ) (h g f e : List Event) → Begins h g → Begins f e → CountsHit z key draw n g f → CountsHit z key draw n h e
 counts_wider z key draw n h g f e before after c = record {
   at = c.at;
@@ -116,22 +170,22 @@ counts_wider z key draw n h g f e before after c = record {
   raise = begins_on (Bumped n c.segment c.row (c.frequency + 1) ∷ c.at) f e c.raise after;
 }
 
--- an exchange that is tried once
-pub raised_by : (b : Board) (p q : Pass) (place : Place) (item : Item) (higher draw found : ℕ) (key : List ℕ) (result : Bool) → IsPassOf b p → IsChained b.shape (trace p) place → 0 < inside (trace p) (number p) item.seg → (row_after (trace p) item.seg item.row).linked ≡ Some key
-    → Stepped b (bump (home_bucket b.shape (trace p) place) (position b.shape (trace p) place) (cell_at b.shape place) item.tag item.seg item.row item.freq higher) found p q → result ≡ eqb found (item_word item)
-    → raised q ≡ cond result 1 0 + raised p → higher ≡ frequency_after_hit item.freq draw → item.freq < higher → RaisesOne b.shape key draw p q
-raised_by b p q place item higher draw found key true is chained there linked step same more by up = inr (omega (arith, more), counts_hit b p q place item higher draw found key is chained there linked step (eqb-true found (item_word item) (sym same)) by up)
-raised_by b p q place item higher draw found key false is chained there linked step same more by up = inl (omega (arith, more))
+passes_wider : (z : Shape) (key : List ℕ) (draw : ℕ) (h g f e : List Event) → Begins h g → Begins f e → PassesHit z key draw g f → PassesHit z key draw h e
+passes_wider z key draw h g f e before after c = record {
+  at = c.at;
+  segment = c.segment;
+  row = c.row;
+  frequency = c.frequency;
+  since = begins_on h g c.at before c.since;
+  until = begins_on c.at f e c.until after;
+  had = c.had;
+  uncounted = c.uncounted;
+}
 
 pub raises_later : (z : Shape) (key : List ℕ) (draw : ℕ) (p q r : Pass) → number q ≡ number p → Begins (trace p) (trace q) → RaisesNothing p q → RaisesOne z key draw q r → RaisesOne z key draw p r
-raises_later z key draw p q r same up none (inl i) = inl (i ∙ none)
-raises_later z key draw p q r same up none (inr i) = inr (i.0 ∙ ap (λ n. n + 1) none, subst (λ n. CountsHit z key draw n (trace p) (trace r)) same (counts_wider z key draw (number q) (trace p) (trace q) (trace r) (trace r) up ([], refl) i.1))
+raises_later z key draw p q r same up none (inl i) = inl (i.0 ∙ ap (λ n. n + 1) none, subst (λ n. CountsHit z key draw n (trace p) (trace r)) same (counts_wider z key draw (number q) (trace p) (trace q) (trace r) (trace r) up ([], refl) i.1))
+raises_later z key draw p q r same up none (inr i) = inr (i.0 ∙ none, λ single. passes_wider z key draw (trace p) (trace q) (trace r) (trace r) up ([], refl) (i.1 single))
 
 pub raises_sooner : (z : Shape) (key : List ℕ) (draw : ℕ) (p q r : Pass) → Begins (trace q) (trace r) → RaisesOne z key draw p q → RaisesNothing q r → RaisesOne z key draw p r
-raises_sooner z key draw p q r up (inl i) none = inl (none ∙ i)
-raises_sooner z key draw p q r up (inr i) none = inr (none ∙ i.0, counts_wider z key draw (number p) (trace p) (trace p) (trace q) (trace r) ([], refl) up i.1)
-
--- an exchange comes into no segment
-pub stays_out : (b : Board) (p q : Pass) (segment row frequency : ℕ) (result : Bool) → Moved b (cond result (Bumped (number p) segment row frequency ∷ []) []) p q → entered q ≡ entered p
-stays_out b p q segment row frequency true m = moved_entered b _ p q m
-stays_out b p q segment row frequency false m = moved_entered b _ p q m
+raises_sooner z key draw p q r up (inl i) none = inl (none ∙ i.0, counts_wider z key draw (number p) (trace p) (trace p) (trace q) (trace r) ([], refl) up i.1)
+raises_sooner z key draw p q r up (inr i) none = inr (none ∙ i.0, λ single. passes_wider z key draw (trace p) (trace p) (trace q) (trace r) ([], refl) up (i.1 single))

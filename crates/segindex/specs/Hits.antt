@@ -1,5 +1,5 @@
 -- What readers do beside their answers: how often they come into segments, and which frequency a hit raises.
-use Rattle.std.specs.Prelude.{◌≡◌, ◌⊎◌, ℕ, ◌+◌, ◌≤◌, true, List, ◌∷◌, Some}
+use Rattle.std.specs.Prelude.{◌≡◌, ◌⊎◌, ℕ, ◌+◌, ◌≤◌, true, false, List, ◌∷◌, Some}
 use Rattle.segword.specs.declared.shape.Shape.{Shape}
 use Rattle.segmodel.specs.declared.answer.GetAnswer.{GetAnswer}
 use Rattle.segmodel.specs.declared.answer.GetAnswer.TheVariants as get
@@ -39,9 +39,22 @@ pub record CountsHit (shape : Shape) (key : List ℕ) (draw pass : ℕ) (before 
   pub counted : counts frequency draw ≡ true
   pub raise : Begins (Bumped pass segment row (frequency + 1) ∷ at) now
 
--- it raised one frequency at most, that of the key's item, where the draw counts
+-- at a moment between two traces the key's item had a frequency at which this draw doesn't count
+pub record PassesHit (shape : Shape) (key : List ℕ) (draw : ℕ) (before now : List Event) : Type 0 where
+  pub at : List Event
+  pub segment : ℕ
+  pub row : ℕ
+  pub frequency : ℕ
+  pub since : Begins before at
+  pub until : Begins at now
+  pub had : HasFrequency shape key segment row frequency at
+  pub uncounted : counts frequency draw ≡ false
+
+-- It raised the frequency of the key's item by one, where the draw counts, or nothing. With one pass it raises nothing only where the draw doesn't count; with several another may have been quicker.
 abbrev pub RaisesOne : Shape → List ℕ → ℕ → Pass → Pass → Type 0
-RaisesOne shape key draw p q = RaisesNothing p q ⊎ ((raised q ≡ raised p + 1) × CountsHit shape key draw (number p) (trace p) (trace q))
+RaisesOne shape key draw p q =
+    ((raised q ≡ raised p + 1) × CountsHit shape key draw (number p) (trace p) (trace q))
+    ⊎ (RaisesNothing p q × (shape.passes ≡ 1 → PassesHit shape key draw (trace p) (trace q)))
 
 -- only a hit raises a frequency
 abbrev pub GetRaises : Shape → List ℕ → ℕ → GetAnswer → Pass → Pass → Type 0

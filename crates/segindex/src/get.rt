@@ -9,12 +9,13 @@ use segstore::{leave_segment, value_of_row};
 use segword::{Item, Key};
 
 impl Index {
-    ghost use Rattle.std.specs.Prelude.{◌≡◌, ◌<◌, ℕ, List, Some};
-    ghost use Rattle.segcore.specs.Row.{row_after};
+    ghost use Rattle.std.specs.Prelude.{◌≡◌, ◌<◌, ℕ, List};
+    ghost use Rattle.segword.specs.ItemWord.{item_word};
+    ghost use Rattle.segcore.specs.declared.event.Event.{Event};
     ghost use Rattle.segcore.specs.Segment.{inside};
     ghost use Rattle.segbase.specs.Passes.{number, trace, seen, entered, IsPassOf};
     ghost use Rattle.segstore.specs.Reading.{IsReader};
-    ghost use Rattle.segstore.specs.Linked.{IsChained};
+    ghost use Rattle.segstore.specs.Linked.{IsChained, FoundItem};
     ghost use Rattle.segindex.specs.Index.{board_of, shape_of};
     ghost use Rattle.segindex.specs.Quiet.{IsQuiet};
     ghost use Rattle.segindex.specs.Calls.{GoesOn, ChangesNothing, TakesNoBit, DrawsNothing};
@@ -50,7 +51,7 @@ impl Index {
         requires place { IsChained (shape_of self.now) (trace pass.old) place }
         ensures reads { IsReader (board_of self.now) pass.old pass.new }
         ensures stays_out { entered pass.new ≡ entered pass.old }
-        ensures raises { (key : List ℕ) → 0 < inside (trace pass.old) (number pass.old) item.seg → (row_after (trace pass.old) item.seg item.row).linked ≡ Some key → RaisesOne (shape_of self.now) key draw pass.old pass.new }
+        ensures raises { (key value : List ℕ) (before : List Event) → 0 < inside (trace pass.old) (number pass.old) item.seg → FoundItem (shape_of self.now) place (item_word item) key value before (trace pass.old) → RaisesOne (shape_of self.now) key draw pass.old pass.new }
     {
         let mut hit = item;
         hit.freq = next_frequency(item.freq, draw);

@@ -15,6 +15,7 @@ use Rattle.segbase.specs.declared.pass.Pass.{Pass}
 use Rattle.segbase.specs.declared.place.Place.{Place}
 use Rattle.segbase.specs.Passes.{number, trace, Did, Stepped}
 use Rattle.segcore.proofs.Moments.{begins_on}
+use Rattle.segbase.proofs.Alone.{moved_alone}
 use Rattle.segbase.proofs.Moves.{moved_inside, moved_on}
 use Rattle.segbase.proofs.Staying.{none_both}
 use Rattle.segcore.specs.Kind.{look}
@@ -76,6 +77,7 @@ found_item b p q t place item key value d was entered reads = let m = reads.look
   saw = saw_item b p q t place (item_word item) key value d reads.looked was;
   kept = (m.more, m.goes_on, subst (λ s. NoneRefills s m.more) (segment_of_item item) (m.kept item.seg entered));
   still = sym (same_names item (trace t)) ∙ (reads.same ∙ same_names item (trace q));
+  alone = moved_alone b [] q t m;
 }
 
 -- by other names
@@ -109,4 +111,5 @@ found_value b p q place item header key value h there f reads is =
       saw = record { at = saw.at; between = (saw.between.0, begins_on saw.at (trace p) (trace q) saw.between.1 (moved_on b [] p q m)); was = saw.was };
       kept = (m.more ++ f.found.kept.0, m.goes_on ∙ (ap (λ x. m.more ++ x) f.found.kept.1 ∙ sym (append_assoc m.more f.found.kept.0 saw.at)), none_both (segment_part (item_word item)) m.more f.found.kept.0 (subst (λ s. NoneRefills s m.more) (segment_of_item item) (m.kept item.seg there)) f.found.kept.2);
       still = sym (same_names item (trace q)) ∙ (reads.same ∙ (same_names item (trace p) ∙ f.found.still));
+      alone = λ one. moved_alone b [] p q m one ∙ f.found.alone one;
     })

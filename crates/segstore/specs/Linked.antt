@@ -68,6 +68,8 @@ pub record FoundItem (shape : Shape) (place : Place) (word : ℕ) (key value : L
   pub saw : SawItem shape place word key value before now
   pub kept : (more : List Event) × (now ≡ more ++ saw.at) × NoneRefills (segment_part word) more
   pub still : row_after now (segment_part word) (row_part word) ≡ row_after saw.at (segment_part word) (row_part word)
+  -- with one pass nothing has happened since
+  pub alone : shape.passes ≡ 1 → now ≡ saw.at
 
 -- The key's item was found, and its value is the row's: this is word 0 of it.
 pub record FoundKey (shape : Shape) (place : Place) (item : Item) (header : ℕ) (key : List ℕ) (before now : List Event) : Type 0 where

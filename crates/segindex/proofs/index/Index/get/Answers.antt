@@ -6,7 +6,7 @@ use Rattle.segstore.proofs.Readers.{then_reader, leave_then}
 use Rattle.segindex.specs.Index.{board_of, shape_of}
 use Rattle.segindex.proofs.Draws.{reader_draws_none}
 use Rattle.segindex.proofs.ComingIn.{looked, leaves, tries_out}
-use Rattle.segindex.proofs.Hits.{hit_readable, read_in, read_value, found_linked, hit_raises}
+use Rattle.segindex.proofs.Hits.{hit_readable, read_in, read_value, hit_raises}
 use Rattle.segindex.proofs.Reading.{read_on}
 use Rattle.segindex.proofs.Gets.{found_reads, gone_reads, found_place, reads_no_bit}
 use Rattle.segcore.proofs.Moments.{begins_on}
@@ -101,7 +101,7 @@ returns-in-Found-clause-raises c = let b = board_of c.args.self.now in let p = c
     let found = read_value b p q v.new.pass hit.place hit.item hit.header c.args.key.now v.result f.ensures.reads f.ensures.scan v.ensures.reads v.ensures.value in
     hit_raises b c.args.key.now c.args.draw p v.new.pass t r read.reads.moved.same (moved_on b _ p v.new.pass read.reads.moved) (moved_on b _ t r c.leave_segment.ensures.moved)
     (tries_out 28 0 63 p q v.new.pass f.ensures.tries (looked b q v.new.pass v.ensures.reads.looked.did.moved)).raises_nothing
-    (c.count_hit.ensures.raises c.args.key.now (is_inside b p v.new.pass hit.item.seg read.reads) (found_linked b.shape hit.place hit.item c.args.key.now v.result (trace p) (trace v.new.pass) found))
+    (c.count_hit.ensures.raises c.args.key.now v.result (trace p) (is_inside b p v.new.pass hit.item.seg read.reads) found)
     (leaves b hit.item.seg t r c.leave_segment.ensures.moved).1
 
 pub returns-in-Absent-clause-tries : goal.returns-in-Absent-clause-tries

@@ -18,7 +18,7 @@ use Rattle.segindex.proofs.Tries.{saw_now, word_wider, passed_other}
 use Rattle.segindex.proofs.Gets.{found_place}
 use Rattle.segindex.proofs.Disturbing.{still_no_bit, glances_grow, set_reads, clear_reads}
 use Rattle.segindex.proofs.ComingIn.{leaves, try_out, looked_again}
-use Rattle.segindex.proofs.Hits.{hit_readable, read_in, read_value, found_linked, linked_later, hit_raises}
+use Rattle.segindex.proofs.Hits.{hit_readable, read_in, read_value, found_on, hit_raises}
 use Rattle.segindex.proofs.OneMoment.{same_as, one_moment}
 use Rattle.segindex.proofs.index.Index.try_version.Goals as goal
 
@@ -151,10 +151,11 @@ returns-else-not-same_item-clause-raises c = let b = board_of c.args.self.now in
     let since = reader_then b q g.new.pass l.new.pass i.0 (looks b g.new.pass l.new.pass (looked_at b g.new.pass l.new.pass c.args.place l.result l.ensures.step)) in
     let at = then_reader b p q l.new.pass item.seg x since in
     let found = read_value b p c.try_item.new.pass q c.args.place item c.in-Same.header c.args.key.now v.result tried.reads tried.keyed.1 v.ensures.reads v.ensures.value in
-    let linked = linked_later b q l.new.pass item.seg item.row c.args.key.now since (is_inside b p q item.seg x.reads) (found_linked b.shape c.args.place item c.args.key.now v.result (trace p) (trace q) found) in
+    let there = is_inside b p q item.seg x.reads in let still = is_inside b p g.new.pass item.seg (then_reader b p q g.new.pass item.seg x i.0).reads in
+    let again = found_on b g.new.pass l.new.pass c.args.place item c.args.key.now v.result (trace p) still l.ensures.did.moved (found_on b q g.new.pass c.args.place item c.args.key.now v.result (trace p) there (g.ensures.glances.0 c.if-info.false).0.moved found) in
     hit_raises b c.args.key.now c.args.draw p l.new.pass t u.new.pass at.reads.moved.same (moved_on b _ p l.new.pass at.reads.moved) (moved_on b _ t u.new.pass u.ensures.moved)
     (looked_again b c.args.home g.result p c.try_item.new.pass q g.new.pass l.new.pass tried.once v.ensures.reads.looked.did.moved g.ensures.glances l.ensures.did.moved).1
-    (c.count_hit.ensures.raises c.args.key.now (is_inside b p l.new.pass item.seg at.reads) linked)
+    (c.count_hit.ensures.raises c.args.key.now v.result (trace p) (is_inside b p l.new.pass item.seg at.reads) again)
     (leaves b item.seg t u.new.pass u.ensures.moved).1
 
 pub returns-in-Other-clause-once : goal.returns-in-Other-clause-once
