@@ -1,7 +1,8 @@
 //! A reader and a writer over memory, which fail where they are told to.
-ghost use Rattle.std.specs.Prelude.{◌≡◌, ◌+◌, ◌<◌, ◌≤◌, ◌++◌, [], false, vec_len, IfOk, refl};
+ghost use Rattle.std.specs.Prelude.{◌≡◌, ◌+◌, ◌-◌, ◌^◌, ◌%◌, ◌<◌, ◌≤◌, ◌||◌, ◌++◌, [], false, vec_len, length, take, min, None, IfOk, OnErr, is_err, refl};
 ghost use Rattle.std.specs.Vec.{vec_capacity};
-ghost use Rattle.segscript.specs.Memory.{hands_more, takes_more, takes_none};
+ghost use Rattle.segscript.specs.Device.{took_nothing};
+ghost use Rattle.segscript.specs.Memory.{hands_more, takes_more, takes_none, is_spent, handed, good_after, when_full};
 
 use crate::device::{Failed, Sink, Source};
 use std::alloc::{AllocError, Global};
@@ -23,6 +24,7 @@ impl<'a> MemSource<'a> {
     /// A reader of these bytes, which hands out as many at a time as are asked for, and doesn't fail.
     pub fn new(bytes: &'a [u8]) -> MemSource<'a>
         ensures bytes { result.left.now ≡ bytes.now }
+        ensures all { (result.step ≡ 2 ^ 64 - 1) × (result.good ≡ None) }
         ensures works { result.failed ≡ false }
     {
         MemSource {
@@ -41,7 +43,21 @@ impl<'a> Source for MemSource<'a> {
 
     ghost has_failed = { λ s. s.failed };
 
-    fn read(&mut self, buffer: &mut [u8]) -> Result<usize, Failed> {
+    fn read(&mut self, buffer: &mut [u8]) -> Result<usize, Failed>
+        requires works { self.old.failed ≡ false }
+        requires room { 0 < length buffer.old }
+        ensures count { IfOk result (λ n. n ≤ length buffer.new) }
+        ensures bytes { IfOk result (λ n. self.old.left.now ≡ take n buffer.new ++ self.new.left.now) }
+        ensures end { IfOk result (λ n. n ≡ 0 → self.new.left.now ≡ []) }
+        ensures err { OnErr result (self.old.left.now ≡ [] ++ self.new.left.now) }
+        ensures failed { self.new.failed ≡ is_err result }
+
+        // It fails where it was told to, and else hands out as many bytes as it may.
+        ensures fails { is_err result ≡ is_spent self.old.good }
+        ensures handed { IfOk result (λ n. n ≡ handed self.old.good self.old.step (length self.old.left.now) (length buffer.old)) }
+        ensures good { IfOk result (λ n. self.new.good ≡ good_after self.old.good n) }
+        ensures same { self.new.step ≡ self.old.step }
+    {
         let mut n = self.step.min(self.left.len()).min(buffer.len());
         if let Some(good) = self.good {
             if good == 0 {
@@ -94,6 +110,8 @@ impl MemSink {
     pub fn new(alloc: Global, room: usize) -> Result<MemSink, AllocError>
         ensures empty { IfOk result (λ sink. sink.taken.items ≡ []) }
         ensures room { IfOk result (λ sink. sink.room ≡ room) }
+        ensures all { IfOk result (λ sink. sink.step ≡ 2 ^ 64 - 1) }
+        ensures flushes { IfOk result (λ sink. (sink.flush_fails ≡ false) × (sink.flushes ≡ 0)) }
         ensures works { IfOk result (λ sink. sink.failed ≡ false) }
     {
         Ok(MemSink {
@@ -115,7 +133,21 @@ impl Sink for MemSink {
 
     ghost flushes = { λ s. s.flushes };
 
-    fn write(&mut self, bytes: &[u8]) -> Result<usize, Failed> {
+    fn write(&mut self, bytes: &[u8]) -> Result<usize, Failed>
+        requires works { self.old.failed ≡ false }
+        requires some { 0 < length bytes.now }
+        ensures count { IfOk result (λ n. n ≤ length bytes.now) }
+        ensures bytes { IfOk result (λ n. self.new.taken.items ≡ self.old.taken.items ++ take n bytes.now) }
+        ensures err { OnErr result (self.new.taken.items ≡ self.old.taken.items ++ []) }
+        ensures failed { self.new.failed ≡ took_nothing result }
+        ensures flushes { self.new.flushes ≡ self.old.flushes }
+
+        // It takes as many bytes as it may; where that is none, it does as it was told to.
+        ensures full { self.old.room ≡ 0 → when_full self.old.when_full result }
+        ensures takes { 0 < self.old.room → result ≡ Ok (min (min self.old.step self.old.room) (length bytes.now)) }
+        ensures room { IfOk result (λ n. self.new.room + n ≡ self.old.room) }
+        ensures same { (self.new.step ≡ self.old.step) × (self.new.when_full ≡ self.old.when_full) × (self.new.flush_fails ≡ self.old.flush_fails) }
+    {
         let n = self.step.min(self.room).min(bytes.len());
         if n == 0 {
             self.failed = true;
@@ -131,7 +163,13 @@ impl Sink for MemSink {
         Ok(n)
     }
 
-    fn flush(&mut self) -> Result<(), Failed> {
+    fn flush(&mut self) -> Result<(), Failed>
+        ensures bytes { self.new.taken.items ≡ self.old.taken.items ++ [] }
+        ensures failed { self.new.failed ≡ (self.old.failed || is_err result) }
+        ensures flushes { self.new.flushes ≡ (self.old.flushes + 1) % 2 ^ 64 }
+        ensures fails { is_err result ≡ self.old.flush_fails }
+        ensures same { (self.new.room ≡ self.old.room) × (self.new.step ≡ self.old.step) × (self.new.when_full ≡ self.old.when_full) × (self.new.flush_fails ≡ self.old.flush_fails) }
+    {
         self.flushes = self.flushes.wrapping_add(1);
         if self.flush_fails {
             self.failed = true;
