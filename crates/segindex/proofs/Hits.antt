@@ -17,9 +17,9 @@ use Rattle.segbase.specs.Passes.{number, trace, Moved}
 use Rattle.segbase.proofs.Alone.{moved_alone}
 use Rattle.segbase.proofs.Moves.{moved_on, is_inside}
 use Rattle.segbase.proofs.Staying.{none_both}
-use Rattle.segstore.specs.Reading.{IsReadable, IsReaderIn, ReadsRow}
+use Rattle.segstore.specs.Reading.{IsReadable, IsReader, IsReaderIn, ReadsRow, Leaves}
 use Rattle.segstore.specs.Linked.{segment_part, row_part, FoundItem, FoundKey}
-use Rattle.segstore.proofs.Readers.{looks, then_reader}
+use Rattle.segstore.proofs.Readers.{looks, then_reader, leave_then}
 use Rattle.segstore.proofs.Seconds.{segment_of_item, found_readable, found_value}
 use Rattle.segindex.specs.Calls.{RaisesNothing}
 use Rattle.segindex.specs.Hits.{RaisesOne}
@@ -31,6 +31,10 @@ hit_readable b p q place item header key i f = found_readable b q place item hea
 
 pub read_in : (b : Board) (p q v : Pass) (s r : ℕ) → IsReaderIn b p q s → ReadsRow b q v s r → IsReaderIn b p v s
 read_in b p q v s r i reads = then_reader b p q v s i (looks b q v reads.looked)
+
+-- the whole way of a hit: its value is read, it is counted, and the segment left
+pub read_and_left : (b : Board) (p q v t r : Pass) (segment row : ℕ) → IsReaderIn b p q segment → ReadsRow b q v segment row → IsReader b v t → Leaves b t r segment → IsReader b p r
+read_and_left b p q v t r segment row i reads counted out = leave_then b p t r segment (then_reader b p v t segment (read_in b p q v segment row i reads) counted) out
 
 pub read_value : (b : Board) (p q v : Pass) (place : Place) (item : Item) (header : ℕ) (key value : List ℕ) → IsReaderIn b p q item.seg → FoundKey b.shape place item header key (trace p) (trace q) → ReadsRow b q v item.seg item.row
     → ((k w : List ℕ) → IsKey k → IsValue w → Holds (row_after (trace v) item.seg item.row) k w → value ≡ w) → FoundItem b.shape place (item_word item) key value (trace p) (trace v)

@@ -2,11 +2,11 @@ use Rattle.std.proofs.Common.{arith}
 use Rattle.segword.specs.ItemWord.{item_word}
 use Rattle.segbase.specs.Passes.{trace}
 use Rattle.segbase.proofs.Moves.{moved_on, is_inside}
-use Rattle.segstore.proofs.Readers.{then_reader, leave_then}
+use Rattle.segstore.proofs.Readers.{then_reader}
 use Rattle.segindex.specs.Index.{board_of, shape_of}
 use Rattle.segindex.proofs.Draws.{reader_draws_none}
 use Rattle.segindex.proofs.ComingIn.{looked, leaves, tries_out}
-use Rattle.segindex.proofs.Hits.{hit_readable, read_in, read_value, hit_raises}
+use Rattle.segindex.proofs.Hits.{hit_readable, read_in, read_and_left, read_value, hit_raises}
 use Rattle.segindex.proofs.Reading.{read_on}
 use Rattle.segindex.proofs.Gets.{found_reads, gone_reads, found_place, reads_no_bit}
 use Rattle.segcore.proofs.Moments.{begins_on}
@@ -31,23 +31,17 @@ leave_segment-requires-clause-inside c = let b = board_of c.args.self.now in let
 
 pub returns-in-Found-clause-on : goal.returns-in-Found-clause-on
 returns-in-Found-clause-on c = let b = board_of c.args.self.now in let p = c.args.pass.now in let f = c.in-Found in let hit = f.hit in let v = c.value_of_row-value in let r = c.leave_segment.new.pass in
-    let read = read_in b p c.scan_for.new.pass v.new.pass hit.item.seg hit.item.row f.ensures.reads v.ensures.reads in
-    let in' = then_reader b p v.new.pass c.count_hit.new.pass hit.item.seg read c.count_hit.ensures.reads in
-    let out = leave_then b p c.count_hit.new.pass r hit.item.seg in' c.leave_segment.ensures in
+    let out = read_and_left b p c.scan_for.new.pass v.new.pass c.count_hit.new.pass r hit.item.seg hit.item.row f.ensures.reads v.ensures.reads c.count_hit.ensures.reads c.leave_segment.ensures in
     (read_on b p r c.requires.pass out.reads out.plain out.memo).0
 
 pub returns-in-Found-clause-keeps : goal.returns-in-Found-clause-keeps
 returns-in-Found-clause-keeps c = let b = board_of c.args.self.now in let p = c.args.pass.now in let f = c.in-Found in let hit = f.hit in let v = c.value_of_row-value in let r = c.leave_segment.new.pass in
-    let read = read_in b p c.scan_for.new.pass v.new.pass hit.item.seg hit.item.row f.ensures.reads v.ensures.reads in
-    let in' = then_reader b p v.new.pass c.count_hit.new.pass hit.item.seg read c.count_hit.ensures.reads in
-    let out = leave_then b p c.count_hit.new.pass r hit.item.seg in' c.leave_segment.ensures in
+    let out = read_and_left b p c.scan_for.new.pass v.new.pass c.count_hit.new.pass r hit.item.seg hit.item.row f.ensures.reads v.ensures.reads c.count_hit.ensures.reads c.leave_segment.ensures in
     (read_on b p r c.requires.pass out.reads out.plain out.memo).1
 
 pub returns-in-Found-clause-takes_no_bit : goal.returns-in-Found-clause-takes_no_bit
 returns-in-Found-clause-takes_no_bit c = let b = board_of c.args.self.now in let p = c.args.pass.now in let f = c.in-Found in let hit = f.hit in let v = c.value_of_row-value in let r = c.leave_segment.new.pass in
-    let read = read_in b p c.scan_for.new.pass v.new.pass hit.item.seg hit.item.row f.ensures.reads v.ensures.reads in
-    let in' = then_reader b p v.new.pass c.count_hit.new.pass hit.item.seg read c.count_hit.ensures.reads in
-    let out = leave_then b p c.count_hit.new.pass r hit.item.seg in' c.leave_segment.ensures in
+    let out = read_and_left b p c.scan_for.new.pass v.new.pass c.count_hit.new.pass r hit.item.seg hit.item.row f.ensures.reads v.ensures.reads c.count_hit.ensures.reads c.leave_segment.ensures in
     reads_no_bit b p r out
 
 pub returns-in-Found-clause-answer : goal.returns-in-Found-clause-answer
@@ -79,9 +73,7 @@ returns-in-Busy-clause-takes_no_bit c = reads_no_bit (board_of c.args.self.now) 
 
 pub returns-in-Found-clause-draws_nothing : goal.returns-in-Found-clause-draws_nothing
 returns-in-Found-clause-draws_nothing c = let b = board_of c.args.self.now in let p = c.args.pass.now in let f = c.in-Found in let hit = f.hit in let v = c.value_of_row-value in let r = c.leave_segment.new.pass in
-    let read = read_in b p c.scan_for.new.pass v.new.pass hit.item.seg hit.item.row f.ensures.reads v.ensures.reads in
-    let in' = then_reader b p v.new.pass c.count_hit.new.pass hit.item.seg read c.count_hit.ensures.reads in
-    let out = leave_then b p c.count_hit.new.pass r hit.item.seg in' c.leave_segment.ensures in
+    let out = read_and_left b p c.scan_for.new.pass v.new.pass c.count_hit.new.pass r hit.item.seg hit.item.row f.ensures.reads v.ensures.reads c.count_hit.ensures.reads c.leave_segment.ensures in
     reader_draws_none b p r out.reads
 
 pub returns-in-Absent-clause-draws_nothing : goal.returns-in-Absent-clause-draws_nothing
