@@ -66,6 +66,54 @@ fn passes_work_at_the_same_time(rt: HostRuntime) -> Result<(), Fail> {
     Ok(())
 }
 
+// It lets the commands of two passes through in turn, each only once the one before it was answered.
+#[derive(Drop)]
+struct InTurn {
+    answered: AtomicU64,
+}
+
+impl Gate for InTurn {
+    fn enter(&self, pass: u32, call: u32) -> bool {
+        let turn = 2 * u64::from(call) + u64::from(pass);
+        for _ in 0..TURNS {
+            if self.answered.load(SeqCst) == turn {
+                return true;
+            }
+        }
+        false
+    }
+
+    fn answered(&self, _pass: u32, _call: u32) {
+        self.answered.fetch_add(1, SeqCst);
+    }
+}
+
+// A gate that heard of an answer before the command was made would let both run at once, and the two loads would differ.
+#[test]
+fn passes_that_take_turns_count_the_same_each_time(rt: HostRuntime) -> Result<(), Fail> {
+    let shape = Shape {
+        buckets: 1,
+        overflow: 3,
+        passes: 2,
+        segments_each: 2,
+        rows: 16,
+        first_version: 0,
+    };
+    let gate = InTurn {
+        answered: AtomicU64::new(0),
+    };
+    let first = run_load(&rt, rt.alloc(), shape, 1, 2000, &gate)?;
+    let gate = InTurn {
+        answered: AtomicU64::new(0),
+    };
+    let second = run_load(&rt, rt.alloc(), shape, 1, 2000, &gate)?;
+    assert_eq!(rt; first, second);
+    for totals in first.passes.iter() {
+        assert_eq!(rt; totals.tallies.busy, 0);
+    }
+    Ok(())
+}
+
 const PASSES: usize = 4;
 
 const COMMANDS: u32 = 200;
