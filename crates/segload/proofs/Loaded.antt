@@ -58,7 +58,7 @@ stopped_first b may_answer commands workers pass valid worked first =
     let within = slice_get_within workers first.place first.worker first.there in record {
       valid = valid;
       one_of = numbered b may_answer commands first.place first.worker pass done first.of;
-      stops = subst (Stops may_answer commands) (sym is) (done.stopped first.stopped);
+      stops = subst (Stops may_answer commands) (sym is) (done.stopped first.stopped).0;
       lowest = λ lower below. let there = slice_get-get_or workers lower first.worker (omega (arith, is, below, within)) in
           (worked lower _ there).let_through (first.first lower _ (omega (arith, is, below)) there);
     }

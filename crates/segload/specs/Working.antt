@@ -46,13 +46,13 @@ pub record IsAtWork (b : Board) (worker : Worker) : Type 0 where
   pub quiet : IsQuiet b worker.client.pass
   pub counts : CountsReplies worker.tallies (mine worker.client.pass)
 
--- the pass of this number made all its commands, each of which the gate let through, unless the gate stopped it before one of them
+-- the pass of this number made all its commands, each of which the gate let through, unless the gate stopped it before one of them: then it made those before that one
 pub record HasWorked (b : Board) (may_answer : ℕ → ℕ → Bool → Type 0) (pass commands : ℕ) (worker : Worker) : Type 0 where
   pub at_work : IsAtWork b worker
   pub is : number worker.client.pass ≡ pass
   pub all : worker.is_stopped ≡ false → all_of worker.tallies ≡ commands
   pub let_through : worker.is_stopped ≡ false → LetsThrough may_answer commands pass
-  pub stopped : worker.is_stopped ≡ true → Stops may_answer commands pass
+  pub stopped : worker.is_stopped ≡ true → (stops : Stops may_answer commands pass) × (all_of worker.tallies ≡ stops.call)
 
 -- a pass that begins its load
 pub record Begins (b : Board) (pass : ℕ) (worker : Worker) : Type 0 where

@@ -1,5 +1,7 @@
-use Rattle.std.proofs.Common.{rules, true, sym, subst, ◌∙◌, below_more}
-use Rattle.segbase.specs.Passes.{mine}
+use Rattle.std.proofs.Common.{rules, ◌≡◌, true, false, sym, subst, ◌∙◌, below_more}
+use Rattle.std.proofs.lemmas.Bool.{true≢false}
+use Rattle.segbase.specs.Passes.{number, mine}
+use Rattle.segload.specs.Gates.{LetsThrough}
 use Rattle.segload.specs.Counting.{CountsReplies}
 use Rattle.segload.proofs.worker.Worker.work.Goals as goal
 
@@ -15,3 +17,23 @@ loop-call-preserved g c = let was = c.loop-call.invariant in let served = c.serv
       (subst (g.G.Gate.may_answer c.args.gate.now c.number-pass.result c.loop-call.call) c.if-not-enter.false c.enter.ensures);
   runs = was.runs;
 }
+
+pub returns-then-not-enter : goal.returns-then-not-enter
+returns-then-not-enter g c =
+    let was = c.loop-call.invariant in
+    let pass : c.number-pass.result ≡ number c.args.self.client.pass = c.number-pass.ensures ∙ c.requires.begins.at_work.quiet.pass.numbered in
+    record {
+      at_work = record { quiet = was.at_work.quiet; counts = was.at_work.counts };
+      is = was.same;
+      all = λ runs. absurd (true≢false runs);
+      let_through = λ runs. absurd (true≢false runs);
+      stopped = λ is. (
+        record {
+          call = c.loop-call.call;
+          below = c.loop-call-test.true;
+          until = subst (LetsThrough (g.G.Gate.may_answer c.args.gate.now) c.loop-call.call) pass was.let_through;
+          stopped = subst (λ n. g.G.Gate.may_answer c.args.gate.now n c.loop-call.call false) pass (subst (g.G.Gate.may_answer c.args.gate.now c.number-pass.result c.loop-call.call) c.if-not-enter.true c.enter.ensures);
+        },
+        was.all,
+      );
+    }
