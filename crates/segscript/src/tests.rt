@@ -9,6 +9,7 @@ mod locking;
 mod making;
 mod order;
 mod serving;
+mod standard;
 mod writing;
 
 ghost use Rattle.std.specs.Prelude.{◌≡◌, false};
