@@ -1,28 +1,27 @@
--- What an answered command adds to the tallies, and to the entries of its pass.
-use Rattle.std.proofs.Common.{◌≡◌, ℕ, List, [], ◌∷◌, ◌++◌, Option, Some, None, refl, sym, ap, ◌∙◌, subst, inl, inr, zero-add, arith}
+-- What is counted of a command, by the entries that it added.
+use Rattle.std.proofs.Common.{◌≡◌, ◌⊎◌, ℕ, zero, suc, List, [], ◌∷◌, ◌++◌, Option, Some, None, refl, sym, ap, ◌∙◌, subst, inl, inr, zero-add, arith}
 use Rattle.segmodel.proofs.Counts.{count_by-cons}
 use Rattle.segmodel.specs.declared.request.Request.{Request}
+use Rattle.segmodel.specs.declared.request.Request.TheVariants as request
 use Rattle.segmodel.specs.declared.request.Reply.{Reply}
 use Rattle.segmodel.specs.declared.request.Reply.TheVariants as reply
 use Rattle.segmodel.specs.declared.entry.Entry.{Entry}
 use Rattle.segmodel.specs.declared.entry.Entry.TheVariants.{Wrote, Evicted, Refilled}
-use Rattle.segmodel.specs.declared.answer.WriteAnswer.{WriteAnswer}
-use Rattle.segmodel.specs.declared.answer.WriteAnswer.TheVariants as write
-use Rattle.segmodel.specs.declared.answer.EvictAnswer.{EvictAnswer}
-use Rattle.segmodel.specs.declared.answer.EvictAnswer.TheVariants as evict
-use Rattle.segmodel.specs.declared.answer.RefillAnswer.{RefillAnswer}
-use Rattle.segmodel.specs.declared.answer.RefillAnswer.TheVariants as refill
 use Rattle.segword.specs.declared.shape.Shape.{Shape}
-use Rattle.segbase.specs.declared.board.Board.{Board}
-use Rattle.segbase.specs.declared.pass.Pass.{Pass}
-use Rattle.segbase.specs.Passes.{number, mine}
-use Rattle.segindex.specs.Answers.{Writes, IsRefillAnswer}
-use Rattle.segindex.specs.Evicting.{AreEvictions, TakesOut, IsEvictAnswer}
+use Rattle.segindex.specs.Evicting.{AreEvictions}
+use Rattle.segpolicy.specs.declared.load.Kind.{Kind}
+use Rattle.segpolicy.specs.declared.load.Kind.TheVariants as kind
+use Rattle.segpolicy.specs.declared.load.Load.{Load}
+use Rattle.segpolicy.specs.Draws.{Draws, next_load}
 use Rattle.segload.specs.declared.totals.Tally.{Tally}
 use Rattle.segload.specs.declared.totals.Tally.TheVariants as tally
 use Rattle.segload.specs.declared.totals.Tallies.{Tallies}
-use Rattle.segload.specs.Counting.{tally_of, counted, tells, replies}
-use Rattle.segload.specs.Working.{write_tally, TellsNothing, Tells}
+use Rattle.segload.specs.Counting.{no_tallies, tally_of, counted, tells, replies, CountsReplies}
+use Rattle.segload.specs.Making.{IsReadAs, IsWrittenAs, GivesUp, IsStoredAs, CameTo, draws_after, Makes}
+
+-- tallies that counted the writes among the entries before count those among the entries now, with one command more
+abbrev Counts : Tally → List Entry → List Entry → Type 0
+Counts counted_as before now = (t : Tallies) → CountsReplies t before → CountsReplies (counted counted_as t) now
 
 -- how a reply is counted
 reply_tally : Reply → Tally
@@ -62,12 +61,20 @@ replied_more reply.Deleted reply.Exists n request segment own t h = omega (arith
 replied_more reply.Deleted reply.NotFound n request segment own t h = omega (arith, h, count_by-cons (tells reply.NotFound) (Wrote n request reply.Deleted segment) own)
 replied_more reply.Deleted reply.Deleted n request segment own t h = omega (arith, h, count_by-cons (tells reply.Deleted) (Wrote n request reply.Deleted segment) own)
 
-replied : (said : Reply) (n : ℕ) (request : Request) (segment : Option ℕ) (p q : Pass) → mine q ≡ Wrote n request said segment ∷ mine p → Tells (reply_tally said) p q
-replied said n request segment p q e t counts told = replied_more said told n request segment (mine p) t (counts told) ∙ ap (replies told) (sym e)
+replied : (said : Reply) (n : ℕ) (request : Request) (segment : Option ℕ) (before now : List Entry) → now ≡ Wrote n request said segment ∷ before → Counts (reply_tally said) before now
+replied said n request segment before now e t counts told = replied_more said told n request segment before t (counts told) ∙ ap (replies told) (sym e)
 
 -- what is no reply adds to none of the tallies of replies
 unreplied : Tally → Type 0
 unreplied counted_as = (told : Reply) (t : Tallies) → tally_of told (counted counted_as t) ≡ tally_of told t
+
+hit : unreplied tally.Hit
+unfolding unreplied
+hit told t = elim told as (λ r. tally_of r (counted tally.Hit t) ≡ tally_of r t) [ reply.Stored ↦ refl | reply.NotStored ↦ refl | reply.Exists ↦ refl | reply.NotFound ↦ refl | reply.Deleted ↦ refl ]
+
+miss : unreplied tally.Miss
+unfolding unreplied
+miss told t = elim told as (λ r. tally_of r (counted tally.Miss t) ≡ tally_of r t) [ reply.Stored ↦ refl | reply.NotStored ↦ refl | reply.Exists ↦ refl | reply.NotFound ↦ refl | reply.Deleted ↦ refl ]
 
 no_room : unreplied tally.NoRoom
 unfolding unreplied
@@ -81,22 +88,27 @@ busy : unreplied tally.Busy
 unfolding unreplied
 busy told t = elim told as (λ r. tally_of r (counted tally.Busy t) ≡ tally_of r t) [ reply.Stored ↦ refl | reply.NotStored ↦ refl | reply.Exists ↦ refl | reply.NotFound ↦ refl | reply.Deleted ↦ refl ]
 
-untold : (counted_as : Tally) (p q : Pass) → unreplied counted_as → TellsNothing p q → Tells counted_as p q
+untold : (counted_as : Tally) (before now : List Entry) → unreplied counted_as → now ≡ before → Counts counted_as before now
 unfolding unreplied
-untold counted_as p q same nothing t counts told = same told t ∙ counts told ∙ sym (nothing told)
+untold counted_as before now same e t counts told = same told t ∙ (counts told ∙ ap (replies told) (sym e))
 
-unchanged : (p q : Pass) → mine q ≡ mine p → TellsNothing p q
-unchanged p q e told = ap (replies told) e
+counts_read : (shape : Shape) (history : List Entry) (pass : ℕ) (own : List Entry) (key : List ℕ) (told : Tally) (now : List Entry) → IsReadAs shape history pass own key told → now ≡ own → Counts told own now
+counts_read shape history pass own key tally.Hit now read e = untold tally.Hit own now hit e
+counts_read shape history pass own key tally.Miss now read e = untold tally.Miss own now miss e
+counts_read shape history pass own key tally.Busy now read e = untold tally.Busy own now busy e
+counts_read shape history pass own key _ now read e = absurd read
 
-pub counts_write : (b : Board) (request : Request) (told : WriteAnswer) (p q : Pass) → Writes b request told p q → Tells (write_tally told) p q
+counts_written : (pass : ℕ) (asked : Request) (told : Tally) (before now : List Entry) → IsWrittenAs pass asked told before now → Counts told before now
 unfolding reply_tally
-counts_write b request write.Stored p q writes = replied reply.Stored (number p) request (Some writes.answer.0) p q writes.answer.1
-counts_write b request write.NotStored p q writes = replied reply.NotStored (number p) request None p q writes.answer.0
-counts_write b request write.Exists p q writes = replied reply.Exists (number p) request None p q writes.answer.0
-counts_write b request write.NotFound p q writes = replied reply.NotFound (number p) request None p q writes.answer.0
-counts_write b request write.NoRoom p q writes = untold tally.NoRoom p q no_room (unchanged p q writes.answer.entries)
-counts_write b request write.BucketFull p q writes = untold tally.BucketFull p q bucket_full (unchanged p q writes.answer.0.entries)
-counts_write b request write.Busy p q writes = untold tally.Busy p q busy (unchanged p q writes.answer.0.entries)
+counts_written pass asked tally.Stored before now written = replied reply.Stored pass asked (Some written.0) before now written.1
+counts_written pass asked tally.NotStored before now written = replied reply.NotStored pass asked None before now written
+counts_written pass asked tally.Exists before now written = replied reply.Exists pass asked None before now written
+counts_written pass asked tally.NotFound before now written = replied reply.NotFound pass asked None before now written
+counts_written pass asked tally.Deleted before now written = replied reply.Deleted pass asked None before now written
+counts_written pass asked tally.NoRoom before now written = untold tally.NoRoom before now no_room written.0
+counts_written pass asked tally.BucketFull before now written = untold tally.BucketFull before now bucket_full written.0
+counts_written pass asked tally.Busy before now written = untold tally.Busy before now busy written
+counts_written pass asked _ before now written = absurd written
 
 -- an eviction or a refilling is no reply
 evicted_one : (told : Reply) (pass segment : ℕ) (key : List ℕ) (own : List Entry) → replies told (Evicted pass key segment ∷ own) ≡ replies told own
@@ -119,30 +131,40 @@ evicted_more told pass segment (added ∷ more) own all =
     subst (λ e. replies told (e ∷ (more ++ own)) ≡ replies told own) (sym all.0.1)
     (evicted_one told pass segment all.0.0 (more ++ own) ∙ evicted_more told pass segment more own all.1)
 
-takes_untold : (segment count : ℕ) (p q : Pass) → TakesOut segment count p q → TellsNothing p q
-takes_untold segment count p q takes told = ap (replies told) takes.entries ∙ evicted_more told (number p) segment takes.evictions (mine p) takes.all
+given_up : (pass : ℕ) (before now : List Entry) (told : Reply) → GivesUp pass before now → replies told now ≡ replies told before
+given_up pass before now told gives = by gives.entries
+  where
+    evicted : replies told (gives.evictions ++ before) ≡ replies told before
+    evicted = evicted_more told pass gives.segment gives.evictions before gives.all
 
-same_untold : (p q : Pass) → q ≡ p → TellsNothing p q
-same_untold p q e told = ap (λ r. replies told (mine r)) e
+    by : (now ≡ gives.evictions ++ before) ⊎ (now ≡ Refilled pass gives.segment ∷ gives.evictions ++ before) → replies told now ≡ replies told before
+    by (inl e) = ap (replies told) e ∙ evicted
+    by (inr e) = ap (replies told) e ∙ (refilled_one told pass gives.segment (gives.evictions ++ before) ∙ evicted)
 
-pub evicts_untold : (shape : Shape) (segment : ℕ) (answer : EvictAnswer) (p q : Pass) → IsEvictAnswer shape segment answer p q → TellsNothing p q
-evicts_untold shape segment (evict.Evicted count) p q (inl out) = takes_untold segment count p q out.1
-evicts_untold shape segment (evict.Evicted count) p q (inr none) = same_untold p q none.2
-evicts_untold shape segment evict.NotYours p q same = same_untold p q same
-evicts_untold shape segment (evict.Busy count) p q busy = takes_untold segment count p q busy.1
+counts_stored : (pass : ℕ) (asked : Request) (told : Tally) (before now : List Entry) → IsStoredAs pass asked told before now → Counts told before now
+counts_stored pass asked told before now (inl written) = counts_written pass asked told before now written
+counts_stored pass asked told before now (inr again) = λ t counts. counts_written pass asked told again.0 now again.2 t (λ said. counts said ∙ sym (given_up pass before again.0 said again.1))
 
-pub refills_untold : (segment : ℕ) (answer : RefillAnswer) (p q : Pass) → IsRefillAnswer segment answer p q → TellsNothing p q
-refills_untold segment refill.Refilled p q refills told = ap (replies told) refills.entry ∙ refilled_one told (number p) segment (mine p)
-refills_untold segment refill.NotYours p q is told = ap (replies told) is.entries
-refills_untold segment refill.NotEvicted p q is told = ap (replies told) is.entries
-refills_untold segment refill.Held p q is told = ap (replies told) is.0.entries
+counts_one : (shape : Shape) (history : List Entry) (pass : ℕ) (of : Kind) (load : Load) (told : Tally) (before now : List Entry) → CameTo shape history pass of load told before now → Counts told before now
+counts_one shape history pass kind.Get load told before now came = counts_read shape history pass before load.key told now came.0 came.1
+counts_one shape history pass kind.Gets load told before now came = counts_read shape history pass before load.key told now came.0 came.1
+counts_one shape history pass kind.Set load told before now came = counts_stored pass (request.Set load.key load.value) told before now came
+counts_one shape history pass kind.Add load told before now came = counts_stored pass (request.Add load.key load.value) told before now came
+counts_one shape history pass kind.Replace load told before now came = counts_stored pass (request.Replace load.key load.value) told before now came
+counts_one shape history pass kind.Cas load told before now came = counts_stored pass (request.Cas load.key load.value came.0) told before now came.1
+counts_one shape history pass kind.Delete load told before now came = counts_written pass (request.Delete load.key) told before now came
 
-pub untold_then : (p q r : Pass) → TellsNothing p q → TellsNothing q r → TellsNothing p r
-untold_then p q r first second told = second told ∙ first told
+counts_nothing : (told : Reply) → tally_of told no_tallies ≡ replies told []
+counts_nothing reply.Stored = refl
+counts_nothing reply.NotStored = refl
+counts_nothing reply.Exists = refl
+counts_nothing reply.NotFound = refl
+counts_nothing reply.Deleted = refl
 
--- a write that found no room is counted so, unless it was made once more
-pub found_no_room : (p q r : Pass) → q ≡ p → TellsNothing q r → Tells tally.NoRoom p r
-found_no_room p q r same nothing = untold tally.NoRoom p r no_room (untold_then p q r (same_untold p q same) nothing)
-
-pub made_again : (counted_as : Tally) (p q r s : Pass) → q ≡ p → TellsNothing q r → Tells counted_as r s → Tells counted_as p s
-made_again counted_as p q r s same nothing tells t counts = tells t (λ told. counts told ∙ sym (nothing told ∙ same_untold p q same told))
+-- the tallies of commands count the replies among the entries that these added
+pub counts_made : (shape : Shape) (history : List Entry) (pass : ℕ) (draws : Draws) (made : ℕ) (t : Tallies) (own : List Entry) → Makes shape history pass draws made t own → CountsReplies t own
+counts_made shape history pass draws zero t own makes = λ told. ap (tally_of told) makes.0 ∙ (counts_nothing told ∙ ap (replies told) (sym makes.1))
+counts_made shape history pass draws (suc made) t own makes =
+    let load = next_load (draws_after draws made) in
+    subst (λ x. CountsReplies x own) (sym makes.5)
+    (counts_one shape history pass load.kind load makes.0 makes.2 own makes.4 makes.1 (counts_made shape history pass draws made makes.1 makes.2 makes.3))

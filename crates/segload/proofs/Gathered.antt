@@ -1,5 +1,5 @@
 -- How one pass meets others, one after the other, and what it knows of them after two rounds.
-use Rattle.std.proofs.Common.{◌≡◌, ℕ, zero, suc, List, [], ◌∷◌, ◌++◌, length, drop, slice_get, Some, refl, sym, ap, subst, ◌∙◌, arith, length-append}
+use Rattle.std.proofs.Common.{◌≡◌, ℕ, zero, suc, List, [], ◌∷◌, length, drop, slice_get, Some, refl, sym, ap, subst, ◌∙◌, arith}
 use Rattle.std.proofs.lemmas.Option.{same_Some, none-some}
 use Rattle.segmodel.specs.History.{Begins}
 use Rattle.segmodel.specs.History as history
@@ -12,6 +12,7 @@ use Rattle.segindex.specs.Calls.{GoesOn, ChangesNothing, Meets}
 use Rattle.segindex.proofs.RowsOut.{goes_then}
 use Rattle.segindex.proofs.OnePass.{all_mine}
 use Rattle.segload.specs.declared.worker.Worker.{Worker}
+use Rattle.segload.proofs.Lists.{both_begin}
 use Rattle.segload.specs.Gathering.{Looked, HasMet, HasMetEach, AreAll, HasGathered}
 use Rattle.segindex.proofs.Meeting.{mine_begins}
 
@@ -54,14 +55,6 @@ is_there (x ∷ xs) [] n y same at = absurd (omega (arith, same))
 is_there (x ∷ xs) (z ∷ zs) zero y same at = (z, refl)
 is_there (x ∷ xs) (z ∷ zs) (suc n) y same at = is_there xs zs n y (omega (arith, same)) at
 
--- two lists that begin each other are one
-both_begin : {A : Type 0} (xs ys : List A) → Begins xs ys → Begins ys xs → xs ≡ ys
-both_begin {A} xs ys one other = go one.0 one.1
-  where
-    go : (more : List A) → ys ≡ more ++ xs → xs ≡ ys
-    go [] is = sym is
-    go (x ∷ more) is = absurd (omega (arith, ap length is, ap length other.1, length-append more xs, length-append other.0 ys))
-
 -- in what the first pass has seen, after a meeting and before the next, are of the other just its own entries
 just_own : (b : Board) (before now later p q r : Pass) → HasMet b before now p q → HasMet b now later q r → history.mine (number p) (seen now) ≡ mine p
 just_own b before now later p q r first second =
@@ -80,6 +73,7 @@ gathered b workers met again first now later all at looked each long looked' eac
   goes_on = looked'.on.seen;
   alone = λ one. sym (all_mine (number later) (trace later) (looked'.on.quiet.pass.alone one)) ∙ (looked'.mine ∙ all_mine (number now) (trace now) (looked.on.quiet.pass.alone one));
   each = of_each;
+  told = of_told;
 }
   where
     of_each : (n : ℕ) (worker : Worker) → slice_get workers n ≡ Some worker → history.mine n (seen now) ≡ mine worker.client.pass
@@ -92,3 +86,10 @@ gathered b workers met again first now later all at looked each long looked' eac
         let two = is_there met again n one.0 long' one.1 in
         ap (λ m. history.mine m (seen now)) (sym (all.in_order (suc n) worker there))
         ∙ just_own b first.client.pass now later worker.client.pass one.0.client.pass two.0.client.pass (each n worker one.0 here one.1) (each' n one.0 two.0 one.1 two.1)
+
+    of_told : (n : ℕ) (worker : Worker) → slice_get workers n ≡ Some worker → Begins (seen worker.client.pass) (seen now)
+    of_told zero worker there = subst (λ (w : Worker). Begins (seen w.client.pass) (seen now)) (same_Some first worker (sym at ∙ there)) looked.on.seen
+    of_told (suc n) worker there =
+        let here = later_removed workers n worker there in
+        let one = is_there (drop 1 workers) met n worker long here in
+        (each n worker one.0 here one.1).told

@@ -1,5 +1,6 @@
 pub mod Lists
 pub mod Counted
+pub mod Answered
 pub mod Starting
 pub mod Gathered
 pub mod Loaded

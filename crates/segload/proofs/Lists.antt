@@ -1,6 +1,7 @@
--- Lists of which each element has a property at its place, as they grow by one.
-use Rattle.std.proofs.Common.{◌≡◌, ℕ, List, [], ◌∷◌, ◌++◌, length, slice_get, Some, sym, subst, ⊎_elim}
+-- Lists of which each element has a property at its place, as they grow by one; and lists that begin each other.
+use Rattle.std.proofs.Common.{◌≡◌, ℕ, List, [], ◌∷◌, ◌++◌, length, slice_get, Some, sym, ap, subst, ⊎_elim, arith, length-append}
 use Rattle.std.proofs.lemmas.Option.{none-some}
+use Rattle.segmodel.specs.History.{Begins}
 use Rattle.segmodel.proofs.ListPlaces.{front_or_last}
 
 -- each element has the property at its place
@@ -12,3 +13,11 @@ all_pushed P xs x all here n y at = ⊎_elim (λ was. all n y was) (λ e. subst 
 
 pub all_none : {A : Type 0} {P : Type 0} (n : ℕ) (x : A) → slice_get [] n ≡ Some x → P
 all_none n x at = absurd (none-some x at)
+
+-- two lists that begin each other are one
+pub both_begin : {A : Type 0} (xs ys : List A) → Begins xs ys → Begins ys xs → xs ≡ ys
+both_begin {A} xs ys one other = go one.0 one.1
+  where
+    go : (more : List A) → ys ≡ more ++ xs → xs ≡ ys
+    go [] is = sym is
+    go (x ∷ more) is = absurd (omega (arith, ap length is, ap length other.1, length-append more xs, length-append other.0 ys))

@@ -5,89 +5,101 @@ use Rattle.std.proofs.lemmas.Bool.{eqb-true, eqb-false}
 use Rattle.segword.specs.Shape.{IsValid}
 use Rattle.segmodel.specs.declared.entry.Entry.{Entry}
 use Rattle.segmodel.specs.History.{after, IsLegal, Begins}
+use Rattle.segmodel.specs.History as history
 use Rattle.segcore.proofs.Moments.{begins_on}
 use Rattle.segbase.specs.declared.board.Board.{Board}
 use Rattle.segbase.specs.declared.pass.Pass.{Pass}
-use Rattle.segbase.specs.Passes.{seen, mine}
+use Rattle.segbase.specs.Passes.{number, seen, mine}
 use Rattle.segbase.specs.Plain.{number_of}
 use Rattle.segindex.specs.Closing.{IsEnd}
 use Rattle.segload.specs.declared.worker.Worker.{Worker}
 use Rattle.segload.specs.declared.totals.PassTotals.{PassTotals}
 use Rattle.segload.specs.declared.totals.Totals.{Totals}
-use Rattle.segload.specs.Counting.{all_of, CountsReplies}
+use Rattle.segload.specs.Counting.{all_of}
 use Rattle.segload.specs.Gates.{Stops}
+use Rattle.segpolicy.specs.Draws.{draws_of}
+use Rattle.segload.specs.Making.{Makes}
 use Rattle.segload.specs.Working.{HasWorked, NoneStopped, IsFirstStopped}
 use Rattle.segload.specs.Gathering.{AreAll, HasGathered}
 use Rattle.segload.specs.Loads.{IsCounted, keys_of, IsLoad, IsLetThrough, IsStopped}
 use Rattle.segload.proofs.Gathered.{is_there}
+use Rattle.segload.proofs.Counted.{counts_made}
+use Rattle.segload.proofs.Answered.{makes_later}
 
 -- each worker did its work
-abbrev pub AllWorked : Board → (ℕ → ℕ → Bool → Type 0) → ℕ → List Worker → Type 0
-AllWorked b may_answer commands workers = (n : ℕ) (worker : Worker) → slice_get workers n ≡ Some worker → HasWorked b may_answer n commands worker
+abbrev pub AllWorked : Board → (ℕ → ℕ → Bool → Type 0) → ℕ → ℕ → List Worker → Type 0
+AllWorked b may_answer seed commands workers = (n : ℕ) (worker : Worker) → slice_get workers n ≡ Some worker → HasWorked b may_answer (draws_of seed n 64) n commands worker
 
 -- these are the totals of the workers
 abbrev pub AreTotals : ℕ → List Worker → List PassTotals → Type 0
 AreTotals commands workers totals = (n : ℕ) (of : PassTotals) (worker : Worker) → slice_get totals n ≡ Some of → slice_get workers n ≡ Some worker → (of.commands ≡ commands) × (of.tallies ≡ worker.tallies)
 
-pub are_all : (b : Board) (may_answer : ℕ → ℕ → Bool → Type 0) (commands : ℕ) (workers : List Worker) → IsValid b.shape → length workers ≡ b.shape.passes → AllWorked b may_answer commands workers → AreAll b workers
-are_all b may_answer commands workers valid long worked = record {
+pub are_all : (b : Board) (may_answer : ℕ → ℕ → Bool → Type 0) (seed commands : ℕ) (workers : List Worker) → IsValid b.shape → length workers ≡ b.shape.passes → AllWorked b may_answer seed commands workers → AreAll b workers
+are_all b may_answer seed commands workers valid long worked = record {
   valid = valid;
   long = long;
-  quiet = λ n worker at. (worked n worker at).at_work.quiet;
+  quiet = λ n worker at. (worked n worker at).quiet;
   in_order = λ n worker at. (worked n worker at).is;
 }
 
 -- a pass of the index has one of its numbers
-pub numbered : (b : Board) (may_answer : ℕ → ℕ → Bool → Type 0) (commands n : ℕ) (worker : Worker) (pass : ℕ) → HasWorked b may_answer n commands worker → pass ≡ number_of worker.client.pass → pass < b.shape.passes
-numbered b may_answer commands n worker pass worked is =
-    let quiet = worked.at_work.quiet.pass in
+pub numbered : (b : Board) (may_answer : ℕ → ℕ → Bool → Type 0) (seed commands n : ℕ) (worker : Worker) (pass : ℕ) → HasWorked b may_answer (draws_of seed n 64) n commands worker → pass ≡ number_of worker.client.pass → pass < b.shape.passes
+numbered b may_answer seed commands n worker pass worked is =
+    let quiet = worked.quiet.pass in
     subst (λ m. m < b.shape.passes) (sym (is ∙ quiet.numbered)) quiet.one_of
 
 -- each command of each pass was let through, where none was stopped
-pub all_let_through : (b : Board) (may_answer : ℕ → ℕ → Bool → Type 0) (commands : ℕ) (workers : List Worker) → length workers ≡ b.shape.passes → AllWorked b may_answer commands workers → NoneStopped workers → IsLetThrough b.shape commands may_answer
-all_let_through b may_answer commands [] long worked none pass below = absurd (omega (arith, long, below))
-all_let_through b may_answer commands (worker ∷ more) long worked none pass below =
+pub all_let_through : (b : Board) (may_answer : ℕ → ℕ → Bool → Type 0) (seed commands : ℕ) (workers : List Worker) → length workers ≡ b.shape.passes → AllWorked b may_answer seed commands workers → NoneStopped workers → IsLetThrough b.shape commands may_answer
+all_let_through b may_answer seed commands [] long worked none pass below = absurd (omega (arith, long, below))
+all_let_through b may_answer seed commands (worker ∷ more) long worked none pass below =
     let there = slice_get-get_or (worker ∷ more) pass worker (omega (arith, long, below)) in
     (worked pass _ there).let_through (none pass _ there)
 
 -- the first that was stopped is the lowest of those that the gate stopped
-pub stopped_first : (b : Board) (may_answer : ℕ → ℕ → Bool → Type 0) (commands : ℕ) (workers : List Worker) (pass : ℕ) → IsValid b.shape → AllWorked b may_answer commands workers → IsFirstStopped workers pass → IsStopped b.shape commands may_answer pass
-stopped_first b may_answer commands workers pass valid worked first =
+pub stopped_first : (b : Board) (may_answer : ℕ → ℕ → Bool → Type 0) (seed commands : ℕ) (workers : List Worker) (pass : ℕ) → IsValid b.shape → AllWorked b may_answer seed commands workers → IsFirstStopped workers pass → IsStopped b.shape commands may_answer pass
+stopped_first b may_answer seed commands workers pass valid worked first =
     let done = worked first.place first.worker first.there in
-    let is : pass ≡ first.place = first.of ∙ (done.at_work.quiet.pass.numbered ∙ done.is) in
+    let is : pass ≡ first.place = first.of ∙ (done.quiet.pass.numbered ∙ done.is) in
     let within = slice_get_within workers first.place first.worker first.there in record {
       valid = valid;
-      one_of = numbered b may_answer commands first.place first.worker pass done first.of;
+      one_of = numbered b may_answer seed commands first.place first.worker pass done first.of;
       stops = subst (Stops may_answer commands) (sym is) (done.stopped first.stopped).0;
       lowest = λ lower below. let there = slice_get-get_or workers lower first.worker (omega (arith, is, below, within)) in
           (worked lower _ there).let_through (first.first lower _ (omega (arith, is, below)) there);
     }
 
-counted : (b : Board) (may_answer : ℕ → ℕ → Bool → Type 0) (commands : ℕ) (workers : List Worker) (totals : List PassTotals) (first : Pass) → AllWorked b may_answer commands workers → NoneStopped workers → length workers ≡ length totals → AreTotals commands workers totals
-    → (all : HasGathered b workers first) → (n : ℕ) (of : PassTotals) → slice_get totals n ≡ Some of → IsCounted commands n all.history of
-counted b may_answer commands workers totals first worked none long are all n of at =
+counted : (b : Board) (may_answer : ℕ → ℕ → Bool → Type 0) (seed commands : ℕ) (workers : List Worker) (totals : List PassTotals) (first : Pass) → AllWorked b may_answer seed commands workers → NoneStopped workers → length workers ≡ length totals → AreTotals commands workers totals
+    → (all : HasGathered b workers first) → (n : ℕ) (of : PassTotals) → slice_get totals n ≡ Some of → IsCounted b.shape seed commands n all.history of
+counted b may_answer seed commands workers totals first worked none long are all n of at =
     let one = is_there totals workers n of long at in
     let here = are n of one.0 at one.1 in
-    let done = worked n one.0 one.1 in
+    let done = (worked n one.0 one.1).at_work (none n one.0 one.1) in
+    let pass = one.0.client.pass in
+    let draws = draws_of seed n 64 in
+    let later = makes_later b.shape (seen pass) all.history (number pass) draws commands one.0.tallies (mine pass) (all.told n one.0 one.1) done.makes in
+    let made = subst (λ t. Makes b.shape all.history n draws commands t (history.mine n all.history)) (sym here.1)
+    (subst (λ own. Makes b.shape all.history n draws commands one.0.tallies own) (sym (all.each n one.0 one.1))
+    (subst (λ m. Makes b.shape all.history m draws commands one.0.tallies (mine pass)) (worked n one.0 one.1).is later)) in
     record {
       commands = here.0;
-      all = ap all_of here.1 ∙ done.all (none n one.0 one.1);
-      replies = subst (CountsReplies of.tallies) (sym (all.each n one.0 one.1)) (subst (λ t. CountsReplies t (mine one.0.client.pass)) (sym here.1) done.at_work.counts);
+      all = ap all_of here.1 ∙ done.all;
+      replies = counts_made b.shape all.history n draws commands of.tallies (history.mine n all.history) made;
+      made = made;
     }
 
-pub loaded : (b : Board) (may_answer : ℕ → ℕ → Bool → Type 0) (commands : ℕ) (workers : List Worker) (totals : Totals) (first : Pass) → length workers ≡ b.shape.passes → AllWorked b may_answer commands workers → NoneStopped workers
+pub loaded : (b : Board) (may_answer : ℕ → ℕ → Bool → Type 0) (seed commands : ℕ) (workers : List Worker) (totals : Totals) (first : Pass) → length workers ≡ b.shape.passes → AllWorked b may_answer seed commands workers → NoneStopped workers
     → length workers ≡ length totals.passes.items → AreTotals commands workers totals.passes.items → HasGathered b workers first
     → (end : List Entry) × IsEnd b.shape first end × (totals.keys ≡ keys_of (after b.shape end)) → (b.shape.passes ≡ 1 → totals.keys ≡ keys_of (after b.shape (seen first)))
-    → IsLoad b.shape commands totals
-loaded b may_answer commands workers totals first all_there worked none long are all content alone = by (b.shape.passes == 1) refl
+    → IsLoad b.shape seed commands totals
+loaded b may_answer seed commands workers totals first all_there worked none long are all content alone = by (b.shape.passes == 1) refl
   where
-    ending : (end : List Entry) → IsLegal b.shape end → Begins all.history end → (b.shape.passes ≡ 1 → end ≡ all.history) → totals.keys ≡ keys_of (after b.shape end) → IsLoad b.shape commands totals
+    ending : (end : List Entry) → IsLegal b.shape end → Begins all.history end → (b.shape.passes ≡ 1 → end ≡ all.history) → totals.keys ≡ keys_of (after b.shape end) → IsLoad b.shape seed commands totals
     ending end legal goes_on one keys = record {
       valid = all.quiet.pass.valid;
       long = sym long ∙ all_there;
       history = all.history;
       legal = all.legal;
-      each = counted b may_answer commands workers totals.passes.items first worked none long are all;
+      each = counted b may_answer seed commands workers totals.passes.items first worked none long are all;
       end = end;
       legal_end = legal;
       goes_on = goes_on;
@@ -95,7 +107,7 @@ loaded b may_answer commands workers totals first all_there worked none long are
       keys = keys;
     }
 
-    by : (is_one : Bool) → (b.shape.passes == 1) ≡ is_one → IsLoad b.shape commands totals
+    by : (is_one : Bool) → (b.shape.passes == 1) ≡ is_one → IsLoad b.shape seed commands totals
     by true is =
         let one = eqb-true b.shape.passes 1 is in
         ending all.history all.legal ([], refl) (λ _. refl) (alone one ∙ ap (λ h. keys_of (after b.shape h)) (all.alone one))

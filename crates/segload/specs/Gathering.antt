@@ -30,7 +30,7 @@ HasMetEach b before now old new = (n : ℕ) (worker after : Worker) → slice_ge
 abbrev pub AreQuiet : Board → List Worker → Type 0
 AreQuiet b workers = (n : ℕ) (worker : Worker) → slice_get workers n ≡ Some worker → IsQuiet b worker.client.pass
 
--- The pass knows all that the passes did: a legal history that it has seen has of each just the entries that it made. With one pass it is all that the pass has seen.
+-- The pass knows all that the passes did: a legal history that it has seen goes on from what each has seen, and has of each just the entries that it made. With one pass it is all that the pass has seen.
 pub record HasGathered (b : Board) (workers : List Worker) (pass : Pass) : Type 0 where
   pub quiet : IsQuiet b pass
   pub history : List Entry
@@ -38,6 +38,7 @@ pub record HasGathered (b : Board) (workers : List Worker) (pass : Pass) : Type 
   pub goes_on : Begins history (seen pass)
   pub alone : b.shape.passes ≡ 1 → seen pass ≡ history
   pub each : (n : ℕ) (worker : Worker) → slice_get workers n ≡ Some worker → entries_by n history ≡ mine worker.client.pass
+  pub told : (n : ℕ) (worker : Worker) → slice_get workers n ≡ Some worker → Begins (seen worker.client.pass) history
 
 -- these are the passes of an index, in the order of their numbers, and quiet
 pub record AreAll (b : Board) (workers : List Worker) : Type 0 where

@@ -6,30 +6,33 @@ use Rattle.segmodel.specs.declared.entry.Entry.{Entry}
 use Rattle.segmodel.specs.Cache.{Cache}
 use Rattle.segmodel.specs.History.{after, IsLegal, Begins, mine}
 use Rattle.segbase.specs.Made.{IsMakeFault}
+use Rattle.segpolicy.specs.Draws.{draws_of}
 use Rattle.segload.specs.declared.fault.LoadFault.{LoadFault}
 use Rattle.segload.specs.declared.fault.LoadFault.TheVariants.{Make, Stopped, OutOfMemory}
 use Rattle.segload.specs.declared.totals.PassTotals.{PassTotals}
 use Rattle.segload.specs.declared.totals.Totals.{Totals}
 use Rattle.segload.specs.Gates.{LetsThrough, Stops}
 use Rattle.segload.specs.Counting.{all_of, CountsReplies}
+use Rattle.segload.specs.Making.{Makes}
 
--- a pass made so many commands, each counted once, and its five tallies of replies count its own writes in a history
-pub record IsCounted (asked pass : ℕ) (history : List Entry) (totals : PassTotals) : Type 0 where
+-- A pass made so many commands, each counted once, and its five tallies of replies count its own writes in a history. They are the first commands of its workload, which is drawn with the seed from the stream of its number, over 64 keys; what each came to makes its tallies, and its own entries in that history.
+pub record IsCounted (shape : Shape) (seed asked pass : ℕ) (history : List Entry) (totals : PassTotals) : Type 0 where
   pub commands : totals.commands ≡ asked
   pub all : all_of totals.tallies ≡ asked
   pub replies : CountsReplies totals.tallies (mine pass history)
+  pub made : Makes shape history pass (draws_of seed pass 64) asked totals.tallies (mine pass history)
 
 -- how many keys stand
 abbrev pub keys_of : Cache → ℕ
 keys_of cache = length cache.items
 
--- Each pass made so many commands, and one legal history has the writes of all of them as they are counted. So many keys stand at the end: after a legal history that goes on from that one, and is that one where there is one pass.
-pub record IsLoad (shape : Shape) (commands : ℕ) (totals : Totals) : Type 0 where
+-- Each pass made so many commands, drawn with this seed, and one legal history has the writes of all of them as they are counted. So many keys stand at the end: after a legal history that goes on from that one, and is that one where there is one pass.
+pub record IsLoad (shape : Shape) (seed commands : ℕ) (totals : Totals) : Type 0 where
   pub valid : IsValid shape
   pub long : length totals.passes.items ≡ shape.passes
   pub history : List Entry
   pub legal : IsLegal shape history
-  pub each : (pass : ℕ) (of : PassTotals) → slice_get totals.passes.items pass ≡ Some of → IsCounted commands pass history of
+  pub each : (pass : ℕ) (of : PassTotals) → slice_get totals.passes.items pass ≡ Some of → IsCounted shape seed commands pass history of
   pub end : List Entry
   pub legal_end : IsLegal shape end
   pub goes_on : Begins history end

@@ -1,21 +1,26 @@
 -- What a pass does at its load.
 use Rattle.std.specs.Prelude.{◌≡◌, ℕ, ◌<◌, Bool, false, true, List, slice_get, Some}
-use Rattle.segmodel.specs.declared.request.Reply.{Reply}
+use Rattle.segmodel.specs.declared.request.Request.{Request}
+use Rattle.segmodel.specs.declared.request.Request.TheVariants as request
 use Rattle.segmodel.specs.declared.answer.WriteAnswer.{WriteAnswer}
 use Rattle.segmodel.specs.declared.answer.WriteAnswer.TheVariants as write
 use Rattle.segmodel.specs.declared.answer.DeleteAnswer.{DeleteAnswer}
 use Rattle.segmodel.specs.declared.answer.DeleteAnswer.TheVariants as delete
 use Rattle.segbase.specs.declared.board.Board.{Board}
 use Rattle.segbase.specs.declared.pass.Pass.{Pass}
-use Rattle.segbase.specs.Passes.{number, mine}
+use Rattle.segbase.specs.Passes.{number, seen, mine}
 use Rattle.segbase.specs.Plain.{number_of}
 use Rattle.segindex.specs.Quiet.{IsQuiet}
+use Rattle.segpolicy.specs.declared.load.Kind.{Kind}
+use Rattle.segpolicy.specs.declared.load.Kind.TheVariants as kind
+use Rattle.segpolicy.specs.declared.load.Load.{Load}
+use Rattle.segpolicy.specs.Draws.{Draws}
 use Rattle.segload.specs.declared.totals.Tally.{Tally}
 use Rattle.segload.specs.declared.totals.Tally.TheVariants as tally
-use Rattle.segload.specs.declared.totals.Tallies.{Tallies}
 use Rattle.segload.specs.declared.worker.Worker.{Worker}
 use Rattle.segload.specs.Gates.{LetsThrough, Stops}
-use Rattle.segload.specs.Counting.{counted, all_of, replies, CountsReplies}
+use Rattle.segload.specs.Counting.{all_of}
+use Rattle.segload.specs.Making.{GivesUp, draws_after, Makes}
 
 -- how a write that was answered so is counted
 abbrev pub write_tally : WriteAnswer → Tally
@@ -33,32 +38,36 @@ delete_tally delete.Deleted = tally.Deleted
 delete_tally delete.NotFound = tally.NotFound
 delete_tally delete.Busy = tally.Busy
 
--- none of the entries that were added is a write that was replied
-abbrev pub TellsNothing : Pass → Pass → Type 0
-TellsNothing p q = (told : Reply) → replies told (mine q) ≡ replies told (mine p)
+-- the pass added entries, if any, only by giving up one of its segments
+abbrev pub MakesRoom : Pass → Pass → Type 0
+MakesRoom p q = GivesUp (number p) (mine p) (mine q)
 
--- what is counted now is what was added: tallies that counted the writes of the pass still do, with one command more
-abbrev pub Tells : Tally → Pass → Pass → Type 0
-Tells tally p q = (tallies : Tallies) → CountsReplies tallies (mine p) → CountsReplies (counted tally tallies) (mine q)
+-- the request of a command that stores; a cas expects this version
+abbrev pub stores_of : Kind → ℕ → Load → Request
+stores_of kind.Add version load = request.Add load.key load.value
+stores_of kind.Replace version load = request.Replace load.key load.value
+stores_of kind.Cas version load = request.Cas load.key load.value version
+stores_of _ version load = request.Set load.key load.value
 
--- a pass at its load: its tallies count the writes that it made
-pub record IsAtWork (b : Board) (worker : Worker) : Type 0 where
+-- a pass at its load, which made so many commands of a workload
+pub record IsAtWork (b : Board) (draws : Draws) (made : ℕ) (worker : Worker) : Type 0 where
   pub quiet : IsQuiet b worker.client.pass
-  pub counts : CountsReplies worker.tallies (mine worker.client.pass)
+  pub workload : worker.workload ≡ draws_after draws made
+  pub makes : Makes b.shape (seen worker.client.pass) (number worker.client.pass) draws made worker.tallies (mine worker.client.pass)
+  pub all : all_of worker.tallies ≡ made
 
 -- the pass of this number made all its commands, each of which the gate let through, unless the gate stopped it before one of them: then it made those before that one
-pub record HasWorked (b : Board) (may_answer : ℕ → ℕ → Bool → Type 0) (pass commands : ℕ) (worker : Worker) : Type 0 where
-  pub at_work : IsAtWork b worker
+pub record HasWorked (b : Board) (may_answer : ℕ → ℕ → Bool → Type 0) (draws : Draws) (pass commands : ℕ) (worker : Worker) : Type 0 where
+  pub quiet : IsQuiet b worker.client.pass
   pub is : number worker.client.pass ≡ pass
-  pub all : worker.is_stopped ≡ false → all_of worker.tallies ≡ commands
+  pub at_work : worker.is_stopped ≡ false → IsAtWork b draws commands worker
   pub let_through : worker.is_stopped ≡ false → LetsThrough may_answer commands pass
-  pub stopped : worker.is_stopped ≡ true → (stops : Stops may_answer commands pass) × (all_of worker.tallies ≡ stops.call)
+  pub stopped : worker.is_stopped ≡ true → (stops : Stops may_answer commands pass) × IsAtWork b draws stops.call worker
 
 -- a pass that begins its load
-pub record Begins (b : Board) (pass : ℕ) (worker : Worker) : Type 0 where
-  pub at_work : IsAtWork b worker
+pub record Begins (b : Board) (draws : Draws) (pass : ℕ) (worker : Worker) : Type 0 where
+  pub at_work : IsAtWork b draws 0 worker
   pub is : number worker.client.pass ≡ pass
-  pub nothing : all_of worker.tallies ≡ 0
   pub runs : worker.is_stopped ≡ false
 
 -- the gate stopped none of them

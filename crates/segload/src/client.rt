@@ -1,7 +1,7 @@
 //! A pass of an index, which makes the commands of a load.
-ghost use Rattle.std.specs.Prelude.{◌≡◌};
+ghost use Rattle.std.specs.Prelude.{◌≡◌, ℕ};
 ghost use Rattle.segmodel.specs.declared.answer.WriteAnswer.TheVariants.{NoRoom};
-ghost use Rattle.segload.specs.Working.{write_tally, delete_tally, TellsNothing, Tells};
+ghost use Rattle.segload.specs.Working.{write_tally, delete_tally, MakesRoom, stores_of};
 
 use crate::totals::Tally;
 use segindex::{Index, Pass};
@@ -43,9 +43,11 @@ fn tally_of_delete(answer: DeleteAnswer) -> Tally
 }
 
 impl Client {
-    ghost use Rattle.segindex.specs.Index.{board_of};
+    ghost use Rattle.segbase.specs.Passes.{number, seen, mine};
+    ghost use Rattle.segindex.specs.Index.{board_of, shape_of};
     ghost use Rattle.segindex.specs.Quiet.{IsQuiet};
     ghost use Rattle.segindex.specs.Calls.{GoesOn};
+    ghost use Rattle.segload.specs.Making.{IsReadAs, IsWrittenAs, IsStoredAs, ComesTo};
 
     /// A pass that made no command yet.
     pub(crate) fn new(pass: Pass, segments: Ring) -> Client
@@ -74,7 +76,7 @@ impl Client {
     pub(crate) fn serve(&mut self, index: &Index, load: &Load) -> Tally
         requires quiet { IsQuiet (board_of index.now) self.old.pass }
         ensures on { GoesOn (board_of index.now) self.old.pass self.new.pass }
-        ensures tells { Tells result self.old.pass self.new.pass }
+        ensures came { ComesTo (shape_of index.now) (seen self.new.pass) (number self.old.pass) load.now result (mine self.old.pass) (mine self.new.pass) }
     {
         match load.kind {
             Kind::Get => self.get(index, load),
@@ -89,7 +91,8 @@ impl Client {
     fn get(&mut self, index: &Index, load: &Load) -> Tally
         requires quiet { IsQuiet (board_of index.now) self.old.pass }
         ensures on { GoesOn (board_of index.now) self.old.pass self.new.pass }
-        ensures tells { Tells result self.old.pass self.new.pass }
+        ensures read { IsReadAs (shape_of index.now) (seen self.new.pass) (number self.old.pass) (mine self.old.pass) load.now.key result }
+        ensures same { mine self.new.pass ≡ mine self.old.pass }
     {
         match index.get(&mut self.pass, &load.key, load.draw) {
             GetAnswer::Found(_) => Tally::Hit,
@@ -102,7 +105,8 @@ impl Client {
     fn gets(&mut self, index: &Index, load: &Load) -> Tally
         requires quiet { IsQuiet (board_of index.now) self.old.pass }
         ensures on { GoesOn (board_of index.now) self.old.pass self.new.pass }
-        ensures tells { Tells result self.old.pass self.new.pass }
+        ensures read { IsReadAs (shape_of index.now) (seen self.new.pass) (number self.old.pass) (mine self.old.pass) load.now.key result }
+        ensures same { mine self.new.pass ≡ mine self.old.pass }
     {
         match index.gets(&mut self.pass, &load.key, load.draw) {
             GetsAnswer::Found(_, version) => {
@@ -118,7 +122,7 @@ impl Client {
     fn store(&mut self, index: &Index, load: &Load) -> WriteAnswer
         requires quiet { IsQuiet (board_of index.now) self.old.pass }
         ensures on { GoesOn (board_of index.now) self.old.pass self.new.pass }
-        ensures tells { Tells (write_tally result) self.old.pass self.new.pass }
+        ensures stored { (version : ℕ) × IsStoredAs (number self.old.pass) (stores_of load.now.kind version load.now) (write_tally result) (mine self.old.pass) (mine self.new.pass) }
     {
         let answer = self.write(index, load);
         let WriteAnswer::NoRoom = answer else {
@@ -133,7 +137,7 @@ impl Client {
     fn write(&mut self, index: &Index, load: &Load) -> WriteAnswer
         requires quiet { IsQuiet (board_of index.now) self.old.pass }
         ensures on { GoesOn (board_of index.now) self.old.pass self.new.pass }
-        ensures tells { Tells (write_tally result) self.old.pass self.new.pass }
+        ensures written { IsWrittenAs (number self.old.pass) (stores_of load.now.kind self.old.version load.now) (write_tally result) (mine self.old.pass) (mine self.new.pass) }
         ensures untouched { result ≡ NoRoom → self.new.pass ≡ self.old.pass }
     {
         let (pass, key, value) = (&mut self.pass, &load.key, &load.value);
@@ -149,7 +153,7 @@ impl Client {
     fn make_room(&mut self, index: &Index) -> bool
         requires quiet { IsQuiet (board_of index.now) self.old.pass }
         ensures on { GoesOn (board_of index.now) self.old.pass self.new.pass }
-        ensures tells { TellsNothing self.old.pass self.new.pass }
+        ensures gives_up { MakesRoom self.old.pass self.new.pass }
     {
         let segment = self.segments.next();
         let EvictAnswer::Evicted(_) = index.evict(&mut self.pass, segment) else {

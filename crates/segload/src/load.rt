@@ -8,6 +8,7 @@ ghost use Rattle.segindex.specs.Index.{board_of, shape_of};
 ghost use Rattle.segindex.specs.Quiet.{IsQuiet};
 ghost use Rattle.segindex.specs.Calls.{IsNew};
 ghost use Rattle.segindex.specs.Closing.{IsEnd};
+ghost use Rattle.segpolicy.specs.Draws.{draws_of};
 ghost use Rattle.segload.specs.Working.{Begins, HasWorked, NoneStopped, IsFirstStopped};
 ghost use Rattle.segload.specs.Loads.{keys_of, IsLoad, IsLetThrough, IsLoadFault};
 
@@ -23,20 +24,22 @@ use std::sync::Wait;
 use std::thread;
 use std::thread::{Promise, Threads};
 
-// What a thread gives back: the pass of this number, which has made so many commands of the index or was stopped.
+// What a thread gives back: the pass of this number, which has made so many commands of the index, drawn with this seed, or was stopped.
 #[derive(Drop)]
 struct Worked<'i, G> {
     index: &'i Index,
     gate: &'i G,
+    seed: u64,
     pass: u32,
     commands: u32,
 }
 
 impl<'i, G: Gate> Promise<Worker> for Worked<'i, G> {
     ghost use Rattle.segindex.specs.Index.{board_of};
+    ghost use Rattle.segpolicy.specs.Draws.{draws_of};
     ghost use Rattle.segload.specs.Working.{HasWorked};
 
-    ghost kept_by = { λ promise worker. HasWorked (board_of promise.index.now) (G.may_answer promise.gate.now) promise.pass promise.commands worker };
+    ghost kept_by = { λ promise worker. HasWorked (board_of promise.index.now) (G.may_answer promise.gate.now) (draws_of promise.seed promise.pass 64) promise.pass promise.commands worker };
 }
 
 // Each worker at work on a thread of its own. A thread that can't be had doesn't stop the others.
@@ -45,19 +48,20 @@ fn work_at_once<R: Threads + Wait + Sync, G: Gate>(
     alloc: Global,
     index: &Index,
     gate: &G,
+    seed: u64,
     commands: u32,
     workers: Vec<Worker>,
 ) -> Result<Vec<Worker>, AllocError>
-    requires ready { (n : ℕ) (worker : Worker) → slice_get workers.items n ≡ Some worker → Begins (board_of index.now) n worker }
+    requires ready { (n : ℕ) (worker : Worker) → slice_get workers.items n ≡ Some worker → Begins (board_of index.now) (draws_of seed n 64) n worker }
     ensures long { IfOk result (λ worked. vec_len worked ≡ vec_len workers) }
-    ensures each { IfOk result (λ worked. (n : ℕ) (worker : Worker) → slice_get worked.items n ≡ Some worker → HasWorked (board_of index.now) (G.may_answer gate.now) n commands worker) }
+    ensures each { IfOk result (λ worked. (n : ℕ) (worker : Worker) → slice_get worked.items n ≡ Some worker → HasWorked (board_of index.now) (G.may_answer gate.now) (draws_of seed n 64) n commands worker) }
 {
     thread::scope(
         thread::scope_env(),
         rt,
         move |scope| -> Result<Vec<Worker>, AllocError>
-            requires { IsSync G.row × ((n : ℕ) (worker : Worker) → slice_get workers.items n ≡ Some worker → Begins (board_of index.now) n worker) }
-            ensures { IfOk result (λ worked. (vec_len worked ≡ vec_len workers) × ((n : ℕ) (worker : Worker) → slice_get worked.items n ≡ Some worker → HasWorked (board_of index.entry.now) (G.may_answer gate.entry.now) n commands worker)) }
+            requires { IsSync G.row × ((n : ℕ) (worker : Worker) → slice_get workers.items n ≡ Some worker → Begins (board_of index.now) (draws_of seed n 64) n worker) }
+            ensures { IfOk result (λ worked. (vec_len worked ≡ vec_len workers) × ((n : ℕ) (worker : Worker) → slice_get worked.items n ≡ Some worker → HasWorked (board_of index.entry.now) (G.may_answer gate.entry.now) (draws_of seed n 64) n commands worker)) }
         {
             let count = workers.len();
             let mut threads = Vec::with_capacity(alloc, count)?;
@@ -65,12 +69,13 @@ fn work_at_once<R: Threads + Wait + Sync, G: Gate>(
                 let worked = Worked {
                     index,
                     gate,
+                    seed,
                     pass: worker.number(),
                     commands,
                 };
                 let work = move || -> Worker
-                    requires { IsSync G.row × Begins (board_of index.now) (number worker.client.pass) worker }
-                    ensures { HasWorked (board_of index.entry.now) (G.may_answer gate.entry.now) (number worker.client.pass) commands result }
+                    requires { IsSync G.row × Begins (board_of index.now) worker.workload (number worker.client.pass) worker }
+                    ensures { HasWorked (board_of index.entry.now) (G.may_answer gate.entry.now) worker.workload (number worker.client.pass) commands result }
                 { worker.work(index, gate, commands) };
                 if let Ok(thread) = scope.spawn_with(worked, work) {
                     threads.push_reserved(thread);
@@ -93,7 +98,7 @@ fn begin_all(
 ) -> Result<Vec<Worker>, AllocError>
     requires new { IsNew (shape_of index.now) index.now passes.items }
     ensures long { IfOk result (λ workers. vec_len workers ≡ (shape_of index.now).passes) }
-    ensures each { IfOk result (λ workers. (n : ℕ) (worker : Worker) → slice_get workers.items n ≡ Some worker → Begins (board_of index.now) n worker) }
+    ensures each { IfOk result (λ workers. (n : ℕ) (worker : Worker) → slice_get workers.items n ≡ Some worker → Begins (board_of index.now) (draws_of seed n 64) n worker) }
 {
     let mut workers = Vec::with_capacity(alloc, passes.len())?;
     for pass in passes {
@@ -155,7 +160,7 @@ pub fn run_load<R: Threads + Wait + AllocGlobal + Sync, G: Gate>(
     commands: u32,
     gate: &G,
 ) -> Result<Totals, LoadFault>
-    ensures load { IfOk result (IsLoad shape commands) }
+    ensures load { IfOk result (IsLoad shape seed commands) }
     ensures let_through { IfOk result (λ _. IsLetThrough shape commands (G.may_answer gate.now)) }
     ensures fault { IfErr result (IsLoadFault shape commands (G.may_answer gate.now)) }
 {
@@ -166,7 +171,7 @@ pub fn run_load<R: Threads + Wait + AllocGlobal + Sync, G: Gate>(
     let Ok(workers) = begin_all(alloc, &index, seed, passes) else {
         return Err(LoadFault::OutOfMemory);
     };
-    let Ok(workers) = work_at_once(rt, alloc, &index, gate, commands, workers) else {
+    let Ok(workers) = work_at_once(rt, alloc, &index, gate, seed, commands, workers) else {
         return Err(LoadFault::OutOfMemory);
     };
     if let Some(pass) = first_stopped(&workers) {

@@ -12,7 +12,7 @@ use segpolicy::{Ring, Workload};
 #[derive(Drop)]
 pub(crate) struct Worker {
     pub(crate) client: Client,
-    workload: Workload,
+    pub(crate) workload: Workload,
     pub(crate) tallies: Tallies,
     pub(crate) is_stopped: bool,
 }
@@ -21,13 +21,14 @@ impl Worker {
     ghost use Rattle.segbase.specs.Passes.{number, mine};
     ghost use Rattle.segbase.specs.Plain.{number_of};
     ghost use Rattle.segindex.specs.Quiet.{IsQuiet};
+    ghost use Rattle.segpolicy.specs.Draws.{draws_of};
     ghost use Rattle.segload.specs.Working.{Begins, HasWorked};
 
     /// A pass that made no command yet.
     pub(crate) fn new(index: &Index, seed: u64, pass: Pass) -> Worker
         requires quiet { IsQuiet (board_of index.now) pass }
         requires nothing { mine pass ≡ [] }
-        ensures { Begins (board_of index.now) (number pass) result }
+        ensures { Begins (board_of index.now) (draws_of seed (number pass) 64) (number pass) result }
     {
         let number = pass.number();
         let segments = index.shape().segments_each;
@@ -48,8 +49,8 @@ impl Worker {
 
     /// Makes its commands, until the gate stops it.
     pub(crate) fn work<G: Gate>(mut self, index: &Index, gate: &G, commands: u32) -> Worker
-        requires begins { Begins (board_of index.now) (number self.client.pass) self }
-        ensures { HasWorked (board_of index.now) (G.may_answer gate.now) (number self.client.pass) commands result }
+        requires begins { Begins (board_of index.now) self.workload (number self.client.pass) self }
+        ensures { HasWorked (board_of index.now) (G.may_answer gate.now) self.workload (number self.client.pass) commands result }
     {
         let pass = self.client.pass.number();
         for call in 0..commands {

@@ -20,11 +20,11 @@ word_shown text reading Wrote before flushes end says is shown =
     word_ends text reading Wrote before flushes end says (subst (λ l. ShowOutcome l Wrote before flushes end) is shown)
 
 -- the totals of a load
-load_ends : (shape : Shape) (commands : ℕ) (totals : Totals) (Wrote : List ℕ → Type 0) (before flushes : ℕ) (end : Result (Unit {0}) ProgramFault) → IsLoad shape commands totals → ShowOutcome (totals_text totals) Wrote before flushes end → LoadOutcome shape commands Wrote before flushes end
-load_ends shape commands totals Wrote before flushes (Ok v) is shown = (totals, is, shown)
-load_ends shape commands totals Wrote before flushes (Err fault.Write) is shown = (totals, is, shown)
-load_ends shape commands totals Wrote before flushes (Err f) is shown = absurd shown
+load_ends : (shape : Shape) (seed commands : ℕ) (totals : Totals) (Wrote : List ℕ → Type 0) (before flushes : ℕ) (end : Result (Unit {0}) ProgramFault) → IsLoad shape seed commands totals → ShowOutcome (totals_text totals) Wrote before flushes end → LoadOutcome shape seed commands Wrote before flushes end
+load_ends shape seed commands totals Wrote before flushes (Ok v) is shown = (totals, is, shown)
+load_ends shape seed commands totals Wrote before flushes (Err fault.Write) is shown = (totals, is, shown)
+load_ends shape seed commands totals Wrote before flushes (Err f) is shown = absurd shown
 
-pub load_shown : (shape : Shape) (commands : ℕ) (Wrote : List ℕ → Type 0) (before flushes : ℕ) (end : Result (Unit {0}) ProgramFault) {text lines : List ℕ} → (totals : Totals) × IsLoad shape commands totals × (text ≡ totals_text totals) → lines ≡ text → ShowOutcome lines Wrote before flushes end → LoadOutcome shape commands Wrote before flushes end
-load_shown shape commands Wrote before flushes end told same shown =
-    load_ends shape commands told.0 Wrote before flushes end told.1 (subst (λ l. ShowOutcome l Wrote before flushes end) (same ∙ told.2) shown)
+pub load_shown : (shape : Shape) (seed commands : ℕ) (Wrote : List ℕ → Type 0) (before flushes : ℕ) (end : Result (Unit {0}) ProgramFault) {text lines : List ℕ} → (totals : Totals) × IsLoad shape seed commands totals × (text ≡ totals_text totals) → lines ≡ text → ShowOutcome lines Wrote before flushes end → LoadOutcome shape seed commands Wrote before flushes end
+load_shown shape seed commands Wrote before flushes end told same shown =
+    load_ends shape seed commands told.0 Wrote before flushes end told.1 (subst (λ l. ShowOutcome l Wrote before flushes end) (same ∙ told.2) shown)

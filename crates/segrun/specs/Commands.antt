@@ -55,14 +55,14 @@ WordOutcome text Wrote before flushes end = (reading : Reading) × Says text rea
 abbrev pub IsFaultOfLoad : Shape → ℕ → ProgramFault → Type 0
 IsFaultOfLoad shape commands f = (why : LoadFault) × IsLoadFault shape commands lets_all_through why × (f ≡ fault_of_load why)
 
--- The totals of a load of this shape, in which each pass made so many commands, were shown; or there are none to show, and
--- nothing was written.
-abbrev pub LoadOutcome : Shape → ℕ → (List ℕ → Type 0) → ℕ → ℕ → Result (Unit {0}) ProgramFault → Type 0
-LoadOutcome shape commands Wrote before flushes (Ok _) =
-    (totals : Totals) × IsLoad shape commands totals × ShowOutcome (totals_text totals) Wrote before flushes (Ok tt)
-LoadOutcome shape commands Wrote before flushes (Err fault.Write) =
-    (totals : Totals) × IsLoad shape commands totals × ShowOutcome (totals_text totals) Wrote before flushes (Err fault.Write)
-LoadOutcome shape commands Wrote before flushes (Err f) =
+-- The totals of a load of this shape, in which each pass made so many commands, drawn with this seed, were shown; or there are
+-- none to show, and nothing was written.
+abbrev pub LoadOutcome : Shape → ℕ → ℕ → (List ℕ → Type 0) → ℕ → ℕ → Result (Unit {0}) ProgramFault → Type 0
+LoadOutcome shape seed commands Wrote before flushes (Ok _) =
+    (totals : Totals) × IsLoad shape seed commands totals × ShowOutcome (totals_text totals) Wrote before flushes (Ok tt)
+LoadOutcome shape seed commands Wrote before flushes (Err fault.Write) =
+    (totals : Totals) × IsLoad shape seed commands totals × ShowOutcome (totals_text totals) Wrote before flushes (Err fault.Write)
+LoadOutcome shape seed commands Wrote before flushes (Err f) =
     IsFaultOfLoad shape commands f × Wrote [] × (flushes ≡ before)
 
 -- ---- commands
@@ -72,7 +72,7 @@ CommandOutcome hands is_at_end read_failed takes write_failed flushes (command.S
     ScriptOutcome hands is_at_end read_failed takes write_failed flushes shape reader reader' writer writer' end
 CommandOutcome hands is_at_end read_failed takes write_failed flushes (command.Load shape seed commands) reader reader' writer writer' end =
     (reader' ≡ reader) × (write_failed writer' ≡ is_write_end end)
-    × LoadOutcome shape commands (λ part. takes writer part writer') (flushes writer) (flushes writer') end
+    × LoadOutcome shape seed commands (λ part. takes writer part writer') (flushes writer) (flushes writer') end
 CommandOutcome hands is_at_end read_failed takes write_failed flushes (command.Word text) reader reader' writer writer' end =
     (reader' ≡ reader) × (write_failed writer' ≡ is_write_end end)
     × WordOutcome text.now (λ part. takes writer part writer') (flushes writer) (flushes writer') end

@@ -108,7 +108,7 @@ fn perform_load<R: Threads + Wait + AllocGlobal + Sync, W: Sink>(
     writer: &mut W,
 ) -> Result<(), ProgramFault>
     requires writer_works { W.has_failed writer.old ≡ false }
-    ensures outcome { LoadOutcome shape commands (λ part. W.takes writer.old part writer.new)
+    ensures outcome { LoadOutcome shape seed commands (λ part. W.takes writer.old part writer.new)
         (W.flushes writer.old) (W.flushes writer.new) result }
     ensures failed { W.has_failed writer.new ≡ is_write_end result }
 {
@@ -126,7 +126,7 @@ fn load_text<R: Threads + Wait + AllocGlobal + Sync>(
     seed: u64,
     commands: u32,
 ) -> Result<Vec<u8>, ProgramFault>
-    ensures text { IfOk result (λ text. (totals : Totals) × IsLoad shape commands totals × (text.items ≡ totals_text totals)) }
+    ensures text { IfOk result (λ text. (totals : Totals) × IsLoad shape seed commands totals × (text.items ≡ totals_text totals)) }
     ensures fault { IfErr result (IsFaultOfLoad shape commands) }
 {
     let totals = match run_load(rt, alloc, shape, seed, commands, &OpenGate) {

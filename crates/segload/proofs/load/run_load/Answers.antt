@@ -11,7 +11,7 @@ returns-in-Some-clause-fault g c =
     let b = c.in-Ok.made.0.board in
     let may_answer = g.G.Gate.may_answer c.args.gate.now in
     subst (λ shape. IsStopped shape c.args.commands may_answer c.in-Some.pass) new.of
-    (stopped_first b may_answer c.args.commands c.in-Ok-work_at_once.workers.items c.in-Some.pass (subst IsValid (sym new.of) new.valid) c.in-Ok-work_at_once.ensures.each c.in-Some.ensures.some)
+    (stopped_first b may_answer c.args.seed c.args.commands c.in-Ok-work_at_once.workers.items c.in-Some.pass (subst IsValid (sym new.of) new.valid) c.in-Ok-work_at_once.ensures.each c.in-Some.ensures.some)
 
 pub gather-first-requires : goal.gather-first-requires
 gather-first-requires g c =
@@ -19,7 +19,7 @@ gather-first-requires g c =
     let b = c.in-Ok.made.0.board in
     let workers = c.in-Ok-work_at_once.workers in
     let long : length workers.items ≡ b.shape.passes = sym workers.ok.0 ∙ (c.in-Ok-work_at_once.ensures.long ∙ c.in-Ok-begin_all.ensures.long) in
-    record { all = are_all b (g.G.Gate.may_answer c.args.gate.now) c.args.commands workers.items (subst IsValid (sym new.of) new.valid) long c.in-Ok-work_at_once.ensures.each }
+    record { all = are_all b (g.G.Gate.may_answer c.args.gate.now) c.args.seed c.args.commands workers.items (subst IsValid (sym new.of) new.valid) long c.in-Ok-work_at_once.ensures.each }
 
 pub returns : goal.returns
 returns g c =
@@ -32,8 +32,8 @@ returns g c =
     let none = c.in_default-first_stopped.ensures.none refl in
     let long : length workers.items ≡ b.shape.passes = sym workers.ok.0 ∙ (c.in-Ok-work_at_once.ensures.long ∙ c.in-Ok-begin_all.ensures.long) in
     let each : length workers.items ≡ length totals.passes.items = sym workers.ok.0 ∙ (sym c.in-Ok-count_all.ensures.long ∙ totals.passes.ok.0) in record {
-      load = subst (λ shape. IsLoad shape c.args.commands totals) new.of
-          (loaded b may_answer c.args.commands workers.items totals c.gather-first.result long worked none each c.in-Ok-count_all.ensures.each c.gather-first.ensures c.in-Some-count_keys.ensures.keys c.in-Some-count_keys.ensures.alone);
-      let_through = subst (λ shape. IsLetThrough shape c.args.commands may_answer) new.of (all_let_through b may_answer c.args.commands workers.items long worked none);
+      load = subst (λ shape. IsLoad shape c.args.seed c.args.commands totals) new.of
+          (loaded b may_answer c.args.seed c.args.commands workers.items totals c.gather-first.result long worked none each c.in-Ok-count_all.ensures.each c.gather-first.ensures c.in-Some-count_keys.ensures.keys c.in-Some-count_keys.ensures.alone);
+      let_through = subst (λ shape. IsLetThrough shape c.args.commands may_answer) new.of (all_let_through b may_answer c.args.seed c.args.commands workers.items long worked none);
       fault = tt;
     }

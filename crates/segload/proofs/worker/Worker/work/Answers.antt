@@ -1,31 +1,39 @@
-use Rattle.std.proofs.Common.{rules, ◌≡◌, true, false, sym, subst, ◌∙◌, below_more}
+use Rattle.std.proofs.Common.{◌≡◌, true, false, subst, ◌∙◌, below_more}
 use Rattle.std.proofs.lemmas.Bool.{true≢false}
-use Rattle.segbase.specs.Passes.{number, mine}
+use Rattle.segbase.specs.Passes.{number, seen, mine}
+use Rattle.segload.specs.declared.worker.Worker.{Worker}
 use Rattle.segload.specs.Gates.{LetsThrough}
-use Rattle.segload.specs.Counting.{CountsReplies}
+use Rattle.segload.specs.Making.{ComesTo}
+use Rattle.segload.proofs.Answered.{works_on}
 use Rattle.segload.proofs.worker.Worker.work.Goals as goal
 
 pub loop-call-preserved : goal.loop-call-preserved
-loop-call-preserved g c = let was = c.loop-call.invariant in let served = c.serve-tally.ensures in record {
-  at_work = record {
-    quiet = served.on.quiet;
-    counts = subst (λ t. CountsReplies t (mine c.serve-tally.new.self.pass)) (sym c.count.ensures.counted) (served.tells c.loop-call.self.tallies was.at_work.counts);
-  };
-  same = served.on.same ∙ was.same;
-  all = search rules;
-  let_through = below_more (λ call. g.G.Gate.may_answer c.args.gate.now c.number-pass.result call true) c.loop-call.call was.let_through
-      (subst (g.G.Gate.may_answer c.args.gate.now c.number-pass.result c.loop-call.call) c.if-not-enter.false c.enter.ensures);
-  runs = was.runs;
-}
+loop-call-preserved g c =
+    let was = c.loop-call.invariant in
+    let served = c.serve-tally.ensures in
+    let b = c.args.index.now.board in
+    let worker = c.loop-call.self in
+    let p = worker.client.pass in
+    let q = c.serve-tally.new.self.pass in
+    let later : Worker = record worker { client = c.serve-tally.new.self; workload = c.next-load.new.self; tallies = c.count.new.self } in
+    record {
+      at_work = works_on b c.args.self.workload c.loop-call.call c.serve-tally.result worker later was.at_work served.on
+          (subst (λ load. ComesTo b.shape (seen q) (number p) load c.serve-tally.result (mine p) (mine q)) c.next-load.ensures.value served.came)
+          c.next-load.ensures.after c.count.ensures.counted;
+      same = served.on.same ∙ was.same;
+      let_through = below_more (λ call. g.G.Gate.may_answer c.args.gate.now c.number-pass.result call true) c.loop-call.call was.let_through
+          (subst (g.G.Gate.may_answer c.args.gate.now c.number-pass.result c.loop-call.call) c.if-not-enter.false c.enter.ensures);
+      runs = was.runs;
+    }
 
 pub returns-then-not-enter : goal.returns-then-not-enter
 returns-then-not-enter g c =
     let was = c.loop-call.invariant in
     let pass : c.number-pass.result ≡ number c.args.self.client.pass = c.number-pass.ensures ∙ c.requires.begins.at_work.quiet.pass.numbered in
     record {
-      at_work = record { quiet = was.at_work.quiet; counts = was.at_work.counts };
+      quiet = was.at_work.quiet;
       is = was.same;
-      all = λ runs. absurd (true≢false runs);
+      at_work = λ runs. absurd (true≢false runs);
       let_through = λ runs. absurd (true≢false runs);
       stopped = λ is. (
         record {
@@ -34,6 +42,6 @@ returns-then-not-enter g c =
           until = subst (LetsThrough (g.G.Gate.may_answer c.args.gate.now) c.loop-call.call) pass was.let_through;
           stopped = subst (λ n. g.G.Gate.may_answer c.args.gate.now n c.loop-call.call false) pass (subst (g.G.Gate.may_answer c.args.gate.now c.number-pass.result c.loop-call.call) c.if-not-enter.true c.enter.ensures);
         },
-        was.all,
+        record { quiet = was.at_work.quiet; workload = was.at_work.workload; makes = was.at_work.makes; all = was.at_work.all },
       );
     }

@@ -2,15 +2,13 @@ use Rattle.std.proofs.Common.{◌≡◌, false}
 use Rattle.segbase.specs.Passes.{number}
 use Rattle.segindex.specs.Index.{board_of}
 use Rattle.segload.specs.Gates.{LetsThrough}
-use Rattle.segload.specs.Counting.{all_of}
 use Rattle.segload.specs.Working.{IsAtWork}
 use Rattle.segload.proofs.worker.Worker.work.Given as goal
 
 abbrev pub invariant-loop-call : goal.invariant-loop-call
 invariant-loop-call g l = record {
-  at_work : IsAtWork (board_of l.index) l.self;
+  at_work : IsAtWork (board_of l.index) l.fn.self.workload l.call l.self;
   same : number l.self.client.pass ≡ number l.fn.self.client.pass;
-  all : all_of l.self.tallies ≡ l.call;
   let_through : LetsThrough (g.G.Gate.may_answer l.gate) l.call l.pass;
   runs : l.self.is_stopped ≡ false;
 }

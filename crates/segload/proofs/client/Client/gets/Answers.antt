@@ -1,0 +1,8 @@
+use Rattle.segload.proofs.Answered.{gets_hit, gets_miss}
+use Rattle.segload.proofs.client.Client.gets.Goals as goal
+
+pub returns-in-Found-clause-read : goal.returns-in-Found-clause-read
+returns-in-Found-clause-read c = gets_hit c.args.index.now.board c.args.load.now.key c.gets.result c.in-Found.field-0 c.in-Found.version c.args.self.now.pass c.gets.new.pass c.in-Found.is c.gets.ensures.on c.gets.ensures.keeps.entries c.gets.ensures.answer
+
+pub returns-in-Miss-clause-read : goal.returns-in-Miss-clause-read
+returns-in-Miss-clause-read c = gets_miss c.args.index.now.board c.args.load.now.key c.gets.result c.args.self.now.pass c.gets.new.pass c.in-Miss.is c.gets.ensures.on c.gets.ensures.keeps.entries c.gets.ensures.answer
