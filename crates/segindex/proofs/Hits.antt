@@ -1,4 +1,4 @@
--- The value of a hit, read from within its segment.
+-- The value of a hit, read from within its segment, and what the hit raises.
 use Rattle.std.proofs.Common.{◌≡◌, ℕ, ◌<◌, List, [], ◌++◌, sym, ap, ◌∙◌, subst, append_assoc}
 use Rattle.segword.specs.Bytes.{IsKey, IsValue}
 use Rattle.segword.specs.ItemWord.{item_word}
