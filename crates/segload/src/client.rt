@@ -47,6 +47,7 @@ impl Client {
     ghost use Rattle.segindex.specs.Index.{board_of, shape_of};
     ghost use Rattle.segindex.specs.Quiet.{IsQuiet};
     ghost use Rattle.segindex.specs.Calls.{GoesOn};
+    ghost use Rattle.segindex.specs.Hits.{TriesFew};
     ghost use Rattle.segload.specs.Making.{IsReadAs, IsWrittenAs, IsStoredAs, ComesTo};
 
     /// A pass that made no command yet.
@@ -93,6 +94,7 @@ impl Client {
         ensures on { GoesOn (board_of index.now) self.old.pass self.new.pass }
         ensures read { IsReadAs (shape_of index.now) (seen self.new.pass) (number self.old.pass) (mine self.old.pass) load.now.key result }
         ensures same { mine self.new.pass ≡ mine self.old.pass }
+        ensures once { TriesFew self.old.pass self.new.pass }
     {
         match index.get(&mut self.pass, &load.key, load.draw) {
             GetAnswer::Found(_) => Tally::Hit,
@@ -107,6 +109,7 @@ impl Client {
         ensures on { GoesOn (board_of index.now) self.old.pass self.new.pass }
         ensures read { IsReadAs (shape_of index.now) (seen self.new.pass) (number self.old.pass) (mine self.old.pass) load.now.key result }
         ensures same { mine self.new.pass ≡ mine self.old.pass }
+        ensures once { TriesFew self.old.pass self.new.pass }
     {
         match index.gets(&mut self.pass, &load.key, load.draw) {
             GetsAnswer::Found(_, version) => {

@@ -121,14 +121,27 @@ const COMMANDS: u32 = 200;
 // The command before which passes are stopped.
 const STOP: u32 = 3;
 
-// It stops pass 1 and pass 2, and counts what each pass was answered.
+// It stops pass 1 and pass 2, and counts how often each pass asked, and was answered.
 #[derive(Drop)]
 struct Stopper {
+    asked: [AtomicU64; PASSES],
     answered: [AtomicU64; PASSES],
+}
+
+fn no_counts() -> [AtomicU64; PASSES] {
+    [
+        AtomicU64::new(0),
+        AtomicU64::new(0),
+        AtomicU64::new(0),
+        AtomicU64::new(0),
+    ]
 }
 
 impl Gate for Stopper {
     fn enter(&self, pass: u32, call: u32) -> bool {
+        if let Some(count) = self.asked.get(pass as usize) {
+            count.fetch_add(1, SeqCst);
+        }
         !((pass == 1 || pass == 2) && call == STOP)
     }
 
@@ -150,12 +163,8 @@ fn a_stopped_pass_does_not_stop_the_others(rt: HostRuntime) -> Result<(), Fail> 
         first_version: 0,
     };
     let gate = Stopper {
-        answered: [
-            AtomicU64::new(0),
-            AtomicU64::new(0),
-            AtomicU64::new(0),
-            AtomicU64::new(0),
-        ],
+        asked: no_counts(),
+        answered: no_counts(),
     };
     let fault = run_load(&rt, rt.alloc(), shape, 1, COMMANDS, &gate).err();
     assert_eq!(rt; fault, Some(LoadFault::Stopped(1)));
@@ -163,6 +172,13 @@ fn a_stopped_pass_does_not_stop_the_others(rt: HostRuntime) -> Result<(), Fail> 
     assert_eq!(rt; first.load(SeqCst), u64::from(COMMANDS));
     assert_eq!(rt; second.load(SeqCst), u64::from(STOP));
     assert_eq!(rt; third.load(SeqCst), u64::from(STOP));
+    assert_eq!(rt; fourth.load(SeqCst), u64::from(COMMANDS));
+
+    // Each pass asks once before each command, and a stopped one no more.
+    let [first, second, third, fourth] = &gate.asked;
+    assert_eq!(rt; first.load(SeqCst), u64::from(COMMANDS));
+    assert_eq!(rt; second.load(SeqCst), u64::from(STOP) + 1);
+    assert_eq!(rt; third.load(SeqCst), u64::from(STOP) + 1);
     assert_eq!(rt; fourth.load(SeqCst), u64::from(COMMANDS));
     Ok(())
 }
