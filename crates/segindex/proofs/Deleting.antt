@@ -33,9 +33,9 @@ use Rattle.segindex.specs.Taking.{HasCleanBit}
 use Rattle.segindex.specs.Writing.{IsInChain, IsEarlier, IsTarget, Finds, own_word}
 use Rattle.segindex.specs.Storing.{TookToWrite, TakesToWrite}
 use Rattle.segindex.specs.Refusing.{reply_now, Refuses, Removes}
-use Rattle.segindex.proofs.Ending.{IsEntry, plain_back, memo_back, entered_on, entered, entered_undrawn, entered_unraised, entered_taking}
+use Rattle.segindex.proofs.Ending.{IsEntry, plain_back, memo_back, entered_on, entered, entered_undrawn, entered_unread, entered_taking}
 use Rattle.segindex.proofs.Linking.{event_at, unlink_event, own_item}
-use Rattle.segindex.proofs.Refused.{own_target, own_none, own_stands, refused_goes_on, refused_replied, refused_undrawn, refused_unraised, refused_takes}
+use Rattle.segindex.proofs.Refused.{own_target, own_none, own_stands, refused_goes_on, refused_replied, refused_undrawn, refused_unread, refused_takes}
 use Rattle.segindex.proofs.UnderBit.{moved_bucket, moved_bit, did_acts}
 use Rattle.segindex.proofs.UnderWrite.{took_moved}
 
@@ -128,7 +128,7 @@ module _ (b : Board) (request : Request) (key : List ℕ) (bucket : ℕ) (asked 
 
 -- the bit can't be had
 pub deletes_nothing : (b : Board) (key : List ℕ) (p q : Pass) → TakesToWrite b (bucket_of b.shape key) false p q → Deletes b key delete.Busy p q
-deletes_nothing b key p q busy = record { on = busy.0; answer = (busy.1, busy.2); locked = λ has. refl; takes = λ other. absurd (other refl); draws_nothing = busy.3; raises_nothing = busy.4 }
+deletes_nothing b key p q busy = record { on = busy.0; answer = (busy.1, busy.2); locked = λ has. refl; takes = λ other. absurd (other refl); draws_nothing = busy.3; reads_nothing = busy.4 }
 
 deletion_entry : (z : Shape) (key : List ℕ) (at : ℕ) → IsEntry z (bucket_of z key) (λ pass. Unlinked pass key at None) (λ pass. Wrote pass (Delete key) reply.Deleted None)
 deletion_entry z key at = record { at = λ pass. refl; adds = λ pass. refl; of = λ pass. refl; still = λ pass. tt; calm = λ pass. tt; undrawn = λ pass. tt; untried = λ pass. tt }
@@ -149,7 +149,7 @@ module _ (b : Board) (key : List ℕ) (p q s : Pass) (quiet : IsQuiet b p) (took
         locked = λ has. absurd (took.unlocked has);
         takes = λ other. entered_taking b k true (λ pass. Unlinked pass key at None) (λ pass. Wrote pass (Delete key) reply.Deleted None) is p q q s quiet took looked gives;
         draws_nothing = entered_undrawn b k true (λ pass. Unlinked pass key at None) (λ pass. Wrote pass (Delete key) reply.Deleted None) is p q q s quiet took looked gives;
-        raises_nothing = entered_unraised b k true (λ pass. Unlinked pass key at None) (λ pass. Wrote pass (Delete key) reply.Deleted None) is p q q s quiet took looked gives;
+        reads_nothing = entered_unread b k true (λ pass. Unlinked pass key at None) (λ pass. Wrote pass (Delete key) reply.Deleted None) is p q q s quiet took looked gives;
       }
   deletes delete.NotFound refuses = record {
     on = refused_goes_on b (Delete key) reply.NotFound p q q s quiet took looked refuses;
@@ -157,6 +157,6 @@ module _ (b : Board) (key : List ℕ) (p q s : Pass) (quiet : IsQuiet b p) (took
     locked = λ has. absurd (took.unlocked has);
     takes = λ other. refused_takes b (Delete key) reply.NotFound p q q s quiet took looked refuses;
     draws_nothing = refused_undrawn b (Delete key) reply.NotFound p q q s quiet took looked refuses;
-    raises_nothing = refused_unraised b (Delete key) reply.NotFound p q q s quiet took looked refuses;
+    reads_nothing = refused_unread b (Delete key) reply.NotFound p q q s quiet took looked refuses;
   }
   deletes delete.Busy none = absurd none

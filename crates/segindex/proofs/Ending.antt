@@ -18,14 +18,14 @@ use Rattle.segbase.proofs.Moves.{moved_then}
 use Rattle.segstore.specs.Refilling.{Idles}
 use Rattle.segstore.proofs.Keeping.{IsCalm, keeps_plain}
 use Rattle.segindex.specs.Quiet.{IsQuiet}
-use Rattle.segindex.specs.Calls.{memo, GoesOn, TakesOneBit, DrawsNothing, RaisesNothing, AddsEntry}
+use Rattle.segindex.specs.Calls.{memo, GoesOn, TakesOneBit, DrawsNothing, ReadsNothing, AddsEntry}
 use Rattle.segindex.specs.Storing.{TookToWrite}
 use Rattle.segindex.specs.Refusing.{GivesBack}
 use Rattle.segindex.proofs.Draws.{IsUndrawn}
 use Rattle.segindex.proofs.Sets.{found_plain, found_keeps}
 use Rattle.segindex.proofs.Still.{IsStill}
 use Rattle.segindex.proofs.TakenBits.{IsNoTry}
-use Rattle.segindex.proofs.UnderWrite.{took_moved, ends_on, ends_adding, ends_undrawn, ends_unraised, ends_taking}
+use Rattle.segindex.proofs.UnderWrite.{took_moved, ends_on, ends_adding, ends_undrawn, ends_unread, ends_taking}
 
 -- an event in the bucket, by its pass, adds an entry and stores nothing
 pub record IsEntry (shape : Shape) (bucket : ℕ) (act : ℕ → Event) (entry : ℕ → Entry) : Type 0 where
@@ -70,8 +70,8 @@ module _ (b : Board) (bucket : ℕ) (counted : Bool) (act : ℕ → Event) (entr
   pub entered_undrawn : DrawsNothing p s
   entered_undrawn = ends_undrawn b bucket p q quiet took s (act n ∷ []) (entry n ∷ []) counted moved elsewhere (is_entry.still n, tt) adds gives.free (is_entry.undrawn n, tt)
 
-  pub entered_unraised : RaisesNothing p s
-  entered_unraised = ends_unraised b bucket p q quiet took s (act n ∷ []) (entry n ∷ []) counted moved elsewhere (is_entry.still n, tt) adds gives.free
+  pub entered_unread : ReadsNothing p s
+  entered_unread = ends_unread b bucket p q quiet took s (act n ∷ []) (entry n ∷ []) counted moved elsewhere (is_entry.still n, tt) adds gives.free
 
   pub entered_taking : TakesOneBit bucket p s
   entered_taking = ends_taking b bucket p q quiet took s (act n ∷ []) (entry n ∷ []) counted moved elsewhere (is_entry.still n, tt) adds gives.free (is_entry.untried n, tt)

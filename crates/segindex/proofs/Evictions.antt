@@ -33,14 +33,14 @@ use Rattle.segstore.specs.Segments.{KeepsSegments}
 use Rattle.segstore.proofs.Keeping.{seat_trace, same_memo, same_plain}
 use Rattle.segindex.specs.declared.evict.RowAnswer.TheVariants as row_answer
 use Rattle.segindex.specs.Quiet.{IsQuiet}
-use Rattle.segindex.specs.Calls.{memo, GoesOn, DrawsNothing, RaisesNothing}
+use Rattle.segindex.specs.Calls.{memo, GoesOn, DrawsNothing, ReadsNothing}
 use Rattle.segindex.specs.Evicting.{AreEvictions, TakesOut, IsBarred, IsEvictAnswer}
 use Rattle.segindex.specs.Unlinking.{KeepsGone, EvictsRow}
 use Rattle.segindex.proofs.Bits.{bit_before}
 use Rattle.segindex.proofs.Draws.{moved_undrawn, draws_none_then}
 use Rattle.segindex.proofs.Quiet.{quiet_again, goes_on}
 use Rattle.segindex.proofs.RowsOut.{goes_then, keeps_gone_then}
-use Rattle.segindex.proofs.Still.{raises_none, settles_still}
+use Rattle.segindex.proofs.Still.{no_reader, settles_still}
 
 -- ---- a change of the plain part alone
 
@@ -54,8 +54,8 @@ module _ (b : Board) (p q : Pass) (quiet : IsQuiet b p) (seat : q.seat ≡ p.sea
   pub same_drew : DrawsNothing p q
   same_drew = moved_undrawn b [] p q unmoved tt
 
-  pub same_raised : RaisesNothing p q
-  same_raised = raises_none b [] p q unmoved tt
+  pub same_readings : ReadsNothing p q
+  same_readings = no_reader b [] p q unmoved tt
 
   pub plain_goes_on : locked_of q ≡ locked_of p → is_holding_of q ≡ is_holding_of p → KeepsSegments b q → GoesOn b p q
   plain_goes_on locks holds segments =
@@ -96,7 +96,7 @@ pub record Evicting (b : Board) (segment row taken : ℕ) (p q : Pass) : Type 0 
   pub plain : q.plain ≡ p.plain
   pub memo : memo q ≡ memo p
   pub draws_nothing : DrawsNothing p q
-  pub raises_nothing : RaisesNothing p q
+  pub reads_nothing : ReadsNothing p q
   pub evictions : List Entry
   pub counted : length evictions ≡ taken
   pub all : AreEvictions (number p) segment evictions
@@ -120,7 +120,7 @@ module _ (b : Board) (segment row taken : ℕ) (p q r : Pass) (e : Evicting b se
         plain = one.plain ∙ e.plain;
         memo = one.memo ∙ e.memo;
         draws_nothing = draws_none_then p q r e.draws_nothing one.draws_nothing;
-        raises_nothing = one.raises_nothing ∙ e.raises_nothing;
+        reads_nothing = one.reads_nothing ∙ e.reads_nothing;
         evictions = entry.Evicted (number p) key segment ∷ e.evictions;
         counted = omega arith;
         all = ((key, refl), e.all);
@@ -137,7 +137,7 @@ module _ (b : Board) (segment row taken : ℕ) (p q r : Pass) (e : Evicting b se
     plain = one.plain ∙ e.plain;
     memo = one.memo ∙ e.memo;
     draws_nothing = draws_none_then p q r e.draws_nothing one.draws_nothing;
-    raises_nothing = one.raises_nothing ∙ e.raises_nothing;
+    reads_nothing = one.reads_nothing ∙ e.reads_nothing;
     evictions = e.evictions;
     counted = e.counted;
     all = e.all;
@@ -195,8 +195,8 @@ module _ (b : Board) (segment row taken : ℕ) (p q : Pass) (in_use : state_of p
     pub barred_undrawn : DrawsNothing p r
     barred_undrawn = draws_none_then p q r e.draws_nothing busy.draws_nothing
 
-    pub barred_unraised : RaisesNothing p r
-    barred_unraised = busy.raises_nothing ∙ e.raises_nothing
+    pub barred_unread : ReadsNothing p r
+    barred_unread = busy.reads_nothing ∙ e.reads_nothing
 
     barred_by : IsBarred b.shape segment p r
     barred_by =
@@ -267,8 +267,8 @@ module _ (b : Board) (segment row taken : ℕ) (p q : Pass) (in_use : state_of p
       pub emptied_undrawn : DrawsNothing p r
       emptied_undrawn = draws_none_then p q r e.draws_nothing (same_drew b q r e.on.quiet seat but.owner)
 
-      pub emptied_unraised : RaisesNothing p r
-      emptied_unraised = same_raised b q r e.on.quiet seat but.owner ∙ e.raises_nothing
+      pub emptied_unread : ReadsNothing p r
+      emptied_unread = same_readings b q r e.on.quiet seat but.owner ∙ e.reads_nothing
 
       pub emptied_answer : IsEvictAnswer b.shape segment (evict.Evicted taken) p r
       emptied_answer = inl (

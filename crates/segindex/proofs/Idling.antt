@@ -15,14 +15,14 @@ use Rattle.segbase.specs.Plain.{locked_of}
 use Rattle.segbase.proofs.Moves.{stays, moved_mine, moved_taken, moved_bounced}
 use Rattle.segstore.proofs.Keeping.{AreCalm, keeps_plain}
 use Rattle.segindex.specs.Quiet.{IsQuiet}
-use Rattle.segindex.specs.Calls.{memo, GoesOn, ChangesNothing, TakesNoBit, TriesInVain, DrawsNothing, RaisesNothing}
+use Rattle.segindex.specs.Calls.{memo, GoesOn, ChangesNothing, TakesNoBit, TriesInVain, DrawsNothing, ReadsNothing}
 use Rattle.segindex.specs.Answers.{IsBusy}
 use Rattle.segindex.specs.Taking.{bounces, TakesBucket}
 use Rattle.segindex.proofs.Bits.{bit_before}
 use Rattle.segindex.proofs.Bounces.{bounces_still, bounces_calm, bounces_undrawn, bounces_seen, bounces_taken, bounces_counted, bounces_elsewhere}
 use Rattle.segindex.proofs.Draws.{moved_undrawn}
 use Rattle.segindex.proofs.Quiet.{quiet_again, goes_on}
-use Rattle.segindex.proofs.Still.{AreStill, raises_none, settles_still}
+use Rattle.segindex.proofs.Still.{AreStill, no_reader, settles_still}
 use Rattle.segindex.proofs.Taking.{has, bounces_none}
 
 -- events that do nothing to words, rows or segments
@@ -74,10 +74,10 @@ took_none b own p q m takes meets = record {
 }
 
 -- 64 tries were in vain
-pub gave_up : (b : Board) (p q : Pass) (bucket : ℕ) → IsQuiet b p → bucket < b.shape.buckets → TakesBucket b bucket false p q → q.plain ≡ p.plain → memo q ≡ memo p → GoesOn b p q × ChangesNothing p q × IsBusy bucket p q × DrawsNothing p q × RaisesNothing p q
+pub gave_up : (b : Board) (p q : Pass) (bucket : ℕ) → IsQuiet b p → bucket < b.shape.buckets → TakesBucket b bucket false p q → q.plain ≡ p.plain → memo q ≡ memo p → GoesOn b p q × ChangesNothing p q × IsBusy bucket p q × DrawsNothing p q × ReadsNothing p q
 gave_up b p q bucket quiet within tried plain same = ⊎_elim
     (λ t. let idle = goes_idle b [] p q quiet t.1 (idles_none b p) plain same in
-    (idle.0, idle.1, inl (quiet.bits bucket (has b p bucket within t.0), took_none b [] p q t.1 refl (λ c. refl)), moved_undrawn b [] p q t.1 tt, raises_none b [] p q t.1 tt))
+    (idle.0, idle.1, inl (quiet.bits bucket (has b p bucket within t.0), took_none b [] p q t.1 refl (λ c. refl)), moved_undrawn b [] p q t.1 tt, no_reader b [] p q t.1 tt))
     (λ f. let own = bounces (number p) bucket 64 in let idle = goes_idle b own p q quiet f.1 (idles_bounces b p bucket 64) plain same in (
       idle.0,
       idle.1,
@@ -87,7 +87,7 @@ gave_up b p q bucket quiet within tried plain same = ⊎_elim
         others = λ other apart. moved_bounced b own p q other f.1 ∙ bounces_elsewhere (number p) bucket other 64 (trace p) apart;
       }),
       moved_undrawn b own p q f.1 (bounces_undrawn (number p) bucket 64),
-      raises_none b own p q f.1 (bounces_still (number p) bucket 64),
+      no_reader b own p q f.1 (bounces_still (number p) bucket 64),
     ))
     tried
 

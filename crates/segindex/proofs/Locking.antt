@@ -26,7 +26,7 @@ use Rattle.segbase.proofs.Moves.{moved_mine}
 use Rattle.segstore.specs.Segments.{KeepsSegments}
 use Rattle.segstore.proofs.Keeping.{AreCalm, same_plain, keeps}
 use Rattle.segindex.specs.Quiet.{IsLock, IsQuiet}
-use Rattle.segindex.specs.Calls.{memo, GoesOn, TakesNoBit, DrawsNothing, RaisesNothing}
+use Rattle.segindex.specs.Calls.{memo, GoesOn, TakesNoBit, DrawsNothing, ReadsNothing}
 use Rattle.segindex.specs.Answers.{NoneSince, Locks, Unlocks}
 use Rattle.segindex.specs.Taking.{bounces, TakesBucket, lock_now, SetsLock}
 use Rattle.segindex.proofs.Bits.{bit_before, no_new_bit}
@@ -35,7 +35,7 @@ use Rattle.segindex.proofs.Draws.{moved_undrawn}
 use Rattle.segindex.proofs.Idling.{took_none}
 use Rattle.segindex.proofs.Meanwhile.{none_entries}
 use Rattle.segindex.proofs.Quiet.{has_locked, lock_of, SettlesIn, holds_again, inside_again, hold_again, goes_on}
-use Rattle.segindex.proofs.Still.{AreStill, raises_none, settles_still}
+use Rattle.segindex.proofs.Still.{AreStill, no_reader, settles_still}
 use Rattle.segindex.proofs.TakenBits.{took_one}
 use Rattle.segindex.proofs.Taking.{bounces_none}
 
@@ -136,8 +136,8 @@ module _ (b : Board) (p r q : Pass) (bucket : ℕ) (quiet : IsQuiet b p) (free :
   pub locks_undrawn : DrawsNothing p q
   locks_undrawn = moved_undrawn b took_own p q locked_move (tt, bounces_undrawn (number p) bucket took.0)
 
-  pub locks_unraised : RaisesNothing p q
-  locks_unraised = raises_none b took_own p q locked_move (tt, bounces_still (number p) bucket took.0)
+  pub locks_unread : ReadsNothing p q
+  locks_unread = no_reader b took_own p q locked_move (tt, bounces_still (number p) bucket took.0)
 
   pub locks_bucket : GoesOn b p q × Locks bucket p q
   locks_bucket = (
@@ -203,8 +203,8 @@ module _ (b : Board) (p r q : Pass) (bucket : ℕ) (quiet : IsQuiet b p) (had : 
   pub unlocks_undrawn : DrawsNothing p q
   unlocks_undrawn = moved_undrawn b freed_own p q unlocked_move (tt, tt)
 
-  pub unlocks_unraised : RaisesNothing p q
-  unlocks_unraised = raises_none b freed_own p q unlocked_move (tt, tt)
+  pub unlocks_unread : ReadsNothing p q
+  unlocks_unread = no_reader b freed_own p q unlocked_move (tt, tt)
 
   pub unlocks_bucket : GoesOn b p q × Unlocks b.shape p q
   unlocks_bucket = (

@@ -20,12 +20,12 @@ use Rattle.segbase.proofs.Moves.{moved_inside, moved_mine}
 use Rattle.segstore.specs.Segments.{KeepsSegments}
 use Rattle.segstore.specs.Refilling.{Idles, FillsAnew, IsOutcome}
 use Rattle.segindex.specs.Quiet.{is_held_in, IsQuiet}
-use Rattle.segindex.specs.Calls.{GoesOn, TakesNoBit, DrawsNothing, RaisesNothing}
+use Rattle.segindex.specs.Calls.{GoesOn, TakesNoBit, DrawsNothing, ReadsNothing}
 use Rattle.segindex.specs.Answers.{IsRead, IsRefillAnswer}
 use Rattle.segindex.proofs.Bits.{bit_before}
 use Rattle.segindex.proofs.Draws.{moved_undrawn}
 use Rattle.segindex.proofs.Quiet.{Settles, quiet_again, goes_on}
-use Rattle.segindex.proofs.Still.{raises_none}
+use Rattle.segindex.proofs.Still.{no_reader}
 use Rattle.segindex.proofs.Idling.{goes_same, changes_nothing, goes_nowhere, does_nothing, took_none}
 
 -- ---- quiet again
@@ -90,11 +90,11 @@ refill_draws_none b s refill.NotYours p q is = rw is (λ bucket. refl)
 refill_draws_none b s refill.NotEvicted p q is = rw is (λ bucket. refl)
 refill_draws_none b s refill.Held p q is = moved_undrawn b [] p q is.0.moved tt
 
-pub refill_raises_none : (b : Board) (s : ℕ) (r : RefillAnswer) (p q : Pass) → IsOutcome b s r p q → RaisesNothing p q
-refill_raises_none b s refill.Refilled p q is = raises_none b (Refilled (number p) s ∷ []) p q is.moved (tt, tt)
-refill_raises_none b s refill.NotYours p q is = rw is refl
-refill_raises_none b s refill.NotEvicted p q is = rw is refl
-refill_raises_none b s refill.Held p q is = raises_none b [] p q is.0.moved tt
+pub refill_reads_none : (b : Board) (s : ℕ) (r : RefillAnswer) (p q : Pass) → IsOutcome b s r p q → ReadsNothing p q
+refill_reads_none b s refill.Refilled p q is = no_reader b (Refilled (number p) s ∷ []) p q is.moved (tt, tt)
+refill_reads_none b s refill.NotYours p q is = rw is refl
+refill_reads_none b s refill.NotEvicted p q is = rw is refl
+refill_reads_none b s refill.Held p q is = no_reader b [] p q is.0.moved tt
 
 -- a segment of another's, or in use, is left at once
 pub not_yours_same : (b : Board) (s : ℕ) (r : RefillAnswer) (p q : Pass) → IsOutcome b s r p q → r ≡ refill.NotYours → q ≡ p

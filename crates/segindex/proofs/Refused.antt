@@ -34,13 +34,13 @@ use Rattle.segindex.specs.declared.find.Target.{Target}
 use Rattle.segindex.specs.declared.write.When.{When}
 use Rattle.segindex.specs.declared.write.When.TheVariants as when
 use Rattle.segindex.specs.Quiet.{IsQuiet}
-use Rattle.segindex.specs.Calls.{GoesOn, TakesOneBit, DrawsNothing, RaisesNothing}
+use Rattle.segindex.specs.Calls.{GoesOn, TakesOneBit, DrawsNothing, ReadsNothing}
 use Rattle.segindex.specs.Answers.{IsReplied, IsWriteAnswer}
 use Rattle.segindex.specs.Taking.{HasCleanBit}
 use Rattle.segindex.specs.Writing.{IsTarget, IsAbsent, own_word, Finds}
 use Rattle.segindex.specs.Storing.{TookToWrite}
 use Rattle.segindex.specs.Refusing.{request_of, IsToldBy, reply_now, Refuses}
-use Rattle.segindex.proofs.Ending.{IsEntry, plain_back, memo_back, entered_on, entered, entered_undrawn, entered_unraised, entered_taking}
+use Rattle.segindex.proofs.Ending.{IsEntry, plain_back, memo_back, entered_on, entered, entered_undrawn, entered_unread, entered_taking}
 use Rattle.segindex.proofs.UnderBit.{moved_at}
 
 -- ---- which request it is, and which reply
@@ -147,8 +147,8 @@ module _ (b : Board) (request : Request) (said : Reply) (p q f s : Pass) (quiet 
   pub refused_undrawn : DrawsNothing p s
   refused_undrawn = entered_undrawn b home false (λ pass. Replied pass request said) (λ pass. Wrote pass request said None) (refusal_entry b.shape request said) p q f s quiet took idles refuses
 
-  pub refused_unraised : RaisesNothing p s
-  refused_unraised = entered_unraised b home false (λ pass. Replied pass request said) (λ pass. Wrote pass request said None) (refusal_entry b.shape request said) p q f s quiet took idles refuses
+  pub refused_unread : ReadsNothing p s
+  refused_unread = entered_unread b home false (λ pass. Replied pass request said) (λ pass. Wrote pass request said None) (refusal_entry b.shape request said) p q f s quiet took idles refuses
 
   pub refused_takes : TakesOneBit home p s
   refused_takes = entered_taking b home false (λ pass. Replied pass request said) (λ pass. Wrote pass request said None) (refusal_entry b.shape request said) p q f s quiet took idles refuses

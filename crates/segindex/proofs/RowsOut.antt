@@ -24,7 +24,7 @@ use Rattle.segindex.specs.declared.find.Target.{Target}
 use Rattle.segindex.specs.declared.evict.RowAnswer.{RowAnswer}
 use Rattle.segindex.specs.declared.evict.RowAnswer.TheVariants as row_answer
 use Rattle.segindex.specs.Quiet.{IsQuiet}
-use Rattle.segindex.specs.Calls.{memo, GoesOn, ChangesNothing, DrawsNothing, RaisesNothing}
+use Rattle.segindex.specs.Calls.{memo, GoesOn, ChangesNothing, DrawsNothing, ReadsNothing}
 use Rattle.segindex.specs.Answers.{IsBusy}
 use Rattle.segindex.specs.Storing.{TookToWrite}
 use Rattle.segindex.specs.Unlinking.{IsStoredIn, IsNamedAt, FindsRow, TakesRow, KeepsGone, EvictsRow}
@@ -32,8 +32,8 @@ use Rattle.segindex.proofs.Bounces.{bounces_calm}
 use Rattle.segindex.proofs.Draws.{AreUndrawn, moved_undrawn, draws_none_then}
 use Rattle.segindex.proofs.Idling.{goes_nowhere, does_nothing}
 use Rattle.segindex.proofs.Seeking.{stored_over}
-use Rattle.segindex.proofs.Still.{AreStill, raises_none}
-use Rattle.segindex.proofs.UnderWrite.{tries, took_moved, took_keeps, write_goes_on, write_adds, write_undrawn, write_unraised}
+use Rattle.segindex.proofs.Still.{AreStill, no_reader}
+use Rattle.segindex.proofs.UnderWrite.{tries, took_moved, took_keeps, write_goes_on, write_adds, write_undrawn, write_unread}
 use Rattle.segindex.proofs.Unlinking.{named_stands}
 use Rattle.segindex.proofs.Unnamed.{gone_over}
 
@@ -68,8 +68,8 @@ module _ (b : Board) (bucket : ℕ) (sought : Item) (p f : Pass) (quiet : IsQuie
   undrawn_looking : DrawsNothing p f
   undrawn_looking = moved_undrawn b [] p f i.moved tt
 
-  unraised_looking : RaisesNothing p f
-  unraised_looking = raises_none b [] p f i.moved tt
+  unread_looking : ReadsNothing p f
+  unread_looking = no_reader b [] p f i.moved tt
 
   gone_looking : KeepsGone b sought.seg p f
   gone_looking = keeps_gone b sought.seg [] p f i.moved tt own_before
@@ -81,18 +81,18 @@ module _ (b : Board) (bucket : ℕ) (sought : Item) (p f : Pass) (quiet : IsQuie
     plain = i.plain;
     memo = i.memo;
     draws_nothing = undrawn_looking;
-    raises_nothing = unraised_looking;
+    reads_nothing = unread_looking;
     answer = (gone_looking, gone, (does_nothing b p f quiet i.moved i.plain i.memo).entries);
   }
 
   -- the bit can't be had
-  pub row_is_barred : (q : Pass) (target : Target) → IsNamedAt b bucket sought target f → GoesOn b f q × ChangesNothing f q × IsBusy bucket f q × DrawsNothing f q × RaisesNothing f q → EvictsRow b sought.seg sought.row row_answer.Busy p q
+  pub row_is_barred : (q : Pass) (target : Target) → IsNamedAt b bucket sought target f → GoesOn b f q × ChangesNothing f q × IsBusy bucket f q × DrawsNothing f q × ReadsNothing f q → EvictsRow b sought.seg sought.row row_answer.Busy p q
   row_is_barred q target n busy = record {
     on = goes_then b p f q goes_looking busy.0;
     plain = busy.1.plain ∙ i.plain;
     memo = busy.1.memo ∙ i.memo;
     draws_nothing = draws_none_then p f q undrawn_looking busy.3;
-    raises_nothing = busy.4 ∙ unraised_looking;
+    reads_nothing = busy.4 ∙ unread_looking;
     answer = (
       busy.1.entries ∙ (does_nothing b p f quiet i.moved i.plain i.memo).entries,
       (
@@ -143,8 +143,8 @@ module _ (b : Board) (bucket : ℕ) (sought : Item) (p f : Pass) (quiet : IsQuie
       undrawn_all : AreUndrawn own → DrawsNothing p s
       undrawn_all none = draws_none_then p f s undrawn_looking (write_undrawn b bucket f q quiet_looking took r s own added false m elsewhere still adds freed free none)
 
-      unraised_all : RaisesNothing p s
-      unraised_all = write_unraised b bucket f q quiet_looking took r s own added false m elsewhere still adds freed free ∙ unraised_looking
+      unread_all : ReadsNothing p s
+      unread_all = write_unread b bucket f q quiet_looking took r s own added false m elsewhere still adds freed free ∙ unread_looking
 
       gone_all : KeepsGone b sought.seg p s
       gone_all = keeps_gone_then b sought.seg p q s gone_taken (keeps_gone_then b sought.seg q r s (keeps_gone b sought.seg own q r m calm stored_taken.own)
@@ -162,7 +162,7 @@ module _ (b : Board) (bucket : ℕ) (sought : Item) (p f : Pass) (quiet : IsQuie
           plain = plain_all r s own added t.takes.3 (tt, tt) elsewhere (tt, tt) (λ h. refl) freed free plain same plain' same';
           memo = memo_all r s own added t.takes.3 (tt, tt) elsewhere (tt, tt) (λ h. refl) freed free plain same plain' same';
           draws_nothing = undrawn_all r s own added t.takes.3 (tt, tt) elsewhere (tt, tt) (λ h. refl) freed free plain same plain' same' (tt, tt);
-          raises_nothing = unraised_all r s own added t.takes.3 (tt, tt) elsewhere (tt, tt) (λ h. refl) freed free plain same plain' same';
+          reads_nothing = unread_all r s own added t.takes.3 (tt, tt) elsewhere (tt, tt) (λ h. refl) freed free plain same plain' same';
           answer = (
             gone_all r s own added t.takes.3 (tt, tt) elsewhere (tt, tt) (λ h. refl) freed free plain same plain' same',
             gone_over b (Freed (number r) bucket false ∷ []) r s sought.seg sought.row freed.moved (tt, tt) (stored_taken.own ∙ sym t.takes.3.same) t.gone,
@@ -183,7 +183,7 @@ module _ (b : Board) (bucket : ℕ) (sought : Item) (p f : Pass) (quiet : IsQuie
       plain = plain_all r s [] [] t.takes tt (λ other apart. tt) tt (λ h. refl) freed free plain same plain' same';
       memo = memo_all r s [] [] t.takes tt (λ other apart. tt) tt (λ h. refl) freed free plain same plain' same';
       draws_nothing = undrawn_all r s [] [] t.takes tt (λ other apart. tt) tt (λ h. refl) freed free plain same plain' same' tt;
-      raises_nothing = unraised_all r s [] [] t.takes tt (λ other apart. tt) tt (λ h. refl) freed free plain same plain' same';
+      reads_nothing = unread_all r s [] [] t.takes tt (λ other apart. tt) tt (λ h. refl) freed free plain same plain' same';
       answer = (
         gone_all r s [] [] t.takes tt (λ other apart. tt) tt (λ h. refl) freed free plain same plain' same',
         gone_over b (Freed (number r) bucket false ∷ []) r s sought.seg sought.row freed.moved (tt, tt) (stored_taken.own ∙ sym t.takes.same) t.gone,

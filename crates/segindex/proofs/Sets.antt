@@ -32,7 +32,7 @@ use Rattle.segstore.specs.Segments.{KeepsSegments}
 use Rattle.segstore.specs.Refilling.{Idles}
 use Rattle.segstore.proofs.Keeping.{same_plain, keeps_plain}
 use Rattle.segindex.specs.Quiet.{IsQuiet}
-use Rattle.segindex.specs.Calls.{memo, GoesOn, ChangesNothing, TakesOneBit, DrawsNothing, RaisesNothing, AddsEntry}
+use Rattle.segindex.specs.Calls.{memo, GoesOn, ChangesNothing, TakesOneBit, DrawsNothing, ReadsNothing, AddsEntry}
 use Rattle.segindex.specs.Answers.{IsFull, WasFull, GrowsFor, UsesRow}
 use Rattle.segindex.specs.Taking.{HasCleanBit}
 use Rattle.segindex.specs.Writing.{HasNoWord}
@@ -46,7 +46,7 @@ use Rattle.segindex.proofs.Still.{AreStill}
 use Rattle.segindex.proofs.TakenBits.{both_no_tries}
 use Rattle.segindex.proofs.Filling.{fills_nowhere, fills_still, fills_undrawn, fills_untried, fills_seen}
 use Rattle.segindex.proofs.UnderBit.{moved_bucket, moved_bit}
-use Rattle.segindex.proofs.UnderWrite.{took_moved, took_clean, took_keeps, tries, tries_undrawn, write_goes_on, write_adds, write_drew, write_undrawn, write_unraised, write_takes, still_both}
+use Rattle.segindex.proofs.UnderWrite.{took_moved, took_clean, took_keeps, tries, tries_undrawn, write_goes_on, write_adds, write_drew, write_undrawn, write_unread, write_takes, still_both}
 
 -- ---- after the search
 
@@ -93,8 +93,8 @@ module _ (b : Board) (key : List ℕ) (p q f s : Pass) (quiet : IsQuiet b p) (to
   pub full_undrawn : DrawsNothing p s
   full_undrawn = write_undrawn b k p q quiet took f s [] [] false idles.moved (λ other apart. tt) tt (λ h. refl) freed free tt
 
-  pub full_unraised : RaisesNothing p s
-  full_unraised = write_unraised b k p q quiet took f s [] [] false idles.moved (λ other apart. tt) tt (λ h. refl) freed free
+  pub full_unread : ReadsNothing p s
+  full_unread = write_unread b k p q quiet took f s [] [] false idles.moved (λ other apart. tt) tt (λ h. refl) freed free
 
   pub full_takes : TakesOneBit k p s
   full_takes = write_takes b k p q quiet took f s [] [] false idles.moved (λ other apart. tt) tt (λ h. refl) freed free tt
@@ -168,8 +168,8 @@ module _ (b : Board) (request : Request) (segment row : ℕ) (p q f r s : Pass) 
         uses_all,
       )
 
-  pub stored_unraised : RaisesNothing p s
-  stored_unraised = write_unraised b home p q quiet took r s own (entry ∷ []) true moved elsewhere still adds freed free
+  pub stored_unread : ReadsNothing p s
+  stored_unread = write_unread b home p q quiet took r s own (entry ∷ []) true moved elsewhere still adds freed free
 
   pub stored_takes : TakesOneBit home p s
   stored_takes = write_takes b home p q quiet took r s own (entry ∷ []) true moved elsewhere still adds freed free

@@ -1,19 +1,20 @@
--- Calls that enter and leave no segment, and raise no frequency: the pass is where it was.
+-- Calls that enter and leave no segment, raise no frequency and look at no bit: the pass is where it was.
 use Rattle.std.proofs.Common.{◌≡◌, ℕ, ◌<◌, List, [], ◌∷◌, ◌++◌, sym, refl, ◌∙◌, subst}
 use Rattle.segcore.specs.declared.event.Event.{Event}
-use Rattle.segcore.specs.declared.event.Event.TheVariants.{Bumped, Entered, Left}
+use Rattle.segcore.specs.declared.event.Event.TheVariants.{Glanced, Bumped, Entered, Left}
 use Rattle.segcore.specs.Segment.{inside}
-use Rattle.segcore.specs.Count.{raised}
+use Rattle.segcore.specs.Count.{raised, entered, glanced}
 use Rattle.segbase.specs.declared.board.Board.{Board}
 use Rattle.segbase.specs.declared.pass.Pass.{Pass}
 use Rattle.segbase.specs.Traces.{StaysIn}
 use Rattle.segbase.specs.Passes.{number, trace, holding, Moved}
 use Rattle.segbase.specs.Plain.{is_holding_of}
-use Rattle.segbase.proofs.Moves.{moved_inside, moved_raised}
-use Rattle.segindex.specs.Calls.{RaisesNothing}
+use Rattle.segbase.proofs.Moves.{moved_inside, moved_raised, moved_entered, moved_glanced}
+use Rattle.segindex.specs.Calls.{ReadsNothing}
 use Rattle.segindex.proofs.Quiet.{SettlesIn}
 
 abbrev pub IsStill : Event → Type 0
+IsStill (Glanced p b) = ⊥
 IsStill (Bumped p s r f) = ⊥
 IsStill (Entered p s) = ⊥
 IsStill (Left p s) = ⊥
@@ -47,8 +48,28 @@ still_raised : (p : ℕ) (own h : List Event) → AreStill own → raised p (own
 still_raised p [] h still = refl
 still_raised p (e ∷ own) h still = one_raised p e (own ++ h) still.0 ∙ still_raised p own h still.1
 
-pub raises_none : (b : Board) (own : List Event) (p q : Pass) → Moved b own p q → AreStill own → RaisesNothing p q
-raises_none b own p q m still = moved_raised b own p q m ∙ still_raised (number p) own (trace p) still
+one_entered : (p : ℕ) (e : Event) (h : List Event) → IsStill e → entered p (e ∷ h) ≡ entered p h
+one_entered p (Entered q s) h still = absurd still
+one_entered p e h still = refl
+
+still_entered : (p : ℕ) (own h : List Event) → AreStill own → entered p (own ++ h) ≡ entered p h
+still_entered p [] h still = refl
+still_entered p (e ∷ own) h still = one_entered p e (own ++ h) still.0 ∙ still_entered p own h still.1
+
+one_glanced : (p b : ℕ) (e : Event) (h : List Event) → IsStill e → glanced p b (e ∷ h) ≡ glanced p b h
+one_glanced p b (Glanced q c) h still = absurd still
+one_glanced p b e h still = refl
+
+still_glanced : (p b : ℕ) (own h : List Event) → AreStill own → glanced p b (own ++ h) ≡ glanced p b h
+still_glanced p b [] h still = refl
+still_glanced p b (e ∷ own) h still = one_glanced p b e (own ++ h) still.0 ∙ still_glanced p b own h still.1
+
+pub no_reader : (b : Board) (own : List Event) (p q : Pass) → Moved b own p q → AreStill own → ReadsNothing p q
+no_reader b own p q m still = λ i. (
+  (moved_raised b own p q m ∙ still_raised (number p) own (trace p) still) i,
+  (moved_entered b own p q m ∙ still_entered (number p) own (trace p) still) i,
+  λ bucket. (moved_glanced b own p q bucket m ∙ still_glanced (number p) bucket own (trace p) still) i,
+)
 
 pub settles_still : (b : Board) (own : List Event) (p q : Pass) → Moved b own p q → AreStill own → holding q ≡ holding p → is_holding_of q ≡ is_holding_of p → SettlesIn own p q
 settles_still b own p q m still memo plain = record {

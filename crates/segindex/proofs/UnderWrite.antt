@@ -21,7 +21,7 @@ use Rattle.segbase.proofs.Moves.{moved_then, moved_mine, moved_drew}
 use Rattle.segstore.specs.Segments.{KeepsSegments}
 use Rattle.segstore.proofs.Keeping.{keeps_plain}
 use Rattle.segindex.specs.Quiet.{IsQuiet}
-use Rattle.segindex.specs.Calls.{memo, GoesOn, TakesOneBit, DrawsNothing, RaisesNothing}
+use Rattle.segindex.specs.Calls.{memo, GoesOn, TakesOneBit, DrawsNothing, ReadsNothing}
 use Rattle.segindex.specs.Taking.{bounces, TakesBucket, HasCleanBit}
 use Rattle.segindex.specs.Storing.{TookToWrite, TakesToWrite}
 use Rattle.segindex.proofs.Bits.{none_at_both, bit_before}
@@ -29,7 +29,7 @@ use Rattle.segindex.proofs.Bounces.{bounces_still, bounces_calm, bounces_undrawn
 use Rattle.segindex.proofs.Draws.{AreUndrawn, undrawn}
 use Rattle.segindex.proofs.Idling.{gave_up}
 use Rattle.segindex.proofs.Quiet.{quiet_again, goes_on}
-use Rattle.segindex.proofs.Still.{AreStill, raises_none, settles_still}
+use Rattle.segindex.proofs.Still.{AreStill, no_reader, settles_still}
 use Rattle.segindex.proofs.TakenBits.{AreNoTries, took_one}
 use Rattle.segindex.proofs.Taking.{bounces_none}
 
@@ -109,8 +109,8 @@ module _ (b : Board) (bucket : ℕ) (p q : Pass) (quiet : IsQuiet b p) (took : T
     pub ends_undrawn : AreUndrawn own → DrawsNothing p s
     ends_undrawn none c = ends_drew c ∙ (undrawn (number p) c own (tries ++ trace p) none ∙ tries_undrawn c)
 
-    pub ends_unraised : RaisesNothing p s
-    ends_unraised = raises_none b all p s moved_all all_still
+    pub ends_unread : ReadsNothing p s
+    ends_unread = no_reader b all p s moved_all all_still
 
     -- it took one bit
     pub ends_taking : AreNoTries own → TakesOneBit bucket p s
@@ -134,8 +134,8 @@ module _ (b : Board) (bucket : ℕ) (p q : Pass) (quiet : IsQuiet b p) (took : T
     pub write_undrawn : AreUndrawn own → DrawsNothing p s
     write_undrawn = ends_undrawn s own added counted ended elsewhere still adds free
 
-    pub write_unraised : RaisesNothing p s
-    write_unraised = ends_unraised s own added counted ended elsewhere still adds free
+    pub write_unread : ReadsNothing p s
+    write_unread = ends_unread s own added counted ended elsewhere still adds free
 
     pub write_takes : AreNoTries own → TakesOneBit bucket p s
     write_takes = ends_taking s own added counted ended elsewhere still adds free

@@ -25,7 +25,7 @@ use Rattle.segindex.specs.declared.find.Found.{Found}
 use Rattle.segindex.specs.declared.find.Target.{Target}
 use Rattle.segindex.specs.declared.write.When.{When}
 use Rattle.segindex.specs.Quiet.{IsQuiet}
-use Rattle.segindex.specs.Calls.{memo, GoesOn, TakesOneBit, DrawsNothing, RaisesNothing}
+use Rattle.segindex.specs.Calls.{memo, GoesOn, TakesOneBit, DrawsNothing, ReadsNothing}
 use Rattle.segindex.specs.Answers.{IsWriteAnswer, Writes, GrowsFor, UsesRow}
 use Rattle.segindex.specs.Taking.{HasCleanBit}
 use Rattle.segindex.specs.Writing.{IsTarget, HasNoWord, own_word}
@@ -34,15 +34,15 @@ use Rattle.segindex.specs.Storing.{TookToWrite, IsNextRow, Requests, Stores}
 use Rattle.segindex.specs.Refusing.{request_of, IsToldBy, reply_now, Refuses}
 use Rattle.segindex.proofs.Draws.{grows_none}
 use Rattle.segindex.proofs.Places.{idles_then}
-use Rattle.segindex.proofs.Refused.{asks, own_where, adds_absent, refused_goes_on, refused_undrawn, refused_unraised, refused_takes, refused_answer}
+use Rattle.segindex.proofs.Refused.{asks, own_where, adds_absent, refused_goes_on, refused_undrawn, refused_unread, refused_takes, refused_answer}
 use Rattle.segindex.proofs.Rooms.{searches_later, finds_of, as_found, DrawsOnce, HasRoom, has_room as room_for, no_room}
-use Rattle.segindex.proofs.Sets.{found_clean, may_free, full_goes_on, full_undrawn, full_unraised, full_takes, full_answer, stored_goes_on, stored_answer, stored_unraised, stored_takes, stored_grows}
+use Rattle.segindex.proofs.Sets.{found_clean, may_free, full_goes_on, full_undrawn, full_unread, full_takes, full_answer, stored_goes_on, stored_answer, stored_unread, stored_takes, stored_grows}
 use Rattle.segindex.proofs.UnderBit.{moved_at}
 use Rattle.segindex.proofs.UnderWrite.{took_moved, took_keeps}
 
 -- all that follows where there is room, and the bit was taken
 writes_with : (b : Board) (request : Request) (told : WriteAnswer) (p q s : Pass) → ¬ (has_room b.shape p ≡ false) → TookToWrite b (bucket_of b.shape (key_of request)) p q → told ≢ write.NoRoom
-    → GoesOn b p s → IsWriteAnswer b.shape request told p s → TakesOneBit (bucket_of b.shape (key_of request)) p s → GrowsFor b.shape request p s → (told ≢ write.Stored → DrawsNothing p s) → RaisesNothing p s → Writes b request told p s
+    → GoesOn b p s → IsWriteAnswer b.shape request told p s → TakesOneBit (bucket_of b.shape (key_of request)) p s → GrowsFor b.shape request p s → (told ≢ write.Stored → DrawsNothing p s) → ReadsNothing p s → Writes b request told p s
 writes_with b request told p q s room took some on answer takes grows none still = record {
   on = on;
   answer = answer;
@@ -52,7 +52,7 @@ writes_with b request told p q s room took some on answer takes grows none still
   takes = λ some free. takes;
   grows = grows;
   draws_nothing = none;
-  raises_nothing = still;
+  reads_nothing = still;
 }
 
 module _ (b : Board) (w : When) (request : Request) (key value words : List ℕ) (bucket : ℕ) (asked : request ≡ request_of w key value) (home : bucket ≡ bucket_of b.shape key) (copied : words ≡ key)
@@ -100,7 +100,7 @@ module _ (b : Board) (w : When) (request : Request) (key value words : List ℕ)
           (refused_answer b request (reply_now b g request) p q g s quiet took_it idle refuses answer why.0 why.1)
           (refused_takes b request (reply_now b g request) p q g s quiet took_it idle refuses)
           (grows_none b.shape request p s undrawn) (λ other. undrawn)
-          (refused_unraised b request (reply_now b g request) p q g s quiet took_it idle refuses)
+          (refused_unread b request (reply_now b g request) p q g s quiet took_it idle refuses)
 
     -- what the refusal asks for
     pub may_tell : (answer : WriteAnswer) → refusal ≡ Some answer → IsPassOf b g × (HasCleanBit b g bucket × (bucket ≡ k × IsRefusal (reply_now b g request)))
@@ -142,7 +142,7 @@ module _ (b : Board) (w : When) (request : Request) (key value words : List ℕ)
             writes_with b request write.BucketFull p q s rows took_it (λ e. cc) (full_goes_on b (key_of request) p q r s quiet took_it idle_yet none.2 none.1 freed' free' plain same) (answer.0, adds, answer.1)
             (full_takes b (key_of request) p q r s quiet took_it idle_yet none.2 none.1 freed' free' plain same)
             (grows_none b.shape request p s undrawn) (λ other. undrawn)
-            (full_unraised b (key_of request) p q r s quiet took_it idle_yet none.2 none.1 freed' free' plain same)
+            (full_unread b (key_of request) p q r s quiet took_it idle_yet none.2 none.1 freed' free' plain same)
 
       -- it is stored
       module _ (target : Target) (given : room ≡ Some target) where
@@ -177,4 +177,4 @@ module _ (b : Board) (w : When) (request : Request) (key value words : List ℕ)
             (stored_goes_on b request segment row p q r t s quiet took_it there.own there.ready done kept uses freed' free' plain same) (segment, answer.0, answer.1)
             (stored_takes b request segment row p q r t s quiet took_it there.own there.ready done kept uses freed' free' plain same)
             (stored_grows b request segment row p q r t s quiet took_it there.own there.ready done kept uses freed' free' plain same (seen g) draws adds) (λ other. absurd (other refl))
-            (stored_unraised b request segment row p q r t s quiet took_it there.own there.ready done kept uses freed' free' plain same)
+            (stored_unread b request segment row p q r t s quiet took_it there.own there.ready done kept uses freed' free' plain same)

@@ -36,7 +36,7 @@ use Rattle.segindex.specs.declared.bucket.LockAnswer.{LockAnswer}
 use Rattle.segindex.specs.declared.bucket.LockAnswer.TheVariants as lock
 use Rattle.segindex.specs.Quiet.{is_held_in}
 use Rattle.segstore.specs.Segments.{has_room}
-use Rattle.segindex.specs.Calls.{memo, GoesOn, ChangesNothing, TakesNoBit, TakesOneBit, TriesInVain, DrawsNothing, RaisesNothing, AddsEntry}
+use Rattle.segindex.specs.Calls.{memo, GoesOn, ChangesNothing, TakesNoBit, TakesOneBit, TriesInVain, DrawsNothing, ReadsNothing, AddsEntry}
 
 -- ---- readers
 
@@ -141,7 +141,7 @@ pub record Writes (b : Board) (request : Request) (told : WriteAnswer) (p q : Pa
   pub takes : told ≢ write.NoRoom → told ≢ write.Busy → TakesOneBit (bucket_of b.shape (key_of request)) p q
   pub grows : GrowsFor b.shape request p q
   pub draws_nothing : told ≢ write.Stored → DrawsNothing p q
-  pub raises_nothing : RaisesNothing p q
+  pub reads_nothing : ReadsNothing p q
 
 -- a delete is answered so; it needs no row
 pub record Deletes (b : Board) (key : List ℕ) (told : DeleteAnswer) (p q : Pass) : Type 0 where
@@ -150,7 +150,7 @@ pub record Deletes (b : Board) (key : List ℕ) (told : DeleteAnswer) (p q : Pas
   pub locked : locked_of p ≡ Some (bucket_of b.shape key) → told ≡ delete.Busy
   pub takes : told ≢ delete.Busy → TakesOneBit (bucket_of b.shape key) p q
   pub draws_nothing : DrawsNothing p q
-  pub raises_nothing : RaisesNothing p q
+  pub reads_nothing : ReadsNothing p q
 
 -- ---- locks
 

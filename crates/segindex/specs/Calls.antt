@@ -8,7 +8,7 @@ use Rattle.segmodel.specs.History as history
 use Rattle.segbase.specs.declared.board.Board.{Board}
 use Rattle.segbase.specs.declared.law.Memo.{Memo}
 use Rattle.segbase.specs.declared.pass.Pass.{Pass}
-use Rattle.segbase.specs.Passes.{sight, number, marked, seen, mine, taken, bounced, drew, raised}
+use Rattle.segbase.specs.Passes.{sight, number, marked, seen, mine, taken, bounced, glanced, drew, raised, entered}
 use Rattle.segbase.specs.Made.{IsNewPass}
 use Rattle.segindex.specs.declared.index.Index.{Index}
 use Rattle.segindex.specs.Index.{board_of, shape_of}
@@ -54,6 +54,14 @@ DrawsNothing p q = (bucket : ℕ) → drew q bucket ≡ drew p bucket
 -- it raised the frequency of no item
 abbrev pub RaisesNothing : Pass → Pass → Type 0
 RaisesNothing p q = raised q ≡ raised p
+
+-- how often it raised a frequency, came into a segment, and found the bit of a bucket set by a look without it
+abbrev pub readings : Pass → ℕ × ℕ × (ℕ → ℕ)
+readings p = (raised p, entered p, λ bucket. glanced p bucket)
+
+-- it did nothing of what readers do
+abbrev pub ReadsNothing : Pass → Pass → Type 0
+ReadsNothing p q = readings q ≡ readings p
 
 -- it added one entry of its own
 abbrev pub AddsEntry : Entry → Pass → Pass → Type 0

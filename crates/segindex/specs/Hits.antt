@@ -1,6 +1,10 @@
 -- What readers do beside their answers: how often they come into segments, and which frequency a hit raises.
 use Rattle.std.specs.Prelude.{◌≡◌, ◌⊎◌, ℕ, ◌+◌, ◌≤◌, true, false, List, ◌∷◌, Some}
 use Rattle.segword.specs.declared.shape.Shape.{Shape}
+use Rattle.segmodel.specs.declared.answer.Command.{Command}
+use Rattle.segmodel.specs.declared.answer.Command.TheVariants as command
+use Rattle.segmodel.specs.declared.answer.Answer.{Answer}
+use Rattle.segmodel.specs.declared.answer.Answer.TheVariants as answer
 use Rattle.segmodel.specs.declared.answer.GetAnswer.{GetAnswer}
 use Rattle.segmodel.specs.declared.answer.GetAnswer.TheVariants as get
 use Rattle.segmodel.specs.declared.answer.GetsAnswer.{GetsAnswer}
@@ -16,7 +20,7 @@ use Rattle.segcore.specs.Standing.{cached}
 use Rattle.segpolicy.specs.Frequency.{counts}
 use Rattle.segbase.specs.declared.pass.Pass.{Pass}
 use Rattle.segbase.specs.Passes.{number, trace, raised, entered}
-use Rattle.segindex.specs.Calls.{RaisesNothing}
+use Rattle.segindex.specs.Calls.{RaisesNothing, ReadsNothing}
 
 -- It came into segments as often as a scan of a chain may try: at most 63 tries are counted, and each of the 28 words has one more.
 abbrev pub TriesFew : Pass → Pass → Type 0
@@ -64,3 +68,9 @@ GetRaises shape key draw _ p q = RaisesNothing p q
 abbrev pub GetsRaises : Shape → List ℕ → ℕ → GetsAnswer → Pass → Pass → Type 0
 GetsRaises shape key draw (gets.Found value version) p q = RaisesOne shape key draw p q
 GetsRaises shape key draw _ p q = RaisesNothing p q
+
+-- a hit raises a frequency by the draw 0; no other command does anything of what readers do
+abbrev pub RaisesByDraw : Shape → Command → Answer → Pass → Pass → Type 0
+RaisesByDraw shape (command.Get key) (answer.Get told) p q = GetRaises shape key 0 told p q
+RaisesByDraw shape (command.Gets key) (answer.Gets told) p q = GetsRaises shape key 0 told p q
+RaisesByDraw shape command told p q = ReadsNothing p q

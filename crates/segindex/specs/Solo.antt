@@ -1,6 +1,7 @@
 -- An index with its one pass as contracts see it: its shape, and the state of the model that it is at.
 use Rattle.segword.specs.declared.shape.Shape.{Shape}
 use Rattle.segmodel.specs.State.{State}
+use Rattle.segbase.specs.declared.pass.Pass.{Pass}
 use Rattle.segindex.specs.declared.solo.Solo.{Solo}
 use Rattle.segindex.specs.Alone.{state_at}
 
@@ -9,3 +10,6 @@ shape_of solo = solo.index.board.shape
 
 abbrev pub state_of : Solo → State
 state_of solo = state_at solo.index.board.shape solo.pass
+
+abbrev pub pass_of : Solo → Pass
+pass_of solo = solo.pass

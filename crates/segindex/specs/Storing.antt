@@ -15,7 +15,7 @@ use Rattle.segbase.specs.declared.pass.Pass.{Pass}
 use Rattle.segbase.specs.Passes.{number, trace, seen, Moved}
 use Rattle.segbase.specs.Plain.{current_of, used_of, locked_of}
 use Rattle.segstore.specs.Rows.{fills}
-use Rattle.segindex.specs.Calls.{memo, GoesOn, ChangesNothing, DrawsNothing, RaisesNothing}
+use Rattle.segindex.specs.Calls.{memo, GoesOn, ChangesNothing, DrawsNothing, ReadsNothing}
 use Rattle.segindex.specs.Answers.{IsBusy}
 use Rattle.segindex.specs.Taking.{TakesBucket}
 
@@ -29,7 +29,7 @@ pub record TookToWrite (b : Board) (bucket : ℕ) (p q : Pass) : Type 0 where
 -- or the call is Busy
 abbrev pub TakesToWrite : Board → ℕ → Bool → Pass → Pass → Type 0
 TakesToWrite b bucket true p q = TookToWrite b bucket p q
-TakesToWrite b bucket false p q = GoesOn b p q × ChangesNothing p q × IsBusy bucket p q × DrawsNothing p q × RaisesNothing p q
+TakesToWrite b bucket false p q = GoesOn b p q × ChangesNothing p q × IsBusy bucket p q × DrawsNothing p q × ReadsNothing p q
 
 -- the row is the next one of the pass's current segment
 pub record IsNextRow (b : Board) (segment row : ℕ) (p : Pass) : Type 0 where

@@ -18,7 +18,7 @@ use Rattle.segbase.specs.Spots.{cell_at, position}
 use Rattle.segindex.specs.declared.find.Target.{Target}
 use Rattle.segindex.specs.declared.evict.RowAnswer.{RowAnswer}
 use Rattle.segindex.specs.declared.evict.RowAnswer.TheVariants as row_answer
-use Rattle.segindex.specs.Calls.{memo, GoesOn, DrawsNothing, RaisesNothing}
+use Rattle.segindex.specs.Calls.{memo, GoesOn, DrawsNothing, ReadsNothing}
 use Rattle.segindex.specs.Taking.{HasCleanBit}
 use Rattle.segindex.specs.Writing.{IsInChain}
 use Rattle.segindex.specs.Evicting.{IsBarred}
@@ -81,5 +81,5 @@ pub record EvictsRow (b : Board) (segment row : ℕ) (told : RowAnswer) (p q : P
   pub plain : q.plain ≡ p.plain
   pub memo : memo q ≡ memo p
   pub draws_nothing : DrawsNothing p q
-  pub raises_nothing : RaisesNothing p q
+  pub reads_nothing : ReadsNothing p q
   pub answer : IsRowAnswer b segment row told p q

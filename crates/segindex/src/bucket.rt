@@ -25,7 +25,7 @@ impl Index {
     ghost use Rattle.segbase.specs.Plain.{locked_of};
     ghost use Rattle.segindex.specs.Index.{board_of, shape_of};
     ghost use Rattle.segindex.specs.Quiet.{IsQuiet};
-    ghost use Rattle.segindex.specs.Calls.{memo, GoesOn, TakesNoBit, DrawsNothing, RaisesNothing};
+    ghost use Rattle.segindex.specs.Calls.{memo, GoesOn, TakesNoBit, DrawsNothing, ReadsNothing};
     ghost use Rattle.segindex.specs.Answers.{IsLockAnswer, IsUnlockAnswer};
     ghost use Rattle.segindex.specs.Taking.{TakesBucket, SetsLock};
 
@@ -35,7 +35,7 @@ impl Index {
         ensures goes_on { GoesOn (board_of self.now) pass.old pass.new }
         ensures answer { IsLockAnswer (shape_of self.now) key.now result pass.old pass.new }
         ensures draws_nothing { DrawsNothing pass.old pass.new }
-        ensures raises_nothing { RaisesNothing pass.old pass.new }
+        ensures reads_nothing { ReadsNothing pass.old pass.new }
         ensures already { (result ≡ lock.AlreadyLocked) ↔ (locked_of pass.old ≢ None) }
         ensures untouched { result ≡ lock.AlreadyLocked → pass.new ≡ pass.old }
     {
@@ -58,7 +58,7 @@ impl Index {
         ensures was_locked { result ≡ is_some (locked_of pass.old) }
         ensures takes_no_bit { TakesNoBit pass.old pass.new }
         ensures draws_nothing { DrawsNothing pass.old pass.new }
-        ensures raises_nothing { RaisesNothing pass.old pass.new }
+        ensures reads_nothing { ReadsNothing pass.old pass.new }
         ensures untouched { result ≡ false → pass.new ≡ pass.old }
     {
         let Some(bucket) = pass.locked() else {

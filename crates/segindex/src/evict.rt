@@ -43,7 +43,7 @@ impl Index {
     ghost use Rattle.segstore.specs.Refilling.{Idles};
     ghost use Rattle.segindex.specs.Index.{board_of, shape_of};
     ghost use Rattle.segindex.specs.Quiet.{IsQuiet};
-    ghost use Rattle.segindex.specs.Calls.{memo, GoesOn, DrawsNothing, RaisesNothing};
+    ghost use Rattle.segindex.specs.Calls.{memo, GoesOn, DrawsNothing, ReadsNothing};
     ghost use Rattle.segindex.specs.Taking.{HasCleanBit};
     ghost use Rattle.segindex.specs.Writing.{IsInChain, IsEarlier};
     ghost use Rattle.segindex.specs.Evicting.{IsEvictAnswer};
@@ -55,7 +55,7 @@ impl Index {
         ensures on { GoesOn (board_of self.now) pass.old pass.new }
         ensures answer { IsEvictAnswer (shape_of self.now) segment result pass.old pass.new }
         ensures draws_nothing { DrawsNothing pass.old pass.new }
-        ensures raises_nothing { RaisesNothing pass.old pass.new }
+        ensures reads_nothing { ReadsNothing pass.old pass.new }
         ensures not_yours { (result ≡ NotYours) ↔ (state_of pass.old segment ≡ None) }
     {
         let Some(state) = pass.state(segment) else {
@@ -76,7 +76,7 @@ impl Index {
         ensures on { GoesOn (board_of self.now) pass.old pass.new }
         ensures answer { IsEvictAnswer (shape_of self.now) segment result pass.old pass.new }
         ensures draws_nothing { DrawsNothing pass.old pass.new }
-        ensures raises_nothing { RaisesNothing pass.old pass.new }
+        ensures reads_nothing { ReadsNothing pass.old pass.new }
         ensures yours { result ≢ NotYours }
     {
         let used = pass.used(segment).unwrap();

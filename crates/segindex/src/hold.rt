@@ -41,7 +41,7 @@ impl Index {
     ghost use Rattle.segbase.specs.Minding.{HasHeld};
     ghost use Rattle.segindex.specs.Index.{board_of, shape_of};
     ghost use Rattle.segindex.specs.Quiet.{IsQuiet};
-    ghost use Rattle.segindex.specs.Calls.{GoesOn, ChangesNothing, TakesNoBit, DrawsNothing, RaisesNothing};
+    ghost use Rattle.segindex.specs.Calls.{GoesOn, ChangesNothing, TakesNoBit, DrawsNothing, RaisesNothing, ReadsNothing};
     ghost use Rattle.segindex.specs.Holds.{IsHoldOf, IsHoldAnswer, Releases, SetsHold};
     ghost use Rattle.segindex.specs.Hits.{TriesFew};
 
@@ -83,7 +83,7 @@ impl Index {
         ensures keeps { ChangesNothing pass.old pass.new }
         ensures takes_no_bit { TakesNoBit pass.old pass.new }
         ensures draws_nothing { DrawsNothing pass.old pass.new }
-        ensures raises_nothing { RaisesNothing pass.old pass.new }
+        ensures reads_nothing { ReadsNothing pass.old pass.new }
         ensures hold { IsHoldOf (shape_of self.now) hold.now pass.new }
         ensures value { IfSome (holding pass.old) (λ held. result ≡ held.value) }
     {
@@ -98,7 +98,7 @@ impl Index {
         ensures on { GoesOn (board_of self.now) pass.old pass.new }
         ensures takes_no_bit { TakesNoBit pass.old pass.new }
         ensures draws_nothing { DrawsNothing pass.old pass.new }
-        ensures raises_nothing { RaisesNothing pass.old pass.new }
+        ensures reads_nothing { ReadsNothing pass.old pass.new }
         ensures releases { Releases pass.old pass.new }
     {
         let Hold {

@@ -5,7 +5,7 @@ use segbase::Pass;
 impl Index {
     ghost use Rattle.segindex.specs.Index.{board_of};
     ghost use Rattle.segindex.specs.Quiet.{IsQuiet};
-    ghost use Rattle.segindex.specs.Calls.{GoesOn, ChangesNothing, TakesNoBit, DrawsNothing, RaisesNothing, Meets};
+    ghost use Rattle.segindex.specs.Calls.{GoesOn, ChangesNothing, TakesNoBit, DrawsNothing, ReadsNothing, Meets};
 
     /// Both passes have then seen what either had seen before, the second all that the first has. Of their histories one began the other.
     pub fn meet(&self, first: &mut Pass, second: &mut Pass)
@@ -15,7 +15,7 @@ impl Index {
         ensures second { GoesOn (board_of self.now) second.old second.new × ChangesNothing second.old second.new }
         ensures take_no_bit { TakesNoBit first.old first.new × TakesNoBit second.old second.new }
         ensures draw_nothing { DrawsNothing first.old first.new × DrawsNothing second.old second.new }
-        ensures raise_nothing { RaisesNothing first.old first.new × RaisesNothing second.old second.new }
+        ensures read_nothing { ReadsNothing first.old first.new × ReadsNothing second.old second.new }
         ensures meets { Meets first.old second.old first.new second.new }
     {
         self.board.meet(first, second);

@@ -12,7 +12,7 @@ impl Index {
     ghost use Rattle.segbase.specs.Plain.{state_of};
     ghost use Rattle.segindex.specs.Index.{board_of};
     ghost use Rattle.segindex.specs.Quiet.{is_held_in, IsQuiet};
-    ghost use Rattle.segindex.specs.Calls.{GoesOn, TakesNoBit, DrawsNothing, RaisesNothing};
+    ghost use Rattle.segindex.specs.Calls.{GoesOn, TakesNoBit, DrawsNothing, ReadsNothing};
     ghost use Rattle.segindex.specs.Answers.{IsRefillAnswer};
 
     /// Makes a segment of the pass's own, in which no key stands and no item is read or held, the one that it stores into.
@@ -24,7 +24,7 @@ impl Index {
         ensures in_use { (result ≡ NotEvicted) ↔ (state_of pass.old segment ≡ Some InUse) }
         ensures takes_no_bit { TakesNoBit pass.old pass.new }
         ensures draws_nothing { DrawsNothing pass.old pass.new }
-        ensures raises_nothing { RaisesNothing pass.old pass.new }
+        ensures reads_nothing { ReadsNothing pass.old pass.new }
         ensures untouched { (result ≡ NotYours) ⊎ (result ≡ NotEvicted) → pass.new ≡ pass.old }
         ensures held { state_of pass.old segment ≡ Some Evicted → is_held_in (holding pass.old) segment ≡ true → result ≡ Held }
     {

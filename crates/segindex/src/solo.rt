@@ -6,6 +6,8 @@ ghost use Rattle.segmodel.specs.State.{fresh};
 ghost use Rattle.segmodel.specs.Serving.{Serves};
 ghost use Rattle.segbase.specs.Made.{IsMakeFault};
 ghost use Rattle.segindex.specs.Index.{board_of};
+ghost use Rattle.segindex.specs.Index.{shape_of as index_shape_of};
+ghost use Rattle.segindex.specs.Hits.{RaisesByDraw};
 ghost use Rattle.segindex.specs.Alone.{IsAlone, ServesAlone};
 ghost use Rattle.segindex.specs.Props.{IsAlone-prop};
 
@@ -27,7 +29,7 @@ pub struct Solo {
 }
 
 impl Solo {
-    ghost use Rattle.segindex.specs.Solo.{shape_of, state_of};
+    ghost use Rattle.segindex.specs.Solo.{shape_of, state_of, pass_of};
 
     /// An index of this shape, which has one pass, with nothing stored. It takes all its memory here.
     pub fn new(alloc: Global, shape: Shape) -> Result<Solo, MakeFault>
@@ -47,6 +49,7 @@ impl Solo {
     pub fn answer(&mut self, command: &Command) -> Answer
         ensures shape { shape_of self.new ≡ shape_of self.old }
         ensures serves { Serves (shape_of self.old) (state_of self.old) command.now result (state_of self.new) }
+        ensures raises { RaisesByDraw (shape_of self.old) command.now result (pass_of self.old) (pass_of self.new) }
     {
         serve(&self.index, &mut self.pass, command)
     }
@@ -71,7 +74,8 @@ impl Shelf for Solo {
 // Serves a command with the only pass of the index.
 fn serve(index: &Index, pass: &mut Pass, command: &Command) -> Answer
     requires alone { IsAlone (board_of index.now) pass.old }
-    ensures { ServesAlone (board_of index.now) command.now result pass.old pass.new }
+    ensures serves { ServesAlone (board_of index.now) command.now result pass.old pass.new }
+    ensures raises { RaisesByDraw (index_shape_of index.now) command.now result pass.old pass.new }
 {
     match command {
         Command::Write(request) => write(index, pass, request),
@@ -84,28 +88,32 @@ fn serve(index: &Index, pass: &mut Pass, command: &Command) -> Answer
 
 fn get(index: &Index, pass: &mut Pass, key: &Key) -> Answer
     requires alone { IsAlone (board_of index.now) pass.old }
-    ensures { ServesAlone (board_of index.now) (Get key.now) result pass.old pass.new }
+    ensures serves { ServesAlone (board_of index.now) (Get key.now) result pass.old pass.new }
+    ensures raises { RaisesByDraw (index_shape_of index.now) (Get key.now) result pass.old pass.new }
 {
     Answer::Get(index.get(pass, key, DRAW))
 }
 
 fn gets(index: &Index, pass: &mut Pass, key: &Key) -> Answer
     requires alone { IsAlone (board_of index.now) pass.old }
-    ensures { ServesAlone (board_of index.now) (Gets key.now) result pass.old pass.new }
+    ensures serves { ServesAlone (board_of index.now) (Gets key.now) result pass.old pass.new }
+    ensures raises { RaisesByDraw (index_shape_of index.now) (Gets key.now) result pass.old pass.new }
 {
     Answer::Gets(index.gets(pass, key, DRAW))
 }
 
 fn evict(index: &Index, pass: &mut Pass, segment: u32) -> Answer
     requires alone { IsAlone (board_of index.now) pass.old }
-    ensures { ServesAlone (board_of index.now) (Evict segment) result pass.old pass.new }
+    ensures serves { ServesAlone (board_of index.now) (Evict segment) result pass.old pass.new }
+    ensures raises { RaisesByDraw (index_shape_of index.now) (Evict segment) result pass.old pass.new }
 {
     Answer::Evict(index.evict(pass, segment))
 }
 
 fn refill(index: &Index, pass: &mut Pass, segment: u32) -> Answer
     requires alone { IsAlone (board_of index.now) pass.old }
-    ensures { ServesAlone (board_of index.now) (Refill segment) result pass.old pass.new }
+    ensures serves { ServesAlone (board_of index.now) (Refill segment) result pass.old pass.new }
+    ensures raises { RaisesByDraw (index_shape_of index.now) (Refill segment) result pass.old pass.new }
 {
     Answer::Refill(index.refill(pass, segment))
 }
@@ -113,7 +121,8 @@ fn refill(index: &Index, pass: &mut Pass, segment: u32) -> Answer
 // Serves a request to write.
 fn write(index: &Index, pass: &mut Pass, request: &Request) -> Answer
     requires alone { IsAlone (board_of index.now) pass.old }
-    ensures { ServesAlone (board_of index.now) (Write request.now) result pass.old pass.new }
+    ensures serves { ServesAlone (board_of index.now) (Write request.now) result pass.old pass.new }
+    ensures raises { RaisesByDraw (index_shape_of index.now) (Write request.now) result pass.old pass.new }
 {
     match request {
         Request::Set(key, value) => set(index, pass, key, value),
@@ -126,35 +135,40 @@ fn write(index: &Index, pass: &mut Pass, request: &Request) -> Answer
 
 fn set(index: &Index, pass: &mut Pass, key: &Key, value: &Value) -> Answer
     requires alone { IsAlone (board_of index.now) pass.old }
-    ensures { ServesAlone (board_of index.now) (Write (Set key.now value.now)) result pass.old pass.new }
+    ensures serves { ServesAlone (board_of index.now) (Write (Set key.now value.now)) result pass.old pass.new }
+    ensures raises { RaisesByDraw (index_shape_of index.now) (Write (Set key.now value.now)) result pass.old pass.new }
 {
     Answer::Write(index.set(pass, key, value))
 }
 
 fn add(index: &Index, pass: &mut Pass, key: &Key, value: &Value) -> Answer
     requires alone { IsAlone (board_of index.now) pass.old }
-    ensures { ServesAlone (board_of index.now) (Write (Add key.now value.now)) result pass.old pass.new }
+    ensures serves { ServesAlone (board_of index.now) (Write (Add key.now value.now)) result pass.old pass.new }
+    ensures raises { RaisesByDraw (index_shape_of index.now) (Write (Add key.now value.now)) result pass.old pass.new }
 {
     Answer::Write(index.add(pass, key, value))
 }
 
 fn replace(index: &Index, pass: &mut Pass, key: &Key, value: &Value) -> Answer
     requires alone { IsAlone (board_of index.now) pass.old }
-    ensures { ServesAlone (board_of index.now) (Write (Replace key.now value.now)) result pass.old pass.new }
+    ensures serves { ServesAlone (board_of index.now) (Write (Replace key.now value.now)) result pass.old pass.new }
+    ensures raises { RaisesByDraw (index_shape_of index.now) (Write (Replace key.now value.now)) result pass.old pass.new }
 {
     Answer::Write(index.replace(pass, key, value))
 }
 
 fn cas(index: &Index, pass: &mut Pass, key: &Key, value: &Value, expected: u32) -> Answer
     requires alone { IsAlone (board_of index.now) pass.old }
-    ensures { ServesAlone (board_of index.now) (Write (Cas key.now value.now expected)) result pass.old pass.new }
+    ensures serves { ServesAlone (board_of index.now) (Write (Cas key.now value.now expected)) result pass.old pass.new }
+    ensures raises { RaisesByDraw (index_shape_of index.now) (Write (Cas key.now value.now expected)) result pass.old pass.new }
 {
     Answer::Write(index.cas(pass, key, value, expected))
 }
 
 fn delete(index: &Index, pass: &mut Pass, key: &Key) -> Answer
     requires alone { IsAlone (board_of index.now) pass.old }
-    ensures { ServesAlone (board_of index.now) (Write (Delete key.now)) result pass.old pass.new }
+    ensures serves { ServesAlone (board_of index.now) (Write (Delete key.now)) result pass.old pass.new }
+    ensures raises { RaisesByDraw (index_shape_of index.now) (Write (Delete key.now)) result pass.old pass.new }
 {
     Answer::Delete(index.delete(pass, key))
 }

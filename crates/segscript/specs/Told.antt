@@ -23,7 +23,7 @@ use Rattle.segindex.specs.declared.bucket.LockAnswer.TheVariants as lock
 use Rattle.segindex.specs.declared.hold.HoldAnswer.{HoldAnswer}
 use Rattle.segindex.specs.declared.hold.HoldAnswer.TheVariants as hold
 use Rattle.segmodel.specs.Places.{bucket_of}
-use Rattle.segindex.specs.Calls.{ChangesNothing, TakesNoBit, DrawsNothing, RaisesNothing}
+use Rattle.segindex.specs.Calls.{ChangesNothing, TakesNoBit, DrawsNothing, RaisesNothing, ReadsNothing}
 use Rattle.segindex.specs.Quiet.{is_held_in}
 use Rattle.segindex.specs.Hits.{TriesFew, GetRaises, GetsRaises}
 use Rattle.segindex.specs.Answers.{IsGetAnswer, Writes, Deletes, IsRefillAnswer, IsLockAnswer, IsUnlockAnswer}
@@ -36,9 +36,9 @@ use Rattle.segindex.specs.Alone.{lock_outcome, unlock_outcome, hold_outcome}
 abbrev pub draw : ℕ
 draw = 0
 
--- it took no bit, drew no bucket and raised no frequency
+-- it took no bit, drew no bucket, and did nothing of what readers do
 abbrev pub TakesNothing : Pass → Pass → Type 0
-TakesNothing p q = TakesNoBit p q × DrawsNothing p q × RaisesNothing p q
+TakesNothing p q = TakesNoBit p q × DrawsNothing p q × ReadsNothing p q
 
 -- it changed nothing, took no bit, drew no bucket, and came into segments as often as one reader may
 abbrev pub ReadsOnce : Pass → Pass → Type 0
@@ -53,7 +53,7 @@ TellsCommand b (command.Gets key) (answer.Gets told) p q =
     IsGetsAnswer b.shape key told p q × ReadsOnce p q × GetsRaises b.shape key draw told p q
     × ((value : List ℕ) (version : ℕ) → told ≡ gets.Found value version → locked_of p ≢ Some (bucket_of b.shape key))
 TellsCommand b (command.Evict segment) (answer.Evict told) p q =
-    IsEvictAnswer b.shape segment told p q × ((told ≡ evict.NotYours) ↔ (state_of p segment ≡ None)) × DrawsNothing p q × RaisesNothing p q
+    IsEvictAnswer b.shape segment told p q × ((told ≡ evict.NotYours) ↔ (state_of p segment ≡ None)) × DrawsNothing p q × ReadsNothing p q
 TellsCommand b (command.Refill segment) (answer.Refill told) p q =
     IsRefillAnswer segment told p q × ((told ≡ refill.NotYours) ↔ (state_of p segment ≡ None)) × ((told ≡ refill.NotEvicted) ↔ (state_of p segment ≡ Some InUse))
     × (state_of p segment ≡ Some Evicted → is_held_in (holding p) segment ≡ true → told ≡ refill.Held) × TakesNothing p q
@@ -63,13 +63,13 @@ abbrev pub Tells : Board → Turn → Outcome → Pass → Pass → Type 0
 Tells b (turn.Serve asked) (outcome.Answered told) p q = TellsCommand b asked told p q
 Tells b (turn.Hold key) told p q =
     (given : HoldAnswer) × (told ≡ hold_outcome given) × IsHoldAnswer b.shape key given p q × ((given ≡ hold.AlreadyHolding) ↔ (is_holding_of p ≡ true))
-    × TakesNothing p q × TriesFew p q
+    × (TakesNoBit p q × DrawsNothing p q × RaisesNothing p q) × TriesFew p q
 Tells b turn.Held (outcome.Value value) p q = ChangesNothing p q × TakesNothing p q × ((held : Held) × (holding p ≡ Some held) × (value ≡ held.value))
 Tells b turn.Held outcome.NotHolding p q = (q ≡ p) × (holding p ≡ None)
 Tells b turn.Release outcome.Released p q = Releases p q × (is_some (holding p) ≡ true) × TakesNothing p q
 Tells b turn.Release outcome.NotHolding p q = (q ≡ p) × (holding p ≡ None)
 Tells b (turn.Lock key) told p q =
     (given : LockAnswer) × (told ≡ lock_outcome given) × IsLockAnswer b.shape key given p q × ((given ≡ lock.AlreadyLocked) ↔ (locked_of p ≢ None))
-    × DrawsNothing p q × RaisesNothing p q
+    × DrawsNothing p q × ReadsNothing p q
 Tells b turn.Unlock told p q = (given : Bool) × (told ≡ unlock_outcome given) × IsUnlockAnswer b.shape given p q × (given ≡ is_some (locked_of p)) × TakesNothing p q
 Tells b _ _ p q = ⊥

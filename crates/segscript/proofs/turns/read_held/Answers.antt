@@ -11,6 +11,6 @@ returns-in-Some-clause-turn c =
     let kept = subst (λ kept. IsHoldKept b.shape kept c.args.pass.now) c.in-Some.is c.requires.hold in
     record {
       goes_on = e.on;
-      tells = (e.keeps, (e.takes_no_bit, e.draws_nothing, e.raises_nothing), (kept.held, kept.holds, subst (λ o. IfSome o (λ held. c.held_value.result ≡ held.value)) kept.holds e.value));
+      tells = (e.keeps, (e.takes_no_bit, e.draws_nothing, e.reads_nothing), (kept.held, kept.holds, subst (λ o. IfSome o (λ held. c.held_value.result ≡ held.value)) kept.holds e.value));
       alone = λ was. turns_held b c.args.pass.now c.held_value.new.pass c.in-Some.hold c.held_value.result was e.on e.draws_nothing kept e.keeps e.value;
     }

@@ -10,6 +10,6 @@ returns-in-Some-clause-turn c =
     let kept = subst (λ kept. IsHoldKept b.shape kept c.args.pass.now) (sym c.take.ensures.value ∙ c.in-Some.is) c.requires.hold in
     record {
       goes_on = e.on;
-      tells = (e.releases, ap is_some kept.holds, (e.takes_no_bit, e.draws_nothing, e.raises_nothing));
+      tells = (e.releases, ap is_some kept.holds, (e.takes_no_bit, e.draws_nothing, e.reads_nothing));
       alone = λ was. turns_release b c.args.pass.now c.release.new.pass c.in-Some.hold was e.on e.draws_nothing kept e.releases;
     }

@@ -28,7 +28,7 @@ pub returns-in-Evict-clause-turn : goal.returns-in-Evict-clause-turn
 returns-in-Evict-clause-turn c =
     let b = c.args.index.now.board in let e = c.evict.ensures in
     subst (λ asked. TakesTurn b (turn.Serve asked) (Answered (answer.Evict c.evict.result)) c.args.pass.now c.evict.new.pass) (sym c.in-Evict.is)
-    (as_turn b (command.Evict c.in-Evict.segment) (answer.Evict c.evict.result) c.args.pass.now c.evict.new.pass e.on (e.answer, e.not_yours, e.draws_nothing, e.raises_nothing)
+    (as_turn b (command.Evict c.in-Evict.segment) (answer.Evict c.evict.result) c.args.pass.now c.evict.new.pass e.on (e.answer, e.not_yours, e.draws_nothing, e.reads_nothing)
     (λ was. serves_evict b c.args.pass.now c.evict.new.pass c.in-Evict.segment c.evict.result was e.on e.draws_nothing e.answer e.not_yours))
 
 pub returns-in-Evict-clause-holding : goal.returns-in-Evict-clause-holding
@@ -38,7 +38,7 @@ pub returns-in-Refill-clause-turn : goal.returns-in-Refill-clause-turn
 returns-in-Refill-clause-turn c =
     let b = c.args.index.now.board in let e = c.refill.ensures in
     subst (λ asked. TakesTurn b (turn.Serve asked) (Answered (answer.Refill c.refill.result)) c.args.pass.now c.refill.new.pass) (sym c.in-Refill.is)
-    (as_turn b (command.Refill c.in-Refill.segment) (answer.Refill c.refill.result) c.args.pass.now c.refill.new.pass e.on (e.answer, e.not_yours, e.in_use, e.held, (e.takes_no_bit, e.draws_nothing, e.raises_nothing))
+    (as_turn b (command.Refill c.in-Refill.segment) (answer.Refill c.refill.result) c.args.pass.now c.refill.new.pass e.on (e.answer, e.not_yours, e.in_use, e.held, (e.takes_no_bit, e.draws_nothing, e.reads_nothing))
     (λ was. serves_refill b c.args.pass.now c.refill.new.pass c.in-Refill.segment c.refill.result was e.on e.draws_nothing e.answer e.not_yours e.in_use e.held))
 
 pub returns-in-Refill-clause-holding : goal.returns-in-Refill-clause-holding

@@ -2,7 +2,7 @@ use Rattle.std.proofs.Common.{rules, ◌≡◌, Some, ◌∙◌}
 use Rattle.segmodel.specs.declared.answer.SegState.TheVariants.{InUse}
 use Rattle.segbase.specs.Plain.{state_of}
 use Rattle.segindex.proofs.Draws.{draws_none_then}
-use Rattle.segindex.proofs.Evictions.{same_drew, same_raised, ends_on, evict_answers}
+use Rattle.segindex.proofs.Evictions.{same_drew, same_readings, ends_on, evict_answers}
 use Rattle.segindex.proofs.index.Index.evict.Goals as goal
 
 pub evict_rows-requires-clause-quiet : goal.evict_rows-requires-clause-quiet
@@ -19,6 +19,6 @@ pub returns-clause-draws_nothing : goal.returns-clause-draws_nothing
 returns-clause-draws_nothing c = let p = c.args.pass.now in let s = c.end_storing.new.pass in let e = c.end_storing.ensures in
     draws_none_then p s c.evict_rows.new.pass (same_drew c.args.self.now.board p s c.requires.quiet e.seat e.same.0.owner) c.evict_rows.ensures.draws_nothing
 
-pub returns-clause-raises_nothing : goal.returns-clause-raises_nothing
-returns-clause-raises_nothing c = let e = c.end_storing.ensures in
-    c.evict_rows.ensures.raises_nothing ∙ same_raised c.args.self.now.board c.args.pass.now c.end_storing.new.pass c.requires.quiet e.seat e.same.0.owner
+pub returns-clause-reads_nothing : goal.returns-clause-reads_nothing
+returns-clause-reads_nothing c = let e = c.end_storing.ensures in
+    c.evict_rows.ensures.reads_nothing ∙ same_readings c.args.self.now.board c.args.pass.now c.end_storing.new.pass c.requires.quiet e.seat e.same.0.owner

@@ -1,6 +1,6 @@
 use Rattle.std.proofs.Common.{◌≡◌, ◌+◌, Some, sym, ap, ◌∙◌, subst, arith}
 use Rattle.segbase.specs.Plain.{used_of}
-use Rattle.segindex.proofs.Evictions.{Evicting, evicting_one, evicting_none, barred_on, barred_undrawn, barred_unraised, barred_answer, emptied_on, emptied_undrawn, emptied_unraised, emptied_answer}
+use Rattle.segindex.proofs.Evictions.{Evicting, evicting_one, evicting_none, barred_on, barred_undrawn, barred_unread, barred_answer, emptied_on, emptied_undrawn, emptied_unread, emptied_answer}
 use Rattle.segindex.proofs.index.Index.evict_rows.Goals as goal
 use Rattle.segindex.proofs.index.Index.evict_rows.Goals.{in-Evicted, in-Gone}
 
@@ -40,12 +40,12 @@ returns-clause-draws_nothing c = let l = c.loop-row in let r = c.requires in let
     let all : used_of c.args.pass.now c.args.segment ≡ Some l.row = sym c.used.ensures ∙ (c.unwrap-used.ensures ∙ ap Some (let e : c.unwrap-used.result ≡ l.row = omega arith in e)) in
     emptied_undrawn c.args.self.now.board c.args.segment l.row l.evicted c.args.pass.now l.pass r.in_use r.ended l.invariant all c.set_state.new.self s.seat s.state s.others s.used s.same
 
-pub returns-in-Busy-clause-raises_nothing : goal.returns-in-Busy-clause-raises_nothing
-returns-in-Busy-clause-raises_nothing c = let l = c.loop-row in let r = c.requires in
-    barred_unraised c.args.self.now.board c.args.segment l.row l.evicted c.args.pass.now l.pass r.in_use r.ended l.invariant c.evict_row.new.pass c.in-Busy.ensures.evicts
+pub returns-in-Busy-clause-reads_nothing : goal.returns-in-Busy-clause-reads_nothing
+returns-in-Busy-clause-reads_nothing c = let l = c.loop-row in let r = c.requires in
+    barred_unread c.args.self.now.board c.args.segment l.row l.evicted c.args.pass.now l.pass r.in_use r.ended l.invariant c.evict_row.new.pass c.in-Busy.ensures.evicts
 
-pub returns-clause-raises_nothing : goal.returns-clause-raises_nothing
-returns-clause-raises_nothing c = let l = c.loop-row in let r = c.requires in let s = c.set_state.ensures in
+pub returns-clause-reads_nothing : goal.returns-clause-reads_nothing
+returns-clause-reads_nothing c = let l = c.loop-row in let r = c.requires in let s = c.set_state.ensures in
     let over = c.loop-row-test.false in let most = l.auto.row-end in
     let all : used_of c.args.pass.now c.args.segment ≡ Some l.row = sym c.used.ensures ∙ (c.unwrap-used.ensures ∙ ap Some (let e : c.unwrap-used.result ≡ l.row = omega arith in e)) in
-    emptied_unraised c.args.self.now.board c.args.segment l.row l.evicted c.args.pass.now l.pass r.in_use r.ended l.invariant all c.set_state.new.self s.seat s.state s.others s.used s.same
+    emptied_unread c.args.self.now.board c.args.segment l.row l.evicted c.args.pass.now l.pass r.in_use r.ended l.invariant all c.set_state.new.self s.seat s.state s.others s.used s.same

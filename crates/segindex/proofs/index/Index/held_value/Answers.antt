@@ -7,7 +7,7 @@ use Rattle.segindex.proofs.Draws.{reader_draws_none}
 use Rattle.segindex.proofs.Gets.{reads_no_bit}
 use Rattle.segindex.proofs.HoldCalls.{may_read, has_row}
 use Rattle.segindex.proofs.Reading.{read_on}
-use Rattle.segindex.proofs.Still.{raises_none}
+use Rattle.segindex.proofs.Still.{no_reader}
 use Rattle.segindex.proofs.index.Index.held_value.Goals as goal
 
 pub row_load-header-requires-clause-may : goal.row_load-header-requires-clause-may
@@ -42,6 +42,6 @@ pub returns-clause-draws_nothing : goal.returns-clause-draws_nothing
 returns-clause-draws_nothing c = let b = board_of c.args.self.now in let p = c.args.pass.now in let hold = c.args.hold.now in let l = c.row_load-header in let v = c.value_of_row in
     reader_draws_none b p v.new.pass (looks b p v.new.pass (reads_then b p l.new.pass v.new.pass hold.segment hold.row (loaded b p l.new.pass hold.segment hold.row 0 l.result (may_read b p hold c.requires.pass c.requires.hold) l.ensures.step) v.ensures.reads).looked).reads
 
-pub returns-clause-raises_nothing : goal.returns-clause-raises_nothing
-returns-clause-raises_nothing c = let b = board_of c.args.self.now in let p = c.args.pass.now in let hold = c.args.hold.now in let l = c.row_load-header in let v = c.value_of_row in
-    raises_none b [] p v.new.pass (reads_then b p l.new.pass v.new.pass hold.segment hold.row (loaded b p l.new.pass hold.segment hold.row 0 l.result (may_read b p hold c.requires.pass c.requires.hold) l.ensures.step) v.ensures.reads).looked.did.moved tt
+pub returns-clause-reads_nothing : goal.returns-clause-reads_nothing
+returns-clause-reads_nothing c = let b = board_of c.args.self.now in let p = c.args.pass.now in let hold = c.args.hold.now in let l = c.row_load-header in let v = c.value_of_row in
+    no_reader b [] p v.new.pass (reads_then b p l.new.pass v.new.pass hold.segment hold.row (loaded b p l.new.pass hold.segment hold.row 0 l.result (may_read b p hold c.requires.pass c.requires.hold) l.ensures.step) v.ensures.reads).looked.did.moved tt

@@ -2,7 +2,7 @@ use Rattle.std.proofs.Common.{◌≡◌, ◌%◌, ◌<◌, sym, ◌∙◌, subst
 use Rattle.segmodel.specs.Places.{bucket_of}
 use Rattle.segcore.proofs.Limits.{bucket_in}
 use Rattle.segindex.proofs.Idling.{gave_up, in_vain}
-use Rattle.segindex.proofs.Locking.{unlocked, locks_bucket, locks_undrawn, locks_unraised}
+use Rattle.segindex.proofs.Locking.{unlocked, locks_bucket, locks_undrawn, locks_unread}
 use Rattle.segindex.proofs.index.Index.lock_bucket.Goals as goal
 
 pub returns-then-not-take_bucket-clause-goes_on : goal.returns-then-not-take_bucket-clause-goes_on
@@ -44,14 +44,14 @@ returns-clause-draws_nothing c =
     locks_undrawn c.args.self.now.board c.args.pass.now c.take_bucket.new.pass c.set_lock.new.pass c.bucket_of-bucket.result c.requires.quiet
     (sym c.locked.ensures ∙ unlocked c.locked.result c.if-is_some.ensures) c.if-not-take_bucket.ensures.takes c.if-not-take_bucket.ensures.same.0 c.if-not-take_bucket.ensures.same.1 c.set_lock.ensures.pass c.set_lock.ensures.sets
 
-pub returns-then-not-take_bucket-clause-raises_nothing : goal.returns-then-not-take_bucket-clause-raises_nothing
-returns-then-not-take_bucket-clause-raises_nothing c =
+pub returns-then-not-take_bucket-clause-reads_nothing : goal.returns-then-not-take_bucket-clause-reads_nothing
+returns-then-not-take_bucket-clause-reads_nothing c =
     let b = c.args.self.now.board in let quiet = c.requires.quiet in
     let home : c.bucket_of-bucket.result ≡ bucket_of b.shape c.args.key.now = c.bucket_of-bucket.ensures ∙ (λ i. c.hash.ensures i % (c.shape.ensures i).buckets) in
     let within : c.bucket_of-bucket.result < b.shape.buckets = subst (λ n. n < b.shape.buckets) (sym home) (bucket_in b.shape c.args.key.now quiet.pass.valid) in
     (gave_up b c.args.pass.now c.take_bucket.new.pass c.bucket_of-bucket.result quiet within c.if-not-take_bucket.ensures.takes c.if-not-take_bucket.ensures.same.0 c.if-not-take_bucket.ensures.same.1).4
 
-pub returns-clause-raises_nothing : goal.returns-clause-raises_nothing
-returns-clause-raises_nothing c =
-    locks_unraised c.args.self.now.board c.args.pass.now c.take_bucket.new.pass c.set_lock.new.pass c.bucket_of-bucket.result c.requires.quiet
+pub returns-clause-reads_nothing : goal.returns-clause-reads_nothing
+returns-clause-reads_nothing c =
+    locks_unread c.args.self.now.board c.args.pass.now c.take_bucket.new.pass c.set_lock.new.pass c.bucket_of-bucket.result c.requires.quiet
     (sym c.locked.ensures ∙ unlocked c.locked.result c.if-is_some.ensures) c.if-not-take_bucket.ensures.takes c.if-not-take_bucket.ensures.same.0 c.if-not-take_bucket.ensures.same.1 c.set_lock.ensures.pass c.set_lock.ensures.sets

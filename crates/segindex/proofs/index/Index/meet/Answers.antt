@@ -2,7 +2,7 @@ use Rattle.std.proofs.Common.{[], refl, rules}
 use Rattle.segindex.proofs.Draws.{moved_undrawn}
 use Rattle.segindex.proofs.Idling.{goes_nowhere, does_nothing, took_none}
 use Rattle.segindex.proofs.Meeting.{meets}
-use Rattle.segindex.proofs.Still.{raises_none}
+use Rattle.segindex.proofs.Still.{no_reader}
 use Rattle.segindex.proofs.index.Index.meet.Goals as goal
 
 pub returns-clause-first : goal.returns-clause-first
@@ -26,8 +26,8 @@ returns-clause-draw_nothing c = let b = c.args.self.now.board in (
   moved_undrawn b [] c.args.second.now c.meet.new.second c.meet.ensures.second.0 tt,
 )
 
-pub returns-clause-raise_nothing : goal.returns-clause-raise_nothing
-returns-clause-raise_nothing c = let b = c.args.self.now.board in (
-  raises_none b [] c.args.first.now c.meet.new.first c.meet.ensures.first.0 tt,
-  raises_none b [] c.args.second.now c.meet.new.second c.meet.ensures.second.0 tt,
+pub returns-clause-read_nothing : goal.returns-clause-read_nothing
+returns-clause-read_nothing c = let b = c.args.self.now.board in (
+  no_reader b [] c.args.first.now c.meet.new.first c.meet.ensures.first.0 tt,
+  no_reader b [] c.args.second.now c.meet.new.second c.meet.ensures.second.0 tt,
 )

@@ -1,5 +1,5 @@
 use Rattle.std.proofs.Common.{⊎_elim}
-use Rattle.segindex.proofs.Refills.{refill_goes_on, refill_answers, refill_takes_none, refill_draws_none, refill_raises_none, not_yours_same, in_use_same, refill_held}
+use Rattle.segindex.proofs.Refills.{refill_goes_on, refill_answers, refill_takes_none, refill_draws_none, refill_reads_none, not_yours_same, in_use_same, refill_held}
 use Rattle.segindex.proofs.index.Index.refill.Goals as goal
 
 pub refill-requires : goal.refill-requires
@@ -23,5 +23,5 @@ returns-clause-held c = let r = c.refill.ensures in refill_held _ c.args.segment
 pub returns-clause-draws_nothing : goal.returns-clause-draws_nothing
 returns-clause-draws_nothing c = refill_draws_none _ c.args.segment c.refill.result _ _ c.refill.ensures.outcome
 
-pub returns-clause-raises_nothing : goal.returns-clause-raises_nothing
-returns-clause-raises_nothing c = refill_raises_none _ c.args.segment c.refill.result _ _ c.refill.ensures.outcome
+pub returns-clause-reads_nothing : goal.returns-clause-reads_nothing
+returns-clause-reads_nothing c = refill_reads_none _ c.args.segment c.refill.result _ _ c.refill.ensures.outcome

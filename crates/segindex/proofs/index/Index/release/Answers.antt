@@ -2,7 +2,7 @@ use Rattle.segindex.specs.Index.{board_of}
 use Rattle.std.proofs.Common.{None, [], ◌∷◌}
 use Rattle.segcore.specs.declared.event.Event.TheVariants.{Left}
 use Rattle.segbase.specs.Passes.{number}
-use Rattle.segbase.proofs.Moves.{moved_raised}
+use Rattle.segbase.proofs.Moves.{moved_raised, moved_entered, moved_glanced}
 use Rattle.segindex.proofs.HoldCalls.{moved_to, releases, takes_no_bit, draws_nothing}
 use Rattle.segindex.proofs.index.Index.release.Goals as goal
 
@@ -22,6 +22,7 @@ pub returns-clause-draws_nothing : goal.returns-clause-draws_nothing
 returns-clause-draws_nothing c = let st = c.leave.ensures.step.1 in let p = c.args.pass.now in
     draws_nothing (board_of c.args.self.now) (Left (number p) c.args.hold.segment ∷ []) None p c.leave.new.pass c.set_hold.new.pass c.requires.pass c.leave.ensures.did.moved (tt, tt) st.plain st.memo c.set_hold.ensures.pass c.set_hold.ensures.sets
 
-pub returns-clause-raises_nothing : goal.returns-clause-raises_nothing
-returns-clause-raises_nothing c = let b = board_of c.args.self.now in let st = c.leave.ensures.step.1 in let p = c.args.pass.now in let q = c.set_hold.new.pass in
-    moved_raised b (Left (number p) c.args.hold.segment ∷ []) p q (moved_to b (Left (number p) c.args.hold.segment ∷ []) None p c.leave.new.pass q c.requires.pass c.leave.ensures.did.moved (tt, tt) st.plain st.memo c.set_hold.ensures.pass c.set_hold.ensures.sets)
+pub returns-clause-reads_nothing : goal.returns-clause-reads_nothing
+returns-clause-reads_nothing c = let b = board_of c.args.self.now in let st = c.leave.ensures.step.1 in let p = c.args.pass.now in let q = c.set_hold.new.pass in let own = Left (number p) c.args.hold.segment ∷ [] in
+    let m = moved_to b own None p c.leave.new.pass q c.requires.pass c.leave.ensures.did.moved (tt, tt) st.plain st.memo c.set_hold.ensures.pass c.set_hold.ensures.sets in
+    λ i. (moved_raised b own p q m i, moved_entered b own p q m i, λ bucket. moved_glanced b own p q bucket m i)

@@ -1,6 +1,6 @@
 use Rattle.std.proofs.Common.{sym}
 use Rattle.segindex.proofs.Quiet.{has_locked}
-use Rattle.segindex.proofs.Locking.{takes_none, unlocks_bucket, unlocks_undrawn, unlocks_unraised}
+use Rattle.segindex.proofs.Locking.{takes_none, unlocks_bucket, unlocks_undrawn, unlocks_unread}
 use Rattle.segindex.proofs.index.Index.unlock_bucket.Goals as goal
 
 pub release-requires : goal.release-requires
@@ -25,6 +25,6 @@ pub returns-clause-draws_nothing : goal.returns-clause-draws_nothing
 returns-clause-draws_nothing c = let step = c.release.ensures.step.1 in
     unlocks_undrawn c.args.self.now.board c.args.pass.now c.release.new.pass c.set_lock.new.pass c.in-Some.bucket c.requires.quiet (sym c.in-Some.ensures) c.release.ensures.did c.release.ensures.free step.plain step.memo c.set_lock.ensures.pass c.set_lock.ensures.sets
 
-pub returns-clause-raises_nothing : goal.returns-clause-raises_nothing
-returns-clause-raises_nothing c = let step = c.release.ensures.step.1 in
-    unlocks_unraised c.args.self.now.board c.args.pass.now c.release.new.pass c.set_lock.new.pass c.in-Some.bucket c.requires.quiet (sym c.in-Some.ensures) c.release.ensures.did c.release.ensures.free step.plain step.memo c.set_lock.ensures.pass c.set_lock.ensures.sets
+pub returns-clause-reads_nothing : goal.returns-clause-reads_nothing
+returns-clause-reads_nothing c = let step = c.release.ensures.step.1 in
+    unlocks_unread c.args.self.now.board c.args.pass.now c.release.new.pass c.set_lock.new.pass c.in-Some.bucket c.requires.quiet (sym c.in-Some.ensures) c.release.ensures.did c.release.ensures.free step.plain step.memo c.set_lock.ensures.pass c.set_lock.ensures.sets
