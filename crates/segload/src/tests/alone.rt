@@ -27,12 +27,12 @@ const SHAPE: Shape = Shape {
     first_version: 0,
 };
 
-// Rows enough for a while in each segment, and segments that come in turn.
+// Rows enough for a while in each segment, and segments that come in turn: an even number, so that one that skips each second one leaves some out.
 const WIDE: Shape = Shape {
     buckets: 8,
     overflow: 0,
     passes: 1,
-    segments_each: 3,
+    segments_each: 4,
     rows: 16,
     first_version: 4_294_967_290,
 };
