@@ -67,7 +67,8 @@ module _ (b : Board) (p q : Pass) (key : List ℕ) (was : IsAlone b p) (on : Goe
       → told ≡ gets_answer (is_locked b.shape (state_at b.shape p) key) (reads_version b.shape (after b.shape (seen p)) key)
   versioned (gets.Found value version) unlocked is = sym (λ i. gets_answer (free_here b.shape p key (unlocked value version refl) i) (version_then (Some (value, version)) is i))
   versioned gets.Miss unlocked is = sym (none_read (is_locked b.shape (state_at b.shape p) key) ((after b.shape (seen p)).version (bucket_of b.shape key)) (present (after b.shape (seen p)) key) (read_then None is))
-  versioned gets.Busy unlocked (inl many) = absurd (never_disturbed many)
+  versioned gets.Busy unlocked (inl (inl many)) = absurd (never_stirred many)
+  versioned gets.Busy unlocked (inl (inr many)) = absurd (never_disturbed many.0)
   versioned gets.Busy unlocked (inr (locked, (value, is))) = sym (ap (λ here. gets_answer here (reads_version b.shape (after b.shape (seen p)) key)) (locked_here b.shape p key locked)
       ∙ some_read ((after b.shape (seen p)).version (bucket_of b.shape key)) (present (after b.shape (seen p)) key) value (read_then (Some value) is))
 

@@ -1,5 +1,5 @@
 -- What tries for a value with its version add up to: entries of the key's bucket, and its bit found set.
-use Rattle.std.proofs.Common.{◌≡◌, ◌≢◌, ℕ, ◌+◌, ◌≤◌, Bool, true, false, cond, eqb, ◌&&◌, List, [], ◌∷◌, ◌++◌, Option, Some, None, refl, sym, ap, ◌∙◌, subst, arith}
+use Rattle.std.proofs.Common.{◌≡◌, ◌≢◌, ℕ, ◌+◌, ◌≤◌, Bool, true, false, cond, eqb, ◌&&◌, List, [], ◌∷◌, ◌++◌, Option, Some, None, refl, sym, ap, ◌∙◌, subst, arith, ◌⊎◌, inl, inr}
 use Rattle.std.proofs.lemmas.Bool.{cond-true, and_from, eq-eqb, eqb-true, false_from_ne_true}
 use Rattle.segword.specs.declared.shape.Shape.{Shape}
 use Rattle.segword.specs.declared.item.Item.{Item}
@@ -8,14 +8,14 @@ use Rattle.segword.specs.Shape.{IsValid}
 use Rattle.segword.specs.ItemWord.{item_word}
 use Rattle.segword.specs.SameItem.{IsSameItem}
 use Rattle.segmodel.specs.Places.{bucket_of, tag_of}
-use Rattle.segmodel.specs.History.{entries_of}
+use Rattle.segmodel.specs.History.{Begins, entries_of}
 use Rattle.segcore.specs.declared.event.Event.{Event}
 use Rattle.segcore.specs.declared.event.Event.TheVariants.{Glanced}
 use Rattle.segcore.specs.Event as event
 use Rattle.segcore.specs.Count as count
 use Rattle.segcore.specs.Bucket.{is, bucket_after}
 use Rattle.segcore.specs.Kind.{unless_own}
-use Rattle.segcore.proofs.Moments.{begins_on}
+use Rattle.segcore.proofs.Moments.{begins_on, seen_begins}
 use Rattle.segcore.proofs.Changed.{entries_begin}
 use Rattle.segcore.proofs.Limits.{bucket_in}
 use Rattle.segbase.specs.declared.board.Board.{Board}
@@ -29,8 +29,8 @@ use Rattle.segstore.specs.Reading.{IsReader}
 use Rattle.segstore.specs.Linked.{SawWord}
 use Rattle.segstore.proofs.Words.{same_place, chained_later}
 use Rattle.segstore.proofs.Readers.{looks}
-use Rattle.segindex.specs.Scanning.{IsPlaceOf}
-use Rattle.segindex.specs.Gets.{HasNoBit, Disturbs}
+use Rattle.segindex.specs.Scanning.{Counts, IsPlaceOf}
+use Rattle.segindex.specs.Gets.{StoodBetween, HasNoBit, Disturbs}
 use Rattle.segindex.proofs.Bits.{bit_before}
 use Rattle.segindex.proofs.Quiet.{reads_none}
 use Rattle.segindex.proofs.Tries.{Trying, trying_on}
@@ -94,16 +94,45 @@ clear_reads b c p q info g clear plain memo = (looks b p q (record { did = (g.0 
 -- ---- counts
 
 pub disturbs_none : (b : Board) (key : List ℕ) (n : ℕ) (p q : Pass) → IsReader b p q → Disturbs b.shape key n n p q
-disturbs_none b key n p q i = let e = entries_begin b.shape (bucket_of b.shape key) (trace p) (trace q) (moved_on b i.reads.own p q i.reads.moved) in let g = glances_grow b i.reads.own p q (bucket_of b.shape key) i.reads.moved in omega arith
+disturbs_none b key n p q i = let up = moved_on b i.reads.own p q i.reads.moved in let e = entries_begin b.shape (bucket_of b.shape key) (trace p) (trace q) up in let g = glances_grow b i.reads.own p q (bucket_of b.shape key) i.reads.moved in (seen_begins (trace p) (trace q) up, omega arith, inl (omega arith))
+
+stood_from : (z : Shape) (key : List ℕ) (p q r : Pass) → Begins (seen p) (seen q) → StoodBetween z key q r → StoodBetween z key p r
+stood_from z key p q r up (value, (history, between, is)) = (value, (history, (begins_on (seen p) (seen q) history up between.0, between.1), is))
+
+stood_to : (z : Shape) (key : List ℕ) (p q r : Pass) → Begins (seen q) (seen r) → StoodBetween z key p q → StoodBetween z key p r
+stood_to z key p q r up (value, (history, between, is)) = (value, (history, (between.0, begins_on history (seen q) (seen r) between.1 up), is))
+
+-- by entries, or where the key stood
+by_both : (z : Shape) (key : List ℕ) (some more most : ℕ) (p q r : Pass) → Begins (seen p) (seen q) → Begins (seen q) (seen r) → Counts z key some more (trace p) (trace q) ⊎ StoodBetween z key p q → Counts z key more most (trace q) (trace r) ⊎ StoodBetween z key q r → Counts z key some most (trace p) (trace r) ⊎ StoodBetween z key p r
+by_both z key some more most p q r up on (inl a) (inl b) = inl (omega (arith, a, b))
+by_both z key some more most p q r up on (inl a) (inr s) = inr (stood_from z key p q r up s)
+by_both z key some more most p q r up on (inr s) b = inr (stood_to z key p q r on s)
+
+by_fewer : (z : Shape) (key : List ℕ) (some more fewer : ℕ) (p q : Pass) → fewer ≤ more → Counts z key some more (trace p) (trace q) ⊎ StoodBetween z key p q → Counts z key some fewer (trace p) (trace q) ⊎ StoodBetween z key p q
+by_fewer z key some more fewer p q le (inl a) = inl (omega (arith, a, le))
+by_fewer z key some more fewer p q le (inr s) = inr s
+
+pub disturbs_fewer : (z : Shape) (key : List ℕ) (some more fewer : ℕ) (p q : Pass) → fewer ≤ more → Disturbs z key some more p q → Disturbs z key some fewer p q
+disturbs_fewer z key some more fewer p q le c = (c.0, (let x = c.1 in omega (arith, x, le)), by_fewer z key some more fewer p q le c.2)
 
 pub disturbs_then : (z : Shape) (key : List ℕ) (some more most : ℕ) (p q r : Pass) → Disturbs z key some more p q → Disturbs z key more most q r → Disturbs z key some most p r
-disturbs_then z key some more most p q r c d = omega arith
+disturbs_then z key some more most p q r c d = (begins_on (seen p) (seen q) (seen r) c.0 d.0, (let x = c.1 in let y = d.1 in omega (arith, x, y)), by_both z key some more most p q r c.0 d.0 c.2 d.2)
 
 -- the tries at a word, up to q: the item was seen at some point, and each try before it found another, or the bit set
 pub record TryingVersion (z : Shape) (key : List ℕ) (place : Place) (tries : ℕ) (item : Item) (count : ℕ) (p q : Pass) : Type 0 where
   pub saw : SawWord z place (item_word item) (trace p) (trace q)
   pub tag : item.tag ≡ tag_of key
   pub counted : entries_of z (bucket_of z key) (seen p) + glanced p (bucket_of z key) + count ≤ entries_of z (bucket_of z key) (event.seen saw.at) + glanced q (bucket_of z key) + tries
+  -- by entries alone, or the key stood
+  pub by : (entries_of z (bucket_of z key) (seen p) + count ≤ entries_of z (bucket_of z key) (event.seen saw.at) + tries) ⊎ StoodBetween z key p q
+
+by_one : (z : Shape) (key : List ℕ) (e m n count tries : ℕ) (p q r : Pass) → m + 1 ≤ n → Begins (seen q) (seen r) → (e + count ≤ m + tries) ⊎ StoodBetween z key p q → (e + (count + 1) ≤ n + tries) ⊎ StoodBetween z key p r
+by_one z key e m n count tries p q r one up (inl a) = inl (omega (arith, a, one))
+by_one z key e m n count tries p q r one up (inr s) = inr (stood_to z key p q r up s)
+
+by_last : (z : Shape) (key : List ℕ) (e m n count tries : ℕ) (p q r : Pass) → m ≤ n → Begins (seen q) (seen r) → (e + count ≤ m + tries) ⊎ StoodBetween z key p q → (e + count ≤ n + tries) ⊎ StoodBetween z key p r
+by_last z key e m n count tries p q r le up (inl a) = inl (omega (arith, a, le))
+by_last z key e m n count tries p q r le up (inr s) = inr (stood_to z key p q r up s)
 
 pub first_try : (b : Board) (key : List ℕ) (place : Place) (tries : ℕ) (item : Item) (w : ℕ) (p q : Pass) → IsReader b p q → SawWord b.shape place w (trace p) (trace q) → item_word item ≡ w → item.tag ≡ tag_of key
     → TryingVersion b.shape key place tries item tries p q
@@ -112,6 +141,7 @@ first_try b key place tries item w p q i s is tag =
       saw = record { at = s.at; between = s.between; lawful = s.lawful; stood = s.stood ∙ sym is };
       tag = tag;
       counted = omega arith;
+      by = inl (omega arith);
     }
 
 pub changed_try : (b : Board) (key : List ℕ) (place : Place) (tries : ℕ) (item : Item) (count : ℕ) (other : Item) (w : ℕ) (p q r : Pass) → IsValid b.shape → IsPlaceOf b.shape (trace p) key place → IsReader b p q → IsReader b q r
@@ -131,17 +161,25 @@ changed_try b key place tries item count other w p q r v of i j y s ne is tag =
       saw = record { at = now.saw.at; between = (begins_on (trace p) old now.saw.at y.saw.between.0 now.saw.between.0, now.saw.between.1); lawful = now.saw.lawful; stood = now.saw.stood };
       tag = now.tag;
       counted = omega arith;
+      by = by_one z key (entries_of z (bucket_of z key) (seen p)) (entries_of z (bucket_of z key) (event.seen old)) (entries_of z (bucket_of z key) (event.seen now.saw.at)) count tries p q r (omega (arith, one)) (seen_begins (trace q) (trace r) (moved_on b j.reads.own q r j.reads.moved)) y.by;
     }
 
 pub held_try : (b : Board) (key : List ℕ) (place : Place) (tries : ℕ) (item : Item) (count : ℕ) (p q r : Pass) → IsReader b q r → TryingVersion b.shape key place tries item count p q
-    → glanced q (bucket_of b.shape key) + 1 ≤ glanced r (bucket_of b.shape key) → TryingVersion b.shape key place tries item (count + 1) p r
-held_try b key place tries item count p q r j y set = let all = y.counted in record {
+    → glanced q (bucket_of b.shape key) + 1 ≤ glanced r (bucket_of b.shape key) → StoodBetween b.shape key q r → TryingVersion b.shape key place tries item (count + 1) p r
+held_try b key place tries item count p q r j y set stood = let all = y.counted in record {
   saw = record { at = y.saw.at; between = (y.saw.between.0, begins_on y.saw.at (trace q) (trace r) y.saw.between.1 (moved_on b j.reads.own q r j.reads.moved)); lawful = y.saw.lawful; stood = y.saw.stood };
   tag = y.tag;
   counted = omega arith;
+  by = inr (stood_from b.shape key p q r (seen_begins (trace p) (trace q) (begins_on (trace p) y.saw.at (trace q) y.saw.between.0 y.saw.between.1)) stood);
 }
 
 pub all_tries : (b : Board) (key : List ℕ) (place : Place) (tries : ℕ) (item : Item) (count : ℕ) (p q r : Pass) → IsReader b q r → TryingVersion b.shape key place tries item count p q → Disturbs b.shape key tries count p r
 all_tries b key place tries item count p q r j y =
-    let all = y.counted in let g = glances_grow b j.reads.own q r (bucket_of b.shape key) j.reads.moved in
-    let e = entries_begin b.shape (bucket_of b.shape key) y.saw.at (trace r) (begins_on y.saw.at (trace q) (trace r) y.saw.between.1 (moved_on b j.reads.own q r j.reads.moved)) in omega arith
+    let all = y.counted in let g = glances_grow b j.reads.own q r (bucket_of b.shape key) j.reads.moved in let on = moved_on b j.reads.own q r j.reads.moved in
+    let last = begins_on y.saw.at (trace q) (trace r) y.saw.between.1 on in
+    let e = entries_begin b.shape (bucket_of b.shape key) y.saw.at (trace r) last in
+    let z = b.shape in let c = bucket_of z key in (
+      seen_begins (trace p) (trace r) (begins_on (trace p) y.saw.at (trace r) y.saw.between.0 last),
+      omega arith,
+      by_last z key (entries_of z c (seen p)) (entries_of z c (event.seen y.saw.at)) (entries_of z c (seen r)) count tries p q r e (seen_begins (trace q) (trace r) on) y.by,
+    )

@@ -1,5 +1,5 @@
 -- The value of a hit, read from within its segment, and what the hit raises.
-use Rattle.std.proofs.Common.{◌≡◌, ℕ, ◌<◌, List, [], ◌++◌, sym, ap, ◌∙◌, subst, append_assoc}
+use Rattle.std.proofs.Common.{◌≡◌, ℕ, ◌<◌, List, [], ◌++◌, sym, ap, ◌∙◌, subst, append_assoc, refl}
 use Rattle.segword.specs.Bytes.{IsKey, IsValue}
 use Rattle.segword.specs.ItemWord.{item_word}
 use Rattle.segword.specs.declared.item.Item.{Item}
@@ -22,8 +22,8 @@ use Rattle.segstore.specs.Linked.{segment_part, row_part, FoundItem, FoundKey}
 use Rattle.segstore.proofs.Readers.{looks, then_reader, leave_then}
 use Rattle.segstore.proofs.Seconds.{segment_of_item, found_readable, found_value}
 use Rattle.segindex.specs.Calls.{RaisesNothing}
-use Rattle.segindex.specs.Hits.{RaisesOne}
-use Rattle.segindex.proofs.Raising.{raises_later, raises_sooner}
+use Rattle.segindex.specs.Hits.{RaisesFrom, RaisesOne}
+use Rattle.segindex.proofs.Raising.{raises_after, raises_sooner}
 
 -- with p the pass before the scan, q in the item's segment, and v after its row was read
 pub hit_readable : (b : Board) (p q : Pass) (place : Place) (item : Item) (header : ℕ) (key : List ℕ) → IsReaderIn b p q item.seg → FoundKey b.shape place item header key (trace p) (trace q) → IsReadable b q item.seg item.row
@@ -54,5 +54,5 @@ found_on b p q place item key value h there m f =
 -- ---- what a hit raises
 
 -- with p before the call, v before the frequency was raised, t after it, and r at the end
-pub hit_raises : (b : Board) (key : List ℕ) (draw : ℕ) (p v t r : Pass) → number v ≡ number p → Begins (trace p) (trace v) → Begins (trace t) (trace r) → RaisesNothing p v → RaisesOne b.shape key draw v t → RaisesNothing t r → RaisesOne b.shape key draw p r
-hit_raises b key draw p v t r same from to before one then = raises_sooner b.shape key draw p t r to (raises_later b.shape key draw p v t same from before one) then
+pub hit_raises : (b : Board) (key value : List ℕ) (draw : ℕ) (p v t r : Pass) → number v ≡ number p → Begins (trace p) (trace v) → Begins (trace t) (trace r) → RaisesNothing p v → RaisesFrom b.shape key value draw (trace p) v t → RaisesNothing t r → RaisesOne b.shape key value draw p r
+hit_raises b key value draw p v t r same from to before one then = raises_sooner b.shape key value draw (trace p) p t r to (raises_after b.shape key value draw (trace p) (trace p) p v t same ([], refl) before one) then

@@ -1,5 +1,6 @@
 -- What a hit raises: the frequency of the key's item, by one, at a moment at which the key stands and the draw counts.
-use Rattle.std.proofs.Common.{◌≡◌, ℕ, ◌+◌, ◌<◌, ◌≤◌, Bool, true, false, cond, eqb, List, [], ◌∷◌, ◌++◌, Some, refl, sym, ap, ◌∙◌, subst, inl, inr, arith}
+use Rattle.std.proofs.Common.{◌≡◌, ℕ, ◌+◌, ◌<◌, ◌≤◌, Bool, true, false, cond, eqb, List, [], ◌∷◌, ◌++◌, Some, refl, sym, ap, ◌∙◌, subst, inl, inr, arith, ◌⊎◌}
+use Rattle.std.proofs.lemmas.Bool.Decides.{eqb_tells}
 use Rattle.std.proofs.lemmas.Bool.{cond-true, cond-false, eq-eqb, eqb-true, false≢true}
 use Rattle.std.proofs.lemmas.Option.{same_Some}
 use Rattle.segword.specs.declared.shape.Shape.{Shape}
@@ -20,12 +21,12 @@ use Rattle.segcore.specs.Mark.{marked, last_at}
 use Rattle.segcore.proofs.Orderly.{frequency_marked}
 use Rattle.segcore.specs.ItemWord.{packed}
 use Rattle.segcore.specs.Kind.{bump}
-use Rattle.segcore.specs.Row.{Row, row_after, frequency_of}
+use Rattle.segcore.specs.Row.{Row, Holds, row_after, frequency_of}
 use Rattle.segcore.specs.Segment.{inside}
 use Rattle.segcore.specs.Standing.{cached}
 use Rattle.segcore.specs.Word.{content_word, word}
 use Rattle.segcore.proofs.Entered.{no_refill}
-use Rattle.segcore.proofs.Exact.{content_at}
+use Rattle.segcore.proofs.Exact.{content_at, one_value}
 use Rattle.segcore.proofs.Moments.{begins_on}
 use Rattle.segcore.proofs.Limits.{low_row, low_segment, low_frequency}
 use Rattle.segcore.proofs.Segments.{row_since}
@@ -42,11 +43,11 @@ use Rattle.segstore.specs.Linked.{segment_part, row_part, IsChained, WasLinked, 
 use Rattle.segstore.proofs.Words.{chained_later, stood_item}
 use Rattle.segstore.proofs.Seconds.{segment_of_item, row_of_item}
 use Rattle.segindex.specs.Calls.{RaisesNothing}
-use Rattle.segindex.specs.Hits.{HasFrequency, CountsHit, PassesHit, RaisesOne}
+use Rattle.segindex.specs.Hits.{HasFrequency, CountsHit, PassesHit, IsOvertaken, RaisesFrom, RaisesOne}
 use Rattle.segindex.proofs.Tries.{has_tag}
 
 -- an item whose word stands at a place is its key's, and has the word's frequency
-pub has_frequency : (z : Shape) (h : List Event) (place : Place) (item : Item) (key value : List ℕ) → IsValid z → WasLinked z place (item_word item) key value h → HasFrequency z key item.seg item.row item.freq h
+pub has_frequency : (z : Shape) (h : List Event) (place : Place) (item : Item) (key value : List ℕ) → IsValid z → WasLinked z place (item_word item) key value h → HasFrequency z key value item.seg item.row item.freq h
 has_frequency z h place item key value v was =
     let b = home_bucket z h place in let n = position z h place in let slot = was.here.1.0 in
     let here = ap (λ m. (bucket_after z h m).items n) (sym was.here.0) ∙ was.here.1.1 in
@@ -59,7 +60,7 @@ has_frequency z h place item key value v was =
     let er : slot.row ≡ item.row = omega arith in
     let ef : frequency_of h slot.segment slot.row ≡ item.freq = omega arith in
     let is : Some (buckets.slot slot.key slot.segment slot.row) ≡ Some (buckets.slot key item.seg item.row) = λ i. Some (buckets.slot (was.here.1.2 i) (es i) (er i)) in record {
-      stands = (value, subst (λ s. standing (after z (seen h)) key ≡ Some (cached value s)) (sym (segment_of_item item)) was.stands);
+      stands = subst (λ s. standing (after z (seen h)) key ≡ Some (cached value s)) (sym (segment_of_item item)) was.stands;
       last = subst (λ k. last_at (marked h) k ≡ Some (buckets.slot key item.seg item.row)) was.here.1.2 (stands.last ∙ is);
       had = frequency_marked h item.seg item.row ∙ subst (λ m. frequency_of h m item.row ≡ item.freq) es (subst (λ m. frequency_of h slot.segment m ≡ item.freq) er ef);
     }
@@ -92,6 +93,15 @@ module _ (b : Board) (p q : Pass) (place : Place) (item : Item) (higher draw fou
     linked : (row_after (trace p) item.seg item.row).linked ≡ Some key
     linked = found_linked b.shape place item key value h (trace p) saw
 
+    row_same : row_after (step.told.more ++ trace p) item.seg item.row ≡ row_after (trace p) item.seg item.row
+    row_same = row_since b.shape step.told.more (trace p) item.seg item.row key step.told.before (no_refill b.shape step.told.more (trace p) (number p) item.seg is.one_of step.told.before step.told.others there) linked
+
+    row_still : row_after at (segment_part (item_word item)) (row_part (item_word item)) ≡ row_after saw.saw.at (segment_part (item_word item)) (row_part (item_word item))
+    row_still = subst (λ s. row_after at s (row_part (item_word item)) ≡ row_after (trace p) s (row_part (item_word item))) (segment_of_item item) (subst (λ r. row_after at item.seg r ≡ row_after (trace p) item.seg r) (row_of_item item) row_same) ∙ saw.still
+
+    is_value : stood.1 ≡ value
+    is_value = one_value (row_after at (segment_part (item_word item)) (row_part (item_word item))) stood.0 stood.1 key value stood.2.valid.0 saw.saw.was.valid.0 stood.2.valid.1 saw.saw.was.valid.1 stood.2.holds (subst (λ u. Holds u key value) (sym row_still) saw.saw.was.holds)
+
     row_then : (row_after (step.told.more ++ trace p) item.seg item.row).linked ≡ Some key
     row_then = ap (λ (r : Row). r.linked) (row_since b.shape step.told.more (trace p) item.seg item.row key step.told.before (no_refill b.shape step.told.more (trace p) (number p) item.seg is.one_of step.told.before step.told.others there) linked) ∙ linked
 
@@ -101,54 +111,76 @@ module _ (b : Board) (p q : Pass) (place : Place) (item : Item) (higher draw fou
     now : trace q ≡ Bumped (number p) item.seg item.row higher ∷ (step.told.more ++ trace p)
     now = ap (λ (u : View). u.trace) step.told.now ∙ ap (λ es. es ++ at) (cond-true (eqb found (packed item.tag item.freq item.seg item.row)) (Bumped (number p) item.seg item.row higher ∷ []) [] (eq-eqb found (packed item.tag item.freq item.seg item.row) same))
 
-    pub counts_hit : CountsHit b.shape key draw (number p) (trace p) (trace q)
+    pub counts_hit : CountsHit b.shape key value draw (number p) h (trace q)
     counts_hit = record {
       at = at;
       segment = item.seg;
       row = item.row;
       frequency = item.freq;
-      since = (step.told.more, refl);
-      had = subst (λ k. HasFrequency b.shape k item.seg item.row item.freq at) is_key (has_frequency b.shape at place item stood.0 stood.1 is.valid stood.2);
+      since = begins_on h (trace p) at (begins_on h saw.saw.at (trace p) saw.saw.between.0 saw.saw.between.1) (step.told.more, refl);
+      had = subst (λ v. HasFrequency b.shape key v item.seg item.row item.freq at) is_value (subst (λ k. HasFrequency b.shape k stood.1 item.seg item.row item.freq at) is_key (has_frequency b.shape at place item stood.0 stood.1 is.valid stood.2));
       counted = one.0;
       raise = ([], now ∙ ap (λ n. Bumped (number p) item.seg item.row n ∷ at) (by ∙ one.1));
     }
 
-  -- with one pass it can't fail
-  pub comes_about : b.shape.passes ≡ 1 → eqb found (item_word item) ≡ false → Moved b [] p q → ⊥
-  comes_about single other nothing =
-      let unchanged : trace q ≡ step.told.more ++ trace p = ap (λ (u : View). u.trace) step.told.now ∙ ap (λ es. es ++ at) (cond-false (eqb found (packed item.tag item.freq item.seg item.row)) (Bumped (number p) item.seg item.row higher ∷ []) [] other) in
-      let then : step.told.more ++ trace p ≡ saw.saw.at = sym unchanged ∙ (moved_alone b [] p q nothing single ∙ saw.alone single) in
-      let same = step.told.found_is ∙ (ap (λ g. word b.shape g (cell_at b.shape place)) then ∙ saw.saw.was.stood) in
-      false≢true (sym other ∙ eq-eqb found (item_word item) same)
+  module _ (other : eqb found (item_word item) ≡ false) where
+    unchanged : trace q ≡ step.told.more ++ trace p
+    unchanged = ap (λ (u : View). u.trace) step.told.now ∙ ap (λ es. es ++ at) (cond-false (eqb found (packed item.tag item.freq item.seg item.row)) (Bumped (number p) item.seg item.row higher ∷ []) [] other)
+
+    -- with one pass it can't fail
+    comes_about : b.shape.passes ≡ 1 → Moved b [] p q → ⊥
+    comes_about single nothing =
+        let then : step.told.more ++ trace p ≡ saw.saw.at = sym unchanged ∙ (moved_alone b [] p q nothing single ∙ saw.alone single) in
+        let same = step.told.found_is ∙ (ap (λ g. word b.shape g (cell_at b.shape place)) then ∙ saw.saw.was.stood) in
+        false≢true (sym other ∙ eq-eqb found (item_word item) same)
+
+    several : Moved b [] p q → 1 < b.shape.passes
+    several nothing = elim (eqb_tells b.shape.passes 1) [
+      | inl one ↦ absurd (comes_about one.1 nothing)
+      | inr more ↦ let n = is.one_of in let ne = more.1 in omega (arith, n, ne)
+    ]
+
+    pub overtaken : IsOvertaken b.shape key value h (trace q)
+    overtaken = record {
+      at = saw.saw.at;
+      later = at;
+      place = place;
+      word = item_word item;
+      since = saw.saw.between.0;
+      then = begins_on saw.saw.at (trace p) at saw.saw.between.1 (step.told.more, refl);
+      until = ([], unchanged);
+      was = saw.saw.was;
+      other = λ same. false≢true (sym other ∙ eq-eqb found (item_word item) (step.told.found_is ∙ same));
+    }
 
 -- an exchange that is tried once
 pub raised_by : (b : Board) (p q : Pass) (place : Place) (item : Item) (higher draw found : ℕ) (key value : List ℕ) (h : List Event) (result : Bool) → IsPassOf b p → IsChained b.shape (trace p) place → 0 < inside (trace p) (number p) item.seg
     → FoundItem b.shape place (item_word item) key value h (trace p)
     → Stepped b (bump (home_bucket b.shape (trace p) place) (position b.shape (trace p) place) (cell_at b.shape place) item.tag item.seg item.row item.freq higher) found p q → result ≡ eqb found (item_word item)
-    → Did b (cond result (Bumped (number p) item.seg item.row higher ∷ []) []) p q → raised q ≡ cond result 1 0 + raised p → higher ≡ frequency_after_hit item.freq draw → item.freq < higher → RaisesOne b.shape key draw p q
+    → Did b (cond result (Bumped (number p) item.seg item.row higher ∷ []) []) p q → raised q ≡ cond result 1 0 + raised p → higher ≡ frequency_after_hit item.freq draw → item.freq < higher → RaisesFrom b.shape key value draw h p q
 raised_by b p q place item higher draw found key value h true is chained there saw step same did more by up =
     inl (omega (arith, more), counts_hit b p q place item higher draw found key value h is chained there saw step by up (eqb-true found (item_word item) (sym same)))
 raised_by b p q place item higher draw found key value h false is chained there saw step same did more by up =
-    inr (omega (arith, more), λ single. absurd (comes_about b p q place item higher draw found key value h is chained there saw step by up single (sym same) did.moved))
+    inr (omega (arith, more), inr (several b p q place item higher draw found key value h is chained there saw step by up (sym same) did.moved, overtaken b p q place item higher draw found key value h is chained there saw step by up (sym same)))
 
 -- a frequency that the draw leaves
 one_lower : (f draw : ℕ) (t : Bool) → cond t (f + 1) f ≤ f → t ≡ false
 one_lower f draw true low = absurd (omega (arith, low))
 one_lower f draw false low = refl
 
-pub raised_none : (b : Board) (p : Pass) (place : Place) (item : Item) (higher draw : ℕ) (key value : List ℕ) (h : List Event) → IsPassOf b p → FoundItem b.shape place (item_word item) key value h (trace p) → higher ≡ frequency_after_hit item.freq draw → higher ≤ item.freq → RaisesOne b.shape key draw p p
+pub raised_none : (b : Board) (p : Pass) (place : Place) (item : Item) (higher draw : ℕ) (key value : List ℕ) (h : List Event) → IsPassOf b p → FoundItem b.shape place (item_word item) key value h (trace p) → higher ≡ frequency_after_hit item.freq draw → higher ≤ item.freq → RaisesFrom b.shape key value draw h p p
 raised_none b p place item higher draw key value h is saw by low = inr (
   refl,
-  λ single. record {
+  inl (record {
     at = saw.saw.at;
     segment = item.seg;
     row = item.row;
     frequency = item.freq;
-    since = ([], sym (saw.alone single));
+    since = saw.saw.between.0;
     until = saw.saw.between.1;
     had = has_frequency b.shape saw.saw.at place item key value is.valid saw.saw.was;
     uncounted = one_lower item.freq draw (counts item.freq draw) (subst (λ n. n ≤ item.freq) by low);
-  },
+  }),
 )
 
 -- an exchange comes into no segment
@@ -158,8 +190,8 @@ stays_out b p q segment row frequency false m = moved_entered b _ p q m
 
 -- ---- one after another
 
-counts_wider : (z : Shape) (key : List ℕ) (draw n : ℕ) (h g f e : List Event) → Begins h g → Begins f e → CountsHit z key draw n g f → CountsHit z key draw n h e
-counts_wider z key draw n h g f e before after c = record {
+counts_wider : (z : Shape) (key value : List ℕ) (draw n : ℕ) (h g f e : List Event) → Begins h g → Begins f e → CountsHit z key value draw n g f → CountsHit z key value draw n h e
+counts_wider z key value draw n h g f e before after c = record {
   at = c.at;
   segment = c.segment;
   row = c.row;
@@ -170,8 +202,8 @@ counts_wider z key draw n h g f e before after c = record {
   raise = begins_on (Bumped n c.segment c.row (c.frequency + 1) ∷ c.at) f e c.raise after;
 }
 
-passes_wider : (z : Shape) (key : List ℕ) (draw : ℕ) (h g f e : List Event) → Begins h g → Begins f e → PassesHit z key draw g f → PassesHit z key draw h e
-passes_wider z key draw h g f e before after c = record {
+passes_wider : (z : Shape) (key value : List ℕ) (draw : ℕ) (h g f e : List Event) → Begins h g → Begins f e → PassesHit z key value draw g f → PassesHit z key value draw h e
+passes_wider z key value draw h g f e before after c = record {
   at = c.at;
   segment = c.segment;
   row = c.row;
@@ -182,10 +214,32 @@ passes_wider z key draw h g f e before after c = record {
   uncounted = c.uncounted;
 }
 
-pub raises_later : (z : Shape) (key : List ℕ) (draw : ℕ) (p q r : Pass) → number q ≡ number p → Begins (trace p) (trace q) → RaisesNothing p q → RaisesOne z key draw q r → RaisesOne z key draw p r
-raises_later z key draw p q r same up none (inl i) = inl (i.0 ∙ ap (λ n. n + 1) none, subst (λ n. CountsHit z key draw n (trace p) (trace r)) same (counts_wider z key draw (number q) (trace p) (trace q) (trace r) (trace r) up ([], refl) i.1))
-raises_later z key draw p q r same up none (inr i) = inr (i.0 ∙ none, λ single. passes_wider z key draw (trace p) (trace q) (trace r) (trace r) up ([], refl) (i.1 single))
+overtaken_wider : (z : Shape) (key value : List ℕ) (h g f e : List Event) → Begins h g → Begins f e → IsOvertaken z key value g f → IsOvertaken z key value h e
+overtaken_wider z key value h g f e before after c = record {
+  at = c.at;
+  later = c.later;
+  place = c.place;
+  word = c.word;
+  since = begins_on h g c.at before c.since;
+  then = c.then;
+  until = begins_on c.later f e c.until after;
+  was = c.was;
+  other = c.other;
+}
 
-pub raises_sooner : (z : Shape) (key : List ℕ) (draw : ℕ) (p q r : Pass) → Begins (trace q) (trace r) → RaisesOne z key draw p q → RaisesNothing q r → RaisesOne z key draw p r
-raises_sooner z key draw p q r up (inl i) none = inl (none ∙ i.0, counts_wider z key draw (number p) (trace p) (trace p) (trace q) (trace r) ([], refl) up i.1)
-raises_sooner z key draw p q r up (inr i) none = inr (none ∙ i.0, λ single. passes_wider z key draw (trace p) (trace p) (trace q) (trace r) ([], refl) up (i.1 single))
+-- why nothing was raised
+none_wider : (z : Shape) (key value : List ℕ) (draw : ℕ) (h g f e : List Event) → Begins h g → Begins f e → PassesHit z key value draw g f ⊎ ((1 < z.passes) × IsOvertaken z key value g f) → PassesHit z key value draw h e ⊎ ((1 < z.passes) × IsOvertaken z key value h e)
+none_wider z key value draw h g f e before after (inl c) = inl (passes_wider z key value draw h g f e before after c)
+none_wider z key value draw h g f e before after (inr c) = inr (c.0, overtaken_wider z key value h g f e before after c.1)
+
+-- it raised nothing before
+pub raises_after : (z : Shape) (key value : List ℕ) (draw : ℕ) (h g : List Event) (p q r : Pass) → number q ≡ number p → Begins h g → RaisesNothing p q → RaisesFrom z key value draw g q r → RaisesFrom z key value draw h p r
+raises_after z key value draw h g p q r same up none (inl i) = inl (i.0 ∙ ap (λ n. n + 1) none, subst (λ n. CountsHit z key value draw n h (trace r)) same (counts_wider z key value draw (number q) h g (trace r) (trace r) up ([], refl) i.1))
+raises_after z key value draw h g p q r same up none (inr i) = inr (i.0 ∙ none, none_wider z key value draw h g (trace r) (trace r) up ([], refl) i.1)
+
+pub raises_later : (z : Shape) (key value : List ℕ) (draw : ℕ) (p q r : Pass) → number q ≡ number p → Begins (trace p) (trace q) → RaisesNothing p q → RaisesOne z key value draw q r → RaisesOne z key value draw p r
+raises_later z key value draw p q r same up none i = raises_after z key value draw (trace p) (trace q) p q r same up none i
+
+pub raises_sooner : (z : Shape) (key value : List ℕ) (draw : ℕ) (h : List Event) (p q r : Pass) → Begins (trace q) (trace r) → RaisesFrom z key value draw h p q → RaisesNothing q r → RaisesFrom z key value draw h p r
+raises_sooner z key value draw h p q r up (inl i) none = inl (none ∙ i.0, counts_wider z key value draw (number p) h h (trace q) (trace r) ([], refl) up i.1)
+raises_sooner z key value draw h p q r up (inr i) none = inr (none ∙ i.0, none_wider z key value draw h h (trace q) (trace r) ([], refl) up i.1)

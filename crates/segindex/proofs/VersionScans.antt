@@ -1,5 +1,5 @@
 -- Visits for a value with its version, one after another along a chain.
-use Rattle.std.proofs.Common.{◌≡◌, ◌≢◌, ℕ, ◌+◌, ◌*◌, ◌≤◌, List, Option, Some, refl, ◌∙◌, subst, inl, arith}
+use Rattle.std.proofs.Common.{◌≡◌, ◌≢◌, ℕ, ◌+◌, ◌*◌, ◌≤◌, ◌⊎◌, List, Option, Some, refl, ◌∙◌, subst, inl, inr, arith}
 use Rattle.segword.specs.declared.shape.Shape.{Shape}
 use Rattle.segmodel.specs.declared.entry.Entry.{Entry}
 use Rattle.segmodel.specs.declared.answer.GetsAnswer.{GetsAnswer}
@@ -23,8 +23,8 @@ use Rattle.segindex.specs.declared.versions.Visited.{Visited}
 use Rattle.segindex.specs.declared.versions.Visited.TheVariants.{Found, Passed, Busy}
 use Rattle.segindex.specs.Calls.{RaisesNothing}
 use Rattle.segindex.specs.Hits.{GetsRaises}
-use Rattle.segindex.specs.Scanning.{IsPlaceOf, Brings, HasPassed}
-use Rattle.segindex.specs.Gets.{ReadsVersionBetween, Disturbs, disturbed, VisitRaises, IsVisited, IsVersionScan, IsGetsAnswer}
+use Rattle.segindex.specs.Scanning.{IsPlaceOf, Counts, Brings, HasPassed}
+use Rattle.segindex.specs.Gets.{ReadsVersionBetween, Disturbs, disturbed, StoodBetween, IsDisturbed, VisitRaises, IsVisited, IsVersionScan, IsGetsAnswer}
 use Rattle.segindex.proofs.Scans.{passed_then}
 use Rattle.segindex.proofs.Raising.{raises_later}
 use Rattle.segindex.proofs.Gets.{gone_reads}
@@ -59,7 +59,7 @@ visited_stops z key from to from' to' last last' some tries Busy p q r ne up c x
 
 -- after visits that raised nothing
 pub visit_raises : (b : Board) (key : List ℕ) (draw : ℕ) (w : Visited) (p q r : Pass) → IsReader b p q → RaisesNothing p q → VisitRaises b.shape key draw w q r → VisitRaises b.shape key draw w p r
-visit_raises b key draw (Found value version) p q r i none x = raises_later b.shape key draw p q r i.reads.moved.same (moved_on b i.reads.own p q i.reads.moved) none x
+visit_raises b key draw (Found value version) p q r i none x = raises_later b.shape key value draw p q r i.reads.moved.same (moved_on b i.reads.own p q i.reads.moved) none x
 visit_raises b key draw (Passed word counted) p q r i none x = x ∙ none
 visit_raises b key draw Busy p q r i none x = x ∙ none
 
@@ -73,7 +73,11 @@ visited_ends b key from mid to last some tries Busy p q r i c brings x = disturb
 
 -- 64 tries came in: so often the pass was disturbed
 pub is_disturbed : (z : Shape) (key : List ℕ) (p q : Pass) → entries_of z (bucket_of z key) (seen p) ≤ entries_of z (bucket_of z key) (seen q) → glanced p (bucket_of z key) ≤ glanced q (bucket_of z key) → Disturbs z key 0 64 p q → 64 ≤ disturbed z key p q
-is_disturbed z key p q e g c = omega arith
+is_disturbed z key p q e g c = let x = c.1 in omega (arith, e, g, x)
+
+by_bit : (z : Shape) (key : List ℕ) (p q : Pass) → 64 ≤ disturbed z key p q → Counts z key 0 64 (trace p) (trace q) ⊎ StoodBetween z key p q → IsDisturbed z key p q
+by_bit z key p q all (inl a) = inl (omega (arith, a))
+by_bit z key p q all (inr s) = inr (all, s)
 
 -- ---- the answer
 
@@ -81,7 +85,7 @@ pub scan_answers : (b : Board) (key : List ℕ) (w : GetsAnswer) (p q : Pass) �
 scan_answers b key (gets.Found value version) p q i x = x
 scan_answers b key gets.Miss p q i x = gone_reads b.shape key (trace p) (trace q) x
 scan_answers b key gets.Busy p q i x =
-    inl (is_disturbed b.shape key p q (entries_begin b.shape (bucket_of b.shape key) (trace p) (trace q) (moved_on b i.reads.own p q i.reads.moved)) (glances_grow b i.reads.own p q (bucket_of b.shape key) i.reads.moved) x)
+    inl (by_bit b.shape key p q (is_disturbed b.shape key p q (entries_begin b.shape (bucket_of b.shape key) (trace p) (trace q) (moved_on b i.reads.own p q i.reads.moved)) (glances_grow b i.reads.own p q (bucket_of b.shape key) i.reads.moved) x) x.2)
 
 -- an answer that isn't a hit
 pub unfound_raises : (z : Shape) (key : List ℕ) (draw : ℕ) (w : GetsAnswer) (p q : Pass) → ((value : List ℕ) (version : ℕ) → w ≢ gets.Found value version) → RaisesNothing p q → GetsRaises z key draw w p q

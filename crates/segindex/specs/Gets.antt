@@ -7,7 +7,7 @@ use Rattle.segmodel.specs.declared.answer.GetsAnswer.{GetsAnswer}
 use Rattle.segmodel.specs.declared.answer.GetsAnswer.TheVariants as gets
 use Rattle.segmodel.specs.Places.{bucket_of}
 use Rattle.segmodel.specs.Cache.{reads_version}
-use Rattle.segmodel.specs.History.{after, IsBetween, entries_of, stirred}
+use Rattle.segmodel.specs.History.{after, Begins, IsBetween, entries_of, stirred}
 use Rattle.segcore.specs.Ahead.{WasGone}
 use Rattle.segcore.specs.Search.{KeyGone}
 use Rattle.segcore.specs.Kind.{HasBit}
@@ -24,7 +24,7 @@ use Rattle.segindex.specs.declared.versions.Visited.TheVariants as visited
 use Rattle.segindex.specs.Calls.{RaisesNothing}
 use Rattle.segindex.specs.Answers.{ReadsBetween}
 use Rattle.segindex.specs.Hits.{RaisesOne}
-use Rattle.segindex.specs.Scanning.{HasPassed}
+use Rattle.segindex.specs.Scanning.{Counts, HasPassed}
 
 -- ---- the answer
 
@@ -36,15 +36,23 @@ ReadsVersionBetween shape key before now read = (history : List Entry) × IsBetw
 abbrev pub disturbed : Shape → List ℕ → Pass → Pass → ℕ
 disturbed shape key p q = stirred shape key (seen p) (seen q) + (glanced q (bucket_of shape key) - glanced p (bucket_of shape key))
 
+-- the key stood at some moment from the one pass to the other
+abbrev pub StoodBetween : Shape → List ℕ → Pass → Pass → Type 0
+StoodBetween shape key p q = (value : List ℕ) × ReadsBetween shape key (seen p) (seen q) (Some value)
+
+-- 64 entries of the key's bucket came in; or, where the key stood, as many with the looks that found the bit set
+abbrev pub IsDisturbed : Shape → List ℕ → Pass → Pass → Type 0
+IsDisturbed shape key p q = (64 ≤ stirred shape key (seen p) (seen q)) ⊎ ((64 ≤ disturbed shape key p q) × StoodBetween shape key p q)
+
 -- the key stands, and its bucket is locked by the pass itself
 abbrev pub StandsLocked : Shape → List ℕ → Pass → Pass → Type 0
-StandsLocked shape key p q = (locked_of p ≡ Some (bucket_of shape key)) × ((value : List ℕ) × ReadsBetween shape key (seen p) (seen q) (Some value))
+StandsLocked shape key p q = (locked_of p ≡ Some (bucket_of shape key)) × StoodBetween shape key p q
 
 -- a gets answers as a cache of one thread does at some moment of the call; it is Busy only where the pass was disturbed 64 times, or has the bucket of a key that stands locked by itself
 abbrev pub IsGetsAnswer : Shape → List ℕ → GetsAnswer → Pass → Pass → Type 0
 IsGetsAnswer shape key (gets.Found value version) p q = ReadsVersionBetween shape key (seen p) (seen q) (Some (value, version))
 IsGetsAnswer shape key gets.Miss p q = ReadsBetween shape key (seen p) (seen q) None
-IsGetsAnswer shape key gets.Busy p q = (64 ≤ disturbed shape key p q) ⊎ StandsLocked shape key p q
+IsGetsAnswer shape key gets.Busy p q = IsDisturbed shape key p q ⊎ StandsLocked shape key p q
 
 -- ---- on the way
 
@@ -56,7 +64,8 @@ HasNoBit shape key p = ¬ (HasBit shape (trace p) (number p) (bucket_of shape ke
 abbrev pub Disturbs : Shape → List ℕ → ℕ → ℕ → Pass → Pass → Type 0
 Disturbs shape key some more p q =
     let bucket = bucket_of shape key in
-    entries_of shape bucket (seen p) + glanced p bucket + more ≤ entries_of shape bucket (seen q) + glanced q bucket + some
+    Begins (seen p) (seen q) × (entries_of shape bucket (seen p) + glanced p bucket + more ≤ entries_of shape bucket (seen q) + glanced q bucket + some)
+    × (Counts shape key some more (trace p) (trace q) ⊎ StoodBetween shape key p q)
 
 -- how many tries were counted when looks ended so; the last one of those that found the key, or gave up, is its word's own
 abbrev pub visits : Visited → ℕ
@@ -65,11 +74,11 @@ visits _ = 63
 
 -- only a hit raises a frequency
 abbrev pub TryRaises : Shape → List ℕ → ℕ → Versioned → Pass → Pass → Type 0
-TryRaises shape key draw (versioned.Found value version) p q = RaisesOne shape key draw p q
+TryRaises shape key draw (versioned.Found value version) p q = RaisesOne shape key value draw p q
 TryRaises shape key draw _ p q = RaisesNothing p q
 
 abbrev pub VisitRaises : Shape → List ℕ → ℕ → Visited → Pass → Pass → Type 0
-VisitRaises shape key draw (visited.Found value version) p q = RaisesOne shape key draw p q
+VisitRaises shape key draw (visited.Found value version) p q = RaisesOne shape key value draw p q
 VisitRaises shape key draw _ p q = RaisesNothing p q
 
 -- one try at a place where this item word was seen
@@ -79,7 +88,7 @@ IsVersioned shape key place word (versioned.Other now) p q =
     let at = position shape (trace p) place in
     HasPassed shape key at (at + 1) place now (trace p) (trace q)
 IsVersioned shape key place word (versioned.Changed now) p q = SawWord shape place now (trace p) (trace q) × ¬ (IsSameItem word now)
-IsVersioned shape key place word versioned.Held p q = glanced p (bucket_of shape key) + 1 ≤ glanced q (bucket_of shape key)
+IsVersioned shape key place word versioned.Held p q = (glanced p (bucket_of shape key) + 1 ≤ glanced q (bucket_of shape key)) × StoodBetween shape key p q
 
 -- looks at the words of the key's chain from one position up to another, the last of which is at this place
 abbrev pub IsVisited : Shape → List ℕ → ℕ → ℕ → Place → ℕ → Visited → Pass → Pass → Type 0

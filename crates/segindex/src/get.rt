@@ -20,7 +20,7 @@ impl Index {
     ghost use Rattle.segindex.specs.Quiet.{IsQuiet};
     ghost use Rattle.segindex.specs.Calls.{GoesOn, ChangesNothing, TakesNoBit, DrawsNothing};
     ghost use Rattle.segindex.specs.Answers.{IsGetAnswer};
-    ghost use Rattle.segindex.specs.Hits.{TriesFew, RaisesOne, GetRaises};
+    ghost use Rattle.segindex.specs.Hits.{TriesFew, RaisesFrom, GetRaises};
 
     /// The value under a key. A hit raises the frequency of the key's item where the draw, a number at random, says so.
     pub fn get(&self, pass: &mut Pass, key: &Key, draw: u32) -> GetAnswer
@@ -51,7 +51,7 @@ impl Index {
         requires place { IsChained (shape_of self.now) (trace pass.old) place }
         ensures reads { IsReader (board_of self.now) pass.old pass.new }
         ensures stays_out { entered pass.new ≡ entered pass.old }
-        ensures raises { (key value : List ℕ) (before : List Event) → 0 < inside (trace pass.old) (number pass.old) item.seg → FoundItem (shape_of self.now) place (item_word item) key value before (trace pass.old) → RaisesOne (shape_of self.now) key draw pass.old pass.new }
+        ensures raises { (key value : List ℕ) (before : List Event) → 0 < inside (trace pass.old) (number pass.old) item.seg → FoundItem (shape_of self.now) place (item_word item) key value before (trace pass.old) → RaisesFrom (shape_of self.now) key value draw before pass.old pass.new }
     {
         let mut hit = item;
         hit.freq = next_frequency(item.freq, draw);

@@ -1,4 +1,4 @@
-use Rattle.std.proofs.Common.{inr}
+use Rattle.std.proofs.Common.{inl, inr, arith}
 use Rattle.segword.specs.ItemWord.{item_word}
 use Rattle.segbase.specs.Passes.{trace}
 use Rattle.segbase.proofs.Moves.{moved_on}
@@ -21,3 +21,6 @@ returns-in-Absent-clause-answer c = gone_reads (shape_of c.args.self.now) c.args
 pub returns-in-Found-clause-tries : goal.returns-in-Found-clause-tries
 returns-in-Found-clause-tries c = let q = c.scan_for.new.pass in let r = c.leave_segment.new.pass in
     tries_out 28 0 63 c.args.pass.now q r c.in-Found.ensures.tries (leaves (board_of c.args.self.now) c.in-Found.hit.item.seg q r c.leave_segment.ensures.moved)
+
+pub returns-in-Busy-clause-answer : goal.returns-in-Busy-clause-answer
+returns-in-Busy-clause-answer c = inl (inl (let many = c.in-Busy.ensures.scan in omega (arith, many)))

@@ -91,7 +91,7 @@ pub returns-in-Found-clause-raises : goal.returns-in-Found-clause-raises
 returns-in-Found-clause-raises c = let b = board_of c.args.self.now in let p = c.args.pass.now in let q = c.scan_for.new.pass in let f = c.in-Found in let hit = f.hit in let v = c.value_of_row-value in let t = c.count_hit.new.pass in let r = c.leave_segment.new.pass in
     let read = read_in b p q v.new.pass hit.item.seg hit.item.row f.ensures.reads v.ensures.reads in
     let found = read_value b p q v.new.pass hit.place hit.item hit.header c.args.key.now v.result f.ensures.reads f.ensures.scan v.ensures.reads v.ensures.value in
-    hit_raises b c.args.key.now c.args.draw p v.new.pass t r read.reads.moved.same (moved_on b _ p v.new.pass read.reads.moved) (moved_on b _ t r c.leave_segment.ensures.moved)
+    hit_raises b c.args.key.now v.result c.args.draw p v.new.pass t r read.reads.moved.same (moved_on b _ p v.new.pass read.reads.moved) (moved_on b _ t r c.leave_segment.ensures.moved)
     (tries_out 28 0 63 p q v.new.pass f.ensures.tries (looked b q v.new.pass v.ensures.reads.looked.did.moved)).raises_nothing
     (c.count_hit.ensures.raises c.args.key.now v.result (trace p) (is_inside b p v.new.pass hit.item.seg read.reads) found)
     (leaves b hit.item.seg t r c.leave_segment.ensures.moved).1

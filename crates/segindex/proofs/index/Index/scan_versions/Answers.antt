@@ -75,7 +75,7 @@ returns-in-Found-clause-tries c = let deep = c.loop-depth-test.true in comes_the
 
 pub returns-in-Found-clause-raises : goal.returns-in-Found-clause-raises
 returns-in-Found-clause-raises c = let b = board_of c.args.self.now in let m = c.loop-depth.invariant.reads.reads.moved in
-    raises_later b.shape c.args.key.now c.args.draw c.args.pass.now c.loop-depth.pass c.visit_versions.new.pass m.same (moved_on b _ c.args.pass.now c.loop-depth.pass m) c.loop-depth.invariant.tried.raises_nothing c.in-Found.ensures.raises
+    raises_later b.shape c.args.key.now c.in-Found.value c.args.draw c.args.pass.now c.loop-depth.pass c.visit_versions.new.pass m.same (moved_on b _ c.args.pass.now c.loop-depth.pass m) c.loop-depth.invariant.tried.raises_nothing c.in-Found.ensures.raises
 
 pub returns-in_default-clause-tries : goal.returns-in_default-clause-tries
 returns-in_default-clause-tries c = let deep = c.loop-depth-test.true in let few = c.in-Passed.ensures.visited.0 in comes_then (7 * c.loop-depth.depth) 7 28 0 c.loop-depth.tries c.in-Passed.counted 63 c.args.pass.now c.loop-depth.pass c.visit_versions.new.pass (omega arith) c.loop-depth.invariant.tried c.in-Passed.ensures.tries

@@ -15,7 +15,7 @@ use Rattle.segstore.proofs.Seconds.{looked_at, segment_of_item}
 use Rattle.segstore.proofs.Readers.{looks, reader_then, then_reader, leave_then}
 use Rattle.segindex.specs.Index.{board_of, shape_of}
 use Rattle.segindex.proofs.Tries.{saw_now, word_wider, passed_other}
-use Rattle.segindex.proofs.Gets.{found_place}
+use Rattle.segindex.proofs.Gets.{found_place, found_reads}
 use Rattle.segindex.proofs.Disturbing.{still_no_bit, glances_grow, set_reads, clear_reads}
 use Rattle.segindex.proofs.ComingIn.{leaves, try_out, looked_again}
 use Rattle.segindex.proofs.Hits.{hit_readable, read_in, read_value, found_on, hit_raises}
@@ -51,7 +51,11 @@ returns-then-info-clause-versioned c = let b = board_of c.args.self.now in let p
     let i = set_reads b c.args.key.now q g.new.pass g.result c.requires.pass.valid (still_no_bit b c.args.key.now x.reads.own p q x.reads.moved x.reads.only c.requires.free) (subst (λ n. Glances b n g.result q g.new.pass) c.requires.home g.ensures.glances) c.if-info.true g.ensures.step.plain g.ensures.step.memo in
     let before = glances_grow b x.reads.own p q home x.reads.moved in let one = i.1 in
     let looked = glances_grow b [] g.new.pass l.new.pass home l.ensures.did.moved in
-    let left = glances_grow b _ l.new.pass c.leave_segment.new.pass home c.leave_segment.ensures.moved in omega arith
+    let left = glances_grow b _ l.new.pass c.leave_segment.new.pass home c.leave_segment.ensures.moved in
+    let tried = c.in-Same.ensures in let item = c.in-Same.item in let v = c.value_of_row-value in let u = c.leave_segment.new.pass in
+    let found = read_value b p c.try_item.new.pass q c.args.place item c.in-Same.header c.args.key.now v.result tried.reads tried.keyed.1 v.ensures.reads v.ensures.value in
+    let on = begins_on (trace q) (trace g.new.pass) (trace u) (moved_on b i.0.reads.own q g.new.pass i.0.reads.moved) (begins_on (trace g.new.pass) (trace l.new.pass) (trace u) (moved_on b [] g.new.pass l.new.pass l.ensures.did.moved) (moved_on b _ l.new.pass u c.leave_segment.ensures.moved)) in
+    (omega arith, (v.result, found_reads b.shape c.args.place (item_word item) c.args.key.now v.result (trace p) (trace q) (trace u) on found))
 
 -- ---- another item stands there
 
@@ -153,7 +157,7 @@ returns-else-not-same_item-clause-raises c = let b = board_of c.args.self.now in
     let found = read_value b p c.try_item.new.pass q c.args.place item c.in-Same.header c.args.key.now v.result tried.reads tried.keyed.1 v.ensures.reads v.ensures.value in
     let there = is_inside b p q item.seg x.reads in let still = is_inside b p g.new.pass item.seg (then_reader b p q g.new.pass item.seg x i.0).reads in
     let again = found_on b g.new.pass l.new.pass c.args.place item c.args.key.now v.result (trace p) still l.ensures.did.moved (found_on b q g.new.pass c.args.place item c.args.key.now v.result (trace p) there (g.ensures.glances.0 c.if-info.false).0.moved found) in
-    hit_raises b c.args.key.now c.args.draw p l.new.pass t u.new.pass at.reads.moved.same (moved_on b _ p l.new.pass at.reads.moved) (moved_on b _ t u.new.pass u.ensures.moved)
+    hit_raises b c.args.key.now v.result c.args.draw p l.new.pass t u.new.pass at.reads.moved.same (moved_on b _ p l.new.pass at.reads.moved) (moved_on b _ t u.new.pass u.ensures.moved)
     (looked_again b c.args.home g.result p c.try_item.new.pass q g.new.pass l.new.pass tried.once v.ensures.reads.looked.did.moved g.ensures.glances l.ensures.did.moved).1
     (c.count_hit.ensures.raises c.args.key.now v.result (trace p) (is_inside b p l.new.pass item.seg at.reads) again)
     (leaves b item.seg t u.new.pass u.ensures.moved).1

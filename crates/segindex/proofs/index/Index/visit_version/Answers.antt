@@ -8,7 +8,7 @@ use Rattle.segindex.specs.Index.{board_of}
 use Rattle.segindex.proofs.Tries.{saw_now, passed_word, may_enter}
 use Rattle.segindex.proofs.ComingIn.{looked, tries_none, tries_out, tries_once, comes_once, at_most}
 use Rattle.segindex.proofs.Raising.{raises_later}
-use Rattle.segindex.proofs.Disturbing.{TryingVersion, still_no_bit, disturbs_none, first_try, changed_try, held_try, all_tries}
+use Rattle.segindex.proofs.Disturbing.{TryingVersion, still_no_bit, disturbs_none, first_try, changed_try, held_try, all_tries, disturbs_fewer}
 use Rattle.segindex.proofs.VersionScans.{reads_from, place_later, passed_from}
 use Rattle.segindex.proofs.index.Index.visit_version.Goals.{in-Changed+in-Some-item_of_tag, in-Held}
 use Rattle.segindex.proofs.index.Index.visit_version.Goals as goal
@@ -90,7 +90,7 @@ loop-count-preserved c = let b = board_of c.args.self.now in let i = c.loop-coun
         (changed_try b c.args.key.now c.args.place c.args.tries c.loop-count.item c.loop-count.count w.in-Some-item_of_tag.other w.in-Changed.now p q r c.requires.pass.valid c.requires.place i.reads k.reads i.trying k.versioned.0 k.versioned.1 x.0 (x.1 ∙ c.requires.tag))
     | in-Held w ↦ let k = w.in-Held.ensures in
         subst (λ (item : Item). TryingVersion b.shape c.args.key.now c.args.place c.args.tries item (c.loop-count.count + 1) p r) (sym w.item-is)
-        (held_try b c.args.key.now c.args.place c.args.tries c.loop-count.item c.loop-count.count p q r k.reads i.trying k.versioned)
+        (held_try b c.args.key.now c.args.place c.args.tries c.loop-count.item c.loop-count.count p q r k.reads i.trying k.versioned.0 k.versioned.1)
   ];
 }
 
@@ -100,7 +100,7 @@ returns-clause-reads c = c.loop-count.invariant.reads
 pub returns-clause-visited : goal.returns-clause-visited
 returns-clause-visited c = let b = board_of c.args.self.now in let i = c.loop-count.invariant in let q = c.loop-count.pass in
     let all = all_tries b c.args.key.now c.args.place c.args.tries c.loop-count.item c.loop-count.count c.args.pass.now q q (stays b q i.reads.reads.moved.pass) i.trying in
-    let over = c.loop-count-test.false in omega arith
+    let over = c.loop-count-test.false in disturbs_fewer b.shape c.args.key.now c.args.tries c.loop-count.count 64 c.args.pass.now q (omega (arith, over)) all
 
 -- ---- coming into segments, and what is raised
 
@@ -115,7 +115,7 @@ returns-in-Found-clause-tries c = let few = c.loop-count-test.true in comes_once
 
 pub returns-in-Found-clause-raises : goal.returns-in-Found-clause-raises
 returns-in-Found-clause-raises c = let b = board_of c.args.self.now in let m = c.loop-count.invariant.reads.reads.moved in
-    raises_later b.shape c.args.key.now c.args.draw c.args.pass.now c.loop-count.pass c.try_version.new.pass m.same (moved_on b _ c.args.pass.now c.loop-count.pass m) c.loop-count.invariant.tried.raises_nothing c.in-Found.ensures.raises
+    raises_later b.shape c.args.key.now c.in-Found.value c.args.draw c.args.pass.now c.loop-count.pass c.try_version.new.pass m.same (moved_on b _ c.args.pass.now c.loop-count.pass m) c.loop-count.invariant.tried.raises_nothing c.in-Found.ensures.raises
 
 pub returns-in-Other-clause-tries : goal.returns-in-Other-clause-tries
 returns-in-Other-clause-tries c = comes_once c.args.tries c.loop-count.count c.loop-count.count c.args.pass.now c.loop-count.pass c.try_version.new.pass (omega arith) c.loop-count.invariant.tried c.in-Other.ensures.once
