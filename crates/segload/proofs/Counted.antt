@@ -98,17 +98,17 @@ counts_read shape history pass own key tally.Miss now read e = untold tally.Miss
 counts_read shape history pass own key tally.Busy now read e = untold tally.Busy own now busy e
 counts_read shape history pass own key _ now read e = absurd read
 
-counts_written : (pass : ℕ) (asked : Request) (told : Tally) (before now : List Entry) → IsWrittenAs pass asked told before now → Counts told before now
+counts_written : (shape : Shape) (pass : ℕ) (asked : Request) (told : Tally) (before now : List Entry) → IsWrittenAs shape pass asked told before now → Counts told before now
 unfolding reply_tally
-counts_written pass asked tally.Stored before now written = replied reply.Stored pass asked (Some written.0) before now written.1
-counts_written pass asked tally.NotStored before now written = replied reply.NotStored pass asked None before now written
-counts_written pass asked tally.Exists before now written = replied reply.Exists pass asked None before now written
-counts_written pass asked tally.NotFound before now written = replied reply.NotFound pass asked None before now written
-counts_written pass asked tally.Deleted before now written = replied reply.Deleted pass asked None before now written
-counts_written pass asked tally.NoRoom before now written = untold tally.NoRoom before now no_room written.0
-counts_written pass asked tally.BucketFull before now written = untold tally.BucketFull before now bucket_full written.0
-counts_written pass asked tally.Busy before now written = untold tally.Busy before now busy written
-counts_written pass asked _ before now written = absurd written
+counts_written shape pass asked tally.Stored before now written = replied reply.Stored pass asked (Some written.0) before now written.1
+counts_written shape pass asked tally.NotStored before now written = replied reply.NotStored pass asked None before now written
+counts_written shape pass asked tally.Exists before now written = replied reply.Exists pass asked None before now written
+counts_written shape pass asked tally.NotFound before now written = replied reply.NotFound pass asked None before now written
+counts_written shape pass asked tally.Deleted before now written = replied reply.Deleted pass asked None before now written
+counts_written shape pass asked tally.NoRoom before now written = untold tally.NoRoom before now no_room written.0
+counts_written shape pass asked tally.BucketFull before now written = untold tally.BucketFull before now bucket_full written.0
+counts_written shape pass asked tally.Busy before now written = untold tally.Busy before now busy written.0
+counts_written shape pass asked _ before now written = absurd written
 
 -- an eviction or a refilling is no reply
 evicted_one : (told : Reply) (pass segment : ℕ) (key : List ℕ) (own : List Entry) → replies told (Evicted pass key segment ∷ own) ≡ replies told own
@@ -141,18 +141,18 @@ given_up pass before now told gives = by gives.entries
     by (inl e) = ap (replies told) e ∙ evicted
     by (inr e) = ap (replies told) e ∙ (refilled_one told pass gives.segment (gives.evictions ++ before) ∙ evicted)
 
-counts_stored : (pass : ℕ) (asked : Request) (told : Tally) (before now : List Entry) → IsStoredAs pass asked told before now → Counts told before now
-counts_stored pass asked told before now (inl written) = counts_written pass asked told before now written
-counts_stored pass asked told before now (inr again) = λ t counts. counts_written pass asked told again.0 now again.2 t (λ said. counts said ∙ sym (given_up pass before again.0 said again.1))
+counts_stored : (shape : Shape) (pass : ℕ) (asked : Request) (told : Tally) (before now : List Entry) → IsStoredAs shape pass asked told before now → Counts told before now
+counts_stored shape pass asked told before now (inl written) = counts_written shape pass asked told before now written
+counts_stored shape pass asked told before now (inr again) = λ t counts. counts_written shape pass asked told again.0 now again.2 t (λ said. counts said ∙ sym (given_up pass before again.0 said again.1))
 
 counts_one : (shape : Shape) (history : List Entry) (pass : ℕ) (of : Kind) (load : Load) (told : Tally) (before now : List Entry) → CameTo shape history pass of load told before now → Counts told before now
 counts_one shape history pass kind.Get load told before now came = counts_read shape history pass before load.key told now came.0 came.1
 counts_one shape history pass kind.Gets load told before now came = counts_read shape history pass before load.key told now came.0 came.1
-counts_one shape history pass kind.Set load told before now came = counts_stored pass (request.Set load.key load.value) told before now came
-counts_one shape history pass kind.Add load told before now came = counts_stored pass (request.Add load.key load.value) told before now came
-counts_one shape history pass kind.Replace load told before now came = counts_stored pass (request.Replace load.key load.value) told before now came
-counts_one shape history pass kind.Cas load told before now came = counts_stored pass (request.Cas load.key load.value came.0) told before now came.1
-counts_one shape history pass kind.Delete load told before now came = counts_written pass (request.Delete load.key) told before now came
+counts_one shape history pass kind.Set load told before now came = counts_stored shape pass (request.Set load.key load.value) told before now came
+counts_one shape history pass kind.Add load told before now came = counts_stored shape pass (request.Add load.key load.value) told before now came
+counts_one shape history pass kind.Replace load told before now came = counts_stored shape pass (request.Replace load.key load.value) told before now came
+counts_one shape history pass kind.Cas load told before now came = counts_stored shape pass (request.Cas load.key load.value came.0) told before now came.1
+counts_one shape history pass kind.Delete load told before now came = counts_written shape pass (request.Delete load.key) told before now came
 
 counts_nothing : (told : Reply) → tally_of told no_tallies ≡ replies told []
 counts_nothing reply.Stored = refl

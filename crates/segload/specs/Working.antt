@@ -1,5 +1,5 @@
 -- What a pass does at its load.
-use Rattle.std.specs.Prelude.{◌≡◌, ℕ, ◌<◌, Bool, false, true, List, slice_get, Some}
+use Rattle.std.specs.Prelude.{◌≡◌, ℕ, ◌<◌, Bool, false, true, List, slice_get, Some, None}
 use Rattle.segmodel.specs.declared.request.Request.{Request}
 use Rattle.segmodel.specs.declared.request.Request.TheVariants as request
 use Rattle.segmodel.specs.declared.answer.WriteAnswer.{WriteAnswer}
@@ -9,7 +9,7 @@ use Rattle.segmodel.specs.declared.answer.DeleteAnswer.TheVariants as delete
 use Rattle.segbase.specs.declared.board.Board.{Board}
 use Rattle.segbase.specs.declared.pass.Pass.{Pass}
 use Rattle.segbase.specs.Passes.{number, seen, mine}
-use Rattle.segbase.specs.Plain.{number_of}
+use Rattle.segbase.specs.Plain.{number_of, locked_of}
 use Rattle.segindex.specs.Quiet.{IsQuiet}
 use Rattle.segpolicy.specs.declared.load.Kind.{Kind}
 use Rattle.segpolicy.specs.declared.load.Kind.TheVariants as kind
@@ -49,9 +49,10 @@ stores_of kind.Replace version load = request.Replace load.key load.value
 stores_of kind.Cas version load = request.Cas load.key load.value version
 stores_of _ version load = request.Set load.key load.value
 
--- a pass at its load, which made so many commands of a workload
+-- a pass at its load, which made so many commands of a workload, and has no bucket locked
 pub record IsAtWork (b : Board) (draws : Draws) (made : ℕ) (worker : Worker) : Type 0 where
   pub quiet : IsQuiet b worker.client.pass
+  pub unlocked : locked_of worker.client.pass ≡ None
   pub workload : worker.workload ≡ draws_after draws made
   pub makes : Makes b.shape (seen worker.client.pass) (number worker.client.pass) draws made worker.tallies (mine worker.client.pass)
   pub all : all_of worker.tallies ≡ made

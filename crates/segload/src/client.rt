@@ -1,5 +1,5 @@
 //! A pass of an index, which makes the commands of a load.
-ghost use Rattle.std.specs.Prelude.{◌≡◌, ℕ};
+ghost use Rattle.std.specs.Prelude.{◌≡◌, ℕ, None};
 ghost use Rattle.segmodel.specs.declared.answer.WriteAnswer.TheVariants.{NoRoom};
 ghost use Rattle.segload.specs.Working.{write_tally, delete_tally, MakesRoom, stores_of};
 
@@ -44,6 +44,7 @@ fn tally_of_delete(answer: DeleteAnswer) -> Tally
 
 impl Client {
     ghost use Rattle.segbase.specs.Passes.{number, seen, mine};
+    ghost use Rattle.segbase.specs.Plain.{locked_of};
     ghost use Rattle.segindex.specs.Index.{board_of, shape_of};
     ghost use Rattle.segindex.specs.Quiet.{IsQuiet};
     ghost use Rattle.segindex.specs.Calls.{GoesOn};
@@ -76,6 +77,8 @@ impl Client {
     /// Makes a command, and says what it came to.
     pub(crate) fn serve(&mut self, index: &Index, load: &Load) -> Tally
         requires quiet { IsQuiet (board_of index.now) self.old.pass }
+        requires unlocked { locked_of self.old.pass ≡ None }
+        ensures unlocked { locked_of self.new.pass ≡ None }
         ensures on { GoesOn (board_of index.now) self.old.pass self.new.pass }
         ensures came { ComesTo (shape_of index.now) (seen self.new.pass) (number self.old.pass) load.now result (mine self.old.pass) (mine self.new.pass) }
     {
@@ -91,6 +94,8 @@ impl Client {
 
     fn get(&mut self, index: &Index, load: &Load) -> Tally
         requires quiet { IsQuiet (board_of index.now) self.old.pass }
+        requires unlocked { locked_of self.old.pass ≡ None }
+        ensures unlocked { locked_of self.new.pass ≡ None }
         ensures on { GoesOn (board_of index.now) self.old.pass self.new.pass }
         ensures read { IsReadAs (shape_of index.now) (seen self.new.pass) (number self.old.pass) (mine self.old.pass) load.now.key result }
         ensures same { mine self.new.pass ≡ mine self.old.pass }
@@ -106,6 +111,8 @@ impl Client {
     // It remembers the version for the next cas.
     fn gets(&mut self, index: &Index, load: &Load) -> Tally
         requires quiet { IsQuiet (board_of index.now) self.old.pass }
+        requires unlocked { locked_of self.old.pass ≡ None }
+        ensures unlocked { locked_of self.new.pass ≡ None }
         ensures on { GoesOn (board_of index.now) self.old.pass self.new.pass }
         ensures read { IsReadAs (shape_of index.now) (seen self.new.pass) (number self.old.pass) (mine self.old.pass) load.now.key result }
         ensures same { mine self.new.pass ≡ mine self.old.pass }
@@ -124,8 +131,10 @@ impl Client {
     // A write. Where it finds no room it is made once more, if room could be made.
     fn store(&mut self, index: &Index, load: &Load) -> WriteAnswer
         requires quiet { IsQuiet (board_of index.now) self.old.pass }
+        requires unlocked { locked_of self.old.pass ≡ None }
+        ensures unlocked { locked_of self.new.pass ≡ None }
         ensures on { GoesOn (board_of index.now) self.old.pass self.new.pass }
-        ensures stored { (version : ℕ) × IsStoredAs (number self.old.pass) (stores_of load.now.kind version load.now) (write_tally result) (mine self.old.pass) (mine self.new.pass) }
+        ensures stored { (version : ℕ) × IsStoredAs (shape_of index.now) (number self.old.pass) (stores_of load.now.kind version load.now) (write_tally result) (mine self.old.pass) (mine self.new.pass) }
     {
         let answer = self.write(index, load);
         let WriteAnswer::NoRoom = answer else {
@@ -139,8 +148,10 @@ impl Client {
 
     fn write(&mut self, index: &Index, load: &Load) -> WriteAnswer
         requires quiet { IsQuiet (board_of index.now) self.old.pass }
+        requires unlocked { locked_of self.old.pass ≡ None }
+        ensures unlocked { locked_of self.new.pass ≡ None }
         ensures on { GoesOn (board_of index.now) self.old.pass self.new.pass }
-        ensures written { IsWrittenAs (number self.old.pass) (stores_of load.now.kind self.old.version load.now) (write_tally result) (mine self.old.pass) (mine self.new.pass) }
+        ensures written { IsWrittenAs (shape_of index.now) (number self.old.pass) (stores_of load.now.kind self.old.version load.now) (write_tally result) (mine self.old.pass) (mine self.new.pass) }
         ensures untouched { result ≡ NoRoom → self.new.pass ≡ self.old.pass }
     {
         let (pass, key, value) = (&mut self.pass, &load.key, &load.value);
@@ -155,6 +166,8 @@ impl Client {
     // Gives up the next of its segments for new keys, and says whether that came about.
     fn make_room(&mut self, index: &Index) -> bool
         requires quiet { IsQuiet (board_of index.now) self.old.pass }
+        requires unlocked { locked_of self.old.pass ≡ None }
+        ensures unlocked { locked_of self.new.pass ≡ None }
         ensures on { GoesOn (board_of index.now) self.old.pass self.new.pass }
         ensures gives_up { MakesRoom self.old.pass self.new.pass }
     {

@@ -1,4 +1,4 @@
-use Rattle.segload.proofs.Answered.{gets_hit, gets_miss}
+use Rattle.segload.proofs.Answered.{gets_hit, gets_miss, gets_busy}
 use Rattle.segload.proofs.client.Client.gets.Goals as goal
 
 pub returns-in-Found-clause-read : goal.returns-in-Found-clause-read
@@ -6,3 +6,6 @@ returns-in-Found-clause-read c = gets_hit c.args.index.now.board c.args.load.now
 
 pub returns-in-Miss-clause-read : goal.returns-in-Miss-clause-read
 returns-in-Miss-clause-read c = gets_miss c.args.index.now.board c.args.load.now.key c.gets.result c.args.self.now.pass c.gets.new.pass c.in-Miss.is c.gets.ensures.on c.gets.ensures.keeps.entries c.gets.ensures.answer
+
+pub returns-in-Busy-clause-read : goal.returns-in-Busy-clause-read
+returns-in-Busy-clause-read c = gets_busy c.args.index.now.board c.args.load.now.key c.gets.result c.args.self.now.pass c.gets.new.pass c.in-Busy.is c.requires.quiet c.gets.ensures.on c.gets.ensures.keeps.entries c.requires.unlocked c.gets.ensures.answer

@@ -4,7 +4,7 @@ use Rattle.segload.proofs.Answered.{found_no_room, made_again}
 use Rattle.segload.proofs.client.Client.store.Goals as goal
 
 pub returns-then-not-make_room-clause-stored : goal.returns-then-not-make_room-clause-stored
-returns-then-not-make_room-clause-stored c = found_no_room c.args.load.now.kind c.args.self.now.version c.args.load.now c.args.self.now.pass c.write-answer.new.self.pass c.make_room.new.self.pass (c.write-answer.ensures.untouched c.in-NoRoom.is) c.make_room.ensures.gives_up
+returns-then-not-make_room-clause-stored c = found_no_room c.args.index.now.board c.args.load.now.kind c.args.self.now.version c.args.load.now c.args.self.now.pass c.write-answer.new.self.pass c.make_room.new.self.pass (c.write-answer.ensures.untouched c.in-NoRoom.is) c.make_room.ensures.gives_up
 
 pub returns-clause-on : goal.returns-clause-on
 returns-clause-on c = let b = c.args.index.now.board in let p = c.args.self.now.pass in let q = c.write-answer.new.self.pass in let r = c.make_room.new.self.pass in

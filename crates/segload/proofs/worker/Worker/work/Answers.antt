@@ -17,7 +17,7 @@ loop-call-preserved g c =
     let q = c.serve-tally.new.self.pass in
     let later : Worker = record worker { client = c.serve-tally.new.self; workload = c.next-load.new.self; tallies = c.count.new.self } in
     record {
-      at_work = works_on b c.args.self.workload c.loop-call.call c.serve-tally.result worker later was.at_work served.on
+      at_work = works_on b c.args.self.workload c.loop-call.call c.serve-tally.result worker later was.at_work served.on served.unlocked
           (subst (λ load. ComesTo b.shape (seen q) (number p) load c.serve-tally.result (mine p) (mine q)) c.next-load.ensures.value served.came)
           c.next-load.ensures.after c.count.ensures.counted;
       same = served.on.same ∙ was.same;
@@ -42,6 +42,6 @@ returns-then-not-enter g c =
           until = subst (LetsThrough (g.G.Gate.may_answer c.args.gate.now) c.loop-call.call) pass was.let_through;
           stopped = subst (λ n. g.G.Gate.may_answer c.args.gate.now n c.loop-call.call false) pass (subst (g.G.Gate.may_answer c.args.gate.now c.number-pass.result c.loop-call.call) c.if-not-enter.true c.enter.ensures);
         },
-        record { quiet = was.at_work.quiet; workload = was.at_work.workload; makes = was.at_work.makes; all = was.at_work.all },
+        record { quiet = was.at_work.quiet; unlocked = was.at_work.unlocked; workload = was.at_work.workload; makes = was.at_work.makes; all = was.at_work.all },
       );
     }
