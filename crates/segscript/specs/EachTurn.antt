@@ -13,8 +13,8 @@ use Rattle.segscript.specs.Served.{Serves}
 use Rattle.segscript.specs.declared.fault.RunFault.{RunFault}
 use Rattle.segscript.specs.declared.fault.RunFault.TheVariants as fault
 
--- What comes behind the lines that were served: nothing at the end of a run, the bad line where one is bad, and the begun
--- line where no more came.
+-- What comes behind the lines that were served: nothing at the end of a run; the line that is told as bad, whatever follows
+-- it; and the begun line where no more came.
 abbrev pub IsLeft : List (List ℕ) → List ℕ → Result (Unit {0}) RunFault → Type 0
 IsLeft lines rest (Ok _) = rest ≡ []
 IsLeft lines rest (Err (fault.Line n)) = n ≡ length lines + 1
@@ -26,8 +26,8 @@ abbrev pub IsWritten : List ℕ → List ℕ → Result (Unit {0}) RunFault → 
 IsWritten text written (Err fault.Write) = (lost : List ℕ) × (text ≡ written ++ lost)
 IsWritten text written _ = written ≡ text
 
--- From their start on the passes of the board took the turns that the lines of what was read say, one after another. Each
--- was that of the pass that its line names, its outcome is the answer of one call of that pass, and the others were left as
+-- From their start on the passes of the board took the turns that the lines of what was read say, each pass its own in their
+-- order. Each was that of the pass that its line names, its outcome is the answer of one call of that pass, and the others were left as
 -- they were; what was written is the replies to these outcomes. A byte 10 behind what was read ends its last line.
 pub record AreTaken (b : Board) (start : List Pass) (Read Wrote : List ℕ → Type 0) (result : Result (Unit {0}) RunFault) : Type 0 where
   pub seen : List ℕ
