@@ -43,6 +43,7 @@ use Rattle.segindex.specs.declared.hold.Hold.{Hold}
 use Rattle.segindex.specs.Calls.{memo, GoesOn, TakesNoBit, DrawsNothing}
 use Rattle.segindex.specs.Quiet.{IsLock, IsHold, is_held_in, IsQuiet}
 use Rattle.segindex.specs.Holds.{IsRowOf, IsHoldOf, KeepsButHold, TakesHold, NoneFills, IsUnfilled, Releases, SetsHold}
+use Rattle.segindex.proofs.Still.{then_minds}
 use Rattle.segindex.proofs.Bits.{none_at_both, bit_before}
 use Rattle.segindex.proofs.Draws.{moved_undrawn, reads_undrawn}
 use Rattle.segindex.proofs.Gets.{reads_set_none, reads_try_none}
@@ -102,14 +103,7 @@ stays shape hold p q is same = record { held = is.held; holds = same ∙ is.hold
 -- what a reader does, and then what the pass says of its hold
 module _ (b : Board) (own : List Event) (held : Option Held) (p r q : Pass) (quiet : IsQuiet b p) (m : Moved b own p r) (only : OnlyReads own) (plain : r.plain ≡ p.plain) (same : memo r ≡ memo p) (is : IsPassOf b q) (sets : SetsHold held r q) where
   pub moved_to : Moved b own p q
-  moved_to = record {
-    pass = is;
-    same = ap (λ (v : View). v.number) sets.view ∙ m.same;
-    more = m.more;
-    goes_on = ap (λ (v : View). v.trace) sets.view ∙ m.goes_on;
-    adds = m.adds;
-    kept = m.kept;
-  }
+  moved_to = then_minds b own p r q m sets.view is
 
   pub keeps_but : KeepsButHold p q
   keeps_but = record {

@@ -35,7 +35,7 @@ use Rattle.segindex.proofs.Draws.{moved_undrawn}
 use Rattle.segindex.proofs.Idling.{took_none}
 use Rattle.segindex.proofs.Meanwhile.{none_entries}
 use Rattle.segindex.proofs.Quiet.{has_locked, lock_of, SettlesIn, holds_again, inside_again, hold_again, goes_on}
-use Rattle.segindex.proofs.Still.{AreStill, no_reader, settles_still}
+use Rattle.segindex.proofs.Still.{AreStill, no_reader, settles_still, then_minds}
 use Rattle.segindex.proofs.TakenBits.{took_one}
 use Rattle.segindex.proofs.Taking.{bounces_none}
 
@@ -61,14 +61,7 @@ minds_now b p q bucket is bit seat here =
 -- what the pass does, and then what it says of its lock
 module _ (b : Board) (own : List Event) (p r q : Pass) (bucket : Option ℕ) (quiet : IsQuiet b p) (m : Moved b own p r) (plain : r.plain ≡ p.plain) (same : memo r ≡ memo p) (is : IsPassOf b q) (sets : SetsLock bucket r q) where
   pub moved_to : Moved b own p q
-  moved_to = record {
-    pass = is;
-    same = ap (λ (v : View). v.number) sets.view ∙ m.same;
-    more = m.more;
-    goes_on = ap (λ (v : View). v.trace) sets.view ∙ m.goes_on;
-    adds = m.adds;
-    kept = m.kept;
-  }
+  moved_to = then_minds b own p r q m sets.view is
 
   pub segments_stay : SameSegments p q
   segments_stay = segments_then p r q (same_plain p r plain).0 sets.segments

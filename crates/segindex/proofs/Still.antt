@@ -1,13 +1,14 @@
 -- Calls that enter and leave no segment, raise no frequency and look at no bit: the pass is where it was.
-use Rattle.std.proofs.Common.{◌≡◌, ℕ, ◌<◌, List, [], ◌∷◌, ◌++◌, sym, refl, ◌∙◌, subst}
+use Rattle.std.proofs.Common.{◌≡◌, ℕ, ◌<◌, List, [], ◌∷◌, ◌++◌, sym, refl, ap, ◌∙◌, subst}
 use Rattle.segcore.specs.declared.event.Event.{Event}
+use Rattle.segcore.specs.declared.view.View.{View}
 use Rattle.segcore.specs.declared.event.Event.TheVariants.{Glanced, Bumped, Entered, Left}
 use Rattle.segcore.specs.Segment.{inside}
 use Rattle.segcore.specs.Count.{raised, entered, glanced}
 use Rattle.segbase.specs.declared.board.Board.{Board}
 use Rattle.segbase.specs.declared.pass.Pass.{Pass}
 use Rattle.segbase.specs.Traces.{StaysIn}
-use Rattle.segbase.specs.Passes.{number, trace, holding, Moved}
+use Rattle.segbase.specs.Passes.{number, trace, view, holding, IsPassOf, Moved}
 use Rattle.segbase.specs.Plain.{is_holding_of}
 use Rattle.segbase.proofs.Moves.{moved_inside, moved_raised, moved_entered, moved_glanced}
 use Rattle.segindex.specs.Calls.{ReadsNothing}
@@ -77,4 +78,15 @@ settles_still b own p q m still memo plain = record {
   plain = plain;
   readings = λ s. moved_inside b own p q s m ∙ still_inside own (trace p) (number p) s still;
   stays = λ s there. still_stays own (trace p) (number p) s still there;
+}
+
+-- what the pass then keeps in mind is no event
+pub then_minds : (b : Board) (own : List Event) (p r q : Pass) → Moved b own p r → view q ≡ view r → IsPassOf b q → Moved b own p q
+then_minds b own p r q m same is = record {
+  pass = is;
+  same = ap (λ (v : View). v.number) same ∙ m.same;
+  more = m.more;
+  goes_on = ap (λ (v : View). v.trace) same ∙ m.goes_on;
+  adds = m.adds;
+  kept = m.kept;
 }

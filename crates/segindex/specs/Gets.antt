@@ -1,4 +1,4 @@
--- What a gets answers: a value and a version of one moment; and how its looks along the key's chain come to that.
+-- What a gets answers: a value and a version of one moment; and how its looks along the key's chain come to that, with the tries that they count and what they raise.
 use Rattle.std.specs.Prelude.{◌≡◌, ◌⊎◌, ℕ, ◌+◌, ◌-◌, ◌<◌, ◌≤◌, List, Option, Some, None}
 use Rattle.segword.specs.declared.shape.Shape.{Shape}
 use Rattle.segword.specs.SameItem.{IsSameItem}

@@ -1,4 +1,4 @@
--- A reader's way along the chain of a key, without the bucket's bit: what its looks found, and how many tries it counted.
+-- A reader's way along the chain of a key, without the bucket's bit: what its looks found, how many tries it counted, and how often it came into segments.
 use Rattle.std.specs.Prelude.{◌≡◌, ℕ, ◌+◌, ◌-◌, ◌*◌, ◌<◌, ◌≤◌, nat_lt, List, if◌then◌else◌}
 use Rattle.segword.specs.declared.shape.Shape.{Shape}
 use Rattle.segmodel.specs.Places.{bucket_of}
