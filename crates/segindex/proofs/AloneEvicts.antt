@@ -52,7 +52,7 @@ found_there : (o : Option Cached) (segment : ℕ) → IsSomeAnd o (λ item. item
 found_there None segment none = absurd none
 found_there (Some item) segment there = (item, refl, there)
 
-module _ (b : Board) (p q : Pass) (segment count : ℕ) (was : IsAlone b p) (on : GoesOn b p q) (undrawn : DrawsNothing p q) (takes : TakesOut segment count p q) where
+module _ (b : Board) (p q : Pass) (segment count : ℕ) (was : IsAlone b p) (on : GoesOn b p q) (undrawn : DrawsNothing p q) (takes : TakesOut b.shape segment count p q) where
   more : seen q ≡ takes.evictions ++ seen p
   more = more_seen b p q takes.evictions was on.quiet takes.entries
 

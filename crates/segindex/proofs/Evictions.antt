@@ -34,10 +34,11 @@ use Rattle.segstore.proofs.Keeping.{seat_trace, same_memo, same_plain}
 use Rattle.segindex.specs.declared.evict.RowAnswer.TheVariants as row_answer
 use Rattle.segindex.specs.Quiet.{IsQuiet}
 use Rattle.segindex.specs.Calls.{memo, GoesOn, DrawsNothing, ReadsNothing}
-use Rattle.segindex.specs.Evicting.{AreEvictions, TakesOut, IsBarred, IsEvictAnswer}
+use Rattle.segindex.specs.Evicting.{AreEvictions, TriesForKeys, TakesOut, IsBarred, IsEvictAnswer}
 use Rattle.segindex.specs.Unlinking.{KeepsGone, EvictsRow}
 use Rattle.segindex.proofs.Bits.{bit_before}
 use Rattle.segindex.proofs.Draws.{moved_undrawn, draws_none_then}
+use Rattle.segindex.proofs.KeyTries.{no_tries, tries_then, tries_after}
 use Rattle.segindex.proofs.Quiet.{quiet_again, goes_on}
 use Rattle.segindex.proofs.RowsOut.{goes_then, keeps_gone_then}
 use Rattle.segindex.proofs.Still.{no_reader, settles_still}
@@ -103,6 +104,25 @@ pub record Evicting (b : Board) (segment row taken : ℕ) (p q : Pass) : Type 0 
   pub entries : mine q ≡ evictions ++ mine p
   pub below : (r : ℕ) → r < row → RowGone b.shape segment r (trace q)
   pub few : taken ≤ row
+  pub tries : TriesForKeys b.shape segment row p q
+
+-- before the first row
+pub evicting_first : (b : Board) (segment : ℕ) (p : Pass) → IsQuiet b p → Evicting b segment 0 0 p p
+evicting_first b segment p quiet = record {
+  on = record { quiet = quiet; same = refl; marked = ([], refl); seen = ([], refl) };
+  keeps = record { grew = ([], refl); lasts = λ row gone. gone };
+  plain = refl;
+  memo = refl;
+  draws_nothing = λ bucket. refl;
+  reads_nothing = refl;
+  evictions = [];
+  counted = refl;
+  all = tt;
+  entries = refl;
+  below = λ r lt. absurd (omega (arith, lt));
+  few = omega arith;
+  tries = no_tries b segment 0 p p (stays b p quiet.pass);
+}
 
 module _ (b : Board) (segment row taken : ℕ) (p q r : Pass) (e : Evicting b segment row taken p q) where
   gone_below : KeepsGone b segment q r → RowGone b.shape segment row (trace r) → (n : ℕ) → n < row + 1 → RowGone b.shape segment n (trace r)
@@ -127,6 +147,7 @@ module _ (b : Board) (segment row taken : ℕ) (p q r : Pass) (e : Evicting b se
         entries = one.answer.2.1 ∙ (λ t. entry.Evicted (e.on.same t) key segment ∷ e.entries t);
         below = gone_below one.answer.0 one.answer.1;
         few = omega arith;
+        tries = tries_then b.shape segment row 1 (row + 1) p q r e.on.seen one.on.seen (omega arith) e.tries one.tries;
       }
 
   -- or was gone
@@ -144,6 +165,7 @@ module _ (b : Board) (segment row taken : ℕ) (p q r : Pass) (e : Evicting b se
     entries = one.answer.2 ∙ e.entries;
     below = gone_below one.answer.0 one.answer.1;
     few = omega arith;
+    tries = tries_then b.shape segment row 1 (row + 1) p q r e.on.seen one.on.seen (omega arith) e.tries one.tries;
   }
 
 -- ---- the current segment
@@ -173,19 +195,14 @@ module _ (b : Board) (segment row taken : ℕ) (p q : Pass) (in_use : state_of p
   same : SameSegments p q × (current_of q ≡ current_of p)
   same = same_plain p q e.plain
 
-  takes_out : TakesOut segment taken p q
-  takes_out = record {
-    evictions = e.evictions;
-    counted = e.counted;
-    all = e.all;
-    entries = e.entries;
-    current = same.1 ∙ sym (but_other segment (current_of p) ended);
-    used = same.0.used;
-    other_states = λ other apart. same.0.state other;
-    locked = ap (λ (x : Plain). x.locked) e.plain;
-    is_holding = ap (λ (x : Plain). x.is_holding) e.plain;
-    memo = e.memo;
-  }
+  current_then : current_of q ≡ but_for segment (current_of p)
+  current_then = same.1 ∙ sym (but_other segment (current_of p) ended)
+
+  locked_then : locked_of q ≡ locked_of p
+  locked_then = ap (λ (x : Plain). x.locked) e.plain
+
+  holding_then : is_holding_of q ≡ is_holding_of p
+  holding_then = ap (λ (x : Plain). x.is_holding) e.plain
 
   -- the bit of a bucket couldn't be had
   module _ (r : Pass) (busy : EvictsRow b segment row row_answer.Busy q r) where
@@ -209,20 +226,21 @@ module _ (b : Board) (segment row taken : ℕ) (p q : Pass) (in_use : state_of p
               by.2,
         )
 
-    pub barred_answer : IsEvictAnswer b.shape segment (evict.Busy taken) p r
-    barred_answer = let now = same_plain q r busy.plain in (
+    pub barred_answer : ((rows : ℕ) → used_of p segment ≡ Some rows → row < rows) → IsEvictAnswer b.shape segment (evict.Busy taken) p r
+    barred_answer left = let now = same_plain q r busy.plain in (
       in_use,
       record {
         evictions = e.evictions;
         counted = e.counted;
         all = e.all;
         entries = busy.answer.0 ∙ e.entries;
-        current = now.1 ∙ takes_out.current;
-        used = λ other. now.0.used other ∙ takes_out.used other;
-        other_states = λ other apart. now.0.state other ∙ takes_out.other_states other apart;
-        locked = ap (λ (x : Plain). x.locked) busy.plain ∙ takes_out.locked;
-        is_holding = ap (λ (x : Plain). x.is_holding) busy.plain ∙ takes_out.is_holding;
+        current = now.1 ∙ current_then;
+        used = λ other. now.0.used other ∙ same.0.used other;
+        other_states = λ other apart. now.0.state other ∙ same.0.state other;
+        locked = ap (λ (x : Plain). x.locked) busy.plain ∙ locked_then;
+        is_holding = ap (λ (x : Plain). x.is_holding) busy.plain ∙ holding_then;
         memo = busy.memo ∙ e.memo;
+        tries = λ rows is. tries_then b.shape segment row 1 rows p q r e.on.seen busy.on.seen (let lt = left rows is in omega arith) e.tries busy.tries;
       },
       now.0.state segment ∙ (same.0.state segment ∙ in_use),
       barred_by,
@@ -261,8 +279,11 @@ module _ (b : Board) (segment row taken : ℕ) (p q : Pass) (in_use : state_of p
             (cases_eq s segment);
       }
 
+      now_on : GoesOn b q r
+      now_on = plain_goes_on b q r e.on.quiet seat but.owner but.locked but.holding keeps_now
+
       pub emptied_on : GoesOn b p r
-      emptied_on = goes_then b p q r e.on (plain_goes_on b q r e.on.quiet seat but.owner but.locked but.holding keeps_now)
+      emptied_on = goes_then b p q r e.on now_on
 
       pub emptied_undrawn : DrawsNothing p r
       emptied_undrawn = draws_none_then p q r e.draws_nothing (same_drew b q r e.on.quiet seat but.owner)
@@ -278,12 +299,13 @@ module _ (b : Board) (segment row taken : ℕ) (p q : Pass) (in_use : state_of p
           counted = e.counted;
           all = e.all;
           entries = same_mine b q r e.on.quiet seat but.owner ∙ e.entries;
-          current = but.current ∙ takes_out.current;
-          used = λ other. used other ∙ takes_out.used other;
-          other_states = λ other apart. others other apart ∙ takes_out.other_states other apart;
-          locked = but.locked ∙ takes_out.locked;
-          is_holding = but.holding ∙ takes_out.is_holding;
+          current = but.current ∙ current_then;
+          used = λ other. used other ∙ same.0.used other;
+          other_states = λ other apart. others other apart ∙ same.0.state other;
+          locked = but.locked ∙ locked_then;
+          is_holding = but.holding ∙ holding_then;
           memo = same_memo q r seat ∙ e.memo;
+          tries = λ rows is. let all : row ≡ rows = same_Some row rows (sym all_rows ∙ is) in tries_then b.shape segment row 0 rows p q r e.on.seen now_on.seen (omega arith) e.tries (no_tries b segment 0 q r (unmoved b q r e.on.quiet seat but.owner));
         },
         state,
         none_now,
@@ -316,7 +338,7 @@ module _ (b : Board) (segment : ℕ) (p s : Pass) (quiet : IsQuiet b p) (in_use 
   pub ends_in_use : state_of s segment ≡ Some InUse
   ends_in_use = same.state segment ∙ in_use
 
-  from_ended : (n : ℕ) (q : Pass) → TakesOut segment n s q → TakesOut segment n p q
+  from_ended : (n : ℕ) (q : Pass) → TakesOut b.shape segment n s q → TakesOut b.shape segment n p q
   from_ended n q t = record {
     evictions = t.evictions;
     counted = t.counted;
@@ -328,6 +350,7 @@ module _ (b : Board) (segment : ℕ) (p s : Pass) (quiet : IsQuiet b p) (in_use 
     locked = t.locked ∙ locks;
     is_holding = t.is_holding ∙ holds;
     memo = t.memo ∙ same_memo p s seat;
+    tries = λ rows is. tries_after b segment rows p s q (unmoved b p s quiet seat same.owner) ends_on.seen (t.tries rows (same.used segment ∙ is));
   }
 
   barred_ended : (q : Pass) → IsBarred b.shape segment s q → IsBarred b.shape segment p q

@@ -65,6 +65,7 @@ pub mod Unnamed
 pub mod Seeking
 pub mod Unlinking
 pub mod StoredRows
+pub mod KeyTries
 pub mod RowsOut
 pub mod Evictions
 pub mod Pairs

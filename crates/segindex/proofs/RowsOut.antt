@@ -5,6 +5,7 @@ use Rattle.segword.specs.declared.item.Item.{Item}
 use Rattle.segmodel.specs.declared.entry.Entry.{Entry}
 use Rattle.segmodel.specs.declared.entry.Entry.TheVariants.{Evicted}
 use Rattle.segmodel.specs.Places.{bucket_of, owner}
+use Rattle.segmodel.specs.History.{Begins}
 use Rattle.segcore.specs.declared.event.Event.{Event}
 use Rattle.segcore.specs.declared.event.Event.TheVariants.{Freed, Unlinked}
 use Rattle.segcore.specs.Event as event
@@ -15,7 +16,7 @@ use Rattle.segcore.proofs.Moments.{begins_on}
 use Rattle.segbase.specs.declared.board.Board.{Board}
 use Rattle.segbase.specs.declared.pass.Plain.{Plain}
 use Rattle.segbase.specs.declared.pass.Pass.{Pass}
-use Rattle.segbase.specs.Passes.{number, trace, seen, mine, bounced, Moved, Did}
+use Rattle.segbase.specs.Passes.{number, trace, seen, mine, taken, bounced, Moved, Did}
 use Rattle.segbase.proofs.Moves.{moved_on, moved_bounced}
 use Rattle.segstore.specs.Refilling.{Idles}
 use Rattle.segstore.specs.Segments.{KeepsSegments}
@@ -27,13 +28,16 @@ use Rattle.segindex.specs.Quiet.{IsQuiet}
 use Rattle.segindex.specs.Calls.{memo, GoesOn, ChangesNothing, DrawsNothing, ReadsNothing}
 use Rattle.segindex.specs.Answers.{IsBusy}
 use Rattle.segindex.specs.Storing.{TookToWrite}
+use Rattle.segindex.specs.Evicting.{TriesForKeys}
 use Rattle.segindex.specs.Unlinking.{IsStoredIn, IsNamedAt, FindsRow, TakesRow, KeepsGone, EvictsRow}
 use Rattle.segindex.proofs.Bounces.{bounces_calm}
 use Rattle.segindex.proofs.Draws.{AreUndrawn, moved_undrawn, draws_none_then}
 use Rattle.segindex.proofs.Idling.{goes_nowhere, does_nothing}
+use Rattle.segindex.proofs.KeyTries.{no_tries, one_try, tries_after}
 use Rattle.segindex.proofs.Seeking.{stored_over}
 use Rattle.segindex.proofs.Still.{AreStill, no_reader}
-use Rattle.segindex.proofs.UnderWrite.{tries, took_moved, took_keeps, write_goes_on, write_adds, write_undrawn, write_unread}
+use Rattle.segindex.proofs.TakenBits.{AreNoTries}
+use Rattle.segindex.proofs.UnderWrite.{tries, took_moved, took_keeps, write_goes_on, write_adds, write_undrawn, write_unread, write_takes}
 use Rattle.segindex.proofs.Unlinking.{named_stands}
 use Rattle.segindex.proofs.Unnamed.{gone_over}
 
@@ -71,6 +75,12 @@ module _ (b : Board) (bucket : ℕ) (sought : Item) (p f : Pass) (quiet : IsQuie
   unread_looking : ReadsNothing p f
   unread_looking = no_reader b [] p f i.moved tt
 
+  -- the bit was tried for, since the key stood then
+  tries_one : (target : Target) (q : Pass) → IsNamedAt b bucket sought target f → Begins (seen f) (seen q) → taken q ≤ taken f + 1 → bounced q bucket ≤ bounced f bucket + 64 → ((other : ℕ) → other ≢ bucket → bounced q other ≡ bounced f other) → TriesForKeys b.shape sought.seg 1 p q
+  tries_one target q n later took met others = tries_after b sought.seg 1 p f q i.moved goes_looking.seen (one_try b.shape sought.seg stored.key f q
+      (seen f, (([], refl), later), named_stands b bucket sought f i.moved.pass stored target n) took
+      (subst (λ k. bounced q k ≤ bounced f k + 64) stored.home met) (λ other apart. others other (λ same. apart (same ∙ stored.home))))
+
   gone_looking : KeepsGone b sought.seg p f
   gone_looking = keeps_gone b sought.seg [] p f i.moved tt own_before
 
@@ -82,6 +92,7 @@ module _ (b : Board) (bucket : ℕ) (sought : Item) (p f : Pass) (quiet : IsQuie
     memo = i.memo;
     draws_nothing = undrawn_looking;
     reads_nothing = unread_looking;
+    tries = no_tries b sought.seg 1 p f i.moved;
     answer = (gone_looking, gone, (does_nothing b p f quiet i.moved i.plain i.memo).entries);
   }
 
@@ -93,6 +104,10 @@ module _ (b : Board) (bucket : ℕ) (sought : Item) (p f : Pass) (quiet : IsQuie
     memo = busy.1.memo ∙ i.memo;
     draws_nothing = draws_none_then p f q undrawn_looking busy.3;
     reads_nothing = busy.4 ∙ unread_looking;
+    tries = ⊎_elim
+        (λ own. let same = own.1.taken in let met = own.1.bounced bucket in tries_one target q n busy.0.seen (omega arith) (omega arith) (λ other apart. own.1.bounced other))
+        (λ tried. let same = tried.taken in let met = tried.tries in tries_one target q n busy.0.seen (omega arith) (omega arith) tried.others)
+        busy.2;
     answer = (
       busy.1.entries ∙ (does_nothing b p f quiet i.moved i.plain i.memo).entries,
       (
@@ -143,6 +158,13 @@ module _ (b : Board) (bucket : ℕ) (sought : Item) (p f : Pass) (quiet : IsQuie
       undrawn_all : AreUndrawn own → DrawsNothing p s
       undrawn_all none = draws_none_then p f s undrawn_looking (write_undrawn b bucket f q quiet_looking took r s own added false m elsewhere still adds freed free none)
 
+      tries_all : AreNoTries own → (target : Target) → IsNamedAt b bucket sought target f → TriesForKeys b.shape sought.seg 1 p s
+      tries_all none target n =
+          let on : GoesOn b f s = write_goes_on b bucket f q quiet_looking took r s own added false m elsewhere still adds freed free
+          (same' ∙ (same ∙ took.memo)) (ap (λ (x : Plain). x.locked) (plain' ∙ (plain ∙ took.plain))) (ap (λ (x : Plain). x.is_holding) (plain' ∙ (plain ∙ took.plain))) keeps_all in
+          let takes = write_takes b bucket f q quiet_looking took r s own added false m elsewhere still adds freed free none in
+          let one = takes.taken in let met = takes.tries in tries_one target s n on.seen (omega arith) (omega arith) takes.others
+
       unread_all : ReadsNothing p s
       unread_all = write_unread b bucket f q quiet_looking took r s own added false m elsewhere still adds freed free ∙ unread_looking
 
@@ -151,9 +173,9 @@ module _ (b : Board) (bucket : ℕ) (sought : Item) (p f : Pass) (quiet : IsQuie
           (keeps_gone b sought.seg (Freed (number r) bucket false ∷ []) r s freed.moved (tt, tt) (stored_taken.own ∙ sym m.same)))
 
     -- the word was cleared
-    pub row_is_evicted : (r s : Pass) → TakesRow b bucket sought true q r → Did b (Freed (number r) bucket false ∷ []) r s → (bucket_after b.shape (trace s) bucket).holder ≡ None → r.plain ≡ q.plain → memo r ≡ memo q → s.plain ≡ r.plain → memo s ≡ memo r
+    pub row_is_evicted : (target : Target) → IsNamedAt b bucket sought target f → (r s : Pass) → TakesRow b bucket sought true q r → Did b (Freed (number r) bucket false ∷ []) r s → (bucket_after b.shape (trace s) bucket).holder ≡ None → r.plain ≡ q.plain → memo r ≡ memo q → s.plain ≡ r.plain → memo s ≡ memo r
         → EvictsRow b sought.seg sought.row row_answer.Evicted p s
-    row_is_evicted r s t freed free plain same plain' same' =
+    row_is_evicted target n r s t freed free plain same plain' same' =
         let key = t.takes.0 in let own : List Event = Unlinked (number q) key t.takes.1 (Some sought.seg) ∷ [] in let added : List Entry = Evicted (number q) key sought.seg ∷ [] in
         let elsewhere : (other : ℕ) → bucket ≢ other → NoneAt b.shape other own = λ other apart. (ne_eqb (bucket_of b.shape key) other (λ e. apart (t.takes.2 ∙ e)), tt) in
         let at_take = (took_moved b bucket f q quiet_looking took).same in
@@ -163,6 +185,7 @@ module _ (b : Board) (bucket : ℕ) (sought : Item) (p f : Pass) (quiet : IsQuie
           memo = memo_all r s own added t.takes.3 (tt, tt) elsewhere (tt, tt) (λ h. refl) freed free plain same plain' same';
           draws_nothing = undrawn_all r s own added t.takes.3 (tt, tt) elsewhere (tt, tt) (λ h. refl) freed free plain same plain' same' (tt, tt);
           reads_nothing = unread_all r s own added t.takes.3 (tt, tt) elsewhere (tt, tt) (λ h. refl) freed free plain same plain' same';
+          tries = tries_all r s own added t.takes.3 (tt, tt) elsewhere (tt, tt) (λ h. refl) freed free plain same plain' same' (tt, tt) target n;
           answer = (
             gone_all r s own added t.takes.3 (tt, tt) elsewhere (tt, tt) (λ h. refl) freed free plain same plain' same',
             gone_over b (Freed (number r) bucket false ∷ []) r s sought.seg sought.row freed.moved (tt, tt) (stored_taken.own ∙ sym t.takes.3.same) t.gone,
@@ -176,14 +199,15 @@ module _ (b : Board) (bucket : ℕ) (sought : Item) (p f : Pass) (quiet : IsQuie
         }
 
     -- it was gone meanwhile
-    pub row_went : (r s : Pass) → TakesRow b bucket sought false q r → Did b (Freed (number r) bucket false ∷ []) r s → (bucket_after b.shape (trace s) bucket).holder ≡ None → r.plain ≡ q.plain → memo r ≡ memo q → s.plain ≡ r.plain → memo s ≡ memo r
+    pub row_went : (target : Target) → IsNamedAt b bucket sought target f → (r s : Pass) → TakesRow b bucket sought false q r → Did b (Freed (number r) bucket false ∷ []) r s → (bucket_after b.shape (trace s) bucket).holder ≡ None → r.plain ≡ q.plain → memo r ≡ memo q → s.plain ≡ r.plain → memo s ≡ memo r
         → EvictsRow b sought.seg sought.row row_answer.Gone p s
-    row_went r s t freed free plain same plain' same' = record {
+    row_went target n r s t freed free plain same plain' same' = record {
       on = goes_all r s [] [] t.takes tt (λ other apart. tt) tt (λ h. refl) freed free plain same plain' same';
       plain = plain_all r s [] [] t.takes tt (λ other apart. tt) tt (λ h. refl) freed free plain same plain' same';
       memo = memo_all r s [] [] t.takes tt (λ other apart. tt) tt (λ h. refl) freed free plain same plain' same';
       draws_nothing = undrawn_all r s [] [] t.takes tt (λ other apart. tt) tt (λ h. refl) freed free plain same plain' same' tt;
       reads_nothing = unread_all r s [] [] t.takes tt (λ other apart. tt) tt (λ h. refl) freed free plain same plain' same';
+      tries = tries_all r s [] [] t.takes tt (λ other apart. tt) tt (λ h. refl) freed free plain same plain' same' tt target n;
       answer = (
         gone_all r s [] [] t.takes tt (λ other apart. tt) tt (λ h. refl) freed free plain same plain' same',
         gone_over b (Freed (number r) bucket false ∷ []) r s sought.seg sought.row freed.moved (tt, tt) (stored_taken.own ∙ sym t.takes.same) t.gone,

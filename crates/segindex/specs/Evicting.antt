@@ -1,5 +1,5 @@
 -- What an evict answers: how many keys it took out of the segment, each by one entry, and that none stands there then, or whose bucket was in the way.
-use Rattle.std.specs.Prelude.{◌≡◌, ◌≢◌, ◌⊎◌, ℕ, ◌+◌, ◌≤◌, List, [], ◌∷◌, ◌++◌, length, Some}
+use Rattle.std.specs.Prelude.{◌≡◌, ◌≢◌, ◌⊎◌, ℕ, ◌+◌, ◌*◌, ◌≤◌, ◌==◌, List, [], ◌∷◌, ◌++◌, length, Some, All, count_by}
 use Rattle.segword.specs.declared.shape.Shape.{Shape}
 use Rattle.segmodel.specs.declared.entry.Entry.{Entry}
 use Rattle.segmodel.specs.declared.entry.Entry.TheVariants as entry
@@ -10,7 +10,7 @@ use Rattle.segmodel.specs.Places.{bucket_of}
 use Rattle.segmodel.specs.History.{after, IsBetween, StandsIn, NoneStandsIn}
 use Rattle.segmodel.specs.State.{but_for}
 use Rattle.segbase.specs.declared.pass.Pass.{Pass}
-use Rattle.segbase.specs.Passes.{number, seen, mine, bounced}
+use Rattle.segbase.specs.Passes.{number, seen, mine, taken, bounced}
 use Rattle.segbase.specs.Plain.{current_of, state_of, used_of, locked_of, is_holding_of}
 use Rattle.segindex.specs.Calls.{memo}
 
@@ -19,8 +19,20 @@ abbrev pub AreEvictions : ℕ → ℕ → List Entry → Type 0
 AreEvictions pass segment [] = Unit {0}
 AreEvictions pass segment (added ∷ more) = ((key : List ℕ) × (added ≡ entry.Evicted pass key segment)) × AreEvictions pass segment more
 
--- so many keys were taken out of the segment, in which nothing is stored any more; all else that the pass keeps is as it was, but for the segment's state
-pub record TakesOut (segment count : ℕ) (p q : Pass) : Type 0 where
+-- the key stood in the segment at some moment of the call
+abbrev pub StoodIn : Shape → ℕ → List ℕ → List Entry → List Entry → Type 0
+StoodIn shape segment key before now = (history : List Entry) × IsBetween before now history × StandsIn (after shape history) key segment
+
+-- It tried for bits for at most so many keys, each of which stood in the segment at some moment of the call: for each it took at most one, and found that of the key's bucket set at most 64 times.
+pub record TriesForKeys (shape : Shape) (segment most : ℕ) (p q : Pass) : Type 0 where
+  pub keys : List (List ℕ)
+  pub few : length keys ≤ most
+  pub stood : All (λ key. StoodIn shape segment key (seen p) (seen q)) keys
+  pub taken : taken q ≤ taken p + length keys
+  pub bounced : (bucket : ℕ) → bounced q bucket ≤ bounced p bucket + 64 * count_by (λ key. bucket_of shape key == bucket) keys
+
+-- So many keys were taken out of the segment, in which nothing is stored any more; all else that the pass keeps is as it was, but for the segment's state. It tried for bits for one key of each used row at most.
+pub record TakesOut (shape : Shape) (segment count : ℕ) (p q : Pass) : Type 0 where
   pub evictions : List Entry
   pub counted : length evictions ≡ count
   pub all : AreEvictions (number p) segment evictions
@@ -31,10 +43,7 @@ pub record TakesOut (segment count : ℕ) (p q : Pass) : Type 0 where
   pub locked : locked_of q ≡ locked_of p
   pub is_holding : is_holding_of q ≡ is_holding_of p
   pub memo : memo q ≡ memo p
-
--- a key of the bucket stood in the segment at some moment of the call
-abbrev pub StoodIn : Shape → ℕ → List ℕ → List Entry → List Entry → Type 0
-StoodIn shape segment key before now = (history : List Entry) × IsBetween before now history × StandsIn (after shape history) key segment
+  pub tries : (rows : ℕ) → used_of p segment ≡ Some rows → TriesForKeys shape segment rows p q
 
 -- the bucket of a key that stood in the segment is one that the pass itself has locked, or whose bit it found set by another 64 times
 abbrev pub IsBarred : Shape → ℕ → Pass → Pass → Type 0
@@ -44,8 +53,8 @@ IsBarred shape segment p q = (key : List ℕ) × StoodIn shape segment key (seen
 -- An own segment in use is emptied, or stays in use with what couldn't be taken out; calling again goes on. One that isn't in use has nothing to take out.
 abbrev pub IsEvictAnswer : Shape → ℕ → EvictAnswer → Pass → Pass → Type 0
 IsEvictAnswer shape segment (evict.Evicted count) p q =
-    ((state_of p segment ≡ Some InUse) × TakesOut segment count p q × (state_of q segment ≡ Some Evicted) × NoneStandsIn (after shape (seen q)) segment)
+    ((state_of p segment ≡ Some InUse) × TakesOut shape segment count p q × (state_of q segment ≡ Some Evicted) × NoneStandsIn (after shape (seen q)) segment)
     ⊎ ((state_of p segment ≢ Some InUse) × (count ≡ 0) × (q ≡ p))
 IsEvictAnswer shape segment evict.NotYours p q = q ≡ p
 IsEvictAnswer shape segment (evict.Busy count) p q =
-    (state_of p segment ≡ Some InUse) × TakesOut segment count p q × (state_of q segment ≡ Some InUse) × IsBarred shape segment p q
+    (state_of p segment ≡ Some InUse) × TakesOut shape segment count p q × (state_of q segment ≡ Some InUse) × IsBarred shape segment p q

@@ -21,7 +21,7 @@ use Rattle.segindex.specs.declared.evict.RowAnswer.TheVariants as row_answer
 use Rattle.segindex.specs.Calls.{memo, GoesOn, DrawsNothing, ReadsNothing}
 use Rattle.segindex.specs.Taking.{HasCleanBit}
 use Rattle.segindex.specs.Writing.{IsInChain}
-use Rattle.segindex.specs.Evicting.{IsBarred}
+use Rattle.segindex.specs.Evicting.{TriesForKeys, IsBarred}
 
 -- ---- rows
 
@@ -82,4 +82,5 @@ pub record EvictsRow (b : Board) (segment row : ℕ) (told : RowAnswer) (p q : P
   pub memo : memo q ≡ memo p
   pub draws_nothing : DrawsNothing p q
   pub reads_nothing : ReadsNothing p q
+  pub tries : TriesForKeys b.shape segment 1 p q
   pub answer : IsRowAnswer b segment row told p q

@@ -37,10 +37,11 @@ pub returns-then-is_evicted : goal.returns-then-is_evicted
 returns-then-is_evicted c = let b = c.args.self.now.board in let r = c.item_of_row-bucket in let f = c.find_row in
     let i = idles_then b c.args.pass.now r.new.pass f.new.pass r.ensures.idles f.ensures.idles in
     let stored = stored_over b r.result.0 r.result.1 _ r.new.pass f.new.pass f.ensures.idles.moved tt r.ensures.stored in
+    let named = found_some b r.result.0 r.result.1 f.result f.new.pass f.ensures.finds (c.is_none.ensures ∙ ap not c.if-is_none.false) in
     let done = c.if-is_evicted.ensures in let step = c.release.ensures.step.1 in
     record {
       evicts = of_place b r.result.1 c.args.segment c.args.row _ _ _ r.ensures.place
-          (row_is_evicted b r.result.0 r.result.1 c.args.pass.now f.new.pass c.requires.quiet i stored c.take_to_write.new.pass c.if-not-take_to_write.ensures.takes
+          (row_is_evicted b r.result.0 r.result.1 c.args.pass.now f.new.pass c.requires.quiet i stored c.take_to_write.new.pass c.if-not-take_to_write.ensures.takes named.0 named.1
           c.clear_row-is_evicted.new.pass c.release.new.pass done.takes c.release.ensures.did c.release.ensures.free done.same.0 done.same.1 step.plain step.memo);
     }
 
@@ -48,9 +49,10 @@ pub returns-else-is_evicted : goal.returns-else-is_evicted
 returns-else-is_evicted c = let b = c.args.self.now.board in let r = c.item_of_row-bucket in let f = c.find_row in
     let i = idles_then b c.args.pass.now r.new.pass f.new.pass r.ensures.idles f.ensures.idles in
     let stored = stored_over b r.result.0 r.result.1 _ r.new.pass f.new.pass f.ensures.idles.moved tt r.ensures.stored in
+    let named = found_some b r.result.0 r.result.1 f.result f.new.pass f.ensures.finds (c.is_none.ensures ∙ ap not c.if-is_none.false) in
     let done = c.if-is_evicted.ensures in let step = c.release.ensures.step.1 in
     record {
       evicts = of_place b r.result.1 c.args.segment c.args.row _ _ _ r.ensures.place
-          (row_went b r.result.0 r.result.1 c.args.pass.now f.new.pass c.requires.quiet i stored c.take_to_write.new.pass c.if-not-take_to_write.ensures.takes
+          (row_went b r.result.0 r.result.1 c.args.pass.now f.new.pass c.requires.quiet i stored c.take_to_write.new.pass c.if-not-take_to_write.ensures.takes named.0 named.1
           c.clear_row-is_evicted.new.pass c.release.new.pass done.takes c.release.ensures.did c.release.ensures.free done.same.0 done.same.1 step.plain step.memo);
     }

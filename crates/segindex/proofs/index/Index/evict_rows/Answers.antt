@@ -1,8 +1,12 @@
 use Rattle.std.proofs.Common.{◌≡◌, ◌+◌, Some, sym, ap, ◌∙◌, subst, arith}
+use Rattle.std.proofs.lemmas.Option.{same_Some}
 use Rattle.segbase.specs.Plain.{used_of}
-use Rattle.segindex.proofs.Evictions.{Evicting, evicting_one, evicting_none, barred_on, barred_undrawn, barred_unread, barred_answer, emptied_on, emptied_undrawn, emptied_unread, emptied_answer}
+use Rattle.segindex.proofs.Evictions.{Evicting, evicting_first, evicting_one, evicting_none, barred_on, barred_undrawn, barred_unread, barred_answer, emptied_on, emptied_undrawn, emptied_unread, emptied_answer}
 use Rattle.segindex.proofs.index.Index.evict_rows.Goals as goal
 use Rattle.segindex.proofs.index.Index.evict_rows.Goals.{in-Evicted, in-Gone}
+
+pub loop-row-init : goal.loop-row-init
+loop-row-init c = evicting_first c.args.self.now.board c.args.segment c.args.pass.now c.requires.quiet
 
 pub returns-in-Busy-clause-on : goal.returns-in-Busy-clause-on
 returns-in-Busy-clause-on c = let l = c.loop-row in let r = c.requires in
@@ -10,7 +14,9 @@ returns-in-Busy-clause-on c = let l = c.loop-row in let r = c.requires in
 
 pub returns-in-Busy-clause-answer : goal.returns-in-Busy-clause-answer
 returns-in-Busy-clause-answer c = let l = c.loop-row in let r = c.requires in
+    let below = c.loop-row-test.true in
     barred_answer c.args.self.now.board c.args.segment l.row l.evicted c.args.pass.now l.pass r.in_use r.ended l.invariant c.evict_row.new.pass c.in-Busy.ensures.evicts
+    (λ rows is. let all : rows ≡ c.unwrap-used.result = same_Some rows c.unwrap-used.result (sym is ∙ (sym c.used.ensures ∙ c.unwrap-used.ensures)) in omega arith)
 
 pub loop-row-preserved : goal.loop-row-preserved
 loop-row-preserved c = let b = c.args.self.now.board in let l = c.loop-row in elim c.match-evict_row.branch [
