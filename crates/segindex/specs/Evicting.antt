@@ -31,7 +31,7 @@ pub record TriesForKeys (shape : Shape) (segment most : ℕ) (p q : Pass) : Type
   pub taken : taken q ≤ taken p + length keys
   pub bounced : (bucket : ℕ) → bounced q bucket ≤ bounced p bucket + 64 * count_by (λ key. bucket_of shape key == bucket) keys
 
--- So many keys were taken out of the segment, in which nothing is stored any more; all else that the pass keeps is as it was, but for the segment's state. It tried for bits for one key of each used row at most.
+-- So many keys were taken out of the segment, in which nothing is stored any more; all else that the pass keeps is as it was, but for the segment's state. It tried for bits for no more keys than the segment has used rows.
 pub record TakesOut (shape : Shape) (segment count : ℕ) (p q : Pass) : Type 0 where
   pub evictions : List Entry
   pub counted : length evictions ≡ count
