@@ -25,6 +25,7 @@ use Rattle.segbase.specs.Spots.{cell_at, position}
 use Rattle.segbase.specs.Steps.{depth_to_draw}
 use Rattle.segindex.specs.Calls.{memo}
 use Rattle.segindex.specs.Answers.{HasNoWord, CanGrow, DrewInNeed}
+use Rattle.segindex.specs.FirstEmpty.{AreTakenBefore}
 use Rattle.segindex.specs.Taking.{HasCleanBit}
 use Rattle.segindex.specs.Writing.{IsInChain, IsAbsent}
 use Rattle.segindex.specs.Growing.{bucket_in, IsLast, home_at, HasSpare, Prepares, joins, Joins, Lengthens}
@@ -41,7 +42,7 @@ no_word z h key l all none absent =
     }
 
 module _ (b : Board) (bucket overflow : ℕ) (place : Place) (word : ℕ) (p r : Pass) (is : IsPassOf b p) (clean : HasCleanBit b p bucket) (l : IsLast b bucket place word p)
-    (drew : Did b (Drew (number p) bucket (depth_to_draw b bucket p) overflow ∷ []) p r) where
+    (all : HasNoEmptyWord (bucket_in b bucket p)) (drew : Did b (Drew (number p) bucket (depth_to_draw b bucket p) overflow ∷ []) p r) where
   abbrev z : Shape
   z = b.shape
 
@@ -59,6 +60,7 @@ module _ (b : Board) (bucket overflow : ℕ) (place : Place) (word : ℕ) (p r :
     bit = (clean.bit.0, ap (λ (v : Bucket). v.holder) drawn ∙ (clean.bit.1 ∙ ap Some (sym drew.moved.same)));
     unwritten = ap (λ (v : Bucket). v.written) drawn ∙ clean.unwritten;
     spare = ap (λ (v : Bucket). v.spare) drawn;
+    full = subst HasNoEmptyWord (sym drawn) all;
   }
 
   pub last_drawn : IsLast b bucket place word r
@@ -75,8 +77,8 @@ module _ (b : Board) (bucket overflow : ℕ) (place : Place) (word : ℕ) (p r :
   lawful_drawn : IsLawful z (draws ∷ then)
   lawful_drawn = subst (IsLawful z) drew.now drew.moved.pass.lawful
 
-  can_grow : HasNoEmptyWord u → (key : List ℕ) → bucket_of z key ≡ bucket → IsAbsent b key p → CanGrow z (mark.marked then) key
-  can_grow all key of absent =
+  can_grow : (key : List ℕ) → bucket_of z key ≡ bucket → IsAbsent b key p → CanGrow z (mark.marked then) key
+  can_grow key of absent =
       let seen_so = as_seen b draws p r bucket drew clean.bit in
       let all_then : HasNoEmptyWord (bucket_after z then bucket) = subst HasNoEmptyWord (sym seen_so) all in
       let none_then : (bucket_after z then bucket).spare ≡ None = ap (λ (v : Bucket). v.spare) seen_so ∙ clean.undrawn in
@@ -88,7 +90,7 @@ module _ (b : Board) (bucket overflow : ℕ) (place : Place) (word : ℕ) (p r :
         left = omega (arith, count, e0, e1);
       }
 
-  module _ (q : Pass) (all : HasNoEmptyWord u) (plain : r.plain ≡ p.plain) (same : memo r ≡ memo p) (joined : Joins b bucket overflow r q) where
+  module _ (q : Pass) (plain : r.plain ≡ p.plain) (same : memo r ≡ memo p) (joined : Joins b bucket overflow r q) where
     abbrev room : Place
     room = record { bucket = z.buckets + overflow; word = 2 }
 
@@ -106,7 +108,7 @@ module _ (b : Board) (bucket overflow : ℕ) (place : Place) (word : ℕ) (p r :
           overflow = overflow;
           since = (drew.others, refl);
           draw = subst (λ k. Begins (Drew (number p) k deep overflow ∷ then) (trace q)) (sym of) (on.more, on.goes_on ∙ ap (λ h. on.more ++ h) drew.now);
-          could = can_grow all key of absent;
+          could = can_grow key of absent;
         }
 
     room_at : IsItemAt z (trace q) bucket (8 * longer.chained + 2) (cell_at z room)
@@ -129,7 +131,7 @@ module _ (b : Board) (bucket overflow : ℕ) (place : Place) (word : ℕ) (p r :
           second = refl;
           free = λ key of absent. record {
             chain = subst (λ k. IsInChain b k room q) (sym of) (record { in_table = (omega (arith, overflow_in), omega arith, omega arith); at = subst (λ n. IsItemAt z (trace q) bucket n (cell_at z room)) (sym room_position) room_at });
-            is = inl (refl, subst (λ k. (bucket_after z (trace q) k).items (position z (trace q) room) ≡ nothing) (sym of) (ap longer.items room_position ∙ joined.2.empty), (both.keys key of).stands ∙ absent);
+            is = inl (refl, subst (λ k. (bucket_after z (trace q) k).items (position z (trace q) room) ≡ nothing) (sym of) (ap longer.items room_position ∙ joined.2.empty), (both.keys key of).stands ∙ absent, subst (λ k. AreTakenBefore (bucket_after z (trace q) k) (position z (trace q) room)) (sym of) (subst (AreTakenBefore longer) (sym room_position) joined.2.before));
           };
           could = in_need;
         }

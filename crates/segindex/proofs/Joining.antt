@@ -1,11 +1,12 @@
 -- An overflow bucket joins a chain: the item of the chain's last word is copied to it, and that word then leads on to it, at the first try or after the item's frequency rose.
-use Rattle.std.proofs.Common.{◌≡◌, ℕ, ◌+◌, ◌*◌, ◌<◌, ◌≤◌, true, eqb, List, [], ◌∷◌, ◌++◌, Some, Result, Ok, Err, refl, sym, ap, ◌∙◌, subst, arith}
-use Rattle.std.proofs.lemmas.Bool.{cond-true, cond-false, eq-eqb, ne_eqb}
+use Rattle.std.proofs.Common.{◌≡◌, ℕ, ◌+◌, ◌*◌, ◌<◌, ◌≤◌, true, eqb, List, [], ◌∷◌, ◌++◌, Some, Result, Ok, Err, refl, sym, ap, ◌∙◌, subst, cond, ⊎_elim, arith}
+use Rattle.std.proofs.lemmas.Bool.{cases_eq, cond-true, cond-false, eq-eqb, ne_eqb}
 use Rattle.std.specs.Prelude.{OnOk, IfErr}
 use Rattle.segword.specs.SameItem.{IsSameItem}
 use Rattle.segcore.specs.declared.event.Event.{Event}
 use Rattle.segcore.specs.declared.event.Event.TheVariants.{Put, Chained}
 use Rattle.segcore.specs.Bucket.{Content, nothing, item, next, copy, Bucket, last, fresh, bucket_at, is, acts}
+use Rattle.segcore.specs.Filled.{HasNoEmptyWord}
 use Rattle.segcore.specs.Kind.{fill, chain, May, HasBit}
 use Rattle.segcore.specs.Lawful.{IsLawful}
 use Rattle.segcore.specs.Overflow.{home, home_of}
@@ -27,6 +28,7 @@ use Rattle.segcore.proofs.Exact.{content_at}
 use Rattle.segstore.proofs.Words.{at_place}
 use Rattle.segstore.proofs.Refills.{idles}
 use Rattle.segindex.specs.Calls.{memo}
+use Rattle.segindex.specs.FirstEmpty.{AreTakenBefore}
 use Rattle.segindex.specs.Growing.{bucket_in, IsLast, home_at, HasSpare, HasJoined, Prepares, puts, joins, TriesToJoin, Joins}
 use Rattle.segindex.proofs.Acting.{acted, prepares, idle_prepares, prepares_then}
 use Rattle.segindex.proofs.Places.{same_position, chain_later}
@@ -113,6 +115,7 @@ module _ (b : Board) (bucket overflow : ℕ) (place : Place) (word : ℕ) (p : P
       bit = (spare.bit.0, ap (λ (v : Bucket). v.holder) filled ∙ (spare.bit.1 ∙ ap Some (sym d.moved.same)));
       unwritten = ap (λ (v : Bucket). v.written) filled ∙ spare.unwritten;
       spare = ap (λ (v : Bucket). v.spare) filled ∙ spare.spare;
+      full = subst HasNoEmptyWord (sym filled) (λ n here none. spare.full n here (sym (cond-false (eqb (fresh u) n) (copy word) (u.items n) (ne_eqb (fresh u) n (λ same. let x = here.0 in omega (arith, same, x)))) ∙ none));
     }
 
     pub last_filled : IsLast b bucket place word r
@@ -165,6 +168,16 @@ module _ (b : Board) (bucket overflow : ℕ) (place : Place) (word : ℕ) (p : P
     apart = let n = 8 * (waiting.chained + 1) + 2 in
         cond-false (eqb (last waiting) n) (next overflow) _ (ne_eqb (last waiting) n (λ same. omega arith)) ∙ cond-false (eqb (fresh waiting) n) (waiting.items (last waiting)) (waiting.items n) (ne_eqb (fresh waiting) n (λ same. omega arith))
 
+    before : AreTakenBefore longer (8 * (waiting.chained + 1) + 2)
+    before n lt here none = ⊎_elim
+        (λ end. let leads : next overflow ≡ nothing = sym (cond-true (eqb (last waiting) n) (next overflow) (cond (eqb (fresh waiting) n) (waiting.items (last waiting)) (waiting.items n)) (eq-eqb (last waiting) n end)) ∙ none in cc)
+        (λ other.
+        let there = sym (cond-false (eqb (last waiting) n) (next overflow) (cond (eqb (fresh waiting) n) (waiting.items (last waiting)) (waiting.items n)) (ne_eqb (last waiting) n other)) ∙ none in ⊎_elim
+        (λ first. spare.full (last waiting) (omega arith, omega arith) (sym (cond-true (eqb (fresh waiting) n) (waiting.items (last waiting)) (waiting.items n) (eq-eqb (fresh waiting) n first)) ∙ there))
+        (λ old. let x = here.1 in spare.full n (omega (arith, lt, x, old), x) (sym (cond-false (eqb (fresh waiting) n) (waiting.items (last waiting)) (waiting.items n) (ne_eqb (fresh waiting) n old)) ∙ there))
+        (cases_eq (fresh waiting) n))
+        (cases_eq (last waiting) n)
+
     pub joined : HasJoined b bucket overflow q
     joined = record {
       clean = record {
@@ -176,6 +189,7 @@ module _ (b : Board) (bucket overflow : ℕ) (place : Place) (word : ℕ) (p : P
           ∙ (home_stays z d.moved.more (trace p) overflow (home bucket (waiting.chained + 1)) (subst (IsLawful z) d.moved.goes_on d.moved.pass.lawful) ((chain_of z (trace p) is.lawful bucket).spare overflow spare.spare).1
           ∙ ap (λ (w : Bucket). Some (home bucket w.chained)) (sym grown));
       empty = ap (λ (w : Bucket). w.items (8 * w.chained + 2)) grown ∙ (apart ∙ empty);
+      before = subst (λ (w : Bucket). AreTakenBefore w (8 * w.chained + 2)) (sym grown) before;
     }
 
 -- ---- one try
@@ -205,6 +219,7 @@ module _ (b : Board) (bucket overflow : ℕ) (place : Place) (word : ℕ) (p r q
           bit = moved_bit b [] r q bucket missed.did.moved waits.bit tt;
           unwritten = ap (λ (w : Bucket). w.written) still ∙ waits.unwritten;
           spare = ap (λ (w : Bucket). w.spare) still ∙ waits.spare;
+          full = subst HasNoEmptyWord (sym still) waits.full;
         },
         high.0,
         high.1,

@@ -26,6 +26,7 @@ pub mod Scans
 pub mod Gets
 pub mod Linking
 pub mod Acting
+pub mod FirstEmpty
 pub mod Joining
 pub mod Drawing
 pub mod Growing

@@ -171,7 +171,7 @@ module _ (b : Board) (key : List ℕ) (first p : Pass) (place : Place) (word : �
 
   found_empty : (o : Option Target) → IsFirstEmpty b key (n + 1) o p → standing (after z (passes.seen p)) key ≡ None → ((m : ℕ) → IsPosition u m → m < n + 1) → Finds b key o p
   found_empty None e absent all = record { absent = absent; taken = λ m here. e m (all m here) here }
-  found_empty (Some target) e absent all = record { chain = e.1; is = inl (e.0, e.2, absent) }
+  found_empty (Some target) e absent all = record { chain = e.1; is = inl (e.0, e.2, absent, e.3) }
 
   pub ended : (following : Option Place) → IsNext z place word following → following ≡ None → Finds b key empty p
   ended following next_is same =

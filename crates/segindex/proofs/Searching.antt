@@ -21,7 +21,8 @@ use Rattle.segbase.specs.Steps.{IsFree, HasItemOf, IsReadAs}
 use Rattle.segstore.specs.Refilling.{Idles}
 use Rattle.segstore.proofs.Refills.{idles}
 use Rattle.segindex.specs.declared.find.Target.{Target}
-use Rattle.segindex.specs.Writing.{IsInChain, Updates}
+use Rattle.segindex.specs.FirstEmpty.{AreTakenBefore}
+use Rattle.segindex.specs.Writing.{IsInChain, IsFirst, Updates}
 use Rattle.segindex.proofs.Places.{idles_then, idle_bucket, position_at, same_position, chain_later}
 
 -- an item is at a position of the chain
@@ -32,10 +33,10 @@ position_of_item z h b n a l here = subst (IsContent h b (bucket_after z h b) n)
 abbrev pub NoneBelow : Board → List ℕ → ℕ → Pass → Type 0
 NoneBelow b key n p = (m : ℕ) (a : Slot) → m < n → (bucket_after b.shape (trace p) (bucket_of b.shape key)).items m ≡ item a → a.key ≢ key
 
--- a word was found empty, or none below this position is
+-- the first empty word was found, or none below this position is
 abbrev pub IsFirstEmpty : Board → List ℕ → ℕ → Option Target → Pass → Type 0
-IsFirstEmpty b key n None p = (m : ℕ) → m < n → IsPosition (bucket_after b.shape (trace p) (bucket_of b.shape key)) m → (bucket_after b.shape (trace p) (bucket_of b.shape key)).items m ≢ nothing
-IsFirstEmpty b key n (Some target) p = (target.word ≡ 0) × IsInChain b (bucket_of b.shape key) target.place p × IsFree b key target.place p
+IsFirstEmpty b key n None p = AreTakenBefore (bucket_after b.shape (trace p) (bucket_of b.shape key)) n
+IsFirstEmpty b key n (Some target) p = (target.word ≡ 0) × IsInChain b (bucket_of b.shape key) target.place p × IsFree b key target.place p × IsFirst b key target.place p
 
 pub record Searching (b : Board) (key : List ℕ) (first p : Pass) (place : Place) (empty : Option Target) : Type 0 where
   pub idles : Idles b first p
@@ -96,9 +97,13 @@ module _ (b : Board) (key : List ℕ) (first p r : Pass) (i : Idles b p r) (bit 
   at_place place chain = same_position b [] p r k place i.moved chain
 
   empty_later : (n : ℕ) (empty : Option Target) → IsFirstEmpty b key n empty p → IsFirstEmpty b key n empty r
-  empty_later n None is = λ m lt here. subst (λ (u : Bucket). u.items m ≢ nothing) (sym same) (is m lt (subst (λ (u : Bucket). IsPosition u m) same here))
-  empty_later n (Some target) is =
-      (is.0, chain_later b [] p r k target.place i.moved is.1, (λ t. (same t).items (at_place target.place is.1 t)) ∙ is.2)
+  empty_later n None is = subst (λ (u : Bucket). AreTakenBefore u n) (sym same) is
+  empty_later n (Some target) is = (
+    is.0,
+    chain_later b [] p r k target.place i.moved is.1,
+    (λ t. (same t).items (at_place target.place is.1 t)) ∙ is.2,
+    (λ m lt here. subst (λ (u : Bucket). u.items m ≢ nothing) (sym same) (is.3 m (subst (λ n. m < n) (at_place target.place is.1) lt) (subst (λ (u : Bucket). IsPosition u m) same here))),
+  )
 
   pub searching_later : (place : Place) (empty : Option Target) → Searching b key first p place empty → Searching b key first r place empty
   searching_later place empty s = record {
@@ -149,7 +154,7 @@ module _ (b : Board) (key : List ℕ) (first p : Pass) (place : Place) (word : �
         (λ e. other (a, ap (λ x. u.items x) e ∙ here, same))
         (last_or m lt);
     empty_is = ⊎_elim
-        (λ now. subst (λ o. IsFirstEmpty b key (n + 1) o p) (sym now.1) (now.0, s.chain, read_empty (u.items n) word reads now.0))
+        (λ now. subst (λ o. IsFirstEmpty b key (n + 1) o p) (sym now.1) (now.0, s.chain, read_empty (u.items n) word reads now.0, subst (λ o. IsFirstEmpty b key n o p) now.2 s.empty_is))
         (λ kept. subst (λ o. IsFirstEmpty b key (n + 1) o p) (sym kept.0) (kept_empty old s.empty_is kept.1))
         updates;
   }

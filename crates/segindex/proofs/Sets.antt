@@ -34,6 +34,7 @@ use Rattle.segstore.proofs.Keeping.{same_plain, keeps_plain}
 use Rattle.segindex.specs.Quiet.{IsQuiet}
 use Rattle.segindex.specs.Calls.{memo, GoesOn, ChangesNothing, TakesOneBit, DrawsNothing, ReadsNothing, AddsEntry}
 use Rattle.segindex.specs.Answers.{IsFull, WasFull, GrowsFor, UsesRow}
+use Rattle.segindex.specs.FirstEmpty.{TookFirstEmpty}
 use Rattle.segindex.specs.Taking.{HasCleanBit}
 use Rattle.segindex.specs.Writing.{HasNoWord}
 use Rattle.segindex.specs.Storing.{TookToWrite, Stores, stores}
@@ -44,6 +45,7 @@ use Rattle.segindex.proofs.Draws.{undrawn, in_need_wider}
 use Rattle.segindex.proofs.Rooms.{IsReady, DrawsOnce}
 use Rattle.segindex.proofs.Still.{AreStill}
 use Rattle.segindex.proofs.TakenBits.{both_no_tries}
+use Rattle.segindex.proofs.FirstEmpty.{first_wider}
 use Rattle.segindex.proofs.Filling.{fills_nowhere, fills_still, fills_undrawn, fills_untried, fills_seen}
 use Rattle.segindex.proofs.UnderBit.{moved_bucket, moved_bit}
 use Rattle.segindex.proofs.UnderWrite.{took_moved, took_clean, took_keeps, tries, tries_undrawn, write_goes_on, write_adds, write_drew, write_undrawn, write_unread, write_takes, still_both}
@@ -167,6 +169,10 @@ module _ (b : Board) (request : Request) (segment row : ℕ) (p q f r s : Pass) 
             ∙ (cond-true (eqb (number f) (number p)) (entry ∷ passes.mine p) (passes.mine p) (eq-eqb (number f) (number p) one) ∙ ap (λ n. Wrote n request Stored (Some segment) ∷ passes.mine p) one),
         uses_all,
       )
+
+  pub stored_first : TookFirstEmpty b.shape request (number p) (trace p) (trace s)
+  stored_first = first_wider b.shape request (number f) (number p) (trace f) (trace r) (trace p) (trace s) (ready.moved.same ∙ (took_moved b home p q quiet took).same)
+      (begins_on (trace p) (trace q) (trace f) (moved_on b (tries b home p q quiet took) p q (took_moved b home p q quiet took)) (moved_on b before q f ready.moved)) (moved_on b (Freed (number r) home true ∷ []) r s freed.moved) done.2
 
   pub stored_unread : ReadsNothing p s
   stored_unread = write_unread b home p q quiet took r s own (entry ∷ []) true moved elsewhere still adds freed free

@@ -29,10 +29,12 @@ use Rattle.segstore.specs.Rows.{fills}
 use Rattle.segstore.specs.Segments.{KeepsSegments}
 use Rattle.segstore.proofs.Keeping.{seat_trace, same_plain, keeps_plain, keeps_linked}
 use Rattle.segindex.specs.declared.find.Target.{Target}
+use Rattle.segindex.specs.FirstEmpty.{AreTakenBefore}
 use Rattle.segindex.specs.Taking.{HasCleanBit}
 use Rattle.segindex.specs.Writing.{IsTarget}
 use Rattle.segindex.specs.Storing.{IsNextRow, Stores, stores, HasWritten}
 use Rattle.segindex.proofs.Filling.{fills_calm}
+use Rattle.segindex.proofs.FirstEmpty.{took_first}
 use Rattle.segindex.proofs.Linking.{linked_by}
 use Rattle.segindex.proofs.Places.{same_position, chain_later}
 use Rattle.segindex.proofs.Rising.{earlier_later}
@@ -48,7 +50,12 @@ module _ (b : Board) (own : List Event) (p q : Pass) (key : List ℕ) (m : Moved
   target_later target found = record {
     chain = chain_later b own p q k target.place m found.chain;
     is = ⊎_elim
-        (λ free. inl (free.0, (λ t. (moved_bucket b own p q k m bit none t).items (same_position b own p q k target.place m found.chain t)) ∙ free.1, (moved_at b own p q key m bit none).stands ∙ free.2))
+        (λ free. inl (
+          free.0,
+          (λ t. (moved_bucket b own p q k m bit none t).items (same_position b own p q k target.place m found.chain t)) ∙ free.1,
+          (moved_at b own p q key m bit none).stands ∙ free.2,
+          subst (AreTakenBefore (bucket_after b.shape (trace q) k)) (sym (same_position b own p q k target.place m found.chain)) (subst (λ u. AreTakenBefore u (position b.shape (trace p) target.place)) (sym (moved_bucket b own p q k m bit none)) free.3),
+        ))
         (λ has. inr (
           (has.0.0, (λ t. (moved_bucket b own p q k m bit none t).items (same_position b own p q k target.place m found.chain t)) ∙ has.0.1, has.0.2),
           earlier_later b own p q k target.place m bit none found.chain target.word has.0.0 is.valid is.lawful has.0.1 has.1,
@@ -104,11 +111,11 @@ module _ (b : Board) (request : Request) (target : Target) (segment row : ℕ) (
   abbrev at : ℕ
   at = position b.shape (trace q) target.place
 
-  pub stores_all : Stores b request segment row p s
-  stores_all =
+  pub stores_all : HasCleanBit b q (bucket_of b.shape (key_of request)) → IsTarget b (key_of request) target q → Stores b request segment row p s
+  stores_all clean found =
       let own = fills (number p) segment row (row_of (key_of request) (value_of request)) 8 in
       let both : Moved b (stores (number p) request segment row at) p r = subst (λ n. Moved b (Linked n request segment row at ∷ own) p r) m.same (moved_then b own (linked_by b request segment row target.place q ∷ []) p q r m d.moved) in
-      (at, moved_still b (stores (number p) request segment row at) p r s both seat owner_is)
+      (at, moved_still b (stores (number p) request segment row at) p r s both seat owner_is, took_first b request target segment row own p q r s m m.pass clean.bit found d (seat_trace r s seat))
 
   pub keeps_all : q.plain ≡ p.plain → r.plain ≡ q.plain → used_of s segment ≡ Some (row + 1) → ((t : ℕ) → t ≢ segment → used_of s t ≡ used_of r t) → ((t : ℕ) → state_of s t ≡ state_of r t) → current_of s ≡ current_of r
       → KeepsSegments b p → KeepsSegments b s

@@ -1,8 +1,9 @@
 -- A write of a key, from the take of the bit to its answer: what was found, what the cache replies, and each way in which it ends.
 use Rattle.std.proofs.Common.{◌≡◌, ◌≢◌, ℕ, ◌^◌, ◌<◌, Bool, true, false, is_some, List, [], ◌∷◌, Option, Some, None, refl, sym, ap, ◌∙◌, subst}
-use Rattle.std.proofs.lemmas.Option.{none-some}
+use Rattle.std.proofs.lemmas.Option.{same_Some, none-some}
 use Rattle.segword.specs.Bytes.{IsKey}
 use Rattle.segmodel.specs.declared.request.Request.{Request}
+use Rattle.segmodel.specs.declared.request.Reply.TheVariants.{Stored}
 use Rattle.segmodel.specs.declared.answer.WriteAnswer.{WriteAnswer}
 use Rattle.segmodel.specs.declared.answer.WriteAnswer.TheVariants as write
 use Rattle.segmodel.specs.Request.{key_of, value_of, adds_key, reply_to}
@@ -27,6 +28,7 @@ use Rattle.segindex.specs.declared.write.When.{When}
 use Rattle.segindex.specs.Quiet.{IsQuiet}
 use Rattle.segindex.specs.Calls.{memo, GoesOn, TakesOneBit, DrawsNothing, ReadsNothing}
 use Rattle.segindex.specs.Answers.{IsWriteAnswer, Writes, GrowsFor, UsesRow}
+use Rattle.segindex.specs.FirstEmpty.{TookFirstEmpty}
 use Rattle.segindex.specs.Taking.{HasCleanBit}
 use Rattle.segindex.specs.Writing.{IsTarget, HasNoWord, own_word}
 use Rattle.segindex.specs.Growing.{Searches, target_of, CannotGrow, IsAsFound, MakesRoom}
@@ -36,14 +38,14 @@ use Rattle.segindex.proofs.Draws.{grows_none}
 use Rattle.segindex.proofs.Places.{idles_then}
 use Rattle.segindex.proofs.Refused.{asks, own_where, adds_absent, refused_goes_on, refused_undrawn, refused_unread, refused_takes, refused_answer}
 use Rattle.segindex.proofs.Rooms.{searches_later, finds_of, as_found, DrawsOnce, HasRoom, has_room as room_for, no_room}
-use Rattle.segindex.proofs.Sets.{found_clean, may_free, full_goes_on, full_undrawn, full_unread, full_takes, full_answer, stored_goes_on, stored_answer, stored_unread, stored_takes, stored_grows}
+use Rattle.segindex.proofs.Sets.{found_clean, may_free, full_goes_on, full_undrawn, full_unread, full_takes, full_answer, stored_goes_on, stored_answer, stored_first, stored_unread, stored_takes, stored_grows}
 use Rattle.segindex.proofs.UnderBit.{moved_at}
 use Rattle.segindex.proofs.UnderWrite.{took_moved, took_keeps}
 
 -- all that follows where there is room, and the bit was taken
 writes_with : (b : Board) (request : Request) (told : WriteAnswer) (p q s : Pass) → ¬ (has_room b.shape p ≡ false) → TookToWrite b (bucket_of b.shape (key_of request)) p q → told ≢ write.NoRoom
-    → GoesOn b p s → IsWriteAnswer b.shape request told p s → TakesOneBit (bucket_of b.shape (key_of request)) p s → GrowsFor b.shape request p s → (told ≢ write.Stored → DrawsNothing p s) → ReadsNothing p s → Writes b request told p s
-writes_with b request told p q s room took some on answer takes grows none still = record {
+    → GoesOn b p s → IsWriteAnswer b.shape request told p s → TakesOneBit (bucket_of b.shape (key_of request)) p s → GrowsFor b.shape request p s → (told ≢ write.Stored → DrawsNothing p s) → (told ≡ write.Stored → TookFirstEmpty b.shape request (number p) (trace p) (trace s)) → ReadsNothing p s → Writes b request told p s
+writes_with b request told p q s room took some on answer takes grows none first still = record {
   on = on;
   answer = answer;
   untouched = λ none. absurd (some none);
@@ -52,6 +54,7 @@ writes_with b request told p q s room took some on answer takes grows none still
   takes = λ some free. takes;
   grows = grows;
   draws_nothing = none;
+  first_empty = first;
   reads_nothing = still;
 }
 
@@ -99,7 +102,7 @@ module _ (b : Board) (w : When) (request : Request) (key value words : List ℕ)
           (refused_goes_on b request (reply_now b g request) p q g s quiet took_it idle refuses)
           (refused_answer b request (reply_now b g request) p q g s quiet took_it idle refuses answer why.0 why.1)
           (refused_takes b request (reply_now b g request) p q g s quiet took_it idle refuses)
-          (grows_none b.shape request p s undrawn) (λ other. undrawn)
+          (grows_none b.shape request p s undrawn) (λ other. undrawn) (λ stored. absurd (subst IsRefusal (same_Some (reply_now b g request) Stored (sym why.0 ∙ ap reply_of_write stored)) why.1))
           (refused_unread b request (reply_now b g request) p q g s quiet took_it idle refuses)
 
     -- what the refusal asks for
@@ -141,7 +144,7 @@ module _ (b : Board) (w : When) (request : Request) (key value words : List ℕ)
             let undrawn = full_undrawn b (key_of request) p q r s quiet took_it idle_yet none.2 none.1 freed' free' plain same in
             writes_with b request write.BucketFull p q s rows took_it (λ e. cc) (full_goes_on b (key_of request) p q r s quiet took_it idle_yet none.2 none.1 freed' free' plain same) (answer.0, adds, answer.1)
             (full_takes b (key_of request) p q r s quiet took_it idle_yet none.2 none.1 freed' free' plain same)
-            (grows_none b.shape request p s undrawn) (λ other. undrawn)
+            (grows_none b.shape request p s undrawn) (λ other. undrawn) (λ stored. cc)
             (full_unread b (key_of request) p q r s quiet took_it idle_yet none.2 none.1 freed' free' plain same)
 
       -- it is stored
@@ -177,4 +180,5 @@ module _ (b : Board) (w : When) (request : Request) (key value words : List ℕ)
             (stored_goes_on b request segment row p q r t s quiet took_it there.own there.ready done kept uses freed' free' plain same) (segment, answer.0, answer.1)
             (stored_takes b request segment row p q r t s quiet took_it there.own there.ready done kept uses freed' free' plain same)
             (stored_grows b request segment row p q r t s quiet took_it there.own there.ready done kept uses freed' free' plain same (seen g) draws adds) (λ other. absurd (other refl))
+            (λ told. stored_first b request segment row p q r t s quiet took_it there.own there.ready done kept uses freed' free' plain same)
             (stored_unread b request segment row p q r t s quiet took_it there.own there.ready done kept uses freed' free' plain same)

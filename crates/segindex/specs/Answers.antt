@@ -34,6 +34,7 @@ use Rattle.segbase.specs.Passes as passes
 use Rattle.segbase.specs.Plain.{current_of, state_of, used_of, locked_of, is_holding_of, SameSegments}
 use Rattle.segindex.specs.declared.bucket.LockAnswer.{LockAnswer}
 use Rattle.segindex.specs.declared.bucket.LockAnswer.TheVariants as lock
+use Rattle.segindex.specs.FirstEmpty.{TookFirstEmpty}
 use Rattle.segindex.specs.Quiet.{is_held_in}
 use Rattle.segstore.specs.Segments.{has_room}
 use Rattle.segindex.specs.Calls.{memo, GoesOn, ChangesNothing, TakesNoBit, TakesOneBit, TriesInVain, DrawsNothing, ReadsNothing, AddsEntry}
@@ -131,7 +132,7 @@ IsDeleteAnswer shape key delete.Deleted p q = IsReplied (Delete key) reply.Delet
 IsDeleteAnswer shape key delete.NotFound p q = IsReplied (Delete key) reply.NotFound p q
 IsDeleteAnswer shape key delete.Busy p q = ChangesNothing p q × IsBusy (bucket_of shape key) p q
 
--- A set, an add, a replace or a cas is answered so. NoRoom comes first, exactly where the pass has no row left; then Busy, always where the pass itself has the bucket locked. For any other answer it took one bit.
+-- A set, an add, a replace or a cas is answered so. NoRoom comes first, exactly where the pass has no row left; then Busy, always where the pass itself has the bucket locked. For any other answer it took one bit. A new key is stored in the first empty word of its bucket's chain.
 pub record Writes (b : Board) (request : Request) (told : WriteAnswer) (p q : Pass) : Type 0 where
   pub on : GoesOn b p q
   pub answer : IsWriteAnswer b.shape request told p q
@@ -141,6 +142,7 @@ pub record Writes (b : Board) (request : Request) (told : WriteAnswer) (p q : Pa
   pub takes : told ≢ write.NoRoom → told ≢ write.Busy → TakesOneBit (bucket_of b.shape (key_of request)) p q
   pub grows : GrowsFor b.shape request p q
   pub draws_nothing : told ≢ write.Stored → DrawsNothing p q
+  pub first_empty : told ≡ write.Stored → TookFirstEmpty b.shape request (number p) (trace p) (trace q)
   pub reads_nothing : ReadsNothing p q
 
 -- a delete is answered so; it needs no row

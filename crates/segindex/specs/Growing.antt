@@ -22,6 +22,7 @@ use Rattle.segindex.specs.declared.find.Found.{Found}
 use Rattle.segindex.specs.declared.find.Found.TheVariants.{Word, Full}
 use Rattle.segindex.specs.Calls.{memo}
 use Rattle.segindex.specs.Answers.{DrewInNeed}
+use Rattle.segindex.specs.FirstEmpty.{AreTakenBefore}
 use Rattle.segindex.specs.Taking.{HasCleanBit}
 use Rattle.segindex.specs.Writing.{IsInChain, IsEarlier, IsAbsent, IsTarget, HasNoWord}
 
@@ -69,11 +70,12 @@ abbrev pub Draws : Board → ℕ → Option ℕ → Pass → Pass → Type 0
 Draws b bucket None p q = Idles b p q × (drawn_in (trace q) ≡ b.shape.overflow)
 Draws b bucket (Some overflow) p q = Did b (Drew (number p) bucket (depth_to_draw b bucket p) overflow ∷ []) p q × (q.plain ≡ p.plain) × (memo q ≡ memo p)
 
--- the pass has the bit, under which nothing was written, and this overflow bucket waits to join the chain
+-- the pass has the bit, under which nothing was written, and this overflow bucket waits to join the chain, none of whose words is empty
 pub record HasSpare (b : Board) (bucket overflow : ℕ) (p : Pass) : Type 0 where
   pub bit : HasBit b.shape (trace p) (number p) bucket
   pub unwritten : (bucket_in b bucket p).written ≡ false
   pub spare : (bucket_in b bucket p).spare ≡ Some overflow
+  pub full : HasNoEmptyWord (bucket_in b bucket p)
 
 -- ---- joining
 
@@ -84,11 +86,12 @@ pub record Prepares (b : Board) (own : List Event) (bucket : ℕ) (p q : Pass) :
   pub memo : memo q ≡ memo p
   pub keys : (key : List ℕ) → bucket_of b.shape key ≡ bucket → IsSameAt b.shape (after b.shape (seen p)) (after b.shape (seen q)) key
 
--- the overflow bucket is the last of the chain, and its word 2 is empty
+-- the overflow bucket is the last of the chain, and its word 2 is the first one that is empty
 pub record HasJoined (b : Board) (bucket overflow : ℕ) (p : Pass) : Type 0 where
   pub clean : HasCleanBit b p bucket
   pub home : home_of (trace p) overflow ≡ Some (home bucket (bucket_in b bucket p).chained)
   pub empty : (bucket_in b bucket p).items (8 * (bucket_in b bucket p).chained + 2) ≡ nothing
+  pub before : AreTakenBefore (bucket_in b bucket p) (8 * (bucket_in b bucket p).chained + 2)
 
 -- word 1 of the overflow bucket was stored for the bucket so often, with these words
 unfoldable pub puts : ℕ → ℕ → List ℕ → List Event

@@ -5,6 +5,7 @@ pub mod Taking
 pub mod Writing
 pub mod Calls
 pub mod Alone
+pub mod FirstEmpty
 pub mod Answers
 pub mod Scanning
 pub mod Storing

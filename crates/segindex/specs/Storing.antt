@@ -17,6 +17,7 @@ use Rattle.segbase.specs.Plain.{current_of, used_of, locked_of}
 use Rattle.segstore.specs.Rows.{fills}
 use Rattle.segindex.specs.Calls.{memo, GoesOn, ChangesNothing, DrawsNothing, ReadsNothing}
 use Rattle.segindex.specs.Answers.{IsBusy}
+use Rattle.segindex.specs.FirstEmpty.{TookFirstEmpty}
 use Rattle.segindex.specs.Taking.{TakesBucket}
 
 -- the pass took the bit of a bucket that it hasn't locked
@@ -42,12 +43,12 @@ pub record Requests (b : Board) (request : Request) (key value : List ℕ) (p : 
   pub of : (key_of request ≡ key) × (value_of request ≡ value)
   pub stored : Stored ≡ reply_in b.shape (after b.shape (seen p)) request
 
--- the row was written, and an item word then named it
+-- the row was written, and an item word then named it: for a new key the first that was empty
 abbrev pub stores : ℕ → Request → ℕ → ℕ → ℕ → List Event
 stores pass request segment row position = Linked pass request segment row position ∷ fills pass segment row (row_of (key_of request) (value_of request)) 8
 
 abbrev pub Stores : Board → Request → ℕ → ℕ → Pass → Pass → Type 0
-Stores b request segment row p q = (position : ℕ) × Moved b (stores (number p) request segment row position) p q
+Stores b request segment row p q = (position : ℕ) × Moved b (stores (number p) request segment row position) p q × TookFirstEmpty b.shape request (number p) (trace p) (trace q)
 
 -- the pass has the bit, and something was written under it
 pub record HasWritten (b : Board) (p : Pass) (bucket : ℕ) : Type 0 where

@@ -16,6 +16,7 @@ use Rattle.segbase.specs.Passes.{trace, seen}
 use Rattle.segbase.specs.Spots.{cell_at, position, IsPlace}
 use Rattle.segbase.specs.Steps.{IsFree, HasItemOf}
 use Rattle.segindex.specs.declared.find.Target.{Target}
+use Rattle.segindex.specs.FirstEmpty.{AreTakenBefore}
 
 -- the place is an item word of the bucket's chain
 pub record IsInChain (b : Board) (bucket : ℕ) (place : Place) (p : Pass) : Type 0 where
@@ -30,10 +31,14 @@ IsEarlier b place old p = IsSameItem old (word b.shape (trace p) (cell_at b.shap
 abbrev pub IsAbsent : Board → List ℕ → Pass → Type 0
 IsAbsent b key p = standing (after b.shape (seen p)) key ≡ None
 
--- an empty word, of a key that is absent; or the word of the key's item
+-- the words of a key's chain before this place are taken
+abbrev pub IsFirst : Board → List ℕ → Place → Pass → Type 0
+IsFirst b key place p = AreTakenBefore (bucket_after b.shape (trace p) (bucket_of b.shape key)) (position b.shape (trace p) place)
+
+-- the first empty word, of a key that is absent; or the word of the key's item
 abbrev pub IsEmptyOrKeys : Board → List ℕ → Target → Pass → Type 0
 IsEmptyOrKeys b key target p =
-    ((target.word ≡ 0) × IsFree b key target.place p × IsAbsent b key p)
+    ((target.word ≡ 0) × IsFree b key target.place p × IsAbsent b key p × IsFirst b key target.place p)
     ⊎ (HasItemOf b key target.place p × IsEarlier b target.place target.word p)
 
 -- the word that a write of the key changes
@@ -56,7 +61,7 @@ own_word (Some target) = if target.word == 0 then None else Some target
 
 -- of the words of a search so far the first empty one, with one word more
 abbrev pub Updates : Target → Option Target → Option Target → Type 0
-Updates target old new = ((target.word ≡ 0) × (new ≡ Some target)) ⊎ ((new ≡ old) × ((target.word ≢ 0) ⊎ (is_some old ≡ true)))
+Updates target old new = ((target.word ≡ 0) × (new ≡ Some target) × (old ≡ None)) ⊎ ((new ≡ old) × ((target.word ≢ 0) ⊎ (is_some old ≡ true)))
 
 -- the place that comes next along a chain: the next word of the bucket, or word 1 of the one that its last word leads on to
 abbrev pub next_word : Place → Place

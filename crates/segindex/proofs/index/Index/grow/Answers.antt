@@ -17,19 +17,19 @@ draw-requires-clause-short c = let b = c.args.self.now.board in
 pub join-requires-clause-spare : goal.join-requires-clause-spare
 join-requires-clause-spare c = let b = c.args.self.now.board in let r = c.requires in let o = c.in_ok-overflow.overflow in
     let drew = c.in_ok-overflow.ensures.draws.0 in
-    subst (λ k. HasSpare b k o c.draw.new.pass) (sym (home_drawn b c.args.bucket o c.args.end.place c.args.end.word c.args.pass.now c.draw.new.pass r.pass r.clean r.end.last drew))
-    (spare_drawn b c.args.bucket o c.args.end.place c.args.end.word c.args.pass.now c.draw.new.pass r.pass r.clean r.end.last drew)
+    subst (λ k. HasSpare b k o c.draw.new.pass) (sym (home_drawn b c.args.bucket o c.args.end.place c.args.end.word c.args.pass.now c.draw.new.pass r.pass r.clean r.end.last r.full drew))
+    (spare_drawn b c.args.bucket o c.args.end.place c.args.end.word c.args.pass.now c.draw.new.pass r.pass r.clean r.end.last r.full drew)
 
 pub join-requires-clause-last : goal.join-requires-clause-last
 join-requires-clause-last c = let b = c.args.self.now.board in let r = c.requires in let o = c.in_ok-overflow.overflow in
     let drew = c.in_ok-overflow.ensures.draws.0 in
-    subst (λ k. IsLast b k c.args.end.place c.args.end.word c.draw.new.pass) (sym (home_drawn b c.args.bucket o c.args.end.place c.args.end.word c.args.pass.now c.draw.new.pass r.pass r.clean r.end.last drew))
-    (last_drawn b c.args.bucket o c.args.end.place c.args.end.word c.args.pass.now c.draw.new.pass r.pass r.clean r.end.last drew)
+    subst (λ k. IsLast b k c.args.end.place c.args.end.word c.draw.new.pass) (sym (home_drawn b c.args.bucket o c.args.end.place c.args.end.word c.args.pass.now c.draw.new.pass r.pass r.clean r.end.last r.full drew))
+    (last_drawn b c.args.bucket o c.args.end.place c.args.end.word c.args.pass.now c.draw.new.pass r.pass r.clean r.end.last r.full drew)
 
 pub returns : goal.returns
 returns c = let b = c.args.self.now.board in let r = c.requires in let o = c.in_ok-overflow.overflow in
     let drew = c.in_ok-overflow.ensures.draws in
-    let joined = subst (λ k. Joins b k o c.draw.new.pass c.join.new.pass) (home_drawn b c.args.bucket o c.args.end.place c.args.end.word c.args.pass.now c.draw.new.pass r.pass r.clean r.end.last drew.0) c.join.ensures.joins in record {
+    let joined = subst (λ k. Joins b k o c.draw.new.pass c.join.new.pass) (home_drawn b c.args.bucket o c.args.end.place c.args.end.word c.args.pass.now c.draw.new.pass r.pass r.clean r.end.last r.full drew.0) c.join.ensures.joins in record {
       grows = subst (λ (s : Shape). Lengthens b c.args.bucket (record { place = record { bucket = s.buckets + o; word = 2 }; word = 0 }) c.args.pass.now c.join.new.pass) (sym c.shape.ensures)
-          (lengthened b c.args.bucket o c.args.end.place c.args.end.word c.args.pass.now c.draw.new.pass r.pass r.clean r.end.last drew.0 c.join.new.pass r.full drew.1 drew.2 joined);
+          (lengthened b c.args.bucket o c.args.end.place c.args.end.word c.args.pass.now c.draw.new.pass r.pass r.clean r.end.last r.full drew.0 c.join.new.pass drew.1 drew.2 joined);
     }

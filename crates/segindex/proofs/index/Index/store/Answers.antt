@@ -53,9 +53,12 @@ link-requires g c = let b = c.args.self.now.board in let r = c.requires in let w
 
 pub returns-clause-stores : goal.returns-clause-stores
 returns-clause-stores g c = let b = c.args.self.now.board in let r = c.requires in let w = c.fill_row.ensures in let u = c.set_used.ensures in
-    let asks = r.1.1.1.0 in
+    let asks = r.1.1.1.0 in let clean = r.1.1.1.1.1.1.0 in
     let pair = pair_of b g.request c.args.key.now c.args.value.now c.args.segment c.args.row _ _ asks.of.0 asks.of.1 w.moved w.holds r.1.1.1.1.0 w.valid in
+    let own = fills (number c.args.pass.now) c.args.segment c.args.row (row_of (key_of g.request) (value_of g.request)) 8 in
+    let none = fills_nowhere b.shape (bucket_of b.shape (key_of g.request)) (number c.args.pass.now) c.args.segment c.args.row (row_of (key_of g.request) (value_of g.request)) 8 in
     stores_all b g.request c.args.target c.args.segment c.args.row _ _ _ _ r.1.1.0 pair.0 c.link.ensures.did u.seat u.same.owner
+    (clean_later b own _ _ (key_of g.request) pair.0 r.0 clean.bit none clean) (target_later b own _ _ (key_of g.request) pair.0 r.0 clean.bit none c.args.target r.1.1.1.1.1.1.1)
 
 pub returns-clause-segments : goal.returns-clause-segments
 returns-clause-segments g c = let b = c.args.self.now.board in let r = c.requires in let w = c.fill_row.ensures in let u = c.set_used.ensures in
