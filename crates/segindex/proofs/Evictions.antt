@@ -332,9 +332,6 @@ module _ (b : Board) (segment : ℕ) (p s : Pass) (quiet : IsQuiet b p) (in_use 
   pub ends_on : GoesOn b p s
   ends_on = plain_goes_on b p s quiet seat same.owner locks holds keeps_ended
 
-  pub ends_apart : current_of s ≢ Some segment
-  ends_apart is = not_but segment (current_of p) (sym current ∙ is)
-
   pub ends_in_use : state_of s segment ≡ Some InUse
   ends_in_use = same.state segment ∙ in_use
 

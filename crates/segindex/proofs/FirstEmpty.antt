@@ -9,7 +9,6 @@ use Rattle.segmodel.specs.Cache.{standing}
 use Rattle.segmodel.specs.History.{after, Begins}
 use Rattle.segcore.specs.declared.event.Event.{Event}
 use Rattle.segcore.specs.declared.event.Event.TheVariants.{Linked}
-use Rattle.segcore.specs.Event as event
 use Rattle.segcore.specs.Bucket.{bucket_after}
 use Rattle.segcore.specs.Kind.{HasBit}
 use Rattle.segcore.proofs.Moments.{begins_on}

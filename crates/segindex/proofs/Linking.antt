@@ -1,5 +1,5 @@
 -- The exchange of the key's word, for an item or for nothing: it comes about, at the first try or after its frequency rose.
-use Rattle.std.proofs.Common.{◌≡◌, ◌≢◌, ℕ, ◌<◌, ◌≤◌, false, List, [], ◌∷◌, ◌++◌, Option, refl, sym, ap, ◌∙◌, subst, ⊎_elim, append_assoc, append-nil, arith}
+use Rattle.std.proofs.Common.{◌≡◌, ◌≢◌, ℕ, ◌≤◌, false, List, [], ◌∷◌, ◌++◌, Option, refl, sym, ap, ◌∙◌, subst, ⊎_elim, append_assoc, append-nil, arith}
 use Rattle.segword.specs.declared.item.Item.{Item}
 use Rattle.segword.specs.SameItem.{IsSameItem}
 use Rattle.segmodel.specs.declared.request.Request.{Request}
@@ -63,9 +63,6 @@ module _ (b : Board) (key : List ℕ) (event : ℕ → ℕ → Event) where
   retry_first place old p is bit fits chain has earlier = record { did = did_nothing b p is; same = refl; fits = fits; bit = bit; chain = chain; has = has; earlier = earlier }
 
   module _ (place : Place) (old found : ℕ) (first p q : Pass) (l : Retrying b key event place old first p) where
-    pub missed_higher : Missed b place old found p q → old < found
-    missed_higher m = (m.higher l.earlier.0 l.earlier.1).1
-
     pub retry_later : IsExchange event → Missed b place old found p q → Retrying b key event place found first q
     retry_later is m =
         let d = m.did in let now = event_at b event place p in

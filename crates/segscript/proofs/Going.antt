@@ -92,15 +92,6 @@ module _ (passes : ℕ) {S : Type 0} (step : S → PassTurn → Outcome → S �
       rw append-nil (reached passes step start state going.seen going.told line number going.here),
     )
 
-    -- too much was read
-    pub ends_long : (state : S) (from reader : R) (to writer : W) (total : ℕ) (line : List ℕ) (number : ℕ) (Ends : Type 0)
-        (going : Going passes step start state hands takes from reader to writer total line number)
-        → flushes writer ≡ flushes to
-        → total ≡ 2 ^ 63
-        → EndOfRun passes step start (λ seen. hands from seen reader) Ends (λ text. takes to text writer) (flushes to) (flushes writer) (Err fault.TooLong)
-    ends_long state from reader to writer total line number Ends going none all =
-        (going.seen, going.told, going.came, going.went, none, reached passes step start state going.seen going.told line number going.here, going.counted ∙ all)
-
     -- the end of the input
     pub ends_finish : (state : S) (from reader reader' : R) (to writer writer' : W) (total : ℕ) (line : List ℕ) (number : ℕ) (bytes : List ℕ) (Ends : Type 0) (result : Result (Unit {0}) RunFault)
         (going : Going passes step start state hands takes from reader to writer total line number)
