@@ -61,8 +61,8 @@ Turns shape old (Lock key) given new =
 Turns shape old Unlock given new = IsGiven (unlock_outcome old.locked) (record old { locked = None }) given new
 
 -- step by step, one outcome for each, from the old state to the new one
-abbrev pub Runs : {T O : Type 0} → (State → T → O → State → Type 0) → State → List T → List O → State → Type 0
+abbrev pub Runs : {S T O : Type 0} → (S → T → O → S → Type 0) → S → List T → List O → S → Type 0
 Runs Step old [] [] new = new ≡ old
-Runs {O = O} Step old (turn ∷ turns) (given ∷ outcomes) new = (mid : State) × Step old turn given mid × Runs {O = O} Step mid turns outcomes new
+Runs {S = S} {O = O} Step old (turn ∷ turns) (given ∷ outcomes) new = (mid : S) × Step old turn given mid × Runs {O = O} Step mid turns outcomes new
 Runs Step old [] (given ∷ outcomes) new = ⊥
 Runs Step old (turn ∷ turns) [] new = ⊥

@@ -13,7 +13,7 @@ use Rattle.segbase.specs.declared.board.Board.{Board}
 use Rattle.segindex.specs.Index.{board_of, shape_of}
 use Rattle.segindex.specs.Calls.{IsNew}
 use Rattle.segscript.specs.Passes.{OneTakes}
-use Rattle.segscript.specs.Served.{Follow, Serves}
+use Rattle.segscript.specs.Served.{Serves}
 use Rattle.segscript.specs.EachTurn.{AreTaken, EachTurn}
 use Rattle.segscript.specs.Run.{RunOutcome, Reaches, IsBadFrom, IsCutOff}
 use Rattle.segscript.specs.Running.{Comes, Completes, BreaksOff, FirstBad, EndOfRun}
@@ -43,7 +43,7 @@ cut (b ∷ bytes) = elim (eqb_tells b 10) [
 -- ---- turns of a server
 
 -- they are turns of the model
-model_turns : (shape : Shape) (old new : Server) (ts : List PassTurn) (rs : List Outcome) → shape_of old.index.now ≡ shape → Follow TurnsOne old ts rs new → Runs (Steps shape) (state old) ts rs (state new)
+model_turns : (shape : Shape) (old new : Server) (ts : List PassTurn) (rs : List Outcome) → shape_of old.index.now ≡ shape → Runs TurnsOne old ts rs new → Runs (Steps shape) (state old) ts rs (state new)
 model_turns shape old new [] [] of run = ap state run
 model_turns shape old new [] (r ∷ rs) of run = absurd run
 model_turns shape old new (t ∷ ts) [] of run = absurd run
@@ -51,7 +51,7 @@ model_turns shape old new (t ∷ ts) (r ∷ rs) of run =
     (state run.0, subst (λ s. Steps s (state old) t r (state run.0)) of run.1.served, model_turns shape run.0 new ts rs (ap shape_of run.1.index ∙ of) run.2)
 
 -- and turns of its passes
-pass_turns : (b : Board) (old new : Server) (ts : List PassTurn) (rs : List Outcome) → board_of old.index.now ≡ b → Follow TurnsOne old ts rs new → Follow (OneTakes b) old.passes.items ts rs new.passes.items
+pass_turns : (b : Board) (old new : Server) (ts : List PassTurn) (rs : List Outcome) → board_of old.index.now ≡ b → Runs TurnsOne old ts rs new → Runs (OneTakes b) old.passes.items ts rs new.passes.items
 pass_turns b old new [] [] of run = ap (λ (s : Server). s.passes.items) run
 pass_turns b old new [] (r ∷ rs) of run = absurd run
 pass_turns b old new (t ∷ ts) [] of run = absurd run

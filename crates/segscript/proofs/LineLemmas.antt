@@ -7,8 +7,9 @@ use Rattle.segmodel.specs.declared.answer.Outcome.{Outcome}
 use Rattle.segmodel.specs.Spelling.{PassTurn, IsSayable, spelling}
 use Rattle.segmodel.specs.Replies.{reply}
 use Rattle.segmodel.specs.Script.{IsLine, ended, Splits, Say, IsBad}
+use Rattle.segmodel.proofs.RunLemmas.{Runs-append}
 use Rattle.segscript.specs.Device.{IsBeginning}
-use Rattle.segscript.specs.Served.{Follow, Serves}
+use Rattle.segscript.specs.Served.{Serves}
 use Rattle.segscript.specs.Running.{Stands, Comes, Completes, FirstBad, LineOutcome, FeedOutcome, FinishOutcome}
 use Rattle.segscript.specs.declared.fault.RunFault.{RunFault}
 use Rattle.segscript.specs.declared.fault.RunFault.TheVariants as fault
@@ -19,12 +20,6 @@ Say-append passes [] ys (t ∷ ts) us first more = absurd first
 Say-append passes ([] ∷ xs) ys ts us first more = Say-append passes xs ys ts us first more
 Say-append passes ((b ∷ bs) ∷ xs) ys [] us first more = absurd first
 Say-append passes ((b ∷ bs) ∷ xs) ys (t ∷ ts) us first more = (first.0, first.1, Say-append passes xs ys ts us first.2 more)
-
-Follow-append : {S : Type 0} (step : S → PassTurn → Outcome → S → Type 0) (old mid new : S) (ts us : List PassTurn) (rs ss : List Outcome) → Follow step old ts rs mid → Follow step mid us ss new → Follow step old (ts ++ us) (rs ++ ss) new
-Follow-append step old mid new [] us [] ss first more = rw first at more
-Follow-append step old mid new [] us (r ∷ rs) ss first more = absurd first
-Follow-append step old mid new (t ∷ ts) us [] ss first more = absurd first
-Follow-append step old mid new (t ∷ ts) us (r ∷ rs) ss first more = (first.0, first.1, Follow-append step first.0 mid new ts us rs ss first.2 more)
 
 Say-one : (passes : ℕ) (line : List ℕ) (said : PassTurn) → 0 < length line → IsSayable passes said → line ≡ spelling said → Say passes (line ∷ []) (said ∷ [])
 Say-one passes [] said some may same = absurd (omega arith)
@@ -61,7 +56,7 @@ module _ (passes : ℕ) {S : Type 0} (step : S → PassTurn → Outcome → S �
     turns = first.turns ++ more.turns;
     outcomes = first.outcomes ++ more.outcomes;
     says = Say-append passes xs ys first.turns more.turns first.says more.says;
-    run = Follow-append step old mid new first.turns more.turns first.outcomes more.outcomes first.run more.run;
+    run = Runs-append step old mid new first.turns more.turns first.outcomes more.outcomes first.run more.run;
     told = rw (first.told, more.told) (sym (flat_map-append reply first.outcomes more.outcomes));
   }
 
