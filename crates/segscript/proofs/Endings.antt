@@ -13,7 +13,7 @@ use Rattle.segbase.specs.declared.board.Board.{Board}
 use Rattle.segindex.specs.Index.{board_of, shape_of}
 use Rattle.segindex.specs.Calls.{IsNew}
 use Rattle.segscript.specs.Passes.{OneTakes}
-use Rattle.segscript.specs.Served.{Serves}
+use Rattle.segscript.specs.Served.{ServesLines}
 use Rattle.segscript.specs.EachTurn.{AreTaken, EachTurn}
 use Rattle.segscript.specs.Run.{RunOutcome, Reaches, IsBadFrom, IsCutOff}
 use Rattle.segscript.specs.Running.{Comes, Completes, BreaksOff, FirstBad, EndOfRun}
@@ -66,8 +66,8 @@ at_shape shape old of Read Ends Wrote before flushes result out =
     subst (λ n. EndOfRun n TurnsOne old Read Ends Wrote before flushes result) passes out
 
 module _ (shape : Shape) (old : Server) (of : shape_of old.index.now ≡ shape) where
-  by_passes : (new : Server) (lines : List (List ℕ)) (text : List ℕ) → Serves shape.passes TurnsOne old lines text new
-      → Serves (board_of old.index.now).shape.passes (OneTakes (board_of old.index.now)) old.passes.items lines text new.passes.items
+  by_passes : (new : Server) (lines : List (List ℕ)) (text : List ℕ) → ServesLines shape.passes TurnsOne old lines text new
+      → ServesLines (board_of old.index.now).shape.passes (OneTakes (board_of old.index.now)) old.passes.items lines text new.passes.items
   by_passes new lines text served = record {
     turns = served.turns;
     outcomes = served.outcomes;
@@ -77,7 +77,7 @@ module _ (shape : Shape) (old : Server) (of : shape_of old.index.now ≡ shape) 
   }
 
 module _ (shape : Shape) (old : Server) (of : shape_of old.index.now ≡ shape) (start : state old ≡ fresh shape) where
-  is_served : (new : Server) (lines : List (List ℕ)) (text : List ℕ) → Serves shape.passes TurnsOne old lines text new → IsServed shape (fresh shape) lines text (state new)
+  is_served : (new : Server) (lines : List (List ℕ)) (text : List ℕ) → ServesLines shape.passes TurnsOne old lines text new → IsServed shape (fresh shape) lines text (state new)
   is_served new lines text served = record {
     turns = served.turns;
     outcomes = served.outcomes;

@@ -9,7 +9,7 @@ use Rattle.segmodel.specs.Replies.{reply}
 use Rattle.segmodel.specs.Script.{IsLine, ended, Splits, Say, IsBad}
 use Rattle.segmodel.proofs.RunLemmas.{Runs-append}
 use Rattle.segscript.specs.Device.{IsBeginning}
-use Rattle.segscript.specs.Served.{Serves}
+use Rattle.segscript.specs.Served.{ServesLines}
 use Rattle.segscript.specs.Running.{Stands, Comes, Completes, FirstBad, LineOutcome, FeedOutcome, FinishOutcome}
 use Rattle.segscript.specs.declared.fault.RunFault.{RunFault}
 use Rattle.segscript.specs.declared.fault.RunFault.TheVariants as fault
@@ -51,8 +51,8 @@ Splits-end bytes lines rest splits = record {
 
 module _ (passes : ℕ) {S : Type 0} (step : S → PassTurn → Outcome → S → Type 0) where
   -- more lines are served after some
-  Serves-append : (old mid new : S) (xs ys : List (List ℕ)) (s t : List ℕ) → Serves passes step old xs s mid → Serves passes step mid ys t new → Serves passes step old (xs ++ ys) (s ++ t) new
-  Serves-append old mid new xs ys s t first more = record {
+  ServesLines-append : (old mid new : S) (xs ys : List (List ℕ)) (s t : List ℕ) → ServesLines passes step old xs s mid → ServesLines passes step mid ys t new → ServesLines passes step old (xs ++ ys) (s ++ t) new
+  ServesLines-append old mid new xs ys s t first more = record {
     turns = first.turns ++ more.turns;
     outcomes = first.outcomes ++ more.outcomes;
     says = Say-append passes xs ys first.turns more.turns first.says more.says;
@@ -61,8 +61,8 @@ module _ (passes : ℕ) {S : Type 0} (step : S → PassTurn → Outcome → S �
   }
 
   -- a line that says a turn is served by its outcome
-  pub Serves-one : (old new : S) (line text : List ℕ) (said : PassTurn) (outcome : Outcome) → 0 < length line → IsSayable passes said × (line ≡ spelling said) → step old said outcome new → text ≡ reply outcome → Serves passes step old (line ∷ []) text new
-  Serves-one old new line text said outcome some says steps same = record {
+  pub ServesLines-one : (old new : S) (line text : List ℕ) (said : PassTurn) (outcome : Outcome) → 0 < length line → IsSayable passes said × (line ≡ spelling said) → step old said outcome new → text ≡ reply outcome → ServesLines passes step old (line ∷ []) text new
+  ServesLines-one old new line text said outcome some says steps same = record {
     turns = said ∷ [];
     outcomes = outcome ∷ [];
     says = Say-one passes line said some says.0 says.1;
@@ -70,13 +70,13 @@ module _ (passes : ℕ) {S : Type 0} (step : S → PassTurn → Outcome → S �
     told = same ∙ sym (append-nil (reply outcome));
   }
 
-  Serves-none : (state : S) → Serves passes step state [] [] state
-  Serves-none state = record { turns = []; outcomes = []; says = tt; run = refl; told = refl }
+  ServesLines-none : (state : S) → ServesLines passes step state [] [] state
+  ServesLines-none state = record { turns = []; outcomes = []; says = tt; run = refl; told = refl }
 
   -- an empty line is skipped
-  pub Serves-empty : (state : S) (line : List ℕ) (empty : Bool) → empty ≡ eqb (length line) 0 → empty ≡ true → Serves passes step state (line ∷ []) [] state
-  Serves-empty state [] empty e is = record { turns = []; outcomes = []; says = tt; run = refl; told = refl }
-  Serves-empty state (b ∷ bs) empty e is = let h : length (b ∷ bs) ≡ 0 = eqb-true (length (b ∷ bs)) 0 (sym e ∙ is) in absurd (omega arith)
+  pub ServesLines-empty : (state : S) (line : List ℕ) (empty : Bool) → empty ≡ eqb (length line) 0 → empty ≡ true → ServesLines passes step state (line ∷ []) [] state
+  ServesLines-empty state [] empty e is = record { turns = []; outcomes = []; says = tt; run = refl; told = refl }
+  ServesLines-empty state (b ∷ bs) empty e is = let h : length (b ∷ bs) ≡ 0 = eqb-true (length (b ∷ bs)) 0 (sym e ∙ is) in absurd (omega arith)
 
   module _ (start state : S) where
     -- a byte of the line has come
@@ -90,12 +90,12 @@ module _ (passes : ℕ) {S : Type 0} (step : S → PassTurn → Outcome → S �
     }
 
     -- the end of the line has come, and it was served
-    pub at_end : (new : S) (seen told text line : List ℕ) (number : ℕ) → Stands passes step start state seen told line number → Serves passes step state (line ∷ []) text new → Stands passes step start new (seen ++ 10 ∷ []) (told ++ text) [] (number + 1)
+    pub at_end : (new : S) (seen told text line : List ℕ) (number : ℕ) → Stands passes step start state seen told line number → ServesLines passes step state (line ∷ []) text new → Stands passes step start new (seen ++ 10 ∷ []) (told ++ text) [] (number + 1)
     at_end new seen told text line number here served = record {
       lines = here.lines ++ line ∷ [];
       splits = Splits-end seen here.lines line here.splits;
       short = omega arith;
-      served = Serves-append start state new here.lines (line ∷ []) told text here.served served;
+      served = ServesLines-append start state new here.lines (line ∷ []) told text here.served served;
       numbered = simp length-append (ap (λ n. n + 1) here.numbered);
     }
 
@@ -151,13 +151,13 @@ module _ (passes : ℕ) {S : Type 0} (step : S → PassTurn → Outcome → S �
     }
 
     -- the last line was served
-    pub finish_text : (seen told text line : List ℕ) (number : ℕ) (new : S) → Stands passes step start state seen told line number → Serves passes step state (line ∷ []) text new → Completes passes step start seen (told ++ text)
+    pub finish_text : (seen told text line : List ℕ) (number : ℕ) (new : S) → Stands passes step start state seen told line number → ServesLines passes step state (line ∷ []) text new → Completes passes step start seen (told ++ text)
     finish_text seen told text line number new here served = record {
       lines = here.lines;
       last = line;
       state = new;
       splits = here.splits;
-      served = Serves-append start state new here.lines (line ∷ []) told text here.served served;
+      served = ServesLines-append start state new here.lines (line ∷ []) told text here.served served;
     }
 
   IsBeginning-told : (told part text : List ℕ) → IsBeginning part text → IsBeginning (told ++ part) (told ++ text)
@@ -169,7 +169,7 @@ module _ (passes : ℕ) {S : Type 0} (step : S → PassTurn → Outcome → S �
     lines = [];
     splits = record { whole = refl; each = tt; partial = tt };
     short = omega arith;
-    served = Serves-none start;
+    served = ServesLines-none start;
     numbered = refl;
   }
 

@@ -9,7 +9,7 @@ use Rattle.segindex.specs.declared.index.Index.{Index}
 use Rattle.segindex.specs.Index.{board_of}
 use Rattle.segindex.specs.Calls.{IsNew}
 use Rattle.segscript.specs.Passes.{OneTakes}
-use Rattle.segscript.specs.Served.{Serves}
+use Rattle.segscript.specs.Served.{ServesLines}
 use Rattle.segscript.specs.declared.fault.RunFault.{RunFault}
 use Rattle.segscript.specs.declared.fault.RunFault.TheVariants as fault
 
@@ -41,7 +41,7 @@ pub record AreTaken (b : Board) (start : List Pass) (Read Wrote : List ℕ → T
   pub each : AllByRecursion IsLine lines
   pub whole : ended seen ≡ flat_map ended lines ++ rest
   pub left : IsLeft lines rest result
-  pub served : Serves b.shape.passes (OneTakes b) start lines text passes
+  pub served : ServesLines b.shape.passes (OneTakes b) start lines text passes
   pub told : IsWritten text written result
 
 -- so they did, over an index in which nothing was done before

@@ -6,7 +6,7 @@ use Rattle.segmodel.specs.declared.answer.Outcome.{Outcome}
 use Rattle.segmodel.specs.Spelling.{PassTurn}
 use Rattle.segmodel.specs.Script.{IsLine, ended, Splits, IsBad}
 use Rattle.segscript.specs.Device.{IsBeginning, flushed}
-use Rattle.segscript.specs.Served.{Serves}
+use Rattle.segscript.specs.Served.{ServesLines}
 use Rattle.segscript.specs.declared.fault.RunFault.{RunFault}
 use Rattle.segscript.specs.declared.fault.RunFault.TheVariants as fault
 
@@ -16,7 +16,7 @@ pub record Stands (passes : ℕ) {S : Type 0} (step : S → PassTurn → Outcome
   pub lines : List (List ℕ)
   pub splits : Splits seen lines line
   pub short : length line ≤ 128
-  pub served : Serves passes step start lines text now
+  pub served : ServesLines passes step start lines text now
   pub numbered : number ≡ length lines + 1
 
 -- The reader handed out some bytes up to here, and up to here the writer took the replies to all their whole lines.
@@ -33,7 +33,7 @@ pub record Comes (passes : ℕ) {S : Type 0} (step : S → PassTurn → Outcome 
   pub state : S
   pub splits : Splits seen lines rest
   pub short : length rest ≤ 128
-  pub served : Serves passes step start lines text state
+  pub served : ServesLines passes step start lines text state
 
 -- the script is served to its end, with this text of replies
 pub record Completes (passes : ℕ) {S : Type 0} (step : S → PassTurn → Outcome → S → Type 0) (start : S) (script text : List ℕ) : Type 0 where
@@ -41,7 +41,7 @@ pub record Completes (passes : ℕ) {S : Type 0} (step : S → PassTurn → Outc
   pub last : List ℕ
   pub state : S
   pub splits : Splits script lines last
-  pub served : Serves passes step start (lines ++ last ∷ []) text state
+  pub served : ServesLines passes step start (lines ++ last ∷ []) text state
 
 -- a reply could not be written whole: a beginning of the text is written, that of the lines up to the one of this reply
 abbrev pub BreaksOff : (passes : ℕ) {S : Type 0} (step : S → PassTurn → Outcome → S → Type 0) → S → List ℕ → List ℕ → Type 0
@@ -60,7 +60,7 @@ pub record FirstBad (passes : ℕ) {S : Type 0} (step : S → PassTurn → Outco
   pub unbroken : IsLine bad
   pub is_bad : IsBad passes bad
   pub known : ((more : List ℕ) × (after ≡ 10 ∷ more)) ⊎ (length bad ≡ 129) ⊎ ((after ≡ []) × Ends)
-  pub served : Serves passes step start lines text state
+  pub served : ServesLines passes step start lines text state
   pub number : n ≡ length lines + 1
 
 -- ---- what became of the parts
@@ -68,10 +68,10 @@ pub record FirstBad (passes : ℕ) {S : Type 0} (step : S → PassTurn → Outco
 module _ (passes : ℕ) {S : Type 0} (step : S → PassTurn → Outcome → S → Type 0) where
   -- what became of one whole line, from the old state to the new one
   abbrev pub LineOutcome : S → S → (List ℕ → Type 0) → List ℕ → ℕ → Result (Unit {0}) RunFault → Type 0
-  LineOutcome old new Wrote line number (Ok _) = (text : List ℕ) × Wrote text × Serves passes step old (line ∷ []) text new
+  LineOutcome old new Wrote line number (Ok _) = (text : List ℕ) × Wrote text × ServesLines passes step old (line ∷ []) text new
   LineOutcome old new Wrote line number (Err (fault.Line n)) = Wrote [] × (n ≡ number) × IsBad passes line
   LineOutcome old new Wrote line number (Err fault.Write) =
-      (part : List ℕ) × (text : List ℕ) × Wrote part × IsBeginning part text × Serves passes step old (line ∷ []) text new
+      (part : List ℕ) × (text : List ℕ) × Wrote part × IsBeginning part text × ServesLines passes step old (line ∷ []) text new
   LineOutcome old new Wrote line number (Err _) = ⊥
 
   -- what became of bytes that were fed: seen are all that came, theirs among them, and told is what was written before

@@ -8,7 +8,7 @@ use Rattle.segmodel.specs.Script.{Say}
 use Rattle.segmodel.specs.Replies.{reply}
 
 -- the lines say turns that were taken from the old state to the new one, and the text has the replies to them
-pub record Serves (passes : ℕ) {S : Type 0} (step : S → PassTurn → Outcome → S → Type 0) (old : S) (lines : List (List ℕ)) (text : List ℕ) (new : S) : Type 0 where
+pub record ServesLines (passes : ℕ) {S : Type 0} (step : S → PassTurn → Outcome → S → Type 0) (old : S) (lines : List (List ℕ)) (text : List ℕ) (new : S) : Type 0 where
   pub turns : List PassTurn
   pub outcomes : List Outcome
   pub says : Say passes lines turns
