@@ -40,27 +40,36 @@ IsBad passes line =
 
 -- ---- replies
 
+-- The lines say turns that were taken one after the other, from the old state to the new one, and the text has the replies to them.
+-- There are this many passes, and step says what one turn is.
+pub record ServesLines (passes : ℕ) {S : Type 0} (step : S → PassTurn → Outcome → S → Type 0) (old : S) (lines : List (List ℕ)) (text : List ℕ) (new : S) : Type 0 where
+  pub turns : List PassTurn
+  pub outcomes : List Outcome
+  pub says : Say passes lines turns
+  pub run : Runs step old turns outcomes new
+  pub told : text ≡ flat_map reply outcomes
+
 -- where there is one pass, its turns are served one after the other; of several passes no more is said here than that each turn has a reply
 abbrev pub Steps : Shape → State → PassTurn → Outcome → State → Type 0
 Steps shape old said outcome new = shape.passes ≡ 1 → Turns shape old said.1 outcome new
 
--- from the old state on these lines are served, with this text of replies
-pub record IsServed (shape : Shape) (old : State) (lines : List (List ℕ)) (text : List ℕ) (new : State) : Type 0 where
-  pub turns : List PassTurn
-  pub outcomes : List Outcome
-  pub says : Say shape.passes lines turns
-  pub run : Runs (Steps shape) old turns outcomes new
-  pub told : text ≡ flat_map reply outcomes
+-- from the old state on the model serves these lines, with this text of replies
+abbrev pub IsServed : Shape → State → List (List ℕ) → List ℕ → State → Type 0
+IsServed shape old lines text new = ServesLines shape.passes (Steps shape) old lines text new
 
 -- ---- whole scripts
 
--- no line of the script is bad, and this is a text of replies that belongs to it. A line without an end counts where it has bytes.
-pub record IsTextOf (shape : Shape) (script text : List ℕ) : Type 0 where
+-- The script is served to its end, with this text of replies. A line without an end counts where it has bytes.
+pub record Completes (passes : ℕ) {S : Type 0} (step : S → PassTurn → Outcome → S → Type 0) (start : S) (script text : List ℕ) : Type 0 where
   pub lines : List (List ℕ)
   pub last : List ℕ
-  pub state : State
+  pub state : S
   pub splits : Splits script lines last
-  pub served : IsServed shape (fresh shape) (lines ++ last ∷ []) text state
+  pub served : ServesLines passes step start (lines ++ last ∷ []) text state
+
+-- no line of the script is bad, and this is a text of replies that belongs to it
+abbrev pub IsTextOf : Shape → List ℕ → List ℕ → Type 0
+IsTextOf shape script text = Completes shape.passes (Steps shape) (fresh shape) script text
 
 -- the n-th line of the script is its first bad one, and this is a text of replies to the lines before it
 pub record IsFirstBad (shape : Shape) (script text : List ℕ) (n : ℕ) : Type 0 where

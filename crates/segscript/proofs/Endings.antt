@@ -8,15 +8,14 @@ use Rattle.segmodel.specs.declared.answer.Outcome.{Outcome}
 use Rattle.segmodel.specs.State.{fresh}
 use Rattle.segmodel.specs.Turns.{Runs}
 use Rattle.segmodel.specs.Spelling.{PassTurn}
-use Rattle.segmodel.specs.Script.{IsLine, ended, Steps, IsServed, IsTextOf, IsFirstBad}
+use Rattle.segmodel.specs.Script.{IsLine, ended, ServesLines, Steps, IsServed, Completes, IsTextOf, IsFirstBad}
 use Rattle.segbase.specs.declared.board.Board.{Board}
 use Rattle.segindex.specs.Index.{board_of, shape_of}
 use Rattle.segindex.specs.Calls.{IsNew}
 use Rattle.segscript.specs.Passes.{OneTakes}
-use Rattle.segscript.specs.Served.{ServesLines}
 use Rattle.segscript.specs.EachTurn.{AreTaken, EachTurn}
-use Rattle.segscript.specs.Run.{RunOutcome, Reaches, IsBadFrom, IsCutOff}
-use Rattle.segscript.specs.Running.{Comes, Completes, BreaksOff, FirstBad, EndOfRun}
+use Rattle.segscript.specs.Run.{Comes, BreaksOff, RunOutcome, Reaches, IsBadFrom, IsCutOff}
+use Rattle.segscript.specs.Running.{FirstBad, EndOfRun}
 use Rattle.segscript.specs.Server.{TurnsOne, state}
 use Rattle.segscript.specs.declared.server.Server.{Server}
 use Rattle.segscript.specs.declared.fault.RunFault.{RunFault}

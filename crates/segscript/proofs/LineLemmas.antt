@@ -6,11 +6,11 @@ use Rattle.std.proofs.lemmas.Bool.{eqb-true}
 use Rattle.segmodel.specs.declared.answer.Outcome.{Outcome}
 use Rattle.segmodel.specs.Spelling.{PassTurn, IsSayable, spelling}
 use Rattle.segmodel.specs.Replies.{reply}
-use Rattle.segmodel.specs.Script.{IsLine, ended, Splits, Say, IsBad}
+use Rattle.segmodel.specs.Script.{IsLine, ended, Splits, Say, IsBad, ServesLines, Completes}
 use Rattle.segmodel.proofs.RunLemmas.{Runs-append}
 use Rattle.segscript.specs.Device.{IsBeginning}
-use Rattle.segscript.specs.Served.{ServesLines}
-use Rattle.segscript.specs.Running.{Stands, Comes, Completes, FirstBad, LineOutcome, FeedOutcome, FinishOutcome}
+use Rattle.segscript.specs.Run.{Comes}
+use Rattle.segscript.specs.Running.{Stands, FirstBad, LineOutcome, FeedOutcome, FinishOutcome}
 use Rattle.segscript.specs.declared.fault.RunFault.{RunFault}
 use Rattle.segscript.specs.declared.fault.RunFault.TheVariants as fault
 

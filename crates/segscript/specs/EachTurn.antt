@@ -2,14 +2,13 @@
 use Rattle.std.specs.Prelude.{◌≡◌, ℕ, ◌+◌, List, [], ◌++◌, length, Result, Ok, Err}
 use Rattle.std.specs.List.{flat_map, AllByRecursion}
 use Rattle.segword.specs.declared.shape.Shape.{Shape}
-use Rattle.segmodel.specs.Script.{IsLine, ended}
+use Rattle.segmodel.specs.Script.{IsLine, ended, ServesLines}
 use Rattle.segbase.specs.declared.board.Board.{Board}
 use Rattle.segbase.specs.declared.pass.Pass.{Pass}
 use Rattle.segindex.specs.declared.index.Index.{Index}
 use Rattle.segindex.specs.Index.{board_of}
 use Rattle.segindex.specs.Calls.{IsNew}
 use Rattle.segscript.specs.Passes.{OneTakes}
-use Rattle.segscript.specs.Served.{ServesLines}
 use Rattle.segscript.specs.declared.fault.RunFault.{RunFault}
 use Rattle.segscript.specs.declared.fault.RunFault.TheVariants as fault
 

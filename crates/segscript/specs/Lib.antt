@@ -6,7 +6,6 @@ pub mod Passes
 pub mod Reading
 pub mod Run
 pub mod Running
-pub mod Served
 pub mod Server
 pub mod Told
 pub mod Verb

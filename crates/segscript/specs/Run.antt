@@ -2,8 +2,10 @@
 use Rattle.std.specs.Prelude.{◌⊎◌, ◌≡◌, ℕ, ◌^◌, ◌≤◌, Bool, true, false, List, ◌++◌, length, Result, Ok, Err}
 use Rattle.segword.specs.declared.shape.Shape.{Shape}
 use Rattle.segword.specs.Shape.{IsValid}
-use Rattle.segmodel.specs.State.{State, fresh}
-use Rattle.segmodel.specs.Script.{Splits, IsServed, IsTextOf, IsFirstBad}
+use Rattle.segmodel.specs.declared.answer.Outcome.{Outcome}
+use Rattle.segmodel.specs.State.{fresh}
+use Rattle.segmodel.specs.Spelling.{PassTurn}
+use Rattle.segmodel.specs.Script.{Splits, ServesLines, Steps, Completes, IsTextOf, IsFirstBad}
 use Rattle.segbase.specs.Made.{IsMakeFault}
 use Rattle.segscript.specs.Device.{IsBeginning, flushed}
 use Rattle.segscript.specs.declared.fault.RunFault.{RunFault}
@@ -31,23 +33,30 @@ ShapeIsAnswered shape _ = IsValid shape
 -- ---- how far a run came
 
 -- all whole lines of the bytes that came are served, with this text of replies, and the line after them is not too long so far
-pub record Reaches (shape : Shape) (seen text : List ℕ) : Type 0 where
+pub record Comes (passes : ℕ) {S : Type 0} (step : S → PassTurn → Outcome → S → Type 0) (start : S) (seen text : List ℕ) : Type 0 where
   pub lines : List (List ℕ)
   pub rest : List ℕ
-  pub state : State
+  pub state : S
   pub splits : Splits seen lines rest
   pub short : length rest ≤ 128
-  pub served : IsServed shape (fresh shape) lines text state
+  pub served : ServesLines passes step start lines text state
+
+-- a reply could not be written whole: a beginning of the text is written, that of the lines up to the one of this reply
+abbrev pub BreaksOff : (passes : ℕ) {S : Type 0} (step : S → PassTurn → Outcome → S → Type 0) → S → List ℕ → List ℕ → Type 0
+BreaksOff passes step start seen part =
+    (text : List ℕ) × IsBeginning part text
+    × (((front : List ℕ) × (rest : List ℕ) × (seen ≡ front ++ rest) × Comes passes step start front text) ⊎ Completes passes step start seen text)
+
+-- so the model says
+abbrev pub Reaches : Shape → List ℕ → List ℕ → Type 0
+Reaches shape seen text = Comes shape.passes (Steps shape) (fresh shape) seen text
+
+abbrev pub IsCutOff : Shape → List ℕ → List ℕ → Type 0
+IsCutOff shape seen part = BreaksOff shape.passes (Steps shape) (fresh shape) seen part
 
 -- whatever comes after these bytes, line n is the first bad one
 abbrev pub IsBadFrom : Shape → List ℕ → List ℕ → ℕ → Type 0
 IsBadFrom shape seen text n = (more : List ℕ) → IsFirstBad shape (seen ++ more) text n
-
--- a reply could not be written whole: a beginning of the text is written, that of the lines up to the one of this reply
-abbrev pub IsCutOff : Shape → List ℕ → List ℕ → Type 0
-IsCutOff shape seen part =
-    (text : List ℕ) × IsBeginning part text
-    × (((front : List ℕ) × (rest : List ℕ) × (seen ≡ front ++ rest) × Reaches shape front text) ⊎ IsTextOf shape seen text)
 
 -- ---- how it ends
 

@@ -4,9 +4,9 @@ use Rattle.std.specs.Prelude.{◌⊎◌, ◌≡◌, ℕ, ◌+◌, ◌^◌, ◌�
 use Rattle.std.specs.List.{flat_map, AllByRecursion}
 use Rattle.segmodel.specs.declared.answer.Outcome.{Outcome}
 use Rattle.segmodel.specs.Spelling.{PassTurn}
-use Rattle.segmodel.specs.Script.{IsLine, ended, Splits, IsBad}
+use Rattle.segmodel.specs.Script.{IsLine, ended, Splits, IsBad, ServesLines, Completes}
 use Rattle.segscript.specs.Device.{IsBeginning, flushed}
-use Rattle.segscript.specs.Served.{ServesLines}
+use Rattle.segscript.specs.Run.{Comes, BreaksOff}
 use Rattle.segscript.specs.declared.fault.RunFault.{RunFault}
 use Rattle.segscript.specs.declared.fault.RunFault.TheVariants as fault
 
@@ -23,31 +23,6 @@ pub record Stands (passes : ℕ) {S : Type 0} (step : S → PassTurn → Outcome
 abbrev pub AllReplied : (passes : ℕ) {S : Type 0} (step : S → PassTurn → Outcome → S → Type 0) {R W : Type 0} → (R → List ℕ → R → Type 0) → (W → List ℕ → W → Type 0) → S → R → W → List ℕ → ℕ → Type 0
 AllReplied passes {S} step {R} {W} hands takes now reader writer line number =
     (start : S) × (from : R) × (to : W) × (seen : List ℕ) × (told : List ℕ) × hands from seen reader × takes to told writer × Stands passes step start now seen told line number
-
--- ---- how far a run came
-
--- all whole lines of the bytes that came are served, with this text of replies, and the line after them is not too long so far
-pub record Comes (passes : ℕ) {S : Type 0} (step : S → PassTurn → Outcome → S → Type 0) (start : S) (seen text : List ℕ) : Type 0 where
-  pub lines : List (List ℕ)
-  pub rest : List ℕ
-  pub state : S
-  pub splits : Splits seen lines rest
-  pub short : length rest ≤ 128
-  pub served : ServesLines passes step start lines text state
-
--- the script is served to its end, with this text of replies
-pub record Completes (passes : ℕ) {S : Type 0} (step : S → PassTurn → Outcome → S → Type 0) (start : S) (script text : List ℕ) : Type 0 where
-  pub lines : List (List ℕ)
-  pub last : List ℕ
-  pub state : S
-  pub splits : Splits script lines last
-  pub served : ServesLines passes step start (lines ++ last ∷ []) text state
-
--- a reply could not be written whole: a beginning of the text is written, that of the lines up to the one of this reply
-abbrev pub BreaksOff : (passes : ℕ) {S : Type 0} (step : S → PassTurn → Outcome → S → Type 0) → S → List ℕ → List ℕ → Type 0
-BreaksOff passes step start seen part =
-    (text : List ℕ) × IsBeginning part text
-    × (((front : List ℕ) × (rest : List ℕ) × (seen ≡ front ++ rest) × Comes passes step start front text) ⊎ Completes passes step start seen text)
 
 -- Line n of these bytes is bad, and none before it: it has its end, or its 129th byte, or (where Ends) nothing comes after it.
 pub record FirstBad (passes : ℕ) {S : Type 0} (step : S → PassTurn → Outcome → S → Type 0) (start : S) (Ends : Type 0) (seen text : List ℕ) (n : ℕ) : Type 0 where
