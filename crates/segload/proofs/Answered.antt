@@ -1,12 +1,13 @@
 -- What a call of an index came to, as a command of a load.
-use Rattle.std.proofs.Common.{◌≡◌, ℕ, zero, suc, ◌+◌, true, List, [], ◌∷◌, ◌++◌, Option, Some, None, option_map, refl, sym, ap, ◌∙◌, subst, inl, inr, arith, ◌≢◌, ⊎_elim}
+use Rattle.std.proofs.Common.{◌≡◌, ◌≢◌, ℕ, ◌+◌, ◌*◌, ◌<◌, ◌≤◌, Bool, true, false, is_some, List, [], ◌∷◌, Option, Some, None, option_map, option_and_then, refl, sym, ap, ◌∙◌, subst, inl, inr, zero-mul, arith, ⊎_elim}
+use Rattle.std.specs.Prelude.{◌↔◌}
+use Rattle.std.proofs.lemmas.Bool.{false≢true, lt-ltb}
 use Rattle.std.proofs.lemmas.Option.{same_Some, none-some}
 use Rattle.segword.specs.declared.shape.Shape.{Shape}
 use Rattle.segmodel.specs.declared.request.Request.{Request}
 use Rattle.segmodel.specs.declared.request.Request.TheVariants as request
 use Rattle.segmodel.specs.declared.entry.Entry.{Entry}
 use Rattle.segmodel.specs.declared.entry.Entry.TheVariants.{Refilled}
-use Rattle.segmodel.specs.declared.entry.Cached.{Cached}
 use Rattle.segmodel.specs.declared.answer.GetAnswer.{GetAnswer}
 use Rattle.segmodel.specs.declared.answer.GetAnswer.TheVariants as get
 use Rattle.segmodel.specs.declared.answer.GetsAnswer.{GetsAnswer}
@@ -19,35 +20,38 @@ use Rattle.segmodel.specs.declared.answer.EvictAnswer.{EvictAnswer}
 use Rattle.segmodel.specs.declared.answer.EvictAnswer.TheVariants as evict
 use Rattle.segmodel.specs.declared.answer.RefillAnswer.{RefillAnswer}
 use Rattle.segmodel.specs.declared.answer.RefillAnswer.TheVariants as refill
-use Rattle.segmodel.specs.Request.{is_store, key_of}
-use Rattle.segmodel.specs.Places.{bucket_of}
-use Rattle.segmodel.specs.Cache.{present}
+use Rattle.segmodel.specs.declared.answer.SegState.TheVariants.{InUse, Evicted}
+use Rattle.segmodel.specs.Request.{key_of}
+use Rattle.segmodel.specs.Places.{bucket_of, owner}
+use Rattle.segmodel.specs.Cache.{Cache, reads, reads_version}
 use Rattle.segmodel.specs.History.{after, Begins, IsBetween}
 use Rattle.segmodel.specs.History as history
-use Rattle.segcore.proofs.Moments.{begins_on}
+use Rattle.segmodel.proofs.Written.{first_owner}
+use Rattle.segcore.specs.Mark.{Mark, entries}
+use Rattle.segcore.proofs.Marked.{entries_marked}
 use Rattle.segbase.specs.declared.board.Board.{Board}
 use Rattle.segbase.specs.declared.pass.Pass.{Pass}
-use Rattle.segbase.specs.Passes.{number, seen, mine}
-use Rattle.segindex.specs.Answers.{IsBusy, ReadsBetween, Writes, Deletes, IsGetAnswer, IsRefillAnswer}
+use Rattle.segbase.specs.Passes.{number, trace, marked, seen, mine}
+use Rattle.segbase.specs.Plain.{state_of, used_of, locked_of}
+use Rattle.segbase.proofs.Alone.{bounced_alone, glanced_alone}
+use Rattle.segstore.specs.Segments.{is_below, has_room}
+use Rattle.segindex.specs.Answers.{IsBusy, HasNoWord, WasFull, ReadsBetween, Writes, Deletes, IsGetAnswer, IsRead, Refills, IsRefillAnswer}
 use Rattle.segindex.specs.Gets.{IsGetsAnswer}
-use Rattle.segindex.specs.Evicting.{AreEvictions, IsEvictAnswer}
-use Rattle.segindex.specs.Calls.{GoesOn, ChangesNothing}
-use Rattle.segindex.specs.Quiet.{IsQuiet}
-use Rattle.segindex.proofs.OnePass.{busy_by_lock, none_stirred}
-use Rattle.segbase.proofs.Alone.{glanced_alone}
-use Rattle.segbase.specs.Plain.{locked_of}
+use Rattle.segindex.specs.Evicting.{IsEvictAnswer}
+use Rattle.segindex.specs.Calls.{memo, GoesOn, ChangesNothing}
+use Rattle.segindex.specs.Quiet.{is_held_in, IsQuiet}
+use Rattle.segindex.proofs.Grown.{entries_begin}
 use Rattle.segindex.proofs.Meeting.{mine_begins}
+use Rattle.segindex.proofs.OnePass.{nobody_inside, busy_by_lock, none_stirred}
+use Rattle.segindex.proofs.QuietPass.{owned}
 use Rattle.segpolicy.specs.declared.load.Kind.{Kind}
 use Rattle.segpolicy.specs.declared.load.Kind.TheVariants as kind
 use Rattle.segpolicy.specs.declared.load.Load.{Load}
-use Rattle.segpolicy.specs.Draws.{Draws, next_load, after_load}
+use Rattle.segpolicy.specs.Cycle.{Cycle, number_of}
 use Rattle.segload.specs.declared.totals.Tally.{Tally}
 use Rattle.segload.specs.declared.totals.Tally.TheVariants as tally
-use Rattle.segload.specs.declared.totals.Tallies.{Tallies}
-use Rattle.segload.specs.Making.{ReadsWhen, IsReadAs, IsWrittenAs, GivesUp, IsStoredAs, CameTo, ComesTo, draws_after, Makes}
-use Rattle.segload.specs.declared.worker.Worker.{Worker}
-use Rattle.segload.specs.Counting.{counted, all_of}
-use Rattle.segload.specs.Working.{write_tally, delete_tally, MakesRoom, stores_of, IsAtWork}
+use Rattle.segload.specs.Making.{Course, turned_on, AtMoment, ReadsWhen, IsReadAs, IsVersionReadAs, IsFullFor, IsWrittenAs, Empties, IsStoredAs, CameTo}
+use Rattle.segload.specs.Working.{write_tally, delete_tally, IsFree, IsOwnRing, MakesRoom, stores_of}
 use Rattle.segload.proofs.Lists.{both_begin}
 
 -- ---- one pass
@@ -72,40 +76,43 @@ gets_busy b key told p q is quiet on same unlocked answer = λ one. ⊎_elim
     (λ locked. none-some (bucket_of b.shape key) (sym unlocked ∙ locked.0))
     (subst (λ a. IsGetsAnswer b.shape key a p q) is answer)
 
--- ---- locks
+-- ---- free passes
 
 -- it is as it was
-pub lock_read : (p q : Pass) → ChangesNothing p q → locked_of p ≡ None → locked_of q ≡ None
-lock_read p q nothing unlocked = ap (λ plain. plain.locked) nothing.plain ∙ unlocked
+kept_free : (p q : Pass) → locked_of q ≡ locked_of p → memo q ≡ memo p → IsFree p → IsFree q
+kept_free p q locked same free = (locked ∙ free.0, ap (λ m. m.holding) same ∙ free.1)
 
-replied_lock : (p q : Pass) → q.plain ≡ p.plain → locked_of p ≡ None → locked_of q ≡ None
-replied_lock p q same unlocked = ap (λ plain. plain.locked) same ∙ unlocked
+plain_free : (p q : Pass) → q.plain ≡ p.plain → memo q ≡ memo p → IsFree p → IsFree q
+plain_free p q plain same = kept_free p q (ap (λ x. x.locked) plain) same
 
-pub write_lock : (b : Board) (asked : Request) (told : WriteAnswer) (p q : Pass) → Writes b asked told p q → locked_of p ≡ None → locked_of q ≡ None
-write_lock b asked write.Stored p q writes unlocked = writes.answer.2.locked ∙ unlocked
-write_lock b asked write.NotStored p q writes unlocked = replied_lock p q writes.answer.1 unlocked
-write_lock b asked write.Exists p q writes unlocked = replied_lock p q writes.answer.1 unlocked
-write_lock b asked write.NotFound p q writes unlocked = replied_lock p q writes.answer.1 unlocked
-write_lock b asked write.NoRoom p q writes unlocked = lock_read p q writes.answer unlocked
-write_lock b asked write.BucketFull p q writes unlocked = lock_read p q writes.answer.0 unlocked
-write_lock b asked write.Busy p q writes unlocked = lock_read p q writes.answer.0 unlocked
+pub unchanged_free : (p q : Pass) → ChangesNothing p q → IsFree p → IsFree q
+unchanged_free p q nothing = plain_free p q nothing.plain nothing.memo
 
-pub delete_lock : (b : Board) (key : List ℕ) (told : DeleteAnswer) (p q : Pass) → Deletes b key told p q → locked_of p ≡ None → locked_of q ≡ None
-delete_lock b key delete.Deleted p q deletes unlocked = replied_lock p q deletes.answer.1 unlocked
-delete_lock b key delete.NotFound p q deletes unlocked = replied_lock p q deletes.answer.1 unlocked
-delete_lock b key delete.Busy p q deletes unlocked = lock_read p q deletes.answer.0 unlocked
+pub write_free : (b : Board) (asked : Request) (told : WriteAnswer) (p q : Pass) → Writes b asked told p q → IsFree p → IsFree q
+write_free b asked write.Stored p q writes free = kept_free p q writes.answer.2.locked writes.answer.2.memo free
+write_free b asked write.NotStored p q writes free = plain_free p q writes.answer.1 writes.answer.2 free
+write_free b asked write.Exists p q writes free = plain_free p q writes.answer.1 writes.answer.2 free
+write_free b asked write.NotFound p q writes free = plain_free p q writes.answer.1 writes.answer.2 free
+write_free b asked write.NoRoom p q writes free = unchanged_free p q writes.answer free
+write_free b asked write.BucketFull p q writes free = unchanged_free p q writes.answer.0 free
+write_free b asked write.Busy p q writes free = unchanged_free p q writes.answer.0 free
 
-pub evict_lock : (shape : Shape) (segment : ℕ) (told : EvictAnswer) (p q : Pass) → IsEvictAnswer shape segment told p q → locked_of p ≡ None → locked_of q ≡ None
-evict_lock shape segment (evict.Evicted count) p q (inl out) unlocked = out.1.locked ∙ unlocked
-evict_lock shape segment (evict.Evicted count) p q (inr none) unlocked = ap locked_of none.2 ∙ unlocked
-evict_lock shape segment evict.NotYours p q same unlocked = ap locked_of same ∙ unlocked
-evict_lock shape segment (evict.Busy count) p q busy unlocked = busy.1.locked ∙ unlocked
+pub delete_free : (b : Board) (key : List ℕ) (told : DeleteAnswer) (p q : Pass) → Deletes b key told p q → IsFree p → IsFree q
+delete_free b key delete.Deleted p q deletes free = plain_free p q deletes.answer.1 deletes.answer.2 free
+delete_free b key delete.NotFound p q deletes free = plain_free p q deletes.answer.1 deletes.answer.2 free
+delete_free b key delete.Busy p q deletes free = unchanged_free p q deletes.answer.0 free
 
-pub refill_lock : (segment : ℕ) (told : RefillAnswer) (p q : Pass) → IsRefillAnswer segment told p q → locked_of p ≡ None → locked_of q ≡ None
-refill_lock segment refill.Refilled p q is unlocked = is.locked ∙ unlocked
-refill_lock segment refill.NotYours p q is unlocked = lock_read p q is unlocked
-refill_lock segment refill.NotEvicted p q is unlocked = lock_read p q is unlocked
-refill_lock segment refill.Held p q is unlocked = lock_read p q is.0 unlocked
+pub evict_free : (shape : Shape) (segment : ℕ) (told : EvictAnswer) (p q : Pass) → IsEvictAnswer shape segment told p q → IsFree p → IsFree q
+evict_free shape segment (evict.Evicted count) p q (inl out) free = kept_free p q out.1.locked out.1.memo free
+evict_free shape segment (evict.Evicted count) p q (inr none) free = subst IsFree (sym none.2) free
+evict_free shape segment evict.NotYours p q same free = subst IsFree (sym same) free
+evict_free shape segment (evict.Busy count) p q busy free = kept_free p q busy.1.locked busy.1.memo free
+
+pub refill_free : (segment : ℕ) (told : RefillAnswer) (p q : Pass) → IsRefillAnswer segment told p q → IsFree p → IsFree q
+refill_free segment refill.Refilled p q is free = kept_free p q is.locked is.memo free
+refill_free segment refill.NotYours p q is free = unchanged_free p q is free
+refill_free segment refill.NotEvicted p q is free = unchanged_free p q is free
+refill_free segment refill.Held p q is free = unchanged_free p q is.0 free
 
 -- ---- reads
 
@@ -117,8 +124,12 @@ mine_between b p q moment on same between =
     (subst (Begins (history.mine (number p) moment)) end (mine_begins (number p) moment (seen q) between.1))
     (mine_begins (number p) (seen p) moment between.0)
 
+-- what was so of the cache then, was so when its entries were these
+at_moment : (b : Board) (p q : Pass) (moment : List Entry) (IsSo : Cache → Type 0) → GoesOn b p q → mine q ≡ mine p → IsBetween (seen p) (seen q) moment → IsSo (after b.shape moment) → AtMoment b.shape (seen q) (number p) (mine p) IsSo
+at_moment b p q moment IsSo on same between so = (moment, between.1, mine_between b p q moment on same between, so)
+
 read_when : (b : Board) (key : List ℕ) (read : Option (List ℕ)) (p q : Pass) → GoesOn b p q → mine q ≡ mine p → ReadsBetween b.shape key (seen p) (seen q) read → ReadsWhen b.shape (seen q) (number p) (mine p) key read
-read_when b key read p q on same at = (at.0, at.1.1, mine_between b p q at.0 on same at.1, at.2)
+read_when b key read p q on same at = at_moment b p q at.0 (λ cache. reads cache key ≡ read) on same at.1 at.2
 
 pub get_hit : (b : Board) (key : List ℕ) (told : GetAnswer) (value : List ℕ) (p q : Pass) → told ≡ get.Found value → GoesOn b p q → mine q ≡ mine p → IsGetAnswer b.shape key told (seen p) (seen q) → IsReadAs b.shape (seen q) (number p) (mine p) key tally.Hit
 get_hit b key told value p q is on same answer = (value, read_when b key (Some value) p q on same (subst (λ a. IsGetAnswer b.shape key a (seen p) (seen q)) is answer))
@@ -126,46 +137,44 @@ get_hit b key told value p q is on same answer = (value, read_when b key (Some v
 pub get_miss : (b : Board) (key : List ℕ) (told : GetAnswer) (p q : Pass) → told ≡ get.Miss → GoesOn b p q → mine q ≡ mine p → IsGetAnswer b.shape key told (seen p) (seen q) → IsReadAs b.shape (seen q) (number p) (mine p) key tally.Miss
 get_miss b key told p q is on same answer = read_when b key None p q on same (subst (λ a. IsGetAnswer b.shape key a (seen p) (seen q)) is answer)
 
--- what reads with a version, reads
-value_read : (item : Option Cached) (bump : ℕ) (value : List ℕ) (version : ℕ) → option_map {U = List ℕ × ℕ} (λ (x : Cached). (x.value, bump)) item ≡ Some (value, version) → option_map (λ (x : Cached). x.value) item ≡ Some value
-value_read None bump value version is = absurd (none-some (value, version) is)
-value_read (Some item) bump value version is = ap (λ r. Some r.0) (same_Some (item.value, bump) (value, version) is)
-
-pub gets_hit : (b : Board) (key : List ℕ) (told : GetsAnswer) (value : List ℕ) (version : ℕ) (p q : Pass) → told ≡ gets.Found value version → GoesOn b p q → mine q ≡ mine p → IsGetsAnswer b.shape key told p q → IsReadAs b.shape (seen q) (number p) (mine p) key tally.Hit
-gets_hit b key told value version p q is on same answer =
+pub gets_hit : (b : Board) (key : List ℕ) (told : GetsAnswer) (value : List ℕ) (p q : Pass) (from to : Course) → told ≡ gets.Found value to.version → to.segments ≡ from.segments → GoesOn b p q → mine q ≡ mine p → IsGetsAnswer b.shape key told p q → IsVersionReadAs b.shape (seen q) (number p) (mine p) key tally.Hit from to
+gets_hit b key told value p q from to is kept on same answer =
     let at = subst (λ a. IsGetsAnswer b.shape key a p q) is answer in
-    let cache = after b.shape at.0 in
-    (value, read_when b key (Some value) p q on same (at.0, at.1, value_read (present cache key) (cache.version (bucket_of b.shape key)) value version at.2))
+    (value, at_moment b p q at.0 (λ cache. reads_version b.shape cache key ≡ Some (value, to.version)) on same at.1 at.2, kept)
 
 pub gets_miss : (b : Board) (key : List ℕ) (told : GetsAnswer) (p q : Pass) → told ≡ gets.Miss → GoesOn b p q → mine q ≡ mine p → IsGetsAnswer b.shape key told p q → IsReadAs b.shape (seen q) (number p) (mine p) key tally.Miss
 gets_miss b key told p q is on same answer = read_when b key None p q on same (subst (λ a. IsGetsAnswer b.shape key a p q) is answer)
 
 -- ---- writes
 
--- what is made of a command that stores, is a request to store
-is_stored : (of : Kind) (version : ℕ) (load : Load) → is_store (stores_of of version load) ≡ true
-is_stored kind.Get version load = refl
-is_stored kind.Gets version load = refl
-is_stored kind.Set version load = refl
-is_stored kind.Add version load = refl
-is_stored kind.Replace version load = refl
-is_stored kind.Cas version load = refl
-is_stored kind.Delete version load = refl
+-- at the moment at which it was full, the key's bucket was full of others
+full_then : (b : Board) (key : List ℕ) (p q : Pass) → GoesOn b p q → mine q ≡ mine p → WasFull b.shape key (marked p) (marked q) → AtMoment b.shape (seen q) (number p) (mine p) (IsFullFor b.shape key)
+full_then b key p q on same full = at_moment b p q (entries marks) (IsFullFor b.shape key) on same between (ap (option_map (λ x. x.value)) none.new, let many = none.full in omega (arith, many))
+  where
+    marks : List Mark
+    marks = full.0
 
-pub written : (b : Board) (asked : Request) (told : WriteAnswer) (p q : Pass) → is_store asked ≡ true → IsQuiet b p → locked_of p ≡ None → Writes b asked told p q → IsWrittenAs b.shape (number p) asked (write_tally told) (mine p) (mine q)
-written b asked write.Stored p q stores quiet unlocked writes = (writes.answer.0, writes.answer.1)
-written b asked write.NotStored p q stores quiet unlocked writes = writes.answer.0
-written b asked write.Exists p q stores quiet unlocked writes = writes.answer.0
-written b asked write.NotFound p q stores quiet unlocked writes = writes.answer.0
-written b asked write.NoRoom p q stores quiet unlocked writes = (writes.answer.entries, stores)
-written b asked write.BucketFull p q stores quiet unlocked writes = (writes.answer.0.entries, writes.answer.1)
-written b asked write.Busy p q stores quiet unlocked writes = (writes.answer.0.entries, never_busy b p q (bucket_of b.shape (key_of asked)) quiet writes.on unlocked writes.answer.1)
+    none : HasNoWord b.shape marks key
+    none = full.2.no_word
+
+    between : IsBetween (seen p) (seen q) (entries marks)
+    between = subst (λ h. IsBetween (seen p) h (entries marks)) (entries_marked (trace q))
+        (subst (λ h. IsBetween h (entries (marked q)) (entries marks)) (entries_marked (trace p)) (entries_begin (marked p) marks full.1.0, entries_begin marks (marked q) full.1.1))
+
+pub written : (b : Board) (asked : Request) (told : WriteAnswer) (p q : Pass) → told ≢ write.NoRoom → IsQuiet b p → IsFree p → Writes b asked told p q → IsWrittenAs b.shape (seen q) (number p) asked (write_tally told) (mine p) (mine q)
+written b asked write.Stored p q room quiet free writes = (writes.answer.0, writes.answer.1)
+written b asked write.NotStored p q room quiet free writes = writes.answer.0
+written b asked write.Exists p q room quiet free writes = writes.answer.0
+written b asked write.NotFound p q room quiet free writes = writes.answer.0
+written b asked write.NoRoom p q room quiet free writes = absurd (room refl)
+written b asked write.BucketFull p q room quiet free writes = (writes.answer.0.entries, writes.answer.1, full_then b (key_of asked) p q writes.on writes.answer.0.entries writes.answer.2)
+written b asked write.Busy p q room quiet free writes = (writes.answer.0.entries, never_busy b p q (bucket_of b.shape (key_of asked)) quiet writes.on free.0 writes.answer.1)
 
 -- the write of a command of this kind
-pub written_of : (b : Board) (of is : Kind) (version : ℕ) (load : Load) (told : WriteAnswer) (p q : Pass) → of ≡ is → IsQuiet b p → locked_of p ≡ None → Writes b (stores_of is version load) told p q → IsWrittenAs b.shape (number p) (stores_of of version load) (write_tally told) (mine p) (mine q)
-written_of b of is version load told p q e quiet unlocked writes =
-    subst (λ k. IsWrittenAs b.shape (number p) (stores_of k version load) (write_tally told) (mine p) (mine q)) (sym e)
-    (written b (stores_of is version load) told p q (is_stored is version load) quiet unlocked writes)
+pub written_of : (b : Board) (of is : Kind) (version : ℕ) (load : Load) (told : WriteAnswer) (p q : Pass) → of ≡ is → told ≢ write.NoRoom → IsQuiet b p → IsFree p → Writes b (stores_of is version load) told p q → IsWrittenAs b.shape (seen q) (number p) (stores_of of version load) (write_tally told) (mine p) (mine q)
+written_of b of is version load told p q e room quiet free writes =
+    subst (λ k. IsWrittenAs b.shape (seen q) (number p) (stores_of k version load) (write_tally told) (mine p) (mine q)) (sym e)
+    (written b (stores_of is version load) told p q room quiet free writes)
 
 set_of : (of : Kind) (version : ℕ) (load : Load) → of ≢ kind.Add → of ≢ kind.Replace → of ≢ kind.Cas → request.Set load.key load.value ≡ stores_of of version load
 set_of kind.Get version load add replace cas = refl
@@ -176,133 +185,114 @@ set_of kind.Replace version load add replace cas = absurd (replace refl)
 set_of kind.Cas version load add replace cas = absurd (cas refl)
 set_of kind.Delete version load add replace cas = refl
 
-pub written_set : (b : Board) (of : Kind) (version : ℕ) (load : Load) (told : WriteAnswer) (p q : Pass) → of ≢ kind.Add → of ≢ kind.Replace → of ≢ kind.Cas → IsQuiet b p → locked_of p ≡ None → Writes b (request.Set load.key load.value) told p q → IsWrittenAs b.shape (number p) (stores_of of version load) (write_tally told) (mine p) (mine q)
-written_set b of version load told p q add replace cas quiet unlocked writes =
-    subst (λ asked. IsWrittenAs b.shape (number p) asked (write_tally told) (mine p) (mine q)) (set_of of version load add replace cas)
-    (written b (request.Set load.key load.value) told p q refl quiet unlocked writes)
+pub written_set : (b : Board) (of : Kind) (version : ℕ) (load : Load) (told : WriteAnswer) (p q : Pass) → of ≢ kind.Add → of ≢ kind.Replace → of ≢ kind.Cas → told ≢ write.NoRoom → IsQuiet b p → IsFree p → Writes b (request.Set load.key load.value) told p q → IsWrittenAs b.shape (seen q) (number p) (stores_of of version load) (write_tally told) (mine p) (mine q)
+written_set b of version load told p q add replace cas room quiet free writes =
+    subst (λ asked. IsWrittenAs b.shape (seen q) (number p) asked (write_tally told) (mine p) (mine q)) (set_of of version load add replace cas)
+    (written b (request.Set load.key load.value) told p q room quiet free writes)
 
-pub deleted : (b : Board) (key : List ℕ) (told : DeleteAnswer) (p q : Pass) → IsQuiet b p → locked_of p ≡ None → Deletes b key told p q → IsWrittenAs b.shape (number p) (request.Delete key) (delete_tally told) (mine p) (mine q)
-deleted b key delete.Deleted p q quiet unlocked deletes = deletes.answer.0
-deleted b key delete.NotFound p q quiet unlocked deletes = deletes.answer.0
-deleted b key delete.Busy p q quiet unlocked deletes = (deletes.answer.0.entries, never_busy b p q (bucket_of b.shape key) quiet deletes.on unlocked deletes.answer.1)
+pub deleted : (b : Board) (key : List ℕ) (told : DeleteAnswer) (p q : Pass) → IsQuiet b p → IsFree p → Deletes b key told p q → IsWrittenAs b.shape (seen q) (number p) (request.Delete key) (delete_tally told) (mine p) (mine q)
+deleted b key delete.Deleted p q quiet free deletes = deletes.answer.0
+deleted b key delete.NotFound p q quiet free deletes = deletes.answer.0
+deleted b key delete.Busy p q quiet free deletes = (deletes.answer.0.entries, never_busy b p q (bucket_of b.shape key) quiet deletes.on free.0 deletes.answer.1)
 
-pub came_deleted : (b : Board) (later : List Entry) (of : Kind) (load : Load) (told : DeleteAnswer) (counted_as : Tally) (p q : Pass) → of ≡ kind.Delete → counted_as ≡ delete_tally told → IsQuiet b p → locked_of p ≡ None → Deletes b load.key told p q
-    → CameTo b.shape later (number p) of load counted_as (mine p) (mine q)
-came_deleted b later of load told counted_as p q is counts quiet unlocked deletes =
-    subst (λ k. CameTo b.shape later (number p) k load counted_as (mine p) (mine q)) (sym is)
-    (subst (λ t. CameTo b.shape later (number p) kind.Delete load t (mine p) (mine q)) (sym counts) (deleted b load.key told p q quiet unlocked deletes))
+pub came_deleted : (b : Board) (of : Kind) (load : Load) (told : DeleteAnswer) (counted_as : Tally) (course : Course) (p q : Pass) → of ≡ kind.Delete → counted_as ≡ delete_tally told → IsQuiet b p → IsFree p → Deletes b load.key told p q
+    → CameTo b.shape (seen q) (number p) of load counted_as course course (mine p) (mine q)
+came_deleted b of load told counted_as course p q is counts quiet free deletes =
+    subst (λ k. CameTo b.shape (seen q) (number p) k load counted_as course course (mine p) (mine q)) (sym is)
+    (subst (λ t. CameTo b.shape (seen q) (number p) kind.Delete load t course course (mine p) (mine q)) (sym counts) (deleted b load.key told p q quiet free deletes, refl))
 
 -- ---- giving up a segment
 
-evicted : (shape : Shape) (segment : ℕ) (told : EvictAnswer) (p q : Pass) → IsEvictAnswer shape segment told p q → (evictions : List Entry) × AreEvictions (number p) segment evictions × (mine q ≡ evictions ++ mine p)
-evicted shape segment (evict.Evicted count) p q (inl out) = (out.1.evictions, out.1.all, out.1.entries)
-evicted shape segment (evict.Evicted count) p q (inr none) = ([], tt, ap mine none.2)
-evicted shape segment evict.NotYours p q same = ([], tt, ap mine same)
-evicted shape segment (evict.Busy count) p q busy = (busy.1.evictions, busy.1.all, busy.1.entries)
+pub empties : (shape : Shape) (segment : ℕ) (told : EvictAnswer) (p q : Pass) → IsEvictAnswer shape segment told p q → Empties (number p) segment (mine p) (mine q)
+empties shape segment (evict.Evicted count) p q (inl out) = (out.1.evictions, out.1.all, out.1.entries)
+empties shape segment (evict.Evicted count) p q (inr none) = ([], tt, ap mine none.2)
+empties shape segment evict.NotYours p q same = ([], tt, ap mine same)
+empties shape segment (evict.Busy count) p q busy = (busy.1.evictions, busy.1.all, busy.1.entries)
 
-pub gives_up : (shape : Shape) (segment : ℕ) (told : EvictAnswer) (p q : Pass) → IsEvictAnswer shape segment told p q → MakesRoom p q
-gives_up shape segment told p q answer =
-    let out = evicted shape segment told p q answer in
-    record { segment = segment; evictions = out.0; all = out.1; entries = inl out.2 }
+-- the numbers of the ring are segments of the pass
+own_segment : (b : Board) (p : Pass) (ring : Cycle) (segment : ℕ) → IsQuiet b p → b.shape.passes ≡ 1 → IsOwnRing b.shape (number p) ring → segment < ring.first + ring.count → state_of p segment ≢ None
+own_segment b p ring segment quiet one own below none =
+    let first : number p ≡ 0 = (let few = quiet.pass.one_of in omega (arith, one, few)) in
+    let start : ring.first ≡ 0 = own.0 ∙ (ap (λ n. n * b.shape.segments_each) first ∙ zero-mul b.shape.segments_each) in
+    let there : owner b.shape segment ≡ number p = first_owner b.shape segment (let count = own.1 in omega (arith, start, count, below)) ∙ sym first in
+    false≢true (sym (ap is_some none) ∙ (owned b p segment quiet).1 there)
 
-pub gives_room : (b : Board) (segment : ℕ) (evicts : EvictAnswer) (told : RefillAnswer) (p q r : Pass) → GoesOn b p q → IsEvictAnswer b.shape segment evicts p q → IsRefillAnswer segment told q r → MakesRoom p r
-gives_room b segment evicts told p q r on answer refills = by told refills
+-- a single pass that has no bucket locked evicts its segments to the end
+pub not_evicted : (b : Board) (ring : Cycle) (segment : ℕ) (told : EvictAnswer) (p q : Pass) → IsQuiet b p → IsFree p → IsOwnRing b.shape (number p) ring → segment < ring.first + ring.count → GoesOn b p q
+    → ((told ≡ evict.NotYours) ↔ (state_of p segment ≡ None)) → IsEvictAnswer b.shape segment told p q → ((count : ℕ) → told ≢ evict.Evicted count) → b.shape.passes ≢ 1
+not_evicted b ring segment (evict.Evicted count) p q quiet free own below on not_yours answer failed one = failed count refl
+not_evicted b ring segment evict.NotYours p q quiet free own below on not_yours answer failed one = own_segment b p ring segment quiet one own below (not_yours.0 refl)
+not_evicted b ring segment (evict.Busy count) p q quiet free own below on not_yours answer failed one =
+    let barred = answer.3 in
+    let bucket = bucket_of b.shape barred.0 in
+    ⊎_elim (λ locked. none-some bucket (sym free.0 ∙ locked)) (λ met. let alone = bounced_alone b q bucket on.quiet.pass one in absurd (omega (arith, met, alone))) barred.2
+
+-- and then refills them
+not_read : (b : Board) (segment : ℕ) (p : Pass) → IsQuiet b p → IsFree p → IsRead segment p → b.shape.passes ≢ 1
+not_read b segment p quiet free (inl other) one = let nobody = nobody_inside (number p) other.0 segment (trace p) other.1 (quiet.pass.alone one) in let there = other.2 in absurd (omega (arith, nobody, there))
+not_read b segment p quiet free (inr held) one = false≢true (ap (λ h. is_held_in h segment) (sym free.1) ∙ held)
+
+evicted_state : (b : Board) (segment count : ℕ) (p q : Pass) → IsEvictAnswer b.shape segment (evict.Evicted count) p q → state_of q segment ≢ Some InUse
+evicted_state b segment count p q (inl out) in_use = absurd (evicted_is (same_Some Evicted InUse (sym out.2 ∙ in_use)))
   where
-    out : (evictions : List Entry) × AreEvictions (number p) segment evictions × (mine q ≡ evictions ++ mine p)
-    out = evicted b.shape segment evicts p q answer
+    evicted_is : Evicted ≢ InUse
+    evicted_is e = cc
+evicted_state b segment count p q (inr none) in_use = none.0 (ap (λ x. state_of x segment) (sym none.2) ∙ in_use)
 
-    unchanged : mine r ≡ mine q → MakesRoom p r
-    unchanged e = record { segment = segment; evictions = out.0; all = out.1; entries = inl (e ∙ out.2) }
+-- a segment that was refilled has room
+room_then : (b : Board) (segment : ℕ) (p q : Pass) → 1 ≤ b.shape.rows → Refills segment p q → has_room b.shape q ≡ true
+room_then b segment p q rows refills =
+    ap (λ now. is_below b.shape.rows (option_and_then (used_of q) now)) refills.current ∙ (ap (is_below b.shape.rows) refills.used ∙ lt-ltb 0 b.shape.rows rows)
 
-    by : (answer : RefillAnswer) → IsRefillAnswer segment answer q r → MakesRoom p r
-    by refill.Refilled is = record {
-      segment = segment;
-      evictions = out.0;
-      all = out.1;
-      entries = inr (is.entry ∙ (ap (λ n. Refilled n segment ∷ mine q) on.same ∙ ap (λ own. Refilled (number p) segment ∷ own) out.2));
-    }
-    by refill.NotYours is = unchanged is.entries
-    by refill.NotEvicted is = unchanged is.entries
-    by refill.Held is = unchanged is.0.entries
+abbrev pub is_refilled : RefillAnswer → Bool
+is_refilled refill.Refilled = true
+is_refilled _ = false
 
--- a write that found no room is refused so, after the pass gave up a segment
-pub found_no_room : (b : Board) (of : Kind) (version : ℕ) (load : Load) (p q r : Pass) → q ≡ p → MakesRoom q r → (expected : ℕ) × IsStoredAs b.shape (number p) (stores_of of expected load) tally.NoRoom (mine p) (mine r)
-found_no_room b of version load p q r same room = (version, inr (mine r, subst (λ x. GivesUp (number x) (mine x) (mine r)) same room, (refl, is_stored of version load)))
+-- what giving up a segment came to, by the answer of its refilling
+pub room_made : (b : Board) (ring : Cycle) (segment count : ℕ) (told : RefillAnswer) (p q r : Pass) → IsQuiet b p → IsFree q → IsOwnRing b.shape (number p) ring → segment < ring.first + ring.count → GoesOn b p q → GoesOn b q r
+    → IsEvictAnswer b.shape segment (evict.Evicted count) p q → ((told ≡ refill.NotYours) ↔ (state_of q segment ≡ None)) → ((told ≡ refill.NotEvicted) ↔ (state_of q segment ≡ Some InUse)) → IsRefillAnswer segment told q r
+    → MakesRoom b.shape segment (is_refilled told) p r
+room_made b ring segment count told p q r quiet free own below on then evicts not_yours in_use refills = by told refl refills
+  where
+    emptied : Empties (number p) segment (mine p) (mine q)
+    emptied = empties b.shape segment (evict.Evicted count) p q evicts
 
--- or is made once more
-pub made_again : (b : Board) (of : Kind) (version : ℕ) (load : Load) (told : Tally) (p q r s : Pass) → q ≡ p → GoesOn b q r → MakesRoom q r → IsWrittenAs b.shape (number r) (stores_of of version load) told (mine r) (mine s) → (expected : ℕ) × IsStoredAs b.shape (number p) (stores_of of expected load) told (mine p) (mine s)
-made_again b of version load told p q r s same on room again = (
-  version,
-  inr (
-    mine r,
-    subst (λ x. GivesUp (number x) (mine x) (mine r)) same room,
-    subst (λ n. IsWrittenAs b.shape n (stores_of of version load) told (mine r) (mine s)) (on.same ∙ ap number same) again,
+    unchanged : mine r ≡ mine q → Empties (number p) segment (mine p) (mine r)
+    unchanged same = subst (Empties (number p) segment (mine p)) (sym same) emptied
+
+    by : (answer : RefillAnswer) → told ≡ answer → IsRefillAnswer segment answer q r → MakesRoom b.shape segment (is_refilled answer) p r
+    by refill.Refilled is filled = (mine q, emptied, filled.entry ∙ ap (λ n. Refilled n segment ∷ mine q) on.same, room_then b segment q r quiet.pass.valid.0.1.0 filled)
+    by refill.NotYours is same = (unchanged same.entries, λ one. own_segment b q ring segment on.quiet one (subst (λ n. IsOwnRing b.shape n ring) (sym on.same) own) below (not_yours.0 is))
+    by refill.NotEvicted is same = (unchanged same.entries, λ one. evicted_state b segment count p q evicts (in_use.0 is))
+    by refill.Held is held = (unchanged held.0.entries, not_read b segment r then.quiet (unchanged_free q r held.0 free) held.1)
+
+-- the ring is the pass's own also after a call that left the ring as it was
+pub own_then : (b : Board) (p q : Pass) (from to : Course) → GoesOn b p q → to ≡ from → IsOwnRing b.shape (number p) from.segments → IsOwnRing b.shape (number q) to.segments
+own_then b p q from to on kept own = subst (λ n. IsOwnRing b.shape n to.segments) (sym on.same) (subst (λ c. IsOwnRing b.shape (number p) c.segments) (sym kept) own)
+
+-- a write that found no room is refused so, after a segment was given up in vain
+pub found_no_room : (b : Board) (asked : Request) (p q r : Pass) (from mid to : Course) → q ≡ p → mid ≡ from → MakesRoom b.shape (number_of mid.segments) false q r → to ≡ turned_on mid
+    → IsStoredAs b.shape (seen r) (number p) asked tally.NoRoom from to (mine p) (mine r)
+found_no_room b asked p q r from mid to same kept room turned =
+    let emptied = subst (λ c. Empties (number q) (number_of c.segments) (mine q) (mine r)) kept room.0 in
+    inr ((mine r, subst (λ x. Empties (number x) (number_of from.segments) (mine x) (mine r)) same emptied, inr (refl, refl, room.1)), turned ∙ ap turned_on kept)
+
+-- or is made once more, and then there is room
+pub made_again : (b : Board) (of : Kind) (load : Load) (told : WriteAnswer) (p q r s : Pass) (from mid later to : Course) → q ≡ p → mid ≡ from → GoesOn b q r → MakesRoom b.shape (number_of mid.segments) true q r → later ≡ turned_on mid → to ≡ later
+    → (told ≡ write.NoRoom → has_room b.shape r ≡ false) → (told ≢ write.NoRoom → IsWrittenAs b.shape (seen s) (number r) (stores_of of later.version load) (write_tally told) (mine r) (mine s))
+    → IsStoredAs b.shape (seen s) (number p) (stores_of of from.version load) (write_tally told) from to (mine p) (mine s)
+made_again b of load told p q r s from mid later to same kept on made turned still no_room again = inr (
+  (
+    made.0,
+    subst (λ x. Empties (number x) (number_of from.segments) (mine x) made.0) same (subst (λ c. Empties (number q) (number_of c.segments) (mine q) made.0) kept made.1),
+    inl (subst (λ x. Is (number x) (Refilled (number x) (number_of from.segments) ∷ made.0) from.version) same
+        (subst (λ c. Is (number q) (Refilled (number q) (number_of c.segments) ∷ made.0) c.version) kept
+        (subst (λ own. Is (number q) own mid.version) made.2
+        (subst (λ version. Is (number q) (mine r) version) (ap (λ c. c.version) turned)
+        (subst (λ n. Is n (mine r) later.version) on.same (again (λ none. false≢true (sym (no_room none) ∙ made.3)))))))),
   ),
+  still ∙ (turned ∙ ap turned_on kept),
 )
-
--- ---- commands
-
--- what holds of all commands so far holds of a longer history
-read_later : (shape : Shape) (history later : List Entry) (pass : ℕ) (own : List Entry) (key : List ℕ) (told : Tally) → Begins history later → IsReadAs shape history pass own key told → IsReadAs shape later pass own key told
-read_later shape history later pass own key tally.Hit more read = (read.0, (read.1.0, begins_on read.1.0 history later read.1.1 more, read.1.2, read.1.3))
-read_later shape history later pass own key tally.Miss more read = (read.0, begins_on read.0 history later read.1 more, read.2, read.3)
-read_later shape history later pass own key tally.Busy more read = read
-read_later shape history later pass own key _ more read = absurd read
-
-came_later : (shape : Shape) (history later : List Entry) (pass : ℕ) (of : Kind) (load : Load) (told : Tally) (before now : List Entry) → Begins history later → CameTo shape history pass of load told before now → CameTo shape later pass of load told before now
-came_later shape history later pass kind.Get load told before now more came = (read_later shape history later pass before load.key told more came.0, came.1)
-came_later shape history later pass kind.Gets load told before now more came = (read_later shape history later pass before load.key told more came.0, came.1)
-came_later shape history later pass kind.Set load told before now more came = came
-came_later shape history later pass kind.Add load told before now more came = came
-came_later shape history later pass kind.Replace load told before now more came = came
-came_later shape history later pass kind.Cas load told before now more came = came
-came_later shape history later pass kind.Delete load told before now more came = came
-
-pub makes_later : (shape : Shape) (history later : List Entry) (pass : ℕ) (draws : Draws) (made : ℕ) (t : Tallies) (own : List Entry) → Begins history later → Makes shape history pass draws made t own → Makes shape later pass draws made t own
-makes_later shape history later pass draws zero t own more makes = makes
-makes_later shape history later pass draws (suc made) t own more makes =
-    let load = next_load (draws_after draws made) in
-    (makes.0, makes.1, makes.2, makes_later shape history later pass draws made makes.1 makes.2 more makes.3, came_later shape history later pass load.kind load makes.0 makes.2 own more makes.4, makes.5)
-
-all_counted : (told : Tally) (t : Tallies) → all_of (counted told t) ≡ all_of t + 1
-all_counted tally.Hit t = omega arith
-all_counted tally.Miss t = omega arith
-all_counted tally.Stored t = omega arith
-all_counted tally.NotStored t = omega arith
-all_counted tally.Exists t = omega arith
-all_counted tally.NotFound t = omega arith
-all_counted tally.Deleted t = omega arith
-all_counted tally.NoRoom t = omega arith
-all_counted tally.BucketFull t = omega arith
-all_counted tally.Busy t = omega arith
-
--- a pass at its load that makes the next command of its workload, and counts what it came to
-pub works_on : (b : Board) (draws : Draws) (made : ℕ) (told : Tally) (worker later : Worker) → IsAtWork b draws made worker → GoesOn b worker.client.pass later.client.pass → locked_of later.client.pass ≡ None
-    → ComesTo b.shape (seen later.client.pass) (number worker.client.pass) (next_load worker.workload) told (mine worker.client.pass) (mine later.client.pass)
-    → later.workload ≡ after_load worker.workload → later.tallies ≡ counted told worker.tallies → IsAtWork b draws (made + 1) later
-works_on b draws made told worker later was on unlocked came after counts = record {
-  quiet = on.quiet;
-  unlocked = unlocked;
-  workload = subst (λ n. later.workload ≡ draws_after draws n) one (after ∙ ap after_load was.workload);
-  makes = subst (λ n. Makes b.shape (seen q) (number q) draws n later.tallies (mine q)) one (subst (λ n. Makes b.shape (seen q) n draws (suc made) later.tallies (mine q)) (sym on.same) more);
-  all = ap all_of counts ∙ (all_counted told worker.tallies ∙ ap (λ n. n + 1) was.all);
-}
   where
-    p : Pass
-    p = worker.client.pass
-
-    q : Pass
-    q = later.client.pass
-
-    one : suc made ≡ made + 1
-    one = omega arith
-
-    more : Makes b.shape (seen q) (number p) draws (suc made) later.tallies (mine q)
-    more = (
-      told,
-      worker.tallies,
-      mine p,
-      makes_later b.shape (seen p) (seen q) (number p) draws made worker.tallies (mine p) on.seen was.makes,
-      subst (λ d. ComesTo b.shape (seen q) (number p) (next_load d) told (mine p) (mine q)) was.workload came,
-      counts,
-    )
+    Is : ℕ → List Entry → ℕ → Type 0
+    Is n own version = IsWrittenAs b.shape (seen s) n (stores_of of version load) (write_tally told) own (mine s)

@@ -1,5 +1,5 @@
 -- What is counted of a command, by the entries that it added.
-use Rattle.std.proofs.Common.{◌≡◌, ◌⊎◌, ℕ, zero, suc, List, [], ◌∷◌, ◌++◌, Option, Some, None, refl, sym, ap, ◌∙◌, subst, inl, inr, zero-add, arith}
+use Rattle.std.proofs.Common.{◌≡◌, ℕ, zero, suc, List, [], ◌∷◌, ◌++◌, Option, Some, None, refl, sym, ap, ◌∙◌, subst, inl, inr, zero-add, arith}
 use Rattle.segmodel.proofs.Counts.{count_by-cons}
 use Rattle.segmodel.specs.declared.request.Request.{Request}
 use Rattle.segmodel.specs.declared.request.Request.TheVariants as request
@@ -12,12 +12,13 @@ use Rattle.segindex.specs.Evicting.{AreEvictions}
 use Rattle.segpolicy.specs.declared.load.Kind.{Kind}
 use Rattle.segpolicy.specs.declared.load.Kind.TheVariants as kind
 use Rattle.segpolicy.specs.declared.load.Load.{Load}
+use Rattle.segpolicy.specs.Cycle.{number_of}
 use Rattle.segpolicy.specs.Draws.{Draws, next_load}
 use Rattle.segload.specs.declared.totals.Tally.{Tally}
 use Rattle.segload.specs.declared.totals.Tally.TheVariants as tally
 use Rattle.segload.specs.declared.totals.Tallies.{Tallies}
 use Rattle.segload.specs.Counting.{no_tallies, tally_of, counted, tells, replies, CountsReplies}
-use Rattle.segload.specs.Making.{IsReadAs, IsWrittenAs, GivesUp, IsStoredAs, CameTo, draws_after, Makes}
+use Rattle.segload.specs.Making.{Course, IsReadAs, IsVersionReadAs, IsWrittenAs, Empties, IsStoredAs, CameTo, draws_after, Makes}
 
 -- tallies that counted the writes among the entries before count those among the entries now, with one command more
 abbrev Counts : Tally → List Entry → List Entry → Type 0
@@ -98,17 +99,22 @@ counts_read shape history pass own key tally.Miss now read e = untold tally.Miss
 counts_read shape history pass own key tally.Busy now read e = untold tally.Busy own now busy e
 counts_read shape history pass own key _ now read e = absurd read
 
-counts_written : (shape : Shape) (pass : ℕ) (asked : Request) (told : Tally) (before now : List Entry) → IsWrittenAs shape pass asked told before now → Counts told before now
+counts_version : (shape : Shape) (history : List Entry) (pass : ℕ) (own : List Entry) (key : List ℕ) (told : Tally) (from to : Course) (now : List Entry) → IsVersionReadAs shape history pass own key told from to → now ≡ own → Counts told own now
+counts_version shape history pass own key tally.Hit from to now read e = untold tally.Hit own now hit e
+counts_version shape history pass own key tally.Miss from to now read e = untold tally.Miss own now miss e
+counts_version shape history pass own key tally.Busy from to now read e = untold tally.Busy own now busy e
+counts_version shape history pass own key _ from to now read e = absurd read.0
+
+counts_written : (shape : Shape) (history : List Entry) (pass : ℕ) (asked : Request) (told : Tally) (before now : List Entry) → IsWrittenAs shape history pass asked told before now → Counts told before now
 unfolding reply_tally
-counts_written shape pass asked tally.Stored before now written = replied reply.Stored pass asked (Some written.0) before now written.1
-counts_written shape pass asked tally.NotStored before now written = replied reply.NotStored pass asked None before now written
-counts_written shape pass asked tally.Exists before now written = replied reply.Exists pass asked None before now written
-counts_written shape pass asked tally.NotFound before now written = replied reply.NotFound pass asked None before now written
-counts_written shape pass asked tally.Deleted before now written = replied reply.Deleted pass asked None before now written
-counts_written shape pass asked tally.NoRoom before now written = untold tally.NoRoom before now no_room written.0
-counts_written shape pass asked tally.BucketFull before now written = untold tally.BucketFull before now bucket_full written.0
-counts_written shape pass asked tally.Busy before now written = untold tally.Busy before now busy written.0
-counts_written shape pass asked _ before now written = absurd written
+counts_written shape history pass asked tally.Stored before now written = replied reply.Stored pass asked (Some written.0) before now written.1
+counts_written shape history pass asked tally.NotStored before now written = replied reply.NotStored pass asked None before now written
+counts_written shape history pass asked tally.Exists before now written = replied reply.Exists pass asked None before now written
+counts_written shape history pass asked tally.NotFound before now written = replied reply.NotFound pass asked None before now written
+counts_written shape history pass asked tally.Deleted before now written = replied reply.Deleted pass asked None before now written
+counts_written shape history pass asked tally.BucketFull before now written = untold tally.BucketFull before now bucket_full written.0
+counts_written shape history pass asked tally.Busy before now written = untold tally.Busy before now busy written.0
+counts_written shape history pass asked _ before now written = absurd written
 
 -- an eviction or a refilling is no reply
 evicted_one : (told : Reply) (pass segment : ℕ) (key : List ℕ) (own : List Entry) → replies told (Evicted pass key segment ∷ own) ≡ replies told own
@@ -131,28 +137,25 @@ evicted_more told pass segment (added ∷ more) own all =
     subst (λ e. replies told (e ∷ (more ++ own)) ≡ replies told own) (sym all.0.1)
     (evicted_one told pass segment all.0.0 (more ++ own) ∙ evicted_more told pass segment more own all.1)
 
-given_up : (pass : ℕ) (before now : List Entry) (told : Reply) → GivesUp pass before now → replies told now ≡ replies told before
-given_up pass before now told gives = by gives.entries
-  where
-    evicted : replies told (gives.evictions ++ before) ≡ replies told before
-    evicted = evicted_more told pass gives.segment gives.evictions before gives.all
+emptied : (told : Reply) (pass segment : ℕ) (before room : List Entry) → Empties pass segment before room → replies told room ≡ replies told before
+emptied told pass segment before room (evictions, all, is) = ap (replies told) is ∙ evicted_more told pass segment evictions before all
 
-    by : (now ≡ gives.evictions ++ before) ⊎ (now ≡ Refilled pass gives.segment ∷ gives.evictions ++ before) → replies told now ≡ replies told before
-    by (inl e) = ap (replies told) e ∙ evicted
-    by (inr e) = ap (replies told) e ∙ (refilled_one told pass gives.segment (gives.evictions ++ before) ∙ evicted)
+counts_stored : (shape : Shape) (history : List Entry) (pass : ℕ) (asked : Request) (told : Tally) (from to : Course) (before now : List Entry) → IsStoredAs shape history pass asked told from to before now → Counts told before now
+counts_stored shape history pass asked told from to before now (inl (written, kept)) = counts_written shape history pass asked told before now written
+counts_stored shape history pass asked told from to before now (inr ((room, out, inl written), turned)) = λ t counts.
+    counts_written shape history pass asked told (Refilled pass (number_of from.segments) ∷ room) now written t
+    (λ said. counts said ∙ sym (refilled_one said pass (number_of from.segments) room ∙ emptied said pass (number_of from.segments) before room out))
+counts_stored shape history pass asked told from to before now (inr ((room, out, inr (none, same, others)), turned)) = λ t counts.
+    subst (λ x. Counts x room now) (sym none) (untold tally.NoRoom room now no_room same) t (λ said. counts said ∙ sym (emptied said pass (number_of from.segments) before room out))
 
-counts_stored : (shape : Shape) (pass : ℕ) (asked : Request) (told : Tally) (before now : List Entry) → IsStoredAs shape pass asked told before now → Counts told before now
-counts_stored shape pass asked told before now (inl written) = counts_written shape pass asked told before now written
-counts_stored shape pass asked told before now (inr again) = λ t counts. counts_written shape pass asked told again.0 now again.2 t (λ said. counts said ∙ sym (given_up pass before again.0 said again.1))
-
-counts_one : (shape : Shape) (history : List Entry) (pass : ℕ) (of : Kind) (load : Load) (told : Tally) (before now : List Entry) → CameTo shape history pass of load told before now → Counts told before now
-counts_one shape history pass kind.Get load told before now came = counts_read shape history pass before load.key told now came.0 came.1
-counts_one shape history pass kind.Gets load told before now came = counts_read shape history pass before load.key told now came.0 came.1
-counts_one shape history pass kind.Set load told before now came = counts_stored shape pass (request.Set load.key load.value) told before now came
-counts_one shape history pass kind.Add load told before now came = counts_stored shape pass (request.Add load.key load.value) told before now came
-counts_one shape history pass kind.Replace load told before now came = counts_stored shape pass (request.Replace load.key load.value) told before now came
-counts_one shape history pass kind.Cas load told before now came = counts_stored shape pass (request.Cas load.key load.value came.0) told before now came.1
-counts_one shape history pass kind.Delete load told before now came = counts_written shape pass (request.Delete load.key) told before now came
+counts_one : (shape : Shape) (history : List Entry) (pass : ℕ) (of : Kind) (load : Load) (told : Tally) (from to : Course) (before now : List Entry) → CameTo shape history pass of load told from to before now → Counts told before now
+counts_one shape history pass kind.Get load told from to before now came = counts_read shape history pass before load.key told now came.0 came.1
+counts_one shape history pass kind.Gets load told from to before now came = counts_version shape history pass before load.key told from to now came.0 came.1
+counts_one shape history pass kind.Set load told from to before now came = counts_stored shape history pass (request.Set load.key load.value) told from to before now came
+counts_one shape history pass kind.Add load told from to before now came = counts_stored shape history pass (request.Add load.key load.value) told from to before now came
+counts_one shape history pass kind.Replace load told from to before now came = counts_stored shape history pass (request.Replace load.key load.value) told from to before now came
+counts_one shape history pass kind.Cas load told from to before now came = counts_stored shape history pass (request.Cas load.key load.value from.version) told from to before now came
+counts_one shape history pass kind.Delete load told from to before now came = counts_written shape history pass (request.Delete load.key) told before now came.0
 
 counts_nothing : (told : Reply) → tally_of told no_tallies ≡ replies told []
 counts_nothing reply.Stored = refl
@@ -162,9 +165,9 @@ counts_nothing reply.NotFound = refl
 counts_nothing reply.Deleted = refl
 
 -- the tallies of commands count the replies among the entries that these added
-pub counts_made : (shape : Shape) (history : List Entry) (pass : ℕ) (draws : Draws) (made : ℕ) (t : Tallies) (own : List Entry) → Makes shape history pass draws made t own → CountsReplies t own
-counts_made shape history pass draws zero t own makes = λ told. ap (tally_of told) makes.0 ∙ (counts_nothing told ∙ ap (replies told) (sym makes.1))
-counts_made shape history pass draws (suc made) t own makes =
+pub counts_made : (shape : Shape) (history : List Entry) (pass : ℕ) (draws : Draws) (made : ℕ) (t : Tallies) (course : Course) (own : List Entry) → Makes shape history pass draws made t course own → CountsReplies t own
+counts_made shape history pass draws zero t course own makes = λ told. ap (tally_of told) makes.0 ∙ (counts_nothing told ∙ ap (replies told) (sym makes.2))
+counts_made shape history pass draws (suc made) t course own (told, before, from, own_before, makes, came, counts) =
     let load = next_load (draws_after draws made) in
-    subst (λ x. CountsReplies x own) (sym makes.5)
-    (counts_one shape history pass load.kind load makes.0 makes.2 own makes.4 makes.1 (counts_made shape history pass draws made makes.1 makes.2 makes.3))
+    subst (λ x. CountsReplies x own) (sym counts)
+    (counts_one shape history pass load.kind load told from course own_before own came before (counts_made shape history pass draws made before from own_before makes))

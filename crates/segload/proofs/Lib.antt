@@ -1,6 +1,7 @@
 pub mod Lists
 pub mod Counted
 pub mod Answered
+pub mod Made
 pub mod Starting
 pub mod Gathered
 pub mod Loaded

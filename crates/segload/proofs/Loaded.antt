@@ -19,12 +19,12 @@ use Rattle.segload.specs.Counting.{all_of}
 use Rattle.segload.specs.Gates.{Stops}
 use Rattle.segpolicy.specs.Draws.{draws_of}
 use Rattle.segload.specs.Making.{Makes}
-use Rattle.segload.specs.Working.{HasWorked, NoneStopped, IsFirstStopped}
+use Rattle.segload.specs.Working.{course_of, HasWorked, NoneStopped, IsFirstStopped}
 use Rattle.segload.specs.Gathering.{AreAll, HasGathered}
 use Rattle.segload.specs.Loads.{IsCounted, keys_of, IsLoad, IsLetThrough, IsStopped}
 use Rattle.segload.proofs.Gathered.{is_there}
 use Rattle.segload.proofs.Counted.{counts_made}
-use Rattle.segload.proofs.Answered.{makes_later}
+use Rattle.segload.proofs.Made.{makes_later}
 
 -- each worker did its work
 abbrev pub AllWorked : Board → (ℕ → ℕ → Bool → Type 0) → ℕ → ℕ → List Worker → Type 0
@@ -76,14 +76,16 @@ counted b may_answer seed commands workers totals first worked none long are all
     let done = (worked n one.0 one.1).at_work (none n one.0 one.1) in
     let pass = one.0.client.pass in
     let draws = draws_of seed n 64 in
-    let later = makes_later b.shape (seen pass) all.history (number pass) draws commands one.0.tallies (mine pass) (all.told n one.0 one.1) done.makes in
-    let made = subst (λ t. Makes b.shape all.history n draws commands t (history.mine n all.history)) (sym here.1)
-    (subst (λ own. Makes b.shape all.history n draws commands one.0.tallies own) (sym (all.each n one.0 one.1))
-    (subst (λ m. Makes b.shape all.history m draws commands one.0.tallies (mine pass)) (worked n one.0 one.1).is later)) in
+    let course = course_of one.0.client in
+    let later = makes_later b.shape (seen pass) all.history (number pass) draws commands one.0.tallies course (mine pass) (all.told n one.0 one.1) done.makes in
+    let made = subst (λ t. Makes b.shape all.history n draws commands t course (history.mine n all.history)) (sym here.1)
+    (subst (λ own. Makes b.shape all.history n draws commands one.0.tallies course own) (sym (all.each n one.0 one.1))
+    (subst (λ m. Makes b.shape all.history m draws commands one.0.tallies course (mine pass)) (worked n one.0 one.1).is later)) in
     record {
       commands = here.0;
       all = ap all_of here.1 ∙ done.all;
-      replies = counts_made b.shape all.history n draws commands of.tallies (history.mine n all.history) made;
+      replies = counts_made b.shape all.history n draws commands of.tallies course (history.mine n all.history) made;
+      course = course;
       made = made;
     }
 

@@ -13,14 +13,15 @@ use Rattle.segload.specs.declared.totals.PassTotals.{PassTotals}
 use Rattle.segload.specs.declared.totals.Totals.{Totals}
 use Rattle.segload.specs.Gates.{LetsThrough, Stops}
 use Rattle.segload.specs.Counting.{all_of, CountsReplies}
-use Rattle.segload.specs.Making.{Makes}
+use Rattle.segload.specs.Making.{Course, Makes}
 
--- A pass made so many commands, each counted once, and its five tallies of replies count its own writes in a history. They are the first commands of its workload, which is drawn with the seed from the stream of its number, over 64 keys; what each came to makes its tallies, and its own entries in that history.
+-- A pass made so many commands, each counted once, and its five tallies of replies count its own writes in a history. They are the first commands of its workload, which is drawn with the seed from the stream of its number, over 64 keys; what each came to makes its tallies, what it goes by in the end, and its own entries in that history.
 pub record IsCounted (shape : Shape) (seed asked pass : ℕ) (history : List Entry) (totals : PassTotals) : Type 0 where
   pub commands : totals.commands ≡ asked
   pub all : all_of totals.tallies ≡ asked
   pub replies : CountsReplies totals.tallies (mine pass history)
-  pub made : Makes shape history pass (draws_of seed pass 64) asked totals.tallies (mine pass history)
+  pub course : Course
+  pub made : Makes shape history pass (draws_of seed pass 64) asked totals.tallies course (mine pass history)
 
 -- how many keys stand
 abbrev pub keys_of : Cache → ℕ

@@ -1,29 +1,53 @@
--- Which commands a pass made in its load, and what each came to: how it is counted, and which entries the pass added.
-use Rattle.std.specs.Prelude.{◌≡◌, ◌≢◌, ◌⊎◌, ℕ, zero, suc, true, false, List, [], ◌∷◌, ◌++◌, Option, Some, None}
+-- Which commands a pass made in its load, and what each came to: how it is counted, which entries the pass added, and what it goes by from then on.
+use Rattle.std.specs.Prelude.{◌≡◌, ◌≢◌, ◌⊎◌, ℕ, zero, suc, ◌*◌, ◌≤◌, true, false, List, [], ◌∷◌, ◌++◌, Option, Some, None}
 use Rattle.segword.specs.declared.shape.Shape.{Shape}
 use Rattle.segmodel.specs.declared.request.Request.{Request}
 use Rattle.segmodel.specs.declared.request.Request.TheVariants as request
 use Rattle.segmodel.specs.declared.request.Reply.TheVariants as reply
 use Rattle.segmodel.specs.declared.entry.Entry.{Entry}
 use Rattle.segmodel.specs.declared.entry.Entry.TheVariants.{Wrote, Refilled}
-use Rattle.segmodel.specs.Request.{is_store, adds_key}
-use Rattle.segmodel.specs.Cache.{reads}
+use Rattle.segmodel.specs.Request.{adds_key, key_of}
+use Rattle.segmodel.specs.Places.{bucket_of}
+use Rattle.segmodel.specs.Cache.{Cache, reads, reads_version, keys_in}
 use Rattle.segmodel.specs.History.{after, Begins, mine}
 use Rattle.segindex.specs.Evicting.{AreEvictions}
 use Rattle.segpolicy.specs.declared.load.Kind.{Kind}
 use Rattle.segpolicy.specs.declared.load.Kind.TheVariants as kind
 use Rattle.segpolicy.specs.declared.load.Load.{Load}
+use Rattle.segpolicy.specs.Cycle.{Cycle, number_of, turned}
 use Rattle.segpolicy.specs.Draws.{Draws, next_load, after_load}
 use Rattle.segload.specs.declared.totals.Tally.{Tally}
 use Rattle.segload.specs.declared.totals.Tally.TheVariants as tally
 use Rattle.segload.specs.declared.totals.Tallies.{Tallies}
 use Rattle.segload.specs.Counting.{no_tallies, counted}
 
+-- ---- from one command to the next
+
+-- what a pass goes by: its segments, which it gives up in turn, and the version that its last gets found
+pub record Course : Type 0 where
+  pub segments : Cycle
+  pub version : ℕ
+
+-- at the start: its segments from the first on, and version 0
+abbrev pub start_of : Shape → ℕ → Course
+start_of shape pass = record {
+  segments = record { first = pass * shape.segments_each; count = shape.segments_each; given = 0 };
+  version = 0;
+}
+
+-- after it gave up a segment: the next one is the next of its ring
+abbrev pub turned_on : Course → Course
+turned_on course = record course { segments = turned course.segments }
+
 -- ---- reads
 
--- at a moment of a history at which the entries of the pass were just these, the key reads so
+-- at a moment of a history at which the entries of the pass were just these, this was so of the cache
+abbrev pub AtMoment : Shape → List Entry → ℕ → List Entry → (Cache → Type 0) → Type 0
+AtMoment shape history pass own IsSo = (moment : List Entry) × Begins moment history × (mine pass moment ≡ own) × IsSo (after shape moment)
+
+-- then the key read so
 abbrev pub ReadsWhen : Shape → List Entry → ℕ → List Entry → List ℕ → Option (List ℕ) → Type 0
-ReadsWhen shape history pass own key read = (moment : List Entry) × Begins moment history × (mine pass moment ≡ own) × (reads (after shape moment) key ≡ read)
+ReadsWhen shape history pass own key read = AtMoment shape history pass own (λ cache. reads cache key ≡ read)
 
 -- a read is a hit where the key reads a value, a miss where it reads none, or busy, but only where there are other passes
 abbrev pub IsReadAs : Shape → List Entry → ℕ → List Entry → List ℕ → Tally → Type 0
@@ -32,46 +56,58 @@ IsReadAs shape history pass own key tally.Miss = ReadsWhen shape history pass ow
 IsReadAs shape history pass own key tally.Busy = shape.passes ≢ 1
 IsReadAs shape history pass own key _ = ⊥
 
+-- a gets is read so too; where it is a hit, the version that the pass goes by from then on is that of the same moment
+abbrev pub IsVersionReadAs : Shape → List Entry → ℕ → List Entry → List ℕ → Tally → Course → Course → Type 0
+IsVersionReadAs shape history pass own key tally.Hit from to =
+    (value : List ℕ) × AtMoment shape history pass own (λ cache. reads_version shape cache key ≡ Some (value, to.version)) × (to.segments ≡ from.segments)
+IsVersionReadAs shape history pass own key told from to = IsReadAs shape history pass own key told × (to ≡ from)
+
 -- ---- writes
 
--- A write is counted by its reply, and adds one entry, of just this request with this reply; or it is refused, and adds none. Only a request to store is refused for want of a row, only one that may add a key for want of a word, and one is busy only where there are other passes.
-abbrev pub IsWrittenAs : Shape → ℕ → Request → Tally → List Entry → List Entry → Type 0
-IsWrittenAs shape pass asked tally.Stored before now = (segment : ℕ) × (now ≡ Wrote pass asked reply.Stored (Some segment) ∷ before)
-IsWrittenAs shape pass asked tally.NotStored before now = now ≡ Wrote pass asked reply.NotStored None ∷ before
-IsWrittenAs shape pass asked tally.Exists before now = now ≡ Wrote pass asked reply.Exists None ∷ before
-IsWrittenAs shape pass asked tally.NotFound before now = now ≡ Wrote pass asked reply.NotFound None ∷ before
-IsWrittenAs shape pass asked tally.Deleted before now = now ≡ Wrote pass asked reply.Deleted None ∷ before
-IsWrittenAs shape pass asked tally.NoRoom before now = (now ≡ before) × (is_store asked ≡ true)
-IsWrittenAs shape pass asked tally.BucketFull before now = (now ≡ before) × (adds_key asked false ≡ true)
-IsWrittenAs shape pass asked tally.Busy before now = (now ≡ before) × (shape.passes ≢ 1)
-IsWrittenAs shape pass asked _ before now = ⊥
+-- the key doesn't stand, and seven others of its bucket or more do: as many as fill one whose chain hasn't grown
+abbrev pub IsFullFor : Shape → List ℕ → Cache → Type 0
+IsFullFor shape key cache = (reads cache key ≡ None) × (7 ≤ keys_in shape cache (bucket_of shape key))
 
--- the pass took keys out of one segment, each by one entry, and may have refilled it
-pub record GivesUp (pass : ℕ) (before now : List Entry) : Type 0 where
-  pub segment : ℕ
-  pub evictions : List Entry
-  pub all : AreEvictions pass segment evictions
-  pub entries : (now ≡ evictions ++ before) ⊎ (now ≡ Refilled pass segment ∷ evictions ++ before)
+-- A write is counted by its reply, and adds one entry, of just this request with this reply; or it is refused, and adds none. Only one that may add a key is refused for want of a word, where at such a moment others filled its bucket, and one is busy only where there are other passes.
+abbrev pub IsWrittenAs : Shape → List Entry → ℕ → Request → Tally → List Entry → List Entry → Type 0
+IsWrittenAs shape history pass asked tally.Stored before now = (segment : ℕ) × (now ≡ Wrote pass asked reply.Stored (Some segment) ∷ before)
+IsWrittenAs shape history pass asked tally.NotStored before now = now ≡ Wrote pass asked reply.NotStored None ∷ before
+IsWrittenAs shape history pass asked tally.Exists before now = now ≡ Wrote pass asked reply.Exists None ∷ before
+IsWrittenAs shape history pass asked tally.NotFound before now = now ≡ Wrote pass asked reply.NotFound None ∷ before
+IsWrittenAs shape history pass asked tally.Deleted before now = now ≡ Wrote pass asked reply.Deleted None ∷ before
+IsWrittenAs shape history pass asked tally.BucketFull before now = (now ≡ before) × (adds_key asked false ≡ true) × AtMoment shape history pass before (IsFullFor shape (key_of asked))
+IsWrittenAs shape history pass asked tally.Busy before now = (now ≡ before) × (shape.passes ≢ 1)
+IsWrittenAs shape history pass asked _ before now = ⊥
 
--- a request to store is answered at once, or after the pass gave up a segment
-abbrev pub IsStoredAs : Shape → ℕ → Request → Tally → List Entry → List Entry → Type 0
-IsStoredAs shape pass asked tally before now = IsWrittenAs shape pass asked tally before now
-    ⊎ ((room : List Entry) × GivesUp pass before room × IsWrittenAs shape pass asked tally room now)
+-- the pass took keys out of a segment, each by one entry
+abbrev pub Empties : ℕ → ℕ → List Entry → List Entry → Type 0
+Empties pass segment before now = (evictions : List Entry) × AreEvictions pass segment evictions × (now ≡ evictions ++ before)
+
+-- A segment was given up for a request: emptied and refilled, and then the request was written. Or it couldn't be refilled, but only where there are other passes: then there is no room.
+abbrev pub IsStoredAfter : Shape → List Entry → ℕ → ℕ → Request → Tally → List Entry → List Entry → Type 0
+IsStoredAfter shape history pass segment asked told before now = (room : List Entry) × Empties pass segment before room
+    × (IsWrittenAs shape history pass asked told (Refilled pass segment ∷ room) now ⊎ ((told ≡ tally.NoRoom) × (now ≡ room) × (shape.passes ≢ 1)))
+
+-- a request to store is written at once, or after the next segment of the ring was given up for it
+abbrev pub IsStoredAs : Shape → List Entry → ℕ → Request → Tally → Course → Course → List Entry → List Entry → Type 0
+IsStoredAs shape history pass asked told from to before now =
+    (IsWrittenAs shape history pass asked told before now × (to ≡ from))
+    ⊎ (IsStoredAfter shape history pass (number_of from.segments) asked told before now × (to ≡ turned_on from))
 
 -- ---- commands
 
--- what a command of this kind came to; a cas expects some version
-abbrev pub CameTo : Shape → List Entry → ℕ → Kind → Load → Tally → List Entry → List Entry → Type 0
-CameTo shape history pass kind.Get load tally before now = IsReadAs shape history pass before load.key tally × (now ≡ before)
-CameTo shape history pass kind.Gets load tally before now = IsReadAs shape history pass before load.key tally × (now ≡ before)
-CameTo shape history pass kind.Set load tally before now = IsStoredAs shape pass (request.Set load.key load.value) tally before now
-CameTo shape history pass kind.Add load tally before now = IsStoredAs shape pass (request.Add load.key load.value) tally before now
-CameTo shape history pass kind.Replace load tally before now = IsStoredAs shape pass (request.Replace load.key load.value) tally before now
-CameTo shape history pass kind.Cas load tally before now = (expected : ℕ) × IsStoredAs shape pass (request.Cas load.key load.value expected) tally before now
-CameTo shape history pass kind.Delete load tally before now = IsWrittenAs shape pass (request.Delete load.key) tally before now
+-- what a command of this kind came to; a cas expects the version that the last gets found, whatever its key
+abbrev pub CameTo : Shape → List Entry → ℕ → Kind → Load → Tally → Course → Course → List Entry → List Entry → Type 0
+CameTo shape history pass kind.Get load told from to before now = IsReadAs shape history pass before load.key told × (now ≡ before) × (to ≡ from)
+CameTo shape history pass kind.Gets load told from to before now = IsVersionReadAs shape history pass before load.key told from to × (now ≡ before)
+CameTo shape history pass kind.Set load told from to before now = IsStoredAs shape history pass (request.Set load.key load.value) told from to before now
+CameTo shape history pass kind.Add load told from to before now = IsStoredAs shape history pass (request.Add load.key load.value) told from to before now
+CameTo shape history pass kind.Replace load told from to before now = IsStoredAs shape history pass (request.Replace load.key load.value) told from to before now
+CameTo shape history pass kind.Cas load told from to before now = IsStoredAs shape history pass (request.Cas load.key load.value from.version) told from to before now
+CameTo shape history pass kind.Delete load told from to before now = IsWrittenAs shape history pass (request.Delete load.key) told before now × (to ≡ from)
 
 -- what a command came to
-abbrev pub ComesTo : Shape → List Entry → ℕ → Load → Tally → List Entry → List Entry → Type 0
+abbrev pub ComesTo : Shape → List Entry → ℕ → Load → Tally → Course → Course → List Entry → List Entry → Type 0
 ComesTo shape history pass load = CameTo shape history pass load.kind load
 
 -- a workload after so many of its commands
@@ -79,11 +115,11 @@ abbrev pub draws_after : Draws → ℕ → Draws
 draws_after draws zero = draws
 draws_after draws (suc made) = after_load (draws_after draws made)
 
--- The pass made the first so many commands of a workload, one after the other: these are its tallies then, and these its entries.
-abbrev pub Makes : Shape → List Entry → ℕ → Draws → ℕ → Tallies → List Entry → Type 0
-Makes shape history pass draws zero tallies own = (tallies ≡ no_tallies) × (own ≡ [])
-Makes shape history pass draws (suc made) tallies own =
-    (tally : Tally) × (before : Tallies) × (own_before : List Entry)
-    × Makes shape history pass draws made before own_before
-    × ComesTo shape history pass (next_load (draws_after draws made)) tally own_before own
-    × (tallies ≡ counted tally before)
+-- The pass made the first so many commands of a workload, one after the other: these are its tallies then, this is what it goes by, and these are its entries.
+abbrev pub Makes : Shape → List Entry → ℕ → Draws → ℕ → Tallies → Course → List Entry → Type 0
+Makes shape history pass draws zero tallies course own = (tallies ≡ no_tallies) × (course ≡ start_of shape pass) × (own ≡ [])
+Makes shape history pass draws (suc made) tallies course own =
+    (told : Tally) × (before : Tallies) × (from : Course) × (own_before : List Entry)
+    × Makes shape history pass draws made before from own_before
+    × ComesTo shape history pass (next_load (draws_after draws made)) told from course own_before own
+    × (tallies ≡ counted told before)

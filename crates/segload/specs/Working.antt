@@ -1,5 +1,8 @@
 -- What a pass does at its load.
-use Rattle.std.specs.Prelude.{◌≡◌, ℕ, ◌<◌, Bool, false, true, List, slice_get, Some, None}
+use Rattle.std.specs.Prelude.{◌≡◌, ◌≢◌, ℕ, ◌*◌, ◌<◌, Bool, false, true, List, ◌∷◌, slice_get, Some, None}
+use Rattle.segword.specs.declared.shape.Shape.{Shape}
+use Rattle.segmodel.specs.declared.entry.Entry.{Entry}
+use Rattle.segmodel.specs.declared.entry.Entry.TheVariants.{Refilled}
 use Rattle.segmodel.specs.declared.request.Request.{Request}
 use Rattle.segmodel.specs.declared.request.Request.TheVariants as request
 use Rattle.segmodel.specs.declared.answer.WriteAnswer.{WriteAnswer}
@@ -8,19 +11,22 @@ use Rattle.segmodel.specs.declared.answer.DeleteAnswer.{DeleteAnswer}
 use Rattle.segmodel.specs.declared.answer.DeleteAnswer.TheVariants as delete
 use Rattle.segbase.specs.declared.board.Board.{Board}
 use Rattle.segbase.specs.declared.pass.Pass.{Pass}
-use Rattle.segbase.specs.Passes.{number, seen, mine}
+use Rattle.segbase.specs.Passes.{number, seen, mine, holding}
 use Rattle.segbase.specs.Plain.{number_of, locked_of}
+use Rattle.segstore.specs.Segments.{has_room}
 use Rattle.segindex.specs.Quiet.{IsQuiet}
 use Rattle.segpolicy.specs.declared.load.Kind.{Kind}
 use Rattle.segpolicy.specs.declared.load.Kind.TheVariants as kind
 use Rattle.segpolicy.specs.declared.load.Load.{Load}
+use Rattle.segpolicy.specs.Cycle.{Cycle}
 use Rattle.segpolicy.specs.Draws.{Draws}
 use Rattle.segload.specs.declared.totals.Tally.{Tally}
 use Rattle.segload.specs.declared.totals.Tally.TheVariants as tally
+use Rattle.segload.specs.declared.client.Client.{Client}
 use Rattle.segload.specs.declared.worker.Worker.{Worker}
 use Rattle.segload.specs.Gates.{LetsThrough, Stops}
 use Rattle.segload.specs.Counting.{all_of}
-use Rattle.segload.specs.Making.{GivesUp, draws_after, Makes}
+use Rattle.segload.specs.Making.{Course, Empties, draws_after, Makes}
 
 -- how a write that was answered so is counted
 abbrev pub write_tally : WriteAnswer → Tally
@@ -38,9 +44,22 @@ delete_tally delete.Deleted = tally.Deleted
 delete_tally delete.NotFound = tally.NotFound
 delete_tally delete.Busy = tally.Busy
 
--- the pass added entries, if any, only by giving up one of its segments
-abbrev pub MakesRoom : Pass → Pass → Type 0
-MakesRoom p q = GivesUp (number p) (mine p) (mine q)
+-- what a client goes by
+abbrev pub course_of : Client → Course
+course_of client = record { segments = client.segments; version = client.version }
+
+-- the pass has no bucket locked, and holds nothing
+abbrev pub IsFree : Pass → Type 0
+IsFree p = (locked_of p ≡ None) × (holding p ≡ None)
+
+-- the ring has the segments of the pass
+abbrev pub IsOwnRing : Shape → ℕ → Cycle → Type 0
+IsOwnRing shape pass ring = (ring.first ≡ pass * shape.segments_each) × (ring.count ≡ shape.segments_each)
+
+-- the pass gave up a segment: it emptied and refilled it, and now there is room; or it couldn't, but only where there are other passes
+abbrev pub MakesRoom : Shape → ℕ → Bool → Pass → Pass → Type 0
+MakesRoom shape segment true p q = (room : List Entry) × Empties (number p) segment (mine p) room × (mine q ≡ Refilled (number p) segment ∷ room) × (has_room shape q ≡ true)
+MakesRoom shape segment false p q = Empties (number p) segment (mine p) (mine q) × (shape.passes ≢ 1)
 
 -- the request of a command that stores; a cas expects this version
 abbrev pub stores_of : Kind → ℕ → Load → Request
@@ -49,12 +68,12 @@ stores_of kind.Replace version load = request.Replace load.key load.value
 stores_of kind.Cas version load = request.Cas load.key load.value version
 stores_of _ version load = request.Set load.key load.value
 
--- a pass at its load, which made so many commands of a workload, and has no bucket locked
+-- a pass at its load, which made so many commands of a workload, has no bucket locked and holds nothing
 pub record IsAtWork (b : Board) (draws : Draws) (made : ℕ) (worker : Worker) : Type 0 where
   pub quiet : IsQuiet b worker.client.pass
-  pub unlocked : locked_of worker.client.pass ≡ None
+  pub free : IsFree worker.client.pass
   pub workload : worker.workload ≡ draws_after draws made
-  pub makes : Makes b.shape (seen worker.client.pass) (number worker.client.pass) draws made worker.tallies (mine worker.client.pass)
+  pub makes : Makes b.shape (seen worker.client.pass) (number worker.client.pass) draws made worker.tallies (course_of worker.client) (mine worker.client.pass)
   pub all : all_of worker.tallies ≡ made
 
 -- the pass of this number made all its commands, each of which the gate let through, unless the gate stopped it before one of them: then it made those before that one

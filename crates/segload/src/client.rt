@@ -1,7 +1,7 @@
 //! A pass of an index, which makes the commands of a load.
-ghost use Rattle.std.specs.Prelude.{◌≡◌, ℕ, None};
+ghost use Rattle.std.specs.Prelude.{◌≡◌, ◌≢◌, false};
 ghost use Rattle.segmodel.specs.declared.answer.WriteAnswer.TheVariants.{NoRoom};
-ghost use Rattle.segload.specs.Working.{write_tally, delete_tally, MakesRoom, stores_of};
+ghost use Rattle.segload.specs.Working.{write_tally, delete_tally, stores_of};
 
 use crate::totals::Tally;
 use segindex::{Index, Pass};
@@ -44,16 +44,19 @@ fn tally_of_delete(answer: DeleteAnswer) -> Tally
 
 impl Client {
     ghost use Rattle.segbase.specs.Passes.{number, seen, mine};
-    ghost use Rattle.segbase.specs.Plain.{locked_of};
+    ghost use Rattle.segstore.specs.Segments.{has_room};
     ghost use Rattle.segindex.specs.Index.{board_of, shape_of};
     ghost use Rattle.segindex.specs.Quiet.{IsQuiet};
     ghost use Rattle.segindex.specs.Calls.{GoesOn};
     ghost use Rattle.segindex.specs.Hits.{TriesFew};
-    ghost use Rattle.segload.specs.Making.{IsReadAs, IsWrittenAs, IsStoredAs, ComesTo};
+    ghost use Rattle.segpolicy.specs.Cycle.{Cycle, number_of};
+    ghost use Rattle.segload.specs.Making.{turned_on, IsReadAs, IsVersionReadAs, IsWrittenAs, IsStoredAs, ComesTo};
+    ghost use Rattle.segload.specs.Working.{course_of, IsFree, IsOwnRing, MakesRoom};
 
     /// A pass that made no command yet.
     pub(crate) fn new(pass: Pass, segments: Ring) -> Client
-        ensures { result.pass ≡ pass }
+        ensures pass { result.pass ≡ pass }
+        ensures course { course_of result ≡ record { segments = segments; version = 0 } }
     {
         Client {
             pass,
@@ -77,10 +80,11 @@ impl Client {
     /// Makes a command, and says what it came to.
     pub(crate) fn serve(&mut self, index: &Index, load: &Load) -> Tally
         requires quiet { IsQuiet (board_of index.now) self.old.pass }
-        requires unlocked { locked_of self.old.pass ≡ None }
-        ensures unlocked { locked_of self.new.pass ≡ None }
+        requires free { IsFree self.old.pass }
+        requires own { IsOwnRing (shape_of index.now) (number self.old.pass) self.old.segments }
+        ensures free { IsFree self.new.pass }
         ensures on { GoesOn (board_of index.now) self.old.pass self.new.pass }
-        ensures came { ComesTo (shape_of index.now) (seen self.new.pass) (number self.old.pass) load.now result (mine self.old.pass) (mine self.new.pass) }
+        ensures came { ComesTo (shape_of index.now) (seen self.new.pass) (number self.old.pass) load.now result (course_of self.old) (course_of self.new) (mine self.old.pass) (mine self.new.pass) }
     {
         match load.kind {
             Kind::Get => self.get(index, load),
@@ -94,11 +98,12 @@ impl Client {
 
     fn get(&mut self, index: &Index, load: &Load) -> Tally
         requires quiet { IsQuiet (board_of index.now) self.old.pass }
-        requires unlocked { locked_of self.old.pass ≡ None }
-        ensures unlocked { locked_of self.new.pass ≡ None }
+        requires free { IsFree self.old.pass }
+        ensures free { IsFree self.new.pass }
         ensures on { GoesOn (board_of index.now) self.old.pass self.new.pass }
         ensures read { IsReadAs (shape_of index.now) (seen self.new.pass) (number self.old.pass) (mine self.old.pass) load.now.key result }
         ensures same { mine self.new.pass ≡ mine self.old.pass }
+        ensures course { course_of self.new ≡ course_of self.old }
         ensures once { TriesFew self.old.pass self.new.pass }
     {
         match index.get(&mut self.pass, &load.key, load.draw) {
@@ -111,10 +116,10 @@ impl Client {
     // It remembers the version for the next cas.
     fn gets(&mut self, index: &Index, load: &Load) -> Tally
         requires quiet { IsQuiet (board_of index.now) self.old.pass }
-        requires unlocked { locked_of self.old.pass ≡ None }
-        ensures unlocked { locked_of self.new.pass ≡ None }
+        requires free { IsFree self.old.pass }
+        ensures free { IsFree self.new.pass }
         ensures on { GoesOn (board_of index.now) self.old.pass self.new.pass }
-        ensures read { IsReadAs (shape_of index.now) (seen self.new.pass) (number self.old.pass) (mine self.old.pass) load.now.key result }
+        ensures read { IsVersionReadAs (shape_of index.now) (seen self.new.pass) (number self.old.pass) (mine self.old.pass) load.now.key result (course_of self.old) (course_of self.new) }
         ensures same { mine self.new.pass ≡ mine self.old.pass }
         ensures once { TriesFew self.old.pass self.new.pass }
     {
@@ -131,10 +136,11 @@ impl Client {
     // A write. Where it finds no room it is made once more, if room could be made.
     fn store(&mut self, index: &Index, load: &Load) -> WriteAnswer
         requires quiet { IsQuiet (board_of index.now) self.old.pass }
-        requires unlocked { locked_of self.old.pass ≡ None }
-        ensures unlocked { locked_of self.new.pass ≡ None }
+        requires free { IsFree self.old.pass }
+        requires own { IsOwnRing (shape_of index.now) (number self.old.pass) self.old.segments }
+        ensures free { IsFree self.new.pass }
         ensures on { GoesOn (board_of index.now) self.old.pass self.new.pass }
-        ensures stored { (version : ℕ) × IsStoredAs (shape_of index.now) (number self.old.pass) (stores_of load.now.kind version load.now) (write_tally result) (mine self.old.pass) (mine self.new.pass) }
+        ensures stored { IsStoredAs (shape_of index.now) (seen self.new.pass) (number self.old.pass) (stores_of load.now.kind self.old.version load.now) (write_tally result) (course_of self.old) (course_of self.new) (mine self.old.pass) (mine self.new.pass) }
     {
         let answer = self.write(index, load);
         let WriteAnswer::NoRoom = answer else {
@@ -148,11 +154,13 @@ impl Client {
 
     fn write(&mut self, index: &Index, load: &Load) -> WriteAnswer
         requires quiet { IsQuiet (board_of index.now) self.old.pass }
-        requires unlocked { locked_of self.old.pass ≡ None }
-        ensures unlocked { locked_of self.new.pass ≡ None }
+        requires free { IsFree self.old.pass }
+        ensures free { IsFree self.new.pass }
         ensures on { GoesOn (board_of index.now) self.old.pass self.new.pass }
-        ensures written { IsWrittenAs (shape_of index.now) (number self.old.pass) (stores_of load.now.kind self.old.version load.now) (write_tally result) (mine self.old.pass) (mine self.new.pass) }
+        ensures written { result ≢ NoRoom → IsWrittenAs (shape_of index.now) (seen self.new.pass) (number self.old.pass) (stores_of load.now.kind self.old.version load.now) (write_tally result) (mine self.old.pass) (mine self.new.pass) }
+        ensures no_room { result ≡ NoRoom → has_room (shape_of index.now) self.old.pass ≡ false }
         ensures untouched { result ≡ NoRoom → self.new.pass ≡ self.old.pass }
+        ensures course { course_of self.new ≡ course_of self.old }
     {
         let (pass, key, value) = (&mut self.pass, &load.key, &load.value);
         match load.kind {
@@ -166,10 +174,12 @@ impl Client {
     // Gives up the next of its segments for new keys, and says whether that came about.
     fn make_room(&mut self, index: &Index) -> bool
         requires quiet { IsQuiet (board_of index.now) self.old.pass }
-        requires unlocked { locked_of self.old.pass ≡ None }
-        ensures unlocked { locked_of self.new.pass ≡ None }
+        requires free { IsFree self.old.pass }
+        requires own { IsOwnRing (shape_of index.now) (number self.old.pass) self.old.segments }
+        ensures free { IsFree self.new.pass }
         ensures on { GoesOn (board_of index.now) self.old.pass self.new.pass }
-        ensures gives_up { MakesRoom self.old.pass self.new.pass }
+        ensures room { MakesRoom (shape_of index.now) (number_of self.old.segments) result self.old.pass self.new.pass }
+        ensures course { course_of self.new ≡ turned_on (course_of self.old) }
     {
         let segment = self.segments.next();
         let EvictAnswer::Evicted(_) = index.evict(&mut self.pass, segment) else {

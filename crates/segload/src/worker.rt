@@ -1,5 +1,5 @@
 //! A pass at its load.
-ghost use Rattle.std.specs.Prelude.{◌≡◌, [], None};
+ghost use Rattle.std.specs.Prelude.{◌≡◌, []};
 ghost use Rattle.segindex.specs.Index.{board_of};
 
 use crate::client::Client;
@@ -19,16 +19,16 @@ pub(crate) struct Worker {
 
 impl Worker {
     ghost use Rattle.segbase.specs.Passes.{number, mine};
-    ghost use Rattle.segbase.specs.Plain.{number_of, locked_of};
+    ghost use Rattle.segbase.specs.Plain.{number_of};
     ghost use Rattle.segindex.specs.Quiet.{IsQuiet};
     ghost use Rattle.segpolicy.specs.Draws.{draws_of};
-    ghost use Rattle.segload.specs.Working.{Begins, HasWorked};
+    ghost use Rattle.segload.specs.Working.{IsFree, Begins, HasWorked};
 
     /// A pass that made no command yet.
     pub(crate) fn new(index: &Index, seed: u64, pass: Pass) -> Worker
         requires quiet { IsQuiet (board_of index.now) pass }
         requires nothing { mine pass ≡ [] }
-        requires unlocked { locked_of pass ≡ None }
+        requires free { IsFree pass }
         ensures { Begins (board_of index.now) (draws_of seed (number pass) 64) (number pass) result }
     {
         let number = pass.number();

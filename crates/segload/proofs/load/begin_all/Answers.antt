@@ -32,8 +32,10 @@ new-requires-clause-nothing c =
     let new = (c.loop-pass.invariant.rest 0 c.in-Some.pass (ap (λ l. slice_get l 0) c.in-Some.ensures.steps.0)).0 in
     ap (λ t. mine (number c.in-Some.pass) (seen t)) new.nothing
 
-pub new-requires-clause-unlocked : goal.new-requires-clause-unlocked
-new-requires-clause-unlocked c = (c.loop-pass.invariant.rest 0 c.in-Some.pass (ap (λ l. slice_get l 0) c.in-Some.ensures.steps.0)).0.plain.locked
+pub new-requires-clause-free : goal.new-requires-clause-free
+new-requires-clause-free c =
+    let new = (c.loop-pass.invariant.rest 0 c.in-Some.pass (ap (λ l. slice_get l 0) c.in-Some.ensures.steps.0)).0 in
+    (new.plain.locked, new.holding)
 
 pub loop-pass-preserved : goal.loop-pass-preserved
 loop-pass-preserved c =

@@ -1,0 +1,144 @@
+-- What holds of the commands that a pass made so far, as it goes on and as a history grows.
+use Rattle.std.proofs.Common.{◌≡◌, ℕ, zero, suc, ◌+◌, List, ◌∷◌, Some, None, refl, sym, ap, ◌∙◌, subst, inl, inr, arith}
+use Rattle.segword.specs.declared.shape.Shape.{Shape}
+use Rattle.segmodel.specs.declared.request.Request.{Request}
+use Rattle.segmodel.specs.declared.request.Request.TheVariants as request
+use Rattle.segmodel.specs.declared.entry.Entry.{Entry}
+use Rattle.segmodel.specs.declared.entry.Entry.TheVariants.{Refilled}
+use Rattle.segmodel.specs.Request.{key_of}
+use Rattle.segmodel.specs.Cache.{Cache, reads, reads_version}
+use Rattle.segmodel.specs.History.{after, Begins}
+use Rattle.segcore.proofs.Moments.{begins_on}
+use Rattle.segbase.specs.declared.board.Board.{Board}
+use Rattle.segbase.specs.declared.pass.Pass.{Pass}
+use Rattle.segbase.specs.Passes.{number, seen, mine}
+use Rattle.segindex.specs.Calls.{GoesOn}
+use Rattle.segpolicy.specs.declared.load.Kind.{Kind}
+use Rattle.segpolicy.specs.declared.load.Kind.TheVariants as kind
+use Rattle.segpolicy.specs.declared.load.Load.{Load}
+use Rattle.segpolicy.specs.Cycle.{number_of}
+use Rattle.segpolicy.specs.Draws.{Draws, next_load, after_load}
+use Rattle.segload.specs.declared.totals.Tally.{Tally}
+use Rattle.segload.specs.declared.totals.Tally.TheVariants as tally
+use Rattle.segload.specs.declared.totals.Tallies.{Tallies}
+use Rattle.segload.specs.declared.worker.Worker.{Worker}
+use Rattle.segload.specs.Counting.{counted, all_of}
+use Rattle.segload.specs.Making.{Course, AtMoment, IsReadAs, IsVersionReadAs, IsFullFor, IsWrittenAs, IsStoredAs, CameTo, ComesTo, draws_after, Makes}
+use Rattle.segload.specs.Working.{course_of, IsFree, IsOwnRing, IsAtWork}
+
+-- what holds of all commands so far holds of a longer history
+moment_later : (shape : Shape) (history later : List Entry) (pass : ℕ) (own : List Entry) (IsSo : Cache → Type 0) → Begins history later → AtMoment shape history pass own IsSo → AtMoment shape later pass own IsSo
+moment_later shape history later pass own IsSo more at = (at.0, begins_on at.0 history later at.1 more, at.2, at.3)
+
+read_later : (shape : Shape) (history later : List Entry) (pass : ℕ) (own : List Entry) (key : List ℕ) (told : Tally) → Begins history later → IsReadAs shape history pass own key told → IsReadAs shape later pass own key told
+read_later shape history later pass own key tally.Hit more read = (read.0, moment_later shape history later pass own (λ cache. reads cache key ≡ Some read.0) more read.1)
+read_later shape history later pass own key tally.Miss more read = moment_later shape history later pass own (λ cache. reads cache key ≡ None) more read
+read_later shape history later pass own key tally.Busy more read = read
+read_later shape history later pass own key _ more read = absurd read
+
+version_later : (shape : Shape) (history later : List Entry) (pass : ℕ) (own : List Entry) (key : List ℕ) (told : Tally) (from to : Course) → Begins history later → IsVersionReadAs shape history pass own key told from to → IsVersionReadAs shape later pass own key told from to
+version_later shape history later pass own key tally.Hit from to more read = (read.0, moment_later shape history later pass own (λ cache. reads_version shape cache key ≡ Some (read.0, to.version)) more read.1, read.2)
+version_later shape history later pass own key tally.Miss from to more read = (read_later shape history later pass own key tally.Miss more read.0, read.1)
+version_later shape history later pass own key tally.Busy from to more read = read
+version_later shape history later pass own key _ from to more read = absurd read.0
+
+written_later : (shape : Shape) (history later : List Entry) (pass : ℕ) (asked : Request) (told : Tally) (before now : List Entry) → Begins history later → IsWrittenAs shape history pass asked told before now → IsWrittenAs shape later pass asked told before now
+written_later shape history later pass asked tally.BucketFull before now more written = (written.0, written.1, moment_later shape history later pass before (IsFullFor shape (key_of asked)) more written.2)
+written_later shape history later pass asked tally.Stored before now more written = written
+written_later shape history later pass asked tally.NotStored before now more written = written
+written_later shape history later pass asked tally.Exists before now more written = written
+written_later shape history later pass asked tally.NotFound before now more written = written
+written_later shape history later pass asked tally.Deleted before now more written = written
+written_later shape history later pass asked tally.Busy before now more written = written
+written_later shape history later pass asked _ before now more written = absurd written
+
+stored_later : (shape : Shape) (history later : List Entry) (pass : ℕ) (asked : Request) (told : Tally) (from to : Course) (before now : List Entry) → Begins history later → IsStoredAs shape history pass asked told from to before now → IsStoredAs shape later pass asked told from to before now
+stored_later shape history later pass asked told from to before now more (inl (written, kept)) = inl (written_later shape history later pass asked told before now more written, kept)
+stored_later shape history later pass asked told from to before now more (inr ((room, emptied, inl written), turned)) =
+    inr ((room, emptied, inl (written_later shape history later pass asked told (Refilled pass (number_of from.segments) ∷ room) now more written)), turned)
+stored_later shape history later pass asked told from to before now more (inr ((room, emptied, inr none), turned)) = inr ((room, emptied, inr none), turned)
+
+came_later : (shape : Shape) (history later : List Entry) (pass : ℕ) (of : Kind) (load : Load) (told : Tally) (from to : Course) (before now : List Entry) → Begins history later → CameTo shape history pass of load told from to before now → CameTo shape later pass of load told from to before now
+came_later shape history later pass kind.Get load told from to before now more came = (read_later shape history later pass before load.key told more came.0, came.1, came.2)
+came_later shape history later pass kind.Gets load told from to before now more came = (version_later shape history later pass before load.key told from to more came.0, came.1)
+came_later shape history later pass kind.Set load told from to before now more came = stored_later shape history later pass (request.Set load.key load.value) told from to before now more came
+came_later shape history later pass kind.Add load told from to before now more came = stored_later shape history later pass (request.Add load.key load.value) told from to before now more came
+came_later shape history later pass kind.Replace load told from to before now more came = stored_later shape history later pass (request.Replace load.key load.value) told from to before now more came
+came_later shape history later pass kind.Cas load told from to before now more came = stored_later shape history later pass (request.Cas load.key load.value from.version) told from to before now more came
+came_later shape history later pass kind.Delete load told from to before now more came = (written_later shape history later pass (request.Delete load.key) told before now more came.0, came.1)
+
+pub makes_later : (shape : Shape) (history later : List Entry) (pass : ℕ) (draws : Draws) (made : ℕ) (t : Tallies) (course : Course) (own : List Entry) → Begins history later → Makes shape history pass draws made t course own → Makes shape later pass draws made t course own
+makes_later shape history later pass draws zero t course own more makes = makes
+makes_later shape history later pass draws (suc made) t course own more (told, before, from, own_before, makes, came, counts) =
+    let load = next_load (draws_after draws made) in
+    (told, before, from, own_before, makes_later shape history later pass draws made before from own_before more makes, came_later shape history later pass load.kind load told from course own_before own more came, counts)
+
+-- the ring is that of the pass's own segments all the time
+stored_own : (shape : Shape) (history : List Entry) (pass : ℕ) (asked : Request) (told : Tally) (from to : Course) (before now : List Entry) → IsStoredAs shape history pass asked told from to before now → IsOwnRing shape pass from.segments → IsOwnRing shape pass to.segments
+stored_own shape history pass asked told from to before now (inl (written, kept)) own = subst (λ c. IsOwnRing shape pass c.segments) (sym kept) own
+stored_own shape history pass asked told from to before now (inr (after, turned)) own = subst (λ c. IsOwnRing shape pass c.segments) (sym turned) own
+
+version_own : (shape : Shape) (history : List Entry) (pass : ℕ) (own : List Entry) (key : List ℕ) (told : Tally) (from to : Course) → IsVersionReadAs shape history pass own key told from to → to.segments ≡ from.segments
+version_own shape history pass own key tally.Hit from to read = read.2
+version_own shape history pass own key tally.Miss from to read = ap (λ c. c.segments) read.1
+version_own shape history pass own key tally.Busy from to read = ap (λ c. c.segments) read.1
+version_own shape history pass own key _ from to read = absurd read.0
+
+came_own : (shape : Shape) (history : List Entry) (pass : ℕ) (of : Kind) (load : Load) (told : Tally) (from to : Course) (before now : List Entry) → CameTo shape history pass of load told from to before now → IsOwnRing shape pass from.segments → IsOwnRing shape pass to.segments
+came_own shape history pass kind.Get load told from to before now came own = subst (λ c. IsOwnRing shape pass c.segments) (sym came.2) own
+came_own shape history pass kind.Gets load told from to before now came own = subst (IsOwnRing shape pass) (sym (version_own shape history pass before load.key told from to came.0)) own
+came_own shape history pass kind.Set load told from to before now came own = stored_own shape history pass (request.Set load.key load.value) told from to before now came own
+came_own shape history pass kind.Add load told from to before now came own = stored_own shape history pass (request.Add load.key load.value) told from to before now came own
+came_own shape history pass kind.Replace load told from to before now came own = stored_own shape history pass (request.Replace load.key load.value) told from to before now came own
+came_own shape history pass kind.Cas load told from to before now came own = stored_own shape history pass (request.Cas load.key load.value from.version) told from to before now came own
+came_own shape history pass kind.Delete load told from to before now came own = subst (λ c. IsOwnRing shape pass c.segments) (sym came.1) own
+
+pub makes_own : (shape : Shape) (history : List Entry) (pass : ℕ) (draws : Draws) (made : ℕ) (t : Tallies) (course : Course) (own : List Entry) → Makes shape history pass draws made t course own → IsOwnRing shape pass course.segments
+makes_own shape history pass draws zero t course own makes = subst (λ c. IsOwnRing shape pass c.segments) (sym makes.1) (refl, refl)
+makes_own shape history pass draws (suc made) t course own (told, before, from, own_before, makes, came, counts) =
+    let load = next_load (draws_after draws made) in
+    came_own shape history pass load.kind load told from course own_before own came (makes_own shape history pass draws made before from own_before makes)
+
+all_counted : (told : Tally) (t : Tallies) → all_of (counted told t) ≡ all_of t + 1
+all_counted tally.Hit t = omega arith
+all_counted tally.Miss t = omega arith
+all_counted tally.Stored t = omega arith
+all_counted tally.NotStored t = omega arith
+all_counted tally.Exists t = omega arith
+all_counted tally.NotFound t = omega arith
+all_counted tally.Deleted t = omega arith
+all_counted tally.NoRoom t = omega arith
+all_counted tally.BucketFull t = omega arith
+all_counted tally.Busy t = omega arith
+
+-- a pass at its load that makes the next command of its workload, and counts what it came to
+pub works_on : (b : Board) (draws : Draws) (made : ℕ) (told : Tally) (worker later : Worker) → IsAtWork b draws made worker → GoesOn b worker.client.pass later.client.pass → IsFree later.client.pass
+    → ComesTo b.shape (seen later.client.pass) (number worker.client.pass) (next_load worker.workload) told (course_of worker.client) (course_of later.client) (mine worker.client.pass) (mine later.client.pass)
+    → later.workload ≡ after_load worker.workload → later.tallies ≡ counted told worker.tallies → IsAtWork b draws (made + 1) later
+works_on b draws made told worker later was on free came after counts = record {
+  quiet = on.quiet;
+  free = free;
+  workload = subst (λ n. later.workload ≡ draws_after draws n) one (after ∙ ap after_load was.workload);
+  makes = subst (λ n. Makes b.shape (seen q) (number q) draws n later.tallies (course_of later.client) (mine q)) one (subst (λ n. Makes b.shape (seen q) n draws (suc made) later.tallies (course_of later.client) (mine q)) (sym on.same) more);
+  all = ap all_of counts ∙ (all_counted told worker.tallies ∙ ap (λ n. n + 1) was.all);
+}
+  where
+    p : Pass
+    p = worker.client.pass
+
+    q : Pass
+    q = later.client.pass
+
+    one : suc made ≡ made + 1
+    one = omega arith
+
+    more : Makes b.shape (seen q) (number p) draws (suc made) later.tallies (course_of later.client) (mine q)
+    more = (
+      told,
+      worker.tallies,
+      course_of worker.client,
+      mine p,
+      makes_later b.shape (seen p) (seen q) (number p) draws made worker.tallies (course_of worker.client) (mine p) on.seen was.makes,
+      subst (λ d. ComesTo b.shape (seen q) (number p) (next_load d) told (course_of worker.client) (course_of later.client) (mine p) (mine q)) was.workload came,
+      counts,
+    )
