@@ -2,7 +2,7 @@
 ghost use Rattle.segindex.specs.Index.{board_of};
 ghost use Rattle.segindex.specs.Quiet.{IsQuiet};
 
-use crate::passes::{SHAPE, last_two};
+use crate::passes::{SHAPE, two_passes};
 use segindex::{Index, Pass};
 use segmodel::{GetAnswer, RefillAnswer, WriteAnswer};
 use segword::{Key, Shape, Value};
@@ -91,8 +91,7 @@ fn a_reader_beside_a_writer(rt: HostRuntime) -> Result<(), Fail> {
         rows: ROWS,
         ..SHAPE
     };
-    let (index, passes) = Index::new(rt.alloc(), shape)?;
-    let (writer, reader) = last_two(&index, passes).expect(&rt, "two passes");
+    let (index, writer, reader) = two_passes(rt.alloc(), shape)?;
     let key = Key::new(b"a").expect(&rt, "a key");
     let ((mut writer, stored), (mut reader, read, is_well)) = join(
         &rt,

@@ -11,8 +11,8 @@ use std::thread::{Threads, join, yield_now};
 
 const TURNS: u32 = 1_000_000;
 
-// Stores the value, again while the bucket is busy.
-fn set_in_turn(index: &Index, mut pass: Pass, key: &Key, value: &Value) -> (Pass, WriteAnswer)
+/// Stores the value, again while the bucket is busy.
+pub fn set_in_turn(index: &Index, mut pass: Pass, key: &Key, value: &Value) -> (Pass, WriteAnswer)
     requires { IsQuiet (board_of index.now) pass }
     ensures { IsQuiet (board_of index.now) result.0 }
 {

@@ -4,7 +4,7 @@ ghost use Rattle.segindex.specs.Quiet.{IsQuiet};
 ghost use Rattle.segindex.specs.Holds.{IsHoldOf};
 ghost use Rattle.segindex.specs.Props.{IsQuiet-prop, IsHoldOf-prop};
 
-use crate::passes::{SHAPE, last_two};
+use crate::passes::{SHAPE, two_passes};
 use segindex::{Hold, HoldAnswer, Index, Pass};
 use segmodel::{GetAnswer, RefillAnswer, WriteAnswer};
 use segword::{Key, Value};
@@ -58,8 +58,7 @@ impl Holder<'_> {
 
 #[test]
 fn a_cache_sets_and_gets(rt: HostRuntime) -> Result<(), Fail> {
-    let (index, passes) = Index::new(rt.alloc(), SHAPE)?;
-    let (pass, _) = last_two(&index, passes).expect(&rt, "two passes");
+    let (index, pass, _) = two_passes(rt.alloc(), SHAPE)?;
     let mut cache = Cache { index, pass };
     let key = Key::new(b"a").expect(&rt, "a key");
     let value = Value::new(b"1").expect(&rt, "a value");
@@ -87,8 +86,7 @@ fn read_twice(index: &Index, mut pass: Pass, key: &Key) -> Option<(Value, Value)
 
 #[test]
 fn a_holder_reads_its_value(rt: HostRuntime) -> Result<(), Fail> {
-    let (index, passes) = Index::new(rt.alloc(), SHAPE)?;
-    let (mut pass, _) = last_two(&index, passes).expect(&rt, "two passes");
+    let (index, mut pass, _) = two_passes(rt.alloc(), SHAPE)?;
     let key = Key::new(b"a").expect(&rt, "a key");
     let value = Value::new(b"1").expect(&rt, "a value");
     assert_eq!(rt; index.refill(&mut pass, 0), RefillAnswer::Refilled);

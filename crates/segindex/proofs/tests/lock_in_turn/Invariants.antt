@@ -1,5 +1,0 @@
-use Rattle.segindex.specs.Quiet.{IsQuiet}
-use Rattle.segindex.proofs.tests.lock_in_turn.Given as goal
-
-abbrev pub invariant-loop : goal.invariant-loop
-invariant-loop l = IsQuiet l.index.board l.pass

@@ -1,0 +1,6 @@
+use Rattle.segindex.specs.Index.{board_of}
+use Rattle.segindex.specs.Quiet.{IsQuiet}
+use Rattle.segtests.proofs.locking.lock_in_turn.Given as goal
+
+abbrev pub invariant-loop : goal.invariant-loop
+invariant-loop l = IsQuiet (board_of l.index) l.pass
