@@ -53,7 +53,7 @@ IsGetAnswer shape key get.Busy before now = 64 ≤ stirred shape key before now
 
 -- ---- refusals
 
--- the pass itself has the bucket locked, and tried for no bit; or it found the bucket's bit set by another 64 times
+-- the pass itself has the bucket locked, took no bit and found none of another's; or it found the bucket's bit set by another 64 times
 abbrev pub IsBusy : ℕ → Pass → Pass → Type 0
 IsBusy bucket p q = ((locked_of p ≡ Some bucket) × TakesNoBit p q) ⊎ TriesInVain bucket p q
 

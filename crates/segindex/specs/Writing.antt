@@ -27,7 +27,7 @@ pub record IsInChain (b : Board) (bucket : ℕ) (place : Place) (p : Pass) : Typ
 abbrev pub IsEarlier : Board → Place → ℕ → Pass → Type 0
 IsEarlier b place old p = IsSameItem old (word b.shape (trace p) (cell_at b.shape place)) × (old ≤ word b.shape (trace p) (cell_at b.shape place))
 
--- no key stands under the name
+-- the key doesn't stand
 abbrev pub IsAbsent : Board → List ℕ → Pass → Type 0
 IsAbsent b key p = standing (after b.shape (seen p)) key ≡ None
 

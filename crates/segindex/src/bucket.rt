@@ -29,7 +29,7 @@ impl Index {
     ghost use Rattle.segindex.specs.Answers.{IsLockAnswer, IsUnlockAnswer};
     ghost use Rattle.segindex.specs.Taking.{TakesBucket, SetsLock};
 
-    /// Locks the bucket of a key. Until it is unlocked no other pass writes in it, and every write to it is answered Busy.
+    /// Locks the bucket of a key. Until it is unlocked no other pass writes in it, and a delete and every write that has room are answered Busy.
     pub fn lock_bucket(&self, pass: &mut Pass, key: &Key) -> LockAnswer
         requires quiet { IsQuiet (board_of self.now) pass.old }
         ensures goes_on { GoesOn (board_of self.now) pass.old pass.new }
