@@ -41,6 +41,7 @@ pub record IsDealt (b : Board) (count : ℕ) (passes : List Pass) : Type 0 where
   pub long : length passes ≡ count
   pub each : (n : ℕ) (p : Pass) → slice_get passes n ≡ Some p → IsNewPass b n p
 
+-- a board that was made of this shape, with all its passes
 pub record IsMade (shape : Shape) (b : Board) (all : List Pass) : Type 0 where
   pub valid : IsValid shape
   pub of : b.shape ≡ shape

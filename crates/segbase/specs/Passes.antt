@@ -85,6 +85,7 @@ locked p = (sight p).memo.locked
 abbrev pub IsMemo : Board → Pass → Memo → Type 0
 IsMemo b p memo = Minds b.shape (trace p) (number p) memo
 
+-- a pass of this board, between any two of its steps: the trace that it has seen is lawful, and its plain part agrees with it
 pub record IsPassOf (b : Board) (p : Pass) : Type 0 where
   pub table : p.seat.table_id ≡ b.table.shared.table_id
   pub bare : p.seat.me.1 ≡ []

@@ -41,11 +41,13 @@ pub record SameOwner (p q : Pass) : Type 0 where
   pub first : q.plain.first ≡ p.plain.first
   pub count : length q.plain.segments.items ≡ length p.plain.segments.items
 
+-- both have the same segments, in the same states, with as many rows used
 pub record SameSegments (p q : Pass) : Type 0 where
   pub owner : SameOwner p q
   pub state : (segment : ℕ) → state_of q segment ≡ state_of p segment
   pub used : (segment : ℕ) → used_of q segment ≡ used_of p segment
 
+-- all else of their plain parts is the same
 pub record SameButSegments (p q : Pass) : Type 0 where
   pub owner : SameOwner p q
   pub current : current_of q ≡ current_of p

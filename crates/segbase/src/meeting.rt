@@ -1,4 +1,4 @@
-//! What passes learn of each other, and what they keep in mind. The table lets a view change where a word is loaded, so each of these loads words, and changes none.
+//! What passes learn of each other, and what they keep in mind. The table lets a view change where a word is loaded, so what passes tell each other is told by loads, which change none.
 ghost use Rattle.std.specs.Prelude.{◌≡◌, []};
 ghost use Rattle.segmodel.specs.History.{Begins, AreOne};
 ghost use Rattle.segbase.specs.declared.law.Memo.{Memo};

@@ -22,6 +22,7 @@ use Rattle.segcore.specs.ItemWord.{packed, IsInItem}
 use Rattle.segcore.specs.Lawful.{IsSegment, Fits, IsLawful}
 use Rattle.segcore.specs.Word.{IsCell, same_cell, word, IsAt, IsItemAt}
 
+-- what a pass can do to one word of the table, with what it takes for it
 pub data Step : Type 0 where
   -- of a bucket; whether the pass has its bit
   take : ℕ → Bool → Step
@@ -118,6 +119,7 @@ adds _ pass found = []
 
 -- ---- where it may be taken
 
+-- the pass has the bit of the bucket
 abbrev pub HasBit : Shape → List Event → ℕ → ℕ → Type 0
 HasBit shape trace pass bucket = (bucket < shape.buckets) × ((bucket_after shape trace bucket).holder ≡ Some pass)
 

@@ -69,6 +69,7 @@ abbrev pub IsReading : Shape → List Event → ℕ → ℕ → Cell → Type 0
 IsReading shape trace bucket position cell =
     (word shape trace cell ≡ 0) ⊎ (ChainsOn shape trace bucket position cell ⊎ IsOfKey shape trace bucket position cell)
 
+-- what the words of the chains say of the keys that stand
 pub record SaysOfKeys (shape : Shape) (trace : List Event) : Type 0 where
   -- a key stands with a value in a segment exactly where its word says so
   pub stands : (key value : List ℕ) (segment : ℕ)

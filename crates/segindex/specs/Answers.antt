@@ -67,6 +67,7 @@ pub record IsFull (shape : Shape) (marks : List Mark) (key : List ℕ) : Type 0 
   pub no_word : HasNoWord shape marks key
   pub last : (width marks (bucket_of shape key) ≡ 4) ⊎ (all_drawn marks ≡ shape.overflow)
 
+-- so it was at a moment of the call
 abbrev pub WasFull : Shape → List ℕ → List Mark → List Mark → Type 0
 WasFull shape key before now = (marks : List Mark) × IsBetween before now marks × IsFull shape marks key
 

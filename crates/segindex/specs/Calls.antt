@@ -35,13 +35,13 @@ pub record TakesNoBit (p q : Pass) : Type 0 where
   pub taken : taken q ≡ taken p
   pub bounced : (bucket : ℕ) → bounced q bucket ≡ bounced p bucket
 
--- it took one bit, after at most 63 tries that found that of the bucket set by another, and met that of no other; a try for a bit that it has itself is no event
+-- it took one bit, after at most 63 tries that found that of the bucket set by another, and found that of no other bucket set; a try for a bit that it has itself is no event
 pub record TakesOneBit (bucket : ℕ) (p q : Pass) : Type 0 where
   pub taken : taken q ≡ taken p + 1
   pub tries : bounced q bucket < bounced p bucket + 64
   pub others : (other : ℕ) → other ≢ bucket → bounced q other ≡ bounced p other
 
--- it took none: 64 tries found that of the bucket set by another, and it met that of no other
+-- it took none: 64 tries found that of the bucket set by another, and none that of another bucket
 pub record TriesInVain (bucket : ℕ) (p q : Pass) : Type 0 where
   pub taken : taken q ≡ taken p
   pub tries : bounced q bucket ≡ bounced p bucket + 64

@@ -44,6 +44,7 @@ TakesNothing p q = TakesNoBit p q × DrawsNothing p q × ReadsNothing p q
 abbrev pub ReadsOnce : Pass → Pass → Type 0
 ReadsOnce p q = ChangesNothing p q × TakesNoBit p q × DrawsNothing p q × TriesFew p q
 
+-- the answer is that of the call which the command is, with what this took, tried for, drew and raised
 abbrev pub TellsCommand : Board → Command → Answer → Pass → Pass → Type 0
 TellsCommand b (command.Write (Delete key)) (answer.Delete told) p q = Deletes b key told p q
 TellsCommand b (command.Write (Delete key)) _ p q = ⊥
@@ -59,6 +60,7 @@ TellsCommand b (command.Refill segment) (answer.Refill told) p q =
     × (state_of p segment ≡ Some Evicted → is_held_in (holding p) segment ≡ true → told ≡ refill.Held) × TakesNothing p q
 TellsCommand b _ _ p q = ⊥
 
+-- and the outcome that of the call which the turn is
 abbrev pub Tells : Board → Turn → Outcome → Pass → Pass → Type 0
 Tells b (turn.Serve asked) (outcome.Answered told) p q = TellsCommand b asked told p q
 Tells b (turn.Hold key) told p q =
