@@ -24,7 +24,7 @@ use Rattle.segrun.specs.declared.command.Command.TheVariants as command
 -- pass that its line names, and a fault in the making comes before anything is read or written.
 pub record RanScript {R W : Type 0} (hands : R → List ℕ → R → Type 0) (is_at_end : R → Type 0) (read_failed : R → Bool) (takes : W → List ℕ → W → Type 0) (write_failed : W → Bool) (flushes : W → ℕ) (shape : Shape) (reader reader' : R) (writer writer' : W) (end : Result (Unit {0}) RunFault) : Type 0 where
   pub outcome : RunOutcome shape (λ seen. hands reader seen reader') (is_at_end reader') (λ text. takes writer text writer') (flushes writer) (flushes writer') end
-  pub each_turn : EachTurn shape (λ seen. hands reader seen reader') (λ text. takes writer text writer') end
+  pub each_turn : EachTurn shape (λ seen. hands reader seen reader') (is_at_end reader') (λ text. takes writer text writer') (flushes writer) (flushes writer') end
   pub read : read_failed reader' ≡ is_read_fault end
   pub write : write_failed writer' ≡ is_write_fault end
   pub answered : ShapeIsAnswered shape end

@@ -3,13 +3,34 @@ use Rattle.std.proofs.Common.{Result, subst, Err, ◌≡◌, ℕ, ◌+◌, ◌<�
 use Rattle.std.proofs.lemmas.List.{take-append-drop, drop_more}
 use Rattle.segmodel.specs.declared.answer.Outcome.{Outcome}
 use Rattle.segmodel.specs.Spelling.{PassTurn}
-use Rattle.segscript.specs.Running.{Stands, FirstBad, FeedOutcome}
+use Rattle.segscript.specs.Run.{IsSeenBad}
+use Rattle.segscript.specs.Running.{Stands, FeedOutcome}
 use Rattle.segscript.specs.declared.fault.RunFault.{RunFault}
 use Rattle.segscript.specs.declared.fault.RunFault.TheVariants as fault
 
+-- what is known of the line doesn't change where the end is known in another way
+pub seen_bad_where : (passes : ℕ) {S : Type 0} (step : S → PassTurn → Outcome → S → Type 0) (start : S) (seen text : List ℕ) (n : ℕ) (Ends Is : Type 0) → (Ends → Is) → IsSeenBad passes step start Ends seen text n → IsSeenBad passes step start Is seen text n
+seen_bad_where passes step start seen text n Ends Is is bad = record {
+  lines = bad.lines;
+  bad = bad.bad;
+  after = bad.after;
+  state = bad.state;
+  whole = bad.whole;
+  each = bad.each;
+  unbroken = bad.unbroken;
+  is_bad = bad.is_bad;
+  known = elim bad.known [
+    | inl whole ↦ inl whole
+    | inr (inl long) ↦ inr (inl long)
+    | inr (inr last) ↦ inr (inr (last.0, is last.1))
+  ];
+  served = bad.served;
+  number = bad.number;
+}
+
 -- later bytes don't change what the first bad line is
-pub FirstBad-more : (passes : ℕ) {S : Type 0} (step : S → PassTurn → Outcome → S → Type 0) (start : S) (seen more text : List ℕ) (n : ℕ) (Ends : Type 0) → FirstBad passes step start ⊥ seen text n → FirstBad passes step start Ends (seen ++ more) text n
-FirstBad-more passes step start seen more text n Ends bad = record {
+seen_bad_more : (passes : ℕ) {S : Type 0} (step : S → PassTurn → Outcome → S → Type 0) (start : S) (seen more text : List ℕ) (n : ℕ) → IsSeenBad passes step start ⊥ seen text n → IsSeenBad passes step start ⊥ (seen ++ more) text n
+seen_bad_more passes step start seen more text n bad = record {
   lines = bad.lines;
   bad = bad.bad;
   after = bad.after ++ more;
@@ -58,7 +79,7 @@ module _ (passes : ℕ) {S : Type 0} (step : S → PassTurn → Outcome → S �
   fault_later old mid new seen told bytes b rest all state state' line line' number number' (fault.Line n) fed same out = (
     fed.text ++ out.0,
     more old mid new fed.text out.0 fed.took out.1,
-    rw (same, ← append_assoc told fed.text out.0, ← append_assoc seen (bytes ++ b ∷ []) rest, ← append_assoc seen bytes (b ∷ [])) (FirstBad-more passes step start ((seen ++ bytes) ++ b ∷ []) rest _ n ⊥ out.2),
+    rw (same, ← append_assoc told fed.text out.0, ← append_assoc seen (bytes ++ b ∷ []) rest, ← append_assoc seen bytes (b ∷ [])) (seen_bad_more passes step start ((seen ++ bytes) ++ b ∷ []) rest _ n out.2),
   )
   fault_later old mid new seen told bytes b rest all state state' line line' number number' fault.Write fed same out = (
     fed.text ++ out.0,

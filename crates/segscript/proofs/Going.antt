@@ -3,10 +3,12 @@ use Rattle.std.proofs.Common.{Ok, Err, Result, ◌≡◌, ℕ, ◌+◌, ◌≤�
 use Rattle.segmodel.specs.declared.answer.Outcome.{Outcome}
 use Rattle.segmodel.specs.Spelling.{PassTurn}
 use Rattle.segscript.specs.Device.{flushed}
-use Rattle.segscript.specs.Running.{Stands, FeedOutcome, FinishOutcome, EndOfRun}
+use Rattle.segscript.specs.Running.{Stands, FeedOutcome, FinishOutcome}
+use Rattle.segscript.specs.Run.{EndOfRun}
 use Rattle.segscript.specs.declared.fault.RunFault.{RunFault}
 use Rattle.segscript.specs.declared.fault.RunFault.TheVariants as fault
 use Rattle.segscript.proofs.LineLemmas.{reached, at_start}
+use Rattle.segscript.proofs.Feeding.{seen_bad_where}
 
 -- these bytes came, and this text was written
 pub record Going (passes : ℕ) {S : Type 0} (step : S → PassTurn → Outcome → S → Type 0) (start state : S) {R W : Type 0} (hands : R → List ℕ → R → Type 0) (takes : W → List ℕ → W → Type 0) (from reader : R) (to writer : W) (total : ℕ) (line : List ℕ) (number : ℕ) : Type 0 where
@@ -67,7 +69,7 @@ module _ (passes : ℕ) {S : Type 0} (step : S → PassTurn → Outcome → S �
       hands_more from reader reader' going.seen bytes going.came came,
       takes_more to writer writer' going.told out.0 going.went out.1,
       none,
-      inl (rw same at out.2),
+      seen_bad_where passes step start _ _ _ ⊥ Ends (λ never. absurd never) (rw same at out.2),
     )
     ends_fed state state' from reader reader' to writer writer' total line line' number number' bytes fed Ends fault.Write going none came same out = (
       going.seen ++ bytes,
@@ -114,7 +116,7 @@ module _ (passes : ℕ) {S : Type 0} (step : S → PassTurn → Outcome → S �
       hands_more from reader reader' going.seen bytes going.came came,
       takes_more to writer writer' going.told out.0 going.went out.1,
       out.2 ∙ none,
-      inr (ends, rw (empty, append-nil) out.3),
+      seen_bad_where passes step start _ _ _ (Unit {0}) Ends (λ last. ends) (rw (empty, append-nil) out.3),
     )
     ends_finish state from reader reader' to writer writer' total line number bytes Ends (Err fault.Write) going none came empty ends out = (
       going.seen ++ bytes,

@@ -9,8 +9,8 @@ use Rattle.segmodel.specs.Replies.{reply}
 use Rattle.segmodel.specs.Script.{IsLine, ended, Splits, Say, IsBad, ServesLines, Completes}
 use Rattle.segmodel.proofs.RunLemmas.{Runs-append}
 use Rattle.segscript.specs.Device.{IsBeginning}
-use Rattle.segscript.specs.Run.{Comes}
-use Rattle.segscript.specs.Running.{Stands, FirstBad, LineOutcome, FeedOutcome, FinishOutcome}
+use Rattle.segscript.specs.Run.{Comes, IsSeenBad}
+use Rattle.segscript.specs.Running.{Stands, LineOutcome, FeedOutcome, FinishOutcome}
 use Rattle.segscript.specs.declared.fault.RunFault.{RunFault}
 use Rattle.segscript.specs.declared.fault.RunFault.TheVariants as fault
 
@@ -103,7 +103,7 @@ module _ (passes : ℕ) {S : Type 0} (step : S → PassTurn → Outcome → S �
     reached seen told line number here = record { lines = here.lines; rest = line; state = state; splits = here.splits; short = here.short; served = here.served }
 
     -- the byte is the 129th of its line
-    pub too_long : (seen told line : List ℕ) (number b : ℕ) → Stands passes step start state seen told line number → b ≢ 10 → length line ≡ 128 → FirstBad passes step start ⊥ (seen ++ b ∷ []) (told ++ []) number
+    pub too_long : (seen told line : List ℕ) (number b : ℕ) → Stands passes step start state seen told line number → b ≢ 10 → length line ≡ 128 → IsSeenBad passes step start ⊥ (seen ++ b ∷ []) (told ++ []) number
     too_long seen told line number b here other full = record {
       lines = here.lines;
       bad = line ++ b ∷ [];
@@ -119,7 +119,7 @@ module _ (passes : ℕ) {S : Type 0} (step : S → PassTurn → Outcome → S �
     }
 
     -- the line whose end has come is bad
-    whole_bad : (seen told line : List ℕ) (number : ℕ) → Stands passes step start state seen told line number → IsBad passes line → FirstBad passes step start ⊥ (seen ++ 10 ∷ []) (told ++ []) number
+    whole_bad : (seen told line : List ℕ) (number : ℕ) → Stands passes step start state seen told line number → IsBad passes line → IsSeenBad passes step start ⊥ (seen ++ 10 ∷ []) (told ++ []) number
     whole_bad seen told line number here bad = record {
       lines = here.lines;
       bad = line;
@@ -135,7 +135,7 @@ module _ (passes : ℕ) {S : Type 0} (step : S → PassTurn → Outcome → S �
     }
 
     -- the last line is bad
-    last_bad : (seen told line : List ℕ) (number : ℕ) → Stands passes step start state seen told line number → IsBad passes line → FirstBad passes step start (Unit {0}) seen (told ++ []) number
+    last_bad : (seen told line : List ℕ) (number : ℕ) → Stands passes step start state seen told line number → IsBad passes line → IsSeenBad passes step start (Unit {0}) seen (told ++ []) number
     last_bad seen told line number here bad = record {
       lines = here.lines;
       bad = line;

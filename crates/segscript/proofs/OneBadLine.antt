@@ -1,20 +1,39 @@
 -- A script has one first bad line at most, and none where it has a text. So a run whose devices never failed ends at that line, or ends well.
-use Rattle.std.proofs.Common.{Bool, false, Ok, Err, Result, ◌≡◌, ℕ, ◌+◌, ◌⊎◌, inl, inr, List, [], ◌∷◌, ◌++◌, length, refl, sym, ◌∙◌, ap, arith, append_assoc, append-nil}
+use Rattle.std.proofs.Common.{Bool, false, Ok, Err, Result, ◌≡◌, ℕ, ◌+◌, ◌⊎◌, inl, inr, List, [], ◌∷◌, ◌++◌, length, refl, sym, ◌∙◌, ap, arith, append_assoc, append-nil, length-append}
 use Rattle.std.specs.List.{flat_map, AllByRecursion}
 use Rattle.std.specs.Prelude.{IsOk}
 use Rattle.std.proofs.lemmas.Bool.{true≢false}
+use Rattle.std.proofs.lemmas.Bool.Decides.{eqb_tells}
 use Rattle.std.proofs.lemmas.Grind.{flat_map-append}
 use Rattle.segword.specs.declared.shape.Shape.{Shape}
+use Rattle.segmodel.specs.State.{fresh}
 use Rattle.segmodel.specs.Spelling.{PassTurn}
-use Rattle.segmodel.specs.Script.{IsLine, ended, Say, IsBad, IsTextOf, IsFirstBad}
+use Rattle.segmodel.specs.Script.{IsLine, ended, Say, IsBad, Steps, IsTextOf, IsFirstBad}
 use Rattle.segscript.specs.Device.{HandsOut}
-use Rattle.segscript.specs.Run.{RunOutcome, is_read_fault, is_write_fault, is_make_fault}
+use Rattle.segscript.specs.Run.{IsSeenBad, RunOutcome, is_read_fault, is_write_fault, is_make_fault}
 use Rattle.segscript.specs.declared.fault.RunFault.{RunFault}
 use Rattle.segscript.specs.declared.fault.RunFault.TheVariants as fault
-use Rattle.segscript.proofs.LineLemmas.{lines-append}
+use Rattle.segscript.proofs.LineLemmas.{IsLine-append, lines-append}
 use Rattle.segmodel.proofs.Lines.{lines_fit}
 
 -- ---- lines that are cut in two ways
+
+-- the bytes up to the first byte 10, and the rest
+record Cut (bytes : List ℕ) : Type 0 where
+  front : List ℕ
+  back : List ℕ
+  whole : bytes ≡ front ++ back
+  unbroken : IsLine front
+  ends : ((more : List ℕ) × (back ≡ 10 ∷ more)) ⊎ (back ≡ [])
+
+cut : (bytes : List ℕ) → Cut bytes
+cut [] = record { front = []; back = []; whole = refl; unbroken = tt; ends = inr refl }
+cut (b ∷ bytes) = elim (eqb_tells b 10) [
+  | inl same ↦ record { front = []; back = b ∷ bytes; whole = refl; unbroken = tt; ends = inl (bytes, ap (λ a. a ∷ bytes) same.1) }
+  | inr other ↦
+      let rest = cut bytes in
+      record { front = b ∷ rest.front; back = rest.back; whole = ap (λ r. b ∷ r) rest.whole; unbroken = (other.1, rest.unbroken); ends = rest.ends }
+]
 
 head-is : (a b : ℕ) (x y : List ℕ) → a ∷ x ≡ b ∷ y → a ≡ b
 head-is a b x y same = cc
@@ -109,6 +128,53 @@ module _ (shape : Shape) where
       bad.each bad.unbroken bad.is_bad
       (sym end.1 ∙ ap (λ b. b ++ 10 ∷ []) whole.splits.whole ∙ simp (flat_map-append, append_assoc, append-nil))
 
+  -- a line that was seen to be the first bad one is that of the whole script
+  of_script : (seen script text : List ℕ) (n : ℕ) (Ends : Type 0) → (rest : List ℕ) × (script ≡ seen ++ rest) × (Ends → script ≡ seen)
+      → IsSeenBad shape.passes (Steps shape) (fresh shape) Ends seen text n → IsFirstBad shape script text n
+  of_script seen script text n Ends all bad = elim bad.known [
+    | inl whole ↦ record {
+      lines = bad.lines;
+      bad = bad.bad;
+      after = bad.after ++ all.0;
+      state = bad.state;
+      whole = rw (all.1, bad.whole) (simp append_assoc);
+      each = bad.each;
+      unbroken = bad.unbroken;
+      ends = inl (whole.0 ++ all.0, ap (λ a. a ++ all.0) whole.1);
+      is_bad = bad.is_bad;
+      served = bad.served;
+      number = bad.number;
+    }
+    | inr (inl long) ↦
+        let rest = cut (bad.after ++ all.0) in
+        record {
+          lines = bad.lines;
+          bad = bad.bad ++ rest.front;
+          after = rest.back;
+          state = bad.state;
+          whole = rw (all.1, bad.whole) (simp append_assoc (ap (λ r. flat_map ended bad.lines ++ (bad.bad ++ r)) rest.whole));
+          each = bad.each;
+          unbroken = IsLine-append bad.bad rest.front bad.unbroken rest.unbroken;
+          ends = rest.ends;
+          is_bad = inl (simp length-append (omega arith));
+          served = bad.served;
+          number = bad.number;
+        }
+    | inr (inr last) ↦ record {
+      lines = bad.lines;
+      bad = bad.bad;
+      after = bad.after;
+      state = bad.state;
+      whole = all.2 last.1 ∙ bad.whole;
+      each = bad.each;
+      unbroken = bad.unbroken;
+      ends = inr last.0;
+      is_bad = bad.is_bad;
+      served = bad.served;
+      number = bad.number;
+    }
+  ]
+
   -- ---- runs whose devices never failed
 
   module _ {R : Type 0} (hands : R → List ℕ → R → Type 0) (is_at_end : R → Type 0) (Wrote : List ℕ → Type 0) (before flushes : ℕ) (old new : R) (script : List ℕ) (all : HandsOut hands is_at_end old new script)
@@ -126,11 +192,7 @@ module _ (shape : Shape) where
       ends_at_bad text n (Err fault.TooLong) r w made bad out = inr refl
       ends_at_bad text n (Err (fault.Make f)) r w made bad out = absurd (true≢false made)
       ends_at_bad text n (Err (fault.Line m)) r w made bad out =
-          let rest = all out.0 out.2 in
-          inl (ap (λ k. Err (fault.Line k)) (elim out.5 [
-            | inl known ↦ IsFirstBad-one script out.1 text m n (rw (← rest.1) at (known rest.0)) bad
-            | inr last ↦ IsFirstBad-one script out.1 text m n (rw (← rest.2 last.0) at last.1) bad
-          ]))
+          inl (ap (λ k. Err (fault.Line k)) (IsFirstBad-one script out.1 text m n (of_script out.0 script out.1 m (is_at_end new) (all out.0 out.2) out.5) bad))
 
       pub ends_well : (text : List ℕ) (result : Result (Unit {0}) RunFault) → read ≡ is_read_fault result → write ≡ is_write_fault result → is_make_fault result ≡ false
           → IsTextOf shape script text
@@ -142,8 +204,4 @@ module _ (shape : Shape) where
       ends_well text (Err fault.TooLong) r w made good out = inr refl
       ends_well text (Err (fault.Make f)) r w made good out = absurd (true≢false made)
       ends_well text (Err (fault.Line m)) r w made good out =
-          let rest = all out.0 out.2 in
-          absurd (elim out.5 [
-            | inl known ↦ IsTextOf-good script text out.1 m good (rw (← rest.1) at (known rest.0))
-            | inr last ↦ IsTextOf-good script text out.1 m good (rw (← rest.2 last.0) at last.1)
-          ])
+          absurd (IsTextOf-good script text out.1 m good (of_script out.0 script out.1 m (is_at_end new) (all out.0 out.2) out.5))

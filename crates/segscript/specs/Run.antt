@@ -1,11 +1,13 @@
--- How a run of a script ends.
-use Rattle.std.specs.Prelude.{◌⊎◌, ◌≡◌, ℕ, ◌^◌, ◌≤◌, Bool, true, false, List, ◌++◌, length, Result, Ok, Err}
+-- How a run of a script ends. Its turns are taken by whatever stands behind the script: it has this many passes, and step says
+-- what one turn of it is.
+use Rattle.std.specs.Prelude.{◌⊎◌, ◌≡◌, ℕ, ◌+◌, ◌^◌, ◌≤◌, Bool, true, false, List, [], ◌∷◌, ◌++◌, length, Result, Ok, Err}
+use Rattle.std.specs.List.{flat_map, AllByRecursion}
 use Rattle.segword.specs.declared.shape.Shape.{Shape}
 use Rattle.segword.specs.Shape.{IsValid}
 use Rattle.segmodel.specs.declared.answer.Outcome.{Outcome}
 use Rattle.segmodel.specs.State.{fresh}
 use Rattle.segmodel.specs.Spelling.{PassTurn}
-use Rattle.segmodel.specs.Script.{Splits, ServesLines, Steps, Completes, IsTextOf, IsFirstBad}
+use Rattle.segmodel.specs.Script.{IsLine, ended, Splits, IsBad, ServesLines, Steps, Completes}
 use Rattle.segbase.specs.Made.{IsMakeFault}
 use Rattle.segscript.specs.Device.{IsBeginning, flushed}
 use Rattle.segscript.specs.declared.fault.RunFault.{RunFault}
@@ -47,33 +49,40 @@ BreaksOff passes step start seen part =
     (text : List ℕ) × IsBeginning part text
     × (((front : List ℕ) × (rest : List ℕ) × (seen ≡ front ++ rest) × Comes passes step start front text) ⊎ Completes passes step start seen text)
 
--- so the model says
-abbrev pub Reaches : Shape → List ℕ → List ℕ → Type 0
-Reaches shape seen text = Comes shape.passes (Steps shape) (fresh shape) seen text
-
-abbrev pub IsCutOff : Shape → List ℕ → List ℕ → Type 0
-IsCutOff shape seen part = BreaksOff shape.passes (Steps shape) (fresh shape) seen part
-
--- whatever comes after these bytes, line n is the first bad one
-abbrev pub IsBadFrom : Shape → List ℕ → List ℕ → ℕ → Type 0
-IsBadFrom shape seen text n = (more : List ℕ) → IsFirstBad shape (seen ++ more) text n
+-- Line n of these bytes is bad, and none before it, and this is the text of those. Of the line its end was read, or its 129th byte,
+-- or (where Ends) nothing comes after it: so it is told neither early nor on a guess.
+pub record IsSeenBad (passes : ℕ) {S : Type 0} (step : S → PassTurn → Outcome → S → Type 0) (start : S) (Ends : Type 0) (seen text : List ℕ) (n : ℕ) : Type 0 where
+  pub lines : List (List ℕ)
+  pub bad : List ℕ
+  pub after : List ℕ
+  pub state : S
+  pub whole : seen ≡ flat_map ended lines ++ (bad ++ after)
+  pub each : AllByRecursion IsLine lines
+  pub unbroken : IsLine bad
+  pub is_bad : IsBad passes bad
+  pub known : ((more : List ℕ) × (after ≡ 10 ∷ more)) ⊎ (length bad ≡ 129) ⊎ ((after ≡ []) × Ends)
+  pub served : ServesLines passes step start lines text state
+  pub number : n ≡ length lines + 1
 
 -- ---- how it ends
 
 -- Read is what is so of all bytes that were read, Wrote of all that were written, Flushes of how many flushes were asked
 -- for before and how many then, and Ends that the reader is at its end.
 -- A fault in the making is none of a run.
-abbrev pub RunOutcome : Shape → (List ℕ → Type 0) → Type 0 → (List ℕ → Type 0) → ℕ → ℕ → Result (Unit {0}) RunFault → Type 0
-RunOutcome shape Read Ends Wrote before flushes (Ok _) =
-    (script : List ℕ) × (text : List ℕ) × Read script × Ends × Wrote text × (flushes ≡ flushed before) × IsTextOf shape script text
-RunOutcome shape Read Ends Wrote before flushes (Err fault.Read) =
-    (seen : List ℕ) × (text : List ℕ) × Read seen × Wrote text × (flushes ≡ before) × Reaches shape seen text
-RunOutcome shape Read Ends Wrote before flushes (Err fault.TooLong) =
-    (seen : List ℕ) × (text : List ℕ) × Read seen × Wrote text × (flushes ≡ before) × Reaches shape seen text × (length seen ≡ 2 ^ 63)
-RunOutcome shape Read Ends Wrote before flushes (Err (fault.Line n)) =
-    (seen : List ℕ) × (text : List ℕ) × Read seen × Wrote text × (flushes ≡ before)
-    × (IsBadFrom shape seen text n ⊎ (Ends × IsFirstBad shape seen text n))
-RunOutcome shape Read Ends Wrote before flushes (Err fault.Write) =
+abbrev pub EndOfRun : (passes : ℕ) {S : Type 0} (step : S → PassTurn → Outcome → S → Type 0) → S → (List ℕ → Type 0) → Type 0 → (List ℕ → Type 0) → ℕ → ℕ → Result (Unit {0}) RunFault → Type 0
+EndOfRun passes step start Read Ends Wrote before flushes (Ok _) =
+    (script : List ℕ) × (text : List ℕ) × Read script × Ends × Wrote text × (flushes ≡ flushed before) × Completes passes step start script text
+EndOfRun passes step start Read Ends Wrote before flushes (Err fault.Read) =
+    (seen : List ℕ) × (text : List ℕ) × Read seen × Wrote text × (flushes ≡ before) × Comes passes step start seen text
+EndOfRun passes step start Read Ends Wrote before flushes (Err fault.TooLong) =
+    (seen : List ℕ) × (text : List ℕ) × Read seen × Wrote text × (flushes ≡ before) × Comes passes step start seen text × (length seen ≡ 2 ^ 63)
+EndOfRun passes step start Read Ends Wrote before flushes (Err (fault.Line n)) =
+    (seen : List ℕ) × (text : List ℕ) × Read seen × Wrote text × (flushes ≡ before) × IsSeenBad passes step start Ends seen text n
+EndOfRun passes step start Read Ends Wrote before flushes (Err fault.Write) =
     (seen : List ℕ) × (part : List ℕ) × Read seen × Wrote part
-    × (((flushes ≡ before) × IsCutOff shape seen part) ⊎ ((flushes ≡ flushed before) × Ends × IsTextOf shape seen part))
-RunOutcome shape Read Ends Wrote before flushes (Err (fault.Make f)) = Unit {0}
+    × (((flushes ≡ before) × BreaksOff passes step start seen part) ⊎ ((flushes ≡ flushed before) × Ends × Completes passes step start seen part))
+EndOfRun passes step start Read Ends Wrote before flushes (Err (fault.Make f)) = Unit {0}
+
+-- so the model says, of a cache in which nothing was done before
+abbrev pub RunOutcome : Shape → (List ℕ → Type 0) → Type 0 → (List ℕ → Type 0) → ℕ → ℕ → Result (Unit {0}) RunFault → Type 0
+RunOutcome shape Read Ends Wrote before flushes result = EndOfRun shape.passes (Steps shape) (fresh shape) Read Ends Wrote before flushes result

@@ -1,12 +1,11 @@
 -- What the parts of a run do, between its reads. Their turns are taken by whatever stands behind the script: it has this many
 -- passes, and step says what one turn of it is.
-use Rattle.std.specs.Prelude.{◌⊎◌, ◌≡◌, ℕ, ◌+◌, ◌^◌, ◌≤◌, List, [], ◌∷◌, ◌++◌, length, Result, Ok, Err}
-use Rattle.std.specs.List.{flat_map, AllByRecursion}
+use Rattle.std.specs.Prelude.{◌⊎◌, ◌≡◌, ℕ, ◌+◌, ◌≤◌, List, [], ◌∷◌, ◌++◌, length, Result, Ok, Err}
 use Rattle.segmodel.specs.declared.answer.Outcome.{Outcome}
 use Rattle.segmodel.specs.Spelling.{PassTurn}
-use Rattle.segmodel.specs.Script.{IsLine, ended, Splits, IsBad, ServesLines, Completes}
+use Rattle.segmodel.specs.Script.{Splits, IsBad, ServesLines, Completes}
 use Rattle.segscript.specs.Device.{IsBeginning, flushed}
-use Rattle.segscript.specs.Run.{Comes, BreaksOff}
+use Rattle.segscript.specs.Run.{Comes, BreaksOff, IsSeenBad}
 use Rattle.segscript.specs.declared.fault.RunFault.{RunFault}
 use Rattle.segscript.specs.declared.fault.RunFault.TheVariants as fault
 
@@ -24,20 +23,6 @@ abbrev pub AllReplied : (passes : ℕ) {S : Type 0} (step : S → PassTurn → O
 AllReplied passes {S} step {R} {W} hands takes now reader writer line number =
     (start : S) × (from : R) × (to : W) × (seen : List ℕ) × (told : List ℕ) × hands from seen reader × takes to told writer × Stands passes step start now seen told line number
 
--- Line n of these bytes is bad, and none before it: it has its end, or its 129th byte, or (where Ends) nothing comes after it.
-pub record FirstBad (passes : ℕ) {S : Type 0} (step : S → PassTurn → Outcome → S → Type 0) (start : S) (Ends : Type 0) (seen text : List ℕ) (n : ℕ) : Type 0 where
-  pub lines : List (List ℕ)
-  pub bad : List ℕ
-  pub after : List ℕ
-  pub state : S
-  pub whole : seen ≡ flat_map ended lines ++ (bad ++ after)
-  pub each : AllByRecursion IsLine lines
-  pub unbroken : IsLine bad
-  pub is_bad : IsBad passes bad
-  pub known : ((more : List ℕ) × (after ≡ 10 ∷ more)) ⊎ (length bad ≡ 129) ⊎ ((after ≡ []) × Ends)
-  pub served : ServesLines passes step start lines text state
-  pub number : n ≡ length lines + 1
-
 -- ---- what became of the parts
 
 module _ (passes : ℕ) {S : Type 0} (step : S → PassTurn → Outcome → S → Type 0) where
@@ -52,7 +37,7 @@ module _ (passes : ℕ) {S : Type 0} (step : S → PassTurn → Outcome → S �
   -- what became of bytes that were fed: seen are all that came, theirs among them, and told is what was written before
   abbrev pub FeedOutcome : S → S → (List ℕ → Type 0) → List ℕ → List ℕ → List ℕ → ℕ → Result (Unit {0}) RunFault → Type 0
   FeedOutcome start now Wrote seen told line number (Ok _) = (text : List ℕ) × Wrote text × Stands passes step start now seen (told ++ text) line number
-  FeedOutcome start now Wrote seen told line number (Err (fault.Line n)) = (text : List ℕ) × Wrote text × FirstBad passes step start ⊥ seen (told ++ text) n
+  FeedOutcome start now Wrote seen told line number (Err (fault.Line n)) = (text : List ℕ) × Wrote text × IsSeenBad passes step start ⊥ seen (told ++ text) n
   FeedOutcome start now Wrote seen told line number (Err fault.Write) =
       (part : List ℕ) × (text : List ℕ) × (front : List ℕ) × (rest : List ℕ) × Wrote part × IsBeginning (told ++ part) text × (seen ≡ front ++ rest) × Comes passes step start front text
   FeedOutcome start now Wrote seen told line number (Err _) = ⊥
@@ -62,25 +47,8 @@ module _ (passes : ℕ) {S : Type 0} (step : S → PassTurn → Outcome → S �
   FinishOutcome start Wrote before flushes seen told (Ok _) =
       (text : List ℕ) × Wrote text × (flushes ≡ flushed before) × Completes passes step start seen (told ++ text)
   FinishOutcome start Wrote before flushes seen told (Err (fault.Line n)) =
-      (text : List ℕ) × Wrote text × (flushes ≡ before) × FirstBad passes step start (Unit {0}) seen (told ++ text) n
+      (text : List ℕ) × Wrote text × (flushes ≡ before) × IsSeenBad passes step start (Unit {0}) seen (told ++ text) n
   FinishOutcome start Wrote before flushes seen told (Err fault.Write) =
       (part : List ℕ) × Wrote part
       × (((flushes ≡ before) × BreaksOff passes step start seen (told ++ part)) ⊎ ((flushes ≡ flushed before) × Completes passes step start seen (told ++ part)))
   FinishOutcome start Wrote before flushes seen told (Err _) = ⊥
-
-  -- What became of a whole run. Read is what is so of all bytes that were read, Wrote of all that were written, and Ends that
-  -- the reader is at its end.
-  abbrev pub EndOfRun : S → (List ℕ → Type 0) → Type 0 → (List ℕ → Type 0) → ℕ → ℕ → Result (Unit {0}) RunFault → Type 0
-  EndOfRun start Read Ends Wrote before flushes (Ok _) =
-      (script : List ℕ) × (text : List ℕ) × Read script × Ends × Wrote text × (flushes ≡ flushed before) × Completes passes step start script text
-  EndOfRun start Read Ends Wrote before flushes (Err fault.Read) =
-      (seen : List ℕ) × (text : List ℕ) × Read seen × Wrote text × (flushes ≡ before) × Comes passes step start seen text
-  EndOfRun start Read Ends Wrote before flushes (Err fault.TooLong) =
-      (seen : List ℕ) × (text : List ℕ) × Read seen × Wrote text × (flushes ≡ before) × Comes passes step start seen text × (length seen ≡ 2 ^ 63)
-  EndOfRun start Read Ends Wrote before flushes (Err (fault.Line n)) =
-      (seen : List ℕ) × (text : List ℕ) × Read seen × Wrote text × (flushes ≡ before)
-      × (FirstBad passes step start ⊥ seen text n ⊎ (Ends × FirstBad passes step start (Unit {0}) seen text n))
-  EndOfRun start Read Ends Wrote before flushes (Err fault.Write) =
-      (seen : List ℕ) × (part : List ℕ) × Read seen × Wrote part
-      × (((flushes ≡ before) × BreaksOff passes step start seen part) ⊎ ((flushes ≡ flushed before) × Ends × Completes passes step start seen part))
-  EndOfRun start Read Ends Wrote before flushes (Err (fault.Make f)) = ⊥

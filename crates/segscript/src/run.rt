@@ -1,7 +1,7 @@
 //! Runs a script from a reader to a writer, over an engine.
 ghost use Rattle.std.specs.Prelude.{◌≡◌, ◌+◌, ◌<◌, ◌≤◌, ◌^◌, ◌++◌, ◌∷◌, [], ◌⊎◌, ℕ, List, length, take, false, IsOk, IfOk, OnErr, is_err};
-ghost use Rattle.segscript.specs.Running.{AllReplied, EndOfRun};
-ghost use Rattle.segscript.specs.Run.{is_read_fault, is_write_fault, is_make_fault};
+ghost use Rattle.segscript.specs.Running.{AllReplied};
+ghost use Rattle.segscript.specs.Run.{EndOfRun, is_read_fault, is_write_fault, is_make_fault};
 
 use crate::device::{Failed, Sink, Source, write_all};
 use crate::engine::Engine;

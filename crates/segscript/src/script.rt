@@ -32,7 +32,9 @@ pub fn run_script<R: Source, W: Sink>(
         (λ text. W.takes writer.old text writer.new) (W.flushes writer.old) (W.flushes writer.new) result }
 
     // Each turn was that of the pass that its line names, whose answer the reply tells; the other passes were left alone.
-    ensures each_turn { EachTurn shape (λ seen. R.hands reader.old seen reader.new) (λ text. W.takes writer.old text writer.new) result }
+    ensures each_turn { EachTurn shape
+        (λ seen. R.hands reader.old seen reader.new) (R.is_at_end reader.new)
+        (λ text. W.takes writer.old text writer.new) (W.flushes writer.old) (W.flushes writer.new) result }
     ensures read { R.has_failed reader.new ≡ is_read_fault result }
     ensures write { W.has_failed writer.new ≡ is_write_fault result }
 

@@ -16,13 +16,13 @@ pub returns-clause-outcome : goal.returns-clause-outcome
 returns-clause-outcome g c =
     let of : shape_of c.in-Ok-new.server.index.now ≡ c.args.shape = ap shape_of c.in-Ok-new.ensures.holds.0 ∙ c.in-Ok.ensures.made.of in
     let start = c.in-Ok-new.ensures.start ∙ ap fresh c.in-Ok.ensures.made.of in
-    model_ends c.args.shape c.in-Ok-new.server of start _ _ _ _ _ c.run-result.result (at_shape c.args.shape c.in-Ok-new.server of _ _ _ _ _ c.run-result.result c.run-result.ensures.outcome)
+    model_ends c.args.shape c.in-Ok-new.server of _ _ _ _ _ start c.run-result.result (at_shape c.args.shape c.in-Ok-new.server of _ _ _ _ _ c.run-result.result c.run-result.ensures.outcome)
 
 pub returns-clause-each_turn : goal.returns-clause-each_turn
 returns-clause-each_turn g c =
     let of : shape_of c.in-Ok-new.server.index.now ≡ c.args.shape = ap shape_of c.in-Ok-new.ensures.holds.0 ∙ c.in-Ok.ensures.made.of in
     let new : IsNew c.args.shape c.in-Ok-new.server.index.now c.in-Ok-new.server.passes.items = rw (c.in-Ok-new.ensures.holds.0, c.in-Ok-new.ensures.holds.1) c.in-Ok.ensures.made in
-    passes_end c.args.shape c.in-Ok-new.server of new _ _ _ _ _ c.run-result.result (at_shape c.args.shape c.in-Ok-new.server of _ _ _ _ _ c.run-result.result c.run-result.ensures.outcome)
+    passes_end c.args.shape c.in-Ok-new.server of _ _ _ _ _ new c.run-result.result (at_shape c.args.shape c.in-Ok-new.server of _ _ _ _ _ c.run-result.result c.run-result.ensures.outcome)
 
 pub returns-clause-bad_line : goal.returns-clause-bad_line
 returns-clause-bad_line g c = λ script text n all bad reads writes made.
