@@ -23,7 +23,6 @@ pub mod Says
 pub mod ExampleTrace
 pub mod ExampleSchedule
 pub mod ExampleScan
-pub mod Allowed
 pub mod Homes
 pub mod Drafts
 pub mod Buckets

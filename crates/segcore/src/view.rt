@@ -1,8 +1,6 @@
 //! What a pass knows.
 use crate::Event;
-use atomic_table::Play;
 use std::collections::LinkedList;
-use std::marker::Brand;
 
 /// What a pass knows of the table. No value of it is made.
 pub struct View {
@@ -12,9 +10,4 @@ pub struct View {
     pub trace: LinkedList<Event>,
     /// In the view of pass 0, how many passes there are.
     pub dealt: u32,
-}
-
-// What a step of the table tells is picked at each call.
-impl Play<(), View> for Brand {
-    ghost then = { λ _ _ _ _. Unit {0} };
 }

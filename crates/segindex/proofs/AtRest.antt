@@ -1,5 +1,5 @@
 -- What the words of a chain at rest say: the pair that a word names, the bucket that the last one leads on to, and where the chain ends.
-use Rattle.std.proofs.Common.{◌≡◌, ℕ, ◌+◌, ◌-◌, ◌*◌, ◌/◌, ◌%◌, ◌^◌, ◌<◌, ◌≤◌, true, false, ltb, List, length, Some, None, refl, sym, ap, ◌∙◌, subst, inl, inr, ⊎_elim, arith}
+use Rattle.std.proofs.Common.{◌≡◌, ℕ, ◌+◌, ◌-◌, ◌*◌, ◌%◌, ◌^◌, ◌<◌, ◌≤◌, true, false, ltb, List, length, Some, refl, sym, ap, ◌∙◌, subst, inl, inr, ⊎_elim, arith}
 use Rattle.std.proofs.lemmas.Bool.{cases_lt, lt-ltb, le-ltb}
 use Rattle.std.proofs.lemmas.List.{ext_get_or}
 use Rattle.std.specs.Prelude.{slice_index, Option, option_map}
@@ -7,7 +7,7 @@ use Rattle.segword.specs.declared.shape.Shape.{Shape}
 use Rattle.segword.specs.declared.item.Item.{Item}
 use Rattle.segword.specs.Shape.{IsValid}
 use Rattle.segword.specs.Bytes.{IsKey, IsValue}
-use Rattle.segword.specs.ItemWord.{item_word, tag_part}
+use Rattle.segword.specs.ItemWord.{item_word}
 use Rattle.segword.specs.ChainWord.{chain_word, IsChainWord}
 use Rattle.segword.specs.Row.{row_of}
 use Rattle.segmodel.specs.declared.entry.Cached.{Cached}
@@ -18,11 +18,10 @@ use Rattle.segcore.specs.Bucket.{bucket_after}
 use Rattle.segcore.specs.Overflow.{home as home_at, home_of}
 use Rattle.segcore.specs.Row.{row_after}
 use Rattle.segcore.specs.Lawful.{IsSegment}
-use Rattle.segcore.specs.Word.{word, IsAt, IsItemAt}
+use Rattle.segcore.specs.Word.{word, IsItemAt}
 use Rattle.segcore.specs.Search.{KeyAt}
 use Rattle.segcore.proofs.Chains.{chain_of}
-use Rattle.segcore.proofs.ChainWords.{other_tag, leads_on, ends_there}
-use Rattle.segcore.proofs.Exact.{tagged}
+use Rattle.segcore.proofs.ChainWords.{leads_on, ends_there}
 use Rattle.segcore.proofs.Limits.{few_drawn}
 use Rattle.segcore.proofs.StepKinds.{cell_in}
 use Rattle.segbase.specs.declared.place.Place.{Place}
@@ -58,12 +57,6 @@ module _ (words : Words) (trace : List Event) (home at : ℕ) (place : Place) (r
     in_table = is.0;
     at = subst (λ b. IsItemAt z trace b (position z trace place) cell) (sym place_is.0) (subst (λ n. IsItemAt z trace home n cell) (sym place_is.1) is.1);
   }
-
-  -- a word without a tag is no key's
-  pub no_pair : tag_part (word_at words cell) ≡ 0 → IsPairAt z trace home at None
-  no_pair none key of there =
-      let tag = tagged key in
-      other_tag z key trace at cell rest.valid rest.lawful (subst (λ b. IsAt trace b at cell) (sym of) is.1.1) (λ same. let tagless : word z trace cell / 2 ^ 52 ≡ 0 = ap (λ w. w / 2 ^ 52) (sym same_word) ∙ none in omega (arith, tag.0, same, tagless)) there
 
   module _ (item : Item) (of : item_word item ≡ word_at words cell) where
     linked : (key : List ℕ) × (value : List ℕ) × WasLinked z place (word_at words cell) key value trace

@@ -1,6 +1,6 @@
 -- The eviction of a segment, row by row: what was taken out so far, and that no key stands there when all its rows are gone.
 use Rattle.std.proofs.Common.{◌≡◌, ◌≢◌, ℕ, ◌+◌, ◌<◌, ◌≤◌, Bool, true, false, cond, eqb, ◌&&◌, is_some, List, [], ◌∷◌, ◌++◌, length, Option, Some, None, refl, sym, ap, ◌∙◌, subst, inl, inr, ⊎_elim, arith}
-use Rattle.std.proofs.lemmas.Bool.{cases_eq, cases_Bool, cond-true, cond-false, eq-eqb, ne_eqb, ltb-true, false≢true}
+use Rattle.std.proofs.lemmas.Bool.{cases_eq, cases_Bool, cond-true, cond-false, ne_eqb, ltb-true}
 use Rattle.std.proofs.lemmas.Option.{none-some, same_Some}
 use Rattle.segmodel.specs.declared.entry.Entry.{Entry}
 use Rattle.segmodel.specs.declared.entry.Entry.TheVariants as entry
@@ -181,13 +181,6 @@ but_again segment (Some n) = but_is segment (eqb n segment) n refl
 pub but_other : (segment : ℕ) (o : Option ℕ) → o ≢ Some segment → but_for segment o ≡ o
 but_other segment None other = refl
 but_other segment (Some n) other = cond-false (eqb n segment) None (Some n) (ne_eqb n segment (λ e. other (ap Some e)))
-
-pub not_but : (segment : ℕ) (o : Option ℕ) → but_for segment o ≢ Some segment
-not_but segment None is = none-some segment is
-not_but segment (Some n) is = ⊎_elim
-    (λ t. none-some segment (sym (cond-true (eqb n segment) None (Some n) t) ∙ is))
-    (λ f. false≢true (sym f ∙ eq-eqb n segment (same_Some n segment (sym (cond-false (eqb n segment) None (Some n) f) ∙ is))))
-    (cases_Bool (eqb n segment))
 
 -- ---- the answer
 

@@ -18,7 +18,6 @@ use Rattle.segcore.specs.Bucket.{bucket_after}
 use Rattle.segcore.specs.Kind.{May, release}
 use Rattle.segcore.specs.Lawful.{NoneAt}
 use Rattle.segcore.proofs.KeyCounts.{wide}
-use Rattle.segcore.proofs.KeyCounts.{wide}
 use Rattle.segcore.proofs.Orderly.{all_drawn_marked}
 use Rattle.segcore.proofs.Moments.{begins_on, marked_begins}
 use Rattle.segbase.specs.declared.board.Board.{Board}

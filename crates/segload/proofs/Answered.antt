@@ -97,11 +97,6 @@ write_free b asked write.NoRoom p q writes free = unchanged_free p q writes.answ
 write_free b asked write.BucketFull p q writes free = unchanged_free p q writes.answer.0 free
 write_free b asked write.Busy p q writes free = unchanged_free p q writes.answer.0 free
 
-pub delete_free : (b : Board) (key : List ℕ) (told : DeleteAnswer) (p q : Pass) → Deletes b key told p q → IsFree p → IsFree q
-delete_free b key delete.Deleted p q deletes free = plain_free p q deletes.answer.1 deletes.answer.2 free
-delete_free b key delete.NotFound p q deletes free = plain_free p q deletes.answer.1 deletes.answer.2 free
-delete_free b key delete.Busy p q deletes free = unchanged_free p q deletes.answer.0 free
-
 pub evict_free : (shape : Shape) (segment : ℕ) (told : EvictAnswer) (p q : Pass) → IsEvictAnswer shape segment told p q → IsFree p → IsFree q
 evict_free shape segment (evict.Evicted count) p q (inl out) free = kept_free p q out.1.locked out.1.memo free
 evict_free shape segment (evict.Evicted count) p q (inr none) free = subst IsFree (sym none.2) free
