@@ -31,9 +31,26 @@ const LONG_SCRIPT: &str = "Runs a script from standard input, and writes the rep
 
 The index is made first, of the shape that the options give. Each line names a pass, a command and
 what it is about. A pass refills a segment before it sets its first key. The first bad line ends the
-script.";
+script. A key has 1 to 24 bytes, and a value 1 to 32 or is - for the empty one; each byte is printable
+and no space.";
 
-const AFTER_SCRIPT: &str = "Example:
+const AFTER_SCRIPT: &str = "Lines, here of pass 0, and their replies:
+  p0 refill SEGMENT         REFILLED, NOT_YOURS, NOT_EVICTED or HELD
+  p0 evict SEGMENT          EVICTED or BUSY with how many keys went, or NOT_YOURS
+  p0 get KEY                VALUE with the value, MISS or BUSY
+  p0 gets KEY               VALUE with the value and its version, MISS or BUSY
+  p0 set KEY VALUE          STORED, NOROOM, BUCKETFULL or BUSY
+  p0 add KEY VALUE          STORED, NOT_STORED, NOROOM, BUCKETFULL or BUSY
+  p0 replace KEY VALUE      STORED, NOT_STORED, NOROOM or BUSY
+  p0 cas KEY VALUE VERSION  STORED, EXISTS, NOT_FOUND, NOROOM or BUSY
+  p0 delete KEY             DELETED, NOT_FOUND or BUSY
+  p0 hold KEY               HOLDING, MISS, BUSY or ALREADY_HOLDING
+  p0 held                   VALUE with the value that is held, or NOT_HOLDING
+  p0 release                RELEASED or NOT_HOLDING
+  p0 lock KEY               LOCKED, BUSY or ALREADY_LOCKED
+  p0 unlock                 UNLOCKED or NOT_LOCKED
+
+Example:
   printf 'p0 refill 0\\np0 set a 1\\np0 get a\\n' | segrun script --rows 100
 writes REFILLED, STORED and VALUE 1, a line each.
 

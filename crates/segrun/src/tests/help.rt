@@ -51,6 +51,9 @@ fn help_tells_a_newcomer_what_to_do(rt: HostRuntime) -> Result<(), Fail> {
             "--rows <N>",
             "[default: 8]",
             "--first-version <N>",
+            "p0 refill SEGMENT         REFILLED",
+            "p0 cas KEY VALUE VERSION",
+            "p0 unlock                 UNLOCKED or NOT_LOCKED",
             "\\np0 get a\\n' | segrun script --rows 100",
             "Exit status",
         ];
