@@ -20,6 +20,7 @@ pub use board::Board;
 pub use closing::Words;
 pub use fault::MakeFault;
 pub use law::{Held, Locked, Memo, Sight};
+pub use overflow::CHAIN_BUCKETS;
 pub use pass::Pass;
 pub use place::{Place, RowPlace};
 

@@ -11,6 +11,9 @@ use crate::pass::Pass;
 use crate::place::{Place, Spot};
 use segword::{Chain, Item};
 
+/// The most buckets that a chain has: the bucket itself, and three overflow buckets.
+pub const CHAIN_BUCKETS: u32 = 4;
+
 impl Board {
     ghost use Rattle.segbase.specs.Passes.{number, trace, IsPassOf, CanStep, Did, Stepped};
     ghost use Rattle.segbase.specs.Spots.{item_spot, cell_at, home_bucket, drawn_for};

@@ -31,7 +31,7 @@ use Rattle.segbase.specs.Closing.{shape_of, word_at, IsAtRest}
 use Rattle.segbase.proofs.Placed.{item_home}
 use Rattle.segstore.specs.Linked.{segment_part, row_part, IsChained, WasLinked}
 use Rattle.segstore.proofs.Words.{at_place, stood_item, segment_of_packed, row_of_packed}
-use Rattle.segindex.specs.Scanning.{place_of}
+use Rattle.segread.specs.Scanning.{place_of}
 use Rattle.segindex.specs.Closing.{IsWordIn, IsBucketIn, IsPairAt}
 
 -- ---- a word

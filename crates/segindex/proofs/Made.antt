@@ -14,7 +14,7 @@ use Rattle.segbase.specs.Passes.{number}
 use Rattle.segbase.specs.Plain.{used_in, used_of}
 use Rattle.segbase.specs.Made.{unfilled, IsNewPlain, IsNewPass}
 use Rattle.segstore.specs.Segments.{KeepsSegments}
-use Rattle.segindex.specs.Quiet.{is_held_in, IsQuiet}
+use Rattle.segpass.specs.Quiet.{is_held_in, IsQuiet}
 
 unused : (n k used : ℕ) → used_in (slice_get (replicate n unfilled) k) ≡ Some used → used ≡ 0
 unused zero k used e = absurd (none-some used e)

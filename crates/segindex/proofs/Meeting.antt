@@ -13,7 +13,7 @@ use Rattle.segbase.specs.declared.pass.Pass.{Pass}
 use Rattle.segbase.specs.Passes.{number, trace, mine, Moved}
 use Rattle.segbase.proofs.Begun.{begins_then}
 use Rattle.segbase.proofs.Moves.{moved_on, moved_mine}
-use Rattle.segindex.specs.Calls.{Meets}
+use Rattle.segindex.specs.Meeting.{Meets}
 
 -- a pass's entries in a longer history go on from those in a shorter one
 pub mine_begins : (n : ℕ) (h g : List Entry) → Begins h g → Begins (history.mine n h) (history.mine n g)

@@ -22,9 +22,9 @@ use Rattle.segbase.specs.declared.pass.Pass.{Pass}
 use Rattle.segbase.specs.Passes.{number, trace}
 use Rattle.segbase.specs.Passes as passes
 use Rattle.segbase.specs.Plain.{locked_of}
-use Rattle.segindex.specs.Quiet.{IsQuiet}
-use Rattle.segindex.specs.Answers.{IsBusy}
-use Rattle.segindex.proofs.Quiet.{has_locked}
+use Rattle.segpass.specs.Quiet.{IsQuiet}
+use Rattle.segpass.specs.Calls.{IsBusy}
+use Rattle.segpass.proofs.Quiet.{has_locked}
 use Rattle.segmodel.specs.History.{mine, entries_of, stirred}
 use Rattle.segmodel.specs.Places.{bucket_of}
 use Rattle.segbase.proofs.Alone.{none_by}

@@ -23,9 +23,9 @@ use Rattle.segbase.specs.Passes.{number, trace, locked}
 use Rattle.segbase.specs.Passes as passes
 use Rattle.segbase.specs.Plain.{state_of, used_of}
 use Rattle.segbase.proofs.Owned.{owns_state, state_owned}
-use Rattle.segindex.specs.Quiet.{IsQuiet}
-use Rattle.segindex.specs.Answers.{NoneSince}
-use Rattle.segindex.proofs.Meanwhile.{none_entries}
+use Rattle.segpass.specs.Quiet.{IsQuiet}
+use Rattle.segpass.specs.Locks.{NoneSince}
+use Rattle.segpass.proofs.Meanwhile.{none_entries}
 
 -- a pass knows just the segments that it owns
 pub owned : (b : Board) (p : Pass) (s : ℕ) → IsQuiet b p → IsSome (state_of p s) ↔ (owner b.shape s ≡ number p)

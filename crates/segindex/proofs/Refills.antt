@@ -19,14 +19,14 @@ use Rattle.segbase.specs.Plain.{state_of}
 use Rattle.segbase.proofs.Moves.{moved_inside, moved_mine}
 use Rattle.segstore.specs.Segments.{KeepsSegments}
 use Rattle.segstore.specs.Refilling.{Idles, FillsAnew, IsOutcome}
-use Rattle.segindex.specs.Quiet.{is_held_in, IsQuiet}
-use Rattle.segindex.specs.Calls.{GoesOn, TakesNoBit, DrawsNothing, ReadsNothing}
-use Rattle.segindex.specs.Answers.{IsRead, IsRefillAnswer}
-use Rattle.segindex.proofs.Bits.{bit_before}
-use Rattle.segindex.proofs.Draws.{moved_undrawn}
-use Rattle.segindex.proofs.Quiet.{Settles, quiet_again, goes_on}
-use Rattle.segindex.proofs.Still.{no_reader}
-use Rattle.segindex.proofs.Idling.{goes_same, changes_nothing, goes_nowhere, does_nothing, took_none}
+use Rattle.segpass.specs.Quiet.{is_held_in, IsQuiet}
+use Rattle.segpass.specs.Calls.{GoesOn, TakesNoBit, DrawsNothing, ReadsNothing}
+use Rattle.segindex.specs.Refilling.{IsRead, IsRefillAnswer}
+use Rattle.segpass.proofs.Bits.{bit_before}
+use Rattle.segpass.proofs.Draws.{moved_undrawn}
+use Rattle.segpass.proofs.Quiet.{Settles, quiet_again, goes_on}
+use Rattle.segpass.proofs.Still.{no_reader}
+use Rattle.segpass.proofs.Idling.{goes_same, changes_nothing, goes_nowhere, does_nothing, took_none}
 
 -- ---- quiet again
 

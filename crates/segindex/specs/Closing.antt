@@ -21,7 +21,7 @@ use Rattle.segbase.specs.declared.place.Place.{Place}
 use Rattle.segbase.specs.Passes.{number, seen, mine}
 use Rattle.segbase.specs.Spots.{IsPlace, cell_at}
 use Rattle.segbase.specs.Closing as closing
-use Rattle.segindex.specs.Scanning.{place_of}
+use Rattle.segread.specs.Scanning.{place_of}
 
 -- ---- the content
 

@@ -6,8 +6,7 @@ ghost use Rattle.segbase.specs.Closing.{shape_of, IsAtRest};
 ghost use Rattle.segindex.specs.Closing.{HasContent, HasPairs, IsListed, IsWordIn, IsBucketIn, IsPairAt};
 
 use crate::index::Index;
-use crate::scan::BUCKETS;
-use segbase::{Pass, Place, Words};
+use segbase::{CHAIN_BUCKETS, Pass, Place, Words};
 use segword::{Chain, Item, Key, Value, read_row};
 use std::alloc::{AllocError, Global};
 use thiserror::Error;
@@ -19,7 +18,7 @@ pub struct OutOfMemory;
 
 impl Index {
     ghost use Rattle.segindex.specs.Index as index;
-    ghost use Rattle.segindex.specs.Quiet.{IsQuiet};
+    ghost use Rattle.segpass.specs.Quiet.{IsQuiet};
     ghost use Rattle.segindex.specs.Closing.{IsContent, WantsMemory, IsContentSeen};
 
     /// Ends the index, and lists what stands in it: each key with its value, in the order of the keys. That is the content after all that any pass did, whether this one has seen it or not; buckets that are still locked are listed like the others. It can't be called while an item is held.
@@ -65,7 +64,7 @@ fn list_chain(words: &Words, home: u32, pairs: &mut Vec<(Key, Value)>) -> Result
     ensures wanted { OnErr result (HasPairs words.now) }
 {
     let mut bucket = home;
-    for depth in 0..BUCKETS {
+    for depth in 0..CHAIN_BUCKETS {
         list_bucket(words, bucket, pairs)?;
         let Some(number) = Chain::unpack(words.item(Place { bucket, word: 7 })) else {
             return Ok(());

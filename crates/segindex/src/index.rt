@@ -14,7 +14,7 @@ pub struct Index {
 impl Index {
     ghost use Rattle.segbase.specs.Made.{IsMakeFault};
     ghost use Rattle.segindex.specs.Index.{shape_of};
-    ghost use Rattle.segindex.specs.Calls.{IsNew};
+    ghost use Rattle.segindex.specs.Index.{IsNew};
 
     /// An index of this shape with its passes, in the order of their numbers. No later call takes memory but `close`.
     pub fn new(alloc: Global, shape: Shape) -> Result<(Index, Vec<Pass>), MakeFault>

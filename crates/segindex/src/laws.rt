@@ -1,4 +1,4 @@
-//! Laws of quiet passes, beside what the calls say. These functions do nothing: their contracts are the theorems.
+//! Laws of quiet passes and of replies, beside what the calls say. These functions do nothing: their contracts are the theorems.
 ghost use Rattle.std.specs.Prelude.{◌≡◌, ◌≢◌, ℕ, ◌+◌, ◌*◌, ◌^◌, ◌<◌, ◌≤◌, ◌↔◌, nat_lt, is_some, IsSome, List, Some};
 ghost use Rattle.segmodel.specs.declared.request.Request.{Request};
 ghost use Rattle.segmodel.specs.declared.request.Request.TheVariants.{Cas, Delete};
@@ -21,11 +21,12 @@ ghost use Rattle.segbase.specs.Passes.{number, trace, marked, seen, mine, bounce
 ghost use Rattle.segbase.specs.Plain.{current_of, state_of, used_of, locked_of};
 ghost use Rattle.segindex.specs.declared.index.Index.{Index};
 ghost use Rattle.segindex.specs.Index.{board_of, shape_of};
-ghost use Rattle.segindex.specs.Quiet.{IsQuiet};
-ghost use Rattle.segindex.specs.Answers.{IsBusy, NoneSince, Writes, Deletes};
-ghost use Rattle.segindex.specs.Gets.{IsGetsAnswer};
-ghost use Rattle.segindex.specs.Served.{StartsAlone, GetIsServed, GetsIsServed, WriteIsServed, DeleteIsServed, EvictIsServed, RefillIsServed, LockIsServed, UnlockIsServed, HoldIsServed, HeldIsServed, ReleaseIsServed, NothingIsHeld};
-ghost use Rattle.segindex.specs.Telling.{WasTold, cas_reply};
+ghost use Rattle.segpass.specs.Quiet.{IsQuiet};
+ghost use Rattle.segpass.specs.Calls.{IsBusy};
+ghost use Rattle.segpass.specs.Locks.{NoneSince};
+ghost use Rattle.segwrite.specs.Writes.{Writes, Deletes};
+ghost use Rattle.segread.specs.Gets.{IsGetsAnswer};
+ghost use Rattle.segwrite.specs.Telling.{WasTold, cas_reply};
 
 /// What a quiet pass has seen is a history of a cache of one thread, with marks. It knows just its own segments, and of their rows those are used that an item was linked to. The one that it stores into is in use, and no key stands in one that isn't. No entry came into the bucket that it has locked. Seven keys of a bucket stand at most, and six more for each overflow bucket that joined its chain, and no more of these joined than there are.
 pub fn quiet_pass()
@@ -50,23 +51,6 @@ pub fn one_pass()
     ensures unbusy { (index : Index) (before after : Pass) (bucket : ℕ) → IsQuiet (board_of index) before → IsQuiet (board_of index) after → (shape_of index).passes ≡ 1 → IsBusy bucket before after → locked_of before ≡ Some bucket }
     ensures joined { (index : Index) (pass : Pass) (bucket : ℕ) → IsQuiet (board_of index) pass → (shape_of index).passes ≡ 1 → width (marked pass) bucket ≡ chained_to (marked pass) bucket + 1 }
     ensures still { (index : Index) (before now : Pass) (key : List ℕ) → IsQuiet (board_of index) before → IsQuiet (board_of index) now → (shape_of index).passes ≡ 1 → mine now ≡ mine before → stirred (shape_of index) key (seen before) (seen now) ≡ 0 }
-{}
-
-/// Where an index has one pass, each call is served as the model says, from the state of the model that the pass is at to the one that it is at then: what the call's contract says is enough. The states are told by what the pass has seen and keeps; a new index is at the one at the start.
-pub fn one_pass_is_served()
-    ensures start { StartsAlone }
-    ensures get { GetIsServed }
-    ensures gets { GetsIsServed }
-    ensures write { WriteIsServed }
-    ensures delete { DeleteIsServed }
-    ensures evict { EvictIsServed }
-    ensures refill { RefillIsServed }
-    ensures lock { LockIsServed }
-    ensures unlock { UnlockIsServed }
-    ensures hold { HoldIsServed }
-    ensures held { HeldIsServed }
-    ensures release { ReleaseIsServed }
-    ensures nothing { NothingIsHeld }
 {}
 
 /// A reply to a write or a delete is that of a cache of one thread at one moment of the call, at which its entry came into the history.

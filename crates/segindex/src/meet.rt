@@ -4,8 +4,9 @@ use segbase::Pass;
 
 impl Index {
     ghost use Rattle.segindex.specs.Index.{board_of};
-    ghost use Rattle.segindex.specs.Quiet.{IsQuiet};
-    ghost use Rattle.segindex.specs.Calls.{GoesOn, ChangesNothing, TakesNoBit, DrawsNothing, ReadsNothing, Meets};
+    ghost use Rattle.segpass.specs.Quiet.{IsQuiet};
+    ghost use Rattle.segpass.specs.Calls.{GoesOn, ChangesNothing, TakesNoBit, DrawsNothing, ReadsNothing};
+    ghost use Rattle.segindex.specs.Meeting.{Meets};
 
     /// Both passes have then seen what either had seen before, the second all that the first has. Of their histories one began the other.
     pub fn meet(&self, first: &mut Pass, second: &mut Pass)

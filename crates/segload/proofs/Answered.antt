@@ -35,12 +35,16 @@ use Rattle.segbase.specs.Passes.{number, trace, marked, seen, mine}
 use Rattle.segbase.specs.Plain.{state_of, used_of, locked_of}
 use Rattle.segbase.proofs.Alone.{bounced_alone, glanced_alone}
 use Rattle.segstore.specs.Segments.{is_below, has_room}
-use Rattle.segindex.specs.Answers.{IsBusy, HasNoWord, WasFull, ReadsBetween, Writes, Deletes, IsGetAnswer, IsRead, Refills, IsRefillAnswer}
-use Rattle.segindex.specs.Gets.{IsGetsAnswer}
-use Rattle.segindex.specs.Evicting.{IsEvictAnswer}
-use Rattle.segindex.specs.Calls.{memo, GoesOn, ChangesNothing}
-use Rattle.segindex.specs.Quiet.{is_held_in, IsQuiet}
-use Rattle.segindex.proofs.Grown.{entries_begin}
+use Rattle.segpass.specs.Calls.{IsBusy}
+use Rattle.segwrite.specs.Full.{HasNoWord, WasFull}
+use Rattle.segread.specs.Reads.{ReadsBetween, IsGetAnswer}
+use Rattle.segwrite.specs.Writes.{Writes, Deletes}
+use Rattle.segindex.specs.Refilling.{IsRead, Refills, IsRefillAnswer}
+use Rattle.segread.specs.Gets.{IsGetsAnswer}
+use Rattle.segevict.specs.Evicting.{IsEvictAnswer}
+use Rattle.segpass.specs.Calls.{memo, GoesOn, ChangesNothing}
+use Rattle.segpass.specs.Quiet.{is_held_in, IsQuiet}
+use Rattle.segsolo.proofs.Grown.{entries_begin}
 use Rattle.segindex.proofs.Meeting.{mine_begins}
 use Rattle.segindex.proofs.OnePass.{nobody_inside, busy_by_lock, none_stirred}
 use Rattle.segindex.proofs.QuietPass.{owned}

@@ -8,7 +8,7 @@ use Rattle.segmodel.specs.declared.request.Reply.TheVariants as reply
 use Rattle.segmodel.specs.declared.entry.Entry.{Entry}
 use Rattle.segmodel.specs.declared.entry.Entry.TheVariants.{Wrote, Evicted, Refilled}
 use Rattle.segword.specs.declared.shape.Shape.{Shape}
-use Rattle.segindex.specs.Evicting.{AreEvictions}
+use Rattle.segevict.specs.Evicting.{AreEvictions}
 use Rattle.segpolicy.specs.declared.load.Kind.{Kind}
 use Rattle.segpolicy.specs.declared.load.Kind.TheVariants as kind
 use Rattle.segpolicy.specs.declared.load.Load.{Load}

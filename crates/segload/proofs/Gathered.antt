@@ -8,8 +8,9 @@ use Rattle.segcore.proofs.Standing.{legal}
 use Rattle.segbase.specs.declared.board.Board.{Board}
 use Rattle.segbase.specs.declared.pass.Pass.{Pass}
 use Rattle.segbase.specs.Passes.{number, seen, mine, trace}
-use Rattle.segindex.specs.Calls.{GoesOn, ChangesNothing, Meets}
-use Rattle.segindex.proofs.RowsOut.{goes_then}
+use Rattle.segpass.specs.Calls.{GoesOn, ChangesNothing}
+use Rattle.segindex.specs.Meeting.{Meets}
+use Rattle.segevict.proofs.RowsOut.{goes_then}
 use Rattle.segindex.proofs.OnePass.{all_mine}
 use Rattle.segload.specs.declared.worker.Worker.{Worker}
 use Rattle.segload.proofs.Lists.{both_begin}

@@ -12,7 +12,7 @@ use Rattle.segcore.proofs.Moments.{begins_on}
 use Rattle.segbase.specs.declared.board.Board.{Board}
 use Rattle.segbase.specs.declared.pass.Pass.{Pass}
 use Rattle.segbase.specs.Passes.{number, seen, mine}
-use Rattle.segindex.specs.Calls.{GoesOn}
+use Rattle.segpass.specs.Calls.{GoesOn}
 use Rattle.segpolicy.specs.declared.load.Kind.{Kind}
 use Rattle.segpolicy.specs.declared.load.Kind.TheVariants as kind
 use Rattle.segpolicy.specs.declared.load.Load.{Load}

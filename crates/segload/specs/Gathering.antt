@@ -7,8 +7,8 @@ use Rattle.segmodel.specs.History.{mine as entries_by}
 use Rattle.segbase.specs.declared.board.Board.{Board}
 use Rattle.segbase.specs.declared.pass.Pass.{Pass}
 use Rattle.segbase.specs.Passes.{number, seen, mine}
-use Rattle.segindex.specs.Quiet.{IsQuiet}
-use Rattle.segindex.specs.Calls.{GoesOn}
+use Rattle.segpass.specs.Quiet.{IsQuiet}
+use Rattle.segpass.specs.Calls.{GoesOn}
 use Rattle.segload.specs.declared.worker.Worker.{Worker}
 
 -- the pass only looked: it goes on, and added no entry

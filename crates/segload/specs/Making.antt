@@ -10,7 +10,7 @@ use Rattle.segmodel.specs.Request.{adds_key, key_of}
 use Rattle.segmodel.specs.Places.{bucket_of}
 use Rattle.segmodel.specs.Cache.{Cache, reads, reads_version, keys_in}
 use Rattle.segmodel.specs.History.{after, Begins, mine}
-use Rattle.segindex.specs.Evicting.{AreEvictions}
+use Rattle.segevict.specs.Evicting.{AreEvictions}
 use Rattle.segpolicy.specs.declared.load.Kind.{Kind}
 use Rattle.segpolicy.specs.declared.load.Kind.TheVariants as kind
 use Rattle.segpolicy.specs.declared.load.Load.{Load}

@@ -14,7 +14,7 @@ use Rattle.segbase.specs.declared.pass.Pass.{Pass}
 use Rattle.segbase.specs.Passes.{number, seen, mine, holding}
 use Rattle.segbase.specs.Plain.{number_of, locked_of}
 use Rattle.segstore.specs.Segments.{has_room}
-use Rattle.segindex.specs.Quiet.{IsQuiet}
+use Rattle.segpass.specs.Quiet.{IsQuiet}
 use Rattle.segpolicy.specs.declared.load.Kind.{Kind}
 use Rattle.segpolicy.specs.declared.load.Kind.TheVariants as kind
 use Rattle.segpolicy.specs.declared.load.Load.{Load}

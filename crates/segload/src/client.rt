@@ -46,9 +46,9 @@ impl Client {
     ghost use Rattle.segbase.specs.Passes.{number, seen, mine};
     ghost use Rattle.segstore.specs.Segments.{has_room};
     ghost use Rattle.segindex.specs.Index.{board_of, shape_of};
-    ghost use Rattle.segindex.specs.Quiet.{IsQuiet};
-    ghost use Rattle.segindex.specs.Calls.{GoesOn};
-    ghost use Rattle.segindex.specs.Hits.{TriesFew};
+    ghost use Rattle.segpass.specs.Quiet.{IsQuiet};
+    ghost use Rattle.segpass.specs.Calls.{GoesOn};
+    ghost use Rattle.segread.specs.Hits.{TriesFew};
     ghost use Rattle.segpolicy.specs.Cycle.{Cycle, number_of};
     ghost use Rattle.segload.specs.Making.{turned_on, IsReadAs, IsVersionReadAs, IsWrittenAs, IsStoredAs, ComesTo};
     ghost use Rattle.segload.specs.Working.{course_of, IsFree, IsOwnRing, MakesRoom};

@@ -1,7 +1,7 @@
 //! How one pass comes to know all that the others did.
 ghost use Rattle.std.specs.Prelude.{◌≡◌, vec_len};
 ghost use Rattle.segindex.specs.Index.{board_of};
-ghost use Rattle.segindex.specs.Quiet.{IsQuiet};
+ghost use Rattle.segpass.specs.Quiet.{IsQuiet};
 ghost use Rattle.segload.specs.Gathering.{Looked, HasMetEach, AreQuiet, AreAll, HasGathered};
 
 use crate::worker::Worker;

@@ -20,7 +20,7 @@ pub(crate) struct Worker {
 impl Worker {
     ghost use Rattle.segbase.specs.Passes.{number, mine};
     ghost use Rattle.segbase.specs.Plain.{number_of};
-    ghost use Rattle.segindex.specs.Quiet.{IsQuiet};
+    ghost use Rattle.segpass.specs.Quiet.{IsQuiet};
     ghost use Rattle.segpolicy.specs.Draws.{draws_of};
     ghost use Rattle.segload.specs.Working.{IsFree, Begins, HasWorked};
 

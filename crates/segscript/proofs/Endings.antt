@@ -7,7 +7,7 @@ use Rattle.segmodel.specs.Turns.{Runs}
 use Rattle.segmodel.specs.Spelling.{PassTurn}
 use Rattle.segmodel.specs.Script.{ServesLines, Steps, Completes}
 use Rattle.segindex.specs.Index.{board_of, shape_of}
-use Rattle.segindex.specs.Calls.{IsNew}
+use Rattle.segindex.specs.Index.{IsNew}
 use Rattle.segscript.specs.Passes.{OneTakes}
 use Rattle.segscript.specs.EachTurn.{EachTurn}
 use Rattle.segscript.specs.Run.{Comes, EndOfRun, RunOutcome}

@@ -9,10 +9,10 @@ use Rattle.segbase.specs.declared.pass.Pass.{Pass}
 use Rattle.segbase.specs.Passes.{number, holding}
 use Rattle.segbase.specs.Plain.{locked_of}
 use Rattle.segbase.specs.Made.{IsNewPass}
-use Rattle.segindex.specs.declared.hold.Hold.{Hold}
-use Rattle.segindex.specs.Quiet.{IsQuiet}
-use Rattle.segindex.specs.Alone.{state_at}
-use Rattle.segindex.proofs.AloneStarts.{starts_alone, starts_fresh}
+use Rattle.segread.specs.declared.held.Hold.{Hold}
+use Rattle.segpass.specs.Quiet.{IsQuiet}
+use Rattle.segsolo.specs.Alone.{state_at}
+use Rattle.segsolo.proofs.AloneStarts.{starts_alone, starts_fresh}
 use Rattle.segscript.specs.Passes.{IsHoldKept, IsIdle, AreInOrder, first_state}
 
 -- ---- one of a list

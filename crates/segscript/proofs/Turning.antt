@@ -18,10 +18,11 @@ use Rattle.segbase.specs.declared.board.Board.{Board}
 use Rattle.segbase.specs.declared.law.Memo.{Memo}
 use Rattle.segbase.specs.declared.pass.Pass.{Pass}
 use Rattle.segbase.specs.Passes.{holding}
-use Rattle.segindex.specs.Calls.{memo, GoesOn}
-use Rattle.segindex.specs.Answers.{IsWriteAnswer, IsDeleteAnswer, IsRefillAnswer}
-use Rattle.segindex.specs.Evicting.{IsEvictAnswer}
-use Rattle.segindex.specs.Alone.{IsAlone, ServesAlone}
+use Rattle.segpass.specs.Calls.{memo, GoesOn}
+use Rattle.segwrite.specs.Writes.{IsWriteAnswer, IsDeleteAnswer}
+use Rattle.segindex.specs.Refilling.{IsRefillAnswer}
+use Rattle.segevict.specs.Evicting.{IsEvictAnswer}
+use Rattle.segsolo.specs.Alone.{IsAlone, ServesAlone}
 use Rattle.segscript.specs.Told.{TellsCommand}
 use Rattle.segscript.specs.Passes.{TakesTurn}
 

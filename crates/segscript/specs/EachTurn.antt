@@ -4,7 +4,7 @@ use Rattle.segword.specs.declared.shape.Shape.{Shape}
 use Rattle.segbase.specs.declared.pass.Pass.{Pass}
 use Rattle.segindex.specs.declared.index.Index.{Index}
 use Rattle.segindex.specs.Index.{board_of}
-use Rattle.segindex.specs.Calls.{IsNew}
+use Rattle.segindex.specs.Index.{IsNew}
 use Rattle.segscript.specs.Passes.{OneTakes}
 use Rattle.segscript.specs.Run.{EndOfRun}
 use Rattle.segscript.specs.declared.fault.RunFault.{RunFault}

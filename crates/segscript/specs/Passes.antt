@@ -8,11 +8,11 @@ use Rattle.segmodel.specs.Spelling.{PassTurn}
 use Rattle.segbase.specs.declared.board.Board.{Board}
 use Rattle.segbase.specs.declared.pass.Pass.{Pass}
 use Rattle.segbase.specs.Passes.{number, holding}
-use Rattle.segindex.specs.declared.hold.Hold.{Hold}
-use Rattle.segindex.specs.Quiet.{IsQuiet}
-use Rattle.segindex.specs.Calls.{GoesOn}
-use Rattle.segindex.specs.Holds.{IsHoldOf}
-use Rattle.segindex.specs.Alone.{state_at, IsAlone, TurnsAlone}
+use Rattle.segread.specs.declared.held.Hold.{Hold}
+use Rattle.segpass.specs.Quiet.{IsQuiet}
+use Rattle.segpass.specs.Calls.{GoesOn}
+use Rattle.segread.specs.Holds.{IsHoldOf}
+use Rattle.segsolo.specs.Alone.{state_at, IsAlone, TurnsAlone}
 use Rattle.segscript.specs.Told.{Tells}
 
 -- the hold that is kept is the one that the pass has

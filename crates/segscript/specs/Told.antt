@@ -18,19 +18,22 @@ use Rattle.segbase.specs.declared.board.Board.{Board}
 use Rattle.segbase.specs.declared.pass.Pass.{Pass}
 use Rattle.segbase.specs.Passes.{seen, holding}
 use Rattle.segbase.specs.Plain.{state_of, locked_of, is_holding_of}
-use Rattle.segindex.specs.declared.bucket.LockAnswer.{LockAnswer}
-use Rattle.segindex.specs.declared.bucket.LockAnswer.TheVariants as lock
-use Rattle.segindex.specs.declared.hold.HoldAnswer.{HoldAnswer}
-use Rattle.segindex.specs.declared.hold.HoldAnswer.TheVariants as hold
+use Rattle.segpass.specs.declared.bucket.LockAnswer.{LockAnswer}
+use Rattle.segpass.specs.declared.bucket.LockAnswer.TheVariants as lock
+use Rattle.segread.specs.declared.held.HoldAnswer.{HoldAnswer}
+use Rattle.segread.specs.declared.held.HoldAnswer.TheVariants as hold
 use Rattle.segmodel.specs.Places.{bucket_of}
-use Rattle.segindex.specs.Calls.{ChangesNothing, TakesNoBit, DrawsNothing, RaisesNothing, ReadsNothing}
-use Rattle.segindex.specs.Quiet.{is_held_in}
-use Rattle.segindex.specs.Hits.{TriesFew, GetRaises, GetsRaises}
-use Rattle.segindex.specs.Answers.{IsGetAnswer, Writes, Deletes, IsRefillAnswer, IsLockAnswer, IsUnlockAnswer}
-use Rattle.segindex.specs.Gets.{IsGetsAnswer}
-use Rattle.segindex.specs.Evicting.{IsEvictAnswer}
-use Rattle.segindex.specs.Holds.{IsHoldAnswer, Releases}
-use Rattle.segindex.specs.Alone.{lock_outcome, unlock_outcome, hold_outcome}
+use Rattle.segpass.specs.Calls.{ChangesNothing, TakesNoBit, DrawsNothing, RaisesNothing, ReadsNothing}
+use Rattle.segpass.specs.Quiet.{is_held_in}
+use Rattle.segread.specs.Hits.{TriesFew, GetRaises, GetsRaises}
+use Rattle.segread.specs.Reads.{IsGetAnswer}
+use Rattle.segwrite.specs.Writes.{Writes, Deletes}
+use Rattle.segindex.specs.Refilling.{IsRefillAnswer}
+use Rattle.segpass.specs.Locks.{IsLockAnswer, IsUnlockAnswer}
+use Rattle.segread.specs.Gets.{IsGetsAnswer}
+use Rattle.segevict.specs.Evicting.{IsEvictAnswer}
+use Rattle.segread.specs.Holds.{IsHoldAnswer, Releases}
+use Rattle.segsolo.specs.Alone.{lock_outcome, unlock_outcome, hold_outcome}
 
 -- the draw of a script's hits: no line of a script shows a frequency
 abbrev pub draw : ℕ

@@ -2,7 +2,7 @@
 ghost use Rattle.std.specs.Prelude.{◌≡◌, ◌<◌, length, IfOk};
 ghost use Rattle.segmodel.specs.State.{fresh};
 ghost use Rattle.segindex.specs.Index.{shape_of};
-ghost use Rattle.segindex.specs.Calls.{IsNew};
+ghost use Rattle.segindex.specs.Index.{IsNew};
 
 use crate::engine::Engine;
 use crate::turns::{leave, take_turn};

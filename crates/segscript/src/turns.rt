@@ -6,7 +6,7 @@ ghost use Rattle.segmodel.specs.declared.answer.Outcome.TheVariants.{Answered};
 ghost use Rattle.segbase.specs.Passes.{holding};
 ghost use Rattle.segbase.specs.Plain.{locked_of};
 ghost use Rattle.segindex.specs.Index.{board_of, shape_of};
-ghost use Rattle.segindex.specs.Quiet.{IsQuiet};
+ghost use Rattle.segpass.specs.Quiet.{IsQuiet};
 ghost use Rattle.segscript.specs.Passes.{IsHoldKept, TakesTurn};
 
 use segindex::{Hold, HoldAnswer, Index, LockAnswer, Pass};

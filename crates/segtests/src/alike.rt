@@ -3,7 +3,7 @@ ghost use Rattle.std.specs.Prelude.{◌<◌, IfSome};
 
 use rand_core::utils::NextWord;
 use rand_pcg::Lcg64Xsh32;
-use segindex::Solo;
+use segsolo::Solo;
 use segmodel::{
     Answer, Command, DeleteAnswer, EvictAnswer, GetAnswer, GetsAnswer, Plain, RefillAnswer,
     Request, Shelf, WriteAnswer, run,

@@ -1,6 +1,6 @@
 //! A reader beside a writer: each value that is read was stored as a whole, and none is older than one read before.
 ghost use Rattle.segindex.specs.Index.{board_of};
-ghost use Rattle.segindex.specs.Quiet.{IsQuiet};
+ghost use Rattle.segpass.specs.Quiet.{IsQuiet};
 
 use crate::passes::{SHAPE, two_passes};
 use segindex::{Index, Pass};

@@ -1,6 +1,6 @@
 //! Two threads that count in one key by gets and cas: no count is lost, and the version counts each.
 ghost use Rattle.segindex.specs.Index.{board_of};
-ghost use Rattle.segindex.specs.Quiet.{IsQuiet};
+ghost use Rattle.segpass.specs.Quiet.{IsQuiet};
 
 use crate::digits::{number_of, value_of};
 use crate::passes::{SHAPE, two_that_fill};

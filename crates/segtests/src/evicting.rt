@@ -1,6 +1,6 @@
 //! A segment that is emptied and filled again and again beside passes that hold what is stored there: a held value stays whole.
 ghost use Rattle.segindex.specs.Index.{board_of};
-ghost use Rattle.segindex.specs.Quiet.{IsQuiet};
+ghost use Rattle.segpass.specs.Quiet.{IsQuiet};
 
 use crate::digits::{number_of, value_of};
 use crate::passes::{SHAPE, last_three};

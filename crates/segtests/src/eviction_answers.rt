@@ -1,7 +1,7 @@
 //! The answers to one thread's evictions: what they count, what they leave, and what is in their way.
 ghost use Rattle.std.specs.Prelude.{IfOk};
 ghost use Rattle.segindex.specs.Index.{board_of};
-ghost use Rattle.segindex.specs.Quiet.{IsQuiet};
+ghost use Rattle.segpass.specs.Quiet.{IsQuiet};
 
 use crate::passes::{SHAPE, reads, store_all, two_passes};
 use segindex::{Index, LockAnswer, Pass};

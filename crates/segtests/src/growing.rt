@@ -1,7 +1,7 @@
 //! Chains that grow on threads: two writers draw from one counter, and a reader finds a key whose item moves on.
 ghost use Rattle.std.specs.Prelude.{◌<◌};
 ghost use Rattle.segindex.specs.Index.{board_of};
-ghost use Rattle.segindex.specs.Quiet.{IsQuiet};
+ghost use Rattle.segpass.specs.Quiet.{IsQuiet};
 
 use crate::passes::{SHAPE, two_that_fill};
 use segindex::{Index, Pass};

@@ -1,6 +1,6 @@
 //! Values that are held while their key is set anew, or their segment is evicted.
 ghost use Rattle.segindex.specs.Index.{board_of};
-ghost use Rattle.segindex.specs.Quiet.{IsQuiet};
+ghost use Rattle.segpass.specs.Quiet.{IsQuiet};
 
 use crate::passes::{SHAPE, two_that_fill};
 use segindex::{HoldAnswer, Index, Pass, hold_stays};

@@ -1,6 +1,6 @@
 //! Two threads that lock one bucket, or set in it: both get on, the version counts the sets alone, and no bit is left.
 ghost use Rattle.segindex.specs.Index.{board_of};
-ghost use Rattle.segindex.specs.Quiet.{IsQuiet};
+ghost use Rattle.segpass.specs.Quiet.{IsQuiet};
 
 use crate::meeting::set_in_turn;
 use crate::passes::{SHAPE, two_that_fill};

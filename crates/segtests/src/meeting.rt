@@ -1,6 +1,6 @@
 //! Two threads that each store a key, and then meet.
 ghost use Rattle.segindex.specs.Index.{board_of};
-ghost use Rattle.segindex.specs.Quiet.{IsQuiet};
+ghost use Rattle.segpass.specs.Quiet.{IsQuiet};
 
 use crate::passes::{SHAPE, two_that_fill};
 use segindex::{Index, Pass};

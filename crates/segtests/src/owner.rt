@@ -1,8 +1,9 @@
 //! A caller's own structs, which keep a pass or a hold with what is so of it between calls.
 ghost use Rattle.segindex.specs.Index.{board_of, shape_of};
-ghost use Rattle.segindex.specs.Quiet.{IsQuiet};
-ghost use Rattle.segindex.specs.Holds.{IsHoldOf};
-ghost use Rattle.segindex.specs.Props.{IsQuiet-prop, IsHoldOf-prop};
+ghost use Rattle.segpass.specs.Quiet.{IsQuiet};
+ghost use Rattle.segread.specs.Holds.{IsHoldOf};
+ghost use Rattle.segpass.specs.Props.{IsQuiet-prop};
+ghost use Rattle.segread.specs.Props.{IsHoldOf-prop};
 
 use crate::passes::{SHAPE, two_passes};
 use segindex::{Hold, HoldAnswer, Index, Pass};

@@ -1,7 +1,7 @@
 //! Indexes with their passes, as the tests need them.
 ghost use Rattle.std.specs.Prelude.{◌≡◌, ℕ, slice_get, Some, IfSome, IfOk};
 ghost use Rattle.segindex.specs.Index.{board_of};
-ghost use Rattle.segindex.specs.Quiet.{IsQuiet};
+ghost use Rattle.segpass.specs.Quiet.{IsQuiet};
 
 use segindex::{Index, Pass};
 use segmodel::{GetAnswer, RefillAnswer, WriteAnswer};

@@ -1,6 +1,6 @@
 //! The answers to one thread's writes, deletes and gets: the replies, the versions after them, and the rows that they use.
 ghost use Rattle.segindex.specs.Index.{board_of};
-ghost use Rattle.segindex.specs.Quiet.{IsQuiet};
+ghost use Rattle.segpass.specs.Quiet.{IsQuiet};
 
 use crate::passes::{SHAPE, reads, store_all, two_passes, two_that_fill};
 use segindex::{Index, LockAnswer, Pass};

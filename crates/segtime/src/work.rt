@@ -2,7 +2,7 @@
 ghost use Rattle.std.specs.Prelude.{◌≡◌, ℕ, slice_get, Some, IfSome};
 ghost use Rattle.std.specs.Thread.{IsSync};
 ghost use Rattle.segindex.specs.Index.{board_of};
-ghost use Rattle.segindex.specs.Quiet.{IsQuiet};
+ghost use Rattle.segpass.specs.Quiet.{IsQuiet};
 
 use segindex::{Index, Pass};
 use segmodel::{

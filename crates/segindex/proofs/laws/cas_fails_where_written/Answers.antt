@@ -1,7 +1,7 @@
 use Rattle.segmodel.specs.declared.request.Request.TheVariants.{Cas}
 use Rattle.segbase.specs.Passes.{seen}
 use Rattle.segcore.proofs.Moments.{begins_on}
-use Rattle.segindex.proofs.Told.{write_told, cas_told}
+use Rattle.segwrite.proofs.Told.{write_told, cas_told}
 use Rattle.segindex.proofs.laws.cas_fails_where_written.Goals as goal
 
 pub returns : goal.returns

@@ -1,4 +1,4 @@
-use Rattle.segindex.proofs.Told.{write_told, delete_told}
+use Rattle.segwrite.proofs.Told.{write_told, delete_told}
 use Rattle.segindex.proofs.laws.replies_at_a_moment.Goals as goal
 
 pub returns : goal.returns

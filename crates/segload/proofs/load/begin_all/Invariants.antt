@@ -3,7 +3,7 @@ use Rattle.std.specs.Vec.{vec_capacity, vec_len}
 use Rattle.std.specs.Vec.Iter.{into_iter_items, into_iter_len}
 use Rattle.segbase.specs.Made.{IsNewPass}
 use Rattle.segindex.specs.Index.{board_of}
-use Rattle.segindex.specs.Quiet.{IsQuiet}
+use Rattle.segpass.specs.Quiet.{IsQuiet}
 use Rattle.segpolicy.specs.Draws.{draws_of}
 use Rattle.segload.specs.Working.{Begins}
 use Rattle.segload.proofs.Lists.{AllAt}

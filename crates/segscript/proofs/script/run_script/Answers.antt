@@ -2,7 +2,7 @@ use Rattle.std.proofs.Common.{◌≡◌, sym, ap, subst, ◌∙◌}
 use Rattle.segword.specs.declared.shape.Shape.{Shape}
 use Rattle.segmodel.specs.State.{fresh}
 use Rattle.segindex.specs.Index.{shape_of}
-use Rattle.segindex.specs.Calls.{IsNew}
+use Rattle.segindex.specs.Index.{IsNew}
 use Rattle.segscript.proofs.Endings.{at_shape, model_ends, passes_end}
 use Rattle.segscript.proofs.OneBadLine.{ends_at_bad, ends_well}
 use Rattle.segscript.proofs.script.run_script.Goals as goal

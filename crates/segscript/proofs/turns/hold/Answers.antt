@@ -1,6 +1,6 @@
 use Rattle.std.proofs.Common.{refl}
-use Rattle.segindex.specs.declared.hold.HoldAnswer.TheVariants as answer
-use Rattle.segindex.proofs.AloneHolds.{turns_hold}
+use Rattle.segread.specs.declared.held.HoldAnswer.TheVariants as answer
+use Rattle.segsolo.proofs.AloneHolds.{turns_hold}
 use Rattle.segscript.proofs.turns.hold.Goals as goal
 
 pub returns-in-None-clause-turn : goal.returns-in-None-clause-turn

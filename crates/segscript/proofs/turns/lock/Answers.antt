@@ -1,6 +1,6 @@
 use Rattle.std.proofs.Common.{refl}
-use Rattle.segindex.specs.declared.bucket.LockAnswer.TheVariants as answer
-use Rattle.segindex.proofs.AloneLocks.{turns_lock}
+use Rattle.segpass.specs.declared.bucket.LockAnswer.TheVariants as answer
+use Rattle.segsolo.proofs.AloneLocks.{turns_lock}
 use Rattle.segscript.proofs.turns.lock.Goals as goal
 
 pub returns-in-Locked-clause-turn : goal.returns-in-Locked-clause-turn

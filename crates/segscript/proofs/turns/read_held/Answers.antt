@@ -1,6 +1,6 @@
 use Rattle.std.proofs.Common.{◌≡◌, subst}
 use Rattle.std.specs.Prelude.{IfSome}
-use Rattle.segindex.proofs.AloneHolds.{turns_held}
+use Rattle.segsolo.proofs.AloneHolds.{turns_held}
 use Rattle.segscript.specs.Passes.{IsHoldKept}
 use Rattle.segscript.proofs.turns.read_held.Goals as goal
 

@@ -1,5 +1,5 @@
 use Rattle.std.proofs.Common.{subst, sym, ap, is_some, ◌∙◌}
-use Rattle.segindex.proofs.AloneHolds.{turns_release}
+use Rattle.segsolo.proofs.AloneHolds.{turns_release}
 use Rattle.segscript.specs.Passes.{IsHoldKept}
 use Rattle.segscript.proofs.turns.release.Goals as goal
 

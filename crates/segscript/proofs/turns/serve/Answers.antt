@@ -3,9 +3,9 @@ use Rattle.segmodel.specs.declared.answer.Answer.TheVariants as answer
 use Rattle.segmodel.specs.declared.answer.Command.TheVariants as command
 use Rattle.segmodel.specs.declared.answer.Outcome.TheVariants.{Answered}
 use Rattle.segmodel.specs.declared.answer.Turn.TheVariants as turn
-use Rattle.segindex.proofs.AloneEvicts.{serves_evict}
-use Rattle.segindex.proofs.AloneReads.{serves_get, serves_gets}
-use Rattle.segindex.proofs.AloneRefills.{serves_refill}
+use Rattle.segsolo.proofs.AloneEvicts.{serves_evict}
+use Rattle.segsolo.proofs.AloneReads.{serves_get, serves_gets}
+use Rattle.segsolo.proofs.AloneRefills.{serves_refill}
 use Rattle.segscript.specs.Passes.{TakesTurn}
 use Rattle.segscript.proofs.Turning.{as_turn, evict_holds, refill_holds}
 use Rattle.segscript.proofs.turns.serve.Goals as goal

@@ -1,5 +1,5 @@
 use Rattle.std.proofs.Common.{true, false, refl}
-use Rattle.segindex.proofs.AloneLocks.{turns_unlock}
+use Rattle.segsolo.proofs.AloneLocks.{turns_unlock}
 use Rattle.segscript.proofs.turns.unlock.Goals as goal
 
 pub returns-then-unlock_bucket-clause-turn : goal.returns-then-unlock_bucket-clause-turn

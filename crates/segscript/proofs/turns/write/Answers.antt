@@ -4,8 +4,8 @@ use Rattle.segmodel.specs.declared.answer.Command.TheVariants as command
 use Rattle.segmodel.specs.declared.answer.Outcome.TheVariants.{Answered}
 use Rattle.segmodel.specs.declared.answer.Turn.TheVariants as turn
 use Rattle.segmodel.specs.declared.request.Request.TheVariants as request
-use Rattle.segindex.proofs.AloneDeletes.{serves_delete}
-use Rattle.segindex.proofs.AloneWrites.{serves_write}
+use Rattle.segsolo.proofs.AloneDeletes.{serves_delete}
+use Rattle.segsolo.proofs.AloneWrites.{serves_write}
 use Rattle.segscript.specs.Passes.{TakesTurn}
 use Rattle.segscript.proofs.Turning.{as_turn, write_holds, delete_holds}
 use Rattle.segscript.proofs.turns.write.Goals as goal

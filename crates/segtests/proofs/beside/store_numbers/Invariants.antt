@@ -1,5 +1,5 @@
 use Rattle.segindex.specs.Index.{board_of}
-use Rattle.segindex.specs.Quiet.{IsQuiet}
+use Rattle.segpass.specs.Quiet.{IsQuiet}
 use Rattle.segtests.proofs.beside.store_numbers.Given as goal
 
 abbrev pub invariant-loop-segment : goal.invariant-loop-segment

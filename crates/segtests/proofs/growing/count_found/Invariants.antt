@@ -1,5 +1,5 @@
 use Rattle.segindex.specs.Index.{board_of}
-use Rattle.segindex.specs.Quiet.{IsQuiet}
+use Rattle.segpass.specs.Quiet.{IsQuiet}
 use Rattle.segtests.proofs.growing.count_found.Given as goal
 
 abbrev pub invariant-loop-byte : goal.invariant-loop-byte

@@ -1,8 +1,8 @@
 use Rattle.std.proofs.Common.{[], refl, rules}
-use Rattle.segindex.proofs.Draws.{moved_undrawn}
-use Rattle.segindex.proofs.Idling.{goes_nowhere, does_nothing, took_none}
+use Rattle.segpass.proofs.Draws.{moved_undrawn}
+use Rattle.segpass.proofs.Idling.{goes_nowhere, does_nothing, took_none}
 use Rattle.segindex.proofs.Meeting.{meets}
-use Rattle.segindex.proofs.Still.{no_reader}
+use Rattle.segpass.proofs.Still.{no_reader}
 use Rattle.segindex.proofs.index.Index.meet.Goals as goal
 
 pub returns-clause-first : goal.returns-clause-first

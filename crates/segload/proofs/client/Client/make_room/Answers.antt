@@ -3,8 +3,8 @@ use Rattle.segmodel.specs.declared.answer.RefillAnswer.{RefillAnswer}
 use Rattle.segmodel.specs.declared.answer.RefillAnswer.TheVariants as refill
 use Rattle.segbase.specs.declared.board.Board.{Board}
 use Rattle.segbase.specs.declared.pass.Pass.{Pass}
-use Rattle.segindex.specs.Evicting.{IsEvictAnswer}
-use Rattle.segindex.proofs.RowsOut.{goes_then}
+use Rattle.segevict.specs.Evicting.{IsEvictAnswer}
+use Rattle.segevict.proofs.RowsOut.{goes_then}
 use Rattle.segload.specs.Working.{MakesRoom}
 use Rattle.segload.specs.Making.{Course}
 use Rattle.segload.proofs.Answered.{empties, not_evicted, evict_free, refill_free, is_refilled, room_made}

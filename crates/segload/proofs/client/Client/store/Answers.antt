@@ -1,5 +1,5 @@
 use Rattle.std.proofs.Common.{subst}
-use Rattle.segindex.proofs.RowsOut.{goes_then}
+use Rattle.segevict.proofs.RowsOut.{goes_then}
 use Rattle.segpolicy.specs.Cycle.{number_of}
 use Rattle.segload.specs.Working.{course_of, stores_of, MakesRoom}
 use Rattle.segload.proofs.Answered.{own_then, found_no_room, made_again}

@@ -1,0 +1,228 @@
+-- What an eviction of a row comes to: its key is gone before, or the bit of its bucket is taken, or can't be had.
+use Rattle.std.proofs.Common.{◌≡◌, ◌≢◌, ℕ, ◌+◌, ◌≤◌, true, false, eqb, is_some, List, [], ◌∷◌, ◌++◌, Option, Some, None, refl, sym, ap, ◌∙◌, subst, inl, inr, ⊎_elim, arith}
+use Rattle.std.proofs.lemmas.Bool.{cond-true, eq-eqb, ne_eqb, false≢true}
+use Rattle.segword.specs.declared.item.Item.{Item}
+use Rattle.segmodel.specs.declared.entry.Entry.{Entry}
+use Rattle.segmodel.specs.declared.entry.Entry.TheVariants.{Evicted}
+use Rattle.segmodel.specs.Places.{bucket_of, owner}
+use Rattle.segmodel.specs.History.{Begins}
+use Rattle.segcore.specs.declared.event.Event.{Event}
+use Rattle.segcore.specs.declared.event.Event.TheVariants.{Freed, Unlinked}
+use Rattle.segcore.specs.Event as event
+use Rattle.segcore.specs.Bucket.{bucket_after}
+use Rattle.segcore.specs.Lawful.{NoneAt}
+use Rattle.segcore.specs.Search.{RowGone}
+use Rattle.segcore.proofs.Moments.{begins_on}
+use Rattle.segbase.specs.declared.board.Board.{Board}
+use Rattle.segbase.specs.declared.pass.Plain.{Plain}
+use Rattle.segbase.specs.declared.pass.Pass.{Pass}
+use Rattle.segbase.specs.Passes.{number, trace, seen, mine, taken, bounced, Moved, Did}
+use Rattle.segbase.proofs.Moves.{moved_on, moved_bounced}
+use Rattle.segstore.specs.Refilling.{Idles}
+use Rattle.segstore.specs.Segments.{KeepsSegments}
+use Rattle.segstore.proofs.Keeping.{AreCalm, keeps_plain}
+use Rattle.segwrite.specs.declared.find.Target.{Target}
+use Rattle.segevict.specs.declared.eviction.RowAnswer.{RowAnswer}
+use Rattle.segevict.specs.declared.eviction.RowAnswer.TheVariants as row_answer
+use Rattle.segpass.specs.Quiet.{IsQuiet}
+use Rattle.segpass.specs.Calls.{memo, GoesOn, ChangesNothing, DrawsNothing, ReadsNothing, IsBusy}
+use Rattle.segpass.specs.Taking.{TookToWrite}
+use Rattle.segevict.specs.Evicting.{TriesForKeys}
+use Rattle.segevict.specs.Unlinking.{IsStoredIn, IsNamedAt, FindsRow, TakesRow, KeepsGone, EvictsRow}
+use Rattle.segpass.proofs.Bounces.{bounces_calm}
+use Rattle.segpass.proofs.Draws.{AreUndrawn, moved_undrawn, draws_none_then}
+use Rattle.segpass.proofs.Idling.{goes_nowhere, does_nothing}
+use Rattle.segevict.proofs.KeyTries.{no_tries, one_try, tries_after}
+use Rattle.segevict.proofs.Seeking.{stored_over}
+use Rattle.segpass.proofs.Still.{AreStill, no_reader}
+use Rattle.segpass.proofs.TakenBits.{AreNoTries}
+use Rattle.segpass.proofs.UnderWrite.{tries, took_moved, took_keeps, write_goes_on, write_adds, write_undrawn, write_unread, write_takes}
+use Rattle.segevict.proofs.Unlinking.{named_stands}
+use Rattle.segevict.proofs.Unnamed.{gone_over}
+
+-- ---- calls one after another
+
+pub goes_then : (b : Board) (p q r : Pass) → GoesOn b p q → GoesOn b q r → GoesOn b p r
+goes_then b p q r i j = record {
+  quiet = j.quiet;
+  same = j.same ∙ i.same;
+  marked = begins_on _ _ _ i.marked j.marked;
+  seen = begins_on (seen p) (seen q) (seen r) i.seen j.seen;
+}
+
+keeps_gone : (b : Board) (s : ℕ) (own : List Event) (p q : Pass) → Moved b own p q → AreCalm own → owner b.shape s ≡ number p → KeepsGone b s p q
+keeps_gone b s own p q m calm mine = record { grew = moved_on b own p q m; lasts = λ row. gone_over b own p q s row m calm mine }
+
+pub keeps_gone_then : (b : Board) (s : ℕ) (p q r : Pass) → KeepsGone b s p q → KeepsGone b s q r → KeepsGone b s p r
+keeps_gone_then b s p q r i j = record { grew = begins_on (trace p) (trace q) (trace r) i.grew j.grew; lasts = λ row gone. j.lasts row (i.lasts row gone) }
+
+-- ---- before the bit is taken
+
+module _ (b : Board) (bucket : ℕ) (sought : Item) (p f : Pass) (quiet : IsQuiet b p) (i : Idles b p f) (stored : IsStoredIn b bucket sought f) where
+  goes_looking : GoesOn b p f
+  goes_looking = goes_nowhere b p f quiet i.moved i.plain i.memo
+
+  pub quiet_looking : IsQuiet b f
+  quiet_looking = goes_looking.quiet
+
+  own_before : owner b.shape sought.seg ≡ number p
+  own_before = stored.own ∙ i.moved.same
+
+  undrawn_looking : DrawsNothing p f
+  undrawn_looking = moved_undrawn b [] p f i.moved tt
+
+  unread_looking : ReadsNothing p f
+  unread_looking = no_reader b [] p f i.moved tt
+
+  -- the bit was tried for, since the key stood then
+  tries_one : (target : Target) (q : Pass) → IsNamedAt b bucket sought target f → Begins (seen f) (seen q) → taken q ≤ taken f + 1 → bounced q bucket ≤ bounced f bucket + 64 → ((other : ℕ) → other ≢ bucket → bounced q other ≡ bounced f other) → TriesForKeys b.shape sought.seg 1 p q
+  tries_one target q n later took met others = tries_after b sought.seg 1 p f q i.moved goes_looking.seen (one_try b.shape sought.seg stored.key f q
+      (seen f, (([], refl), later), named_stands b bucket sought f i.moved.pass stored target n) took
+      (subst (λ k. bounced q k ≤ bounced f k + 64) stored.home met) (λ other apart. others other (λ same. apart (same ∙ stored.home))))
+
+  gone_looking : KeepsGone b sought.seg p f
+  gone_looking = keeps_gone b sought.seg [] p f i.moved tt own_before
+
+  -- no word names the row
+  pub row_is_gone : RowGone b.shape sought.seg sought.row (trace f) → EvictsRow b sought.seg sought.row row_answer.Gone p f
+  row_is_gone gone = record {
+    on = goes_looking;
+    plain = i.plain;
+    memo = i.memo;
+    draws_nothing = undrawn_looking;
+    reads_nothing = unread_looking;
+    tries = no_tries b sought.seg 1 p f i.moved;
+    answer = (gone_looking, gone, (does_nothing b p f quiet i.moved i.plain i.memo).entries);
+  }
+
+  -- the bit can't be had
+  pub row_is_barred : (q : Pass) (target : Target) → IsNamedAt b bucket sought target f → GoesOn b f q × ChangesNothing f q × IsBusy bucket f q × DrawsNothing f q × ReadsNothing f q → EvictsRow b sought.seg sought.row row_answer.Busy p q
+  row_is_barred q target n busy = record {
+    on = goes_then b p f q goes_looking busy.0;
+    plain = busy.1.plain ∙ i.plain;
+    memo = busy.1.memo ∙ i.memo;
+    draws_nothing = draws_none_then p f q undrawn_looking busy.3;
+    reads_nothing = busy.4 ∙ unread_looking;
+    tries = ⊎_elim
+        (λ own. let same = own.1.taken in let met = own.1.bounced bucket in tries_one target q n busy.0.seen (omega arith) (omega arith) (λ other apart. own.1.bounced other))
+        (λ tried. let same = tried.taken in let met = tried.tries in tries_one target q n busy.0.seen (omega arith) (omega arith) tried.others)
+        busy.2;
+    answer = (
+      busy.1.entries ∙ (does_nothing b p f quiet i.moved i.plain i.memo).entries,
+      (
+        stored.key,
+        (seen f, (goes_looking.seen, busy.0.seen), named_stands b bucket sought f i.moved.pass stored target n),
+        ⊎_elim
+            (λ own. inl (sym (ap (λ (x : Plain). x.locked) i.plain) ∙ (own.0 ∙ ap Some stored.home)))
+            (λ tried.
+            let same : bounced f bucket ≡ bounced p bucket = moved_bounced b [] p f bucket i.moved in
+            inr (subst (λ k. bounced p k + 64 ≤ bounced q k) stored.home (let e = tried.tries in omega arith)))
+            busy.2,
+      ),
+    );
+  }
+
+  -- ---- under the bit
+
+  module _ (q : Pass) (took : TookToWrite b bucket f q) where
+    abbrev took_by : List Event
+    took_by = tries b bucket f q quiet_looking took
+
+    took_calm : AreCalm took_by
+    took_calm = (tt, bounces_calm (number f) bucket took.takes.0)
+
+    pub stored_taken : IsStoredIn b bucket sought q
+    stored_taken = stored_over b bucket sought took_by f q (took_moved b bucket f q quiet_looking took) took_calm stored
+
+    gone_taken : KeepsGone b sought.seg p q
+    gone_taken = keeps_gone_then b sought.seg p f q gone_looking (keeps_gone b sought.seg took_by f q (took_moved b bucket f q quiet_looking took) took_calm stored.own)
+
+    -- what was done under it, and the release
+    module _ (r s : Pass) (own : List Event) (added : List Entry) (m : Moved b own q r) (calm : AreCalm own) (elsewhere : (other : ℕ) → bucket ≢ other → NoneAt b.shape other own) (still : AreStill own)
+        (adds : (h : List Event) → event.seen (own ++ h) ≡ added ++ event.seen h) (freed : Did b (Freed (number r) bucket false ∷ []) r s) (free : (bucket_after b.shape (trace s) bucket).holder ≡ None)
+        (plain : r.plain ≡ q.plain) (same : memo r ≡ memo q) (plain' : s.plain ≡ r.plain) (same' : memo s ≡ memo r) where
+      plain_all : s.plain ≡ p.plain
+      plain_all = plain' ∙ (plain ∙ (took.plain ∙ i.plain))
+
+      memo_all : memo s ≡ memo p
+      memo_all = same' ∙ (same ∙ (took.memo ∙ i.memo))
+
+      keeps_all : KeepsSegments b s
+      keeps_all = keeps_plain b (Freed (number r) bucket false ∷ []) r s freed.moved (tt, tt) plain' (keeps_plain b own q r m calm plain (took_keeps b bucket f q quiet_looking took))
+
+      goes_all : GoesOn b p s
+      goes_all = goes_then b p f s goes_looking (write_goes_on b bucket f q quiet_looking took r s own added false m elsewhere still adds freed free
+          (same' ∙ (same ∙ took.memo)) (ap (λ (x : Plain). x.locked) (plain' ∙ (plain ∙ took.plain))) (ap (λ (x : Plain). x.is_holding) (plain' ∙ (plain ∙ took.plain))) keeps_all)
+
+      undrawn_all : AreUndrawn own → DrawsNothing p s
+      undrawn_all none = draws_none_then p f s undrawn_looking (write_undrawn b bucket f q quiet_looking took r s own added false m elsewhere still adds freed free none)
+
+      tries_all : AreNoTries own → (target : Target) → IsNamedAt b bucket sought target f → TriesForKeys b.shape sought.seg 1 p s
+      tries_all none target n =
+          let on : GoesOn b f s = write_goes_on b bucket f q quiet_looking took r s own added false m elsewhere still adds freed free
+          (same' ∙ (same ∙ took.memo)) (ap (λ (x : Plain). x.locked) (plain' ∙ (plain ∙ took.plain))) (ap (λ (x : Plain). x.is_holding) (plain' ∙ (plain ∙ took.plain))) keeps_all in
+          let takes = write_takes b bucket f q quiet_looking took r s own added false m elsewhere still adds freed free none in
+          let one = takes.taken in let met = takes.tries in tries_one target s n on.seen (omega arith) (omega arith) takes.others
+
+      unread_all : ReadsNothing p s
+      unread_all = write_unread b bucket f q quiet_looking took r s own added false m elsewhere still adds freed free ∙ unread_looking
+
+      gone_all : KeepsGone b sought.seg p s
+      gone_all = keeps_gone_then b sought.seg p q s gone_taken (keeps_gone_then b sought.seg q r s (keeps_gone b sought.seg own q r m calm stored_taken.own)
+          (keeps_gone b sought.seg (Freed (number r) bucket false ∷ []) r s freed.moved (tt, tt) (stored_taken.own ∙ sym m.same)))
+
+    -- the word was cleared
+    pub row_is_evicted : (target : Target) → IsNamedAt b bucket sought target f → (r s : Pass) → TakesRow b bucket sought true q r → Did b (Freed (number r) bucket false ∷ []) r s → (bucket_after b.shape (trace s) bucket).holder ≡ None → r.plain ≡ q.plain → memo r ≡ memo q → s.plain ≡ r.plain → memo s ≡ memo r
+        → EvictsRow b sought.seg sought.row row_answer.Evicted p s
+    row_is_evicted target n r s t freed free plain same plain' same' =
+        let key = t.takes.0 in let own : List Event = Unlinked (number q) key t.takes.1 (Some sought.seg) ∷ [] in let added : List Entry = Evicted (number q) key sought.seg ∷ [] in
+        let elsewhere : (other : ℕ) → bucket ≢ other → NoneAt b.shape other own = λ other apart. (ne_eqb (bucket_of b.shape key) other (λ e. apart (t.takes.2 ∙ e)), tt) in
+        let at_take = (took_moved b bucket f q quiet_looking took).same in
+        let old = (does_nothing b p f quiet i.moved i.plain i.memo).entries in record {
+          on = goes_all r s own added t.takes.3 (tt, tt) elsewhere (tt, tt) (λ h. refl) freed free plain same plain' same';
+          plain = plain_all r s own added t.takes.3 (tt, tt) elsewhere (tt, tt) (λ h. refl) freed free plain same plain' same';
+          memo = memo_all r s own added t.takes.3 (tt, tt) elsewhere (tt, tt) (λ h. refl) freed free plain same plain' same';
+          draws_nothing = undrawn_all r s own added t.takes.3 (tt, tt) elsewhere (tt, tt) (λ h. refl) freed free plain same plain' same' (tt, tt);
+          reads_nothing = unread_all r s own added t.takes.3 (tt, tt) elsewhere (tt, tt) (λ h. refl) freed free plain same plain' same';
+          tries = tries_all r s own added t.takes.3 (tt, tt) elsewhere (tt, tt) (λ h. refl) freed free plain same plain' same' (tt, tt) target n;
+          answer = (
+            gone_all r s own added t.takes.3 (tt, tt) elsewhere (tt, tt) (λ h. refl) freed free plain same plain' same',
+            gone_over b (Freed (number r) bucket false ∷ []) r s sought.seg sought.row freed.moved (tt, tt) (stored_taken.own ∙ sym t.takes.3.same) t.gone,
+            (
+              key,
+              write_adds b bucket f q quiet_looking took r s own added false t.takes.3 elsewhere (tt, tt) (λ h. refl) freed free
+                  ∙ (cond-true (eqb (number q) (number f)) (Evicted (number q) key sought.seg ∷ mine f) (mine f) (eq-eqb (number q) (number f) at_take)
+                  ∙ (λ u. Evicted ((at_take ∙ i.moved.same) u) key sought.seg ∷ old u)),
+            ),
+          );
+        }
+
+    -- it was gone meanwhile
+    pub row_went : (target : Target) → IsNamedAt b bucket sought target f → (r s : Pass) → TakesRow b bucket sought false q r → Did b (Freed (number r) bucket false ∷ []) r s → (bucket_after b.shape (trace s) bucket).holder ≡ None → r.plain ≡ q.plain → memo r ≡ memo q → s.plain ≡ r.plain → memo s ≡ memo r
+        → EvictsRow b sought.seg sought.row row_answer.Gone p s
+    row_went target n r s t freed free plain same plain' same' = record {
+      on = goes_all r s [] [] t.takes tt (λ other apart. tt) tt (λ h. refl) freed free plain same plain' same';
+      plain = plain_all r s [] [] t.takes tt (λ other apart. tt) tt (λ h. refl) freed free plain same plain' same';
+      memo = memo_all r s [] [] t.takes tt (λ other apart. tt) tt (λ h. refl) freed free plain same plain' same';
+      draws_nothing = undrawn_all r s [] [] t.takes tt (λ other apart. tt) tt (λ h. refl) freed free plain same plain' same' tt;
+      reads_nothing = unread_all r s [] [] t.takes tt (λ other apart. tt) tt (λ h. refl) freed free plain same plain' same';
+      tries = tries_all r s [] [] t.takes tt (λ other apart. tt) tt (λ h. refl) freed free plain same plain' same' tt target n;
+      answer = (
+        gone_all r s [] [] t.takes tt (λ other apart. tt) tt (λ h. refl) freed free plain same plain' same',
+        gone_over b (Freed (number r) bucket false ∷ []) r s sought.seg sought.row freed.moved (tt, tt) (stored_taken.own ∙ sym t.takes.same) t.gone,
+        write_adds b bucket f q quiet_looking took r s [] [] false t.takes (λ other apart. tt) tt (λ h. refl) freed free ∙ (does_nothing b p f quiet i.moved i.plain i.memo).entries,
+      );
+    }
+
+-- ---- in the terms of the call
+
+pub found_none : (b : Board) (bucket : ℕ) (sought : Item) (o : Option Target) (p : Pass) → FindsRow b bucket sought o p → is_some o ≡ false → RowGone b.shape sought.seg sought.row (trace p)
+found_none b bucket sought None p finds t = finds
+found_none b bucket sought (Some target) p finds f = absurd (false≢true (sym f))
+
+pub found_some : (b : Board) (bucket : ℕ) (sought : Item) (o : Option Target) (p : Pass) → FindsRow b bucket sought o p → is_some o ≡ true → (target : Target) × IsNamedAt b bucket sought target p
+found_some b bucket sought None p finds t = absurd (false≢true t)
+found_some b bucket sought (Some target) p finds t = (target, finds)
+
+pub of_place : (b : Board) (sought : Item) (segment row : ℕ) (told : RowAnswer) (p q : Pass) → (sought.seg ≡ segment) × (sought.row ≡ row) → EvictsRow b sought.seg sought.row told p q → EvictsRow b segment row told p q
+of_place b sought segment row told p q place e = subst (λ s. EvictsRow b s row told p q) place.0 (subst (λ r. EvictsRow b sought.seg r told p q) place.1 e)

@@ -1,0 +1,57 @@
+use Rattle.std.proofs.Common.{◌≡◌, ◌+◌, Some, sym, ap, ◌∙◌, subst, arith}
+use Rattle.std.proofs.lemmas.Option.{same_Some}
+use Rattle.segbase.specs.Plain.{used_of}
+use Rattle.segevict.proofs.Evictions.{Evicting, evicting_first, evicting_one, evicting_none, barred_on, barred_undrawn, barred_unread, barred_answer, emptied_on, emptied_undrawn, emptied_unread, emptied_answer}
+use Rattle.segevict.proofs.eviction.evict_rows.Goals as goal
+use Rattle.segevict.proofs.eviction.evict_rows.Goals.{in-Evicted, in-Gone}
+
+pub loop-row-init : goal.loop-row-init
+loop-row-init c = evicting_first c.args.board.now c.args.segment c.args.pass.now c.requires.quiet
+
+pub returns-in-Busy-clause-on : goal.returns-in-Busy-clause-on
+returns-in-Busy-clause-on c = let l = c.loop-row in let r = c.requires in
+    barred_on c.args.board.now c.args.segment l.row l.evicted c.args.pass.now l.pass r.in_use r.ended l.invariant c.evict_row.new.pass c.in-Busy.ensures.evicts
+
+pub returns-in-Busy-clause-answer : goal.returns-in-Busy-clause-answer
+returns-in-Busy-clause-answer c = let l = c.loop-row in let r = c.requires in
+    let below = c.loop-row-test.true in
+    barred_answer c.args.board.now c.args.segment l.row l.evicted c.args.pass.now l.pass r.in_use r.ended l.invariant c.evict_row.new.pass c.in-Busy.ensures.evicts
+    (λ rows is. let all : rows ≡ c.unwrap-used.result = same_Some rows c.unwrap-used.result (sym is ∙ (sym c.used.ensures ∙ c.unwrap-used.ensures)) in omega arith)
+
+pub loop-row-preserved : goal.loop-row-preserved
+loop-row-preserved c = let b = c.args.board.now in let l = c.loop-row in elim c.match-evict_row.branch [
+  | in-Evicted w ↦ subst (λ n. Evicting b c.args.segment (l.row + 1) n c.args.pass.now c.evict_row.new.pass) (sym w.evicted-is) (evicting_one b c.args.segment l.row l.evicted c.args.pass.now l.pass c.evict_row.new.pass l.invariant w.in-Evicted.ensures.evicts)
+  | in-Gone w ↦ subst (λ n. Evicting b c.args.segment (l.row + 1) n c.args.pass.now c.evict_row.new.pass) (sym w.evicted-is) (evicting_none b c.args.segment l.row l.evicted c.args.pass.now l.pass c.evict_row.new.pass l.invariant w.in-Gone.ensures.evicts)
+]
+
+pub returns-clause-on : goal.returns-clause-on
+returns-clause-on c = let l = c.loop-row in let r = c.requires in let s = c.set_state.ensures in
+    let over = c.loop-row-test.false in let most = l.auto.row-end in
+    let all : used_of c.args.pass.now c.args.segment ≡ Some l.row = sym c.used.ensures ∙ (c.unwrap-used.ensures ∙ ap Some (let e : c.unwrap-used.result ≡ l.row = omega arith in e)) in
+    emptied_on c.args.board.now c.args.segment l.row l.evicted c.args.pass.now l.pass r.in_use r.ended l.invariant all c.set_state.new.self s.seat s.state s.others s.used s.same
+
+pub returns-clause-answer : goal.returns-clause-answer
+returns-clause-answer c = let l = c.loop-row in let r = c.requires in let s = c.set_state.ensures in
+    let over = c.loop-row-test.false in let most = l.auto.row-end in
+    let all : used_of c.args.pass.now c.args.segment ≡ Some l.row = sym c.used.ensures ∙ (c.unwrap-used.ensures ∙ ap Some (let e : c.unwrap-used.result ≡ l.row = omega arith in e)) in
+    emptied_answer c.args.board.now c.args.segment l.row l.evicted c.args.pass.now l.pass r.in_use r.ended l.invariant all c.set_state.new.self s.seat s.state s.others s.used s.same
+
+pub returns-in-Busy-clause-draws_nothing : goal.returns-in-Busy-clause-draws_nothing
+returns-in-Busy-clause-draws_nothing c = let l = c.loop-row in let r = c.requires in
+    barred_undrawn c.args.board.now c.args.segment l.row l.evicted c.args.pass.now l.pass r.in_use r.ended l.invariant c.evict_row.new.pass c.in-Busy.ensures.evicts
+
+pub returns-clause-draws_nothing : goal.returns-clause-draws_nothing
+returns-clause-draws_nothing c = let l = c.loop-row in let r = c.requires in let s = c.set_state.ensures in
+    let over = c.loop-row-test.false in let most = l.auto.row-end in
+    let all : used_of c.args.pass.now c.args.segment ≡ Some l.row = sym c.used.ensures ∙ (c.unwrap-used.ensures ∙ ap Some (let e : c.unwrap-used.result ≡ l.row = omega arith in e)) in
+    emptied_undrawn c.args.board.now c.args.segment l.row l.evicted c.args.pass.now l.pass r.in_use r.ended l.invariant all c.set_state.new.self s.seat s.state s.others s.used s.same
+
+pub returns-in-Busy-clause-reads_nothing : goal.returns-in-Busy-clause-reads_nothing
+returns-in-Busy-clause-reads_nothing c = let l = c.loop-row in let r = c.requires in
+    barred_unread c.args.board.now c.args.segment l.row l.evicted c.args.pass.now l.pass r.in_use r.ended l.invariant c.evict_row.new.pass c.in-Busy.ensures.evicts
+
+pub returns-clause-reads_nothing : goal.returns-clause-reads_nothing
+returns-clause-reads_nothing c = let l = c.loop-row in let r = c.requires in let s = c.set_state.ensures in
+    let over = c.loop-row-test.false in let most = l.auto.row-end in
+    let all : used_of c.args.pass.now c.args.segment ≡ Some l.row = sym c.used.ensures ∙ (c.unwrap-used.ensures ∙ ap Some (let e : c.unwrap-used.result ≡ l.row = omega arith in e)) in
+    emptied_unread c.args.board.now c.args.segment l.row l.evicted c.args.pass.now l.pass r.in_use r.ended l.invariant all c.set_state.new.self s.seat s.state s.others s.used s.same

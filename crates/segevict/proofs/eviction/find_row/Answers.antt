@@ -1,0 +1,42 @@
+use Rattle.std.proofs.Common.{sym, subst}
+use Rattle.std.proofs.lemmas.Bool.{both_ways}
+use Rattle.segword.specs.SameItem.{IsSameItem}
+use Rattle.segwrite.proofs.Places.{step_idles}
+use Rattle.segevict.proofs.Seeking.{seeking_first, idles_looked, chain_looked, named_here, seeking_on, less_left, gone_at_end}
+use Rattle.segevict.proofs.eviction.find_row.Goals as goal
+
+pub loop-place-init : goal.loop-place-init
+loop-place-init c = seeking_first c.args.board.now c.args.bucket c.args.item c.args.pass.now c.requires.pass c.requires.stored
+
+pub returns-then-same_item-clause-idles : goal.returns-then-same_item-clause-idles
+returns-then-same_item-clause-idles c = let l = c.look-word in let b = c.args.board.now in
+    idles_looked b c.args.bucket c.args.item _ _ _ _ l.result c.loop-place.invariant (step_idles b _ _ _ _ l.ensures.step l.ensures.did) l.ensures.reads
+
+pub returns-then-same_item-clause-finds : goal.returns-then-same_item-clause-finds
+returns-then-same_item-clause-finds c = let l = c.look-word in let b = c.args.board.now in
+    let look = step_idles b _ _ _ _ l.ensures.step l.ensures.did in
+    let same = subst (IsSameItem l.result) c.pack-sought.ensures (c.same_item.ensures.0 c.if-same_item.true) in record {
+      chain = chain_looked b c.args.bucket c.args.item _ _ _ _ l.result c.loop-place.invariant look l.ensures.reads;
+      named = named_here b c.args.bucket c.args.item _ _ _ _ l.result c.loop-place.invariant look l.ensures.reads same;
+      reads = l.ensures.found;
+      same = same;
+    }
+
+pub loop-place-smaller : goal.loop-place-smaller
+loop-place-smaller c = let l = c.look-word in let b = c.args.board.now in
+    less_left b c.args.bucket c.args.item _ _ _ _ l.result c.loop-place.invariant (step_idles b _ _ _ _ l.ensures.step l.ensures.did) l.ensures.reads c.next_place.result
+    (λ same. both_ways _ c.if-same_item.false (c.same_item.ensures.1 (subst (IsSameItem l.result) (sym c.pack-sought.ensures) same))) c.next_place.ensures c.in-Some.next c.in-Some.is
+
+pub loop-place-preserved : goal.loop-place-preserved
+loop-place-preserved c = let l = c.look-word in let b = c.args.board.now in
+    seeking_on b c.args.bucket c.args.item _ _ _ _ l.result c.loop-place.invariant (step_idles b _ _ _ _ l.ensures.step l.ensures.did) l.ensures.reads c.next_place.result
+    (λ same. both_ways _ c.if-same_item.false (c.same_item.ensures.1 (subst (IsSameItem l.result) (sym c.pack-sought.ensures) same))) c.next_place.ensures c.in-Some.next c.in-Some.is
+
+pub returns-in-None-clause-idles : goal.returns-in-None-clause-idles
+returns-in-None-clause-idles c = let l = c.look-word in let b = c.args.board.now in
+    idles_looked b c.args.bucket c.args.item _ _ _ _ l.result c.loop-place.invariant (step_idles b _ _ _ _ l.ensures.step l.ensures.did) l.ensures.reads
+
+pub returns-in-None-clause-finds : goal.returns-in-None-clause-finds
+returns-in-None-clause-finds c = let l = c.look-word in let b = c.args.board.now in
+    gone_at_end b c.args.bucket c.args.item _ _ _ _ l.result c.loop-place.invariant (step_idles b _ _ _ _ l.ensures.step l.ensures.did) l.ensures.reads c.next_place.result
+    (λ same. both_ways _ c.if-same_item.false (c.same_item.ensures.1 (subst (IsSameItem l.result) (sym c.pack-sought.ensures) same))) c.next_place.ensures c.in-None.is

@@ -1,0 +1,11 @@
+use Rattle.std.proofs.Common.{◌-◌}
+use Rattle.segbase.specs.Passes.{trace}
+use Rattle.segbase.specs.Spots.{position}
+use Rattle.segevict.proofs.Seeking.{Seeking}
+use Rattle.segevict.proofs.eviction.find_row.Given as goal
+
+abbrev pub decreases-loop-place : goal.decreases-loop-place
+decreases-loop-place l = 32 - position l.board.shape (trace l.pass) l.place
+
+abbrev pub invariant-loop-place : goal.invariant-loop-place
+invariant-loop-place l = Seeking l.board l.bucket l.fn.item l.fn.pass l.pass l.place

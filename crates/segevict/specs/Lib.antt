@@ -1,0 +1,2 @@
+pub mod Evicting
+pub mod Unlinking

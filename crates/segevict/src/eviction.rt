@@ -1,0 +1,162 @@
+//! Evictions: the keys that stand in a segment of the pass's own are taken out of it, one after the other.
+ghost use Rattle.std.specs.Prelude.{◌≡◌, ◌≢◌, ◌<◌, ◌↔◌, Option, Some, None};
+ghost use Rattle.segmodel.specs.declared.answer.SegState.TheVariants.{InUse};
+ghost use Rattle.segmodel.specs.declared.answer.EvictAnswer.TheVariants.{NotYours};
+ghost use Rattle.segmodel.specs.Places.{bucket_of};
+ghost use Rattle.segmodel.specs.State.{but_for};
+ghost use Rattle.segbase.specs.Plain.{current_of, locked_of, is_holding_of, SameSegments, state_of};
+ghost use Rattle.segbase.specs.Passes.{IsPassOf};
+ghost use Rattle.segstore.specs.Refilling.{Idles};
+ghost use Rattle.segpass.specs.Quiet.{IsQuiet};
+ghost use Rattle.segpass.specs.Calls.{memo, GoesOn, DrawsNothing, ReadsNothing};
+ghost use Rattle.segpass.specs.Taking.{HasCleanBit};
+ghost use Rattle.segevict.specs.Evicting.{IsEvictAnswer};
+ghost use Rattle.segevict.specs.Unlinking.{IsUsedRow, IsStoredIn, FindsRow, TakesRow, EvictsRow};
+
+use segbase::{Board, Pass, Place};
+use segmodel::{EvictAnswer, SegState};
+use segpass::take_to_write;
+use segword::{Item, bucket_of, hash, same_item, tag_of};
+use segwrite::{Target, clear, next_place};
+
+// What became of the key of a row.
+pub(crate) enum RowAnswer {
+    // It was taken out of the segment.
+    Evicted,
+    // It didn't stand there any more.
+    Gone,
+    // The bit of its bucket was found set at each try, or the pass itself has the bucket locked.
+    Busy,
+}
+
+// Nothing more is stored in the segment.
+fn end_storing(pass: &mut Pass, segment: u32)
+    ensures current { current_of pass.new ≡ but_for segment (current_of pass.old) }
+    ensures same { SameSegments pass.old pass.new × (locked_of pass.new ≡ locked_of pass.old) × (is_holding_of pass.new ≡ is_holding_of pass.old) }
+    ensures seat { pass.new.seat ≡ pass.old.seat }
+{
+    if pass.current() == Some(segment) {
+        pass.set_current(None);
+    }
+}
+
+/// Takes out every key that stands in a segment of the pass's own, so that it can be refilled. Nothing is stored there from then on, also where the answer is Busy: then the keys that are left go when it is asked again.
+pub fn evict(board: &Board, pass: &mut Pass, segment: u32) -> EvictAnswer
+    requires quiet { IsQuiet board.now pass.old }
+    ensures on { GoesOn board.now pass.old pass.new }
+    ensures answer { IsEvictAnswer board.now.shape segment result pass.old pass.new }
+    ensures draws_nothing { DrawsNothing pass.old pass.new }
+    ensures reads_nothing { ReadsNothing pass.old pass.new }
+    ensures not_yours { (result ≡ NotYours) ↔ (state_of pass.old segment ≡ None) }
+{
+    let Some(state) = pass.state(segment) else {
+        return EvictAnswer::NotYours;
+    };
+    if state != SegState::InUse {
+        return EvictAnswer::Evicted(0);
+    }
+    end_storing(pass, segment);
+    evict_rows(board, pass, segment)
+}
+
+// Takes out the keys of the rows of a segment in which nothing is stored any more.
+fn evict_rows(board: &Board, pass: &mut Pass, segment: u32) -> EvictAnswer
+    requires quiet { IsQuiet board.now pass.old }
+    requires in_use { state_of pass.old segment ≡ Some InUse }
+    requires ended { current_of pass.old ≢ Some segment }
+    ensures on { GoesOn board.now pass.old pass.new }
+    ensures answer { IsEvictAnswer board.now.shape segment result pass.old pass.new }
+    ensures draws_nothing { DrawsNothing pass.old pass.new }
+    ensures reads_nothing { ReadsNothing pass.old pass.new }
+    ensures yours { result ≢ NotYours }
+{
+    let used = pass.used(segment).unwrap();
+    let mut evicted = 0;
+    for row in 0..used {
+        match evict_row(board, pass, segment, row) {
+            RowAnswer::Evicted => evicted += 1,
+            RowAnswer::Gone => {}
+            RowAnswer::Busy => return EvictAnswer::Busy(evicted),
+        }
+    }
+    pass.set_state(segment, SegState::Evicted);
+    EvictAnswer::Evicted(evicted)
+}
+
+// Takes out the key of a row, where it stands there. Its bucket's bit is taken only then.
+fn evict_row(board: &Board, pass: &mut Pass, segment: u32, row: u32) -> RowAnswer
+    requires quiet { IsQuiet board.now pass.old }
+    requires used { IsUsedRow segment row pass.old }
+    ensures evicts { EvictsRow board.now segment row result pass.old pass.new }
+{
+    let (bucket, item) = item_of_row(board, pass, segment, row);
+    if find_row(board, pass, bucket, item).is_none() {
+        return RowAnswer::Gone;
+    }
+    if !take_to_write(board, pass, bucket) {
+        return RowAnswer::Busy;
+    }
+    let is_evicted = clear_row(board, pass, bucket, item);
+    board.release(pass, bucket, false);
+    if is_evicted {
+        RowAnswer::Evicted
+    } else {
+        RowAnswer::Gone
+    }
+}
+
+// The bucket and the item of the key that was stored in a row. The frequency is left open.
+fn item_of_row(board: &Board, pass: &mut Pass, segment: u32, row: u32) -> (u32, Item)
+    requires quiet { IsQuiet board.now pass.old }
+    requires used { IsUsedRow segment row pass.old }
+    ensures idles { Idles board.now pass.old pass.new }
+    ensures place { (result.1.seg ≡ segment) × (result.1.row ≡ row) }
+    ensures bucket { result.0 < board.now.shape.buckets }
+    ensures stored { IsStoredIn board.now result.0 result.1 pass.new }
+{
+    let key = segstore::key_of_row(board, pass, segment, row).unwrap();
+    let hash = hash(&key);
+    let item = Item {
+        tag: tag_of(hash),
+        freq: 0,
+        seg: segment,
+        row,
+    };
+    (bucket_of(hash, board.shape().buckets), item)
+}
+
+// The word of a bucket's chain that names the row of an item, under the bucket's bit or without it.
+fn find_row(board: &Board, pass: &mut Pass, bucket: u32, item: Item) -> Option<Target>
+    requires pass { IsPassOf board.now pass.old }
+    requires stored { IsStoredIn board.now bucket item pass.old }
+    ensures idles { Idles board.now pass.old pass.new }
+    ensures finds { FindsRow board.now bucket item result pass.new }
+{
+    let sought = item.pack();
+    let mut place = Place { bucket, word: 1 };
+    loop {
+        let word = board.look(pass, place);
+        if same_item(word, sought) {
+            return Some(Target { place, word });
+        }
+        match next_place(board, place, word) {
+            Some(next) => place = next,
+            None => return None,
+        }
+    }
+}
+
+// Clears the word that names the row of an item, under the bit of its bucket. It is false where there is none.
+fn clear_row(board: &Board, pass: &mut Pass, bucket: u32, item: Item) -> bool
+    requires pass { IsPassOf board.now pass.old }
+    requires stored { IsStoredIn board.now bucket item pass.old }
+    requires bit { HasCleanBit board.now pass.old bucket }
+    ensures takes { TakesRow board.now bucket item result pass.old pass.new }
+    ensures same { (pass.new.plain ≡ pass.old.plain) × (memo pass.new ≡ memo pass.old) }
+{
+    let Some(target) = find_row(board, pass, bucket, item) else {
+        return false;
+    };
+    clear(board, pass, target);
+    true
+}

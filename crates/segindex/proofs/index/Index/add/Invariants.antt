@@ -1,5 +1,0 @@
-use Rattle.segindex.specs.Refusing.{request_of}
-use Rattle.segindex.proofs.index.Index.add.Given as goal
-
-abbrev pub ghost-write : goal.ghost-write
-ghost-write a = request_of a.when a.key.now a.value.now

@@ -1,5 +1,0 @@
-use Rattle.segmodel.specs.declared.request.Request.TheVariants.{Delete}
-use Rattle.segindex.proofs.index.Index.delete.Given as goal
-
-abbrev pub ghost-remove : goal.ghost-remove
-ghost-remove a = Delete a.key.now

@@ -1,5 +1,0 @@
-use Rattle.segindex.proofs.Told.{stores_always}
-use Rattle.segindex.proofs.index.Index.set.Goals as goal
-
-pub returns-clause-set : goal.returns-clause-set
-returns-clause-set c = stores_always c.args.self.now.board c.args.key.now c.args.value.now c.write.result c.args.pass.now c.write.new.pass c.write.ensures.writes

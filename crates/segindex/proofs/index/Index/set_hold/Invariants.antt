@@ -1,5 +1,0 @@
-use Rattle.segbase.specs.Passes.{locked}
-use Rattle.segindex.proofs.index.Index.set_hold.Given as goal
-
-abbrev pub ghost-remember : goal.ghost-remember
-ghost-remember g a = record { holding = g.held; locked = locked a.pass.now }

@@ -1,0 +1,13 @@
+pub mod UnderBit
+pub mod Bits
+pub mod Taking
+pub mod Quiet
+pub mod Still
+pub mod Bounces
+pub mod TakenBits
+pub mod Idling
+pub mod Meanwhile
+pub mod Locking
+pub mod UnderWrite
+pub mod Draws
+pub mod Before

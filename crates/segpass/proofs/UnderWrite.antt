@@ -1,0 +1,140 @@
+-- A write under the bit that it took for itself: the bit is given back at the end, and the pass is quiet again.
+use Rattle.std.proofs.Common.{◌≡◌, ◌≢◌, ℕ, ◌<◌, Bool, true, false, List, [], ◌∷◌, ◌++◌, Some, None, option_map, sym, ap, ◌∙◌, subst, ⊎_elim, append_assoc}
+use Rattle.std.proofs.lemmas.Bool.{cases_eq, ne_eqb}
+use Rattle.std.proofs.lemmas.Option.{none-some}
+use Rattle.segmodel.specs.declared.entry.Entry.{Entry}
+use Rattle.segmodel.specs.History as history
+use Rattle.segcore.specs.declared.event.Event.{Event}
+use Rattle.segcore.specs.declared.event.Event.TheVariants.{Took, Freed}
+use Rattle.segcore.specs.Event as event
+use Rattle.segcore.specs.Count as count
+use Rattle.segcore.specs.Bucket.{bucket_after}
+use Rattle.segcore.specs.Kind.{HasBit}
+use Rattle.segcore.specs.Lawful.{NoneAt}
+use Rattle.segbase.specs.declared.board.Board.{Board}
+use Rattle.segbase.specs.declared.law.Locked.{Locked}
+use Rattle.segbase.specs.declared.law.Memo.{Memo}
+use Rattle.segbase.specs.declared.pass.Pass.{Pass}
+use Rattle.segbase.specs.Passes.{number, trace, mine, seen, drew, locked, Moved, Did}
+use Rattle.segbase.specs.Plain.{locked_of, is_holding_of}
+use Rattle.segbase.proofs.Moves.{moved_then, moved_mine, moved_drew}
+use Rattle.segstore.specs.Segments.{KeepsSegments}
+use Rattle.segstore.proofs.Keeping.{keeps_plain}
+use Rattle.segpass.specs.Quiet.{IsQuiet}
+use Rattle.segpass.specs.Calls.{memo, GoesOn, TakesOneBit, DrawsNothing, ReadsNothing}
+use Rattle.segpass.specs.Taking.{bounces, TakesBucket, HasCleanBit, TookToWrite, TakesToWrite}
+use Rattle.segpass.proofs.Bits.{none_at_both, bit_before}
+use Rattle.segpass.proofs.Bounces.{bounces_still, bounces_calm, bounces_undrawn, bounces_seen}
+use Rattle.segpass.proofs.Draws.{AreUndrawn, undrawn}
+use Rattle.segpass.proofs.Idling.{gave_up}
+use Rattle.segpass.proofs.Quiet.{quiet_again, goes_on}
+use Rattle.segpass.proofs.Still.{AreStill, no_reader, settles_still}
+use Rattle.segpass.proofs.TakenBits.{AreNoTries, took_one}
+use Rattle.segpass.proofs.Taking.{bounces_none}
+
+pub takes_to_write : (b : Board) (bucket : ℕ) (t : Bool) (p q : Pass) → IsQuiet b p → bucket < b.shape.buckets → locked_of p ≢ Some bucket → TakesBucket b bucket t p q → q.plain ≡ p.plain → memo q ≡ memo p → TakesToWrite b bucket t p q
+takes_to_write b bucket true p q quiet within apart takes plain same = record { unlocked = apart; takes = takes; plain = plain; memo = same }
+takes_to_write b bucket false p q quiet within apart takes plain same = gave_up b p q bucket quiet within takes plain same
+
+pub still_both : (xs ys : List Event) → AreStill xs → AreStill ys → AreStill (xs ++ ys)
+still_both [] ys i j = j
+still_both (e ∷ xs) ys i j = (i.0, still_both xs ys i.1 j)
+
+module _ (b : Board) (bucket : ℕ) (p q : Pass) (quiet : IsQuiet b p) (took : TookToWrite b bucket p q) where
+  -- the tries and the one that took the bit
+  abbrev pub tries : List Event
+  tries = Took (number p) bucket ∷ bounces (number p) bucket took.takes.0
+
+  pub took_moved : Moved b tries p q
+  took_moved = took.takes.2
+
+  pub took_clean : HasCleanBit b q bucket
+  took_clean = took.takes.3
+
+  pub tries_undrawn : (c : ℕ) → count.drew (number p) c (tries ++ trace p) ≡ drew p c
+  tries_undrawn c = undrawn (number p) c tries (trace p) (tt, bounces_undrawn (number p) bucket took.takes.0)
+
+  pub took_keeps : KeepsSegments b q
+  took_keeps = keeps_plain b tries p q took_moved (tt, bounces_calm (number p) bucket took.takes.0) took.plain quiet.segments
+
+  -- what was done since the bit was taken, the release at its end
+  module _ (s : Pass) (own : List Event) (added : List Entry) (counted : Bool) (m : Moved b (Freed (number p) bucket counted ∷ own) q s) (elsewhere : (other : ℕ) → bucket ≢ other → NoneAt b.shape other own) (still : AreStill own)
+      (adds : (h : List Event) → event.seen (own ++ h) ≡ added ++ event.seen h) (free : (bucket_after b.shape (trace s) bucket).holder ≡ None) where
+    abbrev all : List Event
+    all = Freed (number p) bucket counted ∷ (own ++ tries)
+
+    moved_all : Moved b all p s
+    moved_all = moved_then b tries (Freed (number p) bucket counted ∷ own) p q s took_moved m
+
+    none_elsewhere : (other : ℕ) → bucket ≢ other → NoneAt b.shape other all
+    none_elsewhere other apart = (ne_eqb bucket other apart, none_at_both b.shape other own tries (elsewhere other apart) (ne_eqb bucket other apart, bounces_none b.shape other (number p) bucket took.takes.0))
+
+    all_still : AreStill all
+    all_still = (tt, still_both own tries still (tt, bounces_still (number p) bucket took.takes.0))
+
+    lock_apart : (lock : Locked) → locked p ≡ Some lock → bucket ≢ lock.bucket
+    lock_apart lock is same = took.unlocked (quiet.locks ∙ (ap (λ o. option_map (λ (l : Locked). l.bucket) o) is ∙ ap Some (sym same)))
+
+    bit_back : (other : ℕ) → HasBit b.shape (trace s) (number s) other → HasBit b.shape (trace p) (number p) other
+    bit_back other has = ⊎_elim
+        (λ same. absurd (none-some (number s) (sym free ∙ (ap (λ k. (bucket_after b.shape (trace s) k).holder) same ∙ has.1))))
+        (λ apart. bit_before b all p s other moved_all (none_elsewhere other apart) has)
+        (cases_eq bucket other)
+
+    pub ends_on : memo s ≡ memo p → locked_of s ≡ locked_of p → is_holding_of s ≡ is_holding_of p → KeepsSegments b s → GoesOn b p s
+    ends_on same locks holds segments =
+        let there = settles_still b all p s moved_all all_still (ap (λ (x : Memo). x.holding) same) holds in
+        goes_on b all p s moved_all (quiet_again b all p s quiet (record {
+          moved = moved_all;
+          memo = same;
+          locked_of = locks;
+          holding = holds;
+          segments = segments;
+          bits = bit_back;
+          untouched = λ lock is. none_elsewhere lock.bucket (lock_apart lock is);
+          readings = there.readings;
+          stays = there.stays;
+        }))
+
+    -- its entries are those that were added under the bit
+    pub ends_adding : mine s ≡ history.mine (number p) (added ++ seen p)
+    ends_adding = moved_mine b all p s moved_all ∙ ap (history.mine (number p))
+        (ap event.seen (append_assoc own tries (trace p)) ∙ (adds (tries ++ trace p) ∙ ap (λ h. added ++ h) (bounces_seen (number p) bucket took.takes.0 (trace p))))
+
+    -- it drew what was drawn under the bit
+    pub ends_drew : (c : ℕ) → drew s c ≡ count.drew (number p) c (own ++ (tries ++ trace p))
+    ends_drew c = moved_drew b all p s c moved_all ∙ ap (count.drew (number p) c) (append_assoc own tries (trace p))
+
+    pub ends_undrawn : AreUndrawn own → DrawsNothing p s
+    ends_undrawn none c = ends_drew c ∙ (undrawn (number p) c own (tries ++ trace p) none ∙ tries_undrawn c)
+
+    pub ends_unread : ReadsNothing p s
+    ends_unread = no_reader b all p s moved_all all_still
+
+    -- it took one bit
+    pub ends_taking : AreNoTries own → TakesOneBit bucket p s
+    ends_taking none = took_one b bucket took.takes.0 (Freed (number p) bucket counted ∷ own) p s took.takes.1 (tt, none) moved_all
+
+  -- the same where the release is a step of its own, that tells no entry
+  module _ (r s : Pass) (own : List Event) (added : List Entry) (counted : Bool) (m : Moved b own q r) (elsewhere : (other : ℕ) → bucket ≢ other → NoneAt b.shape other own) (still : AreStill own)
+      (adds : (h : List Event) → event.seen (own ++ h) ≡ added ++ event.seen h) (freed : Did b (Freed (number r) bucket counted ∷ []) r s) (free : (bucket_after b.shape (trace s) bucket).holder ≡ None) where
+    ended : Moved b (Freed (number p) bucket counted ∷ own) q s
+    ended = subst (λ n. Moved b (Freed n bucket counted ∷ own) q s) (m.same ∙ took_moved.same) (moved_then b own (Freed (number r) bucket counted ∷ []) q r s m freed.moved)
+
+    pub write_goes_on : memo s ≡ memo p → locked_of s ≡ locked_of p → is_holding_of s ≡ is_holding_of p → KeepsSegments b s → GoesOn b p s
+    write_goes_on = ends_on s own added counted ended elsewhere still adds free
+
+    pub write_adds : mine s ≡ history.mine (number p) (added ++ seen p)
+    write_adds = ends_adding s own added counted ended elsewhere still adds free
+
+    pub write_drew : (c : ℕ) → drew s c ≡ count.drew (number p) c (own ++ (tries ++ trace p))
+    write_drew = ends_drew s own added counted ended elsewhere still adds free
+
+    pub write_undrawn : AreUndrawn own → DrawsNothing p s
+    write_undrawn = ends_undrawn s own added counted ended elsewhere still adds free
+
+    pub write_unread : ReadsNothing p s
+    write_unread = ends_unread s own added counted ended elsewhere still adds free
+
+    pub write_takes : AreNoTries own → TakesOneBit bucket p s
+    write_takes = ends_taking s own added counted ended elsewhere still adds free

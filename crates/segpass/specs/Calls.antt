@@ -1,0 +1,67 @@
+-- What calls do to the pass that makes them.
+use Rattle.std.specs.Prelude.{◌≡◌, ◌≢◌, ◌⊎◌, ℕ, ◌+◌, ◌<◌, ◌∷◌, Some}
+use Rattle.segmodel.specs.declared.entry.Entry.{Entry}
+use Rattle.segmodel.specs.History.{Begins}
+use Rattle.segbase.specs.declared.board.Board.{Board}
+use Rattle.segbase.specs.declared.pass.Pass.{Pass}
+use Rattle.segbase.specs.Passes.{number, marked, seen, mine, drew, sight, taken, bounced, glanced, raised, entered}
+use Rattle.segbase.specs.Plain.{locked_of}
+use Rattle.segbase.specs.declared.law.Memo.{Memo}
+use Rattle.segpass.specs.Quiet.{IsQuiet}
+
+-- it is the same pass, quiet again, and what it has seen only grew
+pub record GoesOn (b : Board) (p q : Pass) : Type 0 where
+  pub quiet : IsQuiet b q
+  pub same : number q ≡ number p
+  pub marked : Begins (marked p) (marked q)
+  pub seen : Begins (seen p) (seen q)
+
+abbrev pub memo : Pass → Memo
+memo p = (sight p).memo
+
+-- it added no entry, and its segments, its hold and its lock are as they were
+pub record ChangesNothing (p q : Pass) : Type 0 where
+  pub entries : mine q ≡ mine p
+  pub plain : q.plain ≡ p.plain
+  pub memo : memo q ≡ memo p
+
+-- it took no bit, and no try of it for one found another's
+pub record TakesNoBit (p q : Pass) : Type 0 where
+  pub taken : taken q ≡ taken p
+  pub bounced : (bucket : ℕ) → bounced q bucket ≡ bounced p bucket
+
+-- it took one bit, after at most 63 tries that found that of the bucket set by another, and found that of no other bucket set; a try for a bit that it has itself is no event
+pub record TakesOneBit (bucket : ℕ) (p q : Pass) : Type 0 where
+  pub taken : taken q ≡ taken p + 1
+  pub tries : bounced q bucket < bounced p bucket + 64
+  pub others : (other : ℕ) → other ≢ bucket → bounced q other ≡ bounced p other
+
+-- it took none: 64 tries found that of the bucket set by another, and none that of another bucket
+pub record TriesInVain (bucket : ℕ) (p q : Pass) : Type 0 where
+  pub taken : taken q ≡ taken p
+  pub tries : bounced q bucket ≡ bounced p bucket + 64
+  pub others : (other : ℕ) → other ≢ bucket → bounced q other ≡ bounced p other
+
+-- it drew no overflow bucket
+abbrev pub DrawsNothing : Pass → Pass → Type 0
+DrawsNothing p q = (bucket : ℕ) → drew q bucket ≡ drew p bucket
+
+-- it raised the frequency of no item
+abbrev pub RaisesNothing : Pass → Pass → Type 0
+RaisesNothing p q = raised q ≡ raised p
+
+-- how often it raised a frequency, came into a segment, and found the bit of a bucket set by a look without it
+abbrev pub readings : Pass → ℕ × ℕ × (ℕ → ℕ)
+readings p = (raised p, entered p, λ bucket. glanced p bucket)
+
+-- it did nothing of what readers do
+abbrev pub ReadsNothing : Pass → Pass → Type 0
+ReadsNothing p q = readings q ≡ readings p
+
+-- it added one entry of its own
+abbrev pub AddsEntry : Entry → Pass → Pass → Type 0
+AddsEntry entry p q = mine q ≡ entry ∷ mine p
+
+-- the pass itself has the bucket locked, took no bit and found none of another's; or it found the bucket's bit set by another 64 times
+abbrev pub IsBusy : ℕ → Pass → Pass → Type 0
+IsBusy bucket p q = ((locked_of p ≡ Some bucket) × TakesNoBit p q) ⊎ TriesInVain bucket p q

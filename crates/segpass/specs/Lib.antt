@@ -1,0 +1,5 @@
+pub mod Calls
+pub mod Locks
+pub mod Props
+pub mod Quiet
+pub mod Taking

@@ -1,0 +1,102 @@
+//! Buckets taken and given back, for the time of a call or locked for longer.
+ghost use Rattle.std.specs.Prelude.{◌≡◌, ◌≢◌, ◌<◌, ◌↔◌, is_some, None, IfSome, false};
+ghost use Rattle.segcore.specs.Kind.{HasBit};
+ghost use Rattle.segpass.specs.declared.bucket.LockAnswer.TheVariants as lock;
+ghost use Rattle.segpass.specs.Taking.{TakesToWrite};
+ghost use Rattle.segbase.specs.Passes.{number, trace, IsPassOf};
+ghost use Rattle.segbase.specs.Plain.{locked_of};
+ghost use Rattle.segpass.specs.Quiet.{IsQuiet};
+ghost use Rattle.segpass.specs.Calls.{memo, GoesOn, TakesNoBit, DrawsNothing, ReadsNothing};
+ghost use Rattle.segpass.specs.Locks.{IsLockAnswer, IsUnlockAnswer};
+ghost use Rattle.segpass.specs.Taking.{TakesBucket, SetsLock};
+
+use segbase::{Board, Pass};
+use segword::{Key, bucket_of, hash};
+
+/// The answer to a lock of a bucket.
+#[derive(Clone, Copy, Debug, PartialEq, Eq)]
+pub enum LockAnswer {
+    Locked,
+    /// The writer bit of the bucket was found set at each try.
+    Busy,
+    /// The pass has a bucket locked.
+    AlreadyLocked,
+}
+
+// How often a call tries to take a bit before it answers Busy.
+const TRIES: u32 = 64;
+
+/// Locks the bucket of a key. Until it is unlocked no other pass writes in it, and a delete and every write that has room are answered Busy.
+pub fn lock_bucket(board: &Board, pass: &mut Pass, key: &Key) -> LockAnswer
+    requires quiet { IsQuiet board.now pass.old }
+    ensures goes_on { GoesOn board.now pass.old pass.new }
+    ensures answer { IsLockAnswer board.now.shape key.now result pass.old pass.new }
+    ensures draws_nothing { DrawsNothing pass.old pass.new }
+    ensures reads_nothing { ReadsNothing pass.old pass.new }
+    ensures already { (result ≡ lock.AlreadyLocked) ↔ (locked_of pass.old ≢ None) }
+    ensures untouched { result ≡ lock.AlreadyLocked → pass.new ≡ pass.old }
+{
+    if pass.locked().is_some() {
+        return LockAnswer::AlreadyLocked;
+    }
+    let bucket = bucket_of(hash(key), board.shape().buckets);
+    if !take_bucket(board, pass, bucket) {
+        return LockAnswer::Busy;
+    }
+    set_lock(board, pass, Some(bucket));
+    LockAnswer::Locked
+}
+
+/// Unlocks the bucket that the pass has locked, and is false where there is none.
+pub fn unlock_bucket(board: &Board, pass: &mut Pass) -> bool
+    requires quiet { IsQuiet board.now pass.old }
+    ensures goes_on { GoesOn board.now pass.old pass.new }
+    ensures answer { IsUnlockAnswer board.now.shape result pass.old pass.new }
+    ensures was_locked { result ≡ is_some (locked_of pass.old) }
+    ensures takes_no_bit { TakesNoBit pass.old pass.new }
+    ensures draws_nothing { DrawsNothing pass.old pass.new }
+    ensures reads_nothing { ReadsNothing pass.old pass.new }
+    ensures untouched { result ≡ false → pass.new ≡ pass.old }
+{
+    let Some(bucket) = pass.locked() else {
+        return false;
+    };
+    board.release(pass, bucket, false);
+    set_lock(board, pass, None);
+    true
+}
+
+// Names the bucket that the pass has locked, as of what it has seen now.
+fn set_lock(board: &Board, pass: &mut Pass, bucket: Option<u32>)
+    requires pass { IsPassOf board.now pass.old }
+    requires bit { IfSome bucket (HasBit board.now.shape (trace pass.old) (number pass.old)) }
+    ensures pass { IsPassOf board.now pass.new }
+    ensures sets { SetsLock bucket pass.old pass.new }
+{
+    pass.set_locked(bucket);
+    board.remember(pass);
+}
+
+/// Takes the writer bit of a bucket, and is false where each try found it set.
+pub fn take_bucket(board: &Board, pass: &mut Pass, bucket: u32) -> bool
+    requires pass { IsPassOf board.now pass.old }
+    requires bucket { bucket < board.now.shape.buckets }
+    ensures takes { TakesBucket board.now bucket result pass.old pass.new }
+    ensures same { (pass.new.plain ≡ pass.old.plain) × (memo pass.new ≡ memo pass.old) }
+{
+    for tries in 0..TRIES {
+        if board.take(pass, bucket) {
+            return true;
+        }
+    }
+    false
+}
+
+/// Takes the bit of a bucket for a write. It is false where the pass has the bucket locked itself, or found the bit set at each try.
+pub fn take_to_write(board: &Board, pass: &mut Pass, bucket: u32) -> bool
+    requires pass { IsQuiet board.now pass.old }
+    requires bucket { bucket < board.now.shape.buckets }
+    ensures takes { TakesToWrite board.now bucket result pass.old pass.new }
+{
+    pass.locked() != Some(bucket) && take_bucket(board, pass, bucket)
+}

@@ -1,0 +1,87 @@
+-- What a get makes of a scan: its answer by the history, and that it changed nothing.
+use Rattle.std.proofs.Common.{◌≡◌, ℕ, Bool, true, false, cond, List, [], ◌∷◌, ◌++◌, Some, None, option_map, refl, ap, ◌∙◌}
+use Rattle.segword.specs.declared.shape.Shape.{Shape}
+use Rattle.segmodel.specs.declared.entry.Cached.{Cached}
+use Rattle.segmodel.specs.History.{Begins}
+use Rattle.segcore.specs.declared.event.Event.{Event}
+use Rattle.segcore.specs.declared.event.Event.TheVariants.{Glanced, Bumped, Entered, Left}
+use Rattle.segcore.specs.Event as event
+use Rattle.segcore.specs.Count as count
+use Rattle.segcore.specs.Lawful.{IsLawful}
+use Rattle.segcore.specs.Ahead.{WasGone}
+use Rattle.segcore.specs.Search.{KeyGone}
+use Rattle.segcore.proofs.Moments.{begins_on, seen_begins}
+use Rattle.segbase.specs.declared.board.Board.{Board}
+use Rattle.segbase.specs.declared.pass.Pass.{Pass}
+use Rattle.segbase.specs.declared.place.Place.{Place}
+use Rattle.segbase.specs.Traces.{OnlyReads}
+use Rattle.segbase.specs.Passes.{number, trace, sight, taken, Moved, Did}
+use Rattle.segbase.proofs.Moves.{moved_inside, moved_taken, moved_bounced}
+use Rattle.segstore.specs.Reading.{IsReader}
+use Rattle.segstore.specs.Linked.{IsChained, FoundItem}
+use Rattle.segstore.proofs.Words.{chained_later}
+use Rattle.segstore.proofs.Readers.{looks}
+use Rattle.segpass.specs.Calls.{TakesNoBit}
+use Rattle.segread.specs.Reads.{ReadsBetween}
+
+-- ---- the answer
+
+pub found_reads : (z : Shape) (place : Place) (w : ℕ) (key value : List ℕ) (h g f : List Event) → Begins g f → FoundItem z place w key value h g → ReadsBetween z key (event.seen h) (event.seen f) (Some value)
+found_reads z place w key value h g f on found = let s = found.saw in
+    (event.seen s.at, (seen_begins h s.at s.between.0, seen_begins s.at f (begins_on s.at g f s.between.1 on)), ap (option_map (λ (item : Cached). item.value)) s.was.stands)
+
+pub gone_reads : (z : Shape) (key : List ℕ) (h g : List Event) → WasGone (KeyGone z key) h g → ReadsBetween z key (event.seen h) (event.seen g) None
+gone_reads z key h g gone = (event.seen gone.0, (seen_begins h gone.0 gone.1, seen_begins gone.0 g gone.2), ap (option_map (λ (item : Cached). item.value)) gone.3)
+
+-- ---- hits
+
+-- the place of what was found is still one of a chain
+pub found_place : (z : Shape) (place : Place) (w : ℕ) (key value : List ℕ) (h g : List Event) → IsLawful z g → FoundItem z place w key value h g → IsChained z g place
+found_place z place w key value h g l found = chained_later z found.saw.at g place l found.saw.between.1 found.saw.was.chained
+
+-- a pass that raises a frequency only reads
+pub raises : (b : Board) (p q : Pass) (segment row frequency : ℕ) → Moved b (Bumped (number p) segment row frequency ∷ []) p q → q.plain ≡ p.plain → (sight q).memo ≡ (sight p).memo → IsReader b p q
+raises b p q segment row frequency m plain memo = record {
+  reads = record {
+    own = Bumped (number p) segment row frequency ∷ [];
+    moved = m;
+    only = (tt, tt);
+    inside = λ s. moved_inside b (Bumped (number p) segment row frequency ∷ []) p q s m;
+    stays = λ s there. (there, there);
+  };
+  plain = plain;
+  memo = memo;
+}
+
+pub hits : (b : Board) (p q : Pass) (segment row frequency : ℕ) (raised : Bool) → Did b (cond raised (Bumped (number p) segment row frequency ∷ []) []) p q → q.plain ≡ p.plain → (sight q).memo ≡ (sight p).memo → IsReader b p q
+hits b p q segment row frequency true d plain memo = raises b p q segment row frequency d.moved plain memo
+hits b p q segment row frequency false d plain memo = looks b p q (record { did = d; plain = plain; memo = memo })
+
+-- ---- bits
+
+-- a reader sets none
+pub reads_set_none : (p : ℕ) (own h : List Event) → OnlyReads own → count.taken p (own ++ h) ≡ count.taken p h
+reads_set_none p [] h only = refl
+reads_set_none p (Glanced q b ∷ own) h only = reads_set_none p own h only.1
+reads_set_none p (Bumped q s r f ∷ own) h only = reads_set_none p own h only.1
+reads_set_none p (Entered q s ∷ own) h only = reads_set_none p own h only.1
+reads_set_none p (Left q s ∷ own) h only = reads_set_none p own h only.1
+reads_set_none p (e ∷ own) h only = absurd only.0
+
+pub takes_none : (b : Board) (p q : Pass) → IsReader b p q → taken q ≡ taken p
+takes_none b p q i = moved_taken b i.reads.own p q i.reads.moved ∙ reads_set_none (number p) i.reads.own (trace p) i.reads.only
+
+-- and tries for none
+pub reads_try_none : (p b : ℕ) (own h : List Event) → OnlyReads own → count.bounced p b (own ++ h) ≡ count.bounced p b h
+reads_try_none p b [] h only = refl
+reads_try_none p b (Glanced q a ∷ own) h only = reads_try_none p b own h only.1
+reads_try_none p b (Bumped q s r f ∷ own) h only = reads_try_none p b own h only.1
+reads_try_none p b (Entered q s ∷ own) h only = reads_try_none p b own h only.1
+reads_try_none p b (Left q s ∷ own) h only = reads_try_none p b own h only.1
+reads_try_none p b (e ∷ own) h only = absurd only.0
+
+pub reads_no_bit : (b : Board) (p q : Pass) → IsReader b p q → TakesNoBit p q
+reads_no_bit b p q i = record {
+  taken = takes_none b p q i;
+  bounced = λ bucket. moved_bounced b i.reads.own p q bucket i.reads.moved ∙ reads_try_none (number p) bucket i.reads.own (trace p) i.reads.only;
+}

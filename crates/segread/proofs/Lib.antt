@@ -1,0 +1,12 @@
+pub mod Reading
+pub mod ComingIn
+pub mod Tries
+pub mod Raising
+pub mod Scans
+pub mod Answered
+pub mod Disturbing
+pub mod OneMoment
+pub mod VersionScans
+pub mod Holding
+pub mod Hits
+pub mod HoldCalls

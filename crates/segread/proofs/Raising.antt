@@ -1,0 +1,244 @@
+-- What a hit raises: the frequency of the key's item, by one, at a moment at which the key stands and the draw counts.
+use Rattle.std.proofs.Common.{◌≡◌, ℕ, ◌+◌, ◌<◌, ◌≤◌, Bool, true, false, cond, eqb, List, [], ◌∷◌, ◌++◌, Some, refl, sym, ap, ◌∙◌, subst, inl, inr, arith, ◌⊎◌}
+use Rattle.std.proofs.lemmas.Bool.Decides.{eqb_tells}
+use Rattle.std.proofs.lemmas.Bool.{cond-true, cond-false, eq-eqb, eqb-true, false≢true}
+use Rattle.std.proofs.lemmas.Option.{same_Some}
+use Rattle.segword.specs.declared.shape.Shape.{Shape}
+use Rattle.segword.specs.Shape.{IsValid}
+use Rattle.segword.specs.declared.item.Item.{Item}
+use Rattle.segword.specs.ItemWord.{item_word}
+use Rattle.segmodel.specs.Places.{tag_of}
+use Rattle.segmodel.specs.History.{Begins, after}
+use Rattle.segmodel.specs.Cache.{standing}
+use Rattle.segcore.specs.declared.event.Event.{Event}
+use Rattle.segcore.specs.declared.event.Event.TheVariants.{Bumped}
+use Rattle.segcore.specs.declared.view.View.{View}
+use Rattle.segcore.specs.Event.{seen}
+use Rattle.segcore.specs.Bucket.{bucket_after}
+use Rattle.segcore.specs.Bucket as buckets
+use Rattle.segcore.specs.Mark.{marked, last_at}
+use Rattle.segcore.proofs.Orderly.{frequency_marked}
+use Rattle.segcore.specs.ItemWord.{packed}
+use Rattle.segcore.specs.Kind.{bump}
+use Rattle.segcore.specs.Row.{Row, Holds, row_after, frequency_of}
+use Rattle.segcore.specs.Segment.{inside}
+use Rattle.segcore.specs.Standing.{cached}
+use Rattle.segcore.specs.Word.{content_word, word}
+use Rattle.segcore.proofs.Entered.{no_refill}
+use Rattle.segcore.proofs.Exact.{content_at, one_value}
+use Rattle.segcore.proofs.Moments.{begins_on}
+use Rattle.segcore.proofs.Limits.{low_row, low_segment, low_frequency}
+use Rattle.segcore.proofs.Segments.{row_since}
+use Rattle.segcore.proofs.Standing.{coherent}
+use Rattle.segpolicy.specs.Frequency.{counts, frequency_after_hit}
+use Rattle.segbase.specs.declared.board.Board.{Board}
+use Rattle.segbase.specs.declared.pass.Pass.{Pass}
+use Rattle.segbase.specs.declared.place.Place.{Place}
+use Rattle.segbase.specs.Passes.{number, trace, raised, entered, IsPassOf, Moved, Did, Stepped}
+use Rattle.segbase.specs.Spots.{cell_at, position, home_bucket}
+use Rattle.segbase.proofs.Alone.{moved_alone}
+use Rattle.segbase.proofs.Moves.{moved_entered}
+use Rattle.segstore.specs.Linked.{segment_part, row_part, IsChained, WasLinked, FoundItem}
+use Rattle.segstore.proofs.Words.{chained_later, stood_item}
+use Rattle.segstore.proofs.Seconds.{segment_of_item, row_of_item}
+use Rattle.segpass.specs.Calls.{RaisesNothing}
+use Rattle.segread.specs.Hits.{HasFrequency, CountsHit, PassesHit, IsOvertaken, RaisesFrom, RaisesOne}
+use Rattle.segread.proofs.Tries.{has_tag}
+
+-- an item whose word stands at a place is its key's, and has the word's frequency
+pub has_frequency : (z : Shape) (h : List Event) (place : Place) (item : Item) (key value : List ℕ) → IsValid z → WasLinked z place (item_word item) key value h → HasFrequency z key value item.seg item.row item.freq h
+has_frequency z h place item key value v was =
+    let b = home_bucket z h place in let n = position z h place in let slot = was.here.1.0 in
+    let here = ap (λ m. (bucket_after z h m).items n) (sym was.here.0) ∙ was.here.1.1 in
+    let stands = (coherent z h was.lawful).items b n slot here in
+    let reads : item_word item ≡ packed (tag_of slot.key) (frequency_of h slot.segment slot.row) slot.segment slot.row = sym was.stood ∙ (content_at z h b n (cell_at z place) was.chained.at ∙ ap (content_word h) here) in
+    let low = low_frequency z h slot.segment slot.row was.lawful in
+    let low_s = low_segment z slot.segment v stands.within.0 in let low_r = low_row z slot.row v stands.within.1 in
+    let f = item.freq_in_range in let s = item.seg_in_range in let r = item.row_in_range in
+    let es : slot.segment ≡ item.seg = omega arith in
+    let er : slot.row ≡ item.row = omega arith in
+    let ef : frequency_of h slot.segment slot.row ≡ item.freq = omega arith in
+    let is : Some (buckets.slot slot.key slot.segment slot.row) ≡ Some (buckets.slot key item.seg item.row) = λ i. Some (buckets.slot (was.here.1.2 i) (es i) (er i)) in record {
+      stands = subst (λ s. standing (after z (seen h)) key ≡ Some (cached value s)) (sym (segment_of_item item)) was.stands;
+      last = subst (λ k. last_at (marked h) k ≡ Some (buckets.slot key item.seg item.row)) was.here.1.2 (stands.last ∙ is);
+      had = frequency_marked h item.seg item.row ∙ subst (λ m. frequency_of h m item.row ≡ item.freq) es (subst (λ m. frequency_of h slot.segment m ≡ item.freq) er ef);
+    }
+
+-- the row of what was found is the key's
+found_linked : (z : Shape) (place : Place) (item : Item) (key value : List ℕ) (h g : List Event) → FoundItem z place (item_word item) key value h g → (row_after g item.seg item.row).linked ≡ Some key
+found_linked z place item key value h g f =
+    ap (λ n. (row_after g n item.row).linked) (segment_of_item item) ∙ (ap (λ n. (row_after g (segment_part (item_word item)) n).linked) (row_of_item item) ∙ (ap (λ (r : Row). r.linked) f.still ∙ f.saw.was.linked))
+
+-- a frequency that the draw makes higher is one more
+one_higher : (f draw : ℕ) (t : Bool) → f < cond t (f + 1) f → (t ≡ true) × (cond t (f + 1) f ≡ f + 1)
+one_higher f draw true up = (refl, refl)
+one_higher f draw false up = absurd (omega (arith, up))
+
+-- with p the pass before the exchange that came about, and q after it; h is where its call began
+module _ (b : Board) (p q : Pass) (place : Place) (item : Item) (higher draw found : ℕ) (key value : List ℕ) (h : List Event)
+    (is : IsPassOf b p) (chained : IsChained b.shape (trace p) place) (there : 0 < inside (trace p) (number p) item.seg) (saw : FoundItem b.shape place (item_word item) key value h (trace p))
+    (step : Stepped b (bump (home_bucket b.shape (trace p) place) (position b.shape (trace p) place) (cell_at b.shape place) item.tag item.seg item.row item.freq higher) found p q)
+    (by : higher ≡ frequency_after_hit item.freq draw) (up : item.freq < higher) where
+  abbrev at : List Event
+  at = step.told.more ++ trace p
+
+  one : (counts item.freq draw ≡ true) × (frequency_after_hit item.freq draw ≡ item.freq + 1)
+  one = one_higher item.freq draw (counts item.freq draw) (subst (λ n. item.freq < n) by up)
+
+  module _ (same : found ≡ item_word item) where
+    stood : (k : List ℕ) × (v : List ℕ) × WasLinked b.shape place (item_word item) k v (step.told.more ++ trace p)
+    stood = stood_item b.shape at place (item_word item) is.valid step.told.before (chained_later b.shape (trace p) at place step.told.before (step.told.more, refl) chained) (sym step.told.found_is ∙ same) (has_tag item)
+
+    linked : (row_after (trace p) item.seg item.row).linked ≡ Some key
+    linked = found_linked b.shape place item key value h (trace p) saw
+
+    row_same : row_after (step.told.more ++ trace p) item.seg item.row ≡ row_after (trace p) item.seg item.row
+    row_same = row_since b.shape step.told.more (trace p) item.seg item.row key step.told.before (no_refill b.shape step.told.more (trace p) (number p) item.seg is.one_of step.told.before step.told.others there) linked
+
+    row_still : row_after at (segment_part (item_word item)) (row_part (item_word item)) ≡ row_after saw.saw.at (segment_part (item_word item)) (row_part (item_word item))
+    row_still = subst (λ s. row_after at s (row_part (item_word item)) ≡ row_after (trace p) s (row_part (item_word item))) (segment_of_item item) (subst (λ r. row_after at item.seg r ≡ row_after (trace p) item.seg r) (row_of_item item) row_same) ∙ saw.still
+
+    is_value : stood.1 ≡ value
+    is_value = one_value (row_after at (segment_part (item_word item)) (row_part (item_word item))) stood.0 stood.1 key value stood.2.valid.0 saw.saw.was.valid.0 stood.2.valid.1 saw.saw.was.valid.1 stood.2.holds (subst (λ u. Holds u key value) (sym row_still) saw.saw.was.holds)
+
+    row_then : (row_after (step.told.more ++ trace p) item.seg item.row).linked ≡ Some key
+    row_then = ap (λ (r : Row). r.linked) (row_since b.shape step.told.more (trace p) item.seg item.row key step.told.before (no_refill b.shape step.told.more (trace p) (number p) item.seg is.one_of step.told.before step.told.others there) linked) ∙ linked
+
+    is_key : stood.0 ≡ key
+    is_key = same_Some stood.0 key (sym stood.2.linked ∙ (ap (λ n. (row_after at n (row_part (item_word item))).linked) (sym (segment_of_item item)) ∙ (ap (λ n. (row_after at item.seg n).linked) (sym (row_of_item item)) ∙ row_then)))
+
+    now : trace q ≡ Bumped (number p) item.seg item.row higher ∷ (step.told.more ++ trace p)
+    now = ap (λ (u : View). u.trace) step.told.now ∙ ap (λ es. es ++ at) (cond-true (eqb found (packed item.tag item.freq item.seg item.row)) (Bumped (number p) item.seg item.row higher ∷ []) [] (eq-eqb found (packed item.tag item.freq item.seg item.row) same))
+
+    pub counts_hit : CountsHit b.shape key value draw (number p) h (trace q)
+    counts_hit = record {
+      at = at;
+      segment = item.seg;
+      row = item.row;
+      frequency = item.freq;
+      since = begins_on h (trace p) at (begins_on h saw.saw.at (trace p) saw.saw.between.0 saw.saw.between.1) (step.told.more, refl);
+      had = subst (λ v. HasFrequency b.shape key v item.seg item.row item.freq at) is_value (subst (λ k. HasFrequency b.shape k stood.1 item.seg item.row item.freq at) is_key (has_frequency b.shape at place item stood.0 stood.1 is.valid stood.2));
+      counted = one.0;
+      raise = ([], now ∙ ap (λ n. Bumped (number p) item.seg item.row n ∷ at) (by ∙ one.1));
+    }
+
+  module _ (other : eqb found (item_word item) ≡ false) where
+    unchanged : trace q ≡ step.told.more ++ trace p
+    unchanged = ap (λ (u : View). u.trace) step.told.now ∙ ap (λ es. es ++ at) (cond-false (eqb found (packed item.tag item.freq item.seg item.row)) (Bumped (number p) item.seg item.row higher ∷ []) [] other)
+
+    -- with one pass it can't fail
+    comes_about : b.shape.passes ≡ 1 → Moved b [] p q → ⊥
+    comes_about single nothing =
+        let then : step.told.more ++ trace p ≡ saw.saw.at = sym unchanged ∙ (moved_alone b [] p q nothing single ∙ saw.alone single) in
+        let same = step.told.found_is ∙ (ap (λ g. word b.shape g (cell_at b.shape place)) then ∙ saw.saw.was.stood) in
+        false≢true (sym other ∙ eq-eqb found (item_word item) same)
+
+    several : Moved b [] p q → 1 < b.shape.passes
+    several nothing = elim (eqb_tells b.shape.passes 1) [
+      | inl one ↦ absurd (comes_about one.1 nothing)
+      | inr more ↦ let n = is.one_of in let ne = more.1 in omega (arith, n, ne)
+    ]
+
+    pub overtaken : IsOvertaken b.shape key value h (trace q)
+    overtaken = record {
+      at = saw.saw.at;
+      later = at;
+      place = place;
+      word = item_word item;
+      since = saw.saw.between.0;
+      then = begins_on saw.saw.at (trace p) at saw.saw.between.1 (step.told.more, refl);
+      until = ([], unchanged);
+      was = saw.saw.was;
+      other = λ same. false≢true (sym other ∙ eq-eqb found (item_word item) (step.told.found_is ∙ same));
+    }
+
+-- an exchange that is tried once
+pub raised_by : (b : Board) (p q : Pass) (place : Place) (item : Item) (higher draw found : ℕ) (key value : List ℕ) (h : List Event) (result : Bool) → IsPassOf b p → IsChained b.shape (trace p) place → 0 < inside (trace p) (number p) item.seg
+    → FoundItem b.shape place (item_word item) key value h (trace p)
+    → Stepped b (bump (home_bucket b.shape (trace p) place) (position b.shape (trace p) place) (cell_at b.shape place) item.tag item.seg item.row item.freq higher) found p q → result ≡ eqb found (item_word item)
+    → Did b (cond result (Bumped (number p) item.seg item.row higher ∷ []) []) p q → raised q ≡ cond result 1 0 + raised p → higher ≡ frequency_after_hit item.freq draw → item.freq < higher → RaisesFrom b.shape key value draw h p q
+raised_by b p q place item higher draw found key value h true is chained there saw step same did more by up =
+    inl (omega (arith, more), counts_hit b p q place item higher draw found key value h is chained there saw step by up (eqb-true found (item_word item) (sym same)))
+raised_by b p q place item higher draw found key value h false is chained there saw step same did more by up =
+    inr (omega (arith, more), inr (several b p q place item higher draw found key value h is chained there saw step by up (sym same) did.moved, overtaken b p q place item higher draw found key value h is chained there saw step by up (sym same)))
+
+-- a frequency that the draw leaves
+one_lower : (f draw : ℕ) (t : Bool) → cond t (f + 1) f ≤ f → t ≡ false
+one_lower f draw true low = absurd (omega (arith, low))
+one_lower f draw false low = refl
+
+pub raised_none : (b : Board) (p : Pass) (place : Place) (item : Item) (higher draw : ℕ) (key value : List ℕ) (h : List Event) → IsPassOf b p → FoundItem b.shape place (item_word item) key value h (trace p) → higher ≡ frequency_after_hit item.freq draw → higher ≤ item.freq → RaisesFrom b.shape key value draw h p p
+raised_none b p place item higher draw key value h is saw by low = inr (
+  refl,
+  inl (record {
+    at = saw.saw.at;
+    segment = item.seg;
+    row = item.row;
+    frequency = item.freq;
+    since = saw.saw.between.0;
+    until = saw.saw.between.1;
+    had = has_frequency b.shape saw.saw.at place item key value is.valid saw.saw.was;
+    uncounted = one_lower item.freq draw (counts item.freq draw) (subst (λ n. n ≤ item.freq) by low);
+  }),
+)
+
+-- an exchange comes into no segment
+pub stays_out : (b : Board) (p q : Pass) (segment row frequency : ℕ) (result : Bool) → Moved b (cond result (Bumped (number p) segment row frequency ∷ []) []) p q → entered q ≡ entered p
+stays_out b p q segment row frequency true m = moved_entered b _ p q m
+stays_out b p q segment row frequency false m = moved_entered b _ p q m
+
+-- ---- one after another
+
+counts_wider : (z : Shape) (key value : List ℕ) (draw n : ℕ) (h g f e : List Event) → Begins h g → Begins f e → CountsHit z key value draw n g f → CountsHit z key value draw n h e
+counts_wider z key value draw n h g f e before after c = record {
+  at = c.at;
+  segment = c.segment;
+  row = c.row;
+  frequency = c.frequency;
+  since = begins_on h g c.at before c.since;
+  had = c.had;
+  counted = c.counted;
+  raise = begins_on (Bumped n c.segment c.row (c.frequency + 1) ∷ c.at) f e c.raise after;
+}
+
+passes_wider : (z : Shape) (key value : List ℕ) (draw : ℕ) (h g f e : List Event) → Begins h g → Begins f e → PassesHit z key value draw g f → PassesHit z key value draw h e
+passes_wider z key value draw h g f e before after c = record {
+  at = c.at;
+  segment = c.segment;
+  row = c.row;
+  frequency = c.frequency;
+  since = begins_on h g c.at before c.since;
+  until = begins_on c.at f e c.until after;
+  had = c.had;
+  uncounted = c.uncounted;
+}
+
+overtaken_wider : (z : Shape) (key value : List ℕ) (h g f e : List Event) → Begins h g → Begins f e → IsOvertaken z key value g f → IsOvertaken z key value h e
+overtaken_wider z key value h g f e before after c = record {
+  at = c.at;
+  later = c.later;
+  place = c.place;
+  word = c.word;
+  since = begins_on h g c.at before c.since;
+  then = c.then;
+  until = begins_on c.later f e c.until after;
+  was = c.was;
+  other = c.other;
+}
+
+-- why nothing was raised
+none_wider : (z : Shape) (key value : List ℕ) (draw : ℕ) (h g f e : List Event) → Begins h g → Begins f e → PassesHit z key value draw g f ⊎ ((1 < z.passes) × IsOvertaken z key value g f) → PassesHit z key value draw h e ⊎ ((1 < z.passes) × IsOvertaken z key value h e)
+none_wider z key value draw h g f e before after (inl c) = inl (passes_wider z key value draw h g f e before after c)
+none_wider z key value draw h g f e before after (inr c) = inr (c.0, overtaken_wider z key value h g f e before after c.1)
+
+-- it raised nothing before
+pub raises_after : (z : Shape) (key value : List ℕ) (draw : ℕ) (h g : List Event) (p q r : Pass) → number q ≡ number p → Begins h g → RaisesNothing p q → RaisesFrom z key value draw g q r → RaisesFrom z key value draw h p r
+raises_after z key value draw h g p q r same up none (inl i) = inl (i.0 ∙ ap (λ n. n + 1) none, subst (λ n. CountsHit z key value draw n h (trace r)) same (counts_wider z key value draw (number q) h g (trace r) (trace r) up ([], refl) i.1))
+raises_after z key value draw h g p q r same up none (inr i) = inr (i.0 ∙ none, none_wider z key value draw h g (trace r) (trace r) up ([], refl) i.1)
+
+pub raises_later : (z : Shape) (key value : List ℕ) (draw : ℕ) (p q r : Pass) → number q ≡ number p → Begins (trace p) (trace q) → RaisesNothing p q → RaisesOne z key value draw q r → RaisesOne z key value draw p r
+raises_later z key value draw p q r same up none i = raises_after z key value draw (trace p) (trace q) p q r same up none i
+
+pub raises_sooner : (z : Shape) (key value : List ℕ) (draw : ℕ) (h : List Event) (p q r : Pass) → Begins (trace q) (trace r) → RaisesFrom z key value draw h p q → RaisesNothing q r → RaisesFrom z key value draw h p r
+raises_sooner z key value draw h p q r up (inl i) none = inl (none ∙ i.0, counts_wider z key value draw (number p) h h (trace q) (trace r) ([], refl) up i.1)
+raises_sooner z key value draw h p q r up (inr i) none = inr (none ∙ i.0, none_wider z key value draw h h (trace q) (trace r) ([], refl) up i.1)

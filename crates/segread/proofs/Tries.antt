@@ -1,0 +1,209 @@
+-- What a reader's looks at a word of the key's chain come to, and what its tries add up to.
+use Rattle.std.proofs.Common.{◌≡◌, ◌≢◌, ℕ, ◌+◌, ◌/◌, ◌^◌, ◌<◌, ◌≤◌, Bool, true, false, cond, eqb, ◌&&◌, ◌||◌, List, [], ◌∷◌, Some, None, refl, sym, ap, ◌∙◌, subst, arith}
+use Rattle.std.proofs.lemmas.Bool.{cond-false}
+use Rattle.std.proofs.lemmas.Option.{none-some}
+use Rattle.segword.specs.declared.shape.Shape.{Shape}
+use Rattle.segword.specs.declared.item.Item.{Item}
+use Rattle.segword.specs.Shape.{IsValid}
+use Rattle.segword.specs.ItemWord.{item_word}
+use Rattle.segword.specs.SameItem.{IsSameItem}
+use Rattle.segmodel.specs.Places.{bucket_of, tag_of}
+use Rattle.segmodel.specs.History.{Begins, entries_of}
+use Rattle.segcore.specs.declared.event.Event.{Event}
+use Rattle.segcore.specs.declared.event.Event.TheVariants.{Filled, Linked, Refilled}
+use Rattle.segcore.specs.Event.{seen}
+use Rattle.segcore.specs.Bucket.{bucket_after}
+use Rattle.segcore.specs.Bucket as buckets
+use Rattle.segcore.specs.Word.{IsAt}
+use Rattle.segcore.specs.Standing.{Names}
+use Rattle.segcore.specs.Row.{Row, writes_row, row_after}
+use Rattle.segcore.specs.Segment.{inside, was_used}
+use Rattle.segcore.specs.Lawful.{IsLawful}
+use Rattle.segcore.specs.Search.{KeyAt}
+use Rattle.segcore.specs.Kind.{May, enter}
+use Rattle.segcore.proofs.Quiet.{used_stays}
+use Rattle.segcore.proofs.Moments.{begins_on}
+use Rattle.segcore.proofs.Chains.{same_item}
+use Rattle.segcore.proofs.Changed.{changed_word, entries_begin}
+use Rattle.segcore.proofs.ChainWords.{other_tag}
+use Rattle.segcore.proofs.Searches.{key_later, key_passed}
+use Rattle.segbase.specs.declared.board.Board.{Board}
+use Rattle.segbase.specs.declared.pass.Pass.{Pass}
+use Rattle.segbase.specs.declared.place.Place.{Place}
+use Rattle.segbase.specs.Passes.{number, trace, IsPassOf, Did}
+use Rattle.segbase.specs.Spots.{cell_at, position, home_bucket}
+use Rattle.segbase.proofs.Standing.{tag_of_word}
+use Rattle.segbase.proofs.Moves.{moved_on}
+use Rattle.segstore.specs.Reading.{IsReader}
+use Rattle.segstore.specs.Linked.{segment_part, word_at, IsChained, SawItem, FoundItem, FoundKey, SawWord, IsKeyed}
+use Rattle.segstore.specs.declared.read.Keyed.{Keyed}
+use Rattle.segstore.specs.declared.read.Keyed.TheVariants.{Same, Other, Changed}
+use Rattle.segstore.proofs.Words.{same_place, chained_later, names_in, stood_item, same_parts}
+use Rattle.segstore.proofs.Seconds.{segment_of_item}
+use Rattle.segread.specs.Scanning.{IsPlaceOf, MayEnterAny, IsTrial, Counts, HasPassed}
+
+-- ---- seen between wider moments
+
+abbrev pub saw_wider : (z : Shape) (place : Place) (w : ℕ) (k v : List ℕ) (h g h' g' : List Event) → Begins h' h → Begins g g' → SawItem z place w k v h g → SawItem z place w k v h' g'
+saw_wider z place w k v h g h' g' a c s = record { at = s.at; between = (begins_on h' h s.at a s.between.0, begins_on s.at g g' s.between.1 c); was = s.was }
+
+abbrev pub found_from : (z : Shape) (place : Place) (w : ℕ) (k v : List ℕ) (h g h' : List Event) → Begins h' h → FoundItem z place w k v h g → FoundItem z place w k v h' g
+found_from z place w k v h g h' a f = record { saw = record { at = f.saw.at; between = (begins_on h' h f.saw.at a f.saw.between.0, f.saw.between.1); was = f.saw.was }; kept = f.kept; still = f.still; alone = f.alone }
+
+pub hit_from : (z : Shape) (place : Place) (item : Item) (header : ℕ) (k : List ℕ) (h g h' : List Event) → Begins h' h → FoundKey z place item header k h g → FoundKey z place item header k h' g
+hit_from z place item header k h g h' a f = record { value = f.value; found = found_from z place (item_word item) k f.value h g h' a f.found; begins = f.begins }
+
+abbrev pub word_wider : (z : Shape) (place : Place) (w : ℕ) (h g h' g' : List Event) → Begins h' h → Begins g g' → SawWord z place w h g → SawWord z place w h' g'
+word_wider z place w h g h' g' a c s = record { at = s.at; between = (begins_on h' h s.at a s.between.0, begins_on s.at g g' s.between.1 c); lawful = s.lawful; stood = s.stood }
+
+-- ---- one try
+
+-- with p the pass before it, q in the segment, r after the second look, and t after it left
+pub keyed_from : (z : Shape) (place : Place) (w : ℕ) (key : List ℕ) (k : Keyed) (h g h' : List Event) → Begins h' h → IsKeyed z place w key k h g → IsKeyed z place w key k h' g
+keyed_from z place w key (Same item header) h g h' a x = (x.0, hit_from z place item header key h g h' a x.1)
+keyed_from z place w key (Other same) h g h' a x = (x.0, (x.1.0, x.1.1, x.1.2, saw_wider z place (item_word same) x.1.0 x.1.1 h g h' g a ([], refl) x.1.3))
+keyed_from z place w key (Changed other) h g h' a x = (word_wider z place other h g h' g a ([], refl) x.0, x.1)
+
+pub keyed_left : (z : Shape) (place : Place) (w : ℕ) (key : List ℕ) (k : Keyed) (h g g' : List Event) → ((item : Item) (header : ℕ) → k ≢ Same item header) → Begins g g' → IsKeyed z place w key k h g → IsKeyed z place w key k h g'
+keyed_left z place w key (Same item header) h g g' ne c x = absurd (ne item header refl)
+keyed_left z place w key (Other same) h g g' ne c x = (x.0, (x.1.0, x.1.1, x.1.2, saw_wider z place (item_word same) x.1.0 x.1.1 h g h g' ([], refl) c x.1.3))
+keyed_left z place w key (Changed other) h g g' ne c x = (word_wider z place other h g h g' ([], refl) c x.0, x.1)
+
+pub trial_left : (b : Board) (k : Keyed) (p q : Pass) → ((item : Item) (header : ℕ) → k ≢ Same item header) → IsReader b p q → IsTrial b k p q
+trial_left b (Same item header) p q ne r = absurd (ne item header refl)
+trial_left b (Other word) p q ne r = r
+trial_left b (Changed word) p q ne r = r
+
+-- ---- a word that wasn't the key's
+
+-- at a moment, the word of a place of its chain
+pub passed_at : (z : Shape) (key : List ℕ) (place : Place) (w : ℕ) (h g : List Event) → IsPlaceOf z h key place → (s : SawWord z place w h g) → ¬ (KeyAt z key s.at (position z h place))
+    → HasPassed z key (position z h place) (position z h place + 1) place w h g
+passed_at z key place w h g of s none = record {
+  last = s;
+  brings = λ start begins ahead. key_passed z key (position z h place) start s.at none (key_later z key (position z h place) start h s.at s.lawful begins s.between.0 ahead);
+}
+
+pub not_tagged : (z : Shape) (key : List ℕ) (place : Place) (w tag : ℕ) (h g : List Event) → IsValid z → IsPlaceOf z h key place → (s : SawWord z place w h g) → tag ≡ tag_of key → w / 2 ^ 52 ≢ tag → ¬ (KeyAt z key s.at (position z h place))
+not_tagged z key place w tag h g v of s is ne =
+    let e = same_place z h s.at place s.lawful s.between.0 of.0 in
+    let c = chained_later z h s.at place s.lawful s.between.0 of.0 in
+    subst (λ n. ¬ (KeyAt z key s.at n)) e.1
+    (other_tag z key s.at (position z s.at place) (cell_at z place) v s.lawful (subst (λ b. IsAt s.at b (position z s.at place) (cell_at z place)) (e.0 ∙ of.1) c.at.1) (λ same. ne (ap (λ n. n / 2 ^ 52) (sym s.stood) ∙ (same ∙ sym is))))
+
+pub of_other : (z : Shape) (key other value : List ℕ) (place : Place) (w : ℕ) (h g : List Event) → IsPlaceOf z h key place → other ≢ key → (s : SawItem z place w other value h g) → ¬ (KeyAt z key s.at (position z h place))
+of_other z key other value place w h g of ne s i =
+    let e = same_place z h s.at place s.was.lawful s.between.0 of.0 in
+    let b : bucket_of z other ≡ bucket_of z key = s.was.here.0 ∙ (e.0 ∙ of.1) in
+    let o = s.was.here.1 in
+    let there : (bucket_after z s.at (bucket_of z key)).items (position z h place) ≡ buckets.item o.0 = subst (λ n. (bucket_after z s.at (bucket_of z key)).items n ≡ buckets.item o.0) e.1 (subst (λ m. (bucket_after z s.at m).items (position z s.at place) ≡ buckets.item o.0) b o.1) in
+    ne (sym o.2 ∙ (ap (λ a. a.key) (same_item o.0 i.0 (sym there ∙ i.1)) ∙ i.2))
+
+abbrev pub item_word_seen : (z : Shape) (place : Place) (w : ℕ) (k v : List ℕ) (h g : List Event) → SawItem z place w k v h g → SawWord z place w h g
+item_word_seen z place w k v h g s = record { at = s.at; between = s.between; lawful = s.was.lawful; stood = s.was.stood }
+
+-- ---- tries
+
+-- two words of a place that have different items: an entry of the bucket lies between
+pub one_entry : (z : Shape) (place : Place) (w w' : ℕ) (h g : List Event) → IsValid z → IsLawful z h → IsLawful z g → Begins h g → IsChained z h place → word_at z h place ≡ w → word_at z g place ≡ w' → 1 ≤ w / 2 ^ 52 → 1 ≤ w' / 2 ^ 52 → ¬ (IsSameItem w w')
+    → entries_of z (home_bucket z h place) (seen h) + 1 ≤ entries_of z (home_bucket z h place) (seen g)
+one_entry z place w w' h g v l k s c is is' t t' ne =
+    let e = same_place z h g place k s c in
+    let x = names_in z h place w v l c is t in
+    let y = names_in z g place w' v k (chained_later z h g place k s c) is' t' in
+    changed_word z h g (home_bucket z h place) (position z h place) (cell_at z place) x.tag x.segment x.row y.tag y.segment y.row v k s x.names
+    (subst (λ b. Names z g b (position z h place) (cell_at z place) y.tag y.segment y.row) e.0 (subst (λ n. Names z g (home_bucket z g place) n (cell_at z place) y.tag y.segment y.row) e.1 y.names))
+    (λ all. ne (same_parts w w' t (x.is_tag ∙ (all.0 ∙ sym y.is_tag)) (x.is_segment ∙ (all.1 ∙ sym y.is_segment)) (x.is_row ∙ (all.2 ∙ sym y.is_row))))
+
+abbrev pub counts_none : (z : Shape) (key : List ℕ) (n : ℕ) (h g : List Event) → Begins h g → Counts z key n n h g
+counts_none z key n h g s = let a = entries_begin z (bucket_of z key) h g s in omega arith
+
+pub counts_later : (z : Shape) (key : List ℕ) (some more : ℕ) (h g f : List Event) → Begins g f → Counts z key some more h g → Counts z key some more h f
+counts_later z key some more h g f s c = let a = entries_begin z (bucket_of z key) g f s in omega arith
+
+pub counts_then : (z : Shape) (key : List ℕ) (some more most : ℕ) (h g f : List Event) → Counts z key some more h g → Counts z key more most g f → Counts z key some most h f
+counts_then z key some more most h g f c d = omega arith
+
+tag_of_item : (item : Item) → item_word item / 2 ^ 52 ≡ item.tag
+tag_of_item item = tag_of_word item.tag item.freq item.seg item.row item.freq_in_range item.seg_in_range item.row_in_range
+
+pub has_tag : (item : Item) → 1 ≤ item_word item / 2 ^ 52
+has_tag item = subst (λ n. 1 ≤ n) (sym (tag_of_item item)) item.tag_above_zero
+
+-- the tries at a word, up to g: the item was seen at some point, and each try before it found another
+pub record Trying (z : Shape) (key : List ℕ) (place : Place) (tries : ℕ) (item : Item) (count : ℕ) (h g : List Event) : Type 0 where
+  pub saw : SawWord z place (item_word item) h g
+  pub tag : item.tag ≡ tag_of key
+  pub counted : Counts z key tries count h saw.at
+
+pub trying_first : (z : Shape) (key : List ℕ) (place : Place) (tries : ℕ) (item : Item) (w : ℕ) (h g : List Event) → SawWord z place w h g → item_word item ≡ w → item.tag ≡ tag_of key → Trying z key place tries item tries h g
+trying_first z key place tries item w h g s is tag = record {
+  saw = record { at = s.at; between = s.between; lawful = s.lawful; stood = s.stood ∙ sym is };
+  tag = tag;
+  counted = counts_none z key tries h s.at s.between.0;
+}
+
+pub trying_on : (z : Shape) (key : List ℕ) (place : Place) (tries : ℕ) (item : Item) (count : ℕ) (other : Item) (w : ℕ) (h g f : List Event) → IsValid z → IsPlaceOf z h key place → Begins h g → Trying z key place tries item count h g
+    → SawWord z place w g f → ¬ (IsSameItem (item_word item) w) → item_word other ≡ w → other.tag ≡ tag_of key → Trying z key place tries other (count + 1) h f
+trying_on z key place tries item count other w h g f v of up y s ne is tag =
+    let old = y.saw.at in let now = s.at in
+    let on = begins_on old g now y.saw.between.1 s.between.0 in
+    let c = chained_later z h old place y.saw.lawful y.saw.between.0 of.0 in
+    let more = one_entry z place (item_word item) w old now v y.saw.lawful s.lawful on c y.saw.stood s.stood (has_tag item) (subst (λ n. 1 ≤ n / 2 ^ 52) is (has_tag other)) ne in
+    let home : home_bucket z old place ≡ bucket_of z key = (same_place z h old place y.saw.lawful y.saw.between.0 of.0).0 ∙ of.1 in
+    let more' : entries_of z (bucket_of z key) (seen old) + 1 ≤ entries_of z (bucket_of z key) (seen now) = subst (λ b. entries_of z b (seen old) + 1 ≤ entries_of z b (seen now)) home more in
+    let counted = y.counted in record {
+      saw = record { at = now; between = (begins_on h g now up s.between.0, s.between.1); lawful = s.lawful; stood = s.stood ∙ sym is };
+      tag = tag;
+      counted = omega arith;
+    }
+
+pub tried : (z : Shape) (key : List ℕ) (place : Place) (tries : ℕ) (item : Item) (count : ℕ) (h g f : List Event) → Begins g f → Trying z key place tries item count h g → Counts z key tries count h f
+tried z key place tries item count h g f up y = counts_later z key tries count h y.saw.at f (begins_on y.saw.at g f y.saw.between.1 up) y.counted
+
+-- ---- what a visit passes
+
+pub saw_now : (b : Board) (p q : Pass) (place : Place) (w : ℕ) → Did b [] p q → w ≡ word_at b.shape (trace q) place → SawWord b.shape place w (trace p) (trace q)
+saw_now b p q place w d is = record { at = trace q; between = (moved_on b [] p q d.moved, ([], refl)); lawful = d.moved.pass.lawful; stood = sym is }
+
+pub passed_word : (z : Shape) (key : List ℕ) (place : Place) (w tag : ℕ) (h g f : List Event) → IsValid z → IsPlaceOf z h key place → Begins h g → SawWord z place w g f → tag ≡ tag_of key → w / 2 ^ 52 ≢ tag → HasPassed z key (position z h place) (position z h place + 1) place w h f
+passed_word z key place w tag h g f v of up s is ne =
+    let s' = word_wider z place w g f h f up ([], refl) s in passed_at z key place w h f of s' (not_tagged z key place w tag h f v of s' is ne)
+
+pub passed_other : (z : Shape) (key other value : List ℕ) (place : Place) (w : ℕ) (h g f : List Event) → IsPlaceOf z h key place → Begins h g → other ≢ key → SawItem z place w other value g f → HasPassed z key (position z h place) (position z h place + 1) place w h f
+passed_other z key other value place w h g f of up ne s =
+    let s' = saw_wider z place w other value g f h f up ([], refl) s in passed_at z key place w h f of (item_word_seen z place w other value h f s') (of_other z key other value place w h f of ne s')
+
+-- ---- entering
+
+linked_in : (o : Bool) (row other : Row) (k : List ℕ) → other.linked ≡ None → (cond o other row).linked ≡ Some k → row.linked ≡ Some k
+linked_in true row other k none on = absurd (none-some k (sym none ∙ on))
+linked_in false row other k none on = on
+
+same_linked : (o : Bool) (row other : Row) (k : List ℕ) → other.linked ≡ row.linked → (cond o other row).linked ≡ Some k → row.linked ≡ Some k
+same_linked true row other k same on = sym same ∙ on
+same_linked false row other k same on = on
+
+used_or : (a : Bool) (u : Bool) → (a ≡ false → u ≡ true) → (a || u) ≡ true
+used_or true u f = refl
+used_or false u f = f refl
+
+-- a segment one of whose rows is linked was used
+linked_used : (h : List Event) (s r : ℕ) (k : List ℕ) → (row_after h s r).linked ≡ Some k → was_used h s ≡ true
+linked_used [] s r k on = absurd (none-some k on)
+linked_used (Linked p q t i n ∷ h) s r k on =
+    used_or (eqb t s) (was_used h s) (λ f. linked_used h s r k (ap (λ (u : Row). u.linked) (sym (cond-false (eqb t s && eqb i r) (writes_row (Linked p q t i n) (row_after h s r)) (row_after h s r) (ap (λ a. a && eqb i r) f))) ∙ on))
+linked_used (Filled p t i j w ∷ h) s r k on = linked_used h s r k (same_linked (eqb t s && eqb i r) (row_after h s r) (writes_row (Filled p t i j w) (row_after h s r)) k refl on)
+linked_used (Refilled p t ∷ h) s r k on = linked_used h s r k (linked_in (eqb t s) (row_after h s r) (writes_row (Refilled p t) (row_after h s r)) k refl on)
+linked_used (e ∷ h) s r k on = linked_used h s r k on
+
+-- the pass may enter the segment of an item that was seen
+pub may_enter : (b : Board) (p q : Pass) (place : Place) (item : Item) (h : List Event) → IsPassOf b q → MayEnterAny p → IsReader b p q → IsChained b.shape h place → SawWord b.shape place (item_word item) h (trace q)
+    → May b.shape (trace q) (number q) (enter item.seg)
+may_enter b p q place item h is outside reads c s =
+    let z = b.shape in
+    let w = stood_item z s.at place (item_word item) is.valid s.lawful (chained_later z h s.at place s.lawful s.between.0 c) s.stood (has_tag item) in
+    let seg = segment_of_item item in
+    let used : was_used (trace q) (segment_part (item_word item)) ≡ true = subst (λ g. was_used g (segment_part (item_word item)) ≡ true) (sym s.between.1.1) (used_stays s.between.1.0 s.at (segment_part (item_word item)) (linked_used s.at _ _ w.0 w.2.linked)) in
+    let few : inside (trace q) (number q) item.seg < 2 = subst (λ n. inside (trace q) n item.seg < 2) (sym reads.reads.moved.same) (subst (λ n. n < 2) (sym (reads.reads.inside item.seg)) (outside item.seg)) in
+    record { guarded = tt; follows = tt; suits = (is.one_of, rw seg w.2.in_segment.0, few, rw seg used) }

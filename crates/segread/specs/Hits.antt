@@ -1,0 +1,93 @@
+-- What readers do beside their answers: how often they come into segments, and which frequency a hit raises.
+use Rattle.std.specs.Prelude.{◌≡◌, ◌≢◌, ◌<◌, ◌⊎◌, ℕ, ◌+◌, ◌≤◌, true, false, List, ◌∷◌, Some}
+use Rattle.segword.specs.declared.shape.Shape.{Shape}
+use Rattle.segmodel.specs.declared.answer.Command.{Command}
+use Rattle.segmodel.specs.declared.answer.Command.TheVariants as command
+use Rattle.segmodel.specs.declared.answer.Answer.{Answer}
+use Rattle.segmodel.specs.declared.answer.Answer.TheVariants as answer
+use Rattle.segmodel.specs.declared.answer.GetAnswer.{GetAnswer}
+use Rattle.segmodel.specs.declared.answer.GetAnswer.TheVariants as get
+use Rattle.segmodel.specs.declared.answer.GetsAnswer.{GetsAnswer}
+use Rattle.segmodel.specs.declared.answer.GetsAnswer.TheVariants as gets
+use Rattle.segmodel.specs.Cache.{standing}
+use Rattle.segmodel.specs.History.{Begins, after}
+use Rattle.segcore.specs.declared.event.Event.{Event}
+use Rattle.segcore.specs.declared.event.Event.TheVariants.{Bumped}
+use Rattle.segcore.specs.Event.{seen}
+use Rattle.segcore.specs.Bucket.{slot}
+use Rattle.segcore.specs.Mark.{marked, last_at, frequency_in}
+use Rattle.segcore.specs.Standing.{cached}
+use Rattle.segpolicy.specs.Frequency.{counts}
+use Rattle.segbase.specs.declared.pass.Pass.{Pass}
+use Rattle.segbase.specs.Passes.{number, trace, raised, entered}
+use Rattle.segbase.specs.declared.place.Place.{Place}
+use Rattle.segstore.specs.Linked.{WasLinked, word_at}
+use Rattle.segpass.specs.Calls.{RaisesNothing, ReadsNothing}
+
+-- It came into segments at most as often as a scan of a chain may try: 63 tries that are counted, and one more at each of 28 words.
+abbrev pub TriesFew : Pass → Pass → Type 0
+TriesFew p q = entered q ≤ entered p + 63 + 28
+
+-- at a moment the key's item stands, in this segment and row, with this frequency
+pub record HasFrequency (shape : Shape) (key value : List ℕ) (segment row frequency : ℕ) (at : List Event) : Type 0 where
+  pub stands : standing (after shape (seen at)) key ≡ Some (cached value segment)
+  pub last : last_at (marked at) key ≡ Some (slot key segment row)
+  pub had : frequency_in (marked at) segment row ≡ frequency
+
+-- at a moment between two traces the key's item had a frequency at which this draw counts, and the pass raised it by one
+pub record CountsHit (shape : Shape) (key value : List ℕ) (draw pass : ℕ) (before now : List Event) : Type 0 where
+  pub at : List Event
+  pub segment : ℕ
+  pub row : ℕ
+  pub frequency : ℕ
+  pub since : Begins before at
+  pub had : HasFrequency shape key value segment row frequency at
+  pub counted : counts frequency draw ≡ true
+  pub raise : Begins (Bumped pass segment row (frequency + 1) ∷ at) now
+
+-- at a moment between two traces the key's item had a frequency at which this draw doesn't count
+pub record PassesHit (shape : Shape) (key value : List ℕ) (draw : ℕ) (before now : List Event) : Type 0 where
+  pub at : List Event
+  pub segment : ℕ
+  pub row : ℕ
+  pub frequency : ℕ
+  pub since : Begins before at
+  pub until : Begins at now
+  pub had : HasFrequency shape key value segment row frequency at
+  pub uncounted : counts frequency draw ≡ false
+
+-- between two traces the key's item stood in a word, and later another word stood there: another pass was quicker
+pub record IsOvertaken (shape : Shape) (key value : List ℕ) (before now : List Event) : Type 0 where
+  pub at : List Event
+  pub later : List Event
+  pub place : Place
+  pub word : ℕ
+  pub since : Begins before at
+  pub then : Begins at later
+  pub until : Begins later now
+  pub was : WasLinked shape place word key value at
+  pub other : word_at shape later place ≢ word
+
+-- From this trace on it raised the frequency of the key's item by one, where the draw counts; or nothing, where the draw doesn't count, or another pass was quicker, which can't be with one pass.
+abbrev pub RaisesFrom : Shape → List ℕ → List ℕ → ℕ → List Event → Pass → Pass → Type 0
+RaisesFrom shape key value draw before p q =
+    ((raised q ≡ raised p + 1) × CountsHit shape key value draw (number p) before (trace q))
+    ⊎ (RaisesNothing p q × (PassesHit shape key value draw before (trace q) ⊎ ((1 < shape.passes) × IsOvertaken shape key value before (trace q))))
+
+abbrev pub RaisesOne : Shape → List ℕ → List ℕ → ℕ → Pass → Pass → Type 0
+RaisesOne shape key value draw p q = RaisesFrom shape key value draw (trace p) p q
+
+-- only a hit raises a frequency
+abbrev pub GetRaises : Shape → List ℕ → ℕ → GetAnswer → Pass → Pass → Type 0
+GetRaises shape key draw (get.Found value) p q = RaisesOne shape key value draw p q
+GetRaises shape key draw _ p q = RaisesNothing p q
+
+abbrev pub GetsRaises : Shape → List ℕ → ℕ → GetsAnswer → Pass → Pass → Type 0
+GetsRaises shape key draw (gets.Found value version) p q = RaisesOne shape key value draw p q
+GetsRaises shape key draw _ p q = RaisesNothing p q
+
+-- a hit raises a frequency by the draw 0; no other command does anything of what readers do
+abbrev pub RaisesByDraw : Shape → Command → Answer → Pass → Pass → Type 0
+RaisesByDraw shape (command.Get key) (answer.Get told) p q = GetRaises shape key 0 told p q
+RaisesByDraw shape (command.Gets key) (answer.Gets told) p q = GetsRaises shape key 0 told p q
+RaisesByDraw shape command told p q = ReadsNothing p q

@@ -1,0 +1,6 @@
+pub mod Gets
+pub mod Hits
+pub mod Holds
+pub mod Props
+pub mod Reads
+pub mod Scanning

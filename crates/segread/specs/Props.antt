@@ -1,0 +1,38 @@
+-- What is so of a hold has at most one proof, so that a struct may keep it in a ghost field, by { IsHoldOf-prop .. }.
+use Rattle.std.specs.Prelude.{◌≡◌, ◌<◌, List, Some}
+use Rattle.std.proofs.Common.{sym, ◌∙◌}
+use Rattle.std.proofs.Props.{props}
+use Rattle.std.proofs.lemmas.Option.{same_Some}
+use mathlib.Core.HLevel.{is_prop→PathP}
+use native.Mathlib.Nat.{ℕ_set}
+use Rattle.segword.specs.declared.shape.Shape.{Shape}
+use Rattle.segword.specs.Bytes.{IsKey, IsValue}
+use Rattle.segword.specs.Props.{pair-prop, IsKey-prop, IsValue-prop}
+use Rattle.segcore.specs.declared.event.Event.{Event}
+use Rattle.segcore.specs.Lawful.{IsSegment}
+use Rattle.segbase.specs.declared.law.Held.{Held}
+use Rattle.segbase.specs.declared.pass.Pass.{Pass}
+use Rattle.segbase.specs.Passes.{holding}
+use Rattle.segbase.specs.Props.{Held-set}
+use Rattle.segread.specs.declared.held.Hold.{Hold}
+use Rattle.segread.specs.Holds.{IsRowOf, IsHoldOf}
+
+IsRowOf-prop : (trace : List Event) (hold : Hold) (held : Held) → IsProp (IsRowOf trace hold held)
+IsRowOf-prop trace hold held = hlevel props
+
+pub IsHoldOf-prop : (shape : Shape) (hold : Hold) (p : Pass) → IsProp (IsHoldOf shape hold p)
+IsHoldOf-prop shape hold p u v =
+    let start = one (u.held, u.holds) (v.held, v.holds) in
+    let table : IsProp (IsSegment shape hold.segment × (hold.row < shape.rows)) = hlevel props in
+    let valid : (held : Held) → IsProp (IsKey held.key × IsValue held.value) = hlevel (IsKey-prop, IsValue-prop) in
+    λ i. record {
+      held = (start i).0;
+      holds = (start i).1;
+      segment = is_prop→PathP (λ j. hold.segment ≡ (start j).0.segment) (λ j. ℕ_set hold.segment (start j).0.segment) u.segment v.segment i;
+      in_table = table u.in_table v.in_table i;
+      valid = is_prop→PathP (λ j. IsKey (start j).0.key × IsValue (start j).0.value) (λ j. valid (start j).0) u.valid v.valid i;
+      row = is_prop→PathP (λ j. IsRowOf (start j).0.trace hold (start j).0) (λ j. IsRowOf-prop _ hold (start j).0) u.row v.row i;
+    }
+  where
+    one : IsProp ((held : Held) × (holding p ≡ Some held))
+    one = pair-prop (λ held. hlevel (props, Held-set)) (λ x y at on. same_Some x y (sym at ∙ on))

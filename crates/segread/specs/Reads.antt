@@ -1,0 +1,20 @@
+-- What a read answers: what a cache of one thread would, at some moment of the call.
+use Rattle.std.specs.Prelude.{◌≡◌, ℕ, ◌≤◌, List, Option, Some, None}
+use Rattle.segword.specs.declared.shape.Shape.{Shape}
+use Rattle.segmodel.specs.declared.entry.Entry.{Entry}
+use Rattle.segmodel.specs.declared.answer.GetAnswer.{GetAnswer}
+use Rattle.segmodel.specs.declared.answer.GetAnswer.TheVariants as get
+use Rattle.segmodel.specs.Cache.{reads}
+use Rattle.segmodel.specs.History.{after, IsBetween, stirred}
+
+-- ---- readers
+
+-- at some moment from one history to a longer one, the key read so
+abbrev pub ReadsBetween : Shape → List ℕ → List Entry → List Entry → Option (List ℕ) → Type 0
+ReadsBetween shape key before now read = (history : List Entry) × IsBetween before now history × (reads (after shape history) key ≡ read)
+
+-- a get answers as a cache of one thread does at some moment of the call; it is Busy only where 64 entries of the key's bucket came in meanwhile
+abbrev pub IsGetAnswer : Shape → List ℕ → GetAnswer → List Entry → List Entry → Type 0
+IsGetAnswer shape key (get.Found value) before now = ReadsBetween shape key before now (Some value)
+IsGetAnswer shape key get.Miss before now = ReadsBetween shape key before now None
+IsGetAnswer shape key get.Busy before now = 64 ≤ stirred shape key before now

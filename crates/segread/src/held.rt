@@ -1,0 +1,122 @@
+//! Items held: a pass stays in the segment of an item, so that its value stands there until it is released, also where its key is deleted, stored again or evicted.
+ghost use Rattle.std.specs.Prelude.{◌≡◌, ◌↔◌, Option, true, is_some, IfSome};
+ghost use Rattle.segbase.specs.declared.law.Held.{Held};
+ghost use Rattle.segbase.specs.declared.pass.Pass.{Pass};
+ghost use Rattle.segbase.specs.Passes.{trace, holding, IsPassOf};
+ghost use Rattle.segword.specs.declared.shape.Shape.{Shape};
+ghost use Rattle.segbase.specs.declared.board.Board.{Board};
+ghost use Rattle.segread.specs.declared.held.Hold.{Hold};
+ghost use Rattle.segread.specs.declared.held.HoldAnswer.TheVariants as answer;
+ghost use Rattle.segpass.specs.Quiet.{IsQuiet};
+ghost use Rattle.segread.specs.Holds.{IsHoldOf, IsRowOf, IsHoldAnswer, Releases, SetsHold};
+ghost use Rattle.segbase.specs.Plain.{is_holding_of};
+ghost use Rattle.segbase.specs.Minding.{HasHeld};
+ghost use Rattle.segpass.specs.Calls.{GoesOn, ChangesNothing, TakesNoBit, DrawsNothing, RaisesNothing, ReadsNothing};
+ghost use Rattle.segread.specs.Hits.{TriesFew};
+
+use crate::scan::{Scan, scan_for};
+use segbase::{Board, Pass};
+use segstore::value_of_row;
+use segword::{Key, Value};
+
+/// An item that a pass holds. It has to be released, with the pass that holds it.
+pub struct Hold<'i> {
+    // No call that ends the index is made while it stands.
+    pub(crate) board: &'i Board,
+    pub(crate) segment: u32,
+    pub(crate) row: u32,
+}
+
+/// The answer to a hold.
+pub enum HoldAnswer<'i> {
+    Holding(Hold<'i>),
+    Miss,
+    /// The words of the key's chain changed at each try.
+    Busy,
+    /// The pass holds an item.
+    AlreadyHolding,
+}
+
+/// Holds the item of a key. Its value can be read until it is released, and a pass holds one item at most. No frequency changes.
+pub fn hold_item<'i>(board: &'i Board, pass: &mut Pass, key: &Key) -> HoldAnswer<'i>
+    requires pass { IsQuiet board.now pass.old }
+    ensures on { GoesOn board.now pass.old pass.new }
+    ensures takes_no_bit { TakesNoBit pass.old pass.new }
+    ensures draws_nothing { DrawsNothing pass.old pass.new }
+    ensures raises_nothing { RaisesNothing pass.old pass.new }
+    ensures tries { TriesFew pass.old pass.new }
+    ensures answer { IsHoldAnswer board.now.shape key.now result pass.old pass.new }
+    ensures already { (result ≡ answer.AlreadyHolding) ↔ (is_holding_of pass.old ≡ true) }
+{
+    if pass.is_holding() {
+        return HoldAnswer::AlreadyHolding;
+    }
+    match scan_for(board, pass, key) {
+        Scan::Found(hit) => {
+            let item = hit.item;
+            let value = value_of_row(board, pass, item.seg, item.row, hit.header);
+            set_hold(board, pass, Some((key, &value, item.seg)));
+            HoldAnswer::Holding(Hold {
+                board,
+                segment: item.seg,
+                row: item.row,
+            })
+        }
+        Scan::Absent => HoldAnswer::Miss,
+        Scan::Busy => HoldAnswer::Busy,
+    }
+}
+
+/// The value that is held: the one that stood under the key when it was held.
+pub fn held_value(board: &Board, pass: &mut Pass, hold: &Hold<'_>) -> Value
+    requires pass { IsQuiet board.now pass.old }
+    requires hold { IsHoldOf board.now.shape hold.now pass.old }
+    ensures on { GoesOn board.now pass.old pass.new }
+    ensures keeps { ChangesNothing pass.old pass.new }
+    ensures takes_no_bit { TakesNoBit pass.old pass.new }
+    ensures draws_nothing { DrawsNothing pass.old pass.new }
+    ensures reads_nothing { ReadsNothing pass.old pass.new }
+    ensures hold { IsHoldOf board.now.shape hold.now pass.new }
+    ensures value { IfSome (holding pass.old) (λ held. result ≡ held.value) }
+{
+    let header = board.row_load(pass, hold.segment, hold.row, 0);
+    value_of_row(board, pass, hold.segment, hold.row, header)
+}
+
+/// Ends a hold. Up to then the segment wasn't filled again.
+pub fn release(board: &Board, pass: &mut Pass, hold: Hold<'_>)
+    requires pass { IsQuiet board.now pass.old }
+    requires hold { IsHoldOf board.now.shape hold pass.old }
+    ensures on { GoesOn board.now pass.old pass.new }
+    ensures takes_no_bit { TakesNoBit pass.old pass.new }
+    ensures draws_nothing { DrawsNothing pass.old pass.new }
+    ensures reads_nothing { ReadsNothing pass.old pass.new }
+    ensures releases { Releases pass.old pass.new }
+{
+    let Hold {
+        board: _,
+        segment,
+        row: _,
+    } = hold;
+    board.leave(pass, segment);
+    set_hold(board, pass, None);
+}
+
+// Names what the pass holds: the item of this key, which stood with the value in the segment, or nothing.
+fn set_hold(board: &Board, pass: &mut Pass, item: Option<(&Key, &Value, u32)>)
+    ghost held: { Option Held }
+    requires pass { IsPassOf board.now pass.old }
+    requires held { IfSome held (HasHeld board.now.shape (trace pass.old)) }
+    requires item { is_some item ≡ is_some held }
+    ensures pass { IsPassOf board.now pass.new }
+    ensures sets { SetsHold held pass.old pass.new }
+{
+    pass.set_holding(item.is_some());
+    board.remember(pass);
+}
+
+/// A hold is a pass's own as long as the pass holds the same, whatever it does meanwhile, and its row holds the pair that long. This function does nothing: its contract is the theorem.
+pub fn hold_stays()
+    ensures stays { (shape : Shape) (hold : Hold) (p q : Pass) → IsHoldOf shape hold p → holding q ≡ holding p → IsHoldOf shape hold q }
+    ensures row { (board : Board) (hold : Hold) (p : Pass) (is : IsHoldOf board.shape hold p) → IsQuiet board p → IsRowOf (trace p) hold is.held }
+{}

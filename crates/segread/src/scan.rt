@@ -1,0 +1,195 @@
+//! A reader's way along the chain of a key, without the bucket's bit: a look at each word, and at a word with the key's tag a second look from within the item's segment.
+ghost use Rattle.std.specs.Prelude.{◌≡◌, ◌≢◌, ◌+◌, ◌*◌, ◌<◌, ◌≤◌, IfSome, IsNone};
+ghost use Rattle.segword.specs.ItemWord.{item_word, tag_part};
+ghost use Rattle.segmodel.specs.Places.{bucket_of, tag_of};
+ghost use Rattle.segcore.specs.Kind.{May, enter};
+ghost use Rattle.segbase.specs.Passes.{number, trace, IsPassOf};
+ghost use Rattle.segbase.specs.Spots.{position};
+ghost use Rattle.segstore.specs.Linked.{IsChained, IsKeyed};
+ghost use Rattle.segread.specs.Scanning.{bucket_depth, place_of, IsPlaceOf, IsBucketOf, MayEnterAny, IsTrial, IsOnWay, IsScanner, IsTry, Tries, counted, IsWay, IsScan};
+ghost use Rattle.segpass.specs.Quiet.{IsQuiet};
+
+use segbase::{Board, CHAIN_BUCKETS, Pass, Place};
+use segstore::{Keyed, enter_segment, leave_segment, read_keyed};
+use segword::{Chain, Item, Key, KeyWords, bucket_of, hash, tag_of};
+
+// An item of the key, in whose segment the pass is: where it stands, and word 0 of its row.
+#[derive(Clone, Copy, Drop)]
+pub(crate) struct Hit {
+    pub(crate) place: Place,
+    pub(crate) item: Item,
+    pub(crate) header: u64,
+}
+
+// How far looks at words of a chain came.
+#[derive(Drop)]
+pub(crate) enum Way {
+    Found(Hit),
+    // None was the key's: the word of the last one, and how many tries are counted so far.
+    Passed(u64, u32),
+    // The words changed at each try.
+    Busy,
+}
+
+// What a scan of a whole chain came to.
+#[derive(Drop)]
+pub(crate) enum Scan {
+    Found(Hit),
+    Absent,
+    // The words changed at each try.
+    Busy,
+}
+
+// How often a scan finds that an item with the key's tag has become another one before it gives up.
+pub(crate) const TRIES: u32 = 64;
+
+// The item of a word, where it has the tag.
+pub(crate) fn item_of_tag(word: u64, tag: u16) -> Option<Item>
+    requires { 1 ≤ tag }
+    ensures some { IfSome result (λ item. (item_word item ≡ word) × (item.tag ≡ tag)) }
+    ensures none { IsNone result → tag_part word ≢ tag }
+{
+    Item::unpack(word).filter(|item| item.tag == tag)
+}
+
+// Comes into the segment of an item that was seen, and looks a second time. The pass stays there where the item is the key's.
+#[inline(always)]
+pub(crate) fn try_item(
+    board: &Board,
+    pass: &mut Pass,
+    place: Place,
+    item: Item,
+    key: &KeyWords,
+) -> Keyed
+    requires pass { IsPassOf board.now pass.old }
+    requires place { IsChained board.now.shape (trace pass.old) place }
+    requires may { May board.now.shape (trace pass.old) (number pass.old) (enter item.seg) }
+    ensures reads { IsTrial board.now result pass.old pass.new }
+    ensures once { IsTry pass.old pass.new }
+    ensures keyed { IsKeyed board.now.shape place (item_word item) key.now result (trace pass.old) (trace pass.new) }
+{
+    enter_segment(board, pass, item.seg);
+    match read_keyed(board, pass, place, item.pack(), key) {
+        Keyed::Same(item, header) => Keyed::Same(item, header),
+        other => {
+            leave_segment(board, pass, item.seg);
+            other
+        }
+    }
+}
+
+// Looks at a word until it is found to be the key's or not.
+#[inline(always)]
+fn visit_word(
+    board: &Board,
+    pass: &mut Pass,
+    place: Place,
+    key: &KeyWords,
+    tag: u16,
+    tries: u32,
+) -> Way
+    requires pass { IsPassOf board.now pass.old }
+    requires reader { MayEnterAny pass.old }
+    requires place { IsPlaceOf board.now.shape (trace pass.old) key.now place }
+    requires tag { tag ≡ tag_of key.now }
+    requires tries { tries < 64 }
+    ensures reads { IsOnWay board.now result pass.old pass.new }
+    ensures tries { Tries 1 tries (counted result) pass.old pass.new }
+    ensures way { let at = position board.now.shape (trace pass.old) place in
+        IsWay board.now.shape key.now at (at + 1) place tries result (trace pass.old) (trace pass.new) }
+{
+    let word = board.look(pass, place);
+    let Some(mut item) = item_of_tag(word, tag) else {
+        return Way::Passed(word, tries);
+    };
+    for count in tries..TRIES {
+        match try_item(board, pass, place, item, key) {
+            Keyed::Same(item, header) => {
+                return Way::Found(Hit {
+                    place,
+                    item,
+                    header,
+                });
+            }
+            Keyed::Other(now) => return Way::Passed(now.pack(), count),
+            Keyed::Changed(now) => match item_of_tag(now, tag) {
+                Some(other) => item = other,
+                None => return Way::Passed(now, count),
+            },
+        }
+    }
+    Way::Busy
+}
+
+// Visits the words of one bucket of the chain.
+fn visit_bucket(
+    board: &Board,
+    pass: &mut Pass,
+    bucket: u32,
+    key: &KeyWords,
+    tag: u16,
+    mut tries: u32,
+) -> Way
+    requires pass { IsPassOf board.now pass.old }
+    requires reader { MayEnterAny pass.old }
+    requires bucket { IsBucketOf board.now.shape (trace pass.old) key.now bucket }
+    requires tag { tag ≡ tag_of key.now }
+    requires tries { tries < 64 }
+    ensures reads { IsOnWay board.now result pass.old pass.new }
+    ensures tries { Tries 7 tries (counted result) pass.old pass.new }
+    ensures way { let first = 8 * bucket_depth board.now.shape (trace pass.old) bucket in
+        IsWay board.now.shape key.now (first + 1) (first + 8) (place_of bucket 7) tries result (trace pass.old) (trace pass.new) }
+{
+    for word in 1..7u8 {
+        match visit_word(board, pass, Place { bucket, word }, key, tag, tries) {
+            Way::Passed(_, counted) => tries = counted,
+            found => return found,
+        }
+    }
+    visit_word(board, pass, Place { bucket, word: 7 }, key, tag, tries)
+}
+
+// Looks for a key along its chain, which begins with this bucket.
+pub(crate) fn scan_chain(
+    board: &Board,
+    pass: &mut Pass,
+    mut bucket: u32,
+    key: &KeyWords,
+    tag: u16,
+) -> Scan
+    requires pass { IsPassOf board.now pass.old }
+    requires reader { MayEnterAny pass.old }
+    requires bucket { bucket ≡ bucket_of board.now.shape key.now }
+    requires tag { tag ≡ tag_of key.now }
+    ensures reads { IsScanner board.now result pass.old pass.new }
+    ensures tries { Tries 28 0 63 pass.old pass.new }
+    ensures scan { IsScan board.now.shape key.now result (trace pass.old) (trace pass.new) }
+{
+    let mut tries = 0;
+    for depth in 0..CHAIN_BUCKETS {
+        match visit_bucket(board, pass, bucket, key, tag, tries) {
+            Way::Found(hit) => return Scan::Found(hit),
+            Way::Passed(word, counted) => {
+                let Some(number) = Chain::unpack(word) else {
+                    return Scan::Absent;
+                };
+                bucket = board.shape().buckets + number;
+                tries = counted;
+            }
+            Way::Busy => return Scan::Busy,
+        }
+    }
+    Scan::Absent
+}
+
+// Looks for a key, whose hash and words are made here, once a call.
+pub(crate) fn scan_for(board: &Board, pass: &mut Pass, key: &Key) -> Scan
+    requires pass { IsQuiet board.now pass.old }
+    ensures reads { IsScanner board.now result pass.old pass.new }
+    ensures tries { Tries 28 0 63 pass.old pass.new }
+    ensures scan { IsScan board.now.shape key.now result (trace pass.old) (trace pass.new) }
+{
+    let hash = hash(key);
+    let bucket = bucket_of(hash, board.shape().buckets);
+    scan_chain(board, pass, bucket, &KeyWords::new(key), tag_of(hash))
+}

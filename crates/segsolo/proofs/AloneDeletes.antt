@@ -1,0 +1,62 @@
+-- With one pass, a delete is served as the model says.
+use Rattle.std.proofs.Common.{◌≡◌, ◌≢◌, ℕ, Bool, true, false, List, [], ◌∷◌, Some, None, refl, sym, ap, subst, ◌∙◌}
+use Rattle.std.specs.Prelude.{MatchBool}
+use Rattle.segmodel.specs.declared.entry.Entry.TheVariants.{Wrote}
+use Rattle.segmodel.specs.declared.request.Request.TheVariants.{Delete}
+use Rattle.segmodel.specs.declared.request.Reply.{Reply}
+use Rattle.segmodel.specs.declared.request.Reply.TheVariants as reply
+use Rattle.segmodel.specs.declared.answer.DeleteAnswer.{DeleteAnswer}
+use Rattle.segmodel.specs.declared.answer.DeleteAnswer.TheVariants as delete
+use Rattle.segmodel.specs.declared.answer.Answer.TheVariants as answer
+use Rattle.segmodel.specs.declared.answer.Command.TheVariants as command
+use Rattle.segmodel.specs.Places.{bucket_of}
+use Rattle.segmodel.specs.Cache.{reply_in}
+use Rattle.segmodel.specs.History.{after}
+use Rattle.segmodel.specs.State.{is_locked}
+use Rattle.segmodel.specs.Serving.{IsGiven, after_reply, reply_of_delete, ServesDelete}
+use Rattle.segmodel.specs.Serving as model
+use Rattle.segbase.specs.declared.board.Board.{Board}
+use Rattle.segbase.specs.declared.pass.Pass.{Pass}
+use Rattle.segbase.specs.Passes.{number, seen}
+use Rattle.segwrite.specs.Writes.{IsReplied, Deletes}
+use Rattle.segsolo.specs.Alone.{stored_in, state_at, IsAlone, ServesAlone}
+use Rattle.segindex.proofs.OnePass.{busy_by_lock}
+use Rattle.segsolo.proofs.AlonePass.{more_seen, as_replied, counts_replied, reply_then, left, locked_here, free_here, served, served_still}
+use Rattle.segsolo.proofs.AloneWidths.{same_widths}
+
+module _ (b : Board) (p q : Pass) (key : List ℕ) (was : IsAlone b p) (told : DeleteAnswer) (is : Deletes b key told p q) where
+  serves_so : (locked : Bool) → is_locked b.shape (state_at b.shape p) key ≡ locked
+      → MatchBool locked (IsGiven delete.Busy (state_at b.shape p) told (state_at b.shape q)) (model.IsReplied b.shape (state_at b.shape p) (Delete key) (reply_of_delete told) (state_at b.shape q))
+      → ServesDelete b.shape (state_at b.shape p) key told (state_at b.shape q)
+  serves_so locked is served = subst (λ (t : Bool). MatchBool t (IsGiven delete.Busy (state_at b.shape p) told (state_at b.shape q)) (model.IsReplied b.shape (state_at b.shape p) (Delete key) (reply_of_delete told) (state_at b.shape q))) (sym is) served
+
+  -- replied by one entry
+  replied : (r : Reply) → told ≢ delete.Busy → reply_of_delete told ≡ Some r → IsReplied (Delete key) r p q
+      → ((s : ℕ) → stored_in (Wrote (number p) (Delete key) r None ∷ seen p) s ≡ stored_in (seen p) s)
+      → after_reply b.shape (Delete key) r (state_at b.shape p) ≡ record (state_at b.shape p) { cache = after b.shape (Wrote (number p) (Delete key) r None ∷ seen p) }
+      → ServesAlone b (command.Write (Delete key)) (answer.Delete told) p q
+  replied r other is_reply answered keeps leaves = served b (command.Write (Delete key)) (answer.Delete told) p q was is.on.quiet
+      (counts_replied b p q (Wrote (number p) (Delete key) r None) was is.on.quiet answered.0 answered.1 keeps) (
+        told,
+        refl,
+        serves_so false (free_here b.shape p key (λ locked. other (is.locked locked))) (
+          is_reply ∙ ap Some was_replied,
+          as_replied b p q (Wrote (number p) (Delete key) r None) was is.on.quiet answered.0 answered.1 answered.2 keeps (same_widths b p q was is.on is.draws_nothing)
+              ∙ (sym leaves ∙ ap (λ r. after_reply b.shape (Delete key) r (state_at b.shape p)) was_replied),
+        ),
+      )
+    where
+      was_replied : r ≡ reply_in b.shape (after b.shape (seen p)) (Delete key)
+      was_replied = reply_then b p q (Delete key) r None is.on.quiet (more_seen b p q (Wrote (number p) (Delete key) r None ∷ []) was is.on.quiet answered.0)
+
+pub serves_delete : (b : Board) (p q : Pass) (key : List ℕ) (told : DeleteAnswer) → IsAlone b p → Deletes b key told p q
+    → ServesAlone b (command.Write (Delete key)) (answer.Delete told) p q
+serves_delete b p q key delete.Deleted was is = replied b p q key was delete.Deleted is reply.Deleted (λ e. cc) refl is.answer (λ s. refl) refl
+serves_delete b p q key delete.NotFound was is = replied b p q key was delete.NotFound is reply.NotFound (λ e. cc) refl is.answer (λ s. refl) refl
+serves_delete b p q key delete.Busy was is =
+    served_still b (command.Write (Delete key)) (answer.Delete delete.Busy) p q was is.on.quiet is.answer.0 (
+      delete.Busy,
+      refl,
+      serves_so b p q key was delete.Busy is true (locked_here b.shape p key (busy_by_lock b p q (bucket_of b.shape key) was.quiet is.on.quiet was.one is.answer.1))
+          (refl, left b p q was is.on.quiet is.answer.0 (same_widths b p q was is.on is.draws_nothing)),
+    )

@@ -1,0 +1,136 @@
+-- With one pass, a hold, a held and a release are served as the model says.
+use Rattle.std.proofs.Common.{◌≡◌, ◌≢◌, ℕ, true, false, List, is_some, Option, Some, None, option_map, refl, sym, ap, subst, ◌∙◌, ⊎_elim}
+use Rattle.std.specs.Prelude.{◌↔◌, IfSome}
+use Rattle.std.proofs.lemmas.Bool.{false≢true, cases_Bool}
+use Rattle.std.proofs.lemmas.Option.{none-some}
+use Rattle.segmodel.specs.declared.entry.Cached.{Cached}
+use Rattle.segmodel.specs.declared.answer.Turn.TheVariants as turn
+use Rattle.segmodel.specs.declared.answer.Outcome.TheVariants as outcome
+use Rattle.segmodel.specs.Cache.{present, standing, reads}
+use Rattle.segmodel.specs.History.{after}
+use Rattle.segmodel.specs.Turns as turns
+use Rattle.segcore.specs.Event as event
+use Rattle.segbase.specs.declared.law.Held.{Held}
+use Rattle.segbase.specs.declared.board.Board.{Board}
+use Rattle.segbase.specs.declared.pass.Pass.{Pass}
+use Rattle.segbase.specs.Passes.{seen, mine, holding}
+use Rattle.segbase.specs.Plain.{is_holding_of}
+use Rattle.segread.specs.declared.held.Hold.{Hold}
+use Rattle.segread.specs.declared.held.HoldAnswer.{HoldAnswer}
+use Rattle.segread.specs.declared.held.HoldAnswer.TheVariants as answer
+use Rattle.segpass.specs.Calls.{GoesOn, ChangesNothing, DrawsNothing}
+use Rattle.segread.specs.Holds.{IsHoldOf, IsHoldAnswer, KeepsButHold, Releases}
+use Rattle.segsolo.specs.Alone.{item_of, state_at, IsAlone, TurnsAlone, hold_outcome}
+use Rattle.segsolo.proofs.AlonePass.{none_if, same_moment, same_seen, as_was, left, counts_still, turned, turned_still}
+use Rattle.segsolo.proofs.AloneReads.{read_then, never_stirred}
+use Rattle.segsolo.proofs.AloneWidths.{same_widths}
+
+-- it holds nothing where its plain part says so
+holds_nothing : (b : Board) (p : Pass) → IsAlone b p → is_holding_of p ≡ false → holding p ≡ None
+holds_nothing b p was not = none_if (holding p) (sym was.quiet.holds ∙ not)
+
+-- a pass that no call was made with is at the same state
+untouched : (b : Board) (p q : Pass) → q ≡ p → state_at b.shape q ≡ state_at b.shape p
+untouched b p q same = ap (state_at b.shape) same
+
+module _ (b : Board) (p q : Pass) (was : IsAlone b p) (on : GoesOn b p q) (undrawn : DrawsNothing p q) where
+  -- another item is held, or none; the rest is as it was
+  holds_alone : KeepsButHold p q → state_at b.shape q ≡ record (state_at b.shape p) { held = option_map item_of (holding q) }
+  holds_alone keeps =
+      as_was b.shape p q (same_seen b p q was on.quiet keeps.entries) keeps.segments.state keeps.current (same_widths b p q was on undrawn)
+      ∙ ap (λ o. record (state_at b.shape p) { held = option_map item_of (holding q); locked = o }) keeps.locked.1
+
+  -- ---- hold
+
+  free_hold : (told : HoldAnswer) → ((told ≡ answer.AlreadyHolding) ↔ (is_holding_of p ≡ true)) → told ≢ answer.AlreadyHolding → holding p ≡ None
+  free_hold told already other = ⊎_elim
+      (λ is. absurd (other (already.1 is)))
+      (λ not. holds_nothing b p was not)
+      (cases_Bool (is_holding_of p))
+
+  holds_still : (held : Option Held) (found : Option Cached) → is_some held ≡ true
+      → (outcome.AlreadyHolding ≡ turns.hold_outcome (option_map item_of held) found) × (option_map item_of held ≡ turns.held_after (option_map item_of held) found)
+  holds_still None found is = absurd (false≢true is)
+  holds_still (Some held) found is = (refl, refl)
+
+  none_present : (found : Option Cached) → option_map (λ (item : Cached). item.value) found ≡ None → found ≡ None
+  none_present None is = refl
+  none_present (Some item) is = absurd (none-some item.value (sym is))
+
+  hold_turn : (key : List ℕ) (told : HoldAnswer) → IsHoldAnswer b.shape key told p q → ((told ≡ answer.AlreadyHolding) ↔ (is_holding_of p ≡ true))
+      → TurnsAlone b (turn.Hold key) (hold_outcome told) p q
+  hold_turn key (answer.Holding hold) takes already =
+      let same = same_seen b p q was on.quiet takes.same.entries in
+      let held = takes.is.held in
+      let free : option_map item_of (holding p) ≡ None = ap (option_map item_of) (free_hold (answer.Holding hold) already (λ e. cc)) in
+      let found : present (after b.shape (seen p)) key ≡ Some (item_of held) =
+      (λ i. standing (after b.shape (sym (same_moment (seen p) (seen q) (event.seen held.trace) same takes.between) i)) (sym takes.of i)) ∙ takes.stood.stands in
+      turned b (turn.Hold key) outcome.Holding p q was on.quiet (counts_still p q was.used same takes.same.segments.used) (
+        (λ i. turns.hold_outcome (sym free i) (sym found i)),
+        holds_alone takes.same
+            ∙ ap (λ o. record (state_at b.shape p) { held = o }) (ap (option_map item_of) takes.is.holds ∙ (λ i. turns.held_after (sym free i) (sym found i))),
+      )
+  hold_turn key answer.Miss (nothing, gone) already =
+      let free : option_map item_of (holding p) ≡ None = ap (option_map item_of) (free_hold answer.Miss already (λ e. cc)) in
+      let absent : present (after b.shape (seen p)) key ≡ None = none_present (present (after b.shape (seen p)) key) (read_then b p q key was on nothing None gone) in
+      turned_still b (turn.Hold key) outcome.Miss p q was on.quiet nothing (
+        (λ i. turns.hold_outcome (sym free i) (sym absent i)),
+        left b p q was on.quiet nothing (same_widths b p q was on undrawn)
+            ∙ ap (λ o. record (state_at b.shape p) { held = o }) (free ∙ (λ i. turns.held_after (sym free i) (sym absent i))),
+      )
+  hold_turn key answer.Busy (nothing, many) already = absurd (never_stirred b p q key was on nothing many)
+  hold_turn key answer.AlreadyHolding same already =
+      let stays = holds_still (holding p) (present (after b.shape (seen p)) key) (sym was.quiet.holds ∙ already.0 refl) in
+      turned_still b (turn.Hold key) outcome.AlreadyHolding p q was on.quiet (as_nothing same) (
+        stays.0,
+        untouched b p q same ∙ ap (λ o. record (state_at b.shape p) { held = o }) stays.1,
+      )
+    where
+      as_nothing : q ≡ p → ChangesNothing p q
+      as_nothing same = record { entries = ap mine same; plain = ap (λ (x : Pass). x.plain) same; memo = ap (λ (x : Pass). x.seat.me.0.memo) same }
+
+  -- ---- held
+
+  held_turn : (hold : Hold) (value : List ℕ) → IsHoldOf b.shape hold p → ChangesNothing p q → IfSome (holding p) (λ held. value ≡ held.value)
+      → TurnsAlone b turn.Held (outcome.Value value) p q
+  held_turn hold value is nothing reads = turned_still b turn.Held (outcome.Value value) p q was on.quiet nothing (
+    ap outcome.Value (subst (λ (o : Option Held). IfSome o (λ (held : Held). value ≡ held.value)) is.holds reads) ∙ sym (ap (λ o. turns.held_outcome (option_map item_of o)) is.holds),
+    left b p q was on.quiet nothing (same_widths b p q was on undrawn),
+  )
+
+  -- ---- release
+
+  release_turn : (hold : Hold) → IsHoldOf b.shape hold p → Releases p q → TurnsAlone b turn.Release outcome.Released p q
+  release_turn hold is releases = turned b turn.Release outcome.Released p q was on.quiet (counts_still p q was.used (same_seen b p q was on.quiet releases.same.entries) releases.same.segments.used) (
+    sym (ap (λ o. turns.release_outcome (option_map item_of o)) is.holds),
+    holds_alone releases.same ∙ ap (λ o. record (state_at b.shape p) { held = option_map item_of o }) releases.holding,
+  )
+
+-- ---- as turns
+
+pub turns_hold : (b : Board) (p q : Pass) (key : List ℕ) (told : HoldAnswer) → IsAlone b p → GoesOn b p q → DrawsNothing p q
+    → IsHoldAnswer b.shape key told p q → ((told ≡ answer.AlreadyHolding) ↔ (is_holding_of p ≡ true)) → TurnsAlone b (turn.Hold key) (hold_outcome told) p q
+turns_hold b p q key told was on undrawn is already = hold_turn b p q was on undrawn key told is already
+
+pub turns_held : (b : Board) (p q : Pass) (hold : Hold) (value : List ℕ) → IsAlone b p → GoesOn b p q → DrawsNothing p q
+    → IsHoldOf b.shape hold p → ChangesNothing p q → IfSome (holding p) (λ held. value ≡ held.value) → TurnsAlone b turn.Held (outcome.Value value) p q
+turns_held b p q hold value was on undrawn is nothing reads = held_turn b p q was on undrawn hold value is nothing reads
+
+pub turns_release : (b : Board) (p q : Pass) (hold : Hold) → IsAlone b p → GoesOn b p q → DrawsNothing p q
+    → IsHoldOf b.shape hold p → Releases p q → TurnsAlone b turn.Release outcome.Released p q
+turns_release b p q hold was on undrawn is releases = release_turn b p q was on undrawn hold is releases
+
+-- where nothing is held, no call is made
+
+pub turns_not_held : (b : Board) (p q : Pass) → IsAlone b p → q ≡ p → is_holding_of p ≡ false → TurnsAlone b turn.Held outcome.NotHolding p q
+turns_not_held b p q was same not = (
+  subst (IsAlone b) (sym same) was,
+  (sym (ap (λ o. turns.held_outcome (option_map item_of o)) (holds_nothing b p was not)), untouched b p q same),
+)
+
+pub turns_not_released : (b : Board) (p q : Pass) → IsAlone b p → q ≡ p → is_holding_of p ≡ false → TurnsAlone b turn.Release outcome.NotHolding p q
+turns_not_released b p q was same not =
+    let free = holds_nothing b p was not in (
+      subst (IsAlone b) (sym same) was,
+      (sym (ap (λ o. turns.release_outcome (option_map item_of o)) free), untouched b p q same ∙ ap (λ o. record (state_at b.shape p) { held = option_map item_of o }) free),
+    )

@@ -1,0 +1,87 @@
+-- With one pass, a lock and an unlock are served as the model says.
+use Rattle.std.proofs.Common.{◌≡◌, ◌≢◌, ℕ, Bool, true, false, List, is_some, Option, Some, None, option_map, refl, sym, ap, ◌∙◌, inr}
+use Rattle.std.specs.Prelude.{◌↔◌}
+use Rattle.std.proofs.lemmas.Bool.{false≢true}
+use Rattle.std.proofs.lemmas.Option.{none-some}
+use Rattle.segmodel.specs.declared.answer.Turn.TheVariants as turn
+use Rattle.segmodel.specs.declared.answer.Outcome.TheVariants as outcome
+use Rattle.segmodel.specs.Places.{bucket_of}
+use Rattle.segmodel.specs.Turns as turns
+use Rattle.segbase.specs.declared.board.Board.{Board}
+use Rattle.segbase.specs.declared.pass.Pass.{Pass}
+use Rattle.segbase.specs.Passes.{mine, holding}
+use Rattle.segbase.specs.Plain.{current_of, locked_of, SameSegments}
+use Rattle.segpass.specs.declared.bucket.LockAnswer.{LockAnswer}
+use Rattle.segpass.specs.declared.bucket.LockAnswer.TheVariants as lock
+use Rattle.segpass.specs.Calls.{GoesOn, DrawsNothing}
+use Rattle.segpass.specs.Locks.{IsLockAnswer, IsUnlockAnswer}
+use Rattle.segsolo.specs.Alone.{item_of, state_at, IsAlone, TurnsAlone, lock_outcome, unlock_outcome}
+use Rattle.segindex.proofs.OnePass.{busy_by_lock}
+use Rattle.segsolo.proofs.AlonePass.{none_if, same_seen, as_was, left, counts_still, turned, turned_still}
+use Rattle.segsolo.proofs.AloneWidths.{same_widths}
+
+-- another bucket is locked, or none; the rest is as it was
+locks_alone : (b : Board) (p q : Pass) → IsAlone b p → GoesOn b p q → DrawsNothing p q → mine q ≡ mine p → SameSegments p q → current_of q ≡ current_of p → holding q ≡ holding p
+    → state_at b.shape q ≡ record (state_at b.shape p) { locked = locked_of q }
+locks_alone b p q was on undrawn same segments current held =
+    as_was b.shape p q (same_seen b p q was on.quiet same) segments.state current (same_widths b p q was on undrawn)
+    ∙ ap (λ o. record (state_at b.shape p) { held = option_map item_of o; locked = locked_of q }) held
+
+module _ (b : Board) (p q : Pass) (was : IsAlone b p) (on : GoesOn b p q) (undrawn : DrawsNothing p q) where
+  -- ---- lock
+
+  other_answer : (told : LockAnswer) → ((told ≡ lock.AlreadyLocked) ↔ (locked_of p ≢ None)) → told ≢ lock.AlreadyLocked → locked_of p ≡ None
+  other_answer told already other = by (locked_of p) refl
+    where
+      by : (locked : Option ℕ) → locked_of p ≡ locked → locked_of p ≡ None
+      by None is = is
+      by (Some bucket) is = absurd (other (already.1 (λ free. none-some bucket (sym free ∙ is))))
+
+  stays_locked : (bucket : ℕ) (locked : Option ℕ) → locked ≢ None → (turns.lock_outcome locked ≡ outcome.AlreadyLocked) × (turns.locked_after bucket locked ≡ locked)
+  stays_locked bucket None some = absurd (some refl)
+  stays_locked bucket (Some other) some = (refl, refl)
+
+  lock_turn : (key : List ℕ) (told : LockAnswer) → IsLockAnswer b.shape key told p q → ((told ≡ lock.AlreadyLocked) ↔ (locked_of p ≢ None))
+      → TurnsAlone b (turn.Lock key) (lock_outcome told) p q
+  lock_turn key lock.Locked locks already =
+      let free = other_answer lock.Locked already (λ e. cc) in
+      turned b (turn.Lock key) outcome.Locked p q was on.quiet (counts_still p q was.used (same_seen b p q was on.quiet locks.entries) locks.segments.used) (
+        sym (ap turns.lock_outcome free),
+        locks_alone b p q was on undrawn locks.entries locks.segments locks.current locks.holding.0
+            ∙ ap (λ o. record (state_at b.shape p) { locked = o }) (locks.locked_of ∙ sym (ap (turns.locked_after (bucket_of b.shape key)) free)),
+      )
+  lock_turn key lock.Busy (nothing, vain) already =
+      let free = other_answer lock.Busy already (λ e. cc) in
+      absurd (none-some (bucket_of b.shape key) (sym free ∙ busy_by_lock b p q (bucket_of b.shape key) was.quiet on.quiet was.one (inr vain)))
+  lock_turn key lock.AlreadyLocked nothing already =
+      let stays = stays_locked (bucket_of b.shape key) (locked_of p) (already.0 refl) in
+      turned_still b (turn.Lock key) outcome.AlreadyLocked p q was on.quiet nothing
+      (sym stays.0, left b p q was on.quiet nothing (same_widths b p q was on undrawn) ∙ ap (λ o. record (state_at b.shape p) { locked = o }) (sym stays.1))
+
+  -- ---- unlock
+
+  unlocks_one : (locked : Option ℕ) → true ≡ is_some locked → outcome.Unlocked ≡ turns.unlock_outcome locked
+  unlocks_one None some = absurd (false≢true (sym some))
+  unlocks_one (Some bucket) some = refl
+
+  unlock_turn : (told : Bool) → IsUnlockAnswer b.shape told p q → told ≡ is_some (locked_of p) → TurnsAlone b turn.Unlock (unlock_outcome told) p q
+  unlock_turn true unlocks was_locked =
+      turned b turn.Unlock outcome.Unlocked p q was on.quiet (counts_still p q was.used (same_seen b p q was on.quiet unlocks.entries) unlocks.segments.used) (
+        unlocks_one (locked_of p) was_locked,
+        locks_alone b p q was on undrawn unlocks.entries unlocks.segments unlocks.current unlocks.holding.0
+            ∙ ap (λ o. record (state_at b.shape p) { locked = o }) unlocks.locked_of,
+      )
+  unlock_turn false nothing was_locked =
+      let free = none_if (locked_of p) (sym was_locked) in
+      turned_still b turn.Unlock outcome.NotLocked p q was on.quiet nothing
+      (sym (ap turns.unlock_outcome free), left b p q was on.quiet nothing (same_widths b p q was on undrawn) ∙ ap (λ o. record (state_at b.shape p) { locked = o }) free)
+
+-- ---- as turns
+
+pub turns_lock : (b : Board) (p q : Pass) (key : List ℕ) (told : LockAnswer) → IsAlone b p → GoesOn b p q → DrawsNothing p q
+    → IsLockAnswer b.shape key told p q → ((told ≡ lock.AlreadyLocked) ↔ (locked_of p ≢ None)) → TurnsAlone b (turn.Lock key) (lock_outcome told) p q
+turns_lock b p q key told was on undrawn is already = lock_turn b p q was on undrawn key told is already
+
+pub turns_unlock : (b : Board) (p q : Pass) (told : Bool) → IsAlone b p → GoesOn b p q → DrawsNothing p q
+    → IsUnlockAnswer b.shape told p q → told ≡ is_some (locked_of p) → TurnsAlone b turn.Unlock (unlock_outcome told) p q
+turns_unlock b p q told was on undrawn is was_locked = unlock_turn b p q was on undrawn told is was_locked

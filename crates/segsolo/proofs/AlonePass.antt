@@ -1,0 +1,197 @@
+-- The only pass of an index: its history is its own, its segments are those of the model, and a call that leaves it as it was leaves the state that it is at.
+use Rattle.std.proofs.Common.{◌≡◌, ◌≢◌, ℕ, ◌/◌, ◌<◌, nat_lt, true, false, List, [], ◌∷◌, ◌++◌, length, is_some, Option, Some, None, option_map, refl, sym, ap, subst, ◌∙◌, ⊎_elim, arith, length-append, eq-eqb}
+use Rattle.std.proofs.lemmas.Bool.{false≢true, cases_Bool, lt-ltb, ne_eqb}
+use Rattle.segword.specs.declared.shape.Shape.{Shape}
+use Rattle.segmodel.specs.declared.entry.Entry.{Entry}
+use Rattle.segmodel.specs.declared.entry.Entry.TheVariants.{Wrote}
+use Rattle.segmodel.specs.declared.request.Request.{Request}
+use Rattle.segmodel.specs.declared.request.Reply.{Reply}
+use Rattle.segmodel.specs.declared.answer.SegState.{SegState}
+use Rattle.segmodel.specs.declared.answer.Command.{Command}
+use Rattle.segmodel.specs.declared.answer.Answer.{Answer}
+use Rattle.segmodel.specs.declared.answer.Turn.{Turn}
+use Rattle.segmodel.specs.declared.answer.Turn.TheVariants.{Serve}
+use Rattle.segmodel.specs.declared.answer.Outcome.{Outcome}
+use Rattle.segmodel.specs.declared.answer.Outcome.TheVariants.{Answered}
+use Rattle.segmodel.specs.Places.{owner, bucket_of}
+use Rattle.segmodel.specs.Cache.{reply_in}
+use Rattle.segmodel.specs.History.{after, IsBetween, IsLegal}
+use Rattle.segmodel.specs.State.{State, is_locked, is_named}
+use Rattle.segmodel.specs.Serving.{is_own, Serves}
+use Rattle.segmodel.specs.Turns.{Turns}
+use Rattle.segmodel.proofs.ServingKeeps.{turns_keep}
+use Rattle.segmodel.proofs.Written.{first_owner}
+use Rattle.segcore.specs.Mark.{width, all_drawn}
+use Rattle.segcore.proofs.Standing.{legal}
+use Rattle.segbase.specs.declared.law.Memo.{Memo}
+use Rattle.segbase.specs.declared.board.Board.{Board}
+use Rattle.segbase.specs.declared.pass.Pass.{Pass}
+use Rattle.segbase.specs.Passes.{number, trace, marked, seen, mine, holding}
+use Rattle.segbase.specs.Plain.{current_of, state_of, used_of, own_segment, state_in, used_in, locked_of}
+use Rattle.segbase.proofs.Alone.{mine_alone}
+use Rattle.segpass.specs.Quiet.{IsQuiet}
+use Rattle.segpass.specs.Calls.{memo, ChangesNothing, AddsEntry}
+use Rattle.segsolo.specs.Alone.{stored_in, or_empty, item_of, state_at, CountsRows, IsAlone, ServesAlone, TurnsAlone}
+use Rattle.segindex.proofs.QuietPass.{owned}
+
+-- ---- one history
+
+nothing_more : {A : Type 0} (more : List A) → length more ≡ 0 → more ≡ []
+nothing_more [] e = refl
+nothing_more (x ∷ more) e = absurd (omega arith)
+
+-- between a moment and itself there is no other
+pub same_moment : {A : Type 0} (before now moment : List A) → now ≡ before → IsBetween before now moment → moment ≡ before
+same_moment {A = A} before now moment same between =
+    let longer : length now ≡ length (between.1.0 ++ moment) = ap (λ (l : List A). length l) between.1.1 in
+    let long : length moment ≡ length (between.0.0 ++ before) = ap (λ (l : List A). length l) between.0.1 in
+    let equal : length now ≡ length before = ap (λ (l : List A). length l) same in
+    let none : between.0.0 ≡ [] = nothing_more between.0.0 (omega (arith, length-append {A = A})) in
+    between.0.1 ∙ ap (λ more. more ++ before) none
+
+-- what it has seen is what it did
+pub same_seen : (b : Board) (p q : Pass) → IsAlone b p → IsQuiet b q → mine q ≡ mine p → seen q ≡ seen p
+same_seen b p q was quiet same = sym (mine_alone b q quiet.pass was.one) ∙ (same ∙ mine_alone b p was.quiet.pass was.one)
+
+pub more_seen : (b : Board) (p q : Pass) (added : List Entry) → IsAlone b p → IsQuiet b q → mine q ≡ added ++ mine p → seen q ≡ added ++ seen p
+more_seen b p q added was quiet more = sym (mine_alone b q quiet.pass was.one) ∙ (more ∙ ap (λ h. added ++ h) (mine_alone b p was.quiet.pass was.one))
+
+-- ---- its segments
+
+pub number_is : (b : Board) (p : Pass) → IsAlone b p → number p ≡ 0
+number_is b p alone = let one = alone.one in let few = alone.quiet.pass.one_of in omega arith
+
+pub none_if : {A : Type 0} (o : Option A) → is_some o ≡ false → o ≡ None
+none_if None e = refl
+none_if (Some a) e = absurd (false≢true (sym e))
+
+low_owner : (each segment : ℕ) → 0 < each → segment / each ≡ 0 → segment < each
+low_owner each segment some e = grind (arith, e)
+
+-- it keeps something of just the segments that the model has as its own
+pub keeps_own : (b : Board) (p : Pass) (segment : ℕ) → IsAlone b p → is_some (state_of p segment) ≡ is_own b.shape segment
+keeps_own b p segment alone = ⊎_elim
+    (λ there.
+    let first : owner b.shape segment ≡ 0 = (owned b p segment alone.quiet).0 there ∙ number_is b p alone in
+    there ∙ sym (lt-ltb segment b.shape.segments_each (low_owner b.shape.segments_each segment alone.quiet.pass.valid.0.0.1.0 first)))
+    (λ none. none ∙ sym (⊎_elim
+    (λ own. absurd (false≢true (sym none ∙ (owned b p segment alone.quiet).1 (first_owner b.shape segment (below segment b.shape.segments_each own) ∙ sym (number_is b p alone)))))
+    (λ other. other)
+    (cases_Bool (is_own b.shape segment))))
+    (cases_Bool (is_some (state_of p segment)))
+  where
+    below : (segment each : ℕ) → nat_lt segment each ≡ true → segment < each
+    below segment each is = grind (arith, is)
+
+pub not_own : (b : Board) (p : Pass) (segment : ℕ) → IsAlone b p → state_of p segment ≡ None → is_own b.shape segment ≡ false
+not_own b p segment alone none = sym (keeps_own b p segment alone) ∙ ap is_some none
+
+pub own_is : (b : Board) (p : Pass) (segment : ℕ) (state : SegState) → IsAlone b p → state_of p segment ≡ Some state → is_own b.shape segment ≡ true
+own_is b p segment state alone is = sym (keeps_own b p segment alone) ∙ ap is_some is
+
+-- ---- the state that it is at
+
+-- chains are as they were
+pub record SameWidths (p q : Pass) : Type 0 where
+  pub wide : (bucket : ℕ) → width (marked q) bucket ≡ width (marked p) bucket
+  pub drawn : all_drawn (marked q) ≡ all_drawn (marked p)
+
+-- a state is told part by part
+pub at_state : (shape : Shape) (q : Pass) (state : State) → after shape (seen q) ≡ state.cache → ((segment : ℕ) → or_empty (state_of q segment) ≡ (state.filling segment).state)
+    → ((segment : ℕ) → stored_in (seen q) segment ≡ (state.filling segment).keys) → current_of q ≡ state.current → ((bucket : ℕ) → width (marked q) bucket ≡ state.width bucket)
+    → all_drawn (marked q) ≡ state.drawn → option_map item_of (holding q) ≡ state.held → locked_of q ≡ state.locked → state_at shape q ≡ state
+at_state shape q state cache states keys current wide drawn held locked = λ i. record {
+  cache = cache i;
+  filling = λ segment. record { state = states segment i; keys = keys segment i };
+  current = current i;
+  width = λ bucket. wide bucket i;
+  drawn = drawn i;
+  held = held i;
+  locked = locked i;
+}
+
+pub same_states : (p q : Pass) (segment : ℕ) → q.plain ≡ p.plain → state_of q segment ≡ state_of p segment
+same_states p q segment plain = ap (λ plain. state_in (own_segment plain segment)) plain
+
+pub same_used : (p q : Pass) (segment : ℕ) → q.plain ≡ p.plain → used_of q segment ≡ used_of p segment
+same_used p q segment plain = ap (λ plain. used_in (own_segment plain segment)) plain
+
+-- a pass that saw nothing new, whose segments are as they were, is at the same state but for its hold and its lock
+pub as_was : (shape : Shape) (p q : Pass) → seen q ≡ seen p → ((segment : ℕ) → state_of q segment ≡ state_of p segment) → current_of q ≡ current_of p → SameWidths p q
+    → state_at shape q ≡ record (state_at shape p) { held = option_map item_of (holding q); locked = locked_of q }
+as_was shape p q same states current widths = at_state shape q (record (state_at shape p) { held = option_map item_of (holding q); locked = locked_of q })
+    (ap (after shape) same) (λ segment. ap or_empty (states segment)) (λ segment. ap (λ h. stored_in h segment) same) current widths.wide widths.drawn refl refl
+
+pub left : (b : Board) (p q : Pass) → IsAlone b p → IsQuiet b q → ChangesNothing p q → SameWidths p q → state_at b.shape q ≡ state_at b.shape p
+left b p q was quiet nothing widths = as_was b.shape p q (same_seen b p q was quiet nothing.entries) (λ segment. same_states p q segment nothing.plain) (ap (λ plain. plain.current) nothing.plain) widths
+    ∙ (λ i. record (state_at b.shape p) { held = option_map item_of ((nothing.memo i).holding); locked = (nothing.plain i).locked })
+
+-- ---- rows
+
+pub counts_still : (p q : Pass) → CountsRows p → seen q ≡ seen p → ((segment : ℕ) → used_of q segment ≡ used_of p segment) → CountsRows q
+counts_still p q counts same used segment count is = counts segment count (sym (used segment) ∙ is) ∙ ap (λ h. length (stored_in h segment)) (sym same)
+
+-- ---- an entry that stores nothing
+
+-- it changes the cache alone
+pub as_replied : (b : Board) (p q : Pass) (added : Entry) → IsAlone b p → IsQuiet b q → AddsEntry added p q → q.plain ≡ p.plain → memo q ≡ memo p
+    → ((segment : ℕ) → stored_in (added ∷ seen p) segment ≡ stored_in (seen p) segment) → SameWidths p q → state_at b.shape q ≡ record (state_at b.shape p) { cache = after b.shape (added ∷ seen p) }
+as_replied b p q added was quiet adds plain same keeps widths =
+    let more = more_seen b p q (added ∷ []) was quiet adds in
+    at_state b.shape q (record (state_at b.shape p) { cache = after b.shape (added ∷ seen p) })
+    (ap (after b.shape) more) (λ segment. ap or_empty (same_states p q segment plain)) (λ segment. ap (λ h. stored_in h segment) more ∙ keeps segment)
+    (ap (λ plain. plain.current) plain) widths.wide widths.drawn (ap (λ (m : Memo). option_map item_of m.holding) same) (ap (λ plain. plain.locked) plain)
+
+pub counts_replied : (b : Board) (p q : Pass) (added : Entry) → IsAlone b p → IsQuiet b q → AddsEntry added p q → q.plain ≡ p.plain
+    → ((segment : ℕ) → stored_in (added ∷ seen p) segment ≡ stored_in (seen p) segment) → CountsRows q
+counts_replied b p q added was quiet adds plain keeps segment count is =
+    was.used segment count (sym (same_used p q segment plain) ∙ is)
+    ∙ sym (ap (λ h. length (stored_in h segment)) (more_seen b p q (added ∷ []) was quiet adds) ∙ ap (λ (keys : List (List ℕ)). length keys) (keeps segment))
+
+-- what was seen last was replied as the cache replied
+pub reply_then : (b : Board) (p q : Pass) (request : Request) (told : Reply) (segment : Option ℕ) → IsQuiet b q → seen q ≡ Wrote (number p) request told segment ∷ seen p
+    → told ≡ reply_in b.shape (after b.shape (seen p)) request
+reply_then b p q request told segment quiet more = (subst (IsLegal b.shape) more (legal b.shape (trace q) quiet.pass.lawful)).1.0
+
+-- ---- locks
+
+-- a bucket that the pass has locked is locked for the model, and no other is
+pub locked_here : (shape : Shape) (p : Pass) (key : List ℕ) → locked_of p ≡ Some (bucket_of shape key) → is_locked shape (state_at shape p) key ≡ true
+locked_here shape p key is = ap (λ o. is_named o (bucket_of shape key)) is ∙ eq-eqb (bucket_of shape key) (bucket_of shape key) refl
+
+pub free_here : (shape : Shape) (p : Pass) (key : List ℕ) → locked_of p ≢ Some (bucket_of shape key) → is_locked shape (state_at shape p) key ≡ false
+free_here shape p key other = by (locked_of p) other
+  where
+    by : (locked : Option ℕ) → locked ≢ Some (bucket_of shape key) → is_named locked (bucket_of shape key) ≡ false
+    by None ne = refl
+    by (Some bucket) ne = ne_eqb bucket (bucket_of shape key) (λ e. ne (ap Some e))
+
+-- ---- calls
+
+-- a turn that is served leaves the pass alone
+pub turned : (b : Board) (turn : Turn) (given : Outcome) (p q : Pass) → IsAlone b p → IsQuiet b q → CountsRows q
+    → Turns b.shape (state_at b.shape p) turn given (state_at b.shape q) → TurnsAlone b turn given p q
+turned b turn given p q was quiet counts served = (
+  record {
+    one = was.one;
+    quiet = quiet;
+    used = counts;
+    kept = turns_keep b.shape (state_at b.shape p) (state_at b.shape q) (turn ∷ []) (given ∷ []) was.kept (state_at b.shape q, served, refl);
+  },
+  served,
+)
+
+-- where it changed nothing
+pub turned_still : (b : Board) (turn : Turn) (given : Outcome) (p q : Pass) → IsAlone b p → IsQuiet b q → ChangesNothing p q
+    → Turns b.shape (state_at b.shape p) turn given (state_at b.shape q) → TurnsAlone b turn given p q
+turned_still b turn given p q was quiet nothing served =
+    turned b turn given p q was quiet (counts_still p q was.used (same_seen b p q was quiet nothing.entries) (λ segment. same_used p q segment nothing.plain)) served
+
+-- and so does a command
+pub served : (b : Board) (command : Command) (given : Answer) (p q : Pass) → IsAlone b p → IsQuiet b q → CountsRows q
+    → Serves b.shape (state_at b.shape p) command given (state_at b.shape q) → ServesAlone b command given p q
+served b command given p q was quiet counts serves = ((turned b (Serve command) (Answered given) p q was quiet counts (given, refl, serves)).0, serves)
+
+pub served_still : (b : Board) (command : Command) (given : Answer) (p q : Pass) → IsAlone b p → IsQuiet b q → ChangesNothing p q
+    → Serves b.shape (state_at b.shape p) command given (state_at b.shape q) → ServesAlone b command given p q
+served_still b command given p q was quiet nothing serves = ((turned_still b (Serve command) (Answered given) p q was quiet nothing (given, refl, serves)).0, serves)

@@ -1,0 +1,95 @@
+-- With one pass, the model refuses a write where the call does: no row is left, or no word.
+use Rattle.std.proofs.Common.{◌≡◌, ℕ, ◌+◌, ◌*◌, ◌==◌, ◌&&◌, not, nat_le, nat_lt, true, false, length, is_some, Option, Some, None, refl, sym, ap, ◌∙◌, inl, inr, ⊎_elim, arith, eq-eqb}
+use Rattle.std.specs.Prelude.{option_and_then}
+use Rattle.std.proofs.lemmas.Bool.{cases_lt, lt-ltb, le-ltb, lt-leb, le-leb, and_right}
+use Rattle.std.proofs.lemmas.Option.{none-some}
+use Rattle.segword.specs.declared.shape.Shape.{Shape}
+use Rattle.segmodel.specs.declared.request.Request.{Request}
+use Rattle.segmodel.specs.declared.answer.SegState.{SegState}
+use Rattle.segmodel.specs.declared.answer.SegState.TheVariants.{InUse}
+use Rattle.segmodel.specs.Places.{bucket_of}
+use Rattle.segmodel.specs.Request.{key_of, adds_key}
+use Rattle.segmodel.specs.Cache.{standing, keys_in}
+use Rattle.segmodel.specs.History.{after}
+use Rattle.segmodel.specs.Serving.{is_out_of_rows, may_chain, lacks_word}
+use Rattle.segcore.specs.Mark.{entries, all_drawn, width}
+use Rattle.segcore.proofs.Marked.{entries_marked}
+use Rattle.segbase.specs.declared.board.Board.{Board}
+use Rattle.segbase.specs.declared.pass.OwnSegment.{OwnSegment}
+use Rattle.segbase.specs.declared.pass.Pass.{Pass}
+use Rattle.segbase.specs.Passes.{trace, marked, seen}
+use Rattle.segbase.specs.Plain.{current_of, used_of, own_segment, state_in, used_in}
+use Rattle.segstore.specs.Segments.{has_room, is_below}
+use Rattle.segwrite.specs.Full.{WasFull}
+use Rattle.segsolo.specs.Alone.{stored_in, state_at, IsAlone}
+use Rattle.segsolo.proofs.AlonePass.{same_moment, SameWidths}
+use Rattle.segsolo.proofs.Grown.{entries_begin, drawn_begin, all_begin}
+
+-- ---- rows
+
+reaches : (rows used : ℕ) → nat_le rows used ≡ not (nat_lt used rows)
+reaches rows used = elim (cases_lt used rows) [
+  | inl less ↦ lt-leb rows used less ∙ sym (ap not (lt-ltb used rows less))
+  | inr most ↦ le-leb rows used most ∙ sym (ap not (le-ltb used rows most))
+]
+
+-- of a segment that is kept the rows are counted
+counted : (own : Option OwnSegment) (state : SegState) → state_in own ≡ Some state → (count : ℕ) × (used_in own ≡ Some count)
+counted None state is = absurd (none-some state is)
+counted (Some own) state is = (own.used, refl)
+
+-- so many rows of a segment in use are used as keys were stored in it
+pub rows_of : (b : Board) (p : Pass) (segment : ℕ) → IsAlone b p → current_of p ≡ Some segment → used_of p segment ≡ Some (length (stored_in (seen p) segment))
+rows_of b p segment was is =
+    let count = counted (own_segment p.plain segment) InUse (was.quiet.segments.in_use segment is) in
+    count.1 ∙ ap Some (was.used segment count.0 count.1)
+
+-- rows are left for the model where they are left for the pass
+pub out_of_rows : (b : Board) (p : Pass) → IsAlone b p → is_out_of_rows b.shape (state_at b.shape p).filling (current_of p) ≡ not (has_room b.shape p)
+out_of_rows b p was = by (current_of p) refl
+  where
+    by : (current : Option ℕ) → current_of p ≡ current → is_out_of_rows b.shape (state_at b.shape p).filling current ≡ not (is_below b.shape.rows (option_and_then (used_of p) current))
+    by None is = refl
+    by (Some segment) is =
+        reaches b.shape.rows (length (stored_in (seen p) segment)) ∙ sym (ap (λ o. not (is_below b.shape.rows o)) (rows_of b p segment was is))
+
+-- ---- a bucket that is full
+
+module _ (shape : Shape) (p q : Pass) (request : Request) (same : seen q ≡ seen p) (widths : SameWidths p q) (full : WasFull shape (key_of request) (marked p) (marked q)) where
+  -- the moment at which the bucket was full has the history that the pass has seen, and the chains that there are
+  then_is_now : entries full.0 ≡ seen p
+  then_is_now =
+      let before = entries_marked (trace p) in
+      let now = entries_marked (trace q) in
+      same_moment (entries (marked p)) (entries (marked q)) (entries full.0) (now ∙ (same ∙ sym before))
+      (entries_begin (marked p) full.0 full.1.0, entries_begin full.0 (marked q) full.1.1) ∙ before
+
+  width_then : width full.0 (bucket_of shape (key_of request)) ≡ width (marked p) (bucket_of shape (key_of request))
+  width_then =
+      let low = drawn_begin (marked p) full.0 (bucket_of shape (key_of request)) full.1.0 in
+      let high = drawn_begin full.0 (marked q) (bucket_of shape (key_of request)) full.1.1 in
+      let equal = widths.wide (bucket_of shape (key_of request)) in omega arith
+
+  drawn_then : all_drawn full.0 ≡ all_drawn (marked p)
+  drawn_then =
+      let low = all_begin (marked p) full.0 full.1.0 in
+      let high = all_begin full.0 (marked q) full.1.1 in
+      let equal = widths.drawn in omega arith
+
+  is_new : standing (after shape (seen p)) (key_of request) ≡ None
+  is_new = ap (λ h. standing (after shape h) (key_of request)) (sym then_is_now) ∙ full.2.no_word.new
+
+  no_word_left : keys_in shape (after shape (seen p)) (bucket_of shape (key_of request)) ≡ 6 * width (marked p) (bucket_of shape (key_of request)) + 1
+  no_word_left = ap (λ h. keys_in shape (after shape h) (bucket_of shape (key_of request))) (sym then_is_now) ∙ (full.2.no_word.full ∙ ap (λ n. 6 * n + 1) width_then)
+
+  never_chains : may_chain shape (state_at shape p) (bucket_of shape (key_of request)) ≡ false
+  never_chains = ⊎_elim
+      (λ widest. ap (λ n. nat_lt n 4 && nat_lt (all_drawn (marked p)) shape.overflow) (sym width_then ∙ widest))
+      (λ used_up. ap (λ n. nat_lt (width (marked p) (bucket_of shape (key_of request))) 4 && nat_lt n shape.overflow) (sym drawn_then ∙ used_up)
+      ∙ and_right (nat_lt (width (marked p) (bucket_of shape (key_of request))) 4) (nat_lt shape.overflow shape.overflow) (le-ltb shape.overflow shape.overflow (omega arith)))
+      full.2.last
+
+  pub none_left : adds_key request false ≡ true → (lacks_word shape (state_at shape p) request && not (may_chain shape (state_at shape p) (bucket_of shape (key_of request)))) ≡ true
+  none_left adds =
+      (λ i. (adds_key request (is_some (is_new i)) && (no_word_left i == 6 * width (marked p) (bucket_of shape (key_of request)) + 1)) && not (never_chains i))
+      ∙ (λ i. (adds i && eq-eqb (6 * width (marked p) (bucket_of shape (key_of request)) + 1) (6 * width (marked p) (bucket_of shape (key_of request)) + 1) refl i) && true)

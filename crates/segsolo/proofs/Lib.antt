@@ -1,0 +1,13 @@
+pub mod AlonePass
+pub mod Grown
+pub mod AloneWidths
+pub mod AloneStarts
+pub mod AloneReads
+pub mod AloneLocks
+pub mod AloneHolds
+pub mod AloneRefills
+pub mod AloneRefusals
+pub mod AloneWrites
+pub mod AloneDeletes
+pub mod AloneEvictions
+pub mod AloneEvicts

@@ -1,0 +1,4 @@
+pub mod Alone
+pub mod Props
+pub mod Served
+pub mod Solo

@@ -1,0 +1,77 @@
+-- A write or delete whose bit is given back after one event that added an entry: its answer is that entry, and the pass is quiet again.
+use Rattle.std.proofs.Common.{◌≡◌, ◌≢◌, ℕ, Bool, eqb, List, [], ◌∷◌, Some, ap, ◌∙◌, subst}
+use Rattle.std.proofs.lemmas.Bool.{cond-true, eq-eqb, ne_eqb}
+use Rattle.segword.specs.declared.shape.Shape.{Shape}
+use Rattle.segmodel.specs.declared.entry.Entry.{Entry}
+use Rattle.segmodel.specs.History.{pass_of}
+use Rattle.segcore.specs.declared.event.Event.{Event}
+use Rattle.segcore.specs.declared.event.Event.TheVariants.{Freed}
+use Rattle.segcore.specs.Bucket.{bucket_at, is}
+use Rattle.segcore.specs.Event.{entry_of, with_entry}
+use Rattle.segcore.specs.Event as event
+use Rattle.segcore.specs.Lawful.{NoneAt}
+use Rattle.segbase.specs.declared.board.Board.{Board}
+use Rattle.segbase.specs.declared.pass.Plain.{Plain}
+use Rattle.segbase.specs.declared.pass.Pass.{Pass}
+use Rattle.segbase.specs.Passes.{number, mine, Moved}
+use Rattle.segbase.proofs.Moves.{moved_then}
+use Rattle.segstore.specs.Refilling.{Idles}
+use Rattle.segstore.proofs.Keeping.{IsCalm, keeps_plain}
+use Rattle.segpass.specs.Quiet.{IsQuiet}
+use Rattle.segpass.specs.Calls.{memo, GoesOn, TakesOneBit, DrawsNothing, ReadsNothing, AddsEntry}
+use Rattle.segpass.specs.Taking.{TookToWrite}
+use Rattle.segwrite.specs.Refusing.{GivesBack}
+use Rattle.segpass.proofs.Draws.{IsUndrawn}
+use Rattle.segwrite.proofs.Sets.{found_plain, found_keeps}
+use Rattle.segpass.proofs.Still.{IsStill}
+use Rattle.segpass.proofs.TakenBits.{IsNoTry}
+use Rattle.segpass.proofs.UnderWrite.{took_moved, ends_on, ends_adding, ends_undrawn, ends_unread, ends_taking}
+
+-- an event in the bucket, by its pass, adds an entry and stores nothing
+pub record IsEntry (shape : Shape) (bucket : ℕ) (act : ℕ → Event) (entry : ℕ → Entry) : Type 0 where
+  pub at : (pass : ℕ) → bucket_at shape (act pass) ≡ Some bucket
+  pub adds : (pass : ℕ) → entry_of (act pass) ≡ Some (entry pass)
+  pub of : (pass : ℕ) → pass_of (entry pass) ≡ pass
+  pub still : (pass : ℕ) → IsStill (act pass)
+  pub calm : (pass : ℕ) → IsCalm (act pass)
+  pub undrawn : (pass : ℕ) → IsUndrawn (act pass)
+  pub untried : (pass : ℕ) → IsNoTry (act pass)
+
+module _ (b : Board) (bucket : ℕ) (counted : Bool) (act : ℕ → Event) (entry : ℕ → Entry) (is_entry : IsEntry b.shape bucket act entry) (p q f s : Pass) (quiet : IsQuiet b p) (took : TookToWrite b bucket p q) (idles : Idles b q f)
+    (gives : GivesBack b bucket counted (act (number f) ∷ []) f s) where
+  abbrev n : ℕ
+  n = number p
+
+  moved : Moved b (Freed n bucket counted ∷ act n ∷ []) q s
+  moved = subst (λ m. Moved b (Freed m bucket counted ∷ act m ∷ []) q s) (idles.moved.same ∙ (took_moved b bucket p q quiet took).same)
+      (moved_then b [] (Freed (number f) bucket counted ∷ act (number f) ∷ []) q f s idles.moved gives.moved)
+
+  elsewhere : (other : ℕ) → bucket ≢ other → NoneAt b.shape other (act n ∷ [])
+  elsewhere other apart = (ap (λ o. is o other) (is_entry.at n) ∙ ne_eqb bucket other apart, tt)
+
+  adds : (h : List Event) → event.seen (act n ∷ h) ≡ entry n ∷ event.seen h
+  adds h = ap (λ o. with_entry o (event.seen h)) (is_entry.adds n)
+
+  pub plain_back : s.plain ≡ p.plain
+  plain_back = gives.plain ∙ found_plain b bucket p q f quiet took idles
+
+  pub memo_back : memo s ≡ memo p
+  memo_back = gives.memo ∙ (idles.memo ∙ took.memo)
+
+  pub entered_on : GoesOn b p s
+  entered_on = ends_on b bucket p q quiet took s (act n ∷ []) (entry n ∷ []) counted moved elsewhere (is_entry.still n, tt) adds gives.free memo_back
+      (ap (λ (x : Plain). x.locked) plain_back) (ap (λ (x : Plain). x.is_holding) plain_back)
+      (keeps_plain b (Freed (number f) bucket counted ∷ act (number f) ∷ []) f s gives.moved (tt, (is_entry.calm (number f), tt)) gives.plain (found_keeps b bucket p q f quiet took idles))
+
+  pub entered : AddsEntry (entry n) p s
+  entered = ends_adding b bucket p q quiet took s (act n ∷ []) (entry n ∷ []) counted moved elsewhere (is_entry.still n, tt) adds gives.free
+      ∙ cond-true (eqb (pass_of (entry n)) n) (entry n ∷ mine p) (mine p) (eq-eqb (pass_of (entry n)) n (is_entry.of n))
+
+  pub entered_undrawn : DrawsNothing p s
+  entered_undrawn = ends_undrawn b bucket p q quiet took s (act n ∷ []) (entry n ∷ []) counted moved elsewhere (is_entry.still n, tt) adds gives.free (is_entry.undrawn n, tt)
+
+  pub entered_unread : ReadsNothing p s
+  entered_unread = ends_unread b bucket p q quiet took s (act n ∷ []) (entry n ∷ []) counted moved elsewhere (is_entry.still n, tt) adds gives.free
+
+  pub entered_taking : TakesOneBit bucket p s
+  entered_taking = ends_taking b bucket p q quiet took s (act n ∷ []) (entry n ∷ []) counted moved elsewhere (is_entry.still n, tt) adds gives.free (is_entry.untried n, tt)

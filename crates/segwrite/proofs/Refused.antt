@@ -1,0 +1,166 @@
+-- The answers of a write or delete that the cache refuses, and which refusal that is.
+use Rattle.std.proofs.Common.{◌≡◌, ◌≢◌, ℕ, ◌+◌, ◌/◌, ◌%◌, ◌^◌, ◌<◌, Bool, true, false, not, cond, eqb, is_some, List, [], Option, Some, None, refl, sym, ap, ◌∙◌, subst, ⊎_elim, arith}
+use Rattle.std.specs.Bool.{then_some}
+use Rattle.std.proofs.lemmas.Bool.{cases_Bool, cond-true, cond-false, eq-eqb, ne_eqb, false≢true}
+use Rattle.std.proofs.lemmas.Option.{same_Some, none-some}
+use Rattle.segword.specs.declared.shape.Shape.{Shape}
+use Rattle.segmodel.specs.declared.entry.Entry.TheVariants.{Wrote}
+use Rattle.segmodel.specs.declared.request.Request.{Request}
+use Rattle.segmodel.specs.declared.request.Request.TheVariants.{Set, Add, Replace, Cas, Delete}
+use Rattle.segmodel.specs.declared.request.Reply.{Reply}
+use Rattle.segmodel.specs.declared.request.Reply.TheVariants as reply
+use Rattle.segmodel.specs.declared.answer.WriteAnswer.{WriteAnswer}
+use Rattle.segmodel.specs.declared.answer.WriteAnswer.TheVariants as write
+use Rattle.segmodel.specs.Request.{key_of, value_of, adds_key, reply_to}
+use Rattle.segmodel.specs.Places.{bucket_of}
+use Rattle.segmodel.specs.Cache.{present, standing}
+use Rattle.segmodel.specs.History.{after}
+use Rattle.segmodel.specs.Serving.{reply_of_write}
+use Rattle.segcore.specs.declared.event.Event.{Event}
+use Rattle.segcore.specs.declared.event.Event.TheVariants.{Replied}
+use Rattle.segcore.specs.Event as event
+use Rattle.segcore.specs.declared.cell.Cell.TheVariants.{OfBucket}
+use Rattle.segcore.specs.Bucket.{bucket_after}
+use Rattle.segcore.specs.Kind.{HasBit}
+use Rattle.segcore.specs.Lawful.{IsLawful, IsRefusal}
+use Rattle.segcore.specs.Word.{word}
+use Rattle.segcore.proofs.Buckets.{bit_small, unwritten_version}
+use Rattle.segcore.proofs.Standing.{coherent}
+use Rattle.segbase.specs.declared.board.Board.{Board}
+use Rattle.segbase.specs.declared.pass.Pass.{Pass}
+use Rattle.segbase.specs.Passes.{number, trace, seen, IsPassOf}
+use Rattle.segstore.specs.Refilling.{Idles}
+use Rattle.segwrite.specs.declared.find.Target.{Target}
+use Rattle.segwrite.specs.declared.write.When.{When}
+use Rattle.segwrite.specs.declared.write.When.TheVariants as when
+use Rattle.segpass.specs.Quiet.{IsQuiet}
+use Rattle.segpass.specs.Calls.{GoesOn, TakesOneBit, DrawsNothing, ReadsNothing}
+use Rattle.segwrite.specs.Writes.{IsReplied, IsWriteAnswer}
+use Rattle.segpass.specs.Taking.{HasCleanBit, TookToWrite}
+use Rattle.segwrite.specs.Writing.{IsTarget, IsAbsent, own_word, Finds}
+use Rattle.segwrite.specs.Refusing.{request_of, IsToldBy, reply_now, Refuses}
+use Rattle.segwrite.proofs.Ending.{IsEntry, plain_back, memo_back, entered_on, entered, entered_undrawn, entered_unread, entered_taking}
+use Rattle.segpass.proofs.UnderBit.{moved_at}
+
+-- ---- which request it is, and which reply
+
+pub asks : (w : When) (key value : List ℕ) (request : Request) → request ≡ request_of w key value → (key_of request ≡ key) × (value_of request ≡ value) × (request ≡ request_of w (key_of request) (value_of request))
+asks when.Always key value request is = (ap key_of is, ap value_of is, is ∙ (λ i. Set (sym (ap key_of is) i) (sym (ap value_of is) i)))
+asks when.Absent key value request is = (ap key_of is, ap value_of is, is ∙ (λ i. Add (sym (ap key_of is) i) (sym (ap value_of is) i)))
+asks when.Present key value request is = (ap key_of is, ap value_of is, is ∙ (λ i. Replace (sym (ap key_of is) i) (sym (ap value_of is) i)))
+asks (when.Unchanged n) key value request is = (ap key_of is, ap value_of is, is ∙ (λ i. Cas (sym (ap key_of is) i) (sym (ap value_of is) i) n))
+
+-- the search found the key's own word
+pub own_target : (b : Board) (key : List ℕ) (found : Option Target) (target : Target) (p : Pass) → Finds b key found p → own_word found ≡ Some target → IsTarget b key target p × (target.word ≢ 0)
+own_target b key None target p finds is = absurd (none-some target is)
+own_target b key (Some found) target p finds is = ⊎_elim
+    (λ t. absurd (none-some target (sym (cond-true (eqb found.word 0) None (Some found) t) ∙ is)))
+    (λ f.
+    let same = same_Some found target (sym (cond-false (eqb found.word 0) None (Some found) f) ∙ is) in
+    (subst (λ x. IsTarget b key x p) same finds, λ none. false≢true (sym f ∙ eq-eqb found.word 0 (ap (λ (x : Target). x.word) same ∙ none))))
+    (cases_Bool (eqb found.word 0))
+
+-- where there is none, the key is absent
+pub own_none : (b : Board) (key : List ℕ) (found : Option Target) (p : Pass) → Finds b key found p → own_word found ≡ None → IsAbsent b key p
+own_none b key None p none is = none.absent
+own_none b key (Some found) p finds is = ⊎_elim
+    (λ free. free.2)
+    (λ has. let some = has.1.0.0 in
+    absurd (none-some found (sym is ∙ cond-false (eqb found.word 0) None (Some found) (ne_eqb found.word 0 (λ none. absurd (omega (arith, some, none)))))))
+    finds.is
+
+-- an item of the key's own word stands
+pub own_stands : (b : Board) (key : List ℕ) (target : Target) (p : Pass) → IsPassOf b p → IsTarget b key target p → target.word ≢ 0 → is_some (present (after b.shape (seen p)) key) ≡ true
+own_stands b key target p is found some = ⊎_elim
+    (λ free. absurd (some free.0))
+    (λ has.
+    let z = b.shape in let named = has.0 in
+    let stands = ((coherent z (trace p) is.lawful).items (bucket_of z key) _ named.0 named.1).stands in
+    ap is_some (ap (standing (after z (seen p))) (sym named.2) ∙ stands))
+    found.is
+
+-- so there is one exactly where the key is present
+pub own_where : (b : Board) (key : List ℕ) (found : Option Target) (p : Pass) → IsPassOf b p → Finds b key found p → is_some (own_word found) ≡ is_some (present (after b.shape (seen p)) key)
+own_where b key found p is finds = by (own_word found) refl
+  where
+    by : (own : Option Target) → own_word found ≡ own → is_some own ≡ is_some (present (after b.shape (seen p)) key)
+    by None same = sym (ap is_some (own_none b key found p finds same))
+    by (Some target) same = let own = own_target b key found target p finds same in sym (own_stands b key target p is own.0 own.1)
+
+-- only a set or an add is stored under an absent key
+pub adds_absent : (request : Request) (version : ℕ) → reply_to request false version ≡ reply.Stored → adds_key request false ≡ true
+adds_absent (Set key value) version is = refl
+adds_absent (Add key value) version is = refl
+adds_absent (Replace key value) version is = absurd (let e : reply.NotStored ≡ reply.Stored = is in cc)
+adds_absent (Cas key value expected) version is = absurd (let e : reply.NotFound ≡ reply.Stored = is in cc)
+adds_absent (Delete key) version is = absurd (let e : reply.NotFound ≡ reply.Stored = is in cc)
+
+-- a cas of a present key is refused where the version is another one
+pub told_by_version : (request : Request) (expected version : ℕ) (is_present : Bool) → request ≡ request_of (when.Unchanged expected) (key_of request) (value_of request) → is_present ≡ true
+    → IsToldBy (reply_to request is_present version) (then_some (not (eqb version expected)) write.Exists)
+told_by_version request expected version is_present is there =
+    subst (λ r. IsToldBy (reply_to r is_present version) (then_some (not (eqb version expected)) write.Exists)) (sym is)
+    (subst (λ t. IsToldBy (reply_to (Cas (key_of request) (value_of request) expected) t version) (then_some (not (eqb version expected)) write.Exists)) (sym there) (by (eqb version expected)))
+  where
+    by : (same : Bool) → IsToldBy (cond same reply.Stored reply.Exists) (then_some (not same) write.Exists)
+    by true = refl
+    by false = (refl, tt)
+
+-- under a bit under which nothing was written, the version that the pass reads is the cache's
+unwritten_is : (z : Shape) (h : List Event) (bucket : ℕ) → z.first_version < 2 ^ 32 → IsLawful z h → (bucket_after z h bucket).written ≡ false
+    → (z.first_version + (bucket_after z h bucket).version) % 2 ^ 32 ≡ (after z (event.seen h)).version bucket
+unwritten_is z h bucket few l none =
+    let lt = bit_small (bucket_after z h bucket).holder in
+    let x : word z h (OfBucket bucket 0) / 2 ^ 32 ≡ (z.first_version + (bucket_after z h bucket).version) % 2 ^ 32 = omega arith in
+    sym x ∙ unwritten_version z h bucket few l none
+
+pub told_by_look : (b : Board) (request : Request) (expected version bucket : ℕ) (p q : Pass) → b.shape.first_version < 2 ^ 32 → IsPassOf b p → HasCleanBit b p bucket → bucket ≡ bucket_of b.shape (key_of request)
+    → is_some (present (after b.shape (seen p)) (key_of request)) ≡ true → request ≡ request_of (when.Unchanged expected) (key_of request) (value_of request) → Idles b p q
+    → version ≡ (b.shape.first_version + (bucket_after b.shape (trace p) bucket).version) % 2 ^ 32 → IsToldBy (reply_now b q request) (then_some (not (eqb version expected)) write.Exists)
+told_by_look b request expected version bucket p q few is clean home there asked idles read =
+    let z = b.shape in let k = bucket_of z (key_of request) in
+    let same = moved_at b [] p q (key_of request) idles.moved (subst (λ n. HasBit z (trace p) (number p) n) home clean.bit) tt in
+    let now : (after z (seen q)).version k ≡ version = same.version ∙ (ap (after z (seen p)).version (sym home) ∙ (sym (unwritten_is z (trace p) bucket few is.lawful clean.unwritten) ∙ sym read)) in
+    subst (λ n. IsToldBy (reply_now b q request) (then_some (not (eqb n expected)) write.Exists)) now
+    (told_by_version request expected ((after z (seen q)).version k) (is_some (present (after z (seen q)) (key_of request))) asked (ap is_some same.stands ∙ there))
+
+-- ---- the answer
+
+refusal_entry : (z : Shape) (request : Request) (said : Reply) → IsEntry z (bucket_of z (key_of request)) (λ pass. Replied pass request said) (λ pass. Wrote pass request said None)
+refusal_entry z request said = record { at = λ pass. refl; adds = λ pass. refl; of = λ pass. refl; still = λ pass. tt; calm = λ pass. tt; undrawn = λ pass. tt; untried = λ pass. tt }
+
+module _ (b : Board) (request : Request) (said : Reply) (p q f s : Pass) (quiet : IsQuiet b p) (took : TookToWrite b (bucket_of b.shape (key_of request)) p q) (idles : Idles b q f) (refuses : Refuses b request said f s) where
+  abbrev home : ℕ
+  home = bucket_of b.shape (key_of request)
+
+  pub refused_goes_on : GoesOn b p s
+  refused_goes_on = entered_on b home false (λ pass. Replied pass request said) (λ pass. Wrote pass request said None) (refusal_entry b.shape request said) p q f s quiet took idles refuses
+
+  pub refused_replied : IsReplied request said p s
+  refused_replied = (
+    entered b home false (λ pass. Replied pass request said) (λ pass. Wrote pass request said None) (refusal_entry b.shape request said) p q f s quiet took idles refuses,
+    plain_back b home false (λ pass. Replied pass request said) (λ pass. Wrote pass request said None) (refusal_entry b.shape request said) p q f s quiet took idles refuses,
+    memo_back b home false (λ pass. Replied pass request said) (λ pass. Wrote pass request said None) (refusal_entry b.shape request said) p q f s quiet took idles refuses,
+  )
+
+  pub refused_undrawn : DrawsNothing p s
+  refused_undrawn = entered_undrawn b home false (λ pass. Replied pass request said) (λ pass. Wrote pass request said None) (refusal_entry b.shape request said) p q f s quiet took idles refuses
+
+  pub refused_unread : ReadsNothing p s
+  refused_unread = entered_unread b home false (λ pass. Replied pass request said) (λ pass. Wrote pass request said None) (refusal_entry b.shape request said) p q f s quiet took idles refuses
+
+  pub refused_takes : TakesOneBit home p s
+  refused_takes = entered_taking b home false (λ pass. Replied pass request said) (λ pass. Wrote pass request said None) (refusal_entry b.shape request said) p q f s quiet took idles refuses
+
+  -- as the answer to a request to store
+  pub refused_answer : (told : WriteAnswer) → reply_of_write told ≡ Some said → IsRefusal said → IsWriteAnswer b.shape request told p s
+  refused_answer told is refusal = by told said is refusal refused_replied
+    where
+      by : (told : WriteAnswer) (said : Reply) → reply_of_write told ≡ Some said → IsRefusal said → IsReplied request said p s → IsWriteAnswer b.shape request told p s
+      by write.NotStored said is refusal replied = subst (λ r. IsReplied request r p s) (sym (same_Some reply.NotStored said is)) replied
+      by write.Exists said is refusal replied = subst (λ r. IsReplied request r p s) (sym (same_Some reply.Exists said is)) replied
+      by write.NotFound said is refusal replied = subst (λ r. IsReplied request r p s) (sym (same_Some reply.NotFound said is)) replied
+      by write.Stored said is refusal replied = absurd (subst IsRefusal (sym (same_Some reply.Stored said is)) refusal)
+      by write.NoRoom said is refusal replied = absurd (none-some said is)
+      by write.BucketFull said is refusal replied = absurd (none-some said is)
+      by write.Busy said is refusal replied = absurd (none-some said is)

@@ -1,0 +1,207 @@
+-- The answers of a write that stored, and of one that found its bucket full.
+use Rattle.std.proofs.Common.{◌≡◌, ◌≢◌, ℕ, true, false, eqb, List, [], ◌∷◌, ◌++◌, ◌+◌, Some, None, refl, sym, ap, ◌∙◌, inl, inr, ⊎_elim, append_assoc, arith}
+use Rattle.std.proofs.lemmas.Bool.{cond-true, eq-eqb, ne_eqb}
+use Rattle.segword.specs.Row.{row_of}
+use Rattle.segmodel.specs.declared.entry.Entry.{Entry}
+use Rattle.segmodel.specs.declared.entry.Entry.TheVariants.{Wrote}
+use Rattle.segmodel.specs.declared.request.Request.{Request}
+use Rattle.segmodel.specs.declared.request.Reply.TheVariants.{Stored}
+use Rattle.segmodel.specs.Request.{key_of, value_of, adds_key}
+use Rattle.segmodel.specs.Places.{bucket_of}
+use Rattle.segmodel.specs.Cache.{standing}
+use Rattle.segmodel.specs.History.{after}
+use Rattle.segcore.specs.declared.event.Event.{Event}
+use Rattle.segcore.specs.declared.event.Event.TheVariants.{Freed}
+use Rattle.segcore.specs.Event as event
+use Rattle.segcore.specs.Count.{drew}
+use Rattle.segcore.specs.Bucket.{bucket_after}
+use Rattle.segcore.specs.Kind.{May, release}
+use Rattle.segcore.specs.Lawful.{NoneAt}
+use Rattle.segcore.proofs.KeyCounts.{wide}
+use Rattle.segcore.proofs.Orderly.{all_drawn_marked}
+use Rattle.segcore.proofs.Moments.{begins_on, marked_begins}
+use Rattle.segbase.specs.declared.board.Board.{Board}
+use Rattle.segbase.specs.declared.pass.Plain.{Plain}
+use Rattle.segbase.specs.declared.pass.Pass.{Pass}
+use Rattle.segbase.specs.Passes.{number, trace, marked, seen, IsPassOf, Moved, Did}
+use Rattle.segbase.specs.Passes as passes
+use Rattle.segbase.proofs.Moves.{moved_on, moved_then}
+use Rattle.segstore.specs.Rows.{fills}
+use Rattle.segstore.specs.Segments.{KeepsSegments}
+use Rattle.segstore.specs.Refilling.{Idles}
+use Rattle.segstore.proofs.Keeping.{same_plain, keeps_plain}
+use Rattle.segpass.specs.Quiet.{IsQuiet}
+use Rattle.segpass.specs.Calls.{memo, GoesOn, ChangesNothing, TakesOneBit, DrawsNothing, ReadsNothing, AddsEntry}
+use Rattle.segwrite.specs.Full.{IsFull, WasFull, GrowsFor}
+use Rattle.segwrite.specs.Writes.{UsesRow}
+use Rattle.segwrite.specs.FirstEmpty.{TookFirstEmpty}
+use Rattle.segpass.specs.Taking.{HasCleanBit, TookToWrite}
+use Rattle.segwrite.specs.Writing.{HasNoWord}
+use Rattle.segwrite.specs.Storing.{Stores, stores}
+use Rattle.segwrite.specs.Growing.{CannotGrow}
+use Rattle.segpass.proofs.Bits.{none_at_both}
+use Rattle.segwrite.proofs.Growing.{no_word}
+use Rattle.segpass.proofs.Draws.{undrawn}
+use Rattle.segwrite.proofs.Lengthening.{in_need_wider}
+use Rattle.segwrite.proofs.Rooms.{IsReady, DrawsOnce}
+use Rattle.segpass.proofs.Still.{AreStill}
+use Rattle.segpass.proofs.TakenBits.{both_no_tries}
+use Rattle.segwrite.proofs.FirstEmpty.{first_wider}
+use Rattle.segwrite.proofs.Filling.{fills_nowhere, fills_still, fills_undrawn, fills_untried, fills_seen}
+use Rattle.segpass.proofs.UnderBit.{moved_bucket, moved_bit}
+use Rattle.segpass.proofs.UnderWrite.{took_moved, took_clean, took_keeps, tries, tries_undrawn, write_goes_on, write_adds, write_drew, write_undrawn, write_unread, write_takes, still_both}
+
+-- ---- after the search
+
+module _ (b : Board) (bucket : ℕ) (p q f : Pass) (quiet : IsQuiet b p) (took : TookToWrite b bucket p q) (idles : Idles b q f) where
+  pub found_clean : HasCleanBit b f bucket
+  found_clean =
+      let clean = took_clean b bucket p q quiet took in let same = moved_bucket b [] q f bucket idles.moved clean.bit tt in
+      record { bit = moved_bit b [] q f bucket idles.moved clean.bit tt; unwritten = ap (λ u. u.written) same ∙ clean.unwritten; undrawn = ap (λ u. u.spare) same ∙ clean.undrawn }
+
+  pub found_plain : f.plain ≡ p.plain
+  found_plain = idles.plain ∙ took.plain
+
+  pub found_keeps : KeepsSegments b f
+  found_keeps = keeps_plain b [] q f idles.moved tt idles.plain (took_keeps b bucket p q quiet took)
+
+  pub may_free : May b.shape (trace f) (number f) (release bucket false None)
+  may_free = (found_clean.bit, found_clean.unwritten, found_clean.undrawn, tt)
+
+-- ---- no word is left for a new key
+
+is_full : (b : Board) (key : List ℕ) (f : Pass) → IsPassOf b f → HasCleanBit b f (bucket_of b.shape key) → HasNoWord b key f → CannotGrow b (bucket_of b.shape key) f → IsFull b.shape (marked f) key
+is_full b key f is clean none why =
+    let long = wide b.shape (trace f) (bucket_of b.shape key) is.lawful clean.undrawn in let count = all_drawn_marked (trace f) in record {
+      no_word = no_word b.shape (trace f) key is.lawful none.taken clean.undrawn none.absent;
+      last = ⊎_elim (λ longest. inl (omega (arith, long, longest))) (λ all. inr (count ∙ all)) why;
+    }
+
+module _ (b : Board) (key : List ℕ) (p q f s : Pass) (quiet : IsQuiet b p) (took : TookToWrite b (bucket_of b.shape key) p q) (idles : Idles b q f) (none : HasNoWord b key f) (why : CannotGrow b (bucket_of b.shape key) f)
+    (freed : Did b (Freed (number f) (bucket_of b.shape key) false ∷ []) f s) (free : (bucket_after b.shape (trace s) (bucket_of b.shape key)).holder ≡ None) (plain : s.plain ≡ f.plain) (same : memo s ≡ memo f) where
+  abbrev k : ℕ
+  k = bucket_of b.shape key
+
+  plain_back : s.plain ≡ p.plain
+  plain_back = plain ∙ found_plain b k p q f quiet took idles
+
+  memo_back : memo s ≡ memo p
+  memo_back = same ∙ (idles.memo ∙ took.memo)
+
+  pub full_goes_on : GoesOn b p s
+  full_goes_on = write_goes_on b k p q quiet took f s [] [] false idles.moved (λ other apart. tt) tt (λ h. refl) freed free memo_back
+      (ap (λ (x : Plain). x.locked) plain_back) (ap (λ (x : Plain). x.is_holding) plain_back)
+      (keeps_plain b (Freed (number f) k false ∷ []) f s freed.moved (tt, tt) plain (found_keeps b k p q f quiet took idles))
+
+  pub full_undrawn : DrawsNothing p s
+  full_undrawn = write_undrawn b k p q quiet took f s [] [] false idles.moved (λ other apart. tt) tt (λ h. refl) freed free tt
+
+  pub full_unread : ReadsNothing p s
+  full_unread = write_unread b k p q quiet took f s [] [] false idles.moved (λ other apart. tt) tt (λ h. refl) freed free
+
+  pub full_takes : TakesOneBit k p s
+  full_takes = write_takes b k p q quiet took f s [] [] false idles.moved (λ other apart. tt) tt (λ h. refl) freed free tt
+
+  pub full_answer : ChangesNothing p s × WasFull b.shape key (marked p) (marked s)
+  full_answer = (
+    record { entries = write_adds b k p q quiet took f s [] [] false idles.moved (λ other apart. tt) tt (λ h. refl) freed free; plain = plain_back; memo = memo_back },
+    (
+      marked f,
+      (
+        marked_begins (trace p) (trace f) (moved_on b (tries b k p q quiet took) p f (moved_then b (tries b k p q quiet took) [] p q f (took_moved b k p q quiet took) idles.moved)),
+        marked_begins (trace f) (trace s) (moved_on b (Freed (number f) k false ∷ []) f s freed.moved),
+      ),
+      is_full b key f idles.moved.pass (found_clean b k p q f quiet took idles) none why,
+    ),
+  )
+
+-- ---- stored
+
+uses_around : (segment : ℕ) (p f r s : Pass) → UsesRow segment f r → f.plain ≡ p.plain → s.plain ≡ r.plain → memo f ≡ memo p → memo s ≡ memo r → UsesRow segment p s
+uses_around segment p f r s u before behind m n =
+    let old = same_plain p f before in let new = same_plain r s behind in record {
+      current = (sym old.1 ∙ u.current.0, new.1 ∙ u.current.1);
+      used = λ used is. new.0.used segment ∙ u.used used (old.0.used segment ∙ is);
+      others = λ other apart. new.0.used other ∙ (u.others other apart ∙ old.0.used other);
+      states = λ other. new.0.state other ∙ (u.states other ∙ old.0.state other);
+      locked = ap (λ (x : Plain). x.locked) behind ∙ (u.locked ∙ ap (λ (x : Plain). x.locked) before);
+      is_holding = ap (λ (x : Plain). x.is_holding) behind ∙ (u.is_holding ∙ ap (λ (x : Plain). x.is_holding) before);
+      memo = n ∙ (u.memo ∙ m);
+    }
+
+module _ (b : Board) (request : Request) (segment row : ℕ) (p q f r s : Pass) (quiet : IsQuiet b p) (took : TookToWrite b (bucket_of b.shape (key_of request)) p q) (before : List Event) (ready : IsReady b (bucket_of b.shape (key_of request)) before q f)
+    (done : Stores b request segment row f r) (keeps : KeepsSegments b r) (uses : UsesRow segment f r)
+    (freed : Did b (Freed (number r) (bucket_of b.shape (key_of request)) true ∷ []) r s) (free : (bucket_after b.shape (trace s) (bucket_of b.shape (key_of request))).holder ≡ None) (plain : s.plain ≡ r.plain) (same : memo s ≡ memo r) where
+  abbrev home : ℕ
+  home = bucket_of b.shape (key_of request)
+
+  abbrev words : List ℕ
+  words = row_of (key_of request) (value_of request)
+
+  abbrev own : List Event
+  own = stores (number f) request segment row done.0 ++ before
+
+  abbrev entry : Entry
+  entry = Wrote (number f) request Stored (Some segment)
+
+  moved : Moved b own q r
+  moved = moved_then b before (stores (number f) request segment row done.0) q f r ready.moved done.1
+
+  elsewhere : (other : ℕ) → home ≢ other → NoneAt b.shape other own
+  elsewhere other apart = (ne_eqb home other apart, none_at_both b.shape other (fills (number f) segment row words 8) before (fills_nowhere b.shape other (number f) segment row words 8) (ready.elsewhere other apart))
+
+  still : AreStill own
+  still = (tt, still_both (fills (number f) segment row words 8) before (fills_still (number f) segment row words 8) ready.still)
+
+  adds : (h : List Event) → event.seen (own ++ h) ≡ (entry ∷ []) ++ event.seen h
+  adds h = ap (λ x. entry ∷ x) (ap event.seen (append_assoc (fills (number f) segment row words 8) before h) ∙ (fills_seen (number f) segment row words 8 (before ++ h) ∙ ready.silent h))
+
+  uses_all : UsesRow segment p s
+  uses_all = uses_around segment p f r s uses (ready.plain ∙ took.plain) plain (ready.memo ∙ took.memo) same
+
+  pub stored_goes_on : GoesOn b p s
+  stored_goes_on = write_goes_on b home p q quiet took r s own (entry ∷ []) true moved elsewhere still adds freed free
+      uses_all.memo uses_all.locked uses_all.is_holding (keeps_plain b (Freed (number r) home true ∷ []) r s freed.moved (tt, tt) plain keeps)
+
+  pub stored_answer : AddsEntry (Wrote (number p) request Stored (Some segment)) p s × UsesRow segment p s
+  stored_answer =
+      let one : number f ≡ number p = ready.moved.same ∙ (took_moved b home p q quiet took).same in (
+        write_adds b home p q quiet took r s own (entry ∷ []) true moved elsewhere still adds freed free
+            ∙ (cond-true (eqb (number f) (number p)) (entry ∷ passes.mine p) (passes.mine p) (eq-eqb (number f) (number p) one) ∙ ap (λ n. Wrote n request Stored (Some segment) ∷ passes.mine p) one),
+        uses_all,
+      )
+
+  pub stored_first : TookFirstEmpty b.shape request (number p) (trace p) (trace s)
+  stored_first = first_wider b.shape request (number f) (number p) (trace f) (trace r) (trace p) (trace s) (ready.moved.same ∙ (took_moved b home p q quiet took).same)
+      (begins_on (trace p) (trace q) (trace f) (moved_on b (tries b home p q quiet took) p q (took_moved b home p q quiet took)) (moved_on b before q f ready.moved)) (moved_on b (Freed (number r) home true ∷ []) r s freed.moved) done.2
+
+  pub stored_unread : ReadsNothing p s
+  stored_unread = write_unread b home p q quiet took r s own (entry ∷ []) true moved elsewhere still adds freed free
+
+  pub stored_takes : TakesOneBit home p s
+  stored_takes = write_takes b home p q quiet took r s own (entry ∷ []) true moved elsewhere still adds freed free
+      (tt, both_no_tries (fills (number f) segment row words 8) before (fills_untried (number f) segment row words 8) ready.untried)
+
+  -- what was drawn was drawn to make room
+  module _ (old : List Entry) (draws : DrawsOnce b.shape (key_of request) (number p) before old (trace q) (trace f)) (adds_new : standing (after b.shape old) (key_of request) ≡ None → adds_key request false ≡ true) where
+    abbrev since : List Event
+    since = tries b home p q quiet took ++ trace p
+
+    drew_before : (c : ℕ) → passes.drew s c ≡ drew (number p) c (before ++ since)
+    drew_before c = let storing = stores (number f) request segment row done.0 in
+        write_drew b home p q quiet took r s own (entry ∷ []) true moved elsewhere still adds freed free c
+        ∙ (ap (drew (number p) c) (append_assoc storing before since) ∙ undrawn (number p) c storing (before ++ since) (tt, fills_undrawn (number f) segment row words 8))
+
+    pub stored_grows : GrowsFor b.shape request p s
+    stored_grows = let tried = tries_undrawn b home p q quiet took in record {
+      others = λ c apart. drew_before c ∙ (draws.others c since apart ∙ tried c);
+      own = ⊎_elim
+          (λ none. inl (drew_before home ∙ (none since ∙ tried home)))
+          (λ one. inr (
+            drew_before home ∙ (one.0 since ∙ ap (λ n. n + 1) (tried home)),
+            adds_new one.1,
+            in_need_wider b.shape (key_of request) (number p) (trace q) (trace f) (trace p) (trace s) (moved_on b (tries b home p q quiet took) p q (took_moved b home p q quiet took))
+                (begins_on (trace f) (trace r) (trace s) (moved_on b _ f r done.1) (moved_on b _ r s freed.moved)) one.2,
+          ))
+          draws.at_most;
+    }

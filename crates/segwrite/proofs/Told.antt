@@ -1,0 +1,106 @@
+-- What a reply tells: that of a cache of one thread, at the moment of the call at which its entry came into the history.
+use Rattle.std.proofs.Common.{◌≡◌, ℕ, suc, ◌^◌, ◌<◌, ◌==◌, List, [], ◌∷◌, ◌++◌, length, Option, Some, None, refl, sym, ap, ◌∙◌, subst, ⊎_elim, arith}
+use Rattle.std.proofs.lemmas.Bool.{cases_Bool, cond-true, cond-false}
+use Rattle.std.proofs.lemmas.Option.{same_Some, none-some}
+use Rattle.segmodel.specs.declared.request.Request.{Request}
+use Rattle.segmodel.specs.declared.request.Request.TheVariants.{Set, Cas, Delete}
+use Rattle.segmodel.specs.declared.request.Reply.{Reply}
+use Rattle.segmodel.specs.declared.request.Reply.TheVariants as reply
+use Rattle.segmodel.specs.declared.answer.WriteAnswer.{WriteAnswer}
+use Rattle.segmodel.specs.declared.answer.WriteAnswer.TheVariants as write
+use Rattle.segmodel.specs.declared.answer.DeleteAnswer.{DeleteAnswer}
+use Rattle.segmodel.specs.declared.answer.DeleteAnswer.TheVariants as delete
+use Rattle.segmodel.specs.declared.entry.Entry.{Entry}
+use Rattle.segmodel.specs.declared.entry.Entry.TheVariants.{Wrote}
+use Rattle.segmodel.specs.Cache.{reads_version}
+use Rattle.segmodel.specs.History.{after, Begins, IsLegal, pass_of, mine}
+use Rattle.segmodel.specs.Serving.{reply_of_write, reply_of_delete}
+use Rattle.segmodel.proofs.LawLemmas.{earlier_legal, cas_fails}
+use Rattle.segcore.proofs.Standing.{legal}
+use Rattle.segbase.specs.declared.board.Board.{Board}
+use Rattle.segbase.specs.declared.pass.Pass.{Pass}
+use Rattle.segbase.specs.Passes.{number, trace, seen}
+use Rattle.segpass.specs.Calls.{GoesOn, AddsEntry}
+use Rattle.segwrite.specs.Writes.{IsWriteAnswer, IsSetAnswer, IsDeleteAnswer, Writes, Deletes}
+use Rattle.segwrite.specs.Telling.{IsTold, WasTold, cas_reply}
+
+-- ---- where an entry came in
+
+-- of the entries of one pass there is one more than before: the history goes on from one in which it came in last
+pub came_in : (pass : ℕ) (entry : Entry) (more old : List Entry) → mine pass (more ++ old) ≡ entry ∷ mine pass old → (history : List Entry) × Begins old history × Begins (entry ∷ history) (more ++ old)
+came_in pass entry [] old one = absurd (let same : length (mine pass old) ≡ suc (length (mine pass old)) = ap length one in omega (arith, same))
+came_in pass entry (e ∷ more) old one = ⊎_elim
+    (λ t.
+    let same = sym (cond-true (pass_of e == pass) (e ∷ mine pass (more ++ old)) (mine pass (more ++ old)) t) ∙ one in
+    (more ++ old, (more, refl), ([], ap (λ l. first l ∷ (more ++ old)) same)))
+    (λ f.
+    let inner = came_in pass entry more old (sym (cond-false (pass_of e == pass) (e ∷ mine pass (more ++ old)) (mine pass (more ++ old)) f) ∙ one) in
+    (inner.0, inner.1, (e ∷ inner.2.0, ap (λ l. e ∷ l) inner.2.1)))
+    (cases_Bool (pass_of e == pass))
+  where
+    first : List Entry → Entry
+    first [] = entry
+    first (e ∷ l) = e
+
+-- ---- what the cache replied there
+
+pub told_at : (b : Board) (request : Request) (said : Reply) (segment : Option ℕ) (p q : Pass) → GoesOn b p q → AddsEntry (Wrote (number p) request said segment) p q
+    → (history : List Entry) × IsTold b.shape (number p) request said segment (seen p) (seen q) history
+told_at b request said segment p q on adds =
+    let z = b.shape in let entry = Wrote (number p) request said segment in
+    let one : mine (number p) (on.seen.0 ++ seen p) ≡ entry ∷ mine (number p) (seen p) = ap (mine (number p)) (sym on.seen.1) ∙ subst (λ n. mine n (seen q) ≡ entry ∷ mine (number p) (seen p)) on.same adds in
+    let came = came_in (number p) entry on.seen.0 (seen p) one in
+    let now = subst (Begins (entry ∷ came.0)) (sym on.seen.1) came.2 in
+    let lawful = legal z (trace q) on.quiet.pass.lawful in
+    (came.0, record { since = came.1; entered = now; replied = (earlier_legal z (entry ∷ came.0) (seen q) now lawful).1.0 })
+
+-- a set is replied Stored alone
+pub stores_always : (b : Board) (key value : List ℕ) (told : WriteAnswer) (p q : Pass) → Writes b (Set key value) told p q → IsSetAnswer told
+stores_always b key value told p q w = by told w.answer
+  where
+    other : (said : Reply) → AddsEntry (Wrote (number p) (Set key value) said None) p q → said ≡ reply.Stored
+    other said adds = (told_at b (Set key value) said None p q w.on adds).1.replied
+
+    by : (told : WriteAnswer) → IsWriteAnswer b.shape (Set key value) told p q → IsSetAnswer told
+    by write.NotStored answer = let e : reply.NotStored ≡ reply.Stored = other reply.NotStored answer.0 in cc
+    by write.Exists answer = let e : reply.Exists ≡ reply.Stored = other reply.Exists answer.0 in cc
+    by write.NotFound answer = let e : reply.NotFound ≡ reply.Stored = other reply.NotFound answer.0 in cc
+    by write.Stored answer = tt
+    by write.NoRoom answer = tt
+    by write.BucketFull answer = tt
+    by write.Busy answer = tt
+
+-- the entry of an answer that tells a reply
+adds_reply : (b : Board) (request : Request) (told : WriteAnswer) (said : Reply) (p q : Pass) → IsWriteAnswer b.shape request told p q → reply_of_write told ≡ Some said → (segment : Option ℕ) × AddsEntry (Wrote (number p) request said segment) p q
+adds_reply b request write.Stored said p q answer is = (Some answer.0, subst (λ r. AddsEntry (Wrote (number p) request r (Some answer.0)) p q) (same_Some reply.Stored said is) answer.1)
+adds_reply b request write.NotStored said p q answer is = (None, subst (λ r. AddsEntry (Wrote (number p) request r None) p q) (same_Some reply.NotStored said is) answer.0)
+adds_reply b request write.Exists said p q answer is = (None, subst (λ r. AddsEntry (Wrote (number p) request r None) p q) (same_Some reply.Exists said is) answer.0)
+adds_reply b request write.NotFound said p q answer is = (None, subst (λ r. AddsEntry (Wrote (number p) request r None) p q) (same_Some reply.NotFound said is) answer.0)
+adds_reply b request write.NoRoom said p q answer is = absurd (none-some said is)
+adds_reply b request write.BucketFull said p q answer is = absurd (none-some said is)
+adds_reply b request write.Busy said p q answer is = absurd (none-some said is)
+
+pub write_told : (b : Board) (request : Request) (told : WriteAnswer) (said : Reply) (p q : Pass) → Writes b request told p q → reply_of_write told ≡ Some said → WasTold b.shape (number p) request said (seen p) (seen q)
+write_told b request told said p q w is = let added = adds_reply b request told said p q w.answer is in (added.0, told_at b request said added.0 p q w.on added.1)
+
+pub delete_told : (b : Board) (key : List ℕ) (told : DeleteAnswer) (said : Reply) (p q : Pass) → Deletes b key told p q → reply_of_delete told ≡ Some said → WasTold b.shape (number p) (Delete key) said (seen p) (seen q)
+delete_told b key told said p q d is = (None, told_at b (Delete key) said None p q d.on (by told d.answer is))
+  where
+    by : (told : DeleteAnswer) → IsDeleteAnswer b.shape key told p q → reply_of_delete told ≡ Some said → AddsEntry (Wrote (number p) (Delete key) said None) p q
+    by delete.Deleted answer is = subst (λ r. AddsEntry (Wrote (number p) (Delete key) r None) p q) (same_Some reply.Deleted said is) answer.0
+    by delete.NotFound answer is = subst (λ r. AddsEntry (Wrote (number p) (Delete key) r None) p q) (same_Some reply.NotFound said is) answer.0
+    by delete.Busy answer is = absurd (none-some said is)
+
+-- ---- the version law
+
+module _ (b : Board) (key read value : List ℕ) (version : ℕ) (told : WriteAnswer) (said : Reply) (p q : Pass) (few : b.shape.first_version < 2 ^ 32) (w : Writes b (Cas key value version) told p q) (is : reply_of_write told ≡ Some said) where
+  abbrev there : WasTold b.shape (number p) (Cas key value version) said (seen p) (seen q)
+  there = write_told b (Cas key value version) told said p q w is
+
+  legal_there : IsLegal b.shape there.1.0
+  legal_there =
+      let z = b.shape in let entry = Wrote (number p) (Cas key value version) said there.0 in
+      (earlier_legal z (entry ∷ there.1.0) (seen q) there.1.1.entered (legal z (trace q) w.on.quiet.pass.lawful)).0
+
+  pub cas_told : (before : List Entry) → reads_version b.shape (after b.shape before) key ≡ Some (read, version) → Begins before there.1.0 → said ≡ cas_reply b.shape key before there.1.0
+  cas_told before got begins = there.1.1.replied ∙ cas_fails b.shape before there.1.0 key read value version few legal_there begins got

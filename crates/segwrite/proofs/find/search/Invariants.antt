@@ -1,0 +1,15 @@
+use Rattle.std.proofs.Common.{◌≡◌, ◌+◌, ◌-◌, ◌*◌, ◌/◌}
+use Rattle.segcore.specs.Bucket.{bucket_after}
+use Rattle.segbase.specs.Passes.{trace}
+use Rattle.segbase.specs.Spots.{position}
+use Rattle.segwrite.proofs.Searching.{Searching}
+use Rattle.segwrite.proofs.find.search.Given as goal
+
+abbrev pub decreases-loop-place : goal.decreases-loop-place
+decreases-loop-place l = 8 * (bucket_after l.board.shape (trace l.fn.pass) l.bucket).chained + 8 - position l.board.shape (trace l.pass) l.place
+
+abbrev pub invariant-loop-place : goal.invariant-loop-place
+invariant-loop-place l = record {
+  searching : Searching l.board l.key l.fn.pass l.pass l.place l.empty;
+  deep : l.buckets ≡ position l.board.shape (trace l.pass) l.place / 8 + 1;
+}

@@ -1,0 +1,21 @@
+use Rattle.std.proofs.Common.{Ok, Err, subst}
+use Rattle.segwrite.specs.Growing.{home_at, TriesToJoin}
+use Rattle.segwrite.proofs.Joining.{joining_first, home_still, joining_later, joins_now}
+use Rattle.segwrite.proofs.grow.join.Goals as goal
+
+pub loop-found-init : goal.loop-found-init
+loop-found-init c = let b = c.args.board.now in let r = c.requires in
+    joining_first b (home_at b c.args.place c.args.pass.now) c.args.overflow c.args.place c.args.word c.args.pass.now r.pass r.spare r.last
+
+pub loop-found-preserved : goal.loop-found-preserved
+loop-found-preserved c = let b = c.args.board.now in let l = c.loop-found in let bucket = home_at b c.args.place c.args.pass.now in let o = c.args.overflow in
+    let still = home_still b bucket o c.args.place l.old c.args.pass.now l.pass l.pass l.invariant in
+    joining_later b bucket o c.args.place l.old c.args.pass.now l.pass c.try_to_join.new.pass l.invariant c.in-Err.found
+    (subst (λ k. TriesToJoin b k o c.args.place l.old (Err c.in-Err.found) l.pass c.try_to_join.new.pass) still c.in-Err.ensures.tries)
+
+pub returns : goal.returns
+returns c = let b = c.args.board.now in let l = c.loop-found in let bucket = home_at b c.args.place c.args.pass.now in let o = c.args.overflow in
+    let still = home_still b bucket o c.args.place l.old c.args.pass.now l.pass l.pass l.invariant in record {
+      joins = joins_now b bucket o c.args.place l.old c.args.pass.now l.pass c.try_to_join.new.pass l.invariant c.in_default.field-0
+          (subst (λ k. TriesToJoin b k o c.args.place l.old (Ok c.in_default.field-0) l.pass c.try_to_join.new.pass) still c.in_default.ensures.tries);
+    }

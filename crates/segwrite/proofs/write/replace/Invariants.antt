@@ -1,0 +1,5 @@
+use Rattle.segwrite.specs.Refusing.{request_of}
+use Rattle.segwrite.proofs.write.replace.Given as goal
+
+abbrev pub ghost-write : goal.ghost-write
+ghost-write a = request_of a.when a.key.now a.value.now

@@ -1,0 +1,75 @@
+use Rattle.std.proofs.Common.{◌≡◌, ℕ, List, refl, sym, ap, ◌∙◌, subst, arith}
+use Rattle.segword.specs.Bytes.{IsKey, IsValue}
+use Rattle.segword.specs.Row.{row_of}
+use Rattle.segmodel.specs.declared.request.Request.{Request}
+use Rattle.segmodel.specs.Places.{bucket_of, tag_of}
+use Rattle.segmodel.specs.Request.{key_of, value_of}
+use Rattle.segcore.specs.Row.{Holds, row_after}
+use Rattle.segcore.proofs.Exact.{tagged}
+use Rattle.segcore.proofs.Limits.{low_row, low_segment}
+use Rattle.segbase.specs.declared.board.Board.{Board}
+use Rattle.segbase.specs.declared.pass.Pass.{Pass}
+use Rattle.segbase.specs.Passes.{number, trace, Moved}
+use Rattle.segstore.specs.Rows.{fills}
+use Rattle.segstore.proofs.Keeping.{next_is_own}
+use Rattle.segwrite.proofs.Filling.{fills_nowhere}
+use Rattle.segwrite.proofs.Storing.{target_later, clean_later, reply_later, may_store, has_written, stores_all, keeps_all}
+use Rattle.segwrite.proofs.write.store.Goals as goal
+
+pub fill_row-requires-clause-own : goal.fill_row-requires-clause-own
+fill_row-requires-clause-own g c = let r = c.requires in
+    next_is_own c.args.board.now c.args.pass.now c.args.segment c.args.row r.0 r.1.0 r.1.1.0.used r.1.1.0.fits
+
+pub invariant_of-item : goal.invariant_of-item
+invariant_of-item g c = let b = c.args.board.now in let r = c.requires in
+    let own = next_is_own b c.args.pass.now c.args.segment c.args.row r.0 r.1.0 r.1.1.0.used r.1.1.0.fits in
+    let tag = tagged c.args.key.now in let is = r.1.1.1.1.1.0 in record {
+      tag_above_zero = omega (arith, tag.0, is);
+      tag_in_range = omega (arith, tag.1, is);
+      freq_in_range = omega arith;
+      seg_in_range = low_segment b.shape c.args.segment r.0.valid own.0;
+      row_in_range = low_row b.shape c.args.row r.0.valid own.1;
+    }
+
+-- what was written is the request's pair
+pair_of : (b : Board) (request : Request) (key value : List ℕ) (segment row : ℕ) (p q : Pass) → key_of request ≡ key → value_of request ≡ value
+    → Moved b (fills (number p) segment row (row_of key value) 8) p q → Holds (row_after (trace q) segment row) key value → IsKey key → IsValue value
+    → Moved b (fills (number p) segment row (row_of (key_of request) (value_of request)) 8) p q × Holds (row_after (trace q) segment row) (key_of request) (value_of request) × IsKey (key_of request) × IsValue (value_of request)
+pair_of b request key value segment row p q k v m holds is_key is_value =
+    subst (λ x. Moved b (fills (number p) segment row (row_of x (value_of request)) 8) p q × Holds (row_after (trace q) segment row) x (value_of request) × IsKey x × IsValue (value_of request)) (sym k)
+    (subst (λ y. Moved b (fills (number p) segment row (row_of key y) 8) p q × Holds (row_after (trace q) segment row) key y × IsKey key × IsValue y) (sym v) (m, holds, is_key, is_value))
+
+pub link-requires : goal.link-requires
+link-requires g c = let b = c.args.board.now in let r = c.requires in let w = c.fill_row.ensures in
+    let s = c.args.segment in let row = c.args.row in
+    let asks = r.1.1.1.0 in let clean = r.1.1.1.1.1.1.0 in let found = r.1.1.1.1.1.1.1 in
+    let pair = pair_of b g.request c.args.key.now c.args.value.now s row _ _ asks.of.0 asks.of.1 w.moved w.holds r.1.1.1.1.0 w.valid in
+    let own = fills (number c.args.pass.now) s row (row_of (key_of g.request) (value_of g.request)) 8 in
+    let none = fills_nowhere b.shape (bucket_of b.shape (key_of g.request)) (number c.args.pass.now) s row (row_of (key_of g.request) (value_of g.request)) 8 in
+    let target = target_later b own _ _ (key_of g.request) pair.0 r.0 clean.bit none c.args.target found in
+    let clean_now = clean_later b own _ _ (key_of g.request) pair.0 r.0 clean.bit none clean in
+    let stored = reply_later b own _ _ (key_of g.request) pair.0 r.0 clean.bit none g.request refl asks.stored in
+    (pair.0.pass, ((r.1.1.1.1.1.0 ∙ ap tag_of (sym asks.of.0), refl), (target, may_store b g.request c.args.target s row _ clean_now target stored w.own pair.1 pair.2 pair.3)))
+
+pub returns-clause-stores : goal.returns-clause-stores
+returns-clause-stores g c = let b = c.args.board.now in let r = c.requires in let w = c.fill_row.ensures in let u = c.set_used.ensures in
+    let asks = r.1.1.1.0 in let clean = r.1.1.1.1.1.1.0 in
+    let pair = pair_of b g.request c.args.key.now c.args.value.now c.args.segment c.args.row _ _ asks.of.0 asks.of.1 w.moved w.holds r.1.1.1.1.0 w.valid in
+    let own = fills (number c.args.pass.now) c.args.segment c.args.row (row_of (key_of g.request) (value_of g.request)) 8 in
+    let none = fills_nowhere b.shape (bucket_of b.shape (key_of g.request)) (number c.args.pass.now) c.args.segment c.args.row (row_of (key_of g.request) (value_of g.request)) 8 in
+    stores_all b g.request c.args.target c.args.segment c.args.row _ _ _ _ r.1.1.0 pair.0 c.link.ensures.did u.seat u.same.owner
+    (clean_later b own _ _ (key_of g.request) pair.0 r.0 clean.bit none clean) (target_later b own _ _ (key_of g.request) pair.0 r.0 clean.bit none c.args.target r.1.1.1.1.1.1.1)
+
+pub returns-clause-segments : goal.returns-clause-segments
+returns-clause-segments g c = let b = c.args.board.now in let r = c.requires in let w = c.fill_row.ensures in let u = c.set_used.ensures in
+    let asks = r.1.1.1.0 in
+    let pair = pair_of b g.request c.args.key.now c.args.value.now c.args.segment c.args.row _ _ asks.of.0 asks.of.1 w.moved w.holds r.1.1.1.1.0 w.valid in
+    keeps_all b g.request c.args.target c.args.segment c.args.row _ _ _ _ r.1.1.0 pair.0 c.link.ensures.did u.seat u.same.owner w.plain c.link.ensures.same.0 u.used u.others u.state u.same.current r.1.0
+
+pub returns-clause-bit : goal.returns-clause-bit
+returns-clause-bit g c = let b = c.args.board.now in let r = c.requires in let w = c.fill_row.ensures in let u = c.set_used.ensures in
+    let asks = r.1.1.1.0 in let clean = r.1.1.1.1.1.1.0 in
+    let pair = pair_of b g.request c.args.key.now c.args.value.now c.args.segment c.args.row _ _ asks.of.0 asks.of.1 w.moved w.holds r.1.1.1.1.0 w.valid in
+    let own = fills (number c.args.pass.now) c.args.segment c.args.row (row_of (key_of g.request) (value_of g.request)) 8 in
+    let none = fills_nowhere b.shape (bucket_of b.shape (key_of g.request)) (number c.args.pass.now) c.args.segment c.args.row (row_of (key_of g.request) (value_of g.request)) 8 in
+    has_written b g.request c.args.target c.args.segment c.args.row _ _ c.link.ensures.did (clean_later b own _ _ (key_of g.request) pair.0 r.0 clean.bit none clean) _ u.seat

@@ -1,0 +1,148 @@
+-- How a chain grows under its bucket's bit: an overflow bucket is drawn, the item of the chain's last word is copied to word 1 of it, and that word then leads on to it.
+use Rattle.std.specs.Prelude.{◌≡◌, ℕ, ◌+◌, ◌*◌, ◌<◌, ◌⊎◌, List, [], ◌∷◌, ◌++◌, map, false, Option, Some, None, Result, Ok, Err}
+use Rattle.segmodel.specs.Places.{bucket_of}
+use Rattle.segmodel.specs.History.{after, IsSameAt}
+use Rattle.segcore.specs.declared.event.Event.{Event}
+use Rattle.segcore.specs.declared.event.Event.TheVariants.{Drew, Put, Chained}
+use Rattle.segcore.specs.Bucket.{Slot, nothing, item, Bucket, last, bucket_after}
+use Rattle.segcore.specs.Filled.{HasNoEmptyWord}
+use Rattle.segcore.specs.ItemWord.{IsWordOf}
+use Rattle.segcore.specs.Kind.{HasBit}
+use Rattle.segcore.specs.Overflow.{drawn_in, home, home_of}
+use Rattle.segbase.specs.declared.board.Board.{Board}
+use Rattle.segbase.specs.declared.pass.Pass.{Pass}
+use Rattle.segbase.specs.declared.place.Place.{Place}
+use Rattle.segbase.specs.Passes.{number, trace, seen, Moved, Did}
+use Rattle.segbase.specs.Spots.{position, home_bucket}
+use Rattle.segbase.specs.Steps.{depth_to_draw}
+use Rattle.segstore.specs.Refilling.{Idles}
+use Rattle.segwrite.specs.declared.find.ChainEnd.{ChainEnd}
+use Rattle.segwrite.specs.declared.find.Target.{Target}
+use Rattle.segwrite.specs.declared.find.Found.{Found}
+use Rattle.segwrite.specs.declared.find.Found.TheVariants.{Word, Full}
+use Rattle.segpass.specs.Calls.{memo}
+use Rattle.segwrite.specs.Full.{DrewInNeed}
+use Rattle.segwrite.specs.FirstEmpty.{AreTakenBefore}
+use Rattle.segpass.specs.Taking.{HasCleanBit}
+use Rattle.segwrite.specs.Writing.{IsInChain, IsEarlier, IsAbsent, IsTarget, HasNoWord}
+
+-- ---- the end of a chain
+
+-- a bucket and its chain, as the pass has seen them
+abbrev pub bucket_in : Board → ℕ → Pass → Bucket
+bucket_in b bucket p = bucket_after b.shape (trace p) bucket
+
+-- the place is that of the last word of the bucket's chain, an item stands there, and the word is one that it had
+pub record IsLast (b : Board) (bucket : ℕ) (place : Place) (word : ℕ) (p : Pass) : Type 0 where
+  pub chain : IsInChain b bucket place p
+  pub ends : position b.shape (trace p) place ≡ last (bucket_in b bucket p)
+  pub named : Slot
+  pub here : (bucket_in b bucket p).items (last (bucket_in b bucket p)) ≡ item named
+  pub is : IsWordOf named word
+  pub earlier : IsEarlier b place word p
+
+-- so a search finds it, and it counts the buckets of the chain
+pub record IsChainEnd (b : Board) (bucket : ℕ) (end : ChainEnd) (p : Pass) : Type 0 where
+  pub last : IsLast b bucket end.place end.word p
+  pub buckets : end.buckets ≡ (bucket_in b bucket p).chained + 1
+
+-- what a search comes to: a word for the key; or the end of the chain, where the key is absent and no word is empty
+abbrev pub Searches : Board → List ℕ → Found → Pass → Type 0
+Searches b key (Word target) p = IsTarget b key target p
+Searches b key (Full end) p = HasNoWord b key p × IsChainEnd b (bucket_of b.shape key) end p
+
+abbrev pub target_of : Found → Option Target
+target_of (Word target) = Some target
+target_of (Full end) = None
+
+abbrev pub or_end : ChainEnd → Option Target → Found
+or_end end None = Full end
+or_end end (Some target) = Word target
+
+-- the bucket whose chain a place is in
+abbrev pub home_at : Board → Place → Pass → ℕ
+home_at b place p = home_bucket b.shape (trace p) place
+
+-- ---- drawing
+
+-- the first overflow bucket that nobody had drawn is drawn; or all are
+abbrev pub Draws : Board → ℕ → Option ℕ → Pass → Pass → Type 0
+Draws b bucket None p q = Idles b p q × (drawn_in (trace q) ≡ b.shape.overflow)
+Draws b bucket (Some overflow) p q = Did b (Drew (number p) bucket (depth_to_draw b bucket p) overflow ∷ []) p q × (q.plain ≡ p.plain) × (memo q ≡ memo p)
+
+-- the pass has the bit, under which nothing was written, and this overflow bucket waits to join the chain, none of whose words is empty
+pub record HasSpare (b : Board) (bucket overflow : ℕ) (p : Pass) : Type 0 where
+  pub bit : HasBit b.shape (trace p) (number p) bucket
+  pub unwritten : (bucket_in b bucket p).written ≡ false
+  pub spare : (bucket_in b bucket p).spare ≡ Some overflow
+  pub full : HasNoEmptyWord (bucket_in b bucket p)
+
+-- ---- joining
+
+-- the pass did just this by itself; the keys of the bucket stand as they stood, and its version is the same
+pub record Prepares (b : Board) (own : List Event) (bucket : ℕ) (p q : Pass) : Type 0 where
+  pub moved : Moved b own p q
+  pub plain : q.plain ≡ p.plain
+  pub memo : memo q ≡ memo p
+  pub keys : (key : List ℕ) → bucket_of b.shape key ≡ bucket → IsSameAt b.shape (after b.shape (seen p)) (after b.shape (seen q)) key
+
+-- the overflow bucket is the last of the chain, and its word 2 is the first one that is empty
+pub record HasJoined (b : Board) (bucket overflow : ℕ) (p : Pass) : Type 0 where
+  pub clean : HasCleanBit b p bucket
+  pub home : home_of (trace p) overflow ≡ Some (home bucket (bucket_in b bucket p).chained)
+  pub empty : (bucket_in b bucket p).items (8 * (bucket_in b bucket p).chained + 2) ≡ nothing
+  pub before : AreTakenBefore (bucket_in b bucket p) (8 * (bucket_in b bucket p).chained + 2)
+
+-- word 1 of the overflow bucket was stored for the bucket so often, with these words
+unfoldable pub puts : ℕ → ℕ → List ℕ → List Event
+puts pass bucket words = map (Put pass bucket) words
+
+-- after the last of them the overflow bucket joined the chain
+abbrev pub joins : ℕ → ℕ → ℕ → List ℕ → List Event
+joins pass bucket overflow words = Chained pass bucket overflow ∷ puts pass bucket words
+
+-- one try: it joined; or the item of the last word has a higher frequency than the word that was copied
+abbrev pub TriesToJoin : Board → ℕ → ℕ → Place → ℕ → Result (Unit {0}) ℕ → Pass → Pass → Type 0
+TriesToJoin b bucket overflow place word (Ok done) p q = Prepares b (joins (number p) bucket overflow (word ∷ [])) bucket p q × HasJoined b bucket overflow q
+TriesToJoin b bucket overflow place word (Err found) p q =
+    Prepares b (puts (number p) bucket (word ∷ [])) bucket p q × HasSpare b bucket overflow q × IsLast b bucket place found q × (word < found)
+
+abbrev pub Joins : Board → ℕ → ℕ → Pass → Pass → Type 0
+Joins b bucket overflow p q = (words : List ℕ) × Prepares b (joins (number p) bucket overflow words) bucket p q × HasJoined b bucket overflow q
+
+-- ---- growing
+
+-- the chain has four buckets, or no overflow bucket is left
+abbrev pub CannotGrow : Board → ℕ → Pass → Type 0
+CannotGrow b bucket p = ((bucket_in b bucket p).chained ≡ 3) ⊎ (drawn_in (trace p) ≡ b.shape.overflow)
+
+-- an overflow bucket was drawn, and joined the chain
+abbrev pub lengthens : ℕ → ℕ → ℕ → ℕ → List ℕ → List Event
+lengthens pass bucket depth overflow words = joins pass bucket overflow words ++ Drew pass bucket depth overflow ∷ []
+
+-- an overflow bucket was drawn and joined the chain: its word 2 is free for a key that is absent, which had no word before
+pub record Lengthens (b : Board) (bucket : ℕ) (target : Target) (p q : Pass) : Type 0 where
+  pub depth : ℕ
+  pub overflow : ℕ
+  pub words : List ℕ
+  pub prepares : Prepares b (lengthens (number p) bucket depth overflow words) bucket p q
+  pub clean : HasCleanBit b q bucket
+  pub second : target.place ≡ record { bucket = b.shape.buckets + overflow; word = 2 }
+  pub free : (key : List ℕ) → bucket_of b.shape key ≡ bucket → IsAbsent b key p → IsTarget b key target q
+  pub could : (key : List ℕ) → bucket_of b.shape key ≡ bucket → IsAbsent b key p → DrewInNeed b.shape key (number p) (trace p) (trace q)
+
+abbrev pub Grows : Board → ℕ → Option Target → Pass → Pass → Type 0
+Grows b bucket None p q = Idles b p q × CannotGrow b bucket q
+Grows b bucket (Some target) p q = Lengthens b bucket target p q
+
+-- ---- room for a key
+
+-- where a search found no word empty, none is, and the end of the chain is where it was
+abbrev pub IsAsFound : Board → ℕ → Found → Pass → Type 0
+IsAsFound b bucket (Word target) p = Unit {0}
+IsAsFound b bucket (Full end) p = HasNoEmptyWord (bucket_in b bucket p) × IsChainEnd b bucket end p
+
+-- the word that a search found serves the key; or the chain grew, where it could
+abbrev pub MakesRoom : Board → ℕ → Found → Option Target → Pass → Pass → Type 0
+MakesRoom b bucket (Word target) room p q = (room ≡ Some target) × Idles b p q
+MakesRoom b bucket (Full end) room p q = Grows b bucket room p q

@@ -1,0 +1,8 @@
+pub mod FirstEmpty
+pub mod Full
+pub mod Growing
+pub mod Refusing
+pub mod Storing
+pub mod Telling
+pub mod Writes
+pub mod Writing

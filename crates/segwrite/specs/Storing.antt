@@ -1,0 +1,42 @@
+-- What storing under a bucket's bit leaves, before the bit is given back.
+use Rattle.std.specs.Prelude.{◌≡◌, ℕ, ◌<◌, true, List, ◌∷◌, Some, None}
+use Rattle.segword.specs.Row.{row_of}
+use Rattle.segmodel.specs.declared.request.Request.{Request}
+use Rattle.segmodel.specs.declared.request.Reply.TheVariants.{Stored}
+use Rattle.segmodel.specs.Request.{key_of, value_of}
+use Rattle.segmodel.specs.Cache.{reply_in}
+use Rattle.segmodel.specs.History.{after}
+use Rattle.segcore.specs.declared.event.Event.{Event}
+use Rattle.segcore.specs.declared.event.Event.TheVariants.{Linked}
+use Rattle.segcore.specs.Bucket.{bucket_after}
+use Rattle.segcore.specs.Kind.{HasBit}
+use Rattle.segbase.specs.declared.board.Board.{Board}
+use Rattle.segbase.specs.declared.pass.Pass.{Pass}
+use Rattle.segbase.specs.Passes.{number, trace, seen, Moved}
+use Rattle.segbase.specs.Plain.{current_of, used_of}
+use Rattle.segstore.specs.Rows.{fills}
+use Rattle.segwrite.specs.FirstEmpty.{TookFirstEmpty}
+
+-- the row is the next one of the pass's current segment
+pub record IsNextRow (b : Board) (segment row : ℕ) (p : Pass) : Type 0 where
+  pub current : current_of p ≡ Some segment
+  pub used : used_of p segment ≡ Some row
+  pub fits : row < b.shape.rows
+
+-- the request is one to store this pair, and would be replied Stored now
+pub record Requests (b : Board) (request : Request) (key value : List ℕ) (p : Pass) : Type 0 where
+  pub of : (key_of request ≡ key) × (value_of request ≡ value)
+  pub stored : Stored ≡ reply_in b.shape (after b.shape (seen p)) request
+
+-- the row was written, and an item word then named it: for a new key the first that was empty
+abbrev pub stores : ℕ → Request → ℕ → ℕ → ℕ → List Event
+stores pass request segment row position = Linked pass request segment row position ∷ fills pass segment row (row_of (key_of request) (value_of request)) 8
+
+abbrev pub Stores : Board → Request → ℕ → ℕ → Pass → Pass → Type 0
+Stores b request segment row p q = (position : ℕ) × Moved b (stores (number p) request segment row position) p q × TookFirstEmpty b.shape request (number p) (trace p) (trace q)
+
+-- the pass has the bit, and something was written under it
+pub record HasWritten (b : Board) (p : Pass) (bucket : ℕ) : Type 0 where
+  pub bit : HasBit b.shape (trace p) (number p) bucket
+  pub written : (bucket_after b.shape (trace p) bucket).written ≡ true
+  pub undrawn : (bucket_after b.shape (trace p) bucket).spare ≡ None

@@ -1,0 +1,82 @@
+-- The word of a key's chain that a write of the key changes.
+use Rattle.std.specs.Prelude.{◌≡◌, ◌≢◌, ℕ, ◌+◌, ◌<◌, ◌≤◌, ◌==◌, ◌⊎◌, List, true, is_some, Option, Some, None, MatchOption, if◌then◌else◌}
+use Rattle.segword.specs.declared.shape.Shape.{Shape}
+use Rattle.segword.specs.ChainWord.{chain_word}
+use Rattle.segword.specs.SameItem.{IsSameItem}
+use Rattle.segmodel.specs.Places.{bucket_of}
+use Rattle.segmodel.specs.Cache.{standing}
+use Rattle.segmodel.specs.History.{after}
+use Rattle.segcore.specs.Bucket.{bucket_after}
+use Rattle.segcore.specs.Filled.{HasNoEmptyWord}
+use Rattle.segcore.specs.Word.{word, IsItemAt}
+use Rattle.segbase.specs.declared.board.Board.{Board}
+use Rattle.segbase.specs.declared.pass.Pass.{Pass}
+use Rattle.segbase.specs.declared.place.Place.{Place}
+use Rattle.segbase.specs.Passes.{trace, seen}
+use Rattle.segbase.specs.Spots.{cell_at, position, IsPlace}
+use Rattle.segbase.specs.Steps.{IsFree, HasItemOf}
+use Rattle.segwrite.specs.declared.find.Target.{Target}
+use Rattle.segwrite.specs.FirstEmpty.{AreTakenBefore}
+
+-- the place is an item word of the bucket's chain
+pub record IsInChain (b : Board) (bucket : ℕ) (place : Place) (p : Pass) : Type 0 where
+  pub in_table : IsPlace b.shape place
+  pub at : IsItemAt b.shape (trace p) bucket (position b.shape (trace p) place) (cell_at b.shape place)
+
+-- the word is one that the item of this place had: its frequency may have risen since
+abbrev pub IsEarlier : Board → Place → ℕ → Pass → Type 0
+IsEarlier b place old p = IsSameItem old (word b.shape (trace p) (cell_at b.shape place)) × (old ≤ word b.shape (trace p) (cell_at b.shape place))
+
+-- the key doesn't stand
+abbrev pub IsAbsent : Board → List ℕ → Pass → Type 0
+IsAbsent b key p = standing (after b.shape (seen p)) key ≡ None
+
+-- the words of a key's chain before this place are taken
+abbrev pub IsFirst : Board → List ℕ → Place → Pass → Type 0
+IsFirst b key place p = AreTakenBefore (bucket_after b.shape (trace p) (bucket_of b.shape key)) (position b.shape (trace p) place)
+
+-- the first empty word, of a key that is absent; or the word of the key's item
+abbrev pub IsEmptyOrKeys : Board → List ℕ → Target → Pass → Type 0
+IsEmptyOrKeys b key target p =
+    ((target.word ≡ 0) × IsFree b key target.place p × IsAbsent b key p × IsFirst b key target.place p)
+    ⊎ (HasItemOf b key target.place p × IsEarlier b target.place target.word p)
+
+-- the word that a write of the key changes
+pub record IsTarget (b : Board) (key : List ℕ) (target : Target) (p : Pass) : Type 0 where
+  pub chain : IsInChain b (bucket_of b.shape key) target.place p
+  pub is : IsEmptyOrKeys b key target p
+
+-- the key is absent, and no word of its chain is empty
+pub record HasNoWord (b : Board) (key : List ℕ) (p : Pass) : Type 0 where
+  pub absent : IsAbsent b key p
+  pub taken : HasNoEmptyWord (bucket_after b.shape (trace p) (bucket_of b.shape key))
+
+abbrev pub Finds : Board → List ℕ → Option Target → Pass → Type 0
+Finds b key target p = MatchOption target (HasNoWord b key p) (λ found. IsTarget b key found p)
+
+-- the key's own word, where a search found it, and not one that is free for the key
+abbrev pub own_word : Option Target → Option Target
+own_word None = None
+own_word (Some target) = if target.word == 0 then None else Some target
+
+-- of the words of a search so far the first empty one, with one word more
+abbrev pub Updates : Target → Option Target → Option Target → Type 0
+Updates target old new = ((target.word ≡ 0) × (new ≡ Some target) × (old ≡ None)) ⊎ ((new ≡ old) × ((target.word ≢ 0) ⊎ (is_some old ≡ true)))
+
+-- the place that comes next along a chain: the next word of the bucket, or word 1 of the one that its last word leads on to
+abbrev pub next_word : Place → Place
+next_word place = record { bucket = place.bucket; word = place.word + 1 }
+
+abbrev pub first_word : Shape → ℕ → Place
+first_word shape number = record { bucket = shape.buckets + number; word = 1 }
+
+-- the overflow bucket that a word leads on to
+abbrev pub LeadsTo : Shape → ℕ → Place → Type 0
+LeadsTo shape here next = (number : ℕ) × (number < 65536) × (here ≡ chain_word number) × (next ≡ first_word shape number)
+
+abbrev pub LeadsNowhere : ℕ → Type 0
+LeadsNowhere here = (number : ℕ) → number < 65536 → here ≢ chain_word number
+
+pub record IsNext (shape : Shape) (place : Place) (here : ℕ) (next : Option Place) : Type 0 where
+  pub inner : place.word < 7 → next ≡ Some (next_word place)
+  pub last : 7 ≤ place.word → MatchOption next (LeadsNowhere here) (LeadsTo shape here)

@@ -1,0 +1,186 @@
+//! The word of a key's chain that a write changes, found under the bucket's bit by one pass over the chain, or the end of the chain where there is none.
+ghost use Rattle.std.specs.Prelude.{◌≡◌, ◌≤◌, ◌↔◌, IsTrue};
+ghost use Rattle.segmodel.specs.Places.{bucket_of, tag_of};
+ghost use Rattle.segcore.specs.Bucket.{bucket_after};
+ghost use Rattle.segcore.specs.Kind.{HasBit};
+ghost use Rattle.segwrite.specs.Writing.{own_word, IsInChain, IsNext, Finds};
+ghost use Rattle.segword.specs.Shape.{IsValid};
+ghost use Rattle.segbase.specs.Passes.{number, trace, IsPassOf};
+ghost use Rattle.segbase.specs.Spots.{position};
+ghost use Rattle.segbase.specs.Steps.{IsReadAs, HasItemOf};
+ghost use Rattle.segstore.specs.Refilling.{Idles};
+ghost use Rattle.segwrite.specs.Growing.{Searches};
+
+use segbase::{Board, Pass, Place};
+use segword::{Chain, Item, KeyWords};
+
+/// A word of a chain, and what stood there: the item of a key, or 0 where the key is absent and the word is free for it.
+#[derive(Clone, Copy, Drop)]
+pub struct Target {
+    pub place: Place,
+    pub word: u64,
+}
+
+/// The last word of a chain none of whose words is empty: its place, the item word that stood there, and how many buckets the chain has.
+#[derive(Clone, Copy, Drop)]
+pub(crate) struct ChainEnd {
+    pub(crate) place: Place,
+    pub(crate) word: u64,
+    pub(crate) buckets: u32,
+}
+
+/// What a search comes to: a word for the key, or the end of its chain.
+#[derive(Clone, Copy, Drop)]
+pub(crate) enum Found {
+    Word(Target),
+    Full(ChainEnd),
+}
+
+impl Target {
+    ghost use Rattle.segwrite.specs.Writing.{Updates};
+
+    // The first empty word, of an earlier one and this.
+    fn or_earlier(self, earlier: Option<Target>) -> Option<Target>
+        ensures { Updates self earlier result }
+    {
+        if self.word == 0 && earlier.is_none() {
+            Some(self)
+        } else {
+            earlier
+        }
+    }
+}
+
+impl ChainEnd {
+    ghost use Rattle.segwrite.specs.Growing.{or_end};
+
+    // The first empty word of a chain that ends here, if it has one.
+    fn or_empty(self, empty: Option<Target>) -> Found
+        ensures { result ≡ or_end self empty }
+    {
+        empty.map_or(Found::Full(self), Found::Word)
+    }
+}
+
+impl Found {
+    ghost use Rattle.segwrite.specs.Growing.{target_of};
+
+    // The word for the key, if there is one.
+    pub(crate) fn target(self) -> Option<Target>
+        ensures { result ≡ target_of self }
+    {
+        match self {
+            Found::Word(target) => Some(target),
+            Found::Full(_) => None,
+        }
+    }
+}
+
+// The key's own word, where a search found it, and not a word that is free for the key.
+pub(crate) fn own_word(found: Option<Target>) -> Option<Target>
+    ensures { result ≡ own_word found }
+{
+    match found {
+        Some(target) if target.word != 0 => Some(target),
+        _ => None,
+    }
+}
+
+// The key's word; or the first empty one, where the key is absent; or neither.
+pub(crate) fn find(
+    board: &Board,
+    pass: &mut Pass,
+    bucket: u32,
+    key: &KeyWords,
+    tag: u16,
+) -> Option<Target>
+    requires pass { IsPassOf board.now pass.old }
+    requires bucket { bucket ≡ bucket_of board.now.shape key.now }
+    requires tag { tag ≡ tag_of key.now }
+    requires bit { HasBit board.now.shape (trace pass.old) (number pass.old) bucket }
+    ensures idles { Idles board.now pass.old pass.new }
+    ensures finds { Finds board.now key.now result pass.new }
+{
+    search(board, pass, bucket, key, tag).target()
+}
+
+// As `find`, but where there is neither it tells the end of the chain.
+#[inline(always)]
+pub(crate) fn search(board: &Board, pass: &mut Pass, bucket: u32, key: &KeyWords, tag: u16) -> Found
+    requires pass { IsPassOf board.now pass.old }
+    requires bucket { bucket ≡ bucket_of board.now.shape key.now }
+    requires tag { tag ≡ tag_of key.now }
+    requires bit { HasBit board.now.shape (trace pass.old) (number pass.old) bucket }
+    ensures idles { Idles board.now pass.old pass.new }
+    ensures searches { Searches board.now key.now result pass.new }
+{
+    let mut place = Place { bucket, word: 1 };
+    let mut buckets = 1;
+    let mut empty = None;
+    loop {
+        let word = board.look(pass, place);
+        let target = Target { place, word };
+        if is_item_of(board, pass, place, word, key, tag) {
+            return Found::Word(target);
+        }
+        empty = target.or_earlier(empty);
+        match next_place(board, place, word) {
+            Some(next) => {
+                buckets += u32::from(next.word == 1);
+                place = next;
+            }
+            None => {
+                let end = ChainEnd {
+                    place,
+                    word,
+                    buckets,
+                };
+                return end.or_empty(empty);
+            }
+        }
+    }
+}
+
+// Whether a word that the pass reads under the bit is that of an item of the key.
+fn is_item_of(
+    board: &Board,
+    pass: &mut Pass,
+    place: Place,
+    word: u64,
+    key: &KeyWords,
+    tag: u16,
+) -> bool
+    requires pass { IsPassOf board.now pass.old }
+    requires tag { tag ≡ tag_of key.now }
+    requires chain { IsInChain board.now (bucket_of board.now.shape key.now) place pass.old }
+    requires bit { HasBit board.now.shape (trace pass.old) (number pass.old) (bucket_of board.now.shape key.now) }
+    requires word { IsReadAs ((bucket_after board.now.shape (trace pass.old) (bucket_of board.now.shape key.now)).items (position board.now.shape (trace pass.old) place)) word }
+    ensures idles { Idles board.now pass.old pass.new }
+    ensures is { IsTrue result ↔ HasItemOf board.now key.now place pass.new }
+{
+    match Item::unpack(word) {
+        Some(item) if item.tag == tag => {
+            segstore::row_of_key(board, pass, item.seg, item.row, key).is_some()
+        }
+        _ => false,
+    }
+}
+
+/// The place that comes next along the chain of a place with this word, if one does.
+pub fn next_place(board: &Board, place: Place, word: u64) -> Option<Place>
+    requires valid { IsValid board.now.shape }
+    requires word { place.word ≤ 7 }
+    ensures { IsNext board.now.shape place word result }
+{
+    if place.word < 7 {
+        return Some(Place {
+            word: place.word + 1,
+            ..place
+        });
+    }
+    let number = Chain::unpack(word)?;
+    Some(Place {
+        bucket: board.shape().buckets + number,
+        word: 1,
+    })
+}

@@ -1,0 +1,91 @@
+//! Growing of a chain none of whose words is empty, under the bit of its bucket: an overflow bucket is drawn, and joins the chain with the item of its last word.
+ghost use Rattle.std.specs.Prelude.{◌<◌};
+ghost use Rattle.segcore.specs.Filled.{HasNoEmptyWord};
+ghost use Rattle.segbase.specs.Passes.{IsPassOf};
+ghost use Rattle.segpass.specs.Taking.{HasCleanBit};
+ghost use Rattle.segwrite.specs.Growing.{bucket_in, home_at, IsLast, IsChainEnd, IsAsFound, MakesRoom, Grows, Draws, HasSpare, TriesToJoin, Joins};
+
+use crate::find::{ChainEnd, Found, Target};
+use segbase::{Board, CHAIN_BUCKETS, Pass, Place};
+use segword::Item;
+
+// The word for a key: the one that a search found, or one of an overflow bucket that joins the chain. It is `None` where the chain is full and can't grow.
+pub(crate) fn make_room(board: &Board, pass: &mut Pass, bucket: u32, found: Found) -> Option<Target>
+    requires pass { IsPassOf board.now pass.old }
+    requires clean { HasCleanBit board.now pass.old bucket }
+    requires found { IsAsFound board.now bucket found pass.old }
+    ensures makes { MakesRoom board.now bucket found result pass.old pass.new }
+{
+    match found {
+        Found::Word(target) => Some(target),
+        Found::Full(end) => grow(board, pass, bucket, end),
+    }
+}
+
+// Makes room for a new key of a bucket none of whose words is empty: word 2 of an overflow bucket that joins its chain. It is `None` where the chain can't grow.
+fn grow(board: &Board, pass: &mut Pass, bucket: u32, end: ChainEnd) -> Option<Target>
+    requires pass { IsPassOf board.now pass.old }
+    requires clean { HasCleanBit board.now pass.old bucket }
+    requires full { HasNoEmptyWord (bucket_in board.now bucket pass.old) }
+    requires end { IsChainEnd board.now bucket end pass.old }
+    ensures grows { Grows board.now bucket result pass.old pass.new }
+{
+    if end.buckets == CHAIN_BUCKETS {
+        return None;
+    }
+    let overflow = draw(board, pass, bucket)?;
+    join(board, pass, end.place, end.word, overflow);
+    let place = Place {
+        bucket: board.shape().buckets + overflow,
+        word: 2,
+    };
+    Some(Target { place, word: 0 })
+}
+
+// Draws the next overflow bucket for a bucket whose chain may grow. It is `None` where all of them are drawn.
+fn draw(board: &Board, pass: &mut Pass, bucket: u32) -> Option<u32>
+    requires pass { IsPassOf board.now pass.old }
+    requires clean { HasCleanBit board.now pass.old bucket }
+    requires short { (bucket_in board.now bucket pass.old).chained < 3 }
+    ensures draws { Draws board.now bucket result pass.old pass.new }
+{
+    let mut from = 0;
+    while from < board.shape().overflow {
+        match board.draw_overflow(pass, bucket, from) {
+            Ok(()) => return Some(from),
+            Err(counter) => from = counter,
+        }
+    }
+    None
+}
+
+// Lets the overflow bucket that waits for the chain of a place join it. While the item that moves there is hit, its frequency rises, and the word is copied again.
+fn join(board: &Board, pass: &mut Pass, place: Place, word: u64, overflow: u32)
+    requires pass { IsPassOf board.now pass.old }
+    requires spare { HasSpare board.now (home_at board.now place pass.old) overflow pass.old }
+    requires last { IsLast board.now (home_at board.now place pass.old) place word pass.old }
+    ensures joins { Joins board.now (home_at board.now place pass.old) overflow pass.old pass.new }
+{
+    let mut old = word;
+    while let Err(found) = try_to_join(board, pass, place, old, overflow) {
+        old = found;
+    }
+}
+
+// Copies the word of the chain's last item to the overflow bucket, and lets the chain lead on to it where that word still stands. `Err` has the word that does.
+fn try_to_join(
+    board: &Board,
+    pass: &mut Pass,
+    place: Place,
+    word: u64,
+    overflow: u32,
+) -> Result<(), u64>
+    requires pass { IsPassOf board.now pass.old }
+    requires spare { HasSpare board.now (home_at board.now place pass.old) overflow pass.old }
+    requires last { IsLast board.now (home_at board.now place pass.old) place word pass.old }
+    ensures tries { TriesToJoin board.now (home_at board.now place pass.old) overflow place word result pass.old pass.new }
+{
+    let item = Item::unpack(word).unwrap();
+    board.fill_overflow(pass, overflow, item);
+    board.chain(pass, place, word, overflow)
+}

@@ -1,0 +1,11 @@
+//! Writers: values stored and keys taken out, each under the bit of its key's bucket.
+#![tactic(auto)]
+
+mod find;
+mod grow;
+mod removal;
+mod write;
+
+pub use find::{Target, next_place};
+pub use removal::{clear, delete};
+pub use write::{add, cas, replace, set};

@@ -1,0 +1,204 @@
+//! Writes of keys, each under the bit of its key's bucket.
+ghost use Rattle.std.specs.Prelude.{◌≡◌, ◌^◌, ◌<◌, is_some, [], ◌∷◌};
+ghost use Rattle.segword.specs.Bytes.{IsKey};
+ghost use Rattle.segmodel.specs.declared.request.Request.{Request};
+ghost use Rattle.segmodel.specs.declared.request.Request.TheVariants.{Set, Add, Replace, Cas};
+ghost use Rattle.segmodel.specs.Request.{key_of, value_of};
+ghost use Rattle.segmodel.specs.Cache.{present};
+ghost use Rattle.segmodel.specs.History.{after};
+ghost use Rattle.segmodel.specs.Places.{bucket_of, tag_of};
+ghost use Rattle.segcore.specs.declared.event.Event.TheVariants.{Linked};
+ghost use Rattle.segcore.specs.Lawful.{Fits, IsRefusal};
+ghost use Rattle.segstore.specs.Segments.{KeepsSegments};
+ghost use Rattle.segbase.specs.Passes.{number, trace, seen, IsPassOf, Did};
+ghost use Rattle.segbase.specs.Spots.{position};
+ghost use Rattle.segstore.specs.Refilling.{Idles};
+ghost use Rattle.segpass.specs.Quiet.{IsQuiet};
+ghost use Rattle.segpass.specs.Calls.{memo};
+ghost use Rattle.segwrite.specs.Writes.{UsesRow, IsSetAnswer, Writes};
+ghost use Rattle.segpass.specs.Taking.{HasCleanBit};
+ghost use Rattle.segwrite.specs.Writing.{IsTarget};
+ghost use Rattle.segwrite.specs.Storing.{IsNextRow, Requests, Stores, HasWritten};
+ghost use Rattle.segwrite.specs.Refusing.{request_of, IsToldBy, reply_now, Refuses};
+
+use crate::find::{Target, own_word, search};
+use crate::grow::make_room;
+use segbase::{Board, Pass};
+use segmodel::WriteAnswer;
+use segpass::take_to_write;
+use segword::{Item, Key, KeyWords, Value, bucket_of, hash, tag_of};
+
+// Where a write stores.
+#[derive(Clone, Copy, Drop)]
+pub(crate) enum When {
+    Always,
+    // Where the key is absent.
+    Absent,
+    // Where the key is present.
+    Present,
+    // Where the key is present and its bucket still has this version.
+    Unchanged(u32),
+}
+
+/// Stores the value under the key.
+pub fn set(board: &Board, pass: &mut Pass, key: &Key, value: &Value) -> WriteAnswer
+    requires quiet { IsQuiet board.now pass.old }
+    ensures writes { Writes board.now (Set key.now value.now) result pass.old pass.new }
+    ensures set { IsSetAnswer result }
+{
+    write(board, pass, key, value, When::Always)
+}
+
+/// Stores the value under the key, which is absent: else it is NotStored.
+pub fn add(board: &Board, pass: &mut Pass, key: &Key, value: &Value) -> WriteAnswer
+    requires quiet { IsQuiet board.now pass.old }
+    ensures writes { Writes board.now (Add key.now value.now) result pass.old pass.new }
+{
+    write(board, pass, key, value, When::Absent)
+}
+
+/// Stores the value under the key, which is present: else it is NotStored.
+pub fn replace(board: &Board, pass: &mut Pass, key: &Key, value: &Value) -> WriteAnswer
+    requires quiet { IsQuiet board.now pass.old }
+    ensures writes { Writes board.now (Replace key.now value.now) result pass.old pass.new }
+{
+    write(board, pass, key, value, When::Present)
+}
+
+/// Stores the value under the key, whose bucket has the expected version: else it is Exists, or NotFound where the key is absent.
+pub fn cas(board: &Board, pass: &mut Pass, key: &Key, value: &Value, expected: u32) -> WriteAnswer
+    requires quiet { IsQuiet board.now pass.old }
+    ensures writes { Writes board.now (Cas key.now value.now expected) result pass.old pass.new }
+{
+    write(board, pass, key, value, When::Unchanged(expected))
+}
+
+// Stores the value under the key where the cache doesn't refuse it.
+fn write(board: &Board, pass: &mut Pass, key: &Key, value: &Value, when: When) -> WriteAnswer
+    ghost request: { Request }
+    requires quiet { IsQuiet board.now pass.old }
+    requires request { request ≡ request_of when key.now value.now }
+    ensures writes { Writes board.now request result pass.old pass.new }
+{
+    let Ok((segment, row)) = segstore::next_row(board, pass) else {
+        return WriteAnswer::NoRoom;
+    };
+    let hash = hash(key);
+    let bucket = bucket_of(hash, board.shape().buckets);
+    let tag = tag_of(hash);
+    let words = KeyWords::new(key);
+    if !take_to_write(board, pass, bucket) {
+        return WriteAnswer::Busy;
+    }
+    let found = search(board, pass, bucket, &words, tag);
+    let is_present = own_word(found.target()).is_some();
+    if let Some(refusal) = refusal(board, pass, bucket, is_present, when) {
+        refuse(board, pass, bucket);
+        return refusal;
+    }
+    let Some(target) = make_room(board, pass, bucket, found) else {
+        board.release(pass, bucket, false);
+        return WriteAnswer::BucketFull;
+    };
+    store(board, pass, target, segment, row, &words, tag, value);
+    board.release(pass, bucket, true);
+    WriteAnswer::Stored
+}
+
+// What the cache answers in place of storing. The version is looked at only where the write depends on it.
+fn refusal(
+    board: &Board,
+    pass: &mut Pass,
+    bucket: u32,
+    is_present: bool,
+    when: When,
+) -> Option<WriteAnswer>
+    ghost request: { Request }
+    requires pass { IsPassOf board.now pass.old }
+    requires versions { board.now.shape.first_version < 2 ^ 32 }
+    requires clean { HasCleanBit board.now pass.old bucket }
+    requires bucket { bucket ≡ bucket_of board.now.shape (key_of request) }
+    requires present { is_present ≡ is_some (present (after board.now.shape (seen pass.old)) (key_of request)) }
+    requires request { request ≡ request_of when (key_of request) (value_of request) }
+    ensures idles { Idles board.now pass.old pass.new }
+    ensures told { IsToldBy (reply_now board.now pass.new request) result }
+{
+    match when {
+        When::Always => None,
+        When::Absent => is_present.then_some(WriteAnswer::NotStored),
+        When::Present => (!is_present).then_some(WriteAnswer::NotStored),
+        When::Unchanged(_) if !is_present => Some(WriteAnswer::NotFound),
+        When::Unchanged(version) => {
+            let info = board.info_look(pass, bucket);
+            (info.version != version).then_some(WriteAnswer::Exists)
+        }
+    }
+}
+
+// Gives back the bit of a write that the cache refuses. The refusal comes into the history with it.
+pub(crate) fn refuse(board: &Board, pass: &mut Pass, bucket: u32)
+    ghost request: { Request }
+    requires pass { IsPassOf board.now pass.old }
+    requires clean { HasCleanBit board.now pass.old bucket }
+    requires bucket { bucket ≡ bucket_of board.now.shape (key_of request) }
+    requires refused { IsRefusal (reply_now board.now pass.old request) }
+    ensures refuses { Refuses board.now request (reply_now board.now pass.old request) pass.old pass.new }
+{
+    board.release(pass, bucket, false);
+}
+
+// Writes the pair into the next row, and lets the key's word name it.
+fn store(
+    board: &Board,
+    pass: &mut Pass,
+    target: Target,
+    segment: u32,
+    row: u32,
+    key: &KeyWords,
+    tag: u16,
+    value: &Value,
+)
+    ghost request: { Request }
+    requires pass { IsPassOf board.now pass.old }
+    requires segments { KeepsSegments board.now pass.old }
+    requires next { IsNextRow board.now segment row pass.old }
+    requires request { Requests board.now request key.now value.now pass.old }
+    requires key { IsKey key.now }
+    requires tag { tag ≡ tag_of key.now }
+    requires bit { HasCleanBit board.now pass.old (bucket_of board.now.shape (key_of request)) }
+    requires target { IsTarget board.now (key_of request) target pass.old }
+    ensures stores { Stores board.now request segment row pass.old pass.new }
+    ensures segments { KeepsSegments board.now pass.new }
+    ensures uses { UsesRow segment pass.old pass.new }
+    ensures bit { HasWritten board.now pass.new (bucket_of board.now.shape (key_of request)) }
+{
+    segstore::fill_row(board, pass, segment, row, key, value);
+    let item = Item {
+        tag,
+        freq: 1,
+        seg: segment,
+        row,
+    };
+    link(board, pass, target, item);
+    pass.set_used(segment, row + 1);
+}
+
+// Puts the item of a stored write into the key's word. While that has an item of the key, its frequency may rise, and the exchange is tried again.
+fn link(board: &Board, pass: &mut Pass, target: Target, item: Item)
+    ghost request: { Request }
+    requires pass { IsPassOf board.now pass.old }
+    requires item { (item.tag ≡ tag_of (key_of request)) × (item.freq ≡ 1) }
+    requires target { IsTarget board.now (key_of request) target pass.old }
+    requires fits { Fits board.now.shape (trace pass.old) (Linked (number pass.old) request item.seg item.row (position board.now.shape (trace pass.old) target.place)) }
+    ensures did { Did board.now (Linked (number pass.old) request item.seg item.row (position board.now.shape (trace pass.old) target.place) ∷ []) pass.old pass.new }
+    ensures same { (pass.new.plain ≡ pass.old.plain) × (memo pass.new ≡ memo pass.old) }
+{
+    if target.word == 0 {
+        board.link(pass, target.place, item);
+        return;
+    }
+    let mut old = target.word;
+    while let Err(found) = board.replace(pass, target.place, old, item) {
+        old = found;
+    }
+}
