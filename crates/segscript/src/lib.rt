@@ -4,6 +4,7 @@
 mod device;
 mod engine;
 mod fault;
+pub mod laws;
 mod line;
 mod memory;
 mod reply;
