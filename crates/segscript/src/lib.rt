@@ -12,8 +12,6 @@ mod run;
 mod script;
 mod server;
 mod standard;
-#[cfg(test)]
-mod tests;
 mod text;
 mod turns;
 mod verb;
