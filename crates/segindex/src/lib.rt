@@ -8,6 +8,8 @@ mod lock;
 mod meet;
 mod read;
 mod segment;
+#[cfg(test)]
+mod tests;
 mod write;
 
 pub use close::OutOfMemory;

@@ -1,5 +1,5 @@
 -- Laws: what the definitions come to. Each is proved as the contract of a function in src/laws.rt.
-use Rattle.std.specs.Prelude.{◌≡◌, ℕ, ◌+◌, ◌%◌, ◌^◌, ◌==◌, ◌<◌, ◌≤◌, Bool, true, false, is_some, IsSome, IsSomeAnd, List, [], ◌∷◌, ◌++◌, length, find, Option, Some, None, option_map, option_and_then, if◌then◌else◌}
+use Rattle.std.specs.Prelude.{◌≡◌, ℕ, ◌+◌, ◌%◌, ◌^◌, ◌==◌, ◌<◌, Bool, true, false, is_some, IsSome, IsSomeAnd, List, [], ◌∷◌, ◌++◌, length, find, Option, Some, None, option_map, option_and_then, if◌then◌else◌}
 use Rattle.std.specs.BTreeMap.{is_at}
 use Rattle.std.specs.List.{AllByRecursion}
 use Rattle.std.specs.List.Sorted.{IsStrictlySortedBy}
@@ -31,7 +31,6 @@ use Rattle.segmodel.specs.History.{NoneStandsIn, Follows, next, after, IsLegal, 
 use Rattle.segmodel.specs.State.{State, IsKept, fresh}
 use Rattle.segmodel.specs.Serving.{Serves, ServesStore, ServesDelete, reply_of_write, reply_of_delete}
 use Rattle.segmodel.specs.Turns.{Turns, Runs}
-use Rattle.segmodel.specs.Spelling.{PassTurn, IsSayable, spelling}
 
 -- ---- legal histories
 
@@ -238,9 +237,3 @@ abbrev pub ServingIsHistory : Type 0
 ServingIsHistory = (shape : Shape) (old new : State) (command : Command) (given : Answer) (history : List Entry)
     → IsKept shape old → IsLegal shape history → old.cache ≡ after shape history → Serves shape old command given new
     → (more : List Entry) × IsLegal shape (more ++ history) × (new.cache ≡ after shape (more ++ history)) × Adds old.current command given more
-
--- ---- scripts
-
--- a line that says something is no longer than a line may be
-abbrev pub LinesFit : Type 0
-LinesFit = (passes : ℕ) (said : PassTurn) → IsSayable passes said → length (spelling said) ≤ 128

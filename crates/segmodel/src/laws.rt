@@ -8,7 +8,7 @@ ghost use Rattle.segmodel.specs.History.{after, Begins, IsLegal, stirred};
 ghost use Rattle.segmodel.specs.State.{fresh};
 ghost use Rattle.segmodel.specs.Serving.{after_refill, Serves};
 ghost use Rattle.segmodel.specs.Example.{shape, a, one, two, added, deleted, whole};
-ghost use Rattle.segmodel.specs.Laws.{LongerIsLegal, EarlierIsLegal, ItemsAreInOrder, StandsAsLeft, ReadsAsLeft, VersionCountsWrites, OthersKeepVersion, EvictionKeepsVersions, UnwrittenKeepsCache, CasFailsWhereWritten, AddNeedsAbsent, ReplaceNeedsPresent, CasNeedsVersion, OtherBucketsAreKept, StirredCountsAdded, UnstirredReadsTheSame, IsKeptAtTheStart, ServingKeeps, CommandsKeep, TurnsKeep, RefilledWhereNoneStands, HeldIsNotRefilled, StoreIsAnEntry, DeleteIsAnEntry, EveryTurnIsAnswered, OnlyEvictChooses, ServingIsHistory, LinesFit};
+ghost use Rattle.segmodel.specs.Laws.{LongerIsLegal, EarlierIsLegal, ItemsAreInOrder, StandsAsLeft, ReadsAsLeft, VersionCountsWrites, OthersKeepVersion, EvictionKeepsVersions, UnwrittenKeepsCache, CasFailsWhereWritten, AddNeedsAbsent, ReplaceNeedsPresent, CasNeedsVersion, OtherBucketsAreKept, StirredCountsAdded, UnstirredReadsTheSame, IsKeptAtTheStart, ServingKeeps, CommandsKeep, TurnsKeep, RefilledWhereNoneStands, HeldIsNotRefilled, StoreIsAnEntry, DeleteIsAnEntry, EveryTurnIsAnswered, OnlyEvictChooses, ServingIsHistory};
 
 /// Legal histories grow by entries that follow, and were legal at each earlier moment; what stands after them is a map.
 pub fn legal_histories()
@@ -75,11 +75,6 @@ pub fn turns_are_answered()
 /// Serving a command adds the entries that its answer tells to the history, and leaves the cache that the longer history leaves.
 pub fn serving_is_history()
     ensures { ServingIsHistory }
-{}
-
-/// Every line that says something is within the limit of a line's length.
-pub fn lines_fit()
-    ensures { LinesFit }
 {}
 
 /// A history with each kind of entry is legal, and meets what the laws ask for.

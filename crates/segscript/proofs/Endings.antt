@@ -4,10 +4,10 @@ use Rattle.segword.specs.declared.shape.Shape.{Shape}
 use Rattle.segmodel.specs.declared.answer.Outcome.{Outcome}
 use Rattle.segmodel.specs.State.{fresh}
 use Rattle.segmodel.specs.Turns.{Runs}
-use Rattle.segmodel.specs.Spelling.{PassTurn}
-use Rattle.segmodel.specs.Script.{ServesLines, Steps, Completes}
 use Rattle.segindex.specs.Index.{board_of, shape_of}
 use Rattle.segindex.specs.Index.{IsNew}
+use Rattle.segscript.specs.Spelling.{PassTurn}
+use Rattle.segscript.specs.Script.{ServesLines, Steps, Completes}
 use Rattle.segscript.specs.Passes.{OneTakes}
 use Rattle.segscript.specs.EachTurn.{EachTurn}
 use Rattle.segscript.specs.Run.{Comes, EndOfRun, RunOutcome}

@@ -2,7 +2,7 @@
 use Rattle.std.proofs.Common.{Result, subst, Err, ◌≡◌, ℕ, ◌+◌, ◌<◌, List, [], ◌∷◌, ◌++◌, length, take, drop, get_or, refl, sym, ◌∙◌, ap, append_assoc, append-nil, inl, inr}
 use Rattle.std.proofs.lemmas.List.{take-append-drop, drop_more}
 use Rattle.segmodel.specs.declared.answer.Outcome.{Outcome}
-use Rattle.segmodel.specs.Spelling.{PassTurn}
+use Rattle.segscript.specs.Spelling.{PassTurn}
 use Rattle.segscript.specs.Run.{IsSeenBad}
 use Rattle.segscript.specs.Running.{Stands, FeedOutcome}
 use Rattle.segscript.specs.declared.fault.RunFault.{RunFault}

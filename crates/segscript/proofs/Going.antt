@@ -1,7 +1,7 @@
 -- Where a run is between two reads, and how it ends.
 use Rattle.std.proofs.Common.{Ok, Err, Result, ◌≡◌, ℕ, ◌+◌, ◌≤◌, ◌-◌, ◌^◌, min, length-take, List, [], ◌++◌, length, take, inl, inr, refl, ◌∙◌, ap, arith, append-nil, length-append}
 use Rattle.segmodel.specs.declared.answer.Outcome.{Outcome}
-use Rattle.segmodel.specs.Spelling.{PassTurn}
+use Rattle.segscript.specs.Spelling.{PassTurn}
 use Rattle.segscript.specs.Device.{flushed}
 use Rattle.segscript.specs.Running.{Stands, FeedOutcome, FinishOutcome}
 use Rattle.segscript.specs.Run.{EndOfRun}

@@ -4,6 +4,7 @@ pub mod Feeding
 pub mod Going
 pub mod LineLemmas
 pub mod LineReadings
+pub mod Lines
 pub mod Numbers
 pub mod OneBadLine
 pub mod OneTurn

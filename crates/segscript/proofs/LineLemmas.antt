@@ -4,10 +4,10 @@ use Rattle.std.specs.List.{flat_map, AllByRecursion}
 use Rattle.std.proofs.lemmas.Grind.{flat_map-append}
 use Rattle.std.proofs.lemmas.Bool.{eqb-true}
 use Rattle.segmodel.specs.declared.answer.Outcome.{Outcome}
-use Rattle.segmodel.specs.Spelling.{PassTurn, IsSayable, spelling}
-use Rattle.segmodel.specs.Replies.{reply}
-use Rattle.segmodel.specs.Script.{IsLine, ended, Splits, Say, IsBad, ServesLines, Completes}
 use Rattle.segmodel.proofs.RunLemmas.{Runs-append}
+use Rattle.segscript.specs.Spelling.{PassTurn, IsSayable, spelling}
+use Rattle.segscript.specs.Replies.{reply}
+use Rattle.segscript.specs.Script.{IsLine, ended, Splits, Say, IsBad, ServesLines, Completes}
 use Rattle.segscript.specs.Device.{IsBeginning}
 use Rattle.segscript.specs.Run.{Comes, IsSeenBad}
 use Rattle.segscript.specs.Running.{Stands, LineOutcome, FeedOutcome, FinishOutcome}

@@ -1,6 +1,6 @@
 -- What a line says, from what its reader answered.
 use Rattle.std.proofs.Common.{◌≡◌, ℕ, List, Some, None, sym, ◌∙◌}
-use Rattle.segmodel.specs.Spelling.{PassTurn, IsSayable, spelling}
+use Rattle.segscript.specs.Spelling.{PassTurn, IsSayable, spelling}
 use Rattle.segscript.specs.Reading.{ReadsAs}
 
 -- the line says the turn that was read

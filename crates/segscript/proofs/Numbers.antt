@@ -7,8 +7,8 @@ use Rattle.std.specs.Result.{result_ok}
 use Rattle.std.proofs.lemmas.Str.Parse.{IsNumeralModel, numerals_by_fold, parse_plain}
 use Rattle.std.proofs.lemmas.Fmt.{decimal_digit, first_decimal, IsAscii-decimal, parse-decimal, decimal-digits_value}
 use Rattle.std.proofs.lemmas.Str.{IsUtf8-from_ascii}
+use Rattle.segscript.specs.Spelling.{IsNumber}
 use Rattle.segscript.specs.Reading.{ReadsAs, BeginsPlainly}
-use Rattle.segmodel.specs.Spelling.{IsNumber}
 
 abbrev read_on : ℕ → List ℕ → ℕ
 read_on n [] = n

@@ -5,11 +5,11 @@ use Rattle.std.proofs.lemmas.Fmt.{decimal_injective}
 use Rattle.std.specs.Str.{bytes_eq}
 use Rattle.std.proofs.lemmas.Slice.Eq.{bytes_eq-Decides}
 use Rattle.std.proofs.lemmas.Bool.{true≢false}
-use Rattle.segmodel.specs.Spelling.{PassTurn, IsValueWord, IsWritable, IsSayable, value_word, pass_word, spelling}
 use Rattle.segmodel.specs.declared.request.Request.TheVariants.{Set, Add, Replace, Cas, Delete}
 use Rattle.segmodel.specs.declared.answer.Command.TheVariants.{Write, Get, Gets, Evict, Refill}
 use Rattle.segmodel.specs.declared.answer.Turn.{Turn}
 use Rattle.segmodel.specs.declared.answer.Turn.TheVariants.{Serve, Hold, Held, Release, Lock, Unlock}
+use Rattle.segscript.specs.Spelling.{PassTurn, IsValueWord, IsWritable, IsSayable, value_word, pass_word, spelling}
 use Rattle.segscript.specs.Verb.{verb, verb_word, arguments_of, line_words}
 use Rattle.segscript.specs.declared.verb.Verb.{Verb}
 use Rattle.segscript.specs.declared.verb.Verb.TheVariants as verbs

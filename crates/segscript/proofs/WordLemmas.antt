@@ -7,8 +7,8 @@ use Rattle.std.proofs.lemmas.List.Elements.{All-from_recursion}
 use Rattle.std.proofs.lemmas.List.Splits.{join_with_byte-slice_split}
 use Rattle.std.proofs.lemmas.Str.Parse.{digit_at}
 use Rattle.std.proofs.lemmas.Fmt.{decimal_is_IsNumeral, decimal_injective}
+use Rattle.segscript.specs.Spelling.{PassTurn, IsWordByte, IsNumber, IsWritable, IsSayable, value_word, pass_word, turn_words, spelling}
 use Rattle.segscript.specs.Reading.{ReadsAs}
-use Rattle.segmodel.specs.Spelling.{PassTurn, IsWordByte, IsNumber, IsWritable, IsSayable, value_word, pass_word, turn_words, spelling}
 use Rattle.segmodel.specs.declared.request.Request.TheVariants.{Set, Add, Replace, Cas, Delete}
 use Rattle.segmodel.specs.declared.answer.Command.TheVariants.{Write, Get, Gets, Evict, Refill}
 use Rattle.segmodel.specs.declared.answer.Turn.{Turn}

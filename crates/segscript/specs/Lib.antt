@@ -1,11 +1,15 @@
 pub mod Device
 pub mod EachTurn
 pub mod Known
+pub mod Laws
 pub mod Memory
 pub mod Passes
 pub mod Reading
+pub mod Replies
 pub mod Run
 pub mod Running
+pub mod Script
 pub mod Server
+pub mod Spelling
 pub mod Told
 pub mod Verb

@@ -4,7 +4,6 @@ use Rattle.segword.specs.declared.shape.Shape.{Shape}
 use Rattle.segmodel.specs.declared.answer.Turn.{Turn}
 use Rattle.segmodel.specs.declared.answer.Outcome.{Outcome}
 use Rattle.segmodel.specs.State.{State, fresh}
-use Rattle.segmodel.specs.Spelling.{PassTurn}
 use Rattle.segbase.specs.declared.board.Board.{Board}
 use Rattle.segbase.specs.declared.pass.Pass.{Pass}
 use Rattle.segbase.specs.Passes.{number, holding}
@@ -13,6 +12,7 @@ use Rattle.segpass.specs.Quiet.{IsQuiet}
 use Rattle.segpass.specs.Calls.{GoesOn}
 use Rattle.segread.specs.Holds.{IsHoldOf}
 use Rattle.segsolo.specs.Alone.{state_at, IsAlone, TurnsAlone}
+use Rattle.segscript.specs.Spelling.{PassTurn}
 use Rattle.segscript.specs.Told.{Tells}
 
 -- the hold that is kept is the one that the pass has

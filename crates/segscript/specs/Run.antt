@@ -6,9 +6,9 @@ use Rattle.segword.specs.declared.shape.Shape.{Shape}
 use Rattle.segword.specs.Shape.{IsValid}
 use Rattle.segmodel.specs.declared.answer.Outcome.{Outcome}
 use Rattle.segmodel.specs.State.{fresh}
-use Rattle.segmodel.specs.Spelling.{PassTurn}
-use Rattle.segmodel.specs.Script.{IsLine, ended, Splits, IsBad, ServesLines, Steps, Completes}
 use Rattle.segbase.specs.Made.{IsMakeFault}
+use Rattle.segscript.specs.Spelling.{PassTurn}
+use Rattle.segscript.specs.Script.{IsLine, ended, Splits, IsBad, ServesLines, Steps, Completes}
 use Rattle.segscript.specs.Device.{IsBeginning, flushed}
 use Rattle.segscript.specs.declared.fault.RunFault.{RunFault}
 use Rattle.segscript.specs.declared.fault.RunFault.TheVariants as fault

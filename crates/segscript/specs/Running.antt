@@ -2,8 +2,8 @@
 -- passes, and step says what one turn of it is.
 use Rattle.std.specs.Prelude.{◌⊎◌, ◌≡◌, ℕ, ◌+◌, ◌≤◌, List, [], ◌∷◌, ◌++◌, length, Result, Ok, Err}
 use Rattle.segmodel.specs.declared.answer.Outcome.{Outcome}
-use Rattle.segmodel.specs.Spelling.{PassTurn}
-use Rattle.segmodel.specs.Script.{Splits, IsBad, ServesLines, Completes}
+use Rattle.segscript.specs.Spelling.{PassTurn}
+use Rattle.segscript.specs.Script.{Splits, IsBad, ServesLines, Completes}
 use Rattle.segscript.specs.Device.{IsBeginning, flushed}
 use Rattle.segscript.specs.Run.{Comes, BreaksOff, IsSeenBad}
 use Rattle.segscript.specs.declared.fault.RunFault.{RunFault}

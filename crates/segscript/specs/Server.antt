@@ -2,12 +2,12 @@
 use Rattle.std.specs.Prelude.{◌≡◌, ◌≢◌, ℕ, List, length, Some, None, slice_get}
 use Rattle.segmodel.specs.declared.answer.Outcome.{Outcome}
 use Rattle.segmodel.specs.State.{State}
-use Rattle.segmodel.specs.Spelling.{PassTurn}
-use Rattle.segmodel.specs.Script.{Steps}
 use Rattle.segbase.specs.declared.pass.Pass.{Pass}
 use Rattle.segbase.specs.Passes.{holding}
 use Rattle.segbase.specs.Plain.{locked_of}
 use Rattle.segindex.specs.Index.{board_of, shape_of}
+use Rattle.segscript.specs.Spelling.{PassTurn}
+use Rattle.segscript.specs.Script.{Steps}
 use Rattle.segscript.specs.declared.server.Server.{Server}
 use Rattle.segscript.specs.Passes.{AreInOrder, first_state, OneTakes}
 

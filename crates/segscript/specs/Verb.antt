@@ -4,7 +4,7 @@ use Rattle.segmodel.specs.declared.request.Request.TheVariants.{Set, Add, Replac
 use Rattle.segmodel.specs.declared.answer.Command.TheVariants.{Write, Get, Gets, Evict, Refill}
 use Rattle.segmodel.specs.declared.answer.Turn.{Turn}
 use Rattle.segmodel.specs.declared.answer.Turn.TheVariants.{Serve, Hold, Held, Release, Lock, Unlock}
-use Rattle.segmodel.specs.Spelling.{PassTurn, IsNumber, IsKeyWord, IsValueWord, IsWritable, value_word, pass_word}
+use Rattle.segscript.specs.Spelling.{PassTurn, IsNumber, IsKeyWord, IsValueWord, IsWritable, value_word, pass_word}
 use Rattle.segscript.specs.declared.verb.Verb.{Verb}
 use Rattle.segscript.specs.declared.verb.Verb.TheVariants as verbs
 

@@ -1,8 +1,8 @@
 //! What stands behind a script.
 ghost use Rattle.std.specs.Prelude.{◌≡◌, ◌<◌};
 ghost use Rattle.segword.specs.declared.shape.Shape.{Shape};
-ghost use Rattle.segmodel.specs.Spelling.{PassTurn};
 ghost use Rattle.segmodel.specs.declared.answer.Outcome.{Outcome};
+ghost use Rattle.segscript.specs.Spelling.{PassTurn};
 
 use segmodel::{Outcome, Turn};
 

@@ -4,6 +4,7 @@
 mod device;
 mod engine;
 mod fault;
+pub mod laws;
 mod line;
 mod memory;
 mod reply;
@@ -11,8 +12,6 @@ mod run;
 mod script;
 mod server;
 mod standard;
-#[cfg(test)]
-mod tests;
 mod text;
 mod turns;
 mod verb;

@@ -1,7 +1,7 @@
 //! Reads one line of a script.
-ghost use Rattle.std.specs.Prelude.{ℕ, ◌≡◌, ◌<◌, ◌==◌, ◌∷◌, [], length, map, decimal, IfSome, IfNone};
+ghost use Rattle.std.specs.Prelude.{◌≡◌, ◌<◌, ◌==◌, ◌∷◌, [], length, map, decimal, IfSome, IfNone};
 ghost use Rattle.std.specs.List.{slice_split};
-ghost use Rattle.segmodel.specs.Spelling.{PassTurn, IsNumber, IsKeyWord, IsSayable, spelling};
+ghost use Rattle.segscript.specs.Spelling.{IsNumber, IsKeyWord, IsSayable, spelling};
 ghost use Rattle.segscript.specs.Reading.{ReadsAs};
 ghost use Rattle.segscript.specs.Verb.{IsPair, pair_words, IsTriple, triple_words, IsTurnOf, arguments_of, line_words};
 
@@ -134,8 +134,3 @@ pub fn read_line(line: &[u8], passes: u32) -> Option<(u32, Turn)>
     let parts = parts_of(line)?;
     said_by(parts.as_slice(), passes)
 }
-
-/// A line spells one turn of one pass.
-pub fn one_turn()
-    ensures { (passes : ℕ) (left right : PassTurn) → IsSayable passes left → IsSayable passes right → spelling left ≡ spelling right → left ≡ right }
-{}

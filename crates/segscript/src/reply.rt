@@ -1,8 +1,8 @@
 //! The lines of replies.
 ghost use Rattle.std.specs.Prelude.{◌≡◌, ◌+◌, ◌≤◌, ◌++◌, length, codes, decimal};
 ghost use Rattle.arrayvec.specs.ArrayVec.{array_vec_len};
-ghost use Rattle.segmodel.specs.Replies.{reply, answer_reply, write_reply, delete_reply, get_reply, gets_reply, evict_reply, refill_reply, value_reply};
-ghost use Rattle.segmodel.specs.Spelling.{value_word};
+ghost use Rattle.segscript.specs.Replies.{reply, answer_reply, write_reply, delete_reply, get_reply, gets_reply, evict_reply, refill_reply, value_reply};
+ghost use Rattle.segscript.specs.Spelling.{value_word};
 
 use crate::text::{Line, line_of, put, put_number};
 use segmodel::{

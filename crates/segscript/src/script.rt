@@ -1,6 +1,6 @@
 //! Runs a script over an index that is made for it.
 ghost use Rattle.std.specs.Prelude.{◌≡◌, ◌⊎◌, ℕ, List, true, false, IsOk};
-ghost use Rattle.segmodel.specs.Script.{IsTextOf, IsFirstBad};
+ghost use Rattle.segscript.specs.Script.{IsTextOf, IsFirstBad};
 ghost use Rattle.segscript.specs.Device.{HandsOut};
 ghost use Rattle.segscript.specs.EachTurn.{EachTurn};
 ghost use Rattle.segscript.specs.Run.{RunOutcome, ShapeIsAnswered, is_read_fault, is_write_fault, is_make_fault};

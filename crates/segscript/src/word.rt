@@ -1,7 +1,7 @@
 //! Reads single words of a line.
 ghost use Rattle.std.specs.Prelude.{◌↔◌, decimal, IsTrue};
 ghost use Rattle.std.specs.List.{AllByRecursion};
-ghost use Rattle.segmodel.specs.Spelling.{IsNumber, IsKeyWord, IsValueWord, value_word, IsWordByte, pass_word};
+ghost use Rattle.segscript.specs.Spelling.{IsNumber, IsKeyWord, IsValueWord, value_word, IsWordByte, pass_word};
 ghost use Rattle.segscript.specs.Reading.{ReadsAs, BeginsPlainly};
 ghost use Rattle.segscript.specs.Verb.{IsPass};
 

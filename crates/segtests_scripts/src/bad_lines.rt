@@ -1,5 +1,7 @@
 //! Lines that have no reading.
-use super::*;
+use crate::runs::{check, check_script, shape_of};
+use segscript::RunFault;
+use std::test::Fail;
 
 #[test]
 fn each_of_these_lines_is_bad(rt: HostRuntime) -> Result<(), Fail> {

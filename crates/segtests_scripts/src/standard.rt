@@ -1,8 +1,9 @@
 //! Readers and writers of std. What a flush does to a writer of std no contract tells, so a writer counts its own.
-use super::*;
-use crate::standard::{ReadSource, WriteSink};
+use crate::runs::{REPLIES, SCRIPT, shape_of};
+use segscript::{ReadSource, RunFault, WriteSink, run_script};
 use std::io;
 use std::io::{ErrorKind, Write};
+use std::test::Fail;
 
 /// Counts the bytes and the flushes that reach it.
 #[derive(Drop)]

@@ -1,5 +1,9 @@
 //! Shapes that can't be had, and want of memory.
-use super::*;
+use crate::runs::{REPLIES, SCRIPT, reader_of, shape_of};
+use segindex::MakeFault;
+use segscript::{MemSink, RunFault, run_script};
+use segword::{Shape, ShapeFault};
+use std::test::Fail;
 
 #[test]
 fn a_bad_shape_is_answered_by_its_first_fault(rt: HostRuntime) -> Result<(), Fail> {

@@ -1,5 +1,6 @@
 //! What scripts of writes and deletes are answered, and the versions that they leave.
-use super::*;
+use crate::runs::check_turns;
+use std::test::Fail;
 
 // Keys a and e are in one bucket, with the same tag.
 #[test]

@@ -1,5 +1,9 @@
 //! Scripts whose buckets grow to chains.
-use super::*;
+use crate::runs::{check, shape_of};
+use segword::Shape;
+use std::alloc::Global;
+use std::process::Abort;
+use std::test::Fail;
 
 /// Checks a script of one pass with one segment. The shape has this many buckets, overflow buckets and rows.
 fn check_growing(

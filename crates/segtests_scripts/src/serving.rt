@@ -1,5 +1,7 @@
 //! What scripts of good lines are answered.
-use super::*;
+use crate::runs::{REPLIES, SCRIPT, check, check_script, shape_of};
+use segword::Shape;
+use std::test::Fail;
 
 #[test]
 fn a_value_that_was_set_is_read(rt: HostRuntime) -> Result<(), Fail> {

@@ -1,5 +1,6 @@
 //! What scripts of evictions and refillings are answered.
-use super::*;
+use crate::runs::check_turns;
+use std::test::Fail;
 
 #[test]
 fn an_evicted_segment_is_refilled(rt: HostRuntime) -> Result<(), Fail> {

@@ -1,31 +1,14 @@
 //! Scripts of two passes.
-use super::*;
-
-/// Checks a script of two passes over one bucket.
-fn check_two(
-    rt: &impl Abort,
-    alloc: Global,
-    segments_each: u32,
-    script: &[u8],
-    replies: &[u8],
-) -> Result<(), Fail> {
-    let shape = Shape {
-        buckets: 1,
-        overflow: 0,
-        passes: 2,
-        segments_each,
-        rows: 4,
-        first_version: 0,
-    };
-    check(rt, alloc, shape, script, None, Ok(()), replies)
-}
+use crate::runs::check_turns;
+use std::test::Fail;
 
 #[test]
 fn a_locked_bucket_is_read_and_not_written(rt: HostRuntime) -> Result<(), Fail> {
-    check_two(
+    check_turns(
         &rt,
         rt.alloc(),
-        1,
+        [1, 2, 1, 4],
+        0,
         b"p0 refill 0\np1 refill 1\np0 set a 1\np1 lock a\np0 get a\np0 set a 2\np1 unlock\np0 set a 2\n",
         b"REFILLED\nREFILLED\nSTORED\nLOCKED\nVALUE 1\nBUSY\nUNLOCKED\nSTORED\n",
     )
@@ -33,10 +16,11 @@ fn a_locked_bucket_is_read_and_not_written(rt: HostRuntime) -> Result<(), Fail> 
 
 #[test]
 fn a_pass_locks_one_bucket_and_unlocks_it_once(rt: HostRuntime) -> Result<(), Fail> {
-    check_two(
+    check_turns(
         &rt,
         rt.alloc(),
-        1,
+        [1, 2, 1, 4],
+        0,
         b"p0 refill 0\np1 refill 0\np1 refill 1\np0 set a 1\np1 lock a\np1 lock b\np0 get a\np1 get a\np0 set a 2\np1 unlock\np1 unlock\np1 set a 3\np0 get a\n",
         b"REFILLED\nNOT_YOURS\nREFILLED\nSTORED\nLOCKED\nALREADY_LOCKED\nVALUE 1\nVALUE 1\nBUSY\nUNLOCKED\nNOT_LOCKED\nSTORED\nVALUE 3\n",
     )
@@ -45,10 +29,11 @@ fn a_pass_locks_one_bucket_and_unlocks_it_once(rt: HostRuntime) -> Result<(), Fa
 // Pass 0 owns the first segments, and then come those of pass 1.
 #[test]
 fn a_pass_refills_the_segments_that_it_owns(rt: HostRuntime) -> Result<(), Fail> {
-    check_two(
+    check_turns(
         &rt,
         rt.alloc(),
-        2,
+        [1, 2, 2, 4],
+        0,
         b"p0 refill 2\np1 refill 1\np1 refill 2\np1 refill 3\np1 refill 4\n",
         b"NOT_YOURS\nNOT_YOURS\nREFILLED\nREFILLED\nNOT_YOURS\n",
     )

@@ -1,38 +1,22 @@
 //! Whole runs over memory, in pieces of 1, 3 and 5000 bytes.
-mod bad_lines;
-mod cut_short;
-mod devices;
-mod evicting;
-mod growing;
-mod holding;
-mod locking;
-mod making;
-mod order;
-mod serving;
-mod standard;
-mod writing;
-
 ghost use Rattle.std.specs.Prelude.{◌≡◌, false};
 
-use crate::fault::RunFault;
-use crate::memory::{MemSink, MemSource};
-use crate::script::run_script;
-use segindex::MakeFault;
-use segword::{Shape, ShapeFault};
+use segscript::{MemSink, MemSource, RunFault, run_script};
+use segword::Shape;
 use std::alloc::Global;
 use std::process::Abort;
 use std::test::Fail;
 
 /// How many bytes go through a device at a time.
-const STEPS: [usize; 3] = [1, 3, 5000];
+pub const STEPS: [usize; 3] = [1, 3, 5000];
 
 /// A script of three lines, and its replies.
-const SCRIPT: &[u8] = b"p0 refill 0\np0 set a 1\np0 get a\n";
+pub const SCRIPT: &[u8] = b"p0 refill 0\np0 set a 1\np0 get a\n";
 
-const REPLIES: &[u8] = b"REFILLED\nSTORED\nVALUE 1\n";
+pub const REPLIES: &[u8] = b"REFILLED\nSTORED\nVALUE 1\n";
 
 /// One bucket, one pass, and one segment.
-fn shape_of(rows: u32) -> Shape {
+pub fn shape_of(rows: u32) -> Shape {
     Shape {
         buckets: 1,
         overflow: 0,
@@ -44,7 +28,7 @@ fn shape_of(rows: u32) -> Shape {
 }
 
 /// A reader of the script in pieces, which may fail after some bytes.
-fn reader_of(script: &[u8], step: usize, good: Option<usize>) -> MemSource<'_>
+pub fn reader_of(script: &[u8], step: usize, good: Option<usize>) -> MemSource<'_>
     ensures { result.failed ≡ false }
 {
     let mut reader = MemSource::new(script);
@@ -54,7 +38,7 @@ fn reader_of(script: &[u8], step: usize, good: Option<usize>) -> MemSource<'_>
 }
 
 /// Runs a script, and checks how it ends, what it wrote, and that it flushed once where it ended well, else not at all.
-fn check(
+pub fn check(
     rt: &impl Abort,
     alloc: Global,
     shape: Shape,
@@ -76,7 +60,7 @@ fn check(
 }
 
 /// Checks a script whose devices don't fail.
-fn check_script(
+pub fn check_script(
     rt: &impl Abort,
     alloc: Global,
     rows: u32,
@@ -89,7 +73,7 @@ fn check_script(
 
 /// Checks a script without bad lines. The shape has no overflow bucket, and this many buckets, passes, segments of a pass
 /// and rows of a segment.
-fn check_turns(
+pub fn check_turns(
     rt: &impl Abort,
     alloc: Global,
     [buckets, passes, segments_each, rows]: [u32; 4],

@@ -2,9 +2,10 @@
 ghost use Rattle.std.specs.Prelude.{◌≡◌, ◌++◌, [], refl};
 ghost use Rattle.segscript.specs.Memory.{hands_more, takes_more, takes_none};
 
-use super::*;
-use crate::device::{Failed, Sink, Source};
+use crate::runs::{REPLIES, SCRIPT, reader_of, shape_of};
+use segscript::{Failed, MemSink, MemSource, Sink, Source, run_script};
 use std::cell::Cell;
+use std::test::Fail;
 
 /// A reader that keeps, for each read, how many bytes the writer had taken.
 #[derive(Drop)]

@@ -1,6 +1,9 @@
 //! Readers and writers that fail at each place.
-use super::*;
-use crate::memory::WhenFull;
+use crate::runs::{REPLIES, SCRIPT, STEPS, check, reader_of, shape_of};
+use segscript::{MemSink, RunFault, WhenFull, run_script};
+use std::alloc::Global;
+use std::process::Abort;
+use std::test::Fail;
 
 #[test]
 fn a_reader_that_fails_leaves_the_replies_of_the_whole_lines(rt: HostRuntime) -> Result<(), Fail> {

@@ -5,8 +5,8 @@ use Rattle.segword.specs.declared.shape.Shape.{Shape}
 use Rattle.segmodel.specs.declared.answer.Outcome.{Outcome}
 use Rattle.segmodel.specs.State.{State, fresh}
 use Rattle.segmodel.specs.Turns.{Turns, Runs}
-use Rattle.segmodel.specs.Spelling.{PassTurn, IsSayable, spelling}
-use Rattle.segmodel.specs.Replies.{reply}
+use Rattle.segscript.specs.Spelling.{PassTurn, IsSayable, spelling}
+use Rattle.segscript.specs.Replies.{reply}
 
 -- ---- lines
 

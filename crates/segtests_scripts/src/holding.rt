@@ -1,5 +1,7 @@
 //! What scripts of holds are answered.
-use super::*;
+use crate::runs::{check_script, check_turns};
+use segscript::RunFault;
+use std::test::Fail;
 
 #[test]
 fn a_held_item_outlives_its_key(rt: HostRuntime) -> Result<(), Fail> {

@@ -16,7 +16,7 @@ use Rattle.segmodel.specs.declared.answer.RefillAnswer.{RefillAnswer}
 use Rattle.segmodel.specs.declared.answer.RefillAnswer.TheVariants as refill
 use Rattle.segmodel.specs.declared.answer.Outcome.{Outcome}
 use Rattle.segmodel.specs.declared.answer.Outcome.TheVariants as outcome
-use Rattle.segmodel.specs.Spelling.{value_word}
+use Rattle.segscript.specs.Spelling.{value_word}
 
 -- ---- answers to commands
 

@@ -1,5 +1,5 @@
 use Rattle.segscript.proofs.OneTurn.{one_spelling}
-use Rattle.segscript.proofs.line.one_turn.Goals as goal
+use Rattle.segscript.proofs.laws.one_turn.Goals as goal
 
 pub returns : goal.returns
 returns c = one_spelling

@@ -6,8 +6,8 @@ use Rattle.segmodel.specs.declared.request.Request.TheVariants.{Set, Add, Replac
 use Rattle.segmodel.specs.declared.answer.Command.TheVariants.{Write, Get, Gets, Evict, Refill}
 use Rattle.segmodel.specs.declared.answer.Turn.{Turn}
 use Rattle.segmodel.specs.declared.answer.Turn.TheVariants.{Serve, Hold, Held, Release, Lock, Unlock}
-use Rattle.segmodel.specs.Spelling.{IsNumber, IsKeyWord, IsValueWord, value_word, turn_words, IsWritable, pass_word}
-use Rattle.segmodel.specs.Laws.{LinesFit}
+use Rattle.segscript.specs.Laws.{LinesFit}
+use Rattle.segscript.specs.Spelling.{IsNumber, IsKeyWord, IsValueWord, value_word, turn_words, IsWritable, pass_word}
 
 -- the bytes of these words, with one more after each
 abbrev bytes_of : List (List ℕ) → ℕ

@@ -1,5 +1,7 @@
 //! A script that is cut after each of its bytes.
-use super::*;
+use crate::runs::{REPLIES, SCRIPT, check_script};
+use segscript::RunFault;
+use std::test::Fail;
 
 #[test]
 fn a_script_cut_anywhere_ends_as_its_last_line_says(rt: HostRuntime) -> Result<(), Fail> {
