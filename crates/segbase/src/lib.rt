@@ -22,6 +22,3 @@ pub use fault::MakeFault;
 pub use law::{Held, Locked, Memo, Sight};
 pub use pass::Pass;
 pub use place::{Place, RowPlace};
-
-#[cfg(test)]
-mod tests;
