@@ -1,8 +1,8 @@
 //! Gates that hold and stop the passes of a load.
 ghost use Rattle.std.specs.Prelude.{◌≡◌};
 
-use crate::{Gate, LoadFault, OpenGate, run_load};
 use segindex::MakeFault;
+use segload::{Gate, LoadFault, OpenGate, run_load};
 use segword::{Shape, ShapeFault};
 use std::sync::atomic::AtomicU64;
 use std::sync::atomic::Ordering::SeqCst;

@@ -1,8 +1,8 @@
 //! A load of one pass counts what a plain loop over the same commands counts.
 ghost use Rattle.std.specs.Prelude.{◌≡◌, ◌<◌, ◌≤◌, ◌^◌};
 
-use crate::{OpenGate, PassTotals, Tallies, run_load};
 use segindex::Solo;
+use segload::{OpenGate, PassTotals, Tallies, run_load};
 use segmodel::{
     Answer, Command, DeleteAnswer, EvictAnswer, GetAnswer, GetsAnswer, RefillAnswer, Request,
     WriteAnswer,
