@@ -4,7 +4,6 @@ pub mod Begun
 pub mod Carried
 pub mod Closed
 pub mod Dealt
-pub mod Entering
 pub mod Exchanging
 pub mod Minded
 pub mod Moves
@@ -17,5 +16,3 @@ pub mod Standing
 pub mod Staying
 pub mod Stepping
 pub mod Taking
-pub mod WalkAllowed
-pub mod Walking

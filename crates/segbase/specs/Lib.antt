@@ -1,5 +1,4 @@
 pub mod Closing
-pub mod Entering
 pub mod Made
 pub mod Minding
 pub mod Opening
@@ -10,4 +9,3 @@ pub mod Ruled
 pub mod Spots
 pub mod Steps
 pub mod Traces
-pub mod Walk

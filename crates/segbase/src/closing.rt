@@ -3,6 +3,7 @@ ghost use Rattle.std.specs.Prelude.{◌≡◌, ◌<◌, ◌≤◌, ◌^◌, ℕ,
 ghost use Rattle.std.specs.Slots.{slots_len, IsFull};
 ghost use Rattle.segword.specs.Shape.{word_count};
 ghost use Rattle.segcore.specs.declared.event.Event.{Event};
+ghost use Rattle.segcore.specs.declared.cell.Cell.{Cell};
 ghost use Rattle.segcore.specs.declared.cell.Cell.TheVariants.{OfRow};
 ghost use Rattle.segcore.specs.Lawful.{IsSegment};
 ghost use Rattle.segbase.specs.Spots.{IsLayoutOf};
@@ -61,7 +62,7 @@ impl Board {
 }
 
 impl Words {
-    ghost use Rattle.segcore.specs.Word.{IsCell};
+    ghost use Rattle.segcore.specs.Word.{IsCell, address};
     ghost use Rattle.segbase.specs.Spots.{IsPlace, cell_at, cell_of};
     ghost use Rattle.segbase.specs.Closing.{shape_of, word_at};
 
@@ -70,6 +71,14 @@ impl Words {
         ensures { result ≡ shape_of self.now }
     {
         self.shape
+    }
+
+    /// The word at a place of the table. The counter lies first, then the buckets, the overflow buckets, and each segment's word with its rows.
+    pub fn at(&self, place: usize) -> u64
+        requires { place < word_count (shape_of self.now) }
+        ensures { (cell : Cell) → address (shape_of self.now) cell ≡ place → result ≡ word_at self.now cell }
+    {
+        self.closed.word(place)
     }
 
     /// An item word.

@@ -23,6 +23,3 @@ pub use law::{Held, Locked, Memo, Sight};
 pub use overflow::CHAIN_BUCKETS;
 pub use pass::Pass;
 pub use place::{Place, RowPlace};
-
-#[cfg(test)]
-mod tests;

@@ -6,8 +6,6 @@ mod fault;
 mod gate;
 mod gather;
 mod load;
-#[cfg(test)]
-mod tests;
 mod totals;
 mod worker;
 

@@ -11,6 +11,3 @@ pub use frequency::next_frequency;
 pub use load::{Kind, Load};
 pub use ring::{Ring, each_number_comes_once};
 pub use workload::Workload;
-
-#[cfg(test)]
-mod tests;

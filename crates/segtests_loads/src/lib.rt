@@ -1,0 +1,7 @@
+//! Loads beside a plain loop over the same commands, on threads of their own, and with gates that stop them. This crate has tests alone.
+#![tactic(auto)]
+
+#[cfg(test)]
+mod alone;
+#[cfg(test)]
+mod gates;

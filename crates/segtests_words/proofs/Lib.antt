@@ -1,0 +1,3 @@
+pub mod EnteringPasses
+pub mod WalkAllowed
+pub mod Walking

@@ -1,0 +1,5 @@
+use Rattle.segtests_words.proofs.WalkAllowed.{free_evicted}
+use Rattle.segtests_words.proofs.walk.evict.Goals as goal
+
+pub give_back-requires : goal.give_back-requires
+give_back-requires g c = (c.clear.ensures, free_evicted)

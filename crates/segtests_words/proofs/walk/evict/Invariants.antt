@@ -1,0 +1,8 @@
+use Rattle.segtests_words.specs.Walk.{replaced, unlinked}
+use Rattle.segtests_words.proofs.walk.evict.Given as goal
+
+abbrev pub ghost-take : goal.ghost-take
+ghost-take g a = replaced
+
+abbrev pub ghost-give_back : goal.ghost-give_back
+ghost-give_back g a = unlinked

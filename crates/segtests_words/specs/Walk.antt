@@ -1,0 +1,92 @@
+-- The walk of an only pass through each kind of step, whose words the tests read back: the board's shape, and what the pass has done at each stage, the newest event first.
+use Rattle.std.specs.Prelude.{◌≡◌, ℕ, true, false, List, [], ◌∷◌, Some}
+use Rattle.segword.specs.declared.shape.Shape.{Shape}
+use Rattle.segmodel.specs.declared.request.Request.{Request}
+use Rattle.segmodel.specs.declared.request.Request.TheVariants.{Set, Replace}
+use Rattle.segcore.specs.declared.event.Event.{Event}
+use Rattle.segcore.specs.declared.event.Event.TheVariants.{Took, Freed, Filled, Linked, Unlinked, Drew, Put, Chained, Bumped, Entered, Left, Refilled}
+use Rattle.segbase.specs.declared.pass.Pass.{Pass}
+use Rattle.segbase.specs.declared.board.Board.{Board}
+use Rattle.segbase.specs.Passes.{number, trace, IsPassOf}
+
+abbrev pub shape : Shape
+shape = record { buckets = 1; overflow = 1; passes = 1; segments_each = 2; rows = 2; first_version = 5 }
+
+-- the key ab, the value xyz
+abbrev pub key : List ℕ
+key = 97 ∷ 98 ∷ []
+
+abbrev pub value : List ℕ
+value = 120 ∷ 121 ∷ 122 ∷ []
+
+abbrev pub set : Request
+set = Set key value
+
+abbrev pub replace : Request
+replace = Replace key value
+
+-- the bit is taken
+abbrev pub took : List Event → List Event
+took es = Took 0 0 ∷ es
+
+-- the words of the pair's row that aren't 0 are stored
+abbrev pub written : ℕ → ℕ → List Event → List Event
+written s r es = Filled 0 s r 4 0x7a7978 ∷ Filled 0 s r 1 0x6261 ∷ Filled 0 s r 0 0x302 ∷ es
+
+-- a row of segment 1 is written, and the key set in word 7
+abbrev pub linked : List Event
+linked = Linked 0 set 1 1 7 ∷ written 1 1 (took [])
+
+abbrev pub stored : List Event
+stored = Freed 0 0 true ∷ linked
+
+-- it is read, and its frequency raised
+abbrev pub inside : List Event
+inside = Entered 0 1 ∷ stored
+
+abbrev pub twice_inside : List Event
+twice_inside = Entered 0 1 ∷ inside
+
+abbrev pub raised : List Event
+raised = Bumped 0 1 1 2 ∷ twice_inside
+
+abbrev pub bumped : List Event
+bumped = Left 0 1 ∷ Left 0 1 ∷ raised
+
+-- the chain grows, and the item moves on
+abbrev pub drawn : List Event
+drawn = Drew 0 0 1 0 ∷ took bumped
+
+abbrev pub filled : List Event
+filled = Put 0 0 0x0890_2000_0010_0001 ∷ drawn
+
+abbrev pub chained : List Event
+chained = Chained 0 0 0 ∷ filled
+
+abbrev pub moved : List Event
+moved = Freed 0 0 false ∷ chained
+
+-- there the item is replaced by one in a row of segment 0
+abbrev pub relinked : List Event
+relinked = Linked 0 replace 0 1 9 ∷ written 0 1 (took moved)
+
+abbrev pub replaced : List Event
+replaced = Freed 0 0 true ∷ relinked
+
+-- it is evicted
+abbrev pub unlinked : List Event
+unlinked = Unlinked 0 key 9 (Some 0) ∷ took replaced
+
+abbrev pub evicted : List Event
+evicted = Freed 0 0 false ∷ unlinked
+
+-- and its segment refilled
+abbrev pub refilled : List Event
+refilled = Refilled 0 0 ∷ evicted
+
+-- the pass is the only one of a board of this shape, and these are all events
+pub record HasDone (b : Board) (p : Pass) (events : List Event) : Type 0 where
+  pub pass : IsPassOf b p
+  pub shape : b.shape ≡ shape
+  pub first : number p ≡ 0
+  pub trace : trace p ≡ events

@@ -1,0 +1,119 @@
+//! The words of a board and the plain parts of its passes, by the format.
+ghost use Rattle.std.specs.Prelude.{IfOk};
+ghost use Rattle.segword.specs.Shape.{IsValid};
+ghost use Rattle.segbase.specs.Closing.{shape_of};
+
+use crate::boards::{check, made};
+use segbase::{Board, MakeFault, Words};
+use segmodel::SegState;
+use segword::{Shape, ShapeFault};
+use std::alloc::Global;
+use std::process::Abort;
+use std::test::Fail;
+
+const SHAPE: Shape = Shape {
+    buckets: 2,
+    overflow: 1,
+    passes: 2,
+    segments_each: 1,
+    rows: 2,
+    first_version: 5,
+};
+
+/// The counter, two buckets, an overflow bucket, and two segments of a word and two rows.
+const COUNT: usize = 1 + 16 + 8 + 2 * 17;
+
+#[test]
+fn every_word_at_the_start(rt: HostRuntime) -> Result<(), Fail> {
+    let (board, pass) = made(rt.alloc(), SHAPE)?;
+    let mut words = [0; COUNT];
+    words[1] = 0x0000_0005_0000_0000;
+    words[9] = 0x0000_0005_0000_0000;
+    check(&rt, &board.close(pass), &words);
+    Ok(())
+}
+
+#[test]
+fn passes_come_in_the_order_of_their_numbers(rt: HostRuntime) -> Result<(), Fail> {
+    let (_board, passes) = Board::new(rt.alloc(), SHAPE)?;
+    assert_eq!(rt; passes.len(), 2);
+    for (index, pass) in passes.iter().enumerate() {
+        let number = pass.number();
+        assert_eq!(rt; number as usize, index);
+        assert_eq!(rt; pass.state(number), Some(SegState::Empty));
+        assert_eq!(rt; pass.used(number), Some(0));
+        assert_eq!(rt; pass.state(1 ^ (number & 1)), None);
+        assert_eq!(rt; pass.current(), None);
+        assert_eq!(rt; pass.locked(), None);
+        assert!(rt; !pass.is_holding());
+    }
+    Ok(())
+}
+
+#[test]
+fn plain_parts_change_alone(rt: HostRuntime) -> Result<(), Fail> {
+    let (_board, mut passes) = Board::new(rt.alloc(), SHAPE)?;
+    assert_eq!(rt; passes.len(), 2);
+    let pass = &mut passes[1];
+    if pass.state(1).is_some() {
+        pass.set_state(1, SegState::InUse);
+    }
+    if pass.used(1).is_some() {
+        pass.set_used(1, 2);
+    }
+    pass.set_current(Some(1));
+    pass.set_locked(Some(0));
+    pass.set_holding(true);
+    assert_eq!(rt; pass.state(1), Some(SegState::InUse));
+    assert_eq!(rt; pass.used(1), Some(2));
+    assert_eq!(rt; pass.current(), Some(1));
+    assert_eq!(rt; pass.locked(), Some(0));
+    assert!(rt; pass.is_holding());
+    assert_eq!(rt; pass.state(0), None);
+    Ok(())
+}
+
+#[test]
+fn a_bad_shape_is_refused(rt: HostRuntime) -> Result<(), Fail> {
+    let none = Shape { passes: 0, ..SHAPE };
+    let fault = MakeFault::Shape(ShapeFault::BadPasses);
+    assert_eq!(rt; Board::new(rt.alloc(), none).err(), Some(fault));
+    assert_eq!(rt;
+        format!(in rt.alloc(); "{}", MakeFault::OutOfMemory)?.as_str(),
+        "out of memory"
+    );
+    Ok(())
+}
+
+// Takes the bit of bucket 1, and gives it back where that is asked for. It gives the board's words then.
+fn bit_of_bucket_1(rt: &impl Abort, alloc: Global, is_given_back: bool) -> Result<Words, Fail>
+    ensures { IfOk result (λ words. IsValid (shape_of words)) }
+{
+    let (board, mut pass) = made(alloc, SHAPE)?;
+    assert!(rt; board.take(&mut pass, 1));
+    let info = board.info_look(&mut pass, 1);
+    assert_eq!(rt; info.version, 5);
+    assert!(rt; info.held);
+    if is_given_back {
+        board.release(&mut pass, 1, false);
+    }
+    Ok(board.close(pass))
+}
+
+#[test]
+fn a_bit_is_taken_and_given_back(rt: HostRuntime) -> Result<(), Fail> {
+    for (is_given_back, word) in [
+        (false, 0x0000_0005_0000_0001),
+        (true, 0x0000_0005_0000_0000),
+    ] {
+        let mut words = [0; COUNT];
+        words[1] = 0x0000_0005_0000_0000;
+        words[9] = word;
+        check(
+            &rt,
+            &bit_of_bucket_1(&rt, rt.alloc(), is_given_back)?,
+            &words,
+        );
+    }
+    Ok(())
+}

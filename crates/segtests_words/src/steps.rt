@@ -1,0 +1,147 @@
+//! The steps of the walk, a function each: what the only pass of a board has done by then, newest first.
+ghost use Rattle.std.specs.Prelude.{List, [], ◌∷◌, None};
+ghost use Rattle.segcore.specs.declared.event.Event.{Event};
+ghost use Rattle.segcore.specs.declared.event.Event.TheVariants.{Freed, Filled};
+ghost use Rattle.segcore.specs.Kind.{May, release, row_store};
+ghost use Rattle.segtests_words.specs.Walk.{shape, took, written, linked, twice_inside, raised, bumped, drawn, filled, chained, moved, relinked, replaced, unlinked, evicted, refilled, HasDone};
+
+use segbase::{Board, Pass, Place};
+use segword::{Item, Shape};
+use std::process::Abort;
+
+/// A bucket, an overflow bucket, and two segments of two rows.
+pub const SHAPE: Shape = Shape {
+    buckets: 1,
+    overflow: 1,
+    passes: 1,
+    segments_each: 2,
+    rows: 2,
+    first_version: 5,
+};
+
+/// Word 7 of the bucket.
+pub const LAST: Place = Place { bucket: 0, word: 7 };
+
+/// The item of `ab`, whose hash is 089c4407b545986a, in row 1 of segment 1.
+const ITEM: Item = Item {
+    tag: 0x089,
+    freq: 1,
+    seg: 1,
+    row: 1,
+};
+
+/// The same with a higher frequency.
+const RAISED: Item = Item {
+    tag: 0x089,
+    freq: 2,
+    seg: 1,
+    row: 1,
+};
+
+/// Word 1 of the overflow bucket.
+const MOVED: Place = Place { bucket: 1, word: 1 };
+
+/// The item of `ab` in row 1 of segment 0.
+const REPLACEMENT: Item = Item {
+    tag: 0x089,
+    freq: 1,
+    seg: 0,
+    row: 1,
+};
+
+/// The bucket's bit is taken.
+pub fn take(rt: &impl Abort, board: &Board, pass: &mut Pass)
+    ghost done: { List Event }
+    requires { HasDone board.now pass.old done }
+    ensures { HasDone board.now pass.new (took done) }
+{
+    assert!(rt; board.take(pass, 0));
+}
+
+/// The bit is given back.
+pub fn give_back(board: &Board, pass: &mut Pass, counted: bool)
+    ghost done: { List Event }
+    requires done { HasDone board.now pass.old done }
+    requires may { May shape done 0 (release 0 counted None) }
+    ensures { HasDone board.now pass.new (Freed 0 0 counted ∷ done) }
+{
+    board.release(pass, 0, counted);
+}
+
+/// A word of row 1 of a segment is stored.
+pub fn store(board: &Board, pass: &mut Pass, segment: u32, word: u8, value: u64)
+    ghost done: { List Event }
+    requires done { HasDone board.now pass.old done }
+    requires may { May shape done 0 (row_store segment 1 word value) }
+    ensures { HasDone board.now pass.new (Filled 0 segment 1 word value ∷ done) }
+{
+    board.row_store(pass, segment, 1, word, value);
+}
+
+/// Word 7 of the bucket names the row.
+pub fn link(board: &Board, pass: &mut Pass)
+    requires { HasDone board.now pass.old (written 1 1 (took [])) }
+    ensures { HasDone board.now pass.new linked }
+{
+    board.link(pass, LAST, ITEM);
+}
+
+/// The frequency of the item is raised.
+pub fn bump(rt: &impl Abort, board: &Board, pass: &mut Pass)
+    requires { HasDone board.now pass.old twice_inside }
+    ensures { HasDone board.now pass.new raised }
+{
+    assert!(rt; board.bump(pass, LAST, ITEM, RAISED));
+}
+
+/// The overflow bucket is drawn.
+pub fn draw(rt: &impl Abort, board: &Board, pass: &mut Pass)
+    requires { HasDone board.now pass.old (took bumped) }
+    ensures { HasDone board.now pass.new drawn }
+{
+    assert!(rt; board.draw_overflow(pass, 0, 0).is_ok());
+}
+
+/// Its word 1 gets the item.
+pub fn fill(board: &Board, pass: &mut Pass)
+    requires { HasDone board.now pass.old drawn }
+    ensures { HasDone board.now pass.new filled }
+{
+    board.fill_overflow(pass, 0, RAISED);
+}
+
+/// It joins the chain.
+pub fn chain(rt: &impl Abort, board: &Board, pass: &mut Pass)
+    requires { HasDone board.now pass.old filled }
+    ensures { HasDone board.now pass.new chained }
+{
+    assert!(rt; board.chain(pass, LAST, 0x0890_2000_0010_0001, 0).is_ok());
+}
+
+/// The item is replaced where it has moved to, by one in row 1 of segment 0.
+pub fn replace(rt: &impl Abort, board: &Board, pass: &mut Pass)
+    requires { HasDone board.now pass.old (written 0 1 (took moved)) }
+    ensures { HasDone board.now pass.new relinked }
+{
+    assert!(rt;
+        board
+            .replace(pass, MOVED, 0x0890_2000_0010_0001, REPLACEMENT)
+            .is_ok()
+    );
+}
+
+/// The item is evicted.
+pub fn clear(rt: &impl Abort, board: &Board, pass: &mut Pass)
+    requires { HasDone board.now pass.old (took replaced) }
+    ensures { HasDone board.now pass.new unlinked }
+{
+    assert!(rt; board.clear(pass, MOVED, 0x0890_1000_0000_0001).is_ok());
+}
+
+/// Segment 0 is refilled.
+pub fn refill(rt: &impl Abort, board: &Board, pass: &mut Pass)
+    requires { HasDone board.now pass.old evicted }
+    ensures { HasDone board.now pass.new refilled }
+{
+    assert!(rt; board.none_reading(pass, 0));
+}

@@ -1,0 +1,196 @@
+//! The words of a table after each kind of step, written out by the format.
+ghost use Rattle.std.specs.Prelude.{[], IfSome};
+ghost use Rattle.segbase.specs.Passes.{IsPassOf};
+ghost use Rattle.segtests_words.specs.Walk.{stored, bumped, moved, replaced, refilled, HasDone};
+
+use crate::boards::{check, made};
+use crate::steps::{
+    LAST, SHAPE, bump, chain, clear, draw, fill, give_back, link, refill, replace, store, take,
+};
+use segbase::{Board, Pass};
+use std::process::Abort;
+use std::test::Fail;
+
+/// The counter, a bucket, an overflow bucket, and two segments of a word and two rows.
+const COUNT: usize = 1 + 8 + 8 + 2 * 17;
+
+/// How many steps the walk has.
+const STEPS: u32 = 26;
+
+/// The word at the start that isn't 0, and the word that each step changes: the step, the place and the word.
+const CHANGES: [(u32, usize, u64); 26] = [
+    (0, 1, 0x0000_0005_0000_0000),
+    // The pair `ab` and `xyz` is stored in row 1 of segment 1, and named by word 7.
+    (1, 1, 0x0000_0005_0000_0001),
+    (2, 43, 0x0000_0000_0000_0302),
+    (3, 44, 0x0000_0000_0000_6261),
+    (4, 47, 0x0000_0000_007a_7978),
+    (5, 8, 0x0890_1000_0010_0001),
+    (6, 1, 0x0000_0006_0000_0000),
+    // The pass comes into segment 1 twice, raises the frequency there, and leaves twice.
+    (7, 34, 1),
+    (8, 34, 2),
+    (9, 8, 0x0890_2000_0010_0001),
+    (10, 34, 1),
+    (11, 34, 0),
+    // The overflow bucket joins the chain, and the item moves on into its word 1.
+    (12, 1, 0x0000_0006_0000_0001),
+    (13, 0, 1),
+    (14, 10, 0x0890_2000_0010_0001),
+    (15, 8, 0x0000_0000_0000_0001),
+    (16, 1, 0x0000_0006_0000_0000),
+    // The item is replaced where it has moved to, by one in row 1 of segment 0.
+    (17, 1, 0x0000_0006_0000_0001),
+    (18, 26, 0x0000_0000_0000_0302),
+    (19, 27, 0x0000_0000_0000_6261),
+    (20, 30, 0x0000_0000_007a_7978),
+    (21, 10, 0x0890_1000_0000_0001),
+    (22, 1, 0x0000_0007_0000_0000),
+    // It is evicted. That its segment is refilled then, step 26, changes no word.
+    (23, 1, 0x0000_0007_0000_0001),
+    (24, 10, 0),
+    (25, 1, 0x0000_0007_0000_0000),
+];
+
+// The first steps of those that are left: the pair is set.
+fn set(rt: &impl Abort, board: &Board, pass: &mut Pass, left: u32) -> Option<u32>
+    requires { HasDone board.now pass.old [] }
+    ensures done { IfSome result (λ left. HasDone board.now pass.new stored) }
+    ensures pass { IsPassOf board.now pass.new }
+{
+    let left = left.checked_sub(1)?;
+    take(rt, board, pass);
+    let left = left.checked_sub(1)?;
+    store(board, pass, 1, 0, 0x0302);
+    let left = left.checked_sub(1)?;
+    store(board, pass, 1, 1, 0x6261);
+    let left = left.checked_sub(1)?;
+    store(board, pass, 1, 4, 0x007a_7978);
+    let left = left.checked_sub(1)?;
+    link(board, pass);
+    let left = left.checked_sub(1)?;
+    give_back(board, pass, true);
+    Some(left)
+}
+
+// What the loads find then.
+fn look(rt: &impl Abort, board: &Board, pass: &mut Pass)
+    requires { HasDone board.now pass.old stored }
+    ensures { HasDone board.now pass.new stored }
+{
+    let info = board.glance(pass, 0);
+    assert!(rt; !info.held);
+    assert_eq!(rt; info.version, 6);
+    assert_eq!(rt; board.look(pass, LAST), 0x0890_1000_0010_0001);
+    assert_eq!(rt; board.row_load(pass, 1, 1, 4), 0x007a_7978);
+}
+
+// The next ones: it is read.
+fn read(rt: &impl Abort, board: &Board, pass: &mut Pass, left: u32) -> Option<u32>
+    requires { HasDone board.now pass.old stored }
+    ensures done { IfSome result (λ left. HasDone board.now pass.new bumped) }
+    ensures pass { IsPassOf board.now pass.new }
+{
+    let left = left.checked_sub(1)?;
+    board.enter(pass, 1);
+    let left = left.checked_sub(1)?;
+    board.enter(pass, 1);
+    let left = left.checked_sub(1)?;
+    bump(rt, board, pass);
+    let left = left.checked_sub(1)?;
+    board.leave(pass, 1);
+    let left = left.checked_sub(1)?;
+    board.leave(pass, 1);
+    Some(left)
+}
+
+// The chain grows.
+fn grow(rt: &impl Abort, board: &Board, pass: &mut Pass, left: u32) -> Option<u32>
+    requires { HasDone board.now pass.old bumped }
+    ensures done { IfSome result (λ left. HasDone board.now pass.new moved) }
+    ensures pass { IsPassOf board.now pass.new }
+{
+    let left = left.checked_sub(1)?;
+    take(rt, board, pass);
+    let left = left.checked_sub(1)?;
+    draw(rt, board, pass);
+    let left = left.checked_sub(1)?;
+    fill(board, pass);
+    let left = left.checked_sub(1)?;
+    chain(rt, board, pass);
+    let left = left.checked_sub(1)?;
+    give_back(board, pass, false);
+    Some(left)
+}
+
+// The pair is stored again.
+fn set_again(rt: &impl Abort, board: &Board, pass: &mut Pass, left: u32) -> Option<u32>
+    requires { HasDone board.now pass.old moved }
+    ensures done { IfSome result (λ left. HasDone board.now pass.new replaced) }
+    ensures pass { IsPassOf board.now pass.new }
+{
+    let left = left.checked_sub(1)?;
+    take(rt, board, pass);
+    let left = left.checked_sub(1)?;
+    store(board, pass, 0, 0, 0x0302);
+    let left = left.checked_sub(1)?;
+    store(board, pass, 0, 1, 0x6261);
+    let left = left.checked_sub(1)?;
+    store(board, pass, 0, 4, 0x007a_7978);
+    let left = left.checked_sub(1)?;
+    replace(rt, board, pass);
+    let left = left.checked_sub(1)?;
+    give_back(board, pass, true);
+    Some(left)
+}
+
+// It is evicted, and its segment refilled.
+fn evict(rt: &impl Abort, board: &Board, pass: &mut Pass, left: u32) -> Option<u32>
+    requires { HasDone board.now pass.old replaced }
+    ensures { IsPassOf board.now pass.new }
+{
+    let left = left.checked_sub(1)?;
+    take(rt, board, pass);
+    let left = left.checked_sub(1)?;
+    clear(rt, board, pass);
+    let left = left.checked_sub(1)?;
+    give_back(board, pass, false);
+    let left = left.checked_sub(1)?;
+    refill(rt, board, pass);
+    Some(left)
+}
+
+// So many steps of the walk. It gives how many are left, where it has come to its end.
+fn walk(rt: &impl Abort, board: &Board, pass: &mut Pass, steps: u32) -> Option<u32>
+    requires { HasDone board.now pass.old [] }
+    ensures { IsPassOf board.now pass.new }
+{
+    let left = set(rt, board, pass, steps)?;
+    look(rt, board, pass);
+    let left = read(rt, board, pass, left)?;
+    let left = grow(rt, board, pass, left)?;
+    let left = set_again(rt, board, pass, left)?;
+    evict(rt, board, pass, left)
+}
+
+// All words after so many steps.
+fn words_after(steps: u32) -> [u64; COUNT] {
+    let mut words = [0; COUNT];
+    for (step, place, word) in CHANGES {
+        if step <= steps && place < COUNT {
+            words[place] = word;
+        }
+    }
+    words
+}
+
+#[test]
+fn each_word_after_each_step(rt: HostRuntime) -> Result<(), Fail> {
+    for steps in 0..=STEPS {
+        let (board, mut pass) = made(rt.alloc(), SHAPE)?;
+        let left = walk(&rt, &board, &mut pass, steps);
+        assert_eq!(rt; left, (steps == STEPS).then_some(0), "{steps} steps");
+        check(&rt, &board.close(pass), &words_after(steps));
+    }
+    Ok(())
+}
