@@ -1,22 +1,10 @@
 //! The object index of a segment-structured cache as a program, which runs scripts of cache commands.
 #![tactic(auto)]
 
-mod arguments;
-mod command;
-mod command_line;
-mod explain;
-mod program;
-mod report;
-mod totals;
-
-use program::run_program;
-use report::{ProgramFault, report};
+use segcli::{ProgramFault, report, run_program};
 use segscript::{ReadSource, WriteSink};
 use std::process::ExitCode;
 use std::{env, io};
-
-#[cfg(test)]
-mod tests;
 
 // The words after the program's name.
 fn given_words(rt: &HostRuntime) -> Result<Vec<String>, ProgramFault> {

@@ -1,0 +1,65 @@
+-- The number of an option, as a getter of matches reads it.
+use Rattle.std.proofs.Common.{◌≡◌, ◌∙◌, ◌^◌, ◌&&◌, ℕ, Bool, true, false, List, [], ◌∷◌, length, Option, Some, None, Result, ap, refl, nat_lt, lt-ltb, ltb-true}
+use Rattle.std.specs.List.{list_all}
+use Rattle.std.specs.Option.{unwrap_or, option_map, option_map_or}
+use Rattle.std.specs.declared.num.ParseIntError.{ParseIntError}
+use Rattle.std.specs.Borrow.{Bor}
+use Rattle.std.specs.Char.{digit_value}
+use Rattle.std.specs.Str.Parse.{AllDigits, ExplainsUnsignedError, HasUnsignedDigitsIfOk, ParsesUnsigned, digits_value, without_leading_plus}
+use Rattle.clap.specs.Matches.{ReadsOne, first_value, one_text}
+use Rattle.clap.specs.Walk.{first_of, rows_of}
+use Rattle.clap.specs.declared.parser.matches.Found.{Found}
+use Rattle.clap.specs.ValueTests.{is_numeral}
+use Rattle.clap.proofs.WalkLemmas.{both, first_value-rows, one_text-rows}
+use Rattle.segcli.specs.CommandLine.{NumberOption}
+use Rattle.segcli.specs.Asked.{number_or, number_given}
+
+digits_pass : (ds : List ℕ) → AllDigits 10 ds → list_all (λ d. nat_lt (digit_value d) 10) ds ≡ true
+digits_pass [] h = refl
+digits_pass (d ∷ ds) h = rw (lt-ltb (digit_value d) 10 h.0) (digits_pass ds h.1)
+
+digits_from : (ds : List ℕ) → list_all (λ d. nat_lt (digit_value d) 10) ds ≡ true → AllDigits 10 ds
+digits_from [] e = tt
+digits_from (d ∷ ds) e =
+    let parts = both _ _ e in
+    (ltb-true _ _ parts.0, digits_from ds parts.1)
+
+abbrev fits : ℕ → List ℕ → Bool
+fits bits digits = is_numeral digits && nat_lt (digits_value 10 digits) (2 ^ bits)
+
+-- what `parse` gives at a type of so many bits
+abbrev pub Gives : ℕ → List ℕ → Result ℕ ParseIntError → Type 0
+Gives bits text r = ParsesUnsigned bits 10 text r × ExplainsUnsignedError 10 text r × HasUnsignedDigitsIfOk text r
+
+-- a text that is no such number
+other_number : (other bits : ℕ) (text : List ℕ) (b : Bool) → fits bits (without_leading_plus text) ≡ b → (b ≡ true → ⊥) → other ≡ number_or other bits text
+other_number other bits text false is unfit = rw is refl
+other_number other bits text true is unfit = absurd (unfit refl)
+
+read_number : (other bits : ℕ) (text : List ℕ) (r : Option ℕ) → ReadsOne (Gives bits) text r → unwrap_or r other ≡ number_or other bits text
+read_number other bits text (Some n) read =
+    let ds : List ℕ = without_leading_plus text in
+    rw (lt-ltb 0 (length ds) read.0.0.0.0, digits_pass ds read.0.0.0.1, lt-ltb (digits_value 10 ds) (2 ^ bits) read.0.0.1) read.0.1
+read_number other bits text None read =
+    let ds : List ℕ = without_leading_plus text in
+    other_number other bits text (fits bits ds) refl (λ all.
+    let outer = both _ _ all in
+    let inner = both _ _ outer.0 in
+    read.1.0 ((ltb-true _ _ inner.0, digits_from ds inner.1), ltb-true _ _ outer.1))
+
+found_number : (other bits : ℕ) (text : Option (List ℕ)) (r : Option ℕ) → (text ≡ None → r ≡ None) → ((t : List ℕ) → text ≡ Some t → ReadsOne (Gives bits) t r) → unwrap_or r other ≡ option_map_or (number_or other bits) text other
+found_number other bits None r none some = rw (none refl) refl
+found_number other bits (Some text) r none some = read_number other bits text r (some text refl)
+
+pub option_read : (option : NumberOption) (found : Found) {r : Option ℕ} {n : ℕ} → (one_text found option.name ≡ None → r ≡ None) → ((t : List ℕ) → one_text found option.name ≡ Some t → ReadsOne (Gives option.bits) t r) → n ≡ unwrap_or r option.default → n ≡ number_given option (rows_of found)
+option_read option found {r} none some is =
+    is ∙ rw (← one_text-rows found option.name) (found_number option.default option.bits (one_text found option.name) r none some)
+
+unwrapped : (r : Option (Bor (List ℕ))) (other : Bor (List ℕ)) → (unwrap_or r other).now ≡ unwrap_or (option_map (λ s. s.now) r) other.now
+unwrapped None other = refl
+unwrapped (Some s) other = refl
+
+-- the text of an argument, or the other one
+pub text_read : (id : List ℕ) (found : Found) (r : Option (Bor (List ℕ))) (other : Bor (List ℕ)) {text : Bor (List ℕ)} → option_map (λ s. s.now) r ≡ first_value found id → text ≡ unwrap_or r other → text.now ≡ unwrap_or (first_of id (rows_of found)) other.now
+text_read id found r other read is =
+    ap (λ s. s.now) is ∙ unwrapped r other ∙ ap (λ o. unwrap_or o other.now) (read ∙ first_value-rows found id)

@@ -1,0 +1,41 @@
+-- What words that are written out are read as.
+use Rattle.std.proofs.Common.{◌≡◌, [], ◌∷◌, Ok, refl, codes}
+use Rattle.std.specs.Fmt.{digits}
+use Rattle.clap.specs.Faults.{fault_of}
+use Rattle.clap.specs.declared.error.kind.ErrorKind.TheVariants as kind
+use Rattle.clap.proofs.OnLiterals.{clap_on_literals}
+use Rattle.segcli.specs.CommandLine.{command_line, default_shape}
+use Rattle.segcli.specs.Asked.{IsRead}
+use Rattle.segcli.specs.declared.command.Command.TheVariants as command
+
+script_alone : IsRead (codes "script" ∷ []) (Ok (command.Script default_shape))
+unfolding command_line clap_on_literals digits
+script_alone = (refl, (refl, refl))
+
+load_with_options : IsRead (codes "load" ∷ codes "--seed" ∷ codes "7" ∷ codes "--rows=4" ∷ []) (Ok (command.Load (record default_shape { rows = 4 }) 7 1000))
+unfolding command_line clap_on_literals digits
+load_with_options = (refl, (refl, refl, refl, refl))
+
+no_such_option : fault_of command_line (codes "load" ∷ codes "--row" ∷ codes "4" ∷ []) ≡ kind.UnknownArgument ∷ []
+unfolding command_line clap_on_literals digits
+no_such_option = refl
+
+no_number : fault_of command_line (codes "script" ∷ codes "--rows" ∷ codes "4294967296" ∷ []) ≡ kind.ValueValidation ∷ []
+unfolding command_line clap_on_literals digits
+no_number = refl
+
+given_twice : fault_of command_line (codes "script" ∷ codes "--rows=1" ∷ codes "--rows=1" ∷ []) ≡ kind.ArgumentConflict ∷ []
+unfolding command_line clap_on_literals digits
+given_twice = refl
+
+no_digits : fault_of command_line (codes "word" ∷ []) ≡ kind.MissingRequiredArgument ∷ []
+unfolding command_line clap_on_literals digits
+no_digits = refl
+
+help_of_load : fault_of command_line (codes "load" ∷ codes "-h" ∷ []) ≡ kind.DisplayHelp ∷ []
+unfolding command_line clap_on_literals digits
+help_of_load = refl
+
+version : fault_of command_line (codes "--version" ∷ []) ≡ kind.DisplayVersion ∷ []
+unfolding command_line clap_on_literals digits
+version = refl

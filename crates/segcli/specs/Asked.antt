@@ -1,0 +1,83 @@
+-- What the program is asked to do by its words.
+use Rattle.std.specs.Prelude.{◌≡◌, ◌≢◌, ◌⊎◌, ◌^◌, ◌&&◌, ⊤, ℕ, Bool, true, false, not, List, [], ◌∷◌, Result, Ok, Err, IsSomeAnd, if◌then◌else◌, nat_lt, unwrap_or, codes}
+use Rattle.std.specs.List.{list_any}
+use Rattle.std.specs.Option.{option_map_or}
+use Rattle.std.specs.Str.Parse.{digits_value, without_leading_plus}
+use Rattle.segword.specs.declared.shape.Shape.{Shape}
+use Rattle.clap.specs.Walk.{Row, Text, first_of, one_of}
+use Rattle.clap.specs.Simple.{subcommand_of}
+use Rattle.clap.specs.ValueTests.{is_numeral}
+use Rattle.clap.specs.Faults.{fault_of}
+use Rattle.clap.specs.declared.error.kind.ErrorKind.{ErrorKind}
+use Rattle.clap.specs.declared.error.kind.ErrorKind.TheVariants as kind
+use Rattle.segcli.specs.CommandLine.{NumberOption, command_line, default_shape, hex}
+use Rattle.segcli.specs.CommandLine.{buckets_option, overflow_option, passes_option, segments_option, rows_option, first_version_option, seed_option, commands_option}
+use Rattle.segcli.specs.declared.arguments.Refusal.{Refusal}
+use Rattle.segcli.specs.declared.arguments.Refusal.TheVariants as refusal
+use Rattle.segcli.specs.declared.command.Command.{Command}
+use Rattle.segcli.specs.declared.command.Command.TheVariants as command
+
+-- ---- the matches of a command
+
+-- the number that a text writes where it has so few bits, and else the other one
+abbrev pub number_or : ℕ → ℕ → Text → ℕ
+number_or other bits text =
+    let digits = without_leading_plus text in
+    if is_numeral digits && nat_lt (digits_value 10 digits) (2 ^ bits) then digits_value 10 digits else other
+
+-- the number of an option: `clap` gives each a text, of the words or its default, and lets only such numbers through
+abbrev pub number_given : NumberOption → List Row → ℕ
+number_given option rows = option_map_or (number_or option.default option.bits) (one_of option.name rows) option.default
+
+abbrev pub shape_given : List Row → Shape
+shape_given rows = record {
+  buckets = number_given buckets_option rows;
+  overflow = number_given overflow_option rows;
+  passes = number_given passes_option rows;
+  segments_each = number_given segments_option rows;
+  rows = number_given rows_option rows;
+  first_version = number_given first_version_option rows;
+}
+
+abbrev pub IsCommandName : Text → Type 0
+IsCommandName name = (name ≡ codes "script") ⊎ (name ≡ codes "load") ⊎ (name ≡ codes "word")
+
+-- the command of this name with these matches
+abbrev pub IsAsked : Text × List Row → Command → Type 0
+IsAsked asked (command.Script shape) = (asked.0 ≡ codes "script") × (shape ≡ shape_given asked.1)
+IsAsked asked (command.Load shape seed commands) =
+    (asked.0 ≡ codes "load") × (shape ≡ shape_given asked.1)
+    × (seed ≡ number_given seed_option asked.1) × (commands ≡ number_given commands_option asked.1)
+IsAsked asked (command.Word text) = (asked.0 ≡ codes "word") × (text.now ≡ unwrap_or (first_of hex asked.1) [])
+IsAsked asked (command.Show text) = ⊥
+
+-- ---- the words
+
+-- help or the version is asked for
+abbrev pub is_request : ErrorKind → Bool
+is_request kind.DisplayHelp = true
+is_request kind.DisplayVersion = true
+is_request _ = false
+
+-- what is read where `clap` ends with a fault of this kind
+abbrev pub IsRefused : ErrorKind → Result Command Refusal → Type 0
+IsRefused k (Ok (command.Show text)) = is_request k ≡ true
+IsRefused k (Ok asked) = ⊥
+IsRefused k (Err (refusal.Usage text)) = (is_request k ≡ false) × (k ≢ kind.OutOfMemory)
+IsRefused k (Err refusal.OutOfMemory) = ⊤
+
+-- What is read of one word or more. `clap` finds no fault in a command. A request for help or for the version is a fault to
+-- it, with a text that is shown; and any other fault is a bad command line. Memory may be wanted in each case. There is one
+-- kind of fault, but for a word that may be an argument or a command, which is bad as either, and for what stands behind the
+-- command `help`: `clap` says only that its help is shown, or that it is no command.
+abbrev pub IsReadByClap : List Text → Result Command Refusal → Type 0
+IsReadByClap words (Ok (command.Show text)) = list_any is_request (fault_of command_line words) ≡ true
+IsReadByClap words (Ok asked) =
+    (fault_of command_line words ≡ []) × IsSomeAnd (subcommand_of command_line words) (λ found. IsAsked found asked)
+IsReadByClap words (Err (refusal.Usage text)) = list_any (λ k. not (is_request k)) (fault_of command_line words) ≡ true
+IsReadByClap words (Err refusal.OutOfMemory) = ⊤
+
+-- what is read of the words: none at all are the command `script` with no options
+abbrev pub IsRead : List Text → Result Command Refusal → Type 0
+IsRead [] read = read ≡ Ok (command.Script default_shape)
+IsRead (word ∷ words) read = IsReadByClap (word ∷ words) read

@@ -1,0 +1,90 @@
+-- How the commands of the program end, and what is reported then.
+use Rattle.std.specs.Prelude.{◌≡◌, ℕ, Bool, true, List, [], Result, Ok, Err, string_bytes}
+use Rattle.segword.specs.declared.shape.Shape.{Shape}
+use Rattle.segword.specs.declared.reading.Reading.{Reading}
+use Rattle.segcli.specs.Explained.{Says, explanation}
+use Rattle.segcli.specs.Faults.{end_of_run, fault_of_load, fault_line, fault_status, is_write_end}
+use Rattle.segcli.specs.Printing.{PrintOutcome, IsPrinted, IsFlushed}
+use Rattle.segcli.specs.Totals.{totals_text}
+use Rattle.segscript.specs.EachTurn.{EachTurn}
+use Rattle.segscript.specs.Run.{RunOutcome, ShapeIsAnswered, is_read_fault, is_write_fault, is_make_fault}
+use Rattle.segscript.specs.declared.fault.RunFault.{RunFault}
+use Rattle.segload.specs.Gates.{lets_all_through}
+use Rattle.segload.specs.Loads.{IsLoad, IsLoadFault}
+use Rattle.segload.specs.declared.fault.LoadFault.{LoadFault}
+use Rattle.segload.specs.declared.totals.Totals.{Totals}
+use Rattle.segcli.specs.declared.fault.ProgramFault.{ProgramFault}
+use Rattle.segcli.specs.declared.fault.ProgramFault.TheVariants as fault
+use Rattle.segcli.specs.declared.command.Command.{Command}
+use Rattle.segcli.specs.declared.command.Command.TheVariants as command
+
+-- ---- a script
+
+-- The script of the reader was run, and that ended so: what was read and written belongs to it, each of its turns was one of the
+-- pass that its line names, and a fault in the making comes before anything is read or written.
+pub record RanScript {R W : Type 0} (hands : R → List ℕ → R → Type 0) (is_at_end : R → Type 0) (read_failed : R → Bool) (takes : W → List ℕ → W → Type 0) (write_failed : W → Bool) (flushes : W → ℕ) (shape : Shape) (reader reader' : R) (writer writer' : W) (end : Result (Unit {0}) RunFault) : Type 0 where
+  pub outcome : RunOutcome shape (λ seen. hands reader seen reader') (is_at_end reader') (λ text. takes writer text writer') (flushes writer) (flushes writer') end
+  pub each_turn : EachTurn shape (λ seen. hands reader seen reader') (is_at_end reader') (λ text. takes writer text writer') (flushes writer) (flushes writer') end
+  pub read : read_failed reader' ≡ is_read_fault end
+  pub write : write_failed writer' ≡ is_write_fault end
+  pub answered : ShapeIsAnswered shape end
+  pub made : is_make_fault end ≡ true → (reader' ≡ reader) × (writer' ≡ writer)
+
+abbrev pub ScriptOutcome : {R W : Type 0} → (R → List ℕ → R → Type 0) → (R → Type 0) → (R → Bool) → (W → List ℕ → W → Type 0) → (W → Bool) → (W → ℕ) → Shape → R → R → W → W → Result (Unit {0}) ProgramFault → Type 0
+ScriptOutcome hands is_at_end read_failed takes write_failed flushes shape reader reader' writer writer' end =
+    (ended : Result (Unit {0}) RunFault)
+    × RanScript hands is_at_end read_failed takes write_failed flushes shape reader reader' writer writer' ended
+    × (end ≡ end_of_run ended)
+
+-- ---- a word, and other texts
+
+-- the text was shown: Wrote is what is so of the bytes that were written
+abbrev pub ShowOutcome : List ℕ → (List ℕ → Type 0) → ℕ → ℕ → Result (Unit {0}) ProgramFault → Type 0
+ShowOutcome text Wrote before flushes (Ok _) = PrintOutcome {E = ProgramFault} text Wrote before flushes (Ok tt)
+ShowOutcome text Wrote before flushes (Err fault.Write) = PrintOutcome text Wrote before flushes (Err fault.Write)
+ShowOutcome text Wrote before flushes (Err _) = ⊥
+
+-- a word that has a reading was explained, and only one that has none is a bad one
+abbrev pub WordOutcome : List ℕ → (List ℕ → Type 0) → ℕ → ℕ → Result (Unit {0}) ProgramFault → Type 0
+WordOutcome text Wrote before flushes (Err fault.BadWord) = ((reading : Reading) → Says text reading → ⊥) × Wrote [] × (flushes ≡ before)
+WordOutcome text Wrote before flushes end = (reading : Reading) × Says text reading × ShowOutcome (explanation reading) Wrote before flushes end
+
+-- ---- a load
+
+-- why a load of this shape has no totals to show: no pass of it is stopped
+abbrev pub IsFaultOfLoad : Shape → ℕ → ProgramFault → Type 0
+IsFaultOfLoad shape commands f = (why : LoadFault) × IsLoadFault shape commands lets_all_through why × (f ≡ fault_of_load why)
+
+-- The totals of a load of this shape, in which each pass made so many commands, drawn with this seed, were shown; or there are
+-- none to show, and nothing was written.
+abbrev pub LoadOutcome : Shape → ℕ → ℕ → (List ℕ → Type 0) → ℕ → ℕ → Result (Unit {0}) ProgramFault → Type 0
+LoadOutcome shape seed commands Wrote before flushes (Ok _) =
+    (totals : Totals) × IsLoad shape seed commands totals × ShowOutcome (totals_text totals) Wrote before flushes (Ok tt)
+LoadOutcome shape seed commands Wrote before flushes (Err fault.Write) =
+    (totals : Totals) × IsLoad shape seed commands totals × ShowOutcome (totals_text totals) Wrote before flushes (Err fault.Write)
+LoadOutcome shape seed commands Wrote before flushes (Err f) =
+    IsFaultOfLoad shape commands f × Wrote [] × (flushes ≡ before)
+
+-- ---- commands
+
+abbrev pub CommandOutcome : {R W : Type 0} → (R → List ℕ → R → Type 0) → (R → Type 0) → (R → Bool) → (W → List ℕ → W → Type 0) → (W → Bool) → (W → ℕ) → Command → R → R → W → W → Result (Unit {0}) ProgramFault → Type 0
+CommandOutcome hands is_at_end read_failed takes write_failed flushes (command.Script shape) reader reader' writer writer' end =
+    ScriptOutcome hands is_at_end read_failed takes write_failed flushes shape reader reader' writer writer' end
+CommandOutcome hands is_at_end read_failed takes write_failed flushes (command.Load shape seed commands) reader reader' writer writer' end =
+    (reader' ≡ reader) × (write_failed writer' ≡ is_write_end end)
+    × LoadOutcome shape seed commands (λ part. takes writer part writer') (flushes writer) (flushes writer') end
+CommandOutcome hands is_at_end read_failed takes write_failed flushes (command.Word text) reader reader' writer writer' end =
+    (reader' ≡ reader) × (write_failed writer' ≡ is_write_end end)
+    × WordOutcome text.now (λ part. takes writer part writer') (flushes writer) (flushes writer') end
+CommandOutcome hands is_at_end read_failed takes write_failed flushes (command.Show text) reader reader' writer writer' end =
+    (reader' ≡ reader) × (write_failed writer' ≡ is_write_end end)
+    × ShowOutcome (string_bytes text) (λ part. takes writer part writer') (flushes writer) (flushes writer') end
+
+-- What follows what ended so. A success is status 0, and nothing more is written. For a fault the writer is flushed, and its
+-- line is printed to the error writer.
+abbrev pub Concluded : {W E : Type 0} → (W → List ℕ → W → Type 0) → (W → ℕ) → (E → List ℕ → E → Type 0) → (E → Bool) → (E → ℕ) → Result (Unit {0}) ProgramFault → W → W → E → E → ℕ → Type 0
+Concluded takes flushes error_takes error_failed error_flushes (Ok _) writer writer' errors errors' status =
+    (status ≡ 0) × (writer' ≡ writer) × (errors' ≡ errors)
+Concluded takes flushes error_takes error_failed error_flushes (Err f) writer writer' errors errors' status =
+    (status ≡ fault_status f) × IsFlushed takes flushes writer writer'
+    × IsPrinted error_takes error_failed error_flushes (fault_line f) errors errors'

@@ -1,0 +1,104 @@
+//! Reads the words of the command line.
+ghost use Rattle.std.specs.Prelude.{◌≡◌, string_bytes, map};
+ghost use Rattle.clap.specs.Words.{found_of, kind_of, rows_of};
+ghost use Rattle.segcli.specs.Asked.{IsAsked, IsCommandName, IsRead, IsRefused, shape_given};
+
+use crate::command::Command;
+use crate::command_line::program;
+use clap::ArgMatches;
+use clap::error::{Error, ErrorKind};
+use segword::Shape;
+use std::alloc::{AllocError, Global};
+
+/// The shape of an index that no option changes: one bucket, one pass, and one segment of eight rows.
+pub const SHAPE: Shape = Shape {
+    buckets: 1,
+    overflow: 0,
+    passes: 1,
+    segments_each: 1,
+    rows: 8,
+    first_version: 0,
+};
+
+/// The seed of a load, and how many commands each of its passes makes, where no option says it.
+const SEED: u64 = 1;
+
+const COMMANDS: u32 = 1000;
+
+/// Why no command was read.
+#[derive(Debug, Drop)]
+pub enum Refusal {
+    /// The words are no command; the text says why.
+    Usage(String),
+    OutOfMemory,
+}
+
+impl From<AllocError> for Refusal {
+    ghost use Rattle.segcli.specs.declared.arguments.Refusal.{Refusal};
+
+    ghost from_gives = { λ _ refusal. refusal ≡ Refusal.OutOfMemory };
+
+    fn from(_error: AllocError) -> Refusal {
+        Refusal::OutOfMemory
+    }
+}
+
+/// Reads the words after the program's name. No words at all are the command `script` without options.
+pub fn read_command<'a>(alloc: Global, words: &'a [String]) -> Result<Command<'a>, Refusal>
+    ensures { IsRead (map (λ word. string_bytes word) words.entry.now) result }
+{
+    if words.is_empty() {
+        return Ok(Command::Script(SHAPE));
+    }
+    match program(alloc)?.try_get_matches_from(words) {
+        Ok(matches) => match matches.subcommand() {
+            Some((name, matches)) => Ok(command_of(name, matches)),
+            None => Ok(Command::Script(SHAPE)),
+        },
+        Err(error) => refused(alloc, &error),
+    }
+}
+
+// Help and the version are asked for, and anything else is refused.
+fn refused<'a>(alloc: Global, error: &Error) -> Result<Command<'a>, Refusal>
+    ensures { IsRefused (kind_of error.now) result }
+{
+    match error.kind() {
+        ErrorKind::OutOfMemory => Err(Refusal::OutOfMemory),
+        ErrorKind::DisplayHelp | ErrorKind::DisplayVersion => {
+            Ok(Command::Show(format!(in alloc; "{error}")?))
+        }
+        _ => Err(Refusal::Usage(format!(in alloc; "{error}")?)),
+    }
+}
+
+// The command of this name.
+fn command_of<'a>(name: &str, matches: &ArgMatches<'a>) -> Command<'a>
+    requires { IsCommandName name.now }
+    ensures { IsAsked (name.now, rows_of (found_of matches.now)) result }
+{
+    match name {
+        "load" => Command::Load {
+            shape: shape_of(matches),
+            seed: matches.get_one("seed").unwrap_or(SEED),
+            commands: matches.get_one("commands").unwrap_or(COMMANDS),
+        },
+        "word" => Command::Word(matches.get_str("HEX").unwrap_or("")),
+        _ => Command::Script(shape_of(matches)),
+    }
+}
+
+fn shape_of(matches: &ArgMatches<'_>) -> Shape
+    ensures { result ≡ shape_given (rows_of (found_of matches.now)) }
+{
+    Shape {
+        buckets: matches.get_one("buckets").unwrap_or(SHAPE.buckets),
+        overflow: matches.get_one("overflow").unwrap_or(SHAPE.overflow),
+        passes: matches.get_one("passes").unwrap_or(SHAPE.passes),
+        segments_each: matches.get_one("segments").unwrap_or(SHAPE.segments_each),
+        rows: matches.get_one("rows").unwrap_or(SHAPE.rows),
+        first_version: matches
+            .get_one("first-version")
+            .unwrap_or(SHAPE.first_version),
+    }
+}

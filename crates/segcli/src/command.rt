@@ -1,0 +1,176 @@
+//! The commands of the program, and how each ends.
+ghost use Rattle.std.specs.Prelude.{◌≡◌, false, Result, IfOk, IfErr};
+ghost use Rattle.segload.specs.declared.totals.Totals.{Totals};
+ghost use Rattle.segload.specs.Loads.{IsLoad};
+ghost use Rattle.segcli.specs.declared.fault.ProgramFault.{ProgramFault};
+ghost use Rattle.segcli.specs.Faults.{is_write_end};
+ghost use Rattle.segcli.specs.Totals.{totals_text};
+ghost use Rattle.segcli.specs.Commands.{ScriptOutcome, IsFaultOfLoad, LoadOutcome, WordOutcome, ShowOutcome, CommandOutcome, Concluded};
+
+use crate::explanation::{explain, reading_of};
+use crate::fault::{ProgramFault, print, report};
+use crate::totals::text_of;
+use segload::{OpenGate, run_load};
+use segscript::{Failed, Sink, Source, run_script};
+use segword::Shape;
+use std::alloc::{AllocError, AllocGlobal, Global};
+use std::sync::Wait;
+use std::thread::Threads;
+
+/// What the program is asked to do.
+#[derive(Debug, Drop)]
+pub enum Command<'a> {
+    /// Runs the script of the reader over an index of this shape.
+    Script(Shape),
+    /// Runs a load over an index of this shape: each pass makes so many commands, drawn with this seed.
+    Load {
+        shape: Shape,
+        seed: u64,
+        commands: u32,
+    },
+    /// Explains the item word of these hexadecimal digits.
+    Word(&'a str),
+    /// Prints a text, as help.
+    Show(String),
+}
+
+/// Carries out a command, and answers the exit status. Replies, totals and explanations go to the writer; a fault is one line
+/// to the error writer, after a flush of the writer.
+pub fn run_command<R: Threads + Wait + AllocGlobal + Sync, S: Source, W: Sink, E: Sink>(
+    rt: &R,
+    alloc: Global,
+    command: &Command<'_>,
+    source: &mut S,
+    writer: &mut W,
+    errors: &mut E,
+) -> u8
+    requires source_works { S.has_failed source.old ≡ false }
+    requires writer_works { W.has_failed writer.old ≡ false }
+    requires errors_work { E.has_failed errors.old ≡ false }
+
+    // The command ends somehow with the writer there, and then its fault, if it has one, is reported.
+    ensures outcome { (there : W) × (end : Result (Unit {0}) ProgramFault)
+        × CommandOutcome S.hands S.is_at_end S.has_failed W.takes W.has_failed W.flushes command.now
+        source.old source.new writer.old there end
+        × Concluded W.takes W.flushes E.takes E.has_failed E.flushes end there writer.new errors.old errors.new result }
+{
+    let end = perform(rt, alloc, command, source, writer);
+    conclude(end, writer, errors)
+}
+
+fn perform<R: Threads + Wait + AllocGlobal + Sync, S: Source, W: Sink>(
+    rt: &R,
+    alloc: Global,
+    command: &Command<'_>,
+    source: &mut S,
+    writer: &mut W,
+) -> Result<(), ProgramFault>
+    requires source_works { S.has_failed source.old ≡ false }
+    requires writer_works { W.has_failed writer.old ≡ false }
+    ensures { CommandOutcome S.hands S.is_at_end S.has_failed W.takes W.has_failed W.flushes command.now
+        source.old source.new writer.old writer.new result }
+{
+    match command {
+        Command::Script(shape) => perform_script(alloc, *shape, source, writer),
+        Command::Load {
+            shape,
+            seed,
+            commands,
+        } => perform_load(rt, alloc, *shape, *seed, *commands, writer),
+        Command::Word(text) => perform_word(text, writer),
+        Command::Show(text) => show(text.as_bytes(), writer),
+    }
+}
+
+fn perform_script<S: Source, W: Sink>(
+    alloc: Global,
+    shape: Shape,
+    source: &mut S,
+    writer: &mut W,
+) -> Result<(), ProgramFault>
+    requires source_works { S.has_failed source.old ≡ false }
+    requires writer_works { W.has_failed writer.old ≡ false }
+    ensures { ScriptOutcome S.hands S.is_at_end S.has_failed W.takes W.has_failed W.flushes shape
+        source.old source.new writer.old writer.new result }
+{
+    match run_script(alloc, source, writer, shape) {
+        Ok(()) => Ok(()),
+        Err(fault) => Err(ProgramFault::of_run(fault)),
+    }
+}
+
+fn perform_load<R: Threads + Wait + AllocGlobal + Sync, W: Sink>(
+    rt: &R,
+    alloc: Global,
+    shape: Shape,
+    seed: u64,
+    commands: u32,
+    writer: &mut W,
+) -> Result<(), ProgramFault>
+    requires writer_works { W.has_failed writer.old ≡ false }
+    ensures outcome { LoadOutcome shape seed commands (λ part. W.takes writer.old part writer.new)
+        (W.flushes writer.old) (W.flushes writer.new) result }
+    ensures failed { W.has_failed writer.new ≡ is_write_end result }
+{
+    match load_text(rt, alloc, shape, seed, commands) {
+        Ok(text) => show(text.as_slice(), writer),
+        Err(fault) => Err(fault),
+    }
+}
+
+// Runs a load, and gives the text of its totals.
+fn load_text<R: Threads + Wait + AllocGlobal + Sync>(
+    rt: &R,
+    alloc: Global,
+    shape: Shape,
+    seed: u64,
+    commands: u32,
+) -> Result<Vec<u8>, ProgramFault>
+    ensures text { IfOk result (λ text. (totals : Totals) × IsLoad shape seed commands totals × (text.items ≡ totals_text totals)) }
+    ensures fault { IfErr result (IsFaultOfLoad shape commands) }
+{
+    let totals = match run_load(rt, alloc, shape, seed, commands, &OpenGate) {
+        Ok(totals) => totals,
+        Err(fault) => return Err(ProgramFault::of_load(fault)),
+    };
+    match text_of(alloc, &totals) {
+        Ok(text) => Ok(text),
+        Err(AllocError) => Err(ProgramFault::OutOfMemory),
+    }
+}
+
+fn perform_word<W: Sink>(text: &str, writer: &mut W) -> Result<(), ProgramFault>
+    requires writer_works { W.has_failed writer.old ≡ false }
+    ensures outcome { WordOutcome text.now (λ part. W.takes writer.old part writer.new)
+        (W.flushes writer.old) (W.flushes writer.new) result }
+    ensures failed { W.has_failed writer.new ≡ is_write_end result }
+{
+    match reading_of(text) {
+        Some(reading) => show(explain(reading).as_slice(), writer),
+        None => Err(ProgramFault::BadWord),
+    }
+}
+
+// Prints a text to the writer.
+fn show<W: Sink>(text: &[u8], writer: &mut W) -> Result<(), ProgramFault>
+    requires writer_works { W.has_failed writer.old ≡ false }
+    ensures outcome { ShowOutcome text.now (λ part. W.takes writer.old part writer.new)
+        (W.flushes writer.old) (W.flushes writer.new) result }
+    ensures failed { W.has_failed writer.new ≡ is_write_end result }
+{
+    match print(writer, text) {
+        Ok(()) => Ok(()),
+        Err(Failed) => Err(ProgramFault::Write),
+    }
+}
+
+// The status of what ended so; a fault is reported.
+fn conclude<W: Sink, E: Sink>(end: Result<(), ProgramFault>, writer: &mut W, errors: &mut E) -> u8
+    requires errors_work { E.has_failed errors.old ≡ false }
+    ensures { Concluded W.takes W.flushes E.takes E.has_failed E.flushes end writer.old writer.new errors.old errors.new result }
+{
+    match end {
+        Ok(()) => 0,
+        Err(fault) => report(fault, writer, errors),
+    }
+}

@@ -1,0 +1,16 @@
+//! The commands of the program: read from its words, carried out over its devices, and ended with a status.
+#![tactic(auto)]
+
+mod arguments;
+mod command;
+mod command_line;
+mod explanation;
+mod fault;
+mod program;
+mod totals;
+
+pub use arguments::{Refusal, read_command};
+pub use command::{Command, run_command};
+pub use explanation::{explain, reading_of};
+pub use fault::{ProgramFault, print, report};
+pub use program::run_program;

@@ -1,5 +1,0 @@
-use Rattle.std.proofs.Common.{refl}
-use Rattle.segrun.proofs.command.perform.Goals as goal
-
-pub returns-in-Load : goal.returns-in-Load
-returns-in-Load g c = rw c.in-Load.is (refl, c.perform_load.ensures.failed, c.perform_load.ensures.outcome)

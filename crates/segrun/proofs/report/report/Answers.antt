@@ -1,5 +1,0 @@
-use Rattle.std.proofs.Common.{◌∙◌}
-use Rattle.segrun.proofs.report.report.Goals as goal
-
-pub returns-clause-errors : goal.returns-clause-errors
-returns-clause-errors g c = (c.print.result, rw (c.as_slice.ensures.value ∙ c.line.ensures) at c.print.ensures.outcome, c.print.ensures.failed)

@@ -1,0 +1,106 @@
+//! Help and the version.
+use crate::runs::{SCRIPT, check_program, has, run};
+use std::alloc::AllocGlobal;
+use std::process::Abort;
+use std::sync::Wait;
+use std::test::Fail;
+use std::thread::Threads;
+
+/// Checks that the words are answered with a text that has these parts.
+fn check_shown<R: Threads + Wait + AllocGlobal + Abort + Sync>(
+    rt: &R,
+    words: &[&str],
+    parts: &[&str],
+) -> Result<(), Fail> {
+    let ended = run(rt, words, SCRIPT)?;
+    assert_eq!(rt; ended.status, 0, "{words:?}");
+    assert_eq!(rt; ended.printed.as_slice(), b"".as_slice(), "{words:?}");
+    for part in parts {
+        assert!(rt; has(ended.written.as_slice(), part), "{words:?}: {part}");
+    }
+    assert_eq!(rt; ended.flushes, (1, 0), "{words:?}");
+    Ok(())
+}
+
+#[test]
+fn help_tells_a_newcomer_what_to_do(rt: HostRuntime) -> Result<(), Fail> {
+    for words in [
+        ["--help"].as_slice(),
+        ["-h"].as_slice(),
+        ["help"].as_slice(),
+    ] {
+        let parts = [
+            "object index",
+            "Usage: segrun",
+            "script",
+            "load",
+            "word",
+            "printf 'p0 refill 0\\np0 set a 1\\np0 get a\\n' | segrun",
+            "Exit status",
+        ];
+        check_shown(&rt, words, &parts)?;
+    }
+    for words in [
+        ["script", "--help"].as_slice(),
+        ["script", "-h"].as_slice(),
+        ["help", "script"].as_slice(),
+    ] {
+        let parts = [
+            "Usage: segrun script",
+            "--buckets <N>",
+            "[default: 1]",
+            "--overflow <N>",
+            "[default: 0]",
+            "--passes <N>",
+            "--segments <N>",
+            "--rows <N>",
+            "[default: 8]",
+            "--first-version <N>",
+            "p0 refill SEGMENT         REFILLED",
+            "p0 cas KEY VALUE VERSION",
+            "p0 unlock                 UNLOCKED or NOT_LOCKED",
+            "\\np0 get a\\n' | segrun script --rows 100",
+            "Exit status",
+        ];
+        check_shown(&rt, words, &parts)?;
+    }
+    for words in [
+        ["load", "--help"].as_slice(),
+        ["load", "-h"].as_slice(),
+        ["help", "load"].as_slice(),
+    ] {
+        let parts = [
+            "Usage: segrun load",
+            "--passes <N>",
+            "--first-version <N>",
+            "--seed <N>",
+            "[default: 1]",
+            "--commands <N>",
+            "[default: 1000]",
+            "segrun load --passes 4 --buckets 16 --commands 100000",
+            "Exit status",
+        ];
+        check_shown(&rt, words, &parts)?;
+    }
+    for words in [
+        ["word", "--help"].as_slice(),
+        ["word", "-h"].as_slice(),
+        ["help", "word"].as_slice(),
+    ] {
+        let parts = [
+            "Usage: segrun word <HEX>",
+            "item tag=af6 freq=1 seg=2 row=3",
+            "Exit status",
+        ];
+        check_shown(&rt, words, &parts)?;
+    }
+    Ok(())
+}
+
+#[test]
+fn the_version_is_told(rt: HostRuntime) -> Result<(), Fail> {
+    for words in [["--version"].as_slice(), ["-V"].as_slice()] {
+        check_program(&rt, words, b"", 0, b"segrun 0.1.0\n", b"")?;
+    }
+    Ok(())
+}
