@@ -3,11 +3,11 @@ ghost use Rattle.std.specs.Prelude.{◌<◌, IfSome};
 
 use rand_core::utils::NextWord;
 use rand_pcg::Lcg64Xsh32;
-use segsolo::Solo;
 use segmodel::{
     Answer, Command, DeleteAnswer, EvictAnswer, GetAnswer, GetsAnswer, Plain, RefillAnswer,
     Request, Shelf, WriteAnswer, run,
 };
+use segsolo::Solo;
 use segword::{Key, Shape, Value};
 use std::alloc::Global;
 use std::process::Abort;
