@@ -142,6 +142,18 @@ fn write_answer(text: &str) -> Result<WriteAnswer, Fail> {
     }
 }
 
+// The cache answers each command of the case as it says.
+fn check_case(rt: &impl Abort, plain: &mut Plain, case: &str) -> Result<(), Fail> {
+    let (keys, case) = case.split_once(": ").unwrap_or(("*", case));
+    let (asked, told) = case.split_once(" = ").ok_or("no case")?;
+    let (name, _) = cut(asked);
+    for each in keys.split(' ') {
+        let given = serve(plain, &command(asked, each)?)?;
+        assert_eq!(rt; given, answer(name, told)?, "at {case}, {each}");
+    }
+    Ok(())
+}
+
 /// A cache of this shape answers each command as the case says.
 pub fn check(
     rt: &impl Abort,
@@ -151,13 +163,7 @@ pub fn check(
 ) -> Result<(), Fail> {
     let mut plain = plain(alloc, numbers)?;
     for case in cases {
-        let (keys, case) = case.split_once(": ").unwrap_or(("*", case));
-        let (asked, told) = case.split_once(" = ").ok_or("no case")?;
-        let (name, _) = cut(asked);
-        for each in keys.split(' ') {
-            let given = serve(&mut plain, &command(asked, each)?)?;
-            assert_eq!(rt; given, answer(name, told)?, "at {case}, {each}");
-        }
+        check_case(rt, &mut plain, case)?;
     }
     Ok(())
 }
