@@ -1,4 +1,4 @@
-//! The program by its one call, over memory: what no clause says, as texts of help and of faults. This crate has tests alone.
+//! The program by its one call, `run_program`, over memory: what no clause says, as the texts of help. This crate has tests alone.
 #![tactic(auto)]
 
 #[cfg(test)]
