@@ -10,4 +10,5 @@ pub mod Meanwhile
 pub mod Locking
 pub mod UnderWrite
 pub mod Draws
+pub mod Costs
 pub mod Before

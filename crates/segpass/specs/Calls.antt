@@ -58,6 +58,18 @@ readings p = (raised p, entered p, λ bucket. glanced p bucket)
 abbrev pub ReadsNothing : Pass → Pass → Type 0
 ReadsNothing p q = readings q ≡ readings p
 
+-- how often it took a bit, found the bit of a bucket set by a take, and drew an overflow bucket for a bucket
+abbrev pub writings : Pass → ℕ × (ℕ → ℕ) × (ℕ → ℕ)
+writings p = (taken p, (λ bucket. bounced p bucket), λ bucket. drew p bucket)
+
+-- all that a call may cost: what it does as writers do, and as readers do
+abbrev pub efforts : Pass → (ℕ × (ℕ → ℕ) × (ℕ → ℕ)) × (ℕ × ℕ × (ℕ → ℕ))
+efforts p = (writings p, readings p)
+
+-- none of this
+abbrev pub CostsNothing : Pass → Pass → Type 0
+CostsNothing p q = efforts q ≡ efforts p
+
 -- it added one entry of its own
 abbrev pub AddsEntry : Entry → Pass → Pass → Type 0
 AddsEntry entry p q = mine q ≡ entry ∷ mine p

@@ -1,10 +1,11 @@
 -- What a lock and an unlock of a bucket answer.
-use Rattle.std.specs.Prelude.{◌≡◌, ℕ, Bool, true, false, List, Some, None}
+use Rattle.std.specs.Prelude.{◌≡◌, ◌≢◌, ◌↔◌, ℕ, Bool, true, false, is_some, List, Some, None}
 use Rattle.segword.specs.declared.shape.Shape.{Shape}
 use Rattle.segmodel.specs.declared.entry.Entry.{Entry}
 use Rattle.segmodel.specs.Places.{bucket_of}
 use Rattle.segmodel.specs.History.{Begins, entries_of}
 use Rattle.segcore.specs.Event as event
+use Rattle.segbase.specs.declared.board.Board.{Board}
 use Rattle.segbase.specs.declared.law.Locked.{Locked}
 use Rattle.segbase.specs.declared.pass.Pass.{Pass}
 use Rattle.segbase.specs.Passes.{trace, seen, mine, holding, locked}
@@ -12,7 +13,7 @@ use Rattle.segbase.specs.Passes as passes
 use Rattle.segbase.specs.Plain.{current_of, locked_of, is_holding_of, SameSegments}
 use Rattle.segpass.specs.declared.bucket.LockAnswer.{LockAnswer}
 use Rattle.segpass.specs.declared.bucket.LockAnswer.TheVariants as lock
-use Rattle.segpass.specs.Calls.{ChangesNothing, TakesOneBit, TriesInVain}
+use Rattle.segpass.specs.Calls.{GoesOn, ChangesNothing, TakesOneBit, TriesInVain, DrawsNothing, ReadsNothing, CostsNothing}
 
 -- ---- locks
 
@@ -33,7 +34,15 @@ pub record Locks (bucket : ℕ) (p q : Pass) : Type 0 where
 abbrev pub IsLockAnswer : Shape → List ℕ → LockAnswer → Pass → Pass → Type 0
 IsLockAnswer shape key lock.Locked p q = Locks (bucket_of shape key) p q
 IsLockAnswer shape key lock.Busy p q = ChangesNothing p q × TriesInVain (bucket_of shape key) p q
-IsLockAnswer shape key lock.AlreadyLocked p q = ChangesNothing p q
+IsLockAnswer shape key lock.AlreadyLocked p q = q ≡ p
+
+-- A lock of a key's bucket is answered so. It draws no overflow bucket and reads nothing.
+pub record LocksBucket (b : Board) (key : List ℕ) (told : LockAnswer) (p q : Pass) : Type 0 where
+  pub on : GoesOn b p q
+  pub answer : IsLockAnswer b.shape key told p q
+  pub already : (told ≡ lock.AlreadyLocked) ↔ (locked_of p ≢ None)
+  pub draws_nothing : DrawsNothing p q
+  pub reads_nothing : ReadsNothing p q
 
 -- no entry of the bucket came in since it was locked
 abbrev pub NoneSince : Shape → Locked → List Entry → Type 0
@@ -51,4 +60,11 @@ pub record Unlocks (shape : Shape) (p q : Pass) : Type 0 where
 
 abbrev pub IsUnlockAnswer : Shape → Bool → Pass → Pass → Type 0
 IsUnlockAnswer shape true p q = Unlocks shape p q
-IsUnlockAnswer shape false p q = ChangesNothing p q
+IsUnlockAnswer shape false p q = q ≡ p
+
+-- An unlock is answered so: true exactly if the pass had a bucket locked.
+pub record UnlocksBucket (b : Board) (told : Bool) (p q : Pass) : Type 0 where
+  pub on : GoesOn b p q
+  pub answer : IsUnlockAnswer b.shape told p q
+  pub was_locked : told ≡ is_some (locked_of p)
+  pub costs_nothing : CostsNothing p q

@@ -6,8 +6,8 @@ ghost use Rattle.segpass.specs.Taking.{TakesToWrite};
 ghost use Rattle.segbase.specs.Passes.{number, trace, IsPassOf};
 ghost use Rattle.segbase.specs.Plain.{locked_of};
 ghost use Rattle.segpass.specs.Quiet.{IsQuiet};
-ghost use Rattle.segpass.specs.Calls.{memo, GoesOn, TakesNoBit, DrawsNothing, ReadsNothing};
-ghost use Rattle.segpass.specs.Locks.{IsLockAnswer, IsUnlockAnswer};
+ghost use Rattle.segpass.specs.Calls.{memo};
+ghost use Rattle.segpass.specs.Locks.{LocksBucket, UnlocksBucket};
 ghost use Rattle.segpass.specs.Taking.{TakesBucket, SetsLock};
 
 use segbase::{Board, Pass};
@@ -29,12 +29,7 @@ const TRIES: u32 = 64;
 /// Locks the bucket of a key. Until it is unlocked no other pass writes in it, and a delete and every write that has room are answered Busy.
 pub fn lock_bucket(board: &Board, pass: &mut Pass, key: &Key) -> LockAnswer
     requires quiet { IsQuiet board.now pass.old }
-    ensures goes_on { GoesOn board.now pass.old pass.new }
-    ensures answer { IsLockAnswer board.now.shape key.now result pass.old pass.new }
-    ensures draws_nothing { DrawsNothing pass.old pass.new }
-    ensures reads_nothing { ReadsNothing pass.old pass.new }
-    ensures already { (result ≡ lock.AlreadyLocked) ↔ (locked_of pass.old ≢ None) }
-    ensures untouched { result ≡ lock.AlreadyLocked → pass.new ≡ pass.old }
+    ensures locks { LocksBucket board.now key.now result pass.old pass.new }
 {
     if pass.locked().is_some() {
         return LockAnswer::AlreadyLocked;
@@ -50,13 +45,7 @@ pub fn lock_bucket(board: &Board, pass: &mut Pass, key: &Key) -> LockAnswer
 /// Unlocks the bucket that the pass has locked, and is false where there is none.
 pub fn unlock_bucket(board: &Board, pass: &mut Pass) -> bool
     requires quiet { IsQuiet board.now pass.old }
-    ensures goes_on { GoesOn board.now pass.old pass.new }
-    ensures answer { IsUnlockAnswer board.now.shape result pass.old pass.new }
-    ensures was_locked { result ≡ is_some (locked_of pass.old) }
-    ensures takes_no_bit { TakesNoBit pass.old pass.new }
-    ensures draws_nothing { DrawsNothing pass.old pass.new }
-    ensures reads_nothing { ReadsNothing pass.old pass.new }
-    ensures untouched { result ≡ false → pass.new ≡ pass.old }
+    ensures unlocks { UnlocksBucket board.now result pass.old pass.new }
 {
     let Some(bucket) = pass.locked() else {
         return false;

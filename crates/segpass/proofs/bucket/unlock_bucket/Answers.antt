@@ -1,5 +1,7 @@
-use Rattle.std.proofs.Common.{sym}
+use Rattle.std.proofs.Common.{sym, refl, rules}
 use Rattle.segpass.proofs.Quiet.{has_locked}
+use Rattle.segpass.proofs.Costs.{costs_nothing}
+use Rattle.segpass.proofs.Idling.{goes_same}
 use Rattle.segpass.proofs.Locking.{takes_none, unlocks_bucket, unlocks_undrawn, unlocks_unread}
 use Rattle.segpass.proofs.bucket.unlock_bucket.Goals as goal
 
@@ -9,22 +11,29 @@ release-requires c =
     let clean = has_locked c.args.board.now c.args.pass.now c.in-Some.bucket quiet (sym c.in-Some.ensures) in
     (quiet.pass, (clean.bit, clean.unwritten, clean.undrawn, tt))
 
-pub returns-clause-goes_on : goal.returns-clause-goes_on
-returns-clause-goes_on c = let step = c.release.ensures.step.1 in
-    (unlocks_bucket c.args.board.now c.args.pass.now c.release.new.pass c.set_lock.new.pass c.in-Some.bucket c.requires.quiet (sym c.in-Some.ensures) c.release.ensures.did c.release.ensures.free step.plain step.memo c.set_lock.ensures.pass c.set_lock.ensures.sets).0
+pub returns-in_default : goal.returns-in_default
+returns-in_default c = record {
+  unlocks = record {
+    on = goes_same c.args.board.now c.args.pass.now c.requires.quiet;
+    answer = refl;
+    was_locked = search rules;
+    costs_nothing = refl;
+  };
+}
 
-pub returns-clause-takes_no_bit : goal.returns-clause-takes_no_bit
-returns-clause-takes_no_bit c = let step = c.release.ensures.step.1 in
-    takes_none c.args.board.now c.args.pass.now c.release.new.pass c.set_lock.new.pass c.in-Some.bucket c.requires.quiet (sym c.in-Some.ensures) c.release.ensures.did c.release.ensures.free step.plain step.memo c.set_lock.ensures.pass c.set_lock.ensures.sets
-
-pub returns-clause-answer : goal.returns-clause-answer
-returns-clause-answer c = let step = c.release.ensures.step.1 in
-    (unlocks_bucket c.args.board.now c.args.pass.now c.release.new.pass c.set_lock.new.pass c.in-Some.bucket c.requires.quiet (sym c.in-Some.ensures) c.release.ensures.did c.release.ensures.free step.plain step.memo c.set_lock.ensures.pass c.set_lock.ensures.sets).1
-
-pub returns-clause-draws_nothing : goal.returns-clause-draws_nothing
-returns-clause-draws_nothing c = let step = c.release.ensures.step.1 in
-    unlocks_undrawn c.args.board.now c.args.pass.now c.release.new.pass c.set_lock.new.pass c.in-Some.bucket c.requires.quiet (sym c.in-Some.ensures) c.release.ensures.did c.release.ensures.free step.plain step.memo c.set_lock.ensures.pass c.set_lock.ensures.sets
-
-pub returns-clause-reads_nothing : goal.returns-clause-reads_nothing
-returns-clause-reads_nothing c = let step = c.release.ensures.step.1 in
-    unlocks_unread c.args.board.now c.args.pass.now c.release.new.pass c.set_lock.new.pass c.in-Some.bucket c.requires.quiet (sym c.in-Some.ensures) c.release.ensures.did c.release.ensures.free step.plain step.memo c.set_lock.ensures.pass c.set_lock.ensures.sets
+pub returns : goal.returns
+returns c =
+    let b = c.args.board.now in let p = c.args.pass.now in let r = c.release.new.pass in let q = c.set_lock.new.pass in
+    let quiet = c.requires.quiet in let had = sym c.in-Some.ensures in let freed = c.release.ensures in let step = freed.step.1 in let set = c.set_lock.ensures in
+    let unlocks = unlocks_bucket b p r q c.in-Some.bucket quiet had freed.did freed.free step.plain step.memo set.pass set.sets in
+    record {
+      unlocks = record {
+        on = unlocks.0;
+        answer = unlocks.1;
+        was_locked = search rules;
+        costs_nothing = costs_nothing p q
+            (takes_none b p r q c.in-Some.bucket quiet had freed.did freed.free step.plain step.memo set.pass set.sets)
+            (unlocks_undrawn b p r q c.in-Some.bucket quiet had freed.did freed.free step.plain step.memo set.pass set.sets)
+            (unlocks_unread b p r q c.in-Some.bucket quiet had freed.did freed.free step.plain step.memo set.pass set.sets);
+      };
+    }
