@@ -1,5 +1,5 @@
 -- What an evict answers: how many keys it took out of the segment, each by one entry, and that none stands there then, or whose bucket was in the way.
-use Rattle.std.specs.Prelude.{◌≡◌, ◌≢◌, ◌⊎◌, ℕ, ◌+◌, ◌*◌, ◌≤◌, ◌==◌, List, [], ◌∷◌, ◌++◌, length, Some, All, count_by}
+use Rattle.std.specs.Prelude.{◌≡◌, ◌≢◌, ◌↔◌, ◌⊎◌, ℕ, ◌+◌, ◌*◌, ◌≤◌, ◌==◌, List, [], ◌∷◌, ◌++◌, length, Some, None, All, count_by}
 use Rattle.segword.specs.declared.shape.Shape.{Shape}
 use Rattle.segmodel.specs.declared.entry.Entry.{Entry}
 use Rattle.segmodel.specs.declared.entry.Entry.TheVariants as entry
@@ -9,10 +9,11 @@ use Rattle.segmodel.specs.declared.answer.SegState.TheVariants.{InUse, Evicted}
 use Rattle.segmodel.specs.Places.{bucket_of}
 use Rattle.segmodel.specs.History.{after, IsBetween, StandsIn, NoneStandsIn}
 use Rattle.segmodel.specs.State.{but_for}
+use Rattle.segbase.specs.declared.board.Board.{Board}
 use Rattle.segbase.specs.declared.pass.Pass.{Pass}
 use Rattle.segbase.specs.Passes.{number, seen, mine, taken, bounced}
 use Rattle.segbase.specs.Plain.{current_of, state_of, used_of, locked_of, is_holding_of}
-use Rattle.segpass.specs.Calls.{memo}
+use Rattle.segpass.specs.Calls.{memo, GoesOn, DrawsNothing, ReadsNothing}
 
 -- each of the entries is an eviction by the pass of a key out of the segment
 abbrev pub AreEvictions : ℕ → ℕ → List Entry → Type 0
@@ -58,3 +59,11 @@ IsEvictAnswer shape segment (evict.Evicted count) p q =
 IsEvictAnswer shape segment evict.NotYours p q = q ≡ p
 IsEvictAnswer shape segment (evict.Busy count) p q =
     (state_of p segment ≡ Some InUse) × TakesOut shape segment count p q × (state_of q segment ≡ Some InUse) × IsBarred shape segment p q
+
+-- An evict is answered so: NotYours exactly if the segment isn't one of the pass's own. It draws no overflow bucket and reads nothing.
+pub record EvictsSegment (b : Board) (segment : ℕ) (told : EvictAnswer) (p q : Pass) : Type 0 where
+  pub on : GoesOn b p q
+  pub answer : IsEvictAnswer b.shape segment told p q
+  pub not_yours : (told ≡ evict.NotYours) ↔ (state_of p segment ≡ None)
+  pub draws_nothing : DrawsNothing p q
+  pub reads_nothing : ReadsNothing p q

@@ -1,5 +1,5 @@
 //! Evictions: the keys that stand in a segment of the pass's own are taken out of it, one after the other.
-ghost use Rattle.std.specs.Prelude.{◌≡◌, ◌≢◌, ◌<◌, ◌↔◌, Option, Some, None};
+ghost use Rattle.std.specs.Prelude.{◌≡◌, ◌≢◌, ◌<◌, Option, Some};
 ghost use Rattle.segmodel.specs.declared.answer.SegState.TheVariants.{InUse};
 ghost use Rattle.segmodel.specs.declared.answer.EvictAnswer.TheVariants.{NotYours};
 ghost use Rattle.segmodel.specs.Places.{bucket_of};
@@ -10,7 +10,7 @@ ghost use Rattle.segstore.specs.Refilling.{Idles};
 ghost use Rattle.segpass.specs.Quiet.{IsQuiet};
 ghost use Rattle.segpass.specs.Calls.{memo, GoesOn, DrawsNothing, ReadsNothing};
 ghost use Rattle.segpass.specs.Taking.{HasCleanBit};
-ghost use Rattle.segevict.specs.Evicting.{IsEvictAnswer};
+ghost use Rattle.segevict.specs.Evicting.{IsEvictAnswer, EvictsSegment};
 ghost use Rattle.segevict.specs.Unlinking.{IsUsedRow, IsStoredIn, FindsRow, TakesRow, EvictsRow};
 
 use segbase::{Board, Pass, Place};
@@ -43,11 +43,7 @@ fn end_storing(pass: &mut Pass, segment: u32)
 /// Takes out every key that stands in a segment of the pass's own, so that it can be refilled. Nothing is stored there from then on, also where the answer is Busy: then the keys that are left go when it is asked again.
 pub fn evict(board: &Board, pass: &mut Pass, segment: u32) -> EvictAnswer
     requires quiet { IsQuiet board.now pass.old }
-    ensures on { GoesOn board.now pass.old pass.new }
-    ensures answer { IsEvictAnswer board.now.shape segment result pass.old pass.new }
-    ensures draws_nothing { DrawsNothing pass.old pass.new }
-    ensures reads_nothing { ReadsNothing pass.old pass.new }
-    ensures not_yours { (result ≡ NotYours) ↔ (state_of pass.old segment ≡ None) }
+    ensures evicts { EvictsSegment board.now segment result pass.old pass.new }
 {
     let Some(state) = pass.state(segment) else {
         return EvictAnswer::NotYours;

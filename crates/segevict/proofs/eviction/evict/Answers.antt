@@ -1,8 +1,10 @@
-use Rattle.std.proofs.Common.{rules, ◌≡◌, Some, ◌∙◌}
+use Rattle.std.proofs.Common.{rules, ◌≡◌, Some, refl, inr, ◌∙◌}
 use Rattle.segmodel.specs.declared.answer.SegState.TheVariants.{InUse}
 use Rattle.segbase.specs.Plain.{state_of}
 use Rattle.segpass.proofs.Draws.{draws_none_then}
+use Rattle.segpass.proofs.Idling.{goes_same}
 use Rattle.segevict.proofs.Evictions.{same_drew, same_readings, ends_on, evict_answers}
+use Rattle.segevict.proofs.RowsOut.{goes_then}
 use Rattle.segevict.proofs.eviction.evict.Goals as goal
 
 pub evict_rows-requires-clause-quiet : goal.evict_rows-requires-clause-quiet
@@ -10,15 +12,33 @@ evict_rows-requires-clause-quiet c = let e = c.end_storing.ensures in
     let in_use : state_of c.args.pass.now c.args.segment ≡ Some InUse = search rules in
     (ends_on c.args.board.now c.args.segment c.args.pass.now c.end_storing.new.pass c.requires.quiet in_use e.current e.same.0 e.same.1 e.same.2 e.seat).quiet
 
-pub returns-clause-answer : goal.returns-clause-answer
-returns-clause-answer c = let e = c.end_storing.ensures in
-    let in_use : state_of c.args.pass.now c.args.segment ≡ Some InUse = search rules in
-    evict_answers c.args.board.now c.args.segment c.args.pass.now c.end_storing.new.pass c.requires.quiet in_use e.current e.same.0 e.same.1 e.same.2 e.seat c.evict_rows.result c.evict_rows.new.pass c.evict_rows.ensures.answer c.evict_rows.ensures.yours
+pub returns-in_default : goal.returns-in_default
+returns-in_default c = record { evicts = record {
+  on = goes_same c.args.board.now c.args.pass.now c.requires.quiet;
+  answer = refl;
+  not_yours = search rules;
+  draws_nothing = λ bucket. refl;
+  reads_nothing = refl;
+} }
 
-pub returns-clause-draws_nothing : goal.returns-clause-draws_nothing
-returns-clause-draws_nothing c = let p = c.args.pass.now in let s = c.end_storing.new.pass in let e = c.end_storing.ensures in
-    draws_none_then p s c.evict_rows.new.pass (same_drew c.args.board.now p s c.requires.quiet e.seat e.same.0.owner) c.evict_rows.ensures.draws_nothing
+pub returns-then-ne : goal.returns-then-ne
+returns-then-ne c = record { evicts = record {
+  on = goes_same c.args.board.now c.args.pass.now c.requires.quiet;
+  answer = inr (search rules, refl, refl);
+  not_yours = search rules;
+  draws_nothing = λ bucket. refl;
+  reads_nothing = refl;
+} }
 
-pub returns-clause-reads_nothing : goal.returns-clause-reads_nothing
-returns-clause-reads_nothing c = let e = c.end_storing.ensures in
-    c.evict_rows.ensures.reads_nothing ∙ same_readings c.args.board.now c.args.pass.now c.end_storing.new.pass c.requires.quiet e.seat e.same.0.owner
+pub returns : goal.returns
+returns c =
+    let b = c.args.board.now in let s = c.args.segment in let p = c.args.pass.now in let r = c.end_storing.new.pass in let q = c.evict_rows.new.pass in
+    let e = c.end_storing.ensures in let rows = c.evict_rows.ensures in
+    let in_use : state_of p s ≡ Some InUse = search rules in
+    record { evicts = record {
+      on = goes_then b p r q (ends_on b s p r c.requires.quiet in_use e.current e.same.0 e.same.1 e.same.2 e.seat) rows.on;
+      answer = evict_answers b s p r c.requires.quiet in_use e.current e.same.0 e.same.1 e.same.2 e.seat c.evict_rows.result q rows.answer rows.yours;
+      not_yours = search (rules, in_use, rows.yours);
+      draws_nothing = draws_none_then p r q (same_drew b p r c.requires.quiet e.seat e.same.0.owner) rows.draws_nothing;
+      reads_nothing = rows.reads_nothing ∙ same_readings b p r c.requires.quiet e.seat e.same.0.owner;
+    } }
