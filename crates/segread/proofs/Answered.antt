@@ -1,7 +1,11 @@
--- What a get makes of a scan: its answer by the history, and that it changed nothing.
-use Rattle.std.proofs.Common.{◌≡◌, ℕ, Bool, true, false, cond, List, [], ◌∷◌, ◌++◌, Some, None, option_map, refl, ap, ◌∙◌}
+-- What readers make of a scan: their answers by the history, and that they changed nothing.
+use Rattle.std.proofs.Common.{◌≡◌, ℕ, Bool, true, false, cond, List, [], ◌∷◌, ◌++◌, ◌≢◌, Some, None, option_map, refl, ap, ◌∙◌, arith}
 use Rattle.segword.specs.declared.shape.Shape.{Shape}
+use Rattle.segmodel.specs.declared.answer.GetAnswer.{GetAnswer}
+use Rattle.segmodel.specs.declared.answer.GetsAnswer.{GetsAnswer}
+use Rattle.segmodel.specs.declared.answer.GetsAnswer.TheVariants as gets
 use Rattle.segmodel.specs.declared.entry.Cached.{Cached}
+use Rattle.segmodel.specs.Places.{bucket_of}
 use Rattle.segmodel.specs.History.{Begins}
 use Rattle.segcore.specs.declared.event.Event.{Event}
 use Rattle.segcore.specs.declared.event.Event.TheVariants.{Glanced, Bumped, Entered, Left}
@@ -15,14 +19,21 @@ use Rattle.segbase.specs.declared.board.Board.{Board}
 use Rattle.segbase.specs.declared.pass.Pass.{Pass}
 use Rattle.segbase.specs.declared.place.Place.{Place}
 use Rattle.segbase.specs.Traces.{OnlyReads}
-use Rattle.segbase.specs.Passes.{number, trace, sight, taken, Moved, Did}
+use Rattle.segbase.specs.Passes.{number, trace, seen, sight, taken, Moved, Did}
+use Rattle.segbase.specs.Plain.{locked_of}
 use Rattle.segbase.proofs.Moves.{moved_inside, moved_taken, moved_bounced}
 use Rattle.segstore.specs.Reading.{IsReader}
 use Rattle.segstore.specs.Linked.{IsChained, FoundItem}
 use Rattle.segstore.proofs.Words.{chained_later}
 use Rattle.segstore.proofs.Readers.{looks}
+use Rattle.segpass.specs.Quiet.{IsQuiet}
 use Rattle.segpass.specs.Calls.{TakesNoBit}
-use Rattle.segread.specs.Reads.{ReadsBetween}
+use Rattle.segpass.proofs.Draws.{reader_draws_none}
+use Rattle.segread.specs.Reads.{ReadsBetween, IsGetAnswer, ReadsKey}
+use Rattle.segread.specs.Gets.{IsGetsAnswer, ReadsVersion}
+use Rattle.segread.specs.Hits.{GetRaises, GetsRaises}
+use Rattle.segread.specs.Scanning.{ComesIn}
+use Rattle.segread.proofs.Reading.{read_on}
 
 -- ---- the answer
 
@@ -84,4 +95,30 @@ pub reads_no_bit : (b : Board) (p q : Pass) → IsReader b p q → TakesNoBit p 
 reads_no_bit b p q i = record {
   taken = takes_none b p q i;
   bounced = λ bucket. moved_bounced b i.reads.own p q bucket i.reads.moved ∙ reads_try_none (number p) bucket i.reads.own (trace p) i.reads.only;
+}
+
+-- ---- whole calls
+
+pub reads_key : (b : Board) (key : List ℕ) (draw : ℕ) (told : GetAnswer) (p q : Pass) → IsQuiet b p → IsReader b p q → ComesIn 28 0 63 p q → GetRaises b.shape key draw told p q → IsGetAnswer b.shape key told (seen p) (seen q) → ReadsKey b key draw told p q
+reads_key b key draw told p q quiet i few raised answer = let on = read_on b p q quiet i.reads i.plain i.memo in record {
+  on = on.0;
+  keeps = on.1;
+  takes_no_bit = reads_no_bit b p q i;
+  draws_nothing = reader_draws_none b p q i.reads;
+  tries = omega (arith, few);
+  raises = raised;
+  answer = answer;
+}
+
+pub reads_version : (b : Board) (key : List ℕ) (draw : ℕ) (told : GetsAnswer) (p q : Pass) → IsQuiet b p → IsReader b p q → ComesIn 28 0 63 p q → GetsRaises b.shape key draw told p q → IsGetsAnswer b.shape key told p q
+    → ((value : List ℕ) (version : ℕ) → told ≡ gets.Found value version → locked_of p ≢ Some (bucket_of b.shape key)) → ReadsVersion b key draw told p q
+reads_version b key draw told p q quiet i few raised answer unlocked = let on = read_on b p q quiet i.reads i.plain i.memo in record {
+  on = on.0;
+  keeps = on.1;
+  takes_no_bit = reads_no_bit b p q i;
+  draws_nothing = reader_draws_none b p q i.reads;
+  tries = omega (arith, few);
+  raises = raised;
+  answer = answer;
+  unlocked = unlocked;
 }

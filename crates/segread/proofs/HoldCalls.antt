@@ -1,5 +1,5 @@
 -- A quiet pass that takes a hold, reads it, or ends it, is quiet.
-use Rattle.std.proofs.Common.{◌≡◌, ◌≢◌, ℕ, ◌+◌, ◌-◌, ◌<◌, Bool, true, false, cond, eqb, ◌&&◌, is_some, List, [], ◌∷◌, ◌++◌, Option, Some, None, IfSome, option_map, refl, sym, ap, ◌∙◌, subst, inl, inr, append_assoc, arith}
+use Rattle.std.proofs.Common.{◌≡◌, ◌≢◌, ◌↔◌, ℕ, ◌+◌, ◌-◌, ◌<◌, Bool, true, false, cond, eqb, ◌&&◌, is_some, List, [], ◌∷◌, ◌++◌, Option, Some, None, IfSome, option_map, refl, sym, ap, ◌∙◌, subst, inl, inr, append_assoc, arith}
 use Rattle.std.proofs.lemmas.Bool.{cond-true, eq-eqb, false≢true}
 use Rattle.std.proofs.lemmas.Option.{none-some, same_Some}
 use Rattle.atomic_table.specs.declared.shared.Seat.{Seat}
@@ -36,22 +36,25 @@ use Rattle.segbase.specs.Traces.{OnlyReads}
 use Rattle.segbase.proofs.Staying.{none_both}
 use Rattle.segbase.proofs.Moves.{moved_inside, moved_mine}
 use Rattle.segstore.specs.Linked.{segment_part, row_part, FoundItem}
-use Rattle.segstore.specs.Reading.{IsReadable, IsReaderIn}
+use Rattle.segstore.specs.Reading.{IsReadable, IsReader, IsReaderIn}
 use Rattle.segstore.proofs.Keeping.{same_plain, keeps}
 use Rattle.segstore.proofs.Seconds.{segment_of_item, row_of_item}
 use Rattle.segread.specs.declared.held.Hold.{Hold}
-use Rattle.segpass.specs.Calls.{memo, GoesOn, TakesNoBit, DrawsNothing}
+use Rattle.segread.specs.declared.held.HoldAnswer.{HoldAnswer}
+use Rattle.segread.specs.declared.held.HoldAnswer.TheVariants as answer
+use Rattle.segpass.specs.Calls.{memo, GoesOn, ChangesNothing, TakesNoBit, DrawsNothing}
 use Rattle.segpass.specs.Quiet.{IsLock, IsHold, is_held_in, IsQuiet}
-use Rattle.segread.specs.Holds.{IsRowOf, IsHoldOf, KeepsButHold, TakesHold, NoneFills, IsUnfilled, Releases, SetsHold}
+use Rattle.segread.specs.Scanning.{Tries}
+use Rattle.segread.specs.Holds.{IsRowOf, IsHoldOf, KeepsButHold, TakesHold, IsHoldAnswer, HoldsItem, NoneFills, IsUnfilled, Releases, SetsHold}
 use Rattle.segpass.proofs.Still.{then_minds}
 use Rattle.segpass.proofs.Bits.{none_at_both, bit_before}
-use Rattle.segpass.proofs.Draws.{moved_undrawn, reads_undrawn}
-use Rattle.segread.proofs.Answered.{reads_set_none, reads_try_none}
+use Rattle.segpass.proofs.Draws.{moved_undrawn, reads_undrawn, reader_draws_none}
+use Rattle.segread.proofs.Answered.{reads_set_none, reads_try_none, reads_no_bit}
 use Rattle.segpass.proofs.Idling.{took_none}
 use Rattle.segread.proofs.Holding.{held_at, held_from, held_past, held_stood, has_held, is_hold, held_row, row_of_hold}
 use Rattle.segpass.proofs.Locking.{segments_then}
 use Rattle.segpass.proofs.Quiet.{has_lock, goes_on, reads_none}
-use Rattle.segread.proofs.Reading.{reads_calm, reads_unseen}
+use Rattle.segread.proofs.Reading.{reads_calm, reads_unseen, read_on}
 use Rattle.segpass.proofs.UnderBit.{moved_none}
 
 -- ---- what the pass may keep in mind
@@ -208,6 +211,18 @@ module _ (b : Board) (p r q : Pass) (place : Place) (item : Item) (key value : L
       same = keeps_but b reads.reads.own (Some held) p r q quiet reads.reads.moved reads.reads.only reads.plain reads.memo is sets;
     },
   )
+
+-- no item was found
+pub holds_none : (b : Board) (key : List ℕ) (told : HoldAnswer) (p q : Pass) → IsQuiet b p → IsReader b p q → Tries 28 0 63 p q → (ChangesNothing p q → IsHoldAnswer b.shape key told p q) → ((told ≡ answer.AlreadyHolding) ↔ (is_holding_of p ≡ true)) → HoldsItem b key told p q
+holds_none b key told p q quiet i tried then already = let on = read_on b p q quiet i.reads i.plain i.memo in record {
+  on = on.0;
+  takes_no_bit = reads_no_bit b p q i;
+  draws_nothing = reader_draws_none b p q i.reads;
+  raises_nothing = tried.raises_nothing;
+  tries = let few = tried.comes_in in omega arith;
+  answer = then on.1;
+  already = already;
+}
 
 -- what the pass may keep in mind of what it found
 pub has_found : (b : Board) (p r : Pass) (place : Place) (item : Item) (key value : List ℕ) → IsReaderIn b p r item.seg → FoundItem b.shape place (item_word item) key value (trace p) (trace r) → HasHeld b.shape (trace r) (held_at b.shape (trace r) key value item.seg)

@@ -1,5 +1,5 @@
 -- What a gets answers: a value and a version of one moment; and how its looks along the key's chain come to that, with the tries that they count and what they raise.
-use Rattle.std.specs.Prelude.{◌≡◌, ◌⊎◌, ℕ, ◌+◌, ◌-◌, ◌<◌, ◌≤◌, List, Option, Some, None}
+use Rattle.std.specs.Prelude.{◌≡◌, ◌≢◌, ◌⊎◌, ℕ, ◌+◌, ◌-◌, ◌<◌, ◌≤◌, List, Option, Some, None}
 use Rattle.segword.specs.declared.shape.Shape.{Shape}
 use Rattle.segword.specs.SameItem.{IsSameItem}
 use Rattle.segmodel.specs.declared.entry.Entry.{Entry}
@@ -11,6 +11,7 @@ use Rattle.segmodel.specs.History.{after, Begins, IsBetween, entries_of, stirred
 use Rattle.segcore.specs.Ahead.{WasGone}
 use Rattle.segcore.specs.Search.{KeyGone}
 use Rattle.segcore.specs.Kind.{HasBit}
+use Rattle.segbase.specs.declared.board.Board.{Board}
 use Rattle.segbase.specs.declared.pass.Pass.{Pass}
 use Rattle.segbase.specs.declared.place.Place.{Place}
 use Rattle.segbase.specs.Passes.{number, trace, seen, glanced}
@@ -21,9 +22,9 @@ use Rattle.segread.specs.declared.version.Versioned.{Versioned}
 use Rattle.segread.specs.declared.version.Versioned.TheVariants as versioned
 use Rattle.segread.specs.declared.version.Visited.{Visited}
 use Rattle.segread.specs.declared.version.Visited.TheVariants as visited
-use Rattle.segpass.specs.Calls.{RaisesNothing}
+use Rattle.segpass.specs.Calls.{GoesOn, ChangesNothing, TakesNoBit, DrawsNothing, RaisesNothing}
 use Rattle.segread.specs.Reads.{ReadsBetween}
-use Rattle.segread.specs.Hits.{RaisesOne}
+use Rattle.segread.specs.Hits.{TriesFew, RaisesOne, GetsRaises}
 use Rattle.segread.specs.Scanning.{Counts, HasPassed}
 
 -- ---- the answer
@@ -53,6 +54,18 @@ abbrev pub IsGetsAnswer : Shape → List ℕ → GetsAnswer → Pass → Pass �
 IsGetsAnswer shape key (gets.Found value version) p q = ReadsVersionBetween shape key (seen p) (seen q) (Some (value, version))
 IsGetsAnswer shape key gets.Miss p q = ReadsBetween shape key (seen p) (seen q) None
 IsGetsAnswer shape key gets.Busy p q = IsDisturbed shape key p q ⊎ StandsLocked shape key p q
+
+-- A gets of a key is answered so. It changes nothing, takes no bit, draws no overflow bucket, and only a hit raises a frequency. It finds nothing in a bucket that the pass itself has locked.
+pub record ReadsVersion (b : Board) (key : List ℕ) (draw : ℕ) (told : GetsAnswer) (p q : Pass) : Type 0 where
+  pub on : GoesOn b p q
+  pub keeps : ChangesNothing p q
+  pub takes_no_bit : TakesNoBit p q
+  pub draws_nothing : DrawsNothing p q
+  pub tries : TriesFew p q
+  pub raises : GetsRaises b.shape key draw told p q
+  pub answer : IsGetsAnswer b.shape key told p q
+  pub unlocked : (value : List ℕ) (version : ℕ) → told ≡ gets.Found value version
+      → locked_of p ≢ Some (bucket_of b.shape key)
 
 -- ---- on the way
 

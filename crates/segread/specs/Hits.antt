@@ -1,10 +1,6 @@
 -- What readers do beside their answers: how often they come into segments, and which frequency a hit raises.
 use Rattle.std.specs.Prelude.{◌≡◌, ◌≢◌, ◌<◌, ◌⊎◌, ℕ, ◌+◌, ◌≤◌, true, false, List, ◌∷◌, Some}
 use Rattle.segword.specs.declared.shape.Shape.{Shape}
-use Rattle.segmodel.specs.declared.answer.Command.{Command}
-use Rattle.segmodel.specs.declared.answer.Command.TheVariants as command
-use Rattle.segmodel.specs.declared.answer.Answer.{Answer}
-use Rattle.segmodel.specs.declared.answer.Answer.TheVariants as answer
 use Rattle.segmodel.specs.declared.answer.GetAnswer.{GetAnswer}
 use Rattle.segmodel.specs.declared.answer.GetAnswer.TheVariants as get
 use Rattle.segmodel.specs.declared.answer.GetsAnswer.{GetsAnswer}
@@ -22,7 +18,7 @@ use Rattle.segbase.specs.declared.pass.Pass.{Pass}
 use Rattle.segbase.specs.Passes.{number, trace, raised, entered}
 use Rattle.segbase.specs.declared.place.Place.{Place}
 use Rattle.segstore.specs.Linked.{WasLinked, word_at}
-use Rattle.segpass.specs.Calls.{RaisesNothing, ReadsNothing}
+use Rattle.segpass.specs.Calls.{RaisesNothing}
 
 -- It came into segments at most as often as a scan of a chain may try: 63 tries that are counted, and one more at each of 28 words.
 abbrev pub TriesFew : Pass → Pass → Type 0
@@ -85,9 +81,3 @@ GetRaises shape key draw _ p q = RaisesNothing p q
 abbrev pub GetsRaises : Shape → List ℕ → ℕ → GetsAnswer → Pass → Pass → Type 0
 GetsRaises shape key draw (gets.Found value version) p q = RaisesOne shape key value draw p q
 GetsRaises shape key draw _ p q = RaisesNothing p q
-
--- a hit raises a frequency by the draw 0; no other command does anything of what readers do
-abbrev pub RaisesByDraw : Shape → Command → Answer → Pass → Pass → Type 0
-RaisesByDraw shape (command.Get key) (answer.Get told) p q = GetRaises shape key 0 told p q
-RaisesByDraw shape (command.Gets key) (answer.Gets told) p q = GetsRaises shape key 0 told p q
-RaisesByDraw shape command told p q = ReadsNothing p q

@@ -1,4 +1,4 @@
--- What a read answers: what a cache of one thread would, at some moment of the call.
+-- What a read answers: what a cache of one thread would, at some moment of the call; and what a get changes and costs.
 use Rattle.std.specs.Prelude.{◌≡◌, ℕ, ◌≤◌, List, Option, Some, None}
 use Rattle.segword.specs.declared.shape.Shape.{Shape}
 use Rattle.segmodel.specs.declared.entry.Entry.{Entry}
@@ -6,6 +6,11 @@ use Rattle.segmodel.specs.declared.answer.GetAnswer.{GetAnswer}
 use Rattle.segmodel.specs.declared.answer.GetAnswer.TheVariants as get
 use Rattle.segmodel.specs.Cache.{reads}
 use Rattle.segmodel.specs.History.{after, IsBetween, stirred}
+use Rattle.segbase.specs.declared.board.Board.{Board}
+use Rattle.segbase.specs.declared.pass.Pass.{Pass}
+use Rattle.segbase.specs.Passes.{seen}
+use Rattle.segpass.specs.Calls.{GoesOn, ChangesNothing, TakesNoBit, DrawsNothing}
+use Rattle.segread.specs.Hits.{TriesFew, GetRaises}
 
 -- ---- readers
 
@@ -18,3 +23,13 @@ abbrev pub IsGetAnswer : Shape → List ℕ → GetAnswer → List Entry → Lis
 IsGetAnswer shape key (get.Found value) before now = ReadsBetween shape key before now (Some value)
 IsGetAnswer shape key get.Miss before now = ReadsBetween shape key before now None
 IsGetAnswer shape key get.Busy before now = 64 ≤ stirred shape key before now
+
+-- A get of a key is answered so. It changes nothing, takes no bit, draws no overflow bucket, and only a hit raises a frequency.
+pub record ReadsKey (b : Board) (key : List ℕ) (draw : ℕ) (told : GetAnswer) (p q : Pass) : Type 0 where
+  pub on : GoesOn b p q
+  pub keeps : ChangesNothing p q
+  pub takes_no_bit : TakesNoBit p q
+  pub draws_nothing : DrawsNothing p q
+  pub tries : TriesFew p q
+  pub raises : GetRaises b.shape key draw told p q
+  pub answer : IsGetAnswer b.shape key told (seen p) (seen q)

@@ -1,18 +1,14 @@
 //! Items held: a pass stays in the segment of an item, so that its value stands there until it is released, also where its key is deleted, stored again or evicted.
-ghost use Rattle.std.specs.Prelude.{◌≡◌, ◌↔◌, Option, true, is_some, IfSome};
+ghost use Rattle.std.specs.Prelude.{◌≡◌, Option, is_some, IfSome};
 ghost use Rattle.segbase.specs.declared.law.Held.{Held};
 ghost use Rattle.segbase.specs.declared.pass.Pass.{Pass};
 ghost use Rattle.segbase.specs.Passes.{trace, holding, IsPassOf};
 ghost use Rattle.segword.specs.declared.shape.Shape.{Shape};
 ghost use Rattle.segbase.specs.declared.board.Board.{Board};
 ghost use Rattle.segread.specs.declared.held.Hold.{Hold};
-ghost use Rattle.segread.specs.declared.held.HoldAnswer.TheVariants as answer;
 ghost use Rattle.segpass.specs.Quiet.{IsQuiet};
-ghost use Rattle.segread.specs.Holds.{IsHoldOf, IsRowOf, IsHoldAnswer, Releases, SetsHold};
-ghost use Rattle.segbase.specs.Plain.{is_holding_of};
+ghost use Rattle.segread.specs.Holds.{IsHoldOf, IsRowOf, HoldsItem, ReadsHeld, ReleasesHold, SetsHold};
 ghost use Rattle.segbase.specs.Minding.{HasHeld};
-ghost use Rattle.segpass.specs.Calls.{GoesOn, ChangesNothing, TakesNoBit, DrawsNothing, RaisesNothing, ReadsNothing};
-ghost use Rattle.segread.specs.Hits.{TriesFew};
 
 use crate::scan::{Scan, scan_for};
 use segbase::{Board, Pass};
@@ -40,13 +36,7 @@ pub enum HoldAnswer<'i> {
 /// Holds the item of a key. Its value can be read until it is released, and a pass holds one item at most. No frequency changes.
 pub fn hold_item<'i>(board: &'i Board, pass: &mut Pass, key: &Key) -> HoldAnswer<'i>
     requires pass { IsQuiet board.now pass.old }
-    ensures on { GoesOn board.now pass.old pass.new }
-    ensures takes_no_bit { TakesNoBit pass.old pass.new }
-    ensures draws_nothing { DrawsNothing pass.old pass.new }
-    ensures raises_nothing { RaisesNothing pass.old pass.new }
-    ensures tries { TriesFew pass.old pass.new }
-    ensures answer { IsHoldAnswer board.now.shape key.now result pass.old pass.new }
-    ensures already { (result ≡ answer.AlreadyHolding) ↔ (is_holding_of pass.old ≡ true) }
+    ensures holds { HoldsItem board.now key.now result pass.old pass.new }
 {
     if pass.is_holding() {
         return HoldAnswer::AlreadyHolding;
@@ -71,13 +61,7 @@ pub fn hold_item<'i>(board: &'i Board, pass: &mut Pass, key: &Key) -> HoldAnswer
 pub fn held_value(board: &Board, pass: &mut Pass, hold: &Hold<'_>) -> Value
     requires pass { IsQuiet board.now pass.old }
     requires hold { IsHoldOf board.now.shape hold.now pass.old }
-    ensures on { GoesOn board.now pass.old pass.new }
-    ensures keeps { ChangesNothing pass.old pass.new }
-    ensures takes_no_bit { TakesNoBit pass.old pass.new }
-    ensures draws_nothing { DrawsNothing pass.old pass.new }
-    ensures reads_nothing { ReadsNothing pass.old pass.new }
-    ensures hold { IsHoldOf board.now.shape hold.now pass.new }
-    ensures value { IfSome (holding pass.old) (λ held. result ≡ held.value) }
+    ensures reads { ReadsHeld board.now hold.now result pass.old pass.new }
 {
     let header = board.row_load(pass, hold.segment, hold.row, 0);
     value_of_row(board, pass, hold.segment, hold.row, header)
@@ -87,11 +71,7 @@ pub fn held_value(board: &Board, pass: &mut Pass, hold: &Hold<'_>) -> Value
 pub fn release(board: &Board, pass: &mut Pass, hold: Hold<'_>)
     requires pass { IsQuiet board.now pass.old }
     requires hold { IsHoldOf board.now.shape hold pass.old }
-    ensures on { GoesOn board.now pass.old pass.new }
-    ensures takes_no_bit { TakesNoBit pass.old pass.new }
-    ensures draws_nothing { DrawsNothing pass.old pass.new }
-    ensures reads_nothing { ReadsNothing pass.old pass.new }
-    ensures releases { Releases pass.old pass.new }
+    ensures releases { ReleasesHold board.now pass.old pass.new }
 {
     let Hold {
         board: _,

@@ -3,13 +3,12 @@ ghost use Rattle.std.specs.Prelude.{◌≡◌, ◌<◌, ℕ, List};
 ghost use Rattle.segword.specs.ItemWord.{item_word};
 ghost use Rattle.segcore.specs.declared.event.Event.{Event};
 ghost use Rattle.segcore.specs.Segment.{inside};
-ghost use Rattle.segbase.specs.Passes.{number, trace, seen, entered, IsPassOf};
+ghost use Rattle.segbase.specs.Passes.{number, trace, entered, IsPassOf};
 ghost use Rattle.segstore.specs.Reading.{IsReader};
 ghost use Rattle.segstore.specs.Linked.{IsChained, FoundItem};
 ghost use Rattle.segpass.specs.Quiet.{IsQuiet};
-ghost use Rattle.segpass.specs.Calls.{GoesOn, ChangesNothing, TakesNoBit, DrawsNothing};
-ghost use Rattle.segread.specs.Reads.{IsGetAnswer};
-ghost use Rattle.segread.specs.Hits.{TriesFew, RaisesFrom, GetRaises};
+ghost use Rattle.segread.specs.Reads.{ReadsKey};
+ghost use Rattle.segread.specs.Hits.{RaisesFrom};
 
 use crate::scan::{Scan, scan_for};
 use segbase::{Board, Pass, Place};
@@ -21,13 +20,7 @@ use segword::{Item, Key};
 /// The value under a key. A hit raises the frequency of the key's item where the draw, a number at random, says so.
 pub fn get(board: &Board, pass: &mut Pass, key: &Key, draw: u32) -> GetAnswer
     requires pass { IsQuiet board.now pass.old }
-    ensures on { GoesOn board.now pass.old pass.new }
-    ensures keeps { ChangesNothing pass.old pass.new }
-    ensures takes_no_bit { TakesNoBit pass.old pass.new }
-    ensures draws_nothing { DrawsNothing pass.old pass.new }
-    ensures tries { TriesFew pass.old pass.new }
-    ensures raises { GetRaises board.now.shape key.now draw result pass.old pass.new }
-    ensures answer { IsGetAnswer board.now.shape key.now result (seen pass.old) (seen pass.new) }
+    ensures reads { ReadsKey board.now key.now draw result pass.old pass.new }
 {
     match scan_for(board, pass, key) {
         Scan::Found(hit) => {

@@ -9,10 +9,9 @@ ghost use Rattle.segbase.specs.Plain.{locked_of};
 ghost use Rattle.segbase.specs.Spots.{position};
 ghost use Rattle.segstore.specs.Reading.{IsReader};
 ghost use Rattle.segpass.specs.Quiet.{IsQuiet};
-ghost use Rattle.segpass.specs.Calls.{GoesOn, ChangesNothing, TakesNoBit, DrawsNothing};
 ghost use Rattle.segread.specs.Scanning.{bucket_depth, place_of, IsPlaceOf, IsBucketOf, MayEnterAny, ComesIn, Tries};
-ghost use Rattle.segread.specs.Hits.{TriesFew, GetsRaises};
-ghost use Rattle.segread.specs.Gets.{IsGetsAnswer, HasNoBit, IsVersioned, IsVisited, IsVersionScan, visits, TryRaises, VisitRaises};
+ghost use Rattle.segread.specs.Hits.{GetsRaises};
+ghost use Rattle.segread.specs.Gets.{ReadsVersion, IsGetsAnswer, HasNoBit, IsVersioned, IsVisited, IsVersionScan, visits, TryRaises, VisitRaises};
 
 use crate::read::count_hit;
 use crate::scan::{Scan, TRIES, item_of_tag, scan_for, try_item};
@@ -47,14 +46,7 @@ enum Visited {
 /// The value under a key with the version of the key's bucket, for a later compare-and-swap. It is Busy where the pass has the bucket locked by itself and the key stands. A hit raises the frequency of the key's item where the draw, a number at random, says so.
 pub fn gets(board: &Board, pass: &mut Pass, key: &Key, draw: u32) -> GetsAnswer
     requires pass { IsQuiet board.now pass.old }
-    ensures on { GoesOn board.now pass.old pass.new }
-    ensures keeps { ChangesNothing pass.old pass.new }
-    ensures takes_no_bit { TakesNoBit pass.old pass.new }
-    ensures draws_nothing { DrawsNothing pass.old pass.new }
-    ensures tries { TriesFew pass.old pass.new }
-    ensures raises { GetsRaises board.now.shape key.now draw result pass.old pass.new }
-    ensures answer { IsGetsAnswer board.now.shape key.now result pass.old pass.new }
-    ensures unlocked { (value : List ℕ) (version : ℕ) → result ≡ gets.Found value version → locked_of pass.old ≢ Some (bucket_of board.now.shape key.now) }
+    ensures reads { ReadsVersion board.now key.now draw result pass.old pass.new }
 {
     let hash = hash(key);
     let bucket = bucket_of(hash, board.shape().buckets);
