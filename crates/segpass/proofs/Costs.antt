@@ -1,7 +1,12 @@
 -- What a call costs is one value: where nothing of it happened the parts are the same, and so is the whole.
-use Rattle.std.proofs.Common.{ap}
+use Rattle.std.proofs.Common.{[], refl}
+use Rattle.segbase.specs.declared.board.Board.{Board}
 use Rattle.segbase.specs.declared.pass.Pass.{Pass}
+use Rattle.segbase.specs.Passes.{Moved}
 use Rattle.segpass.specs.Calls.{TakesNoBit, DrawsNothing, ReadsNothing, CostsNothing}
+use Rattle.segpass.proofs.Draws.{moved_undrawn}
+use Rattle.segpass.proofs.Idling.{took_none}
+use Rattle.segpass.proofs.Still.{no_reader}
 
 pub costs_nothing : (p q : Pass) → TakesNoBit p q → DrawsNothing p q → ReadsNothing p q → CostsNothing p q
 costs_nothing p q takes draws reads = λ i. ((takes.taken i, (λ bucket. takes.bounced bucket i), λ bucket. draws bucket i), reads i)
@@ -14,3 +19,7 @@ draws_nothing p q nothing = λ bucket i. (nothing i).0.2 bucket
 
 pub reads_nothing : (p q : Pass) → CostsNothing p q → ReadsNothing p q
 reads_nothing p q nothing = λ i. (nothing i).1
+
+-- a pass that did nothing by itself
+pub idle_costs_nothing : (b : Board) (p q : Pass) → Moved b [] p q → CostsNothing p q
+idle_costs_nothing b p q m = costs_nothing p q (took_none b [] p q m refl (λ bucket. refl)) (moved_undrawn b [] p q m tt) (no_reader b [] p q m tt)

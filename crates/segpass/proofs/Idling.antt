@@ -108,3 +108,6 @@ goes_same b p quiet = goes_nowhere b p p quiet (stays b p quiet.pass) refl refl
 
 pub changes_nothing : (p : Pass) → ChangesNothing p p
 changes_nothing p = record { entries = refl; plain = refl; memo = refl }
+
+pub unchanged : (p q : Pass) → q ≡ p → ChangesNothing p q
+unchanged p q same = rw same (changes_nothing p)
