@@ -7,3 +7,4 @@ pub mod Pairs
 pub mod AtRest
 pub mod Listing
 pub mod Ended
+pub mod Commands

@@ -13,7 +13,11 @@ use Rattle.segbase.specs.declared.pass.Pass.{Pass}
 use Rattle.segbase.specs.Passes.{number, trace, mine, Moved}
 use Rattle.segbase.proofs.Begun.{begins_then}
 use Rattle.segbase.proofs.Moves.{moved_on, moved_mine}
-use Rattle.segindex.specs.Meeting.{Meets}
+use Rattle.segpass.specs.Quiet.{IsQuiet}
+use Rattle.segpass.specs.Calls.{memo}
+use Rattle.segpass.proofs.Costs.{idle_costs_nothing}
+use Rattle.segpass.proofs.Idling.{goes_nowhere, does_nothing}
+use Rattle.segindex.specs.Meeting.{Meets, OnlyLearns}
 
 -- a pass's entries in a longer history go on from those in a shorter one
 pub mine_begins : (n : ℕ) (h g : List Entry) → Begins h g → Begins (history.mine n h) (history.mine n g)
@@ -36,4 +40,12 @@ meets b p q p' q' m k one first second = record {
   second = (marked_begins (trace p') (trace q') second, seen_begins (trace p') (trace q') second);
   of_second = mine_of b (trace p) q q' k (begins_then (trace p) (trace p') (trace q') (moved_on b [] p p' m) second);
   of_first = mine_of b (trace q) p p' m first;
+}
+
+-- a pass that did nothing by itself
+pub only_learns : (b : Board) (p q : Pass) → IsQuiet b p → Moved b [] p q → q.plain ≡ p.plain → memo q ≡ memo p → OnlyLearns b p q
+only_learns b p q quiet m plain same = record {
+  on = goes_nowhere b p q quiet m plain same;
+  keeps = does_nothing b p q quiet m plain same;
+  costs_nothing = idle_costs_nothing b p q m;
 }

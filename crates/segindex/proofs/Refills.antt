@@ -20,13 +20,14 @@ use Rattle.segbase.proofs.Moves.{moved_inside, moved_mine}
 use Rattle.segstore.specs.Segments.{KeepsSegments}
 use Rattle.segstore.specs.Refilling.{Idles, FillsAnew, IsOutcome}
 use Rattle.segpass.specs.Quiet.{is_held_in, IsQuiet}
-use Rattle.segpass.specs.Calls.{GoesOn, TakesNoBit, DrawsNothing, ReadsNothing}
+use Rattle.segpass.specs.Calls.{GoesOn, CostsNothing}
 use Rattle.segindex.specs.Refilling.{IsRead, IsRefillAnswer}
 use Rattle.segpass.proofs.Bits.{bit_before}
 use Rattle.segpass.proofs.Draws.{moved_undrawn}
 use Rattle.segpass.proofs.Quiet.{Settles, quiet_again, goes_on}
 use Rattle.segpass.proofs.Still.{no_reader}
-use Rattle.segpass.proofs.Idling.{goes_same, changes_nothing, goes_nowhere, does_nothing, took_none}
+use Rattle.segpass.proofs.Idling.{goes_same, goes_nowhere, does_nothing, took_none}
+use Rattle.segpass.proofs.Costs.{costs_nothing, idle_costs_nothing}
 
 -- ---- quiet again
 
@@ -74,34 +75,16 @@ refill_answers b s refill.Refilled p q quiet is = record {
   is_holding = is.is_holding;
   memo = is.memo;
 }
-refill_answers b s refill.NotYours p q quiet is = rw is (changes_nothing p)
-refill_answers b s refill.NotEvicted p q quiet is = rw is (changes_nothing p)
+refill_answers b s refill.NotYours p q quiet is = is
+refill_answers b s refill.NotEvicted p q quiet is = is
 refill_answers b s refill.Held p q quiet is = (does_nothing b p q quiet is.0.moved is.0.plain is.0.memo, is_read b s is.1.0 p q quiet is.0 is.1.1)
 
-pub refill_takes_none : (b : Board) (s : ℕ) (r : RefillAnswer) (p q : Pass) → IsOutcome b s r p q → TakesNoBit p q
-refill_takes_none b s refill.Refilled p q is = took_none b (Refilled (number p) s ∷ []) p q is.moved refl (λ bucket. refl)
-refill_takes_none b s refill.NotYours p q is = rw is (record { taken = refl; bounced = λ bucket. refl })
-refill_takes_none b s refill.NotEvicted p q is = rw is (record { taken = refl; bounced = λ bucket. refl })
-refill_takes_none b s refill.Held p q is = took_none b [] p q is.0.moved refl (λ bucket. refl)
-
-pub refill_draws_none : (b : Board) (s : ℕ) (r : RefillAnswer) (p q : Pass) → IsOutcome b s r p q → DrawsNothing p q
-refill_draws_none b s refill.Refilled p q is = moved_undrawn b (Refilled (number p) s ∷ []) p q is.moved (tt, tt)
-refill_draws_none b s refill.NotYours p q is = rw is (λ bucket. refl)
-refill_draws_none b s refill.NotEvicted p q is = rw is (λ bucket. refl)
-refill_draws_none b s refill.Held p q is = moved_undrawn b [] p q is.0.moved tt
-
-pub refill_reads_none : (b : Board) (s : ℕ) (r : RefillAnswer) (p q : Pass) → IsOutcome b s r p q → ReadsNothing p q
-refill_reads_none b s refill.Refilled p q is = no_reader b (Refilled (number p) s ∷ []) p q is.moved (tt, tt)
-refill_reads_none b s refill.NotYours p q is = rw is refl
-refill_reads_none b s refill.NotEvicted p q is = rw is refl
-refill_reads_none b s refill.Held p q is = no_reader b [] p q is.0.moved tt
-
--- a segment of another's, or in use, is left at once
-pub not_yours_same : (b : Board) (s : ℕ) (r : RefillAnswer) (p q : Pass) → IsOutcome b s r p q → r ≡ refill.NotYours → q ≡ p
-not_yours_same b s r p q is e = subst (λ x. IsOutcome b s x p q) e is
-
-pub in_use_same : (b : Board) (s : ℕ) (r : RefillAnswer) (p q : Pass) → IsOutcome b s r p q → r ≡ refill.NotEvicted → q ≡ p
-in_use_same b s r p q is e = subst (λ x. IsOutcome b s x p q) e is
+pub refill_costs_nothing : (b : Board) (s : ℕ) (r : RefillAnswer) (p q : Pass) → IsOutcome b s r p q → CostsNothing p q
+refill_costs_nothing b s refill.Refilled p q is = let own = Refilled (number p) s ∷ [] in
+    costs_nothing p q (took_none b own p q is.moved refl (λ bucket. refl)) (moved_undrawn b own p q is.moved (tt, tt)) (no_reader b own p q is.moved (tt, tt))
+refill_costs_nothing b s refill.NotYours p q is = rw is refl
+refill_costs_nothing b s refill.NotEvicted p q is = rw is refl
+refill_costs_nothing b s refill.Held p q is = idle_costs_nothing b p q is.0.moved
 
 -- ---- a segment in which the pass holds an item
 

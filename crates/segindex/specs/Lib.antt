@@ -1,4 +1,6 @@
 pub mod Closing
+pub mod Commands
 pub mod Index
+pub mod Laws
 pub mod Meeting
 pub mod Refilling

@@ -1,8 +1,10 @@
 -- What two passes have seen once they met.
 use Rattle.segmodel.specs.History.{Begins, AreOne}
 use Rattle.segmodel.specs.History as history
+use Rattle.segbase.specs.declared.board.Board.{Board}
 use Rattle.segbase.specs.declared.pass.Pass.{Pass}
 use Rattle.segbase.specs.Passes.{number, marked, seen, mine}
+use Rattle.segpass.specs.Calls.{GoesOn, ChangesNothing, CostsNothing}
 
 -- Two passes met: of what they had seen, one began the other; now both have seen all of it, and the second all that the first has.
 -- What either had seen of the other's entries was a beginning of these.
@@ -13,3 +15,15 @@ pub record Meets (p q p' q' : Pass) : Type 0 where
   pub second : Begins (marked p') (marked q') × Begins (seen p') (seen q')
   pub of_second : Begins (history.mine (number q) (seen p)) (mine q)
   pub of_first : Begins (history.mine (number p) (seen q)) (mine p)
+
+-- What a call of two passes does to one of them: the pass adds no entry, keeps all that it kept, and nothing of it costs.
+pub record OnlyLearns (b : Board) (p q : Pass) : Type 0 where
+  pub on : GoesOn b p q
+  pub keeps : ChangesNothing p q
+  pub costs_nothing : CostsNothing p q
+
+-- two passes meet so
+pub record MeetsPass (b : Board) (p q p' q' : Pass) : Type 0 where
+  pub first : OnlyLearns b p p'
+  pub second : OnlyLearns b q q'
+  pub meets : Meets p q p' q'

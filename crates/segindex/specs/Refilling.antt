@@ -1,15 +1,16 @@
 -- What a refill of a segment answers.
-use Rattle.std.specs.Prelude.{◌≡◌, ◌≢◌, ◌⊎◌, ℕ, ◌<◌, true, Some}
+use Rattle.std.specs.Prelude.{◌≡◌, ◌≢◌, ◌↔◌, ◌⊎◌, ℕ, ◌<◌, true, Some, None}
 use Rattle.segmodel.specs.declared.entry.Entry.TheVariants.{Refilled}
 use Rattle.segmodel.specs.declared.answer.RefillAnswer.{RefillAnswer}
 use Rattle.segmodel.specs.declared.answer.RefillAnswer.TheVariants as refill
-use Rattle.segmodel.specs.declared.answer.SegState.TheVariants.{InUse}
+use Rattle.segmodel.specs.declared.answer.SegState.TheVariants.{InUse, Evicted}
 use Rattle.segcore.specs.Segment.{inside}
+use Rattle.segbase.specs.declared.board.Board.{Board}
 use Rattle.segbase.specs.declared.pass.Pass.{Pass}
 use Rattle.segbase.specs.Passes.{number, trace, holding}
 use Rattle.segbase.specs.Plain.{current_of, state_of, used_of, locked_of, is_holding_of}
 use Rattle.segpass.specs.Quiet.{is_held_in}
-use Rattle.segpass.specs.Calls.{memo, ChangesNothing, AddsEntry}
+use Rattle.segpass.specs.Calls.{memo, GoesOn, ChangesNothing, CostsNothing, AddsEntry}
 
 -- ---- refilling
 
@@ -31,6 +32,16 @@ IsRead segment p = ((other : ℕ) × (other ≢ number p) × (0 < inside (trace 
 
 abbrev pub IsRefillAnswer : ℕ → RefillAnswer → Pass → Pass → Type 0
 IsRefillAnswer segment refill.Refilled p q = Refills segment p q
-IsRefillAnswer segment refill.NotYours p q = ChangesNothing p q
-IsRefillAnswer segment refill.NotEvicted p q = ChangesNothing p q
+IsRefillAnswer segment refill.NotYours p q = q ≡ p
+IsRefillAnswer segment refill.NotEvicted p q = q ≡ p
 IsRefillAnswer segment refill.Held p q = ChangesNothing p q × IsRead segment q
+
+-- A refill is answered so: NotYours exactly if the segment isn't one of the pass's own, and NotEvicted exactly if it is in use.
+-- An evicted segment in which the pass itself holds an item is always Held.
+pub record RefillsSegment (b : Board) (segment : ℕ) (told : RefillAnswer) (p q : Pass) : Type 0 where
+  pub on : GoesOn b p q
+  pub answer : IsRefillAnswer segment told p q
+  pub not_yours : (told ≡ refill.NotYours) ↔ (state_of p segment ≡ None)
+  pub in_use : (told ≡ refill.NotEvicted) ↔ (state_of p segment ≡ Some InUse)
+  pub held : state_of p segment ≡ Some Evicted → is_held_in (holding p) segment ≡ true → told ≡ refill.Held
+  pub costs_nothing : CostsNothing p q

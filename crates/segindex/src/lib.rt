@@ -8,6 +8,7 @@ mod lock;
 mod meet;
 mod read;
 mod segment;
+mod serve;
 #[cfg(test)]
 mod tests;
 mod write;

@@ -5,11 +5,11 @@ use Rattle.segindex.proofs.laws.one_pass.Goals as goal
 
 pub returns : goal.returns
 returns c = record {
-  own = λ index p quiet one. all_mine (number p) (trace p) (quiet.pass.alone one);
-  free = λ index p bucket quiet one. free_of_others index.board p bucket quiet one;
-  unglanced = λ index p bucket quiet one. glanced_alone index.board p bucket quiet.pass one;
-  nobody = λ index p other segment quiet one apart. nobody_inside (number p) other segment (trace p) apart (quiet.pass.alone one);
-  unbusy = λ index p q bucket before after one busy. busy_by_lock index.board p q bucket before after one busy;
-  joined = λ index p bucket quiet one. all_joined index.board p bucket quiet one;
-  still = λ index p q key before after one same. none_stirred index.board p q key before after one same;
+  own = λ b p quiet one. all_mine (number p) (trace p) (quiet.pass.alone one);
+  free = λ b p quiet one bucket. free_of_others b p bucket quiet one;
+  unglanced = λ b p quiet one bucket. glanced_alone b p bucket quiet.pass one;
+  nobody = λ b p quiet one other segment apart. nobody_inside (number p) other segment (trace p) apart (quiet.pass.alone one);
+  unbusy = λ b p q old new one bucket busy. busy_by_lock b p q bucket old new one busy;
+  joined = λ b p quiet one bucket. all_joined b p bucket quiet one;
+  still = λ b p q old new one key same. none_stirred b p q key old new one same;
 }

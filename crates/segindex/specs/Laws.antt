@@ -1,0 +1,146 @@
+-- Laws of quiet passes and of replies: what the contracts of the calls come to. Each is proved as the contract of a function in src/laws.rt.
+use Rattle.std.specs.Prelude.{◌≡◌, ◌≢◌, ℕ, ◌+◌, ◌*◌, ◌^◌, ◌<◌, ◌≤◌, ◌↔◌, nat_lt, is_some, IsSome, List, Some}
+use Rattle.segmodel.specs.declared.request.Request.{Request}
+use Rattle.segmodel.specs.declared.request.Request.TheVariants.{Cas, Delete}
+use Rattle.segmodel.specs.declared.request.Reply.{Reply}
+use Rattle.segmodel.specs.declared.entry.Entry.{Entry}
+use Rattle.segmodel.specs.declared.answer.WriteAnswer.{WriteAnswer}
+use Rattle.segmodel.specs.declared.answer.DeleteAnswer.{DeleteAnswer}
+use Rattle.segmodel.specs.declared.answer.GetsAnswer.TheVariants.{Found}
+use Rattle.segmodel.specs.declared.answer.SegState.{SegState}
+use Rattle.segmodel.specs.declared.answer.SegState.TheVariants.{InUse}
+use Rattle.segmodel.specs.Places.{owner}
+use Rattle.segmodel.specs.Cache.{keys_in}
+use Rattle.segmodel.specs.History.{Begins, IsLegal, after, stirred, NoneStandsIn}
+use Rattle.segmodel.specs.Serving.{reply_of_write, reply_of_delete}
+use Rattle.segcore.specs.Mark.{entries, width, chained_to, linked_in}
+use Rattle.segcore.specs.Segment.{inside}
+use Rattle.segcore.specs.Lawful.{IsSegment}
+use Rattle.segbase.specs.declared.board.Board.{Board}
+use Rattle.segbase.specs.declared.law.Locked.{Locked}
+use Rattle.segbase.specs.declared.pass.Pass.{Pass}
+use Rattle.segbase.specs.Passes.{number, trace, marked, seen, mine, bounced, glanced, locked}
+use Rattle.segbase.specs.Plain.{current_of, state_of, used_of, locked_of}
+use Rattle.segpass.specs.Quiet.{IsQuiet}
+use Rattle.segpass.specs.Calls.{IsBusy}
+use Rattle.segpass.specs.Locks.{NoneSince}
+use Rattle.segwrite.specs.Writes.{Writes, Deletes}
+use Rattle.segread.specs.Gets.{IsGetsAnswer}
+use Rattle.segwrite.specs.Telling.{WasTold, cas_reply}
+
+-- ---- a quiet pass
+
+-- so it is of each quiet pass of each index
+abbrev pub OfQuiet : (Board → Pass → Type 0) → Type 0
+OfQuiet Is = (b : Board) (p : Pass) → IsQuiet b p → Is b p
+
+-- what it has seen is a history of a cache of one thread
+abbrev pub SeenIsLegal : Type 0
+SeenIsLegal = OfQuiet (λ b p. IsLegal b.shape (seen p))
+
+-- the history with marks that it has seen is the one without, once the marks are left out
+abbrev pub MarksAreBeside : Type 0
+MarksAreBeside = OfQuiet (λ b p. entries (marked p) ≡ seen p)
+
+-- it knows the states of just its own segments
+abbrev pub KnowsItsOwn : Type 0
+KnowsItsOwn = OfQuiet (λ b p. (segment : ℕ) → IsSome (state_of p segment) ↔ (owner b.shape segment ≡ number p))
+
+-- its segments are segments of the table
+abbrev pub OwnAreInTable : Type 0
+OwnAreInTable = OfQuiet (λ b p. (segment : ℕ) → IsSome (state_of p segment) → IsSegment b.shape segment)
+
+-- of a segment of its own those rows are used that an item was linked to in this filling
+abbrev pub UsedAreLinked : Type 0
+UsedAreLinked = OfQuiet (λ b p. (segment used row : ℕ) → used_of p segment ≡ Some used → row < b.shape.rows
+    → is_some (linked_in (marked p) segment row) ≡ nat_lt row used)
+
+-- the segment that it stores into is in use
+abbrev pub CurrentIsInUse : Type 0
+CurrentIsInUse = OfQuiet (λ b p. (segment : ℕ) → current_of p ≡ Some segment → state_of p segment ≡ Some InUse)
+
+-- no key stands in a segment of its own that isn't in use
+abbrev pub UnusedIsEmpty : Type 0
+UnusedIsEmpty = OfQuiet (λ b p. (segment : ℕ) (state : SegState) → state_of p segment ≡ Some state → state ≢ InUse
+    → NoneStandsIn (after b.shape (seen p)) segment)
+
+-- no entry came into the bucket that it has locked
+abbrev pub LockedIsStill : Type 0
+LockedIsStill = OfQuiet (λ b p. (lock : Locked) → locked p ≡ Some lock → NoneSince b.shape lock (seen p))
+
+-- at most seven keys of a bucket stand, and six more for each overflow bucket that joined its chain
+abbrev pub KeysAreFew : Type 0
+KeysAreFew = OfQuiet (λ b p. (bucket : ℕ) → keys_in b.shape (after b.shape (seen p)) bucket ≤ 6 * chained_to (marked p) bucket + 7)
+
+-- no chain has more overflow buckets than there are
+abbrev pub ChainsAreShort : Type 0
+ChainsAreShort = OfQuiet (λ b p. (bucket : ℕ) → chained_to (marked p) bucket ≤ b.shape.overflow)
+
+-- ---- the only pass of an index
+
+-- so it is of a quiet pass that is the only one of its index
+abbrev pub OfOnly : (Board → Pass → Type 0) → Type 0
+OfOnly Is = OfQuiet (λ b p. b.shape.passes ≡ 1 → Is b p)
+
+-- so it is of the only pass at two moments at which it is quiet
+abbrev pub OfOnlyTwice : (Board → Pass → Pass → Type 0) → Type 0
+OfOnlyTwice Is = (b : Board) (p q : Pass) → IsQuiet b p → IsQuiet b q → b.shape.passes ≡ 1 → Is b p q
+
+-- each entry that it has seen is its own
+abbrev pub AllAreOwn : Type 0
+AllAreOwn = OfOnly (λ b p. mine p ≡ seen p)
+
+-- no take of its own found a bit of another's
+abbrev pub NoTakeBounced : Type 0
+NoTakeBounced = OfOnly (λ b p. (bucket : ℕ) → bounced p bucket ≡ 0)
+
+-- nor did a look
+abbrev pub NoLookGlanced : Type 0
+NoLookGlanced = OfOnly (λ b p. (bucket : ℕ) → glanced p bucket ≡ 0)
+
+-- nobody else is in a segment
+abbrev pub NobodyIsInside : Type 0
+NobodyIsInside = OfOnly (λ b p. (other segment : ℕ) → other ≢ number p → inside (trace p) other segment ≡ 0)
+
+-- each overflow bucket that was drawn has joined its chain
+abbrev pub DrawnHaveJoined : Type 0
+DrawnHaveJoined = OfOnly (λ b p. (bucket : ℕ) → width (marked p) bucket ≡ chained_to (marked p) bucket + 1)
+
+-- only the bucket that it has locked itself is busy
+abbrev pub BusyIsLocked : Type 0
+BusyIsLocked = OfOnlyTwice (λ b p q. (bucket : ℕ) → IsBusy bucket p q → locked_of p ≡ Some bucket)
+
+-- while it adds no entry nothing comes into the bucket of a key
+abbrev pub NothingIsStirred : Type 0
+NothingIsStirred = OfOnlyTwice (λ b p q. (key : List ℕ) → mine q ≡ mine p → stirred b.shape key (seen p) (seen q) ≡ 0)
+
+-- ---- replies
+
+-- a reply to a write is that of a cache of one thread at one moment of the call, at which its entry came into the history
+abbrev pub WritesAtAMoment : Type 0
+WritesAtAMoment = (b : Board) (p q : Pass) (request : Request) (told : WriteAnswer) (said : Reply)
+    → Writes b request told p q → reply_of_write told ≡ Some said
+    → WasTold b.shape (number p) request said (seen p) (seen q)
+
+-- so is a reply to a delete
+abbrev pub DeletesAtAMoment : Type 0
+DeletesAtAMoment = (b : Board) (p q : Pass) (key : List ℕ) (told : DeleteAnswer) (said : Reply)
+    → Deletes b key told p q → reply_of_delete told ≡ Some said
+    → WasTold b.shape (number p) (Delete key) said (seen p) (seen q)
+
+-- A gets by one pass, from `reader` to `found`, gave the version that a cas by any pass, from `p` to `q`, then expects, and the cas was replied.
+-- Told of such two calls is the moment of the gets (`got.0`) and that of the cas (`was.1.0`).
+abbrev pub OfGetsAndCas : ((b : Board) → List ℕ → (found p : Pass) → Reply → (read entered : List Entry) → Type 0) → Type 0
+OfGetsAndCas Is = (b : Board) (reader found p q : Pass) (key read value : List ℕ) (version : ℕ) (told : WriteAnswer) (said : Reply)
+    → b.shape.first_version < 2 ^ 32
+    → (got : IsGetsAnswer b.shape key (Found read version) reader found)
+    → Writes b (Cas key value version) told p q → reply_of_write told ≡ Some said
+    → (was : WasTold b.shape (number p) (Cas key value version) said (seen p) (seen q)) × Is b key found p said got.0 was.1.0
+
+-- A cas that is entered later than the gets is NotFound if its key is absent then, Exists exactly if the bucket's writes at the two moments differ modulo 2^32, else Stored.
+abbrev pub CasFailsWhereWrittenSince : Type 0
+CasFailsWhereWrittenSince = OfGetsAndCas (λ b key found p said read entered. Begins read entered → said ≡ cas_reply b.shape key read entered)
+
+-- It is entered later if its pass, when it called, had seen all that the gets had seen.
+abbrev pub CasCalledLaterFails : Type 0
+CasCalledLaterFails = OfGetsAndCas (λ b key found p said read entered. Begins (seen found) (seen p) → said ≡ cas_reply b.shape key read entered)
