@@ -19,7 +19,8 @@ use Rattle.segread.specs.declared.held.Hold.{Hold}
 use Rattle.segread.specs.declared.held.HoldAnswer.{HoldAnswer}
 use Rattle.segread.specs.declared.held.HoldAnswer.TheVariants as answer
 use Rattle.segpass.specs.Calls.{GoesOn, ChangesNothing, DrawsNothing}
-use Rattle.segread.specs.Holds.{IsHoldOf, IsHoldAnswer, KeepsButHold, Releases}
+use Rattle.segread.specs.Holds.{IsHoldOf, IsHoldAnswer, KeepsButHold, Releases, HoldsItem, ReadsHeld, ReleasesHold}
+use Rattle.segpass.proofs.Costs.{draws_nothing}
 use Rattle.segsolo.specs.Alone.{item_of, state_at, IsAlone, TurnsAlone, hold_outcome}
 use Rattle.segsolo.proofs.AlonePass.{none_if, same_moment, same_seen, as_was, left, counts_still, turned, turned_still}
 use Rattle.segsolo.proofs.AloneReads.{read_then, never_stirred}
@@ -108,17 +109,14 @@ module _ (b : Board) (p q : Pass) (was : IsAlone b p) (on : GoesOn b p q) (undra
 
 -- ---- as turns
 
-pub turns_hold : (b : Board) (p q : Pass) (key : List ℕ) (told : HoldAnswer) → IsAlone b p → GoesOn b p q → DrawsNothing p q
-    → IsHoldAnswer b.shape key told p q → ((told ≡ answer.AlreadyHolding) ↔ (is_holding_of p ≡ true)) → TurnsAlone b (turn.Hold key) (hold_outcome told) p q
-turns_hold b p q key told was on undrawn is already = hold_turn b p q was on undrawn key told is already
+pub turns_hold : (b : Board) (p q : Pass) (key : List ℕ) (told : HoldAnswer) → IsAlone b p → HoldsItem b key told p q → TurnsAlone b (turn.Hold key) (hold_outcome told) p q
+turns_hold b p q key told was is = hold_turn b p q was is.on is.draws_nothing key told is.answer is.already
 
-pub turns_held : (b : Board) (p q : Pass) (hold : Hold) (value : List ℕ) → IsAlone b p → GoesOn b p q → DrawsNothing p q
-    → IsHoldOf b.shape hold p → ChangesNothing p q → IfSome (holding p) (λ held. value ≡ held.value) → TurnsAlone b turn.Held (outcome.Value value) p q
-turns_held b p q hold value was on undrawn is nothing reads = held_turn b p q was on undrawn hold value is nothing reads
+pub turns_held : (b : Board) (p q : Pass) (hold : Hold) (value : List ℕ) → IsAlone b p → IsHoldOf b.shape hold p → ReadsHeld b hold value p q → TurnsAlone b turn.Held (outcome.Value value) p q
+turns_held b p q hold value was of is = held_turn b p q was is.on (draws_nothing p q is.costs_nothing) hold value of is.keeps is.value
 
-pub turns_release : (b : Board) (p q : Pass) (hold : Hold) → IsAlone b p → GoesOn b p q → DrawsNothing p q
-    → IsHoldOf b.shape hold p → Releases p q → TurnsAlone b turn.Release outcome.Released p q
-turns_release b p q hold was on undrawn is releases = release_turn b p q was on undrawn hold is releases
+pub turns_release : (b : Board) (p q : Pass) (hold : Hold) → IsAlone b p → IsHoldOf b.shape hold p → ReleasesHold b p q → TurnsAlone b turn.Release outcome.Released p q
+turns_release b p q hold was of is = release_turn b p q was is.on (draws_nothing p q is.costs_nothing) hold of is.releases
 
 -- where nothing is held, no call is made
 

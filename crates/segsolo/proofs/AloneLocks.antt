@@ -14,7 +14,9 @@ use Rattle.segbase.specs.Plain.{current_of, locked_of, SameSegments}
 use Rattle.segpass.specs.declared.bucket.LockAnswer.{LockAnswer}
 use Rattle.segpass.specs.declared.bucket.LockAnswer.TheVariants as lock
 use Rattle.segpass.specs.Calls.{GoesOn, DrawsNothing}
-use Rattle.segpass.specs.Locks.{IsLockAnswer, IsUnlockAnswer}
+use Rattle.segpass.specs.Locks.{IsLockAnswer, IsUnlockAnswer, LocksBucket, UnlocksBucket}
+use Rattle.segpass.proofs.Costs.{draws_nothing}
+use Rattle.segpass.proofs.Idling.{unchanged}
 use Rattle.segsolo.specs.Alone.{item_of, state_at, IsAlone, TurnsAlone, lock_outcome, unlock_outcome}
 use Rattle.segindex.proofs.OnePass.{busy_by_lock}
 use Rattle.segsolo.proofs.AlonePass.{none_if, same_seen, as_was, left, counts_still, turned, turned_still}
@@ -53,7 +55,8 @@ module _ (b : Board) (p q : Pass) (was : IsAlone b p) (on : GoesOn b p q) (undra
   lock_turn key lock.Busy (nothing, vain) already =
       let free = other_answer lock.Busy already (λ e. cc) in
       absurd (none-some (bucket_of b.shape key) (sym free ∙ busy_by_lock b p q (bucket_of b.shape key) was.quiet on.quiet was.one (inr vain)))
-  lock_turn key lock.AlreadyLocked nothing already =
+  lock_turn key lock.AlreadyLocked same already =
+      let nothing = unchanged p q same in
       let stays = stays_locked (bucket_of b.shape key) (locked_of p) (already.0 refl) in
       turned_still b (turn.Lock key) outcome.AlreadyLocked p q was on.quiet nothing
       (sym stays.0, left b p q was on.quiet nothing (same_widths b p q was on undrawn) ∙ ap (λ o. record (state_at b.shape p) { locked = o }) (sym stays.1))
@@ -71,17 +74,16 @@ module _ (b : Board) (p q : Pass) (was : IsAlone b p) (on : GoesOn b p q) (undra
         locks_alone b p q was on undrawn unlocks.entries unlocks.segments unlocks.current unlocks.holding.0
             ∙ ap (λ o. record (state_at b.shape p) { locked = o }) unlocks.locked_of,
       )
-  unlock_turn false nothing was_locked =
+  unlock_turn false same was_locked =
+      let nothing = unchanged p q same in
       let free = none_if (locked_of p) (sym was_locked) in
       turned_still b turn.Unlock outcome.NotLocked p q was on.quiet nothing
       (sym (ap turns.unlock_outcome free), left b p q was on.quiet nothing (same_widths b p q was on undrawn) ∙ ap (λ o. record (state_at b.shape p) { locked = o }) free)
 
 -- ---- as turns
 
-pub turns_lock : (b : Board) (p q : Pass) (key : List ℕ) (told : LockAnswer) → IsAlone b p → GoesOn b p q → DrawsNothing p q
-    → IsLockAnswer b.shape key told p q → ((told ≡ lock.AlreadyLocked) ↔ (locked_of p ≢ None)) → TurnsAlone b (turn.Lock key) (lock_outcome told) p q
-turns_lock b p q key told was on undrawn is already = lock_turn b p q was on undrawn key told is already
+pub turns_lock : (b : Board) (p q : Pass) (key : List ℕ) (told : LockAnswer) → IsAlone b p → LocksBucket b key told p q → TurnsAlone b (turn.Lock key) (lock_outcome told) p q
+turns_lock b p q key told was is = lock_turn b p q was is.on is.draws_nothing key told is.answer is.already
 
-pub turns_unlock : (b : Board) (p q : Pass) (told : Bool) → IsAlone b p → GoesOn b p q → DrawsNothing p q
-    → IsUnlockAnswer b.shape told p q → told ≡ is_some (locked_of p) → TurnsAlone b turn.Unlock (unlock_outcome told) p q
-turns_unlock b p q told was on undrawn is was_locked = unlock_turn b p q was on undrawn told is was_locked
+pub turns_unlock : (b : Board) (p q : Pass) (told : Bool) → IsAlone b p → UnlocksBucket b told p q → TurnsAlone b turn.Unlock (unlock_outcome told) p q
+turns_unlock b p q told was is = unlock_turn b p q was is.on (draws_nothing p q is.costs_nothing) told is.answer is.was_locked

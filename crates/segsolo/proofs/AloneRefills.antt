@@ -20,6 +20,7 @@ use Rattle.segbase.specs.declared.board.Board.{Board}
 use Rattle.segbase.specs.declared.pass.Pass.{Pass}
 use Rattle.segbase.specs.Passes.{seen, number, trace, holding}
 use Rattle.segbase.specs.Plain.{state_of, used_of}
+use Rattle.segpass.proofs.Idling.{unchanged}
 use Rattle.segpass.specs.Quiet.{is_held_in}
 use Rattle.segpass.specs.Calls.{GoesOn, ChangesNothing, DrawsNothing}
 use Rattle.segindex.specs.Refilling.{IsRead, Refills, IsRefillAnswer}
@@ -119,8 +120,8 @@ module _ (b : Board) (p q : Pass) (segment : ℕ) (was : IsAlone b p) (on : Goes
 
   refill_serves : (given : RefillAnswer) → IsRefillAnswer segment given p q → ((given ≡ refill.NotYours) ↔ (state_of p segment ≡ None)) → ((given ≡ refill.NotEvicted) ↔ (state_of p segment ≡ Some InUse))
       → (state_of p segment ≡ Some Evicted → is_held_in (holding p) segment ≡ true → given ≡ refill.Held) → ServesAlone b (command.Refill segment) (answer.Refill given) p q
-  refill_serves refill.NotYours nothing not_yours_where in_use held = still_serves refill.NotYours (not_yours (not_yours_where.0 refl)) nothing refl
-  refill_serves refill.NotEvicted nothing not_yours_where in_use held = still_serves refill.NotEvicted (of_own InUse (in_use.0 refl)) nothing refl
+  refill_serves refill.NotYours same not_yours_where in_use held = still_serves refill.NotYours (not_yours (not_yours_where.0 refl)) (unchanged p q same) refl
+  refill_serves refill.NotEvicted same not_yours_where in_use held = still_serves refill.NotEvicted (of_own InUse (in_use.0 refl)) (unchanged p q same) refl
   refill_serves refill.Held (nothing, read) not_yours_where in_use held = by (state_of p segment) refl
     where
       by : (kept : Option SegState) → state_of p segment ≡ kept → ServesAlone b (command.Refill segment) (answer.Refill refill.Held) p q

@@ -11,3 +11,4 @@ pub mod AloneWrites
 pub mod AloneDeletes
 pub mod AloneEvictions
 pub mod AloneEvicts
+pub mod AloneCommands
