@@ -1,68 +1,53 @@
 -- What the calls of the index say, as turns of a pass; and holds that are kept from call to call.
-use Rattle.std.proofs.Common.{◌≡◌, ℕ, List, refl, ap, inl, inr}
+use Rattle.std.proofs.Common.{◌≡◌, ℕ, Bool, List, Option, Some, None, is_some, refl, ap, ◌∙◌}
 use Rattle.segword.specs.declared.shape.Shape.{Shape}
 use Rattle.segmodel.specs.declared.answer.Answer.{Answer}
 use Rattle.segmodel.specs.declared.answer.Command.{Command}
 use Rattle.segmodel.specs.declared.answer.Turn.TheVariants as turn
 use Rattle.segmodel.specs.declared.answer.Outcome.TheVariants as outcome
-use Rattle.segmodel.specs.declared.answer.WriteAnswer.{WriteAnswer}
-use Rattle.segmodel.specs.declared.answer.WriteAnswer.TheVariants as write
-use Rattle.segmodel.specs.declared.answer.DeleteAnswer.{DeleteAnswer}
-use Rattle.segmodel.specs.declared.answer.DeleteAnswer.TheVariants as delete
-use Rattle.segmodel.specs.declared.answer.EvictAnswer.{EvictAnswer}
-use Rattle.segmodel.specs.declared.answer.EvictAnswer.TheVariants as evict
-use Rattle.segmodel.specs.declared.answer.RefillAnswer.{RefillAnswer}
-use Rattle.segmodel.specs.declared.answer.RefillAnswer.TheVariants as refill
-use Rattle.segmodel.specs.declared.request.Request.{Request}
 use Rattle.segbase.specs.declared.board.Board.{Board}
-use Rattle.segbase.specs.declared.law.Memo.{Memo}
 use Rattle.segbase.specs.declared.pass.Pass.{Pass}
 use Rattle.segbase.specs.Passes.{holding}
-use Rattle.segpass.specs.Calls.{memo, GoesOn}
-use Rattle.segwrite.specs.Writes.{IsWriteAnswer, IsDeleteAnswer}
-use Rattle.segindex.specs.Refilling.{IsRefillAnswer}
-use Rattle.segevict.specs.Evicting.{IsEvictAnswer}
-use Rattle.segsolo.specs.Alone.{IsAlone, ServesAlone}
-use Rattle.segscript.specs.Told.{TellsCommand}
-use Rattle.segscript.specs.Passes.{TakesTurn}
+use Rattle.segpass.specs.declared.bucket.LockAnswer.{LockAnswer}
+use Rattle.segpass.specs.Calls.{GoesOn}
+use Rattle.segpass.specs.Locks.{LocksBucket, UnlocksBucket}
+use Rattle.segread.specs.declared.held.Hold.{Hold}
+use Rattle.segread.specs.declared.held.HoldAnswer.{HoldAnswer}
+use Rattle.segread.specs.Holds.{IsHoldOf, HoldsItem, ReadsHeld, ReleasesHold}
+use Rattle.segread.proofs.HoldCalls.{stays}
+use Rattle.segindex.specs.Commands.{AnswersCommand}
+use Rattle.segsolo.specs.Alone.{lock_outcome, unlock_outcome, hold_outcome}
+use Rattle.segsolo.proofs.AloneCommands.{serves_command}
+use Rattle.segsolo.proofs.AloneHolds.{turns_hold, turns_held, turns_release}
+use Rattle.segsolo.proofs.AloneLocks.{turns_lock, turns_unlock}
+use Rattle.segscript.specs.Told.{draw}
+use Rattle.segscript.specs.Passes.{IsHoldKept, TakesTurn}
 
--- a command that was served is a turn
-pub as_turn : (b : Board) (command : Command) (told : Answer) (p q : Pass) → GoesOn b p q → TellsCommand b command told p q → (IsAlone b p → ServesAlone b command told p q) → TakesTurn b (turn.Serve command) (outcome.Answered told) p q
-as_turn b command told p q on tells serves = record {
+-- the hold that is kept is the pass's as long as it holds the same
+pub still_kept : (shape : Shape) (kept : Option Hold) (p q : Pass) → IsHoldKept shape kept p → holding q ≡ holding p → IsHoldKept shape kept q
+still_kept shape None p q is same = same ∙ is
+still_kept shape (Some hold) p q is same = stays shape hold p q is same
+
+-- ---- each call as a turn
+
+pub serve_turn : (b : Board) (p q : Pass) (command : Command) (told : Answer) → GoesOn b p q → AnswersCommand b command draw told p q → TakesTurn b (turn.Serve command) (outcome.Answered told) p q
+serve_turn b p q command told on is = record {
   goes_on = on;
-  tells = tells;
-  alone = λ was. let served = serves was in (served.0, (told, refl, served.1));
+  tells = is;
+  alone = λ was. let served = serves_command b p q command draw told was is in (served.0, (told, refl, served.1));
 }
 
--- ---- what a pass holds
+pub hold_turn : (b : Board) (p q : Pass) (key : List ℕ) (given : HoldAnswer) → HoldsItem b key given p q → TakesTurn b (turn.Hold key) (hold_outcome given) p q
+hold_turn b p q key given is = record { goes_on = is.on; tells = (given, refl, is); alone = λ was. turns_hold b p q key given was is }
 
-held_then : (p q : Pass) → memo q ≡ memo p → holding q ≡ holding p
-held_then p q same = ap (λ (m : Memo). m.holding) same
+pub held_turn : (b : Board) (p q : Pass) (hold : Hold) (value : List ℕ) → IsHoldOf b.shape hold p → ReadsHeld b hold value p q → TakesTurn b turn.Held (outcome.Value value) p q
+held_turn b p q hold value of is = record { goes_on = is.on; tells = (hold, of, is); alone = λ was. turns_held b p q hold value was of is }
 
-pub write_holds : (shape : Shape) (request : Request) (told : WriteAnswer) (p q : Pass) → IsWriteAnswer shape request told p q → holding q ≡ holding p
-write_holds shape request write.Stored p q is = held_then p q is.2.memo
-write_holds shape request write.NotStored p q is = held_then p q is.2
-write_holds shape request write.Exists p q is = held_then p q is.2
-write_holds shape request write.NotFound p q is = held_then p q is.2
-write_holds shape request write.NoRoom p q is = held_then p q is.memo
-write_holds shape request write.BucketFull p q is = held_then p q is.0.memo
-write_holds shape request write.Busy p q is = held_then p q is.0.memo
+pub release_turn : (b : Board) (p q : Pass) (hold : Hold) → IsHoldOf b.shape hold p → ReleasesHold b p q → TakesTurn b turn.Release outcome.Released p q
+release_turn b p q hold of is = record { goes_on = is.on; tells = (is, ap is_some of.holds); alone = λ was. turns_release b p q hold was of is }
 
-pub delete_holds : (shape : Shape) (key : List ℕ) (told : DeleteAnswer) (p q : Pass) → IsDeleteAnswer shape key told p q → holding q ≡ holding p
-delete_holds shape key delete.Deleted p q is = held_then p q is.2
-delete_holds shape key delete.NotFound p q is = held_then p q is.2
-delete_holds shape key delete.Busy p q is = held_then p q is.0.memo
+pub lock_turn : (b : Board) (p q : Pass) (key : List ℕ) (given : LockAnswer) → LocksBucket b key given p q → TakesTurn b (turn.Lock key) (lock_outcome given) p q
+lock_turn b p q key given is = record { goes_on = is.on; tells = (given, refl, is); alone = λ was. turns_lock b p q key given was is }
 
-pub evict_holds : (shape : Shape) (segment : ℕ) (told : EvictAnswer) (p q : Pass) → IsEvictAnswer shape segment told p q → holding q ≡ holding p
-evict_holds shape segment (evict.Evicted count) p q is = elim is [
-  | inl takes ↦ held_then p q takes.1.memo
-  | inr idle ↦ ap holding idle.2
-]
-evict_holds shape segment evict.NotYours p q is = ap holding is
-evict_holds shape segment (evict.Busy count) p q is = held_then p q is.1.memo
-
-pub refill_holds : (segment : ℕ) (told : RefillAnswer) (p q : Pass) → IsRefillAnswer segment told p q → holding q ≡ holding p
-refill_holds segment refill.Refilled p q is = held_then p q is.memo
-refill_holds segment refill.NotYours p q is = held_then p q is.memo
-refill_holds segment refill.NotEvicted p q is = held_then p q is.memo
-refill_holds segment refill.Held p q is = held_then p q is.0.memo
+pub unlock_turn : (b : Board) (p q : Pass) (given : Bool) → UnlocksBucket b given p q → TakesTurn b turn.Unlock (unlock_outcome given) p q
+unlock_turn b p q given is = record { goes_on = is.on; tells = (given, refl, is); alone = λ was. turns_unlock b p q given was is }

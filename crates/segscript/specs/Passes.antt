@@ -13,7 +13,7 @@ use Rattle.segpass.specs.Calls.{GoesOn}
 use Rattle.segread.specs.Holds.{IsHoldOf}
 use Rattle.segsolo.specs.Alone.{state_at, IsAlone, TurnsAlone}
 use Rattle.segscript.specs.Spelling.{PassTurn}
-use Rattle.segscript.specs.Told.{Tells}
+use Rattle.segscript.specs.Told.{IsOutcomeOfCall}
 
 -- the hold that is kept is the one that the pass has
 abbrev pub IsHoldKept : Shape → Option Hold → Pass → Type 0
@@ -38,7 +38,7 @@ first_state shape (p ∷ passes) = state_at shape p
 -- the pass took the turn, and is quiet again; the outcome is the answer of one call, and the turn of the only pass was served
 pub record TakesTurn (b : Board) (turn : Turn) (outcome : Outcome) (p q : Pass) : Type 0 where
   pub goes_on : GoesOn b p q
-  pub tells : Tells b turn outcome p q
+  pub tells : IsOutcomeOfCall b turn outcome p q
   pub alone : IsAlone b p → TurnsAlone b turn outcome p q
 
 -- the pass of this number took the turn, and the others are as they were

@@ -1,8 +1,6 @@
 //! The turns of a pass, each of which is one call of the index.
 ghost use Rattle.std.specs.Prelude.{◌≡◌, None};
-ghost use Rattle.segmodel.specs.declared.answer.Command.TheVariants.{Write};
 ghost use Rattle.segmodel.specs.declared.answer.Turn.TheVariants as turn;
-ghost use Rattle.segmodel.specs.declared.answer.Outcome.TheVariants.{Answered};
 ghost use Rattle.segbase.specs.Passes.{holding};
 ghost use Rattle.segbase.specs.Plain.{locked_of};
 ghost use Rattle.segindex.specs.Index.{board_of, shape_of};
@@ -10,7 +8,7 @@ ghost use Rattle.segpass.specs.Quiet.{IsQuiet};
 ghost use Rattle.segscript.specs.Passes.{IsHoldKept, TakesTurn};
 
 use segindex::{Hold, HoldAnswer, Index, LockAnswer, Pass};
-use segmodel::{Answer, Command, Outcome, Request, Turn};
+use segmodel::{Outcome, Turn};
 use segword::Key;
 
 /// The draw of each hit. No line of a script shows a frequency, so any number will do.
@@ -29,7 +27,7 @@ pub fn take_turn<'i>(
     ensures hold { IsHoldKept (shape_of index.now) held.new pass.new }
 {
     match turn {
-        Turn::Serve(command) => Outcome::Answered(serve(index, pass, command)),
+        Turn::Serve(command) => Outcome::Answered(index.serve(pass, command, DRAW)),
         Turn::Hold(key) => hold(index, pass, held, key),
         Turn::Held => read_held(index, pass, held),
         Turn::Release => release(index, pass, held),
@@ -48,36 +46,6 @@ pub fn leave(index: &Index, pass: &mut Pass, held: Option<Hold<'_>>)
         index.release(pass, hold);
     }
     index.unlock_bucket(pass);
-}
-
-fn serve(index: &Index, pass: &mut Pass, command: &Command) -> Answer
-    requires quiet { IsQuiet (board_of index.now) pass.old }
-    ensures turn { TakesTurn (board_of index.now) (turn.Serve command.now) (Answered result) pass.old pass.new }
-    ensures holding { holding pass.new ≡ holding pass.old }
-{
-    match command {
-        Command::Write(request) => write(index, pass, request),
-        Command::Get(key) => Answer::Get(index.get(pass, key, DRAW)),
-        Command::Gets(key) => Answer::Gets(index.gets(pass, key, DRAW)),
-        Command::Evict(segment) => Answer::Evict(index.evict(pass, *segment)),
-        Command::Refill(segment) => Answer::Refill(index.refill(pass, *segment)),
-    }
-}
-
-fn write(index: &Index, pass: &mut Pass, request: &Request) -> Answer
-    requires quiet { IsQuiet (board_of index.now) pass.old }
-    ensures turn { TakesTurn (board_of index.now) (turn.Serve (Write request.now)) (Answered result) pass.old pass.new }
-    ensures holding { holding pass.new ≡ holding pass.old }
-{
-    match request {
-        Request::Set(key, value) => Answer::Write(index.set(pass, key, value)),
-        Request::Add(key, value) => Answer::Write(index.add(pass, key, value)),
-        Request::Replace(key, value) => Answer::Write(index.replace(pass, key, value)),
-        Request::Cas(key, value, expected) => {
-            Answer::Write(index.cas(pass, key, value, *expected))
-        }
-        Request::Delete(key) => Answer::Delete(index.delete(pass, key)),
-    }
 }
 
 fn hold<'i>(index: &'i Index, pass: &mut Pass, held: &mut Option<Hold<'i>>, key: &Key) -> Outcome
