@@ -109,8 +109,8 @@ evict_free shape segment (evict.Busy count) p q busy free = kept_free p q busy.1
 
 pub refill_free : (segment : ℕ) (told : RefillAnswer) (p q : Pass) → IsRefillAnswer segment told p q → IsFree p → IsFree q
 refill_free segment refill.Refilled p q is free = kept_free p q is.locked is.memo free
-refill_free segment refill.NotYours p q is free = unchanged_free p q is free
-refill_free segment refill.NotEvicted p q is free = unchanged_free p q is free
+refill_free segment refill.NotYours p q same free = subst IsFree (sym same) free
+refill_free segment refill.NotEvicted p q same free = subst IsFree (sym same) free
 refill_free segment refill.Held p q is free = unchanged_free p q is.0 free
 
 -- ---- reads
@@ -261,8 +261,8 @@ room_made b ring segment count told p q r quiet free own below on then evicts no
 
     by : (answer : RefillAnswer) → told ≡ answer → IsRefillAnswer segment answer q r → MakesRoom b.shape segment (is_refilled answer) p r
     by refill.Refilled is filled = (mine q, emptied, filled.entry ∙ ap (λ n. Refilled n segment ∷ mine q) on.same, room_then b segment q r quiet.pass.valid.0.1.0 filled)
-    by refill.NotYours is same = (unchanged same.entries, λ one. own_segment b q ring segment on.quiet one (subst (λ n. IsOwnRing b.shape n ring) (sym on.same) own) below (not_yours.0 is))
-    by refill.NotEvicted is same = (unchanged same.entries, λ one. evicted_state b segment count p q evicts (in_use.0 is))
+    by refill.NotYours is same = (unchanged (ap mine same), λ one. own_segment b q ring segment on.quiet one (subst (λ n. IsOwnRing b.shape n ring) (sym on.same) own) below (not_yours.0 is))
+    by refill.NotEvicted is same = (unchanged (ap mine same), λ one. evicted_state b segment count p q evicts (in_use.0 is))
     by refill.Held is held = (unchanged held.0.entries, not_read b segment r then.quiet (unchanged_free q r held.0 free) held.1)
 
 -- the ring is the pass's own also after a call that left the ring as it was

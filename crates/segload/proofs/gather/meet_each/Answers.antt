@@ -22,16 +22,16 @@ loop-place-preserved c =
     let in_range : place < others.len = (let test = c.loop-place-test.true in let end = c.len-place-end.ensures in let long = was.long in omega arith) in
     let there = slice_get_read others.items others.len place found others.ok.0 in_range c.index_mut.ensures.value in
     let new = with_pass found c.meet.new.second in
-    let on = c.meet.ensures.second in
+    let on = c.meet.ensures.meets.second in
     record {
-      first = looked_then b c.args.first.now c.loop-place.first c.meet.new.first was.first c.meet.ensures.first.0 c.meet.ensures.first.1;
+      first = looked_then b c.args.first.now c.loop-place.first c.meet.new.first was.first c.meet.ensures.meets.first.on c.meet.ensures.meets.first.keeps;
       long = was.long;
-      quiet = λ n worker at. ⊎_elim (λ t. subst (λ (x : Worker). IsQuiet b x.client.pass) (sym t.1) on.0.quiet) (λ t. was.quiet n worker t.1) (found_set others.items place n new worker at);
+      quiet = λ n worker at. ⊎_elim (λ t. subst (λ (x : Worker). IsQuiet b x.client.pass) (sym t.1) on.on.quiet) (λ t. was.quiet n worker t.1) (found_set others.items place n new worker at);
       met = λ n worker after below old at. ⊎_elim
           (λ t. met_there b c.args.first.now c.meet.new.first worker found after new
           (same_Some worker found (sym (was.left n (omega (arith, t.0)) ∙ old) ∙ (ap (slice_get others.items) t.0 ∙ there)))
-          t.1 (met_now b c.args.first.now c.loop-place.first c.meet.new.first found.client.pass c.meet.new.second was.first c.meet.ensures.meets on.0 on.1))
-          (λ t. met_then b c.args.first.now c.loop-place.first c.meet.new.first worker.client.pass after.client.pass (was.met n worker after (let apart = t.0 in omega (arith, apart, below)) old t.1) c.meet.ensures.first.0.seen)
+          t.1 (met_now b c.args.first.now c.loop-place.first c.meet.new.first found.client.pass c.meet.new.second was.first c.meet.ensures.meets.meets on.on on.keeps))
+          (λ t. met_then b c.args.first.now c.loop-place.first c.meet.new.first worker.client.pass after.client.pass (was.met n worker after (let apart = t.0 in omega (arith, apart, below)) old t.1) c.meet.ensures.meets.first.on.seen)
           (found_set others.items place n new after at);
       left = λ n above. elsewhere others.items place n new (λ same. omega (arith, same, above)) ∙ was.left n (omega (arith, above));
     }

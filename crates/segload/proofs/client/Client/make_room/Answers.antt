@@ -15,7 +15,7 @@ returns-in_default c =
     let b = c.args.index.now.board in
     let p = c.args.self.now.pass in
     let segment = c.next-segment.result in
-    let told = c.evict.ensures in
+    let told = c.evict.ensures.evicts in
     record {
       free = evict_free b.shape segment c.evict.result p c.evict.new.pass told.answer c.requires.free;
       on = told.on;
@@ -27,18 +27,18 @@ returns-in_default c =
     }
 
 pub returns-clause-on : goal.returns-clause-on
-returns-clause-on c = goes_then c.args.index.now.board c.args.self.now.pass c.evict.new.pass c.refill.new.pass c.evict.ensures.on c.refill.ensures.on
+returns-clause-on c = goes_then c.args.index.now.board c.args.self.now.pass c.evict.new.pass c.refill.new.pass c.evict.ensures.evicts.on c.refill.ensures.refills.on
 
 pub returns-clause-free : goal.returns-clause-free
-returns-clause-free c = refill_free c.next-segment.result c.refill.result c.evict.new.pass c.refill.new.pass c.refill.ensures.answer
-    (evict_free c.args.index.now.board.shape c.next-segment.result c.evict.result c.args.self.now.pass c.evict.new.pass c.evict.ensures.answer c.requires.free)
+returns-clause-free c = refill_free c.next-segment.result c.refill.result c.evict.new.pass c.refill.new.pass c.refill.ensures.refills.answer
+    (evict_free c.args.index.now.board.shape c.next-segment.result c.evict.result c.args.self.now.pass c.evict.new.pass c.evict.ensures.evicts.answer c.requires.free)
 
 pub returns-clause-room : goal.returns-clause-room
 returns-clause-room c = subst (λ n. MakesRoom b.shape n c.eq.result p c.refill.new.pass) c.next-segment.ensures.value
     (subst (λ made. MakesRoom b.shape segment made p c.refill.new.pass) (sym (made c.refill.result refl))
     (room_made b c.args.self.now.segments segment c.in-Evicted.field-0 c.refill.result p c.evict.new.pass c.refill.new.pass c.requires.quiet
-    (evict_free b.shape segment c.evict.result p c.evict.new.pass c.evict.ensures.answer c.requires.free) c.requires.own c.next-segment.ensures.in_range.1
-    c.evict.ensures.on c.refill.ensures.on (subst (λ told. IsEvictAnswer b.shape segment told p c.evict.new.pass) c.in-Evicted.is c.evict.ensures.answer) c.refill.ensures.not_yours c.refill.ensures.in_use c.refill.ensures.answer))
+    (evict_free b.shape segment c.evict.result p c.evict.new.pass c.evict.ensures.evicts.answer c.requires.free) c.requires.own c.next-segment.ensures.in_range.1
+    c.evict.ensures.evicts.on c.refill.ensures.refills.on (subst (λ told. IsEvictAnswer b.shape segment told p c.evict.new.pass) c.in-Evicted.is c.evict.ensures.evicts.answer) c.refill.ensures.refills.not_yours c.refill.ensures.refills.in_use c.refill.ensures.refills.answer))
   where
     b : Board
     b = c.args.index.now.board
