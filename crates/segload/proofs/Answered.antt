@@ -1,5 +1,5 @@
 -- What a call of an index came to, as a command of a load.
-use Rattle.std.proofs.Common.{◌≡◌, ◌≢◌, ℕ, ◌+◌, ◌*◌, ◌<◌, ◌≤◌, Bool, true, false, is_some, List, [], ◌∷◌, Option, Some, None, option_map, option_and_then, refl, sym, ap, ◌∙◌, subst, inl, inr, zero-mul, arith, ⊎_elim}
+use Rattle.std.proofs.Common.{◌≡◌, ◌≢◌, ℕ, ◌+◌, ◌*◌, ◌<◌, ◌≤◌, Bool, true, false, is_some, List, [], ◌∷◌, Option, Some, None, ◌⊎◌, option_map, option_and_then, refl, sym, ap, ◌∙◌, subst, inl, inr, zero-mul, arith, ⊎_elim}
 use Rattle.std.specs.Prelude.{◌↔◌}
 use Rattle.std.proofs.lemmas.Bool.{false≢true, lt-ltb}
 use Rattle.std.proofs.lemmas.Option.{same_Some, none-some}
@@ -8,6 +8,8 @@ use Rattle.segmodel.specs.declared.request.Request.{Request}
 use Rattle.segmodel.specs.declared.request.Request.TheVariants as request
 use Rattle.segmodel.specs.declared.entry.Entry.{Entry}
 use Rattle.segmodel.specs.declared.entry.Entry.TheVariants.{Refilled}
+use Rattle.segmodel.specs.declared.answer.Answer.{Answer}
+use Rattle.segmodel.specs.declared.answer.Answer.TheVariants as answer
 use Rattle.segmodel.specs.declared.answer.GetAnswer.{GetAnswer}
 use Rattle.segmodel.specs.declared.answer.GetAnswer.TheVariants as get
 use Rattle.segmodel.specs.declared.answer.GetsAnswer.{GetsAnswer}
@@ -24,7 +26,7 @@ use Rattle.segmodel.specs.declared.answer.SegState.TheVariants.{InUse, Evicted}
 use Rattle.segmodel.specs.Request.{key_of}
 use Rattle.segmodel.specs.Places.{bucket_of, owner}
 use Rattle.segmodel.specs.Cache.{Cache, reads, reads_version}
-use Rattle.segmodel.specs.History.{after, Begins, IsBetween}
+use Rattle.segmodel.specs.History.{after, Begins, IsBetween, stirred}
 use Rattle.segmodel.specs.History as history
 use Rattle.segmodel.proofs.Written.{first_owner}
 use Rattle.segcore.specs.Mark.{Mark, entries}
@@ -39,8 +41,9 @@ use Rattle.segpass.specs.Calls.{IsBusy}
 use Rattle.segwrite.specs.Full.{HasNoWord, WasFull}
 use Rattle.segread.specs.Reads.{ReadsBetween, IsGetAnswer}
 use Rattle.segwrite.specs.Writes.{Writes, Deletes}
+use Rattle.segindex.specs.Commands.{AnswersCommand}
 use Rattle.segindex.specs.Refilling.{IsRead, Refills, IsRefillAnswer}
-use Rattle.segread.specs.Gets.{IsGetsAnswer}
+use Rattle.segread.specs.Gets.{IsGetsAnswer, IsDisturbed, StandsLocked}
 use Rattle.segevict.specs.Evicting.{IsEvictAnswer}
 use Rattle.segpass.specs.Calls.{memo, GoesOn, ChangesNothing}
 use Rattle.segpass.specs.Quiet.{is_held_in, IsQuiet}
@@ -55,7 +58,7 @@ use Rattle.segpolicy.specs.Cycle.{Cycle, number_of}
 use Rattle.segload.specs.declared.totals.Tally.{Tally}
 use Rattle.segload.specs.declared.totals.Tally.TheVariants as tally
 use Rattle.segload.specs.Making.{Course, turned_on, AtMoment, ReadsWhen, IsReadAs, IsVersionReadAs, IsFullFor, IsWrittenAs, Empties, IsStoredAs, CameTo}
-use Rattle.segload.specs.Working.{write_tally, delete_tally, IsFree, IsOwnRing, MakesRoom, stores_of}
+use Rattle.segload.specs.Working.{asked_by, tally_of, write_tally, delete_tally, course_after, IsOfLoad, IsFree, IsOwnRing, MakesRoom}
 use Rattle.segload.proofs.Lists.{both_begin}
 
 -- ---- one pass
@@ -65,20 +68,17 @@ never_busy : (b : Board) (p q : Pass) (bucket : ℕ) → IsQuiet b p → GoesOn 
 never_busy b p q bucket quiet on unlocked busy = λ one. none-some bucket (sym unlocked ∙ busy_by_lock b p q bucket quiet on.quiet one busy)
 
 -- nor is its reading
-pub get_busy : (b : Board) (key : List ℕ) (told : GetAnswer) (p q : Pass) → told ≡ get.Busy → IsQuiet b p → GoesOn b p q → mine q ≡ mine p → IsGetAnswer b.shape key told (seen p) (seen q) → b.shape.passes ≢ 1
-get_busy b key told p q is quiet on same answer = λ one.
-    let many = subst (λ a. IsGetAnswer b.shape key a (seen p) (seen q)) is answer in
-    let none = none_stirred b p q key quiet on.quiet one same in
-    absurd (omega (arith, many, none))
+never_stirred : (b : Board) (key : List ℕ) (p q : Pass) → IsQuiet b p → GoesOn b p q → mine q ≡ mine p → 64 ≤ stirred b.shape key (seen p) (seen q) → b.shape.passes ≢ 1
+never_stirred b key p q quiet on same many = λ one. let none = none_stirred b p q key quiet on.quiet one same in absurd (omega (arith, many, none))
 
-pub gets_busy : (b : Board) (key : List ℕ) (told : GetsAnswer) (p q : Pass) → told ≡ gets.Busy → IsQuiet b p → GoesOn b p q → mine q ≡ mine p → locked_of p ≡ None → IsGetsAnswer b.shape key told p q → b.shape.passes ≢ 1
-gets_busy b key told p q is quiet on same unlocked answer = λ one. ⊎_elim
+never_disturbed : (b : Board) (key : List ℕ) (p q : Pass) → IsQuiet b p → IsFree p → GoesOn b p q → mine q ≡ mine p → IsDisturbed b.shape key p q ⊎ StandsLocked b.shape key p q → b.shape.passes ≢ 1
+never_disturbed b key p q quiet free on same busy = λ one. ⊎_elim
     (λ many.
     let none = none_stirred b p q key quiet on.quiet one same in
     let looks = glanced_alone b q (bucket_of b.shape key) on.quiet.pass one in
     absurd (omega (arith, many, none, looks)))
-    (λ locked. none-some (bucket_of b.shape key) (sym unlocked ∙ locked.0))
-    (subst (λ a. IsGetsAnswer b.shape key a p q) is answer)
+    (λ locked. none-some (bucket_of b.shape key) (sym free.0 ∙ locked.0))
+    busy
 
 -- ---- free passes
 
@@ -113,6 +113,32 @@ refill_free segment refill.NotYours p q same free = subst IsFree (sym same) free
 refill_free segment refill.NotEvicted p q same free = subst IsFree (sym same) free
 refill_free segment refill.Held p q is free = unchanged_free p q is.0 free
 
+delete_free : (b : Board) (key : List ℕ) (told : DeleteAnswer) (p q : Pass) → Deletes b key told p q → IsFree p → IsFree q
+delete_free b key delete.Deleted p q deletes free = plain_free p q deletes.answer.1 deletes.answer.2 free
+delete_free b key delete.NotFound p q deletes free = plain_free p q deletes.answer.1 deletes.answer.2 free
+delete_free b key delete.Busy p q deletes free = unchanged_free p q deletes.answer.0 free
+
+pub command_free : (b : Board) (of : Kind) (version : ℕ) (load : Load) (draw : ℕ) (told : Answer) (p q : Pass) → AnswersCommand b (asked_by of version load) draw told p q → IsFree p → IsFree q
+command_free b kind.Get version load draw (answer.Get told) p q is free = unchanged_free p q is.keeps free
+command_free b kind.Gets version load draw (answer.Gets told) p q is free = unchanged_free p q is.keeps free
+command_free b kind.Set version load draw (answer.Write told) p q is free = write_free b (request.Set load.key load.value) told p q is free
+command_free b kind.Add version load draw (answer.Write told) p q is free = write_free b (request.Add load.key load.value) told p q is free
+command_free b kind.Replace version load draw (answer.Write told) p q is free = write_free b (request.Replace load.key load.value) told p q is free
+command_free b kind.Cas version load draw (answer.Write told) p q is free = write_free b (request.Cas load.key load.value version) told p q is free
+command_free b kind.Delete version load draw (answer.Delete told) p q is free = delete_free b load.key told p q is free
+command_free b of version load draw told p q is free = absurd is
+
+-- no command of a load is an evict or a refill
+pub of_load : (b : Board) (of : Kind) (version : ℕ) (load : Load) (draw : ℕ) (told : Answer) (p q : Pass) → AnswersCommand b (asked_by of version load) draw told p q → IsOfLoad told
+of_load b kind.Get version load draw (answer.Get told) p q is = tt
+of_load b kind.Gets version load draw (answer.Gets told) p q is = tt
+of_load b kind.Set version load draw (answer.Write told) p q is = tt
+of_load b kind.Add version load draw (answer.Write told) p q is = tt
+of_load b kind.Replace version load draw (answer.Write told) p q is = tt
+of_load b kind.Cas version load draw (answer.Write told) p q is = tt
+of_load b kind.Delete version load draw (answer.Delete told) p q is = tt
+of_load b of version load draw told p q is = absurd is
+
 -- ---- reads
 
 -- at a moment of a call that added no entry of the pass, the entries of the pass were those before it
@@ -130,19 +156,18 @@ at_moment b p q moment IsSo on same between so = (moment, between.1, mine_betwee
 read_when : (b : Board) (key : List ℕ) (read : Option (List ℕ)) (p q : Pass) → GoesOn b p q → mine q ≡ mine p → ReadsBetween b.shape key (seen p) (seen q) read → ReadsWhen b.shape (seen q) (number p) (mine p) key read
 read_when b key read p q on same at = at_moment b p q at.0 (λ cache. reads cache key ≡ read) on same at.1 at.2
 
-pub get_hit : (b : Board) (key : List ℕ) (told : GetAnswer) (value : List ℕ) (p q : Pass) → told ≡ get.Found value → GoesOn b p q → mine q ≡ mine p → IsGetAnswer b.shape key told (seen p) (seen q) → IsReadAs b.shape (seen q) (number p) (mine p) key tally.Hit
-get_hit b key told value p q is on same answer = (value, read_when b key (Some value) p q on same (subst (λ a. IsGetAnswer b.shape key a (seen p) (seen q)) is answer))
+read : (b : Board) (key : List ℕ) (told : GetAnswer) (p q : Pass) → IsQuiet b p → GoesOn b p q → mine q ≡ mine p → IsGetAnswer b.shape key told (seen p) (seen q)
+    → IsReadAs b.shape (seen q) (number p) (mine p) key (tally_of (answer.Get told))
+read b key (get.Found value) p q quiet on same at = (value, read_when b key (Some value) p q on same at)
+read b key get.Miss p q quiet on same at = read_when b key None p q on same at
+read b key get.Busy p q quiet on same many = never_stirred b key p q quiet on same many
 
-pub get_miss : (b : Board) (key : List ℕ) (told : GetAnswer) (p q : Pass) → told ≡ get.Miss → GoesOn b p q → mine q ≡ mine p → IsGetAnswer b.shape key told (seen p) (seen q) → IsReadAs b.shape (seen q) (number p) (mine p) key tally.Miss
-get_miss b key told p q is on same answer = read_when b key None p q on same (subst (λ a. IsGetAnswer b.shape key a (seen p) (seen q)) is answer)
-
-pub gets_hit : (b : Board) (key : List ℕ) (told : GetsAnswer) (value : List ℕ) (p q : Pass) (from to : Course) → told ≡ gets.Found value to.version → to.segments ≡ from.segments → GoesOn b p q → mine q ≡ mine p → IsGetsAnswer b.shape key told p q → IsVersionReadAs b.shape (seen q) (number p) (mine p) key tally.Hit from to
-gets_hit b key told value p q from to is kept on same answer =
-    let at = subst (λ a. IsGetsAnswer b.shape key a p q) is answer in
-    (value, at_moment b p q at.0 (λ cache. reads_version b.shape cache key ≡ Some (value, to.version)) on same at.1 at.2, kept)
-
-pub gets_miss : (b : Board) (key : List ℕ) (told : GetsAnswer) (p q : Pass) → told ≡ gets.Miss → GoesOn b p q → mine q ≡ mine p → IsGetsAnswer b.shape key told p q → IsReadAs b.shape (seen q) (number p) (mine p) key tally.Miss
-gets_miss b key told p q is on same answer = read_when b key None p q on same (subst (λ a. IsGetsAnswer b.shape key a p q) is answer)
+version_read : (b : Board) (key : List ℕ) (told : GetsAnswer) (from : Course) (p q : Pass) → IsQuiet b p → IsFree p → GoesOn b p q → mine q ≡ mine p → IsGetsAnswer b.shape key told p q
+    → IsVersionReadAs b.shape (seen q) (number p) (mine p) key (tally_of (answer.Gets told)) from (course_after (answer.Gets told) from)
+version_read b key (gets.Found value version) from p q quiet free on same at =
+    (value, at_moment b p q at.0 (λ cache. reads_version b.shape cache key ≡ Some (value, version)) on same at.1 at.2, refl)
+version_read b key gets.Miss from p q quiet free on same at = (read_when b key None p q on same at, refl)
+version_read b key gets.Busy from p q quiet free on same busy = (never_disturbed b key p q quiet free on same busy, refl)
 
 -- ---- writes
 
@@ -160,7 +185,7 @@ full_then b key p q on same full = at_moment b p q (entries marks) (IsFullFor b.
     between = subst (λ h. IsBetween (seen p) h (entries marks)) (entries_marked (trace q))
         (subst (λ h. IsBetween h (entries (marked q)) (entries marks)) (entries_marked (trace p)) (entries_begin (marked p) marks full.1.0, entries_begin marks (marked q) full.1.1))
 
-pub written : (b : Board) (asked : Request) (told : WriteAnswer) (p q : Pass) → told ≢ write.NoRoom → IsQuiet b p → IsFree p → Writes b asked told p q → IsWrittenAs b.shape (seen q) (number p) asked (write_tally told) (mine p) (mine q)
+written : (b : Board) (asked : Request) (told : WriteAnswer) (p q : Pass) → told ≢ write.NoRoom → IsQuiet b p → IsFree p → Writes b asked told p q → IsWrittenAs b.shape (seen q) (number p) asked (write_tally told) (mine p) (mine q)
 written b asked write.Stored p q room quiet free writes = (writes.answer.0, writes.answer.1)
 written b asked write.NotStored p q room quiet free writes = writes.answer.0
 written b asked write.Exists p q room quiet free writes = writes.answer.0
@@ -169,36 +194,24 @@ written b asked write.NoRoom p q room quiet free writes = absurd (room refl)
 written b asked write.BucketFull p q room quiet free writes = (writes.answer.0.entries, writes.answer.1, full_then b (key_of asked) p q writes.on writes.answer.0.entries writes.answer.2)
 written b asked write.Busy p q room quiet free writes = (writes.answer.0.entries, never_busy b p q (bucket_of b.shape (key_of asked)) quiet writes.on free.0 writes.answer.1)
 
--- the write of a command of this kind
-pub written_of : (b : Board) (of is : Kind) (version : ℕ) (load : Load) (told : WriteAnswer) (p q : Pass) → of ≡ is → told ≢ write.NoRoom → IsQuiet b p → IsFree p → Writes b (stores_of is version load) told p q → IsWrittenAs b.shape (seen q) (number p) (stores_of of version load) (write_tally told) (mine p) (mine q)
-written_of b of is version load told p q e room quiet free writes =
-    subst (λ k. IsWrittenAs b.shape (seen q) (number p) (stores_of k version load) (write_tally told) (mine p) (mine q)) (sym e)
-    (written b (stores_of is version load) told p q room quiet free writes)
-
-set_of : (of : Kind) (version : ℕ) (load : Load) → of ≢ kind.Add → of ≢ kind.Replace → of ≢ kind.Cas → request.Set load.key load.value ≡ stores_of of version load
-set_of kind.Get version load add replace cas = refl
-set_of kind.Gets version load add replace cas = refl
-set_of kind.Set version load add replace cas = refl
-set_of kind.Add version load add replace cas = absurd (add refl)
-set_of kind.Replace version load add replace cas = absurd (replace refl)
-set_of kind.Cas version load add replace cas = absurd (cas refl)
-set_of kind.Delete version load add replace cas = refl
-
-pub written_set : (b : Board) (of : Kind) (version : ℕ) (load : Load) (told : WriteAnswer) (p q : Pass) → of ≢ kind.Add → of ≢ kind.Replace → of ≢ kind.Cas → told ≢ write.NoRoom → IsQuiet b p → IsFree p → Writes b (request.Set load.key load.value) told p q → IsWrittenAs b.shape (seen q) (number p) (stores_of of version load) (write_tally told) (mine p) (mine q)
-written_set b of version load told p q add replace cas room quiet free writes =
-    subst (λ asked. IsWrittenAs b.shape (seen q) (number p) asked (write_tally told) (mine p) (mine q)) (set_of of version load add replace cas)
-    (written b (request.Set load.key load.value) told p q room quiet free writes)
-
-pub deleted : (b : Board) (key : List ℕ) (told : DeleteAnswer) (p q : Pass) → IsQuiet b p → IsFree p → Deletes b key told p q → IsWrittenAs b.shape (seen q) (number p) (request.Delete key) (delete_tally told) (mine p) (mine q)
+deleted : (b : Board) (key : List ℕ) (told : DeleteAnswer) (p q : Pass) → IsQuiet b p → IsFree p → Deletes b key told p q → IsWrittenAs b.shape (seen q) (number p) (request.Delete key) (delete_tally told) (mine p) (mine q)
 deleted b key delete.Deleted p q quiet free deletes = deletes.answer.0
 deleted b key delete.NotFound p q quiet free deletes = deletes.answer.0
 deleted b key delete.Busy p q quiet free deletes = (deletes.answer.0.entries, never_busy b p q (bucket_of b.shape key) quiet deletes.on free.0 deletes.answer.1)
 
-pub came_deleted : (b : Board) (of : Kind) (load : Load) (told : DeleteAnswer) (counted_as : Tally) (course : Course) (p q : Pass) → of ≡ kind.Delete → counted_as ≡ delete_tally told → IsQuiet b p → IsFree p → Deletes b load.key told p q
-    → CameTo b.shape (seen q) (number p) of load counted_as course course (mine p) (mine q)
-came_deleted b of load told counted_as course p q is counts quiet free deletes =
-    subst (λ k. CameTo b.shape (seen q) (number p) k load counted_as course course (mine p) (mine q)) (sym is)
-    (subst (λ t. CameTo b.shape (seen q) (number p) kind.Delete load t course course (mine p) (mine q)) (sym counts) (deleted b load.key told p q quiet free deletes, refl))
+-- ---- a command
+
+-- it was made once, and found room if it needed any
+pub came : (b : Board) (of : Kind) (load : Load) (draw : ℕ) (told : Answer) (from : Course) (p q : Pass) → told ≢ answer.Write write.NoRoom → IsQuiet b p → IsFree p → GoesOn b p q → AnswersCommand b (asked_by of from.version load) draw told p q
+    → CameTo b.shape (seen q) (number p) of load (tally_of told) from (course_after told from) (mine p) (mine q)
+came b kind.Get load draw (answer.Get told) from p q other quiet free on is = (read b load.key told p q quiet on is.keeps.entries is.answer, is.keeps.entries, refl)
+came b kind.Gets load draw (answer.Gets told) from p q other quiet free on is = (version_read b load.key told from p q quiet free on is.keeps.entries is.answer, is.keeps.entries)
+came b kind.Set load draw (answer.Write told) from p q other quiet free on is = inl (written b (request.Set load.key load.value) told p q (λ e. other (ap answer.Write e)) quiet free is, refl)
+came b kind.Add load draw (answer.Write told) from p q other quiet free on is = inl (written b (request.Add load.key load.value) told p q (λ e. other (ap answer.Write e)) quiet free is, refl)
+came b kind.Replace load draw (answer.Write told) from p q other quiet free on is = inl (written b (request.Replace load.key load.value) told p q (λ e. other (ap answer.Write e)) quiet free is, refl)
+came b kind.Cas load draw (answer.Write told) from p q other quiet free on is = inl (written b (request.Cas load.key load.value from.version) told p q (λ e. other (ap answer.Write e)) quiet free is, refl)
+came b kind.Delete load draw (answer.Delete told) from p q other quiet free on is = (deleted b load.key told p q quiet free is, refl)
+came b of load draw told from p q other quiet free on is = absurd is
 
 -- ---- giving up a segment
 
@@ -265,33 +278,43 @@ room_made b ring segment count told p q r quiet free own below on then evicts no
     by refill.NotEvicted is same = (unchanged (ap mine same), λ one. evicted_state b segment count p q evicts (in_use.0 is))
     by refill.Held is held = (unchanged held.0.entries, not_read b segment r then.quiet (unchanged_free q r held.0 free) held.1)
 
--- the ring is the pass's own also after a call that left the ring as it was
-pub own_then : (b : Board) (p q : Pass) (from to : Course) → GoesOn b p q → to ≡ from → IsOwnRing b.shape (number p) from.segments → IsOwnRing b.shape (number q) to.segments
-own_then b p q from to on kept own = subst (λ n. IsOwnRing b.shape n to.segments) (sym on.same) (subst (λ c. IsOwnRing b.shape (number p) c.segments) (sym kept) own)
-
 -- a write that found no room is refused so, after a segment was given up in vain
-pub found_no_room : (b : Board) (asked : Request) (p q r : Pass) (from mid to : Course) → q ≡ p → mid ≡ from → MakesRoom b.shape (number_of mid.segments) false q r → to ≡ turned_on mid
+stored_nowhere : (b : Board) (asked : Request) (p q r : Pass) (from to : Course) → q ≡ p → MakesRoom b.shape (number_of from.segments) false q r → to ≡ turned_on from
     → IsStoredAs b.shape (seen r) (number p) asked tally.NoRoom from to (mine p) (mine r)
-found_no_room b asked p q r from mid to same kept room turned =
-    let emptied = subst (λ c. Empties (number q) (number_of c.segments) (mine q) (mine r)) kept room.0 in
-    inr ((mine r, subst (λ x. Empties (number x) (number_of from.segments) (mine x) (mine r)) same emptied, inr (refl, refl, room.1)), turned ∙ ap turned_on kept)
+stored_nowhere b asked p q r from to same room turned =
+    inr ((mine r, subst (λ x. Empties (number x) (number_of from.segments) (mine x) (mine r)) same room.0, inr (refl, refl, room.1)), turned)
 
 -- or is made once more, and then there is room
-pub made_again : (b : Board) (of : Kind) (load : Load) (told : WriteAnswer) (p q r s : Pass) (from mid later to : Course) → q ≡ p → mid ≡ from → GoesOn b q r → MakesRoom b.shape (number_of mid.segments) true q r → later ≡ turned_on mid → to ≡ later
-    → (told ≡ write.NoRoom → has_room b.shape r ≡ false) → (told ≢ write.NoRoom → IsWrittenAs b.shape (seen s) (number r) (stores_of of later.version load) (write_tally told) (mine r) (mine s))
-    → IsStoredAs b.shape (seen s) (number p) (stores_of of from.version load) (write_tally told) from to (mine p) (mine s)
-made_again b of load told p q r s from mid later to same kept on made turned still no_room again = inr (
-  (
-    made.0,
-    subst (λ x. Empties (number x) (number_of from.segments) (mine x) made.0) same (subst (λ c. Empties (number q) (number_of c.segments) (mine q) made.0) kept made.1),
-    inl (subst (λ x. Is (number x) (Refilled (number x) (number_of from.segments) ∷ made.0) from.version) same
-        (subst (λ c. Is (number q) (Refilled (number q) (number_of c.segments) ∷ made.0) c.version) kept
-        (subst (λ own. Is (number q) own mid.version) made.2
-        (subst (λ version. Is (number q) (mine r) version) (ap (λ c. c.version) turned)
-        (subst (λ n. Is n (mine r) later.version) on.same (again (λ none. false≢true (sym (no_room none) ∙ made.3)))))))),
-  ),
-  still ∙ (turned ∙ ap turned_on kept),
-)
-  where
-    Is : ℕ → List Entry → ℕ → Type 0
-    Is n own version = IsWrittenAs b.shape (seen s) n (stores_of of version load) (write_tally told) own (mine s)
+stored_again : (b : Board) (asked : Request) (told : WriteAnswer) (p q r s : Pass) (from to : Course) → q ≡ p → GoesOn b q r → IsFree r → MakesRoom b.shape (number_of from.segments) true q r → to ≡ turned_on from → Writes b asked told r s
+    → IsStoredAs b.shape (seen s) (number p) asked (write_tally told) from to (mine p) (mine s)
+stored_again b asked told p q r s from to same on free made turned writes =
+    subst (λ x. IsStoredAs b.shape (seen s) (number x) asked (write_tally told) from to (mine x) (mine s)) same (inr (
+      (
+        made.0,
+        made.1,
+        inl (subst (λ n. IsWrittenAs b.shape (seen s) n asked (write_tally told) (Refilled (number q) (number_of from.segments) ∷ made.0) (mine s)) on.same
+            (subst (λ own. IsWrittenAs b.shape (seen s) (number r) asked (write_tally told) own (mine s)) made.2
+            (written b asked told r s (λ none. false≢true (sym (writes.no_room.0 none) ∙ made.3)) on.quiet free writes))),
+      ),
+      turned,
+    ))
+
+pub came_nowhere : (b : Board) (of : Kind) (load : Load) (draw : ℕ) (from to : Course) (p q r : Pass) → AnswersCommand b (asked_by of from.version load) draw (answer.Write write.NoRoom) p q → MakesRoom b.shape (number_of from.segments) false q r → to ≡ turned_on from
+    → CameTo b.shape (seen r) (number p) of load tally.NoRoom from to (mine p) (mine r)
+came_nowhere b kind.Set load draw from to p q r is room turned = stored_nowhere b (request.Set load.key load.value) p q r from to (is.untouched refl) room turned
+came_nowhere b kind.Add load draw from to p q r is room turned = stored_nowhere b (request.Add load.key load.value) p q r from to (is.untouched refl) room turned
+came_nowhere b kind.Replace load draw from to p q r is room turned = stored_nowhere b (request.Replace load.key load.value) p q r from to (is.untouched refl) room turned
+came_nowhere b kind.Cas load draw from to p q r is room turned = stored_nowhere b (request.Cas load.key load.value from.version) p q r from to (is.untouched refl) room turned
+came_nowhere b of load draw from to p q r is room turned = absurd is
+
+pub came_again : (b : Board) (of : Kind) (load : Load) (draw : ℕ) (told : Answer) (from to : Course) (p q r s : Pass) → AnswersCommand b (asked_by of from.version load) draw (answer.Write write.NoRoom) p q → GoesOn b q r → IsFree r → MakesRoom b.shape (number_of from.segments) true q r → to ≡ turned_on from
+    → AnswersCommand b (asked_by of from.version load) draw told r s → CameTo b.shape (seen s) (number p) of load (tally_of told) from to (mine p) (mine s)
+came_again b kind.Set load draw (answer.Write told) from to p q r s is on free made turned again = stored_again b (request.Set load.key load.value) told p q r s from to (is.untouched refl) on free made turned again
+came_again b kind.Add load draw (answer.Write told) from to p q r s is on free made turned again = stored_again b (request.Add load.key load.value) told p q r s from to (is.untouched refl) on free made turned again
+came_again b kind.Replace load draw (answer.Write told) from to p q r s is on free made turned again = stored_again b (request.Replace load.key load.value) told p q r s from to (is.untouched refl) on free made turned again
+came_again b kind.Cas load draw (answer.Write told) from to p q r s is on free made turned again = stored_again b (request.Cas load.key load.value from.version) told p q r s from to (is.untouched refl) on free made turned again
+came_again b kind.Set load draw told from to p q r s is on free made turned again = absurd again
+came_again b kind.Add load draw told from to p q r s is on free made turned again = absurd again
+came_again b kind.Replace load draw told from to p q r s is on free made turned again = absurd again
+came_again b kind.Cas load draw told from to p q r s is on free made turned again = absurd again
+came_again b of load draw told from to p q r s is on free made turned again = absurd is

@@ -3,8 +3,13 @@ use Rattle.std.specs.Prelude.{◌≡◌, ◌≢◌, ℕ, ◌*◌, ◌<◌, Bool,
 use Rattle.segword.specs.declared.shape.Shape.{Shape}
 use Rattle.segmodel.specs.declared.entry.Entry.{Entry}
 use Rattle.segmodel.specs.declared.entry.Entry.TheVariants.{Refilled}
-use Rattle.segmodel.specs.declared.request.Request.{Request}
 use Rattle.segmodel.specs.declared.request.Request.TheVariants as request
+use Rattle.segmodel.specs.declared.answer.Answer.{Answer}
+use Rattle.segmodel.specs.declared.answer.Answer.TheVariants as answer
+use Rattle.segmodel.specs.declared.answer.Command.{Command}
+use Rattle.segmodel.specs.declared.answer.Command.TheVariants as command
+use Rattle.segmodel.specs.declared.answer.GetAnswer.TheVariants as get
+use Rattle.segmodel.specs.declared.answer.GetsAnswer.TheVariants as gets
 use Rattle.segmodel.specs.declared.answer.WriteAnswer.{WriteAnswer}
 use Rattle.segmodel.specs.declared.answer.WriteAnswer.TheVariants as write
 use Rattle.segmodel.specs.declared.answer.DeleteAnswer.{DeleteAnswer}
@@ -61,12 +66,39 @@ abbrev pub MakesRoom : Shape → ℕ → Bool → Pass → Pass → Type 0
 MakesRoom shape segment true p q = (room : List Entry) × Empties (number p) segment (mine p) room × (mine q ≡ Refilled (number p) segment ∷ room) × (has_room shape q ≡ true)
 MakesRoom shape segment false p q = Empties (number p) segment (mine p) (mine q) × (shape.passes ≢ 1)
 
--- the request of a command that stores; a cas expects this version
-abbrev pub stores_of : Kind → ℕ → Load → Request
-stores_of kind.Add version load = request.Add load.key load.value
-stores_of kind.Replace version load = request.Replace load.key load.value
-stores_of kind.Cas version load = request.Cas load.key load.value version
-stores_of _ version load = request.Set load.key load.value
+-- the command that a load's command of this kind is; a cas expects this version
+abbrev pub asked_by : Kind → ℕ → Load → Command
+asked_by kind.Get version load = command.Get load.key
+asked_by kind.Gets version load = command.Gets load.key
+asked_by kind.Set version load = command.Write (request.Set load.key load.value)
+asked_by kind.Add version load = command.Write (request.Add load.key load.value)
+asked_by kind.Replace version load = command.Write (request.Replace load.key load.value)
+asked_by kind.Cas version load = command.Write (request.Cas load.key load.value version)
+asked_by kind.Delete version load = command.Write (request.Delete load.key)
+
+abbrev pub command_of : ℕ → Load → Command
+command_of version load = asked_by load.kind version load
+
+-- no command of a load is answered as an evict or a refill
+abbrev pub IsOfLoad : Answer → Type 0
+IsOfLoad (answer.Evict told) = ⊥
+IsOfLoad (answer.Refill told) = ⊥
+IsOfLoad told = Unit {0}
+
+-- how a command of a load that was answered so is counted
+abbrev pub tally_of : Answer → Tally
+tally_of (answer.Write told) = write_tally told
+tally_of (answer.Delete told) = delete_tally told
+tally_of (answer.Get (get.Found value)) = tally.Hit
+tally_of (answer.Get get.Miss) = tally.Miss
+tally_of (answer.Gets (gets.Found value version)) = tally.Hit
+tally_of (answer.Gets gets.Miss) = tally.Miss
+tally_of _ = tally.Busy
+
+-- what a pass goes by after an answer: the version that a gets found
+abbrev pub course_after : Answer → Course → Course
+course_after (answer.Gets (gets.Found value version)) course = record course { version = version }
+course_after _ course = course
 
 -- a pass at its load, which made so many commands of a workload, has no bucket locked and holds nothing
 pub record IsAtWork (b : Board) (draws : Draws) (made : ℕ) (worker : Worker) : Type 0 where

@@ -1,11 +1,13 @@
 //! A pass of an index, which makes the commands of a load.
-ghost use Rattle.std.specs.Prelude.{◌≡◌, ◌≢◌, false};
-ghost use Rattle.segmodel.specs.declared.answer.WriteAnswer.TheVariants.{NoRoom};
-ghost use Rattle.segload.specs.Working.{write_tally, delete_tally, stores_of};
+ghost use Rattle.std.specs.Prelude.{◌≡◌};
+ghost use Rattle.segload.specs.Working.{command_of, tally_of, write_tally, delete_tally, IsOfLoad};
 
 use crate::totals::Tally;
 use segindex::{Index, Pass};
-use segmodel::{DeleteAnswer, EvictAnswer, GetAnswer, GetsAnswer, RefillAnswer, WriteAnswer};
+use segmodel::{
+    Answer, Command, DeleteAnswer, EvictAnswer, GetAnswer, GetsAnswer, RefillAnswer, Request,
+    WriteAnswer,
+};
 use segpolicy::{Kind, Load, Ring};
 
 /// A pass, and what it goes by from one command to the next.
@@ -16,6 +18,42 @@ pub(crate) struct Client {
     segments: Ring,
     // The version that its last gets found.
     version: u32,
+}
+
+// The command that a load's command is. A cas expects the version.
+fn command_of(load: Load, version: u32) -> Command
+    ensures { result ≡ command_of version load }
+{
+    let Load {
+        kind,
+        key,
+        value,
+        draw: _,
+    } = load;
+    match kind {
+        Kind::Get => Command::Get(key),
+        Kind::Gets => Command::Gets(key),
+        Kind::Set => Command::Write(Request::Set(key, value)),
+        Kind::Add => Command::Write(Request::Add(key, value)),
+        Kind::Replace => Command::Write(Request::Replace(key, value)),
+        Kind::Cas => Command::Write(Request::Cas(key, value, version)),
+        Kind::Delete => Command::Write(Request::Delete(key)),
+    }
+}
+
+// How a command of a load is counted that was answered so.
+fn tally_of(answer: &Answer) -> Tally
+    requires { IsOfLoad answer.now }
+    ensures { result ≡ tally_of answer.now }
+{
+    match answer {
+        Answer::Get(GetAnswer::Found(_)) | Answer::Gets(GetsAnswer::Found(_, _)) => Tally::Hit,
+        Answer::Get(GetAnswer::Miss) | Answer::Gets(GetsAnswer::Miss) => Tally::Miss,
+        Answer::Get(GetAnswer::Busy) | Answer::Gets(GetsAnswer::Busy) => Tally::Busy,
+        Answer::Write(told) => tally_of_write(*told),
+        Answer::Delete(told) => tally_of_delete(*told),
+        Answer::Evict(_) | Answer::Refill(_) => unreachable!(),
+    }
 }
 
 fn tally_of_write(answer: WriteAnswer) -> Tally
@@ -44,14 +82,12 @@ fn tally_of_delete(answer: DeleteAnswer) -> Tally
 
 impl Client {
     ghost use Rattle.segbase.specs.Passes.{number, seen, mine};
-    ghost use Rattle.segstore.specs.Segments.{has_room};
     ghost use Rattle.segindex.specs.Index.{board_of, shape_of};
     ghost use Rattle.segpass.specs.Quiet.{IsQuiet};
     ghost use Rattle.segpass.specs.Calls.{GoesOn};
-    ghost use Rattle.segread.specs.Hits.{TriesFew};
     ghost use Rattle.segpolicy.specs.Cycle.{Cycle, number_of};
-    ghost use Rattle.segload.specs.Making.{turned_on, IsReadAs, IsVersionReadAs, IsWrittenAs, IsStoredAs, ComesTo};
-    ghost use Rattle.segload.specs.Working.{course_of, IsFree, IsOwnRing, MakesRoom};
+    ghost use Rattle.segload.specs.Making.{turned_on, ComesTo};
+    ghost use Rattle.segload.specs.Working.{course_of, course_after, IsFree, IsOwnRing, MakesRoom};
 
     /// A pass that made no command yet.
     pub(crate) fn new(pass: Pass, segments: Ring) -> Client
@@ -77,97 +113,35 @@ impl Client {
         pass
     }
 
-    /// Makes a command, and says what it came to.
-    pub(crate) fn serve(&mut self, index: &Index, load: &Load) -> Tally
+    /// Makes a command, and says what it came to. A write that finds no room is made once more, if room could be made.
+    pub(crate) fn serve(&mut self, index: &Index, load: Load) -> Tally
         requires quiet { IsQuiet (board_of index.now) self.old.pass }
         requires free { IsFree self.old.pass }
         requires own { IsOwnRing (shape_of index.now) (number self.old.pass) self.old.segments }
         ensures free { IsFree self.new.pass }
         ensures on { GoesOn (board_of index.now) self.old.pass self.new.pass }
-        ensures came { ComesTo (shape_of index.now) (seen self.new.pass) (number self.old.pass) load.now result (course_of self.old) (course_of self.new) (mine self.old.pass) (mine self.new.pass) }
+        ensures came { ComesTo (shape_of index.now) (seen self.new.pass) (number self.old.pass) load result (course_of self.old) (course_of self.new) (mine self.old.pass) (mine self.new.pass) }
     {
-        match load.kind {
-            Kind::Get => self.get(index, load),
-            Kind::Gets => self.gets(index, load),
-            Kind::Delete => tally_of_delete(index.delete(&mut self.pass, &load.key)),
-            Kind::Set | Kind::Add | Kind::Replace | Kind::Cas => {
-                tally_of_write(self.store(index, load))
-            }
+        let draw = load.draw;
+        let command = command_of(load, self.version);
+        let answer = index.serve(&mut self.pass, &command, draw);
+        if answer != Answer::Write(WriteAnswer::NoRoom) {
+            self.remember(&answer);
+            return tally_of(&answer);
         }
-    }
-
-    fn get(&mut self, index: &Index, load: &Load) -> Tally
-        requires quiet { IsQuiet (board_of index.now) self.old.pass }
-        requires free { IsFree self.old.pass }
-        ensures free { IsFree self.new.pass }
-        ensures on { GoesOn (board_of index.now) self.old.pass self.new.pass }
-        ensures read { IsReadAs (shape_of index.now) (seen self.new.pass) (number self.old.pass) (mine self.old.pass) load.now.key result }
-        ensures same { mine self.new.pass ≡ mine self.old.pass }
-        ensures course { course_of self.new ≡ course_of self.old }
-        ensures once { TriesFew self.old.pass self.new.pass }
-    {
-        match index.get(&mut self.pass, &load.key, load.draw) {
-            GetAnswer::Found(_) => Tally::Hit,
-            GetAnswer::Miss => Tally::Miss,
-            GetAnswer::Busy => Tally::Busy,
-        }
-    }
-
-    // It remembers the version for the next cas.
-    fn gets(&mut self, index: &Index, load: &Load) -> Tally
-        requires quiet { IsQuiet (board_of index.now) self.old.pass }
-        requires free { IsFree self.old.pass }
-        ensures free { IsFree self.new.pass }
-        ensures on { GoesOn (board_of index.now) self.old.pass self.new.pass }
-        ensures read { IsVersionReadAs (shape_of index.now) (seen self.new.pass) (number self.old.pass) (mine self.old.pass) load.now.key result (course_of self.old) (course_of self.new) }
-        ensures same { mine self.new.pass ≡ mine self.old.pass }
-        ensures once { TriesFew self.old.pass self.new.pass }
-    {
-        match index.gets(&mut self.pass, &load.key, load.draw) {
-            GetsAnswer::Found(_, version) => {
-                self.version = version;
-                Tally::Hit
-            }
-            GetsAnswer::Miss => Tally::Miss,
-            GetsAnswer::Busy => Tally::Busy,
-        }
-    }
-
-    // A write. Where it finds no room it is made once more, if room could be made.
-    fn store(&mut self, index: &Index, load: &Load) -> WriteAnswer
-        requires quiet { IsQuiet (board_of index.now) self.old.pass }
-        requires free { IsFree self.old.pass }
-        requires own { IsOwnRing (shape_of index.now) (number self.old.pass) self.old.segments }
-        ensures free { IsFree self.new.pass }
-        ensures on { GoesOn (board_of index.now) self.old.pass self.new.pass }
-        ensures stored { IsStoredAs (shape_of index.now) (seen self.new.pass) (number self.old.pass) (stores_of load.now.kind self.old.version load.now) (write_tally result) (course_of self.old) (course_of self.new) (mine self.old.pass) (mine self.new.pass) }
-    {
-        let answer = self.write(index, load);
-        let WriteAnswer::NoRoom = answer else {
-            return answer;
-        };
         if !self.make_room(index) {
-            return WriteAnswer::NoRoom;
+            return Tally::NoRoom;
         }
-        self.write(index, load)
+        tally_of(&index.serve(&mut self.pass, &command, draw))
     }
 
-    fn write(&mut self, index: &Index, load: &Load) -> WriteAnswer
-        requires quiet { IsQuiet (board_of index.now) self.old.pass }
-        requires free { IsFree self.old.pass }
-        ensures free { IsFree self.new.pass }
-        ensures on { GoesOn (board_of index.now) self.old.pass self.new.pass }
-        ensures written { result ≢ NoRoom → IsWrittenAs (shape_of index.now) (seen self.new.pass) (number self.old.pass) (stores_of load.now.kind self.old.version load.now) (write_tally result) (mine self.old.pass) (mine self.new.pass) }
-        ensures no_room { result ≡ NoRoom → has_room (shape_of index.now) self.old.pass ≡ false }
-        ensures untouched { result ≡ NoRoom → self.new.pass ≡ self.old.pass }
-        ensures course { course_of self.new ≡ course_of self.old }
+    // Keeps the version of a gets that is a hit for the next cas.
+    fn remember(&mut self, answer: &Answer)
+        ensures pass { self.new.pass ≡ self.old.pass }
+        ensures course { course_of self.new ≡ course_after answer.now (course_of self.old) }
     {
-        let (pass, key, value) = (&mut self.pass, &load.key, &load.value);
-        match load.kind {
-            Kind::Add => index.add(pass, key, value),
-            Kind::Replace => index.replace(pass, key, value),
-            Kind::Cas => index.cas(pass, key, value, self.version),
-            _ => index.set(pass, key, value),
+        if let Answer::Gets(GetsAnswer::Found(_, version)) = answer {
+            self.version = *version;
         }
     }
 

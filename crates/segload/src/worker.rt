@@ -60,7 +60,7 @@ impl Worker {
                 return self;
             }
             let load = self.workload.next();
-            let tally = self.client.serve(index, &load);
+            let tally = self.client.serve(index, load);
             self.tallies.count(tally);
             gate.answered(pass, call);
         }
