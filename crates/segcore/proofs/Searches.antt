@@ -27,7 +27,7 @@ use Rattle.segcore.specs.declared.cell.Cell.{Cell}
 use Rattle.segcore.specs.Word.{IsAt}
 use Rattle.segcore.specs.Mark as marks
 use Rattle.segcore.proofs.Marked.{place_marked}
-use Rattle.segcore.proofs.StepKinds.{cell_in}
+use Rattle.segcore.proofs.StepKinds.Words.{cell_in}
 use Rattle.segcore.proofs.Exact.{item_names, named_at}
 use Rattle.segcore.proofs.Coherent.{place}
 use Rattle.segcore.proofs.Ahead.{ahead_later, ahead_passed, ahead_end}
