@@ -1,7 +1,7 @@
 use Rattle.std.proofs.Common.{refl}
-use Rattle.segcore.proofs.ExampleTrace as it
-use Rattle.segcore.proofs.ExampleScan.{scanned}
-use Rattle.segcore.proofs.ExampleSchedule.{reached}
+use Rattle.segcore.proofs.WorkedExample.Trace as it
+use Rattle.segcore.proofs.WorkedExample.Scan.{scanned}
+use Rattle.segcore.proofs.WorkedExample.Schedule.{reached}
 use Rattle.segcore.proofs.laws.example.Goals as goal
 
 pub returns : goal.returns

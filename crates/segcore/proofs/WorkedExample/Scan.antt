@@ -7,7 +7,7 @@ use Rattle.segcore.specs.Example.{shape, a, stored, moved, evicted, looks}
 use Rattle.segcore.proofs.Standing.{legal}
 use Rattle.segcore.proofs.Marked.{placed}
 use Rattle.segcore.proofs.Scans.{lost}
-use Rattle.segcore.proofs.ExampleTrace.{evicted_next}
+use Rattle.segcore.proofs.WorkedExample.Trace.{evicted_next}
 
 -- ---- where a is
 
