@@ -22,9 +22,9 @@ use Rattle.segcore.proofs.Marked.{one_if, chained_marked, drawn_marked}
 use Rattle.segcore.proofs.Orderly.{all_drawn_marked}
 use Rattle.segcore.proofs.Homes.{joins, spare_held}
 use Rattle.segcore.proofs.Limits.{drawn_few, home_in}
-use Rattle.segcore.proofs.Drafts.{draft_word}
+use Rattle.segcore.proofs.Says.Drafts.{draft_word}
 use Rattle.segcore.proofs.Versions.{versions, free}
-use Rattle.segcore.proofs.StepKinds.{word_content}
+use Rattle.segcore.proofs.StepKinds.Words.{word_content}
 
 -- ---- information words
 

@@ -107,38 +107,38 @@ at_word z h b n (OfRow s r j) i = absurd i
 
 -- ---- an event that changes the word of one position
 
-pub record Elsewhere (z : Shape) (now : List Event) (e : Event) : Type 0 where
-  pub homes : (m : ℕ) → home_of (e ∷ now) m ≡ home_of now m
-  pub drawn : drawn_in (e ∷ now) ≡ drawn_in now
-  pub rows : (s r j : ℕ) → (row_after (e ∷ now) s r).words j ≡ (row_after now s r).words j
-  pub readers : (s : ℕ) → readers (e ∷ now) s ≡ readers now s
+pub record Elsewhere (z : Shape) (h : List Event) (e : Event) : Type 0 where
+  pub homes : (m : ℕ) → home_of (e ∷ h) m ≡ home_of h m
+  pub drawn : drawn_in (e ∷ h) ≡ drawn_in h
+  pub rows : (s r j : ℕ) → (row_after (e ∷ h) s r).words j ≡ (row_after h s r).words j
+  pub readers : (s : ℕ) → readers (e ∷ h) s ≡ readers h s
 
-module _ (z : Shape) (now : List Event) (e : Event) (b0 n0 x : ℕ) (c0 : Cell) (l : IsLawful z now) (i0 : IsAt now b0 n0 c0) (s : Elsewhere z now e)
-    (change : (b n : ℕ) → word_in z (e ∷ now) (bucket_after z (e ∷ now) b) n ≡ cond (eqb b0 b && eqb n0 n) x (word_in z now (bucket_after z now b) n)) where
-  not_there : (c : Cell) → ((b n : ℕ) → ¬ (IsAt now b n c)) → same_cell c0 c ≡ false
-  not_there c none = ⊎_elim (λ t. absurd (none b0 n0 (subst (IsAt now b0 n0) (same_place c0 c t) i0))) (λ f. f) (cases_Bool (same_cell c0 c))
+module _ (z : Shape) (h : List Event) (e : Event) (b0 n0 x : ℕ) (c0 : Cell) (l : IsLawful z h) (i0 : IsAt h b0 n0 c0) (s : Elsewhere z h e)
+    (change : (b n : ℕ) → word_in z (e ∷ h) (bucket_after z (e ∷ h) b) n ≡ cond (eqb b0 b && eqb n0 n) x (word_in z h (bucket_after z h b) n)) where
+  not_there : (c : Cell) → ((b n : ℕ) → ¬ (IsAt h b n c)) → same_cell c0 c ≡ false
+  not_there c none = ⊎_elim (λ t. absurd (none b0 n0 (subst (IsAt h b0 n0) (same_place c0 c t) i0))) (λ f. f) (cases_Bool (same_cell c0 c))
 
-  over : (m w : ℕ) (o : Option Home) → w < 8 → home_of now m ≡ o → overflow_word z (e ∷ now) w o ≡ cond (same_cell c0 (OfOverflow m w)) x (overflow_word z now w o)
+  over : (m w : ℕ) (o : Option Home) → w < 8 → home_of h m ≡ o → overflow_word z (e ∷ h) w o ≡ cond (same_cell c0 (OfOverflow m w)) x (overflow_word z h w o)
   over m w None lt is' = sym (cond-false (same_cell c0 (OfOverflow m w)) x 0 (not_there (OfOverflow m w) (λ b n i. none-some _ (sym is' ∙ i.1))))
-  over m w (Some y) lt is' = change y.bucket (8 * y.depth + w) ∙ ap (λ t. cond t x (word_in z now (bucket_after z now y.bucket) (8 * y.depth + w)))
-      (at_same z now b0 n0 y.bucket (8 * y.depth + w) c0 (OfOverflow m w) l i0 (y.depth, is', refl, lt))
+  over m w (Some y) lt is' = change y.bucket (8 * y.depth + w) ∙ ap (λ t. cond t x (word_in z h (bucket_after z h y.bucket) (8 * y.depth + w)))
+      (at_same z h b0 n0 y.bucket (8 * y.depth + w) c0 (OfOverflow m w) l i0 (y.depth, is', refl, lt))
 
-  pub touch : (c : Cell) → IsCell z c → word z (e ∷ now) c ≡ cond (same_cell c0 c) x (word z now c)
-  touch OfCounter i = s.drawn ∙ sym (cond-false (same_cell c0 OfCounter) x (drawn_in now) (not_there OfCounter (λ b n i. i)))
-  touch (OfSegment t) i = s.readers t ∙ sym (cond-false (same_cell c0 (OfSegment t)) x (readers now t) (not_there (OfSegment t) (λ b n i. i)))
-  touch (OfRow t r j) i = s.rows t r j ∙ sym (cond-false (same_cell c0 (OfRow t r j)) x ((row_after now t r).words j) (not_there (OfRow t r j) (λ b n i. i)))
-  touch (OfBucket b w) i = change b w ∙ ap (λ t. cond t x (word_in z now (bucket_after z now b) w)) (at_same z now b0 n0 b w c0 (OfBucket b w) l i0 (refl, refl, i.1))
-  touch (OfOverflow m w) i = ap (overflow_word z (e ∷ now) w) (s.homes m) ∙ over m w (home_of now m) i.1 refl
+  pub touch : (c : Cell) → IsCell z c → word z (e ∷ h) c ≡ cond (same_cell c0 c) x (word z h c)
+  touch OfCounter i = s.drawn ∙ sym (cond-false (same_cell c0 OfCounter) x (drawn_in h) (not_there OfCounter (λ b n i. i)))
+  touch (OfSegment t) i = s.readers t ∙ sym (cond-false (same_cell c0 (OfSegment t)) x (readers h t) (not_there (OfSegment t) (λ b n i. i)))
+  touch (OfRow t r j) i = s.rows t r j ∙ sym (cond-false (same_cell c0 (OfRow t r j)) x ((row_after h t r).words j) (not_there (OfRow t r j) (λ b n i. i)))
+  touch (OfBucket b w) i = change b w ∙ ap (λ t. cond t x (word_in z h (bucket_after z h b) w)) (at_same z h b0 n0 b w c0 (OfBucket b w) l i0 (refl, refl, i.1))
+  touch (OfOverflow m w) i = ap (overflow_word z (e ∷ h) w) (s.homes m) ∙ over m w (home_of h m) i.1 refl
 
 -- an event of the bucket that changes one word of it, and no other word of any
-pub change_at : (z : Shape) (now : List Event) (e : Event) (b0 n0 x : ℕ) → ((b : ℕ) → is (bucket_at z e) b ≡ eqb b0 b)
-    → ((n : ℕ) → word_in z (e ∷ now) (acts e (bucket_after z now b0)) n ≡ cond (eqb n0 n) x (word_in z now (bucket_after z now b0) n))
-    → ((b n : ℕ) → eqb b0 b ≡ false → word_in z (e ∷ now) (bucket_after z now b) n ≡ word_in z now (bucket_after z now b) n)
-    → (b n : ℕ) → word_in z (e ∷ now) (bucket_after z (e ∷ now) b) n ≡ cond (eqb b0 b && eqb n0 n) x (word_in z now (bucket_after z now b) n)
-change_at z now e b0 n0 x here own others b n = ⊎_elim
-    (λ t. ap (λ u. word_in z (e ∷ now) u n) (cond-true (is (bucket_at z e) b) (acts e (bucket_after z now b)) (bucket_after z now b) (here b ∙ t))
-    ∙ rw t (subst (λ k. word_in z (e ∷ now) (acts e (bucket_after z now k)) n ≡ cond (eqb n0 n) x (word_in z now (bucket_after z now k) n)) (eqb-true b0 b t) (own n)))
-    (λ f. ap (λ u. word_in z (e ∷ now) u n) (cond-false (is (bucket_at z e) b) (acts e (bucket_after z now b)) (bucket_after z now b) (here b ∙ f)) ∙ rw f (others b n f))
+pub change_at : (z : Shape) (h : List Event) (e : Event) (b0 n0 x : ℕ) → ((b : ℕ) → is (bucket_at z e) b ≡ eqb b0 b)
+    → ((n : ℕ) → word_in z (e ∷ h) (acts e (bucket_after z h b0)) n ≡ cond (eqb n0 n) x (word_in z h (bucket_after z h b0) n))
+    → ((b n : ℕ) → eqb b0 b ≡ false → word_in z (e ∷ h) (bucket_after z h b) n ≡ word_in z h (bucket_after z h b) n)
+    → (b n : ℕ) → word_in z (e ∷ h) (bucket_after z (e ∷ h) b) n ≡ cond (eqb b0 b && eqb n0 n) x (word_in z h (bucket_after z h b) n)
+change_at z h e b0 n0 x here own others b n = ⊎_elim
+    (λ t. ap (λ u. word_in z (e ∷ h) u n) (cond-true (is (bucket_at z e) b) (acts e (bucket_after z h b)) (bucket_after z h b) (here b ∙ t))
+    ∙ rw t (subst (λ k. word_in z (e ∷ h) (acts e (bucket_after z h k)) n ≡ cond (eqb n0 n) x (word_in z h (bucket_after z h k) n)) (eqb-true b0 b t) (own n)))
+    (λ f. ap (λ u. word_in z (e ∷ h) u n) (cond-false (is (bucket_at z e) b) (acts e (bucket_after z h b)) (bucket_after z h b) (here b ∙ f)) ∙ rw f (others b n f))
     (cases_Bool (eqb b0 b))
 
 deep_at_most : (z : Shape) (h : List Event) (m b d : ℕ) → IsLawful z h → (bucket_after z h b).spare ≡ None → home_of h m ≡ Some (at b d) → d ≤ (bucket_after z h b).chained

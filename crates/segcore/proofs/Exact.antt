@@ -29,7 +29,9 @@ use Rattle.segcore.proofs.Orderly.{frequency_marked}
 use Rattle.segcore.proofs.Cells.{one_cell, at_word}
 use Rattle.segcore.proofs.Homes.{cell_of}
 use Rattle.segcore.proofs.Limits.{low_row, low_segment, low_frequency, bucket_in, home_in}
-use Rattle.segcore.proofs.StepKinds.{word_content, above, cell_in, Named, names, one_place}
+use Rattle.segcore.proofs.StepKinds.Words.{word_content, cell_in}
+use Rattle.segcore.proofs.StepKinds.Items.{above}
+use Rattle.segcore.proofs.StepKinds.Frequencies.{Named, names, one_place}
 
 same_words : (k v k' v' : List ℕ) → ((j : ℕ) → j < 8 → slice_index (row_of k v) j ≡ slice_index (row_of k' v') j) → row_of k v ≡ row_of k' v'
 same_words k v k' v' e =

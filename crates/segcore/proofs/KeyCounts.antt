@@ -1,4 +1,5 @@
 -- How many keys of a bucket stand: as many as positions of its chain have an item.
+pub mod Filled
 use Rattle.std.proofs.Common.{◌≡◌, ◌≢◌, ℕ, ◌+◌, ◌*◌, ◌<◌, ◌≤◌, ◌==◌, Bool, true, false, cond, eqb, not, List, [], ◌∷◌, Some, None, Option, is_some, filter, count_by, sym, refl, ap, ◌∙◌, subst, ⊎_elim, inl, inr, arith}
 use Rattle.std.specs.declared.cmp.Ordering.{Ordering}
 use Rattle.std.specs.declared.cmp.Ordering.TheVariants.{Less, Equal, Greater}
@@ -34,7 +35,7 @@ use Rattle.segcore.proofs.Standing.{Puts, links, unlinks, Turning, Calm, is_calm
 use Rattle.segcore.proofs.Chains.{chain_of}
 use Rattle.segcore.proofs.Marked.{one_if, drawn_marked}
 use Rattle.segcore.proofs.Exact.{content_at}
-use Rattle.segcore.proofs.Filled.{same_below, changed_below, none_past, to_end, few, full}
+use Rattle.segcore.proofs.KeyCounts.Filled.{same_below, changed_below, none_past, to_end, few, full}
 use Rattle.segmodel.proofs.Words.{above_absent}
 
 -- ---- the keys of a map

@@ -1,4 +1,6 @@
 -- All that a lawful world says.
+pub mod Drafts
+pub mod Passes
 use Rattle.std.proofs.Common.{ℕ, List}
 use Rattle.segword.specs.declared.shape.Shape.{Shape}
 use Rattle.segcore.specs.Kind.{Step}
@@ -11,7 +13,7 @@ use Rattle.segcore.proofs.Orderly.{orderly}
 use Rattle.segcore.proofs.Exact.{says_of_keys}
 use Rattle.segcore.proofs.Buckets.{says_of_buckets}
 use Rattle.segcore.proofs.Segments.{says_of_segments}
-use Rattle.segcore.proofs.Passes.{says_of_passes}
+use Rattle.segcore.proofs.Says.Passes.{says_of_passes}
 
 pub says : (z : Shape) (ss : List (ℕ × Step)) (w : World) → Reaches z ss w → Says z w
 says z ss w r = let l = lawful z ss w r in let h = w.trace in record {

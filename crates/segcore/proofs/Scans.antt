@@ -1,4 +1,4 @@
--- A scan that finds no item of its key passed a point at which the key was absent.
+-- A scan that finds what it seeks at none of its looks passed a point at which that was nowhere.
 use Rattle.std.proofs.Common.{◌≡◌, ◌≢◌, ℕ, ◌+◌, ◌*◌, ◌%◌, ◌≤◌, cond, eqb, ◌⊎◌, List, [], ◌∷◌, ◌++◌, Option, Some, None, sym, refl, ap, ◌∙◌, subst, inl, inr, ⊎_elim, arith}
 use Rattle.std.proofs.lemmas.Bool.{cases_Bool, cases_eq, cond-true, cond-false, eqb-true}
 use Rattle.std.proofs.lemmas.Option.{same_Some, none-some}
@@ -14,7 +14,7 @@ use Rattle.segcore.proofs.Caches.{put, stands, stands_wrote, stands_evicted}
 use Rattle.segcore.specs.Mark.{same_key, Mark, enters, drawn, chained, at, bumped, entered, left, entries, chained_to, onward, place, last_at, IsAbsent, IsIn, IsAfterAt, IsPlaced}
 use Rattle.segcore.specs.Ahead.{WasGone, Ahead}
 use Rattle.segcore.specs.Bucket.{Slot, slot}
-use Rattle.segcore.specs.Scan.{position_after, IsScan, IsScanFor, IsNotPlace, IsScanOf, WasAbsent, IsUnnamed, NamesNotRow, IsRowScanOf, WasUnnamed}
+use Rattle.segcore.specs.Scan.{IsNowhere, IsNotAt, position_after, IsScan, IsScanOf}
 use Rattle.segcore.proofs.Moments.{begins_on}
 use Rattle.segcore.proofs.Ahead.{ahead_later, ahead_passed, ahead_jump, ahead_end}
 use Rattle.segmodel.specs.Places.{bucket_of}
@@ -65,10 +65,10 @@ one z k m h (bumped t r f) p s = inr (still_in z k m h (bumped t r f ∷ h) s s.
 one z k m h (entered q t) p s = inr (still_in z k m h (entered q t ∷ h) s s.item s.stands s.at s.place (omega arith) s.within)
 one z k m h (left q t) p s = inr (still_in z k m h (left q t ∷ h) s s.item s.stands s.at s.place (omega arith) s.within)
 
-ends_later : (z : Shape) (k : List ℕ) (NotAt : List Mark → ℕ → Type 0) (n : ℕ) (h : List Mark) (looks : List (List Mark)) (g : List Mark) → IsScan z k NotAt n h looks g → Begins h g
-ends_later z k NotAt n h [] g s = absurd s
-ends_later z k NotAt n h (i ∷ []) g s = subst (Begins h) s.2 s.0
-ends_later z k NotAt n h (i ∷ j ∷ more) g s = begins_on h i g s.0 (ends_later z k NotAt (position_after n) i (j ∷ more) g s.2)
+ends_later : (z : Shape) (k : List ℕ) (o : Option (ℕ × ℕ)) (n : ℕ) (h : List Mark) (looks : List (List Mark)) (g : List Mark) → IsScan z k o n h looks g → Begins h g
+ends_later z k o n h [] g s = absurd s
+ends_later z k o n h (i ∷ []) g s = subst (Begins h) s.2 s.0
+ends_later z k o n h (i ∷ j ∷ more) g s = begins_on h i g s.0 (ends_later z k o (position_after n) i (j ∷ more) g s.2)
 
 placed_before : (z : Shape) (more h : List Mark) → IsPlaced z (more ++ h) → IsPlaced z h
 placed_before z [] h p = p
@@ -128,68 +128,12 @@ has_place z k (bumped u r f ∷ h) x p t = let i = has_place z k h x p.0 t in re
 has_place z k (entered q s ∷ h) x p t = let i = has_place z k h x p.0 t in record { at = i.at; place = i.place; within = i.within }
 has_place z k (left q s ∷ h) x p t = let i = has_place z k h x p.0 t in record { at = i.at; place = i.place; within = i.within }
 
--- ---- scans, for what is sought
+-- ---- what is sought
 
--- what is sought is at position n, which is its key's place
-pub record IsFound (z : Shape) (k : List ℕ) (Gone : List Mark → Type 0) (h : List Mark) (n : ℕ) : Type 0 where
-  pub here : ¬ Gone h
-  pub place : place z h k ≡ Some n
-  pub within : IsIn z h k n
-
-module _ (z : Shape) (k : List ℕ) (Gone : List Mark → Type 0) (NotAt : List Mark → ℕ → Type 0)
-    (moves : (e : Mark) (h : List Mark) (a : ℕ) → IsPlaced z (e ∷ h) → IsFound z k Gone h a → ((m : ℕ) × (a ≤ m) × IsFound z k Gone (e ∷ h) m) ⊎ Gone (e ∷ h))
-    (not_at : (h : List Mark) (n : ℕ) → NotAt h n → IsFound z k Gone h n → ⊥) where
-  abbrev Waits : ℕ → List Mark → List Mark → Type 0
-  Waits n h g = Ahead (IsFound z k Gone) Gone n h g
-
-  passed : (n : ℕ) (h g i : List Mark) → IsPlaced z i → Begins h g → Begins g i → NotAt i n → Waits n h g → Waits (n + 1) h i
-  passed n h g i p b c not a = ahead_passed (IsFound z k Gone) Gone n h i (not_at i n not) (ahead_later (IsPlaced z) (IsFound z k Gone) Gone (λ e f p. p.0) moves n h g i p b c a)
-
-  onto : (n : ℕ) (h i : List Mark) → Waits (n + 1) h i → Waits (position_after n) h i
-  onto n h i a = ⊎_elim
-      (λ y. rw y (let e = eqb-true (n % 8) 7 y in ahead_jump (IsFound z k Gone) Gone (n + 1) (n + 2) h i (λ m f le. let w = f.within.1 in omega arith) a))
-      (λ f. rw f a)
-      (cases_Bool (eqb (n % 8) 7))
-
-  all_looks : (n : ℕ) (h from : List Mark) (looks : List (List Mark)) (g : List Mark) → IsPlaced z g → Begins h from → IsScan z k NotAt n from looks g → Waits n h from → WasGone Gone h g
-  all_looks n h from [] g p b s a = absurd s
-  all_looks n h from (i ∷ []) g p b s a =
-      let e = s.3 in
-      subst (WasGone Gone h) s.2 (ahead_end (IsFound z k Gone) Gone (n + 1) h i
-      (λ m f. let lt = f.within.0 in let same : chained_to i (bucket_of z k) ≡ chained_to g (bucket_of z k) = ap (λ x. chained_to x (bucket_of z k)) s.2 in omega arith)
-      (passed n h from i (subst (IsPlaced z) (sym s.2) p) b s.0 s.1 a))
-  all_looks n h from (i ∷ j ∷ more) g p b s a =
-      let later = ends_later z k NotAt (position_after n) i (j ∷ more) g s.2 in
-      all_looks (position_after n) h i (j ∷ more) g p (begins_on h from i b s.0) s.2
-      (onto n h i (passed n h from i (placed_before z later.0 i (subst (IsPlaced z) later.1 p)) b s.0 s.1 a))
-
-  pub miss_by : (h : List Mark) (looks : List (List Mark)) (g : List Mark) → IsScanFor z k NotAt h looks g → Waits 1 h h → WasGone Gone h g
-  miss_by h looks g s a = all_looks 1 h h (h ∷ looks) g s.placed ([], refl) s.scan a
-
--- the first look is at a placed history
-first_placed : (z : Shape) (k : List ℕ) (NotAt : List Mark → ℕ → Type 0) (h : List Mark) (looks : List (List Mark)) (g : List Mark) → IsScanFor z k NotAt h looks g → IsPlaced z h
-first_placed z k NotAt h looks g s = let b = ends_later z k NotAt 1 h (h ∷ looks) g s.scan in placed_before z b.0 h (subst (IsPlaced z) b.1 s.placed)
-
--- ---- of a key
-
-there : (z : Shape) (k : List ℕ) (h : List Mark) (n : ℕ) → IsFound z k (λ g. IsAbsent z g k) h n → (o : Option Cached) → stands z (entries h) k ≡ o → StandsFrom z k n h
-there z k h n f None e = absurd (f.here e)
-there z k h n f (Some x) e = record { item = x; stands = e; at = n; place = f.place; late = omega arith; within = f.within }
-
-key_moves : (z : Shape) (k : List ℕ) (e : Mark) (h : List Mark) (a : ℕ) → IsPlaced z (e ∷ h) → IsFound z k (λ g. IsAbsent z g k) h a → ((m : ℕ) × (a ≤ m) × IsFound z k (λ g. IsAbsent z g k) (e ∷ h) m) ⊎ IsAbsent z (e ∷ h) k
-key_moves z k e h a p f = ⊎_elim (λ none. inr none)
-    (λ (s : StandsFrom z k a (e ∷ h)). inl (s.at, s.late, record { here = λ none. none-some s.item (sym none ∙ s.stands); place = s.place; within = s.within }))
-    (one z k a h e p (there z k h a f (stands z (entries h) k) refl))
-
-key_first : (z : Shape) (k : List ℕ) (h : List Mark) (o : Option Cached) → IsPlaced z h → stands z (entries h) k ≡ o → Ahead (IsFound z k (λ g. IsAbsent z g k)) (λ g. IsAbsent z g k) 1 h h
-key_first z k h None p t = inl (h, ([], refl), ([], refl), t)
-key_first z k h (Some x) p t = let i = has_place z k h x p t in let a = i.within.1 in inr (i.at, omega arith, record { here = λ none. none-some x (sym none ∙ t); place = i.place; within = i.within })
-
-pub miss : (z : Shape) (k : List ℕ) (h : List Mark) (looks : List (List Mark)) (g : List Mark) → IsScanOf z k h looks g → WasAbsent z k h g
-miss z k h looks g s = miss_by z k (λ g. IsAbsent z g k) (IsNotPlace z k) (key_moves z k) (λ i n not f. not f.here f.place) h looks g s
-    (key_first z k h (stands z (entries h) k) (first_placed z k (IsNotPlace z k) h looks g s) refl)
-
--- ---- of a row
+-- where the key doesn't stand, it is nowhere
+pub lost : (z : Shape) (k : List ℕ) (o : Option (ℕ × ℕ)) (h : List Mark) → IsAbsent z h k → IsNowhere z k o h
+lost z k None h none = none
+lost z k (Some row) h none = inl none
 
 same_slot : (k : List ℕ) (s r t i : ℕ) → (Some (slot k t i) ≡ Some (slot k s r)) ⊎ (Some (slot k t i) ≢ Some (slot k s r))
 same_slot k s r t i = ⊎_elim
@@ -206,19 +150,70 @@ names_row k s r (at k' t i n f ∷ h) = ⊎_elim
     (cases_Bool (same_key k' k))
 names_row k s r (e ∷ h) = names_row k s r h
 
-row_moves : (z : Shape) (k : List ℕ) (s r : ℕ) (e : Mark) (h : List Mark) (a : ℕ) → IsPlaced z (e ∷ h) → IsFound z k (IsUnnamed z k s r) h a → ((m : ℕ) × (a ≤ m) × IsFound z k (IsUnnamed z k s r) (e ∷ h) m) ⊎ IsUnnamed z k s r (e ∷ h)
-row_moves z k s r e h a p f = ⊎_elim
-    (λ on. ⊎_elim (λ named. inl (on.0, on.1, record { here = λ un. ⊎_elim (λ none. on.2.here none) (λ ne. ne named) un; place = on.2.place; within = on.2.within })) (λ ne. inr (inr ne)) (names_row k s r (e ∷ h)))
-    (λ none. inr (inl none))
-    (key_moves z k e h a p (record { here = λ none. f.here (inl none); place = f.place; within = f.within }))
+-- where the key stands, its item is what is sought, or that is nowhere
+is_nowhere : (z : Shape) (k : List ℕ) (o : Option (ℕ × ℕ)) (h : List Mark) (x : Cached) → stands z (entries h) k ≡ Some x → IsNowhere z k o h ⊎ ¬ (IsNowhere z k o h)
+is_nowhere z k None h x t = inr (λ none. none-some x (sym none ∙ t))
+is_nowhere z k (Some row) h x t = ⊎_elim
+    (λ named. inr (λ un. ⊎_elim (λ none. none-some x (sym none ∙ t)) (λ ne. ne named) un))
+    (λ ne. inl (inr ne))
+    (names_row k row.0 row.1 h)
 
-row_first : (z : Shape) (k : List ℕ) (s r : ℕ) (h : List Mark) → IsPlaced z h → Ahead (IsFound z k (IsUnnamed z k s r)) (IsUnnamed z k s r) 1 h h
-row_first z k s r h p = ⊎_elim
-    (λ gone. inl (gone.0, gone.1, gone.2, inl gone.3))
-    (λ w. ⊎_elim (λ named. inr (w.0, w.1, record { here = λ un. ⊎_elim (λ none. w.2.here none) (λ ne. ne named) un; place = w.2.place; within = w.2.within }))
-    (λ ne. inl (h, ([], refl), ([], refl), inr ne)) (names_row k s r h))
-    (key_first z k h (stands z (entries h) k) p refl)
+-- ---- scans
 
-pub miss_row : (z : Shape) (k : List ℕ) (s r : ℕ) (h : List Mark) (looks : List (List Mark)) (g : List Mark) → IsRowScanOf z k s r h looks g → WasUnnamed z k s r h g
-miss_row z k s r h looks g w = miss_by z k (IsUnnamed z k s r) (NamesNotRow z k s r) (row_moves z k s r) (λ i n not f. not f.here f.place) h looks g w
-    (row_first z k s r h (first_placed z k (NamesNotRow z k s r) h looks g w))
+-- what is sought is at position n, which is its key's place
+record IsFound (z : Shape) (k : List ℕ) (o : Option (ℕ × ℕ)) (h : List Mark) (n : ℕ) : Type 0 where
+  here : ¬ (IsNowhere z k o h)
+  place : place z h k ≡ Some n
+  within : IsIn z h k n
+
+module _ (z : Shape) (k : List ℕ) (o : Option (ℕ × ℕ)) where
+  abbrev Waits : ℕ → List Mark → List Mark → Type 0
+  Waits n h g = Ahead (IsFound z k o) (IsNowhere z k o) n h g
+
+  there : (h : List Mark) (n : ℕ) → IsFound z k o h n → (c : Option Cached) → stands z (entries h) k ≡ c → StandsFrom z k n h
+  there h n f None e = absurd (f.here (lost z k o h e))
+  there h n f (Some x) e = record { item = x; stands = e; at = n; place = f.place; late = omega arith; within = f.within }
+
+  moves : (e : Mark) (h : List Mark) (a : ℕ) → IsPlaced z (e ∷ h) → IsFound z k o h a → ((m : ℕ) × (a ≤ m) × IsFound z k o (e ∷ h) m) ⊎ IsNowhere z k o (e ∷ h)
+  moves e h a p f = ⊎_elim
+      (λ none. inr (lost z k o (e ∷ h) none))
+      (λ (s : StandsFrom z k a (e ∷ h)). ⊎_elim
+      (λ gone. inr gone)
+      (λ here. inl (s.at, s.late, record { here = here; place = s.place; within = s.within }))
+      (is_nowhere z k o (e ∷ h) s.item s.stands))
+      (one z k a h e p (there h a f (stands z (entries h) k) refl))
+
+  first : (h : List Mark) (c : Option Cached) → IsPlaced z h → stands z (entries h) k ≡ c → Waits 1 h h
+  first h None p t = inl (h, ([], refl), ([], refl), lost z k o h t)
+  first h (Some x) p t = let i = has_place z k h x p t in let a = i.within.1 in ⊎_elim
+      (λ gone. inl (h, ([], refl), ([], refl), gone))
+      (λ here. inr (i.at, omega arith, record { here = here; place = i.place; within = i.within }))
+      (is_nowhere z k o h x t)
+
+  passed : (n : ℕ) (h g i : List Mark) → IsPlaced z i → Begins h g → Begins g i → IsNotAt z k o i n → Waits n h g → Waits (n + 1) h i
+  passed n h g i p b c not a = ahead_passed (IsFound z k o) (IsNowhere z k o) n h i (λ f. not f.here f.place)
+      (ahead_later (IsPlaced z) (IsFound z k o) (IsNowhere z k o) (λ e f p. p.0) moves n h g i p b c a)
+
+  onto : (n : ℕ) (h i : List Mark) → Waits (n + 1) h i → Waits (position_after n) h i
+  onto n h i a = ⊎_elim
+      (λ y. rw y (let e = eqb-true (n % 8) 7 y in ahead_jump (IsFound z k o) (IsNowhere z k o) (n + 1) (n + 2) h i (λ m f le. let w = f.within.1 in omega arith) a))
+      (λ f. rw f a)
+      (cases_Bool (eqb (n % 8) 7))
+
+  all_looks : (n : ℕ) (h from : List Mark) (looks : List (List Mark)) (g : List Mark) → IsPlaced z g → Begins h from → IsScan z k o n from looks g → Waits n h from → WasGone (IsNowhere z k o) h g
+  all_looks n h from [] g p b s a = absurd s
+  all_looks n h from (i ∷ []) g p b s a =
+      let e = s.3 in
+      subst (WasGone (IsNowhere z k o) h) s.2 (ahead_end (IsFound z k o) (IsNowhere z k o) (n + 1) h i
+      (λ m f. let lt = f.within.0 in let same : chained_to i (bucket_of z k) ≡ chained_to g (bucket_of z k) = ap (λ x. chained_to x (bucket_of z k)) s.2 in omega arith)
+      (passed n h from i (subst (IsPlaced z) (sym s.2) p) b s.0 s.1 a))
+  all_looks n h from (i ∷ j ∷ more) g p b s a =
+      let later = ends_later z k o (position_after n) i (j ∷ more) g s.2 in
+      all_looks (position_after n) h i (j ∷ more) g p (begins_on h from i b s.0) s.2
+      (onto n h i (passed n h from i (placed_before z later.0 i (subst (IsPlaced z) later.1 p)) b s.0 s.1 a))
+
+  pub miss : (h : List Mark) (looks : List (List Mark)) (g : List Mark) → IsScanOf z k o h looks g → WasGone (IsNowhere z k o) h g
+  miss h looks g s =
+      let b = ends_later z k o 1 h (h ∷ looks) g s.scan in
+      let p = placed_before z b.0 h (subst (IsPlaced z) b.1 s.placed) in
+      all_looks 1 h h (h ∷ looks) g s.placed ([], refl) s.scan (first h (stands z (entries h) k) p refl)

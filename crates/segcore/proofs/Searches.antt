@@ -17,7 +17,7 @@ use Rattle.segcore.specs.Lawful.{IsLawful}
 use Rattle.segcore.specs.Mark.{marked, same_key, last_at}
 use Rattle.segcore.specs.Standing.{cached, Names}
 use Rattle.segcore.specs.Ahead.{WasGone}
-use Rattle.segcore.specs.Search.{KeyGone, KeyAt, KeyAhead, RowGone, RowAt, RowAhead}
+use Rattle.segcore.specs.Search.{KeyGone, KeyAt, KeyAhead, RowGone, RowAt, Sought, key_item, row_item, chain_sought, IsSoughtInItsChain, IsSought, SoughtAt, SoughtGone, SoughtAhead}
 use Rattle.segcore.proofs.Keys.{same_true}
 use Rattle.segcore.proofs.Caches.{stands}
 use Rattle.segcore.proofs.Chains.{same_item, copy_item}
@@ -27,8 +27,7 @@ use Rattle.segcore.specs.declared.cell.Cell.{Cell}
 use Rattle.segcore.specs.Word.{IsAt}
 use Rattle.segcore.specs.Mark as marks
 use Rattle.segcore.proofs.Marked.{place_marked}
-use Rattle.segcore.proofs.Limits.{bucket_in}
-use Rattle.segcore.proofs.StepKinds.{cell_in}
+use Rattle.segcore.proofs.StepKinds.Words.{cell_in}
 use Rattle.segcore.proofs.Exact.{item_names, named_at}
 use Rattle.segcore.proofs.Coherent.{place}
 use Rattle.segcore.proofs.Ahead.{ahead_later, ahead_passed, ahead_end}
@@ -43,7 +42,7 @@ Onward z h e b n a = (m : ℕ) × (n ≤ m) × ((bucket_after z (e ∷ h) b).ite
 pub record Replaced (z : Shape) (h : List Event) (e : Event) (b n : ℕ) (a : Slot) : Type 0 where
   pub segment : ℕ
   pub row : ℕ
-  pub now : (bucket_after z (e ∷ h) b).items n ≡ item (slot a.key segment row)
+  pub here : (bucket_after z (e ∷ h) b).items n ≡ item (slot a.key segment row)
   pub last : last_at (marked (e ∷ h)) a.key ≡ Some (slot a.key segment row)
   pub fresh : (row_after h segment row).linked ≡ None
   pub rows : row_after (e ∷ h) a.segment a.row ≡ row_after h a.segment a.row
@@ -73,7 +72,7 @@ linked_fate z h p q s r n' b n a l is' =
     inr (inl (record {
       segment = s;
       row = r;
-      now = subst (λ t. (bucket_after z (e ∷ h) t).items n ≡ item (slot a.key s r)) eb (here z h e k n' o x w n ∙ (cond-true (eqb n' n) o ((bucket_after z h b0).items n) hit ∙ ap (λ t. item (slot t s r)) (sym own)));
+      here = subst (λ t. (bucket_after z (e ∷ h) t).items n ≡ item (slot a.key s r)) eb (here z h e k n' o x w n ∙ (cond-true (eqb n' n) o ((bucket_after z h b0).items n) hit ∙ ap (λ t. item (slot t s r)) (sym own)));
       last = cond-true (same_key k a.key) (Some (slot a.key s r)) (last_at (marked h) a.key) (same_true k a.key (sym own));
       fresh = l.1.suits.0.3;
       rows = rows_stay z h e l.1.suits (λ p' t' same. cc) a.segment a.row a.key ((c.items b n a is').value) (c.items b n a is').linked (c.items b n a is').stands;
@@ -120,25 +119,7 @@ fate z (Unlinked p k n' why) h b n a l is' = unlinked_fate z h p k n' why b n a 
 fate z (Chained p b' m) h b n a l is' = inl (chained_fate z h p b' m b n a l is')
 fate z e h b n a l is' = inl (n, omega arith, (is_calm z e h refl l (coherent z h l.0)).on b n a is')
 
--- ---- a key
-
-pub key_moves : (z : Shape) (k : List ℕ) (e : Event) (h : List Event) (n : ℕ) → IsLawful z (e ∷ h) → KeyAt z k h n → ((m : ℕ) × (n ≤ m) × KeyAt z k (e ∷ h) m) ⊎ KeyGone z k (e ∷ h)
-key_moves z k e h n l i = ⊎_elim
-    (λ on. inl (on.0, on.1, (i.0, on.2, i.2)))
-    (λ off. ⊎_elim (λ (r : Replaced z h e (bucket_of z k) n i.0). inl (n, omega arith, (slot i.0.key r.segment r.row, r.now, i.2))) (λ (g : Removed z h e i.0). inr (ap (stands z (seen (e ∷ h))) (sym i.2) ∙ g.absent)) off)
-    (fate z e h (bucket_of z k) n i.0 l i.1)
-
-start_key : (z : Shape) (k : List ℕ) (h : List Event) (o : Option Cached) → IsLawful z h → stands z (seen h) k ≡ o → KeyAhead z k 1 h h
-start_key z k h None l e = inl (h, ([], refl), ([], refl), e)
-start_key z k h (Some x) l e = let c = coherent z h l in let w = c.all k x e in let i = (c.items (bucket_of z k) w.0 w.1 w.2).position in let low = i.1 in inr (w.0, omega arith, (w.1, w.2, w.3))
-
-pub key_first : (z : Shape) (k : List ℕ) (h : List Event) → IsLawful z h → KeyAhead z k 1 h h
-key_first z k h l = start_key z k h (stands z (seen h) k) l refl
-
-pub key_later : (z : Shape) (k : List ℕ) (n : ℕ) (h g f : List Event) → IsLawful z f → Begins h g → Begins g f → KeyAhead z k n h g → KeyAhead z k n h f
-key_later z k n h g f = ahead_later (IsLawful z) (KeyAt z k) (KeyGone z k) (λ e x l. l.0) (key_moves z k) n h g f
-
--- ---- a row
+-- ---- it moves forward until it is gone
 
 -- after its item went, no word names a row
 row_gone : (z : Shape) (e : Event) (h : List Event) (b n : ℕ) (a : Slot) → IsLawful z (e ∷ h) → (bucket_after z h b).items n ≡ item a → row_after (e ∷ h) a.segment a.row ≡ row_after h a.segment a.row
@@ -152,94 +133,94 @@ row_gone z e h b n a l is' rows out b' n' c there' es er =
     (λ ne. ne (ap (last_at (marked (e ∷ h))) (sym same) ∙ (i.last ∙ (λ t. Some (slot (same t) (es t) (er t))))))
     (out c same es er)
 
-pub row_moves : (z : Shape) (b s r : ℕ) (e : Event) (h : List Event) (n : ℕ) → IsLawful z (e ∷ h) → RowAt z b s r h n → ((m : ℕ) × (n ≤ m) × RowAt z b s r (e ∷ h) m) ⊎ RowGone z s r (e ∷ h)
-row_moves z b s r e h n l i = ⊎_elim
-    (λ on. inl (on.0, on.1, (i.0, on.2, i.2, i.3)))
-    (λ off. inr (λ b' n' c at es er. ⊎_elim
+abbrev GoesOn : Shape → Sought → Event → List Event → ℕ → Type 0
+GoesOn z x e h n = ((m : ℕ) × (n ≤ m) × SoughtAt z x (e ∷ h) m) ⊎ SoughtGone z x (e ∷ h)
+
+-- where the item was replaced or removed, the key stands there still or is gone; the row is gone in either case
+goes : (z : Shape) (x : Sought) (e : Event) (h : List Event) (n : ℕ) → IsLawful z (e ∷ h) → (i : SoughtAt z x h n) → Replaced z h e (chain_sought z x) n i.0 ⊎ Removed z h e i.0 → GoesOn z x e h n
+goes z (key_item k) e h n l i off = ⊎_elim
+    (λ (r : Replaced z h e (bucket_of z k) n i.0). inl (n, omega arith, (slot i.0.key r.segment r.row, r.here, i.2)))
+    (λ (g : Removed z h e i.0). inr (ap (stands z (seen (e ∷ h))) (sym i.2) ∙ g.absent))
+    off
+goes z (row_item b s r) e h n l i off = inr (λ b' n' c at es er. ⊎_elim
     (λ (w : Replaced z h e b n i.0). row_gone z e h b n i.0 l i.1 w.rows
     (λ d same ds dr. inr (λ q. let o = same_Some _ _ (sym w.last ∙ q) in
     none-some i.0.key (sym w.fresh ∙ ((λ t. (row_after h (ap (λ (x : Slot). x.segment) o t) (ap (λ (x : Slot). x.row) o t)).linked) ∙ ((coherent z h l.0).items b n i.0 i.1).linked))))
-    b' n' c at (es ∙ sym i.2) (er ∙ sym i.3))
-    (λ (w : Removed z h e i.0). row_gone z e h b n i.0 l i.1 w.rows (λ d same ds dr. inl (λ x q. none-some x (sym w.absent ∙ q))) b' n' c at (es ∙ sym i.2) (er ∙ sym i.3))
-    off))
-    (fate z e h b n i.0 l i.1)
+    b' n' c at (es ∙ sym i.2.0) (er ∙ sym i.2.1))
+    (λ (w : Removed z h e i.0). row_gone z e h b n i.0 l i.1 w.rows (λ d same ds dr. inl (λ x q. none-some x (sym w.absent ∙ q))) b' n' c at (es ∙ sym i.2.0) (er ∙ sym i.2.1))
+    off)
+
+moves : (z : Shape) (x : Sought) (e : Event) (h : List Event) (n : ℕ) → IsLawful z (e ∷ h) → SoughtAt z x h n → GoesOn z x e h n
+moves z x e h n l i = ⊎_elim (λ on. inl (on.0, on.1, (i.0, on.2, i.2))) (goes z x e h n l i) (fate z e h (chain_sought z x) n i.0 l i.1)
+
+-- ---- where a search begins
+
+gone_from_start : (z : Shape) (x : Sought) (h : List Event) → SoughtGone z x h → SoughtAhead z x 1 h h
+gone_from_start z x h none = inl (h, ([], refl), ([], refl), none)
+
+start_key : (z : Shape) (k : List ℕ) (h : List Event) (o : Option Cached) → IsLawful z h → stands z (seen h) k ≡ o → KeyAhead z k 1 h h
+start_key z k h None l e = gone_from_start z (key_item k) h e
+start_key z k h (Some x) l e = let c = coherent z h l in let w = c.all k x e in let i = (c.items (bucket_of z k) w.0 w.1 w.2).position in let low = i.1 in inr (w.0, omega arith, (w.1, w.2, w.3))
 
 -- a row is named in the chain of the key that was linked to it, or nowhere
-start_row : (z : Shape) (k : List ℕ) (s r : ℕ) (h : List Event) (o : Option Cached) → IsLawful z h → (row_after h s r).linked ≡ Some k → stands z (seen h) k ≡ o → RowAhead z (bucket_of z k) s r 1 h h
-start_row z k s r h None l on e = inl (
-  h,
-  ([], refl),
-  ([], refl),
-  (λ b n c at es er.
-      let i = (coherent z h l).items b n c at in
-      let same : c.key ≡ k = same_Some c.key k (sym i.linked ∙ ((λ t. (row_after h (es t) (er t)).linked) ∙ on)) in
-      none-some (cached i.value c.segment) (sym e ∙ (ap (stands z (seen h)) (sym same) ∙ i.stands))),
-)
+start_row : (z : Shape) (k : List ℕ) (s r : ℕ) (h : List Event) (o : Option Cached) → IsLawful z h → (row_after h s r).linked ≡ Some k → stands z (seen h) k ≡ o → SoughtAhead z (row_item (bucket_of z k) s r) 1 h h
+start_row z k s r h None l on e = gone_from_start z (row_item (bucket_of z k) s r) h
+    (λ b n c at es er.
+    let i = (coherent z h l).items b n c at in
+    let same : c.key ≡ k = same_Some c.key k (sym i.linked ∙ ((λ t. (row_after h (es t) (er t)).linked) ∙ on)) in
+    none-some (cached i.value c.segment) (sym e ∙ (ap (stands z (seen h)) (sym same) ∙ i.stands)))
 start_row z k s r h (Some x) l on e =
     let co = coherent z h l in let w = co.all k x e in let low = (co.items (bucket_of z k) w.0 w.1 w.2).position.1 in ⊎_elim
     (λ es. ⊎_elim
-    (λ er. inr (w.0, omega arith, (w.1, w.2, es, er)))
+    (λ er. inr (w.0, omega arith, (w.1, w.2, (es, er))))
     (λ ne. other w (λ q. ne (ap (λ (y : Slot). y.row) q)))
     (cases_eq w.1.row r))
     (λ ne. other w (λ q. ne (ap (λ (y : Slot). y.segment) q)))
     (cases_eq w.1.segment s)
   where
-    other : (w : (n : ℕ) × (a : Slot) × ((bucket_after z h (bucket_of z k)).items n ≡ item a) × (a.key ≡ k)) → w.1 ≢ slot k s r → RowAhead z (bucket_of z k) s r 1 h h
-    other w ne = inl (
-      h,
-      ([], refl),
-      ([], refl),
-      (λ b n c at es er.
-          let co = coherent z h l in
-          let i = co.items b n c at in
-          let same : c.key ≡ k = same_Some c.key k (sym i.linked ∙ ((λ t. (row_after h (es t) (er t)).linked) ∙ on)) in
-          let j = co.items (bucket_of z k) w.0 w.1 w.2 in
-          let one = same_Some _ _ (sym j.last ∙ (ap (last_at (marked h)) (w.3 ∙ sym same) ∙ i.last)) in
-          ne (one ∙ (λ t. slot (same t) (es t) (er t)))),
-    )
+    other : (w : (n : ℕ) × (a : Slot) × ((bucket_after z h (bucket_of z k)).items n ≡ item a) × (a.key ≡ k)) → w.1 ≢ slot k s r → SoughtAhead z (row_item (bucket_of z k) s r) 1 h h
+    other w ne = gone_from_start z (row_item (bucket_of z k) s r) h
+        (λ b n c at es er.
+        let co = coherent z h l in
+        let i = co.items b n c at in
+        let same : c.key ≡ k = same_Some c.key k (sym i.linked ∙ ((λ t. (row_after h (es t) (er t)).linked) ∙ on)) in
+        let j = co.items (bucket_of z k) w.0 w.1 w.2 in
+        let one = same_Some _ _ (sym j.last ∙ (ap (last_at (marked h)) (w.3 ∙ sym same) ∙ i.last)) in
+        ne (one ∙ (λ t. slot (same t) (es t) (er t))))
 
-pub row_first : (z : Shape) (k : List ℕ) (s r : ℕ) (h : List Event) → IsLawful z h → (row_after h s r).linked ≡ Some k → RowAhead z (bucket_of z k) s r 1 h h
-row_first z k s r h l on = start_row z k s r h (stands z (seen h) k) l on refl
+pub search_first : (z : Shape) (x : Sought) (h : List Event) → IsLawful z h → IsSoughtInItsChain z x h → SoughtAhead z x 1 h h
+search_first z (key_item k) h l on = start_key z k h (stands z (seen h) k) l refl
+search_first z (row_item b s r) h l on = subst (λ c. SoughtAhead z (row_item c s r) 1 h h) on.2 (start_row z on.0 s r h (stands z (seen h) on.0) l on.1 refl)
 
-pub row_later : (z : Shape) (b s r n : ℕ) (h g f : List Event) → IsLawful z f → Begins h g → Begins g f → RowAhead z b s r n h g → RowAhead z b s r n h f
-row_later z b s r n h g f = ahead_later (IsLawful z) (RowAt z b s r) (RowGone z s r) (λ e x l. l.0) (row_moves z b s r) n h g f
+-- ---- how it goes on and ends
 
--- ---- the words of a search
+pub search_later : (z : Shape) (x : Sought) (n : ℕ) (h g f : List Event) → IsLawful z f → Begins h g → Begins g f → SoughtAhead z x n h g → SoughtAhead z x n h f
+search_later z x n h g f = ahead_later (IsLawful z) (SoughtAt z x) (SoughtGone z x) (λ e y l. l.0) (moves z x) n h g f
 
--- the item of a key is at item words of its chain alone
-key_at : (z : Shape) (k : List ℕ) (h : List Event) (n : ℕ) → IsLawful z h → KeyAt z k h n → IsPosition (bucket_after z h (bucket_of z k)) n
-key_at z k h n l i = ((coherent z h l).items (bucket_of z k) n i.0 i.1).position
+-- it is at item words of its chain alone
+sought_at : (z : Shape) (x : Sought) (h : List Event) (n : ℕ) → IsLawful z h → SoughtAt z x h n → IsPosition (bucket_after z h (chain_sought z x)) n
+sought_at z x h n l i = ((coherent z h l).items (chain_sought z x) n i.0 i.1).position
 
-row_at_position : (z : Shape) (b s r : ℕ) (h : List Event) (n : ℕ) → IsLawful z h → RowAt z b s r h n → IsPosition (bucket_after z h b) n
-row_at_position z b s r h n l i = ((coherent z h l).items b n i.0 i.1).position
-
-pub key_passed : (z : Shape) (k : List ℕ) (n : ℕ) (h g : List Event) → ¬ (KeyAt z k g n) → KeyAhead z k n h g → KeyAhead z k (n + 1) h g
-key_passed z k n h g none a = ahead_passed (KeyAt z k) (KeyGone z k) n h g none a
+pub search_passed : (z : Shape) (x : Sought) (n : ℕ) (h g : List Event) → ¬ (SoughtAt z x g n) → SoughtAhead z x n h g → SoughtAhead z x (n + 1) h g
+search_passed z x n h g none a = ahead_passed (SoughtAt z x) (SoughtGone z x) n h g none a
 
 -- word 0 of a bucket has no item
-pub key_skipped : (z : Shape) (k : List ℕ) (n : ℕ) (h g : List Event) → IsLawful z g → n % 8 ≡ 0 → KeyAhead z k n h g → KeyAhead z k (n + 1) h g
-key_skipped z k n h g l e a = key_passed z k n h g (λ i. let p = (key_at z k g n l i).1 in absurd (omega arith)) a
+pub search_skipped : (z : Shape) (x : Sought) (n : ℕ) (h g : List Event) → IsLawful z g → n % 8 ≡ 0 → SoughtAhead z x n h g → SoughtAhead z x (n + 1) h g
+search_skipped z x n h g l e a = search_passed z x n h g (λ i. let p = (sought_at z x g n l i).1 in absurd (omega arith)) a
 
-pub key_ended : (z : Shape) (k : List ℕ) (d : ℕ) (h g : List Event) → IsLawful z g → (bucket_after z g (bucket_of z k)).chained ≤ d → KeyAhead z k (8 * d + 8) h g → WasGone (KeyGone z k) h g
-key_ended z k d h g l le a = ahead_end (KeyAt z k) (KeyGone z k) (8 * d + 8) h g (λ m i. let p = (key_at z k g m l i).0 in omega arith) a
+pub search_ended : (z : Shape) (x : Sought) (d : ℕ) (h g : List Event) → IsLawful z g → (bucket_after z g (chain_sought z x)).chained ≤ d → SoughtAhead z x (8 * d + 8) h g → WasGone (SoughtGone z x) h g
+search_ended z x d h g l le a = ahead_end (SoughtAt z x) (SoughtGone z x) (8 * d + 8) h g (λ m i. let p = (sought_at z x g m l i).0 in omega arith) a
 
-pub row_passed : (z : Shape) (b s r n : ℕ) (h g : List Event) → ¬ (RowAt z b s r g n) → RowAhead z b s r n h g → RowAhead z b s r (n + 1) h g
-row_passed z b s r n h g none a = ahead_passed (RowAt z b s r) (RowGone z s r) n h g none a
+-- what the word of a position says where it is there
+pub sought_word : (z : Shape) (x : Sought) (h : List Event) (n : ℕ) (c : Cell) → chain_sought z x < z.buckets → IsLawful z h → IsAt h (chain_sought z x) n c → SoughtAt z x h n
+    → (a : Slot) × IsSought x a × Names z h (chain_sought z x) n c (tag_of a.key) a.segment a.row × ((row_after h a.segment a.row).linked ≡ Some a.key)
+sought_word z x h n c lt l at i =
+    let b = chain_sought z x in
+    (i.0, i.2, item_names z h b n c i.0 l (cell_in z h b n c l lt at) (sought_at z x h n l i, at) i.1, ((coherent z h l).items b n i.0 i.1).linked)
 
-pub row_skipped : (z : Shape) (b s r n : ℕ) (h g : List Event) → IsLawful z g → n % 8 ≡ 0 → RowAhead z b s r n h g → RowAhead z b s r (n + 1) h g
-row_skipped z b s r n h g l e a = row_passed z b s r n h g (λ i. let p = (row_at_position z b s r g n l i).1 in absurd (omega arith)) a
+-- ---- a key alone
 
-pub row_ended : (z : Shape) (b s r d : ℕ) (h g : List Event) → IsLawful z g → (bucket_after z g b).chained ≤ d → RowAhead z b s r (8 * d + 8) h g → WasGone (RowGone z s r) h g
-row_ended z b s r d h g l le a = ahead_end (RowAt z b s r) (RowGone z s r) (8 * d + 8) h g (λ m i. let p = (row_at_position z b s r g m l i).0 in omega arith) a
-
--- what the word of a position says where the key's item is there
-pub key_word : (z : Shape) (k : List ℕ) (h : List Event) (n : ℕ) (c : Cell) → IsValid z → IsLawful z h → IsAt h (bucket_of z k) n c → KeyAt z k h n
-    → (s : ℕ) × (r : ℕ) × Names z h (bucket_of z k) n c (tag_of k) s r × ((row_after h s r).linked ≡ Some k)
-key_word z k h n c v l at i =
-    let b = bucket_of z k in
-    (i.0.segment, i.0.row, subst (λ x. Names z h b n c (tag_of x) i.0.segment i.0.row) i.2 (item_names z h b n c i.0 l (cell_in z h b n c l (bucket_in z k v) at) (key_at z k h n l i, at) i.1), ((coherent z h l).items b n i.0 i.1).linked ∙ ap Some i.2)
-
--- and the other way round: a word that names a row that is linked to the key
+-- a word that names a row that is linked to the key is in the key's chain, and has its item
 pub key_named : (z : Shape) (k : List ℕ) (h : List Event) (b n : ℕ) (c : Cell) (t s r : ℕ) → IsValid z → IsLawful z h → Names z h b n c t s r → (row_after h s r).linked ≡ Some k → (bucket_of z k ≡ b) × KeyAt z k h n
 key_named z k h b n c t s r v l x on =
     let i = named_at z h b n c t s r v l x in
@@ -247,11 +228,6 @@ key_named z k h b n c t s r v l x on =
     let same : i.slot.key ≡ k = same_Some i.slot.key k (sym st.linked ∙ ((λ j. (row_after h (i.segment j) (i.row j)).linked) ∙ on)) in
     let eb : bucket_of z k ≡ b = ap (bucket_of z) (sym same) ∙ st.here in
     (eb, (i.slot, subst (λ y. (bucket_after z h y).items n ≡ item i.slot) (sym eb) i.here, same))
-
--- what the word of a position says where the row's item is there
-pub row_word : (z : Shape) (b s r : ℕ) (h : List Event) (n : ℕ) (c : Cell) → b < z.buckets → IsLawful z h → IsAt h b n c → RowAt z b s r h n → (t : ℕ) × Names z h b n c t s r
-row_word z b s r h n c lt l at i =
-    (tag_of i.0.key, subst (λ x. Names z h b n c (tag_of i.0.key) s x) i.3 (subst (λ x. Names z h b n c (tag_of i.0.key) x i.0.row) i.2 (item_names z h b n c i.0 l (cell_in z h b n c l lt at) (row_at_position z b s r h n l i, at) i.1)))
 
 -- the position of the key's item is the key's place in the marked history
 pub key_placed : (z : Shape) (k : List ℕ) (h : List Event) (n : ℕ) → IsLawful z h → KeyAt z k h n → marks.place z (marked h) k ≡ Some n
@@ -266,3 +242,26 @@ at_place z k h n (Some x) l e there' p =
 
 pub placed_key : (z : Shape) (k : List ℕ) (h : List Event) (n : ℕ) → IsLawful z h → ¬ (KeyGone z k h) → marks.place z (marked h) k ≡ Some n → KeyAt z k h n
 placed_key z k h n l there' p = at_place z k h n (stands z (seen h) k) l refl there' p
+
+-- ---- the same of a key or of a row, by its name
+
+pub key_first : (z : Shape) (k : List ℕ) (h : List Event) → IsLawful z h → KeyAhead z k 1 h h
+key_first z k h l = search_first z (key_item k) h l tt
+
+pub key_later : (z : Shape) (k : List ℕ) (n : ℕ) (h g f : List Event) → IsLawful z f → Begins h g → Begins g f → KeyAhead z k n h g → KeyAhead z k n h f
+key_later z k = search_later z (key_item k)
+
+pub key_passed : (z : Shape) (k : List ℕ) (n : ℕ) (h g : List Event) → ¬ (KeyAt z k g n) → KeyAhead z k n h g → KeyAhead z k (n + 1) h g
+key_passed z k = search_passed z (key_item k)
+
+pub key_skipped : (z : Shape) (k : List ℕ) (n : ℕ) (h g : List Event) → IsLawful z g → n % 8 ≡ 0 → KeyAhead z k n h g → KeyAhead z k (n + 1) h g
+key_skipped z k = search_skipped z (key_item k)
+
+pub key_ended : (z : Shape) (k : List ℕ) (d : ℕ) (h g : List Event) → IsLawful z g → (bucket_after z g (bucket_of z k)).chained ≤ d → KeyAhead z k (8 * d + 8) h g → WasGone (KeyGone z k) h g
+key_ended z k = search_ended z (key_item k)
+
+pub row_first : (z : Shape) (k : List ℕ) (s r : ℕ) (h : List Event) → IsLawful z h → (row_after h s r).linked ≡ Some k → SoughtAhead z (row_item (bucket_of z k) s r) 1 h h
+row_first z k s r h l on = search_first z (row_item (bucket_of z k) s r) h l (k, on, refl)
+
+pub row_moves : (z : Shape) (b s r : ℕ) (e : Event) (h : List Event) (n : ℕ) → IsLawful z (e ∷ h) → RowAt z b s r h n → ((m : ℕ) × (n ≤ m) × RowAt z b s r (e ∷ h) m) ⊎ RowGone z s r (e ∷ h)
+row_moves z b s r = moves z (row_item b s r)

@@ -4,8 +4,8 @@ use Rattle.segmodel.specs.History.{Begins}
 
 -- between two moments there was one at which it was gone
 abbrev pub WasGone : {A : Type 0} → (List A → Type 0) → List A → List A → Type 0
-WasGone {A} Gone before now = (at : List A) × Begins before at × Begins at now × Gone at
+WasGone {A} Gone old new = (at : List A) × Begins old at × Begins at new × Gone at
 
--- it was gone at some point between, or now its place is this position or a later one
+-- it was gone at some point between, or at the second its place is this position or a later one
 abbrev pub Ahead : {A : Type 0} → (List A → ℕ → Type 0) → (List A → Type 0) → ℕ → List A → List A → Type 0
-Ahead {A} At Gone position before now = WasGone {A = A} Gone before now ⊎ ((there : ℕ) × (position ≤ there) × At now there)
+Ahead {A} At Gone position old new = WasGone {A = A} Gone old new ⊎ ((there : ℕ) × (position ≤ there) × At new there)

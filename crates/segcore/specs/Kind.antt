@@ -175,11 +175,11 @@ May shape trace pass (enter segment) = Fits shape trace (Entered pass segment)
 May shape trace pass (leave segment) = Fits shape trace (Left pass segment)
 May shape trace pass (none_reading segment) = IsSegment shape segment × Follows shape (after shape (seen trace)) (entry.Refilled pass segment)
 
--- what a step leaves of a trace, which was `now` when the word changed: it is one of the table's words, the longer trace is lawful, and each word is what that makes it
-pub record Kept (shape : Shape) (step : Step) (pass : ℕ) (now : List Event) : Type 0 where
+-- what a step leaves of the trace at which the word changed: it is one of the table's words, the longer trace is lawful, and each word is what that makes it
+pub record Kept (shape : Shape) (step : Step) (pass : ℕ) (trace : List Event) : Type 0 where
   pub inside : IsCell shape (cell step)
-  pub own : AllBy pass (adds step pass (word shape now (cell step)))
-  pub legal : IsLawful shape (adds step pass (word shape now (cell step)) ++ now)
+  pub own : AllBy pass (adds step pass (word shape trace (cell step)))
+  pub legal : IsLawful shape (adds step pass (word shape trace (cell step)) ++ trace)
   pub words : (other : Cell) → IsCell shape other
-      → word shape (adds step pass (word shape now (cell step)) ++ now) other
-      ≡ (if same_cell (cell step) other then becomes step (word shape now (cell step)) else word shape now other)
+      → word shape (adds step pass (word shape trace (cell step)) ++ trace) other
+      ≡ (if same_cell (cell step) other then becomes step (word shape trace (cell step)) else word shape trace other)

@@ -7,6 +7,7 @@ pub mod Example
 pub mod Filled
 pub mod ItemWord
 pub mod Kind
+pub mod Laws
 pub mod Lawful
 pub mod Mark
 pub mod Meanwhile

@@ -79,18 +79,20 @@ after_step shape pass view step world =
 abbrev pub Reaches : Shape → List (ℕ × Step) → World → Type 0
 Reaches shape [] world = IsOpening shape world
 Reaches shape (taken ∷ steps) world =
-    (before : World) × (view : View) × Reaches shape steps before × (get_elem? before.views taken.0 ≡ some view)
-    × May shape view.trace taken.0 taken.1 × (world ≡ after_step shape taken.0 view taken.1 before)
+    (old : World) × (view : View) × Reaches shape steps old × (get_elem? old.views taken.0 ≡ some view)
+    × May shape view.trace taken.0 taken.1 × (world ≡ after_step shape taken.0 view taken.1 old)
 
 abbrev pub IsLawfulWorld : Shape → World → Type 0
 IsLawfulWorld shape world = Lawful shape world.words world.views world.trace
 
 -- what a pass has seen only grew: the trace, the marked history and the history
-pub record Grew (before now : View) : Type 0 where
-  pub trace : Begins before.trace now.trace
-  pub marks : Begins (marked before.trace) (marked now.trace)
-  pub entries : Begins (seen before.trace) (seen now.trace)
+pub record Grew (old new : View) : Type 0 where
+  pub trace : Begins old.trace new.trace
+  pub marks : Begins (marked old.trace) (marked new.trace)
+  pub entries : Begins (seen old.trace) (seen new.trace)
 
 -- no pass is gone, and what each has seen only grew
 abbrev pub SeeMore : List View → List View → Type 0
-SeeMore old new = (pass : ℕ) (before : View) → get_elem? old pass ≡ some before → (now : View) × (get_elem? new pass ≡ some now) × Grew before now
+SeeMore views later =
+    (pass : ℕ) (old : View) → get_elem? views pass ≡ some old
+    → (new : View) × (get_elem? later pass ≡ some new) × Grew old new

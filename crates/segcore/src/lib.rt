@@ -10,7 +10,6 @@ pub use cell::Cell;
 pub use event::Event;
 pub use laws::{
     between_steps, chain_words, changed_word, every_schedule, example, kept_step, keys_of_bucket,
-    lawful_trace, miss_point, miss_row, place_of_key, search_for_key, search_for_row,
-    version_of_bucket,
+    lawful_trace, miss_point, place_of_key, search, version_of_bucket,
 };
 pub use view::View;

@@ -1,7 +1,7 @@
 use Rattle.std.proofs.Common.{refl}
-use Rattle.segcore.proofs.ExampleTrace as it
-use Rattle.segcore.proofs.ExampleScan.{scanned, scanned_row}
-use Rattle.segcore.proofs.ExampleSchedule.{reached}
+use Rattle.segcore.proofs.WorkedExample.Trace as it
+use Rattle.segcore.proofs.WorkedExample.Scan.{scanned}
+use Rattle.segcore.proofs.WorkedExample.Schedule.{reached}
 use Rattle.segcore.proofs.laws.example.Goals as goal
 
 pub returns : goal.returns
@@ -13,7 +13,7 @@ returns c = record {
   held = refl;
   emptied = (refl, refl, refl);
   versions = (refl, refl, refl);
-  scanned = (scanned, scanned_row);
+  scanned = scanned;
   reached = reached;
   traced = refl;
   waited = (refl, refl);

@@ -23,7 +23,7 @@ use Rattle.segcore.specs.Says.{SaysOfPass, SaysOfPasses}
 use Rattle.segcore.proofs.Coherent.{IsContent}
 use Rattle.segcore.proofs.Quiet.{quiet, quiet_none, quiet_row, not_mine, home_stays}
 use Rattle.segcore.proofs.Chains.{chain_of}
-use Rattle.segcore.proofs.StepKinds.{word_content}
+use Rattle.segcore.proofs.StepKinds.Words.{word_content}
 use Rattle.segcore.proofs.Kept.{inside_list}
 use Rattle.segcore.proofs.Buckets.{info_bit, set_bit}
 use Rattle.segcore.proofs.Moments.{lawful_before, two_ends, marked_begins}

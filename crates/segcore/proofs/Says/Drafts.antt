@@ -19,7 +19,7 @@ use Rattle.segcore.proofs.Chains.{chain_of}
 use Rattle.segcore.proofs.Standing.{coherent}
 use Rattle.segcore.proofs.Marked.{chained_marked}
 use Rattle.segcore.proofs.Limits.{low_row, low_segment}
-use Rattle.segcore.proofs.StepKinds.{word_content}
+use Rattle.segcore.proofs.StepKinds.Words.{word_content}
 use Rattle.segcore.proofs.Exact.{tagged}
 
 -- a copy is the word of an item whose row is in the table

@@ -13,7 +13,7 @@ use Rattle.segcore.specs.Word.{address, word}
 use Rattle.segcore.specs.World.{IsFresh, IsOpening, Reaches}
 use Rattle.segcore.specs.Example.{shape, a, b, moved, view_of, opening, view_in, after_steps, to_stored, to_bumped, to_moved, to_added, to_refused, to_replaced, to_evicted, to_refilled}
 use Rattle.segcore.proofs.Addresses.{in_count}
-use Rattle.segcore.proofs.ExampleTrace.{filled, stored_first, bumped_next, moved_next, added_next, refused_next, replaced_next, evicted_next, elsewhere_next}
+use Rattle.segcore.proofs.WorkedExample.Trace.{filled, stored_first, bumped_next, moved_next, added_next, refused_next, replaced_next, evicted_next, elsewhere_next}
 
 -- ---- the start
 
