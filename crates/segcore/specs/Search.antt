@@ -8,6 +8,7 @@ use Rattle.segcore.specs.declared.event.Event.{Event}
 use Rattle.segcore.specs.Event.{seen}
 use Rattle.segcore.specs.Bucket.{Slot, item, bucket_after}
 use Rattle.segcore.specs.Row.{row_after}
+use Rattle.segcore.specs.Lawful.{HasItemOf}
 use Rattle.segcore.specs.Ahead.{Ahead}
 
 -- the key doesn't stand
@@ -65,7 +66,7 @@ SoughtAhead shape sought position old new =
 -- ---- each by its name
 
 abbrev pub KeyAt : Shape → List ℕ → List Event → ℕ → Type 0
-KeyAt shape key trace position = SoughtAt shape (key_item key) trace position
+KeyAt shape key trace position = HasItemOf shape trace key position
 
 abbrev pub RowAt : Shape → ℕ → ℕ → ℕ → List Event → ℕ → Type 0
 RowAt shape bucket segment row trace position =

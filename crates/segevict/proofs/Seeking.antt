@@ -49,7 +49,7 @@ names_row z h b n word sought v l reads same =
     let place : a.segment * 2 ^ 20 + a.row ≡ sought.seg * 2 ^ 20 + sought.row =
     sym (place_of_word (tag_of a.key) found.2.0 a.segment a.row ls lr) ∙ (ap (λ w. w % 2 ^ 44) (sym found.2.2) ∙ (same.2 ∙ place_of_word sought.tag sought.freq sought.seg sought.row sought.seg_in_range sought.row_in_range)) in
     let low = sought.row_in_range in
-    (a, found.1, omega (arith, place, lr, low), omega (arith, place, lr, low))
+    (a, found.1, (omega (arith, place, lr, low), omega (arith, place, lr, low)))
 
 -- and no other does, where the key was linked to the row
 pub names_no_row : (z : Shape) (h : List Event) (b n word : ℕ) (sought : Item) (key : List ℕ) → IsValid z → IsLawful z h → (row_after h sought.seg sought.row).linked ≡ Some key → sought.tag ≡ tag_of key
@@ -57,13 +57,13 @@ pub names_no_row : (z : Shape) (h : List Event) (b n word : ℕ) (sought : Item)
 names_no_row z h b n word sought key v l on tag reads other at =
     let a = at.0 in let stands = (coherent z h l).items b n a at.1 in
     let ls = low_segment z a.segment v stands.within.0 in let lr = low_row z a.row v stands.within.1 in
-    let same : a.key ≡ key = same_Some a.key key (sym stands.linked ∙ ((λ t. (row_after h (at.2 t) (at.3 t)).linked) ∙ on)) in
+    let same : a.key ≡ key = same_Some a.key key (sym stands.linked ∙ ((λ t. (row_after h (at.2.0 t) (at.2.1 t)).linked) ∙ on)) in
     let here : IsReadAs (item a) word = subst (λ x. IsReadAs x word) at.1 reads in
     let is = here.0.2 in let few : here.0.0 < 2 ^ 8 = (let lt = here.0.1 in omega arith) in
     other (
       here.1,
       ap (λ w. w / 2 ^ 52) is ∙ (tag_of_word (tag_of a.key) here.0.0 a.segment a.row few ls lr ∙ (ap tag_of same ∙ (sym tag ∙ sym (tag_of_word sought.tag sought.freq sought.seg sought.row sought.freq_in_range sought.seg_in_range sought.row_in_range)))),
-      ap (λ w. w % 2 ^ 44) is ∙ (place_of_word (tag_of a.key) here.0.0 a.segment a.row ls lr ∙ ((λ t. at.2 t * 2 ^ 20 + at.3 t) ∙ sym (place_of_word sought.tag sought.freq sought.seg sought.row sought.seg_in_range sought.row_in_range))),
+      ap (λ w. w % 2 ^ 44) is ∙ (place_of_word (tag_of a.key) here.0.0 a.segment a.row ls lr ∙ ((λ t. at.2.0 t * 2 ^ 20 + at.2.1 t) ∙ sym (place_of_word sought.tag sought.freq sought.seg sought.row sought.seg_in_range sought.row_in_range))),
     )
 
 -- ---- the search

@@ -71,16 +71,16 @@ module _ (b : Board) (bucket : ℕ) (sought : Item) (f : Pass) (is : IsPassOf b 
   st = (coherent b.shape (trace f) is.lawful).items bucket at a n.named.1
 
   pub named_key : a.key ≡ stored.key
-  named_key = same_Some a.key stored.key (sym st.linked ∙ ((λ t. (row_after (trace f) (n.named.2 t) (n.named.3 t)).linked) ∙ stored.linked))
+  named_key = same_Some a.key stored.key (sym st.linked ∙ ((λ t. (row_after (trace f) (n.named.2.0 t) (n.named.2.1 t)).linked) ∙ stored.linked))
 
   pub left_is : left_at b target.place f ≡ (stored.key, Some sought.seg)
   left_is = ap (λ k. left_of ((bucket_after b.shape (trace f) k).items at)) (at_place b.shape (trace f) bucket at target.place n.chain.at.1).0
-      ∙ (ap left_of n.named.1 ∙ (λ t. (named_key t, Some (n.named.2 t))))
+      ∙ (ap left_of n.named.1 ∙ (λ t. (named_key t, Some (n.named.2.0 t))))
 
   -- it stands in the segment
   pub named_stands : StandsIn (after b.shape (event.seen (trace f))) stored.key sought.seg
   named_stands =
-      let stood : stands b.shape (event.seen (trace f)) stored.key ≡ Some (cached st.value sought.seg) = (λ t. stands b.shape (event.seen (trace f)) (sym named_key t)) ∙ (st.stands ∙ ap (λ s. Some (cached st.value s)) n.named.2) in
+      let stood : stands b.shape (event.seen (trace f)) stored.key ≡ Some (cached st.value sought.seg) = (λ t. stands b.shape (event.seen (trace f)) (sym named_key t)) ∙ (st.stands ∙ ap (λ s. Some (cached st.value s)) n.named.2.0) in
       stands_in b.shape (event.seen (trace f)) stored.key sought.seg (st.value, stood)
 
   -- under the bit it may leave its word
@@ -93,7 +93,7 @@ module _ (b : Board) (bucket : ℕ) (sought : Item) (f : Pass) (is : IsPassOf b 
         record {
           guarded = subst (HasBit b.shape (trace f) (number f)) stored.home bit;
           follows = (named_stands, stored.own);
-          suits = (a, here, named_key, sym n.named.2);
+          suits = (a, here, named_key, sym n.named.2.0);
         },
         subst (λ k. IsInChain b k target.place f) stored.home n.chain,
         (a, here, named_key),
