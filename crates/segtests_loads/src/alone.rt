@@ -1,7 +1,8 @@
 //! A load of one pass counts what a plain loop over the same commands counts.
 ghost use Rattle.std.specs.Prelude.{◌≡◌, ◌<◌, ◌≤◌, ◌^◌};
 
-use segload::{OpenGate, PassTotals, Tallies, run_load};
+use crate::runs::{SHAPE, run};
+use segload::{OpenGate, PassTotals, Tallies};
 use segmodel::{
     Answer, Command, DeleteAnswer, EvictAnswer, GetAnswer, GetsAnswer, RefillAnswer, Request,
     WriteAnswer,
@@ -17,29 +18,18 @@ use std::thread::Threads;
 
 const SEED: u64 = 7;
 
-// The shape of the program without options.
-const SHAPE: Shape = Shape {
-    buckets: 1,
-    overflow: 0,
-    passes: 1,
-    segments_each: 1,
-    rows: 8,
-    first_version: 0,
-};
-
 // Rows enough for a while in each segment, and segments that come in turn: an even number, so that one that skips each second one leaves some out.
 const WIDE: Shape = Shape {
     buckets: 8,
-    overflow: 0,
-    passes: 1,
     segments_each: 4,
     rows: 16,
     first_version: 4_294_967_290,
+    ..SHAPE
 };
 
 #[test]
 fn no_commands(rt: HostRuntime) -> Result<(), Fail> {
-    let totals = run_load(&rt, rt.alloc(), SHAPE, 1, 0, &OpenGate)?;
+    let totals = run(&rt, SHAPE, 1, 0, &OpenGate)?;
     assert_eq!(rt; totals.keys, 0);
     let &[PassTotals { commands, tallies }] = totals.passes.as_slice() else {
         return Err("one pass".into());
@@ -178,8 +168,8 @@ fn counts_as_plain<R: Threads + Wait + AllocGlobal + Abort + Sync>(
     requires one_pass { shape.passes ≡ 1 }
     requires some { (1 ≤ shape.segments_each) × (shape.segments_each < 2 ^ 32) }
 {
-    let first = run_load(rt, rt.alloc(), shape, SEED, commands, &OpenGate)?;
-    let second = run_load(rt, rt.alloc(), shape, SEED, commands, &OpenGate)?;
+    let first = run(rt, shape, SEED, commands, &OpenGate)?;
+    let second = run(rt, shape, SEED, commands, &OpenGate)?;
     assert_eq!(rt; first, second);
     let (counts, keys) = plain_loop(rt.alloc(), shape, SEED, commands)?;
     assert_eq!(rt; first.keys, keys);

@@ -1,8 +1,9 @@
 //! Gates that hold and stop the passes of a load.
 ghost use Rattle.std.specs.Prelude.{◌≡◌};
 
+use crate::runs::{SHAPE, run};
 use segindex::MakeFault;
-use segload::{Gate, LoadFault, OpenGate, run_load};
+use segload::{Gate, LoadFault, OpenGate};
 use segword::{Shape, ShapeFault};
 use std::sync::atomic::AtomicU64;
 use std::sync::atomic::Ordering::SeqCst;
@@ -49,18 +50,15 @@ impl Gate for Crossing {
 #[test]
 fn passes_work_at_the_same_time(rt: HostRuntime) -> Result<(), Fail> {
     let shape = Shape {
-        buckets: 1,
-        overflow: 0,
         passes: 2,
-        segments_each: 1,
         rows: 4,
-        first_version: 0,
+        ..SHAPE
     };
     let gate = Crossing {
         first_asked: AtomicU64::new(0),
         second_answered: AtomicU64::new(0),
     };
-    let totals = run_load(&rt, rt.alloc(), shape, 1, 100, &gate)?;
+    let totals = run(&rt, shape, 1, 100, &gate)?;
     assert_eq!(rt; totals.passes.len(), 2);
     assert_eq!(rt; totals.commands(), 200);
     Ok(())
@@ -70,6 +68,14 @@ fn passes_work_at_the_same_time(rt: HostRuntime) -> Result<(), Fail> {
 #[derive(Drop)]
 struct InTurn {
     answered: AtomicU64,
+}
+
+impl InTurn {
+    fn new() -> InTurn {
+        InTurn {
+            answered: AtomicU64::new(0),
+        }
+    }
 }
 
 impl Gate for InTurn {
@@ -92,21 +98,14 @@ impl Gate for InTurn {
 #[test]
 fn passes_that_take_turns_count_the_same_each_time(rt: HostRuntime) -> Result<(), Fail> {
     let shape = Shape {
-        buckets: 1,
         overflow: 3,
         passes: 2,
         segments_each: 2,
         rows: 16,
-        first_version: 0,
+        ..SHAPE
     };
-    let gate = InTurn {
-        answered: AtomicU64::new(0),
-    };
-    let first = run_load(&rt, rt.alloc(), shape, 1, 2000, &gate)?;
-    let gate = InTurn {
-        answered: AtomicU64::new(0),
-    };
-    let second = run_load(&rt, rt.alloc(), shape, 1, 2000, &gate)?;
+    let first = run(&rt, shape, 1, 2000, &InTurn::new())?;
+    let second = run(&rt, shape, 1, 2000, &InTurn::new())?;
     assert_eq!(rt; first, second);
     for totals in first.passes.iter() {
         assert_eq!(rt; totals.tallies.busy, 0);
@@ -156,17 +155,15 @@ impl Gate for Stopper {
 fn a_stopped_pass_does_not_stop_the_others(rt: HostRuntime) -> Result<(), Fail> {
     let shape = Shape {
         buckets: 4,
-        overflow: 0,
         passes: 4,
         segments_each: 2,
-        rows: 8,
-        first_version: 0,
+        ..SHAPE
     };
     let gate = Stopper {
         asked: no_counts(),
         answered: no_counts(),
     };
-    let fault = run_load(&rt, rt.alloc(), shape, 1, COMMANDS, &gate).err();
+    let fault = run(&rt, shape, 1, COMMANDS, &gate).err();
     assert_eq!(rt; fault, Some(LoadFault::Stopped(1)));
     let [first, second, third, fourth] = &gate.answered;
     assert_eq!(rt; first.load(SeqCst), u64::from(COMMANDS));
@@ -187,13 +184,10 @@ fn a_stopped_pass_does_not_stop_the_others(rt: HostRuntime) -> Result<(), Fail> 
 fn a_shape_that_cannot_be_made(rt: HostRuntime) -> Result<(), Fail> {
     let shape = Shape {
         buckets: 3,
-        overflow: 0,
-        passes: 1,
-        segments_each: 1,
         rows: 2,
-        first_version: 0,
+        ..SHAPE
     };
-    let fault = run_load(&rt, rt.alloc(), shape, 1, COMMANDS, &OpenGate).err();
+    let fault = run(&rt, shape, 1, COMMANDS, &OpenGate).err();
     assert_eq!(rt;
         fault,
         Some(LoadFault::Make(MakeFault::Shape(ShapeFault::BadBuckets)))

@@ -5,3 +5,5 @@
 mod alone;
 #[cfg(test)]
 mod gates;
+#[cfg(test)]
+mod runs;

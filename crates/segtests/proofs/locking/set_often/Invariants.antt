@@ -1,6 +1,0 @@
-use Rattle.segindex.specs.Index.{board_of}
-use Rattle.segpass.specs.Quiet.{IsQuiet}
-use Rattle.segtests.proofs.locking.set_often.Given as goal
-
-abbrev pub invariant-loop : goal.invariant-loop
-invariant-loop l = IsQuiet (board_of l.index) l.pass

@@ -1,0 +1,70 @@
+//! What an index has at its end.
+use crate::tables::answers_and_lists;
+use segtests_helpers::passes::SHAPE;
+use segword::Shape;
+use std::test::Fail;
+
+#[test]
+fn an_empty_index_has_no_content(rt: HostRuntime) -> Result<(), Fail> {
+    answers_and_lists(&rt, rt.alloc(), SHAPE, &[], &[])
+}
+
+#[test]
+fn the_content_is_in_the_order_of_the_keys(rt: HostRuntime) -> Result<(), Fail> {
+    let shape = Shape {
+        buckets: 4,
+        rows: 8,
+        ..SHAPE
+    };
+    let rows = [
+        ("p0 refill 0", "REFILLED"),
+        ("p0 set pear 1", "STORED"),
+        ("p0 set apple 2", "STORED"),
+        ("p0 set fig 3", "STORED"),
+        ("p0 set pe -", "STORED"),
+        ("p0 set apple 5", "STORED"),
+        ("p0 set plum 6", "STORED"),
+        ("p0 set quince 7", "STORED"),
+        ("p0 set grape 8", "STORED"),
+    ];
+    let pairs = [
+        ("apple", "5"),
+        ("fig", "3"),
+        ("grape", "8"),
+        ("pe", ""),
+        ("pear", "1"),
+        ("plum", "6"),
+        ("quince", "7"),
+    ];
+    answers_and_lists(&rt, rt.alloc(), shape, &rows, &pairs)
+}
+
+#[test]
+fn evicted_keys_are_not_listed(rt: HostRuntime) -> Result<(), Fail> {
+    let shape = Shape {
+        segments_each: 2,
+        ..SHAPE
+    };
+    let rows = [
+        ("p0 refill 0", "REFILLED"),
+        ("p0 set pear 1", "STORED"),
+        ("p0 set fig 2", "STORED"),
+        ("p0 set apple 3", "STORED"),
+        ("p0 refill 1", "REFILLED"),
+        ("p0 set fig 4", "STORED"),
+        ("p0 set date 5", "STORED"),
+        ("p0 evict 0", "EVICTED 2"),
+    ];
+    let pairs = [("date", "5"), ("fig", "4")];
+    answers_and_lists(&rt, rt.alloc(), shape, &rows, &pairs)
+}
+
+#[test]
+fn a_bucket_that_stays_locked_is_listed(rt: HostRuntime) -> Result<(), Fail> {
+    let rows = [
+        ("p0 refill 0", "REFILLED"),
+        ("p0 set a 1", "STORED"),
+        ("p1 lock a", "LOCKED"),
+    ];
+    answers_and_lists(&rt, rt.alloc(), SHAPE, &rows, &[("a", "1")])
+}

@@ -1,0 +1,97 @@
+//! A caller's own structs, which keep a pass or a hold with what is so of it between calls.
+ghost use Rattle.segindex.specs.Index.{board_of, shape_of};
+ghost use Rattle.segpass.specs.Quiet.{IsQuiet};
+ghost use Rattle.segread.specs.Holds.{IsHoldOf};
+ghost use Rattle.segpass.specs.Props.{IsQuiet-prop};
+ghost use Rattle.segread.specs.Props.{IsHoldOf-prop};
+
+use segindex::{Hold, Index, Pass};
+use segmodel::{GetAnswer, RefillAnswer, WriteAnswer};
+use segtests_helpers::calls;
+use segtests_helpers::holds::{held_value, hold, release};
+use segtests_helpers::passes::{SHAPE, two_passes};
+use segtests_helpers::rows::first_wrong;
+use segword::{Key, Value};
+use std::test::Fail;
+
+/// An index with one of its passes. Its calls ask for nothing, since the pass is quiet between them.
+#[derive(Drop)]
+pub struct Cache {
+    pub index: Index,
+    pub pass: Pass,
+    pub ghost quiet: { IsQuiet (board_of index) pass } by { IsQuiet-prop (board_of index) pass },
+}
+
+impl Cache {
+    pub fn refill(&mut self, segment: u32) -> RefillAnswer {
+        calls::refill(&self.index, &mut self.pass, segment)
+    }
+
+    pub fn set(&mut self, key: &Key, value: &Value) -> WriteAnswer {
+        calls::set(&self.index, &mut self.pass, key, value)
+    }
+
+    pub fn get(&mut self, key: &Key) -> GetAnswer {
+        calls::get(&self.index, &mut self.pass, key, 0)
+    }
+}
+
+/// What a pass holds of an index. Its value can be read as often as it is asked for, until it is released.
+pub struct Holder<'i> {
+    pub index: &'i Index,
+    pub pass: Pass,
+    pub hold: Hold<'i>,
+    pub ghost quiet: { IsQuiet (board_of index.now) pass } by { IsQuiet-prop (board_of index.now) pass },
+    pub ghost holds: { IsHoldOf (shape_of index.now) hold pass } by { IsHoldOf-prop (shape_of index.now) hold pass },
+}
+
+impl Holder<'_> {
+    pub fn value(&mut self) -> Value {
+        held_value(self.index, &mut self.pass, &self.hold)
+    }
+
+    pub fn release(self) {
+        let Holder {
+            index,
+            mut pass,
+            hold,
+        } = self;
+        release(index, &mut pass, hold);
+    }
+}
+
+#[test]
+fn a_cache_sets_and_gets(rt: HostRuntime) -> Result<(), Fail> {
+    let (index, pass, _) = two_passes(rt.alloc(), SHAPE)?;
+    let mut cache = Cache { index, pass };
+    let key = Key::new(b"a").expect(&rt, "a key");
+    let value = Value::new(b"1").expect(&rt, "a value");
+    assert_eq!(rt; cache.get(&key), GetAnswer::Miss);
+    assert_eq!(rt; cache.refill(0), RefillAnswer::Refilled);
+    assert_eq!(rt; cache.set(&key, &value), WriteAnswer::Stored);
+    assert_eq!(rt; cache.get(&key), GetAnswer::Found(value));
+    Ok(())
+}
+
+// Holds the key, and reads what is held twice.
+fn read_twice(index: &Index, mut pass: Pass, key: &Key) -> Option<(Value, Value)>
+    requires { IsQuiet (board_of index.now) pass }
+{
+    let hold = hold(index, &mut pass, key)?;
+    let mut holder = Holder { index, pass, hold };
+    let twice = (holder.value(), holder.value());
+    holder.release();
+    Some(twice)
+}
+
+#[test]
+fn a_holder_reads_its_value(rt: HostRuntime) -> Result<(), Fail> {
+    let (index, mut pass, mut other) = two_passes(rt.alloc(), SHAPE)?;
+    let rows = [("p0 refill 0", "REFILLED"), ("p0 set a 1", "STORED")];
+    assert_eq!(rt; first_wrong(&index, &mut pass, &mut other, &rows), None);
+    let key = Key::new(b"a").expect(&rt, "a key");
+    let value = Value::new(b"1").expect(&rt, "a value");
+    let twice = (value.copy(), value);
+    assert_eq!(rt; read_twice(&index, pass, &key), Some(twice));
+    Ok(())
+}

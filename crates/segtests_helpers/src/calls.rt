@@ -1,0 +1,125 @@
+//! The calls of the index with contracts that say only that the pass stays quiet: a test that calls the index itself reads the whole contract at each call.
+ghost use Rattle.segindex.specs.Index.{board_of};
+ghost use Rattle.segpass.specs.Quiet.{IsQuiet};
+
+use segindex::{Index, LockAnswer, OutOfMemory, Pass};
+use segmodel::{DeleteAnswer, EvictAnswer, GetAnswer, GetsAnswer, RefillAnswer, WriteAnswer};
+use segword::{Key, Value};
+use std::alloc::Global;
+
+/// Stores the value.
+pub fn set(index: &Index, pass: &mut Pass, key: &Key, value: &Value) -> WriteAnswer
+    requires { IsQuiet (board_of index.now) pass.old }
+    ensures { IsQuiet (board_of index.now) pass.new }
+{
+    index.set(pass, key, value)
+}
+
+/// Stores the value if the key is absent.
+pub fn add(index: &Index, pass: &mut Pass, key: &Key, value: &Value) -> WriteAnswer
+    requires { IsQuiet (board_of index.now) pass.old }
+    ensures { IsQuiet (board_of index.now) pass.new }
+{
+    index.add(pass, key, value)
+}
+
+/// Stores the value if the key is present.
+pub fn replace(index: &Index, pass: &mut Pass, key: &Key, value: &Value) -> WriteAnswer
+    requires { IsQuiet (board_of index.now) pass.old }
+    ensures { IsQuiet (board_of index.now) pass.new }
+{
+    index.replace(pass, key, value)
+}
+
+/// Stores the value if the bucket has the expected version.
+pub fn cas(index: &Index, pass: &mut Pass, key: &Key, value: &Value, expected: u32) -> WriteAnswer
+    requires { IsQuiet (board_of index.now) pass.old }
+    ensures { IsQuiet (board_of index.now) pass.new }
+{
+    index.cas(pass, key, value, expected)
+}
+
+/// Takes the key out.
+pub fn delete(index: &Index, pass: &mut Pass, key: &Key) -> DeleteAnswer
+    requires { IsQuiet (board_of index.now) pass.old }
+    ensures { IsQuiet (board_of index.now) pass.new }
+{
+    index.delete(pass, key)
+}
+
+/// Reads the value.
+pub fn get(index: &Index, pass: &mut Pass, key: &Key, draw: u32) -> GetAnswer
+    requires { IsQuiet (board_of index.now) pass.old }
+    ensures { IsQuiet (board_of index.now) pass.new }
+{
+    index.get(pass, key, draw)
+}
+
+/// Reads the value with its version.
+pub fn gets(index: &Index, pass: &mut Pass, key: &Key, draw: u32) -> GetsAnswer
+    requires { IsQuiet (board_of index.now) pass.old }
+    ensures { IsQuiet (board_of index.now) pass.new }
+{
+    index.gets(pass, key, draw)
+}
+
+/// Empties a segment.
+pub fn evict(index: &Index, pass: &mut Pass, segment: u32) -> EvictAnswer
+    requires { IsQuiet (board_of index.now) pass.old }
+    ensures { IsQuiet (board_of index.now) pass.new }
+{
+    index.evict(pass, segment)
+}
+
+/// Makes a segment current.
+pub fn refill(index: &Index, pass: &mut Pass, segment: u32) -> RefillAnswer
+    requires { IsQuiet (board_of index.now) pass.old }
+    ensures { IsQuiet (board_of index.now) pass.new }
+{
+    index.refill(pass, segment)
+}
+
+/// Locks the bucket of the key.
+pub fn lock(index: &Index, pass: &mut Pass, key: &Key) -> LockAnswer
+    requires { IsQuiet (board_of index.now) pass.old }
+    ensures { IsQuiet (board_of index.now) pass.new }
+{
+    index.lock_bucket(pass, key)
+}
+
+/// Unlocks what the pass has locked.
+pub fn unlock(index: &Index, pass: &mut Pass) -> bool
+    requires { IsQuiet (board_of index.now) pass.old }
+    ensures { IsQuiet (board_of index.now) pass.new }
+{
+    index.unlock_bucket(pass)
+}
+
+/// Lets two passes meet.
+pub fn meet(index: &Index, first: &mut Pass, second: &mut Pass)
+    requires { IsQuiet (board_of index.now) first.old × IsQuiet (board_of index.now) second.old }
+    ensures { IsQuiet (board_of index.now) first.new × IsQuiet (board_of index.now) second.new }
+{
+    index.meet(first, second);
+}
+
+/// Ends the index, and tells whether it had just these keys and values, in this order.
+pub fn lists(
+    alloc: Global,
+    index: Index,
+    pass: Pass,
+    pairs: &[(&str, &str)],
+) -> Result<bool, OutOfMemory>
+    requires { IsQuiet (board_of index) pass }
+{
+    let content = index.close(alloc, pass)?;
+    Ok(is_just(&content, pairs))
+}
+
+// Whether the content is just these keys and values, in this order.
+fn is_just(content: &[(Key, Value)], pairs: &[(&str, &str)]) -> bool {
+    content.len() == pairs.len()
+        && content.iter().zip(pairs).all(|((key, value), (name, text))| {
+            key.as_bytes() == name.as_bytes() && value.as_bytes() == text.as_bytes()
+        })
+}

@@ -1,0 +1,68 @@
+//! Holds, with contracts that say only that the pass stays quiet and that the hold is its own.
+ghost use Rattle.std.specs.Prelude.{IfSome};
+ghost use Rattle.segindex.specs.Index.{board_of, shape_of};
+ghost use Rattle.segpass.specs.Quiet.{IsQuiet};
+ghost use Rattle.segread.specs.Holds.{IsHoldOf};
+
+use segindex::{Hold, HoldAnswer, Index, Pass, hold_stays};
+use segmodel::EvictAnswer;
+use segword::{Key, Value};
+
+/// Holds the item of a key, if it can.
+pub fn hold<'i>(index: &'i Index, pass: &mut Pass, key: &Key) -> Option<Hold<'i>>
+    requires { IsQuiet (board_of index.now) pass.old }
+    ensures quiet { IsQuiet (board_of index.now) pass.new }
+    ensures hold { IfSome result (λ hold. IsHoldOf (shape_of index.now) hold pass.new) }
+{
+    match index.hold(pass, key) {
+        HoldAnswer::Holding(hold) => Some(hold),
+        HoldAnswer::Miss | HoldAnswer::Busy | HoldAnswer::AlreadyHolding => None,
+    }
+}
+
+/// Reads what is held.
+pub fn held_value(index: &Index, pass: &mut Pass, hold: &Hold<'_>) -> Value
+    requires { IsQuiet (board_of index.now) pass.old × IsHoldOf (shape_of index.now) hold.now pass.old }
+    ensures { IsQuiet (board_of index.now) pass.new × IsHoldOf (shape_of index.now) hold.now pass.new }
+{
+    index.held_value(pass, hold)
+}
+
+/// Ends a hold.
+pub fn release(index: &Index, pass: &mut Pass, hold: Hold<'_>)
+    requires { IsQuiet (board_of index.now) pass.old × IsHoldOf (shape_of index.now) hold pass.old }
+    ensures { IsQuiet (board_of index.now) pass.new }
+{
+    index.release(pass, hold);
+}
+
+/// Holds the key while it is set to another value. It gives the value that was held then.
+pub fn hold_over_a_set(index: &Index, pass: &mut Pass, key: &Key, value: &Value) -> Option<Value>
+    requires { IsQuiet (board_of index.now) pass.old }
+    ensures { IsQuiet (board_of index.now) pass.new }
+{
+    let hold = hold(index, pass, key)?;
+    hold_stays();
+    index.set(pass, key, value);
+    let held = held_value(index, pass, &hold);
+    release(index, pass, hold);
+    Some(held)
+}
+
+/// Holds the key while its segment is evicted. It gives the value that was held then, and what the eviction answered.
+pub fn hold_over_an_eviction(
+    index: &Index,
+    pass: &mut Pass,
+    key: &Key,
+    segment: u32,
+) -> Option<(Value, EvictAnswer)>
+    requires { IsQuiet (board_of index.now) pass.old }
+    ensures { IsQuiet (board_of index.now) pass.new }
+{
+    let hold = hold(index, pass, key)?;
+    hold_stays();
+    let answer = index.evict(pass, segment);
+    let held = held_value(index, pass, &hold);
+    release(index, pass, hold);
+    Some((held, answer))
+}

@@ -1,0 +1,273 @@
+//! Rows of calls in the words of a script, each with the answer that is wanted: a test of one thread is a table. They are texts, since a row of enums costs ten times the proof.
+ghost use Rattle.segindex.specs.Index.{board_of};
+ghost use Rattle.segpass.specs.Quiet.{IsQuiet};
+
+use crate::calls::{add, cas, delete, evict, get, gets, lock, refill, replace, set, unlock};
+use crate::holds::{hold_over_a_set, hold_over_an_eviction};
+use segindex::{Index, LockAnswer, Pass};
+use segmodel::{
+    DeleteAnswer, EvictAnswer, GetAnswer, GetsAnswer, RefillAnswer, SegState, WriteAnswer,
+};
+use segword::{Key, Value};
+
+/// A row: pass, call and arguments, as "p0 set a 1", and the answer, as "STORED".
+///
+/// Beside those of a script there are the calls "used", "state", "current" and "holding", of what the pass keeps, and "set_held" and "evict_held": the key is held, this value is set or this segment evicted, and the answer has what the hold reads then.
+pub type Row<'t> = (&'t str, &'t str);
+
+/// The call of the first row that is answered otherwise, or that is no call.
+pub fn first_wrong<'t>(
+    index: &Index,
+    first: &mut Pass,
+    second: &mut Pass,
+    rows: &[Row<'t>],
+) -> Option<&'t str>
+    requires { IsQuiet (board_of index.now) first.old × IsQuiet (board_of index.now) second.old }
+    ensures { IsQuiet (board_of index.now) first.new × IsQuiet (board_of index.now) second.new }
+{
+    for (text, wanted) in rows.iter().copied() {
+        if !is_right(index, first, second, text, wanted) {
+            return Some(text);
+        }
+    }
+    None
+}
+
+// Whether a row is answered as it wants.
+fn is_right(index: &Index, first: &mut Pass, second: &mut Pass, text: &str, wanted: &str) -> bool
+    requires { IsQuiet (board_of index.now) first.old × IsQuiet (board_of index.now) second.old }
+    ensures { IsQuiet (board_of index.now) first.new × IsQuiet (board_of index.now) second.new }
+{
+    let call = call_of(text);
+    if call.pass == "p0" {
+        return is_answered(index, first, call, wanted);
+    }
+    if call.pass == "p1" {
+        return is_answered(index, second, call, wanted);
+    }
+    false
+}
+
+// The words of a call. One that isn't there is empty, and is then no key, no value and no number.
+#[derive(Clone, Copy)]
+struct Call<'t> {
+    pass: &'t str,
+    name: &'t str,
+    first: &'t str,
+    second: &'t str,
+    third: &'t str,
+}
+
+fn call_of(text: &str) -> Call<'_> {
+    let mut words = text.split(' ');
+    Call {
+        pass: words.next().unwrap_or(""),
+        name: words.next().unwrap_or(""),
+        first: words.next().unwrap_or(""),
+        second: words.next().unwrap_or(""),
+        third: words.next().unwrap_or(""),
+    }
+}
+
+// The value of a word. A dash is the empty value.
+fn value_of(word: &str) -> Option<Value> {
+    match word {
+        "" => None,
+        "-" => Value::new(b""),
+        _ => Value::new(word.as_bytes()),
+    }
+}
+
+// Whether the pass answers the call so.
+fn is_answered(index: &Index, pass: &mut Pass, call: Call<'_>, wanted: &str) -> bool
+    requires { IsQuiet (board_of index.now) pass.old }
+    ensures { IsQuiet (board_of index.now) pass.new }
+{
+    if let Some(key) = Key::new(call.first.as_bytes()) {
+        if let Some(value) = value_of(call.second) {
+            return is_stored(index, pass, call, &key, &value, wanted);
+        }
+        if let Ok(segment) = call.first.parse() {
+            return is_done(index, pass, call.name, segment, wanted);
+        }
+        return is_found(index, pass, call.name, &key, wanted);
+    }
+    match call.name {
+        "unlock" => unlocked(unlock(index, pass)) == wanted,
+        "current" => is_number(wanted, pass.current()),
+        "holding" => holds(pass.is_holding()) == wanted,
+        _ => false,
+    }
+}
+
+// Whether a call with a key and a value is answered so. An evict_held has a segment for a value.
+fn is_stored(
+    index: &Index,
+    pass: &mut Pass,
+    call: Call<'_>,
+    key: &Key,
+    value: &Value,
+    wanted: &str,
+) -> bool
+    requires { IsQuiet (board_of index.now) pass.old }
+    ensures { IsQuiet (board_of index.now) pass.new }
+{
+    match call.name {
+        "set" => written(set(index, pass, key, value)) == wanted,
+        "add" => written(add(index, pass, key, value)) == wanted,
+        "replace" => written(replace(index, pass, key, value)) == wanted,
+        "cas" => match call.third.parse() {
+            Ok(expected) => written(cas(index, pass, key, value, expected)) == wanted,
+            Err(_) => false,
+        },
+        "set_held" => match hold_over_a_set(index, pass, key, value) {
+            Some(held) => is_value(wanted, &held),
+            None => wanted == "NOT_HOLDING",
+        },
+        "evict_held" => match call.second.parse() {
+            Ok(segment) => is_held_over(wanted, &hold_over_an_eviction(index, pass, key, segment)),
+            Err(_) => false,
+        },
+        _ => false,
+    }
+}
+
+// Whether a call with a key alone is answered so.
+fn is_found(index: &Index, pass: &mut Pass, name: &str, key: &Key, wanted: &str) -> bool
+    requires { IsQuiet (board_of index.now) pass.old }
+    ensures { IsQuiet (board_of index.now) pass.new }
+{
+    match name {
+        "get" => match get(index, pass, key, 0) {
+            GetAnswer::Found(found) => is_value(wanted, &found),
+            GetAnswer::Miss => wanted == "MISS",
+            GetAnswer::Busy => wanted == "BUSY",
+        },
+        "gets" => match gets(index, pass, key, 0) {
+            GetsAnswer::Found(found, version) => is_value_with(wanted, &found, version),
+            GetsAnswer::Miss => wanted == "MISS",
+            GetsAnswer::Busy => wanted == "BUSY",
+        },
+        "delete" => deleted(delete(index, pass, key)) == wanted,
+        "lock" => locked(lock(index, pass, key)) == wanted,
+        _ => false,
+    }
+}
+
+// Whether a call with a segment is answered so.
+fn is_done(index: &Index, pass: &mut Pass, name: &str, segment: u32, wanted: &str) -> bool
+    requires { IsQuiet (board_of index.now) pass.old }
+    ensures { IsQuiet (board_of index.now) pass.new }
+{
+    match name {
+        "evict" => is_evicted(wanted, evict(index, pass, segment)),
+        "refill" => refilled(refill(index, pass, segment)) == wanted,
+        "used" => is_number(wanted, pass.used(segment)),
+        "state" => in_state(pass.state(segment)) == wanted,
+        _ => false,
+    }
+}
+
+fn written(answer: WriteAnswer) -> &'static str {
+    match answer {
+        WriteAnswer::Stored => "STORED",
+        WriteAnswer::NotStored => "NOT_STORED",
+        WriteAnswer::Exists => "EXISTS",
+        WriteAnswer::NotFound => "NOT_FOUND",
+        WriteAnswer::NoRoom => "NOROOM",
+        WriteAnswer::BucketFull => "BUCKETFULL",
+        WriteAnswer::Busy => "BUSY",
+    }
+}
+
+fn deleted(answer: DeleteAnswer) -> &'static str {
+    match answer {
+        DeleteAnswer::Deleted => "DELETED",
+        DeleteAnswer::NotFound => "NOT_FOUND",
+        DeleteAnswer::Busy => "BUSY",
+    }
+}
+
+fn refilled(answer: RefillAnswer) -> &'static str {
+    match answer {
+        RefillAnswer::Refilled => "REFILLED",
+        RefillAnswer::NotYours => "NOT_YOURS",
+        RefillAnswer::NotEvicted => "NOT_EVICTED",
+        RefillAnswer::Held => "HELD",
+    }
+}
+
+fn locked(answer: LockAnswer) -> &'static str {
+    match answer {
+        LockAnswer::Locked => "LOCKED",
+        LockAnswer::Busy => "BUSY",
+        LockAnswer::AlreadyLocked => "ALREADY_LOCKED",
+    }
+}
+
+fn in_state(state: Option<SegState>) -> &'static str {
+    match state {
+        Some(SegState::Empty) => "EMPTY",
+        Some(SegState::InUse) => "IN_USE",
+        Some(SegState::Evicted) => "EVICTED",
+        None => "NONE",
+    }
+}
+
+fn unlocked(was_locked: bool) -> &'static str {
+    if was_locked { "UNLOCKED" } else { "NOT_LOCKED" }
+}
+
+fn holds(is_holding: bool) -> &'static str {
+    if is_holding { "HOLDING" } else { "NOT_HOLDING" }
+}
+
+// Whether "EVICTED 7" is wanted, for 7 keys, or "BUSY 7".
+fn is_evicted(wanted: &str, answer: EvictAnswer) -> bool {
+    match answer {
+        EvictAnswer::Evicted(keys) => is_counted(wanted, "EVICTED", keys),
+        EvictAnswer::NotYours => wanted == "NOT_YOURS",
+        EvictAnswer::Busy(keys) => is_counted(wanted, "BUSY", keys),
+    }
+}
+
+// Whether "VALUE 1 7" is wanted, for the value 1 that was held while 7 keys were evicted.
+fn is_held_over(wanted: &str, held: &Option<(Value, EvictAnswer)>) -> bool {
+    match held {
+        Some((value, EvictAnswer::Evicted(keys))) => is_value_with(wanted, value, *keys),
+        Some(_) => false,
+        None => wanted == "NOT_HOLDING",
+    }
+}
+
+// Whether "VALUE 1" is wanted, for the value 1.
+fn is_value(wanted: &str, value: &Value) -> bool {
+    match wanted.strip_prefix("VALUE ") {
+        Some(text) => text.as_bytes() == value.as_bytes(),
+        None => false,
+    }
+}
+
+// Whether "VALUE 1 7" is wanted, for the value 1 and the number 7.
+fn is_value_with(wanted: &str, value: &Value, number: u32) -> bool {
+    match wanted.rsplit_once(' ') {
+        Some((front, last)) => is_value(front, value) && is_number(last, Some(number)),
+        None => false,
+    }
+}
+
+// Whether "EVICTED 7" is wanted, for this word and the number 7.
+fn is_counted(wanted: &str, word: &str, number: u32) -> bool {
+    match wanted.split_once(' ') {
+        Some((front, last)) => front == word && is_number(last, Some(number)),
+        None => false,
+    }
+}
+
+// Whether this number is wanted, or "NONE".
+fn is_number(wanted: &str, number: Option<u32>) -> bool {
+    match number {
+        Some(number) => wanted.parse() == Ok(number),
+        None => wanted == "NONE",
+    }
+}

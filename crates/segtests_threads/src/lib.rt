@@ -1,0 +1,19 @@
+//! Passes on threads of their own: what no clause says, as that calls get on beside each other. This crate has tests alone.
+#![tactic(auto)]
+
+#[cfg(test)]
+mod beside;
+#[cfg(test)]
+mod counting;
+#[cfg(test)]
+mod digits;
+#[cfg(test)]
+mod evicting;
+#[cfg(test)]
+mod growing;
+#[cfg(test)]
+mod locking;
+#[cfg(test)]
+mod setting;
+#[cfg(test)]
+mod work;

@@ -1,0 +1,49 @@
+//! Two threads that lock one bucket: both get on, no lock is counted as a write, and no bit is left.
+use crate::work::{Work, at_once};
+use segindex::{Index, LockAnswer, Pass};
+use segtests_helpers::calls::{lock, unlock};
+use segtests_helpers::passes::{SHAPE, two_that_fill};
+use segtests_helpers::rows::first_wrong;
+use segword::Key;
+use std::test::Fail;
+use std::thread::yield_now;
+
+// How often each thread has to lock.
+const LOCKS: u32 = 1_000;
+
+// Locks and unlocks the key's bucket, again while it is busy, and counts how often it did both.
+#[derive(Drop)]
+struct Locker<'a> {
+    key: &'a Key,
+    done: u32,
+}
+
+impl Work for Locker<'_> {
+    fn turn(&mut self, index: &Index, pass: &mut Pass, _turn: u32) -> bool {
+        if lock(index, pass, self.key) == LockAnswer::Busy {
+            yield_now();
+        } else if unlock(index, pass) {
+            self.done = self.done.saturating_add(1);
+        }
+        self.done < LOCKS
+    }
+}
+
+#[test]
+fn two_threads_lock_one_bucket(rt: HostRuntime) -> Result<(), Fail> {
+    let (index, mut first, mut second) = two_that_fill(rt.alloc(), SHAPE)?;
+    let key = Key::new(b"a").expect(&rt, "a key");
+    let rows = [("p0 set a 1", "STORED")];
+    assert_eq!(rt; first_wrong(&index, &mut first, &mut second, &rows), None);
+    let ((mut first, locks), (mut second, other_locks)) = at_once(
+        &rt,
+        &index,
+        (first, Locker { key: &key, done: 0 }),
+        (second, Locker { key: &key, done: 0 }),
+    );
+    assert_eq!(rt; (locks.done, other_locks.done), (LOCKS, LOCKS));
+    // The set alone counts as a write, and no lock is left.
+    let rows = [("p0 gets a", "VALUE 1 1"), ("p0 lock a", "LOCKED")];
+    assert_eq!(rt; first_wrong(&index, &mut first, &mut second, &rows), None);
+    Ok(())
+}

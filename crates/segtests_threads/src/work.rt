@@ -1,0 +1,55 @@
+//! What a thread does with its pass, turn after turn. Each test gives the turns alone: that the pass stays quiet over them is proved once.
+ghost use Rattle.segindex.specs.Index.{board_of};
+ghost use Rattle.segpass.specs.Quiet.{IsQuiet};
+
+use segindex::{Index, Pass};
+use std::thread::{Threads, join};
+
+// How many turns a work may take that doesn't end by itself.
+const TURNS: u32 = 1_000_000_000;
+
+/// Work in turns.
+pub trait Work: Send + Drop {
+    /// Takes a turn, and tells whether there is another. The turns are numbered from 0.
+    fn turn(&mut self, index: &Index, pass: &mut Pass, turn: u32) -> bool
+        requires { IsQuiet (board_of index.now) pass.old }
+        ensures { IsQuiet (board_of index.now) pass.new };
+}
+
+/// Takes turns until there is no other, and gives back the pass and the work.
+pub fn take_turns<W: Work>(index: &Index, mut pass: Pass, mut work: W) -> (Pass, W)
+    requires { IsQuiet (board_of index.now) pass }
+    ensures { IsQuiet (board_of index.now) result.0 }
+{
+    for turn in 0..TURNS {
+        if !work.turn(index, &mut pass, turn) {
+            break;
+        }
+    }
+    (pass, work)
+}
+
+/// Two passes do their works on threads of their own.
+pub fn at_once<R: Threads + Sync, A: Work, B: Work>(
+    rt: &R,
+    index: &Index,
+    first: (Pass, A),
+    second: (Pass, B),
+) -> ((Pass, A), (Pass, B))
+    requires { IsQuiet (board_of index.now) first.0 × IsQuiet (board_of index.now) second.0 }
+    ensures { IsQuiet (board_of index.now) result.0.0 × IsQuiet (board_of index.now) result.1.0 }
+{
+    let (first, task) = first;
+    let (second, other) = second;
+    join(
+        rt,
+        || -> (Pass, A)
+            requires { IsQuiet (board_of index.now) first }
+            ensures { IsQuiet (board_of index.entry.now) result.0 }
+        { take_turns(index, first, task) },
+        || -> (Pass, B)
+            requires { IsQuiet (board_of index.now) second }
+            ensures { IsQuiet (board_of index.entry.now) result.0 }
+        { take_turns(index, second, other) },
+    )
+}
