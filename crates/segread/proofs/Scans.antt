@@ -19,13 +19,13 @@ use Rattle.segcore.specs.Search.{KeyGone, KeyAhead}
 use Rattle.segcore.proofs.Moments.{begins_on}
 use Rattle.segcore.proofs.Limits.{bucket_in, few_drawn}
 use Rattle.segcore.proofs.Chains.{chain_of}
-use Rattle.segcore.proofs.ChainWords.{leads_on, ends_there, place_stays}
+use Rattle.segcore.proofs.ChainWords.{leads_on, ends_there}
 use Rattle.segcore.proofs.Searches.{key_first, key_later, key_skipped, key_ended}
 use Rattle.segbase.specs.declared.board.Board.{Board}
 use Rattle.segbase.specs.declared.pass.Pass.{Pass}
 use Rattle.segbase.specs.declared.place.Place.{Place}
 use Rattle.segbase.specs.Passes.{trace, IsPassOf}
-use Rattle.segbase.specs.Spots.{cell_at, position, home_bucket, depth_of}
+use Rattle.segbase.specs.Spots.{IsPlace, cell_at, position, home_bucket, depth_of}
 use Rattle.segbase.proofs.Moves.{moved_on}
 use Rattle.segstore.specs.Reading.{IsReader, IsReaderIn}
 use Rattle.segstore.specs.Linked.{word_at, IsChained, FoundKey}
@@ -36,64 +36,17 @@ use Rattle.segread.specs.declared.scan.Scan.{Scan}
 use Rattle.segread.specs.declared.scan.Scan.TheVariants as scan
 use Rattle.segread.specs.declared.scan.Way.{Way}
 use Rattle.segread.specs.declared.scan.Way.TheVariants.{Found, Passed, Busy}
-use Rattle.segread.specs.Scanning.{bucket_depth, place_of, words_below, IsPlaceOf, IsBucketAt, IsBucketOf, IsPlaceAfter, IsOnWay, IsScanner, IsTry, ComesIn, Tries, Counts, Brings, HasPassed, IsHit, IsPast, GivesUp, IsEnded, IsWay, IsScanFrom, IsScan}
+use Rattle.segread.specs.Scanning.{place_of, words_below, IsPlaceOf, IsPlaceAfter, IsOnWay, IsScanner, IsTry, ComesIn, Tries, Counts, Brings, HasPassed, IsHit, IsPast, GivesUp, IsEnded, IsWay, IsScanFrom, IsScan}
 use Rattle.segread.specs.Hits.{TriesFew}
 use Rattle.segpass.specs.Calls.{RaisesNothing}
 use Rattle.segread.proofs.ComingIn.{tries_none, tries_once, tries_then, at_most, word_more, words_few, words_most}
 use Rattle.segread.proofs.Tries.{Trying, hit_from, word_wider, counts_none, counts_later, counts_then}
 
--- ---- buckets of a chain
-
-pub bucket_later : (z : Shape) (key : List ℕ) (depth bucket : ℕ) (h g : List Event) → IsLawful z g → Begins h g → IsBucketAt z h key depth bucket → IsBucketAt z g key depth bucket
-bucket_later z key depth bucket h g l s of w low high =
-    let x = of w low high in (x.0, place_stays z h g (bucket_of z key) (8 * depth + w) (cell_at z (place_of bucket w)) l s x.1)
-
-depth_cases : (z : Shape) (h : List Event) (b depth bucket : ℕ) (t : Bool) → IsAt h b (8 * depth + 1) (cond t (OfBucket bucket 1) (OfOverflow (bucket - z.buckets) 1)) → cond t 0 (depth_of (home_of h (bucket - z.buckets))) ≡ depth
-depth_cases z h b depth bucket true at = let e = at.1 in omega arith
-depth_cases z h b depth bucket false at = ap depth_of at.1 ∙ (let e = at.2 in omega arith)
-
-pub depth_is : (z : Shape) (key : List ℕ) (depth bucket : ℕ) (h : List Event) → IsBucketAt z h key depth bucket → bucket_depth z h bucket ≡ depth
-depth_is z key depth bucket h of = depth_cases z h (bucket_of z key) depth bucket (ltb bucket z.buckets) (of 1 (omega arith) (omega arith)).1.1
-
-pub bucket_of_depth : (z : Shape) (key : List ℕ) (depth bucket : ℕ) (h : List Event) → IsBucketAt z h key depth bucket → IsBucketOf z h key bucket
-bucket_of_depth z key depth bucket h of = subst (λ d. IsBucketAt z h key d bucket) (sym (depth_is z key depth bucket h of)) of
-
--- a word of it is a place of the chain
-pub place_in : (z : Shape) (key : List ℕ) (depth bucket w : ℕ) (h : List Event) → IsBucketAt z h key depth bucket → 0 < w → w < 8 → IsPlaceOf z h key (place_of bucket w) × (position z h (place_of bucket w) ≡ 8 * depth + w)
-place_in z key depth bucket w h of low high =
-    let x = of w low high in let place = place_of bucket w in
-    let e = at_place z h (bucket_of z key) (8 * depth + w) place x.1.1 in (
-      (
-        record {
-          in_table = x.0;
-          at = subst (λ b. IsItemAt z h b (position z h place) (cell_at z place)) (sym e.0) (subst (λ n. IsItemAt z h (bucket_of z key) n (cell_at z place)) (sym e.1) x.1);
-        },
-        e.0,
-      ),
-      e.1,
-    )
-
--- the bucket that the chain begins with
-pub first_bucket : (z : Shape) (key : List ℕ) (bucket : ℕ) (h : List Event) → IsValid z → bucket ≡ bucket_of z key → IsBucketAt z h key 0 bucket
-first_bucket z key bucket h v is w low high =
-    let lt = bucket_in z key v in
-    let t : ltb bucket z.buckets ≡ true = let lt' : bucket < z.buckets = omega arith in lt-ltb bucket z.buckets lt' in
-    let e : w ≡ 8 * 0 + w = omega arith in (
-      ((let a : bucket < z.buckets + z.overflow = omega arith in a), low, high),
-      (((let a : 8 * 0 + w < 8 * (bucket_after z h (bucket_of z key)).chained + 8 = omega arith in a), (let a : 0 < (8 * 0 + w) % 8 = omega arith in a)), rw t (is, e, high)),
-    )
-
--- and the one that a chain word leads to
-pub next_bucket : (z : Shape) (key : List ℕ) (depth number : ℕ) (h : List Event) → number < z.overflow → depth < (bucket_after z h (bucket_of z key)).chained → home_of h number ≡ Some (home (bucket_of z key) (depth + 1))
-    → IsBucketAt z h key (depth + 1) (z.buckets + number)
-next_bucket z key depth number h few in' of w low high =
-    let t : ltb (z.buckets + number) z.buckets ≡ false = le-ltb (z.buckets + number) z.buckets (omega arith) in
-    let e : z.buckets + number - z.buckets ≡ number = omega arith in (
-      ((let a : z.buckets + number < z.buckets + z.overflow = omega arith in a), low, high),
-      (((let a : 8 * (depth + 1) + w < 8 * (bucket_after z h (bucket_of z key)).chained + 8 = omega arith in a), (let a : 0 < (8 * (depth + 1) + w) % 8 = omega arith in a)), rw (t, e) (depth + 1, of, refl, high)),
-    )
-
 -- ---- places of a chain
+
+-- how deep in its chain a bucket is
+abbrev bucket_depth : Shape → List Event → ℕ → ℕ
+bucket_depth z h bucket = cond (ltb bucket z.buckets) 0 (depth_of (home_of h (bucket - z.buckets)))
 
 position_cases : (t : Bool) (w d : ℕ) → (let n : ℕ = cond t w (8 * d + w) in n) ≡ 8 * (let m : ℕ = cond t 0 d in m) + w
 position_cases true w d = omega arith
@@ -102,26 +55,49 @@ position_cases false w d = refl
 pub at_depth : (z : Shape) (h : List Event) (place : Place) → position z h place ≡ 8 * bucket_depth z h place.bucket + place.word
 at_depth z h place = position_cases (ltb place.bucket z.buckets) place.word (depth_of (home_of h (place.bucket - z.buckets)))
 
-bucket_cases : (z : Shape) (h : List Event) (b n bucket w other : ℕ) (t : Bool) → IsAt h b n (cond t (OfBucket bucket w) (OfOverflow (bucket - z.buckets) w)) → other < 8
+-- a word at a position of the key's chain
+place_at : (z : Shape) (key : List ℕ) (place : Place) (n : ℕ) (h : List Event) → IsPlace z place → IsItemAt z h (bucket_of z key) n (cell_at z place) → IsPlaceOf z h key place × (position z h place ≡ n)
+place_at z key place n h within is = let e = at_place z h (bucket_of z key) n place is.1 in (
+  (record { in_table = within; at = subst (λ b. IsItemAt z h b (position z h place) (cell_at z place)) (sym e.0) (subst (λ m. IsItemAt z h (bucket_of z key) m (cell_at z place)) (sym e.1) is) }, e.0),
+  e.1,
+)
+
+-- the one that the chain begins with
+pub first_place : (z : Shape) (key : List ℕ) (bucket : ℕ) (h : List Event) → IsValid z → bucket ≡ bucket_of z key → IsPlaceOf z h key (place_of bucket 1) × (position z h (place_of bucket 1) ≡ 1)
+first_place z key bucket h v is =
+    let lt = bucket_in z key v in
+    let t : ltb bucket z.buckets ≡ true = let lt' : bucket < z.buckets = omega arith in lt-ltb bucket z.buckets lt' in
+    place_at z key (place_of bucket 1) 1 h ((omega arith), (omega arith), (omega arith)) (((omega arith), (omega arith)), rw t (is, refl, (omega arith)))
+
+-- the one that a chain word leads to
+next_place : (z : Shape) (key : List ℕ) (depth number : ℕ) (h : List Event) → number < z.overflow → depth < (bucket_after z h (bucket_of z key)).chained → home_of h number ≡ Some (home (bucket_of z key) (depth + 1))
+    → IsPlaceOf z h key (place_of (z.buckets + number) 1) × (position z h (place_of (z.buckets + number) 1) ≡ 8 * (depth + 1) + 1)
+next_place z key depth number h few in' of =
+    let t : ltb (z.buckets + number) z.buckets ≡ false = le-ltb (z.buckets + number) z.buckets (omega arith) in
+    let e : z.buckets + number - z.buckets ≡ number = omega arith in
+    place_at z key (place_of (z.buckets + number) 1) (8 * (depth + 1) + 1) h ((omega arith), (omega arith), (omega arith)) (((omega arith), (omega arith)), rw (t, e) (depth + 1, of, refl, (omega arith)))
+
+other_cases : (z : Shape) (h : List Event) (b n bucket w other : ℕ) (t : Bool) → IsAt h b n (cond t (OfBucket bucket w) (OfOverflow (bucket - z.buckets) w)) → other < 8
     → IsAt h b (8 * (let d : ℕ = cond t 0 (depth_of (home_of h (bucket - z.buckets))) in d) + other) (cond t (OfBucket bucket other) (OfOverflow (bucket - z.buckets) other))
-bucket_cases z h b n bucket w other true at few = (at.0, omega arith, few)
-bucket_cases z h b n bucket w other false at few = (at.0, at.1, ap (λ o. 8 * depth_of o + other) at.1, few)
+other_cases z h b n bucket w other true at few = (at.0, omega arith, few)
+other_cases z h b n bucket w other false at few = (at.0, at.1, ap (λ o. 8 * depth_of o + other) at.1, few)
 
--- its bucket is one of the chain, with all its words
-pub bucket_of_place : (z : Shape) (key : List ℕ) (place : Place) (h : List Event) → IsPlaceOf z h key place → IsBucketOf z h key place.bucket
-bucket_of_place z key place h of w low high =
-    let c = of.0 in let e = at_depth z h place in let most = c.in_table.2 in
-    let at : IsItemAt z h (bucket_of z key) (position z h place) (cell_at z place) = subst (λ b. IsItemAt z h b (position z h place) (cell_at z place)) of.1 c.at in
-    let within = at.0.0 in (
-      (c.in_table.0, low, high),
-      ((omega arith, omega arith), bucket_cases z h (bucket_of z key) (position z h place) place.bucket place.word w (ltb place.bucket z.buckets) at.1 high),
-    )
+-- another word of the same bucket
+other_word : (z : Shape) (key : List ℕ) (place : Place) (w : ℕ) (h : List Event) → IsPlaceOf z h key place → 0 < w → w < 8 → IsItemAt z h (bucket_of z key) (8 * bucket_depth z h place.bucket + w) (cell_at z (place_of place.bucket w))
+other_word z key place w h of low high =
+    let e = at_depth z h place in let most = of.0.in_table.2 in
+    let at : IsItemAt z h (bucket_of z key) (position z h place) (cell_at z place) = subst (λ b. IsItemAt z h b (position z h place) (cell_at z place)) of.1 of.0.at in
+    let within = at.0.0 in ((omega arith, omega arith), other_cases z h (bucket_of z key) (position z h place) place.bucket place.word w (ltb place.bucket z.buckets) at.1 high)
 
--- and later
-pub word_of_bucket : (b : Board) (key : List ℕ) (place : Place) (w : ℕ) (p q : Pass) → IsReader b p q → IsPlaceOf b.shape (trace p) key place → 0 < w → w < 8
-    → IsPlaceOf b.shape (trace q) key (place_of place.bucket w) × (position b.shape (trace q) (place_of place.bucket w) ≡ 8 * bucket_depth b.shape (trace p) place.bucket + w)
-word_of_bucket b key place w p q i of low high = let z = b.shape in let d = bucket_depth z (trace p) place.bucket in
-    place_in z key d place.bucket w (trace q) (bucket_later z key d place.bucket (trace p) (trace q) i.reads.moved.pass.lawful (moved_on b i.reads.own p q i.reads.moved) (bucket_of_place z key place (trace p) of)) low high
+other_place : (z : Shape) (key : List ℕ) (place : Place) (w : ℕ) (h : List Event) → IsPlaceOf z h key place → 0 < w → w < 8 → IsPlaceOf z h key (place_of place.bucket w) × (position z h (place_of place.bucket w) ≡ 8 * bucket_depth z h place.bucket + w)
+other_place z key place w h of low high = place_at z key (place_of place.bucket w) (8 * bucket_depth z h place.bucket + w) h (of.0.in_table.0, low, high) (other_word z key place w h of low high)
+
+-- its last word is a place of the chain, and stays at its position
+pub last_of : (b : Board) (key : List ℕ) (place : Place) (p q : Pass) → IsReader b p q → IsPlaceOf b.shape (trace p) key place
+    → IsPlaceOf b.shape (trace p) key (place_of place.bucket 7) × (position b.shape (trace q) (place_of place.bucket 7) ≡ position b.shape (trace p) (place_of place.bucket 7))
+last_of b key place p q i of = let z = b.shape in
+    let last = other_place z key place 7 (trace p) of (omega arith) (omega arith) in
+    (last.0, (same_place z (trace p) (trace q) (place_of place.bucket 7) i.reads.moved.pass.lawful (moved_on b i.reads.own p q i.reads.moved) last.0.0).1)
 
 -- no chain is longer
 pub in_chain : (z : Shape) (h : List Event) (place : Place) → IsLawful z h → IsChained z h place → (0 < position z h place % 8) × (position z h place < 32)
@@ -137,12 +113,6 @@ pub on_way : (b : Board) (w : Way) (p q r : Pass) → IsReader b p q → IsOnWay
 on_way b (Found hit) p q r i j = enter_then b p q r hit.item.seg i j
 on_way b (Passed word tries) p q r i j = reader_then b p q r i j
 on_way b Busy p q r i j = reader_then b p q r i j
-
--- up to now
-pub brings_now : (z : Shape) (key : List ℕ) (from mid to : ℕ) (place : Place) (w : ℕ) (h g f : List Event) → IsLawful z f → Begins h g → Brings z key from mid h g → HasPassed z key mid to place w g f → Brings z key from to h f
-brings_now z key from mid to place w h g f l up b p start s ahead =
-    let s' = begins_on start h g s up in
-    key_later z key to start p.last.at f l (begins_on start g p.last.at s' p.last.between.0) p.last.between.1 (p.brings start s' (b start s ahead))
 
 passed_then : (z : Shape) (key : List ℕ) (from mid to : ℕ) (place : Place) (w : ℕ) (h g f : List Event) → Begins h g → Brings z key from mid h g → HasPassed z key mid to place w g f → HasPassed z key from to place w h f
 passed_then z key from mid to place w h g f up b p = record {
@@ -206,15 +176,6 @@ pub record IsNext (z : Shape) (key : List ℕ) (from after : ℕ) (next : Place)
 module _ (b : Board) (key : List ℕ) (from mid some tries : ℕ) (p q r : Pass) (s : HasScanned b key from mid some tries p q) where
   up : Begins (trace p) (trace q)
   up = moved_on b s.reads.reads.own p q s.reads.reads.moved
-
-  pub scanned_then : (to counted : ℕ) (last : Place) (w : ℕ) → IsReader b q r → IsPast b.shape key mid to tries counted last w q r → HasScanned b key from to some counted p r
-  scanned_then to counted last w i x = record {
-    reads = reader_then b p q r s.reads i;
-    few = x.few;
-    counted = counts_then b.shape key some tries counted (trace p) (trace q) (trace r) s.counted x.counts;
-    tried = tries_then from mid to some tries counted p q r s.tried x.tried;
-    brings = brings_now b.shape key from mid to last w (trace p) (trace q) (trace r) i.reads.moved.pass.lawful up s.brings x.passed;
-  }
 
   pub scanned_next : (after counted : ℕ) (last next : Place) (w : ℕ) → IsReader b q r → IsPast b.shape key mid after tries counted last w q r → IsNext b.shape key mid after next (trace q) (trace r) → HasScanned b key from (position b.shape (trace r) next) some counted p r
   scanned_next after counted last next w i x n = record {
@@ -287,7 +248,7 @@ module _ (z : Shape) (key : List ℕ) (place : Place) (from w : ℕ) (g f : List
   in_bucket : place.word < 7 → IsNext z key from after (place_of place.bucket (place.word + 1)) g f
   in_bucket more =
       let d = bucket_depth z g place.bucket in let next = place_of place.bucket (place.word + 1) in
-      let x = place_in z key d place.bucket (place.word + 1) g (bucket_of_place z key place g of) (omega arith) (omega (arith, more)) in
+      let x = other_place z key place (place.word + 1) g of (omega arith) (omega (arith, more)) in
       let is = at_depth z g place in
       let e : position z f next ≡ after = (same_place z g f next l to_now x.0.0).1 ∙ (x.1 ∙ (let a : 8 * d + (place.word + 1) ≡ position z g place + 1 = omega arith in a)) in record {
         place = place_later z key next g f l to_now x.0;
@@ -304,7 +265,7 @@ module _ (z : Shape) (key : List ℕ) (place : Place) (from w : ℕ) (g f : List
     cell = cell_at z (place_of place.bucket 7)
 
     here : IsItemAt z p.last.at (bucket_of z key) (8 * d + 7) cell
-    here = (bucket_of_place z key place p.last.at there 7 (omega arith) (omega arith)).1
+    here = other_word z key place 7 p.last.at there (omega arith) (omega arith)
 
     is_seven : place.word ≡ 7
     is_seven = let most = of.0.in_table.2 in omega (arith, seven)
@@ -322,8 +283,7 @@ module _ (z : Shape) (key : List ℕ) (place : Place) (from w : ℕ) (g f : List
         let high : word_at z p.last.at (place_of place.bucket 7) < 2 ^ 52 = subst (λ n. n < 2 ^ 52) (is ∙ sym stood) (omega (arith, few)) in
         let on = leads_on z p.last.at (bucket_of z key) d cell v p.last.lawful (bucket_in z key v) here low high in
         let same : on.1.0 ≡ number = let a : chain_word on.1.0 ≡ chain_word number = sym on.1.1 ∙ (stood ∙ sym is) in omega arith in
-        let bucket : IsBucketAt z p.last.at key (d + 1) (z.buckets + number) = next_bucket z key d number p.last.at (subst (λ n. n < z.overflow) same on.1.3) on.0 (subst (λ n. home_of p.last.at n ≡ Some (home (bucket_of z key) (d + 1))) same on.1.2) in
-        let x = place_in z key (d + 1) (z.buckets + number) 1 p.last.at bucket (omega arith) (omega arith) in
+        let x = next_place z key d number p.last.at (subst (λ n. n < z.overflow) same on.1.3) on.0 (subst (λ n. home_of p.last.at n ≡ Some (home (bucket_of z key) (d + 1))) same on.1.2) in
         let next = place_of (z.buckets + number) 1 in
         let e : position z f next ≡ 8 * (d + 1) + 1 = (same_place z p.last.at f next l p.last.between.1 x.0.0).1 ∙ x.1 in
         let ended = after_is in record {
@@ -364,10 +324,6 @@ module _ (z : Shape) (key : List ℕ) (place : Place) (from w : ℕ) (g f : List
 pub hit_place : (z : Shape) (key : List ℕ) (from tries : ℕ) (hit : Hit) (p q : Pass) → IsLawful z (trace q) → IsHit z key from tries hit p q → IsPlaceOf z (trace q) key hit.place
 hit_place z key from tries hit p q l x = let saw = x.found.found.saw in
     place_later z key hit.place saw.at (trace q) l saw.between.1 (saw.was.chained, sym saw.was.here.0)
-
--- the place that the chain begins with
-pub first_place : (z : Shape) (key : List ℕ) (bucket : ℕ) (h : List Event) → IsValid z → bucket ≡ bucket_of z key → IsPlaceOf z h key (place_of bucket 1) × (position z h (place_of bucket 1) ≡ 1)
-first_place z key bucket h v is = place_in z key 0 bucket 1 h (first_bucket z key bucket h v is) (omega arith) (omega arith)
 
 -- so often it came into segments at most
 pub few_times : (from to tries : ℕ) (p q : Pass) → from ≡ 1 → words_below to + tries ≤ 91 → Tries from to 0 tries p q → TriesFew p q

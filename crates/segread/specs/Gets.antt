@@ -85,7 +85,7 @@ Disturbs shape key some more p q =
 
 -- ---- one scan for the key and its version, from a position on, with so many tries counted before
 
--- The key's item was found, with its value, the bucket's information looked at then, and the word that stood in its place after that; the pass is still in its segment.
+-- The key's item was found, and the pass is still in its segment. The bucket's information was looked at, and after that the word in the item's place.
 pub record IsSeen (b : Board) (key : List ℕ) (from tries : ℕ) (hit : Hit) (value : List ℕ) (info : Info) (word : ℕ) (p q : Pass) : Type 0 where
   pub reads : IsReaderIn b p q hit.item.seg
   pub in_table : IsSegment b.shape hit.item.seg
@@ -100,9 +100,11 @@ pub record IsSeen (b : Board) (key : List ℕ) (from tries : ℕ) (hit : Hit) (v
   -- the bit was set
   pub glanced : info.held ≡ true → glanced p (bucket_of b.shape key) + 1 ≤ glanced q (bucket_of b.shape key)
   -- another item stood there
-  pub changed : ¬ (IsSameItem (item_word hit.item) word) → 1 ≤ tag_part word → Counts b.shape key tries (hit.tries + 1) (trace p) (trace q)
+  pub changed : ¬ (IsSameItem (item_word hit.item) word) → 1 ≤ tag_part word
+      → Counts b.shape key tries (hit.tries + 1) (trace p) (trace q)
   -- the bit was clear, and the item stood there still
-  pub version : info.held ≡ false → IsSameItem (item_word hit.item) word → ReadsVersionBetween b.shape key (seen p) (seen q) (Some (value, info.version))
+  pub version : info.held ≡ false → IsSameItem (item_word hit.item) word
+      → ReadsVersionBetween b.shape key (seen p) (seen q) (Some (value, info.version))
   pub found : info.held ≡ false → FoundItem b.shape hit.place (item_word hit.item) key value (trace p) (trace q)
 
 abbrev pub IsSight : Board → List ℕ → ℕ → ℕ → Sight → Pass → Pass → Type 0
@@ -110,7 +112,7 @@ IsSight b key from tries (sight.Found hit value info word) p q = IsSeen b key fr
 IsSight b key from tries sight.Absent p q = IsReader b p q × IsEnded b.shape key from tries p q
 IsSight b key from tries sight.Busy p q = IsReader b p q × GivesUp b.shape key from tries p q
 
--- It goes on from this place with so many tries counted: a try more, or further on.
+-- The next scan goes on from this place, with so many tries counted. It has a try less or a word less before it.
 pub record MovesOn (shape : Shape) (key : List ℕ) (from tries : ℕ) (next : Place) (counted : ℕ) (p q : Pass) : Type 0 where
   pub few : counted ≤ 64
   pub place : IsPlaceOf shape (trace q) key next
@@ -122,7 +124,8 @@ pub record MovesOn (shape : Shape) (key : List ℕ) (from tries : ℕ) (next : P
 -- one scan answers, or goes on
 abbrev pub IsAttempt : Shape → List ℕ → ℕ → ℕ → ℕ → Attempt → Pass → Pass → Type 0
 IsAttempt shape key draw from tries (attempt.Told (gets.Found value version)) p q =
-    ReadsVersionBetween shape key (seen p) (seen q) (Some (value, version)) × RaisesOne shape key value draw p q × ComesIn from 32 tries 63 p q
+    ReadsVersionBetween shape key (seen p) (seen q) (Some (value, version))
+    × RaisesOne shape key value draw p q × ComesIn from 32 tries 63 p q
 IsAttempt shape key draw from tries (attempt.Told gets.Miss) p q = IsEnded shape key from tries p q
 IsAttempt shape key draw from tries (attempt.Told gets.Busy) p q = Disturbs shape key tries 64 p q × Tries from 32 tries 63 p q
 IsAttempt shape key draw from tries (attempt.GoesOn place counted) p q = MovesOn shape key from tries place counted p q

@@ -1,21 +1,19 @@
 -- A reader's way along the chain of a key, without the bucket's bit: what its looks found, how many tries it counted, and how often it came into segments.
-use Rattle.std.specs.Prelude.{◌≡◌, ◌⊎◌, ℕ, ◌+◌, ◌-◌, ◌*◌, ◌/◌, ◌<◌, ◌≤◌, nat_lt, List, Option, Some, None, if◌then◌else◌}
+use Rattle.std.specs.Prelude.{◌≡◌, ◌⊎◌, ℕ, ◌+◌, ◌-◌, ◌/◌, ◌<◌, ◌≤◌, List, Option, Some, None}
 use Rattle.segword.specs.declared.shape.Shape.{Shape}
 use Rattle.segword.specs.ChainWord.{chain_word, IsChainWord}
 use Rattle.segmodel.specs.Places.{bucket_of}
 use Rattle.segmodel.specs.History.{Begins, entries_of}
 use Rattle.segcore.specs.declared.event.Event.{Event}
 use Rattle.segcore.specs.Event.{seen}
-use Rattle.segcore.specs.Overflow.{home_of}
 use Rattle.segcore.specs.Segment.{inside}
-use Rattle.segcore.specs.Word.{IsItemAt}
 use Rattle.segcore.specs.Ahead.{WasGone}
 use Rattle.segcore.specs.Search.{KeyGone, KeyAhead}
 use Rattle.segbase.specs.declared.board.Board.{Board}
 use Rattle.segbase.specs.declared.pass.Pass.{Pass}
 use Rattle.segbase.specs.declared.place.Place.{Place}
 use Rattle.segbase.specs.Passes.{number, trace, entered}
-use Rattle.segbase.specs.Spots.{IsPlace, cell_at, home_bucket, position, depth_of}
+use Rattle.segbase.specs.Spots.{home_bucket, position}
 use Rattle.segstore.specs.Reading.{IsReader, IsReaderIn}
 use Rattle.segstore.specs.Linked.{IsChained, SawWord, FoundKey}
 use Rattle.segstore.specs.declared.read.Keyed.{Keyed}
@@ -29,25 +27,12 @@ use Rattle.segpass.specs.Calls.{RaisesNothing}
 
 -- ---- chains
 
--- how deep in its chain a bucket is
-abbrev pub bucket_depth : Shape → List Event → ℕ → ℕ
-bucket_depth shape trace bucket = if nat_lt bucket shape.buckets then 0 else depth_of (home_of trace (bucket - shape.buckets))
-
 abbrev pub place_of : ℕ → ℕ → Place
 place_of bucket word = record { bucket = bucket; word = word }
 
 -- the place is an item word of the key's chain
 abbrev pub IsPlaceOf : Shape → List Event → List ℕ → Place → Type 0
 IsPlaceOf shape trace key place = IsChained shape trace place × (home_bucket shape trace place ≡ bucket_of shape key)
-
--- the bucket is the one at this depth of the key's chain
-abbrev pub IsBucketAt : Shape → List Event → List ℕ → ℕ → ℕ → Type 0
-IsBucketAt shape trace key depth bucket = (word : ℕ) → 0 < word → word < 8
-    → IsPlace shape (place_of bucket word) × IsItemAt shape trace (bucket_of shape key) (8 * depth + word) (cell_at shape (place_of bucket word))
-
--- it is one of the key's chain
-abbrev pub IsBucketOf : Shape → List Event → List ℕ → ℕ → Type 0
-IsBucketOf shape trace key bucket = IsBucketAt shape trace key (bucket_depth shape trace bucket) bucket
 
 -- the place after one at which this word stood, if its chain has one
 abbrev pub IsPlaceAfter : Shape → Place → ℕ → Option Place → Type 0

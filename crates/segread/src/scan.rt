@@ -16,7 +16,7 @@ use segbase::{Board, CHAIN_BUCKETS, Pass, Place};
 use segstore::{Keyed, enter_segment, leave_segment, read_keyed};
 use segword::{Chain, Item, Key, KeyWords, bucket_of, hash, tag_of};
 
-// An item of the key, in whose segment the pass is: where it stands, word 0 of its row, and how many tries were counted before it.
+// An item of the key, in whose segment the pass is: where it stands, and word 0 of its row. So many tries were counted before it.
 #[derive(Clone, Copy, Drop)]
 pub(crate) struct Hit {
     pub(crate) place: Place,
@@ -141,7 +141,8 @@ fn visit_bucket(
     requires tag { tag ≡ tag_of key.now }
     requires tries { tries < 64 }
     ensures reads { IsOnWay board.now result pass.old pass.new }
-    ensures way { let last = place_of start.bucket 7 in let at = position board.now.shape (trace pass.old) in
+    ensures way { let last = place_of start.bucket 7 in
+        let at = position board.now.shape (trace pass.old) in
         IsWay board.now.shape key.now (at start) (at last + 1) last tries result pass.old pass.new }
 {
     for word in start.word..7 {
@@ -195,7 +196,7 @@ pub(crate) fn place_after(board: &Board, place: Place, word: u64) -> Option<Plac
     })
 }
 
-// Looks for a key along its chain, from a place on, with so many tries counted so far.
+// Looks for a key along its chain, from a place on. So many tries are counted so far.
 #[inline(always)]
 pub(crate) fn scan_from(
     board: &Board,

@@ -29,11 +29,11 @@ enum Sight {
     Busy,
 }
 
-// What one scan for a key and its version came to.
+// What a scan for a key and its version came to.
 #[derive(Drop)]
 enum Attempt {
     Told(GetsAnswer),
-    // The bit was set, or the item has changed: the next scan goes on from this place, with so many tries counted.
+    // The bit was set, or the item changed: the next scan goes on from this place, with so many tries counted.
     GoesOn(Place, u32),
 }
 
@@ -70,7 +70,7 @@ fn find_locked(board: &Board, pass: &mut Pass, key: &Key) -> GetsAnswer
     }
 }
 
-// Looks for a key and its version along its chain, which begins with this bucket. Where a scan was disturbed the next one goes on.
+// Looks for a key and its version along its chain, which begins with this bucket. If a scan was disturbed, the next one goes on from there.
 fn find_version(
     board: &Board,
     pass: &mut Pass,
@@ -107,7 +107,7 @@ fn find_version(
     GetsAnswer::Busy
 }
 
-// One scan from a place on. At the key's item, the version is the value's if the bit is clear and the item stands there still.
+// One scan from a place on. The version is of one moment with the value if the bit is clear and the item stands there still.
 fn try_version(
     board: &Board,
     pass: &mut Pass,

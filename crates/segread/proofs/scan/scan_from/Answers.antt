@@ -1,9 +1,9 @@
 use Rattle.std.proofs.Common.{◌+◌, arith}
 use Rattle.segbase.specs.Passes.{trace}
 use Rattle.segbase.specs.Spots.{position}
-use Rattle.segstore.proofs.Readers.{stays, reader_then, enter_then}
+use Rattle.segstore.proofs.Readers.{reader_then, enter_then}
 use Rattle.segread.specs.Scanning.{place_of}
-use Rattle.segread.proofs.Scans.{at_depth, word_of_bucket, in_chain, scanned_none, scanned_next, hit_then, gives_up_then, ended_then, next_of, end_of}
+use Rattle.segread.proofs.Scans.{at_depth, last_of, in_chain, scanned_none, scanned_next, hit_then, gives_up_then, ended_then, next_of, end_of}
 use Rattle.segread.proofs.scan.scan_from.Goals as goal
 
 pub loop-depth-init : goal.loop-depth-init
@@ -27,7 +27,7 @@ pub returns-in_default-clause-scan : goal.returns-in_default-clause-scan
 returns-in_default-clause-scan c =
     let b = c.args.board.now in let z = b.shape in let key = c.args.key.now in let p = c.args.pass.now in let q = c.loop-depth.pass in let r = c.visit_bucket.new.pass in let x = c.in-Passed in let i = c.loop-depth.invariant in
     let last = place_of c.loop-depth.place.bucket 7 in let from = position z (trace p) c.args.place in let mid = position z (trace q) c.loop-depth.place in
-    let of = (word_of_bucket b key c.loop-depth.place 7 q q (stays b q i.scanned.reads.reads.moved.pass) i.place (omega arith) (omega arith)).0 in
+    let of = (last_of b key c.loop-depth.place q r x.ensures.reads i.place).0 in
     let within = (in_chain z (trace q) last i.scanned.reads.reads.moved.pass.lawful of.0).1 in
     ended_then b key from mid c.args.tries c.loop-depth.tries p q r i.scanned (position z (trace q) last + 1) x.counted last x.word (omega arith) x.ensures.way
     (end_of z key last mid x.word (trace q) (trace r) c.requires.pass.valid x.ensures.reads.reads.moved.pass.lawful of x.ensures.way.passed c.in_default.ensures.after)
@@ -43,7 +43,7 @@ pub loop-depth-preserved : goal.loop-depth-preserved
 loop-depth-preserved c =
     let b = c.args.board.now in let z = b.shape in let key = c.args.key.now in let p = c.args.pass.now in let q = c.loop-depth.pass in let r = c.visit_bucket.new.pass in let x = c.in-Passed in let i = c.loop-depth.invariant in
     let last = place_of c.loop-depth.place.bucket 7 in let from = position z (trace p) c.args.place in let mid = position z (trace q) c.loop-depth.place in
-    let of = (word_of_bucket b key c.loop-depth.place 7 q q (stays b q i.scanned.reads.reads.moved.pass) i.place (omega arith) (omega arith)).0 in
+    let of = (last_of b key c.loop-depth.place q r x.ensures.reads i.place).0 in
     let next = next_of z key last mid x.word (trace q) (trace r) c.requires.pass.valid x.ensures.reads.reads.moved.pass.lawful of x.ensures.way.passed c.in-Some.next c.in-Some.ensures.after in record {
       scanned = scanned_next b key from mid c.args.tries c.loop-depth.tries p q r i.scanned (position z (trace q) last + 1) x.counted last c.in-Some.next x.word x.ensures.reads x.ensures.way next;
       place = next.place;
