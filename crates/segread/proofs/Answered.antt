@@ -1,5 +1,5 @@
 -- What readers make of a scan: their answers by the history, and that they changed nothing.
-use Rattle.std.proofs.Common.{◌≡◌, ℕ, Bool, true, false, cond, List, [], ◌∷◌, ◌++◌, ◌≢◌, Some, None, option_map, refl, ap, ◌∙◌, arith}
+use Rattle.std.proofs.Common.{◌≡◌, ℕ, Bool, true, false, cond, List, [], ◌∷◌, ◌++◌, ◌≢◌, Some, None, option_map, refl, ap, ◌∙◌}
 use Rattle.segword.specs.declared.shape.Shape.{Shape}
 use Rattle.segmodel.specs.declared.answer.GetAnswer.{GetAnswer}
 use Rattle.segmodel.specs.declared.answer.GetsAnswer.{GetsAnswer}
@@ -27,12 +27,11 @@ use Rattle.segstore.specs.Linked.{IsChained, FoundItem}
 use Rattle.segstore.proofs.Words.{chained_later}
 use Rattle.segstore.proofs.Readers.{looks}
 use Rattle.segpass.specs.Quiet.{IsQuiet}
-use Rattle.segpass.specs.Calls.{TakesNoBit}
+use Rattle.segpass.specs.Calls.{TakesNoBit, RaisesNothing}
 use Rattle.segpass.proofs.Draws.{reader_draws_none}
 use Rattle.segread.specs.Reads.{ReadsBetween, IsGetAnswer, ReadsKey}
 use Rattle.segread.specs.Gets.{IsGetsAnswer, ReadsVersion}
-use Rattle.segread.specs.Hits.{GetRaises, GetsRaises}
-use Rattle.segread.specs.Scanning.{ComesIn}
+use Rattle.segread.specs.Hits.{TriesFew, GetRaises, GetsRaises}
 use Rattle.segread.proofs.Reading.{read_on}
 
 -- ---- the answer
@@ -99,26 +98,32 @@ reads_no_bit b p q i = record {
 
 -- ---- whole calls
 
-pub reads_key : (b : Board) (key : List ℕ) (draw : ℕ) (told : GetAnswer) (p q : Pass) → IsQuiet b p → IsReader b p q → ComesIn 28 0 63 p q → GetRaises b.shape key draw told p q → IsGetAnswer b.shape key told (seen p) (seen q) → ReadsKey b key draw told p q
+pub reads_key : (b : Board) (key : List ℕ) (draw : ℕ) (told : GetAnswer) (p q : Pass) → IsQuiet b p → IsReader b p q → TriesFew p q → GetRaises b.shape key draw told p q → IsGetAnswer b.shape key told (seen p) (seen q) → ReadsKey b key draw told p q
 reads_key b key draw told p q quiet i few raised answer = let on = read_on b p q quiet i.reads i.plain i.memo in record {
   on = on.0;
   keeps = on.1;
   takes_no_bit = reads_no_bit b p q i;
   draws_nothing = reader_draws_none b p q i.reads;
-  tries = omega (arith, few);
+  tries = few;
   raises = raised;
   answer = answer;
 }
 
-pub reads_version : (b : Board) (key : List ℕ) (draw : ℕ) (told : GetsAnswer) (p q : Pass) → IsQuiet b p → IsReader b p q → ComesIn 28 0 63 p q → GetsRaises b.shape key draw told p q → IsGetsAnswer b.shape key told p q
+pub reads_version : (b : Board) (key : List ℕ) (draw : ℕ) (told : GetsAnswer) (p q : Pass) → IsQuiet b p → IsReader b p q → TriesFew p q → GetsRaises b.shape key draw told p q → IsGetsAnswer b.shape key told p q
     → ((value : List ℕ) (version : ℕ) → told ≡ gets.Found value version → locked_of p ≢ Some (bucket_of b.shape key)) → ReadsVersion b key draw told p q
 reads_version b key draw told p q quiet i few raised answer unlocked = let on = read_on b p q quiet i.reads i.plain i.memo in record {
   on = on.0;
   keeps = on.1;
   takes_no_bit = reads_no_bit b p q i;
   draws_nothing = reader_draws_none b p q i.reads;
-  tries = omega (arith, few);
+  tries = few;
   raises = raised;
   answer = answer;
   unlocked = unlocked;
 }
+
+-- an answer that isn't a hit
+pub unfound_raises : (z : Shape) (key : List ℕ) (draw : ℕ) (told : GetsAnswer) (p q : Pass) → ((value : List ℕ) (version : ℕ) → told ≢ gets.Found value version) → RaisesNothing p q → GetsRaises z key draw told p q
+unfound_raises z key draw (gets.Found value version) p q ne none = absurd (ne value version refl)
+unfound_raises z key draw gets.Miss p q ne none = none
+unfound_raises z key draw gets.Busy p q ne none = none

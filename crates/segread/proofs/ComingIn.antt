@@ -1,5 +1,5 @@
 -- How often a reader comes into segments, from try to try and from word to word; and that none but a hit raises a frequency.
-use Rattle.std.proofs.Common.{◌≡◌, ℕ, ◌+◌, ◌≤◌, Bool, true, false, [], ◌∷◌, refl, ap, ◌∙◌, arith}
+use Rattle.std.proofs.Common.{◌≡◌, ℕ, ◌+◌, ◌%◌, ◌<◌, ◌≤◌, Bool, true, false, [], ◌∷◌, refl, ap, ◌∙◌, arith}
 use Rattle.std.proofs.lemmas.Bool.{eq-eqb}
 use Rattle.segword.specs.declared.info.Info.{Info}
 use Rattle.segcore.specs.declared.event.Event.TheVariants.{Glanced, Entered, Left}
@@ -12,7 +12,8 @@ use Rattle.segbase.specs.Passes.{number, view, entered, Moved}
 use Rattle.segbase.specs.Steps.{has_bit, Glances}
 use Rattle.segbase.proofs.Moves.{moved_entered, moved_raised}
 use Rattle.segpass.specs.Calls.{RaisesNothing}
-use Rattle.segread.specs.Scanning.{IsTry, ComesIn, Tries}
+use Rattle.segread.specs.Hits.{TriesFew}
+use Rattle.segread.specs.Scanning.{words_below, IsTry, Tries}
 
 -- it came into no segment, and raised no frequency
 abbrev pub StaysOut : Pass → Pass → Type 0
@@ -53,29 +54,33 @@ out_then p q r i j = (j.0 ∙ i.0, j.1 ∙ i.1)
 pub try_out : (p q r : Pass) → IsTry p q → StaysOut q r → IsTry p r
 try_out p q r i j = (j.0 ∙ i.0, j.1 ∙ i.1)
 
--- a try that found the key's item, its value, the bucket's information, and then a third look
-pub looked_again : (b : Board) (bucket : ℕ) (info : Info) (p q v g l : Pass) → IsTry p q → Moved b [] q v → Glances b bucket info v g → Moved b [] g l → IsTry p l
-looked_again b bucket info p q v g l i value glance look = try_out p g l (try_out p v g (try_out p q v i (looked b q v value)) (glanced b bucket info v g glance)) (looked b g l look)
+pub few_out : (p q r : Pass) → TriesFew p q → StaysOut q r → TriesFew p r
+few_out p q r few j = let same = j.0 in omega (arith, few, same)
 
 -- nothing was tried yet
-pub tries_none : (n : ℕ) (p : Pass) → Tries 0 n n p p
-tries_none n p = record { comes_in = omega arith; raises_nothing = refl }
+pub tries_none : (at n : ℕ) (p : Pass) → Tries at at n n p p
+tries_none at n p = record { comes_in = omega arith; onward = omega arith; raises_nothing = refl }
 
-pub tries_out : (words some more : ℕ) (p q r : Pass) → Tries words some more p q → StaysOut q r → Tries words some more p r
-tries_out words some more p q r i j = record { comes_in = (let a = i.comes_in in let c = j.0 in omega arith); raises_nothing = j.1 ∙ i.raises_nothing }
+pub tries_out : (from to some more : ℕ) (p q r : Pass) → Tries from to some more p q → StaysOut q r → Tries from to some more p r
+tries_out from to some more p q r i j = record { comes_in = (let a = i.comes_in in let c = j.0 in omega arith); onward = i.onward; raises_nothing = j.1 ∙ i.raises_nothing }
 
-pub tries_once : (some count : ℕ) (p q r : Pass) → Tries 0 some count p q → IsTry q r → Tries 1 some count p r
-tries_once some count p q r i j = record { comes_in = (let a = i.comes_in in let c = j.0 in omega arith); raises_nothing = j.1 ∙ i.raises_nothing }
+pub tries_once : (from to some count : ℕ) (p q r : Pass) → Tries from to some count p q → IsTry q r → Tries from to some (count + 1) p r
+tries_once from to some count p q r i j = record { comes_in = (let a = i.comes_in in let c = j.0 in omega arith); onward = (let a = i.onward in omega arith); raises_nothing = j.1 ∙ i.raises_nothing }
 
-pub comes_once : (some count more : ℕ) (p q r : Pass) → count ≤ more → Tries 0 some count p q → entered r ≡ entered q + 1 → ComesIn 1 some more p r
-comes_once some count more p q r le i once = let a = i.comes_in in omega (arith, le, once)
-
-pub tries_then : (words more_words some more most : ℕ) (p q r : Pass) → Tries words some more p q → Tries more_words more most q r → Tries (words + more_words) some most p r
-tries_then words more_words some more most p q r i j = record { comes_in = (let a = i.comes_in in let c = j.comes_in in omega arith); raises_nothing = j.raises_nothing ∙ i.raises_nothing }
+pub tries_then : (from mid to some more most : ℕ) (p q r : Pass) → Tries from mid some more p q → Tries mid to more most q r → Tries from to some most p r
+tries_then from mid to some more most p q r i j = record { comes_in = (let a = i.comes_in in let c = j.comes_in in omega arith); onward = (let a = i.onward in let c = j.onward in omega arith); raises_nothing = j.raises_nothing ∙ i.raises_nothing }
 
 -- more words, or more tries that may be counted
-pub at_most : (words more_words some more most : ℕ) (p q : Pass) → words + more ≤ more_words + most → Tries words some more p q → Tries more_words some most p q
-at_most words more_words some more most p q le i = record { comes_in = (let a = i.comes_in in omega (arith, le)); raises_nothing = i.raises_nothing }
+pub at_most : (from to end some more most : ℕ) (p q : Pass) → words_below to + more ≤ words_below end + most → Tries from to some more p q → Tries from end some most p q
+at_most from to end some more most p q le i = record { comes_in = (let a = i.comes_in in omega (arith, le)); onward = (let a = i.onward in omega (arith, le)); raises_nothing = i.raises_nothing }
 
-pub comes_then : (words more_words all some more most end : ℕ) (p q r : Pass) → words + more_words + most ≤ all + end → Tries words some more p q → ComesIn more_words more most q r → ComesIn all some end p r
-comes_then words more_words all some more most end p q r le i j = let a = i.comes_in in omega (arith, le, j)
+-- a word of a bucket is passed
+pub word_more : (at : ℕ) → 0 < at % 8 → words_below (at + 1) ≡ words_below at + 1
+word_more at in' = omega (arith, in')
+
+-- no chain has more than 28 words
+pub words_few : (at : ℕ) → at < 32 → words_below at ≤ 27
+words_few at few = omega (arith, few)
+
+pub words_most : (at : ℕ) → at ≤ 32 → words_below at ≤ 28
+words_most at few = omega (arith, few)

@@ -2,16 +2,12 @@
 use Rattle.std.proofs.Common.{◌≡◌, ◌≢◌, ℕ, ◌+◌, ◌≤◌, Bool, true, false, cond, eqb, ◌&&◌, List, [], ◌∷◌, ◌++◌, Option, Some, None, refl, sym, ap, ◌∙◌, subst, arith, ◌⊎◌, inl, inr}
 use Rattle.std.proofs.lemmas.Bool.{cond-true, and_from, eq-eqb, eqb-true, false_from_ne_true}
 use Rattle.segword.specs.declared.shape.Shape.{Shape}
-use Rattle.segword.specs.declared.item.Item.{Item}
 use Rattle.segword.specs.declared.info.Info.{Info}
 use Rattle.segword.specs.Shape.{IsValid}
-use Rattle.segword.specs.ItemWord.{item_word}
-use Rattle.segword.specs.SameItem.{IsSameItem}
-use Rattle.segmodel.specs.Places.{bucket_of, tag_of}
-use Rattle.segmodel.specs.History.{Begins, entries_of}
+use Rattle.segmodel.specs.Places.{bucket_of}
+use Rattle.segmodel.specs.History.{Begins}
 use Rattle.segcore.specs.declared.event.Event.{Event}
 use Rattle.segcore.specs.declared.event.Event.TheVariants.{Glanced}
-use Rattle.segcore.specs.Event as event
 use Rattle.segcore.specs.Count as count
 use Rattle.segcore.specs.Bucket.{is, bucket_after}
 use Rattle.segcore.specs.Kind.{unless_own}
@@ -20,20 +16,16 @@ use Rattle.segcore.proofs.Changed.{entries_begin}
 use Rattle.segcore.proofs.Limits.{bucket_in}
 use Rattle.segbase.specs.declared.board.Board.{Board}
 use Rattle.segbase.specs.declared.pass.Pass.{Pass}
-use Rattle.segbase.specs.declared.place.Place.{Place}
 use Rattle.segbase.specs.Traces.{OnlyReads}
 use Rattle.segbase.specs.Passes.{number, trace, sight, seen, glanced, Moved, Did}
 use Rattle.segbase.specs.Steps.{has_bit, Glances}
-use Rattle.segbase.proofs.Moves.{moved_on, moved_inside, moved_glanced}
+use Rattle.segbase.proofs.Moves.{moved_on, moved_seen, moved_inside, moved_glanced}
 use Rattle.segstore.specs.Reading.{IsReader}
-use Rattle.segstore.specs.Linked.{SawWord}
-use Rattle.segstore.proofs.Words.{same_place, chained_later}
 use Rattle.segstore.proofs.Readers.{looks}
-use Rattle.segread.specs.Scanning.{Counts, IsPlaceOf}
-use Rattle.segread.specs.Gets.{StoodBetween, HasNoBit, Disturbs}
+use Rattle.segread.specs.Scanning.{Counts}
+use Rattle.segread.specs.Gets.{disturbed, StoodBetween, IsDisturbed, HasNoBit, Disturbs}
 use Rattle.segpass.proofs.Bits.{bit_before}
 use Rattle.segpass.proofs.Quiet.{reads_none}
-use Rattle.segread.proofs.Tries.{Trying, trying_on}
 
 -- ---- the bit
 
@@ -108,78 +100,23 @@ by_both z key some more most p q r up on (inl a) (inl b) = inl (omega (arith, a,
 by_both z key some more most p q r up on (inl a) (inr s) = inr (stood_from z key p q r up s)
 by_both z key some more most p q r up on (inr s) b = inr (stood_to z key p q r on s)
 
-by_fewer : (z : Shape) (key : List ℕ) (some more fewer : ℕ) (p q : Pass) → fewer ≤ more → Counts z key some more (trace p) (trace q) ⊎ StoodBetween z key p q → Counts z key some fewer (trace p) (trace q) ⊎ StoodBetween z key p q
-by_fewer z key some more fewer p q le (inl a) = inl (omega (arith, a, le))
-by_fewer z key some more fewer p q le (inr s) = inr s
-
-pub disturbs_fewer : (z : Shape) (key : List ℕ) (some more fewer : ℕ) (p q : Pass) → fewer ≤ more → Disturbs z key some more p q → Disturbs z key some fewer p q
-disturbs_fewer z key some more fewer p q le c = (c.0, (let x = c.1 in omega (arith, x, le)), by_fewer z key some more fewer p q le c.2)
-
 pub disturbs_then : (z : Shape) (key : List ℕ) (some more most : ℕ) (p q r : Pass) → Disturbs z key some more p q → Disturbs z key more most q r → Disturbs z key some most p r
 disturbs_then z key some more most p q r c d = (begins_on (seen p) (seen q) (seen r) c.0 d.0, (let x = c.1 in let y = d.1 in omega (arith, x, y)), by_both z key some more most p q r c.0 d.0 c.2 d.2)
 
--- the tries at a word, up to q: the item was seen at some point, and each try before it found another, or the bit set
-pub record TryingVersion (z : Shape) (key : List ℕ) (place : Place) (tries : ℕ) (item : Item) (count : ℕ) (p q : Pass) : Type 0 where
-  pub saw : SawWord z place (item_word item) (trace p) (trace q)
-  pub tag : item.tag ≡ tag_of key
-  pub counted : entries_of z (bucket_of z key) (seen p) + glanced p (bucket_of z key) + count ≤ entries_of z (bucket_of z key) (event.seen saw.at) + glanced q (bucket_of z key) + tries
-  -- by entries alone, or the key stood
-  pub by : (entries_of z (bucket_of z key) (seen p) + count ≤ entries_of z (bucket_of z key) (event.seen saw.at) + tries) ⊎ StoodBetween z key p q
+-- tries that are counted by entries alone
+pub by_entries : (b : Board) (key : List ℕ) (some more : ℕ) (p q : Pass) → IsReader b p q → Counts b.shape key some more (trace p) (trace q) → Disturbs b.shape key some more p q
+by_entries b key some more p q i c = let g = glances_grow b i.reads.own p q (bucket_of b.shape key) i.reads.moved in (moved_seen b i.reads.own p q i.reads.moved, omega (arith, c, g), inl c)
 
-by_one : (z : Shape) (key : List ℕ) (e m n count tries : ℕ) (p q r : Pass) → m + 1 ≤ n → Begins (seen q) (seen r) → (e + count ≤ m + tries) ⊎ StoodBetween z key p q → (e + (count + 1) ≤ n + tries) ⊎ StoodBetween z key p r
-by_one z key e m n count tries p q r one up (inl a) = inl (omega (arith, a, one))
-by_one z key e m n count tries p q r one up (inr s) = inr (stood_to z key p q r up s)
+-- and one more by the bit, which was found set
+pub by_bit : (b : Board) (key : List ℕ) (some more : ℕ) (p q : Pass) → IsReader b p q → Counts b.shape key some more (trace p) (trace q) → glanced p (bucket_of b.shape key) + 1 ≤ glanced q (bucket_of b.shape key) → StoodBetween b.shape key p q → Disturbs b.shape key some (more + 1) p q
+by_bit b key some more p q i c g stood = (moved_seen b i.reads.own p q i.reads.moved, omega (arith, c, g), inr stood)
 
-by_last : (z : Shape) (key : List ℕ) (e m n count tries : ℕ) (p q r : Pass) → m ≤ n → Begins (seen q) (seen r) → (e + count ≤ m + tries) ⊎ StoodBetween z key p q → (e + count ≤ n + tries) ⊎ StoodBetween z key p r
-by_last z key e m n count tries p q r le up (inl a) = inl (omega (arith, a, le))
-by_last z key e m n count tries p q r le up (inr s) = inr (stood_to z key p q r up s)
+-- 64 tries: so often the pass was disturbed
+is_disturbed_by : (z : Shape) (key : List ℕ) (p q : Pass) → 64 ≤ disturbed z key p q → Counts z key 0 64 (trace p) (trace q) ⊎ StoodBetween z key p q → IsDisturbed z key p q
+is_disturbed_by z key p q all (inl a) = inl (omega (arith, a))
+is_disturbed_by z key p q all (inr s) = inr (all, s)
 
-pub first_try : (b : Board) (key : List ℕ) (place : Place) (tries : ℕ) (item : Item) (w : ℕ) (p q : Pass) → IsReader b p q → SawWord b.shape place w (trace p) (trace q) → item_word item ≡ w → item.tag ≡ tag_of key
-    → TryingVersion b.shape key place tries item tries p q
-first_try b key place tries item w p q i s is tag =
-    let e = entries_begin b.shape (bucket_of b.shape key) (trace p) s.at s.between.0 in let g = glances_grow b i.reads.own p q (bucket_of b.shape key) i.reads.moved in record {
-      saw = record { at = s.at; between = s.between; lawful = s.lawful; stood = s.stood ∙ sym is };
-      tag = tag;
-      counted = omega arith;
-      by = inl (omega arith);
-    }
-
-pub changed_try : (b : Board) (key : List ℕ) (place : Place) (tries : ℕ) (item : Item) (count : ℕ) (other : Item) (w : ℕ) (p q r : Pass) → IsValid b.shape → IsPlaceOf b.shape (trace p) key place → IsReader b p q → IsReader b q r
-    → TryingVersion b.shape key place tries item count p q → SawWord b.shape place w (trace q) (trace r) → ¬ (IsSameItem (item_word item) w) → item_word other ≡ w → other.tag ≡ tag_of key
-    → TryingVersion b.shape key place tries other (count + 1) p r
-changed_try b key place tries item count other w p q r v of i j y s ne is tag =
-    let z = b.shape in let old = y.saw.at in
-    let e = same_place z (trace p) old place y.saw.lawful y.saw.between.0 of.0 in
-    let there : IsPlaceOf z old key place = (chained_later z (trace p) old place y.saw.lawful y.saw.between.0 of.0, e.0 ∙ of.1) in
-    let before : Trying z key place 0 item 0 old (trace q) = record {
-      saw = record { at = old; between = (([], refl), y.saw.between.1); lawful = y.saw.lawful; stood = y.saw.stood };
-      tag = y.tag;
-      counted = omega arith;
-    } in
-    let now = trying_on z key place 0 item 0 other w old (trace q) (trace r) v there y.saw.between.1 before s ne is tag in
-    let one = now.counted in let all = y.counted in let g = glances_grow b j.reads.own q r (bucket_of z key) j.reads.moved in record {
-      saw = record { at = now.saw.at; between = (begins_on (trace p) old now.saw.at y.saw.between.0 now.saw.between.0, now.saw.between.1); lawful = now.saw.lawful; stood = now.saw.stood };
-      tag = now.tag;
-      counted = omega arith;
-      by = by_one z key (entries_of z (bucket_of z key) (seen p)) (entries_of z (bucket_of z key) (event.seen old)) (entries_of z (bucket_of z key) (event.seen now.saw.at)) count tries p q r (omega (arith, one)) (seen_begins (trace q) (trace r) (moved_on b j.reads.own q r j.reads.moved)) y.by;
-    }
-
-pub held_try : (b : Board) (key : List ℕ) (place : Place) (tries : ℕ) (item : Item) (count : ℕ) (p q r : Pass) → IsReader b q r → TryingVersion b.shape key place tries item count p q
-    → glanced q (bucket_of b.shape key) + 1 ≤ glanced r (bucket_of b.shape key) → StoodBetween b.shape key q r → TryingVersion b.shape key place tries item (count + 1) p r
-held_try b key place tries item count p q r j y set stood = let all = y.counted in record {
-  saw = record { at = y.saw.at; between = (y.saw.between.0, begins_on y.saw.at (trace q) (trace r) y.saw.between.1 (moved_on b j.reads.own q r j.reads.moved)); lawful = y.saw.lawful; stood = y.saw.stood };
-  tag = y.tag;
-  counted = omega arith;
-  by = inr (stood_from b.shape key p q r (seen_begins (trace p) (trace q) (begins_on (trace p) y.saw.at (trace q) y.saw.between.0 y.saw.between.1)) stood);
-}
-
-pub all_tries : (b : Board) (key : List ℕ) (place : Place) (tries : ℕ) (item : Item) (count : ℕ) (p q r : Pass) → IsReader b q r → TryingVersion b.shape key place tries item count p q → Disturbs b.shape key tries count p r
-all_tries b key place tries item count p q r j y =
-    let all = y.counted in let g = glances_grow b j.reads.own q r (bucket_of b.shape key) j.reads.moved in let on = moved_on b j.reads.own q r j.reads.moved in
-    let last = begins_on y.saw.at (trace q) (trace r) y.saw.between.1 on in
-    let e = entries_begin b.shape (bucket_of b.shape key) y.saw.at (trace r) last in
-    let z = b.shape in let c = bucket_of z key in (
-      seen_begins (trace p) (trace r) (begins_on (trace p) y.saw.at (trace r) y.saw.between.0 last),
-      omega arith,
-      by_last z key (entries_of z c (seen p)) (entries_of z c (event.seen y.saw.at)) (entries_of z c (seen r)) count tries p q r e (seen_begins (trace q) (trace r) on) y.by,
-    )
+pub is_disturbed : (b : Board) (key : List ℕ) (p q : Pass) → IsReader b p q → Disturbs b.shape key 0 64 p q → IsDisturbed b.shape key p q
+is_disturbed b key p q i x =
+    let e = entries_begin b.shape (bucket_of b.shape key) (trace p) (trace q) (moved_on b i.reads.own p q i.reads.moved) in let g = glances_grow b i.reads.own p q (bucket_of b.shape key) i.reads.moved in let c = x.1 in
+    is_disturbed_by b.shape key p q (omega (arith, e, g, c)) x.2

@@ -42,9 +42,9 @@ use Rattle.segstore.proofs.Seconds.{segment_of_item, row_of_item}
 use Rattle.segread.specs.declared.held.Hold.{Hold}
 use Rattle.segread.specs.declared.held.HoldAnswer.{HoldAnswer}
 use Rattle.segread.specs.declared.held.HoldAnswer.TheVariants as answer
-use Rattle.segpass.specs.Calls.{memo, GoesOn, ChangesNothing, TakesNoBit, DrawsNothing}
+use Rattle.segpass.specs.Calls.{memo, GoesOn, ChangesNothing, TakesNoBit, DrawsNothing, RaisesNothing}
 use Rattle.segpass.specs.Quiet.{IsLock, IsHold, is_held_in, IsQuiet}
-use Rattle.segread.specs.Scanning.{Tries}
+use Rattle.segread.specs.Hits.{TriesFew}
 use Rattle.segread.specs.Holds.{IsRowOf, IsHoldOf, KeepsButHold, TakesHold, IsHoldAnswer, HoldsItem, NoneFills, IsUnfilled, Releases, SetsHold}
 use Rattle.segpass.proofs.Still.{then_minds}
 use Rattle.segpass.proofs.Bits.{none_at_both, bit_before}
@@ -213,13 +213,13 @@ module _ (b : Board) (p r q : Pass) (place : Place) (item : Item) (key value : L
   )
 
 -- no item was found
-pub holds_none : (b : Board) (key : List ℕ) (told : HoldAnswer) (p q : Pass) → IsQuiet b p → IsReader b p q → Tries 28 0 63 p q → (ChangesNothing p q → IsHoldAnswer b.shape key told p q) → ((told ≡ answer.AlreadyHolding) ↔ (is_holding_of p ≡ true)) → HoldsItem b key told p q
-holds_none b key told p q quiet i tried then already = let on = read_on b p q quiet i.reads i.plain i.memo in record {
+pub holds_none : (b : Board) (key : List ℕ) (told : HoldAnswer) (p q : Pass) → IsQuiet b p → IsReader b p q → TriesFew p q → RaisesNothing p q → (ChangesNothing p q → IsHoldAnswer b.shape key told p q) → ((told ≡ answer.AlreadyHolding) ↔ (is_holding_of p ≡ true)) → HoldsItem b key told p q
+holds_none b key told p q quiet i few none then already = let on = read_on b p q quiet i.reads i.plain i.memo in record {
   on = on.0;
   takes_no_bit = reads_no_bit b p q i;
   draws_nothing = reader_draws_none b p q i.reads;
-  raises_nothing = tried.raises_nothing;
-  tries = let few = tried.comes_in in omega arith;
+  raises_nothing = none;
+  tries = few;
   answer = then on.1;
   already = already;
 }

@@ -6,7 +6,8 @@ pub mod Scans
 pub mod Answered
 pub mod Disturbing
 pub mod OneMoment
-pub mod VersionScans
+pub mod Versions
+pub mod Finding
 pub mod Holding
 pub mod Hits
 pub mod HoldCalls

@@ -38,10 +38,6 @@ same_row_part v w e = low v ∙ (ap (λ n. n % 2 ^ 20) e.2 ∙ sym (low w))
     low : (n : ℕ) → n % 2 ^ 20 ≡ n % 2 ^ 44 % 2 ^ 20
     low n = omega arith
 
--- what is the same item as one is the same as another that is the same
-pub same_as : (one other packed now : ℕ) → packed ≡ other → IsSameItem one other → IsSameItem one now → IsSameItem packed now
-same_as one other packed now is a c = subst (λ w. IsSameItem w now) (sym is) (subst (λ n. 1 ≤ n) a.1 a.0, sym a.1 ∙ c.1, sym a.2 ∙ c.2)
-
 -- under a clear bit the version of the information word is the cache's
 clear_version : (z : Shape) (h : List Event) (b : ℕ) → z.first_version < 2 ^ 32 → IsLawful z h → (bucket_after z h b).holder ≡ None → (z.first_version + (bucket_after z h b).version) % 2 ^ 32 ≡ (after z (event.seen h)).version b
 clear_version z h b few l none =

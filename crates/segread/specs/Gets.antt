@@ -1,6 +1,8 @@
--- What a gets answers: a value and a version of one moment; and how its looks along the key's chain come to that, with the tries that they count and what they raise.
-use Rattle.std.specs.Prelude.{◌≡◌, ◌≢◌, ◌⊎◌, ℕ, ◌+◌, ◌-◌, ◌<◌, ◌≤◌, List, Option, Some, None}
+-- What a gets answers: a value and a version of one moment; and what each of its scans comes to, of which one goes on where the one before was disturbed.
+use Rattle.std.specs.Prelude.{◌≡◌, ◌≢◌, ◌⊎◌, true, false, ℕ, ◌+◌, ◌-◌, ◌<◌, ◌≤◌, List, Option, Some, None}
 use Rattle.segword.specs.declared.shape.Shape.{Shape}
+use Rattle.segword.specs.declared.info.Info.{Info}
+use Rattle.segword.specs.ItemWord.{item_word, tag_part}
 use Rattle.segword.specs.SameItem.{IsSameItem}
 use Rattle.segmodel.specs.declared.entry.Entry.{Entry}
 use Rattle.segmodel.specs.declared.answer.GetsAnswer.{GetsAnswer}
@@ -8,24 +10,25 @@ use Rattle.segmodel.specs.declared.answer.GetsAnswer.TheVariants as gets
 use Rattle.segmodel.specs.Places.{bucket_of}
 use Rattle.segmodel.specs.Cache.{reads_version}
 use Rattle.segmodel.specs.History.{after, Begins, IsBetween, entries_of, stirred}
-use Rattle.segcore.specs.Ahead.{WasGone}
-use Rattle.segcore.specs.Search.{KeyGone}
 use Rattle.segcore.specs.Kind.{HasBit}
+use Rattle.segcore.specs.Lawful.{IsSegment}
 use Rattle.segbase.specs.declared.board.Board.{Board}
 use Rattle.segbase.specs.declared.pass.Pass.{Pass}
 use Rattle.segbase.specs.declared.place.Place.{Place}
 use Rattle.segbase.specs.Passes.{number, trace, seen, glanced}
 use Rattle.segbase.specs.Plain.{locked_of}
 use Rattle.segbase.specs.Spots.{position}
-use Rattle.segstore.specs.Linked.{SawWord}
-use Rattle.segread.specs.declared.version.Versioned.{Versioned}
-use Rattle.segread.specs.declared.version.Versioned.TheVariants as versioned
-use Rattle.segread.specs.declared.version.Visited.{Visited}
-use Rattle.segread.specs.declared.version.Visited.TheVariants as visited
-use Rattle.segpass.specs.Calls.{GoesOn, ChangesNothing, TakesNoBit, DrawsNothing, RaisesNothing}
+use Rattle.segstore.specs.Reading.{IsReader, IsReaderIn}
+use Rattle.segstore.specs.Linked.{word_at, FoundItem}
+use Rattle.segread.specs.declared.scan.Hit.{Hit}
+use Rattle.segread.specs.declared.version.Sight.{Sight}
+use Rattle.segread.specs.declared.version.Sight.TheVariants as sight
+use Rattle.segread.specs.declared.version.Attempt.{Attempt}
+use Rattle.segread.specs.declared.version.Attempt.TheVariants as attempt
+use Rattle.segpass.specs.Calls.{GoesOn, ChangesNothing, TakesNoBit, DrawsNothing}
 use Rattle.segread.specs.Reads.{ReadsBetween}
 use Rattle.segread.specs.Hits.{TriesFew, RaisesOne, GetsRaises}
-use Rattle.segread.specs.Scanning.{Counts, HasPassed}
+use Rattle.segread.specs.Scanning.{IsPlaceOf, words_below, ComesIn, Tries, Counts, Brings, IsEnded, GivesUp}
 
 -- ---- the answer
 
@@ -80,38 +83,49 @@ Disturbs shape key some more p q =
     Begins (seen p) (seen q) × (entries_of shape bucket (seen p) + glanced p bucket + more ≤ entries_of shape bucket (seen q) + glanced q bucket + some)
     × (Counts shape key some more (trace p) (trace q) ⊎ StoodBetween shape key p q)
 
--- how many tries were counted when looks ended so; the last one of those that found the key, or gave up, is its word's own
-abbrev pub visits : Visited → ℕ
-visits (visited.Passed word tries) = tries
-visits _ = 63
+-- ---- one scan for the key and its version, from a position on, with so many tries counted before
 
--- only a hit raises a frequency
-abbrev pub TryRaises : Shape → List ℕ → ℕ → Versioned → Pass → Pass → Type 0
-TryRaises shape key draw (versioned.Found value version) p q = RaisesOne shape key value draw p q
-TryRaises shape key draw _ p q = RaisesNothing p q
+-- The key's item was found, and the pass is still in its segment. The bucket's information was looked at, and after that the word in the item's place.
+pub record IsSeen (b : Board) (key : List ℕ) (from tries : ℕ) (hit : Hit) (value : List ℕ) (info : Info) (word : ℕ) (p q : Pass) : Type 0 where
+  pub reads : IsReaderIn b p q hit.item.seg
+  pub in_table : IsSegment b.shape hit.item.seg
+  pub few : hit.tries < 64
+  pub place : IsPlaceOf b.shape (trace q) key hit.place
+  pub tried : Tries from (position b.shape (trace q) hit.place) tries (hit.tries + 1) p q
+  pub onward : words_below from + tries ≤ words_below (position b.shape (trace q) hit.place) + hit.tries
+  pub brings : Brings b.shape key from (position b.shape (trace q) hit.place) (trace p) (trace q)
+  pub counted : Counts b.shape key tries hit.tries (trace p) (trace q)
+  pub stood : StoodBetween b.shape key p q
+  pub stands : word ≡ word_at b.shape (trace q) hit.place
+  -- the bit was set
+  pub glanced : info.held ≡ true → glanced p (bucket_of b.shape key) + 1 ≤ glanced q (bucket_of b.shape key)
+  -- another item stood there
+  pub changed : ¬ (IsSameItem (item_word hit.item) word) → 1 ≤ tag_part word
+      → Counts b.shape key tries (hit.tries + 1) (trace p) (trace q)
+  -- the bit was clear, and the item stood there still
+  pub version : info.held ≡ false → IsSameItem (item_word hit.item) word
+      → ReadsVersionBetween b.shape key (seen p) (seen q) (Some (value, info.version))
+  pub found : info.held ≡ false → FoundItem b.shape hit.place (item_word hit.item) key value (trace p) (trace q)
 
-abbrev pub VisitRaises : Shape → List ℕ → ℕ → Visited → Pass → Pass → Type 0
-VisitRaises shape key draw (visited.Found value version) p q = RaisesOne shape key value draw p q
-VisitRaises shape key draw _ p q = RaisesNothing p q
+abbrev pub IsSight : Board → List ℕ → ℕ → ℕ → Sight → Pass → Pass → Type 0
+IsSight b key from tries (sight.Found hit value info word) p q = IsSeen b key from tries hit value info word p q
+IsSight b key from tries sight.Absent p q = IsReader b p q × IsEnded b.shape key from tries p q
+IsSight b key from tries sight.Busy p q = IsReader b p q × GivesUp b.shape key from tries p q
 
--- one try at a place where this item word was seen
-abbrev pub IsVersioned : Shape → List ℕ → Place → ℕ → Versioned → Pass → Pass → Type 0
-IsVersioned shape key place word (versioned.Found value version) p q = ReadsVersionBetween shape key (seen p) (seen q) (Some (value, version))
-IsVersioned shape key place word (versioned.Other now) p q =
-    let at = position shape (trace p) place in
-    HasPassed shape key at (at + 1) place now (trace p) (trace q)
-IsVersioned shape key place word (versioned.Changed now) p q = SawWord shape place now (trace p) (trace q) × ¬ (IsSameItem word now)
-IsVersioned shape key place word versioned.Held p q = (glanced p (bucket_of shape key) + 1 ≤ glanced q (bucket_of shape key)) × StoodBetween shape key p q
+-- The next scan goes on from this place, with so many tries counted. It has a try less or a word less before it.
+pub record MovesOn (shape : Shape) (key : List ℕ) (from tries : ℕ) (next : Place) (counted : ℕ) (p q : Pass) : Type 0 where
+  pub few : counted ≤ 64
+  pub place : IsPlaceOf shape (trace q) key next
+  pub disturbs : Disturbs shape key tries counted p q
+  pub tried : Tries from (position shape (trace q) next) tries counted p q
+  pub brings : Brings shape key from (position shape (trace q) next) (trace p) (trace q)
+  pub onward : words_below from + tries < words_below (position shape (trace q) next) + counted
 
--- looks at the words of the key's chain from one position up to another, the last of which is at this place
-abbrev pub IsVisited : Shape → List ℕ → ℕ → ℕ → Place → ℕ → Visited → Pass → Pass → Type 0
-IsVisited shape key from to last tries (visited.Found value version) p q = ReadsVersionBetween shape key (seen p) (seen q) (Some (value, version))
-IsVisited shape key from to last tries (visited.Passed word counted) p q =
-    (counted < 64) × Disturbs shape key tries counted p q × HasPassed shape key from to last word (trace p) (trace q)
-IsVisited shape key from to last tries visited.Busy p q = Disturbs shape key tries 64 p q
-
--- a scan of the whole chain
-abbrev pub IsVersionScan : Shape → List ℕ → GetsAnswer → Pass → Pass → Type 0
-IsVersionScan shape key (gets.Found value version) p q = ReadsVersionBetween shape key (seen p) (seen q) (Some (value, version))
-IsVersionScan shape key gets.Miss p q = WasGone (KeyGone shape key) (trace p) (trace q)
-IsVersionScan shape key gets.Busy p q = Disturbs shape key 0 64 p q
+-- one scan answers, or goes on
+abbrev pub IsAttempt : Shape → List ℕ → ℕ → ℕ → ℕ → Attempt → Pass → Pass → Type 0
+IsAttempt shape key draw from tries (attempt.Told (gets.Found value version)) p q =
+    ReadsVersionBetween shape key (seen p) (seen q) (Some (value, version))
+    × RaisesOne shape key value draw p q × ComesIn from 32 tries 63 p q
+IsAttempt shape key draw from tries (attempt.Told gets.Miss) p q = IsEnded shape key from tries p q
+IsAttempt shape key draw from tries (attempt.Told gets.Busy) p q = Disturbs shape key tries 64 p q × Tries from 32 tries 63 p q
+IsAttempt shape key draw from tries (attempt.GoesOn place counted) p q = MovesOn shape key from tries place counted p q

@@ -1,24 +1,24 @@
 -- A reader's way along the chain of a key, without the bucket's bit: what its looks found, how many tries it counted, and how often it came into segments.
-use Rattle.std.specs.Prelude.{◌≡◌, ℕ, ◌+◌, ◌-◌, ◌*◌, ◌<◌, ◌≤◌, nat_lt, List, if◌then◌else◌}
+use Rattle.std.specs.Prelude.{◌≡◌, ◌⊎◌, ℕ, ◌+◌, ◌-◌, ◌/◌, ◌<◌, ◌≤◌, List, Option, Some, None}
 use Rattle.segword.specs.declared.shape.Shape.{Shape}
+use Rattle.segword.specs.ChainWord.{chain_word, IsChainWord}
 use Rattle.segmodel.specs.Places.{bucket_of}
 use Rattle.segmodel.specs.History.{Begins, entries_of}
 use Rattle.segcore.specs.declared.event.Event.{Event}
 use Rattle.segcore.specs.Event.{seen}
-use Rattle.segcore.specs.Overflow.{home_of}
 use Rattle.segcore.specs.Segment.{inside}
-use Rattle.segcore.specs.Word.{IsItemAt}
 use Rattle.segcore.specs.Ahead.{WasGone}
 use Rattle.segcore.specs.Search.{KeyGone, KeyAhead}
 use Rattle.segbase.specs.declared.board.Board.{Board}
 use Rattle.segbase.specs.declared.pass.Pass.{Pass}
 use Rattle.segbase.specs.declared.place.Place.{Place}
 use Rattle.segbase.specs.Passes.{number, trace, entered}
-use Rattle.segbase.specs.Spots.{IsPlace, cell_at, home_bucket, depth_of}
+use Rattle.segbase.specs.Spots.{home_bucket, position}
 use Rattle.segstore.specs.Reading.{IsReader, IsReaderIn}
 use Rattle.segstore.specs.Linked.{IsChained, SawWord, FoundKey}
 use Rattle.segstore.specs.declared.read.Keyed.{Keyed}
 use Rattle.segstore.specs.declared.read.Keyed.TheVariants as keyed
+use Rattle.segread.specs.declared.scan.Hit.{Hit}
 use Rattle.segread.specs.declared.scan.Way.{Way}
 use Rattle.segread.specs.declared.scan.Way.TheVariants as way
 use Rattle.segread.specs.declared.scan.Scan.{Scan}
@@ -27,10 +27,6 @@ use Rattle.segpass.specs.Calls.{RaisesNothing}
 
 -- ---- chains
 
--- how deep in its chain a bucket is
-abbrev pub bucket_depth : Shape → List Event → ℕ → ℕ
-bucket_depth shape trace bucket = if nat_lt bucket shape.buckets then 0 else depth_of (home_of trace (bucket - shape.buckets))
-
 abbrev pub place_of : ℕ → ℕ → Place
 place_of bucket word = record { bucket = bucket; word = word }
 
@@ -38,14 +34,16 @@ place_of bucket word = record { bucket = bucket; word = word }
 abbrev pub IsPlaceOf : Shape → List Event → List ℕ → Place → Type 0
 IsPlaceOf shape trace key place = IsChained shape trace place × (home_bucket shape trace place ≡ bucket_of shape key)
 
--- the bucket is the one at this depth of the key's chain
-abbrev pub IsBucketAt : Shape → List Event → List ℕ → ℕ → ℕ → Type 0
-IsBucketAt shape trace key depth bucket = (word : ℕ) → 0 < word → word < 8
-    → IsPlace shape (place_of bucket word) × IsItemAt shape trace (bucket_of shape key) (8 * depth + word) (cell_at shape (place_of bucket word))
+-- the place after one at which this word stood, if its chain has one
+abbrev pub IsPlaceAfter : Shape → Place → ℕ → Option Place → Type 0
+IsPlaceAfter shape place word (Some next) =
+    ((place.word < 7) × (next ≡ place_of place.bucket (place.word + 1)))
+    ⊎ ((7 ≤ place.word) × ((number : ℕ) × (number < 65536) × (chain_word number ≡ word) × (next ≡ place_of (shape.buckets + number) 1)))
+IsPlaceAfter shape place word None = (7 ≤ place.word) × ¬ (IsChainWord word)
 
--- it is one of the key's chain
-abbrev pub IsBucketOf : Shape → List Event → List ℕ → ℕ → Type 0
-IsBucketOf shape trace key bucket = IsBucketAt shape trace key (bucket_depth shape trace bucket) bucket
+-- how many item words of a chain come before a position: seven of each bucket; every chain ends before position 32
+abbrev pub words_below : ℕ → ℕ
+words_below at = at - 1 - (at - 1) / 8
 
 -- ---- readers
 
@@ -75,19 +73,15 @@ IsScanner b scan.Busy p q = IsReader b p q
 abbrev pub IsTry : Pass → Pass → Type 0
 IsTry p q = (entered q ≡ entered p + 1) × RaisesNothing p q
 
--- it came into segments at most once for each try that was counted, from some to more, and once for each of so many words
-abbrev pub ComesIn : ℕ → ℕ → ℕ → Pass → Pass → Type 0
-ComesIn words some more p q = entered q + some ≤ entered p + more + words
+-- it came into segments at most once for each try that was counted, from some to more, and once for each word from one position up to another
+abbrev pub ComesIn : ℕ → ℕ → ℕ → ℕ → Pass → Pass → Type 0
+ComesIn from to some more p q = entered q + words_below from + some ≤ entered p + words_below to + more
 
--- and it raised the frequency of no item
-pub record Tries (words some more : ℕ) (p q : Pass) : Type 0 where
-  pub comes_in : ComesIn words some more p q
+-- and it raised the frequency of no item; words and tries together are no fewer
+pub record Tries (from to some more : ℕ) (p q : Pass) : Type 0 where
+  pub comes_in : ComesIn from to some more p q
+  pub onward : words_below from + some ≤ words_below to + more
   pub raises_nothing : RaisesNothing p q
-
--- how many tries were counted when looks ended so; the last one of those that found the key, or gave up, is its word's own
-abbrev pub counted : Way → ℕ
-counted (way.Passed word tries) = tries
-counted _ = 63
 
 -- ---- what was found
 
@@ -104,11 +98,46 @@ pub record HasPassed (shape : Shape) (key : List ℕ) (from to : ℕ) (place : P
   pub last : SawWord shape place word before now
   pub brings : Brings shape key from to before last.at
 
--- looks at the words of the key's chain from one position up to another, the last of which is at this place
-abbrev pub IsWay : Shape → List ℕ → ℕ → ℕ → Place → ℕ → Way → List Event → List Event → Type 0
-IsWay shape key from to last tries (way.Found hit) before now = FoundKey shape hit.place hit.item hit.header key before now
-IsWay shape key from to last tries (way.Passed word counted) before now = (counted < 64) × Counts shape key tries counted before now × HasPassed shape key from to last word before now
-IsWay shape key from to last tries way.Busy before now = Counts shape key tries 64 before now
+-- ---- what looks along the key's chain came to, from a position on, with so many tries counted before
+
+-- The key's item was found. So many tries were counted up to the moment at which it stood, and a search for the key may go on from its place.
+pub record IsHit (shape : Shape) (key : List ℕ) (from tries : ℕ) (hit : Hit) (p q : Pass) : Type 0 where
+  pub found : FoundKey shape hit.place hit.item hit.header key (trace p) (trace q)
+  pub few : hit.tries < 64
+  pub counted : Counts shape key tries hit.tries (trace p) found.found.saw.at
+  pub tried : Tries from (position shape (trace q) hit.place) tries (hit.tries + 1) p q
+  pub onward : words_below from + tries ≤ words_below (position shape (trace q) hit.place) + hit.tries
+  pub brings : Brings shape key from (position shape (trace q) hit.place) (trace p) (trace q)
+
+-- none of the words up to a position was the key's; the last of them is at this place
+pub record IsPast (shape : Shape) (key : List ℕ) (from to tries counted : ℕ) (last : Place) (word : ℕ) (p q : Pass) : Type 0 where
+  pub few : counted < 64
+  pub counts : Counts shape key tries counted (trace p) (trace q)
+  pub tried : Tries from to tries counted p q
+  pub passed : HasPassed shape key from to last word (trace p) (trace q)
+
+-- 64 tries are counted
+pub record GivesUp (shape : Shape) (key : List ℕ) (from tries : ℕ) (p q : Pass) : Type 0 where
+  pub counts : Counts shape key tries 64 (trace p) (trace q)
+  pub tried : Tries from 32 tries 63 p q
+
+-- The chain ended: a key that a search had still ahead there was gone at some point of the search.
+pub record IsEnded (shape : Shape) (key : List ℕ) (from tries : ℕ) (p q : Pass) : Type 0 where
+  pub gone : (start : List Event) → Begins start (trace p) → KeyAhead shape key from start (trace p)
+      → WasGone (KeyGone shape key) start (trace q)
+  pub tried : Tries from 32 tries 63 p q
+
+-- looks from one position up to another
+abbrev pub IsWay : Shape → List ℕ → ℕ → ℕ → Place → ℕ → Way → Pass → Pass → Type 0
+IsWay shape key from to last tries (way.Found hit) p q = IsHit shape key from tries hit p q
+IsWay shape key from to last tries (way.Passed word counted) p q = IsPast shape key from to tries counted last word p q
+IsWay shape key from to last tries way.Busy p q = GivesUp shape key from tries p q
+
+-- looks up to the chain's end
+abbrev pub IsScanFrom : Shape → List ℕ → ℕ → ℕ → Scan → Pass → Pass → Type 0
+IsScanFrom shape key from tries (scan.Found hit) p q = IsHit shape key from tries hit p q
+IsScanFrom shape key from tries scan.Absent p q = IsEnded shape key from tries p q
+IsScanFrom shape key from tries scan.Busy p q = GivesUp shape key from tries p q
 
 -- a scan of the whole chain
 abbrev pub IsScan : Shape → List ℕ → Scan → List Event → List Event → Type 0

@@ -1,24 +1,28 @@
-//! A reader's way along the chain of a key, without the bucket's bit: a look at each word, and at a word with the key's tag a second look from within the item's segment.
-ghost use Rattle.std.specs.Prelude.{◌≡◌, ◌≢◌, ◌+◌, ◌*◌, ◌<◌, ◌≤◌, IfSome, IsNone};
+//! A reader's way along the chain of a key, without the bucket's bit: a look at each word, and at a word with the key's tag a second look from within the item's segment. It can go on from any place of the chain.
+ghost use Rattle.std.specs.Prelude.{◌≡◌, ◌≢◌, ◌+◌, ◌<◌, ◌≤◌, IfSome, IsNone};
 ghost use Rattle.segword.specs.ItemWord.{item_word, tag_part};
-ghost use Rattle.segmodel.specs.Places.{bucket_of, tag_of};
+ghost use Rattle.segword.specs.Shape.{IsValid};
+ghost use Rattle.segmodel.specs.Places.{tag_of};
 ghost use Rattle.segcore.specs.Kind.{May, enter};
 ghost use Rattle.segbase.specs.Passes.{number, trace, IsPassOf};
 ghost use Rattle.segbase.specs.Spots.{position};
 ghost use Rattle.segstore.specs.Linked.{IsChained, IsKeyed};
-ghost use Rattle.segread.specs.Scanning.{bucket_depth, place_of, IsPlaceOf, IsBucketOf, MayEnterAny, IsTrial, IsOnWay, IsScanner, IsTry, Tries, counted, IsWay, IsScan};
 ghost use Rattle.segpass.specs.Quiet.{IsQuiet};
+ghost use Rattle.segpass.specs.Calls.{RaisesNothing};
+ghost use Rattle.segread.specs.Hits.{TriesFew};
+ghost use Rattle.segread.specs.Scanning.{place_of, IsPlaceOf, IsPlaceAfter, MayEnterAny, IsTrial, IsOnWay, IsScanner, IsTry, IsWay, IsScanFrom, IsScan};
 
 use segbase::{Board, CHAIN_BUCKETS, Pass, Place};
 use segstore::{Keyed, enter_segment, leave_segment, read_keyed};
 use segword::{Chain, Item, Key, KeyWords, bucket_of, hash, tag_of};
 
-// An item of the key, in whose segment the pass is: where it stands, and word 0 of its row.
+// An item of the key, in whose segment the pass is: where it stands, and word 0 of its row. So many tries were counted before it.
 #[derive(Clone, Copy, Drop)]
 pub(crate) struct Hit {
     pub(crate) place: Place,
     pub(crate) item: Item,
     pub(crate) header: u64,
+    pub(crate) tries: u32,
 }
 
 // How far looks at words of a chain came.
@@ -94,9 +98,8 @@ fn visit_word(
     requires tag { tag ≡ tag_of key.now }
     requires tries { tries < 64 }
     ensures reads { IsOnWay board.now result pass.old pass.new }
-    ensures tries { Tries 1 tries (counted result) pass.old pass.new }
     ensures way { let at = position board.now.shape (trace pass.old) place in
-        IsWay board.now.shape key.now at (at + 1) place tries result (trace pass.old) (trace pass.new) }
+        IsWay board.now.shape key.now at (at + 1) place tries result pass.old pass.new }
 {
     let word = board.look(pass, place);
     let Some(mut item) = item_of_tag(word, tag) else {
@@ -109,6 +112,7 @@ fn visit_word(
                     place,
                     item,
                     header,
+                    tries: count,
                 });
             }
             Keyed::Other(now) => return Way::Passed(now.pack(), count),
@@ -121,59 +125,108 @@ fn visit_word(
     Way::Busy
 }
 
-// Visits the words of one bucket of the chain.
+// Visits the words of one bucket of the chain, from a place on.
+#[inline(always)]
 fn visit_bucket(
     board: &Board,
     pass: &mut Pass,
-    bucket: u32,
+    start: Place,
     key: &KeyWords,
     tag: u16,
     mut tries: u32,
 ) -> Way
     requires pass { IsPassOf board.now pass.old }
     requires reader { MayEnterAny pass.old }
-    requires bucket { IsBucketOf board.now.shape (trace pass.old) key.now bucket }
+    requires start { IsPlaceOf board.now.shape (trace pass.old) key.now start }
     requires tag { tag ≡ tag_of key.now }
     requires tries { tries < 64 }
     ensures reads { IsOnWay board.now result pass.old pass.new }
-    ensures tries { Tries 7 tries (counted result) pass.old pass.new }
-    ensures way { let first = 8 * bucket_depth board.now.shape (trace pass.old) bucket in
-        IsWay board.now.shape key.now (first + 1) (first + 8) (place_of bucket 7) tries result (trace pass.old) (trace pass.new) }
+    ensures way { let last = place_of start.bucket 7 in
+        let at = position board.now.shape (trace pass.old) in
+        IsWay board.now.shape key.now (at start) (at last + 1) last tries result pass.old pass.new }
 {
-    for word in 1..7u8 {
-        match visit_word(board, pass, Place { bucket, word }, key, tag, tries) {
+    for word in start.word..7 {
+        match visit_word(
+            board,
+            pass,
+            Place {
+                bucket: start.bucket,
+                word,
+            },
+            key,
+            tag,
+            tries,
+        ) {
             Way::Passed(_, counted) => tries = counted,
             found => return found,
         }
     }
-    visit_word(board, pass, Place { bucket, word: 7 }, key, tag, tries)
+    visit_word(
+        board,
+        pass,
+        Place {
+            bucket: start.bucket,
+            word: 7,
+        },
+        key,
+        tag,
+        tries,
+    )
 }
 
-// Looks for a key along its chain, which begins with this bucket.
-pub(crate) fn scan_chain(
+// The place after one of a chain at which this word stood: the next word of its bucket, or word 1 of the bucket that its last word leads to.
+#[inline(always)]
+pub(crate) fn place_after(board: &Board, place: Place, word: u64) -> Option<Place>
+    requires valid { IsValid board.now.shape }
+    requires place { place.word < 8 }
+    ensures after { IsPlaceAfter board.now.shape place word result }
+{
+    if place.word < 7 {
+        return Some(Place {
+            bucket: place.bucket,
+            word: place.word + 1,
+        });
+    }
+    let Some(number) = Chain::unpack(word) else {
+        return None;
+    };
+    Some(Place {
+        bucket: board.shape().buckets + number,
+        word: 1,
+    })
+}
+
+// Looks for a key along its chain, from a place on. So many tries are counted so far.
+#[inline(always)]
+pub(crate) fn scan_from(
     board: &Board,
     pass: &mut Pass,
-    mut bucket: u32,
+    mut place: Place,
     key: &KeyWords,
     tag: u16,
+    mut tries: u32,
 ) -> Scan
     requires pass { IsPassOf board.now pass.old }
     requires reader { MayEnterAny pass.old }
-    requires bucket { bucket ≡ bucket_of board.now.shape key.now }
+    requires place { IsPlaceOf board.now.shape (trace pass.old) key.now place }
     requires tag { tag ≡ tag_of key.now }
+    requires tries { tries < 64 }
     ensures reads { IsScanner board.now result pass.old pass.new }
-    ensures tries { Tries 28 0 63 pass.old pass.new }
-    ensures scan { IsScan board.now.shape key.now result (trace pass.old) (trace pass.new) }
+    ensures scan { let at = position board.now.shape (trace pass.old) place in
+        IsScanFrom board.now.shape key.now at tries result pass.old pass.new }
 {
-    let mut tries = 0;
     for depth in 0..CHAIN_BUCKETS {
-        match visit_bucket(board, pass, bucket, key, tag, tries) {
+        match visit_bucket(board, pass, place, key, tag, tries) {
             Way::Found(hit) => return Scan::Found(hit),
             Way::Passed(word, counted) => {
-                let Some(number) = Chain::unpack(word) else {
+                let last = Place {
+                    bucket: place.bucket,
+                    word: 7,
+                };
+                let Some(next) = place_after(board, last, word) else {
                     return Scan::Absent;
                 };
-                bucket = board.shape().buckets + number;
+                place = next;
                 tries = counted;
             }
             Way::Busy => return Scan::Busy,
@@ -182,14 +235,18 @@ pub(crate) fn scan_chain(
     Scan::Absent
 }
 
-// Looks for a key, whose hash and words are made here, once a call.
+// Looks for a key along its whole chain. Its hash and words are made here, once a call.
 pub(crate) fn scan_for(board: &Board, pass: &mut Pass, key: &Key) -> Scan
     requires pass { IsQuiet board.now pass.old }
     ensures reads { IsScanner board.now result pass.old pass.new }
-    ensures tries { Tries 28 0 63 pass.old pass.new }
+    ensures tries { TriesFew pass.old pass.new }
+    ensures raises_nothing { RaisesNothing pass.old pass.new }
     ensures scan { IsScan board.now.shape key.now result (trace pass.old) (trace pass.new) }
 {
     let hash = hash(key);
-    let bucket = bucket_of(hash, board.shape().buckets);
-    scan_chain(board, pass, bucket, &KeyWords::new(key), tag_of(hash))
+    let start = Place {
+        bucket: bucket_of(hash, board.shape().buckets),
+        word: 1,
+    };
+    scan_from(board, pass, start, &KeyWords::new(key), tag_of(hash), 0)
 }

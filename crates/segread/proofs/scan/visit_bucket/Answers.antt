@@ -1,63 +1,46 @@
-use Rattle.std.proofs.Common.{◌≡◌, ◌+◌, ◌-◌, ◌*◌, [], refl, subst, arith}
+use Rattle.std.proofs.Common.{◌≡◌, ◌+◌, refl, subst, inl, arith}
 use Rattle.segbase.specs.Passes.{trace}
-use Rattle.segbase.proofs.Moves.{moved_on}
-use Rattle.segstore.proofs.Readers.{stays, reader_then}
-use Rattle.segread.specs.Scanning.{bucket_depth, place_of, counted, Brings}
-use Rattle.segread.proofs.ComingIn.{tries_none, tries_then, at_most}
-use Rattle.segread.proofs.Tries.{counts_none, counts_then}
-use Rattle.segread.proofs.Scans.{bucket_later, place_in, on_way, brings_none, brings_now, passed_as, way_as, way_stops, way_ends}
+use Rattle.segbase.specs.Spots.{position}
+use Rattle.segread.specs.Scanning.{place_of, IsPlaceOf, IsWay}
+use Rattle.segread.proofs.Scans.{HasScanned, last_of, on_way, scanned_none, scanned_next, way_then, way_else, next_of}
 use Rattle.segread.proofs.scan.visit_bucket.Goals as goal
 
 pub loop-word-init : goal.loop-word-init
-loop-word-init c = let b = c.args.board.now in let h = trace c.args.pass.now in record {
-  reads = stays b c.args.pass.now c.requires.pass;
-  few = c.requires.tries;
-  tried = tries_none c.args.tries c.args.pass.now;
-  counted = counts_none b.shape c.args.key.now c.args.tries h h ([], refl);
-  brings = brings_none b.shape c.args.key.now (8 * bucket_depth b.shape h c.args.bucket + 1) h;
+loop-word-init c = let b = c.args.board.now in let p = c.args.pass.now in record {
+  scanned = scanned_none b c.args.key.now (position b.shape (trace p) c.args.start) c.args.tries p c.requires.pass c.requires.tries;
+  place = c.requires.start;
 }
-
-pub visit_word-requires-clause-place : goal.visit_word-requires-clause-place
-visit_word-requires-clause-place c = let b = c.args.board.now in let m = c.loop-word.invariant.reads.reads.moved in let h = trace c.args.pass.now in let g = trace c.loop-word.pass in let d = bucket_depth b.shape h c.args.bucket in
-    (place_in b.shape c.args.key.now d c.args.bucket c.loop-word.word g (bucket_later b.shape c.args.key.now d c.args.bucket h g m.pass.lawful (moved_on b _ c.args.pass.now c.loop-word.pass m) c.requires.bucket) (let low = c.loop-word.auto.word in omega arith) (let high = c.loop-word-test.true in omega arith)).0
 
 pub returns-in_default : goal.returns-in_default
-returns-in_default c = let b = c.args.board.now in let i = c.loop-word.invariant in let v = c.visit_word in let h = trace c.args.pass.now in let g = trace c.loop-word.pass in record {
-  reads = on_way b v.result c.args.pass.now c.loop-word.pass v.new.pass i.reads v.ensures.reads;
-  tries = let high = c.loop-word-test.true in
-      at_most (c.loop-word.word - 1 + 1) 7 c.args.tries (counted v.result) (counted v.result) c.args.pass.now v.new.pass (omega arith) (tries_then (c.loop-word.word - 1) 1 c.args.tries c.loop-word.tries (counted v.result) c.args.pass.now c.loop-word.pass v.new.pass i.tried v.ensures.tries);
-  way = way_stops b.shape c.args.key.now _ _ _ _ (place_of c.args.bucket c.loop-word.word) (place_of c.args.bucket 7) c.args.tries c.loop-word.tries v.result h g (trace v.new.pass) c.in_default.not-Passed (moved_on b _ c.args.pass.now c.loop-word.pass i.reads.reads.moved) i.counted v.ensures.way;
-}
-
-pub loop-word-preserved : goal.loop-word-preserved
-loop-word-preserved c = let b = c.args.board.now in let i = c.loop-word.invariant in let x = c.in-Passed.ensures in let h = trace c.args.pass.now in let g = trace c.loop-word.pass in let f = trace c.visit_word.new.pass in
-    let d = bucket_depth b.shape h c.args.bucket in let up = moved_on b _ c.args.pass.now c.loop-word.pass i.reads.reads.moved in
-    let at = place_in b.shape c.args.key.now d c.args.bucket c.loop-word.word g (bucket_later b.shape c.args.key.now d c.args.bucket h g i.reads.reads.moved.pass.lawful up c.requires.bucket) (let low = c.loop-word.auto.word in omega arith) (let high = c.loop-word-test.true in omega arith) in record {
-      reads = reader_then b c.args.pass.now c.loop-word.pass c.visit_word.new.pass i.reads x.reads;
-      few = x.way.0;
-      tried = let low = c.loop-word.auto.word in
-          at_most (c.loop-word.word - 1 + 1) (c.loop-word.word + 1 - 1) c.args.tries c.in-Passed.counted c.in-Passed.counted c.args.pass.now c.visit_word.new.pass (omega arith) (tries_then (c.loop-word.word - 1) 1 c.args.tries c.loop-word.tries c.in-Passed.counted c.args.pass.now c.loop-word.pass c.visit_word.new.pass i.tried x.tries);
-      counted = counts_then b.shape c.args.key.now c.args.tries c.loop-word.tries c.in-Passed.counted h g f i.counted x.way.1;
-      brings = brings_now b.shape c.args.key.now (8 * d + 1) (8 * d + c.loop-word.word) (8 * d + (c.loop-word.word + 1)) (place_of c.args.bucket c.loop-word.word) c.in-Passed.field-0 h g f x.reads.reads.moved.pass.lawful up i.brings
-          (passed_as b.shape c.args.key.now _ d c.loop-word.word (place_of c.args.bucket c.loop-word.word) c.in-Passed.field-0 g f at.1 x.way.2);
+returns-in_default c =
+    let b = c.args.board.now in let z = b.shape in let key = c.args.key.now in let p = c.args.pass.now in let q = c.loop-word.pass in let v = c.visit_word in let s = c.loop-word.invariant.scanned in
+    let here = place_of c.args.start.bucket c.loop-word.word in let last = place_of c.args.start.bucket 7 in let from = position z (trace p) c.args.start in let mid = position z (trace q) here in record {
+      reads = on_way b v.result p q v.new.pass s.reads v.ensures.reads;
+      way = way_else z key from (mid + 1) (position z (trace p) last + 1) here last c.args.tries v.result p v.new.pass c.in_default.not-Passed
+          (way_then b key from mid c.args.tries c.loop-word.tries p q v.new.pass s (mid + 1) here v.result v.ensures.way);
     }
 
-pub visit_word-requires-2-clause-place : goal.visit_word-requires-2-clause-place
-visit_word-requires-2-clause-place c = let b = c.args.board.now in let m = c.loop-word.invariant.reads.reads.moved in let h = trace c.args.pass.now in let g = trace c.loop-word.pass in let d = bucket_depth b.shape h c.args.bucket in
-    (place_in b.shape c.args.key.now d c.args.bucket 7 g (bucket_later b.shape c.args.key.now d c.args.bucket h g m.pass.lawful (moved_on b _ c.args.pass.now c.loop-word.pass m) c.requires.bucket) (omega arith) (omega arith)).0
+pub loop-word-preserved : goal.loop-word-preserved
+loop-word-preserved c =
+    let b = c.args.board.now in let z = b.shape in let key = c.args.key.now in let p = c.args.pass.now in let q = c.loop-word.pass in let r = c.visit_word.new.pass in let i = c.loop-word.invariant in let x = c.in-Passed in
+    let here = place_of c.args.start.bucket c.loop-word.word in let next = place_of c.args.start.bucket (c.loop-word.word + 1) in let mid = position z (trace q) here in
+    let n = next_of z key here mid x.field-0 (trace q) (trace r) c.requires.pass.valid x.ensures.reads.reads.moved.pass.lawful i.place x.ensures.way.passed next (inl (c.loop-word-test.true, refl)) in record {
+      scanned = scanned_next b key (position z (trace p) c.args.start) mid c.args.tries c.loop-word.tries p q r i.scanned (mid + 1) x.counted here next x.field-0 x.ensures.reads x.ensures.way n;
+      place = n.place;
+    }
 
 pub returns-clause-reads : goal.returns-clause-reads
-returns-clause-reads c = let v = c.visit_word-2 in on_way c.args.board.now v.result c.args.pass.now c.loop-word.pass v.new.pass c.loop-word.invariant.reads v.ensures.reads
+returns-clause-reads c = let v = c.visit_word-2 in on_way c.args.board.now v.result c.args.pass.now c.loop-word.pass v.new.pass c.loop-word.invariant.scanned.reads v.ensures.reads
 
-pub returns-clause-tries : goal.returns-clause-tries
-returns-clause-tries c = let v = c.visit_word-2 in let over = c.loop-word-test.false in let end = c.loop-word.auto.word-end in
-    at_most (c.loop-word.word - 1 + 1) 7 c.args.tries (counted v.result) (counted v.result) c.args.pass.now v.new.pass (omega arith) (tries_then (c.loop-word.word - 1) 1 c.args.tries c.loop-word.tries (counted v.result) c.args.pass.now c.loop-word.pass v.new.pass c.loop-word.invariant.tried v.ensures.tries)
+pub visit_word-requires-2-clause-place : goal.visit_word-requires-2-clause-place
+visit_word-requires-2-clause-place c = let i = c.loop-word.invariant in let most = i.place.0.in_table.2 in let over = c.loop-word-test.false in
+    subst (λ w. IsPlaceOf c.args.board.now.shape (trace c.loop-word.pass) c.args.key.now (place_of c.args.start.bucket w)) (let e : c.loop-word.word ≡ 7 = omega arith in e) i.place
 
 pub returns-clause-way : goal.returns-clause-way
-returns-clause-way c = let b = c.args.board.now in let i = c.loop-word.invariant in let v = c.visit_word-2 in let h = trace c.args.pass.now in let g = trace c.loop-word.pass in let f = trace v.new.pass in
-    let d = bucket_depth b.shape h c.args.bucket in let up = moved_on b _ c.args.pass.now c.loop-word.pass i.reads.reads.moved in
-    let at = place_in b.shape c.args.key.now d c.args.bucket 7 g (bucket_later b.shape c.args.key.now d c.args.bucket h g i.reads.reads.moved.pass.lawful up c.requires.bucket) (omega arith) (omega arith) in
-    let word : c.loop-word.word ≡ 7 = let over = c.loop-word-test.false in let end = c.loop-word.auto.word-end in omega arith in
-    way_ends b.shape c.args.key.now (8 * d + 1) (8 * d + 7) (8 * d + 8) (place_of c.args.bucket 7) c.args.tries c.loop-word.tries v.result h g f up i.counted
-    (subst (λ w. Brings b.shape c.args.key.now (8 * d + 1) (8 * d + w) h g) word i.brings)
-    (way_as b.shape c.args.key.now _ d (place_of c.args.bucket 7) c.loop-word.tries v.result g f at.1 v.ensures.way)
+returns-clause-way c =
+    let b = c.args.board.now in let z = b.shape in let key = c.args.key.now in let p = c.args.pass.now in let q = c.loop-word.pass in let v = c.visit_word-2 in let i = c.loop-word.invariant in
+    let last = place_of c.args.start.bucket 7 in let from = position z (trace p) c.args.start in let mid = position z (trace q) last in
+    let seven : c.loop-word.word ≡ 7 = let most = i.place.0.in_table.2 in let over = c.loop-word-test.false in omega arith in
+    let s = subst (λ w. HasScanned b key from (position z (trace q) (place_of c.args.start.bucket w)) c.args.tries c.loop-word.tries p q) seven i.scanned in
+    subst (λ n. IsWay z key from (n + 1) last c.args.tries v.result p v.new.pass) (last_of b key c.args.start p q s.reads c.requires.start).1
+    (way_then b key from mid c.args.tries c.loop-word.tries p q v.new.pass s (mid + 1) last v.result v.ensures.way)

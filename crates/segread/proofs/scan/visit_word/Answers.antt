@@ -1,34 +1,18 @@
-use Rattle.std.proofs.Common.{◌+◌, ◌∙◌, [], refl, arith, sym, subst}
+use Rattle.std.proofs.Common.{◌∙◌, [], refl, arith, sym, subst}
 use Rattle.segbase.specs.Passes.{trace}
+use Rattle.segbase.specs.Spots.{position}
 use Rattle.segbase.proofs.Moves.{moved_on}
 use Rattle.segstore.specs.Linked.{SawItem}
 use Rattle.segstore.proofs.Words.{chained_later}
 use Rattle.segstore.proofs.Seconds.{looked_at}
 use Rattle.segstore.proofs.Readers.{looks, reader_then, enter_then}
-use Rattle.segread.proofs.ComingIn.{looked, tries_none, tries_out, tries_once, at_most}
-use Rattle.segread.proofs.Tries.{counts_none, trying_first, trying_on, tried, saw_now, passed_word, passed_other, hit_from, may_enter}
+use Rattle.segread.proofs.ComingIn.{looked, tries_none, tries_out, tries_once}
+use Rattle.segread.proofs.Tries.{counts_none, trying_first, trying_on, tried, saw_now, passed_word, passed_other, may_enter}
+use Rattle.segread.proofs.Scans.{in_chain, hit_here, word_passed, word_tried, word_given_up}
 use Rattle.segread.proofs.scan.visit_word.Goals as goal
 
 pub returns-in_default-clause-reads : goal.returns-in_default-clause-reads
 returns-in_default-clause-reads c = looks c.args.board.now _ c.look-word.new.pass (looked_at c.args.board.now c.args.pass.now c.look-word.new.pass c.args.place c.look-word.result c.look-word.ensures.step)
-
-pub returns-in_default-clause-way : goal.returns-in_default-clause-way
-returns-in_default-clause-way c = let b = c.args.board.now in let h = trace c.args.pass.now in let g = trace c.look-word.new.pass in let l = c.look-word.ensures in (
-  c.requires.tries,
-  counts_none b.shape c.args.key.now c.args.tries h g (moved_on b [] c.args.pass.now c.look-word.new.pass l.did.moved),
-  passed_word b.shape c.args.key.now c.args.place c.look-word.result c.args.tag h h g c.requires.pass.valid c.requires.place ([], refl) (saw_now b c.args.pass.now c.look-word.new.pass c.args.place c.look-word.result l.did l.found) c.requires.tag (c.in_default.ensures.none refl),
-)
-
-pub returns-in_default-clause-tries : goal.returns-in_default-clause-tries
-returns-in_default-clause-tries c = at_most 0 1 c.args.tries c.args.tries c.args.tries c.args.pass.now c.look-word.new.pass (omega arith) (tries_out 0 c.args.tries c.args.tries c.args.pass.now c.args.pass.now c.look-word.new.pass (tries_none c.args.tries c.args.pass.now) (looked c.args.board.now c.args.pass.now c.look-word.new.pass c.look-word.ensures.did.moved))
-
-pub loop-count-init : goal.loop-count-init
-loop-count-init c = let b = c.args.board.now in let l = c.look-word.ensures in let x = c.in-Some.ensures.some in record {
-  reads = looks b c.args.pass.now c.look-word.new.pass (looked_at b c.args.pass.now c.look-word.new.pass c.args.place c.look-word.result l.step);
-  tried = tries_out 0 c.args.tries c.args.tries c.args.pass.now c.args.pass.now c.look-word.new.pass (tries_none c.args.tries c.args.pass.now) (looked b c.args.pass.now c.look-word.new.pass l.did.moved);
-  trying = trying_first b.shape c.args.key.now c.args.place c.args.tries c.in-Some.item c.look-word.result (trace c.args.pass.now) (trace c.look-word.new.pass)
-      (saw_now b c.args.pass.now c.look-word.new.pass c.args.place c.look-word.result l.did l.found) x.0 (x.1 ∙ c.requires.tag);
-}
 
 pub try_item-requires-clause-place : goal.try_item-requires-clause-place
 try_item-requires-clause-place c = let b = c.args.board.now in let m = c.loop-count.invariant.reads.reads.moved in
@@ -41,55 +25,62 @@ try_item-requires-clause-may c = let i = c.loop-count.invariant in
 pub returns-in-Same-clause-reads : goal.returns-in-Same-clause-reads
 returns-in-Same-clause-reads c = enter_then c.args.board.now c.args.pass.now c.loop-count.pass c.try_item.new.pass c.in-Same.item.seg c.loop-count.invariant.reads c.in-Same.ensures.reads
 
-pub returns-in-Same-clause-tries : goal.returns-in-Same-clause-tries
-returns-in-Same-clause-tries c = let most = c.loop-count-test.true in
-    at_most 1 1 c.args.tries c.loop-count.count 63 c.args.pass.now c.try_item.new.pass (omega arith) (tries_once c.args.tries c.loop-count.count c.args.pass.now c.loop-count.pass c.try_item.new.pass c.loop-count.invariant.tried c.in-Same.ensures.once)
-
-pub returns-in-Same-clause-way : goal.returns-in-Same-clause-way
-returns-in-Same-clause-way c = let b = c.args.board.now in let m = c.loop-count.invariant.reads.reads.moved in
-    hit_from b.shape c.args.place c.in-Same.item c.in-Same.header c.args.key.now (trace c.loop-count.pass) (trace c.try_item.new.pass) (trace c.args.pass.now) (moved_on b _ c.args.pass.now c.loop-count.pass m) c.in-Same.ensures.keyed.1
-
 pub returns-in-Other-clause-reads : goal.returns-in-Other-clause-reads
 returns-in-Other-clause-reads c = reader_then c.args.board.now c.args.pass.now c.loop-count.pass c.try_item.new.pass c.loop-count.invariant.reads c.in-Other.ensures.reads
-
-pub returns-in-Other-clause-tries : goal.returns-in-Other-clause-tries
-returns-in-Other-clause-tries c = tries_once c.args.tries c.loop-count.count c.args.pass.now c.loop-count.pass c.try_item.new.pass c.loop-count.invariant.tried c.in-Other.ensures.once
-
-pub returns-in-Other-clause-way : goal.returns-in-Other-clause-way
-returns-in-Other-clause-way c = let b = c.args.board.now in let i = c.loop-count.invariant in let k = c.in-Other.ensures in
-    let h = trace c.args.pass.now in let g = trace c.loop-count.pass in let f = trace c.try_item.new.pass in (
-      c.loop-count-test.true,
-      tried b.shape c.args.key.now c.args.place c.args.tries c.loop-count.item c.loop-count.count h g f (moved_on b _ c.loop-count.pass c.try_item.new.pass k.reads.reads.moved) i.trying,
-      passed_other b.shape c.args.key.now k.keyed.1.0 k.keyed.1.1 c.args.place c.pack.result h g f c.requires.place (moved_on b _ c.args.pass.now c.loop-count.pass i.reads.reads.moved) k.keyed.1.2 (subst (λ w. SawItem b.shape c.args.place w k.keyed.1.0 k.keyed.1.1 g f) (sym c.pack.ensures) k.keyed.1.3),
-    )
 
 pub returns-in-None-clause-reads : goal.returns-in-None-clause-reads
 returns-in-None-clause-reads c = reader_then c.args.board.now c.args.pass.now c.loop-count.pass c.try_item.new.pass c.loop-count.invariant.reads c.in-Changed.ensures.reads
 
-pub returns-in-None-clause-tries : goal.returns-in-None-clause-tries
-returns-in-None-clause-tries c = tries_once c.args.tries c.loop-count.count c.args.pass.now c.loop-count.pass c.try_item.new.pass c.loop-count.invariant.tried c.in-Changed.ensures.once
-
-pub returns-in-None-clause-way : goal.returns-in-None-clause-way
-returns-in-None-clause-way c = let b = c.args.board.now in let i = c.loop-count.invariant in let k = c.in-Changed.ensures in
-    let h = trace c.args.pass.now in let g = trace c.loop-count.pass in let f = trace c.try_item.new.pass in (
-      c.loop-count-test.true,
-      tried b.shape c.args.key.now c.args.place c.args.tries c.loop-count.item c.loop-count.count h g f (moved_on b _ c.loop-count.pass c.try_item.new.pass k.reads.reads.moved) i.trying,
-      passed_word b.shape c.args.key.now c.args.place c.in-Changed.now c.args.tag h g f c.requires.pass.valid c.requires.place (moved_on b _ c.args.pass.now c.loop-count.pass i.reads.reads.moved) k.keyed.0 c.requires.tag (c.in-None.ensures.none refl),
-    )
+pub loop-count-init : goal.loop-count-init
+loop-count-init c = let b = c.args.board.now in let p = c.args.pass.now in let q = c.look-word.new.pass in let l = c.look-word.ensures in let x = c.in-Some.ensures.some in let at = position b.shape (trace p) c.args.place in record {
+  reads = looks b p q (looked_at b p q c.args.place c.look-word.result l.step);
+  tried = tries_out at at c.args.tries c.args.tries p p q (tries_none at c.args.tries p) (looked b p q l.did.moved);
+  trying = trying_first b.shape c.args.key.now c.args.place c.args.tries c.in-Some.item c.look-word.result (trace p) (trace q) (saw_now b p q c.args.place c.look-word.result l.did l.found) x.0 (x.1 ∙ c.requires.tag);
+}
 
 pub loop-count-preserved : goal.loop-count-preserved
 loop-count-preserved c = let b = c.args.board.now in let i = c.loop-count.invariant in let k = c.in-Changed.ensures in let x = c.in-Some-item_of_tag.ensures.some in
-    let h = trace c.args.pass.now in let g = trace c.loop-count.pass in let f = trace c.try_item.new.pass in record {
-      reads = reader_then b c.args.pass.now c.loop-count.pass c.try_item.new.pass i.reads k.reads;
-      tried = at_most 1 0 c.args.tries c.loop-count.count (c.loop-count.count + 1) c.args.pass.now c.try_item.new.pass (omega arith) (tries_once c.args.tries c.loop-count.count c.args.pass.now c.loop-count.pass c.try_item.new.pass i.tried k.once);
-      trying = trying_on b.shape c.args.key.now c.args.place c.args.tries c.loop-count.item c.loop-count.count c.in-Some-item_of_tag.other c.in-Changed.now h g f c.requires.pass.valid c.requires.place
-          (moved_on b _ c.args.pass.now c.loop-count.pass i.reads.reads.moved) i.trying k.keyed.0 k.keyed.1 x.0 (x.1 ∙ c.requires.tag);
+    let p = c.args.pass.now in let q = c.loop-count.pass in let r = c.try_item.new.pass in let at = position b.shape (trace p) c.args.place in record {
+      reads = reader_then b p q r i.reads k.reads;
+      tried = tries_once at at c.args.tries c.loop-count.count p q r i.tried k.once;
+      trying = trying_on b.shape c.args.key.now c.args.place c.args.tries c.loop-count.item c.loop-count.count c.in-Some-item_of_tag.other c.in-Changed.now (trace p) (trace q) (trace r) c.requires.pass.valid c.requires.place
+          (moved_on b _ p q i.reads.reads.moved) i.trying k.keyed.0 k.keyed.1 x.0 (x.1 ∙ c.requires.tag);
     }
 
-pub returns-clause-tries : goal.returns-clause-tries
-returns-clause-tries c = let end = c.loop-count.auto.count-end in at_most 0 1 c.args.tries c.loop-count.count 63 c.args.pass.now c.loop-count.pass (omega arith) c.loop-count.invariant.tried
+pub returns-in_default-clause-way : goal.returns-in_default-clause-way
+returns-in_default-clause-way c = let b = c.args.board.now in let p = c.args.pass.now in let q = c.look-word.new.pass in let l = c.look-word.ensures in let key = c.args.key.now in let at = position b.shape (trace p) c.args.place in record {
+  few = c.requires.tries;
+  counts = counts_none b.shape key c.args.tries (trace p) (trace q) (moved_on b [] p q l.did.moved);
+  tried = word_passed at c.args.tries c.args.tries p q (in_chain b.shape (trace p) c.args.place c.requires.pass.lawful c.requires.place.0).0 (tries_out at at c.args.tries c.args.tries p p q (tries_none at c.args.tries p) (looked b p q l.did.moved));
+  passed = passed_word b.shape key c.args.place c.look-word.result c.args.tag (trace p) (trace p) (trace q) c.requires.pass.valid c.requires.place ([], refl) (saw_now b p q c.args.place c.look-word.result l.did l.found) c.requires.tag (c.in_default.ensures.none refl);
+}
+
+pub returns-in-Same-clause-way : goal.returns-in-Same-clause-way
+returns-in-Same-clause-way c = let b = c.args.board.now in let i = c.loop-count.invariant in let p = c.args.pass.now in let q = c.loop-count.pass in let r = c.try_item.new.pass in let x = c.in-Same.ensures in
+    hit_here b c.args.key.now c.args.place c.loop-count.item c.in-Same.item c.in-Same.header c.args.tries c.loop-count.count p q r c.requires.place i.reads (enter_then b p q r c.in-Same.item.seg i.reads x.reads) c.loop-count-test.true i.tried i.trying x.once x.keyed.1
+
+pub returns-in-Other-clause-way : goal.returns-in-Other-clause-way
+returns-in-Other-clause-way c = let b = c.args.board.now in let i = c.loop-count.invariant in let k = c.in-Other.ensures in let key = c.args.key.now in
+    let p = c.args.pass.now in let q = c.loop-count.pass in let r = c.try_item.new.pass in record {
+      few = c.loop-count-test.true;
+      counts = tried b.shape key c.args.place c.args.tries c.loop-count.item c.loop-count.count (trace p) (trace q) (trace r) (moved_on b _ q r k.reads.reads.moved) i.trying;
+      tried = word_tried (position b.shape (trace p) c.args.place) c.args.tries c.loop-count.count p q r (in_chain b.shape (trace p) c.args.place c.requires.pass.lawful c.requires.place.0).0 i.tried k.once;
+      passed = passed_other b.shape key k.keyed.1.0 k.keyed.1.1 c.args.place c.pack.result (trace p) (trace q) (trace r) c.requires.place (moved_on b _ p q i.reads.reads.moved) k.keyed.1.2
+          (subst (λ w. SawItem b.shape c.args.place w k.keyed.1.0 k.keyed.1.1 (trace q) (trace r)) (sym c.pack.ensures) k.keyed.1.3);
+    }
+
+pub returns-in-None-clause-way : goal.returns-in-None-clause-way
+returns-in-None-clause-way c = let b = c.args.board.now in let i = c.loop-count.invariant in let k = c.in-Changed.ensures in let key = c.args.key.now in
+    let p = c.args.pass.now in let q = c.loop-count.pass in let r = c.try_item.new.pass in record {
+      few = c.loop-count-test.true;
+      counts = tried b.shape key c.args.place c.args.tries c.loop-count.item c.loop-count.count (trace p) (trace q) (trace r) (moved_on b _ q r k.reads.reads.moved) i.trying;
+      tried = word_tried (position b.shape (trace p) c.args.place) c.args.tries c.loop-count.count p q r (in_chain b.shape (trace p) c.args.place c.requires.pass.lawful c.requires.place.0).0 i.tried k.once;
+      passed = passed_word b.shape key c.args.place c.in-Changed.now c.args.tag (trace p) (trace q) (trace r) c.requires.pass.valid c.requires.place (moved_on b _ p q i.reads.reads.moved) k.keyed.0 c.requires.tag (c.in-None.ensures.none refl);
+    }
 
 pub returns-clause-way : goal.returns-clause-way
-returns-clause-way c = let b = c.args.board.now in let i = c.loop-count.invariant in
-    let m = tried b.shape c.args.key.now c.args.place c.args.tries c.loop-count.item c.loop-count.count (trace c.args.pass.now) (trace c.loop-count.pass) (trace c.loop-count.pass) ([], refl) i.trying in
-    let over = c.loop-count-test.false in omega arith
+returns-clause-way c = let b = c.args.board.now in let i = c.loop-count.invariant in let p = c.args.pass.now in let q = c.loop-count.pass in let over = c.loop-count-test.false in let end = c.loop-count.auto.count-end in
+    let all = tried b.shape c.args.key.now c.args.place c.args.tries c.loop-count.item c.loop-count.count (trace p) (trace q) (trace q) ([], refl) i.trying in record {
+      counts = omega arith;
+      tried = word_given_up (position b.shape (trace p) c.args.place) c.args.tries c.loop-count.count p q (in_chain b.shape (trace p) c.args.place c.requires.pass.lawful c.requires.place.0).1 (omega arith) i.tried;
+    }

@@ -1,9 +1,9 @@
-use Rattle.std.proofs.Common.{inl, inr, arith}
+use Rattle.std.proofs.Common.{◌∙◌, inl, inr, arith}
 use Rattle.segword.specs.ItemWord.{item_word}
 use Rattle.segbase.specs.Passes.{trace}
 use Rattle.segbase.proofs.Moves.{moved_on}
 use Rattle.segstore.proofs.Readers.{leave_then}
-use Rattle.segread.proofs.ComingIn.{leaves, tries_out}
+use Rattle.segread.proofs.ComingIn.{leaves, few_out}
 use Rattle.segread.proofs.Answered.{found_reads, gone_reads}
 use Rattle.segread.proofs.version.find_locked.Goals as goal
 
@@ -19,7 +19,11 @@ returns-in-Absent-clause-answer c = gone_reads c.args.board.now.shape c.args.key
 
 pub returns-in-Found-clause-tries : goal.returns-in-Found-clause-tries
 returns-in-Found-clause-tries c = let q = c.scan_for.new.pass in let r = c.leave_segment.new.pass in
-    tries_out 28 0 63 c.args.pass.now q r c.in-Found.ensures.tries (leaves c.args.board.now c.in-Found.hit.item.seg q r c.leave_segment.ensures.moved)
+    few_out c.args.pass.now q r c.in-Found.ensures.tries (leaves c.args.board.now c.in-Found.hit.item.seg q r c.leave_segment.ensures.moved)
+
+pub returns-in-Found-clause-raises_nothing : goal.returns-in-Found-clause-raises_nothing
+returns-in-Found-clause-raises_nothing c = let q = c.scan_for.new.pass in let r = c.leave_segment.new.pass in
+    (leaves c.args.board.now c.in-Found.hit.item.seg q r c.leave_segment.ensures.moved).1 ∙ c.in-Found.ensures.raises_nothing
 
 pub returns-in-Busy-clause-answer : goal.returns-in-Busy-clause-answer
 returns-in-Busy-clause-answer c = inl (inl (let many = c.in-Busy.ensures.scan in omega (arith, many)))
