@@ -11,7 +11,7 @@ use Rattle.segcore.specs.Lawful.{IsLawful}
 use Rattle.segcore.specs.Word.{address, word}
 use Rattle.segcore.specs.World.{Told}
 use Rattle.segcore.specs.Kind.{Step, cell, becomes, adds, May}
-use Rattle.segcore.proofs.Kept.{steps, inside_list}
+use Rattle.segcore.proofs.KeepsLaw.{steps, inside_list}
 use Rattle.segcore.proofs.Schedules.{kept_at}
 use Rattle.segbase.specs.declared.law.Sight.{Sight}
 use Rattle.segbase.specs.declared.board.Board.{Board}

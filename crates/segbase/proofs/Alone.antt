@@ -17,7 +17,7 @@ use Rattle.segcore.proofs.Counts.{mine_own}
 use Rattle.segcore.proofs.Quiet.{not_mine}
 use Rattle.segbase.specs.declared.board.Board.{Board}
 use Rattle.segbase.specs.declared.pass.Pass.{Pass}
-use Rattle.segbase.specs.Passes.{number, trace, marked, seen, mine, bounced, glanced, drew, IsPassOf, Moved}
+use Rattle.segbase.specs.Passes.{number, trace, marked, seen, mine, bounced, glanced, drew, IsPassOf, AddsEvents}
 use Rattle.segbase.proofs.Owning.{own_all}
 
 all_first : (h : List Event) → ((n : ℕ) → 1 ≤ n → NoneBy n h) → AllBy 0 h
@@ -74,7 +74,7 @@ all_front p [] ys all = tt
 all_front p (e ∷ xs) ys all = (all.0, all_front p xs ys all.1)
 
 -- a step or a call adds just its own events
-pub moved_alone : (b : Board) (own : List Event) (p q : Pass) → Moved b own p q → b.shape.passes ≡ 1 → trace q ≡ own ++ trace p
+pub moved_alone : (b : Board) (own : List Event) (p q : Pass) → AddsEvents b own p q → b.shape.passes ≡ 1 → trace q ≡ own ++ trace p
 moved_alone b own p q m one =
     let all : AllBy (number p) (m.more ++ trace p) = subst (λ h. AllBy (number p) h) m.goes_on (subst (λ n. AllBy n (trace q)) m.same (m.pass.alone one)) in
     m.goes_on ∙ ap (λ es. es ++ trace p) (sym (own_all (number p) m.more (all_front (number p) m.more (trace p) all)) ∙ m.adds)

@@ -14,7 +14,7 @@ use Rattle.segbase.specs.declared.law.Sight.{Sight}
 use Rattle.segbase.specs.Opening.{IsOpened}
 use Rattle.segbase.specs.Ruled.{Rule, IsSight, first_sight, dealer, newcomer}
 use Rattle.segbase.proofs.Allowed.{apart_kept}
-use Rattle.segcore.proofs.Kept.{inside_list}
+use Rattle.segcore.proofs.KeepsLaw.{inside_list}
 
 only : (p : ℕ) (v : View) → get_elem? (first_sight.view ∷ []) p ≡ some v → Knows p v []
 only zero v at = subst (λ (u : View). Knows 0 u []) (some-injective first_sight.view v at) (record { number = refl; more = []; rest = refl; others = tt })

@@ -16,17 +16,17 @@ use Rattle.segcore.proofs.Limits.{drawn_few, few_drawn}
 use Rattle.segbase.specs.declared.place.Place.{Place}
 use Rattle.segbase.specs.declared.board.Board.{Board}
 use Rattle.segbase.specs.declared.pass.Pass.{Pass}
-use Rattle.segbase.specs.Passes.{number, trace, IsPassOf, Did, Stepped}
+use Rattle.segbase.specs.Passes.{number, trace, IsPassOf, AddsAtOnce, Stepped}
 use Rattle.segbase.specs.Spots.{cell_at}
 use Rattle.segbase.specs.Steps.{Missed, CounterMissed}
 use Rattle.segbase.proofs.Standing.{under_bit, higher}
 
 -- the exchange of an event that found what it expects
-pub hit : (b : Board) (p q : Pass) (step : Step) (event : Event) (found old : ℕ) → adds step (number p) found ≡ cond (eqb found old) (event ∷ []) [] → found ≡ old → Stepped b step found p q → Did b (event ∷ []) p q
-hit b p q step event found old is same s = subst (λ es. Did b es p q) (is ∙ cond-true (eqb found old) (event ∷ []) [] (eq-eqb found old same)) s.did
+pub hit : (b : Board) (p q : Pass) (step : Step) (event : Event) (found old : ℕ) → adds step (number p) found ≡ cond (eqb found old) (event ∷ []) [] → found ≡ old → Stepped b step found p q → AddsAtOnce b (event ∷ []) p q
+hit b p q step event found old is same s = subst (λ es. AddsAtOnce b es p q) (is ∙ cond-true (eqb found old) (event ∷ []) [] (eq-eqb found old same)) s.did
 
-pub miss : (b : Board) (p q : Pass) (step : Step) (event : Event) (found old : ℕ) → adds step (number p) found ≡ cond (eqb found old) (event ∷ []) [] → found ≢ old → Stepped b step found p q → Did b [] p q
-miss b p q step event found old is other s = subst (λ es. Did b es p q) (is ∙ cond-false (eqb found old) (event ∷ []) [] (ne_eqb found old other)) s.did
+pub miss : (b : Board) (p q : Pass) (step : Step) (event : Event) (found old : ℕ) → adds step (number p) found ≡ cond (eqb found old) (event ∷ []) [] → found ≢ old → Stepped b step found p q → AddsAtOnce b [] p q
+miss b p q step event found old is other s = subst (λ es. AddsAtOnce b es p q) (is ∙ cond-false (eqb found old) (event ∷ []) [] (ne_eqb found old other)) s.did
 
 -- under the bit an empty word is found empty
 pub finds_nothing : (b : Board) (p q : Pass) (step : Step) (found bucket n : ℕ) → HasBit b.shape (trace p) (number p) bucket → IsItemAt b.shape (trace p) bucket n (cell step) → (bucket_after b.shape (trace p) bucket).items n ≡ nothing → Stepped b step found p q → found ≡ 0

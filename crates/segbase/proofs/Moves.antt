@@ -11,7 +11,7 @@ use Rattle.segcore.specs.Count.{taken, bounced, glanced, drew, raised, entered}
 use Rattle.segbase.specs.declared.board.Board.{Board}
 use Rattle.segbase.specs.declared.pass.Pass.{Pass}
 use Rattle.segbase.specs.Traces.{own_of, StaysIn, OnlyReads}
-use Rattle.segbase.specs.Passes.{number, trace, IsPassOf, Moved, Did, Reads, ReadsIn}
+use Rattle.segbase.specs.Passes.{number, trace, IsPassOf, AddsEvents, AddsAtOnce, Reads, ReadsIn}
 use Rattle.segbase.specs.Passes as passes
 use Rattle.segbase.specs.Steps.{Takes}
 use Rattle.segcore.specs.Bucket.{bucket_after}
@@ -21,37 +21,37 @@ use Rattle.segbase.proofs.Owning.{own_both, own_inside, own_mine, own_taken, own
 use Rattle.segbase.proofs.Staying.{stays_now, stays_first, stays_last, stays_both, none_both}
 
 -- nothing was done
-pub stays : (b : Board) (p : Pass) → IsPassOf b p → Moved b [] p p
+pub stays : (b : Board) (p : Pass) → IsPassOf b p → AddsEvents b [] p p
 stays b p is = record { pass = is; same = refl; more = []; goes_on = refl; adds = refl; kept = λ s t. tt }
 
 -- ---- what a call leaves of the pass's own
 
-pub moved_inside : (b : Board) (own : List Event) (p q : Pass) (s : ℕ) → Moved b own p q → inside (trace q) (number p) s ≡ inside (own ++ trace p) (number p) s
+pub moved_inside : (b : Board) (own : List Event) (p q : Pass) (s : ℕ) → AddsEvents b own p q → inside (trace q) (number p) s ≡ inside (own ++ trace p) (number p) s
 moved_inside b own p q s m = ap (λ h. inside h (number p) s) m.goes_on ∙ (own_inside m.more (trace p) (number p) s ∙ ap (λ es. inside (es ++ trace p) (number p) s) m.adds)
 
-pub moved_mine : (b : Board) (own : List Event) (p q : Pass) → Moved b own p q → passes.mine q ≡ mine (number p) (seen (own ++ trace p))
+pub moved_mine : (b : Board) (own : List Event) (p q : Pass) → AddsEvents b own p q → passes.mine q ≡ mine (number p) (seen (own ++ trace p))
 moved_mine b own p q m = ap (λ n. mine n (seen (trace q))) m.same ∙ (ap (λ h. mine (number p) (seen h)) m.goes_on ∙ (own_mine m.more (trace p) (number p) ∙ ap (λ es. mine (number p) (seen (es ++ trace p))) m.adds))
 
-pub moved_taken : (b : Board) (own : List Event) (p q : Pass) → Moved b own p q → passes.taken q ≡ taken (number p) (own ++ trace p)
+pub moved_taken : (b : Board) (own : List Event) (p q : Pass) → AddsEvents b own p q → passes.taken q ≡ taken (number p) (own ++ trace p)
 moved_taken b own p q m = ap (λ n. taken n (trace q)) m.same ∙ (ap (taken (number p)) m.goes_on ∙ (own_taken m.more (trace p) (number p) ∙ ap (λ es. taken (number p) (es ++ trace p)) m.adds))
 
-pub moved_bounced : (b : Board) (own : List Event) (p q : Pass) (c : ℕ) → Moved b own p q → passes.bounced q c ≡ bounced (number p) c (own ++ trace p)
+pub moved_bounced : (b : Board) (own : List Event) (p q : Pass) (c : ℕ) → AddsEvents b own p q → passes.bounced q c ≡ bounced (number p) c (own ++ trace p)
 moved_bounced b own p q c m = ap (λ n. bounced n c (trace q)) m.same ∙ (ap (bounced (number p) c) m.goes_on ∙ (own_bounced m.more (trace p) (number p) c ∙ ap (λ es. bounced (number p) c (es ++ trace p)) m.adds))
 
-pub moved_glanced : (b : Board) (own : List Event) (p q : Pass) (c : ℕ) → Moved b own p q → passes.glanced q c ≡ glanced (number p) c (own ++ trace p)
+pub moved_glanced : (b : Board) (own : List Event) (p q : Pass) (c : ℕ) → AddsEvents b own p q → passes.glanced q c ≡ glanced (number p) c (own ++ trace p)
 moved_glanced b own p q c m = ap (λ n. glanced n c (trace q)) m.same ∙ (ap (glanced (number p) c) m.goes_on ∙ (own_glanced m.more (trace p) (number p) c ∙ ap (λ es. glanced (number p) c (es ++ trace p)) m.adds))
 
-pub moved_drew : (b : Board) (own : List Event) (p q : Pass) (c : ℕ) → Moved b own p q → passes.drew q c ≡ drew (number p) c (own ++ trace p)
+pub moved_drew : (b : Board) (own : List Event) (p q : Pass) (c : ℕ) → AddsEvents b own p q → passes.drew q c ≡ drew (number p) c (own ++ trace p)
 moved_drew b own p q c m = ap (λ n. drew n c (trace q)) m.same ∙ (ap (drew (number p) c) m.goes_on ∙ (own_drew m.more (trace p) (number p) c ∙ ap (λ es. drew (number p) c (es ++ trace p)) m.adds))
 
-pub moved_raised : (b : Board) (own : List Event) (p q : Pass) → Moved b own p q → passes.raised q ≡ raised (number p) (own ++ trace p)
+pub moved_raised : (b : Board) (own : List Event) (p q : Pass) → AddsEvents b own p q → passes.raised q ≡ raised (number p) (own ++ trace p)
 moved_raised b own p q m = ap (λ n. raised n (trace q)) m.same ∙ (ap (raised (number p)) m.goes_on ∙ (own_raised m.more (trace p) (number p) ∙ ap (λ es. raised (number p) (es ++ trace p)) m.adds))
 
-pub moved_entered : (b : Board) (own : List Event) (p q : Pass) → Moved b own p q → passes.entered q ≡ entered (number p) (own ++ trace p)
+pub moved_entered : (b : Board) (own : List Event) (p q : Pass) → AddsEvents b own p q → passes.entered q ≡ entered (number p) (own ++ trace p)
 moved_entered b own p q m = ap (λ n. entered n (trace q)) m.same ∙ (ap (entered (number p)) m.goes_on ∙ (own_entered m.more (trace p) (number p) ∙ ap (λ es. entered (number p) (es ++ trace p)) m.adds))
 
 -- what it has seen only grows
-pub moved_on : (b : Board) (own : List Event) (p q : Pass) → Moved b own p q → Begins (trace p) (trace q)
+pub moved_on : (b : Board) (own : List Event) (p q : Pass) → AddsEvents b own p q → Begins (trace p) (trace q)
 moved_on b own p q m = (m.more, m.goes_on)
 
 added : (o : Option Entry) (h xs ys : List Entry) → h ≡ xs ++ ys → with_entry o h ≡ with_entry o xs ++ ys
@@ -62,12 +62,12 @@ seen_both : (xs ys : List Event) → seen (xs ++ ys) ≡ seen xs ++ seen ys
 seen_both [] ys = refl
 seen_both (e ∷ xs) ys = added (entry_of e) (seen (xs ++ ys)) (seen xs) (seen ys) (seen_both xs ys)
 
-pub moved_seen : (b : Board) (own : List Event) (p q : Pass) → Moved b own p q → Begins (passes.seen p) (passes.seen q)
+pub moved_seen : (b : Board) (own : List Event) (p q : Pass) → AddsEvents b own p q → Begins (passes.seen p) (passes.seen q)
 moved_seen b own p q m = (seen m.more, ap seen m.goes_on ∙ seen_both m.more (trace p))
 
 -- ---- one after the other
 
-pub moved_then : (b : Board) (first second : List Event) (p q r : Pass) → Moved b first p q → Moved b second q r → Moved b (second ++ first) p r
+pub moved_then : (b : Board) (first second : List Event) (p q r : Pass) → AddsEvents b first p q → AddsEvents b second q r → AddsEvents b (second ++ first) p r
 moved_then b first second p q r m k = record {
   pass = k.pass;
   same = k.same ∙ m.same;
@@ -85,11 +85,11 @@ only_both : (xs ys : List Event) → OnlyReads xs → OnlyReads ys → OnlyReads
 only_both [] ys a c = c
 only_both (e ∷ xs) ys a c = (a.0, only_both xs ys a.1 c)
 
-pub reads_nothing : (b : Board) (p q : Pass) → Moved b [] p q → Reads b p q
+pub reads_nothing : (b : Board) (p q : Pass) → AddsEvents b [] p q → Reads b p q
 reads_nothing b p q m = record { own = []; moved = m; only = tt; inside = λ s. moved_inside b [] p q s m; stays = λ s there. there }
 
 -- a call of a reader after another: where the pass stays, by both
-stays_then : (b : Board) (first second : List Event) (p q : Pass) (s : ℕ) → Moved b first p q → (0 < inside (trace p) (number p) s → StaysIn first (trace p) (number p) s) → (0 < inside (trace q) (number q) s → StaysIn second (trace q) (number q) s)
+stays_then : (b : Board) (first second : List Event) (p q : Pass) (s : ℕ) → AddsEvents b first p q → (0 < inside (trace p) (number p) s → StaysIn first (trace p) (number p) s) → (0 < inside (trace q) (number q) s → StaysIn second (trace q) (number q) s)
     → 0 < inside (trace p) (number p) s → StaysIn (second ++ first) (trace p) (number p) s
 stays_then b first second p q s m one two there =
     let a = one there in
@@ -122,7 +122,7 @@ one_less true m = omega arith
 one_less false m = refl
 
 -- into a segment, and out of it again
-pub reads_enter : (b : Board) (p q : Pass) (segment : ℕ) → Moved b (Entered (number p) segment ∷ []) p q → ReadsIn b p q segment
+pub reads_enter : (b : Board) (p q : Pass) (segment : ℕ) → AddsEvents b (Entered (number p) segment ∷ []) p q → ReadsIn b p q segment
 reads_enter b p q segment m = record {
   own = Entered (number p) segment ∷ [];
   moved = m;
@@ -154,7 +154,7 @@ pub is_inside : (b : Board) (p q : Pass) (segment : ℕ) → ReadsIn b p q segme
 is_inside b p q segment i = subst (λ n. 0 < inside (trace q) n segment) (sym i.moved.same)
     (let e : inside (trace q) (number p) segment ≡ inside (trace p) (number p) segment + 1 = i.inside segment ∙ cond-true (eqb segment segment) (inside (trace p) (number p) segment + 1) (inside (trace p) (number p) segment) (eq-eqb segment segment refl) in omega arith)
 
-pub leave_then : (b : Board) (p q r : Pass) (segment : ℕ) → ReadsIn b p q segment → Moved b (Left (number q) segment ∷ []) q r → Reads b p r
+pub leave_then : (b : Board) (p q r : Pass) (segment : ℕ) → ReadsIn b p q segment → AddsEvents b (Left (number q) segment ∷ []) q r → Reads b p r
 leave_then b p q r segment i m =
     let out : (s : ℕ) → inside (trace r) (number p) s ≡ inside (trace p) (number p) s = λ s.
     subst (λ n. inside (trace r) n s ≡ cond (eqb segment s) (inside (trace q) n s - 1) (inside (trace q) n s)) i.moved.same (moved_inside b (Left (number q) segment ∷ []) q r s m ∙ once_less (number q) segment s (trace q))
@@ -172,14 +172,14 @@ leave_then b p q r segment i m =
 -- ---- a bucket whose bit the pass has
 
 -- a step that added nothing leaves it as it was
-pub did_quiet : (b : Board) (p q : Pass) (bucket : ℕ) → Did b [] p q → HasBit b.shape (trace p) (number p) bucket → bucket_after b.shape (trace q) bucket ≡ bucket_after b.shape (trace p) bucket
+pub did_quiet : (b : Board) (p q : Pass) (bucket : ℕ) → AddsAtOnce b [] p q → HasBit b.shape (trace p) (number p) bucket → bucket_after b.shape (trace q) bucket ≡ bucket_after b.shape (trace p) bucket
 did_quiet b p q bucket d bit = ap (λ h. bucket_after b.shape h bucket) d.now ∙ quiet b.shape d.others (trace p) (number p) bucket d.before d.none bit.1
 
-pub did_has : (b : Board) (p q : Pass) (bucket : ℕ) → Did b [] p q → HasBit b.shape (trace p) (number p) bucket → HasBit b.shape (trace q) (number q) bucket
+pub did_has : (b : Board) (p q : Pass) (bucket : ℕ) → AddsAtOnce b [] p q → HasBit b.shape (trace p) (number p) bucket → HasBit b.shape (trace q) (number q) bucket
 did_has b p q bucket d bit = (bit.0, ap (λ u. u.holder) (did_quiet b p q bucket d bit) ∙ (bit.1 ∙ ap Some (sym d.moved.same)))
 
 -- a bit that was just taken may be given back uncounted, also after such a step
-pub may_release : (b : Board) (p q r : Pass) (bucket : ℕ) → Takes b bucket true p q → Did b [] q r → May b.shape (trace r) (number r) (release bucket false None)
+pub may_release : (b : Board) (p q r : Pass) (bucket : ℕ) → Takes b bucket true p q → AddsAtOnce b [] q r → May b.shape (trace r) (number r) (release bucket false None)
 may_release b p q r bucket t d =
     let same = did_quiet b q r bucket d t.1 in
     (did_has b q r bucket d t.1, ap (λ u. u.written) same ∙ t.2, ap (λ u. u.spare) same ∙ t.3, tt)

@@ -13,7 +13,7 @@ use Rattle.segbase.specs.declared.pass.Pass.{Pass}
 use Rattle.segbase.specs.declared.board.Board.{Board}
 use Rattle.segbase.specs.Minding.{Minds}
 use Rattle.segbase.specs.Plain.{own_segment, state_in, state_of, SameOwner}
-use Rattle.segbase.specs.Passes.{number, IsPassOf, Moved}
+use Rattle.segbase.specs.Passes.{number, IsPassOf, AddsEvents}
 
 -- a pass whose plain part alone changed, but not whose it is
 pub still_pass : (b : Board) (p q : Pass) → IsPassOf b p → q.seat ≡ p.seat → SameOwner p q → IsPassOf b q
@@ -32,7 +32,7 @@ still_pass b p q is seat owner =
       owns = owner.count ∙ is.owns;
     }
 
-pub moved_still : (b : Board) (own : List Event) (p q r : Pass) → Moved b own p q → r.seat ≡ q.seat → SameOwner q r → Moved b own p r
+pub moved_still : (b : Board) (own : List Event) (p q r : Pass) → AddsEvents b own p q → r.seat ≡ q.seat → SameOwner q r → AddsEvents b own p r
 moved_still b own p q r m seat owner = record {
   pass = still_pass b q r m.pass seat owner;
   same = ap (λ (s : Seat (Unit {0}) Sight). s.me.0.view.number) seat ∙ m.same;

@@ -24,7 +24,7 @@ use Rattle.segcore.proofs.Chains.{chain_of}
 use Rattle.segcore.proofs.Cells.{at_stays, at_word}
 use Rattle.segcore.proofs.Standing.{coherent}
 use Rattle.segcore.proofs.StepKinds.{word_content, above}
-use Rattle.segbase.specs.Steps.{IsReadAs}
+use Rattle.segbase.specs.Steps.{IsWordOfContent}
 use Rattle.segcore.proofs.Exact.{content_at}
 
 pub some_tag : (key : List ℕ) → 1 ≤ tag_of key
@@ -36,7 +36,7 @@ tag_of_word t f s r a b c = ap (λ n. n / 2 ^ 52) (let e : packed t f s r ≡ t 
 pub place_of_word : (t f s r : ℕ) → s < 2 ^ 24 → r < 2 ^ 20 → packed t f s r % 2 ^ 44 ≡ s * 2 ^ 20 + r
 place_of_word t f s r b c = ap (λ n. n % 2 ^ 44) (let e : packed t f s r ≡ (t * 2 ^ 8 + f) * 2 ^ 44 + (s * 2 ^ 20 + r) = omega arith in e) ∙ mod-mul-add (t * 2 ^ 8 + f) (2 ^ 44) (s * 2 ^ 20 + r) (omega arith)
 
-read_as : (z : Shape) (h : List Event) (b n : ℕ) (x : Content) → IsValid z → IsLawful z h → IsPosition (bucket_after z h b) n → (bucket_after z h b).items n ≡ x → IsContent h b (bucket_after z h b) n x → IsReadAs x (content_word h x)
+read_as : (z : Shape) (h : List Event) (b n : ℕ) (x : Content) → IsValid z → IsLawful z h → IsPosition (bucket_after z h b) n → (bucket_after z h b).items n ≡ x → IsContent h b (bucket_after z h b) n x → IsWordOfContent x (content_word h x)
 read_as z h b n nothing v l at e is = refl
 read_as z h b n (item a) v l at e is =
     let st = (coherent z h l).items b n a e in
@@ -45,8 +45,8 @@ read_as z h b n (item a) v l at e is =
 read_as z h b n (next m) v l at e is = refl
 read_as z h b n (copy w) v l at e is = let a = at.0 in let i = is.0 in absurd (omega arith)
 
-pub reads : (z : Shape) (h : List Event) (b n found : ℕ) (c : Cell) → IsValid z → IsLawful z h → found ≡ word z h c → IsItemAt z h b n c → IsReadAs ((bucket_after z h b).items n) found
-reads z h b n found c v l is at = subst (IsReadAs ((bucket_after z h b).items n)) (sym (is ∙ content_at z h b n c at)) (read_as z h b n ((bucket_after z h b).items n) v l at.0 refl ((chain_of z h l b).contents n))
+pub reads : (z : Shape) (h : List Event) (b n found : ℕ) (c : Cell) → IsValid z → IsLawful z h → found ≡ word z h c → IsItemAt z h b n c → IsWordOfContent ((bucket_after z h b).items n) found
+reads z h b n found c v l is at = subst (IsWordOfContent ((bucket_after z h b).items n)) (sym (is ∙ content_at z h b n c at)) (read_as z h b n ((bucket_after z h b).items n) v l at.0 refl ((chain_of z h l b).contents n))
 
 -- under the bit only frequencies change
 pub under_bit : (z : Shape) (more h : List Event) (p b n : ℕ) (c : Cell) → IsLawful z (more ++ h) → NoneBy p more → (bucket_after z h b).holder ≡ Some p → IsItemAt z h b n c → word z (more ++ h) c ≡ content_word (more ++ h) ((bucket_after z h b).items n)

@@ -19,7 +19,7 @@ use Rattle.segbase.specs.Traces.{own_of, StaysIn}
 use Rattle.segbase.specs.Spots.{cell_of}
 use Rattle.segbase.specs.Minding.{Minds}
 use Rattle.segbase.specs.Ruled.{Learns}
-use Rattle.segbase.specs.Passes.{sight, view, number, trace, IsPassOf, CanStep, Moved, Stepped}
+use Rattle.segbase.specs.Passes.{sight, view, number, trace, IsPassOf, CanStep, AddsEvents, Stepped}
 use Rattle.segbase.proofs.Alone.{only_by}
 use Rattle.segbase.proofs.Minded.{minded_on}
 use Rattle.segbase.proofs.Owning.{own_all, own_none, own_both}
@@ -35,7 +35,7 @@ own_adds b p q st found is may told = subst (λ n. AllBy (number p) (adds st (nu
 stays_before : (own h : List Event) (p s : ℕ) → StaysIn own h p s → StaysIn [] h p s
 stays_before own h p s t = stays_first own [] h p s (subst (λ x. StaysIn x h p s) (sym (append-nil own)) t)
 
-pub moved_by : (b : Board) (p q : Pass) (st : Step) (found : ℕ) → IsPassOf b p → IsPassOf b q → May b.shape (trace p) (number p) st → Told b.shape st found (view p) (view q) → Moved b (adds st (number p) found) p q
+pub moved_by : (b : Board) (p q : Pass) (st : Step) (found : ℕ) → IsPassOf b p → IsPassOf b q → May b.shape (trace p) (number p) st → Told b.shape st found (view p) (view q) → AddsEvents b (adds st (number p) found) p q
 moved_by b p q st found is is' may told =
     let es : List Event = adds st (number p) found in
     let now : trace q ≡ es ++ (told.more ++ trace p) = ap (λ (v : View). v.trace) told.now in record {

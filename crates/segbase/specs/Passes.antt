@@ -109,7 +109,7 @@ pub record CanStep (b : Board) (p : Pass) (step : Step) (spot : Spot) (f : ℕ �
   pub may : May b.shape (trace p) (number p) step
 
 -- A call: the pass added these events of its own, newest first, beside what others did meanwhile.
-pub record Moved (b : Board) (own : List Event) (p q : Pass) : Type 0 where
+pub record AddsEvents (b : Board) (own : List Event) (p q : Pass) : Type 0 where
   pub pass : IsPassOf b q
   pub same : number q ≡ number p
   pub more : List Event
@@ -119,8 +119,8 @@ pub record Moved (b : Board) (own : List Event) (p q : Pass) : Type 0 where
   pub kept : (s : ℕ) → StaysIn own (trace p) (number p) s → NoneRefills s more
 
 -- One step: others did something, nothing of it the pass's, and then the pass added just these events.
-pub record Did (b : Board) (own : List Event) (p q : Pass) : Type 0 where
-  pub moved : Moved b own p q
+pub record AddsAtOnce (b : Board) (own : List Event) (p q : Pass) : Type 0 where
+  pub moved : AddsEvents b own p q
   pub others : List Event
   pub none : NoneBy (number p) others
   pub before : IsLawful b.shape (others ++ trace p)
@@ -129,7 +129,7 @@ pub record Did (b : Board) (own : List Event) (p q : Pass) : Type 0 where
 -- the pass took the step, which found this word; its plain part and what it keeps in mind are as they were
 pub record Stepped (b : Board) (step : Step) (found : ℕ) (p q : Pass) : Type 0 where
   pub told : Told b.shape step found (view p) (view q)
-  pub did : Did b (adds step (number p) found) p q
+  pub did : AddsAtOnce b (adds step (number p) found) p q
   pub plain : q.plain ≡ p.plain
   pub memo : (sight q).memo ≡ (sight p).memo
   -- it has seen at least what it was told of
@@ -138,7 +138,7 @@ pub record Stepped (b : Board) (step : Step) (found : ℕ) (p q : Pass) : Type 0
 -- the pass only read, and is in each segment as often as before
 pub record Reads (b : Board) (p q : Pass) : Type 0 where
   pub own : List Event
-  pub moved : Moved b own p q
+  pub moved : AddsEvents b own p q
   pub only : OnlyReads own
   pub inside : (s : ℕ) → inside (trace q) (number p) s ≡ inside (trace p) (number p) s
   pub stays : (s : ℕ) → 0 < segments.inside (trace p) (number p) s → StaysIn own (trace p) (number p) s
@@ -146,7 +146,7 @@ pub record Reads (b : Board) (p q : Pass) : Type 0 where
 -- and it is in one segment once more
 pub record ReadsIn (b : Board) (p q : Pass) (segment : ℕ) : Type 0 where
   pub own : List Event
-  pub moved : Moved b own p q
+  pub moved : AddsEvents b own p q
   pub only : OnlyReads own
   pub inside : (s : ℕ) → inside (trace q) (number p) s ≡ (if segment == s then inside (trace p) (number p) s + 1 else inside (trace p) (number p) s)
   pub stays : (s : ℕ) → 0 < segments.inside (trace p) (number p) s → StaysIn own (trace p) (number p) s

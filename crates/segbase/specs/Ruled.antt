@@ -75,8 +75,8 @@ pub record Learns (shape : Shape) (step : Step) (found : ℕ) (x y : Sight) : Ty
   pub is_pass : y.is_pass ≡ x.is_pass
   pub memo : y.memo ≡ x.memo
 
-abbrev pub Tells : {S : Type 0} → Shape → Step → TableStep S → Me S Sight → ℕ → Me S Sight → Type 0
-Tells shape step _ me found me' = Learns shape step found me.0 me'.0 × (me'.1 ≡ me.1)
+abbrev pub IsStepOutcome : {S : Type 0} → Shape → Step → TableStep S → Me S Sight → ℕ → Me S Sight → Type 0
+IsStepOutcome shape step _ me found me' = Learns shape step found me.0 me'.0 × (me'.1 ≡ me.1)
 
 -- a store isn't told what it found
 abbrev pub TellsStored : {S : Type 0} → Shape → Step → TableStep S → Me S Sight → ℕ → Me S Sight → Type 0

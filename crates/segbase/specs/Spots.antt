@@ -50,8 +50,8 @@ abbrev pub home_bucket : Shape → List Event → Place → ℕ
 home_bucket shape trace place = if nat_lt place.bucket shape.buckets then place.bucket else home_in (home_of trace (place.bucket - shape.buckets))
 
 -- the bucket that an overflow bucket was drawn for
-abbrev pub drawn_for : List Event → ℕ → ℕ
-drawn_for trace number = home_in (home_of trace number)
+abbrev pub home_bucket_of : List Event → ℕ → ℕ
+home_bucket_of trace number = home_in (home_of trace number)
 
 -- an item word of the table
 abbrev pub IsPlace : Shape → Place → Type 0
@@ -86,6 +86,6 @@ abbrev pub row_in : Spot → ℕ
 row_in (Row segment row word) = row
 row_in _ = 0
 
-abbrev pub word_in : Spot → ℕ
-word_in (Row segment row word) = word
-word_in _ = 0
+abbrev pub word_number_in : Spot → ℕ
+word_number_in (Row segment row word) = word
+word_number_in _ = 0

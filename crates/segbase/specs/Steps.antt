@@ -15,7 +15,7 @@ use Rattle.segcore.specs.Word.{word}
 use Rattle.segbase.specs.declared.place.Place.{Place}
 use Rattle.segbase.specs.declared.pass.Pass.{Pass}
 use Rattle.segbase.specs.declared.board.Board.{Board}
-use Rattle.segbase.specs.Passes.{number, trace, Did}
+use Rattle.segbase.specs.Passes.{number, trace, AddsAtOnce}
 use Rattle.segbase.specs.Spots.{cell_at, position}
 
 -- whether the pass has the bit of a bucket
@@ -25,26 +25,26 @@ has_bit b p bucket = is (bucket_after b.shape (trace p) bucket).holder (number p
 -- a take that came out true gave the pass the bit, under which nothing was written and no bucket is drawn yet; one that came out false changed nothing
 abbrev pub Takes : Board → ℕ → Bool → Pass → Pass → Type 0
 Takes b bucket true p q =
-    Did b (Took (number p) bucket ∷ []) p q × HasBit b.shape (trace q) (number q) bucket
+    AddsAtOnce b (Took (number p) bucket ∷ []) p q × HasBit b.shape (trace q) (number q) bucket
     × ((bucket_after b.shape (trace q) bucket).written ≡ false) × ((bucket_after b.shape (trace q) bucket).spare ≡ None)
-Takes b bucket false p q = Did b (unless_own (has_bit b p bucket) (Bounced (number p) bucket)) p q
+Takes b bucket false p q = AddsAtOnce b (unless_own (has_bit b p bucket) (Bounced (number p) bucket)) p q
 
 -- a glance found the bit clear, and nobody has it; or it found the bit set, which counts unless it is the pass's own
 abbrev pub Glances : Board → ℕ → Info → Pass → Pass → Type 0
 Glances b bucket info p q =
-    (info.held ≡ false → Did b [] p q × ((bucket_after b.shape (trace q) bucket).holder ≡ None))
-    × (info.held ≡ true → Did b (unless_own (has_bit b p bucket) (Glanced (number p) bucket)) p q)
+    (info.held ≡ false → AddsAtOnce b [] p q × ((bucket_after b.shape (trace q) bucket).holder ≡ None))
+    × (info.held ≡ true → AddsAtOnce b (unless_own (has_bit b p bucket) (Glanced (number p) bucket)) p q)
 
 -- how the word at a position of a chain reads
-abbrev pub IsReadAs : Content → ℕ → Type 0
-IsReadAs nothing word = word ≡ 0
-IsReadAs (item named) word = IsWordOf named word × (1 ≤ tag_part word)
-IsReadAs (next number) word = word ≡ chain_word number
-IsReadAs (copy other) word = ⊥
+abbrev pub IsWordOfContent : Content → ℕ → Type 0
+IsWordOfContent nothing word = word ≡ 0
+IsWordOfContent (item named) word = IsWordOf named word × (1 ≤ tag_part word)
+IsWordOfContent (next number) word = word ≡ chain_word number
+IsWordOfContent (copy other) word = ⊥
 
 -- an exchange that failed changed no word and added nothing: the word that stands there is another one than was expected, and where that one was an earlier word of the item that the pass last knew there, it is the same item with a higher frequency
 pub record Missed (b : Board) (place : Place) (old found : ℕ) (p q : Pass) : Type 0 where
-  pub did : Did b [] p q
+  pub did : AddsAtOnce b [] p q
   pub other : found ≢ old
   pub is : found ≡ word b.shape (trace q) (cell_at b.shape place)
   pub higher : IsSameItem old (word b.shape (trace p) (cell_at b.shape place)) → old ≤ word b.shape (trace p) (cell_at b.shape place) → IsSameItem old found × (old < found)
@@ -67,7 +67,7 @@ depth_to_draw b bucket p = (bucket_after b.shape (trace p) bucket).chained + 1
 
 -- a draw that failed drew nothing: others drew that bucket, and the counter is over its number
 pub record CounterMissed (b : Board) (from counter : ℕ) (p q : Pass) : Type 0 where
-  pub did : Did b [] p q
+  pub did : AddsAtOnce b [] p q
   pub is : counter ≡ drawn_in (trace q)
   pub over : from < counter
   pub few : counter ≤ b.shape.overflow

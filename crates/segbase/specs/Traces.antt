@@ -16,13 +16,13 @@ StaysIn [] trace p s = 0 < inside trace p s
 StaysIn (e ∷ own) trace p s = (0 < inside (e ∷ (own ++ trace)) p s) × StaysIn own trace p s
 
 -- a reader's events: it comes into segments and leaves them, glances at bits, and raises frequencies
-abbrev pub IsReading : Event → Type 0
-IsReading (Glanced p b) = Unit {0}
-IsReading (Bumped p s r f) = Unit {0}
-IsReading (Entered p s) = Unit {0}
-IsReading (Left p s) = Unit {0}
-IsReading _ = ⊥
+abbrev pub IsReaderEvent : Event → Type 0
+IsReaderEvent (Glanced p b) = Unit {0}
+IsReaderEvent (Bumped p s r f) = Unit {0}
+IsReaderEvent (Entered p s) = Unit {0}
+IsReaderEvent (Left p s) = Unit {0}
+IsReaderEvent _ = ⊥
 
 abbrev pub OnlyReads : List Event → Type 0
 OnlyReads [] = Unit {0}
-OnlyReads (e ∷ own) = IsReading e × OnlyReads own
+OnlyReads (e ∷ own) = IsReaderEvent e × OnlyReads own

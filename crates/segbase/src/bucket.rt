@@ -13,7 +13,7 @@ use crate::place::Spot;
 use segword::Info;
 
 impl Board {
-    ghost use Rattle.segbase.specs.Passes.{number, trace, IsPassOf, Did, Stepped};
+    ghost use Rattle.segbase.specs.Passes.{number, trace, IsPassOf, AddsAtOnce, Stepped};
     ghost use Rattle.segbase.specs.Steps.{has_bit, Takes, Glances};
 
     /// Tries to take the writer bit of a bucket. It is true where the bit was clear; the pass then has it.
@@ -32,7 +32,7 @@ impl Board {
         requires pass { IsPassOf self.now pass.old }
         requires may { May self.now.shape (trace pass.old) (number pass.old) (release bucket counted said) }
         ensures step { (found : ℕ) × Stepped self.now (release bucket counted said) found pass.old pass.new }
-        ensures did { Did self.now (Freed (number pass.old) bucket counted ∷ told (number pass.old) said) pass.old pass.new }
+        ensures did { AddsAtOnce self.now (Freed (number pass.old) bucket counted ∷ told (number pass.old) said) pass.old pass.new }
         ensures free { (bucket_after self.now.shape (trace pass.new) bucket).holder ≡ None }
     {
         // Bit 0 goes down; with 2^32 more the version goes up as well.
@@ -49,7 +49,7 @@ impl Board {
         requires pass { IsPassOf self.now pass.old }
         requires bit { HasBit self.now.shape (trace pass.old) (number pass.old) bucket }
         ensures step { Stepped self.now (info_look bucket) (info_word result) pass.old pass.new }
-        ensures did { Did self.now [] pass.old pass.new }
+        ensures did { AddsAtOnce self.now [] pass.old pass.new }
         ensures held { result.held ≡ true }
         ensures version { result.version ≡ (self.now.shape.first_version + (bucket_after self.now.shape (trace pass.old) bucket).version) % 2 ^ 32 }
     {

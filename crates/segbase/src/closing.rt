@@ -64,7 +64,7 @@ impl Board {
 impl Words {
     ghost use Rattle.segcore.specs.Word.{IsCell, address};
     ghost use Rattle.segbase.specs.Spots.{IsPlace, cell_at, cell_of};
-    ghost use Rattle.segbase.specs.Closing.{shape_of, word_at};
+    ghost use Rattle.segbase.specs.Closing.{shape_of, word_of_cell};
 
     /// The shape of the board.
     pub fn shape(&self) -> Shape
@@ -76,7 +76,7 @@ impl Words {
     /// The word at a place of the table. The counter lies first, then the buckets, the overflow buckets, and each segment's word with its rows.
     pub fn at(&self, place: usize) -> u64
         requires { place < word_count (shape_of self.now) }
-        ensures { (cell : Cell) → address (shape_of self.now) cell ≡ place → result ≡ word_at self.now cell }
+        ensures { (cell : Cell) → address (shape_of self.now) cell ≡ place → result ≡ word_of_cell self.now cell }
     {
         self.closed.word(place)
     }
@@ -84,7 +84,7 @@ impl Words {
     /// An item word.
     pub fn item(&self, place: Place) -> u64
         requires { IsPlace (shape_of self.now) place }
-        ensures { result ≡ word_at self.now (cell_at (shape_of self.now) place) }
+        ensures { result ≡ word_of_cell self.now (cell_at (shape_of self.now) place) }
     {
         self.word(Spot::Item(place))
     }
@@ -93,7 +93,7 @@ impl Words {
     pub fn row(&self, segment: u32, row: u32) -> [u64; 8]
         requires segment { IsSegment (shape_of self.now) segment }
         requires row { row < (shape_of self.now).rows }
-        ensures { (place : ℕ) → place < 8 → slice_index result place ≡ word_at self.now (OfRow segment row place) }
+        ensures { (place : ℕ) → place < 8 → slice_index result place ≡ word_of_cell self.now (OfRow segment row place) }
     {
         let mut words = [0; 8];
         for place in 0..8u8 {
@@ -104,7 +104,7 @@ impl Words {
 
     fn word(&self, spot: Spot) -> u64
         requires { IsCell (shape_of self.now) (cell_of (shape_of self.now) spot) }
-        ensures { result ≡ word_at self.now (cell_of (shape_of self.now) spot) }
+        ensures { result ≡ word_of_cell self.now (cell_of (shape_of self.now) spot) }
     {
         self.closed.word(self.layout.index(&self.shape, spot))
     }

@@ -16,18 +16,18 @@ use crate::place::{Place, Spot};
 use segword::Item;
 
 impl Board {
-    ghost use Rattle.segbase.specs.Passes.{number, trace, raised, IsPassOf, CanStep, Did, Stepped};
+    ghost use Rattle.segbase.specs.Passes.{number, trace, raised, IsPassOf, CanStep, AddsAtOnce, Stepped};
     ghost use Rattle.segbase.specs.Spots.{item_spot, cell_at, position, home_bucket, IsPlace};
-    ghost use Rattle.segbase.specs.Steps.{IsReadAs, IsFree, HasItemOf, Missed};
+    ghost use Rattle.segbase.specs.Steps.{IsWordOfContent, IsFree, HasItemOf, Missed};
 
     /// The item word, under its bucket's bit or without it.
     pub fn look(&self, pass: &mut Pass, place: Place) -> u64
         requires pass { IsPassOf self.now pass.old }
         requires place { IsPlace self.now.shape place }
         ensures step { Stepped self.now (look (cell_at self.now.shape place)) result pass.old pass.new }
-        ensures did { Did self.now [] pass.old pass.new }
+        ensures did { AddsAtOnce self.now [] pass.old pass.new }
         ensures found { result ≡ word self.now.shape (trace pass.new) (cell_at self.now.shape place) }
-        ensures reads { (bucket at : ℕ) → IsItemAt self.now.shape (trace pass.new) bucket at (cell_at self.now.shape place) → IsReadAs ((bucket_after self.now.shape (trace pass.new) bucket).items at) result }
+        ensures reads { (bucket at : ℕ) → IsItemAt self.now.shape (trace pass.new) bucket at (cell_at self.now.shape place) → IsWordOfContent ((bucket_after self.now.shape (trace pass.new) bucket).items at) result }
     {
         self.load_at(pass, Spot::Item(place))
     }
@@ -49,7 +49,7 @@ impl Board {
         requires may { May self.now.shape (trace pass.old) (number pass.old) (link request item.seg item.row (position self.now.shape (trace pass.old) place) (cell_at self.now.shape place) 0) }
         requires free { IsFree self.now (key_of request) place pass.old }
         ensures step { (found : ℕ) × Stepped self.now (link request item.seg item.row (position self.now.shape (trace pass.old) place) (cell_at self.now.shape place) 0) found pass.old pass.new }
-        ensures did { Did self.now (Linked (number pass.old) request item.seg item.row (position self.now.shape (trace pass.old) place) ∷ []) pass.old pass.new }
+        ensures did { AddsAtOnce self.now (Linked (number pass.old) request item.seg item.row (position self.now.shape (trace pass.old) place) ∷ []) pass.old pass.new }
     {
         self.put(pass, place, 0, item);
     }
@@ -62,7 +62,7 @@ impl Board {
         requires may { May self.now.shape (trace pass.old) (number pass.old) (link request item.seg item.row (position self.now.shape (trace pass.old) place) (cell_at self.now.shape place) old) }
         requires present { HasItemOf self.now (key_of request) place pass.old }
         ensures step { (found : ℕ) × Stepped self.now (link request item.seg item.row (position self.now.shape (trace pass.old) place) (cell_at self.now.shape place) old) found pass.old pass.new }
-        ensures replaced { OnOk result (Did self.now (Linked (number pass.old) request item.seg item.row (position self.now.shape (trace pass.old) place) ∷ []) pass.old pass.new) }
+        ensures replaced { OnOk result (AddsAtOnce self.now (Linked (number pass.old) request item.seg item.row (position self.now.shape (trace pass.old) place) ∷ []) pass.old pass.new) }
         ensures missed { IfErr result (λ found. Missed self.now place old found pass.old pass.new) }
     {
         let found = self.put(pass, place, old, item);
@@ -75,7 +75,7 @@ impl Board {
         requires pass { IsPassOf self.now pass.old }
         requires may { May self.now.shape (trace pass.old) (number pass.old) (clear left.0 (position self.now.shape (trace pass.old) place) (cell_at self.now.shape place) old left.1) }
         ensures step { (found : ℕ) × Stepped self.now (clear left.0 (position self.now.shape (trace pass.old) place) (cell_at self.now.shape place) old left.1) found pass.old pass.new }
-        ensures cleared { OnOk result (Did self.now (Unlinked (number pass.old) left.0 (position self.now.shape (trace pass.old) place) left.1 ∷ []) pass.old pass.new) }
+        ensures cleared { OnOk result (AddsAtOnce self.now (Unlinked (number pass.old) left.0 (position self.now.shape (trace pass.old) place) left.1 ∷ []) pass.old pass.new) }
         ensures missed { IfErr result (λ found. Missed self.now place old found pass.old pass.new) }
     {
         let found = self.exchange_at(pass, Spot::Item(place), old, 0);
@@ -89,7 +89,7 @@ impl Board {
         requires higher { old.freq < new.freq }
         requires chain { IsItemAt self.now.shape (trace pass.old) (home_bucket self.now.shape (trace pass.old) place) (position self.now.shape (trace pass.old) place) (cell_at self.now.shape place) }
         ensures step { (found : ℕ) × Stepped self.now (bump (home_bucket self.now.shape (trace pass.old) place) (position self.now.shape (trace pass.old) place) (cell_at self.now.shape place) old.tag old.seg old.row old.freq new.freq) found pass.old pass.new × (result ≡ (found == item_word old)) }
-        ensures did { Did self.now (if result then Bumped (number pass.old) old.seg old.row new.freq ∷ [] else []) pass.old pass.new }
+        ensures did { AddsAtOnce self.now (if result then Bumped (number pass.old) old.seg old.row new.freq ∷ [] else []) pass.old pass.new }
         ensures raises { raised pass.new ≡ (if result then 1 else 0) + raised pass.old }
     {
         let expected = old.pack();

@@ -9,14 +9,14 @@ use crate::pass::Pass;
 use std::marker::Brand;
 
 impl Board {
-    ghost use Rattle.segbase.specs.Passes.{sight, view, trace, IsPassOf, IsMemo, Moved};
+    ghost use Rattle.segbase.specs.Passes.{sight, view, trace, IsPassOf, IsMemo, AddsEvents};
 
     /// Both passes have then seen what either had seen before, the second all that the first has. Of what the two had seen, one began the other.
     pub fn meet(&self, first: &mut Pass, second: &mut Pass)
         requires first { IsPassOf self.now first.old }
         requires second { IsPassOf self.now second.old }
-        ensures first { Moved self.now [] first.old first.new × (first.new.plain ≡ first.old.plain) × ((sight first.new).memo ≡ (sight first.old).memo) }
-        ensures second { Moved self.now [] second.old second.new × (second.new.plain ≡ second.old.plain) × ((sight second.new).memo ≡ (sight second.old).memo) }
+        ensures first { AddsEvents self.now [] first.old first.new × (first.new.plain ≡ first.old.plain) × ((sight first.new).memo ≡ (sight first.old).memo) }
+        ensures second { AddsEvents self.now [] second.old second.new × (second.new.plain ≡ second.old.plain) × ((sight second.new).memo ≡ (sight second.old).memo) }
         ensures met { Begins (trace second.old) (trace first.new) × Begins (trace first.new) (trace second.new) }
         ensures one { AreOne (trace first.old) (trace second.old) }
     {
@@ -28,7 +28,7 @@ impl Board {
     fn tell(&self, pass: &mut Pass, other: &mut Pass)
         requires pass { IsPassOf self.now pass.old }
         requires other { IsPassOf self.now other.old }
-        ensures pass { Moved self.now [] pass.old pass.new × (pass.new.plain ≡ pass.old.plain) × ((sight pass.new).memo ≡ (sight pass.old).memo) }
+        ensures pass { AddsEvents self.now [] pass.old pass.new × (pass.new.plain ≡ pass.old.plain) × ((sight pass.new).memo ≡ (sight pass.old).memo) }
         ensures other { IsPassOf self.now other.new × (sight other.new ≡ sight other.old) × (other.new.plain ≡ other.old.plain) }
         ensures met { Begins (trace other.old) (trace pass.new) }
     {

@@ -15,8 +15,8 @@ use segword::{Chain, Item};
 pub const CHAIN_BUCKETS: u32 = 4;
 
 impl Board {
-    ghost use Rattle.segbase.specs.Passes.{number, trace, IsPassOf, CanStep, Did, Stepped};
-    ghost use Rattle.segbase.specs.Spots.{item_spot, cell_at, home_bucket, drawn_for};
+    ghost use Rattle.segbase.specs.Passes.{number, trace, IsPassOf, CanStep, AddsAtOnce, Stepped};
+    ghost use Rattle.segbase.specs.Spots.{item_spot, cell_at, home_bucket, home_bucket_of};
     ghost use Rattle.segbase.specs.Steps.{depth_to_draw, Missed, CounterMissed};
 
     /// Draws overflow bucket `from` for a bucket whose bit the pass has. `Err` has the counter, which is over `from`.
@@ -24,7 +24,7 @@ impl Board {
         requires pass { IsPassOf self.now pass.old }
         requires may { May self.now.shape (trace pass.old) (number pass.old) (draw bucket (depth_to_draw self.now bucket pass.old) from) }
         ensures step { (found : ℕ) × Stepped self.now (draw bucket (depth_to_draw self.now bucket pass.old) from) found pass.old pass.new }
-        ensures drawn { OnOk result (Did self.now (Drew (number pass.old) bucket (depth_to_draw self.now bucket pass.old) from ∷ []) pass.old pass.new) }
+        ensures drawn { OnOk result (AddsAtOnce self.now (Drew (number pass.old) bucket (depth_to_draw self.now bucket pass.old) from ∷ []) pass.old pass.new) }
         ensures missed { IfErr result (λ counter. CounterMissed self.now from counter pass.old pass.new) }
     {
         let from = u64::from(from);
@@ -39,9 +39,9 @@ impl Board {
     /// Stores word 1 of an overflow bucket that was drawn and isn't chained yet: the item that is to move there.
     pub fn fill_overflow(&self, pass: &mut Pass, overflow: u32, item: Item)
         requires pass { IsPassOf self.now pass.old }
-        requires may { May self.now.shape (trace pass.old) (number pass.old) (fill (drawn_for (trace pass.old) overflow) overflow (item_word item)) }
-        ensures step { (found : ℕ) × Stepped self.now (fill (drawn_for (trace pass.old) overflow) overflow (item_word item)) found pass.old pass.new }
-        ensures did { Did self.now (Put (number pass.old) (drawn_for (trace pass.old) overflow) (item_word item) ∷ []) pass.old pass.new }
+        requires may { May self.now.shape (trace pass.old) (number pass.old) (fill (home_bucket_of (trace pass.old) overflow) overflow (item_word item)) }
+        ensures step { (found : ℕ) × Stepped self.now (fill (home_bucket_of (trace pass.old) overflow) overflow (item_word item)) found pass.old pass.new }
+        ensures did { AddsAtOnce self.now (Put (number pass.old) (home_bucket_of (trace pass.old) overflow) (item_word item) ∷ []) pass.old pass.new }
     {
         self.store_at(pass, Spot::Overflow(overflow), item.pack());
     }
@@ -61,7 +61,7 @@ impl Board {
         requires pass { IsPassOf self.now pass.old }
         requires may { May self.now.shape (trace pass.old) (number pass.old) (chain (home_bucket self.now.shape (trace pass.old) place) (cell_at self.now.shape place) old overflow) }
         ensures step { (found : ℕ) × Stepped self.now (chain (home_bucket self.now.shape (trace pass.old) place) (cell_at self.now.shape place) old overflow) found pass.old pass.new }
-        ensures chained { OnOk result (Did self.now (Chained (number pass.old) (home_bucket self.now.shape (trace pass.old) place) overflow ∷ []) pass.old pass.new) }
+        ensures chained { OnOk result (AddsAtOnce self.now (Chained (number pass.old) (home_bucket self.now.shape (trace pass.old) place) overflow ∷ []) pass.old pass.new) }
         ensures missed { IfErr result (λ found. Missed self.now place old found pass.old pass.new) }
     {
         let found = self.put_chain(pass, place, old, overflow);

@@ -12,14 +12,14 @@ use crate::pass::Pass;
 use crate::place::{RowPlace, Spot};
 
 impl Board {
-    ghost use Rattle.segbase.specs.Passes.{number, trace, IsPassOf, Did, Stepped};
+    ghost use Rattle.segbase.specs.Passes.{number, trace, IsPassOf, AddsAtOnce, Stepped};
 
     /// Stores a word of a row of the pass's own that isn't linked in this filling.
     pub fn row_store(&self, pass: &mut Pass, segment: u32, row: u32, word: u8, value: u64)
         requires pass { IsPassOf self.now pass.old }
         requires may { May self.now.shape (trace pass.old) (number pass.old) (row_store segment row word value) }
         ensures step { (found : ℕ) × Stepped self.now (row_store segment row word value) found pass.old pass.new }
-        ensures did { Did self.now (Filled (number pass.old) segment row word value ∷ []) pass.old pass.new }
+        ensures did { AddsAtOnce self.now (Filled (number pass.old) segment row word value ∷ []) pass.old pass.new }
     {
         self.store_at(pass, Spot::Row(segment, row, word), value);
     }
@@ -29,7 +29,7 @@ impl Board {
         requires pass { IsPassOf self.now pass.old }
         requires may { May self.now.shape (trace pass.old) (number pass.old) (row_load segment row word) }
         ensures step { Stepped self.now (row_load segment row word) result pass.old pass.new }
-        ensures did { Did self.now [] pass.old pass.new }
+        ensures did { AddsAtOnce self.now [] pass.old pass.new }
         ensures word { result ≡ (row_after (trace pass.new) segment row).words word }
     {
         self.load_at(pass, Spot::Row(segment, row, word))
@@ -54,7 +54,7 @@ impl Board {
         requires start { IsRowAt self.now.shape row }
         requires may { May self.now.shape (trace pass.old) (number pass.old) (row_load row.segment row.row word) }
         ensures step { Stepped self.now (row_load row.segment row.row word) result pass.old pass.new }
-        ensures did { Did self.now [] pass.old pass.new }
+        ensures did { AddsAtOnce self.now [] pass.old pass.new }
         ensures word { result ≡ (row_after (trace pass.new) row.segment row.row).words word }
     {
         let RowPlace {
@@ -70,7 +70,7 @@ impl Board {
         requires pass { IsPassOf self.now pass.old }
         requires may { May self.now.shape (trace pass.old) (number pass.old) (enter segment) }
         ensures step { (found : ℕ) × Stepped self.now (enter segment) found pass.old pass.new }
-        ensures did { Did self.now (Entered (number pass.old) segment ∷ []) pass.old pass.new }
+        ensures did { AddsAtOnce self.now (Entered (number pass.old) segment ∷ []) pass.old pass.new }
     {
         self.add_at(pass, Spot::Segment(segment), 1);
     }
@@ -80,7 +80,7 @@ impl Board {
         requires pass { IsPassOf self.now pass.old }
         requires may { May self.now.shape (trace pass.old) (number pass.old) (leave segment) }
         ensures step { (found : ℕ) × Stepped self.now (leave segment) found pass.old pass.new }
-        ensures did { Did self.now (Left (number pass.old) segment ∷ []) pass.old pass.new }
+        ensures did { AddsAtOnce self.now (Left (number pass.old) segment ∷ []) pass.old pass.new }
     {
         self.add_at(pass, Spot::Segment(segment), u64::MAX);
     }
@@ -90,7 +90,7 @@ impl Board {
         requires pass { IsPassOf self.now pass.old }
         requires may { May self.now.shape (trace pass.old) (number pass.old) (none_reading segment) }
         ensures step { (found : ℕ) × Stepped self.now (none_reading segment) found pass.old pass.new × (result ≡ (found == 0)) }
-        ensures did { Did self.now (if result then Refilled (number pass.old) segment ∷ [] else []) pass.old pass.new }
+        ensures did { AddsAtOnce self.now (if result then Refilled (number pass.old) segment ∷ [] else []) pass.old pass.new }
     {
         self.load_at(pass, Spot::Segment(segment)) == 0
     }

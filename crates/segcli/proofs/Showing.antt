@@ -4,18 +4,18 @@ use Rattle.segword.specs.declared.shape.Shape.{Shape}
 use Rattle.segword.specs.declared.reading.Reading.{Reading}
 use Rattle.segload.specs.Loads.{IsLoad}
 use Rattle.segload.specs.declared.totals.Totals.{Totals}
-use Rattle.segcli.specs.Explained.{Says, explanation}
+use Rattle.segcli.specs.Explained.{SpellsWord, explanation}
 use Rattle.segcli.specs.Totals.{totals_text}
 use Rattle.segcli.specs.Commands.{ShowOutcome, WordOutcome, LoadOutcome}
 use Rattle.segcli.specs.declared.fault.ProgramFault.{ProgramFault}
 use Rattle.segcli.specs.declared.fault.ProgramFault.TheVariants as fault
 
 -- the explanation of a reading
-word_ends : (text : List ℕ) (reading : Reading) (Wrote : List ℕ → Type 0) (before flushes : ℕ) (end : Result (Unit {0}) ProgramFault) → Says text reading → ShowOutcome (explanation reading) Wrote before flushes end → WordOutcome text Wrote before flushes end
+word_ends : (text : List ℕ) (reading : Reading) (Wrote : List ℕ → Type 0) (before flushes : ℕ) (end : Result (Unit {0}) ProgramFault) → SpellsWord text reading → ShowOutcome (explanation reading) Wrote before flushes end → WordOutcome text Wrote before flushes end
 word_ends text reading Wrote before flushes (Err fault.BadWord) says shown = absurd shown
 word_ends text reading Wrote before flushes end says shown = (reading, says, shown)
 
-pub word_shown : (text : List ℕ) (reading : Reading) (Wrote : List ℕ → Type 0) (before flushes : ℕ) (end : Result (Unit {0}) ProgramFault) {line : List ℕ} → Says text reading → line ≡ explanation reading → ShowOutcome line Wrote before flushes end → WordOutcome text Wrote before flushes end
+pub word_shown : (text : List ℕ) (reading : Reading) (Wrote : List ℕ → Type 0) (before flushes : ℕ) (end : Result (Unit {0}) ProgramFault) {line : List ℕ} → SpellsWord text reading → line ≡ explanation reading → ShowOutcome line Wrote before flushes end → WordOutcome text Wrote before flushes end
 word_shown text reading Wrote before flushes end says is shown =
     word_ends text reading Wrote before flushes end says (subst (λ l. ShowOutcome l Wrote before flushes end) is shown)
 

@@ -5,14 +5,14 @@ use Rattle.clap.specs.Faults.{fault_of}
 use Rattle.clap.specs.declared.error.kind.ErrorKind.TheVariants as kind
 use Rattle.clap.proofs.OnLiterals.{clap_on_literals}
 use Rattle.segcli.specs.CommandLine.{command_line, default_shape}
-use Rattle.segcli.specs.Asked.{IsRead}
+use Rattle.segcli.specs.Asked.{IsReadAsCommand}
 use Rattle.segcli.specs.declared.command.Command.TheVariants as command
 
-script_alone : IsRead (codes "script" ∷ []) (Ok (command.Script default_shape))
+script_alone : IsReadAsCommand (codes "script" ∷ []) (Ok (command.Script default_shape))
 unfolding command_line clap_on_literals digits
 script_alone = (refl, (refl, refl))
 
-load_with_options : IsRead (codes "load" ∷ codes "--seed" ∷ codes "7" ∷ codes "--rows=4" ∷ []) (Ok (command.Load (record default_shape { rows = 4 }) 7 1000))
+load_with_options : IsReadAsCommand (codes "load" ∷ codes "--seed" ∷ codes "7" ∷ codes "--rows=4" ∷ []) (Ok (command.Load (record default_shape { rows = 4 }) 7 1000))
 unfolding command_line clap_on_literals digits
 load_with_options = (refl, (refl, refl, refl, refl))
 

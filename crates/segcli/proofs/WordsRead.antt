@@ -21,7 +21,7 @@ use Rattle.clap.specs.declared.parser.matches.ArgMatches.TheViews.{out-ArgMatche
 use Rattle.clap.specs.declared.error.kind.ErrorKind.TheVariants as kind
 use Rattle.clap.proofs.OnLiterals.{clap_on_literals}
 use Rattle.segcli.specs.CommandLine.{Builds, command_line}
-use Rattle.segcli.specs.Asked.{IsAsked, IsCommandName, IsRead, IsReadByClap, IsRefused, is_request}
+use Rattle.segcli.specs.Asked.{IsAsked, IsCommandName, IsReadAsCommand, IsReadByClap, IsRefused, is_request}
 use Rattle.segcli.specs.declared.arguments.Refusal.{Refusal}
 use Rattle.segcli.specs.declared.arguments.Refusal.TheVariants as refusal
 use Rattle.segcli.specs.declared.command.Command.{Command}
@@ -37,7 +37,7 @@ pub some_words : {X : Type 0} (f : X → Text) (xs : List X) → (length xs == 0
 some_words f [] some none = true≢false some
 some_words f (x ∷ xs) some none = absurd (cc)
 
-pub of_words : (words : List Text) (read : Result Command Refusal) → (words ≡ [] → ⊥) → IsReadByClap words read → IsRead words read
+pub of_words : (words : List Text) (read : Result Command Refusal) → (words ≡ [] → ⊥) → IsReadByClap words read → IsReadAsCommand words read
 of_words [] read some is = absurd (some refl)
 of_words (word ∷ words) read some is = is
 

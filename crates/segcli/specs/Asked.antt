@@ -78,6 +78,6 @@ IsReadByClap words (Err (refusal.Usage text)) = list_any (λ k. not (is_request 
 IsReadByClap words (Err refusal.OutOfMemory) = ⊤
 
 -- what is read of the words: none at all are the command `script` with no options
-abbrev pub IsRead : List Text → Result Command Refusal → Type 0
-IsRead [] read = read ≡ Ok (command.Script default_shape)
-IsRead (word ∷ words) read = IsReadByClap (word ∷ words) read
+abbrev pub IsReadAsCommand : List Text → Result Command Refusal → Type 0
+IsReadAsCommand [] read = read ≡ Ok (command.Script default_shape)
+IsReadAsCommand (word ∷ words) read = IsReadByClap (word ∷ words) read

@@ -2,7 +2,7 @@
 use Rattle.std.specs.Prelude.{◌≡◌, ℕ, Bool, true, List, [], Result, Ok, Err, string_bytes}
 use Rattle.segword.specs.declared.shape.Shape.{Shape}
 use Rattle.segword.specs.declared.reading.Reading.{Reading}
-use Rattle.segcli.specs.Explained.{Says, explanation}
+use Rattle.segcli.specs.Explained.{SpellsWord, explanation}
 use Rattle.segcli.specs.Faults.{end_of_run, fault_of_load, fault_line, fault_status, is_write_end}
 use Rattle.segcli.specs.Printing.{PrintOutcome, IsPrinted, IsFlushed}
 use Rattle.segcli.specs.Totals.{totals_text}
@@ -46,8 +46,8 @@ ShowOutcome text Wrote before flushes (Err _) = ⊥
 
 -- a word that has a reading was explained, and only one that has none is a bad one
 abbrev pub WordOutcome : List ℕ → (List ℕ → Type 0) → ℕ → ℕ → Result (Unit {0}) ProgramFault → Type 0
-WordOutcome text Wrote before flushes (Err fault.BadWord) = ((reading : Reading) → Says text reading → ⊥) × Wrote [] × (flushes ≡ before)
-WordOutcome text Wrote before flushes end = (reading : Reading) × Says text reading × ShowOutcome (explanation reading) Wrote before flushes end
+WordOutcome text Wrote before flushes (Err fault.BadWord) = ((reading : Reading) → SpellsWord text reading → ⊥) × Wrote [] × (flushes ≡ before)
+WordOutcome text Wrote before flushes end = (reading : Reading) × SpellsWord text reading × ShowOutcome (explanation reading) Wrote before flushes end
 
 -- ---- a load
 
@@ -82,9 +82,9 @@ CommandOutcome hands is_at_end read_failed takes write_failed flushes (command.S
 
 -- What follows what ended so. A success is status 0, and nothing more is written. For a fault the writer is flushed, and its
 -- line is printed to the error writer.
-abbrev pub Concluded : {W E : Type 0} → (W → List ℕ → W → Type 0) → (W → ℕ) → (E → List ℕ → E → Type 0) → (E → Bool) → (E → ℕ) → Result (Unit {0}) ProgramFault → W → W → E → E → ℕ → Type 0
-Concluded takes flushes error_takes error_failed error_flushes (Ok _) writer writer' errors errors' status =
+abbrev pub Concludes : {W E : Type 0} → (W → List ℕ → W → Type 0) → (W → ℕ) → (E → List ℕ → E → Type 0) → (E → Bool) → (E → ℕ) → Result (Unit {0}) ProgramFault → W → W → E → E → ℕ → Type 0
+Concludes takes flushes error_takes error_failed error_flushes (Ok _) writer writer' errors errors' status =
     (status ≡ 0) × (writer' ≡ writer) × (errors' ≡ errors)
-Concluded takes flushes error_takes error_failed error_flushes (Err f) writer writer' errors errors' status =
+Concludes takes flushes error_takes error_failed error_flushes (Err f) writer writer' errors errors' status =
     (status ≡ fault_status f) × IsFlushed takes flushes writer writer'
     × IsPrinted error_takes error_failed error_flushes (fault_line f) errors errors'

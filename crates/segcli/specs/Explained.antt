@@ -1,7 +1,7 @@
 -- What a word of the command line says of an item word, and the line that explains it.
 use Rattle.std.specs.Prelude.{◌≡◌, ℕ, ◌/◌, ◌%◌, List, [], ◌∷◌, ◌++◌, length, slice_index, codes, decimal}
 use Rattle.std.specs.Str.Parse.{AllDigits, digits_value}
-use Rattle.segword.specs.Reading.{reading_word, IsReading}
+use Rattle.segword.specs.Reading.{reading_word, IsProperReading}
 use Rattle.segword.specs.declared.reading.Reading.{Reading}
 use Rattle.segword.specs.declared.reading.Reading.TheVariants as reading
 
@@ -10,8 +10,8 @@ abbrev pub IsHexWord : List ℕ → Type 0
 IsHexWord text = (length text ≡ 16) × AllDigits 16 text
 
 -- the text writes the word of this reading
-abbrev pub Says : List ℕ → Reading → Type 0
-Says text reading = IsHexWord text × IsReading reading × (digits_value 16 text ≡ reading_word reading)
+abbrev pub SpellsWord : List ℕ → Reading → Type 0
+SpellsWord text reading = IsHexWord text × IsProperReading reading × (digits_value 16 text ≡ reading_word reading)
 
 abbrev pub hex_digit : ℕ → ℕ
 hex_digit n = slice_index (codes "0123456789abcdef") n

@@ -1,6 +1,6 @@
 -- What the program does with the words that it is given.
 use Rattle.std.specs.Prelude.{◌≡◌, ℕ, Bool, List, Result, Ok, Err, string_bytes}
-use Rattle.segcli.specs.Commands.{CommandOutcome, Concluded}
+use Rattle.segcli.specs.Commands.{CommandOutcome, Concludes}
 use Rattle.segcli.specs.Faults.{fault_line, fault_status}
 use Rattle.segcli.specs.Printing.{IsPrinted, IsFlushed}
 use Rattle.segcli.specs.declared.arguments.Refusal.{Refusal}
@@ -24,7 +24,7 @@ abbrev pub ProgramOutcome : {R W E : Type 0} → (R → List ℕ → R → Type 
 ProgramOutcome {R} {W} hands is_at_end read_failed takes write_failed flushes error_takes error_failed error_flushes (Ok command) reader reader' writer writer' errors errors' status =
     (there : W) × (end : Result (Unit {0}) ProgramFault)
     × CommandOutcome hands is_at_end read_failed takes write_failed flushes command reader reader' writer there end
-    × Concluded takes flushes error_takes error_failed error_flushes end there writer' errors errors' status
+    × Concludes takes flushes error_takes error_failed error_flushes end there writer' errors errors' status
 ProgramOutcome hands is_at_end read_failed takes write_failed flushes error_takes error_failed error_flushes (Err why) reader reader' writer writer' errors errors' status =
     (status ≡ refusal_status why) × (reader' ≡ reader) × IsFlushed takes flushes writer writer'
     × IsPrinted error_takes error_failed error_flushes (refusal_text why) errors errors'

@@ -1,7 +1,7 @@
 //! Reads the words of the command line.
 ghost use Rattle.std.specs.Prelude.{◌≡◌, string_bytes, map};
 ghost use Rattle.clap.specs.Words.{found_of, kind_of, rows_of};
-ghost use Rattle.segcli.specs.Asked.{IsAsked, IsCommandName, IsRead, IsRefused, shape_given};
+ghost use Rattle.segcli.specs.Asked.{IsAsked, IsCommandName, IsReadAsCommand, IsRefused, shape_given};
 
 use crate::command::Command;
 use crate::command_line::program;
@@ -45,7 +45,7 @@ impl From<AllocError> for Refusal {
 
 /// Reads the words after the program's name. No words at all are the command `script` without options.
 pub fn read_command<'a>(alloc: Global, words: &'a [String]) -> Result<Command<'a>, Refusal>
-    ensures { IsRead (map (λ word. string_bytes word) words.entry.now) result }
+    ensures { IsReadAsCommand (map (λ word. string_bytes word) words.entry.now) result }
 {
     if words.is_empty() {
         return Ok(Command::Script(SHAPE));

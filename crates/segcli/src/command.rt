@@ -5,7 +5,7 @@ ghost use Rattle.segload.specs.Loads.{IsLoad};
 ghost use Rattle.segcli.specs.declared.fault.ProgramFault.{ProgramFault};
 ghost use Rattle.segcli.specs.Faults.{is_write_end};
 ghost use Rattle.segcli.specs.Totals.{totals_text};
-ghost use Rattle.segcli.specs.Commands.{ScriptOutcome, IsFaultOfLoad, LoadOutcome, WordOutcome, ShowOutcome, CommandOutcome, Concluded};
+ghost use Rattle.segcli.specs.Commands.{ScriptOutcome, IsFaultOfLoad, LoadOutcome, WordOutcome, ShowOutcome, CommandOutcome, Concludes};
 
 use crate::explanation::{explain, reading_of};
 use crate::fault::{ProgramFault, print, report};
@@ -52,7 +52,7 @@ pub fn run_command<R: Threads + Wait + AllocGlobal + Sync, S: Source, W: Sink, E
     ensures outcome { (there : W) × (end : Result (Unit {0}) ProgramFault)
         × CommandOutcome S.hands S.is_at_end S.has_failed W.takes W.has_failed W.flushes command.now
         source.old source.new writer.old there end
-        × Concluded W.takes W.flushes E.takes E.has_failed E.flushes end there writer.new errors.old errors.new result }
+        × Concludes W.takes W.flushes E.takes E.has_failed E.flushes end there writer.new errors.old errors.new result }
 {
     let end = perform(rt, alloc, command, source, writer);
     conclude(end, writer, errors)
@@ -167,7 +167,7 @@ fn show<W: Sink>(text: &[u8], writer: &mut W) -> Result<(), ProgramFault>
 // The status of what ended so; a fault is reported.
 fn conclude<W: Sink, E: Sink>(end: Result<(), ProgramFault>, writer: &mut W, errors: &mut E) -> u8
     requires errors_work { E.has_failed errors.old ≡ false }
-    ensures { Concluded W.takes W.flushes E.takes E.has_failed E.flushes end writer.old writer.new errors.old errors.new result }
+    ensures { Concludes W.takes W.flushes E.takes E.has_failed E.flushes end writer.old writer.new errors.old errors.new result }
 {
     match end {
         Ok(()) => 0,

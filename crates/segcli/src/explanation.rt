@@ -2,7 +2,7 @@
 ghost use Rattle.std.specs.Prelude.{◌≡◌, ◌<◌, Some, IfSome};
 ghost use Rattle.std.specs.Str.Parse.{digits_value};
 ghost use Rattle.segword.specs.declared.reading.Reading.{Reading};
-ghost use Rattle.segcli.specs.Explained.{IsHexWord, Says, tag_digits, explanation};
+ghost use Rattle.segcli.specs.Explained.{IsHexWord, SpellsWord, tag_digits, explanation};
 
 use segscript::{Line, line_of, put, put_number};
 use segword::{Item, Reading};
@@ -23,8 +23,8 @@ fn word_of(text: &str) -> Option<u64>
 /// The reading of the word that 16 hexadecimal digits write, or `None` where the text is anything else, or no item word
 /// of a table reads so.
 pub fn reading_of(text: &str) -> Option<Reading>
-    ensures some { IfSome result (Says text.now) }
-    ensures all { (reading : Reading) → Says text.now reading → result ≡ Some reading }
+    ensures some { IfSome result (SpellsWord text.now) }
+    ensures all { (reading : Reading) → SpellsWord text.now reading → result ≡ Some reading }
 {
     Reading::unpack(word_of(text)?)
 }

@@ -3,7 +3,7 @@ ghost use Rattle.std.specs.Prelude.{◌≡◌, false, map, string_bytes, Result}
 ghost use Rattle.segcli.specs.declared.arguments.Refusal.{Refusal};
 ghost use Rattle.segcli.specs.declared.command.Command.{Command as Asked};
 ghost use Rattle.segcli.specs.Printing.{IsPrinted, IsFlushed};
-ghost use Rattle.segcli.specs.Asked.{IsRead};
+ghost use Rattle.segcli.specs.Asked.{IsReadAsCommand};
 ghost use Rattle.segcli.specs.Program.{refusal_status, refusal_text, ProgramOutcome};
 
 use crate::arguments::{Refusal, read_command};
@@ -33,7 +33,7 @@ pub fn run_program<R: Threads + Wait + AllocGlobal + Sync, S: Source, W: Sink, E
     requires errors_work { E.has_failed errors.old ≡ false }
 
     // What is read of the words is carried out, or refused.
-    ensures outcome { (read : Result Asked Refusal) × IsRead (map (λ word. string_bytes word) words.now) read
+    ensures outcome { (read : Result Asked Refusal) × IsReadAsCommand (map (λ word. string_bytes word) words.now) read
         × ProgramOutcome S.hands S.is_at_end S.has_failed W.takes W.has_failed W.flushes E.takes E.has_failed E.flushes read
         source.old source.new writer.old writer.new errors.old errors.new result }
 {

@@ -13,7 +13,7 @@ use Rattle.segcore.specs.Overflow.{Home, home, home_of}
 use Rattle.segcore.specs.Lawful.{IsLawful}
 use Rattle.segcore.specs.Word.{bit_of, content_word, word_in, overflow_word, word, IsAt}
 use Rattle.segcore.specs.Mark.{marked, drawn_for, chained_to}
-use Rattle.segcore.specs.Chains.{behind, SaysOfInfo, SaysOfChain, IsUnchained, SaysOfBuckets}
+use Rattle.segcore.specs.Chains.{behind, InfoFacts, ChainFacts, IsUnchained, BucketFacts}
 use Rattle.segcore.proofs.Coherent.{IsContent}
 use Rattle.segcore.proofs.Chains.{chain_of}
 use Rattle.segcore.proofs.Standing.{legal}
@@ -22,7 +22,7 @@ use Rattle.segcore.proofs.Marked.{one_if, chained_marked, drawn_marked}
 use Rattle.segcore.proofs.Orderly.{all_drawn_marked}
 use Rattle.segcore.proofs.Homes.{joins, spare_held}
 use Rattle.segcore.proofs.Limits.{drawn_few, home_in}
-use Rattle.segcore.proofs.Says.Drafts.{draft_word}
+use Rattle.segcore.proofs.Facts.Drafts.{draft_word}
 use Rattle.segcore.proofs.Versions.{versions, free}
 use Rattle.segcore.proofs.StepKinds.Words.{word_content}
 
@@ -48,7 +48,7 @@ set_bit (Some p) e = (p, refl)
 pub info_bit : (z : Shape) (h : List Event) (b : ℕ) → word z h (OfBucket b 0) % 2 ^ 32 ≡ bit_of (bucket_after z h b).holder
 info_bit z h b = let u = bucket_after z h b in let lt = bit_small u.holder in omega arith
 
-says_of_info : (z : Shape) (h : List Event) (b : ℕ) → IsLawful z h → SaysOfInfo z h b
+says_of_info : (z : Shape) (h : List Event) (b : ℕ) → IsLawful z h → InfoFacts z h b
 says_of_info z h b l = let u = bucket_after z h b in let e = info_bit z h b in let lt = bit_small u.holder in record {
   version = λ few. (let v = version_of z h b few l in let x : word z h (OfBucket b 0) / 2 ^ 32 ≡ (z.first_version + u.version) % 2 ^ 32 = omega arith in omega arith);
   bit = omega arith;
@@ -71,7 +71,7 @@ joined z h b d l lt =
     let p = i.2 in let same : i.0 ≡ d = omega arith in
     (j.0, i.3 ∙ ap (λ n. Some (home b (n + 1))) same, λ c at. at_word z h b (8 * d + 7) c at ∙ (word_content z h u (8 * d + 7) (omega arith) ∙ ap (content_word h) j.1), home_in z h j.0 (home b (i.0 + 1)) l i.3)
 
-says_of_chain : (z : Shape) (h : List Event) (b : ℕ) → IsLawful z h → SaysOfChain z h b
+says_of_chain : (z : Shape) (h : List Event) (b : ℕ) → IsLawful z h → ChainFacts z h b
 says_of_chain z h b l = let e = chained_marked z h b in let s = (chain_of z h l b).short in record {
   short = omega arith;
   joined = λ d lt. joined z h b d l (omega arith);
@@ -102,7 +102,7 @@ unused_at z h m None l is' = refl
 unused_at z h m (Some x) l is' = let d = deep z h m x.bucket x.depth l is' in
     bare_word z h x.bucket (8 * x.depth + 0) l (omega arith) (inr (omega arith)) (λ q. omega arith)
 
-pub says_of_buckets : (z : Shape) (h : List Event) → IsLawful z h → SaysOfBuckets z h
+pub says_of_buckets : (z : Shape) (h : List Event) → IsLawful z h → BucketFacts z h
 says_of_buckets z h l = let e = all_drawn_marked h in let few = drawn_few z h l in record {
   info = λ b lt. says_of_info z h b l;
   chains = λ b. says_of_chain z h b l;

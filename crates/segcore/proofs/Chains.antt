@@ -5,7 +5,7 @@ use Rattle.std.proofs.lemmas.Option.{same_Some, none-some}
 use Rattle.segword.specs.declared.shape.Shape.{Shape}
 use Rattle.segmodel.specs.Request.{key_of}
 use Rattle.segcore.proofs.Coherent.{IsContent, IsChain}
-use Rattle.segcore.specs.Bucket.{Slot, slot, Content, nothing, item, next, copy, Bucket, last, fresh, bucket_at, is, acts, bucket_after}
+use Rattle.segcore.specs.Bucket.{Slot, slot, Content, nothing, item, next, copy, Bucket, last, fresh_position, bucket_at, is, acts, bucket_after}
 use Rattle.segcore.specs.Lawful.{Suits, IsLawful}
 use Rattle.segcore.specs.Overflow.{Home, home_of}
 use Rattle.segmodel.specs.Places.{bucket_of}
@@ -110,7 +110,7 @@ chained z h p b m s l c = let u = bucket_after z h b in let v = acts (Chained p 
   spare = λ k is'. absurd (none-some k is');
 }
   where
-    rest : (n : ℕ) (x : Content) → n ≢ fresh (bucket_after z h b) → IsContent h b (bucket_after z h b) n x → IsContent h b (acts (Chained p b m) (bucket_after z h b)) n x
+    rest : (n : ℕ) (x : Content) → n ≢ fresh_position (bucket_after z h b) → IsContent h b (bucket_after z h b) n x → IsContent h b (acts (Chained p b m) (bucket_after z h b)) n x
     rest n nothing ne i = i
     rest n (item a) ne i = let lt = i.0 in (omega arith, i.1)
     rest n (next k) ne i = let lt = i.1 in (i.0, omega arith, i.2, i.3)
@@ -120,9 +120,9 @@ chained z h p b m s l c = let u = bucket_after z h b in let v = acts (Chained p 
     on n = let u = bucket_after z h b in let v = acts (Chained p b m) u in ⊎_elim
         (λ t. rw t (u.chained, omega arith, sym (eqb-true (last u) n t), (c.spare m s.0).1))
         (λ f. rw f (⊎_elim
-        (λ t. let e = eqb-true (fresh u) n t in rw (t, s.1.2) (omega arith, omega arith))
-        (λ g. rw g (rest n (u.items n) (λ e. eqb-false (fresh u) n g (sym e)) (c.contents n)))
-        (cases_Bool (eqb (fresh u) n))))
+        (λ t. let e = eqb-true (fresh_position u) n t in rw (t, s.1.2) (omega arith, omega arith))
+        (λ g. rw g (rest n (u.items n) (λ e. eqb-false (fresh_position u) n g (sym e)) (c.contents n)))
+        (cases_Bool (eqb (fresh_position u) n))))
         (cases_Bool (eqb (last u) n))
 
 like : (u : Bucket) → Like u u
@@ -140,7 +140,7 @@ chain_acts z (Unlinked p k n why) h b t l c = chain_like z (Unlinked p k n why) 
 chain_acts z (Drew p a d m) h b t l c = subst (λ x. IsChain (Drew p x d m ∷ h) b (acts (Drew p x d m) (bucket_after z h b))) (sym (eqb-true a b t))
     (drew z h p b d m (rw (← eqb-true a b t) l.1.suits) (rw (← eqb-true a b t) l) c)
 chain_acts z (Put p a w) h b t l c = chain_like z (Put p a w) h b _ _ l (λ m. refl) (record { chained = refl; spare = refl })
-    (content_at h b (fresh (bucket_after z h b)) (copy w) (bucket_after z h b) (refl, rw (← eqb-true a b t) (l.1.suits.0, l.1.suits.1)) c.contents) c
+    (content_at h b (fresh_position (bucket_after z h b)) (copy w) (bucket_after z h b) (refl, rw (← eqb-true a b t) (l.1.suits.0, l.1.suits.1)) c.contents) c
 chain_acts z (Chained p a m) h b t l c = subst (λ x. IsChain (Chained p x m ∷ h) b (acts (Chained p x m) (bucket_after z h b))) (sym (eqb-true a b t))
     (chained z h p b m (rw (← eqb-true a b t) l.1.suits) (rw (← eqb-true a b t) l) c)
 chain_acts z e h b t l c = absurd (false≢true t)

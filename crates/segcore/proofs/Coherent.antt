@@ -10,7 +10,7 @@ use Rattle.segmodel.specs.History.{after}
 use Rattle.segcore.specs.declared.event.Event.{Event}
 use Rattle.segcore.specs.declared.event.Event.TheVariants.{Linked, Chained}
 use Rattle.segcore.specs.Event.{seen}
-use Rattle.segcore.specs.Bucket.{Slot, slot, Content, nothing, item, next, copy, Bucket, last, fresh, IsPosition, bucket_after}
+use Rattle.segcore.specs.Bucket.{Slot, slot, Content, nothing, item, next, copy, Bucket, last, fresh_position, IsPosition, bucket_after}
 use Rattle.segcore.specs.Overflow.{home_of}
 use Rattle.segcore.specs.Row.{Holds, row_after}
 use Rattle.segcore.specs.Mark.{same_key, marked, last_at}
@@ -23,7 +23,7 @@ abbrev pub IsContent : List Event → ℕ → Bucket → ℕ → Content → Typ
 IsContent h b u n nothing = Unit {0}
 IsContent h b u n (item a) = IsPosition u n
 IsContent h b u n (next m) = (d : ℕ) × (d < u.chained) × (n ≡ 8 * d + 7) × (home_of h m ≡ Some (record { bucket = b; depth = d + 1 }))
-IsContent h b u n (copy w) = (n ≡ fresh u) × ((m : ℕ) × (u.spare ≡ Some m))
+IsContent h b u n (copy w) = (n ≡ fresh_position u) × ((m : ℕ) × (u.spare ≡ Some m))
 
 pub record IsChain (h : List Event) (b : ℕ) (u : Bucket) : Type 0 where
   pub short : u.chained < 4
@@ -49,7 +49,7 @@ pub record IsStanding (z : Shape) (h : List Event) (b n : ℕ) (a : Slot) : Type
 -- where the last link of a key and the chainings after it put its item
 abbrev pub moved : Bucket → Option ℕ → Option ℕ
 moved u None = None
-moved u (Some n) = Some (if last u == n then fresh u else n)
+moved u (Some n) = Some (if last u == n then fresh_position u else n)
 
 abbrev pub place : Shape → List Event → List ℕ → Option ℕ
 place z [] k = None

@@ -13,7 +13,7 @@ use Rattle.segcore.specs.Event.{by, removal, entry_of, with_entry, seen, NoneBy,
 use Rattle.segcore.specs.ItemWord.{packed}
 use Rattle.segcore.specs.Kind.{Step, take, release, info_look, glance, look, link, clear, draw, fill, chain, bump, row_store, row_load, enter, leave, none_reading, told, unless_own, adds}
 use Rattle.segcore.proofs.Quiet.{off}
-use Rattle.segcore.specs.Count.{taken, bounced, glanced, drew, raised, entered, taken_by, bounced_by, glanced_by, drew_by, raised_by, entered_by, IsCounted}
+use Rattle.segcore.specs.Count.{taken, bounced, glanced, drew, raised, entered, taken_by, bounced_by, glanced_by, drew_by, raised_by, entered_by, CountsStep}
 
 -- ---- entries
 
@@ -319,7 +319,7 @@ own_adds p (leave s) found = (refl, tt)
 own_adds p (none_reading s) found = all_of_cond p (eqb found 0) _ [] (refl, tt) tt
 
 -- a step's counts, from those of the trace before it
-pub counted : (step : Step) (p found : ℕ) (more old : List Event) → NoneBy p more → IsCounted step p found old (adds step p found ++ (more ++ old))
+pub counted : (step : Step) (p found : ℕ) (more old : List Event) → NoneBy p more → CountsStep step p found old (adds step p found ++ (more ++ old))
 counted step p found more old n = record {
   entries = mine_own p (adds step p found) (more ++ old) (own_adds p step found) ∙ ap (λ x. seen (adds step p found) ++ x) (mine_others p more old n);
   takes = step_taken p (more ++ old) step found ∙ ap (λ x. taken_by step found + x) (taken_others p more old n);

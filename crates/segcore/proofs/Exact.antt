@@ -19,7 +19,7 @@ use Rattle.segcore.specs.Row.{Row, Holds, row_after, frequency_of}
 use Rattle.segcore.specs.Lawful.{IsLawful}
 use Rattle.segcore.specs.Word.{IsCell, content_word, word, IsAt, IsItemAt}
 use Rattle.segcore.specs.Mark.{marked, last_at}
-use Rattle.segcore.specs.Standing.{cached, Names, StandsAt, IsReading, SaysOfKeys}
+use Rattle.segcore.specs.Standing.{cached, Names, StandsAt, HasOneReading, KeyFacts}
 use Rattle.segcore.proofs.Caches.{stands}
 use Rattle.segcore.proofs.Coherent.{IsContent, place}
 use Rattle.segcore.proofs.Chains.{chain_of}
@@ -116,7 +116,7 @@ stands_there z h k v s valid l t =
 
 -- ---- the readings of a chain's words
 
-readings_of : (z : Shape) (h : List Event) (b n : ℕ) (c : Cell) → b < z.buckets → IsLawful z h → IsItemAt z h b n c → (o : Content) → (bucket_after z h b).items n ≡ o → IsContent h b (bucket_after z h b) n o → IsReading z h b n c
+readings_of : (z : Shape) (h : List Event) (b n : ℕ) (c : Cell) → b < z.buckets → IsLawful z h → IsItemAt z h b n c → (o : Content) → (bucket_after z h b).items n ≡ o → IsContent h b (bucket_after z h b) n o → HasOneReading z h b n c
 readings_of z h b n c lt l i nothing is' w = inl (content_at z h b n c i ∙ ap (content_word h) is')
 readings_of z h b n c lt l i (item a) is' w = let co = coherent z h l in let x = co.items b n a is' in inr (inr (record {
   key = a.key;
@@ -139,7 +139,7 @@ readings_of z h b n c lt l i (next m) is' w = inr (inl (record {
 }))
 readings_of z h b n c lt l i (copy w') is' w = let e = w.0 in let lt' = i.0.0 in absurd (omega arith)
 
-pub says_of_keys : (z : Shape) (h : List Event) → IsValid z → IsLawful z h → SaysOfKeys z h
+pub says_of_keys : (z : Shape) (h : List Event) → IsValid z → IsLawful z h → KeyFacts z h
 says_of_keys z h v l = record {
   stands = λ k x s. (stands_at z h k x s v l, stands_there z h k x s v l);
   readings = λ b n c lt i. readings_of z h b n c lt l i ((bucket_after z h b).items n) refl ((chain_of z h l b).contents n);

@@ -9,7 +9,7 @@ use Rattle.segcore.specs.declared.event.Event.{Event}
 use Rattle.segcore.specs.declared.event.Event.TheVariants.{Took, Freed, Replied, Linked, Unlinked, Drew, Put, Chained}
 use Rattle.segcore.specs.declared.cell.Cell.{Cell}
 use Rattle.segcore.specs.declared.cell.Cell.TheVariants.{OfBucket, OfOverflow}
-use Rattle.segcore.specs.Bucket.{Slot, slot, Content, nothing, item, next, copy, Bucket, last, fresh, IsPosition, bucket_at, is, acts, bucket_after}
+use Rattle.segcore.specs.Bucket.{Slot, slot, Content, nothing, item, next, copy, Bucket, last, fresh_position, IsPosition, bucket_at, is, acts, bucket_after}
 use Rattle.segcore.specs.Overflow.{home, home_of}
 use Rattle.segcore.specs.Lawful.{HasRoomFor, IsLawful}
 use Rattle.segcore.specs.Word.{IsAt}
@@ -67,11 +67,11 @@ act_joins z (Linked p q s r n) h b d t l lt ih = let j = ih lt in
 act_joins z (Unlinked p k n why) h b d t l lt ih = let j = ih lt in
     put_off (bucket_after z h b) n d nothing j
     (λ e. next_no_item j.0 l.1.suits.0 (sym l.1.suits.1 ∙ subst (λ x. (bucket_after z h x).items n ≡ next j.0) (sym (eqb-true (bucket_of z k) b t)) (ap (bucket_after z h b).items e ∙ j.1)))
-act_joins z (Put p a w) h b d t l lt ih = put_off (bucket_after z h b) (fresh (bucket_after z h b)) d (copy w) (ih lt) (λ e. omega arith)
+act_joins z (Put p a w) h b d t l lt ih = put_off (bucket_after z h b) (fresh_position (bucket_after z h b)) d (copy w) (ih lt) (λ e. omega arith)
 act_joins z (Chained p a m) h b d t l lt ih = let u = bucket_after z h b in ⊎_elim
     (λ e. (m, cond-true (eqb (last u) (8 * d + 7)) (next m) _ e))
     (λ f. let ne : u.chained ≢ d = (λ e. false≢true (sym f ∙ (let same : last u ≡ 8 * d + 7 = omega arith in eq-eqb (last u) (8 * d + 7) same))) in
-    let j = put_off u (fresh u) d (u.items (last u)) (ih (omega arith)) (λ e. omega arith) in
+    let j = put_off u (fresh_position u) d (u.items (last u)) (ih (omega arith)) (λ e. omega arith) in
     (j.0, cond-false (eqb (last u) (8 * d + 7)) (next m) _ f ∙ j.1))
     (cases_Bool (eqb (last u) (8 * d + 7)))
 act_joins z e h b d t l lt ih = ih lt

@@ -24,7 +24,7 @@ use Rattle.segcore.specs.declared.cell.Cell.{Cell}
 use Rattle.segcore.specs.declared.event.Event.{Event}
 use Rattle.segcore.specs.declared.event.Event.TheVariants.{Replied, Linked, Unlinked, Chained}
 use Rattle.segcore.specs.Event.{removal, seen}
-use Rattle.segcore.specs.Bucket.{Slot, slot, Content, nothing, item, next, copy, Bucket, last, fresh, bucket_at, is, acts, bucket_after, empty_bucket}
+use Rattle.segcore.specs.Bucket.{Slot, slot, Content, nothing, item, next, copy, Bucket, last, fresh_position, bucket_at, is, acts, bucket_after, empty_bucket}
 use Rattle.segcore.specs.Lawful.{IsRefusal, HasRoomFor, HasItemOf, Suits, IsLawful}
 use Rattle.segcore.specs.Standing.{cached}
 use Rattle.segcore.specs.Word.{content_word, word, IsItemAt}
@@ -121,15 +121,15 @@ module _ (z : Shape) (h : List Event) (l : IsLawful z h) where
   in_bucket k n b i at t = subst (λ y. item_count ((bucket_after z h y).items n) ≡ i) (eqb-true (bucket_of z k) b t) at
 
 -- a chain that grows takes an item along
-chain_count : (u : Bucket) (p b m n w : ℕ) → u.items (fresh u) ≡ copy w → fresh u < n → items_below (acts (Chained p b m) u) n ≡ items_below u n
+chain_count : (u : Bucket) (p b m n w : ℕ) → u.items (fresh_position u) ≡ copy w → fresh_position u < n → items_below (acts (Chained p b m) u) n ≡ items_below u n
 chain_count u p b m n w held lt =
     let v = acts (Chained p b m) u in
-    let half : Bucket = record u { items = with_at u.items (fresh u) (u.items (last u)) } in
-    let came = changed_below u half (fresh u) (u.items (last u)) n (λ j. refl) lt in
+    let half : Bucket = record u { items = with_at u.items (fresh_position u) (u.items (last u)) } in
+    let came = changed_below u half (fresh_position u) (u.items (last u)) n (λ j. refl) lt in
     let went = changed_below half v (last u) (next m) n (λ j. refl) (omega arith) in
-    let none : item_count (u.items (fresh u)) ≡ 0 = ap item_count held in
+    let none : item_count (u.items (fresh_position u)) ≡ 0 = ap item_count held in
     let stays : item_count (half.items (last u)) ≡ item_count (u.items (last u)) =
-    ap item_count (cond-false (eqb (fresh u) (last u)) (u.items (last u)) (u.items (last u)) (ne_eqb (fresh u) (last u) (λ e. omega arith))) in
+    ap item_count (cond-false (eqb (fresh_position u) (last u)) (u.items (last u)) (u.items (last u)) (ne_eqb (fresh_position u) (last u) (λ e. omega arith))) in
     omega arith
 
 -- what a refused write leaves

@@ -9,7 +9,7 @@ pub mod Chains
 pub mod Standing
 pub mod Cells
 pub mod Readers
-pub mod Kept
+pub mod KeepsLaw
 pub mod Limits
 pub mod StepKinds
 pub mod Schedules
@@ -19,7 +19,7 @@ pub mod Marked
 pub mod Orderly
 pub mod Exact
 pub mod Entered
-pub mod Says
+pub mod Facts
 pub mod WorkedExample
 pub mod Homes
 pub mod Buckets

@@ -10,7 +10,7 @@ use Rattle.segcore.proofs.Coherent.{moved, Coherent}
 use Rattle.segcore.specs.Bucket.{Bucket, bucket_at, is, acts, bucket_after}
 use Rattle.segcore.specs.Event.{seen}
 use Rattle.segcore.specs.Lawful.{IsRefusal, HasRoomFor, IsLawful}
-use Rattle.segcore.specs.Mark.{same_key, marked, entries, drawn_for, chained_to, onward, place, IsAfterAt, IsPlaced}
+use Rattle.segcore.specs.Mark.{same_key, marked, entries, drawn_for, chained_to, onward, place, IsAfterAt, IsWellMarked}
 use Rattle.segmodel.specs.Places.{bucket_of}
 use Rattle.segcore.specs.declared.event.Event.{Event}
 use Rattle.segcore.specs.declared.event.Event.TheVariants.{Replied, Linked, Unlinked, Drew, Chained, Bumped, Entered, Left, Refilled}
@@ -89,7 +89,7 @@ own_place z h k n c room some = ⊎_elim
     (λ r. place_marked z h k ∙ subst (λ x. trace.place z h x ≡ Some n) r.2 (c.placed (bucket_of z k) n r.0 r.1))
     room
 
-pub placed : (z : Shape) (h : List Event) → IsLawful z h → IsPlaced z (marked h)
+pub placed : (z : Shape) (h : List Event) → IsLawful z h → IsWellMarked z (marked h)
 placed z [] l = tt
 placed z (Replied p q y ∷ h) l = (placed z h l.0, refusal_after y (key_of q) (marked h) l.1.suits)
 placed z (Linked p q s r n ∷ h) l = let at_n = l.1.suits.3 in let same = chained_marked z h (bucket_of z (key_of q)) in let lt = at_n.0 in

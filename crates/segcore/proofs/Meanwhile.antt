@@ -12,12 +12,12 @@ use Rattle.segcore.specs.declared.view.View.{View}
 use Rattle.segcore.specs.Event.{seen, NoneBy}
 use Rattle.segcore.specs.Segment.{refills, NoneRefills}
 use Rattle.segcore.specs.Lawful.{IsLawful}
-use Rattle.segcore.specs.Word.{info_word, word}
+use Rattle.segcore.specs.Word.{bucket_info_word, word}
 use Rattle.segcore.specs.Kind.{Step, info_look, row_load, cell, adds, May}
 use Rattle.segmodel.specs.History.{Begins}
 use Rattle.segcore.specs.Mark.{marked}
 use Rattle.segcore.specs.World.{Told}
-use Rattle.segcore.specs.Count.{IsCounted}
+use Rattle.segcore.specs.Count.{CountsStep}
 use Rattle.segcore.specs.Meanwhile.{FindsKnown, Meanwhile}
 use Rattle.segcore.proofs.Moments.{lawful_before, seen_begins, marked_begins}
 use Rattle.segcore.proofs.Quiet.{quiet, quiet_none, quiet_at, quiet_inside, not_mine, later}
@@ -57,7 +57,7 @@ rise z (e ∷ more) h p b n a l none held is' =
     let one = one_rise z e (more ++ h) a.segment a.row a.key l there.linked in omega arith
 
 known_word : (z : Shape) (p : ℕ) (more h : List Event) → IsLawful z (more ++ h) → NoneBy p more → (step : Step) → FindsKnown step → May z h p step → word z (more ++ h) (cell step) ≡ word z h (cell step)
-known_word z p more h l n (info_look b) is may = ap (info_word z) (quiet z more h p b l n may.1)
+known_word z p more h l n (info_look b) is may = ap (bucket_info_word z) (quiet z more h p b l n may.1)
 known_word z p more h l n (row_load s r j) is may = ap (λ u. u.words j) (read_row z more h p s r l n may.3)
 known_word z p more h l n _ is may = absurd is
 
@@ -85,8 +85,8 @@ meanwhile z p more h l n = let early = lawful_before z more h l in record {
 }
 
 -- what a step that was told leaves of its pass's counts
-pub told_counts : (z : Shape) (step : Step) (found : ℕ) (v w : View) → Told z step found v w → IsCounted step v.number found v.trace w.trace
-told_counts z step found v w t = subst (λ (x : View). IsCounted step v.number found v.trace x.trace) (sym t.now) (counted step v.number found t.more v.trace t.others)
+pub told_counts : (z : Shape) (step : Step) (found : ℕ) (v w : View) → Told z step found v w → CountsStep step v.number found v.trace w.trace
+told_counts z step found v w t = subst (λ (x : View). CountsStep step v.number found v.trace x.trace) (sym t.now) (counted step v.number found t.more v.trace t.others)
 
 pub told_more : (z : Shape) (step : Step) (found : ℕ) (v w : View) → Told z step found v w → Begins v.trace w.trace
 told_more z step found v w t = (adds step v.number found ++ t.more, ap (λ (x : View). x.trace) t.now ∙ sym (append_assoc (adds step v.number found) t.more v.trace))

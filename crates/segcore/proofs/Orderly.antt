@@ -10,7 +10,7 @@ use Rattle.segcore.specs.Overflow.{drawn_in}
 use Rattle.segcore.specs.Row.{Row, writes_row, row_after, frequency_of}
 use Rattle.segcore.specs.Segment.{inside, readers, was_used}
 use Rattle.segcore.specs.Lawful.{IsLawful}
-use Rattle.segcore.specs.Mark.{Mark, enters, marked, all_drawn, all_entered, all_left, entered_by, left_by, is_named, linked_in, frequency_in, IsOrderly}
+use Rattle.segcore.specs.Mark.{Mark, enters, marked, all_drawn, all_entered, all_left, times_entered, times_left, is_segment_named, linked_in, frequency_in, IsOrderly}
 use Rattle.segcore.proofs.Readers.{is_counted}
 
 pub all_drawn_marked : (h : List Event) → all_drawn (marked h) ≡ drawn_in h
@@ -24,7 +24,7 @@ frequency_marked (Linked p q t i n ∷ h) s r = ap (cond (eqb t s && eqb i r) 1)
 frequency_marked (Bumped p t i f ∷ h) s r = ap (cond (eqb t s && eqb i r) f) (frequency_marked h s r)
 frequency_marked (e ∷ h) s r = frequency_marked h s r
 
-pub named_marked : (h : List Event) (s : ℕ) → is_named (marked h) s ≡ was_used h s
+pub named_marked : (h : List Event) (s : ℕ) → is_segment_named (marked h) s ≡ was_used h s
 named_marked [] s = refl
 named_marked (Linked p q t i n ∷ h) s = ap (λ b. eqb t s || b) (named_marked h s)
 named_marked (e ∷ h) s = named_marked h s
@@ -66,7 +66,7 @@ readers_marked z (Left p t ∷ h) s l = let i = readers_marked z h s l.0 in ⊎_
     (λ f. rw f i) (cases_Bool (eqb t s))
 readers_marked z (e ∷ h) s l = readers_marked z h s l.0
 
-pub inside_marked : (z : Shape) (h : List Event) (p s : ℕ) → IsLawful z h → inside h p s + left_by p (marked h) s ≡ entered_by p (marked h) s
+pub inside_marked : (z : Shape) (h : List Event) (p s : ℕ) → IsLawful z h → inside h p s + times_left p (marked h) s ≡ times_entered p (marked h) s
 inside_marked z [] p s l = refl
 inside_marked z (Entered q t ∷ h) p s l = let i = inside_marked z h p s l.0 in ⊎_elim (λ y. rw y (omega arith)) (λ f. rw f i) (cases_Bool (eqb q p && eqb t s))
 inside_marked z (Left q t ∷ h) p s l = let i = inside_marked z h p s l.0 in ⊎_elim

@@ -11,7 +11,7 @@ use Rattle.segmodel.specs.declared.entry.Entry.{Entry}
 use Rattle.segmodel.specs.declared.entry.Entry.TheVariants as entry
 use Rattle.segmodel.specs.Request.{key_of}
 use Rattle.segcore.proofs.Caches.{put, stands, stands_wrote, stands_evicted}
-use Rattle.segcore.specs.Mark.{same_key, Mark, enters, drawn, chained, at, bumped, entered, left, entries, chained_to, onward, place, last_at, IsAbsent, IsIn, IsAfterAt, IsPlaced}
+use Rattle.segcore.specs.Mark.{same_key, Mark, enters, drawn, chained, at, bumped, entered, left, entries, chained_to, onward, place, last_at, IsAbsent, IsIn, IsAfterAt, IsWellMarked}
 use Rattle.segcore.specs.Ahead.{WasGone, Ahead}
 use Rattle.segcore.specs.Bucket.{Slot, slot}
 use Rattle.segcore.specs.Scan.{IsNowhere, IsNotAt, position_after, IsScan, IsScanOf}
@@ -37,7 +37,7 @@ by_entry : (z : Shape) (k : List ℕ) (m : ℕ) (h : List Mark) (e : Entry) → 
 by_entry z k m h e s None t = inl t
 by_entry z k m h e s (Some x) t = inr (still_in z k m h (enters e ∷ h) s x t s.at s.place (omega arith) s.within)
 
-one : (z : Shape) (k : List ℕ) (m : ℕ) (h : List Mark) (e : Mark) → IsPlaced z (e ∷ h) → StandsFrom z k m h → IsAbsent z (e ∷ h) k ⊎ StandsFrom z k m (e ∷ h)
+one : (z : Shape) (k : List ℕ) (m : ℕ) (h : List Mark) (e : Mark) → IsWellMarked z (e ∷ h) → StandsFrom z k m h → IsAbsent z (e ∷ h) k ⊎ StandsFrom z k m (e ∷ h)
 one z k m h (enters e) p s = by_entry z k m h e s (stands z (e ∷ entries h) k) refl
 one z k m h (at k' t r n f) p s = inr (⊎_elim
     (λ y. let ek = key_true k' k y in
@@ -70,7 +70,7 @@ ends_later z k o n h [] g s = absurd s
 ends_later z k o n h (i ∷ []) g s = subst (Begins h) s.2 s.0
 ends_later z k o n h (i ∷ j ∷ more) g s = begins_on h i g s.0 (ends_later z k o (position_after n) i (j ∷ more) g s.2)
 
-placed_before : (z : Shape) (more h : List Mark) → IsPlaced z (more ++ h) → IsPlaced z h
+placed_before : (z : Shape) (more h : List Mark) → IsWellMarked z (more ++ h) → IsWellMarked z h
 placed_before z [] h p = p
 placed_before z (e ∷ more) h p = placed_before z more h p.0
 
@@ -81,7 +81,7 @@ pub record HasPlace (z : Shape) (k : List ℕ) (h : List Mark) : Type 0 where
   pub place : place z h k ≡ Some at
   pub within : IsIn z h k at
 
-after_at : (z : Shape) (k k' : List ℕ) (h : List Mark) → k' ≡ k → IsPlaced z h → IsAfterAt Stored k' h → HasPlace z k h
+after_at : (z : Shape) (k k' : List ℕ) (h : List Mark) → k' ≡ k → IsWellMarked z h → IsAfterAt Stored k' h → HasPlace z k h
 after_at z k k' (at l t r n f ∷ h) e p a = let el : l ≡ k = a ∙ e in record {
   at = n;
   place = cond-true (same_key l k) (Some n) (place z h k) (same_true l k el);
@@ -96,7 +96,7 @@ after_at z k k' (entered x y ∷ h) e p a = absurd a
 after_at z k k' (left x y ∷ h) e p a = absurd a
 
 -- a write leaves the key standing where it was stored, or stood before
-wrote : (z : Shape) (k : List ℕ) (q : Request) (y : Reply) (s : Option ℕ) (h : List Mark) (x : Cached) → key_of q ≡ k → IsPlaced z h → IsAfterAt y (key_of q) h → put q y s (stands z (entries h) k) ≡ Some x → HasPlace z k h ⊎ (stands z (entries h) k ≡ Some x)
+wrote : (z : Shape) (k : List ℕ) (q : Request) (y : Reply) (s : Option ℕ) (h : List Mark) (x : Cached) → key_of q ≡ k → IsWellMarked z h → IsAfterAt y (key_of q) h → put q y s (stands z (entries h) k) ≡ Some x → HasPlace z k h ⊎ (stands z (entries h) k ≡ Some x)
 wrote z k q Stored (Some s) h x e p a t = inl (after_at z k (key_of q) h e p a)
 wrote z k q Stored None h x e p a t = inr t
 wrote z k q Deleted s h x e p a t = absurd (none-some x t)
@@ -104,7 +104,7 @@ wrote z k q NotStored s h x e p a t = inr t
 wrote z k q Exists s h x e p a t = inr t
 wrote z k q NotFound s h x e p a t = inr t
 
-pub has_place : (z : Shape) (k : List ℕ) (h : List Mark) (x : Cached) → IsPlaced z h → stands z (entries h) k ≡ Some x → HasPlace z k h
+pub has_place : (z : Shape) (k : List ℕ) (h : List Mark) (x : Cached) → IsWellMarked z h → stands z (entries h) k ≡ Some x → HasPlace z k h
 has_place z k [] x p t = absurd (none-some x t)
 has_place z k (enters (entry.Wrote q w y s) ∷ h) x p t = ⊎_elim
     (λ e. let r = wrote z k w y s h x (key_true (key_of w) k e) p.0 p.1 (sym (stands_wrote z q w y s (entries h) k ∙ cond-true (same_key (key_of w) k) (put w y s (stands z (entries h) k)) (stands z (entries h) k) e) ∙ t) in
@@ -174,7 +174,7 @@ module _ (z : Shape) (k : List ℕ) (o : Option (ℕ × ℕ)) where
   there h n f None e = absurd (f.here (lost z k o h e))
   there h n f (Some x) e = record { item = x; stands = e; at = n; place = f.place; late = omega arith; within = f.within }
 
-  moves : (e : Mark) (h : List Mark) (a : ℕ) → IsPlaced z (e ∷ h) → IsFound z k o h a → ((m : ℕ) × (a ≤ m) × IsFound z k o (e ∷ h) m) ⊎ IsNowhere z k o (e ∷ h)
+  moves : (e : Mark) (h : List Mark) (a : ℕ) → IsWellMarked z (e ∷ h) → IsFound z k o h a → ((m : ℕ) × (a ≤ m) × IsFound z k o (e ∷ h) m) ⊎ IsNowhere z k o (e ∷ h)
   moves e h a p f = ⊎_elim
       (λ none. inr (lost z k o (e ∷ h) none))
       (λ (s : StandsFrom z k a (e ∷ h)). ⊎_elim
@@ -183,16 +183,16 @@ module _ (z : Shape) (k : List ℕ) (o : Option (ℕ × ℕ)) where
       (is_nowhere z k o (e ∷ h) s.item s.stands))
       (one z k a h e p (there h a f (stands z (entries h) k) refl))
 
-  first : (h : List Mark) (c : Option Cached) → IsPlaced z h → stands z (entries h) k ≡ c → Waits 1 h h
+  first : (h : List Mark) (c : Option Cached) → IsWellMarked z h → stands z (entries h) k ≡ c → Waits 1 h h
   first h None p t = inl (h, ([], refl), ([], refl), lost z k o h t)
   first h (Some x) p t = let i = has_place z k h x p t in let a = i.within.1 in ⊎_elim
       (λ gone. inl (h, ([], refl), ([], refl), gone))
       (λ here. inr (i.at, omega arith, record { here = here; place = i.place; within = i.within }))
       (is_nowhere z k o h x t)
 
-  passed : (n : ℕ) (h g i : List Mark) → IsPlaced z i → Begins h g → Begins g i → IsNotAt z k o i n → Waits n h g → Waits (n + 1) h i
+  passed : (n : ℕ) (h g i : List Mark) → IsWellMarked z i → Begins h g → Begins g i → IsNotAt z k o i n → Waits n h g → Waits (n + 1) h i
   passed n h g i p b c not a = ahead_passed (IsFound z k o) (IsNowhere z k o) n h i (λ f. not f.here f.place)
-      (ahead_later (IsPlaced z) (IsFound z k o) (IsNowhere z k o) (λ e f p. p.0) moves n h g i p b c a)
+      (ahead_later (IsWellMarked z) (IsFound z k o) (IsNowhere z k o) (λ e f p. p.0) moves n h g i p b c a)
 
   onto : (n : ℕ) (h i : List Mark) → Waits (n + 1) h i → Waits (position_after n) h i
   onto n h i a = ⊎_elim
@@ -200,20 +200,20 @@ module _ (z : Shape) (k : List ℕ) (o : Option (ℕ × ℕ)) where
       (λ f. rw f a)
       (cases_Bool (eqb (n % 8) 7))
 
-  all_looks : (n : ℕ) (h from : List Mark) (looks : List (List Mark)) (g : List Mark) → IsPlaced z g → Begins h from → IsScan z k o n from looks g → Waits n h from → WasGone (IsNowhere z k o) h g
+  all_looks : (n : ℕ) (h from : List Mark) (looks : List (List Mark)) (g : List Mark) → IsWellMarked z g → Begins h from → IsScan z k o n from looks g → Waits n h from → WasGone (IsNowhere z k o) h g
   all_looks n h from [] g p b s a = absurd s
   all_looks n h from (i ∷ []) g p b s a =
       let e = s.3 in
       subst (WasGone (IsNowhere z k o) h) s.2 (ahead_end (IsFound z k o) (IsNowhere z k o) (n + 1) h i
       (λ m f. let lt = f.within.0 in let same : chained_to i (bucket_of z k) ≡ chained_to g (bucket_of z k) = ap (λ x. chained_to x (bucket_of z k)) s.2 in omega arith)
-      (passed n h from i (subst (IsPlaced z) (sym s.2) p) b s.0 s.1 a))
+      (passed n h from i (subst (IsWellMarked z) (sym s.2) p) b s.0 s.1 a))
   all_looks n h from (i ∷ j ∷ more) g p b s a =
       let later = ends_later z k o (position_after n) i (j ∷ more) g s.2 in
       all_looks (position_after n) h i (j ∷ more) g p (begins_on h from i b s.0) s.2
-      (onto n h i (passed n h from i (placed_before z later.0 i (subst (IsPlaced z) later.1 p)) b s.0 s.1 a))
+      (onto n h i (passed n h from i (placed_before z later.0 i (subst (IsWellMarked z) later.1 p)) b s.0 s.1 a))
 
   pub miss : (h : List Mark) (looks : List (List Mark)) (g : List Mark) → IsScanOf z k o h looks g → WasGone (IsNowhere z k o) h g
   miss h looks g s =
       let b = ends_later z k o 1 h (h ∷ looks) g s.scan in
-      let p = placed_before z b.0 h (subst (IsPlaced z) b.1 s.placed) in
+      let p = placed_before z b.0 h (subst (IsWellMarked z) b.1 s.placed) in
       all_looks 1 h h (h ∷ looks) g s.placed ([], refl) s.scan (first h (stands z (entries h) k) p refl)

@@ -11,17 +11,17 @@ use Rattle.segword.specs.declared.shape.Shape.{Shape}
 use Rattle.segcore.specs.declared.event.Event.{Event}
 use Rattle.segcore.specs.declared.view.View.{View}
 use Rattle.segcore.specs.Event.{NoneBy}
-use Rattle.segcore.specs.Kind.{adds, cell, Step, May, Kept}
+use Rattle.segcore.specs.Kind.{adds, cell, Step, May, KeepsLaw}
 use Rattle.segcore.specs.Lawful.{IsLawful}
 use Rattle.segcore.specs.Word.{address}
 use Rattle.segcore.specs.World.{Grew, Lawful, SeeMore, World, IsOpening, Reaches, IsLawfulWorld}
-use Rattle.segcore.proofs.Kept.{steps, inside_list}
+use Rattle.segcore.proofs.KeepsLaw.{steps, inside_list}
 use Rattle.segcore.proofs.StepKinds.{keeps}
 
 -- a step that the pass p may take, having seen what its view says, changes its word as the history then says
-pub kept_at : (z : Shape) (ws : List ℕ) (views : List View) (h : List Event) (p : ℕ) (v : View) (st : Step) → Lawful z ws views h → get_elem? views p ≡ some v → May z v.trace p st → Kept z st p h
+pub kept_at : (z : Shape) (ws : List ℕ) (views : List View) (h : List Event) (p : ℕ) (v : View) (st : Step) → Lawful z ws views h → get_elem? views p ≡ some v → May z v.trace p st → KeepsLaw z st p h
 kept_at z ws views h p v st l at may = let k = l.knows p v at in
-    subst (Kept z st p) (sym k.rest) (keeps z st p k.more v.trace l.valid (subst (IsLawful z) k.rest l.legal) k.others may)
+    subst (KeepsLaw z st p) (sym k.rest) (keeps z st p k.more v.trace l.valid (subst (IsLawful z) k.rest l.legal) k.others may)
 
 pub opens : (z : Shape) (w : World) → IsOpening z w → IsLawfulWorld z w
 opens z w o = record {

@@ -11,7 +11,7 @@ use Rattle.segmodel.specs.History.{Begins}
 use Rattle.segcore.specs.declared.event.Event.{Event}
 use Rattle.segcore.specs.declared.event.Event.TheVariants.{Linked, Unlinked, Chained}
 use Rattle.segcore.specs.Event.{seen}
-use Rattle.segcore.specs.Bucket.{Slot, slot, item, nothing, last, fresh, IsPosition, acts, bucket_after}
+use Rattle.segcore.specs.Bucket.{Slot, slot, item, nothing, last, fresh_position, IsPosition, acts, bucket_after}
 use Rattle.segcore.specs.Row.{row_after}
 use Rattle.segcore.specs.Lawful.{IsLawful}
 use Rattle.segcore.specs.Mark.{marked, same_key, last_at}
@@ -107,7 +107,7 @@ chained_fate z h p b' m b n a l is' =
     let at : (k : ℕ) → (acts e u).items k ≡ item a → (bucket_after z (e ∷ h) b).items k ≡ item a =
     (λ k i. subst (λ t. (bucket_after z (e ∷ h) t).items k ≡ item a) eb (ap (λ v. v.items k) (grown z h p b' m l c) ∙ i)) in
     ⊎_elim
-    (λ t. let en = eqb-true (last u) n t in (fresh u, omega arith, at (fresh u) (at_fresh z h p b' m l c ∙ (ap u.items en ∙ old))))
+    (λ t. let en = eqb-true (last u) n t in (fresh_position u, omega arith, at (fresh_position u) (at_fresh z h p b' m l c ∙ (ap u.items en ∙ old))))
     (λ f. (n, omega arith, at n (elsewhere z h p b' m l c n (eqb-false (last u) n f) (λ q. copy_item l.1.suits.1.1 a (sym l.1.suits.1.3 ∙ (ap u.items q ∙ old))) ∙ old)))
     (cases_Bool (eqb (last u) n)))
     (λ f. (n, omega arith, ap (λ v. v.items n) (others_same z h p b' m l c b f) ∙ is'))

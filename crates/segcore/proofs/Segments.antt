@@ -14,7 +14,7 @@ use Rattle.segcore.specs.Segment.{inside, NoneRefills}
 use Rattle.segcore.specs.Lawful.{IsLawful}
 use Rattle.segcore.specs.Standing.{cached}
 use Rattle.segcore.specs.Mark.{same_key}
-use Rattle.segcore.specs.Says.{NoneLinks, IsKeptRow, SaysOfSegments}
+use Rattle.segcore.specs.Facts.{NoneLinks, IsKeptRow, SegmentFacts}
 use Rattle.segcore.proofs.Keys.{same_true}
 use Rattle.segcore.proofs.Caches.{stands, stands_wrote}
 use Rattle.segcore.proofs.Moments.{lawful_before}
@@ -61,7 +61,7 @@ kept_row z more h p q s r n l none =
       stood = stands_wrote z p q Stored (Some s) (seen h) k ∙ cond-true (same_key k k) (Some (cached (value_of q) s)) (stands z (seen h) k) (same_true k k refl);
     }
 
-pub says_of_segments : (z : Shape) (h : List Event) → IsLawful z h → SaysOfSegments z h
+pub says_of_segments : (z : Shape) (h : List Event) → IsLawful z h → SegmentFacts z h
 says_of_segments z h l = record {
   readers = λ s. readers_marked z h s l;
   marks = λ p s. inside_marked z h p s l;

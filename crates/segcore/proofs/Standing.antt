@@ -11,7 +11,7 @@ use Rattle.segmodel.specs.Request.{key_of, value_of}
 use Rattle.segcore.proofs.Caches.{put, stands, stands_wrote, stands_evicted, stands_in}
 use Rattle.segmodel.specs.declared.request.Request.TheVariants.{Delete}
 use Rattle.segcore.proofs.Coherent.{IsContent, IsChain, IsStanding, moved, place, Coherent}
-use Rattle.segcore.specs.Bucket.{Slot, slot, Content, nothing, item, next, copy, Bucket, last, fresh, bucket_at, is, acts, bucket_after, IsPosition}
+use Rattle.segcore.specs.Bucket.{Slot, slot, Content, nothing, item, next, copy, Bucket, last, fresh_position, bucket_at, is, acts, bucket_after, IsPosition}
 use Rattle.segcore.specs.Event.{removal, seen}
 use Rattle.segcore.specs.Lawful.{IsRefusal, HasRoomFor, Suits, IsLawful}
 use Rattle.segcore.specs.Mark.{same_key, marked, last_at}
@@ -225,20 +225,20 @@ module _ (z : Shape) (h : List Event) (p b m : ℕ) (l : IsLawful z (Chained p b
   others_same a f = cond-false (eqb b a) (acts e (bucket_after z h a)) (bucket_after z h a) f
 
   -- an item of the grown chain was at its position before, or moved from the last word
-  from : (n : ℕ) (a : Slot) → (acts e u).items n ≡ item a → ((fresh u ≡ n) × (u.items (last u) ≡ item a)) ⊎ ((last u ≢ n) × (u.items n ≡ item a))
+  from : (n : ℕ) (a : Slot) → (acts e u).items n ≡ item a → ((fresh_position u ≡ n) × (u.items (last u) ≡ item a)) ⊎ ((last u ≢ n) × (u.items n ≡ item a))
   from n a is' = ⊎_elim
       (λ t. absurd (next_item m a (sym (cond-true (eqb (last u) n) (next m) _ t) ∙ is')))
-      (λ f. let old = sym (cond-false (eqb (last u) n) (next m) (cond (eqb (fresh u) n) (u.items (last u)) (u.items n)) f) ∙ is' in ⊎_elim
-      (λ t. inl (eqb-true (fresh u) n t, sym (cond-true (eqb (fresh u) n) (u.items (last u)) (u.items n) t) ∙ old))
-      (λ g. inr (eqb-false (last u) n f, sym (cond-false (eqb (fresh u) n) (u.items (last u)) (u.items n) g) ∙ old))
-      (cases_Bool (eqb (fresh u) n)))
+      (λ f. let old = sym (cond-false (eqb (last u) n) (next m) (cond (eqb (fresh_position u) n) (u.items (last u)) (u.items n)) f) ∙ is' in ⊎_elim
+      (λ t. inl (eqb-true (fresh_position u) n t, sym (cond-true (eqb (fresh_position u) n) (u.items (last u)) (u.items n) t) ∙ old))
+      (λ g. inr (eqb-false (last u) n f, sym (cond-false (eqb (fresh_position u) n) (u.items (last u)) (u.items n) g) ∙ old))
+      (cases_Bool (eqb (fresh_position u) n)))
       (cases_Bool (eqb (last u) n))
 
-  pub at_fresh : (acts e u).items (fresh u) ≡ u.items (last u)
-  at_fresh = rw (ne_eqb (last u) (fresh u) (λ q. omega arith), eq-eqb (fresh u) (fresh u) refl) refl
+  pub at_fresh : (acts e u).items (fresh_position u) ≡ u.items (last u)
+  at_fresh = rw (ne_eqb (last u) (fresh_position u) (λ q. omega arith), eq-eqb (fresh_position u) (fresh_position u) refl) refl
 
-  pub elsewhere : (n : ℕ) → last u ≢ n → fresh u ≢ n → (acts e u).items n ≡ u.items n
-  elsewhere n ne ne' = rw (ne_eqb (last u) n ne, ne_eqb (fresh u) n ne') refl
+  pub elsewhere : (n : ℕ) → last u ≢ n → fresh_position u ≢ n → (acts e u).items n ≡ u.items n
+  elsewhere n ne ne' = rw (ne_eqb (last u) n ne, ne_eqb (fresh_position u) n ne') refl
 
   standing : (n : ℕ) (a : Slot) → (acts e u).items n ≡ item a → IsStanding z (e ∷ h) b n a
   standing n a is' = ⊎_elim
@@ -272,7 +272,7 @@ module _ (z : Shape) (h : List Event) (p b m : ℕ) (l : IsLawful z (Chained p b
         let go : (n : ℕ) → (acts e u).items n ≡ item w.1 → (n : ℕ) × (a : Slot) × ((bucket_after z (e ∷ h) (bucket_of z k)).items n ≡ item a) × (a.key ≡ k) =
         (λ n at. (n, w.1, subst (λ (y : ℕ). (bucket_after z (e ∷ h) y).items n ≡ item w.1) eb (ap (λ v. v.items n) grown ∙ at), w.3)) in
         ⊎_elim
-        (λ y. go (fresh u) (at_fresh ∙ rw (eqb-true (last u) w.0 y) old))
+        (λ y. go (fresh_position u) (at_fresh ∙ rw (eqb-true (last u) w.0 y) old))
         (λ g. go w.0 (elsewhere w.0 (eqb-false (last u) w.0 g) (λ q. copy_item l.1.suits.1.1 w.1 (sym l.1.suits.1.3 ∙ rw q old)) ∙ old))
         (cases_Bool (eqb (last u) w.0)))
         (λ f. (w.0, w.1, ap (λ v. v.items w.0) (others_same (bucket_of z k) f) ∙ w.2, w.3))
@@ -306,7 +306,7 @@ same_chain (Chained p b m) u t = absurd (false≢true (sym t))
 same_chain e u t = refl
 
 -- the fresh word has no item
-not_fresh : (h : List Event) (b : ℕ) (u : Bucket) (n : ℕ) (a : Slot) → IsChain h b u → u.items n ≡ item a → fresh u ≢ n
+not_fresh : (h : List Event) (b : ℕ) (u : Bucket) (n : ℕ) (a : Slot) → IsChain h b u → u.items n ≡ item a → fresh_position u ≢ n
 not_fresh h b u n a c is' e = let i : IsContent h b u n (item a) = subst (IsContent h b u n) is' (c.contents n) in let lt = i.0 in omega arith
 
 act_back : (e : Event) (u : Bucket) (n : ℕ) (a : Slot) → Turning e ≡ false → (acts e u).items n ≡ item a → u.items n ≡ item a
@@ -314,16 +314,16 @@ act_back (Linked p q s r m) u n a t is' = absurd (false≢true (sym t))
 act_back (Unlinked p k m why) u n a t is' = absurd (false≢true (sym t))
 act_back (Chained p b m) u n a t is' = absurd (false≢true (sym t))
 act_back (Put p b w) u n a t is' = ⊎_elim
-    (λ y. absurd (copy_item w a (sym (cond-true (eqb (fresh u) n) (copy w) (u.items n) y) ∙ is')))
-    (λ f. sym (cond-false (eqb (fresh u) n) (copy w) (u.items n) f) ∙ is')
-    (cases_Bool (eqb (fresh u) n))
+    (λ y. absurd (copy_item w a (sym (cond-true (eqb (fresh_position u) n) (copy w) (u.items n) y) ∙ is')))
+    (λ f. sym (cond-false (eqb (fresh_position u) n) (copy w) (u.items n) f) ∙ is')
+    (cases_Bool (eqb (fresh_position u) n))
 act_back e u n a t is' = is'
 
 act_on : (e : Event) (h : List Event) (b : ℕ) (u : Bucket) (n : ℕ) (a : Slot) → Turning e ≡ false → IsChain h b u → u.items n ≡ item a → (acts e u).items n ≡ item a
 act_on (Linked p q s r m) h b u n a t c is' = absurd (false≢true (sym t))
 act_on (Unlinked p k m why) h b u n a t c is' = absurd (false≢true (sym t))
 act_on (Chained p d m) h b u n a t c is' = absurd (false≢true (sym t))
-act_on (Put p d w) h b u n a t c is' = cond-false (eqb (fresh u) n) (copy w) (u.items n) (ne_eqb (fresh u) n (not_fresh h b u n a c is')) ∙ is'
+act_on (Put p d w) h b u n a t c is' = cond-false (eqb (fresh_position u) n) (copy w) (u.items n) (ne_eqb (fresh_position u) n (not_fresh h b u n a c is')) ∙ is'
 act_on e h b u n a t c is' = is'
 
 same_map : (z : Shape) (e : Event) (h : List Event) (k : List ℕ) → Turning e ≡ false → Suits z h e → stands z (seen (e ∷ h)) k ≡ stands z (seen h) k

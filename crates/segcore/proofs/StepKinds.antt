@@ -10,9 +10,9 @@ use Rattle.std.proofs.Common.{ℕ, ◌+◌, List, ◌++◌, sym, refl, ap, ◌�
 use Rattle.segword.specs.declared.shape.Shape.{Shape}
 use Rattle.segword.specs.Shape.{IsValid}
 use Rattle.segmodel.specs.Request.{key_of}
-use Rattle.segcore.specs.Bucket.{last, fresh, bucket_after}
+use Rattle.segcore.specs.Bucket.{last, fresh_position, bucket_after}
 use Rattle.segcore.specs.Event.{NoneBy}
-use Rattle.segcore.specs.Kind.{Step, take, release, info_look, glance, look, link, clear, draw, fill, chain, bump, row_store, row_load, enter, leave, none_reading, May, Kept}
+use Rattle.segcore.specs.Kind.{Step, take, release, info_look, glance, look, link, clear, draw, fill, chain, bump, row_store, row_load, enter, leave, none_reading, May, KeepsLaw}
 use Rattle.segcore.specs.Lawful.{IsLawful}
 use Rattle.segcore.specs.Word.{IsAt}
 use Rattle.segmodel.specs.Places.{bucket_of}
@@ -32,7 +32,7 @@ use Rattle.segcore.proofs.StepKinds.Rows.{store_at}
 use Rattle.segcore.proofs.StepKinds.Segments.{enter_at, leave_at, none_at}
 
 pub keeps : (z : Shape) (st : Step) (p : ℕ) (more h : List Event) → IsValid z → IsLawful z (more ++ h)
-    → NoneBy p more → May z h p st → Kept z st p (more ++ h)
+    → NoneBy p more → May z h p st → KeepsLaw z st p (more ++ h)
 keeps z (take b own) p more h v l n may = take_at z p b own (more ++ h) (bucket_after z (more ++ h) b).holder refl (bit_known z more h p b own l n may.1) may.0 l
 keeps z (glance b own) p more h v l n may = glance_at z p b own (more ++ h) (bucket_after z (more ++ h) b).holder refl (bit_known z more h p b own l n may.1) may.0 l
 keeps z (release b c said) p more h v l n may =
@@ -48,7 +48,7 @@ keeps z (draw b d from) p more h v l n may = let same_b = quiet z more h p b l n
     draw_at z p b d from (more ++ h) (may.0.0, ap (λ u. u.holder) same_b ∙ may.0.1) (ap (λ u. u.spare) same_b ∙ may.1) (may.2 ∙ ap (λ u. u.chained + 1) (sym same_b)) may.3 may.4 l
 keeps z (fill b m w) p more h v l n may = fill_at z p b m w (more ++ h) (later z more h (Put p b w) l n refl may.0) (ap (λ u. u.spare) (quiet z more h p b l n may.0.guarded.1) ∙ may.1) l
 keeps z (chain b c old m) p more h v l n may = let same_b = quiet z more h p b l n may.0.guarded.1 in
-    chain_at z p b c old m (more ++ h) (later z more h (Chained p b m) l n refl may.0) (at_stays z more h b _ c l (subst (λ u. IsAt h b (last u) c) (sym same_b) may.1)) (ap (λ u. u.items (fresh u)) same_b ∙ may.2) l
+    chain_at z p b c old m (more ++ h) (later z more h (Chained p b m) l n refl may.0) (at_stays z more h b _ c l (subst (λ u. IsAt h b (last u) c) (sym same_b) may.1)) (ap (λ u. u.items (fresh_position u)) same_b ∙ may.2) l
 keeps z (bump b m c t s r f g) p more h v l n may = bump_at z p b m c t s r f g (more ++ h) v may.0 (position_stays z more h b m may.1.0, at_stays z more h b m c l may.1.1) may.2 may.3 may.4 l
 keeps z (enter s) p more h v l n may = enter_at z p s (more ++ h) v (later z more h (Entered p s) l n refl may) l
 keeps z (leave s) p more h v l n may = leave_at z p s (more ++ h) v (later z more h (Left p s) l n refl may) l

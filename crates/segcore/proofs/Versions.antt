@@ -9,7 +9,7 @@ use Rattle.segcore.proofs.Caches.{one_more, writes_wrote, writes_evicted, writes
 use Rattle.segmodel.specs.declared.request.Request.TheVariants.{Delete}
 use Rattle.segcore.specs.Bucket.{Bucket, bucket_at, is, acts, bucket_after, written_by}
 use Rattle.segcore.specs.Event.{seen, removal, by}
-use Rattle.segcore.specs.Lawful.{Leaves, IsRefusal, IsLawful, needs}
+use Rattle.segcore.specs.Lawful.{MayLeave, IsRefusal, IsLawful, needs}
 use Rattle.segmodel.specs.Places.{bucket_of}
 use Rattle.segmodel.specs.History.{writes}
 use Rattle.segcore.specs.declared.event.Event.{Event}
@@ -31,7 +31,7 @@ freed : (u : Bucket) (n : ℕ) (c : Bool) → u.written ≡ c → n ≡ u.versio
 freed u n true w e = e ∙ ap (λ b. u.version + one_if b) w ∙ omega arith
 freed u n false w e = e ∙ ap (λ b. u.version + one_if b) w
 
-deleted : (z : Shape) (p : ℕ) (k : List ℕ) (why : Option ℕ) (h : List Event) (u : Bucket) (s : ℕ) (b : ℕ) → eqb (bucket_of z k) b ≡ true → Leaves why u.written s → writes z (seen h) b ≡ u.version + one_if u.written
+deleted : (z : Shape) (p : ℕ) (k : List ℕ) (why : Option ℕ) (h : List Event) (u : Bucket) (s : ℕ) (b : ℕ) → eqb (bucket_of z k) b ≡ true → MayLeave why u.written s → writes z (seen h) b ≡ u.version + one_if u.written
     → writes z (removal p k why ∷ seen h) b ≡ u.version + one_if (written_by why u.written)
 deleted z p k None h u s b t w e = writes_wrote z p (Delete k) Deleted None (seen h) b ∙ cond-true (eqb (bucket_of z k) b) (writes z (seen h) b + 1) (writes z (seen h) b) t ∙ ap (λ n. n + 1) (e ∙ ap (λ c. u.version + one_if c) w) ∙ omega arith
 deleted z p k (Some t') h u s b t w e = writes_evicted z p k t' (seen h) b ∙ e

@@ -42,8 +42,8 @@ abbrev pub last : Bucket → ℕ
 last bucket = 8 * bucket.chained + 7
 
 -- the position of word 1 of the bucket that may come after it
-abbrev pub fresh : Bucket → ℕ
-fresh bucket = 8 * bucket.chained + 9
+abbrev pub fresh_position : Bucket → ℕ
+fresh_position bucket = 8 * bucket.chained + 9
 
 -- the position is that of an item word of the chain
 abbrev pub IsPosition : Bucket → ℕ → Type 0
@@ -78,12 +78,12 @@ acts (Freed pass b counted) bucket = record bucket { holder = None; written = fa
 acts (Linked pass request segment row position) bucket = record bucket { written = true; items = with_at bucket.items position (item (slot (key_of request) segment row)) }
 acts (Unlinked pass key position evicted) bucket = record bucket { written = written_by evicted bucket.written; items = with_at bucket.items position nothing }
 acts (Drew pass b depth number) bucket = record bucket { spare = Some number }
-acts (Put pass b word) bucket = record bucket { items = with_at bucket.items (fresh bucket) (copy word) }
+acts (Put pass b word) bucket = record bucket { items = with_at bucket.items (fresh_position bucket) (copy word) }
 -- the item of the last word moves to the first word of the new bucket
 acts (Chained pass b number) bucket = record bucket {
   chained = bucket.chained + 1;
   spare = None;
-  items = with_at (with_at bucket.items (fresh bucket) (bucket.items (last bucket))) (last bucket) (next number);
+  items = with_at (with_at bucket.items (fresh_position bucket) (bucket.items (last bucket))) (last bucket) (next number);
 }
 acts _ bucket = bucket
 

@@ -19,7 +19,7 @@ abbrev pub behind : Shape → List Event → ℕ → ℕ
 behind shape trace bucket = if (bucket_after shape trace bucket).written then 1 else 0
 
 -- the information word: the version of the cache, or one less, and the bit
-pub record SaysOfInfo (shape : Shape) (trace : List Event) (bucket : ℕ) : Type 0 where
+pub record InfoFacts (shape : Shape) (trace : List Event) (bucket : ℕ) : Type 0 where
   pub version : shape.first_version < 2 ^ 32 → (word shape trace (OfBucket bucket 0) / 2 ^ 32 + behind shape trace bucket) % 2 ^ 32 ≡ (after shape (seen trace)).version bucket
   -- bits 31 to 1 are 0
   pub bit : word shape trace (OfBucket bucket 0) % 2 ^ 32 < 2
@@ -27,7 +27,7 @@ pub record SaysOfInfo (shape : Shape) (trace : List Event) (bucket : ℕ) : Type
   pub counted : word shape trace (OfBucket bucket 0) % 2 ^ 32 ≡ 0 → behind shape trace bucket ≡ 0
 
 -- the chain has the bucket itself and one for each that joined it
-pub record SaysOfChain (shape : Shape) (trace : List Event) (bucket : ℕ) : Type 0 where
+pub record ChainFacts (shape : Shape) (trace : List Event) (bucket : ℕ) : Type 0 where
   pub short : chained_to (marked trace) bucket < 4
   -- one after another, by the last word of each, all of them in the table
   pub joined : (depth : ℕ) → depth < chained_to (marked trace) bucket
@@ -46,9 +46,9 @@ pub record SaysOfChain (shape : Shape) (trace : List Event) (bucket : ℕ) : Typ
 abbrev pub IsUnchained : List Event → ℕ → Type 0
 IsUnchained trace number = (bucket depth : ℕ) → home_of trace number ≡ Some (home bucket depth) → chained_to (marked trace) bucket < depth
 
-pub record SaysOfBuckets (shape : Shape) (trace : List Event) : Type 0 where
-  pub info : (bucket : ℕ) → bucket < shape.buckets → SaysOfInfo shape trace bucket
-  pub chains : (bucket : ℕ) → SaysOfChain shape trace bucket
+pub record BucketFacts (shape : Shape) (trace : List Event) : Type 0 where
+  pub info : (bucket : ℕ) → bucket < shape.buckets → InfoFacts shape trace bucket
+  pub chains : (bucket : ℕ) → ChainFacts shape trace bucket
   -- the overflow counter
   pub counter : word shape trace OfCounter ≡ all_drawn (marked trace)
   pub enough : all_drawn (marked trace) ≤ shape.overflow

@@ -71,7 +71,7 @@ entered_by (enter segment) = 1
 entered_by _ = 0
 
 -- the counts of a pass before a step of its own and after it
-pub record IsCounted (step : Step) (pass found : ℕ) (old new : List Event) : Type 0 where
+pub record CountsStep (step : Step) (pass found : ℕ) (old new : List Event) : Type 0 where
   pub entries : mine pass (seen new) ≡ seen (adds step pass found) ++ mine pass (seen old)
   pub takes : taken pass new ≡ taken_by step found + taken pass old
   pub bounces : (bucket : ℕ) → bounced pass bucket new ≡ bounced_by bucket step found + bounced pass bucket old

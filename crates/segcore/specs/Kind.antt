@@ -14,7 +14,7 @@ use Rattle.segcore.specs.declared.event.Event.TheVariants.{Took, Bounced, Glance
 use Rattle.segcore.specs.declared.cell.Cell.{Cell}
 use Rattle.segcore.specs.declared.cell.Cell.TheVariants.{OfCounter, OfBucket, OfOverflow, OfSegment, OfRow}
 use Rattle.segcore.specs.Event.{AllBy, seen}
-use Rattle.segcore.specs.Bucket.{Slot, item, copy, last, fresh, is, bucket_after}
+use Rattle.segcore.specs.Bucket.{Slot, item, copy, last, fresh_position, is, bucket_after}
 use Rattle.segcore.specs.Overflow.{drawn_in}
 use Rattle.segcore.specs.Row.{row_after}
 use Rattle.segcore.specs.Segment.{inside}
@@ -141,9 +141,9 @@ MayRead shape trace pass segment row =
     × ((bucket_after shape trace bucket).items position ≡ item named) × (named.segment ≡ segment) × (named.row ≡ row)))
 
 -- the refused write is of the bucket, and a cache of one thread refuses it
-abbrev pub Refuses : Shape → List Event → ℕ → ℕ → Option (Request × Reply) → Type 0
-Refuses shape trace pass bucket None = Unit {0}
-Refuses shape trace pass bucket (Some said) = (bucket_of shape (key_of said.0) ≡ bucket) × Fits shape trace (Replied pass said.0 said.1)
+abbrev pub MayRefuse : Shape → List Event → ℕ → ℕ → Option (Request × Reply) → Type 0
+MayRefuse shape trace pass bucket None = Unit {0}
+MayRefuse shape trace pass bucket (Some said) = (bucket_of shape (key_of said.0) ≡ bucket) × Fits shape trace (Replied pass said.0 said.1)
 
 -- where a pass may take a step, having seen this trace
 abbrev pub May : Shape → List Event → ℕ → Step → Type 0
@@ -152,7 +152,7 @@ May shape trace pass (release bucket counted said) =
     HasBit shape trace pass bucket
     × ((bucket_after shape trace bucket).written ≡ counted)
     × ((bucket_after shape trace bucket).spare ≡ None)
-    × Refuses shape trace pass bucket said
+    × MayRefuse shape trace pass bucket said
 May shape trace pass (info_look bucket) = HasBit shape trace pass bucket
 May shape trace pass (glance bucket own) = KnowsBit shape trace pass bucket own
 May shape trace pass (look of) = IsCell shape of × IsItemCell of
@@ -166,7 +166,7 @@ May shape trace pass (draw bucket depth from) =
 May shape trace pass (fill bucket number w) = Fits shape trace (Put pass bucket w) × ((bucket_after shape trace bucket).spare ≡ Some number)
 May shape trace pass (chain bucket of old number) =
     let state = bucket_after shape trace bucket in
-    Fits shape trace (Chained pass bucket number) × IsAt trace bucket (last state) of × (state.items (fresh state) ≡ copy old)
+    Fits shape trace (Chained pass bucket number) × IsAt trace bucket (last state) of × (state.items (fresh_position state) ≡ copy old)
 May shape trace pass (bump bucket position of tag segment row frequency raised) =
     (bucket < shape.buckets) × IsItemAt shape trace bucket position of × IsInItem tag segment row × (frequency < raised) × (raised < 256)
 May shape trace pass (row_store segment row place w) = Fits shape trace (Filled pass segment row place w)
@@ -176,7 +176,7 @@ May shape trace pass (leave segment) = Fits shape trace (Left pass segment)
 May shape trace pass (none_reading segment) = IsSegment shape segment × Follows shape (after shape (seen trace)) (entry.Refilled pass segment)
 
 -- what a step leaves of the trace at which the word changed: it is one of the table's words, the longer trace is lawful, and each word is what that makes it
-pub record Kept (shape : Shape) (step : Step) (pass : ℕ) (trace : List Event) : Type 0 where
+pub record KeepsLaw (shape : Shape) (step : Step) (pass : ℕ) (trace : List Event) : Type 0 where
   pub inside : IsCell shape (cell step)
   pub own : AllBy pass (adds step pass (word shape trace (cell step)))
   pub legal : IsLawful shape (adds step pass (word shape trace (cell step)) ++ trace)

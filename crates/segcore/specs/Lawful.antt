@@ -11,7 +11,7 @@ use Rattle.segmodel.specs.History.{Follows, after}
 use Rattle.segcore.specs.declared.event.Event.{Event}
 use Rattle.segcore.specs.declared.event.Event.TheVariants.{Took, Bounced, Glanced, Freed, Replied, Filled, Linked, Unlinked, Drew, Put, Chained, Bumped, Entered, Left, Refilled}
 use Rattle.segcore.specs.Event.{by, entry_of, seen}
-use Rattle.segcore.specs.Bucket.{Slot, nothing, item, copy, last, fresh, IsPosition, bucket_at, is, bucket_after}
+use Rattle.segcore.specs.Bucket.{Slot, nothing, item, copy, last, fresh_position, IsPosition, bucket_at, is, bucket_after}
 use Rattle.segcore.specs.Overflow.{drawn_in}
 use Rattle.segcore.specs.Row.{Holds, row_after, frequency_of}
 use Rattle.segcore.specs.Segment.{inside, readers, was_used}
@@ -57,9 +57,9 @@ HasRoomFor shape trace key position =
     ⊎ HasItemOf shape trace key position
 
 -- an evicted item is of the segment that is named, and a delete is the first write under its bit
-abbrev pub Leaves : Option ℕ → Bool → ℕ → Type 0
-Leaves None written segment = written ≡ false
-Leaves (Some evicted) written segment = evicted ≡ segment
+abbrev pub MayLeave : Option ℕ → Bool → ℕ → Type 0
+MayLeave None written segment = written ≡ false
+MayLeave (Some evicted) written segment = evicted ≡ segment
 
 abbrev pub IsOther : ℕ → Option ℕ → Type 0
 IsOther pass holder = (other : ℕ) × (holder ≡ Some other) × (other ≢ pass)
@@ -85,7 +85,7 @@ Suits shape trace (Linked pass request segment row position) =
     × IsValue (value_of request)
 Suits shape trace (Unlinked pass key position evicted) =
     let state = bucket_after shape trace (bucket_of shape key) in
-    (named : Slot) × (state.items position ≡ item named) × (named.key ≡ key) × Leaves evicted state.written named.segment
+    (named : Slot) × (state.items position ≡ item named) × (named.key ≡ key) × MayLeave evicted state.written named.segment
 Suits shape trace (Drew pass bucket depth number) =
     let state = bucket_after shape trace bucket in
     (number ≡ drawn_in trace) × (number < shape.overflow) × (state.spare ≡ None) × (depth ≡ state.chained + 1) × (depth < 4)
@@ -94,7 +94,7 @@ Suits shape trace (Put pass bucket word) =
     (number : ℕ) × (state.spare ≡ Some number) × ((named : Slot) × (state.items (last state) ≡ item named) × IsWordOf named word)
 Suits shape trace (Chained pass bucket number) =
     let state = bucket_after shape trace bucket in
-    (state.spare ≡ Some number) × ((named : Slot) × (word : ℕ) × (state.items (last state) ≡ item named) × (state.items (fresh state) ≡ copy word))
+    (state.spare ≡ Some number) × ((named : Slot) × (word : ℕ) × (state.items (last state) ≡ item named) × (state.items (fresh_position state) ≡ copy word))
 Suits shape trace (Bumped pass segment row frequency) = (frequency_of trace segment row < frequency) × (frequency < 256)
 Suits shape trace (Entered pass segment) =
     (pass < shape.passes) × IsSegment shape segment × (inside trace pass segment < 2) × (was_used trace segment ≡ true)

@@ -17,16 +17,16 @@ use Rattle.segcore.specs.Overflow.{home, home_of}
 use Rattle.segcore.specs.Row.{row_after}
 use Rattle.segcore.specs.Lawful.{IsLawful}
 use Rattle.segcore.specs.Word.{word, IsAt, IsItemAt}
-use Rattle.segcore.specs.Mark.{Mark, marked, entries, chained_to, width, place, IsPlaced, IsOrderly}
+use Rattle.segcore.specs.Mark.{Mark, marked, entries, chained_to, width, place, IsWellMarked, IsOrderly}
 use Rattle.segcore.specs.Ahead.{WasGone}
 use Rattle.segcore.specs.Scan.{IsNowhere, IsScanOf}
 use Rattle.segcore.specs.Search.{KeyGone, Sought, chain_sought, IsSoughtInItsChain, IsSought, SoughtAt, SoughtGone, SoughtAhead, KeyAt, RowAt}
-use Rattle.segcore.specs.Standing.{Names, SaysOfKeys}
-use Rattle.segcore.specs.Chains.{SaysOfBuckets}
-use Rattle.segcore.specs.Says.{SaysOfSegments, Says}
-use Rattle.segcore.specs.Count.{IsCounted}
+use Rattle.segcore.specs.Standing.{Names, KeyFacts}
+use Rattle.segcore.specs.Chains.{BucketFacts}
+use Rattle.segcore.specs.Facts.{SegmentFacts, WorldFacts}
+use Rattle.segcore.specs.Count.{CountsStep}
 use Rattle.segcore.specs.Filled.{items_below, HasNoEmptyWord}
-use Rattle.segcore.specs.Kind.{Step, May, Kept}
+use Rattle.segcore.specs.Kind.{Step, May, KeepsLaw}
 use Rattle.segcore.specs.Meanwhile.{Meanwhile}
 use Rattle.segcore.specs.World.{Told, World, SeeMore, Reaches, IsLawfulWorld}
 
@@ -45,7 +45,7 @@ SightOnlyGrows = (shape : Shape) (steps : List (ℕ × Step)) (taken : ℕ × St
 -- Every world that is reached says all that a lawful world says.
 abbrev pub EveryScheduleSaysAll : Type 0
 EveryScheduleSaysAll = (shape : Shape) (steps : List (ℕ × Step)) (world : World)
-    → Reaches shape steps world → Says shape world
+    → Reaches shape steps world → WorldFacts shape world
 
 -- ---- scans
 
@@ -66,7 +66,7 @@ SeenHistoryIsLegal = (shape : Shape) (trace : List Event) → IsLawful shape tra
 -- Its marks hold together along the words of chains.
 abbrev pub MarksArePlaced : Type 0
 MarksArePlaced = (shape : Shape) (trace : List Event) → IsLawful shape trace
-    → IsPlaced shape (marked trace)
+    → IsWellMarked shape (marked trace)
 
 -- They hold together along segments and rows too.
 abbrev pub MarksAreOrderly : Type 0
@@ -83,19 +83,19 @@ MarksCountTheChain = (shape : Shape) (trace : List Event) (bucket : ℕ)
     → chained_to (marked trace) bucket ≡ (bucket_after shape trace bucket).chained
 
 -- A lawful trace says which words the keys that stand have.
-abbrev pub LawfulSaysOfKeys : Type 0
-LawfulSaysOfKeys = (shape : Shape) (trace : List Event)
-    → IsValid shape → IsLawful shape trace → SaysOfKeys shape trace
+abbrev pub LawfulKeyFacts : Type 0
+LawfulKeyFacts = (shape : Shape) (trace : List Event)
+    → IsValid shape → IsLawful shape trace → KeyFacts shape trace
 
 -- It says what the words of buckets and of their chains are.
-abbrev pub LawfulSaysOfBuckets : Type 0
-LawfulSaysOfBuckets = (shape : Shape) (trace : List Event) → IsLawful shape trace
-    → SaysOfBuckets shape trace
+abbrev pub LawfulBucketFacts : Type 0
+LawfulBucketFacts = (shape : Shape) (trace : List Event) → IsLawful shape trace
+    → BucketFacts shape trace
 
 -- It says who is in a segment, and what its rows hold.
-abbrev pub LawfulSaysOfSegments : Type 0
-LawfulSaysOfSegments = (shape : Shape) (trace : List Event) → IsLawful shape trace
-    → SaysOfSegments shape trace
+abbrev pub LawfulSegmentFacts : Type 0
+LawfulSegmentFacts = (shape : Shape) (trace : List Event) → IsLawful shape trace
+    → SegmentFacts shape trace
 
 -- ---- steps
 
@@ -103,7 +103,7 @@ LawfulSaysOfSegments = (shape : Shape) (trace : List Event) → IsLawful shape t
 abbrev pub AllowedStepKeepsTheRule : Type 0
 AllowedStepKeepsTheRule = (shape : Shape) (step : Step) (pass : ℕ) (more old : List Event)
     → IsValid shape → IsLawful shape (more ++ old) → NoneBy pass more → May shape old pass step
-    → Kept shape step pass (more ++ old)
+    → KeepsLaw shape step pass (more ++ old)
 
 -- What others add while a pass does nothing leaves alone what is the pass's.
 abbrev pub OthersLeaveItAlone : Type 0
@@ -113,7 +113,7 @@ OthersLeaveItAlone = (shape : Shape) (pass : ℕ) (more old : List Event)
 -- A step adds to the counts of its pass what its kind and the word that it found say.
 abbrev pub OwnStepIsCounted : Type 0
 OwnStepIsCounted = (shape : Shape) (step : Step) (found : ℕ) (old new : View)
-    → Told shape step found old new → IsCounted step old.number found old.trace new.trace
+    → Told shape step found old new → CountsStep step old.number found old.trace new.trace
 
 -- After a step its pass has seen a longer trace, history and marked history.
 abbrev pub OwnStepOnlyAdds : Type 0

@@ -14,7 +14,7 @@ pub mod Meanwhile
 pub mod Overflow
 pub mod Props
 pub mod Row
-pub mod Says
+pub mod Facts
 pub mod Scan
 pub mod Search
 pub mod Segment

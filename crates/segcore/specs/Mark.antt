@@ -122,9 +122,9 @@ MayMark shape marks (chained bucket) = drawn_for marks bucket ≡ chained_to mar
 MayMark shape marks _ = Unit {0}
 
 -- an `at` is in the chain that its key had then, and where the key stood already it is where that was; nothing is stored but right after its `at`; and a bucket that joins a chain was drawn for it and is the only one that waits
-abbrev pub IsPlaced : Shape → List Mark → Type 0
-IsPlaced shape [] = Unit {0}
-IsPlaced shape (mark ∷ marks) = IsPlaced shape marks × MayMark shape marks mark
+abbrev pub IsWellMarked : Shape → List Mark → Type 0
+IsWellMarked shape [] = Unit {0}
+IsWellMarked shape (mark ∷ marks) = IsWellMarked shape marks × MayMark shape marks mark
 
 -- ---- and which along segments and rows
 
@@ -146,21 +146,21 @@ all_left (left pass s ∷ marks) segment = if s == segment then all_left marks s
 all_left (_ ∷ marks) segment = all_left marks segment
 
 -- how often this pass came into it, and how often it left it
-abbrev pub entered_by : ℕ → List Mark → ℕ → ℕ
-entered_by pass [] segment = 0
-entered_by pass (entered q s ∷ marks) segment = if (q == pass) && (s == segment) then entered_by pass marks segment + 1 else entered_by pass marks segment
-entered_by pass (_ ∷ marks) segment = entered_by pass marks segment
+abbrev pub times_entered : ℕ → List Mark → ℕ → ℕ
+times_entered pass [] segment = 0
+times_entered pass (entered q s ∷ marks) segment = if (q == pass) && (s == segment) then times_entered pass marks segment + 1 else times_entered pass marks segment
+times_entered pass (_ ∷ marks) segment = times_entered pass marks segment
 
-abbrev pub left_by : ℕ → List Mark → ℕ → ℕ
-left_by pass [] segment = 0
-left_by pass (left q s ∷ marks) segment = if (q == pass) && (s == segment) then left_by pass marks segment + 1 else left_by pass marks segment
-left_by pass (_ ∷ marks) segment = left_by pass marks segment
+abbrev pub times_left : ℕ → List Mark → ℕ → ℕ
+times_left pass [] segment = 0
+times_left pass (left q s ∷ marks) segment = if (q == pass) && (s == segment) then times_left pass marks segment + 1 else times_left pass marks segment
+times_left pass (_ ∷ marks) segment = times_left pass marks segment
 
 -- whether an `at` names the segment
-abbrev pub is_named : List Mark → ℕ → Bool
-is_named [] segment = false
-is_named (at key s row position frequency ∷ marks) segment = (s == segment) || is_named marks segment
-is_named (_ ∷ marks) segment = is_named marks segment
+abbrev pub is_segment_named : List Mark → ℕ → Bool
+is_segment_named [] segment = false
+is_segment_named (at key s row position frequency ∷ marks) segment = (s == segment) || is_segment_named marks segment
+is_segment_named (_ ∷ marks) segment = is_segment_named marks segment
 
 -- the key of the `at` that names a row in this filling of its segment
 abbrev pub linked_in : List Mark → ℕ → ℕ → Option (List ℕ)
@@ -171,7 +171,7 @@ linked_in (_ ∷ marks) segment row = linked_in marks segment row
 
 abbrev pub MayCome : List Mark → Mark → Type 0
 MayCome marks (at key segment row position frequency) = linked_in marks segment row ≡ None
-MayCome marks (entered pass segment) = is_named marks segment ≡ true
+MayCome marks (entered pass segment) = is_segment_named marks segment ≡ true
 MayCome marks (enters (entry.Refilled pass segment)) = all_entered marks segment ≡ all_left marks segment
 MayCome marks _ = Unit {0}
 

@@ -15,7 +15,7 @@ use Rattle.segcore.specs.Event.{AllBy}
 use Rattle.segcore.specs.Bucket.{Slot, slot, Content, nothing, item, copy}
 use Rattle.segcore.specs.ItemWord.{IsWordOf}
 use Rattle.segcore.specs.Segment.{NoneRefills}
-use Rattle.segcore.specs.Lawful.{HasItemOf, HasRoomFor, IsRefusal, Leaves, IsOther, Suits, Fits, IsLawful, NoneAt}
+use Rattle.segcore.specs.Lawful.{HasItemOf, HasRoomFor, IsRefusal, MayLeave, IsOther, Suits, Fits, IsLawful, NoneAt}
 
 pub Event-set : IsSet Event
 Event-set = hlevel (props, Request-set, Reply-set)
@@ -75,7 +75,7 @@ IsRefusal-prop NotStored = Unit-prop
 IsRefusal-prop Exists = Unit-prop
 IsRefusal-prop NotFound = Unit-prop
 
-Leaves-prop : (evicted : Option ℕ) (written : Bool) (segment : ℕ) → IsProp (Leaves evicted written segment)
+Leaves-prop : (evicted : Option ℕ) (written : Bool) (segment : ℕ) → IsProp (MayLeave evicted written segment)
 Leaves-prop None written segment = hlevel props
 Leaves-prop (Some evicted) written segment = hlevel props
 

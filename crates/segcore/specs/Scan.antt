@@ -5,7 +5,7 @@ use Rattle.segword.specs.declared.shape.Shape.{Shape}
 use Rattle.segmodel.specs.Places.{bucket_of}
 use Rattle.segmodel.specs.History.{IsLegal, Begins}
 use Rattle.segcore.specs.Bucket.{slot}
-use Rattle.segcore.specs.Mark.{Mark, entries, chained_to, place, last_at, IsAbsent, IsPlaced}
+use Rattle.segcore.specs.Mark.{Mark, entries, chained_to, place, last_at, IsAbsent, IsWellMarked}
 
 -- ---- what is sought
 
@@ -45,4 +45,4 @@ pub record IsScanOf (shape : Shape) (key : List ℕ) (row : Option (ℕ × ℕ))
     (first : List Mark) (looks : List (List Mark)) (last : List Mark) : Type 0 where
   pub scan : IsScan shape key row 1 first (first ∷ looks) last
   pub legal : IsLegal shape (entries last)
-  pub placed : IsPlaced shape last
+  pub placed : IsWellMarked shape last

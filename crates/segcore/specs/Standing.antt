@@ -65,18 +65,18 @@ pub record IsOfKey (shape : Shape) (trace : List Event) (bucket position : ℕ) 
   pub names : Names shape trace bucket position cell (tag_of key) segment row
 
 -- the three readings of a word of a chain
-abbrev pub IsReading : Shape → List Event → ℕ → ℕ → Cell → Type 0
-IsReading shape trace bucket position cell =
+abbrev pub HasOneReading : Shape → List Event → ℕ → ℕ → Cell → Type 0
+HasOneReading shape trace bucket position cell =
     (word shape trace cell ≡ 0) ⊎ (ChainsOn shape trace bucket position cell ⊎ IsOfKey shape trace bucket position cell)
 
 -- what the words of the chains say of the keys that stand
-pub record SaysOfKeys (shape : Shape) (trace : List Event) : Type 0 where
+pub record KeyFacts (shape : Shape) (trace : List Event) : Type 0 where
   -- a key stands with a value in a segment exactly where its word says so
   pub stands : (key value : List ℕ) (segment : ℕ)
       → (standing (after shape (seen trace)) key ≡ Some (cached value segment) → StandsAt shape trace key value segment)
       × (StandsAt shape trace key value segment → standing (after shape (seen trace)) key ≡ Some (cached value segment))
   -- chains have no other item words
-  pub readings : (bucket position : ℕ) (cell : Cell) → bucket < shape.buckets → IsItemAt shape trace bucket position cell → IsReading shape trace bucket position cell
+  pub readings : (bucket position : ℕ) (cell : Cell) → bucket < shape.buckets → IsItemAt shape trace bucket position cell → HasOneReading shape trace bucket position cell
   -- and no two of them name one row
   pub once : (b p c q : ℕ) (left right : Cell) (tag other segment row : ℕ)
       → Names shape trace b p left tag segment row → Names shape trace c q right other segment row → (b ≡ c) × (p ≡ q) × (left ≡ right)

@@ -57,12 +57,12 @@ bit_of None = 0
 bit_of (Some pass) = 1
 
 -- the version in bits 63..32, and the bit in bit 0
-abbrev pub info_word : Shape → Bucket → ℕ
-info_word shape bucket = (shape.first_version + bucket.version) % 2 ^ 32 * 2 ^ 32 + bit_of bucket.holder
+abbrev pub bucket_info_word : Shape → Bucket → ℕ
+bucket_info_word shape bucket = (shape.first_version + bucket.version) % 2 ^ 32 * 2 ^ 32 + bit_of bucket.holder
 
 -- the word at a position of a bucket's chain
 abbrev pub word_in : Shape → List Event → Bucket → ℕ → ℕ
-word_in shape trace bucket zero = info_word shape bucket
+word_in shape trace bucket zero = bucket_info_word shape bucket
 word_in shape trace bucket (suc position) = content_word trace (bucket.items (suc position))
 
 -- an overflow bucket that isn't drawn is empty

@@ -12,7 +12,7 @@ ghost use Rattle.segcore.specs.Scan.{IsScanOf};
 ghost use Rattle.segcore.specs.Standing.{cached};
 ghost use Rattle.segcore.specs.World.{Reaches};
 ghost use Rattle.segcore.specs.Example.{shape, a, two, stored, bumped, moved, replaced, read, evicted, refilled, elsewhere, looks, view_of, after_steps, to_refilled};
-ghost use Rattle.segcore.specs.Laws.{EveryScheduleIsLawful, SightOnlyGrows, EveryScheduleSaysAll, ScanPassesAMiss, SeenHistoryIsLegal, MarksArePlaced, MarksAreOrderly, MarksLeaveTheHistory, MarksCountTheChain, LawfulSaysOfKeys, LawfulSaysOfBuckets, LawfulSaysOfSegments, AllowedStepKeepsTheRule, OthersLeaveItAlone, OwnStepIsCounted, OwnStepOnlyAdds, EverySearchBeginsAhead, AheadStaysAhead, SearchPassesAnother, SearchSkipsWordZero, EndedSearchMissed, SoughtWordNamesIt, WordOfItsRowIsTheKeys, KeyIsAtItsPlace, PlaceHasTheKey, OtherTagIsNotTheKeys, OtherPlaceIsNotTheRows, ChainWordLeadsOn, OtherLastWordEndsTheChain, ChainsOnlyGrow, PositionsStay, EntriesOnlyGrow, ChangedWordHadAnEntry, EntryStirsTheKey, FreeWordHasTheVersion, UnwrittenWordHasTheVersion, VersionIsOfTheWrites, KeysAreAsManyAsItems, KeysFitTheirChain, FullChainHasAllItsKeys, ChainIsAsLongAsWide, FilledWordHasContent};
+ghost use Rattle.segcore.specs.Laws.{EveryScheduleIsLawful, SightOnlyGrows, EveryScheduleSaysAll, ScanPassesAMiss, SeenHistoryIsLegal, MarksArePlaced, MarksAreOrderly, MarksLeaveTheHistory, MarksCountTheChain, LawfulKeyFacts, LawfulBucketFacts, LawfulSegmentFacts, AllowedStepKeepsTheRule, OthersLeaveItAlone, OwnStepIsCounted, OwnStepOnlyAdds, EverySearchBeginsAhead, AheadStaysAhead, SearchPassesAnother, SearchSkipsWordZero, EndedSearchMissed, SoughtWordNamesIt, WordOfItsRowIsTheKeys, KeyIsAtItsPlace, PlaceHasTheKey, OtherTagIsNotTheKeys, OtherPlaceIsNotTheRows, ChainWordLeadsOn, OtherLastWordEndsTheChain, ChainsOnlyGrow, PositionsStay, EntriesOnlyGrow, ChangedWordHadAnEntry, EntryStirsTheKey, FreeWordHasTheVersion, UnwrittenWordHasTheVersion, VersionIsOfTheWrites, KeysAreAsManyAsItems, KeysFitTheirChain, FullChainHasAllItsKeys, ChainIsAsLongAsWide, FilledWordHasContent};
 
 /// Whatever steps the passes take, in whatever order, the world that they reach is lawful, and what
 /// each pass has seen only grows.
@@ -36,14 +36,14 @@ pub fn lawful_trace()
     ensures orderly { MarksAreOrderly }
     ensures unmarked { MarksLeaveTheHistory }
     ensures chained { MarksCountTheChain }
-    ensures keys { LawfulSaysOfKeys }
-    ensures buckets { LawfulSaysOfBuckets }
-    ensures segments { LawfulSaysOfSegments }
+    ensures keys { LawfulKeyFacts }
+    ensures buckets { LawfulBucketFacts }
+    ensures segments { LawfulSegmentFacts }
 {}
 
 /// A step that a pass may take, having seen a beginning of the trace that others went on with,
 /// leaves words and trace as the rule wants them.
-pub fn kept_step()
+pub fn step_keeps_law()
     ensures { AllowedStepKeepsTheRule }
 {}
 

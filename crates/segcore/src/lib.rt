@@ -9,7 +9,7 @@ mod view;
 pub use cell::Cell;
 pub use event::Event;
 pub use laws::{
-    between_steps, chain_words, changed_word, every_schedule, example, kept_step, keys_of_bucket,
-    lawful_trace, miss_point, place_of_key, search, version_of_bucket,
+    between_steps, chain_words, changed_word, every_schedule, example, keys_of_bucket,
+    lawful_trace, miss_point, place_of_key, search, step_keeps_law, version_of_bucket,
 };
 pub use view::View;

@@ -25,7 +25,7 @@ use Rattle.segbase.specs.declared.board.Board.{Board}
 use Rattle.segbase.specs.declared.law.Memo.{Memo}
 use Rattle.segbase.specs.declared.pass.Plain.{Plain}
 use Rattle.segbase.specs.declared.pass.Pass.{Pass}
-use Rattle.segbase.specs.Passes.{number, trace, seen, mine, bounced, Moved}
+use Rattle.segbase.specs.Passes.{number, trace, seen, mine, bounced, AddsEvents}
 use Rattle.segbase.specs.Plain.{current_of, state_of, used_of, locked_of, is_holding_of, SameOwner, SameSegments, SameButSegments}
 use Rattle.segbase.proofs.Moves.{stays, moved_mine}
 use Rattle.segbase.proofs.Owned.{moved_still}
@@ -46,7 +46,7 @@ use Rattle.segpass.proofs.Still.{no_reader, settles_still}
 -- ---- a change of the plain part alone
 
 module _ (b : Board) (p q : Pass) (quiet : IsQuiet b p) (seat : q.seat ≡ p.seat) (owner : SameOwner p q) where
-  unmoved : Moved b [] p q
+  unmoved : AddsEvents b [] p q
   unmoved = moved_still b [] p p q (stays b p quiet.pass) seat owner
 
   pub same_mine : mine q ≡ mine p

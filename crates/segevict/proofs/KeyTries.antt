@@ -10,11 +10,11 @@ use Rattle.segmodel.proofs.LawLemmas.{count_by-append}
 use Rattle.segcore.proofs.Moments.{begins_on}
 use Rattle.segbase.specs.declared.board.Board.{Board}
 use Rattle.segbase.specs.declared.pass.Pass.{Pass}
-use Rattle.segbase.specs.Passes.{seen, taken, bounced, Moved}
+use Rattle.segbase.specs.Passes.{seen, taken, bounced, AddsEvents}
 use Rattle.segbase.proofs.Moves.{moved_taken, moved_bounced}
 use Rattle.segevict.specs.Evicting.{StoodIn, TriesForKeys}
 
-pub no_tries : (b : Board) (segment most : ℕ) (p q : Pass) → Moved b [] p q → TriesForKeys b.shape segment most p q
+pub no_tries : (b : Board) (segment most : ℕ) (p q : Pass) → AddsEvents b [] p q → TriesForKeys b.shape segment most p q
 no_tries b segment most p q m = record {
   keys = [];
   few = omega arith;
@@ -54,7 +54,7 @@ tries_then shape segment m n most p q r first second within i j = record {
 }
 
 -- nothing was tried before
-pub tries_after : (b : Board) (segment most : ℕ) (p q r : Pass) → Moved b [] p q → Begins (seen p) (seen q) → TriesForKeys b.shape segment most q r → TriesForKeys b.shape segment most p r
+pub tries_after : (b : Board) (segment most : ℕ) (p q r : Pass) → AddsEvents b [] p q → Begins (seen p) (seen q) → TriesForKeys b.shape segment most q r → TriesForKeys b.shape segment most p r
 tries_after b segment most p q r m first t = record {
   keys = t.keys;
   few = t.few;

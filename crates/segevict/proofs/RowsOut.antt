@@ -16,7 +16,7 @@ use Rattle.segcore.proofs.Moments.{begins_on}
 use Rattle.segbase.specs.declared.board.Board.{Board}
 use Rattle.segbase.specs.declared.pass.Plain.{Plain}
 use Rattle.segbase.specs.declared.pass.Pass.{Pass}
-use Rattle.segbase.specs.Passes.{number, trace, seen, mine, taken, bounced, Moved, Did}
+use Rattle.segbase.specs.Passes.{number, trace, seen, mine, taken, bounced, AddsEvents, AddsAtOnce}
 use Rattle.segbase.proofs.Moves.{moved_on, moved_bounced}
 use Rattle.segstore.specs.Refilling.{Idles}
 use Rattle.segstore.specs.Segments.{KeepsSegments}
@@ -50,7 +50,7 @@ goes_then b p q r i j = record {
   seen = begins_on (seen p) (seen q) (seen r) i.seen j.seen;
 }
 
-keeps_gone : (b : Board) (s : ℕ) (own : List Event) (p q : Pass) → Moved b own p q → AreCalm own → owner b.shape s ≡ number p → KeepsGone b s p q
+keeps_gone : (b : Board) (s : ℕ) (own : List Event) (p q : Pass) → AddsEvents b own p q → AreCalm own → owner b.shape s ≡ number p → KeepsGone b s p q
 keeps_gone b s own p q m calm mine = record { grew = moved_on b own p q m; lasts = λ row. gone_over b own p q s row m calm mine }
 
 pub keeps_gone_then : (b : Board) (s : ℕ) (p q r : Pass) → KeepsGone b s p q → KeepsGone b s q r → KeepsGone b s p r
@@ -138,8 +138,8 @@ module _ (b : Board) (bucket : ℕ) (sought : Item) (p f : Pass) (quiet : IsQuie
     gone_taken = keeps_gone_then b sought.seg p f q gone_looking (keeps_gone b sought.seg took_by f q (took_moved b bucket f q quiet_looking took) took_calm stored.own)
 
     -- what was done under it, and the release
-    module _ (r s : Pass) (own : List Event) (added : List Entry) (m : Moved b own q r) (calm : AreCalm own) (elsewhere : (other : ℕ) → bucket ≢ other → NoneAt b.shape other own) (still : AreStill own)
-        (adds : (h : List Event) → event.seen (own ++ h) ≡ added ++ event.seen h) (freed : Did b (Freed (number r) bucket false ∷ []) r s) (free : (bucket_after b.shape (trace s) bucket).holder ≡ None)
+    module _ (r s : Pass) (own : List Event) (added : List Entry) (m : AddsEvents b own q r) (calm : AreCalm own) (elsewhere : (other : ℕ) → bucket ≢ other → NoneAt b.shape other own) (still : AreStill own)
+        (adds : (h : List Event) → event.seen (own ++ h) ≡ added ++ event.seen h) (freed : AddsAtOnce b (Freed (number r) bucket false ∷ []) r s) (free : (bucket_after b.shape (trace s) bucket).holder ≡ None)
         (plain : r.plain ≡ q.plain) (same : memo r ≡ memo q) (plain' : s.plain ≡ r.plain) (same' : memo s ≡ memo r) where
       plain_all : s.plain ≡ p.plain
       plain_all = plain' ∙ (plain ∙ (took.plain ∙ i.plain))
@@ -172,7 +172,7 @@ module _ (b : Board) (bucket : ℕ) (sought : Item) (p f : Pass) (quiet : IsQuie
           (keeps_gone b sought.seg (Freed (number r) bucket false ∷ []) r s freed.moved (tt, tt) (stored_taken.own ∙ sym m.same)))
 
     -- the word was cleared
-    pub row_is_evicted : (target : Target) → IsNamedAt b bucket sought target f → (r s : Pass) → TakesRow b bucket sought true q r → Did b (Freed (number r) bucket false ∷ []) r s → (bucket_after b.shape (trace s) bucket).holder ≡ None → r.plain ≡ q.plain → memo r ≡ memo q → s.plain ≡ r.plain → memo s ≡ memo r
+    pub row_is_evicted : (target : Target) → IsNamedAt b bucket sought target f → (r s : Pass) → TakesRow b bucket sought true q r → AddsAtOnce b (Freed (number r) bucket false ∷ []) r s → (bucket_after b.shape (trace s) bucket).holder ≡ None → r.plain ≡ q.plain → memo r ≡ memo q → s.plain ≡ r.plain → memo s ≡ memo r
         → EvictsRow b sought.seg sought.row row_answer.Evicted p s
     row_is_evicted target n r s t freed free plain same plain' same' =
         let key = t.takes.0 in let own : List Event = Unlinked (number q) key t.takes.1 (Some sought.seg) ∷ [] in let added : List Entry = Evicted (number q) key sought.seg ∷ [] in
@@ -198,7 +198,7 @@ module _ (b : Board) (bucket : ℕ) (sought : Item) (p f : Pass) (quiet : IsQuie
         }
 
     -- it was gone meanwhile
-    pub row_went : (target : Target) → IsNamedAt b bucket sought target f → (r s : Pass) → TakesRow b bucket sought false q r → Did b (Freed (number r) bucket false ∷ []) r s → (bucket_after b.shape (trace s) bucket).holder ≡ None → r.plain ≡ q.plain → memo r ≡ memo q → s.plain ≡ r.plain → memo s ≡ memo r
+    pub row_went : (target : Target) → IsNamedAt b bucket sought target f → (r s : Pass) → TakesRow b bucket sought false q r → AddsAtOnce b (Freed (number r) bucket false ∷ []) r s → (bucket_after b.shape (trace s) bucket).holder ≡ None → r.plain ≡ q.plain → memo r ≡ memo q → s.plain ≡ r.plain → memo s ≡ memo r
         → EvictsRow b sought.seg sought.row row_answer.Gone p s
     row_went target n r s t freed free plain same plain' same' = record {
       on = goes_all r s [] [] t.takes tt (λ other apart. tt) tt (λ h. refl) freed free plain same plain' same';

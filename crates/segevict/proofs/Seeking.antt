@@ -23,9 +23,9 @@ use Rattle.segbase.specs.declared.board.Board.{Board}
 use Rattle.segbase.specs.declared.pass.Pass.{Pass}
 use Rattle.segbase.specs.declared.place.Place.{Place}
 use Rattle.segbase.specs.Traces.{own_of}
-use Rattle.segbase.specs.Passes.{number, trace, IsPassOf, Moved}
+use Rattle.segbase.specs.Passes.{number, trace, IsPassOf, AddsEvents}
 use Rattle.segbase.specs.Spots.{cell_at, position, IsPlace}
-use Rattle.segbase.specs.Steps.{IsReadAs}
+use Rattle.segbase.specs.Steps.{IsWordOfContent}
 use Rattle.segbase.proofs.Standing.{tag_of_word, place_of_word}
 use Rattle.segstore.specs.Refilling.{Idles}
 use Rattle.segstore.proofs.Keeping.{AreCalm, own_linked}
@@ -41,7 +41,7 @@ use Rattle.segevict.proofs.Unnamed.{IsAhead, ahead_first, ahead_over, ahead_pass
 -- ---- a word and a row
 
 -- a word of the item names its row
-pub names_row : (z : Shape) (h : List Event) (b n word : ℕ) (sought : Item) → IsValid z → IsLawful z h → IsReadAs ((bucket_after z h b).items n) word → IsSameItem word (item_word sought) → RowAt z b sought.seg sought.row h n
+pub names_row : (z : Shape) (h : List Event) (b n word : ℕ) (sought : Item) → IsValid z → IsLawful z h → IsWordOfContent ((bucket_after z h b).items n) word → IsSameItem word (item_word sought) → RowAt z b sought.seg sought.row h n
 names_row z h b n word sought v l reads same =
     let found = item_here z h b n word ((bucket_after z h b).items n) v l ((chain_of z h l b).contents n) reads same.0 in
     let a = found.0 in let stands = (coherent z h l).items b n a found.1 in
@@ -53,12 +53,12 @@ names_row z h b n word sought v l reads same =
 
 -- and no other does, where the key was linked to the row
 pub names_no_row : (z : Shape) (h : List Event) (b n word : ℕ) (sought : Item) (key : List ℕ) → IsValid z → IsLawful z h → (row_after h sought.seg sought.row).linked ≡ Some key → sought.tag ≡ tag_of key
-    → IsReadAs ((bucket_after z h b).items n) word → ¬ (IsSameItem word (item_word sought)) → ¬ (RowAt z b sought.seg sought.row h n)
+    → IsWordOfContent ((bucket_after z h b).items n) word → ¬ (IsSameItem word (item_word sought)) → ¬ (RowAt z b sought.seg sought.row h n)
 names_no_row z h b n word sought key v l on tag reads other at =
     let a = at.0 in let stands = (coherent z h l).items b n a at.1 in
     let ls = low_segment z a.segment v stands.within.0 in let lr = low_row z a.row v stands.within.1 in
     let same : a.key ≡ key = same_Some a.key key (sym stands.linked ∙ ((λ t. (row_after h (at.2.0 t) (at.2.1 t)).linked) ∙ on)) in
-    let here : IsReadAs (item a) word = subst (λ x. IsReadAs x word) at.1 reads in
+    let here : IsWordOfContent (item a) word = subst (λ x. IsWordOfContent x word) at.1 reads in
     let is = here.0.2 in let few : here.0.0 < 2 ^ 8 = (let lt = here.0.1 in omega arith) in
     other (
       here.1,
@@ -86,7 +86,7 @@ seeking_first b bucket sought p is stored =
           (subst (λ k. IsAhead z k sought.seg sought.row 1 (trace p)) (sym stored.home) (ahead_first z stored.key sought.seg sought.row (trace p) is.lawful stored.linked));
     }
 
-pub stored_over : (b : Board) (bucket : ℕ) (sought : Item) (own : List Event) (p q : Pass) → Moved b own p q → AreCalm own → IsStoredIn b bucket sought p → IsStoredIn b bucket sought q
+pub stored_over : (b : Board) (bucket : ℕ) (sought : Item) (own : List Event) (p q : Pass) → AddsEvents b own p q → AreCalm own → IsStoredIn b bucket sought p → IsStoredIn b bucket sought q
 stored_over b bucket sought own p q m calm stored =
     let l : IsLawful b.shape (m.more ++ trace p) = subst (IsLawful b.shape) m.goes_on m.pass.lawful in
     let c : AreCalm (own_of (number p) m.more) = subst AreCalm (sym m.adds) calm in record {
@@ -103,7 +103,7 @@ place_left b bucket place p is chain = let short = (chain_of b.shape (trace p) i
 
 -- a look at the word of the place
 module _ (b : Board) (bucket : ℕ) (sought : Item) (first p q : Pass) (place : Place) (word : ℕ) (s : Seeking b bucket sought first p place) (look : Idles b p q)
-    (tells : (k n : ℕ) → IsItemAt b.shape (trace q) k n (cell_at b.shape place) → IsReadAs ((bucket_after b.shape (trace q) k).items n) word) where
+    (tells : (k n : ℕ) → IsItemAt b.shape (trace q) k n (cell_at b.shape place) → IsWordOfContent ((bucket_after b.shape (trace q) k).items n) word) where
   abbrev z : Shape
   z = b.shape
 
@@ -131,7 +131,7 @@ module _ (b : Board) (bucket : ℕ) (sought : Item) (first p q : Pass) (place : 
   ahead_looked : IsAhead z bucket sought.seg sought.row n h
   ahead_looked = subst (λ m. IsAhead z bucket sought.seg sought.row m h) (sym same) (ahead_over b [] p q bucket sought.seg sought.row (position z (trace p) place) look.moved tt s.stored.own s.ahead)
 
-  reads : IsReadAs ((bucket_after z h bucket).items n) word
+  reads : IsWordOfContent ((bucket_after z h bucket).items n) word
   reads = tells bucket n chain_looked.at
 
   -- it names the row

@@ -26,7 +26,7 @@ use Rattle.segcore.proofs.Standing.{coherent, gone}
 use Rattle.segbase.specs.declared.board.Board.{Board}
 use Rattle.segbase.specs.declared.pass.Pass.{Pass}
 use Rattle.segbase.specs.declared.place.Place.{Place}
-use Rattle.segbase.specs.Passes.{number, trace, IsPassOf, Moved, Did}
+use Rattle.segbase.specs.Passes.{number, trace, IsPassOf, AddsEvents, AddsAtOnce}
 use Rattle.segbase.specs.Spots.{position, home_bucket}
 use Rattle.segbase.specs.Steps.{HasItemOf}
 use Rattle.segbase.proofs.Moves.{moved_then}
@@ -39,7 +39,7 @@ use Rattle.segevict.specs.Unlinking.{IsStoredIn, IsNamedAt, TakesRow}
 use Rattle.segevict.proofs.Seeking.{stored_over}
 use Rattle.segpass.proofs.UnderBit.{moved_bucket, moved_bit}
 
-pub clean_over : (b : Board) (own : List Event) (p q : Pass) (bucket : ℕ) → Moved b own p q → NoneAt b.shape bucket own → HasCleanBit b p bucket → HasCleanBit b q bucket
+pub clean_over : (b : Board) (own : List Event) (p q : Pass) (bucket : ℕ) → AddsEvents b own p q → NoneAt b.shape bucket own → HasCleanBit b p bucket → HasCleanBit b q bucket
 clean_over b own p q bucket m none clean = let same = moved_bucket b own p q bucket m clean.bit none in
     record { bit = moved_bit b own p q bucket m clean.bit none; unwritten = ap (λ u. u.written) same ∙ clean.unwritten; undrawn = ap (λ u. u.spare) same ∙ clean.undrawn }
 
@@ -129,9 +129,9 @@ module _ (b : Board) (bucket : ℕ) (sought : Item) (p f : Pass) (stored : IsSto
     pub may_clear : Clears b bucket sought f i.moved.pass stored_now target n (left_at b target.place f)
     may_clear = clears_left b bucket sought f i.moved.pass stored_now target n clean_now.bit
 
-    module _ (q : Pass) (done : Did b (Unlinked (number f) (left_at b target.place f).0 there (left_at b target.place f).1 ∷ []) f q) where
-      d : Did b (e ∷ []) f q
-      d = subst (λ (left : List ℕ × Option ℕ). Did b (Unlinked (number f) left.0 there left.1 ∷ []) f q) (left_is b bucket sought f i.moved.pass stored_now target n) done
+    module _ (q : Pass) (done : AddsAtOnce b (Unlinked (number f) (left_at b target.place f).0 there (left_at b target.place f).1 ∷ []) f q) where
+      d : AddsAtOnce b (e ∷ []) f q
+      d = subst (λ (left : List ℕ × Option ℕ). AddsAtOnce b (Unlinked (number f) left.0 there left.1 ∷ []) f q) (left_is b bucket sought f i.moved.pass stored_now target n) done
 
       linked_before : (row_after (d.others ++ trace f) sought.seg sought.row).linked ≡ Some k
       linked_before = ap (λ u. u.linked) (quiet_row b.shape d.others (trace f) sought.seg sought.row d.before (subst (λ m. NoneBy m d.others) (sym stored_now.own) d.none)) ∙ stored_now.linked
@@ -143,7 +143,7 @@ module _ (b : Board) (bucket : ℕ) (sought : Item) (p f : Pass) (stored : IsSto
 
       pub takes_one : TakesRow b bucket sought true p q
       takes_one = record {
-        takes = (k, there, stored_now.home, subst (λ m. Moved b (Unlinked m k there (Some sought.seg) ∷ []) p q) i.moved.same (moved_then b [] (e ∷ []) p f q i.moved d.moved));
+        takes = (k, there, stored_now.home, subst (λ m. AddsEvents b (Unlinked m k there (Some sought.seg) ∷ []) p q) i.moved.same (moved_then b [] (e ∷ []) p f q i.moved d.moved));
         gone = subst (RowGone b.shape sought.seg sought.row) (sym d.now) (evicted_gone b.shape (d.others ++ trace f) (number f) there sought.seg sought.row k (Some sought.seg) (subst (IsLawful b.shape) d.now d.moved.pass.lawful) linked_before);
         bit = record {
           bit = (clean_now.bit.0, ap (λ u. u.holder) bucket_now ∙ (clean_now.bit.1 ∙ ap Some (sym d.moved.same)));

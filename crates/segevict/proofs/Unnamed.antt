@@ -17,7 +17,7 @@ use Rattle.segcore.proofs.Standing.{coherent}
 use Rattle.segbase.specs.declared.board.Board.{Board}
 use Rattle.segbase.specs.declared.pass.Pass.{Pass}
 use Rattle.segbase.specs.Traces.{own_of}
-use Rattle.segbase.specs.Passes.{number, trace, Moved}
+use Rattle.segbase.specs.Passes.{number, trace, AddsEvents}
 use Rattle.segstore.proofs.Keeping.{AreCalm, own_linked}
 use Rattle.segpass.proofs.Before.{one_before}
 
@@ -46,7 +46,7 @@ gone_lasts z (e ∷ more) h p s r l calm own gone =
     let c = calm_parts p e more calm in
     one_gone z e (more ++ h) s r l (own_linked z (e ∷ []) (more ++ h) p s r l c.0 own) (gone_lasts z more h p s r l.0 c.1 own gone)
 
-pub gone_over : (b : Board) (own : List Event) (p q : Pass) (s r : ℕ) → Moved b own p q → AreCalm own → owner b.shape s ≡ number p → RowGone b.shape s r (trace p) → RowGone b.shape s r (trace q)
+pub gone_over : (b : Board) (own : List Event) (p q : Pass) (s r : ℕ) → AddsEvents b own p q → AreCalm own → owner b.shape s ≡ number p → RowGone b.shape s r (trace p) → RowGone b.shape s r (trace q)
 gone_over b own p q s r m calm mine gone =
     subst (RowGone b.shape s r) (sym m.goes_on) (gone_lasts b.shape m.more (trace p) (number p) s r (subst (IsLawful b.shape) m.goes_on m.pass.lawful) (subst AreCalm (sym m.adds) calm) mine gone)
 
@@ -80,7 +80,7 @@ ahead_on z (e ∷ more) h p b s r n l calm own a =
     (row_moves z b s r e (more ++ h) there.0 l there.2))
     (ahead_on z more h p b s r n l.0 c.1 own a)
 
-pub ahead_over : (b : Board) (own : List Event) (p q : Pass) (k s r n : ℕ) → Moved b own p q → AreCalm own → owner b.shape s ≡ number p → IsAhead b.shape k s r n (trace p) → IsAhead b.shape k s r n (trace q)
+pub ahead_over : (b : Board) (own : List Event) (p q : Pass) (k s r n : ℕ) → AddsEvents b own p q → AreCalm own → owner b.shape s ≡ number p → IsAhead b.shape k s r n (trace p) → IsAhead b.shape k s r n (trace q)
 ahead_over b own p q k s r n m calm mine a =
     subst (IsAhead b.shape k s r n) (sym m.goes_on) (ahead_on b.shape m.more (trace p) (number p) k s r n (subst (IsLawful b.shape) m.goes_on m.pass.lawful) (subst AreCalm (sym m.adds) calm) mine a)
 

@@ -22,7 +22,7 @@ AreEvictions pass segment (added ∷ more) = ((key : List ℕ) × (added ≡ ent
 
 -- the key stood in the segment at some moment of the call
 abbrev pub StoodIn : Shape → ℕ → List ℕ → List Entry → List Entry → Type 0
-StoodIn shape segment key before now = (history : List Entry) × IsBetween before now history × StandsIn (after shape history) key segment
+StoodIn shape segment key old new = (history : List Entry) × IsBetween old new history × StandsIn (after shape history) key segment
 
 -- It tried for bits for at most so many keys, each of which stood in the segment at some moment of the call: for each it took at most one, and found that of the key's bucket set at most 64 times.
 pub record TriesForKeys (shape : Shape) (segment most : ℕ) (p q : Pass) : Type 0 where

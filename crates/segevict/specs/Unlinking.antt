@@ -12,7 +12,7 @@ use Rattle.segcore.specs.Search.{RowGone, RowAt}
 use Rattle.segcore.specs.Word.{word}
 use Rattle.segbase.specs.declared.board.Board.{Board}
 use Rattle.segbase.specs.declared.pass.Pass.{Pass}
-use Rattle.segbase.specs.Passes.{number, trace, mine, Moved}
+use Rattle.segbase.specs.Passes.{number, trace, mine, AddsEvents}
 use Rattle.segbase.specs.Plain.{used_of}
 use Rattle.segbase.specs.Spots.{cell_at, position}
 use Rattle.segwrite.specs.declared.find.Target.{Target}
@@ -54,8 +54,8 @@ FindsRow b bucket item found p = MatchOption found (RowGone b.shape item.seg ite
 
 -- the word was cleared, and its key so taken out of the segment; or there was none
 abbrev pub TakesKey : Board → ℕ → Item → Bool → Pass → Pass → Type 0
-TakesKey b bucket item true p q = (key : List ℕ) × (at : ℕ) × (bucket ≡ bucket_of b.shape key) × Moved b (Unlinked (number p) key at (Some item.seg) ∷ []) p q
-TakesKey b bucket item false p q = Moved b [] p q
+TakesKey b bucket item true p q = (key : List ℕ) × (at : ℕ) × (bucket ≡ bucket_of b.shape key) × AddsEvents b (Unlinked (number p) key at (Some item.seg) ∷ []) p q
+TakesKey b bucket item false p q = AddsEvents b [] p q
 
 -- under the bit; no word names the row any more
 pub record TakesRow (b : Board) (bucket : ℕ) (item : Item) (told : Bool) (p q : Pass) : Type 0 where

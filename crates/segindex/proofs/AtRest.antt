@@ -27,7 +27,7 @@ use Rattle.segcore.proofs.StepKinds.{cell_in}
 use Rattle.segbase.specs.declared.place.Place.{Place}
 use Rattle.segbase.specs.declared.closing.Words.{Words}
 use Rattle.segbase.specs.Spots.{cell_at, position, home_bucket}
-use Rattle.segbase.specs.Closing.{shape_of, word_at, IsAtRest}
+use Rattle.segbase.specs.Closing.{shape_of, word_of_cell, IsAtRest}
 use Rattle.segbase.proofs.Placed.{item_home}
 use Rattle.segstore.specs.Linked.{segment_part, row_part, IsChained, WasLinked}
 use Rattle.segstore.proofs.Words.{at_place, stood_item, segment_of_packed, row_of_packed}
@@ -46,7 +46,7 @@ module _ (words : Words) (trace : List Event) (home at : ℕ) (place : Place) (r
   low : home < z.buckets
   low = item_home z trace home at place rest.lawful is.1
 
-  same_word : word_at words cell ≡ word z trace cell
+  same_word : word_of_cell words cell ≡ word z trace cell
   same_word = rest.each cell (cell_in z trace home at cell rest.lawful low is.1.1)
 
   place_is : (home_bucket z trace place ≡ home) × (position z trace place ≡ at)
@@ -58,15 +58,15 @@ module _ (words : Words) (trace : List Event) (home at : ℕ) (place : Place) (r
     at = subst (λ b. IsItemAt z trace b (position z trace place) cell) (sym place_is.0) (subst (λ n. IsItemAt z trace home n cell) (sym place_is.1) is.1);
   }
 
-  module _ (item : Item) (of : item_word item ≡ word_at words cell) where
-    linked : (key : List ℕ) × (value : List ℕ) × WasLinked z place (word_at words cell) key value trace
-    linked = stood_item z trace place (word_at words cell) rest.valid rest.lawful chained (sym same_word)
+  module _ (item : Item) (of : item_word item ≡ word_of_cell words cell) where
+    linked : (key : List ℕ) × (value : List ℕ) × WasLinked z place (word_of_cell words cell) key value trace
+    linked = stood_item z trace place (word_of_cell words cell) rest.valid rest.lawful chained (sym same_word)
         (let low_tag = item.tag_above_zero in let e = of in omega arith)
 
-    in_segment : segment_part (word_at words cell) ≡ item.seg
+    in_segment : segment_part (word_of_cell words cell) ≡ item.seg
     in_segment = ap segment_part (sym of) ∙ segment_of_packed item.tag item.freq item.seg item.row item.seg_in_range item.row_in_range
 
-    in_row : row_part (word_at words cell) ≡ item.row
+    in_row : row_part (word_of_cell words cell) ≡ item.row
     in_row = ap row_part (sym of) ∙ row_of_packed item.tag item.freq item.seg item.row item.row_in_range
 
     -- an item's row is in the table
@@ -74,12 +74,12 @@ module _ (words : Words) (trace : List Event) (home at : ℕ) (place : Place) (r
     row_in_table = let there = linked.2.in_segment in (subst (λ s. IsSegment z s) in_segment there.0, subst (λ r. r < z.rows) in_row there.1)
 
     -- and its words are those of the key's pair
-    same_row : (row : List ℕ) → length row ≡ 8 → ((n : ℕ) → n < 8 → slice_index row n ≡ word_at words (OfRow item.seg item.row n)) → row_of linked.0 linked.1 ≡ row
+    same_row : (row : List ℕ) → length row ≡ 8 → ((n : ℕ) → n < 8 → slice_index row n ≡ word_of_cell words (OfRow item.seg item.row n)) → row_of linked.0 linked.1 ≡ row
     same_row row long each = let x = linked.2 in
         ext_get_or 0 (row_of linked.0 linked.1) row (sym long) (λ n lt.
         sym (x.holds n lt) ∙ ((λ i. (row_after trace (in_segment i) (in_row i)).words n) ∙ (sym (rest.each (OfRow item.seg item.row n) (row_in_table.0, row_in_table.1, lt)) ∙ sym (each n lt))))
 
-    pub pair_is : (row : List ℕ) (result : Option (List ℕ × List ℕ)) → length row ≡ 8 → ((n : ℕ) → n < 8 → slice_index row n ≡ word_at words (OfRow item.seg item.row n))
+    pub pair_is : (row : List ℕ) (result : Option (List ℕ × List ℕ)) → length row ≡ 8 → ((n : ℕ) → n < 8 → slice_index row n ≡ word_of_cell words (OfRow item.seg item.row n))
         → ((key value : List ℕ) → IsKey key → IsValue value → row_of key value ≡ row → result ≡ Some (key, value)) → IsPairAt z trace home at result
     pair_is row result long each packed = let x = linked.2 in let key = linked.0 in let value = linked.1 in
         subst (λ r. IsPairAt z trace home at r) (sym (packed key value x.valid.0 x.valid.1 (same_row row long each))) (
@@ -113,11 +113,11 @@ module _ (words : Words) (trace : List Event) (home depth bucket : ℕ) (rest : 
   within : home < shape.buckets
   within = low words trace home (8 * depth + 7) last rest last_in
 
-  last_word : word_at words (cell_at shape last) ≡ word shape trace (cell_at shape last)
+  last_word : word_of_cell words (cell_at shape last) ≡ word shape trace (cell_at shape last)
   last_word = same_word words trace home (8 * depth + 7) last rest last_in
 
   -- the last word leads on
-  pub next_bucket : (number : ℕ) → chain_word number ≡ word_at words (cell_at shape last) → number < 65536 → IsBucketIn words trace home (depth + 1) (shape.buckets + number)
+  pub next_bucket : (number : ℕ) → chain_word number ≡ word_of_cell words (cell_at shape last) → number < 65536 → IsBucketIn words trace home (depth + 1) (shape.buckets + number)
   next_bucket number leads few w low high =
       let found : word shape trace (cell_at shape last) ≡ number + 1 = sym last_word ∙ sym leads in
       let on = leads_on shape trace home depth (cell_at shape last) rest.valid rest.lawful within last_in.1 (omega (arith, found)) (omega (arith, found, few)) in
@@ -132,7 +132,7 @@ module _ (words : Words) (trace : List Event) (home depth bucket : ℕ) (rest : 
       )
 
   -- or ends the chain
-  pub chain_ends : ¬ (IsChainWord (word_at words (cell_at shape last))) → (bucket_after shape trace home).chained ≤ depth
+  pub chain_ends : ¬ (IsChainWord (word_of_cell words (cell_at shape last))) → (bucket_after shape trace home).chained ≤ depth
   chain_ends none =
       let w = word shape trace (cell_at shape last) in
       let no_chain : ¬ (IsChainWord w) = subst (λ n. ¬ (IsChainWord n)) last_word none in

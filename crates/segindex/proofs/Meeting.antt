@@ -10,7 +10,7 @@ use Rattle.segcore.specs.Mark as mark
 use Rattle.segcore.proofs.Moments.{marked_begins, seen_begins}
 use Rattle.segbase.specs.declared.board.Board.{Board}
 use Rattle.segbase.specs.declared.pass.Pass.{Pass}
-use Rattle.segbase.specs.Passes.{number, trace, mine, Moved}
+use Rattle.segbase.specs.Passes.{number, trace, mine, AddsEvents}
 use Rattle.segbase.proofs.Begun.{begins_then}
 use Rattle.segbase.proofs.Moves.{moved_on, moved_mine}
 use Rattle.segpass.specs.Quiet.{IsQuiet}
@@ -27,12 +27,12 @@ one_of : {A : Type 0} (F : List Event → List A) → ((h g : List Event) → Be
 one_of F grows h g one = ⊎_elim (λ b. inl (grows h g b)) (λ b. inr (grows g h b)) one
 
 -- what another had seen of a pass's entries, which now it has seen itself
-mine_of : (b : Board) (h : List Event) (q q' : Pass) → Moved b [] q q' → Begins h (trace q') → Begins (history.mine (number q) (event.seen h)) (mine q)
+mine_of : (b : Board) (h : List Event) (q q' : Pass) → AddsEvents b [] q q' → Begins h (trace q') → Begins (history.mine (number q) (event.seen h)) (mine q)
 mine_of b h q q' m begins =
     let same : history.mine (number q) (event.seen (trace q')) ≡ mine q = ap (λ n. history.mine n (event.seen (trace q'))) (sym m.same) ∙ moved_mine b [] q q' m in
     subst (Begins (history.mine (number q) (event.seen h))) same (mine_begins (number q) (event.seen h) (event.seen (trace q')) (seen_begins h (trace q') begins))
 
-pub meets : (b : Board) (p q p' q' : Pass) → Moved b [] p p' → Moved b [] q q' → AreOne (trace p) (trace q) → Begins (trace q) (trace p') → Begins (trace p') (trace q') → Meets p q p' q'
+pub meets : (b : Board) (p q p' q' : Pass) → AddsEvents b [] p p' → AddsEvents b [] q q' → AreOne (trace p) (trace q) → Begins (trace q) (trace p') → Begins (trace p') (trace q') → Meets p q p' q'
 meets b p q p' q' m k one first second = record {
   one = one_of mark.marked marked_begins (trace p) (trace q) one;
   one_history = one_of event.seen seen_begins (trace p) (trace q) one;
@@ -43,7 +43,7 @@ meets b p q p' q' m k one first second = record {
 }
 
 -- a pass that did nothing by itself
-pub only_learns : (b : Board) (p q : Pass) → IsQuiet b p → Moved b [] p q → q.plain ≡ p.plain → memo q ≡ memo p → OnlyLearns b p q
+pub only_learns : (b : Board) (p q : Pass) → IsQuiet b p → AddsEvents b [] p q → q.plain ≡ p.plain → memo q ≡ memo p → OnlyLearns b p q
 only_learns b p q quiet m plain same = record {
   on = goes_nowhere b p q quiet m plain same;
   keeps = does_nothing b p q quiet m plain same;

@@ -14,24 +14,24 @@ use Rattle.segcore.specs.Segment.{inside, NoneRefills}
 use Rattle.segbase.specs.declared.board.Board.{Board}
 use Rattle.segbase.specs.declared.pass.Pass.{Pass}
 use Rattle.segbase.specs.Traces.{own_of}
-use Rattle.segbase.specs.Passes.{number, trace, mine, holding, Moved}
+use Rattle.segbase.specs.Passes.{number, trace, mine, holding, AddsEvents}
 use Rattle.segbase.specs.Plain.{state_of}
 use Rattle.segbase.proofs.Moves.{moved_inside, moved_mine}
 use Rattle.segstore.specs.Segments.{KeepsSegments}
 use Rattle.segstore.specs.Refilling.{Idles, FillsAnew, IsOutcome}
 use Rattle.segpass.specs.Quiet.{is_held_in, IsQuiet}
 use Rattle.segpass.specs.Calls.{GoesOn, CostsNothing}
-use Rattle.segindex.specs.Refilling.{IsRead, IsRefillAnswer}
+use Rattle.segindex.specs.Refilling.{IsBeingRead, IsRefillAnswer}
 use Rattle.segpass.proofs.Bits.{bit_before}
 use Rattle.segpass.proofs.Draws.{moved_undrawn}
-use Rattle.segpass.proofs.Quiet.{Settles, quiet_again, goes_on}
+use Rattle.segpass.proofs.Quiet.{StaysQuiet, quiet_again, goes_on}
 use Rattle.segpass.proofs.Still.{no_reader}
 use Rattle.segpass.proofs.Idling.{goes_same, goes_nowhere, does_nothing, took_none}
 use Rattle.segpass.proofs.Costs.{costs_nothing, idle_costs_nothing}
 
 -- ---- quiet again
 
-fills_settles : (b : Board) (s : ℕ) (p q : Pass) → FillsAnew b s p q → KeepsSegments b q → Settles b (Refilled (number p) s ∷ []) p q
+fills_settles : (b : Board) (s : ℕ) (p q : Pass) → FillsAnew b s p q → KeepsSegments b q → StaysQuiet b (Refilled (number p) s ∷ []) p q
 fills_settles b s p q f segments = record {
   moved = f.moved;
   memo = f.memo;
@@ -57,7 +57,7 @@ held_there : (t : Bool) → (let n : ℕ = cond t 1 0 in 0 < n) → t ≡ true
 held_there true lt = refl
 held_there false lt = absurd (omega arith)
 
-is_read : (b : Board) (s other : ℕ) (p q : Pass) → IsQuiet b p → Idles b p q → 0 < inside (trace q) other s → IsRead s q
+is_read : (b : Board) (s other : ℕ) (p q : Pass) → IsQuiet b p → Idles b p q → 0 < inside (trace q) other s → IsBeingRead s q
 is_read b s other p q quiet i there = ⊎_elim
     (λ own. inr (held_there (is_held_in (holding q) s) (subst (λ n. 0 < n) (ap (λ n. inside (trace q) n s) (own ∙ i.moved.same) ∙ (moved_inside b [] p q s i.moved ∙ (quiet.inside s ∙ ap (λ m. cond (is_held_in m.holding s) 1 0) (sym i.memo)))) there)))
     (λ ne. inl (other, ne, there))
@@ -95,7 +95,7 @@ none_own s p (e ∷ more) none = ⊎_elim
     (λ f. subst (NoneRefills s) (sym (cond-false (eqb (by e) p) (e ∷ own_of p more) (own_of p more) f)) (none_own s p more none.1))
     (cases_Bool (eqb (by e) p))
 
-stays_unfilled : (b : Board) (s : ℕ) (p q : Pass) → Moved b (Refilled (number p) s ∷ []) p q → 0 < inside (trace p) (number p) s → ⊥
+stays_unfilled : (b : Board) (s : ℕ) (p q : Pass) → AddsEvents b (Refilled (number p) s ∷ []) p q → 0 < inside (trace p) (number p) s → ⊥
 stays_unfilled b s p q m there =
     let none : NoneRefills s (Refilled (number p) s ∷ []) = subst (NoneRefills s) m.adds (none_own s (number p) m.more (m.kept s (there, there))) in
     none.0 (number p) refl

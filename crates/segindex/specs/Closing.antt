@@ -36,14 +36,14 @@ abbrev pub pairs_of : Cache → Pairs
 pairs_of cache = map pair_of cache.items
 
 -- the history goes on from what the pass has seen, by entries of other passes
-pub record IsEnd (shape : Shape) (p : Pass) (now : List Entry) : Type 0 where
-  pub legal : IsLegal shape now
-  pub goes_on : Begins (seen p) now
-  pub mine : history.mine (number p) now ≡ mine p
+pub record IsEnd (shape : Shape) (p : Pass) (last : List Entry) : Type 0 where
+  pub legal : IsLegal shape last
+  pub goes_on : Begins (seen p) last
+  pub mine : history.mine (number p) last ≡ mine p
 
 -- these are the pairs of the cache after such a history
 abbrev pub IsContent : Shape → Pass → Pairs → Type 0
-IsContent shape p content = (now : List Entry) × IsEnd shape p now × (content ≡ pairs_of (after shape now))
+IsContent shape p content = (last : List Entry) × IsEnd shape p last × (content ≡ pairs_of (after shape last))
 
 -- the pairs of the cache after what the pass has seen
 abbrev pub IsContentSeen : Shape → Pass → Pairs → Type 0
@@ -51,7 +51,7 @@ IsContentSeen shape p content = content ≡ pairs_of (after shape (seen p))
 
 -- some key stands after the history
 abbrev pub HasContent : Shape → List Entry → Type 0
-HasContent shape now = (key : List ℕ) × (value : List ℕ) × (reads (after shape now) key ≡ Some value)
+HasContent shape last = (key : List ℕ) × (value : List ℕ) × (reads (after shape last) key ≡ Some value)
 
 -- there was content to be listed at the end, after such a history; with one pass, after what the pass has seen
 pub record WantsMemory (shape : Shape) (p : Pass) : Type 0 where

@@ -27,14 +27,14 @@ pub record Refills (segment : ℕ) (p q : Pass) : Type 0 where
   pub memo : memo q ≡ memo p
 
 -- another pass is in the segment, or this one holds an item there
-abbrev pub IsRead : ℕ → Pass → Type 0
-IsRead segment p = ((other : ℕ) × (other ≢ number p) × (0 < inside (trace p) other segment)) ⊎ (is_held_in (holding p) segment ≡ true)
+abbrev pub IsBeingRead : ℕ → Pass → Type 0
+IsBeingRead segment p = ((other : ℕ) × (other ≢ number p) × (0 < inside (trace p) other segment)) ⊎ (is_held_in (holding p) segment ≡ true)
 
 abbrev pub IsRefillAnswer : ℕ → RefillAnswer → Pass → Pass → Type 0
 IsRefillAnswer segment refill.Refilled p q = Refills segment p q
 IsRefillAnswer segment refill.NotYours p q = q ≡ p
 IsRefillAnswer segment refill.NotEvicted p q = q ≡ p
-IsRefillAnswer segment refill.Held p q = ChangesNothing p q × IsRead segment q
+IsRefillAnswer segment refill.Held p q = ChangesNothing p q × IsBeingRead segment q
 
 -- A refill is answered so: NotYours exactly if the segment isn't one of the pass's own, and NotEvicted exactly if it is in use.
 -- An evicted segment in which the pass itself holds an item is always Held.

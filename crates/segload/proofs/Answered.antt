@@ -42,7 +42,7 @@ use Rattle.segwrite.specs.Full.{HasNoWord, WasFull}
 use Rattle.segread.specs.Reads.{ReadsBetween, IsGetAnswer}
 use Rattle.segwrite.specs.Writes.{Writes, Deletes}
 use Rattle.segindex.specs.Commands.{AnswersCommand}
-use Rattle.segindex.specs.Refilling.{IsRead, Refills, IsRefillAnswer}
+use Rattle.segindex.specs.Refilling.{IsBeingRead, Refills, IsRefillAnswer}
 use Rattle.segread.specs.Gets.{IsGetsAnswer, IsDisturbed, StandsLocked}
 use Rattle.segevict.specs.Evicting.{IsEvictAnswer}
 use Rattle.segpass.specs.Calls.{memo, GoesOn, ChangesNothing}
@@ -54,11 +54,11 @@ use Rattle.segindex.proofs.QuietPass.{owned}
 use Rattle.segpolicy.specs.declared.load.Kind.{Kind}
 use Rattle.segpolicy.specs.declared.load.Kind.TheVariants as kind
 use Rattle.segpolicy.specs.declared.load.Load.{Load}
-use Rattle.segpolicy.specs.Cycle.{Cycle, number_of}
+use Rattle.segpolicy.specs.Cycle.{Cycle, next_of}
 use Rattle.segload.specs.declared.totals.Tally.{Tally}
 use Rattle.segload.specs.declared.totals.Tally.TheVariants as tally
-use Rattle.segload.specs.Making.{Course, turned_on, AtMoment, ReadsWhen, IsReadAs, IsVersionReadAs, IsFullFor, IsWrittenAs, Empties, IsStoredAs, CameTo}
-use Rattle.segload.specs.Working.{asked_by, tally_of, write_tally, delete_tally, course_after, IsOfLoad, IsFree, IsOwnRing, MakesRoom}
+use Rattle.segload.specs.Making.{ClientState, turned_on, AtMoment, ReadsWhen, IsReadAs, IsVersionReadAs, IsFullFor, IsWrittenAs, Empties, IsStoredAs, CameTo}
+use Rattle.segload.specs.Working.{asked_by, tally_of, write_tally, delete_tally, course_after, IsOfLoad, HoldsNothing, IsOwnRing, GivesUpSegment}
 use Rattle.segload.proofs.Lists.{both_begin}
 
 -- ---- one pass
@@ -71,7 +71,7 @@ never_busy b p q bucket quiet on unlocked busy = λ one. none-some bucket (sym u
 never_stirred : (b : Board) (key : List ℕ) (p q : Pass) → IsQuiet b p → GoesOn b p q → mine q ≡ mine p → 64 ≤ stirred b.shape key (seen p) (seen q) → b.shape.passes ≢ 1
 never_stirred b key p q quiet on same many = λ one. let none = none_stirred b p q key quiet on.quiet one same in absurd (omega (arith, many, none))
 
-never_disturbed : (b : Board) (key : List ℕ) (p q : Pass) → IsQuiet b p → IsFree p → GoesOn b p q → mine q ≡ mine p → IsDisturbed b.shape key p q ⊎ StandsLocked b.shape key p q → b.shape.passes ≢ 1
+never_disturbed : (b : Board) (key : List ℕ) (p q : Pass) → IsQuiet b p → HoldsNothing p → GoesOn b p q → mine q ≡ mine p → IsDisturbed b.shape key p q ⊎ StandsLocked b.shape key p q → b.shape.passes ≢ 1
 never_disturbed b key p q quiet free on same busy = λ one. ⊎_elim
     (λ many.
     let none = none_stirred b p q key quiet on.quiet one same in
@@ -83,16 +83,16 @@ never_disturbed b key p q quiet free on same busy = λ one. ⊎_elim
 -- ---- free passes
 
 -- it is as it was
-kept_free : (p q : Pass) → locked_of q ≡ locked_of p → memo q ≡ memo p → IsFree p → IsFree q
+kept_free : (p q : Pass) → locked_of q ≡ locked_of p → memo q ≡ memo p → HoldsNothing p → HoldsNothing q
 kept_free p q locked same free = (locked ∙ free.0, ap (λ m. m.holding) same ∙ free.1)
 
-plain_free : (p q : Pass) → q.plain ≡ p.plain → memo q ≡ memo p → IsFree p → IsFree q
+plain_free : (p q : Pass) → q.plain ≡ p.plain → memo q ≡ memo p → HoldsNothing p → HoldsNothing q
 plain_free p q plain same = kept_free p q (ap (λ x. x.locked) plain) same
 
-pub unchanged_free : (p q : Pass) → ChangesNothing p q → IsFree p → IsFree q
+pub unchanged_free : (p q : Pass) → ChangesNothing p q → HoldsNothing p → HoldsNothing q
 unchanged_free p q nothing = plain_free p q nothing.plain nothing.memo
 
-pub write_free : (b : Board) (asked : Request) (told : WriteAnswer) (p q : Pass) → Writes b asked told p q → IsFree p → IsFree q
+pub write_free : (b : Board) (asked : Request) (told : WriteAnswer) (p q : Pass) → Writes b asked told p q → HoldsNothing p → HoldsNothing q
 write_free b asked write.Stored p q writes free = kept_free p q writes.answer.2.locked writes.answer.2.memo free
 write_free b asked write.NotStored p q writes free = plain_free p q writes.answer.1 writes.answer.2 free
 write_free b asked write.Exists p q writes free = plain_free p q writes.answer.1 writes.answer.2 free
@@ -101,24 +101,24 @@ write_free b asked write.NoRoom p q writes free = unchanged_free p q writes.answ
 write_free b asked write.BucketFull p q writes free = unchanged_free p q writes.answer.0 free
 write_free b asked write.Busy p q writes free = unchanged_free p q writes.answer.0 free
 
-pub evict_free : (shape : Shape) (segment : ℕ) (told : EvictAnswer) (p q : Pass) → IsEvictAnswer shape segment told p q → IsFree p → IsFree q
+pub evict_free : (shape : Shape) (segment : ℕ) (told : EvictAnswer) (p q : Pass) → IsEvictAnswer shape segment told p q → HoldsNothing p → HoldsNothing q
 evict_free shape segment (evict.Evicted count) p q (inl out) free = kept_free p q out.1.locked out.1.memo free
-evict_free shape segment (evict.Evicted count) p q (inr none) free = subst IsFree (sym none.2) free
-evict_free shape segment evict.NotYours p q same free = subst IsFree (sym same) free
+evict_free shape segment (evict.Evicted count) p q (inr none) free = subst HoldsNothing (sym none.2) free
+evict_free shape segment evict.NotYours p q same free = subst HoldsNothing (sym same) free
 evict_free shape segment (evict.Busy count) p q busy free = kept_free p q busy.1.locked busy.1.memo free
 
-pub refill_free : (segment : ℕ) (told : RefillAnswer) (p q : Pass) → IsRefillAnswer segment told p q → IsFree p → IsFree q
+pub refill_free : (segment : ℕ) (told : RefillAnswer) (p q : Pass) → IsRefillAnswer segment told p q → HoldsNothing p → HoldsNothing q
 refill_free segment refill.Refilled p q is free = kept_free p q is.locked is.memo free
-refill_free segment refill.NotYours p q same free = subst IsFree (sym same) free
-refill_free segment refill.NotEvicted p q same free = subst IsFree (sym same) free
+refill_free segment refill.NotYours p q same free = subst HoldsNothing (sym same) free
+refill_free segment refill.NotEvicted p q same free = subst HoldsNothing (sym same) free
 refill_free segment refill.Held p q is free = unchanged_free p q is.0 free
 
-delete_free : (b : Board) (key : List ℕ) (told : DeleteAnswer) (p q : Pass) → Deletes b key told p q → IsFree p → IsFree q
+delete_free : (b : Board) (key : List ℕ) (told : DeleteAnswer) (p q : Pass) → Deletes b key told p q → HoldsNothing p → HoldsNothing q
 delete_free b key delete.Deleted p q deletes free = plain_free p q deletes.answer.1 deletes.answer.2 free
 delete_free b key delete.NotFound p q deletes free = plain_free p q deletes.answer.1 deletes.answer.2 free
 delete_free b key delete.Busy p q deletes free = unchanged_free p q deletes.answer.0 free
 
-pub command_free : (b : Board) (of : Kind) (version : ℕ) (load : Load) (draw : ℕ) (told : Answer) (p q : Pass) → AnswersCommand b (asked_by of version load) draw told p q → IsFree p → IsFree q
+pub command_free : (b : Board) (of : Kind) (version : ℕ) (load : Load) (draw : ℕ) (told : Answer) (p q : Pass) → AnswersCommand b (asked_by of version load) draw told p q → HoldsNothing p → HoldsNothing q
 command_free b kind.Get version load draw (answer.Get told) p q is free = unchanged_free p q is.keeps free
 command_free b kind.Gets version load draw (answer.Gets told) p q is free = unchanged_free p q is.keeps free
 command_free b kind.Set version load draw (answer.Write told) p q is free = write_free b (request.Set load.key load.value) told p q is free
@@ -162,7 +162,7 @@ read b key (get.Found value) p q quiet on same at = (value, read_when b key (Som
 read b key get.Miss p q quiet on same at = read_when b key None p q on same at
 read b key get.Busy p q quiet on same many = never_stirred b key p q quiet on same many
 
-version_read : (b : Board) (key : List ℕ) (told : GetsAnswer) (from : Course) (p q : Pass) → IsQuiet b p → IsFree p → GoesOn b p q → mine q ≡ mine p → IsGetsAnswer b.shape key told p q
+version_read : (b : Board) (key : List ℕ) (told : GetsAnswer) (from : ClientState) (p q : Pass) → IsQuiet b p → HoldsNothing p → GoesOn b p q → mine q ≡ mine p → IsGetsAnswer b.shape key told p q
     → IsVersionReadAs b.shape (seen q) (number p) (mine p) key (tally_of (answer.Gets told)) from (course_after (answer.Gets told) from)
 version_read b key (gets.Found value version) from p q quiet free on same at =
     (value, at_moment b p q at.0 (λ cache. reads_version b.shape cache key ≡ Some (value, version)) on same at.1 at.2, refl)
@@ -185,7 +185,7 @@ full_then b key p q on same full = at_moment b p q (entries marks) (IsFullFor b.
     between = subst (λ h. IsBetween (seen p) h (entries marks)) (entries_marked (trace q))
         (subst (λ h. IsBetween h (entries (marked q)) (entries marks)) (entries_marked (trace p)) (entries_begin (marked p) marks full.1.0, entries_begin marks (marked q) full.1.1))
 
-written : (b : Board) (asked : Request) (told : WriteAnswer) (p q : Pass) → told ≢ write.NoRoom → IsQuiet b p → IsFree p → Writes b asked told p q → IsWrittenAs b.shape (seen q) (number p) asked (write_tally told) (mine p) (mine q)
+written : (b : Board) (asked : Request) (told : WriteAnswer) (p q : Pass) → told ≢ write.NoRoom → IsQuiet b p → HoldsNothing p → Writes b asked told p q → IsWrittenAs b.shape (seen q) (number p) asked (write_tally told) (mine p) (mine q)
 written b asked write.Stored p q room quiet free writes = (writes.answer.0, writes.answer.1)
 written b asked write.NotStored p q room quiet free writes = writes.answer.0
 written b asked write.Exists p q room quiet free writes = writes.answer.0
@@ -194,7 +194,7 @@ written b asked write.NoRoom p q room quiet free writes = absurd (room refl)
 written b asked write.BucketFull p q room quiet free writes = (writes.answer.0.entries, writes.answer.1, full_then b (key_of asked) p q writes.on writes.answer.0.entries writes.answer.2)
 written b asked write.Busy p q room quiet free writes = (writes.answer.0.entries, never_busy b p q (bucket_of b.shape (key_of asked)) quiet writes.on free.0 writes.answer.1)
 
-deleted : (b : Board) (key : List ℕ) (told : DeleteAnswer) (p q : Pass) → IsQuiet b p → IsFree p → Deletes b key told p q → IsWrittenAs b.shape (seen q) (number p) (request.Delete key) (delete_tally told) (mine p) (mine q)
+deleted : (b : Board) (key : List ℕ) (told : DeleteAnswer) (p q : Pass) → IsQuiet b p → HoldsNothing p → Deletes b key told p q → IsWrittenAs b.shape (seen q) (number p) (request.Delete key) (delete_tally told) (mine p) (mine q)
 deleted b key delete.Deleted p q quiet free deletes = deletes.answer.0
 deleted b key delete.NotFound p q quiet free deletes = deletes.answer.0
 deleted b key delete.Busy p q quiet free deletes = (deletes.answer.0.entries, never_busy b p q (bucket_of b.shape key) quiet deletes.on free.0 deletes.answer.1)
@@ -202,7 +202,7 @@ deleted b key delete.Busy p q quiet free deletes = (deletes.answer.0.entries, ne
 -- ---- a command
 
 -- it was made once, and found room if it needed any
-pub came : (b : Board) (of : Kind) (load : Load) (draw : ℕ) (told : Answer) (from : Course) (p q : Pass) → told ≢ answer.Write write.NoRoom → IsQuiet b p → IsFree p → GoesOn b p q → AnswersCommand b (asked_by of from.version load) draw told p q
+pub came : (b : Board) (of : Kind) (load : Load) (draw : ℕ) (told : Answer) (from : ClientState) (p q : Pass) → told ≢ answer.Write write.NoRoom → IsQuiet b p → HoldsNothing p → GoesOn b p q → AnswersCommand b (asked_by of from.version load) draw told p q
     → CameTo b.shape (seen q) (number p) of load (tally_of told) from (course_after told from) (mine p) (mine q)
 came b kind.Get load draw (answer.Get told) from p q other quiet free on is = (read b load.key told p q quiet on is.keeps.entries is.answer, is.keeps.entries, refl)
 came b kind.Gets load draw (answer.Gets told) from p q other quiet free on is = (version_read b load.key told from p q quiet free on is.keeps.entries is.answer, is.keeps.entries)
@@ -230,7 +230,7 @@ own_segment b p ring segment quiet one own below none =
     false≢true (sym (ap is_some none) ∙ (owned b p segment quiet).1 there)
 
 -- a single pass that has no bucket locked evicts its segments to the end
-pub not_evicted : (b : Board) (ring : Cycle) (segment : ℕ) (told : EvictAnswer) (p q : Pass) → IsQuiet b p → IsFree p → IsOwnRing b.shape (number p) ring → segment < ring.first + ring.count → GoesOn b p q
+pub not_evicted : (b : Board) (ring : Cycle) (segment : ℕ) (told : EvictAnswer) (p q : Pass) → IsQuiet b p → HoldsNothing p → IsOwnRing b.shape (number p) ring → segment < ring.first + ring.count → GoesOn b p q
     → ((told ≡ evict.NotYours) ↔ (state_of p segment ≡ None)) → IsEvictAnswer b.shape segment told p q → ((count : ℕ) → told ≢ evict.Evicted count) → b.shape.passes ≢ 1
 not_evicted b ring segment (evict.Evicted count) p q quiet free own below on not_yours answer failed one = failed count refl
 not_evicted b ring segment evict.NotYours p q quiet free own below on not_yours answer failed one = own_segment b p ring segment quiet one own below (not_yours.0 refl)
@@ -240,7 +240,7 @@ not_evicted b ring segment (evict.Busy count) p q quiet free own below on not_yo
     ⊎_elim (λ locked. none-some bucket (sym free.0 ∙ locked)) (λ met. let alone = bounced_alone b q bucket on.quiet.pass one in absurd (omega (arith, met, alone))) barred.2
 
 -- and then refills them
-not_read : (b : Board) (segment : ℕ) (p : Pass) → IsQuiet b p → IsFree p → IsRead segment p → b.shape.passes ≢ 1
+not_read : (b : Board) (segment : ℕ) (p : Pass) → IsQuiet b p → HoldsNothing p → IsBeingRead segment p → b.shape.passes ≢ 1
 not_read b segment p quiet free (inl other) one = let nobody = nobody_inside (number p) other.0 segment (trace p) other.1 (quiet.pass.alone one) in let there = other.2 in absurd (omega (arith, nobody, there))
 not_read b segment p quiet free (inr held) one = false≢true (ap (λ h. is_held_in h segment) (sym free.1) ∙ held)
 
@@ -261,9 +261,9 @@ is_refilled refill.Refilled = true
 is_refilled _ = false
 
 -- what giving up a segment came to, by the answer of its refilling
-pub room_made : (b : Board) (ring : Cycle) (segment count : ℕ) (told : RefillAnswer) (p q r : Pass) → IsQuiet b p → IsFree q → IsOwnRing b.shape (number p) ring → segment < ring.first + ring.count → GoesOn b p q → GoesOn b q r
+pub room_made : (b : Board) (ring : Cycle) (segment count : ℕ) (told : RefillAnswer) (p q r : Pass) → IsQuiet b p → HoldsNothing q → IsOwnRing b.shape (number p) ring → segment < ring.first + ring.count → GoesOn b p q → GoesOn b q r
     → IsEvictAnswer b.shape segment (evict.Evicted count) p q → ((told ≡ refill.NotYours) ↔ (state_of q segment ≡ None)) → ((told ≡ refill.NotEvicted) ↔ (state_of q segment ≡ Some InUse)) → IsRefillAnswer segment told q r
-    → MakesRoom b.shape segment (is_refilled told) p r
+    → GivesUpSegment b.shape segment (is_refilled told) p r
 room_made b ring segment count told p q r quiet free own below on then evicts not_yours in_use refills = by told refl refills
   where
     emptied : Empties (number p) segment (mine p) (mine q)
@@ -272,34 +272,34 @@ room_made b ring segment count told p q r quiet free own below on then evicts no
     unchanged : mine r ≡ mine q → Empties (number p) segment (mine p) (mine r)
     unchanged same = subst (Empties (number p) segment (mine p)) (sym same) emptied
 
-    by : (answer : RefillAnswer) → told ≡ answer → IsRefillAnswer segment answer q r → MakesRoom b.shape segment (is_refilled answer) p r
+    by : (answer : RefillAnswer) → told ≡ answer → IsRefillAnswer segment answer q r → GivesUpSegment b.shape segment (is_refilled answer) p r
     by refill.Refilled is filled = (mine q, emptied, filled.entry ∙ ap (λ n. Refilled n segment ∷ mine q) on.same, room_then b segment q r quiet.pass.valid.0.1.0 filled)
     by refill.NotYours is same = (unchanged (ap mine same), λ one. own_segment b q ring segment on.quiet one (subst (λ n. IsOwnRing b.shape n ring) (sym on.same) own) below (not_yours.0 is))
     by refill.NotEvicted is same = (unchanged (ap mine same), λ one. evicted_state b segment count p q evicts (in_use.0 is))
     by refill.Held is held = (unchanged held.0.entries, not_read b segment r then.quiet (unchanged_free q r held.0 free) held.1)
 
 -- a write that found no room is refused so, after a segment was given up in vain
-stored_nowhere : (b : Board) (asked : Request) (p q r : Pass) (from to : Course) → q ≡ p → MakesRoom b.shape (number_of from.segments) false q r → to ≡ turned_on from
+stored_nowhere : (b : Board) (asked : Request) (p q r : Pass) (from to : ClientState) → q ≡ p → GivesUpSegment b.shape (next_of from.segments) false q r → to ≡ turned_on from
     → IsStoredAs b.shape (seen r) (number p) asked tally.NoRoom from to (mine p) (mine r)
 stored_nowhere b asked p q r from to same room turned =
-    inr ((mine r, subst (λ x. Empties (number x) (number_of from.segments) (mine x) (mine r)) same room.0, inr (refl, refl, room.1)), turned)
+    inr ((mine r, subst (λ x. Empties (number x) (next_of from.segments) (mine x) (mine r)) same room.0, inr (refl, refl, room.1)), turned)
 
 -- or is made once more, and then there is room
-stored_again : (b : Board) (asked : Request) (told : WriteAnswer) (p q r s : Pass) (from to : Course) → q ≡ p → GoesOn b q r → IsFree r → MakesRoom b.shape (number_of from.segments) true q r → to ≡ turned_on from → Writes b asked told r s
+stored_again : (b : Board) (asked : Request) (told : WriteAnswer) (p q r s : Pass) (from to : ClientState) → q ≡ p → GoesOn b q r → HoldsNothing r → GivesUpSegment b.shape (next_of from.segments) true q r → to ≡ turned_on from → Writes b asked told r s
     → IsStoredAs b.shape (seen s) (number p) asked (write_tally told) from to (mine p) (mine s)
 stored_again b asked told p q r s from to same on free made turned writes =
     subst (λ x. IsStoredAs b.shape (seen s) (number x) asked (write_tally told) from to (mine x) (mine s)) same (inr (
       (
         made.0,
         made.1,
-        inl (subst (λ n. IsWrittenAs b.shape (seen s) n asked (write_tally told) (Refilled (number q) (number_of from.segments) ∷ made.0) (mine s)) on.same
+        inl (subst (λ n. IsWrittenAs b.shape (seen s) n asked (write_tally told) (Refilled (number q) (next_of from.segments) ∷ made.0) (mine s)) on.same
             (subst (λ own. IsWrittenAs b.shape (seen s) (number r) asked (write_tally told) own (mine s)) made.2
             (written b asked told r s (λ none. false≢true (sym (writes.no_room.0 none) ∙ made.3)) on.quiet free writes))),
       ),
       turned,
     ))
 
-pub came_nowhere : (b : Board) (of : Kind) (load : Load) (draw : ℕ) (from to : Course) (p q r : Pass) → AnswersCommand b (asked_by of from.version load) draw (answer.Write write.NoRoom) p q → MakesRoom b.shape (number_of from.segments) false q r → to ≡ turned_on from
+pub came_nowhere : (b : Board) (of : Kind) (load : Load) (draw : ℕ) (from to : ClientState) (p q r : Pass) → AnswersCommand b (asked_by of from.version load) draw (answer.Write write.NoRoom) p q → GivesUpSegment b.shape (next_of from.segments) false q r → to ≡ turned_on from
     → CameTo b.shape (seen r) (number p) of load tally.NoRoom from to (mine p) (mine r)
 came_nowhere b kind.Set load draw from to p q r is room turned = stored_nowhere b (request.Set load.key load.value) p q r from to (is.untouched refl) room turned
 came_nowhere b kind.Add load draw from to p q r is room turned = stored_nowhere b (request.Add load.key load.value) p q r from to (is.untouched refl) room turned
@@ -307,7 +307,7 @@ came_nowhere b kind.Replace load draw from to p q r is room turned = stored_nowh
 came_nowhere b kind.Cas load draw from to p q r is room turned = stored_nowhere b (request.Cas load.key load.value from.version) p q r from to (is.untouched refl) room turned
 came_nowhere b of load draw from to p q r is room turned = absurd is
 
-pub came_again : (b : Board) (of : Kind) (load : Load) (draw : ℕ) (told : Answer) (from to : Course) (p q r s : Pass) → AnswersCommand b (asked_by of from.version load) draw (answer.Write write.NoRoom) p q → GoesOn b q r → IsFree r → MakesRoom b.shape (number_of from.segments) true q r → to ≡ turned_on from
+pub came_again : (b : Board) (of : Kind) (load : Load) (draw : ℕ) (told : Answer) (from to : ClientState) (p q r s : Pass) → AnswersCommand b (asked_by of from.version load) draw (answer.Write write.NoRoom) p q → GoesOn b q r → HoldsNothing r → GivesUpSegment b.shape (next_of from.segments) true q r → to ≡ turned_on from
     → AnswersCommand b (asked_by of from.version load) draw told r s → CameTo b.shape (seen s) (number p) of load (tally_of told) from to (mine p) (mine s)
 came_again b kind.Set load draw (answer.Write told) from to p q r s is on free made turned again = stored_again b (request.Set load.key load.value) told p q r s from to (is.untouched refl) on free made turned again
 came_again b kind.Add load draw (answer.Write told) from to p q r s is on free made turned again = stored_again b (request.Add load.key load.value) told p q r s from to (is.untouched refl) on free made turned again

@@ -12,17 +12,17 @@ use Rattle.segevict.specs.Evicting.{AreEvictions}
 use Rattle.segpolicy.specs.declared.load.Kind.{Kind}
 use Rattle.segpolicy.specs.declared.load.Kind.TheVariants as kind
 use Rattle.segpolicy.specs.declared.load.Load.{Load}
-use Rattle.segpolicy.specs.Cycle.{number_of}
+use Rattle.segpolicy.specs.Cycle.{next_of}
 use Rattle.segpolicy.specs.Draws.{Draws, next_load}
 use Rattle.segload.specs.declared.totals.Tally.{Tally}
 use Rattle.segload.specs.declared.totals.Tally.TheVariants as tally
 use Rattle.segload.specs.declared.totals.Tallies.{Tallies}
-use Rattle.segload.specs.Counting.{no_tallies, tally_of, counted, tells, replies, CountsReplies}
-use Rattle.segload.specs.Making.{Course, IsReadAs, IsVersionReadAs, IsWrittenAs, Empties, IsStoredAs, CameTo, draws_after, Makes}
+use Rattle.segload.specs.Counting.{no_tallies, count_of_reply, with_one_more, tells, replies, CountsReplies}
+use Rattle.segload.specs.Making.{ClientState, IsReadAs, IsVersionReadAs, IsWrittenAs, Empties, IsStoredAs, CameTo, draws_after, Makes}
 
 -- tallies that counted the writes among the entries before count those among the entries now, with one command more
 abbrev Counts : Tally → List Entry → List Entry → Type 0
-Counts counted_as before now = (t : Tallies) → CountsReplies t before → CountsReplies (counted counted_as t) now
+Counts counted_as before now = (t : Tallies) → CountsReplies t before → CountsReplies (with_one_more counted_as t) now
 
 -- how a reply is counted
 reply_tally : Reply → Tally
@@ -34,7 +34,7 @@ reply_tally reply.Deleted = tally.Deleted
 
 -- one more entry, counted by its reply
 replied_more : (said told : Reply) (n : ℕ) (request : Request) (segment : Option ℕ) (own : List Entry) (t : Tallies)
-    → tally_of told t ≡ replies told own → tally_of told (counted (reply_tally said) t) ≡ replies told (Wrote n request said segment ∷ own)
+    → count_of_reply told t ≡ replies told own → count_of_reply told (with_one_more (reply_tally said) t) ≡ replies told (Wrote n request said segment ∷ own)
 unfolding reply_tally
 replied_more reply.Stored reply.Stored n request segment own t h = omega (arith, h, count_by-cons (tells reply.Stored) (Wrote n request reply.Stored segment) own)
 replied_more reply.Stored reply.NotStored n request segment own t h = omega (arith, h, count_by-cons (tells reply.NotStored) (Wrote n request reply.Stored segment) own)
@@ -67,27 +67,27 @@ replied said n request segment before now e t counts told = replied_more said to
 
 -- what is no reply adds to none of the tallies of replies
 unreplied : Tally → Type 0
-unreplied counted_as = (told : Reply) (t : Tallies) → tally_of told (counted counted_as t) ≡ tally_of told t
+unreplied counted_as = (told : Reply) (t : Tallies) → count_of_reply told (with_one_more counted_as t) ≡ count_of_reply told t
 
 hit : unreplied tally.Hit
 unfolding unreplied
-hit told t = elim told as (λ r. tally_of r (counted tally.Hit t) ≡ tally_of r t) [ reply.Stored ↦ refl | reply.NotStored ↦ refl | reply.Exists ↦ refl | reply.NotFound ↦ refl | reply.Deleted ↦ refl ]
+hit told t = elim told as (λ r. count_of_reply r (with_one_more tally.Hit t) ≡ count_of_reply r t) [ reply.Stored ↦ refl | reply.NotStored ↦ refl | reply.Exists ↦ refl | reply.NotFound ↦ refl | reply.Deleted ↦ refl ]
 
 miss : unreplied tally.Miss
 unfolding unreplied
-miss told t = elim told as (λ r. tally_of r (counted tally.Miss t) ≡ tally_of r t) [ reply.Stored ↦ refl | reply.NotStored ↦ refl | reply.Exists ↦ refl | reply.NotFound ↦ refl | reply.Deleted ↦ refl ]
+miss told t = elim told as (λ r. count_of_reply r (with_one_more tally.Miss t) ≡ count_of_reply r t) [ reply.Stored ↦ refl | reply.NotStored ↦ refl | reply.Exists ↦ refl | reply.NotFound ↦ refl | reply.Deleted ↦ refl ]
 
 no_room : unreplied tally.NoRoom
 unfolding unreplied
-no_room told t = elim told as (λ r. tally_of r (counted tally.NoRoom t) ≡ tally_of r t) [ reply.Stored ↦ refl | reply.NotStored ↦ refl | reply.Exists ↦ refl | reply.NotFound ↦ refl | reply.Deleted ↦ refl ]
+no_room told t = elim told as (λ r. count_of_reply r (with_one_more tally.NoRoom t) ≡ count_of_reply r t) [ reply.Stored ↦ refl | reply.NotStored ↦ refl | reply.Exists ↦ refl | reply.NotFound ↦ refl | reply.Deleted ↦ refl ]
 
 bucket_full : unreplied tally.BucketFull
 unfolding unreplied
-bucket_full told t = elim told as (λ r. tally_of r (counted tally.BucketFull t) ≡ tally_of r t) [ reply.Stored ↦ refl | reply.NotStored ↦ refl | reply.Exists ↦ refl | reply.NotFound ↦ refl | reply.Deleted ↦ refl ]
+bucket_full told t = elim told as (λ r. count_of_reply r (with_one_more tally.BucketFull t) ≡ count_of_reply r t) [ reply.Stored ↦ refl | reply.NotStored ↦ refl | reply.Exists ↦ refl | reply.NotFound ↦ refl | reply.Deleted ↦ refl ]
 
 busy : unreplied tally.Busy
 unfolding unreplied
-busy told t = elim told as (λ r. tally_of r (counted tally.Busy t) ≡ tally_of r t) [ reply.Stored ↦ refl | reply.NotStored ↦ refl | reply.Exists ↦ refl | reply.NotFound ↦ refl | reply.Deleted ↦ refl ]
+busy told t = elim told as (λ r. count_of_reply r (with_one_more tally.Busy t) ≡ count_of_reply r t) [ reply.Stored ↦ refl | reply.NotStored ↦ refl | reply.Exists ↦ refl | reply.NotFound ↦ refl | reply.Deleted ↦ refl ]
 
 untold : (counted_as : Tally) (before now : List Entry) → unreplied counted_as → now ≡ before → Counts counted_as before now
 unfolding unreplied
@@ -99,7 +99,7 @@ counts_read shape history pass own key tally.Miss now read e = untold tally.Miss
 counts_read shape history pass own key tally.Busy now read e = untold tally.Busy own now busy e
 counts_read shape history pass own key _ now read e = absurd read
 
-counts_version : (shape : Shape) (history : List Entry) (pass : ℕ) (own : List Entry) (key : List ℕ) (told : Tally) (from to : Course) (now : List Entry) → IsVersionReadAs shape history pass own key told from to → now ≡ own → Counts told own now
+counts_version : (shape : Shape) (history : List Entry) (pass : ℕ) (own : List Entry) (key : List ℕ) (told : Tally) (from to : ClientState) (now : List Entry) → IsVersionReadAs shape history pass own key told from to → now ≡ own → Counts told own now
 counts_version shape history pass own key tally.Hit from to now read e = untold tally.Hit own now hit e
 counts_version shape history pass own key tally.Miss from to now read e = untold tally.Miss own now miss e
 counts_version shape history pass own key tally.Busy from to now read e = untold tally.Busy own now busy e
@@ -140,15 +140,15 @@ evicted_more told pass segment (added ∷ more) own all =
 emptied : (told : Reply) (pass segment : ℕ) (before room : List Entry) → Empties pass segment before room → replies told room ≡ replies told before
 emptied told pass segment before room (evictions, all, is) = ap (replies told) is ∙ evicted_more told pass segment evictions before all
 
-counts_stored : (shape : Shape) (history : List Entry) (pass : ℕ) (asked : Request) (told : Tally) (from to : Course) (before now : List Entry) → IsStoredAs shape history pass asked told from to before now → Counts told before now
+counts_stored : (shape : Shape) (history : List Entry) (pass : ℕ) (asked : Request) (told : Tally) (from to : ClientState) (before now : List Entry) → IsStoredAs shape history pass asked told from to before now → Counts told before now
 counts_stored shape history pass asked told from to before now (inl (written, kept)) = counts_written shape history pass asked told before now written
 counts_stored shape history pass asked told from to before now (inr ((room, out, inl written), turned)) = λ t counts.
-    counts_written shape history pass asked told (Refilled pass (number_of from.segments) ∷ room) now written t
-    (λ said. counts said ∙ sym (refilled_one said pass (number_of from.segments) room ∙ emptied said pass (number_of from.segments) before room out))
+    counts_written shape history pass asked told (Refilled pass (next_of from.segments) ∷ room) now written t
+    (λ said. counts said ∙ sym (refilled_one said pass (next_of from.segments) room ∙ emptied said pass (next_of from.segments) before room out))
 counts_stored shape history pass asked told from to before now (inr ((room, out, inr (none, same, others)), turned)) = λ t counts.
-    subst (λ x. Counts x room now) (sym none) (untold tally.NoRoom room now no_room same) t (λ said. counts said ∙ sym (emptied said pass (number_of from.segments) before room out))
+    subst (λ x. Counts x room now) (sym none) (untold tally.NoRoom room now no_room same) t (λ said. counts said ∙ sym (emptied said pass (next_of from.segments) before room out))
 
-counts_one : (shape : Shape) (history : List Entry) (pass : ℕ) (of : Kind) (load : Load) (told : Tally) (from to : Course) (before now : List Entry) → CameTo shape history pass of load told from to before now → Counts told before now
+counts_one : (shape : Shape) (history : List Entry) (pass : ℕ) (of : Kind) (load : Load) (told : Tally) (from to : ClientState) (before now : List Entry) → CameTo shape history pass of load told from to before now → Counts told before now
 counts_one shape history pass kind.Get load told from to before now came = counts_read shape history pass before load.key told now came.0 came.1
 counts_one shape history pass kind.Gets load told from to before now came = counts_version shape history pass before load.key told from to now came.0 came.1
 counts_one shape history pass kind.Set load told from to before now came = counts_stored shape history pass (request.Set load.key load.value) told from to before now came
@@ -157,7 +157,7 @@ counts_one shape history pass kind.Replace load told from to before now came = c
 counts_one shape history pass kind.Cas load told from to before now came = counts_stored shape history pass (request.Cas load.key load.value from.version) told from to before now came
 counts_one shape history pass kind.Delete load told from to before now came = counts_written shape history pass (request.Delete load.key) told before now came.0
 
-counts_nothing : (told : Reply) → tally_of told no_tallies ≡ replies told []
+counts_nothing : (told : Reply) → count_of_reply told no_tallies ≡ replies told []
 counts_nothing reply.Stored = refl
 counts_nothing reply.NotStored = refl
 counts_nothing reply.Exists = refl
@@ -165,8 +165,8 @@ counts_nothing reply.NotFound = refl
 counts_nothing reply.Deleted = refl
 
 -- the tallies of commands count the replies among the entries that these added
-pub counts_made : (shape : Shape) (history : List Entry) (pass : ℕ) (draws : Draws) (made : ℕ) (t : Tallies) (course : Course) (own : List Entry) → Makes shape history pass draws made t course own → CountsReplies t own
-counts_made shape history pass draws zero t course own makes = λ told. ap (tally_of told) makes.0 ∙ (counts_nothing told ∙ ap (replies told) (sym makes.2))
+pub counts_made : (shape : Shape) (history : List Entry) (pass : ℕ) (draws : Draws) (made : ℕ) (t : Tallies) (course : ClientState) (own : List Entry) → Makes shape history pass draws made t course own → CountsReplies t own
+counts_made shape history pass draws zero t course own makes = λ told. ap (count_of_reply told) makes.0 ∙ (counts_nothing told ∙ ap (replies told) (sym makes.2))
 counts_made shape history pass draws (suc made) t course own (told, before, from, own_before, makes, came, counts) =
     let load = next_load (draws_after draws made) in
     subst (λ x. CountsReplies x own) (sym counts)

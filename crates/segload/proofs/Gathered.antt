@@ -14,11 +14,11 @@ use Rattle.segevict.proofs.RowsOut.{goes_then}
 use Rattle.segindex.proofs.OnePass.{all_mine}
 use Rattle.segload.specs.declared.worker.Worker.{Worker}
 use Rattle.segload.proofs.Lists.{both_begin}
-use Rattle.segload.specs.Gathering.{Looked, HasMet, HasMetEach, AreAll, HasGathered}
+use Rattle.segload.specs.Gathering.{AddsNoEntry, HasMet, HasMetEach, AreAll, HasGathered}
 use Rattle.segindex.proofs.Meeting.{mine_begins}
 
 -- what only looked twice, only looked
-pub looked_then : (b : Board) (p q r : Pass) → Looked b p q → GoesOn b q r → ChangesNothing q r → Looked b p r
+pub looked_then : (b : Board) (p q r : Pass) → AddsNoEntry b p q → GoesOn b q r → ChangesNothing q r → AddsNoEntry b p r
 looked_then b p q r first on nothing = record { on = goes_then b p q r first.on on; mine = nothing.entries ∙ first.mine }
 
 -- the first pass has seen more by now
@@ -26,7 +26,7 @@ pub met_then : (b : Board) (before now later p q : Pass) → HasMet b before now
 met_then b before now later p q met grew = record { looked = met.looked; told = begins_on (seen p) (seen now) (seen later) met.told grew; known = met.known }
 
 -- a meeting
-pub met_now : (b : Board) (before now later p q : Pass) → Looked b before now → Meets now p later q → GoesOn b p q → ChangesNothing p q → HasMet b before later p q
+pub met_now : (b : Board) (before now later p q : Pass) → AddsNoEntry b before now → Meets now p later q → GoesOn b p q → ChangesNothing p q → HasMet b before later p q
 met_now b before now later p q looked meets on nothing = record {
   looked = record { on = on; mine = nothing.entries };
   told = meets.first.1;
@@ -65,8 +65,8 @@ just_own b before now later p q r first second =
     (mine_begins (number p) (seen p) (seen now) first.told)
 
 pub gathered : (b : Board) (workers met again : List Worker) (first : Worker) (now later : Pass) → AreAll b workers → slice_get workers 0 ≡ Some first
-    → Looked b first.client.pass now → HasMetEach b first.client.pass now (drop 1 workers) met → length met ≡ length (drop 1 workers)
-    → Looked b now later → HasMetEach b now later met again → length again ≡ length met → HasGathered b workers later
+    → AddsNoEntry b first.client.pass now → HasMetEach b first.client.pass now (drop 1 workers) met → length met ≡ length (drop 1 workers)
+    → AddsNoEntry b now later → HasMetEach b now later met again → length again ≡ length met → HasGathered b workers later
 gathered b workers met again first now later all at looked each long looked' each' long' = record {
   quiet = looked'.on.quiet;
   history = seen now;

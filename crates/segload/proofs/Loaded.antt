@@ -21,7 +21,7 @@ use Rattle.segpolicy.specs.Draws.{draws_of}
 use Rattle.segload.specs.Making.{Makes}
 use Rattle.segload.specs.Working.{course_of, HasWorked, NoneStopped, IsFirstStopped}
 use Rattle.segload.specs.Gathering.{AreAll, HasGathered}
-use Rattle.segload.specs.Loads.{IsCounted, keys_of, IsLoad, IsLetThrough, IsStopped}
+use Rattle.segload.specs.Loads.{CountsCommands, keys_of, IsLoad, IsLetThrough, IsStopped}
 use Rattle.segload.proofs.Gathered.{is_there}
 use Rattle.segload.proofs.Counted.{counts_made}
 use Rattle.segload.proofs.Made.{makes_later}
@@ -69,7 +69,7 @@ stopped_first b may_answer seed commands workers pass valid worked first =
     }
 
 counted : (b : Board) (may_answer : ℕ → ℕ → Bool → Type 0) (seed commands : ℕ) (workers : List Worker) (totals : List PassTotals) (first : Pass) → AllWorked b may_answer seed commands workers → NoneStopped workers → length workers ≡ length totals → AreTotals commands workers totals
-    → (all : HasGathered b workers first) → (n : ℕ) (of : PassTotals) → slice_get totals n ≡ Some of → IsCounted b.shape seed commands n all.history of
+    → (all : HasGathered b workers first) → (n : ℕ) (of : PassTotals) → slice_get totals n ≡ Some of → CountsCommands b.shape seed commands n all.history of
 counted b may_answer seed commands workers totals first worked none long are all n of at =
     let one = is_there totals workers n of long at in
     let here = are n of one.0 at one.1 in

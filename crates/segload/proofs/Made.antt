@@ -16,15 +16,15 @@ use Rattle.segpass.specs.Calls.{GoesOn}
 use Rattle.segpolicy.specs.declared.load.Kind.{Kind}
 use Rattle.segpolicy.specs.declared.load.Kind.TheVariants as kind
 use Rattle.segpolicy.specs.declared.load.Load.{Load}
-use Rattle.segpolicy.specs.Cycle.{number_of}
+use Rattle.segpolicy.specs.Cycle.{next_of}
 use Rattle.segpolicy.specs.Draws.{Draws, next_load, after_load}
 use Rattle.segload.specs.declared.totals.Tally.{Tally}
 use Rattle.segload.specs.declared.totals.Tally.TheVariants as tally
 use Rattle.segload.specs.declared.totals.Tallies.{Tallies}
 use Rattle.segload.specs.declared.worker.Worker.{Worker}
-use Rattle.segload.specs.Counting.{counted, all_of}
-use Rattle.segload.specs.Making.{Course, AtMoment, IsReadAs, IsVersionReadAs, IsFullFor, IsWrittenAs, IsStoredAs, CameTo, ComesTo, draws_after, Makes}
-use Rattle.segload.specs.Working.{course_of, IsFree, IsOwnRing, IsAtWork}
+use Rattle.segload.specs.Counting.{with_one_more, all_of}
+use Rattle.segload.specs.Making.{ClientState, AtMoment, IsReadAs, IsVersionReadAs, IsFullFor, IsWrittenAs, IsStoredAs, CameTo, ComesTo, draws_after, Makes}
+use Rattle.segload.specs.Working.{course_of, HoldsNothing, IsOwnRing, IsAtWork}
 
 -- what holds of all commands so far holds of a longer history
 moment_later : (shape : Shape) (history later : List Entry) (pass : ℕ) (own : List Entry) (IsSo : Cache → Type 0) → Begins history later → AtMoment shape history pass own IsSo → AtMoment shape later pass own IsSo
@@ -36,7 +36,7 @@ read_later shape history later pass own key tally.Miss more read = moment_later 
 read_later shape history later pass own key tally.Busy more read = read
 read_later shape history later pass own key _ more read = absurd read
 
-version_later : (shape : Shape) (history later : List Entry) (pass : ℕ) (own : List Entry) (key : List ℕ) (told : Tally) (from to : Course) → Begins history later → IsVersionReadAs shape history pass own key told from to → IsVersionReadAs shape later pass own key told from to
+version_later : (shape : Shape) (history later : List Entry) (pass : ℕ) (own : List Entry) (key : List ℕ) (told : Tally) (from to : ClientState) → Begins history later → IsVersionReadAs shape history pass own key told from to → IsVersionReadAs shape later pass own key told from to
 version_later shape history later pass own key tally.Hit from to more read = (read.0, moment_later shape history later pass own (λ cache. reads_version shape cache key ≡ Some (read.0, to.version)) more read.1, read.2)
 version_later shape history later pass own key tally.Miss from to more read = (read_later shape history later pass own key tally.Miss more read.0, read.1)
 version_later shape history later pass own key tally.Busy from to more read = read
@@ -52,13 +52,13 @@ written_later shape history later pass asked tally.Deleted before now more writt
 written_later shape history later pass asked tally.Busy before now more written = written
 written_later shape history later pass asked _ before now more written = absurd written
 
-stored_later : (shape : Shape) (history later : List Entry) (pass : ℕ) (asked : Request) (told : Tally) (from to : Course) (before now : List Entry) → Begins history later → IsStoredAs shape history pass asked told from to before now → IsStoredAs shape later pass asked told from to before now
+stored_later : (shape : Shape) (history later : List Entry) (pass : ℕ) (asked : Request) (told : Tally) (from to : ClientState) (before now : List Entry) → Begins history later → IsStoredAs shape history pass asked told from to before now → IsStoredAs shape later pass asked told from to before now
 stored_later shape history later pass asked told from to before now more (inl (written, kept)) = inl (written_later shape history later pass asked told before now more written, kept)
 stored_later shape history later pass asked told from to before now more (inr ((room, emptied, inl written), turned)) =
-    inr ((room, emptied, inl (written_later shape history later pass asked told (Refilled pass (number_of from.segments) ∷ room) now more written)), turned)
+    inr ((room, emptied, inl (written_later shape history later pass asked told (Refilled pass (next_of from.segments) ∷ room) now more written)), turned)
 stored_later shape history later pass asked told from to before now more (inr ((room, emptied, inr none), turned)) = inr ((room, emptied, inr none), turned)
 
-came_later : (shape : Shape) (history later : List Entry) (pass : ℕ) (of : Kind) (load : Load) (told : Tally) (from to : Course) (before now : List Entry) → Begins history later → CameTo shape history pass of load told from to before now → CameTo shape later pass of load told from to before now
+came_later : (shape : Shape) (history later : List Entry) (pass : ℕ) (of : Kind) (load : Load) (told : Tally) (from to : ClientState) (before now : List Entry) → Begins history later → CameTo shape history pass of load told from to before now → CameTo shape later pass of load told from to before now
 came_later shape history later pass kind.Get load told from to before now more came = (read_later shape history later pass before load.key told more came.0, came.1, came.2)
 came_later shape history later pass kind.Gets load told from to before now more came = (version_later shape history later pass before load.key told from to more came.0, came.1)
 came_later shape history later pass kind.Set load told from to before now more came = stored_later shape history later pass (request.Set load.key load.value) told from to before now more came
@@ -67,24 +67,24 @@ came_later shape history later pass kind.Replace load told from to before now mo
 came_later shape history later pass kind.Cas load told from to before now more came = stored_later shape history later pass (request.Cas load.key load.value from.version) told from to before now more came
 came_later shape history later pass kind.Delete load told from to before now more came = (written_later shape history later pass (request.Delete load.key) told before now more came.0, came.1)
 
-pub makes_later : (shape : Shape) (history later : List Entry) (pass : ℕ) (draws : Draws) (made : ℕ) (t : Tallies) (course : Course) (own : List Entry) → Begins history later → Makes shape history pass draws made t course own → Makes shape later pass draws made t course own
+pub makes_later : (shape : Shape) (history later : List Entry) (pass : ℕ) (draws : Draws) (made : ℕ) (t : Tallies) (course : ClientState) (own : List Entry) → Begins history later → Makes shape history pass draws made t course own → Makes shape later pass draws made t course own
 makes_later shape history later pass draws zero t course own more makes = makes
 makes_later shape history later pass draws (suc made) t course own more (told, before, from, own_before, makes, came, counts) =
     let load = next_load (draws_after draws made) in
     (told, before, from, own_before, makes_later shape history later pass draws made before from own_before more makes, came_later shape history later pass load.kind load told from course own_before own more came, counts)
 
 -- the ring is that of the pass's own segments all the time
-stored_own : (shape : Shape) (history : List Entry) (pass : ℕ) (asked : Request) (told : Tally) (from to : Course) (before now : List Entry) → IsStoredAs shape history pass asked told from to before now → IsOwnRing shape pass from.segments → IsOwnRing shape pass to.segments
+stored_own : (shape : Shape) (history : List Entry) (pass : ℕ) (asked : Request) (told : Tally) (from to : ClientState) (before now : List Entry) → IsStoredAs shape history pass asked told from to before now → IsOwnRing shape pass from.segments → IsOwnRing shape pass to.segments
 stored_own shape history pass asked told from to before now (inl (written, kept)) own = subst (λ c. IsOwnRing shape pass c.segments) (sym kept) own
 stored_own shape history pass asked told from to before now (inr (after, turned)) own = subst (λ c. IsOwnRing shape pass c.segments) (sym turned) own
 
-version_own : (shape : Shape) (history : List Entry) (pass : ℕ) (own : List Entry) (key : List ℕ) (told : Tally) (from to : Course) → IsVersionReadAs shape history pass own key told from to → to.segments ≡ from.segments
+version_own : (shape : Shape) (history : List Entry) (pass : ℕ) (own : List Entry) (key : List ℕ) (told : Tally) (from to : ClientState) → IsVersionReadAs shape history pass own key told from to → to.segments ≡ from.segments
 version_own shape history pass own key tally.Hit from to read = read.2
 version_own shape history pass own key tally.Miss from to read = ap (λ c. c.segments) read.1
 version_own shape history pass own key tally.Busy from to read = ap (λ c. c.segments) read.1
 version_own shape history pass own key _ from to read = absurd read.0
 
-came_own : (shape : Shape) (history : List Entry) (pass : ℕ) (of : Kind) (load : Load) (told : Tally) (from to : Course) (before now : List Entry) → CameTo shape history pass of load told from to before now → IsOwnRing shape pass from.segments → IsOwnRing shape pass to.segments
+came_own : (shape : Shape) (history : List Entry) (pass : ℕ) (of : Kind) (load : Load) (told : Tally) (from to : ClientState) (before now : List Entry) → CameTo shape history pass of load told from to before now → IsOwnRing shape pass from.segments → IsOwnRing shape pass to.segments
 came_own shape history pass kind.Get load told from to before now came own = subst (λ c. IsOwnRing shape pass c.segments) (sym came.2) own
 came_own shape history pass kind.Gets load told from to before now came own = subst (IsOwnRing shape pass) (sym (version_own shape history pass before load.key told from to came.0)) own
 came_own shape history pass kind.Set load told from to before now came own = stored_own shape history pass (request.Set load.key load.value) told from to before now came own
@@ -93,13 +93,13 @@ came_own shape history pass kind.Replace load told from to before now came own =
 came_own shape history pass kind.Cas load told from to before now came own = stored_own shape history pass (request.Cas load.key load.value from.version) told from to before now came own
 came_own shape history pass kind.Delete load told from to before now came own = subst (λ c. IsOwnRing shape pass c.segments) (sym came.1) own
 
-pub makes_own : (shape : Shape) (history : List Entry) (pass : ℕ) (draws : Draws) (made : ℕ) (t : Tallies) (course : Course) (own : List Entry) → Makes shape history pass draws made t course own → IsOwnRing shape pass course.segments
+pub makes_own : (shape : Shape) (history : List Entry) (pass : ℕ) (draws : Draws) (made : ℕ) (t : Tallies) (course : ClientState) (own : List Entry) → Makes shape history pass draws made t course own → IsOwnRing shape pass course.segments
 makes_own shape history pass draws zero t course own makes = subst (λ c. IsOwnRing shape pass c.segments) (sym makes.1) (refl, refl)
 makes_own shape history pass draws (suc made) t course own (told, before, from, own_before, makes, came, counts) =
     let load = next_load (draws_after draws made) in
     came_own shape history pass load.kind load told from course own_before own came (makes_own shape history pass draws made before from own_before makes)
 
-all_counted : (told : Tally) (t : Tallies) → all_of (counted told t) ≡ all_of t + 1
+all_counted : (told : Tally) (t : Tallies) → all_of (with_one_more told t) ≡ all_of t + 1
 all_counted tally.Hit t = omega arith
 all_counted tally.Miss t = omega arith
 all_counted tally.Stored t = omega arith
@@ -112,9 +112,9 @@ all_counted tally.BucketFull t = omega arith
 all_counted tally.Busy t = omega arith
 
 -- a pass at its load that makes the next command of its workload, and counts what it came to
-pub works_on : (b : Board) (draws : Draws) (made : ℕ) (told : Tally) (worker later : Worker) → IsAtWork b draws made worker → GoesOn b worker.client.pass later.client.pass → IsFree later.client.pass
+pub works_on : (b : Board) (draws : Draws) (made : ℕ) (told : Tally) (worker later : Worker) → IsAtWork b draws made worker → GoesOn b worker.client.pass later.client.pass → HoldsNothing later.client.pass
     → ComesTo b.shape (seen later.client.pass) (number worker.client.pass) (next_load worker.workload) told (course_of worker.client) (course_of later.client) (mine worker.client.pass) (mine later.client.pass)
-    → later.workload ≡ after_load worker.workload → later.tallies ≡ counted told worker.tallies → IsAtWork b draws (made + 1) later
+    → later.workload ≡ after_load worker.workload → later.tallies ≡ with_one_more told worker.tallies → IsAtWork b draws (made + 1) later
 works_on b draws made told worker later was on free came after counts = record {
   quiet = on.quiet;
   free = free;

@@ -23,29 +23,29 @@ no_tallies = record {
 }
 
 -- one command more is counted
-abbrev pub counted : Tally → Tallies → Tallies
-counted tally.Hit tallies = record tallies { hit = tallies.hit + 1 }
-counted tally.Miss tallies = record tallies { miss = tallies.miss + 1 }
-counted tally.Stored tallies = record tallies { stored = tallies.stored + 1 }
-counted tally.NotStored tallies = record tallies { not_stored = tallies.not_stored + 1 }
-counted tally.Exists tallies = record tallies { exists = tallies.exists + 1 }
-counted tally.NotFound tallies = record tallies { not_found = tallies.not_found + 1 }
-counted tally.Deleted tallies = record tallies { deleted = tallies.deleted + 1 }
-counted tally.NoRoom tallies = record tallies { no_room = tallies.no_room + 1 }
-counted tally.BucketFull tallies = record tallies { bucket_full = tallies.bucket_full + 1 }
-counted tally.Busy tallies = record tallies { busy = tallies.busy + 1 }
+abbrev pub with_one_more : Tally → Tallies → Tallies
+with_one_more tally.Hit tallies = record tallies { hit = tallies.hit + 1 }
+with_one_more tally.Miss tallies = record tallies { miss = tallies.miss + 1 }
+with_one_more tally.Stored tallies = record tallies { stored = tallies.stored + 1 }
+with_one_more tally.NotStored tallies = record tallies { not_stored = tallies.not_stored + 1 }
+with_one_more tally.Exists tallies = record tallies { exists = tallies.exists + 1 }
+with_one_more tally.NotFound tallies = record tallies { not_found = tallies.not_found + 1 }
+with_one_more tally.Deleted tallies = record tallies { deleted = tallies.deleted + 1 }
+with_one_more tally.NoRoom tallies = record tallies { no_room = tallies.no_room + 1 }
+with_one_more tally.BucketFull tallies = record tallies { bucket_full = tallies.bucket_full + 1 }
+with_one_more tally.Busy tallies = record tallies { busy = tallies.busy + 1 }
 
 -- how many commands are counted in all
 abbrev pub all_of : Tallies → ℕ
 all_of tallies = tallies.hit + tallies.miss + tallies.stored + tallies.not_stored + tallies.exists + tallies.not_found + tallies.deleted + tallies.no_room + tallies.bucket_full + tallies.busy
 
 -- how many commands are counted with a reply
-abbrev pub tally_of : Reply → Tallies → ℕ
-tally_of reply.Stored tallies = tallies.stored
-tally_of reply.NotStored tallies = tallies.not_stored
-tally_of reply.Exists tallies = tallies.exists
-tally_of reply.NotFound tallies = tallies.not_found
-tally_of reply.Deleted tallies = tallies.deleted
+abbrev pub count_of_reply : Reply → Tallies → ℕ
+count_of_reply reply.Stored tallies = tallies.stored
+count_of_reply reply.NotStored tallies = tallies.not_stored
+count_of_reply reply.Exists tallies = tallies.exists
+count_of_reply reply.NotFound tallies = tallies.not_found
+count_of_reply reply.Deleted tallies = tallies.deleted
 
 -- whether an entry is a write replied so
 abbrev pub tells : Reply → Entry → Bool
@@ -62,4 +62,4 @@ replies told history = count_by (tells told) history
 
 -- the five tallies of replies count the writes of these entries
 abbrev pub CountsReplies : Tallies → List Entry → Type 0
-CountsReplies tallies entries = (told : Reply) → tally_of told tallies ≡ replies told entries
+CountsReplies tallies entries = (told : Reply) → count_of_reply told tallies ≡ replies told entries

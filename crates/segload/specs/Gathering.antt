@@ -12,19 +12,19 @@ use Rattle.segpass.specs.Calls.{GoesOn}
 use Rattle.segload.specs.declared.worker.Worker.{Worker}
 
 -- the pass only looked: it goes on, and added no entry
-pub record Looked (b : Board) (p q : Pass) : Type 0 where
+pub record AddsNoEntry (b : Board) (p q : Pass) : Type 0 where
   pub on : GoesOn b p q
   pub mine : mine q ≡ mine p
 
--- The first pass, from before to now, met another one, which only looked. It then has seen all that the other had seen; and what it had seen of the other's entries before, was a beginning of these.
-pub record HasMet (b : Board) (before now : Pass) (p q : Pass) : Type 0 where
-  pub looked : Looked b p q
-  pub told : Begins (seen p) (seen now)
-  pub known : Begins (entries_by (number p) (seen before)) (mine p)
+-- The first pass, from old to new, met another one, which only looked. It then has seen all that the other had seen; and what it had seen of the other's entries before, was a beginning of these.
+pub record HasMet (b : Board) (old new : Pass) (p q : Pass) : Type 0 where
+  pub looked : AddsNoEntry b p q
+  pub told : Begins (seen p) (seen new)
+  pub known : Begins (entries_by (number p) (seen old)) (mine p)
 
 -- so it met each of them
 abbrev pub HasMetEach : Board → Pass → Pass → List Worker → List Worker → Type 0
-HasMetEach b before now old new = (n : ℕ) (worker after : Worker) → slice_get old n ≡ Some worker → slice_get new n ≡ Some after → HasMet b before now worker.client.pass after.client.pass
+HasMetEach b old new workers met = (n : ℕ) (worker after : Worker) → slice_get workers n ≡ Some worker → slice_get met n ≡ Some after → HasMet b old new worker.client.pass after.client.pass
 
 -- each of the passes is quiet
 abbrev pub AreQuiet : Board → List Worker → Type 0

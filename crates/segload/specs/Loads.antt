@@ -13,14 +13,14 @@ use Rattle.segload.specs.declared.totals.PassTotals.{PassTotals}
 use Rattle.segload.specs.declared.totals.Totals.{Totals}
 use Rattle.segload.specs.Gates.{LetsThrough, Stops}
 use Rattle.segload.specs.Counting.{all_of, CountsReplies}
-use Rattle.segload.specs.Making.{Course, Makes}
+use Rattle.segload.specs.Making.{ClientState, Makes}
 
 -- A pass made so many commands, each counted once, and its five tallies of replies count its own writes in a history. They are the first commands of its workload, which is drawn with the seed from the stream of its number, over 64 keys; what each came to makes its tallies, what it goes by in the end, and its own entries in that history.
-pub record IsCounted (shape : Shape) (seed asked pass : ℕ) (history : List Entry) (totals : PassTotals) : Type 0 where
+pub record CountsCommands (shape : Shape) (seed asked pass : ℕ) (history : List Entry) (totals : PassTotals) : Type 0 where
   pub commands : totals.commands ≡ asked
   pub all : all_of totals.tallies ≡ asked
   pub replies : CountsReplies totals.tallies (mine pass history)
-  pub course : Course
+  pub course : ClientState
   pub made : Makes shape history pass (draws_of seed pass 64) asked totals.tallies course (mine pass history)
 
 -- how many keys stand
@@ -33,7 +33,7 @@ pub record IsLoad (shape : Shape) (seed commands : ℕ) (totals : Totals) : Type
   pub long : length totals.passes.items ≡ shape.passes
   pub history : List Entry
   pub legal : IsLegal shape history
-  pub each : (pass : ℕ) (of : PassTotals) → slice_get totals.passes.items pass ≡ Some of → IsCounted shape seed commands pass history of
+  pub each : (pass : ℕ) (of : PassTotals) → slice_get totals.passes.items pass ≡ Some of → CountsCommands shape seed commands pass history of
   pub end : List Entry
   pub legal_end : IsLegal shape end
   pub goes_on : Begins history end

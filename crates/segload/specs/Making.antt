@@ -14,29 +14,29 @@ use Rattle.segevict.specs.Evicting.{AreEvictions}
 use Rattle.segpolicy.specs.declared.load.Kind.{Kind}
 use Rattle.segpolicy.specs.declared.load.Kind.TheVariants as kind
 use Rattle.segpolicy.specs.declared.load.Load.{Load}
-use Rattle.segpolicy.specs.Cycle.{Cycle, number_of, turned}
+use Rattle.segpolicy.specs.Cycle.{Cycle, next_of, turned}
 use Rattle.segpolicy.specs.Draws.{Draws, next_load, after_load}
 use Rattle.segload.specs.declared.totals.Tally.{Tally}
 use Rattle.segload.specs.declared.totals.Tally.TheVariants as tally
 use Rattle.segload.specs.declared.totals.Tallies.{Tallies}
-use Rattle.segload.specs.Counting.{no_tallies, counted}
+use Rattle.segload.specs.Counting.{no_tallies, with_one_more}
 
 -- ---- from one command to the next
 
 -- what a pass goes by: its segments, which it gives up in turn, and the version that its last gets found
-pub record Course : Type 0 where
+pub record ClientState : Type 0 where
   pub segments : Cycle
   pub version : ℕ
 
 -- at the start: its segments from the first on, and version 0
-abbrev pub start_of : Shape → ℕ → Course
+abbrev pub start_of : Shape → ℕ → ClientState
 start_of shape pass = record {
   segments = record { first = pass * shape.segments_each; count = shape.segments_each; given = 0 };
   version = 0;
 }
 
 -- after it gave up a segment: the next one is the next of its ring
-abbrev pub turned_on : Course → Course
+abbrev pub turned_on : ClientState → ClientState
 turned_on course = record course { segments = turned course.segments }
 
 -- ---- reads
@@ -57,7 +57,7 @@ IsReadAs shape history pass own key tally.Busy = shape.passes ≢ 1
 IsReadAs shape history pass own key _ = ⊥
 
 -- a gets is read so too; where it is a hit, the version that the pass goes by from then on is that of the same moment
-abbrev pub IsVersionReadAs : Shape → List Entry → ℕ → List Entry → List ℕ → Tally → Course → Course → Type 0
+abbrev pub IsVersionReadAs : Shape → List Entry → ℕ → List Entry → List ℕ → Tally → ClientState → ClientState → Type 0
 IsVersionReadAs shape history pass own key tally.Hit from to =
     (value : List ℕ) × AtMoment shape history pass own (λ cache. reads_version shape cache key ≡ Some (value, to.version)) × (to.segments ≡ from.segments)
 IsVersionReadAs shape history pass own key told from to = IsReadAs shape history pass own key told × (to ≡ from)
@@ -70,44 +70,44 @@ IsFullFor shape key cache = (reads cache key ≡ None) × (7 ≤ keys_in shape c
 
 -- A write is counted by its reply, and adds one entry, of just this request with this reply; or it is refused, and adds none. Only one that may add a key is refused for want of a word, where at such a moment others filled its bucket, and one is busy only where there are other passes.
 abbrev pub IsWrittenAs : Shape → List Entry → ℕ → Request → Tally → List Entry → List Entry → Type 0
-IsWrittenAs shape history pass asked tally.Stored before now = (segment : ℕ) × (now ≡ Wrote pass asked reply.Stored (Some segment) ∷ before)
-IsWrittenAs shape history pass asked tally.NotStored before now = now ≡ Wrote pass asked reply.NotStored None ∷ before
-IsWrittenAs shape history pass asked tally.Exists before now = now ≡ Wrote pass asked reply.Exists None ∷ before
-IsWrittenAs shape history pass asked tally.NotFound before now = now ≡ Wrote pass asked reply.NotFound None ∷ before
-IsWrittenAs shape history pass asked tally.Deleted before now = now ≡ Wrote pass asked reply.Deleted None ∷ before
-IsWrittenAs shape history pass asked tally.BucketFull before now = (now ≡ before) × (adds_key asked false ≡ true) × AtMoment shape history pass before (IsFullFor shape (key_of asked))
-IsWrittenAs shape history pass asked tally.Busy before now = (now ≡ before) × (shape.passes ≢ 1)
-IsWrittenAs shape history pass asked _ before now = ⊥
+IsWrittenAs shape history pass asked tally.Stored old new = (segment : ℕ) × (new ≡ Wrote pass asked reply.Stored (Some segment) ∷ old)
+IsWrittenAs shape history pass asked tally.NotStored old new = new ≡ Wrote pass asked reply.NotStored None ∷ old
+IsWrittenAs shape history pass asked tally.Exists old new = new ≡ Wrote pass asked reply.Exists None ∷ old
+IsWrittenAs shape history pass asked tally.NotFound old new = new ≡ Wrote pass asked reply.NotFound None ∷ old
+IsWrittenAs shape history pass asked tally.Deleted old new = new ≡ Wrote pass asked reply.Deleted None ∷ old
+IsWrittenAs shape history pass asked tally.BucketFull old new = (new ≡ old) × (adds_key asked false ≡ true) × AtMoment shape history pass old (IsFullFor shape (key_of asked))
+IsWrittenAs shape history pass asked tally.Busy old new = (new ≡ old) × (shape.passes ≢ 1)
+IsWrittenAs shape history pass asked _ old new = ⊥
 
 -- the pass took keys out of a segment, each by one entry
 abbrev pub Empties : ℕ → ℕ → List Entry → List Entry → Type 0
-Empties pass segment before now = (evictions : List Entry) × AreEvictions pass segment evictions × (now ≡ evictions ++ before)
+Empties pass segment old new = (evictions : List Entry) × AreEvictions pass segment evictions × (new ≡ evictions ++ old)
 
 -- A segment was given up for a request: emptied and refilled, and then the request was written. Or it couldn't be refilled, but only where there are other passes: then there is no room.
 abbrev pub IsStoredAfter : Shape → List Entry → ℕ → ℕ → Request → Tally → List Entry → List Entry → Type 0
-IsStoredAfter shape history pass segment asked told before now = (room : List Entry) × Empties pass segment before room
-    × (IsWrittenAs shape history pass asked told (Refilled pass segment ∷ room) now ⊎ ((told ≡ tally.NoRoom) × (now ≡ room) × (shape.passes ≢ 1)))
+IsStoredAfter shape history pass segment asked told old new = (room : List Entry) × Empties pass segment old room
+    × (IsWrittenAs shape history pass asked told (Refilled pass segment ∷ room) new ⊎ ((told ≡ tally.NoRoom) × (new ≡ room) × (shape.passes ≢ 1)))
 
 -- a request to store is written at once, or after the next segment of the ring was given up for it
-abbrev pub IsStoredAs : Shape → List Entry → ℕ → Request → Tally → Course → Course → List Entry → List Entry → Type 0
-IsStoredAs shape history pass asked told from to before now =
-    (IsWrittenAs shape history pass asked told before now × (to ≡ from))
-    ⊎ (IsStoredAfter shape history pass (number_of from.segments) asked told before now × (to ≡ turned_on from))
+abbrev pub IsStoredAs : Shape → List Entry → ℕ → Request → Tally → ClientState → ClientState → List Entry → List Entry → Type 0
+IsStoredAs shape history pass asked told from to old new =
+    (IsWrittenAs shape history pass asked told old new × (to ≡ from))
+    ⊎ (IsStoredAfter shape history pass (next_of from.segments) asked told old new × (to ≡ turned_on from))
 
 -- ---- commands
 
 -- what a command of this kind came to; a cas expects the version that the last gets found, whatever its key
-abbrev pub CameTo : Shape → List Entry → ℕ → Kind → Load → Tally → Course → Course → List Entry → List Entry → Type 0
-CameTo shape history pass kind.Get load told from to before now = IsReadAs shape history pass before load.key told × (now ≡ before) × (to ≡ from)
-CameTo shape history pass kind.Gets load told from to before now = IsVersionReadAs shape history pass before load.key told from to × (now ≡ before)
-CameTo shape history pass kind.Set load told from to before now = IsStoredAs shape history pass (request.Set load.key load.value) told from to before now
-CameTo shape history pass kind.Add load told from to before now = IsStoredAs shape history pass (request.Add load.key load.value) told from to before now
-CameTo shape history pass kind.Replace load told from to before now = IsStoredAs shape history pass (request.Replace load.key load.value) told from to before now
-CameTo shape history pass kind.Cas load told from to before now = IsStoredAs shape history pass (request.Cas load.key load.value from.version) told from to before now
-CameTo shape history pass kind.Delete load told from to before now = IsWrittenAs shape history pass (request.Delete load.key) told before now × (to ≡ from)
+abbrev pub CameTo : Shape → List Entry → ℕ → Kind → Load → Tally → ClientState → ClientState → List Entry → List Entry → Type 0
+CameTo shape history pass kind.Get load told from to old new = IsReadAs shape history pass old load.key told × (new ≡ old) × (to ≡ from)
+CameTo shape history pass kind.Gets load told from to old new = IsVersionReadAs shape history pass old load.key told from to × (new ≡ old)
+CameTo shape history pass kind.Set load told from to old new = IsStoredAs shape history pass (request.Set load.key load.value) told from to old new
+CameTo shape history pass kind.Add load told from to old new = IsStoredAs shape history pass (request.Add load.key load.value) told from to old new
+CameTo shape history pass kind.Replace load told from to old new = IsStoredAs shape history pass (request.Replace load.key load.value) told from to old new
+CameTo shape history pass kind.Cas load told from to old new = IsStoredAs shape history pass (request.Cas load.key load.value from.version) told from to old new
+CameTo shape history pass kind.Delete load told from to old new = IsWrittenAs shape history pass (request.Delete load.key) told old new × (to ≡ from)
 
 -- what a command came to
-abbrev pub ComesTo : Shape → List Entry → ℕ → Load → Tally → Course → Course → List Entry → List Entry → Type 0
+abbrev pub ComesTo : Shape → List Entry → ℕ → Load → Tally → ClientState → ClientState → List Entry → List Entry → Type 0
 ComesTo shape history pass load = CameTo shape history pass load.kind load
 
 -- a workload after so many of its commands
@@ -116,10 +116,10 @@ draws_after draws zero = draws
 draws_after draws (suc made) = after_load (draws_after draws made)
 
 -- The pass made the first so many commands of a workload, one after the other: these are its tallies then, this is what it goes by, and these are its entries.
-abbrev pub Makes : Shape → List Entry → ℕ → Draws → ℕ → Tallies → Course → List Entry → Type 0
+abbrev pub Makes : Shape → List Entry → ℕ → Draws → ℕ → Tallies → ClientState → List Entry → Type 0
 Makes shape history pass draws zero tallies course own = (tallies ≡ no_tallies) × (course ≡ start_of shape pass) × (own ≡ [])
 Makes shape history pass draws (suc made) tallies course own =
-    (told : Tally) × (before : Tallies) × (from : Course) × (own_before : List Entry)
+    (told : Tally) × (before : Tallies) × (from : ClientState) × (own_before : List Entry)
     × Makes shape history pass draws made before from own_before
     × ComesTo shape history pass (next_load (draws_after draws made)) told from course own_before own
-    × (tallies ≡ counted told before)
+    × (tallies ≡ with_one_more told before)

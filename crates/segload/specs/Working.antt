@@ -31,7 +31,7 @@ use Rattle.segload.specs.declared.client.Client.{Client}
 use Rattle.segload.specs.declared.worker.Worker.{Worker}
 use Rattle.segload.specs.Gates.{LetsThrough, Stops}
 use Rattle.segload.specs.Counting.{all_of}
-use Rattle.segload.specs.Making.{Course, Empties, draws_after, Makes}
+use Rattle.segload.specs.Making.{ClientState, Empties, draws_after, Makes}
 
 -- how a write that was answered so is counted
 abbrev pub write_tally : WriteAnswer → Tally
@@ -50,21 +50,21 @@ delete_tally delete.NotFound = tally.NotFound
 delete_tally delete.Busy = tally.Busy
 
 -- what a client goes by
-abbrev pub course_of : Client → Course
+abbrev pub course_of : Client → ClientState
 course_of client = record { segments = client.segments; version = client.version }
 
 -- the pass has no bucket locked, and holds nothing
-abbrev pub IsFree : Pass → Type 0
-IsFree p = (locked_of p ≡ None) × (holding p ≡ None)
+abbrev pub HoldsNothing : Pass → Type 0
+HoldsNothing p = (locked_of p ≡ None) × (holding p ≡ None)
 
 -- the ring has the segments of the pass
 abbrev pub IsOwnRing : Shape → ℕ → Cycle → Type 0
 IsOwnRing shape pass ring = (ring.first ≡ pass * shape.segments_each) × (ring.count ≡ shape.segments_each)
 
 -- the pass gave up a segment: it emptied and refilled it, and now there is room; or it couldn't, but only where there are other passes
-abbrev pub MakesRoom : Shape → ℕ → Bool → Pass → Pass → Type 0
-MakesRoom shape segment true p q = (room : List Entry) × Empties (number p) segment (mine p) room × (mine q ≡ Refilled (number p) segment ∷ room) × (has_room shape q ≡ true)
-MakesRoom shape segment false p q = Empties (number p) segment (mine p) (mine q) × (shape.passes ≢ 1)
+abbrev pub GivesUpSegment : Shape → ℕ → Bool → Pass → Pass → Type 0
+GivesUpSegment shape segment true p q = (room : List Entry) × Empties (number p) segment (mine p) room × (mine q ≡ Refilled (number p) segment ∷ room) × (has_room shape q ≡ true)
+GivesUpSegment shape segment false p q = Empties (number p) segment (mine p) (mine q) × (shape.passes ≢ 1)
 
 -- the command that a load's command of this kind is; a cas expects this version
 abbrev pub asked_by : Kind → ℕ → Load → Command
@@ -96,14 +96,14 @@ tally_of (answer.Gets gets.Miss) = tally.Miss
 tally_of _ = tally.Busy
 
 -- what a pass goes by after an answer: the version that a gets found
-abbrev pub course_after : Answer → Course → Course
+abbrev pub course_after : Answer → ClientState → ClientState
 course_after (answer.Gets (gets.Found value version)) course = record course { version = version }
 course_after _ course = course
 
 -- a pass at its load, which made so many commands of a workload, has no bucket locked and holds nothing
 pub record IsAtWork (b : Board) (draws : Draws) (made : ℕ) (worker : Worker) : Type 0 where
   pub quiet : IsQuiet b worker.client.pass
-  pub free : IsFree worker.client.pass
+  pub free : HoldsNothing worker.client.pass
   pub workload : worker.workload ≡ draws_after draws made
   pub makes : Makes b.shape (seen worker.client.pass) (number worker.client.pass) draws made worker.tallies (course_of worker.client) (mine worker.client.pass)
   pub all : all_of worker.tallies ≡ made
@@ -117,7 +117,7 @@ pub record HasWorked (b : Board) (may_answer : ℕ → ℕ → Bool → Type 0) 
   pub stopped : worker.is_stopped ≡ true → (stops : Stops may_answer commands pass) × IsAtWork b draws stops.call worker
 
 -- a pass that begins its load
-pub record Begins (b : Board) (draws : Draws) (pass : ℕ) (worker : Worker) : Type 0 where
+pub record BeginsLoad (b : Board) (draws : Draws) (pass : ℕ) (worker : Worker) : Type 0 where
   pub at_work : IsAtWork b draws 0 worker
   pub is : number worker.client.pass ≡ pass
   pub runs : worker.is_stopped ≡ false

@@ -85,9 +85,9 @@ impl Client {
     ghost use Rattle.segindex.specs.Index.{board_of, shape_of};
     ghost use Rattle.segpass.specs.Quiet.{IsQuiet};
     ghost use Rattle.segpass.specs.Calls.{GoesOn};
-    ghost use Rattle.segpolicy.specs.Cycle.{Cycle, number_of};
+    ghost use Rattle.segpolicy.specs.Cycle.{Cycle, next_of};
     ghost use Rattle.segload.specs.Making.{turned_on, ComesTo};
-    ghost use Rattle.segload.specs.Working.{course_of, course_after, IsFree, IsOwnRing, MakesRoom};
+    ghost use Rattle.segload.specs.Working.{course_of, course_after, HoldsNothing, IsOwnRing, GivesUpSegment};
 
     /// A pass that made no command yet.
     pub(crate) fn new(pass: Pass, segments: Ring) -> Client
@@ -116,9 +116,9 @@ impl Client {
     /// Makes a command, and says what it came to. A write that finds no room is made once more, if room could be made.
     pub(crate) fn serve(&mut self, index: &Index, load: Load) -> Tally
         requires quiet { IsQuiet (board_of index.now) self.old.pass }
-        requires free { IsFree self.old.pass }
+        requires free { HoldsNothing self.old.pass }
         requires own { IsOwnRing (shape_of index.now) (number self.old.pass) self.old.segments }
-        ensures free { IsFree self.new.pass }
+        ensures free { HoldsNothing self.new.pass }
         ensures on { GoesOn (board_of index.now) self.old.pass self.new.pass }
         ensures came { ComesTo (shape_of index.now) (seen self.new.pass) (number self.old.pass) load result (course_of self.old) (course_of self.new) (mine self.old.pass) (mine self.new.pass) }
     {
@@ -148,11 +148,11 @@ impl Client {
     // Gives up the next of its segments for new keys, and says whether that came about.
     fn make_room(&mut self, index: &Index) -> bool
         requires quiet { IsQuiet (board_of index.now) self.old.pass }
-        requires free { IsFree self.old.pass }
+        requires free { HoldsNothing self.old.pass }
         requires own { IsOwnRing (shape_of index.now) (number self.old.pass) self.old.segments }
-        ensures free { IsFree self.new.pass }
+        ensures free { HoldsNothing self.new.pass }
         ensures on { GoesOn (board_of index.now) self.old.pass self.new.pass }
-        ensures room { MakesRoom (shape_of index.now) (number_of self.old.segments) result self.old.pass self.new.pass }
+        ensures room { GivesUpSegment (shape_of index.now) (next_of self.old.segments) result self.old.pass self.new.pass }
         ensures course { course_of self.new ≡ turned_on (course_of self.old) }
     {
         let segment = self.segments.next();

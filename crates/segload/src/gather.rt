@@ -2,7 +2,7 @@
 ghost use Rattle.std.specs.Prelude.{◌≡◌, vec_len};
 ghost use Rattle.segindex.specs.Index.{board_of};
 ghost use Rattle.segpass.specs.Quiet.{IsQuiet};
-ghost use Rattle.segload.specs.Gathering.{Looked, HasMetEach, AreQuiet, AreAll, HasGathered};
+ghost use Rattle.segload.specs.Gathering.{AddsNoEntry, HasMetEach, AreQuiet, AreAll, HasGathered};
 
 use crate::worker::Worker;
 use segindex::{Index, Pass};
@@ -11,7 +11,7 @@ use segindex::{Index, Pass};
 pub(crate) fn meet_each(index: &Index, first: &mut Pass, others: &mut Vec<Worker>)
     requires first { IsQuiet (board_of index.now) first.old }
     requires others { AreQuiet (board_of index.now) others.old.items }
-    ensures first { Looked (board_of index.now) first.old first.new }
+    ensures first { AddsNoEntry (board_of index.now) first.old first.new }
     ensures long { vec_len others.new ≡ vec_len others.old }
     ensures each { HasMetEach (board_of index.now) first.old first.new others.old.items others.new.items }
     ensures quiet { AreQuiet (board_of index.now) others.new.items }

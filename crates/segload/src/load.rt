@@ -9,7 +9,7 @@ ghost use Rattle.segpass.specs.Quiet.{IsQuiet};
 ghost use Rattle.segindex.specs.Index.{IsNew};
 ghost use Rattle.segindex.specs.Closing.{IsEnd};
 ghost use Rattle.segpolicy.specs.Draws.{draws_of};
-ghost use Rattle.segload.specs.Working.{Begins, HasWorked, NoneStopped, IsFirstStopped};
+ghost use Rattle.segload.specs.Working.{BeginsLoad, HasWorked, NoneStopped, IsFirstStopped};
 ghost use Rattle.segload.specs.Loads.{keys_of, IsLoad, IsLetThrough, IsLoadFault};
 
 use crate::fault::LoadFault;
@@ -52,7 +52,7 @@ fn work_at_once<R: Threads + Wait + Sync, G: Gate>(
     commands: u32,
     workers: Vec<Worker>,
 ) -> Result<Vec<Worker>, AllocError>
-    requires ready { (n : ℕ) (worker : Worker) → slice_get workers.items n ≡ Some worker → Begins (board_of index.now) (draws_of seed n 64) n worker }
+    requires ready { (n : ℕ) (worker : Worker) → slice_get workers.items n ≡ Some worker → BeginsLoad (board_of index.now) (draws_of seed n 64) n worker }
     ensures long { IfOk result (λ worked. vec_len worked ≡ vec_len workers) }
     ensures each { IfOk result (λ worked. (n : ℕ) (worker : Worker) → slice_get worked.items n ≡ Some worker → HasWorked (board_of index.now) (G.may_answer gate.now) (draws_of seed n 64) n commands worker) }
 {
@@ -60,7 +60,7 @@ fn work_at_once<R: Threads + Wait + Sync, G: Gate>(
         thread::scope_env(),
         rt,
         move |scope| -> Result<Vec<Worker>, AllocError>
-            requires { IsSync G.row × ((n : ℕ) (worker : Worker) → slice_get workers.items n ≡ Some worker → Begins (board_of index.now) (draws_of seed n 64) n worker) }
+            requires { IsSync G.row × ((n : ℕ) (worker : Worker) → slice_get workers.items n ≡ Some worker → BeginsLoad (board_of index.now) (draws_of seed n 64) n worker) }
             ensures { IfOk result (λ worked. (vec_len worked ≡ vec_len workers) × ((n : ℕ) (worker : Worker) → slice_get worked.items n ≡ Some worker → HasWorked (board_of index.entry.now) (G.may_answer gate.entry.now) (draws_of seed n 64) n commands worker)) }
         {
             let count = workers.len();
@@ -74,7 +74,7 @@ fn work_at_once<R: Threads + Wait + Sync, G: Gate>(
                     commands,
                 };
                 let work = move || -> Worker
-                    requires { IsSync G.row × Begins (board_of index.now) worker.workload (number worker.client.pass) worker }
+                    requires { IsSync G.row × BeginsLoad (board_of index.now) worker.workload (number worker.client.pass) worker }
                     ensures { HasWorked (board_of index.entry.now) (G.may_answer gate.entry.now) worker.workload (number worker.client.pass) commands result }
                 { worker.work(index, gate, commands) };
                 if let Ok(thread) = scope.spawn_with(worked, work) {
@@ -98,7 +98,7 @@ fn begin_all(
 ) -> Result<Vec<Worker>, AllocError>
     requires new { IsNew (shape_of index.now) index.now passes.items }
     ensures long { IfOk result (λ workers. vec_len workers ≡ (shape_of index.now).passes) }
-    ensures each { IfOk result (λ workers. (n : ℕ) (worker : Worker) → slice_get workers.items n ≡ Some worker → Begins (board_of index.now) (draws_of seed n 64) n worker) }
+    ensures each { IfOk result (λ workers. (n : ℕ) (worker : Worker) → slice_get workers.items n ≡ Some worker → BeginsLoad (board_of index.now) (draws_of seed n 64) n worker) }
 {
     let mut workers = Vec::with_capacity(alloc, passes.len())?;
     for pass in passes {

@@ -1,7 +1,7 @@
 //! What a load counts.
 ghost use Rattle.std.specs.Prelude.{◌≡◌, ◌+◌, ◌^◌, ◌<◌, sum_by};
 ghost use Rattle.segload.specs.declared.totals.PassTotals.{PassTotals};
-ghost use Rattle.segload.specs.Counting.{no_tallies, counted, all_of};
+ghost use Rattle.segload.specs.Counting.{no_tallies, with_one_more, all_of};
 
 /// What a command came to.
 #[derive(Clone, Copy, Debug, PartialEq, Eq)]
@@ -58,7 +58,7 @@ impl Tallies {
     /// Counts one command more.
     pub(crate) fn count(&mut self, tally: Tally)
         requires fits { all_of self.old + 1 < 2 ^ 32 }
-        ensures counted { self.new ≡ counted tally self.old }
+        ensures counted { self.new ≡ with_one_more tally self.old }
     {
         match tally {
             Tally::Hit => self.hit += 1,

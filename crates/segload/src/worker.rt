@@ -22,14 +22,14 @@ impl Worker {
     ghost use Rattle.segbase.specs.Plain.{number_of};
     ghost use Rattle.segpass.specs.Quiet.{IsQuiet};
     ghost use Rattle.segpolicy.specs.Draws.{draws_of};
-    ghost use Rattle.segload.specs.Working.{IsFree, Begins, HasWorked};
+    ghost use Rattle.segload.specs.Working.{HoldsNothing, BeginsLoad, HasWorked};
 
     /// A pass that made no command yet.
     pub(crate) fn new(index: &Index, seed: u64, pass: Pass) -> Worker
         requires quiet { IsQuiet (board_of index.now) pass }
         requires nothing { mine pass ≡ [] }
-        requires free { IsFree pass }
-        ensures { Begins (board_of index.now) (draws_of seed (number pass) 64) (number pass) result }
+        requires free { HoldsNothing pass }
+        ensures { BeginsLoad (board_of index.now) (draws_of seed (number pass) 64) (number pass) result }
     {
         let number = pass.number();
         let segments = index.shape().segments_each;
@@ -50,7 +50,7 @@ impl Worker {
 
     /// Makes its commands, until the gate stops it.
     pub(crate) fn work<G: Gate>(mut self, index: &Index, gate: &G, commands: u32) -> Worker
-        requires begins { Begins (board_of index.now) self.workload (number self.client.pass) self }
+        requires begins { BeginsLoad (board_of index.now) self.workload (number self.client.pass) self }
         ensures { HasWorked (board_of index.now) (G.may_answer gate.now) self.workload (number self.client.pass) commands result }
     {
         let pass = self.client.pass.number();

@@ -28,7 +28,7 @@ use Rattle.segmodel.specs.Places.{bucket_of}
 use Rattle.segmodel.specs.Request.{key_of, is_store, reply_to}
 use Rattle.segmodel.specs.Cache.{key_cmp, standing, present, reply_in}
 use Rattle.segmodel.specs.History.{StandsIn}
-use Rattle.segmodel.specs.State.{State, is_among, is_stored, is_locked, IsKept}
+use Rattle.segmodel.specs.State.{State, is_among, is_stored, is_locked, IsSound}
 use Rattle.segmodel.specs.Serving.{IsGiven, IsReplied, refusal, reply_of_write, reply_of_delete, after_reply, ServesStore, ServesDelete, Evicts, ServesEvict, is_own, Serves}
 use Rattle.segmodel.specs.Laws.{is_evict, EveryTurnIsAnswered, OnlyEvictChooses}
 use Rattle.segmodel.proofs.Counts.{both}
@@ -52,7 +52,7 @@ one_passes p key (k ∷ keys) among passes = by (is_at (key_cmp key) k) refl amo
     by false at is rest = ap (λ b. p k || b) (rest is) ∙ or_true (p k)
 
 -- a segment in use can be evicted: some answer and state are given
-evict_is_answered : (shape : Shape) (old : State) (segment : ℕ) → IsKept shape old → (given : EvictAnswer) × (new : State) × Evicts shape old segment given new
+evict_is_answered : (shape : Shape) (old : State) (segment : ℕ) → IsSound shape old → (given : EvictAnswer) × (new : State) × Evicts shape old segment given new
 evict_is_answered shape old segment kept = by (list_any (is_locked shape old) (old.filling segment).keys) refl
   where
     none : list_any (is_locked shape old) (old.filling segment).keys ≡ false → (key : List ℕ) → StandsIn old.cache key segment → is_locked shape old key ≡ false
@@ -106,7 +106,7 @@ delete_is_answered shape old key = by (is_locked shape old key)
         let told' = told (is_some (present old.cache key)) (old.cache.version (bucket_of shape key)) in
         (told'.0, after_reply shape (Delete key) (reply_in shape old.cache (Delete key)) old, (told'.1, refl))
 
-evict_or_not : (shape : Shape) (old : State) (segment : ℕ) → IsKept shape old → (own : Bool) (is : SegState)
+evict_or_not : (shape : Shape) (old : State) (segment : ℕ) → IsSound shape old → (own : Bool) (is : SegState)
     → (given : EvictAnswer) × (new : State) × MatchBool own (ServesEvict shape old segment is given new) (IsGiven evict.NotYours old given new)
 evict_or_not shape old segment kept false is = (evict.NotYours, old, (refl, refl))
 evict_or_not shape old segment kept true segment_is.Empty = (evict.Evicted 0, old, (refl, refl))
@@ -117,7 +117,7 @@ stored_is_answered : (shape : Shape) (old : State) (request : Request) → is_st
     → (given : Answer) × (new : State) × ((a : WriteAnswer) × (given ≡ answer.Write a) × ServesStore shape old request a new)
 stored_is_answered shape old request is = let a = store_is_answered shape old request is in (answer.Write a.0, a.1, (a.0, refl, a.2))
 
-command_is_answered : (shape : Shape) (old : State) (command : Command) → IsKept shape old → (given : Answer) × (new : State) × Serves shape old command given new
+command_is_answered : (shape : Shape) (old : State) (command : Command) → IsSound shape old → (given : Answer) × (new : State) × Serves shape old command given new
 command_is_answered shape old (Write (Set key value)) kept = stored_is_answered shape old (Set key value) refl
 command_is_answered shape old (Write (Add key value)) kept = stored_is_answered shape old (Add key value) refl
 command_is_answered shape old (Write (Replace key value)) kept = stored_is_answered shape old (Replace key value) refl

@@ -29,9 +29,9 @@ use Rattle.segmodel.specs.declared.answer.SegState.TheVariants as segment_is
 use Rattle.segmodel.specs.Places.{owner}
 use Rattle.segmodel.specs.Cache.{Cache, key_cmp}
 use Rattle.segmodel.specs.History.{Follows, next, after, IsLegal}
-use Rattle.segmodel.specs.State.{State, IsKept, is_in, is_locked}
+use Rattle.segmodel.specs.State.{State, IsSound, is_in, is_locked}
 use Rattle.segmodel.specs.Serving.{IsGiven, IsReplied, refusal, reply_of_write, reply_of_delete, ServesStore, ServesDelete, ServesEvict, may_go, is_own, refill_answer, after_refill}
-use Rattle.segmodel.specs.Laws.{stored_in, entry_of_reply, IsEvictionFrom, evicted, Adds, ServingIsHistory}
+use Rattle.segmodel.specs.Laws.{stored_in, entry_of_reply, IsEvictionFrom, keys_evicted, Adds, ServingIsHistory}
 use Rattle.segmodel.proofs.Counts.{count_by-cons, both}
 use Rattle.segmodel.proofs.Keys.{at_self}
 use Rattle.segmodel.proofs.Ordered.{Above, sorted-after}
@@ -140,7 +140,7 @@ goes_by : (shape : Shape) (old new : State) (history : List Entry) (e : Entry) �
 goes_by shape old new history e legal is follows left Told told =
     (e ∷ [], (legal, subst (λ c. Follows shape c e) is follows), left ∙ ap (λ c. next shape c e) is, told)
 
-store_goes_on : (shape : Shape) (old new : State) (request : Request) (given : WriteAnswer) (history : List Entry) → IsKept shape old → IsLegal shape history
+store_goes_on : (shape : Shape) (old new : State) (request : Request) (given : WriteAnswer) (history : List Entry) → IsSound shape old → IsLegal shape history
     → old.cache ≡ after shape history → ServesStore shape old request given new
     → GoesOn shape history new.cache (λ more. more ≡ entry_of_reply old.current request (reply_of_write given))
 store_goes_on shape old new request given history kept legal is served = by (reply_of_write given) refl
@@ -188,13 +188,13 @@ in_there segment e is = grind (arith, is)
 
 evict_goes_on : (shape : Shape) (old new : State) (segment : ℕ) (given : EvictAnswer) (history : List Entry) → IsLegal shape history → old.cache ≡ after shape history
     → (own : Bool) → is_own shape segment ≡ own → (state : SegState) → MatchBool own (ServesEvict shape old segment state given new) (IsGiven evict.NotYours old given new)
-    → GoesOn shape history new.cache (λ more. AllByRecursion (IsEvictionFrom segment) more × (length more ≡ evicted given))
+    → GoesOn shape history new.cache (λ more. AllByRecursion (IsEvictionFrom segment) more × (length more ≡ keys_evicted given))
 evict_goes_on shape old new segment given history legal is false own state served =
-    stays shape old new history (λ more. AllByRecursion (IsEvictionFrom segment) more × (length more ≡ evicted given)) legal is served.1 (tt, sym (ap evicted served.0))
+    stays shape old new history (λ more. AllByRecursion (IsEvictionFrom segment) more × (length more ≡ keys_evicted given)) legal is served.1 (tt, sym (ap keys_evicted served.0))
 evict_goes_on shape old new segment given history legal is true own segment_is.Empty served =
-    stays shape old new history (λ more. AllByRecursion (IsEvictionFrom segment) more × (length more ≡ evicted given)) legal is served.1 (tt, sym (ap evicted served.0))
+    stays shape old new history (λ more. AllByRecursion (IsEvictionFrom segment) more × (length more ≡ keys_evicted given)) legal is served.1 (tt, sym (ap keys_evicted served.0))
 evict_goes_on shape old new segment given history legal is true own segment_is.Evicted served =
-    stays shape old new history (λ more. AllByRecursion (IsEvictionFrom segment) more × (length more ≡ evicted given)) legal is served.1 (tt, sym (ap evicted served.0))
+    stays shape old new history (λ more. AllByRecursion (IsEvictionFrom segment) more × (length more ≡ keys_evicted given)) legal is served.1 (tt, sym (ap keys_evicted served.0))
 evict_goes_on shape old new segment (evict.Evicted n) history legal is true own segment_is.InUse served =
     taken_goes_on shape old new.cache segment n (is_in segment) history legal is own (in_there segment) served.1 (ap (λ (s : State). s.cache) served.2)
 evict_goes_on shape old new segment (evict.Busy n) history legal is true own segment_is.InUse served =
@@ -202,7 +202,7 @@ evict_goes_on shape old new segment (evict.Busy n) history legal is true own seg
     (λ e goes. in_there segment e (both _ _ (both _ _ goes).0).0) served.1.1 (ap (λ (s : State). s.cache) served.1.2)
 evict_goes_on shape old new segment evict.NotYours history legal is true own segment_is.InUse served = absurd served
 
-refill_goes_on : (shape : Shape) (old new : State) (segment : ℕ) (history : List Entry) → IsKept shape old → IsLegal shape history → old.cache ≡ after shape history
+refill_goes_on : (shape : Shape) (old new : State) (segment : ℕ) (history : List Entry) → IsSound shape old → IsLegal shape history → old.cache ≡ after shape history
     → (told : RefillAnswer) → cond (is_own shape segment) (refill_answer old segment (old.filling segment).state) refill.NotYours ≡ told → new ≡ after_refill segment told old
     → GoesOn shape history new.cache (Adds old.current (Refill segment) (answer.Refill told))
 refill_goes_on shape old new segment history kept legal is refill.Refilled at left =

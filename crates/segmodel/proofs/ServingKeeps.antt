@@ -28,14 +28,14 @@ use Rattle.segmodel.specs.Places.{bucket_of}
 use Rattle.segmodel.specs.Request.{key_of, value_of, reply_to}
 use Rattle.segmodel.specs.Cache.{key_cmp, standing, present, reply_in}
 use Rattle.segmodel.specs.History.{NoneStandsIn}
-use Rattle.segmodel.specs.State.{State, IsKept, is_in_use, is_stored, is_locked}
+use Rattle.segmodel.specs.State.{State, IsSound, is_in_use, is_stored, is_locked}
 use Rattle.segmodel.specs.Serving.{IsGiven, IsReplied, is_out_of_rows, is_own, lacks_word, may_chain, stored, after_reply, reply_of_write, reply_of_delete, ServesStore, ServesDelete, ServesEvict, may_go, is_held, refill_answer, after_refill}
 use Rattle.segmodel.specs.Turns.{Turns, held_after}
 use Rattle.segmodel.specs.Laws.{ServingKeeps, CommandsKeep, TurnsKeep, RefilledWhereNoneStands, HeldIsNotRefilled}
 use Rattle.segmodel.proofs.Counts.{both}
 use Rattle.segmodel.proofs.Keys.{same_key}
 use Rattle.segmodel.proofs.Words.{stored_fits}
-use Rattle.segmodel.proofs.Kept.{IsKept-same, IsKept-stored, IsKept-deleted, IsKept-taken, IsKept-evicted, IsKept-refilled}
+use Rattle.segmodel.proofs.Sound.{IsKept-same, IsKept-stored, IsKept-deleted, IsKept-taken, IsKept-evicted, IsKept-refilled}
 
 -- ---- replies
 
@@ -50,17 +50,17 @@ may_where true true word is = refl
 may_where true false word is = absurd (false≢true (sym word))
 may_where false may word is = absurd (false≢true is)
 
-stored_kept : (shape : Shape) (request : Request) (state : State) → IsKept shape state → (current : Option ℕ) → state.current ≡ current
+stored_kept : (shape : Shape) (request : Request) (state : State) → IsSound shape state → (current : Option ℕ) → state.current ≡ current
     → is_out_of_rows shape state.filling current ≡ false → (lacks_word shape state request && not (may_chain shape state (bucket_of shape (key_of request)))) ≡ false
-    → reply_in shape state.cache request ≡ reply.Stored → IsKept shape (stored shape request current state)
+    → reply_in shape state.cache request ≡ reply.Stored → IsSound shape (stored shape request current state)
 stored_kept shape request state kept None is room word replied = absurd (false≢true (sym room))
 stored_kept shape request state kept (Some s) is room word replied =
     IsKept-stored shape (key_of request) (value_of request) s (lacks_word shape state request) state kept is (row_left shape.rows (length (state.filling s).keys) room)
     (may_where (lacks_word shape state request) (may_chain shape state (bucket_of shape (key_of request))) word) (stored_fits shape request s state kept replied)
 
-replied_kept : (shape : Shape) (request : Request) (told : Reply) (state : State) → IsKept shape state → is_out_of_rows shape state.filling state.current ≡ false
+replied_kept : (shape : Shape) (request : Request) (told : Reply) (state : State) → IsSound shape state → is_out_of_rows shape state.filling state.current ≡ false
     → (lacks_word shape state request && not (may_chain shape state (bucket_of shape (key_of request)))) ≡ false
-    → reply_in shape state.cache request ≡ told → IsKept shape (after_reply shape request told state)
+    → reply_in shape state.cache request ≡ told → IsSound shape (after_reply shape request told state)
 replied_kept shape request reply.Stored state kept room word is = stored_kept shape request state kept state.current refl room word is
 replied_kept shape request reply.Deleted state kept room word is = IsKept-deleted shape (key_of request) state kept
 replied_kept shape request reply.NotStored state kept room word is = kept
@@ -75,7 +75,7 @@ refused_or false true full P Q h = inl (write.Busy, h)
 refused_or false false true P Q h = inl (write.BucketFull, h)
 refused_or false false false P Q h = inr (refl, refl, h)
 
-store_kept : (shape : Shape) (old new : State) (request : Request) (given : WriteAnswer) → IsKept shape old → ServesStore shape old request given new → IsKept shape new
+store_kept : (shape : Shape) (old new : State) (request : Request) (given : WriteAnswer) → IsSound shape old → ServesStore shape old request given new → IsSound shape new
 store_kept shape old new request given kept served = elim (refused_or (is_out_of_rows shape old.filling old.current) (is_locked shape old (key_of request))
     (lacks_word shape old request && not (may_chain shape old (bucket_of shape (key_of request))))
     (IsReplied shape old request (reply_of_write given) new) (λ why. IsGiven why old given new) served) [
@@ -83,28 +83,28 @@ store_kept shape old new request given kept served = elim (refused_or (is_out_of
       | inr replied ↦ IsKept-same replied.2.1 (replied_kept shape request (reply_in shape old.cache request) old kept replied.0 replied.1 refl)
     ]
 
-delete_kept : (shape : Shape) (old new : State) (key : List ℕ) (given : DeleteAnswer) → IsKept shape old → ServesDelete shape old key given new → IsKept shape new
+delete_kept : (shape : Shape) (old new : State) (key : List ℕ) (given : DeleteAnswer) → IsSound shape old → ServesDelete shape old key given new → IsSound shape new
 delete_kept shape old new key given kept served = by (is_locked shape old key) served
   where
-    gone : (here : Bool) (version : ℕ) → new ≡ after_reply shape (Delete key) (reply_to (Delete key) here version) old → IsKept shape new
+    gone : (here : Bool) (version : ℕ) → new ≡ after_reply shape (Delete key) (reply_to (Delete key) here version) old → IsSound shape new
     gone true version left = IsKept-same left (IsKept-deleted shape key old kept)
     gone false version left = IsKept-same left kept
 
-    by : (locked : Bool) → MatchBool locked (IsGiven delete.Busy old given new) (IsReplied shape old (Delete key) (reply_of_delete given) new) → IsKept shape new
+    by : (locked : Bool) → MatchBool locked (IsGiven delete.Busy old given new) (IsReplied shape old (Delete key) (reply_of_delete given) new) → IsSound shape new
     by true busy = IsKept-same busy.1 kept
     by false replied = gone (is_some (present old.cache key)) (old.cache.version (bucket_of shape key)) replied.1
 
 -- ---- evict and refill
 
-evict_kept : (shape : Shape) (old new : State) (segment : ℕ) (is : SegState) (given : EvictAnswer) → IsKept shape old → ServesEvict shape old segment is given new → IsKept shape new
+evict_kept : (shape : Shape) (old new : State) (segment : ℕ) (is : SegState) (given : EvictAnswer) → IsSound shape old → ServesEvict shape old segment is given new → IsSound shape new
 evict_kept shape old new segment Empty given kept served = IsKept-same served.1 kept
 evict_kept shape old new segment Evicted given kept served = IsKept-same served.1 kept
 evict_kept shape old new segment InUse (evict.Evicted n) kept served = IsKept-same served.2 (IsKept-evicted shape segment old kept)
 evict_kept shape old new segment InUse (evict.Busy n) kept served = IsKept-same served.1.2 (IsKept-taken shape segment (may_go shape old segment served.1.0) old kept)
 evict_kept shape old new segment InUse evict.NotYours kept served = absurd served
 
-evict_or : (shape : Shape) (old new : State) (segment : ℕ) (given : EvictAnswer) (own : Bool) → IsKept shape old
-    → MatchBool own (ServesEvict shape old segment (old.filling segment).state given new) (IsGiven evict.NotYours old given new) → IsKept shape new
+evict_or : (shape : Shape) (old new : State) (segment : ℕ) (given : EvictAnswer) (own : Bool) → IsSound shape old
+    → MatchBool own (ServesEvict shape old segment (old.filling segment).state given new) (IsGiven evict.NotYours old given new) → IsSound shape new
 evict_or shape old new segment given true kept served = evict_kept shape old new segment (old.filling segment).state given kept served
 evict_or shape old new segment given false kept served = IsKept-same served.1 kept
 
@@ -116,8 +116,8 @@ refills shape state segment true Evicted e = (refl, refl)
 refills shape state segment true InUse e = cc
 refills shape state segment false is e = cc
 
-refill_kept : (shape : Shape) (old : State) (segment : ℕ) → IsKept shape old → (given : RefillAnswer)
-    → cond (is_own shape segment) (refill_answer old segment (old.filling segment).state) refill.NotYours ≡ given → IsKept shape (after_refill segment given old)
+refill_kept : (shape : Shape) (old : State) (segment : ℕ) → IsSound shape old → (given : RefillAnswer)
+    → cond (is_own shape segment) (refill_answer old segment (old.filling segment).state) refill.NotYours ≡ given → IsSound shape (after_refill segment given old)
 refill_kept shape old segment kept refill.Refilled e =
     let own = refills shape old segment (is_own shape segment) (old.filling segment).state e in
     IsKept-refilled shape segment old kept own.1 (own_below segment shape.segments_each own.0)
@@ -154,20 +154,20 @@ found_passes p key item (e ∷ es) all found =
     by false is found rest = rest found
 
 -- what stands is in a segment that was filled
-filled : (shape : Shape) (state : State) (key : List ℕ) (item : Cached) → IsKept shape state → present state.cache key ≡ Some item → (state.filling item.segment).state ≢ Empty
+filled : (shape : Shape) (state : State) (key : List ℕ) (item : Cached) → IsSound shape state → present state.cache key ≡ Some item → (state.filling item.segment).state ≢ Empty
 filled shape state key item kept found empty =
     let stored = found_passes (is_stored state.filling) key item state.cache.items kept.items found in
     false≢true (sym (ap is_in_use empty) ∙ (both _ _ stored).0)
 
 -- what is held then is in a segment that was filled
-held_filled : (shape : Shape) (state : State) (key : List ℕ) → IsKept shape state → (held : Option Cached) → state.held ≡ held
+held_filled : (shape : Shape) (state : State) (key : List ℕ) → IsSound shape state → (held : Option Cached) → state.held ≡ held
     → (item : Cached) → held_after held (present state.cache key) ≡ Some item → (state.filling item.segment).state ≢ Empty
 held_filled shape state key kept None is item e = filled shape state key item kept e
 held_filled shape state key kept (Some x) is item e = kept.held item (is ∙ e)
 
 -- a hold of an item whose segment was filled, and a lock
-aside : (shape : Shape) (old new : State) (held : Option Cached) (locked : Option ℕ) → IsKept shape old
-    → ((item : Cached) → held ≡ Some item → (old.filling item.segment).state ≢ Empty) → new ≡ record old { held = held; locked = locked } → IsKept shape new
+aside : (shape : Shape) (old new : State) (held : Option Cached) (locked : Option ℕ) → IsSound shape old
+    → ((item : Cached) → held ≡ Some item → (old.filling item.segment).state ≢ Empty) → new ≡ record old { held = held; locked = locked } → IsSound shape new
 aside shape old new held locked kept filled is = IsKept-same is (record {
   items = kept.items;
   ordered = kept.ordered;
@@ -181,7 +181,7 @@ aside shape old new held locked kept filled is = IsKept-same is (record {
   held = filled;
 })
 
-turn_keeps : (shape : Shape) (old new : State) (turn : Turn) (given : Outcome) → IsKept shape old → Turns shape old turn given new → IsKept shape new
+turn_keeps : (shape : Shape) (old new : State) (turn : Turn) (given : Outcome) → IsSound shape old → Turns shape old turn given new → IsSound shape new
 turn_keeps shape old new (Serve command) given kept turns = serving_keeps shape old new command turns.0 kept turns.2
 turn_keeps shape old new (Hold key) given kept turns = aside shape old new _ old.locked kept (held_filled shape old key kept old.held refl) turns.1
 turn_keeps shape old new Held given kept turns = IsKept-same turns.1 kept
@@ -205,7 +205,7 @@ turns_keep shape old new (turn ∷ turns) (given ∷ outcomes) kept run =
 
 -- ---- refilled where nothing stands
 
-pub none_stands : (shape : Shape) (state : State) (segment : ℕ) → IsKept shape state → is_in_use (state.filling segment).state ≡ false → NoneStandsIn state.cache segment
+pub none_stands : (shape : Shape) (state : State) (segment : ℕ) → IsSound shape state → is_in_use (state.filling segment).state ≡ false → NoneStandsIn state.cache segment
 none_stands shape state segment kept unused key stands = by (standing state.cache key) refl stands
   where
     by : (o : Option Cached) → standing state.cache key ≡ o → IsSomeAnd o (λ item. item.segment ≡ segment) → ⊥

@@ -15,7 +15,7 @@ use Rattle.segmodel.specs.declared.request.Reply.TheVariants.{Stored}
 use Rattle.segmodel.specs.Places.{bucket_of}
 use Rattle.segmodel.specs.Request.{key_of, value_of, adds_key, reply_to}
 use Rattle.segmodel.specs.Cache.{key_cmp, standing, keys_in, put, reply_in}
-use Rattle.segmodel.specs.State.{State, IsKept}
+use Rattle.segmodel.specs.State.{State, IsSound}
 use Rattle.segmodel.specs.Serving.{is_full, lacks_word, chained}
 use Rattle.segmodel.proofs.Counts.{count_by-cons}
 use Rattle.segmodel.proofs.Ordered.{Above, above_lower}
@@ -83,7 +83,7 @@ longer : (shape : Shape) (state : State) (b : ℕ) → (chained b true state).wi
 longer shape state b = rw (eq-eqb b b refl) refl
 
 -- a key that is stored has a word: where none was empty, its chain is longer
-pub stored_fits : (shape : Shape) (request : Request) (segment : ℕ) (state : State) → IsKept shape state → reply_in shape state.cache request ≡ Stored
+pub stored_fits : (shape : Shape) (request : Request) (segment : ℕ) (state : State) → IsSound shape state → reply_in shape state.cache request ≡ Stored
     → keys_in shape (put shape (key_of request) (value_of request) segment state.cache) (bucket_of shape (key_of request))
     ≤ 6 * (chained (bucket_of shape (key_of request)) (lacks_word shape state request) state).width (bucket_of shape (key_of request)) + 1
 stored_fits shape request segment state kept replied = by (is_some (standing state.cache (key_of request))) refl replied

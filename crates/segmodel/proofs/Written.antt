@@ -16,7 +16,7 @@ use Rattle.segmodel.specs.Places.{bucket_of, owner}
 use Rattle.segmodel.specs.Request.{key_of, value_of}
 use Rattle.segmodel.specs.Cache.{reply_in, put}
 use Rattle.segmodel.specs.History.{Follows, IsPlaced, next}
-use Rattle.segmodel.specs.State.{State, IsKept, is_locked}
+use Rattle.segmodel.specs.State.{State, IsSound, is_locked}
 use Rattle.segmodel.specs.Serving.{IsGiven, IsReplied, is_out_of_rows, lacks_word, may_chain, placed, chained, stored, after_reply, reply_of_write, reply_of_delete}
 use Rattle.segmodel.specs.Laws.{stored_in, StoreIsAnEntry, DeleteIsAnEntry}
 
@@ -25,7 +25,7 @@ pub first_owner : (shape : Shape) (s : ℕ) → s < shape.segments_each → owne
 first_owner shape s below = div-eq_of_lt below
 
 -- where something is stored there is a current segment, which is the pass's own
-is_placed : (shape : Shape) (state : State) (reply : Reply) → IsKept shape state → is_out_of_rows shape state.filling state.current ≡ false
+is_placed : (shape : Shape) (state : State) (reply : Reply) → IsSound shape state → is_out_of_rows shape state.filling state.current ≡ false
     → IsPlaced shape 0 reply (stored_in reply state.current)
 is_placed shape state Stored kept room = by state.current refl room
   where

@@ -28,7 +28,7 @@ use Rattle.segmodel.specs.Places.{bucket_of}
 use Rattle.segmodel.specs.Request.{key_of, value_of}
 use Rattle.segmodel.specs.Cache.{Cache, key_cmp, standing, present, reads, reads_version, reply_in}
 use Rattle.segmodel.specs.History.{NoneStandsIn, Follows, next, after, IsLegal, Begins, is_of, entries_of, stirred, is_write_to, writes, IsSameAt}
-use Rattle.segmodel.specs.State.{State, IsKept, fresh}
+use Rattle.segmodel.specs.State.{State, IsSound, fresh}
 use Rattle.segmodel.specs.Serving.{Serves, ServesStore, ServesDelete, reply_of_write, reply_of_delete}
 use Rattle.segmodel.specs.Turns.{Turns, Runs}
 
@@ -40,7 +40,7 @@ LongerIsLegal = (shape : Shape) (history : List Entry) (entry : Entry) → IsLeg
 
 -- what a legal history was at an earlier moment is legal
 abbrev pub EarlierIsLegal : Type 0
-EarlierIsLegal = (shape : Shape) (before now : List Entry) → Begins before now → IsLegal shape now → IsLegal shape before
+EarlierIsLegal = (shape : Shape) (old new : List Entry) → Begins old new → IsLegal shape new → IsLegal shape old
 
 -- the items of a cache are in the order of their keys, so that each key has one at most
 abbrev pub ItemsAreInOrder : Type 0
@@ -102,12 +102,12 @@ UnwrittenKeepsCache = (shape : Shape) (cache : Cache) (pass : ℕ) (request : Re
 -- The version law. A cas brings the version that a gets gave at an earlier moment of the same history. Where its key is present it fails exactly
 -- where its bucket was written in between, counted modulo 2^32.
 abbrev pub CasFailsWhereWritten : Type 0
-CasFailsWhereWritten = (shape : Shape) (before now : List Entry) (key seen value : List ℕ) (version : ℕ)
-    → shape.first_version < 2 ^ 32 → IsLegal shape now → Begins before now
-    → reads_version shape (after shape before) key ≡ Some (seen, version)
-    → reply_in shape (after shape now) (Cas key value version)
-    ≡ (if is_some (present (after shape now) key) then
-    (if writes shape now (bucket_of shape key) % 2 ^ 32 == writes shape before (bucket_of shape key) % 2 ^ 32 then Stored else Exists)
+CasFailsWhereWritten = (shape : Shape) (old new : List Entry) (key seen value : List ℕ) (version : ℕ)
+    → shape.first_version < 2 ^ 32 → IsLegal shape new → Begins old new
+    → reads_version shape (after shape old) key ≡ Some (seen, version)
+    → reply_in shape (after shape new) (Cas key value version)
+    ≡ (if is_some (present (after shape new) key) then
+    (if writes shape new (bucket_of shape key) % 2 ^ 32 == writes shape old (bucket_of shape key) % 2 ^ 32 then Stored else Exists)
     else NotFound)
 
 -- ---- which requests store
@@ -140,36 +140,36 @@ StirredCountsAdded = (shape : Shape) (before more : List Entry) (key : List ℕ)
 
 -- where nothing was stirred between two moments, a key reads the same at both, and with the same version
 abbrev pub UnstirredReadsTheSame : Type 0
-UnstirredReadsTheSame = (shape : Shape) (before now : List Entry) (key : List ℕ) → Begins before now → stirred shape key before now ≡ 0
-    → (reads (after shape now) key ≡ reads (after shape before) key) × (reads_version shape (after shape now) key ≡ reads_version shape (after shape before) key)
+UnstirredReadsTheSame = (shape : Shape) (old new : List Entry) (key : List ℕ) → Begins old new → stirred shape key old new ≡ 0
+    → (reads (after shape new) key ≡ reads (after shape old) key) × (reads_version shape (after shape new) key ≡ reads_version shape (after shape old) key)
 
 -- ---- serving
 
 -- at the start it holds what always holds of a state
 abbrev pub IsKeptAtTheStart : Type 0
-IsKeptAtTheStart = (shape : Shape) → IsKept shape (fresh shape)
+IsKeptAtTheStart = (shape : Shape) → IsSound shape (fresh shape)
 
 -- and serving a command keeps it
 abbrev pub ServingKeeps : Type 0
-ServingKeeps = (shape : Shape) (old new : State) (command : Command) (given : Answer) → IsKept shape old → Serves shape old command given new → IsKept shape new
+ServingKeeps = (shape : Shape) (old new : State) (command : Command) (given : Answer) → IsSound shape old → Serves shape old command given new → IsSound shape new
 
 -- as does a whole run of commands
 abbrev pub CommandsKeep : Type 0
-CommandsKeep = (shape : Shape) (old new : State) (commands : List Command) (given : List Answer) → IsKept shape old → Runs (Serves shape) old commands given new → IsKept shape new
+CommandsKeep = (shape : Shape) (old new : State) (commands : List Command) (given : List Answer) → IsSound shape old → Runs (Serves shape) old commands given new → IsSound shape new
 
 -- and of turns
 abbrev pub TurnsKeep : Type 0
-TurnsKeep = (shape : Shape) (old new : State) (turns : List Turn) (given : List Outcome) → IsKept shape old → Runs (Turns shape) old turns given new → IsKept shape new
+TurnsKeep = (shape : Shape) (old new : State) (turns : List Turn) (given : List Outcome) → IsSound shape old → Runs (Turns shape) old turns given new → IsSound shape new
 
 -- a segment is refilled only where no key stands in it
 abbrev pub RefilledWhereNoneStands : Type 0
 RefilledWhereNoneStands = (shape : Shape) (old new : State) (segment : ℕ)
-    → IsKept shape old → Serves shape old (Refill segment) (answer.Refill refill.Refilled) new → NoneStandsIn old.cache segment
+    → IsSound shape old → Serves shape old (Refill segment) (answer.Refill refill.Refilled) new → NoneStandsIn old.cache segment
 
 -- and not while an item of it is held
 abbrev pub HeldIsNotRefilled : Type 0
 HeldIsNotRefilled = (shape : Shape) (old new : State) (item : Cached)
-    → IsKept shape old → old.held ≡ Some item → Serves shape old (Refill item.segment) (answer.Refill refill.Refilled) new → ⊥
+    → IsSound shape old → old.held ≡ Some item → Serves shape old (Refill item.segment) (answer.Refill refill.Refilled) new → ⊥
 
 -- the segment that an entry of this reply names: the current one where something was stored
 abbrev pub stored_in : Reply → Option ℕ → Option ℕ
@@ -179,7 +179,7 @@ stored_in _ current = None
 -- a request to store that is served with a reply is an entry that follows, and the cache is then the one that the entry leaves
 abbrev pub StoreIsAnEntry : Type 0
 StoreIsAnEntry = (shape : Shape) (old new : State) (request : Request) (given : WriteAnswer) (reply : Reply)
-    → IsKept shape old → ServesStore shape old request given new → reply_of_write given ≡ Some reply
+    → IsSound shape old → ServesStore shape old request given new → reply_of_write given ≡ Some reply
     → Follows shape old.cache (Wrote 0 request reply (stored_in reply old.current))
     × (new.cache ≡ next shape old.cache (Wrote 0 request reply (stored_in reply old.current)))
 
@@ -199,7 +199,7 @@ is_evict _ = false
 
 -- every turn has an outcome
 abbrev pub EveryTurnIsAnswered : Type 0
-EveryTurnIsAnswered = (shape : Shape) (old : State) (turn : Turn) → IsKept shape old → (given : Outcome) × (new : State) × Turns shape old turn given new
+EveryTurnIsAnswered = (shape : Shape) (old : State) (turn : Turn) → IsSound shape old → (given : Outcome) × (new : State) × Turns shape old turn given new
 
 -- but for an eviction it has only one, with one state after it
 abbrev pub OnlyEvictChooses : Type 0
@@ -218,22 +218,22 @@ abbrev pub IsEvictionFrom : ℕ → Entry → Type 0
 IsEvictionFrom segment entry = (key : List ℕ) × (entry ≡ Evicted 0 key segment)
 
 -- how many keys the answer to an evict says were taken out
-abbrev pub evicted : EvictAnswer → ℕ
-evicted (evict.Evicted count) = count
-evicted (evict.Busy count) = count
-evicted evict.NotYours = 0
+abbrev pub keys_evicted : EvictAnswer → ℕ
+keys_evicted (evict.Evicted count) = count
+keys_evicted (evict.Busy count) = count
+keys_evicted evict.NotYours = 0
 
 -- The entries that serving a command adds, by its answer: one for a request that is replied, one for each key that is evicted,
 -- one for a segment that is refilled; none for anything else. The segment that was current is the one stored in.
 abbrev pub Adds : Option ℕ → Command → Answer → List Entry → Type 0
 Adds current (Write request) (answer.Write told) more = more ≡ entry_of_reply current request (reply_of_write told)
 Adds current (Write request) (answer.Delete told) more = more ≡ entry_of_reply current request (reply_of_delete told)
-Adds current (Evict segment) (answer.Evict told) more = AllByRecursion (IsEvictionFrom segment) more × (length more ≡ evicted told)
+Adds current (Evict segment) (answer.Evict told) more = AllByRecursion (IsEvictionFrom segment) more × (length more ≡ keys_evicted told)
 Adds current (Refill segment) (answer.Refill refill.Refilled) more = more ≡ Refilled 0 segment ∷ []
 Adds current _ _ more = more ≡ []
 
 -- where the cache is that of a legal history, it is that of a longer one after a command was served
 abbrev pub ServingIsHistory : Type 0
 ServingIsHistory = (shape : Shape) (old new : State) (command : Command) (given : Answer) (history : List Entry)
-    → IsKept shape old → IsLegal shape history → old.cache ≡ after shape history → Serves shape old command given new
+    → IsSound shape old → IsLegal shape history → old.cache ≡ after shape history → Serves shape old command given new
     → (more : List Entry) × IsLegal shape (more ++ history) × (new.cache ≡ after shape (more ++ history)) × Adds old.current command given more

@@ -7,7 +7,7 @@ use Rattle.segmodel.specs.Places.{bucket_of}
 use Rattle.segmodel.specs.Request.{key_of}
 use Rattle.segcore.specs.declared.event.Event.{Event}
 use Rattle.segcore.specs.declared.event.Event.TheVariants.{Linked, Unlinked, Chained}
-use Rattle.segcore.specs.Bucket.{Slot, slot, nothing, item, next, last, fresh, acts, bucket_after}
+use Rattle.segcore.specs.Bucket.{Slot, slot, nothing, item, next, last, fresh_position, acts, bucket_after}
 use Rattle.segcore.specs.Row.{Row, row_after}
 use Rattle.segcore.specs.Segment.{NoneRefills}
 use Rattle.segcore.specs.Lawful.{IsLawful}
@@ -37,11 +37,11 @@ one_before z (Unlinked p k m why) h b n a l is' = let e = Unlinked p k m why in 
     (cases_Bool (eqb (bucket_of z k) b))
 one_before z (Chained p c m) h b n a l is' = let e = Chained p c m in let u = bucket_after z h b in ⊎_elim
     (λ t. let at : (acts e u).items n ≡ item a = ap (λ v. v.items n) (sym (cond-true (eqb c b) (acts e u) u t)) ∙ is' in ⊎_elim
-    (λ end. absurd (next_item m a (sym (cond-true (eqb (last u) n) (next m) (cond (eqb (fresh u) n) (u.items (last u)) (u.items n)) end) ∙ at)))
-    (λ mid. let old = sym (cond-false (eqb (last u) n) (next m) (cond (eqb (fresh u) n) (u.items (last u)) (u.items n)) mid) ∙ at in ⊎_elim
-    (λ moved. inl (last u, sym (cond-true (eqb (fresh u) n) (u.items (last u)) (u.items n) moved) ∙ old))
-    (λ stayed. inl (n, sym (cond-false (eqb (fresh u) n) (u.items (last u)) (u.items n) stayed) ∙ old))
-    (cases_Bool (eqb (fresh u) n)))
+    (λ end. absurd (next_item m a (sym (cond-true (eqb (last u) n) (next m) (cond (eqb (fresh_position u) n) (u.items (last u)) (u.items n)) end) ∙ at)))
+    (λ mid. let old = sym (cond-false (eqb (last u) n) (next m) (cond (eqb (fresh_position u) n) (u.items (last u)) (u.items n)) mid) ∙ at in ⊎_elim
+    (λ moved. inl (last u, sym (cond-true (eqb (fresh_position u) n) (u.items (last u)) (u.items n) moved) ∙ old))
+    (λ stayed. inl (n, sym (cond-false (eqb (fresh_position u) n) (u.items (last u)) (u.items n) stayed) ∙ old))
+    (cases_Bool (eqb (fresh_position u) n)))
     (cases_Bool (eqb (last u) n)))
     (λ f. inl (n, ap (λ v. v.items n) (sym (cond-false (eqb c b) (acts e u) u f)) ∙ is'))
     (cases_Bool (eqb c b))

@@ -2,7 +2,7 @@
 use Rattle.std.proofs.Common.{[], refl}
 use Rattle.segbase.specs.declared.board.Board.{Board}
 use Rattle.segbase.specs.declared.pass.Pass.{Pass}
-use Rattle.segbase.specs.Passes.{Moved}
+use Rattle.segbase.specs.Passes.{AddsEvents}
 use Rattle.segpass.specs.Calls.{TakesNoBit, DrawsNothing, ReadsNothing, CostsNothing}
 use Rattle.segpass.proofs.Draws.{moved_undrawn}
 use Rattle.segpass.proofs.Idling.{took_none}
@@ -21,5 +21,5 @@ pub reads_nothing : (p q : Pass) → CostsNothing p q → ReadsNothing p q
 reads_nothing p q nothing = λ i. (nothing i).1
 
 -- a pass that did nothing by itself
-pub idle_costs_nothing : (b : Board) (p q : Pass) → Moved b [] p q → CostsNothing p q
+pub idle_costs_nothing : (b : Board) (p q : Pass) → AddsEvents b [] p q → CostsNothing p q
 idle_costs_nothing b p q m = costs_nothing p q (took_none b [] p q m refl (λ bucket. refl)) (moved_undrawn b [] p q m tt) (no_reader b [] p q m tt)

@@ -5,8 +5,8 @@ use Rattle.segcore.specs.declared.event.Event.TheVariants.{Drew}
 use Rattle.segcore.specs.Count.{drew}
 use Rattle.segbase.specs.declared.board.Board.{Board}
 use Rattle.segbase.specs.declared.pass.Pass.{Pass}
-use Rattle.segbase.specs.Passes.{number, trace, Moved, Reads}
-use Rattle.segbase.specs.Traces.{IsReading, OnlyReads}
+use Rattle.segbase.specs.Passes.{number, trace, AddsEvents, Reads}
+use Rattle.segbase.specs.Traces.{IsReaderEvent, OnlyReads}
 use Rattle.segbase.proofs.Moves.{moved_drew}
 use Rattle.segpass.specs.Calls.{DrawsNothing}
 
@@ -28,10 +28,10 @@ undrawn p bucket (e ∷ own) h none = one_undrawn p bucket e (own ++ h) none.0 �
 
 -- ---- calls that draw none
 
-pub moved_undrawn : (b : Board) (own : List Event) (p q : Pass) → Moved b own p q → AreUndrawn own → DrawsNothing p q
+pub moved_undrawn : (b : Board) (own : List Event) (p q : Pass) → AddsEvents b own p q → AreUndrawn own → DrawsNothing p q
 moved_undrawn b own p q m none = λ bucket. moved_drew b own p q bucket m ∙ undrawn (number p) bucket own (trace p) none
 
-read_undrawn : (e : Event) → IsReading e → IsUndrawn e
+read_undrawn : (e : Event) → IsReaderEvent e → IsUndrawn e
 read_undrawn (Drew p b d m) is = is
 read_undrawn e is = tt
 

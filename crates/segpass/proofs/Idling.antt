@@ -10,7 +10,7 @@ use Rattle.segbase.specs.declared.board.Board.{Board}
 use Rattle.segbase.specs.declared.law.Memo.{Memo}
 use Rattle.segbase.specs.declared.pass.Plain.{Plain}
 use Rattle.segbase.specs.declared.pass.Pass.{Pass}
-use Rattle.segbase.specs.Passes.{number, trace, Moved}
+use Rattle.segbase.specs.Passes.{number, trace, AddsEvents}
 use Rattle.segbase.specs.Plain.{locked_of}
 use Rattle.segbase.proofs.Moves.{stays, moved_mine, moved_taken, moved_bounced}
 use Rattle.segstore.proofs.Keeping.{AreCalm, keeps_plain}
@@ -31,7 +31,7 @@ pub record IsIdle (b : Board) (own : List Event) (p : Pass) : Type 0 where
   pub nowhere : (bucket : ℕ) → NoneAt b.shape bucket own
   pub unseen : event.seen (own ++ trace p) ≡ event.seen (trace p)
 
-module _ (b : Board) (own : List Event) (p q : Pass) (quiet : IsQuiet b p) (m : Moved b own p q) (idles : IsIdle b own p) (plain : q.plain ≡ p.plain) (same : memo q ≡ memo p) where
+module _ (b : Board) (own : List Event) (p q : Pass) (quiet : IsQuiet b p) (m : AddsEvents b own p q) (idles : IsIdle b own p) (plain : q.plain ≡ p.plain) (same : memo q ≡ memo p) where
   pub quiet_idle : IsQuiet b q
   quiet_idle =
       let there = settles_still b own p q m idles.still (ap (λ (x : Memo). x.holding) same) (ap (λ (x : Plain). x.is_holding) plain) in
@@ -65,7 +65,7 @@ idles_bounces b p bucket times = record {
 }
 
 -- what it did took no bit and met none
-pub took_none : (b : Board) (own : List Event) (p q : Pass) → Moved b own p q → taken (number p) (own ++ trace p) ≡ taken (number p) (trace p)
+pub took_none : (b : Board) (own : List Event) (p q : Pass) → AddsEvents b own p q → taken (number p) (own ++ trace p) ≡ taken (number p) (trace p)
     → ((bucket : ℕ) → bounced (number p) bucket (own ++ trace p) ≡ bounced (number p) bucket (trace p)) → TakesNoBit p q
 took_none b own p q m takes meets = record {
   taken = moved_taken b own p q m ∙ takes;
@@ -96,10 +96,10 @@ in_vain p q bucket free (inl (own, none)) = absurd (none-some bucket (sym free �
 in_vain p q bucket free (inr vain) = vain
 
 -- the pass did nothing by itself
-pub goes_nowhere : (b : Board) (p q : Pass) → IsQuiet b p → Moved b [] p q → q.plain ≡ p.plain → memo q ≡ memo p → GoesOn b p q
+pub goes_nowhere : (b : Board) (p q : Pass) → IsQuiet b p → AddsEvents b [] p q → q.plain ≡ p.plain → memo q ≡ memo p → GoesOn b p q
 goes_nowhere b p q quiet m plain same = (goes_idle b [] p q quiet m (idles_none b p) plain same).0
 
-pub does_nothing : (b : Board) (p q : Pass) → IsQuiet b p → Moved b [] p q → q.plain ≡ p.plain → memo q ≡ memo p → ChangesNothing p q
+pub does_nothing : (b : Board) (p q : Pass) → IsQuiet b p → AddsEvents b [] p q → q.plain ≡ p.plain → memo q ≡ memo p → ChangesNothing p q
 does_nothing b p q quiet m plain same = (goes_idle b [] p q quiet m (idles_none b p) plain same).1
 
 -- nothing was done at all

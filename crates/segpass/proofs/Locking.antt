@@ -20,7 +20,7 @@ use Rattle.segbase.specs.declared.law.Sight.{Sight}
 use Rattle.segbase.specs.Minding.{HasLocked, Minds}
 use Rattle.segbase.specs.declared.pass.Plain.{Plain}
 use Rattle.segbase.specs.declared.pass.Pass.{Pass}
-use Rattle.segbase.specs.Passes.{sight, number, trace, seen, holding, locked, IsPassOf, IsMemo, Moved, Did}
+use Rattle.segbase.specs.Passes.{sight, number, trace, seen, holding, locked, IsPassOf, IsMemo, AddsEvents, AddsAtOnce}
 use Rattle.segbase.specs.Plain.{current_of, locked_of, is_holding_of, SameSegments}
 use Rattle.segbase.proofs.Moves.{moved_mine}
 use Rattle.segstore.specs.Segments.{KeepsSegments}
@@ -59,8 +59,8 @@ minds_now b p q bucket is bit seat here =
     record { holding = minds.holding; locked = λ lock. minds_lock b q (locked_of q) lock now }
 
 -- what the pass does, and then what it says of its lock
-module _ (b : Board) (own : List Event) (p r q : Pass) (bucket : Option ℕ) (quiet : IsQuiet b p) (m : Moved b own p r) (plain : r.plain ≡ p.plain) (same : memo r ≡ memo p) (is : IsPassOf b q) (sets : SetsLock bucket r q) where
-  pub moved_to : Moved b own p q
+module _ (b : Board) (own : List Event) (p r q : Pass) (bucket : Option ℕ) (quiet : IsQuiet b p) (m : AddsEvents b own p r) (plain : r.plain ≡ p.plain) (same : memo r ≡ memo p) (is : IsPassOf b q) (sets : SetsLock bucket r q) where
+  pub moved_to : AddsEvents b own p q
   moved_to = then_minds b own p r q m sets.view is
 
   pub segments_stay : SameSegments p q
@@ -95,7 +95,7 @@ module _ (b : Board) (p r q : Pass) (bucket : ℕ) (quiet : IsQuiet b p) (free :
   abbrev took_own : List Event
   took_own = Took (number p) bucket ∷ bounces (number p) bucket took.0
 
-  locked_move : Moved b took_own p q
+  locked_move : AddsEvents b took_own p q
   locked_move = moved_to b took_own p r q (Some bucket) quiet took.2 plain same is sets
 
   only_bit : (other : ℕ) → HasBit b.shape (trace q) (number q) other → locked_of q ≡ Some other
@@ -152,11 +152,11 @@ module _ (b : Board) (p r q : Pass) (bucket : ℕ) (quiet : IsQuiet b p) (free :
 
 -- ---- its end
 
-module _ (b : Board) (p r q : Pass) (bucket : ℕ) (quiet : IsQuiet b p) (had : locked_of p ≡ Some bucket) (did : Did b (Freed (number p) bucket false ∷ []) p r) (freed : (bucket_after b.shape (trace r) bucket).holder ≡ None) (plain : r.plain ≡ p.plain) (same : memo r ≡ memo p) (is : IsPassOf b q) (sets : SetsLock None r q) where
+module _ (b : Board) (p r q : Pass) (bucket : ℕ) (quiet : IsQuiet b p) (had : locked_of p ≡ Some bucket) (did : AddsAtOnce b (Freed (number p) bucket false ∷ []) p r) (freed : (bucket_after b.shape (trace r) bucket).holder ≡ None) (plain : r.plain ≡ p.plain) (same : memo r ≡ memo p) (is : IsPassOf b q) (sets : SetsLock None r q) where
   abbrev freed_own : List Event
   freed_own = Freed (number p) bucket false ∷ []
 
-  unlocked_move : Moved b freed_own p q
+  unlocked_move : AddsEvents b freed_own p q
   unlocked_move = moved_to b freed_own p r q None quiet did.moved plain same is sets
 
   no_bit : (other : ℕ) → HasBit b.shape (trace q) (number q) other → ⊥

@@ -16,8 +16,8 @@ use Rattle.segbase.specs.declared.law.Locked.{Locked}
 use Rattle.segbase.specs.declared.law.Memo.{Memo}
 use Rattle.segbase.specs.declared.pass.Plain.{Plain}
 use Rattle.segbase.specs.declared.pass.Pass.{Pass}
-use Rattle.segbase.specs.Traces.{StaysIn, IsReading, OnlyReads}
-use Rattle.segbase.specs.Passes.{sight, number, trace, holding, locked, Moved, Reads}
+use Rattle.segbase.specs.Traces.{StaysIn, IsReaderEvent, OnlyReads}
+use Rattle.segbase.specs.Passes.{sight, number, trace, holding, locked, AddsEvents, Reads}
 use Rattle.segbase.specs.Plain.{locked_of, is_holding_of}
 use Rattle.segbase.proofs.Moves.{moved_on, moved_seen}
 use Rattle.segbase.proofs.Staying.{none_both}
@@ -65,7 +65,7 @@ pub record SettlesIn (own : List Event) (p q : Pass) : Type 0 where
   pub readings : (s : ℕ) → inside (trace q) (number p) s ≡ inside (trace p) (number p) s
   pub stays : (s : ℕ) → 0 < inside (trace p) (number p) s → StaysIn own (trace p) (number p) s
 
-module _ (b : Board) (own : List Event) (p q : Pass) (quiet : IsQuiet b p) (m : Moved b own p q) (s : SettlesIn own p q) where
+module _ (b : Board) (own : List Event) (p q : Pass) (quiet : IsQuiet b p) (m : AddsEvents b own p q) (s : SettlesIn own p q) where
   pub holds_again : is_holding_of q ≡ is_some (holding q)
   holds_again = s.plain ∙ (quiet.holds ∙ ap is_some (sym s.memo))
 
@@ -84,8 +84,8 @@ module _ (b : Board) (own : List Event) (p q : Pass) (quiet : IsQuiet b p) (m : 
       }
 
 -- what a call leaves as it was, beside what it added by itself
-pub record Settles (b : Board) (own : List Event) (p q : Pass) : Type 0 where
-  pub moved : Moved b own p q
+pub record StaysQuiet (b : Board) (own : List Event) (p q : Pass) : Type 0 where
+  pub moved : AddsEvents b own p q
   pub memo : (sight q).memo ≡ (sight p).memo
   pub locked_of : locked_of q ≡ locked_of p
   pub holding : is_holding_of q ≡ is_holding_of p
@@ -96,7 +96,7 @@ pub record Settles (b : Board) (own : List Event) (p q : Pass) : Type 0 where
   pub readings : (s : ℕ) → inside (trace q) (number p) s ≡ inside (trace p) (number p) s
   pub stays : (s : ℕ) → 0 < inside (trace p) (number p) s → StaysIn own (trace p) (number p) s
 
-pub quiet_again : (b : Board) (own : List Event) (p q : Pass) → IsQuiet b p → Settles b own p q → IsQuiet b q
+pub quiet_again : (b : Board) (own : List Event) (p q : Pass) → IsQuiet b p → StaysQuiet b own p q → IsQuiet b q
 quiet_again b own p q quiet s =
     let m = s.moved in
     let same : locked q ≡ locked p = ap (λ (x : Memo). x.locked) s.memo in
@@ -121,7 +121,7 @@ quiet_again b own p q quiet s =
     }
 
 -- what it has seen only grew
-pub goes_on : (b : Board) (own : List Event) (p q : Pass) → Moved b own p q → IsQuiet b q → GoesOn b p q
+pub goes_on : (b : Board) (own : List Event) (p q : Pass) → AddsEvents b own p q → IsQuiet b q → GoesOn b p q
 goes_on b own p q m quiet = record {
   quiet = quiet;
   same = m.same;
@@ -131,7 +131,7 @@ goes_on b own p q m quiet = record {
 
 -- ---- readers
 
-reading_none : (z : Shape) (b : ℕ) (e : Event) → IsReading e → NoneAt z b (e ∷ [])
+reading_none : (z : Shape) (b : ℕ) (e : Event) → IsReaderEvent e → NoneAt z b (e ∷ [])
 reading_none z b (Glanced p c) is = (refl, tt)
 reading_none z b (Bumped p s r f) is = (refl, tt)
 reading_none z b (Entered p s) is = (refl, tt)
@@ -143,7 +143,7 @@ pub reads_none : (z : Shape) (b : ℕ) (own : List Event) → OnlyReads own → 
 reads_none z b [] only = tt
 reads_none z b (e ∷ own) only = ((reading_none z b e only.0).0, reads_none z b own only.1)
 
-pub reads_settles : (b : Board) (p q : Pass) (reads : Reads b p q) → q.plain ≡ p.plain → (sight q).memo ≡ (sight p).memo → KeepsSegments b q → Settles b reads.own p q
+pub reads_settles : (b : Board) (p q : Pass) (reads : Reads b p q) → q.plain ≡ p.plain → (sight q).memo ≡ (sight p).memo → KeepsSegments b q → StaysQuiet b reads.own p q
 reads_settles b p q reads plain memo segments = record {
   moved = reads.moved;
   memo = memo;

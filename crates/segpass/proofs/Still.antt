@@ -8,7 +8,7 @@ use Rattle.segcore.specs.Count.{raised, entered, glanced}
 use Rattle.segbase.specs.declared.board.Board.{Board}
 use Rattle.segbase.specs.declared.pass.Pass.{Pass}
 use Rattle.segbase.specs.Traces.{StaysIn}
-use Rattle.segbase.specs.Passes.{number, trace, view, holding, IsPassOf, Moved}
+use Rattle.segbase.specs.Passes.{number, trace, view, holding, IsPassOf, AddsEvents}
 use Rattle.segbase.specs.Plain.{is_holding_of}
 use Rattle.segbase.proofs.Moves.{moved_inside, moved_raised, moved_entered, moved_glanced}
 use Rattle.segpass.specs.Calls.{ReadsNothing}
@@ -65,14 +65,14 @@ still_glanced : (p b : ℕ) (own h : List Event) → AreStill own → glanced p 
 still_glanced p b [] h still = refl
 still_glanced p b (e ∷ own) h still = one_glanced p b e (own ++ h) still.0 ∙ still_glanced p b own h still.1
 
-pub no_reader : (b : Board) (own : List Event) (p q : Pass) → Moved b own p q → AreStill own → ReadsNothing p q
+pub no_reader : (b : Board) (own : List Event) (p q : Pass) → AddsEvents b own p q → AreStill own → ReadsNothing p q
 no_reader b own p q m still = λ i. (
   (moved_raised b own p q m ∙ still_raised (number p) own (trace p) still) i,
   (moved_entered b own p q m ∙ still_entered (number p) own (trace p) still) i,
   λ bucket. (moved_glanced b own p q bucket m ∙ still_glanced (number p) bucket own (trace p) still) i,
 )
 
-pub settles_still : (b : Board) (own : List Event) (p q : Pass) → Moved b own p q → AreStill own → holding q ≡ holding p → is_holding_of q ≡ is_holding_of p → SettlesIn own p q
+pub settles_still : (b : Board) (own : List Event) (p q : Pass) → AddsEvents b own p q → AreStill own → holding q ≡ holding p → is_holding_of q ≡ is_holding_of p → SettlesIn own p q
 settles_still b own p q m still memo plain = record {
   memo = memo;
   plain = plain;
@@ -81,7 +81,7 @@ settles_still b own p q m still memo plain = record {
 }
 
 -- what the pass then keeps in mind is no event
-pub then_minds : (b : Board) (own : List Event) (p r q : Pass) → Moved b own p r → view q ≡ view r → IsPassOf b q → Moved b own p q
+pub then_minds : (b : Board) (own : List Event) (p r q : Pass) → AddsEvents b own p r → view q ≡ view r → IsPassOf b q → AddsEvents b own p q
 then_minds b own p r q m same is = record {
   pass = is;
   same = ap (λ (v : View). v.number) same ∙ m.same;

@@ -6,7 +6,7 @@ use Rattle.segcore.specs.declared.event.Event.TheVariants.{Took, Bounced}
 use Rattle.segcore.specs.Count.{taken, bounced}
 use Rattle.segbase.specs.declared.board.Board.{Board}
 use Rattle.segbase.specs.declared.pass.Pass.{Pass}
-use Rattle.segbase.specs.Passes.{number, trace, Moved}
+use Rattle.segbase.specs.Passes.{number, trace, AddsEvents}
 use Rattle.segbase.specs.Passes as passes
 use Rattle.segbase.proofs.Moves.{moved_taken, moved_bounced}
 use Rattle.segpass.specs.Calls.{TakesOneBit}
@@ -43,7 +43,7 @@ both_no_tries [] ys i j = j
 both_no_tries (e ∷ xs) ys i j = (i.0, both_no_tries xs ys i.1 j)
 
 -- a call that took the bit of a bucket after so many tries
-module _ (b : Board) (bucket times : ℕ) (own : List Event) (p q : Pass) (few : times < 64) (none : AreNoTries own) (m : Moved b (own ++ (Took (number p) bucket ∷ bounces (number p) bucket times)) p q) where
+module _ (b : Board) (bucket times : ℕ) (own : List Event) (p q : Pass) (few : times < 64) (none : AreNoTries own) (m : AddsEvents b (own ++ (Took (number p) bucket ∷ bounces (number p) bucket times)) p q) where
   abbrev n : ℕ
   n = number p
 

@@ -9,7 +9,7 @@ use Rattle.segcore.specs.Lawful.{NoneAt}
 use Rattle.segcore.specs.Kind.{unless_own, HasBit}
 use Rattle.segbase.specs.declared.board.Board.{Board}
 use Rattle.segbase.specs.declared.pass.Pass.{Pass}
-use Rattle.segbase.specs.Passes.{number, trace, IsPassOf, Moved, Did}
+use Rattle.segbase.specs.Passes.{number, trace, IsPassOf, AddsEvents, AddsAtOnce}
 use Rattle.segbase.specs.Steps.{has_bit, Takes}
 use Rattle.segbase.proofs.Moves.{stays, moved_then}
 use Rattle.segpass.specs.Taking.{bounces, TakesBucket}
@@ -50,40 +50,40 @@ told_has b p bucket bit = some_is (bucket_after b.shape (trace p) bucket).holder
 -- so many tries found the bit set: that of the pass itself, which isn't counted, or another's
 abbrev pub Tried : Board → ℕ → ℕ → Pass → Pass → Type 0
 Tried b bucket times p q =
-    ((has_bit b p bucket ≡ true) × Moved b [] p q) ⊎ ((has_bit b p bucket ≡ false) × Moved b (bounces (number p) bucket times) p q)
+    ((has_bit b p bucket ≡ true) × AddsEvents b [] p q) ⊎ ((has_bit b p bucket ≡ false) × AddsEvents b (bounces (number p) bucket times) p q)
 
 pub none_tried : (b : Board) (bucket : ℕ) (p : Pass) → IsPassOf b p → Tried b bucket 0 p p
 none_tried b bucket p is = ⊎_elim
     (λ t. inl (t, stays b p is))
-    (λ f. inr (f, subst (λ own. Moved b own p p) (sym (no_bounces (number p) bucket)) (stays b p is)))
+    (λ f. inr (f, subst (λ own. AddsEvents b own p p) (sym (no_bounces (number p) bucket)) (stays b p is)))
     (cases_Bool (has_bit b p bucket))
 
 module _ (b : Board) (bucket n : ℕ) (p q r : Pass) (within : bucket < b.shape.buckets) where
-  own_again : Moved b [] p q → has_bit b p bucket ≡ true → has_bit b q bucket ≡ true
+  own_again : AddsEvents b [] p q → has_bit b p bucket ≡ true → has_bit b q bucket ≡ true
   own_again m t = told_has b q bucket (moved_bit b [] p q bucket m (has b p bucket within t) tt)
 
-  not_own : Moved b (bounces (number p) bucket n) p q → has_bit b p bucket ≡ false → has_bit b q bucket ≡ false
+  not_own : AddsEvents b (bounces (number p) bucket n) p q → has_bit b p bucket ≡ false → has_bit b q bucket ≡ false
   not_own m f = false_from_ne_true (has_bit b q bucket) (λ t. false≢true (sym f
       ∙ told_has b p bucket (bit_before b (bounces (number p) bucket n) p q bucket m (bounces_none b.shape bucket (number p) bucket n) (has b q bucket within t))))
 
   -- one more try that found it set
   pub tried_more : Tried b bucket n p q → Takes b bucket false q r → Tried b bucket (n + 1) p r
   tried_more tried missed = ⊎_elim
-      (λ t. let none : Did b [] q r = subst (λ o. Did b (unless_own o (Bounced (number q) bucket)) q r) (own_again t.1 t.0) missed in
+      (λ t. let none : AddsAtOnce b [] q r = subst (λ o. AddsAtOnce b (unless_own o (Bounced (number q) bucket)) q r) (own_again t.1 t.0) missed in
       inl (t.0, moved_then b [] [] p q r t.1 none.moved))
-      (λ f. let one : Did b (Bounced (number q) bucket ∷ []) q r = subst (λ o. Did b (unless_own o (Bounced (number q) bucket)) q r) (not_own f.1 f.0) missed in
-      let all : Moved b (Bounced (number q) bucket ∷ bounces (number p) bucket n) p r = moved_then b (bounces (number p) bucket n) (Bounced (number q) bucket ∷ []) p q r f.1 one.moved in
-      inr (f.0, subst (λ own. Moved b own p r) (ap (λ x. Bounced x bucket ∷ bounces (number p) bucket n) f.1.same ∙ sym (one_bounce_more (number p) bucket n)) all))
+      (λ f. let one : AddsAtOnce b (Bounced (number q) bucket ∷ []) q r = subst (λ o. AddsAtOnce b (unless_own o (Bounced (number q) bucket)) q r) (not_own f.1 f.0) missed in
+      let all : AddsEvents b (Bounced (number q) bucket ∷ bounces (number p) bucket n) p r = moved_then b (bounces (number p) bucket n) (Bounced (number q) bucket ∷ []) p q r f.1 one.moved in
+      inr (f.0, subst (λ own. AddsEvents b own p r) (ap (λ x. Bounced x bucket ∷ bounces (number p) bucket n) f.1.same ∙ sym (one_bounce_more (number p) bucket n)) all))
       tried
 
-  took_after : (times : ℕ) → times < 64 → Moved b (bounces (number p) bucket times) p q → Takes b bucket true q r → TakesBucket b bucket true p r
+  took_after : (times : ℕ) → times < 64 → AddsEvents b (bounces (number p) bucket times) p q → Takes b bucket true q r → TakesBucket b bucket true p r
   took_after times few m took =
-      let all : Moved b (Took (number q) bucket ∷ bounces (number p) bucket times) p r = moved_then b (bounces (number p) bucket times) (Took (number q) bucket ∷ []) p q r m took.0.moved in
-      (times, few, subst (λ x. Moved b (Took x bucket ∷ bounces (number p) bucket times) p r) m.same all, record { bit = took.1; unwritten = took.2; undrawn = took.3 })
+      let all : AddsEvents b (Took (number q) bucket ∷ bounces (number p) bucket times) p r = moved_then b (bounces (number p) bucket times) (Took (number q) bucket ∷ []) p q r m took.0.moved in
+      (times, few, subst (λ x. AddsEvents b (Took x bucket ∷ bounces (number p) bucket times) p r) m.same all, record { bit = took.1; unwritten = took.2; undrawn = took.3 })
 
   -- and one that took it
   pub taken_at : n < 64 → Tried b bucket n p q → Takes b bucket true q r → TakesBucket b bucket true p r
   taken_at few tried took = ⊎_elim
-      (λ t. took_after 0 (omega arith) (subst (λ own. Moved b own p q) (sym (no_bounces (number p) bucket)) t.1) took)
+      (λ t. took_after 0 (omega arith) (subst (λ own. AddsEvents b own p q) (sym (no_bounces (number p) bucket)) t.1) took)
       (λ f. took_after n few f.1 took)
       tried

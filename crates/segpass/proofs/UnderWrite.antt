@@ -15,7 +15,7 @@ use Rattle.segbase.specs.declared.board.Board.{Board}
 use Rattle.segbase.specs.declared.law.Locked.{Locked}
 use Rattle.segbase.specs.declared.law.Memo.{Memo}
 use Rattle.segbase.specs.declared.pass.Pass.{Pass}
-use Rattle.segbase.specs.Passes.{number, trace, mine, seen, drew, locked, Moved, Did}
+use Rattle.segbase.specs.Passes.{number, trace, mine, seen, drew, locked, AddsEvents, AddsAtOnce}
 use Rattle.segbase.specs.Plain.{locked_of, is_holding_of}
 use Rattle.segbase.proofs.Moves.{moved_then, moved_mine, moved_drew}
 use Rattle.segstore.specs.Segments.{KeepsSegments}
@@ -45,7 +45,7 @@ module _ (b : Board) (bucket : ℕ) (p q : Pass) (quiet : IsQuiet b p) (took : T
   abbrev pub tries : List Event
   tries = Took (number p) bucket ∷ bounces (number p) bucket took.takes.0
 
-  pub took_moved : Moved b tries p q
+  pub took_moved : AddsEvents b tries p q
   took_moved = took.takes.2
 
   pub took_clean : HasCleanBit b q bucket
@@ -58,12 +58,12 @@ module _ (b : Board) (bucket : ℕ) (p q : Pass) (quiet : IsQuiet b p) (took : T
   took_keeps = keeps_plain b tries p q took_moved (tt, bounces_calm (number p) bucket took.takes.0) took.plain quiet.segments
 
   -- what was done since the bit was taken, the release at its end
-  module _ (s : Pass) (own : List Event) (added : List Entry) (counted : Bool) (m : Moved b (Freed (number p) bucket counted ∷ own) q s) (elsewhere : (other : ℕ) → bucket ≢ other → NoneAt b.shape other own) (still : AreStill own)
+  module _ (s : Pass) (own : List Event) (added : List Entry) (counted : Bool) (m : AddsEvents b (Freed (number p) bucket counted ∷ own) q s) (elsewhere : (other : ℕ) → bucket ≢ other → NoneAt b.shape other own) (still : AreStill own)
       (adds : (h : List Event) → event.seen (own ++ h) ≡ added ++ event.seen h) (free : (bucket_after b.shape (trace s) bucket).holder ≡ None) where
     abbrev all : List Event
     all = Freed (number p) bucket counted ∷ (own ++ tries)
 
-    moved_all : Moved b all p s
+    moved_all : AddsEvents b all p s
     moved_all = moved_then b tries (Freed (number p) bucket counted ∷ own) p q s took_moved m
 
     none_elsewhere : (other : ℕ) → bucket ≢ other → NoneAt b.shape other all
@@ -116,10 +116,10 @@ module _ (b : Board) (bucket : ℕ) (p q : Pass) (quiet : IsQuiet b p) (took : T
     ends_taking none = took_one b bucket took.takes.0 (Freed (number p) bucket counted ∷ own) p s took.takes.1 (tt, none) moved_all
 
   -- the same where the release is a step of its own, that tells no entry
-  module _ (r s : Pass) (own : List Event) (added : List Entry) (counted : Bool) (m : Moved b own q r) (elsewhere : (other : ℕ) → bucket ≢ other → NoneAt b.shape other own) (still : AreStill own)
-      (adds : (h : List Event) → event.seen (own ++ h) ≡ added ++ event.seen h) (freed : Did b (Freed (number r) bucket counted ∷ []) r s) (free : (bucket_after b.shape (trace s) bucket).holder ≡ None) where
-    ended : Moved b (Freed (number p) bucket counted ∷ own) q s
-    ended = subst (λ n. Moved b (Freed n bucket counted ∷ own) q s) (m.same ∙ took_moved.same) (moved_then b own (Freed (number r) bucket counted ∷ []) q r s m freed.moved)
+  module _ (r s : Pass) (own : List Event) (added : List Entry) (counted : Bool) (m : AddsEvents b own q r) (elsewhere : (other : ℕ) → bucket ≢ other → NoneAt b.shape other own) (still : AreStill own)
+      (adds : (h : List Event) → event.seen (own ++ h) ≡ added ++ event.seen h) (freed : AddsAtOnce b (Freed (number r) bucket counted ∷ []) r s) (free : (bucket_after b.shape (trace s) bucket).holder ≡ None) where
+    ended : AddsEvents b (Freed (number p) bucket counted ∷ own) q s
+    ended = subst (λ n. AddsEvents b (Freed n bucket counted ∷ own) q s) (m.same ∙ took_moved.same) (moved_then b own (Freed (number r) bucket counted ∷ []) q r s m freed.moved)
 
     pub write_goes_on : memo s ≡ memo p → locked_of s ≡ locked_of p → is_holding_of s ≡ is_holding_of p → KeepsSegments b s → GoesOn b p s
     write_goes_on = ends_on s own added counted ended elsewhere still adds free

@@ -46,7 +46,7 @@ pub record LocksBucket (b : Board) (key : List ℕ) (told : LockAnswer) (p q : P
 
 -- no entry of the bucket came in since it was locked
 abbrev pub NoneSince : Shape → Locked → List Entry → Type 0
-NoneSince shape lock now = Begins (event.seen lock.trace) now × (entries_of shape lock.bucket now ≡ entries_of shape lock.bucket (event.seen lock.trace))
+NoneSince shape lock new = Begins (event.seen lock.trace) new × (entries_of shape lock.bucket new ≡ entries_of shape lock.bucket (event.seen lock.trace))
 
 -- the bucket is locked no more, and no entry of it came in since it was locked
 pub record Unlocks (shape : Shape) (p q : Pass) : Type 0 where

@@ -7,7 +7,7 @@ use Rattle.segcore.specs.Kind.{HasBit}
 use Rattle.segbase.specs.declared.board.Board.{Board}
 use Rattle.segbase.specs.declared.law.Locked.{Locked}
 use Rattle.segbase.specs.declared.pass.Pass.{Pass}
-use Rattle.segbase.specs.Passes.{view, number, trace, holding, locked, Moved}
+use Rattle.segbase.specs.Passes.{view, number, trace, holding, locked, AddsEvents}
 use Rattle.segbase.specs.Plain.{current_of, locked_of, is_holding_of, SameSegments}
 use Rattle.segbase.specs.Steps.{has_bit}
 use Rattle.segpass.specs.Calls.{memo, GoesOn, ChangesNothing, DrawsNothing, ReadsNothing, IsBusy}
@@ -25,10 +25,10 @@ bounces pass bucket times = replicate times (Bounced pass bucket)
 -- The bit was taken at one of 64 tries, and the earlier ones found it set; or all 64 did, which aren't counted where the bit is the pass's own.
 abbrev pub TakesBucket : Board → ℕ → Bool → Pass → Pass → Type 0
 TakesBucket b bucket true p q =
-    (times : ℕ) × (times < 64) × Moved b (Took (number p) bucket ∷ bounces (number p) bucket times) p q × HasCleanBit b q bucket
+    (times : ℕ) × (times < 64) × AddsEvents b (Took (number p) bucket ∷ bounces (number p) bucket times) p q × HasCleanBit b q bucket
 TakesBucket b bucket false p q =
-    ((has_bit b p bucket ≡ true) × Moved b [] p q)
-    ⊎ ((has_bit b p bucket ≡ false) × Moved b (bounces (number p) bucket 64) p q)
+    ((has_bit b p bucket ≡ true) × AddsEvents b [] p q)
+    ⊎ ((has_bit b p bucket ≡ false) × AddsEvents b (bounces (number p) bucket 64) p q)
 
 -- the bucket locked, as of what the pass has seen now
 abbrev pub lock_now : Pass → ℕ → Locked

@@ -4,7 +4,7 @@ use Rattle.std.proofs.Math.Nat.{mod-add-mod, mod-eq_of_lt, mod_self}
 use Rattle.std.proofs.lemmas.Nat.{mod_below}
 use Rattle.std.proofs.lemmas.Bool.{ne_eqb}
 use Rattle.std.proofs.lemmas.List.Sums.{sum_by-cons}
-use Rattle.segpolicy.specs.Cycle.{Cycle, number_of, turned, answers}
+use Rattle.segpolicy.specs.Cycle.{Cycle, next_of, turned, answers}
 
 -- call i of n answers the number i places on
 pub slice_index-answers : (n i : ℕ) (cycle : Cycle) → cycle.given < cycle.count → i < n
@@ -26,7 +26,7 @@ abbrev times : ℕ → Cycle → ℕ → ℕ
 times n cycle number = count_by (λ answer. answer == number) (answers n cycle)
 
 -- one call more, which answers the number
-times_same : (n : ℕ) (cycle : Cycle) (number : ℕ) → number_of cycle ≡ number
+times_same : (n : ℕ) (cycle : Cycle) (number : ℕ) → next_of cycle ≡ number
     → times (suc n) cycle number ≡ 1 + times n (turned cycle) number
 unfolding answers
 times_same n cycle number same =
@@ -34,7 +34,7 @@ times_same n cycle number same =
     ∙ ap (λ b. cond b 1 0 + times n (turned cycle) number) (eq-eqb _ _ same)
 
 -- one call more, which answers another number
-times_other : (n : ℕ) (cycle : Cycle) (number : ℕ) → (number_of cycle ≡ number → ⊥)
+times_other : (n : ℕ) (cycle : Cycle) (number : ℕ) → (next_of cycle ≡ number → ⊥)
     → times (suc n) cycle number ≡ times n (turned cycle) number
 unfolding answers
 times_other n cycle number other =
@@ -99,7 +99,7 @@ ahead_nearer cycle ahead number inside some far =
 
 -- a number is answered now where it stands no place ahead
 now_here : (cycle : Cycle) (number : ℕ) → cycle.given < cycle.count → IsAhead cycle 0 number
-    → number_of cycle ≡ number
+    → next_of cycle ≡ number
 now_here cycle number inside far =
     elim far.there [
       | inl here ↦ omega arith
@@ -108,7 +108,7 @@ now_here cycle number inside far =
 
 -- and not where it stands further ahead
 not_here : (cycle : Cycle) (ahead number : ℕ) → 0 < ahead → IsAhead cycle ahead number
-    → number_of cycle ≡ number → ⊥
+    → next_of cycle ≡ number → ⊥
 not_here cycle ahead number some far same =
     elim far.there [ inl here ↦ omega arith | inr past ↦ omega (arith, far.below) ]
 

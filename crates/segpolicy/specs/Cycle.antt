@@ -9,8 +9,8 @@ pub record Cycle : Type 0 where
   pub given : ℕ
 
 -- the number that is next
-abbrev pub number_of : Cycle → ℕ
-number_of cycle = cycle.first + cycle.given
+abbrev pub next_of : Cycle → ℕ
+next_of cycle = cycle.first + cycle.given
 
 -- the ring after a call
 abbrev pub turned : Cycle → Cycle
@@ -19,4 +19,4 @@ turned cycle = record cycle { given = (cycle.given + 1) % cycle.count }
 -- what the next n calls answer, in turn
 unfoldable pub answers : ℕ → Cycle → List ℕ
 answers zero cycle = []
-answers (suc n) cycle = number_of cycle ∷ answers n (turned cycle)
+answers (suc n) cycle = next_of cycle ∷ answers n (turned cycle)

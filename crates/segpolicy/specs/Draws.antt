@@ -19,8 +19,8 @@ draws_of seed pass keys = record {
 }
 
 -- the word that a generator gives next
-abbrev pub word_of : Lcg → ℕ
-word_of generator = (pcg32 generator).0
+abbrev pub next_word_of : Lcg → ℕ
+next_word_of generator = (pcg32 generator).0
 
 -- the generator after that word
 abbrev pub after_word : Lcg → Lcg
@@ -31,7 +31,7 @@ abbrev pub next_load : Draws → Load
 next_load draws =
     let second = after_word draws.generator in
     let third = after_word second in
-    load_of draws.keys (word_of draws.generator) (word_of second) (word_of third)
+    load_of draws.keys (next_word_of draws.generator) (next_word_of second) (next_word_of third)
 
 -- the workload after it is three words on
 abbrev pub after_load : Draws → Draws

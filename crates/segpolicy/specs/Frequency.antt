@@ -4,10 +4,10 @@ use Rattle.std.specs.Prelude.{ℕ, ◌+◌, ◌%◌, Bool, ◌&&◌, ◌||◌, �
 
 -- whether a hit with this draw counts: below 16 always, from 16 to 254 where the frequency divides
 -- the draw, and at 255 never
-abbrev pub counts : ℕ → ℕ → Bool
-counts frequency draw =
+abbrev pub draw_raises : ℕ → ℕ → Bool
+draw_raises frequency draw =
     nat_lt frequency 16 || (nat_lt frequency 255 && (draw % frequency == 0))
 
 -- the frequency after a hit with this draw
 abbrev pub frequency_after_hit : ℕ → ℕ → ℕ
-frequency_after_hit frequency draw = if counts frequency draw then frequency + 1 else frequency
+frequency_after_hit frequency draw = if draw_raises frequency draw then frequency + 1 else frequency

@@ -1,6 +1,6 @@
 //! Numbers in turn, as those of the segments that a pass gives up one after another.
 ghost use Rattle.std.specs.Prelude.{◌≡◌, ℕ, ◌+◌, ◌%◌, ◌^◌, ◌<◌, ◌≤◌, ◌==◌, slice_index, count_by};
-ghost use Rattle.segpolicy.specs.Cycle.{number_of, turned, answers};
+ghost use Rattle.segpolicy.specs.Cycle.{next_of, turned, answers};
 
 use std::marker::Model;
 
@@ -39,7 +39,7 @@ impl Ring {
 
     /// The next number.
     pub fn next(&mut self) -> u32
-        ensures value { result ≡ number_of self.old }
+        ensures value { result ≡ next_of self.old }
         ensures turned { self.new ≡ turned self.old }
         ensures in_range { (self.old.first ≤ result)
             × (result < self.old.first + self.old.count) }

@@ -19,7 +19,7 @@ use Rattle.segbase.specs.declared.board.Board.{Board}
 use Rattle.segbase.specs.declared.pass.Pass.{Pass}
 use Rattle.segbase.specs.declared.place.Place.{Place}
 use Rattle.segbase.specs.Traces.{OnlyReads}
-use Rattle.segbase.specs.Passes.{number, trace, seen, sight, taken, Moved, Did}
+use Rattle.segbase.specs.Passes.{number, trace, seen, sight, taken, AddsEvents, AddsAtOnce}
 use Rattle.segbase.specs.Plain.{locked_of}
 use Rattle.segbase.proofs.Moves.{moved_inside, moved_taken, moved_bounced}
 use Rattle.segstore.specs.Reading.{IsReader}
@@ -50,7 +50,7 @@ pub found_place : (z : Shape) (place : Place) (w : ℕ) (key value : List ℕ) (
 found_place z place w key value h g l found = chained_later z found.saw.at g place l found.saw.between.1 found.saw.was.chained
 
 -- a pass that raises a frequency only reads
-pub raises : (b : Board) (p q : Pass) (segment row frequency : ℕ) → Moved b (Bumped (number p) segment row frequency ∷ []) p q → q.plain ≡ p.plain → (sight q).memo ≡ (sight p).memo → IsReader b p q
+pub raises : (b : Board) (p q : Pass) (segment row frequency : ℕ) → AddsEvents b (Bumped (number p) segment row frequency ∷ []) p q → q.plain ≡ p.plain → (sight q).memo ≡ (sight p).memo → IsReader b p q
 raises b p q segment row frequency m plain memo = record {
   reads = record {
     own = Bumped (number p) segment row frequency ∷ [];
@@ -63,7 +63,7 @@ raises b p q segment row frequency m plain memo = record {
   memo = memo;
 }
 
-pub hits : (b : Board) (p q : Pass) (segment row frequency : ℕ) (raised : Bool) → Did b (cond raised (Bumped (number p) segment row frequency ∷ []) []) p q → q.plain ≡ p.plain → (sight q).memo ≡ (sight p).memo → IsReader b p q
+pub hits : (b : Board) (p q : Pass) (segment row frequency : ℕ) (raised : Bool) → AddsAtOnce b (cond raised (Bumped (number p) segment row frequency ∷ []) []) p q → q.plain ≡ p.plain → (sight q).memo ≡ (sight p).memo → IsReader b p q
 hits b p q segment row frequency true d plain memo = raises b p q segment row frequency d.moved plain memo
 hits b p q segment row frequency false d plain memo = looks b p q (record { did = d; plain = plain; memo = memo })
 

@@ -8,7 +8,7 @@ use Rattle.segcore.specs.Count as count
 use Rattle.segcore.specs.Kind.{unless_own}
 use Rattle.segbase.specs.declared.board.Board.{Board}
 use Rattle.segbase.specs.declared.pass.Pass.{Pass}
-use Rattle.segbase.specs.Passes.{number, view, entered, Moved}
+use Rattle.segbase.specs.Passes.{number, view, entered, AddsEvents}
 use Rattle.segbase.specs.Steps.{has_bit, Glances}
 use Rattle.segbase.proofs.Moves.{moved_entered, moved_raised}
 use Rattle.segpass.specs.Calls.{RaisesNothing}
@@ -21,14 +21,14 @@ StaysOut p q = (entered q ≡ entered p) × RaisesNothing p q
 
 -- ---- single calls
 
-pub looked : (b : Board) (p q : Pass) → Moved b [] p q → StaysOut p q
+pub looked : (b : Board) (p q : Pass) → AddsEvents b [] p q → StaysOut p q
 looked b p q m = (moved_entered b [] p q m, moved_raised b [] p q m)
 
-pub leaves : (b : Board) (segment : ℕ) (p q : Pass) → Moved b (Left (number p) segment ∷ []) p q → StaysOut p q
+pub leaves : (b : Board) (segment : ℕ) (p q : Pass) → AddsEvents b (Left (number p) segment ∷ []) p q → StaysOut p q
 leaves b segment p q m = (moved_entered b _ p q m, moved_raised b _ p q m)
 
 -- a look at the information
-set_found : (b : Board) (bucket : ℕ) (own : Bool) (p q : Pass) → Moved b (unless_own own (Glanced (number p) bucket)) p q → StaysOut p q
+set_found : (b : Board) (bucket : ℕ) (own : Bool) (p q : Pass) → AddsEvents b (unless_own own (Glanced (number p) bucket)) p q → StaysOut p q
 set_found b bucket true p q m = looked b p q m
 set_found b bucket false p q m = (moved_entered b _ p q m, moved_raised b _ p q m)
 
@@ -43,7 +43,7 @@ glanced b bucket info p q g = by_bit b bucket info p q info.held refl g
 pub same_view : (p q : Pass) → view q ≡ view p → StaysOut p q
 same_view p q same = (ap (λ (v : View). count.entered v.number v.trace) same, ap (λ (v : View). count.raised v.number v.trace) same)
 
-pub came_in : (b : Board) (segment : ℕ) (p q : Pass) → Moved b (Entered (number p) segment ∷ []) p q → IsTry p q
+pub came_in : (b : Board) (segment : ℕ) (p q : Pass) → AddsEvents b (Entered (number p) segment ∷ []) p q → IsTry p q
 came_in b segment p q m = (moved_entered b _ p q m ∙ rw (eq-eqb (number p) (number p) refl) refl, moved_raised b _ p q m)
 
 -- ---- one after another

@@ -17,12 +17,12 @@ use Rattle.segcore.proofs.Limits.{bucket_in}
 use Rattle.segbase.specs.declared.board.Board.{Board}
 use Rattle.segbase.specs.declared.pass.Pass.{Pass}
 use Rattle.segbase.specs.Traces.{OnlyReads}
-use Rattle.segbase.specs.Passes.{number, trace, sight, seen, glanced, Moved, Did}
+use Rattle.segbase.specs.Passes.{number, trace, sight, seen, glanced, AddsEvents, AddsAtOnce}
 use Rattle.segbase.specs.Steps.{has_bit, Glances}
 use Rattle.segbase.proofs.Moves.{moved_on, moved_seen, moved_inside, moved_glanced}
 use Rattle.segstore.specs.Reading.{IsReader}
 use Rattle.segstore.proofs.Readers.{looks}
-use Rattle.segread.specs.Scanning.{Counts}
+use Rattle.segread.specs.Scanning.{CountsTries}
 use Rattle.segread.specs.Gets.{disturbed, StoodBetween, IsDisturbed, HasNoBit, Disturbs}
 use Rattle.segpass.proofs.Bits.{bit_before}
 use Rattle.segpass.proofs.Quiet.{reads_none}
@@ -30,7 +30,7 @@ use Rattle.segpass.proofs.Quiet.{reads_none}
 -- ---- the bit
 
 -- a reader takes none
-pub still_no_bit : (b : Board) (key : List ℕ) (own : List Event) (p q : Pass) → Moved b own p q → OnlyReads own → HasNoBit b.shape key p → HasNoBit b.shape key q
+pub still_no_bit : (b : Board) (key : List ℕ) (own : List Event) (p q : Pass) → AddsEvents b own p q → OnlyReads own → HasNoBit b.shape key p → HasNoBit b.shape key q
 still_no_bit b key own p q m only none bit = none (bit_before b own p q (bucket_of b.shape key) m (reads_none b.shape (bucket_of b.shape key) own only) bit)
 
 not_the_holder : (o : Option ℕ) (n : ℕ) → o ≢ Some n → is o n ≡ false
@@ -51,11 +51,11 @@ glanced_grows p c (Glanced q d ∷ own) h = let a = glanced_grows p c own h in l
     up false n = omega arith
 glanced_grows p c (e ∷ own) h = glanced_grows p c own h
 
-pub glances_grow : (b : Board) (own : List Event) (p q : Pass) (c : ℕ) → Moved b own p q → glanced p c ≤ glanced q c
+pub glances_grow : (b : Board) (own : List Event) (p q : Pass) (c : ℕ) → AddsEvents b own p q → glanced p c ≤ glanced q c
 glances_grow b own p q c m = subst (λ n. glanced p c ≤ n) (sym (moved_glanced b own p q c m)) (glanced_grows (number p) c own (trace p))
 
 -- a look at the information that found another's bit set only reads, and counts
-glance_reads : (b : Board) (p q : Pass) (c : ℕ) → Moved b (Glanced (number p) c ∷ []) p q → q.plain ≡ p.plain → (sight q).memo ≡ (sight p).memo → IsReader b p q
+glance_reads : (b : Board) (p q : Pass) (c : ℕ) → AddsEvents b (Glanced (number p) c ∷ []) p q → q.plain ≡ p.plain → (sight q).memo ≡ (sight p).memo → IsReader b p q
 glance_reads b p q c m plain memo = record {
   reads = record {
     own = Glanced (number p) c ∷ [];
@@ -68,7 +68,7 @@ glance_reads b p q c m plain memo = record {
   memo = memo;
 }
 
-glance_counts : (b : Board) (p q : Pass) (c : ℕ) → Moved b (Glanced (number p) c ∷ []) p q → glanced q c ≡ glanced p c + 1
+glance_counts : (b : Board) (p q : Pass) (c : ℕ) → AddsEvents b (Glanced (number p) c ∷ []) p q → glanced q c ≡ glanced p c + 1
 glance_counts b p q c m = moved_glanced b (Glanced (number p) c ∷ []) p q c m
     ∙ cond-true (eqb (number p) (number p) && eqb c c) (glanced p c + 1) (glanced p c) (and_from (eqb (number p) (number p)) (eqb c c) (eq-eqb (number p) (number p) refl) (eq-eqb c c refl))
 
@@ -76,7 +76,7 @@ pub set_reads : (b : Board) (key : List ℕ) (p q : Pass) (info : Info) → IsVa
     → IsReader b p q × (glanced q (bucket_of b.shape key) ≡ glanced p (bucket_of b.shape key) + 1)
 set_reads b key p q info v none g held plain memo =
     let c = bucket_of b.shape key in
-    let d : Did b (Glanced (number p) c ∷ []) p q = subst (λ t. Did b (unless_own t (Glanced (number p) c)) p q) (no_bit b key p v none) (g.1 held) in
+    let d : AddsAtOnce b (Glanced (number p) c ∷ []) p q = subst (λ t. AddsAtOnce b (unless_own t (Glanced (number p) c)) p q) (no_bit b key p v none) (g.1 held) in
     (glance_reads b p q c d.moved plain memo, glance_counts b p q c d.moved)
 
 pub clear_reads : (b : Board) (c : ℕ) (p q : Pass) (info : Info) → Glances b c info p q → info.held ≡ false → q.plain ≡ p.plain → (sight q).memo ≡ (sight p).memo
@@ -95,7 +95,7 @@ stood_to : (z : Shape) (key : List ℕ) (p q r : Pass) → Begins (seen q) (seen
 stood_to z key p q r up (value, (history, between, is)) = (value, (history, (between.0, begins_on history (seen q) (seen r) between.1 up), is))
 
 -- by entries, or where the key stood
-by_both : (z : Shape) (key : List ℕ) (some more most : ℕ) (p q r : Pass) → Begins (seen p) (seen q) → Begins (seen q) (seen r) → Counts z key some more (trace p) (trace q) ⊎ StoodBetween z key p q → Counts z key more most (trace q) (trace r) ⊎ StoodBetween z key q r → Counts z key some most (trace p) (trace r) ⊎ StoodBetween z key p r
+by_both : (z : Shape) (key : List ℕ) (some more most : ℕ) (p q r : Pass) → Begins (seen p) (seen q) → Begins (seen q) (seen r) → CountsTries z key some more (trace p) (trace q) ⊎ StoodBetween z key p q → CountsTries z key more most (trace q) (trace r) ⊎ StoodBetween z key q r → CountsTries z key some most (trace p) (trace r) ⊎ StoodBetween z key p r
 by_both z key some more most p q r up on (inl a) (inl b) = inl (omega (arith, a, b))
 by_both z key some more most p q r up on (inl a) (inr s) = inr (stood_from z key p q r up s)
 by_both z key some more most p q r up on (inr s) b = inr (stood_to z key p q r on s)
@@ -104,15 +104,15 @@ pub disturbs_then : (z : Shape) (key : List ℕ) (some more most : ℕ) (p q r :
 disturbs_then z key some more most p q r c d = (begins_on (seen p) (seen q) (seen r) c.0 d.0, (let x = c.1 in let y = d.1 in omega (arith, x, y)), by_both z key some more most p q r c.0 d.0 c.2 d.2)
 
 -- tries that are counted by entries alone
-pub by_entries : (b : Board) (key : List ℕ) (some more : ℕ) (p q : Pass) → IsReader b p q → Counts b.shape key some more (trace p) (trace q) → Disturbs b.shape key some more p q
+pub by_entries : (b : Board) (key : List ℕ) (some more : ℕ) (p q : Pass) → IsReader b p q → CountsTries b.shape key some more (trace p) (trace q) → Disturbs b.shape key some more p q
 by_entries b key some more p q i c = let g = glances_grow b i.reads.own p q (bucket_of b.shape key) i.reads.moved in (moved_seen b i.reads.own p q i.reads.moved, omega (arith, c, g), inl c)
 
 -- and one more by the bit, which was found set
-pub by_bit : (b : Board) (key : List ℕ) (some more : ℕ) (p q : Pass) → IsReader b p q → Counts b.shape key some more (trace p) (trace q) → glanced p (bucket_of b.shape key) + 1 ≤ glanced q (bucket_of b.shape key) → StoodBetween b.shape key p q → Disturbs b.shape key some (more + 1) p q
+pub by_bit : (b : Board) (key : List ℕ) (some more : ℕ) (p q : Pass) → IsReader b p q → CountsTries b.shape key some more (trace p) (trace q) → glanced p (bucket_of b.shape key) + 1 ≤ glanced q (bucket_of b.shape key) → StoodBetween b.shape key p q → Disturbs b.shape key some (more + 1) p q
 by_bit b key some more p q i c g stood = (moved_seen b i.reads.own p q i.reads.moved, omega (arith, c, g), inr stood)
 
 -- 64 tries: so often the pass was disturbed
-is_disturbed_by : (z : Shape) (key : List ℕ) (p q : Pass) → 64 ≤ disturbed z key p q → Counts z key 0 64 (trace p) (trace q) ⊎ StoodBetween z key p q → IsDisturbed z key p q
+is_disturbed_by : (z : Shape) (key : List ℕ) (p q : Pass) → 64 ≤ disturbed z key p q → CountsTries z key 0 64 (trace p) (trace q) ⊎ StoodBetween z key p q → IsDisturbed z key p q
 is_disturbed_by z key p q all (inl a) = inl (omega (arith, a))
 is_disturbed_by z key p q all (inr s) = inr (all, s)
 

@@ -13,11 +13,11 @@ use Rattle.segcore.proofs.Segments.{row_since}
 use Rattle.segbase.specs.declared.board.Board.{Board}
 use Rattle.segbase.specs.declared.pass.Pass.{Pass}
 use Rattle.segbase.specs.declared.place.Place.{Place}
-use Rattle.segbase.specs.Passes.{number, trace, Moved}
+use Rattle.segbase.specs.Passes.{number, trace, AddsEvents}
 use Rattle.segbase.proofs.Alone.{moved_alone}
 use Rattle.segbase.proofs.Moves.{moved_on, is_inside}
 use Rattle.segbase.proofs.Staying.{none_both}
-use Rattle.segstore.specs.Reading.{IsReadable, IsReader, IsReaderIn, ReadsRow, Leaves}
+use Rattle.segstore.specs.Reading.{IsReadable, IsReader, IsReaderIn, ReadsRow, LeavesSegment}
 use Rattle.segstore.specs.Linked.{segment_part, row_part, FoundItem, FoundKey}
 use Rattle.segstore.proofs.Readers.{looks, then_reader, leave_then}
 use Rattle.segstore.proofs.Seconds.{segment_of_item, found_readable, found_value}
@@ -33,7 +33,7 @@ pub read_in : (b : Board) (p q v : Pass) (s r : ℕ) → IsReaderIn b p q s → 
 read_in b p q v s r i reads = then_reader b p q v s i (looks b q v reads.looked)
 
 -- the whole way of a hit: its value is read, it is counted, and the segment left
-pub read_and_left : (b : Board) (p q v t r : Pass) (segment row : ℕ) → IsReaderIn b p q segment → ReadsRow b q v segment row → IsReader b v t → Leaves b t r segment → IsReader b p r
+pub read_and_left : (b : Board) (p q v t r : Pass) (segment row : ℕ) → IsReaderIn b p q segment → ReadsRow b q v segment row → IsReader b v t → LeavesSegment b t r segment → IsReader b p r
 read_and_left b p q v t r segment row i reads counted out = leave_then b p t r segment (then_reader b p v t segment (read_in b p q v segment row i reads) counted) out
 
 pub read_value : (b : Board) (p q v : Pass) (place : Place) (item : Item) (header : ℕ) (key value : List ℕ) → IsReaderIn b p q item.seg → FoundKey b.shape place item header key (trace p) (trace q) → ReadsRow b q v item.seg item.row
@@ -41,7 +41,7 @@ pub read_value : (b : Board) (p q v : Pass) (place : Place) (item : Item) (heade
 read_value b p q v place item header key value i f reads is = found_value b q v place item header key value (trace p) (is_inside b p q item.seg i.reads) f reads is
 
 -- what was found is so still, while the pass only looks
-pub found_on : (b : Board) (p q : Pass) (place : Place) (item : Item) (key value : List ℕ) (h : List Event) → 0 < inside (trace p) (number p) item.seg → Moved b [] p q → FoundItem b.shape place (item_word item) key value h (trace p) → FoundItem b.shape place (item_word item) key value h (trace q)
+pub found_on : (b : Board) (p q : Pass) (place : Place) (item : Item) (key value : List ℕ) (h : List Event) → 0 < inside (trace p) (number p) item.seg → AddsEvents b [] p q → FoundItem b.shape place (item_word item) key value h (trace p) → FoundItem b.shape place (item_word item) key value h (trace q)
 found_on b p q place item key value h there m f =
     let s = segment_part (item_word item) in let r = row_part (item_word item) in
     let none : NoneRefills s m.more = subst (λ s. NoneRefills s m.more) (segment_of_item item) (m.kept item.seg there) in record {

@@ -30,7 +30,7 @@ use Rattle.segbase.specs.declared.pass.Pass.{Pass}
 use Rattle.segbase.specs.declared.pass.Plain.{Plain}
 use Rattle.segbase.specs.declared.place.Place.{Place}
 use Rattle.segbase.specs.Minding.{HasHeld, Minds}
-use Rattle.segbase.specs.Passes.{sight, number, trace, seen, holding, locked, IsPassOf, IsMemo, Moved, Did}
+use Rattle.segbase.specs.Passes.{sight, number, trace, seen, holding, locked, IsPassOf, IsMemo, AddsEvents, AddsAtOnce}
 use Rattle.segbase.specs.Plain.{is_holding_of}
 use Rattle.segbase.specs.Traces.{OnlyReads}
 use Rattle.segbase.proofs.Staying.{none_both}
@@ -104,8 +104,8 @@ stays shape hold p q is same = record { held = is.held; holds = same ∙ is.hold
 -- ---- quiet again
 
 -- what a reader does, and then what the pass says of its hold
-module _ (b : Board) (own : List Event) (held : Option Held) (p r q : Pass) (quiet : IsQuiet b p) (m : Moved b own p r) (only : OnlyReads own) (plain : r.plain ≡ p.plain) (same : memo r ≡ memo p) (is : IsPassOf b q) (sets : SetsHold held r q) where
-  pub moved_to : Moved b own p q
+module _ (b : Board) (own : List Event) (held : Option Held) (p r q : Pass) (quiet : IsQuiet b p) (m : AddsEvents b own p r) (only : OnlyReads own) (plain : r.plain ≡ p.plain) (same : memo r ≡ memo p) (is : IsPassOf b q) (sets : SetsHold held r q) where
+  pub moved_to : AddsEvents b own p q
   moved_to = then_minds b own p r q m sets.view is
 
   pub keeps_but : KeepsButHold p q
@@ -258,7 +258,7 @@ left_once : (t : Bool) → (let n : ℕ = cond t (cond t 1 0 - 1) (cond t 1 0) i
 left_once true = refl
 left_once false = refl
 
-module _ (b : Board) (p r q : Pass) (hold : Hold) (quiet : IsQuiet b p) (of : IsHoldOf b.shape hold p) (did : Did b (Left (number p) hold.segment ∷ []) p r) (plain : r.plain ≡ p.plain) (same : memo r ≡ memo p) (is : IsPassOf b q) (sets : SetsHold None r q) where
+module _ (b : Board) (p r q : Pass) (hold : Hold) (quiet : IsQuiet b p) (of : IsHoldOf b.shape hold p) (did : AddsAtOnce b (Left (number p) hold.segment ∷ []) p r) (plain : r.plain ≡ p.plain) (same : memo r ≡ memo p) (is : IsPassOf b q) (sets : SetsHold None r q) where
   abbrev own : List Event
   own = Left (number p) hold.segment ∷ []
 

@@ -28,7 +28,7 @@ use Rattle.segbase.specs.declared.place.Place.{Place}
 use Rattle.segbase.specs.Passes.{number, trace, seen}
 use Rattle.segbase.specs.Spots.{cell_at, position, home_bucket}
 use Rattle.segstore.specs.Reading.{IsReader}
-use Rattle.segstore.specs.Linked.{segment_part, row_part, word_at, IsChained, FoundItem}
+use Rattle.segstore.specs.Linked.{segment_part, row_part, word_of_place, IsChained, FoundItem}
 use Rattle.segstore.proofs.Words.{same_segment, names_in}
 use Rattle.segpass.proofs.Before.{stood_before}
 
@@ -48,7 +48,7 @@ clear_version z h b few l none =
 -- with g where the item was found, r the moment between, and t where its word was looked at again
 module _ (z : Shape) (place : Place) (w w' : ℕ) (key value : List ℕ) (h g : List Event) (late early : List Event) (v : IsValid z) (found : FoundItem z place w key value h g)
     (l : IsLawful z (late ++ (early ++ g))) (lr : IsLawful z (early ++ g)) (none_late : NoneRefills (segment_part w) late) (none_early : NoneRefills (segment_part w) early)
-    (c : IsChained z (late ++ (early ++ g)) place) (stood : word_at z (late ++ (early ++ g)) place ≡ w') (same : IsSameItem w w') where
+    (c : IsChained z (late ++ (early ++ g)) place) (stood : word_of_place z (late ++ (early ++ g)) place ≡ w') (same : IsSameItem w w') where
   abbrev r : List Event
   r = early ++ g
 
@@ -96,7 +96,7 @@ module _ (z : Shape) (place : Place) (w w' : ℕ) (key value : List ℕ) (h g : 
 
 -- of passes: p before the try, q in the segment, r after the look at the information, and t after the third look
 pub one_moment : (b : Board) (p q r t : Pass) (place : Place) (w w' : ℕ) (key value : List ℕ) (version : ℕ) → b.shape.first_version < 2 ^ 32 → IsValid b.shape → FoundItem b.shape place w key value (trace p) (trace q)
-    → 0 < inside (trace q) (number q) (segment_part w) → IsReader b q r → IsReader b r t → IsChained b.shape (trace t) place → word_at b.shape (trace t) place ≡ w' → IsSameItem w w'
+    → 0 < inside (trace q) (number q) (segment_part w) → IsReader b q r → IsReader b r t → IsChained b.shape (trace t) place → word_of_place b.shape (trace t) place ≡ w' → IsSameItem w w'
     → (bucket_after b.shape (trace r) (bucket_of b.shape key)).holder ≡ None → version ≡ (b.shape.first_version + (bucket_after b.shape (trace r) (bucket_of b.shape key)).version) % 2 ^ 32
     → reads_version b.shape (after b.shape (seen r)) key ≡ Some (value, version)
 one_moment b p q r t place w w' key value version few v found there i j c stood same none is =
@@ -108,7 +108,7 @@ one_moment b p q r t place w w' key value version few v found there i j c stood 
     (reads_then z place w w' key value (trace p) (trace q) k.more m.more v found
     (subst (IsLawful z) to_t k.pass.lawful) (subst (IsLawful z) m.goes_on m.pass.lawful)
     (k.kept s (j.reads.stays s there')) (m.kept s (i.reads.stays s there))
-    (subst (λ h. IsChained z h place) to_t c) (subst (λ h. word_at z h place ≡ w') to_t stood) same
+    (subst (λ h. IsChained z h place) to_t c) (subst (λ h. word_of_place z h place ≡ w') to_t stood) same
     version few
     (subst (λ h. (bucket_after z h (bucket_of z key)).holder ≡ None) m.goes_on none)
     (subst (λ h. version ≡ (z.first_version + (bucket_after z h (bucket_of z key)).version) % 2 ^ 32) m.goes_on is))

@@ -30,11 +30,11 @@ use Rattle.segcore.proofs.Moments.{begins_on}
 use Rattle.segcore.proofs.Limits.{low_row, low_segment, low_frequency}
 use Rattle.segcore.proofs.Segments.{row_since}
 use Rattle.segcore.proofs.Standing.{coherent}
-use Rattle.segpolicy.specs.Frequency.{counts, frequency_after_hit}
+use Rattle.segpolicy.specs.Frequency.{draw_raises, frequency_after_hit}
 use Rattle.segbase.specs.declared.board.Board.{Board}
 use Rattle.segbase.specs.declared.pass.Pass.{Pass}
 use Rattle.segbase.specs.declared.place.Place.{Place}
-use Rattle.segbase.specs.Passes.{number, trace, raised, entered, IsPassOf, Moved, Did, Stepped}
+use Rattle.segbase.specs.Passes.{number, trace, raised, entered, IsPassOf, AddsEvents, AddsAtOnce, Stepped}
 use Rattle.segbase.specs.Spots.{cell_at, position, home_bucket}
 use Rattle.segbase.proofs.Alone.{moved_alone}
 use Rattle.segbase.proofs.Moves.{moved_entered}
@@ -82,8 +82,8 @@ module _ (b : Board) (p q : Pass) (place : Place) (item : Item) (higher draw fou
   abbrev at : List Event
   at = step.told.more ++ trace p
 
-  one : (counts item.freq draw ≡ true) × (frequency_after_hit item.freq draw ≡ item.freq + 1)
-  one = one_higher item.freq draw (counts item.freq draw) (subst (λ n. item.freq < n) by up)
+  one : (draw_raises item.freq draw ≡ true) × (frequency_after_hit item.freq draw ≡ item.freq + 1)
+  one = one_higher item.freq draw (draw_raises item.freq draw) (subst (λ n. item.freq < n) by up)
 
   module _ (same : found ≡ item_word item) where
     stood : (k : List ℕ) × (v : List ℕ) × WasLinked b.shape place (item_word item) k v (step.told.more ++ trace p)
@@ -127,13 +127,13 @@ module _ (b : Board) (p q : Pass) (place : Place) (item : Item) (higher draw fou
     unchanged = ap (λ (u : View). u.trace) step.told.now ∙ ap (λ es. es ++ at) (cond-false (eqb found (packed item.tag item.freq item.seg item.row)) (Bumped (number p) item.seg item.row higher ∷ []) [] other)
 
     -- with one pass it can't fail
-    comes_about : b.shape.passes ≡ 1 → Moved b [] p q → ⊥
+    comes_about : b.shape.passes ≡ 1 → AddsEvents b [] p q → ⊥
     comes_about single nothing =
         let then : step.told.more ++ trace p ≡ saw.saw.at = sym unchanged ∙ (moved_alone b [] p q nothing single ∙ saw.alone single) in
         let same = step.told.found_is ∙ (ap (λ g. word b.shape g (cell_at b.shape place)) then ∙ saw.saw.was.stood) in
         false≢true (sym other ∙ eq-eqb found (item_word item) same)
 
-    several : Moved b [] p q → 1 < b.shape.passes
+    several : AddsEvents b [] p q → 1 < b.shape.passes
     several nothing = elim (eqb_tells b.shape.passes 1) [
       | inl one ↦ absurd (comes_about one.1 nothing)
       | inr more ↦ let n = is.one_of in let ne = more.1 in omega (arith, n, ne)
@@ -156,7 +156,7 @@ module _ (b : Board) (p q : Pass) (place : Place) (item : Item) (higher draw fou
 pub raised_by : (b : Board) (p q : Pass) (place : Place) (item : Item) (higher draw found : ℕ) (key value : List ℕ) (h : List Event) (result : Bool) → IsPassOf b p → IsChained b.shape (trace p) place → 0 < inside (trace p) (number p) item.seg
     → FoundItem b.shape place (item_word item) key value h (trace p)
     → Stepped b (bump (home_bucket b.shape (trace p) place) (position b.shape (trace p) place) (cell_at b.shape place) item.tag item.seg item.row item.freq higher) found p q → result ≡ eqb found (item_word item)
-    → Did b (cond result (Bumped (number p) item.seg item.row higher ∷ []) []) p q → raised q ≡ cond result 1 0 + raised p → higher ≡ frequency_after_hit item.freq draw → item.freq < higher → RaisesFrom b.shape key value draw h p q
+    → AddsAtOnce b (cond result (Bumped (number p) item.seg item.row higher ∷ []) []) p q → raised q ≡ cond result 1 0 + raised p → higher ≡ frequency_after_hit item.freq draw → item.freq < higher → RaisesFrom b.shape key value draw h p q
 raised_by b p q place item higher draw found key value h true is chained there saw step same did more by up =
     inl (omega (arith, more), counts_hit b p q place item higher draw found key value h is chained there saw step by up (eqb-true found (item_word item) (sym same)))
 raised_by b p q place item higher draw found key value h false is chained there saw step same did more by up =
@@ -178,12 +178,12 @@ raised_none b p place item higher draw key value h is saw by low = inr (
     since = saw.saw.between.0;
     until = saw.saw.between.1;
     had = has_frequency b.shape saw.saw.at place item key value is.valid saw.saw.was;
-    uncounted = one_lower item.freq draw (counts item.freq draw) (subst (λ n. n ≤ item.freq) by low);
+    uncounted = one_lower item.freq draw (draw_raises item.freq draw) (subst (λ n. n ≤ item.freq) by low);
   }),
 )
 
 -- an exchange comes into no segment
-pub stays_out : (b : Board) (p q : Pass) (segment row frequency : ℕ) (result : Bool) → Moved b (cond result (Bumped (number p) segment row frequency ∷ []) []) p q → entered q ≡ entered p
+pub stays_out : (b : Board) (p q : Pass) (segment row frequency : ℕ) (result : Bool) → AddsEvents b (cond result (Bumped (number p) segment row frequency ∷ []) []) p q → entered q ≡ entered p
 stays_out b p q segment row frequency true m = moved_entered b _ p q m
 stays_out b p q segment row frequency false m = moved_entered b _ p q m
 

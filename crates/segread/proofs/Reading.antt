@@ -6,7 +6,7 @@ use Rattle.segcore.specs.declared.event.Event.TheVariants.{Glanced, Bumped, Ente
 use Rattle.segcore.specs.Event as event
 use Rattle.segbase.specs.declared.board.Board.{Board}
 use Rattle.segbase.specs.declared.pass.Pass.{Pass}
-use Rattle.segbase.specs.Traces.{IsReading, OnlyReads}
+use Rattle.segbase.specs.Traces.{IsReaderEvent, OnlyReads}
 use Rattle.segbase.specs.Passes.{number, trace, Reads}
 use Rattle.segbase.proofs.Moves.{moved_mine}
 use Rattle.segstore.specs.Segments.{KeepsSegments}
@@ -15,7 +15,7 @@ use Rattle.segpass.specs.Quiet.{IsQuiet}
 use Rattle.segpass.specs.Calls.{memo, GoesOn, ChangesNothing}
 use Rattle.segpass.proofs.Quiet.{quiet_reads, goes_on}
 
-is_calm : (e : Event) → IsReading e → IsCalm e
+is_calm : (e : Event) → IsReaderEvent e → IsCalm e
 is_calm (Glanced p b) is = tt
 is_calm (Bumped p s r f) is = tt
 is_calm (Entered p s) is = tt
@@ -26,7 +26,7 @@ pub reads_calm : (own : List Event) → OnlyReads own → AreCalm own
 reads_calm [] only = tt
 reads_calm (e ∷ own) only = (is_calm e only.0, reads_calm own only.1)
 
-is_unseen : (e : Event) (h : List Event) → IsReading e → event.seen (e ∷ h) ≡ event.seen h
+is_unseen : (e : Event) (h : List Event) → IsReaderEvent e → event.seen (e ∷ h) ≡ event.seen h
 is_unseen (Glanced p b) h is = refl
 is_unseen (Bumped p s r f) h is = refl
 is_unseen (Entered p s) h is = refl

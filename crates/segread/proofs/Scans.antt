@@ -28,7 +28,7 @@ use Rattle.segbase.specs.Passes.{trace, IsPassOf}
 use Rattle.segbase.specs.Spots.{IsPlace, cell_at, position, home_bucket, depth_of}
 use Rattle.segbase.proofs.Moves.{moved_on}
 use Rattle.segstore.specs.Reading.{IsReader, IsReaderIn}
-use Rattle.segstore.specs.Linked.{word_at, IsChained, FoundKey}
+use Rattle.segstore.specs.Linked.{word_of_place, IsChained, FoundKey}
 use Rattle.segstore.proofs.Words.{at_place, same_place, chained_later}
 use Rattle.segstore.proofs.Readers.{stays, reader_then, enter_then}
 use Rattle.segread.specs.declared.scan.Hit.{Hit}
@@ -36,7 +36,7 @@ use Rattle.segread.specs.declared.scan.Scan.{Scan}
 use Rattle.segread.specs.declared.scan.Scan.TheVariants as scan
 use Rattle.segread.specs.declared.scan.Way.{Way}
 use Rattle.segread.specs.declared.scan.Way.TheVariants.{Found, Passed, Busy}
-use Rattle.segread.specs.Scanning.{place_of, words_below, IsPlaceOf, IsPlaceAfter, IsOnWay, IsScanner, IsTry, ComesIn, Tries, Counts, Brings, HasPassed, IsHit, IsPast, GivesUp, IsEnded, IsWay, IsScanFrom, IsScan}
+use Rattle.segread.specs.Scanning.{place_of, words_below, IsPlaceOf, IsPlaceAfter, IsOnWay, IsScanner, IsTry, ComesIn, Tries, CountsTries, AdvancesSearch, HasPassed, IsHit, IsPast, GivesUp, IsEnded, IsWay, IsScanFrom, IsScanAnswer}
 use Rattle.segread.specs.Hits.{TriesFew}
 use Rattle.segpass.specs.Calls.{RaisesNothing}
 use Rattle.segread.proofs.ComingIn.{tries_none, tries_once, tries_then, at_most, word_more, words_few, words_most}
@@ -114,7 +114,7 @@ on_way b (Found hit) p q r i j = enter_then b p q r hit.item.seg i j
 on_way b (Passed word tries) p q r i j = reader_then b p q r i j
 on_way b Busy p q r i j = reader_then b p q r i j
 
-passed_then : (z : Shape) (key : List ℕ) (from mid to : ℕ) (place : Place) (w : ℕ) (h g f : List Event) → Begins h g → Brings z key from mid h g → HasPassed z key mid to place w g f → HasPassed z key from to place w h f
+passed_then : (z : Shape) (key : List ℕ) (from mid to : ℕ) (place : Place) (w : ℕ) (h g f : List Event) → Begins h g → AdvancesSearch z key from mid h g → HasPassed z key mid to place w g f → HasPassed z key from to place w h f
 passed_then z key from mid to place w h g f up b p = record {
   last = word_wider z place w g f h f up ([], refl) p.last;
   brings = λ start s ahead. p.brings start (begins_on start h g s up) (b start s ahead);
@@ -146,16 +146,16 @@ hit_here b key place seen item header tries count p q r of i j few tried y once 
       counted = counts_later z key tries count (trace p) y.saw.at found.found.saw.at (begins_on y.saw.at (trace q) found.found.saw.at y.saw.between.1 found.found.saw.between.0) y.counted;
       onward = let on = tried.onward in omega (arith, on, e);
       tried = subst (λ n. Tries (position z (trace p) place) n tries (count + 1) p r) e (tries_once (position z (trace p) place) (position z (trace p) place) tries count p q r tried once);
-      brings = subst (λ n. Brings z key (position z (trace p) place) n (trace p) (trace r)) e (λ start here ahead. key_later z key (position z (trace p) place) start (trace p) (trace r) j.reads.moved.pass.lawful here m ahead);
+      brings = subst (λ n. AdvancesSearch z key (position z (trace p) place) n (trace p) (trace r)) e (λ start here ahead. key_later z key (position z (trace p) place) start (trace p) (trace r) j.reads.moved.pass.lawful here m ahead);
     }
 
 -- looks from one position up to another: none of the words was the key's
 pub record HasScanned (b : Board) (key : List ℕ) (from to some more : ℕ) (p q : Pass) : Type 0 where
   pub reads : IsReader b p q
   pub few : more < 64
-  pub counted : Counts b.shape key some more (trace p) (trace q)
+  pub counted : CountsTries b.shape key some more (trace p) (trace q)
   pub tried : Tries from to some more p q
-  pub brings : Brings b.shape key from to (trace p) (trace q)
+  pub brings : AdvancesSearch b.shape key from to (trace p) (trace q)
 
 pub scanned_none : (b : Board) (key : List ℕ) (at tries : ℕ) (p : Pass) → IsPassOf b p → tries < 64 → HasScanned b key at at tries tries p p
 scanned_none b key at tries p is few = record {
@@ -169,7 +169,7 @@ scanned_none b key at tries p is few = record {
 -- the place after one that was passed, at which a search may go on
 pub record IsNext (z : Shape) (key : List ℕ) (from after : ℕ) (next : Place) (g f : List Event) : Type 0 where
   pub place : IsPlaceOf z f key next
-  pub brings : Brings z key from (position z f next) g f
+  pub brings : AdvancesSearch z key from (position z f next) g f
   pub words : words_below after ≡ words_below (position z f next)
   pub on : after ≤ position z f next
 
@@ -242,7 +242,7 @@ module _ (z : Shape) (key : List ℕ) (place : Place) (from w : ℕ) (g f : List
   there = place_later z key place g p.last.at p.last.lawful p.last.between.0 of
 
   -- a search that is at the place after the word when that was looked at
-  moves : (n : ℕ) → ((start : List Event) → KeyAhead z key after start p.last.at → KeyAhead z key n start p.last.at) → Brings z key from n g f
+  moves : (n : ℕ) → ((start : List Event) → KeyAhead z key after start p.last.at → KeyAhead z key n start p.last.at) → AdvancesSearch z key from n g f
   moves n step start up ahead = key_later z key n start p.last.at f l (begins_on start g p.last.at up p.last.between.0) p.last.between.1 (step start (p.brings start up ahead))
 
   in_bucket : place.word < 7 → IsNext z key from after (place_of place.bucket (place.word + 1)) g f
@@ -252,7 +252,7 @@ module _ (z : Shape) (key : List ℕ) (place : Place) (from w : ℕ) (g f : List
       let is = at_depth z g place in
       let e : position z f next ≡ after = (same_place z g f next l to_now x.0.0).1 ∙ (x.1 ∙ (let a : 8 * d + (place.word + 1) ≡ position z g place + 1 = omega arith in a)) in record {
         place = place_later z key next g f l to_now x.0;
-        brings = subst (λ n. Brings z key from n g f) (sym e) (moves after (λ start ahead. ahead));
+        brings = subst (λ n. AdvancesSearch z key from n g f) (sym e) (moves after (λ start ahead. ahead));
         words = ap words_below (sym e);
         on = omega (arith, e);
       }
@@ -270,8 +270,8 @@ module _ (z : Shape) (key : List ℕ) (place : Place) (from w : ℕ) (g f : List
     is_seven : place.word ≡ 7
     is_seven = let most = of.0.in_table.2 in omega (arith, seven)
 
-    stood : word_at z p.last.at (place_of place.bucket 7) ≡ w
-    stood = subst (λ n. word_at z p.last.at (place_of place.bucket n) ≡ w) is_seven p.last.stood
+    stood : word_of_place z p.last.at (place_of place.bucket 7) ≡ w
+    stood = subst (λ n. word_of_place z p.last.at (place_of place.bucket n) ≡ w) is_seven p.last.stood
 
     after_is : after ≡ 8 * d + 8
     after_is = let same = (same_place z g p.last.at place p.last.lawful p.last.between.0 of.0).1 in let is = at_depth z p.last.at place in let e = is_seven in omega arith
@@ -279,8 +279,8 @@ module _ (z : Shape) (key : List ℕ) (place : Place) (from w : ℕ) (g f : List
     -- the last word leads on
     in_next : (number : ℕ) → chain_word number ≡ w → number < 65536 → IsNext z key from after (place_of (z.buckets + number) 1) g f
     in_next number is few =
-        let low : 0 < word_at z p.last.at (place_of place.bucket 7) = subst (λ n. 0 < n) (is ∙ sym stood) (omega arith) in
-        let high : word_at z p.last.at (place_of place.bucket 7) < 2 ^ 52 = subst (λ n. n < 2 ^ 52) (is ∙ sym stood) (omega (arith, few)) in
+        let low : 0 < word_of_place z p.last.at (place_of place.bucket 7) = subst (λ n. 0 < n) (is ∙ sym stood) (omega arith) in
+        let high : word_of_place z p.last.at (place_of place.bucket 7) < 2 ^ 52 = subst (λ n. n < 2 ^ 52) (is ∙ sym stood) (omega (arith, few)) in
         let on = leads_on z p.last.at (bucket_of z key) d cell v p.last.lawful (bucket_in z key v) here low high in
         let same : on.1.0 ≡ number = let a : chain_word on.1.0 ≡ chain_word number = sym on.1.1 ∙ (stood ∙ sym is) in omega arith in
         let x = next_place z key d number p.last.at (subst (λ n. n < z.overflow) same on.1.3) on.0 (subst (λ n. home_of p.last.at n ≡ Some (home (bucket_of z key) (d + 1))) same on.1.2) in
@@ -288,7 +288,7 @@ module _ (z : Shape) (key : List ℕ) (place : Place) (from w : ℕ) (g f : List
         let e : position z f next ≡ 8 * (d + 1) + 1 = (same_place z p.last.at f next l p.last.between.1 x.0.0).1 ∙ x.1 in
         let ended = after_is in record {
           place = place_later z key next p.last.at f l p.last.between.1 x.0;
-          brings = subst (λ n. Brings z key from n g f) (sym e)
+          brings = subst (λ n. AdvancesSearch z key from n g f) (sym e)
               (moves (8 * (d + 1) + 1) (λ start ahead. subst (λ n. KeyAhead z key n start p.last.at) (let a : 8 * d + 8 + 1 ≡ 8 * (d + 1) + 1 = omega arith in a)
               (key_skipped z key (8 * d + 8) start p.last.at p.last.lawful (omega arith) (subst (λ n. KeyAhead z key n start p.last.at) after_is ahead))));
           words = ap words_below after_is ∙ ((let a : words_below (8 * d + 8) ≡ words_below (8 * (d + 1) + 1) = omega arith in a) ∙ ap words_below (sym e));
@@ -298,15 +298,15 @@ module _ (z : Shape) (key : List ℕ) (place : Place) (from w : ℕ) (g f : List
     -- or ends the chain
     ended : ¬ (IsChainWord w) → (start : List Event) → Begins start g → KeyAhead z key from start g → WasGone (KeyGone z key) start f
     ended none start up ahead =
-        let out : (word_at z p.last.at (place_of place.bucket 7) ≡ 0) ⊎ (2 ^ 52 ≤ word_at z p.last.at (place_of place.bucket 7)) = ⊎_elim
+        let out : (word_of_place z p.last.at (place_of place.bucket 7) ≡ 0) ⊎ (2 ^ 52 ≤ word_of_place z p.last.at (place_of place.bucket 7)) = ⊎_elim
         (λ lt. ⊎_elim
         (λ low. let on = leads_on z p.last.at (bucket_of z key) d cell v p.last.lawful (bucket_in z key v) here low lt in
         let most = few_drawn z v in let few = on.1.3 in let is : chain_word on.1.0 ≡ w = sym on.1.1 ∙ stood in
         absurd (none ((let a : 1 ≤ w = omega arith in a), (let a : w ≤ 65536 = omega arith in a))))
-        (λ le. inl (let a : word_at z p.last.at (place_of place.bucket 7) ≡ 0 = omega arith in a))
-        (cases_lt 0 (word_at z p.last.at (place_of place.bucket 7))))
+        (λ le. inl (let a : word_of_place z p.last.at (place_of place.bucket 7) ≡ 0 = omega arith in a))
+        (cases_lt 0 (word_of_place z p.last.at (place_of place.bucket 7))))
         (λ le. inr le)
-        (cases_lt (word_at z p.last.at (place_of place.bucket 7)) (2 ^ 52)) in
+        (cases_lt (word_of_place z p.last.at (place_of place.bucket 7)) (2 ^ 52)) in
         let le = ends_there z p.last.at (bucket_of z key) d cell v p.last.lawful here.1 out in
         let gone = key_ended z key d start p.last.at p.last.lawful le (subst (λ n. KeyAhead z key n start p.last.at) after_is (p.brings start up ahead)) in
         (gone.0, gone.1, begins_on gone.0 p.last.at f gone.2 p.last.between.1, gone.3)
@@ -329,7 +329,7 @@ hit_place z key from tries hit p q l x = let saw = x.found.found.saw in
 pub few_times : (from to tries : ℕ) (p q : Pass) → from ≡ 1 → words_below to + tries ≤ 91 → Tries from to 0 tries p q → TriesFew p q
 few_times from to tries p q first most i = let few = subst (λ n. ComesIn n to 0 tries p q) first i.comes_in in omega (arith, few, most)
 
-pub whole_scan : (b : Board) (key : List ℕ) (from : ℕ) (w : Scan) (p q : Pass) → from ≡ 1 → IsPassOf b p → IsScanner b w p q → IsScanFrom b.shape key from 0 w p q → IsScan b.shape key w (trace p) (trace q) × TriesFew p q × RaisesNothing p q
+pub whole_scan : (b : Board) (key : List ℕ) (from : ℕ) (w : Scan) (p q : Pass) → from ≡ 1 → IsPassOf b p → IsScanner b w p q → IsScanFrom b.shape key from 0 w p q → IsScanAnswer b.shape key w (trace p) (trace q) × TriesFew p q × RaisesNothing p q
 whole_scan b key from (scan.Found hit) p q first is i x =
     let l = i.reads.moved.pass.lawful in let in' = (in_chain b.shape (trace q) hit.place l (hit_place b.shape key from 0 hit p q l x).0).1 in
     (x.found, few_times from (position b.shape (trace q) hit.place) (hit.tries + 1) p q first (let few = x.few in let most = words_few (position b.shape (trace q) hit.place) in' in omega (arith, few, most)) x.tried, x.tried.raises_nothing)

@@ -30,17 +30,17 @@ use Rattle.segcore.proofs.Searches.{key_later, key_passed}
 use Rattle.segbase.specs.declared.board.Board.{Board}
 use Rattle.segbase.specs.declared.pass.Pass.{Pass}
 use Rattle.segbase.specs.declared.place.Place.{Place}
-use Rattle.segbase.specs.Passes.{number, trace, IsPassOf, Did}
+use Rattle.segbase.specs.Passes.{number, trace, IsPassOf, AddsAtOnce}
 use Rattle.segbase.specs.Spots.{cell_at, position, home_bucket}
 use Rattle.segbase.proofs.Standing.{tag_of_word}
 use Rattle.segbase.proofs.Moves.{moved_on}
 use Rattle.segstore.specs.Reading.{IsReader}
-use Rattle.segstore.specs.Linked.{segment_part, word_at, IsChained, SawItem, FoundItem, FoundKey, SawWord, IsKeyed}
+use Rattle.segstore.specs.Linked.{segment_part, word_of_place, IsChained, SawItem, FoundItem, FoundKey, SawWord, IsKeyed}
 use Rattle.segstore.specs.declared.read.Keyed.{Keyed}
 use Rattle.segstore.specs.declared.read.Keyed.TheVariants.{Same, Other, Changed}
 use Rattle.segstore.proofs.Words.{same_place, chained_later, names_in, stood_item, same_parts}
 use Rattle.segstore.proofs.Seconds.{segment_of_item}
-use Rattle.segread.specs.Scanning.{IsPlaceOf, MayEnterAny, IsTrial, Counts, HasPassed}
+use Rattle.segread.specs.Scanning.{IsPlaceOf, MayEnterAny, IsTrial, CountsTries, HasPassed}
 
 -- ---- seen between wider moments
 
@@ -105,7 +105,7 @@ item_word_seen z place w k v h g s = record { at = s.at; between = s.between; la
 -- ---- tries
 
 -- two words of a place that have different items: an entry of the bucket lies between
-pub one_entry : (z : Shape) (place : Place) (w w' : ℕ) (h g : List Event) → IsValid z → IsLawful z h → IsLawful z g → Begins h g → IsChained z h place → word_at z h place ≡ w → word_at z g place ≡ w' → 1 ≤ w / 2 ^ 52 → 1 ≤ w' / 2 ^ 52 → ¬ (IsSameItem w w')
+pub one_entry : (z : Shape) (place : Place) (w w' : ℕ) (h g : List Event) → IsValid z → IsLawful z h → IsLawful z g → Begins h g → IsChained z h place → word_of_place z h place ≡ w → word_of_place z g place ≡ w' → 1 ≤ w / 2 ^ 52 → 1 ≤ w' / 2 ^ 52 → ¬ (IsSameItem w w')
     → entries_of z (home_bucket z h place) (seen h) + 1 ≤ entries_of z (home_bucket z h place) (seen g)
 one_entry z place w w' h g v l k s c is is' t t' ne =
     let e = same_place z h g place k s c in
@@ -115,13 +115,13 @@ one_entry z place w w' h g v l k s c is is' t t' ne =
     (subst (λ b. Names z g b (position z h place) (cell_at z place) y.tag y.segment y.row) e.0 (subst (λ n. Names z g (home_bucket z g place) n (cell_at z place) y.tag y.segment y.row) e.1 y.names))
     (λ all. ne (same_parts w w' t (x.is_tag ∙ (all.0 ∙ sym y.is_tag)) (x.is_segment ∙ (all.1 ∙ sym y.is_segment)) (x.is_row ∙ (all.2 ∙ sym y.is_row))))
 
-abbrev pub counts_none : (z : Shape) (key : List ℕ) (n : ℕ) (h g : List Event) → Begins h g → Counts z key n n h g
+abbrev pub counts_none : (z : Shape) (key : List ℕ) (n : ℕ) (h g : List Event) → Begins h g → CountsTries z key n n h g
 counts_none z key n h g s = let a = entries_begin z (bucket_of z key) h g s in omega arith
 
-pub counts_later : (z : Shape) (key : List ℕ) (some more : ℕ) (h g f : List Event) → Begins g f → Counts z key some more h g → Counts z key some more h f
+pub counts_later : (z : Shape) (key : List ℕ) (some more : ℕ) (h g f : List Event) → Begins g f → CountsTries z key some more h g → CountsTries z key some more h f
 counts_later z key some more h g f s c = let a = entries_begin z (bucket_of z key) g f s in omega arith
 
-pub counts_then : (z : Shape) (key : List ℕ) (some more most : ℕ) (h g f : List Event) → Counts z key some more h g → Counts z key more most g f → Counts z key some most h f
+pub counts_then : (z : Shape) (key : List ℕ) (some more most : ℕ) (h g f : List Event) → CountsTries z key some more h g → CountsTries z key more most g f → CountsTries z key some most h f
 counts_then z key some more most h g f c d = omega arith
 
 tag_of_item : (item : Item) → item_word item / 2 ^ 52 ≡ item.tag
@@ -134,7 +134,7 @@ has_tag item = subst (λ n. 1 ≤ n) (sym (tag_of_item item)) item.tag_above_zer
 pub record Trying (z : Shape) (key : List ℕ) (place : Place) (tries : ℕ) (item : Item) (count : ℕ) (h g : List Event) : Type 0 where
   pub saw : SawWord z place (item_word item) h g
   pub tag : item.tag ≡ tag_of key
-  pub counted : Counts z key tries count h saw.at
+  pub counted : CountsTries z key tries count h saw.at
 
 pub trying_first : (z : Shape) (key : List ℕ) (place : Place) (tries : ℕ) (item : Item) (w : ℕ) (h g : List Event) → SawWord z place w h g → item_word item ≡ w → item.tag ≡ tag_of key → Trying z key place tries item tries h g
 trying_first z key place tries item w h g s is tag = record {
@@ -158,12 +158,12 @@ trying_on z key place tries item count other w h g f v of up y s ne is tag =
       counted = omega arith;
     }
 
-pub tried : (z : Shape) (key : List ℕ) (place : Place) (tries : ℕ) (item : Item) (count : ℕ) (h g f : List Event) → Begins g f → Trying z key place tries item count h g → Counts z key tries count h f
+pub tried : (z : Shape) (key : List ℕ) (place : Place) (tries : ℕ) (item : Item) (count : ℕ) (h g f : List Event) → Begins g f → Trying z key place tries item count h g → CountsTries z key tries count h f
 tried z key place tries item count h g f up y = counts_later z key tries count h y.saw.at f (begins_on y.saw.at g f y.saw.between.1 up) y.counted
 
 -- ---- what a visit passes
 
-pub saw_now : (b : Board) (p q : Pass) (place : Place) (w : ℕ) → Did b [] p q → w ≡ word_at b.shape (trace q) place → SawWord b.shape place w (trace p) (trace q)
+pub saw_now : (b : Board) (p q : Pass) (place : Place) (w : ℕ) → AddsAtOnce b [] p q → w ≡ word_of_place b.shape (trace q) place → SawWord b.shape place w (trace p) (trace q)
 saw_now b p q place w d is = record { at = trace q; between = (moved_on b [] p q d.moved, ([], refl)); lawful = d.moved.pass.lawful; stood = sym is }
 
 pub passed_word : (z : Shape) (key : List ℕ) (place : Place) (w tag : ℕ) (h g f : List Event) → IsValid z → IsPlaceOf z h key place → Begins h g → SawWord z place w g f → tag ≡ tag_of key → w / 2 ^ 52 ≢ tag → HasPassed z key (position z h place) (position z h place + 1) place w h f

@@ -22,14 +22,14 @@ use Rattle.segbase.specs.Passes.{number, trace, sight, seen, entered}
 use Rattle.segbase.specs.Spots.{position}
 use Rattle.segbase.specs.Steps.{Glances}
 use Rattle.segbase.proofs.Moves.{moved_on, is_inside}
-use Rattle.segstore.specs.Reading.{Looked, IsReader, IsReaderIn, ReadsRow, Leaves}
-use Rattle.segstore.specs.Linked.{word_at, FoundItem}
+use Rattle.segstore.specs.Reading.{OnlyLooks, IsReader, IsReaderIn, ReadsRow, LeavesSegment}
+use Rattle.segstore.specs.Linked.{word_of_place, FoundItem}
 use Rattle.segstore.proofs.Words.{same_place, chained_later}
 use Rattle.segstore.proofs.Seconds.{segment_of_item}
 use Rattle.segstore.proofs.Readers.{looks, reader_then, then_reader, leave_then}
 use Rattle.segread.specs.declared.scan.Hit.{Hit}
 use Rattle.segread.specs.Hits.{RaisesFrom, RaisesOne}
-use Rattle.segread.specs.Scanning.{words_below, IsPlaceOf, IsPlaceAfter, ComesIn, Tries, Counts, Brings, HasPassed, IsHit, IsEnded}
+use Rattle.segread.specs.Scanning.{words_below, IsPlaceOf, IsPlaceAfter, ComesIn, Tries, CountsTries, AdvancesSearch, HasPassed, IsHit, IsEnded}
 use Rattle.segread.specs.Gets.{ReadsVersionBetween, HasNoBit, Disturbs, IsSeen, MovesOn}
 use Rattle.segread.proofs.Answered.{found_reads}
 use Rattle.segread.proofs.ComingIn as coming
@@ -45,7 +45,7 @@ module _ (b : Board) (key : List ℕ) (from tries : ℕ) (hit : Hit) (value : Li
     (scan : IsReaderIn b p q hit.item.seg) (x : IsHit b.shape key from tries hit p q) (row : ReadsRow b q v hit.item.seg hit.item.row)
     (is_value : (k w : List ℕ) → IsKey k → IsValue w → Holds (row_after (trace v) hit.item.seg hit.item.row) k w → value ≡ w)
     (glance : Glances b (bucket_of b.shape key) info v g) (plain : g.plain ≡ v.plain) (memo : (sight g).memo ≡ (sight v).memo)
-    (version : info.version ≡ (b.shape.first_version + (bucket_after b.shape (trace g) (bucket_of b.shape key)).version) % 2 ^ 32) (look : Looked b g l) (stands : now ≡ word_at b.shape (trace l) hit.place) where
+    (version : info.version ≡ (b.shape.first_version + (bucket_after b.shape (trace g) (bucket_of b.shape key)).version) % 2 ^ 32) (look : OnlyLooks b g l) (stands : now ≡ word_of_place b.shape (trace l) hit.place) where
   abbrev z : Shape
   z = b.shape
 
@@ -99,7 +99,7 @@ module _ (b : Board) (key : List ℕ) (from tries : ℕ) (hit : Hit) (value : Li
   out = out_then q v l (looked b q v row.looked.did.moved) (out_then v g l (coming.glanced b c info v g glance) (looked b g l look.did.moved))
 
   -- another item came in since this one stood
-  one_more : ¬ (IsSameItem (item_word hit.item) now) → 1 ≤ tag_part now → Counts z key tries (hit.tries + 1) (trace p) (trace l)
+  one_more : ¬ (IsSameItem (item_word hit.item) now) → 1 ≤ tag_part now → CountsTries z key tries (hit.tries + 1) (trace p) (trace l)
   one_more ne tag =
       let saw = x.found.found.saw in
       let more = one_entry z hit.place (item_word hit.item) now saw.at (trace l) valid saw.was.lawful lawful (begins_on saw.at (trace q) (trace l) saw.between.1 on) saw.was.chained saw.was.stood (sym stands) (has_tag hit.item) tag ne in
@@ -126,7 +126,7 @@ module _ (b : Board) (key : List ℕ) (from tries : ℕ) (hit : Hit) (value : Li
     place = place_later z key hit.place (trace q) (trace l) lawful on at_q;
     tried = subst (λ n. Tries from n tries (hit.tries + 1) p l) same_at (tries_out from (position z (trace q) hit.place) tries (hit.tries + 1) p q l x.tried out);
     onward = subst (λ n. words_below from + tries ≤ words_below n + hit.tries) same_at x.onward;
-    brings = subst (λ n. Brings z key from n (trace p) (trace l)) same_at (λ start here ahead. key_later z key (position z (trace q) hit.place) start (trace q) (trace l) lawful (begins_on start (trace p) (trace q) here up) on (x.brings start here ahead));
+    brings = subst (λ n. AdvancesSearch z key from n (trace p) (trace l)) same_at (λ start here ahead. key_later z key (position z (trace q) hit.place) start (trace q) (trace l) lawful (begins_on start (trace p) (trace q) here up) on (x.brings start here ahead));
     counted = counts_later z key tries hit.tries (trace p) x.found.found.saw.at (trace l) (begins_on x.found.found.saw.at (trace q) (trace l) x.found.found.saw.between.1 on) x.counted;
     stood = (value, found_reads z hit.place (item_word hit.item) key value (trace p) (trace v) (trace l) (moved_on b from_v.reads.own v l from_v.reads.moved) found_v);
     stands = stands;
@@ -138,7 +138,7 @@ module _ (b : Board) (key : List ℕ) (from tries : ℕ) (hit : Hit) (value : Li
   }
 
 -- with l after the third look, and r after it left the segment
-module _ (b : Board) (key : List ℕ) (from tries : ℕ) (hit : Hit) (value : List ℕ) (info : Info) (now : ℕ) (p l r : Pass) (s : IsSeen b key from tries hit value info now p l) (gone : Leaves b l r hit.item.seg) where
+module _ (b : Board) (key : List ℕ) (from tries : ℕ) (hit : Hit) (value : List ℕ) (info : Info) (now : ℕ) (p l r : Pass) (s : IsSeen b key from tries hit value info now p l) (gone : LeavesSegment b l r hit.item.seg) where
   pub left : IsReader b p r
   left = leave_then b p l r hit.item.seg s.reads gone
 
@@ -164,7 +164,7 @@ module _ (b : Board) (key : List ℕ) (from tries : ℕ) (hit : Hit) (value : Li
     place = place_later b.shape key hit.place (trace l) (trace r) lawful_r to_r s.place;
     disturbs = disturbs;
     tried = subst (λ n. Tries from n tries (hit.tries + 1) p r) same_r (tries_out from (position b.shape (trace l) hit.place) tries (hit.tries + 1) p l r s.tried out_r);
-    brings = subst (λ n. Brings b.shape key from n (trace p) (trace r)) same_r (λ start here ahead. key_later b.shape key (position b.shape (trace l) hit.place) start (trace l) (trace r) lawful_r (begins_on start (trace p) (trace l) here to_l) to_r (s.brings start here ahead));
+    brings = subst (λ n. AdvancesSearch b.shape key from n (trace p) (trace r)) same_r (λ start here ahead. key_later b.shape key (position b.shape (trace l) hit.place) start (trace l) (trace r) lawful_r (begins_on start (trace p) (trace l) here to_l) to_r (s.brings start here ahead));
     onward = let on = s.onward in omega (arith, on, same_r);
   }
 
@@ -207,7 +207,7 @@ module _ (b : Board) (key : List ℕ) (from tries : ℕ) (hit : Hit) (value : Li
 
 -- a hit: with l after the third look, t after it was counted, and r after the pass left the segment
 module _ (b : Board) (key : List ℕ) (from tries draw : ℕ) (hit : Hit) (value : List ℕ) (info : Info) (now : ℕ) (p l t r : Pass) (s : IsSeen b key from tries hit value info now p l) (clear : info.held ≡ false) (same : IsSameItem (item_word hit.item) now)
-    (counted : IsReader b l t) (out : entered t ≡ entered l) (raises : RaisesFrom b.shape key value draw (trace p) l t) (gone : Leaves b t r hit.item.seg) where
+    (counted : IsReader b l t) (out : entered t ≡ entered l) (raises : RaisesFrom b.shape key value draw (trace p) l t) (gone : LeavesSegment b t r hit.item.seg) where
   in_t : IsReaderIn b p t hit.item.seg
   in_t = then_reader b p l t hit.item.seg s.reads counted
 

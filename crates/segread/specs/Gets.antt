@@ -19,7 +19,7 @@ use Rattle.segbase.specs.Passes.{number, trace, seen, glanced}
 use Rattle.segbase.specs.Plain.{locked_of}
 use Rattle.segbase.specs.Spots.{position}
 use Rattle.segstore.specs.Reading.{IsReader, IsReaderIn}
-use Rattle.segstore.specs.Linked.{word_at, FoundItem}
+use Rattle.segstore.specs.Linked.{word_of_place, FoundItem}
 use Rattle.segread.specs.declared.scan.Hit.{Hit}
 use Rattle.segread.specs.declared.version.Sight.{Sight}
 use Rattle.segread.specs.declared.version.Sight.TheVariants as sight
@@ -28,13 +28,13 @@ use Rattle.segread.specs.declared.version.Attempt.TheVariants as attempt
 use Rattle.segpass.specs.Calls.{GoesOn, ChangesNothing, TakesNoBit, DrawsNothing}
 use Rattle.segread.specs.Reads.{ReadsBetween}
 use Rattle.segread.specs.Hits.{TriesFew, RaisesOne, GetsRaises}
-use Rattle.segread.specs.Scanning.{IsPlaceOf, words_below, ComesIn, Tries, Counts, Brings, IsEnded, GivesUp}
+use Rattle.segread.specs.Scanning.{IsPlaceOf, words_below, ComesIn, Tries, CountsTries, AdvancesSearch, IsEnded, GivesUp}
 
 -- ---- the answer
 
 -- at some moment from one history to a longer one, the key read so, with the version of its bucket
 abbrev pub ReadsVersionBetween : Shape → List ℕ → List Entry → List Entry → Option (List ℕ × ℕ) → Type 0
-ReadsVersionBetween shape key before now read = (history : List Entry) × IsBetween before now history × (reads_version shape (after shape history) key ≡ read)
+ReadsVersionBetween shape key old new read = (history : List Entry) × IsBetween old new history × (reads_version shape (after shape history) key ≡ read)
 
 -- How much the pass was disturbed at the key's bucket: the entries of it that came in, and the looks of the pass that found the bucket's bit set by another.
 abbrev pub disturbed : Shape → List ℕ → Pass → Pass → ℕ
@@ -81,7 +81,7 @@ abbrev pub Disturbs : Shape → List ℕ → ℕ → ℕ → Pass → Pass → T
 Disturbs shape key some more p q =
     let bucket = bucket_of shape key in
     Begins (seen p) (seen q) × (entries_of shape bucket (seen p) + glanced p bucket + more ≤ entries_of shape bucket (seen q) + glanced q bucket + some)
-    × (Counts shape key some more (trace p) (trace q) ⊎ StoodBetween shape key p q)
+    × (CountsTries shape key some more (trace p) (trace q) ⊎ StoodBetween shape key p q)
 
 -- ---- one scan for the key and its version, from a position on, with so many tries counted before
 
@@ -93,24 +93,24 @@ pub record IsSeen (b : Board) (key : List ℕ) (from tries : ℕ) (hit : Hit) (v
   pub place : IsPlaceOf b.shape (trace q) key hit.place
   pub tried : Tries from (position b.shape (trace q) hit.place) tries (hit.tries + 1) p q
   pub onward : words_below from + tries ≤ words_below (position b.shape (trace q) hit.place) + hit.tries
-  pub brings : Brings b.shape key from (position b.shape (trace q) hit.place) (trace p) (trace q)
-  pub counted : Counts b.shape key tries hit.tries (trace p) (trace q)
+  pub brings : AdvancesSearch b.shape key from (position b.shape (trace q) hit.place) (trace p) (trace q)
+  pub counted : CountsTries b.shape key tries hit.tries (trace p) (trace q)
   pub stood : StoodBetween b.shape key p q
-  pub stands : word ≡ word_at b.shape (trace q) hit.place
+  pub stands : word ≡ word_of_place b.shape (trace q) hit.place
   -- the bit was set
   pub glanced : info.held ≡ true → glanced p (bucket_of b.shape key) + 1 ≤ glanced q (bucket_of b.shape key)
   -- another item stood there
   pub changed : ¬ (IsSameItem (item_word hit.item) word) → 1 ≤ tag_part word
-      → Counts b.shape key tries (hit.tries + 1) (trace p) (trace q)
+      → CountsTries b.shape key tries (hit.tries + 1) (trace p) (trace q)
   -- the bit was clear, and the item stood there still
   pub version : info.held ≡ false → IsSameItem (item_word hit.item) word
       → ReadsVersionBetween b.shape key (seen p) (seen q) (Some (value, info.version))
   pub found : info.held ≡ false → FoundItem b.shape hit.place (item_word hit.item) key value (trace p) (trace q)
 
-abbrev pub IsSight : Board → List ℕ → ℕ → ℕ → Sight → Pass → Pass → Type 0
-IsSight b key from tries (sight.Found hit value info word) p q = IsSeen b key from tries hit value info word p q
-IsSight b key from tries sight.Absent p q = IsReader b p q × IsEnded b.shape key from tries p q
-IsSight b key from tries sight.Busy p q = IsReader b p q × GivesUp b.shape key from tries p q
+abbrev pub IsVersionSight : Board → List ℕ → ℕ → ℕ → Sight → Pass → Pass → Type 0
+IsVersionSight b key from tries (sight.Found hit value info word) p q = IsSeen b key from tries hit value info word p q
+IsVersionSight b key from tries sight.Absent p q = IsReader b p q × IsEnded b.shape key from tries p q
+IsVersionSight b key from tries sight.Busy p q = IsReader b p q × GivesUp b.shape key from tries p q
 
 -- The next scan goes on from this place, with so many tries counted. It has a try less or a word less before it.
 pub record MovesOn (shape : Shape) (key : List ℕ) (from tries : ℕ) (next : Place) (counted : ℕ) (p q : Pass) : Type 0 where
@@ -118,7 +118,7 @@ pub record MovesOn (shape : Shape) (key : List ℕ) (from tries : ℕ) (next : P
   pub place : IsPlaceOf shape (trace q) key next
   pub disturbs : Disturbs shape key tries counted p q
   pub tried : Tries from (position shape (trace q) next) tries counted p q
-  pub brings : Brings shape key from (position shape (trace q) next) (trace p) (trace q)
+  pub brings : AdvancesSearch shape key from (position shape (trace q) next) (trace p) (trace q)
   pub onward : words_below from + tries < words_below (position shape (trace q) next) + counted
 
 -- one scan answers, or goes on

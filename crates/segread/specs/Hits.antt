@@ -13,11 +13,11 @@ use Rattle.segcore.specs.Event.{seen}
 use Rattle.segcore.specs.Bucket.{slot}
 use Rattle.segcore.specs.Mark.{marked, last_at, frequency_in}
 use Rattle.segcore.specs.Standing.{cached}
-use Rattle.segpolicy.specs.Frequency.{counts}
+use Rattle.segpolicy.specs.Frequency.{draw_raises}
 use Rattle.segbase.specs.declared.pass.Pass.{Pass}
 use Rattle.segbase.specs.Passes.{number, trace, raised, entered}
 use Rattle.segbase.specs.declared.place.Place.{Place}
-use Rattle.segstore.specs.Linked.{WasLinked, word_at}
+use Rattle.segstore.specs.Linked.{WasLinked, word_of_place}
 use Rattle.segpass.specs.Calls.{RaisesNothing}
 
 -- It came into segments at most as often as a scan of a chain may try: 63 tries that are counted, and one more at each of 28 words.
@@ -31,38 +31,38 @@ pub record HasFrequency (shape : Shape) (key value : List ℕ) (segment row freq
   pub had : frequency_in (marked at) segment row ≡ frequency
 
 -- at a moment between two traces the key's item had a frequency at which this draw counts, and the pass raised it by one
-pub record CountsHit (shape : Shape) (key value : List ℕ) (draw pass : ℕ) (before now : List Event) : Type 0 where
+pub record CountsHit (shape : Shape) (key value : List ℕ) (draw pass : ℕ) (old new : List Event) : Type 0 where
   pub at : List Event
   pub segment : ℕ
   pub row : ℕ
   pub frequency : ℕ
-  pub since : Begins before at
+  pub since : Begins old at
   pub had : HasFrequency shape key value segment row frequency at
-  pub counted : counts frequency draw ≡ true
-  pub raise : Begins (Bumped pass segment row (frequency + 1) ∷ at) now
+  pub counted : draw_raises frequency draw ≡ true
+  pub raise : Begins (Bumped pass segment row (frequency + 1) ∷ at) new
 
 -- at a moment between two traces the key's item had a frequency at which this draw doesn't count
-pub record PassesHit (shape : Shape) (key value : List ℕ) (draw : ℕ) (before now : List Event) : Type 0 where
+pub record PassesHit (shape : Shape) (key value : List ℕ) (draw : ℕ) (old new : List Event) : Type 0 where
   pub at : List Event
   pub segment : ℕ
   pub row : ℕ
   pub frequency : ℕ
-  pub since : Begins before at
-  pub until : Begins at now
+  pub since : Begins old at
+  pub until : Begins at new
   pub had : HasFrequency shape key value segment row frequency at
-  pub uncounted : counts frequency draw ≡ false
+  pub uncounted : draw_raises frequency draw ≡ false
 
 -- between two traces the key's item stood in a word, and later another word stood there: another pass was quicker
-pub record IsOvertaken (shape : Shape) (key value : List ℕ) (before now : List Event) : Type 0 where
+pub record IsOvertaken (shape : Shape) (key value : List ℕ) (old new : List Event) : Type 0 where
   pub at : List Event
   pub later : List Event
   pub place : Place
   pub word : ℕ
-  pub since : Begins before at
+  pub since : Begins old at
   pub then : Begins at later
-  pub until : Begins later now
+  pub until : Begins later new
   pub was : WasLinked shape place word key value at
-  pub other : word_at shape later place ≢ word
+  pub other : word_of_place shape later place ≢ word
 
 -- From this trace on it raised the frequency of the key's item by one, where the draw counts; or nothing, where the draw doesn't count, or another pass was quicker, which can't be with one pass.
 abbrev pub RaisesFrom : Shape → List ℕ → List ℕ → ℕ → List Event → Pass → Pass → Type 0

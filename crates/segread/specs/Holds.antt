@@ -85,7 +85,7 @@ NoneFills segment (entry ∷ history) = ((pass : ℕ) → entry ≢ Refilled pas
 
 -- the segment of what is held wasn't filled again up to this history
 abbrev pub IsUnfilled : Held → List Entry → Type 0
-IsUnfilled held now = (more : List Entry) × (now ≡ more ++ event.seen held.trace) × NoneFills held.segment more
+IsUnfilled held new = (more : List Entry) × (new ≡ more ++ event.seen held.trace) × NoneFills held.segment more
 
 -- the pass holds nothing, and up to now the segment of what it held wasn't filled again
 pub record Releases (p q : Pass) : Type 0 where

@@ -16,13 +16,13 @@ use Rattle.segread.specs.Hits.{TriesFew, GetRaises}
 
 -- at some moment from one history to a longer one, the key read so
 abbrev pub ReadsBetween : Shape → List ℕ → List Entry → List Entry → Option (List ℕ) → Type 0
-ReadsBetween shape key before now read = (history : List Entry) × IsBetween before now history × (reads (after shape history) key ≡ read)
+ReadsBetween shape key old new read = (history : List Entry) × IsBetween old new history × (reads (after shape history) key ≡ read)
 
 -- a get answers as a cache of one thread does at some moment of the call; it is Busy only where 64 entries of the key's bucket came in meanwhile
 abbrev pub IsGetAnswer : Shape → List ℕ → GetAnswer → List Entry → List Entry → Type 0
-IsGetAnswer shape key (get.Found value) before now = ReadsBetween shape key before now (Some value)
-IsGetAnswer shape key get.Miss before now = ReadsBetween shape key before now None
-IsGetAnswer shape key get.Busy before now = 64 ≤ stirred shape key before now
+IsGetAnswer shape key (get.Found value) old new = ReadsBetween shape key old new (Some value)
+IsGetAnswer shape key get.Miss old new = ReadsBetween shape key old new None
+IsGetAnswer shape key get.Busy old new = 64 ≤ stirred shape key old new
 
 -- A get of a key is answered so. It changes nothing, takes no bit, draws no overflow bucket, and only a hit raises a frequency.
 pub record ReadsKey (b : Board) (key : List ℕ) (draw : ℕ) (told : GetAnswer) (p q : Pass) : Type 0 where

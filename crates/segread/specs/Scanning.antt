@@ -86,17 +86,17 @@ pub record Tries (from to some more : ℕ) (p q : Pass) : Type 0 where
 -- ---- what was found
 
 -- the tries that were counted, from some to more, are at most as many as entries of the key's bucket came in
-abbrev pub Counts : Shape → List ℕ → ℕ → ℕ → List Event → List Event → Type 0
-Counts shape key some more before now = entries_of shape (bucket_of shape key) (seen before) + more ≤ entries_of shape (bucket_of shape key) (seen now) + some
+abbrev pub CountsTries : Shape → List ℕ → ℕ → ℕ → List Event → List Event → Type 0
+CountsTries shape key some more old new = entries_of shape (bucket_of shape key) (seen old) + more ≤ entries_of shape (bucket_of shape key) (seen new) + some
 
 -- A search for the key that stood at one position of the chain before is at another one now: none of the words between was the key's.
-abbrev pub Brings : Shape → List ℕ → ℕ → ℕ → List Event → List Event → Type 0
-Brings shape key from to before now = (start : List Event) → Begins start before → KeyAhead shape key from start before → KeyAhead shape key to start now
+abbrev pub AdvancesSearch : Shape → List ℕ → ℕ → ℕ → List Event → List Event → Type 0
+AdvancesSearch shape key from to old new = (start : List Event) → Begins start old → KeyAhead shape key from start old → KeyAhead shape key to start new
 
 -- the words from one position up to another were looked at, and none was the key's; at the last one, at this place, this word stood
-pub record HasPassed (shape : Shape) (key : List ℕ) (from to : ℕ) (place : Place) (word : ℕ) (before now : List Event) : Type 0 where
-  pub last : SawWord shape place word before now
-  pub brings : Brings shape key from to before last.at
+pub record HasPassed (shape : Shape) (key : List ℕ) (from to : ℕ) (place : Place) (word : ℕ) (old new : List Event) : Type 0 where
+  pub last : SawWord shape place word old new
+  pub brings : AdvancesSearch shape key from to old last.at
 
 -- ---- what looks along the key's chain came to, from a position on, with so many tries counted before
 
@@ -104,21 +104,21 @@ pub record HasPassed (shape : Shape) (key : List ℕ) (from to : ℕ) (place : P
 pub record IsHit (shape : Shape) (key : List ℕ) (from tries : ℕ) (hit : Hit) (p q : Pass) : Type 0 where
   pub found : FoundKey shape hit.place hit.item hit.header key (trace p) (trace q)
   pub few : hit.tries < 64
-  pub counted : Counts shape key tries hit.tries (trace p) found.found.saw.at
+  pub counted : CountsTries shape key tries hit.tries (trace p) found.found.saw.at
   pub tried : Tries from (position shape (trace q) hit.place) tries (hit.tries + 1) p q
   pub onward : words_below from + tries ≤ words_below (position shape (trace q) hit.place) + hit.tries
-  pub brings : Brings shape key from (position shape (trace q) hit.place) (trace p) (trace q)
+  pub brings : AdvancesSearch shape key from (position shape (trace q) hit.place) (trace p) (trace q)
 
 -- none of the words up to a position was the key's; the last of them is at this place
 pub record IsPast (shape : Shape) (key : List ℕ) (from to tries counted : ℕ) (last : Place) (word : ℕ) (p q : Pass) : Type 0 where
   pub few : counted < 64
-  pub counts : Counts shape key tries counted (trace p) (trace q)
+  pub counts : CountsTries shape key tries counted (trace p) (trace q)
   pub tried : Tries from to tries counted p q
   pub passed : HasPassed shape key from to last word (trace p) (trace q)
 
 -- 64 tries are counted
 pub record GivesUp (shape : Shape) (key : List ℕ) (from tries : ℕ) (p q : Pass) : Type 0 where
-  pub counts : Counts shape key tries 64 (trace p) (trace q)
+  pub counts : CountsTries shape key tries 64 (trace p) (trace q)
   pub tried : Tries from 32 tries 63 p q
 
 -- The chain ended: a key that a search had still ahead there was gone at some point of the search.
@@ -140,7 +140,7 @@ IsScanFrom shape key from tries scan.Absent p q = IsEnded shape key from tries p
 IsScanFrom shape key from tries scan.Busy p q = GivesUp shape key from tries p q
 
 -- a scan of the whole chain
-abbrev pub IsScan : Shape → List ℕ → Scan → List Event → List Event → Type 0
-IsScan shape key (scan.Found hit) before now = FoundKey shape hit.place hit.item hit.header key before now
-IsScan shape key scan.Absent before now = WasGone (KeyGone shape key) before now
-IsScan shape key scan.Busy before now = Counts shape key 0 64 before now
+abbrev pub IsScanAnswer : Shape → List ℕ → Scan → List Event → List Event → Type 0
+IsScanAnswer shape key (scan.Found hit) old new = FoundKey shape hit.place hit.item hit.header key old new
+IsScanAnswer shape key scan.Absent old new = WasGone (KeyGone shape key) old new
+IsScanAnswer shape key scan.Busy old new = CountsTries shape key 0 64 old new

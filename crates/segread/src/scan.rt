@@ -10,7 +10,7 @@ ghost use Rattle.segstore.specs.Linked.{IsChained, IsKeyed};
 ghost use Rattle.segpass.specs.Quiet.{IsQuiet};
 ghost use Rattle.segpass.specs.Calls.{RaisesNothing};
 ghost use Rattle.segread.specs.Hits.{TriesFew};
-ghost use Rattle.segread.specs.Scanning.{place_of, IsPlaceOf, IsPlaceAfter, MayEnterAny, IsTrial, IsOnWay, IsScanner, IsTry, IsWay, IsScanFrom, IsScan};
+ghost use Rattle.segread.specs.Scanning.{place_of, IsPlaceOf, IsPlaceAfter, MayEnterAny, IsTrial, IsOnWay, IsScanner, IsTry, IsWay, IsScanFrom, IsScanAnswer};
 
 use segbase::{Board, CHAIN_BUCKETS, Pass, Place};
 use segstore::{Keyed, enter_segment, leave_segment, read_keyed};
@@ -241,7 +241,7 @@ pub(crate) fn scan_for(board: &Board, pass: &mut Pass, key: &Key) -> Scan
     ensures reads { IsScanner board.now result pass.old pass.new }
     ensures tries { TriesFew pass.old pass.new }
     ensures raises_nothing { RaisesNothing pass.old pass.new }
-    ensures scan { IsScan board.now.shape key.now result (trace pass.old) (trace pass.new) }
+    ensures scan { IsScanAnswer board.now.shape key.now result (trace pass.old) (trace pass.new) }
 {
     let hash = hash(key);
     let start = Place {

@@ -10,7 +10,7 @@ ghost use Rattle.segpass.specs.Quiet.{IsQuiet};
 ghost use Rattle.segpass.specs.Calls.{RaisesNothing};
 ghost use Rattle.segread.specs.Scanning.{IsPlaceOf, MayEnterAny};
 ghost use Rattle.segread.specs.Hits.{TriesFew, GetsRaises};
-ghost use Rattle.segread.specs.Gets.{ReadsVersion, IsGetsAnswer, HasNoBit, IsSight, IsAttempt};
+ghost use Rattle.segread.specs.Gets.{ReadsVersion, IsGetsAnswer, HasNoBit, IsVersionSight, IsAttempt};
 
 use crate::read::count_hit;
 use crate::scan::{Hit, Scan, TRIES, item_of_tag, place_after, scan_for, scan_from};
@@ -175,7 +175,7 @@ fn see_version(
     requires versions { board.now.shape.first_version < 2 ^ 32 }
     requires tries { tries < 64 }
     ensures sight { let at = position board.now.shape (trace pass.old) place in
-        IsSight board.now key.now at tries result pass.old pass.new }
+        IsVersionSight board.now key.now at tries result pass.old pass.new }
 {
     match scan_from(board, pass, place, key, tag, tries) {
         Scan::Found(hit) => {

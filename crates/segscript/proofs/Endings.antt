@@ -7,10 +7,10 @@ use Rattle.segmodel.specs.Turns.{Runs}
 use Rattle.segindex.specs.Index.{board_of, shape_of}
 use Rattle.segindex.specs.Index.{IsNew}
 use Rattle.segscript.specs.Spelling.{PassTurn}
-use Rattle.segscript.specs.Script.{ServesLines, Steps, Completes}
+use Rattle.segscript.specs.Script.{ServesLines, Steps, ServesScript}
 use Rattle.segscript.specs.Passes.{OneTakes}
 use Rattle.segscript.specs.EachTurn.{EachTurn}
-use Rattle.segscript.specs.Run.{Comes, EndOfRun, RunOutcome}
+use Rattle.segscript.specs.Run.{ServesWholeLines, EndOfRun, RunOutcome}
 use Rattle.segscript.specs.Server.{TurnsOne, state}
 use Rattle.segscript.specs.declared.server.Server.{Server}
 use Rattle.segscript.specs.declared.fault.RunFault.{RunFault}
@@ -20,15 +20,15 @@ use Rattle.segscript.specs.declared.fault.RunFault.TheVariants as fault
 
 -- Each step of what is behind a script is one of what it is read as, and what is kept stays so. Then a run ends for both in one way.
 module _ (passes : ℕ) {S T : Type 0} (step : S → PassTurn → Outcome → S → Type 0) (read_step : T → PassTurn → Outcome → T → Type 0) (read : S → T)
-    (Kept : S → Type 0) (each : (old new : S) (said : PassTurn) (outcome : Outcome) → Kept old → step old said outcome new → Kept new × read_step (read old) said outcome (read new))
+    (KeepsLaw : S → Type 0) (each : (old new : S) (said : PassTurn) (outcome : Outcome) → KeepsLaw old → step old said outcome new → KeepsLaw new × read_step (read old) said outcome (read new))
   where
-    runs_as : (old new : S) (turns : List PassTurn) (outcomes : List Outcome) → Kept old → Runs step old turns outcomes new → Runs read_step (read old) turns outcomes (read new)
+    runs_as : (old new : S) (turns : List PassTurn) (outcomes : List Outcome) → KeepsLaw old → Runs step old turns outcomes new → Runs read_step (read old) turns outcomes (read new)
     runs_as old new [] [] kept run = ap read run
     runs_as old new [] (r ∷ rs) kept run = absurd run
     runs_as old new (t ∷ ts) [] kept run = absurd run
     runs_as old new (t ∷ ts) (r ∷ rs) kept run = let one = each old run.0 t r kept run.1 in (read run.0, one.1, runs_as run.0 new ts rs one.0 run.2)
 
-    module _ (old : S) (kept : Kept old) where
+    module _ (old : S) (kept : KeepsLaw old) where
       serves_as : (new : S) (lines : List (List ℕ)) (text : List ℕ) → ServesLines passes step old lines text new → ServesLines passes read_step (read old) lines text (read new)
       serves_as new lines text served = record {
         turns = served.turns;
@@ -38,10 +38,10 @@ module _ (passes : ℕ) {S T : Type 0} (step : S → PassTurn → Outcome → S 
         told = served.told;
       }
 
-      comes_as : (seen text : List ℕ) → Comes passes step old seen text → Comes passes read_step (read old) seen text
+      comes_as : (seen text : List ℕ) → ServesWholeLines passes step old seen text → ServesWholeLines passes read_step (read old) seen text
       comes_as seen text here = record { lines = here.lines; rest = here.rest; state = read here.state; splits = here.splits; short = here.short; served = serves_as here.state here.lines text here.served }
 
-      completes_as : (script text : List ℕ) → Completes passes step old script text → Completes passes read_step (read old) script text
+      completes_as : (script text : List ℕ) → ServesScript passes step old script text → ServesScript passes read_step (read old) script text
       completes_as script text all = record { lines = all.lines; last = all.last; state = read all.state; splits = all.splits; served = serves_as all.state (all.lines ++ all.last ∷ []) text all.served }
 
       pub ends_as : (Read : List ℕ → Type 0) (Ends : Type 0) (Wrote : List ℕ → Type 0) (before flushes : ℕ) (result : Result (Unit {0}) RunFault)

@@ -4,7 +4,7 @@ use Rattle.std.proofs.lemmas.List.{take-append-drop, drop_more}
 use Rattle.segmodel.specs.declared.answer.Outcome.{Outcome}
 use Rattle.segscript.specs.Spelling.{PassTurn}
 use Rattle.segscript.specs.Run.{IsSeenBad}
-use Rattle.segscript.specs.Running.{Stands, FeedOutcome}
+use Rattle.segscript.specs.Running.{HasServed, FeedOutcome}
 use Rattle.segscript.specs.declared.fault.RunFault.{RunFault}
 use Rattle.segscript.specs.declared.fault.RunFault.TheVariants as fault
 
@@ -52,15 +52,15 @@ seen_bad_more passes step start seen more text n bad = record {
 pub record Fed (passes : ℕ) {S : Type 0} (step : S → PassTurn → Outcome → S → Type 0) (start : S) {W : Type 0} (takes : W → List ℕ → W → Type 0) (old : W) (seen told bytes : List ℕ) (new : W) (state : S) (line : List ℕ) (number : ℕ) : Type 0 where
   pub text : List ℕ
   pub took : takes old text new
-  pub here : Stands passes step start state (seen ++ bytes) (told ++ text) line number
+  pub here : HasServed passes step start state (seen ++ bytes) (told ++ text) line number
 
 module _ (passes : ℕ) {S : Type 0} (step : S → PassTurn → Outcome → S → Type 0) (start : S) {W : Type 0} (takes : W → List ℕ → W → Type 0) (more : (s t u : W) (a b : List ℕ) → takes s a t → takes t b u → takes s (a ++ b) u) where
-  pub fed_none : (old : W) (seen told : List ℕ) (state : S) (line : List ℕ) (number : ℕ) → takes old [] old → Stands passes step start state seen told line number → Fed passes step start takes old seen told [] old state line number
+  pub fed_none : (old : W) (seen told : List ℕ) (state : S) (line : List ℕ) (number : ℕ) → takes old [] old → HasServed passes step start state seen told line number → Fed passes step start takes old seen told [] old state line number
   fed_none old seen told state line number none here = record { text = []; took = none; here = rw (append-nil, append-nil) here }
 
   pub fed_more : (old mid new : W) (seen told bytes : List ℕ) (b : ℕ) (state state' : S) (line line' : List ℕ) (number number' : ℕ) (longer : List ℕ)
       (fed : Fed passes step start takes old seen told bytes mid state line number)
-      → (text : List ℕ) × takes mid text new × Stands passes step start state' ((seen ++ bytes) ++ b ∷ []) ((told ++ fed.text) ++ text) line' number'
+      → (text : List ℕ) × takes mid text new × HasServed passes step start state' ((seen ++ bytes) ++ b ∷ []) ((told ++ fed.text) ++ text) line' number'
       → longer ≡ bytes ++ b ∷ [] → Fed passes step start takes old seen told longer new state' line' number'
   fed_more old mid new seen told bytes b state state' line line' number number' longer fed next same = record {
     text = fed.text ++ next.0;
@@ -98,8 +98,8 @@ cut_at bytes i within = sym (take-append-drop i bytes) ∙ ap (λ r. take i byte
 
 -- what became of bytes that were fed, where the number of passes is known under another name
 pub at_passes : (passes passes' : ℕ) → passes' ≡ passes → {S : Type 0} (step : S → PassTurn → Outcome → S → Type 0) (start state state' : S) (Wrote : List ℕ → Type 0) (line line' : List ℕ) (number number' : ℕ) (bytes : List ℕ) (result : Result (Unit {0}) RunFault)
-    → ((start : S) (seen told : List ℕ) → Stands passes' step start state seen told line number → FeedOutcome passes' step start state' Wrote (seen ++ bytes) told line' number' result)
-    → (seen told : List ℕ) → Stands passes step start state seen told line number → FeedOutcome passes step start state' Wrote (seen ++ bytes) told line' number' result
+    → ((start : S) (seen told : List ℕ) → HasServed passes' step start state seen told line number → FeedOutcome passes' step start state' Wrote (seen ++ bytes) told line' number' result)
+    → (seen told : List ℕ) → HasServed passes step start state seen told line number → FeedOutcome passes step start state' Wrote (seen ++ bytes) told line' number' result
 at_passes passes passes' same {S} step start state state' Wrote line line' number number' bytes result outcome =
-    let P : ℕ → Type 0 = λ n. (seen told : List ℕ) → Stands n step start state seen told line number → FeedOutcome n step start state' Wrote (seen ++ bytes) told line' number' result in
+    let P : ℕ → Type 0 = λ n. (seen told : List ℕ) → HasServed n step start state seen told line number → FeedOutcome n step start state' Wrote (seen ++ bytes) told line' number' result in
     subst P same (outcome start)

@@ -3,7 +3,7 @@ use Rattle.std.proofs.Common.{Ok, Err, Result, ◌≡◌, ℕ, ◌+◌, ◌≤�
 use Rattle.segmodel.specs.declared.answer.Outcome.{Outcome}
 use Rattle.segscript.specs.Spelling.{PassTurn}
 use Rattle.segscript.specs.Device.{flushed}
-use Rattle.segscript.specs.Running.{Stands, FeedOutcome, FinishOutcome}
+use Rattle.segscript.specs.Running.{HasServed, FeedOutcome, FinishOutcome}
 use Rattle.segscript.specs.Run.{EndOfRun}
 use Rattle.segscript.specs.declared.fault.RunFault.{RunFault}
 use Rattle.segscript.specs.declared.fault.RunFault.TheVariants as fault
@@ -16,7 +16,7 @@ pub record Going (passes : ℕ) {S : Type 0} (step : S → PassTurn → Outcome 
   pub told : List ℕ
   pub came : hands from seen reader
   pub went : takes to told writer
-  pub here : Stands passes step start state seen told line number
+  pub here : HasServed passes step start state seen told line number
   pub counted : length seen ≡ total
 
 -- as many bytes are asked for as there is room
@@ -42,7 +42,7 @@ module _ (passes : ℕ) {S : Type 0} (step : S → PassTurn → Outcome → S �
     pub going_on : (state state' : S) (from reader reader' : R) (to writer writer' : W) (total n : ℕ) (line line' : List ℕ) (number number' : ℕ) (bytes fed : List ℕ)
         (going : Going passes step start state hands takes from reader to writer total line number)
         → hands reader bytes reader' → fed ≡ bytes → length bytes ≡ n
-        → (text : List ℕ) × takes writer text writer' × Stands passes step start state' (going.seen ++ fed) (going.told ++ text) line' number'
+        → (text : List ℕ) × takes writer text writer' × HasServed passes step start state' (going.seen ++ fed) (going.told ++ text) line' number'
         → Going passes step start state' hands takes from reader' to writer' (total + n) line' number'
     going_on state state' from reader reader' to writer writer' total n line line' number number' bytes fed going came same count out = record {
       seen = going.seen ++ bytes;

@@ -7,10 +7,10 @@ use Rattle.segmodel.specs.declared.answer.Outcome.{Outcome}
 use Rattle.segmodel.proofs.RunLemmas.{Runs-append}
 use Rattle.segscript.specs.Spelling.{PassTurn, IsSayable, spelling}
 use Rattle.segscript.specs.Replies.{reply}
-use Rattle.segscript.specs.Script.{IsLine, ended, Splits, Say, IsBad, ServesLines, Completes}
+use Rattle.segscript.specs.Script.{IsLine, ended, Splits, Say, IsBad, ServesLines, ServesScript}
 use Rattle.segscript.specs.Device.{IsBeginning}
-use Rattle.segscript.specs.Run.{Comes, IsSeenBad}
-use Rattle.segscript.specs.Running.{Stands, LineOutcome, FeedOutcome, FinishOutcome}
+use Rattle.segscript.specs.Run.{ServesWholeLines, IsSeenBad}
+use Rattle.segscript.specs.Running.{HasServed, LineOutcome, FeedOutcome, FinishOutcome}
 use Rattle.segscript.specs.declared.fault.RunFault.{RunFault}
 use Rattle.segscript.specs.declared.fault.RunFault.TheVariants as fault
 
@@ -80,7 +80,7 @@ module _ (passes : ℕ) {S : Type 0} (step : S → PassTurn → Outcome → S �
 
   module _ (start state : S) where
     -- a byte of the line has come
-    pub at_byte : (seen told line : List ℕ) (number b : ℕ) → Stands passes step start state seen told line number → b ≢ 10 → length line < 128 → Stands passes step start state (seen ++ b ∷ []) told (line ++ b ∷ []) number
+    pub at_byte : (seen told line : List ℕ) (number b : ℕ) → HasServed passes step start state seen told line number → b ≢ 10 → length line < 128 → HasServed passes step start state (seen ++ b ∷ []) told (line ++ b ∷ []) number
     at_byte seen told line number b here other room = record {
       lines = here.lines;
       splits = Splits-byte seen here.lines line b here.splits other;
@@ -90,7 +90,7 @@ module _ (passes : ℕ) {S : Type 0} (step : S → PassTurn → Outcome → S �
     }
 
     -- the end of the line has come, and it was served
-    pub at_end : (new : S) (seen told text line : List ℕ) (number : ℕ) → Stands passes step start state seen told line number → ServesLines passes step state (line ∷ []) text new → Stands passes step start new (seen ++ 10 ∷ []) (told ++ text) [] (number + 1)
+    pub at_end : (new : S) (seen told text line : List ℕ) (number : ℕ) → HasServed passes step start state seen told line number → ServesLines passes step state (line ∷ []) text new → HasServed passes step start new (seen ++ 10 ∷ []) (told ++ text) [] (number + 1)
     at_end new seen told text line number here served = record {
       lines = here.lines ++ line ∷ [];
       splits = Splits-end seen here.lines line here.splits;
@@ -99,11 +99,11 @@ module _ (passes : ℕ) {S : Type 0} (step : S → PassTurn → Outcome → S �
       numbered = simp length-append (ap (λ n. n + 1) here.numbered);
     }
 
-    pub reached : (seen told line : List ℕ) (number : ℕ) → Stands passes step start state seen told line number → Comes passes step start seen told
+    pub reached : (seen told line : List ℕ) (number : ℕ) → HasServed passes step start state seen told line number → ServesWholeLines passes step start seen told
     reached seen told line number here = record { lines = here.lines; rest = line; state = state; splits = here.splits; short = here.short; served = here.served }
 
     -- the byte is the 129th of its line
-    pub too_long : (seen told line : List ℕ) (number b : ℕ) → Stands passes step start state seen told line number → b ≢ 10 → length line ≡ 128 → IsSeenBad passes step start ⊥ (seen ++ b ∷ []) (told ++ []) number
+    pub too_long : (seen told line : List ℕ) (number b : ℕ) → HasServed passes step start state seen told line number → b ≢ 10 → length line ≡ 128 → IsSeenBad passes step start ⊥ (seen ++ b ∷ []) (told ++ []) number
     too_long seen told line number b here other full = record {
       lines = here.lines;
       bad = line ++ b ∷ [];
@@ -119,7 +119,7 @@ module _ (passes : ℕ) {S : Type 0} (step : S → PassTurn → Outcome → S �
     }
 
     -- the line whose end has come is bad
-    whole_bad : (seen told line : List ℕ) (number : ℕ) → Stands passes step start state seen told line number → IsBad passes line → IsSeenBad passes step start ⊥ (seen ++ 10 ∷ []) (told ++ []) number
+    whole_bad : (seen told line : List ℕ) (number : ℕ) → HasServed passes step start state seen told line number → IsBad passes line → IsSeenBad passes step start ⊥ (seen ++ 10 ∷ []) (told ++ []) number
     whole_bad seen told line number here bad = record {
       lines = here.lines;
       bad = line;
@@ -135,7 +135,7 @@ module _ (passes : ℕ) {S : Type 0} (step : S → PassTurn → Outcome → S �
     }
 
     -- the last line is bad
-    last_bad : (seen told line : List ℕ) (number : ℕ) → Stands passes step start state seen told line number → IsBad passes line → IsSeenBad passes step start (Unit {0}) seen (told ++ []) number
+    last_bad : (seen told line : List ℕ) (number : ℕ) → HasServed passes step start state seen told line number → IsBad passes line → IsSeenBad passes step start (Unit {0}) seen (told ++ []) number
     last_bad seen told line number here bad = record {
       lines = here.lines;
       bad = line;
@@ -151,7 +151,7 @@ module _ (passes : ℕ) {S : Type 0} (step : S → PassTurn → Outcome → S �
     }
 
     -- the last line was served
-    pub finish_text : (seen told text line : List ℕ) (number : ℕ) (new : S) → Stands passes step start state seen told line number → ServesLines passes step state (line ∷ []) text new → Completes passes step start seen (told ++ text)
+    pub finish_text : (seen told text line : List ℕ) (number : ℕ) (new : S) → HasServed passes step start state seen told line number → ServesLines passes step state (line ∷ []) text new → ServesScript passes step start seen (told ++ text)
     finish_text seen told text line number new here served = record {
       lines = here.lines;
       last = line;
@@ -164,7 +164,7 @@ module _ (passes : ℕ) {S : Type 0} (step : S → PassTurn → Outcome → S �
   IsBeginning-told told part text front = (front.0, rw front.1 (sym (append_assoc told part front.0)), front.2)
 
   -- nothing has come yet
-  pub at_start : (start : S) → Stands passes step start start [] [] [] 1
+  pub at_start : (start : S) → HasServed passes step start start [] [] [] 1
   at_start start = record {
     lines = [];
     splits = record { whole = refl; each = tt; partial = tt };
@@ -175,7 +175,7 @@ module _ (passes : ℕ) {S : Type 0} (step : S → PassTurn → Outcome → S �
 
   -- a fault at the end of a line
   pub feed-fault : (start old new then : S) (Wrote : List ℕ → Type 0) (seen told line after : List ℕ) (number count b : ℕ) (f : RunFault) → b ≡ 10
-      → Stands passes step start old seen told line number → LineOutcome passes step old new Wrote line number (Err f) → FeedOutcome passes step start then Wrote (seen ++ b ∷ []) told after count (Err f)
+      → HasServed passes step start old seen told line number → LineOutcome passes step old new Wrote line number (Err f) → FeedOutcome passes step start then Wrote (seen ++ b ∷ []) told after count (Err f)
   feed-fault start old new then Wrote seen told line after number count b fault.Read ten here h = absurd h
   feed-fault start old new then Wrote seen told line after number count b fault.TooLong ten here h = absurd h
   feed-fault start old new then Wrote seen told line after number count b (fault.Make m) ten here h = absurd h
@@ -193,7 +193,7 @@ module _ (passes : ℕ) {S : Type 0} (step : S → PassTurn → Outcome → S �
 
   -- a fault at the last line
   pub finish-fault : (start old new : S) (Wrote : List ℕ → Type 0) (before flushes : ℕ) (seen told line : List ℕ) (number : ℕ) (f : RunFault) → flushes ≡ before
-      → Stands passes step start old seen told line number → LineOutcome passes step old new Wrote line number (Err f) → FinishOutcome passes step start Wrote before flushes seen told (Err f)
+      → HasServed passes step start old seen told line number → LineOutcome passes step old new Wrote line number (Err f) → FinishOutcome passes step start Wrote before flushes seen told (Err f)
   finish-fault start old new Wrote before flushes seen told line number fault.Read none here h = absurd h
   finish-fault start old new Wrote before flushes seen told line number fault.TooLong none here h = absurd h
   finish-fault start old new Wrote before flushes seen told line number (fault.Make m) none here h = absurd h

@@ -16,7 +16,7 @@ use Rattle.segread.specs.declared.held.HoldAnswer.{HoldAnswer}
 use Rattle.segread.specs.Holds.{IsHoldOf, HoldsItem, ReadsHeld, ReleasesHold}
 use Rattle.segread.proofs.HoldCalls.{stays}
 use Rattle.segindex.specs.Commands.{AnswersCommand}
-use Rattle.segsolo.specs.Alone.{lock_outcome, unlock_outcome, hold_outcome}
+use Rattle.segsolo.specs.Alone.{outcome_of_lock, outcome_of_unlock, outcome_of_hold}
 use Rattle.segsolo.proofs.AloneCommands.{serves_command}
 use Rattle.segsolo.proofs.AloneHolds.{turns_hold, turns_held, turns_release}
 use Rattle.segsolo.proofs.AloneLocks.{turns_lock, turns_unlock}
@@ -37,7 +37,7 @@ serve_turn b p q command told on is = record {
   alone = λ was. let served = serves_command b p q command draw told was is in (served.0, (told, refl, served.1));
 }
 
-pub hold_turn : (b : Board) (p q : Pass) (key : List ℕ) (given : HoldAnswer) → HoldsItem b key given p q → TakesTurn b (turn.Hold key) (hold_outcome given) p q
+pub hold_turn : (b : Board) (p q : Pass) (key : List ℕ) (given : HoldAnswer) → HoldsItem b key given p q → TakesTurn b (turn.Hold key) (outcome_of_hold given) p q
 hold_turn b p q key given is = record { goes_on = is.on; tells = (given, refl, is); alone = λ was. turns_hold b p q key given was is }
 
 pub held_turn : (b : Board) (p q : Pass) (hold : Hold) (value : List ℕ) → IsHoldOf b.shape hold p → ReadsHeld b hold value p q → TakesTurn b turn.Held (outcome.Value value) p q
@@ -46,8 +46,8 @@ held_turn b p q hold value of is = record { goes_on = is.on; tells = (hold, of, 
 pub release_turn : (b : Board) (p q : Pass) (hold : Hold) → IsHoldOf b.shape hold p → ReleasesHold b p q → TakesTurn b turn.Release outcome.Released p q
 release_turn b p q hold of is = record { goes_on = is.on; tells = (is, ap is_some of.holds); alone = λ was. turns_release b p q hold was of is }
 
-pub lock_turn : (b : Board) (p q : Pass) (key : List ℕ) (given : LockAnswer) → LocksBucket b key given p q → TakesTurn b (turn.Lock key) (lock_outcome given) p q
+pub lock_turn : (b : Board) (p q : Pass) (key : List ℕ) (given : LockAnswer) → LocksBucket b key given p q → TakesTurn b (turn.Lock key) (outcome_of_lock given) p q
 lock_turn b p q key given is = record { goes_on = is.on; tells = (given, refl, is); alone = λ was. turns_lock b p q key given was is }
 
-pub unlock_turn : (b : Board) (p q : Pass) (given : Bool) → UnlocksBucket b given p q → TakesTurn b turn.Unlock (unlock_outcome given) p q
+pub unlock_turn : (b : Board) (p q : Pass) (given : Bool) → UnlocksBucket b given p q → TakesTurn b turn.Unlock (outcome_of_unlock given) p q
 unlock_turn b p q given is = record { goes_on = is.on; tells = (given, refl, is); alone = λ was. turns_unlock b p q given was is }

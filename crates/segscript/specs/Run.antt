@@ -8,7 +8,7 @@ use Rattle.segmodel.specs.declared.answer.Outcome.{Outcome}
 use Rattle.segmodel.specs.State.{fresh}
 use Rattle.segbase.specs.Made.{IsMakeFault}
 use Rattle.segscript.specs.Spelling.{PassTurn}
-use Rattle.segscript.specs.Script.{IsLine, ended, Splits, IsBad, ServesLines, Steps, Completes}
+use Rattle.segscript.specs.Script.{IsLine, ended, Splits, IsBad, ServesLines, Steps, ServesScript}
 use Rattle.segscript.specs.Device.{IsBeginning, flushed}
 use Rattle.segscript.specs.declared.fault.RunFault.{RunFault}
 use Rattle.segscript.specs.declared.fault.RunFault.TheVariants as fault
@@ -35,7 +35,7 @@ ShapeIsAnswered shape _ = IsValid shape
 -- ---- how far a run came
 
 -- all whole lines of the bytes that came are served, with this text of replies, and the line after them is not too long so far
-pub record Comes (passes : ℕ) {S : Type 0} (step : S → PassTurn → Outcome → S → Type 0) (start : S) (seen text : List ℕ) : Type 0 where
+pub record ServesWholeLines (passes : ℕ) {S : Type 0} (step : S → PassTurn → Outcome → S → Type 0) (start : S) (seen text : List ℕ) : Type 0 where
   pub lines : List (List ℕ)
   pub rest : List ℕ
   pub state : S
@@ -44,10 +44,10 @@ pub record Comes (passes : ℕ) {S : Type 0} (step : S → PassTurn → Outcome 
   pub served : ServesLines passes step start lines text state
 
 -- a reply could not be written whole: a beginning of the text is written, that of the lines up to the one of this reply
-abbrev pub BreaksOff : (passes : ℕ) {S : Type 0} (step : S → PassTurn → Outcome → S → Type 0) → S → List ℕ → List ℕ → Type 0
-BreaksOff passes step start seen part =
+abbrev pub StopsWriting : (passes : ℕ) {S : Type 0} (step : S → PassTurn → Outcome → S → Type 0) → S → List ℕ → List ℕ → Type 0
+StopsWriting passes step start seen part =
     (text : List ℕ) × IsBeginning part text
-    × (((front : List ℕ) × (rest : List ℕ) × (seen ≡ front ++ rest) × Comes passes step start front text) ⊎ Completes passes step start seen text)
+    × (((front : List ℕ) × (rest : List ℕ) × (seen ≡ front ++ rest) × ServesWholeLines passes step start front text) ⊎ ServesScript passes step start seen text)
 
 -- Line n of these bytes is bad, and none before it, and this is the text of those. Of the line its end was read, or its 129th byte,
 -- or (where Ends) nothing comes after it: so it is told neither early nor on a guess.
@@ -71,16 +71,16 @@ pub record IsSeenBad (passes : ℕ) {S : Type 0} (step : S → PassTurn → Outc
 -- A fault in the making is none of a run.
 abbrev pub EndOfRun : (passes : ℕ) {S : Type 0} (step : S → PassTurn → Outcome → S → Type 0) → S → (List ℕ → Type 0) → Type 0 → (List ℕ → Type 0) → ℕ → ℕ → Result (Unit {0}) RunFault → Type 0
 EndOfRun passes step start Read Ends Wrote before flushes (Ok _) =
-    (script : List ℕ) × (text : List ℕ) × Read script × Ends × Wrote text × (flushes ≡ flushed before) × Completes passes step start script text
+    (script : List ℕ) × (text : List ℕ) × Read script × Ends × Wrote text × (flushes ≡ flushed before) × ServesScript passes step start script text
 EndOfRun passes step start Read Ends Wrote before flushes (Err fault.Read) =
-    (seen : List ℕ) × (text : List ℕ) × Read seen × Wrote text × (flushes ≡ before) × Comes passes step start seen text
+    (seen : List ℕ) × (text : List ℕ) × Read seen × Wrote text × (flushes ≡ before) × ServesWholeLines passes step start seen text
 EndOfRun passes step start Read Ends Wrote before flushes (Err fault.TooLong) =
-    (seen : List ℕ) × (text : List ℕ) × Read seen × Wrote text × (flushes ≡ before) × Comes passes step start seen text × (length seen ≡ 2 ^ 63)
+    (seen : List ℕ) × (text : List ℕ) × Read seen × Wrote text × (flushes ≡ before) × ServesWholeLines passes step start seen text × (length seen ≡ 2 ^ 63)
 EndOfRun passes step start Read Ends Wrote before flushes (Err (fault.Line n)) =
     (seen : List ℕ) × (text : List ℕ) × Read seen × Wrote text × (flushes ≡ before) × IsSeenBad passes step start Ends seen text n
 EndOfRun passes step start Read Ends Wrote before flushes (Err fault.Write) =
     (seen : List ℕ) × (part : List ℕ) × Read seen × Wrote part
-    × (((flushes ≡ before) × BreaksOff passes step start seen part) ⊎ ((flushes ≡ flushed before) × Ends × Completes passes step start seen part))
+    × (((flushes ≡ before) × StopsWriting passes step start seen part) ⊎ ((flushes ≡ flushed before) × Ends × ServesScript passes step start seen part))
 EndOfRun passes step start Read Ends Wrote before flushes (Err (fault.Make f)) = Unit {0}
 
 -- so the model says, of a cache in which nothing was done before

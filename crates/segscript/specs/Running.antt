@@ -3,25 +3,25 @@
 use Rattle.std.specs.Prelude.{◌⊎◌, ◌≡◌, ℕ, ◌+◌, ◌≤◌, List, [], ◌∷◌, ◌++◌, length, Result, Ok, Err}
 use Rattle.segmodel.specs.declared.answer.Outcome.{Outcome}
 use Rattle.segscript.specs.Spelling.{PassTurn}
-use Rattle.segscript.specs.Script.{Splits, IsBad, ServesLines, Completes}
+use Rattle.segscript.specs.Script.{Splits, IsBad, ServesLines, ServesScript}
 use Rattle.segscript.specs.Device.{IsBeginning, flushed}
-use Rattle.segscript.specs.Run.{Comes, BreaksOff, IsSeenBad}
+use Rattle.segscript.specs.Run.{ServesWholeLines, StopsWriting, IsSeenBad}
 use Rattle.segscript.specs.declared.fault.RunFault.{RunFault}
 use Rattle.segscript.specs.declared.fault.RunFault.TheVariants as fault
 
 -- Where a run is: these bytes came, this text is written for their whole lines, what stands behind the script is as these
 -- left it, and the bytes of the line that has no end yet are kept, with its number.
-pub record Stands (passes : ℕ) {S : Type 0} (step : S → PassTurn → Outcome → S → Type 0) (start now : S) (seen text line : List ℕ) (number : ℕ) : Type 0 where
+pub record HasServed (passes : ℕ) {S : Type 0} (step : S → PassTurn → Outcome → S → Type 0) (start reached : S) (seen text line : List ℕ) (number : ℕ) : Type 0 where
   pub lines : List (List ℕ)
   pub splits : Splits seen lines line
   pub short : length line ≤ 128
-  pub served : ServesLines passes step start lines text now
+  pub served : ServesLines passes step start lines text reached
   pub numbered : number ≡ length lines + 1
 
 -- The reader handed out some bytes up to here, and up to here the writer took the replies to all their whole lines.
 abbrev pub AllReplied : (passes : ℕ) {S : Type 0} (step : S → PassTurn → Outcome → S → Type 0) {R W : Type 0} → (R → List ℕ → R → Type 0) → (W → List ℕ → W → Type 0) → S → R → W → List ℕ → ℕ → Type 0
-AllReplied passes {S} step {R} {W} hands takes now reader writer line number =
-    (start : S) × (from : R) × (to : W) × (seen : List ℕ) × (told : List ℕ) × hands from seen reader × takes to told writer × Stands passes step start now seen told line number
+AllReplied passes {S} step {R} {W} hands takes reached reader writer line number =
+    (start : S) × (from : R) × (to : W) × (seen : List ℕ) × (told : List ℕ) × hands from seen reader × takes to told writer × HasServed passes step start reached seen told line number
 
 -- ---- what became of the parts
 
@@ -36,19 +36,19 @@ module _ (passes : ℕ) {S : Type 0} (step : S → PassTurn → Outcome → S �
 
   -- what became of bytes that were fed: seen are all that came, theirs among them, and told is what was written before
   abbrev pub FeedOutcome : S → S → (List ℕ → Type 0) → List ℕ → List ℕ → List ℕ → ℕ → Result (Unit {0}) RunFault → Type 0
-  FeedOutcome start now Wrote seen told line number (Ok _) = (text : List ℕ) × Wrote text × Stands passes step start now seen (told ++ text) line number
-  FeedOutcome start now Wrote seen told line number (Err (fault.Line n)) = (text : List ℕ) × Wrote text × IsSeenBad passes step start ⊥ seen (told ++ text) n
-  FeedOutcome start now Wrote seen told line number (Err fault.Write) =
-      (part : List ℕ) × (text : List ℕ) × (front : List ℕ) × (rest : List ℕ) × Wrote part × IsBeginning (told ++ part) text × (seen ≡ front ++ rest) × Comes passes step start front text
-  FeedOutcome start now Wrote seen told line number (Err _) = ⊥
+  FeedOutcome start reached Wrote seen told line number (Ok _) = (text : List ℕ) × Wrote text × HasServed passes step start reached seen (told ++ text) line number
+  FeedOutcome start reached Wrote seen told line number (Err (fault.Line n)) = (text : List ℕ) × Wrote text × IsSeenBad passes step start ⊥ seen (told ++ text) n
+  FeedOutcome start reached Wrote seen told line number (Err fault.Write) =
+      (part : List ℕ) × (text : List ℕ) × (front : List ℕ) × (rest : List ℕ) × Wrote part × IsBeginning (told ++ part) text × (seen ≡ front ++ rest) × ServesWholeLines passes step start front text
+  FeedOutcome start reached Wrote seen told line number (Err _) = ⊥
 
   -- what became of the last line, at the end of the script
   abbrev pub FinishOutcome : S → (List ℕ → Type 0) → ℕ → ℕ → List ℕ → List ℕ → Result (Unit {0}) RunFault → Type 0
   FinishOutcome start Wrote before flushes seen told (Ok _) =
-      (text : List ℕ) × Wrote text × (flushes ≡ flushed before) × Completes passes step start seen (told ++ text)
+      (text : List ℕ) × Wrote text × (flushes ≡ flushed before) × ServesScript passes step start seen (told ++ text)
   FinishOutcome start Wrote before flushes seen told (Err (fault.Line n)) =
       (text : List ℕ) × Wrote text × (flushes ≡ before) × IsSeenBad passes step start (Unit {0}) seen (told ++ text) n
   FinishOutcome start Wrote before flushes seen told (Err fault.Write) =
       (part : List ℕ) × Wrote part
-      × (((flushes ≡ before) × BreaksOff passes step start seen (told ++ part)) ⊎ ((flushes ≡ flushed before) × Completes passes step start seen (told ++ part)))
+      × (((flushes ≡ before) × StopsWriting passes step start seen (told ++ part)) ⊎ ((flushes ≡ flushed before) × ServesScript passes step start seen (told ++ part)))
   FinishOutcome start Wrote before flushes seen told (Err _) = ⊥

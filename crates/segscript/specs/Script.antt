@@ -60,7 +60,7 @@ IsServed shape old lines text new = ServesLines shape.passes (Steps shape) old l
 -- ---- whole scripts
 
 -- The script is served to its end, with this text of replies. A line without an end counts where it has bytes.
-pub record Completes (passes : ℕ) {S : Type 0} (step : S → PassTurn → Outcome → S → Type 0) (start : S) (script text : List ℕ) : Type 0 where
+pub record ServesScript (passes : ℕ) {S : Type 0} (step : S → PassTurn → Outcome → S → Type 0) (start : S) (script text : List ℕ) : Type 0 where
   pub lines : List (List ℕ)
   pub last : List ℕ
   pub state : S
@@ -69,7 +69,7 @@ pub record Completes (passes : ℕ) {S : Type 0} (step : S → PassTurn → Outc
 
 -- no line of the script is bad, and this is a text of replies that belongs to it
 abbrev pub IsTextOf : Shape → List ℕ → List ℕ → Type 0
-IsTextOf shape script text = Completes shape.passes (Steps shape) (fresh shape) script text
+IsTextOf shape script text = ServesScript shape.passes (Steps shape) (fresh shape) script text
 
 -- the n-th line of the script is its first bad one, and this is a text of replies to the lines before it
 pub record IsFirstBad (shape : Shape) (script text : List ℕ) (n : ℕ) : Type 0 where

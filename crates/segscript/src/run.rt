@@ -24,7 +24,7 @@ struct OpenLine {
 }
 
 impl OpenLine {
-    ghost use Rattle.segscript.specs.Running.{Stands, LineOutcome, FeedOutcome, FinishOutcome};
+    ghost use Rattle.segscript.specs.Running.{HasServed, LineOutcome, FeedOutcome, FinishOutcome};
 
     // Serves the line, whose end has come.
     fn serve<E: Engine, W: Sink>(&self, engine: &mut E, writer: &mut W) -> Result<(), RunFault>
@@ -66,7 +66,7 @@ impl OpenLine {
         ensures shape { E.shape engine.new ≡ E.shape engine.old }
         ensures ready { E.is_ready engine.new }
         ensures outcome { (start : E) (seen told : List ℕ) →
-            Stands (E.shape engine.old).passes E.turns start engine.old seen told self.old.bytes.items self.old.number →
+            HasServed (E.shape engine.old).passes E.turns start engine.old seen told self.old.bytes.items self.old.number →
             FeedOutcome (E.shape engine.old).passes E.turns start engine.new (λ text. W.takes writer.old text writer.new)
             (seen ++ byte ∷ []) told self.new.bytes.items self.new.number result }
         ensures failed { W.has_failed writer.new ≡ is_write_fault result }
@@ -105,7 +105,7 @@ impl OpenLine {
         ensures shape { E.shape engine.new ≡ E.shape engine.old }
         ensures ready { E.is_ready engine.new }
         ensures outcome { (start : E) (seen told : List ℕ) →
-            Stands (E.shape engine.old).passes E.turns start engine.old seen told self.old.bytes.items self.old.number →
+            HasServed (E.shape engine.old).passes E.turns start engine.old seen told self.old.bytes.items self.old.number →
             FeedOutcome (E.shape engine.old).passes E.turns start engine.new (λ text. W.takes writer.old text writer.new)
             (seen ++ bytes.now) told self.new.bytes.items self.new.number result }
         ensures failed { W.has_failed writer.new ≡ is_write_fault result }
@@ -127,7 +127,7 @@ impl OpenLine {
         requires ready { E.is_ready engine.old }
         ensures ready { E.is_ready engine.new }
         ensures outcome { (start : E) (seen told : List ℕ) →
-            Stands (E.shape engine.old).passes E.turns start engine.old seen told self.now.bytes.items self.now.number →
+            HasServed (E.shape engine.old).passes E.turns start engine.old seen told self.now.bytes.items self.now.number →
             FinishOutcome (E.shape engine.old).passes E.turns start (λ text. W.takes writer.old text writer.new)
             (W.flushes writer.old) (W.flushes writer.new) seen told result }
         ensures failed { W.has_failed writer.new ≡ is_write_fault result }

@@ -18,8 +18,8 @@ use Rattle.segmodel.specs.Serving as model
 use Rattle.segbase.specs.declared.board.Board.{Board}
 use Rattle.segbase.specs.declared.pass.Pass.{Pass}
 use Rattle.segbase.specs.Passes.{number, seen}
-use Rattle.segwrite.specs.Writes.{IsReplied, Deletes}
-use Rattle.segsolo.specs.Alone.{stored_in, state_at, IsAlone, ServesAlone}
+use Rattle.segwrite.specs.Writes.{AddsReply, Deletes}
+use Rattle.segsolo.specs.Alone.{keys_stored_in, state_at, IsAlone, ServesAlone}
 use Rattle.segindex.proofs.OnePass.{busy_by_lock}
 use Rattle.segsolo.proofs.AlonePass.{more_seen, as_replied, counts_replied, reply_then, left, locked_here, free_here, served, served_still}
 use Rattle.segsolo.proofs.AloneWidths.{same_widths}
@@ -31,8 +31,8 @@ module _ (b : Board) (p q : Pass) (key : List ℕ) (was : IsAlone b p) (told : D
   serves_so locked is served = subst (λ (t : Bool). MatchBool t (IsGiven delete.Busy (state_at b.shape p) told (state_at b.shape q)) (model.IsReplied b.shape (state_at b.shape p) (Delete key) (reply_of_delete told) (state_at b.shape q))) (sym is) served
 
   -- replied by one entry
-  replied : (r : Reply) → told ≢ delete.Busy → reply_of_delete told ≡ Some r → IsReplied (Delete key) r p q
-      → ((s : ℕ) → stored_in (Wrote (number p) (Delete key) r None ∷ seen p) s ≡ stored_in (seen p) s)
+  replied : (r : Reply) → told ≢ delete.Busy → reply_of_delete told ≡ Some r → AddsReply (Delete key) r p q
+      → ((s : ℕ) → keys_stored_in (Wrote (number p) (Delete key) r None ∷ seen p) s ≡ keys_stored_in (seen p) s)
       → after_reply b.shape (Delete key) r (state_at b.shape p) ≡ record (state_at b.shape p) { cache = after b.shape (Wrote (number p) (Delete key) r None ∷ seen p) }
       → ServesAlone b (command.Write (Delete key)) (answer.Delete told) p q
   replied r other is_reply answered keeps leaves = served b (command.Write (Delete key)) (answer.Delete told) p q was is.on.quiet

@@ -19,7 +19,7 @@ use Rattle.segmodel.proofs.HistoryLemmas.{standing-without}
 use Rattle.segmodel.proofs.Keys.{same_key, at_self}
 use Rattle.segmodel.proofs.Ordered.{Above, sorted-after}
 use Rattle.segcore.proofs.KeyCounts.{count_without, if_there}
-use Rattle.segsolo.specs.Alone.{stored_in}
+use Rattle.segsolo.specs.Alone.{keys_stored_in}
 use Rattle.segevict.specs.Evicting.{AreEvictions}
 use Rattle.segmodel.proofs.Words.{above_absent}
 
@@ -158,8 +158,8 @@ module _ (shape : Shape) (pass segment : ℕ) (history : List Entry) where
       is_there (Some item) some = refl
 
   -- what was stored in segments stays told
-  pub stored_still : (s : ℕ) (evictions : List Entry) → AreEvictions pass segment evictions → stored_in (evictions ++ history) s ≡ stored_in history s
-  stored_still s = by_eviction (λ evictions. stored_in (evictions ++ history) s ≡ stored_in history s) pass segment refl (λ key more all rest. rest)
+  pub stored_still : (s : ℕ) (evictions : List Entry) → AreEvictions pass segment evictions → keys_stored_in (evictions ++ history) s ≡ keys_stored_in history s
+  stored_still s = by_eviction (λ evictions. keys_stored_in (evictions ++ history) s ≡ keys_stored_in history s) pass segment refl (λ key more all rest. rest)
 
 -- where no entry is of a bucket, no key of it is evicted
 pub evicts_none : (shape : Shape) (pass segment bucket : ℕ) (key : List ℕ) (evictions : List Entry) → AreEvictions pass segment evictions → entries_of shape bucket evictions ≡ 0

@@ -31,7 +31,7 @@ use Rattle.segbase.specs.Plain.{state_of, locked_of}
 use Rattle.segbase.proofs.Alone.{bounced_alone}
 use Rattle.segpass.specs.Calls.{GoesOn, DrawsNothing}
 use Rattle.segevict.specs.Evicting.{TakesOut, IsBarred, IsEvictAnswer}
-use Rattle.segsolo.specs.Alone.{stored_in, or_empty, item_of, state_at, CountsRows, IsAlone, ServesAlone}
+use Rattle.segsolo.specs.Alone.{keys_stored_in, or_empty, item_of, state_at, CountsRows, IsAlone, ServesAlone}
 use Rattle.segindex.proofs.QuietPass.{none_since}
 use Rattle.segsolo.proofs.AlonePass.{more_seen, at_state, not_own, own_is, locked_here, served}
 use Rattle.segsolo.proofs.AloneRefills.{with_at-same, with_at-other, by_segment}
@@ -95,8 +95,8 @@ module _ (b : Board) (p q : Pass) (segment count : ℕ) (was : IsAlone b p) (on 
       ap (λ (c : Cache). length c.items) (items_left b.shape (number p) segment (seen p) takes.evictions takes.all) ∙ ap (λ (l : List (List ℕ × Cached)). length l) (left_items goes same) in
       let counted = takes.counted in omega arith
 
-  keys_then : (s : ℕ) → stored_in (seen q) s ≡ stored_in (seen p) s
-  keys_then s = ap (λ h. stored_in h s) more ∙ stored_still b.shape (number p) segment (seen p) s takes.evictions takes.all
+  keys_then : (s : ℕ) → keys_stored_in (seen q) s ≡ keys_stored_in (seen p) s
+  keys_then s = ap (λ h. keys_stored_in h s) more ∙ stored_still b.shape (number p) segment (seen p) s takes.evictions takes.all
 
   counts : CountsRows q
   counts s n is = was.used s n (sym (takes.used s) ∙ is) ∙ ap (λ (keys : List (List ℕ)). length keys) (sym (keys_then s))
@@ -107,7 +107,7 @@ module _ (b : Board) (p q : Pass) (segment count : ℕ) (was : IsAlone b p) (on 
 
   -- the state with a segment told anew, and some items taken out
   at_taken : (goes : List ℕ × Cached → Bool) (filling : ℕ → Filling) → ((key : List ℕ) (item : Cached) → standing (after b.shape (seen p)) key ≡ Some item → is_evicted takes.evictions key ≡ goes (key, item))
-      → ((s : ℕ) → or_empty (state_of q s) ≡ (filling s).state) → ((s : ℕ) → stored_in (seen p) s ≡ (filling s).keys)
+      → ((s : ℕ) → or_empty (state_of q s) ≡ (filling s).state) → ((s : ℕ) → keys_stored_in (seen p) s ≡ (filling s).keys)
       → state_at b.shape q ≡ record (taken_out segment goes (state_at b.shape p)) { filling = filling }
   at_taken goes filling same states keys =
       let widths = same_widths b p q was on undrawn in
@@ -129,18 +129,18 @@ module _ (b : Board) (p q : Pass) (segment count : ℕ) (was : IsAlone b p) (on 
         (λ there. all_evicted key (stands_there (standing (after b.shape (seen p)) key) segment key item is there))
 
     abbrev emptied : Filling
-    emptied = record { state = Evicted; keys = stored_in (seen p) segment }
+    emptied = record { state = Evicted; keys = keys_stored_in (seen p) segment }
 
     state_then : (s : ℕ) → or_empty (state_of q s) ≡ (with_at (state_at b.shape p).filling segment emptied s).state
     state_then = by_segment (λ s. or_empty (state_of q s) ≡ (with_at (state_at b.shape p).filling segment emptied s).state) segment
         (ap or_empty now ∙ sym (ap (λ (f : Filling). f.state) (with_at-same (state_at b.shape p).filling segment segment emptied refl)))
         (λ s ne. ap or_empty (takes.other_states s (λ e. ne (sym e))) ∙ sym (ap (λ (f : Filling). f.state) (with_at-other (state_at b.shape p).filling segment s emptied ne)))
 
-    same_keys : (s : ℕ) → stored_in (seen p) s ≡ (with_at (state_at b.shape p).filling segment emptied s).keys
+    same_keys : (s : ℕ) → keys_stored_in (seen p) s ≡ (with_at (state_at b.shape p).filling segment emptied s).keys
     same_keys s = by (eqb segment s) (eqb-true segment s)
       where
-        by : (here : Bool) → (here ≡ true → segment ≡ s) → stored_in (seen p) s ≡ (cond here emptied ((state_at b.shape p).filling s)).keys
-        by true same = ap (stored_in (seen p)) (sym (same refl))
+        by : (here : Bool) → (here ≡ true → segment ≡ s) → keys_stored_in (seen p) s ≡ (cond here emptied ((state_at b.shape p).filling s)).keys
+        by true same = ap (keys_stored_in (seen p)) (sym (same refl))
         by false same = refl
 
     pub evicts_all : Evicts b.shape (state_at b.shape p) segment (evict.Evicted count) (state_at b.shape q)
@@ -179,16 +179,16 @@ module _ (b : Board) (p q : Pass) (segment count : ℕ) (was : IsAlone b p) (on 
         let earlier = on_the_way (number p) segment takes.evictions way.1.0 way.0.0 (seen p) takes.all (sym more ∙ (way.1.1 ∙ ap (λ h. way.1.0 ++ h) way.0.1)) in
         (stood_before b.shape (number p) segment (seen p) barred.0 way.0.0 earlier (subst (λ h. StandsIn (after b.shape h) barred.0 segment) way.0.1 barred.1.2)).1
 
-    was_stored : list_any (is_at (key_cmp barred.0)) (stored_in (seen p) segment) ≡ true
+    was_stored : list_any (is_at (key_cmp barred.0)) (keys_stored_in (seen p) segment) ≡ true
     was_stored =
         let found = found_there (standing (after b.shape (seen p)) barred.0) segment stood in
         let passes = found_passes (is_stored (state_at b.shape p).filling) barred.0 found.0 (after b.shape (seen p)).items was.kept.items found.1 in
-        subst (λ s. list_any (is_at (key_cmp barred.0)) (stored_in (seen p) s) ≡ true) found.2 (both _ _ passes).1
+        subst (λ s. list_any (is_at (key_cmp barred.0)) (keys_stored_in (seen p) s) ≡ true) found.2 (both _ _ passes).1
 
     pub evicts_some : Evicts b.shape (state_at b.shape p) segment (evict.Busy count) (state_at b.shape q)
     evicts_some = (
-      Any-from_list_any (is_locked b.shape (state_at b.shape p)) (stored_in (seen p) segment)
-          (any_of (is_locked b.shape (state_at b.shape p)) barred.0 (stored_in (seen p) segment) was_stored (locked_here b.shape p barred.0 has_locked)),
+      Any-from_list_any (is_locked b.shape (state_at b.shape p)) (keys_stored_in (seen p) segment)
+          (any_of (is_locked b.shape (state_at b.shape p)) barred.0 (keys_stored_in (seen p) segment) was_stored (locked_here b.shape p barred.0 has_locked)),
       (is_evicted takes.evictions, count_left goes same_some, at_taken goes (state_at b.shape p).filling same_some state_still (λ s. refl)),
     )
 

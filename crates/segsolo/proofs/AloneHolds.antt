@@ -21,7 +21,7 @@ use Rattle.segread.specs.declared.held.HoldAnswer.TheVariants as answer
 use Rattle.segpass.specs.Calls.{GoesOn, ChangesNothing, DrawsNothing}
 use Rattle.segread.specs.Holds.{IsHoldOf, IsHoldAnswer, KeepsButHold, Releases, HoldsItem, ReadsHeld, ReleasesHold}
 use Rattle.segpass.proofs.Costs.{draws_nothing}
-use Rattle.segsolo.specs.Alone.{item_of, state_at, IsAlone, TurnsAlone, hold_outcome}
+use Rattle.segsolo.specs.Alone.{item_of, state_at, IsAlone, TurnsAlone, outcome_of_hold}
 use Rattle.segsolo.proofs.AlonePass.{none_if, same_moment, same_seen, as_was, left, counts_still, turned, turned_still}
 use Rattle.segsolo.proofs.AloneReads.{read_then, never_stirred}
 use Rattle.segsolo.proofs.AloneWidths.{same_widths}
@@ -59,7 +59,7 @@ module _ (b : Board) (p q : Pass) (was : IsAlone b p) (on : GoesOn b p q) (undra
   none_present (Some item) is = absurd (none-some item.value (sym is))
 
   hold_turn : (key : List ℕ) (told : HoldAnswer) → IsHoldAnswer b.shape key told p q → ((told ≡ answer.AlreadyHolding) ↔ (is_holding_of p ≡ true))
-      → TurnsAlone b (turn.Hold key) (hold_outcome told) p q
+      → TurnsAlone b (turn.Hold key) (outcome_of_hold told) p q
   hold_turn key (answer.Holding hold) takes already =
       let same = same_seen b p q was on.quiet takes.same.entries in
       let held = takes.is.held in
@@ -109,7 +109,7 @@ module _ (b : Board) (p q : Pass) (was : IsAlone b p) (on : GoesOn b p q) (undra
 
 -- ---- as turns
 
-pub turns_hold : (b : Board) (p q : Pass) (key : List ℕ) (told : HoldAnswer) → IsAlone b p → HoldsItem b key told p q → TurnsAlone b (turn.Hold key) (hold_outcome told) p q
+pub turns_hold : (b : Board) (p q : Pass) (key : List ℕ) (told : HoldAnswer) → IsAlone b p → HoldsItem b key told p q → TurnsAlone b (turn.Hold key) (outcome_of_hold told) p q
 turns_hold b p q key told was is = hold_turn b p q was is.on is.draws_nothing key told is.answer is.already
 
 pub turns_held : (b : Board) (p q : Pass) (hold : Hold) (value : List ℕ) → IsAlone b p → IsHoldOf b.shape hold p → ReadsHeld b hold value p q → TurnsAlone b turn.Held (outcome.Value value) p q

@@ -17,7 +17,7 @@ use Rattle.segpass.specs.Calls.{GoesOn, DrawsNothing}
 use Rattle.segpass.specs.Locks.{IsLockAnswer, IsUnlockAnswer, LocksBucket, UnlocksBucket}
 use Rattle.segpass.proofs.Costs.{draws_nothing}
 use Rattle.segpass.proofs.Idling.{unchanged}
-use Rattle.segsolo.specs.Alone.{item_of, state_at, IsAlone, TurnsAlone, lock_outcome, unlock_outcome}
+use Rattle.segsolo.specs.Alone.{item_of, state_at, IsAlone, TurnsAlone, outcome_of_lock, outcome_of_unlock}
 use Rattle.segindex.proofs.OnePass.{busy_by_lock}
 use Rattle.segsolo.proofs.AlonePass.{none_if, same_seen, as_was, left, counts_still, turned, turned_still}
 use Rattle.segsolo.proofs.AloneWidths.{same_widths}
@@ -44,7 +44,7 @@ module _ (b : Board) (p q : Pass) (was : IsAlone b p) (on : GoesOn b p q) (undra
   stays_locked bucket (Some other) some = (refl, refl)
 
   lock_turn : (key : List ℕ) (told : LockAnswer) → IsLockAnswer b.shape key told p q → ((told ≡ lock.AlreadyLocked) ↔ (locked_of p ≢ None))
-      → TurnsAlone b (turn.Lock key) (lock_outcome told) p q
+      → TurnsAlone b (turn.Lock key) (outcome_of_lock told) p q
   lock_turn key lock.Locked locks already =
       let free = other_answer lock.Locked already (λ e. cc) in
       turned b (turn.Lock key) outcome.Locked p q was on.quiet (counts_still p q was.used (same_seen b p q was on.quiet locks.entries) locks.segments.used) (
@@ -67,7 +67,7 @@ module _ (b : Board) (p q : Pass) (was : IsAlone b p) (on : GoesOn b p q) (undra
   unlocks_one None some = absurd (false≢true (sym some))
   unlocks_one (Some bucket) some = refl
 
-  unlock_turn : (told : Bool) → IsUnlockAnswer b.shape told p q → told ≡ is_some (locked_of p) → TurnsAlone b turn.Unlock (unlock_outcome told) p q
+  unlock_turn : (told : Bool) → IsUnlockAnswer b.shape told p q → told ≡ is_some (locked_of p) → TurnsAlone b turn.Unlock (outcome_of_unlock told) p q
   unlock_turn true unlocks was_locked =
       turned b turn.Unlock outcome.Unlocked p q was on.quiet (counts_still p q was.used (same_seen b p q was on.quiet unlocks.entries) unlocks.segments.used) (
         unlocks_one (locked_of p) was_locked,
@@ -82,8 +82,8 @@ module _ (b : Board) (p q : Pass) (was : IsAlone b p) (on : GoesOn b p q) (undra
 
 -- ---- as turns
 
-pub turns_lock : (b : Board) (p q : Pass) (key : List ℕ) (told : LockAnswer) → IsAlone b p → LocksBucket b key told p q → TurnsAlone b (turn.Lock key) (lock_outcome told) p q
+pub turns_lock : (b : Board) (p q : Pass) (key : List ℕ) (told : LockAnswer) → IsAlone b p → LocksBucket b key told p q → TurnsAlone b (turn.Lock key) (outcome_of_lock told) p q
 turns_lock b p q key told was is = lock_turn b p q was is.on is.draws_nothing key told is.answer is.already
 
-pub turns_unlock : (b : Board) (p q : Pass) (told : Bool) → IsAlone b p → UnlocksBucket b told p q → TurnsAlone b turn.Unlock (unlock_outcome told) p q
+pub turns_unlock : (b : Board) (p q : Pass) (told : Bool) → IsAlone b p → UnlocksBucket b told p q → TurnsAlone b turn.Unlock (outcome_of_unlock told) p q
 turns_unlock b p q told was is = unlock_turn b p q was is.on (draws_nothing p q is.costs_nothing) told is.answer is.was_locked

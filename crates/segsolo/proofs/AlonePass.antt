@@ -31,7 +31,7 @@ use Rattle.segbase.specs.Plain.{current_of, state_of, used_of, own_segment, stat
 use Rattle.segbase.proofs.Alone.{mine_alone}
 use Rattle.segpass.specs.Quiet.{IsQuiet}
 use Rattle.segpass.specs.Calls.{memo, ChangesNothing, AddsEntry}
-use Rattle.segsolo.specs.Alone.{stored_in, or_empty, item_of, state_at, CountsRows, IsAlone, ServesAlone, TurnsAlone}
+use Rattle.segsolo.specs.Alone.{keys_stored_in, or_empty, item_of, state_at, CountsRows, IsAlone, ServesAlone, TurnsAlone}
 use Rattle.segindex.proofs.QuietPass.{owned}
 
 -- ---- one history
@@ -98,7 +98,7 @@ pub record SameWidths (p q : Pass) : Type 0 where
 
 -- a state is told part by part
 pub at_state : (shape : Shape) (q : Pass) (state : State) → after shape (seen q) ≡ state.cache → ((segment : ℕ) → or_empty (state_of q segment) ≡ (state.filling segment).state)
-    → ((segment : ℕ) → stored_in (seen q) segment ≡ (state.filling segment).keys) → current_of q ≡ state.current → ((bucket : ℕ) → width (marked q) bucket ≡ state.width bucket)
+    → ((segment : ℕ) → keys_stored_in (seen q) segment ≡ (state.filling segment).keys) → current_of q ≡ state.current → ((bucket : ℕ) → width (marked q) bucket ≡ state.width bucket)
     → all_drawn (marked q) ≡ state.drawn → option_map item_of (holding q) ≡ state.held → locked_of q ≡ state.locked → state_at shape q ≡ state
 at_state shape q state cache states keys current wide drawn held locked = λ i. record {
   cache = cache i;
@@ -120,7 +120,7 @@ same_used p q segment plain = ap (λ plain. used_in (own_segment plain segment))
 pub as_was : (shape : Shape) (p q : Pass) → seen q ≡ seen p → ((segment : ℕ) → state_of q segment ≡ state_of p segment) → current_of q ≡ current_of p → SameWidths p q
     → state_at shape q ≡ record (state_at shape p) { held = option_map item_of (holding q); locked = locked_of q }
 as_was shape p q same states current widths = at_state shape q (record (state_at shape p) { held = option_map item_of (holding q); locked = locked_of q })
-    (ap (after shape) same) (λ segment. ap or_empty (states segment)) (λ segment. ap (λ h. stored_in h segment) same) current widths.wide widths.drawn refl refl
+    (ap (after shape) same) (λ segment. ap or_empty (states segment)) (λ segment. ap (λ h. keys_stored_in h segment) same) current widths.wide widths.drawn refl refl
 
 pub left : (b : Board) (p q : Pass) → IsAlone b p → IsQuiet b q → ChangesNothing p q → SameWidths p q → state_at b.shape q ≡ state_at b.shape p
 left b p q was quiet nothing widths = as_was b.shape p q (same_seen b p q was quiet nothing.entries) (λ segment. same_states p q segment nothing.plain) (ap (λ plain. plain.current) nothing.plain) widths
@@ -129,24 +129,24 @@ left b p q was quiet nothing widths = as_was b.shape p q (same_seen b p q was qu
 -- ---- rows
 
 pub counts_still : (p q : Pass) → CountsRows p → seen q ≡ seen p → ((segment : ℕ) → used_of q segment ≡ used_of p segment) → CountsRows q
-counts_still p q counts same used segment count is = counts segment count (sym (used segment) ∙ is) ∙ ap (λ h. length (stored_in h segment)) (sym same)
+counts_still p q counts same used segment count is = counts segment count (sym (used segment) ∙ is) ∙ ap (λ h. length (keys_stored_in h segment)) (sym same)
 
 -- ---- an entry that stores nothing
 
 -- it changes the cache alone
 pub as_replied : (b : Board) (p q : Pass) (added : Entry) → IsAlone b p → IsQuiet b q → AddsEntry added p q → q.plain ≡ p.plain → memo q ≡ memo p
-    → ((segment : ℕ) → stored_in (added ∷ seen p) segment ≡ stored_in (seen p) segment) → SameWidths p q → state_at b.shape q ≡ record (state_at b.shape p) { cache = after b.shape (added ∷ seen p) }
+    → ((segment : ℕ) → keys_stored_in (added ∷ seen p) segment ≡ keys_stored_in (seen p) segment) → SameWidths p q → state_at b.shape q ≡ record (state_at b.shape p) { cache = after b.shape (added ∷ seen p) }
 as_replied b p q added was quiet adds plain same keeps widths =
     let more = more_seen b p q (added ∷ []) was quiet adds in
     at_state b.shape q (record (state_at b.shape p) { cache = after b.shape (added ∷ seen p) })
-    (ap (after b.shape) more) (λ segment. ap or_empty (same_states p q segment plain)) (λ segment. ap (λ h. stored_in h segment) more ∙ keeps segment)
+    (ap (after b.shape) more) (λ segment. ap or_empty (same_states p q segment plain)) (λ segment. ap (λ h. keys_stored_in h segment) more ∙ keeps segment)
     (ap (λ plain. plain.current) plain) widths.wide widths.drawn (ap (λ (m : Memo). option_map item_of m.holding) same) (ap (λ plain. plain.locked) plain)
 
 pub counts_replied : (b : Board) (p q : Pass) (added : Entry) → IsAlone b p → IsQuiet b q → AddsEntry added p q → q.plain ≡ p.plain
-    → ((segment : ℕ) → stored_in (added ∷ seen p) segment ≡ stored_in (seen p) segment) → CountsRows q
+    → ((segment : ℕ) → keys_stored_in (added ∷ seen p) segment ≡ keys_stored_in (seen p) segment) → CountsRows q
 counts_replied b p q added was quiet adds plain keeps segment count is =
     was.used segment count (sym (same_used p q segment plain) ∙ is)
-    ∙ sym (ap (λ h. length (stored_in h segment)) (more_seen b p q (added ∷ []) was quiet adds) ∙ ap (λ (keys : List (List ℕ)). length keys) (keeps segment))
+    ∙ sym (ap (λ h. length (keys_stored_in h segment)) (more_seen b p q (added ∷ []) was quiet adds) ∙ ap (λ (keys : List (List ℕ)). length keys) (keeps segment))
 
 -- what was seen last was replied as the cache replied
 pub reply_then : (b : Board) (p q : Pass) (request : Request) (told : Reply) (segment : Option ℕ) → IsQuiet b q → seen q ≡ Wrote (number p) request told segment ∷ seen p

@@ -23,8 +23,8 @@ use Rattle.segbase.specs.Plain.{state_of, used_of}
 use Rattle.segpass.proofs.Idling.{unchanged}
 use Rattle.segpass.specs.Quiet.{is_held_in}
 use Rattle.segpass.specs.Calls.{GoesOn, ChangesNothing, DrawsNothing}
-use Rattle.segindex.specs.Refilling.{IsRead, Refills, IsRefillAnswer}
-use Rattle.segsolo.specs.Alone.{stored_in, or_empty, item_of, state_at, CountsRows, IsAlone, ServesAlone}
+use Rattle.segindex.specs.Refilling.{IsBeingRead, Refills, IsRefillAnswer}
+use Rattle.segsolo.specs.Alone.{keys_stored_in, or_empty, item_of, state_at, CountsRows, IsAlone, ServesAlone}
 use Rattle.segindex.proofs.OnePass.{nobody_inside}
 use Rattle.segsolo.proofs.AlonePass.{more_seen, at_state, left, not_own, own_is, served, served_still}
 use Rattle.segsolo.proofs.AloneWidths.{same_widths}
@@ -56,7 +56,7 @@ module _ (b : Board) (p q : Pass) (segment : ℕ) (was : IsAlone b p) (on : Goes
   held_alike (Some held) = refl
 
   -- nobody else is in a segment
-  read_by_itself : IsRead segment q → is_held_in (holding q) segment ≡ true
+  read_by_itself : IsBeingRead segment q → is_held_in (holding q) segment ≡ true
   read_by_itself (inl (other, apart, there)) =
       let nobody = nobody_inside (number q) other segment (trace q) apart (on.quiet.pass.alone was.one) in absurd (omega arith)
   read_by_itself (inr held) = held
@@ -99,10 +99,10 @@ module _ (b : Board) (p q : Pass) (segment : ℕ) (was : IsAlone b p) (on : Goes
         (ap or_empty refills.state ∙ sym (ap (λ (f : Filling). f.state) (with_at-same (state_at b.shape p).filling segment segment begun refl)))
         (λ s ne. ap or_empty (refills.other_states s (λ e. ne (sym e))) ∙ sym (ap (λ (f : Filling). f.state) (with_at-other (state_at b.shape p).filling segment s begun ne)))
 
-    keys_then : (s : ℕ) → stored_in (seen q) s ≡ (with_at (state_at b.shape p).filling segment begun s).keys
-    keys_then s = ap (λ h. stored_in h s) more ∙ by (eqb segment s)
+    keys_then : (s : ℕ) → keys_stored_in (seen q) s ≡ (with_at (state_at b.shape p).filling segment begun s).keys
+    keys_then s = ap (λ h. keys_stored_in h s) more ∙ by (eqb segment s)
       where
-        by : (here : Bool) → cond here [] (stored_in (seen p) s) ≡ (cond here begun ((state_at b.shape p).filling s)).keys
+        by : (here : Bool) → cond here [] (keys_stored_in (seen p) s) ≡ (cond here begun ((state_at b.shape p).filling s)).keys
         by true = refl
         by false = refl
 

@@ -21,7 +21,7 @@ use Rattle.segbase.specs.Passes.{trace, marked, seen}
 use Rattle.segbase.specs.Plain.{current_of, used_of, own_segment, state_in, used_in}
 use Rattle.segstore.specs.Segments.{has_room, is_below}
 use Rattle.segwrite.specs.Full.{WasFull}
-use Rattle.segsolo.specs.Alone.{stored_in, state_at, IsAlone}
+use Rattle.segsolo.specs.Alone.{keys_stored_in, state_at, IsAlone}
 use Rattle.segsolo.proofs.AlonePass.{same_moment, SameWidths}
 use Rattle.segsolo.proofs.Grown.{entries_begin, drawn_begin, all_begin}
 
@@ -39,7 +39,7 @@ counted None state is = absurd (none-some state is)
 counted (Some own) state is = (own.used, refl)
 
 -- so many rows of a segment in use are used as keys were stored in it
-pub rows_of : (b : Board) (p : Pass) (segment : ℕ) → IsAlone b p → current_of p ≡ Some segment → used_of p segment ≡ Some (length (stored_in (seen p) segment))
+pub rows_of : (b : Board) (p : Pass) (segment : ℕ) → IsAlone b p → current_of p ≡ Some segment → used_of p segment ≡ Some (length (keys_stored_in (seen p) segment))
 rows_of b p segment was is =
     let count = counted (own_segment p.plain segment) InUse (was.quiet.segments.in_use segment is) in
     count.1 ∙ ap Some (was.used segment count.0 count.1)
@@ -51,7 +51,7 @@ out_of_rows b p was = by (current_of p) refl
     by : (current : Option ℕ) → current_of p ≡ current → is_out_of_rows b.shape (state_at b.shape p).filling current ≡ not (is_below b.shape.rows (option_and_then (used_of p) current))
     by None is = refl
     by (Some segment) is =
-        reaches b.shape.rows (length (stored_in (seen p) segment)) ∙ sym (ap (λ o. not (is_below b.shape.rows o)) (rows_of b p segment was is))
+        reaches b.shape.rows (length (keys_stored_in (seen p) segment)) ∙ sym (ap (λ o. not (is_below b.shape.rows o)) (rows_of b p segment was is))
 
 -- ---- a bucket that is full
 

@@ -5,7 +5,7 @@ use Rattle.segword.specs.declared.shape.Shape.{Shape}
 use Rattle.segmodel.specs.declared.answer.SegState.TheVariants.{Empty}
 use Rattle.segmodel.specs.History.{after}
 use Rattle.segmodel.specs.State.{fresh}
-use Rattle.segmodel.proofs.Kept.{IsKept-fresh, IsKept-same}
+use Rattle.segmodel.proofs.Sound.{IsKept-fresh, IsKept-same}
 use Rattle.segcore.specs.Event as event
 use Rattle.segcore.specs.Mark.{width, all_drawn}
 use Rattle.segcore.specs.Mark as mark
@@ -15,7 +15,7 @@ use Rattle.segbase.specs.Plain.{state_in, state_of}
 use Rattle.segbase.specs.Made.{unfilled, IsNewPass}
 use Rattle.segindex.specs.declared.index.Index.{Index}
 use Rattle.segindex.specs.Index.{board_of, IsNew}
-use Rattle.segsolo.specs.Alone.{stored_in, or_empty, item_of, state_at, IsAlone}
+use Rattle.segsolo.specs.Alone.{keys_stored_in, or_empty, item_of, state_at, IsAlone}
 use Rattle.segsolo.proofs.AlonePass.{at_state}
 use Rattle.segindex.proofs.Made.{new_quiet, none_used}
 
@@ -38,7 +38,7 @@ module _ (b : Board) (p : Pass) (new : IsNewPass b 0 p) where
   starts_fresh = at_state b.shape p (fresh b.shape)
       (ap (λ t. after b.shape (event.seen t)) new.nothing)
       empty
-      (λ segment. ap (λ t. stored_in (event.seen t) segment) new.nothing)
+      (λ segment. ap (λ t. keys_stored_in (event.seen t) segment) new.nothing)
       new.plain.current
       (λ bucket. ap (λ t. width (mark.marked t) bucket) new.nothing)
       (ap (λ t. all_drawn (mark.marked t)) new.nothing)
@@ -50,7 +50,7 @@ module _ (b : Board) (p : Pass) (new : IsNewPass b 0 p) where
     record {
       one = one;
       quiet = new_quiet b 0 p new;
-      used = λ segment count is. none_used b 0 p segment count new.plain is ∙ sym (ap (λ t. length (stored_in (event.seen t) segment)) new.nothing);
+      used = λ segment count is. none_used b 0 p segment count new.plain is ∙ sym (ap (λ t. length (keys_stored_in (event.seen t) segment)) new.nothing);
       kept = IsKept-same starts_fresh (IsKept-fresh b.shape);
     },
     starts_fresh,

@@ -27,8 +27,8 @@ use Rattle.segbase.specs.Passes.{number, seen}
 use Rattle.segbase.specs.Plain.{state_of, used_of}
 use Rattle.segstore.specs.Segments.{has_room}
 use Rattle.segpass.specs.Calls.{ChangesNothing}
-use Rattle.segwrite.specs.Writes.{IsReplied, UsesRow, Writes}
-use Rattle.segsolo.specs.Alone.{stored_in, or_empty, item_of, state_at, CountsRows, IsAlone, ServesAlone}
+use Rattle.segwrite.specs.Writes.{AddsReply, UsesRow, Writes}
+use Rattle.segsolo.specs.Alone.{keys_stored_in, or_empty, item_of, state_at, CountsRows, IsAlone, ServesAlone}
 use Rattle.segindex.proofs.OnePass.{busy_by_lock}
 use Rattle.segsolo.proofs.AlonePass.{same_seen, more_seen, at_state, as_replied, counts_replied, reply_then, left, locked_here, free_here, served, served_still}
 use Rattle.segsolo.proofs.AloneRefills.{with_at-same, with_at-other, by_segment}
@@ -50,11 +50,11 @@ module _ (b : Board) (p q : Pass) (request : Request) (segment : ℕ) (was : IsA
   abbrev filling : ℕ → Filling
   filling = with_at (state_at b.shape p).filling segment (with_key (key_of request) ((state_at b.shape p).filling segment))
 
-  keys_then : (s : ℕ) → stored_in (seen q) s ≡ (filling s).keys
-  keys_then s = ap (λ h. stored_in h s) more ∙ by_segment (λ s. cond (eqb segment s) (stored_in (seen p) s ++ key_of request ∷ []) (stored_in (seen p) s) ≡ (filling s).keys) segment
-      (cond-true (eqb segment segment) (stored_in (seen p) segment ++ key_of request ∷ []) (stored_in (seen p) segment) (eq-eqb segment segment refl)
+  keys_then : (s : ℕ) → keys_stored_in (seen q) s ≡ (filling s).keys
+  keys_then s = ap (λ h. keys_stored_in h s) more ∙ by_segment (λ s. cond (eqb segment s) (keys_stored_in (seen p) s ++ key_of request ∷ []) (keys_stored_in (seen p) s) ≡ (filling s).keys) segment
+      (cond-true (eqb segment segment) (keys_stored_in (seen p) segment ++ key_of request ∷ []) (keys_stored_in (seen p) segment) (eq-eqb segment segment refl)
       ∙ sym (ap (λ (f : Filling). f.keys) (with_at-same (state_at b.shape p).filling segment segment (with_key (key_of request) ((state_at b.shape p).filling segment)) refl)))
-      (λ s ne. cond-false (eqb segment s) (stored_in (seen p) s ++ key_of request ∷ []) (stored_in (seen p) s) (ne_eqb segment s ne)
+      (λ s ne. cond-false (eqb segment s) (keys_stored_in (seen p) s ++ key_of request ∷ []) (keys_stored_in (seen p) s) (ne_eqb segment s ne)
       ∙ sym (ap (λ (f : Filling). f.keys) (with_at-other (state_at b.shape p).filling segment s (with_key (key_of request) ((state_at b.shape p).filling segment)) ne)))
       s
 
@@ -67,8 +67,8 @@ module _ (b : Board) (p q : Pass) (request : Request) (segment : ℕ) (was : IsA
 
   counts : CountsRows q
   counts s count is = by_segment (λ s. used_of q s ≡ Some count → count ≡ length (filling s).keys) segment
-      (λ is. same_Some count (length (stored_in (seen p) segment) + 1) (sym is ∙ uses.used (length (stored_in (seen p) segment)) (rows_of b p segment was uses.current.0))
-      ∙ (sym (length_push (stored_in (seen p) segment) (key_of request))
+      (λ is. same_Some count (length (keys_stored_in (seen p) segment) + 1) (sym is ∙ uses.used (length (keys_stored_in (seen p) segment)) (rows_of b p segment was uses.current.0))
+      ∙ (sym (length_push (keys_stored_in (seen p) segment) (key_of request))
       ∙ sym (ap (λ (f : Filling). length f.keys) (with_at-same (state_at b.shape p).filling segment segment (with_key (key_of request) ((state_at b.shape p).filling segment)) refl))))
       (λ s ne is. was.used s count (sym (uses.others s (λ e. ne (sym e))) ∙ is)
       ∙ sym (ap (λ (f : Filling). length f.keys) (with_at-other (state_at b.shape p).filling segment s (with_key (key_of request) ((state_at b.shape p).filling segment)) ne)))
@@ -133,8 +133,8 @@ module _ (b : Board) (p q : Pass) (request : Request) (store : is_store request 
         (subst (ServesStore b.shape (state_at b.shape p) request told) (sym (left b p q was is.on.quiet nothing (same_widths b p q was is.on (is.draws_nothing unstored)))) serves))
 
     -- replied by an entry that stores nothing
-    replied : (r : Reply) → told ≢ write.NoRoom → told ≢ write.Busy → r ≢ reply.Stored → reply_of_write told ≡ Some r → IsReplied request r p q
-        → ((s : ℕ) → stored_in (Wrote (number p) request r None ∷ seen p) s ≡ stored_in (seen p) s) → after b.shape (Wrote (number p) request r None ∷ seen p) ≡ after b.shape (seen p)
+    replied : (r : Reply) → told ≢ write.NoRoom → told ≢ write.Busy → r ≢ reply.Stored → reply_of_write told ≡ Some r → AddsReply request r p q
+        → ((s : ℕ) → keys_stored_in (Wrote (number p) request r None ∷ seen p) s ≡ keys_stored_in (seen p) s) → after b.shape (Wrote (number p) request r None ∷ seen p) ≡ after b.shape (seen p)
         → after_reply b.shape request r (state_at b.shape p) ≡ state_at b.shape p → ServesAlone b (command.Write request) (answer.Write told) p q
     replied r rows other unstored is_reply answered keeps leaves stays =
         served b (command.Write request) (answer.Write told) p q was is.on.quiet

@@ -14,7 +14,7 @@ use Rattle.segmodel.specs.declared.answer.Outcome.{Outcome}
 use Rattle.segmodel.specs.declared.answer.Outcome.TheVariants as outcome
 use Rattle.segmodel.specs.Request.{key_of}
 use Rattle.segmodel.specs.History.{after}
-use Rattle.segmodel.specs.State.{State, IsKept}
+use Rattle.segmodel.specs.State.{State, IsSound}
 use Rattle.segmodel.specs.Serving.{Serves}
 use Rattle.segmodel.specs.Turns.{Turns}
 use Rattle.segcore.specs.Mark.{width, all_drawn}
@@ -30,11 +30,11 @@ use Rattle.segread.specs.declared.held.HoldAnswer.TheVariants as hold
 use Rattle.segpass.specs.Quiet.{IsQuiet}
 
 -- the keys that were stored in a segment since it was last refilled, oldest first
-abbrev pub stored_in : List Entry → ℕ → List (List ℕ)
-stored_in [] segment = []
-stored_in (Wrote pass request Stored (Some other) ∷ history) segment = if other == segment then stored_in history segment ++ key_of request ∷ [] else stored_in history segment
-stored_in (Refilled pass other ∷ history) segment = if other == segment then [] else stored_in history segment
-stored_in (_ ∷ history) segment = stored_in history segment
+abbrev pub keys_stored_in : List Entry → ℕ → List (List ℕ)
+keys_stored_in [] segment = []
+keys_stored_in (Wrote pass request Stored (Some other) ∷ history) segment = if other == segment then keys_stored_in history segment ++ key_of request ∷ [] else keys_stored_in history segment
+keys_stored_in (Refilled pass other ∷ history) segment = if other == segment then [] else keys_stored_in history segment
+keys_stored_in (_ ∷ history) segment = keys_stored_in history segment
 
 -- nothing is kept of a segment that isn't the pass's: the model takes it as one that was never filled
 abbrev pub or_empty : Option SegState → SegState
@@ -48,7 +48,7 @@ item_of held = record { value = held.value; segment = held.segment }
 abbrev pub state_at : Shape → Pass → State
 state_at shape p = record {
   cache = after shape (seen p);
-  filling = λ segment. record { state = or_empty (state_of p segment); keys = stored_in (seen p) segment };
+  filling = λ segment. record { state = or_empty (state_of p segment); keys = keys_stored_in (seen p) segment };
   current = current_of p;
   width = λ bucket. width (marked p) bucket;
   drawn = all_drawn (marked p);
@@ -58,14 +58,14 @@ state_at shape p = record {
 
 -- each key that was stored in a segment of its own used a row
 abbrev pub CountsRows : Pass → Type 0
-CountsRows p = (segment count : ℕ) → used_of p segment ≡ Some count → count ≡ length (stored_in (seen p) segment)
+CountsRows p = (segment count : ℕ) → used_of p segment ≡ Some count → count ≡ length (keys_stored_in (seen p) segment)
 
 -- the only pass of an index between calls: the rows that it counts are those of the keys stored, and of its state holds what always holds
 pub record IsAlone (b : Board) (p : Pass) : Type 0 where
   pub one : b.shape.passes ≡ 1
   pub quiet : IsQuiet b p
   pub used : CountsRows p
-  pub kept : IsKept b.shape (state_at b.shape p)
+  pub kept : IsSound b.shape (state_at b.shape p)
 
 -- a command, or a turn, was served as the model says, from the state that the pass was at to the one that it is at now
 abbrev pub ServesAlone : Board → Command → Answer → Pass → Pass → Type 0
@@ -75,17 +75,17 @@ abbrev pub TurnsAlone : Board → Turn → Outcome → Pass → Pass → Type 0
 TurnsAlone b turn given p q = IsAlone b q × Turns b.shape (state_at b.shape p) turn given (state_at b.shape q)
 
 -- the outcomes of the turns that lock, unlock and hold, by what the calls answer
-abbrev pub lock_outcome : LockAnswer → Outcome
-lock_outcome lock.Locked = outcome.Locked
-lock_outcome lock.Busy = outcome.Busy
-lock_outcome lock.AlreadyLocked = outcome.AlreadyLocked
+abbrev pub outcome_of_lock : LockAnswer → Outcome
+outcome_of_lock lock.Locked = outcome.Locked
+outcome_of_lock lock.Busy = outcome.Busy
+outcome_of_lock lock.AlreadyLocked = outcome.AlreadyLocked
 
-abbrev pub unlock_outcome : Bool → Outcome
-unlock_outcome true = outcome.Unlocked
-unlock_outcome false = outcome.NotLocked
+abbrev pub outcome_of_unlock : Bool → Outcome
+outcome_of_unlock true = outcome.Unlocked
+outcome_of_unlock false = outcome.NotLocked
 
-abbrev pub hold_outcome : HoldAnswer → Outcome
-hold_outcome (hold.Holding held) = outcome.Holding
-hold_outcome hold.Miss = outcome.Miss
-hold_outcome hold.Busy = outcome.Busy
-hold_outcome hold.AlreadyHolding = outcome.AlreadyHolding
+abbrev pub outcome_of_hold : HoldAnswer → Outcome
+outcome_of_hold (hold.Holding held) = outcome.Holding
+outcome_of_hold hold.Miss = outcome.Miss
+outcome_of_hold hold.Busy = outcome.Busy
+outcome_of_hold hold.AlreadyHolding = outcome.AlreadyHolding

@@ -17,7 +17,7 @@ use Rattle.segread.specs.Holds.{IsHoldOf, HoldsItem, ReadsHeld, ReleasesHold}
 use Rattle.segindex.specs.declared.index.Index.{Index}
 use Rattle.segindex.specs.Commands.{AnswersCommand}
 use Rattle.segindex.specs.Index.{board_of, IsNew}
-use Rattle.segsolo.specs.Alone.{state_at, IsAlone, ServesAlone, TurnsAlone, lock_outcome, unlock_outcome, hold_outcome}
+use Rattle.segsolo.specs.Alone.{state_at, IsAlone, ServesAlone, TurnsAlone, outcome_of_lock, outcome_of_unlock, outcome_of_hold}
 
 -- a new index with one pass is at the state at the start
 abbrev pub StartsAlone : Type 0
@@ -35,17 +35,17 @@ CommandIsServed = (b : Board) (p q : Pass) (command : Command) (draw : ℕ) (tol
 
 abbrev pub LockIsServed : Type 0
 LockIsServed = (b : Board) (p q : Pass) (key : List ℕ) (told : LockAnswer) → IsAlone b p
-    → LocksBucket b key told p q → TurnsAlone b (turn.Lock key) (lock_outcome told) p q
+    → LocksBucket b key told p q → TurnsAlone b (turn.Lock key) (outcome_of_lock told) p q
 
 abbrev pub UnlockIsServed : Type 0
 UnlockIsServed = (b : Board) (p q : Pass) (told : Bool) → IsAlone b p
-    → UnlocksBucket b told p q → TurnsAlone b turn.Unlock (unlock_outcome told) p q
+    → UnlocksBucket b told p q → TurnsAlone b turn.Unlock (outcome_of_unlock told) p q
 
 -- ---- holds
 
 abbrev pub HoldIsServed : Type 0
 HoldIsServed = (b : Board) (p q : Pass) (key : List ℕ) (told : HoldAnswer) → IsAlone b p
-    → HoldsItem b key told p q → TurnsAlone b (turn.Hold key) (hold_outcome told) p q
+    → HoldsItem b key told p q → TurnsAlone b (turn.Hold key) (outcome_of_hold told) p q
 
 abbrev pub HeldIsServed : Type 0
 HeldIsServed = (b : Board) (p q : Pass) (hold : Hold) (value : List ℕ) → IsAlone b p → IsHoldOf b.shape hold p

@@ -24,7 +24,7 @@ use Rattle.segbase.specs.declared.board.Board.{Board}
 use Rattle.segbase.specs.declared.pass.OwnSegment.{OwnSegment}
 use Rattle.segbase.specs.declared.pass.Plain.{Plain}
 use Rattle.segbase.specs.declared.pass.Pass.{Pass}
-use Rattle.segbase.specs.Passes.{sight, number, trace, seen, IsPassOf, Moved, Did}
+use Rattle.segbase.specs.Passes.{sight, number, trace, seen, IsPassOf, AddsEvents, AddsAtOnce}
 use Rattle.segbase.specs.Plain.{current_of, state_of, used_of, own_segment, state_in, used_in, SameOwner, SameSegments}
 use Rattle.segbase.specs.Traces.{own_of}
 use Rattle.segbase.proofs.Owned.{owns_state}
@@ -127,7 +127,7 @@ own_empty z (e ∷ more) h p s l calm own none = ⊎_elim
     empty_stays z (e ∷ []) (more ++ h) s l ((λ same. false≢true (sym f ∙ eq-eqb (by e) p (same ∙ own))), tt) (own_empty z more h p s l.0 c own none))
     (cases_Bool (eqb (by e) p))
 
-pub keeps : (b : Board) (own : List Event) (p q : Pass) → Moved b own p q → AreCalm own → SameSegments p q → current_of q ≡ current_of p → KeepsSegments b p → KeepsSegments b q
+pub keeps : (b : Board) (own : List Event) (p q : Pass) → AddsEvents b own p q → AreCalm own → SameSegments p q → current_of q ≡ current_of p → KeepsSegments b p → KeepsSegments b q
 keeps b own p q m calm same current k =
     let lawful : IsLawful b.shape (m.more ++ trace p) = subst (IsLawful b.shape) m.goes_on m.pass.lawful in
     let calmly : AreCalm (own_of (number p) m.more) = subst AreCalm (sym m.adds) calm in record {
@@ -139,13 +139,13 @@ keeps b own p q m calm same current k =
     }
 
 -- a call with an equal plain part
-pub keeps_plain : (b : Board) (own : List Event) (p q : Pass) → Moved b own p q → AreCalm own → q.plain ≡ p.plain → KeepsSegments b p → KeepsSegments b q
+pub keeps_plain : (b : Board) (own : List Event) (p q : Pass) → AddsEvents b own p q → AreCalm own → q.plain ≡ p.plain → KeepsSegments b p → KeepsSegments b q
 keeps_plain b own p q m calm same k = let s = same_plain p q same in keeps b own p q m calm s.0 s.1 k
 
 -- ---- a link of the next row, and a refilling
 
 -- what one step leaves in the pass's own segments
-empty_then : (b : Board) (e : Event) (p q : Pass) (s : ℕ) → Did b (e ∷ []) p q → owner b.shape s ≡ number p → ((x : ℕ) (r : Request) (row n : ℕ) → e ≢ Linked x r s row n) → NoneStandsIn (after b.shape (seen p)) s → NoneStandsIn (after b.shape (seen q)) s
+empty_then : (b : Board) (e : Event) (p q : Pass) (s : ℕ) → AddsAtOnce b (e ∷ []) p q → owner b.shape s ≡ number p → ((x : ℕ) (r : Request) (row n : ℕ) → e ≢ Linked x r s row n) → NoneStandsIn (after b.shape (seen p)) s → NoneStandsIn (after b.shape (seen q)) s
 empty_then b e p q s d own other none =
     let old : List Event = d.others ++ trace p in
     subst (λ h. NoneStandsIn (after b.shape (event.seen h)) s) (sym d.now)
@@ -170,20 +170,20 @@ one_more_row r row = ⊎_elim
     (cases_eq row r)
 
 -- the rows of the current segment after the link of its next row
-row_linked : (b : Board) (request : Request) (p q : Pass) (segment row position r : ℕ) → Did b (Linked (number p) request segment row position ∷ []) p q → owner b.shape segment ≡ number p
+row_linked : (b : Board) (request : Request) (p q : Pass) (segment row position r : ℕ) → AddsAtOnce b (Linked (number p) request segment row position ∷ []) p q → owner b.shape segment ≡ number p
     → is_some (row_after (trace q) segment r).linked ≡ cond (eqb row r) true (is_some (row_after (trace p) segment r).linked)
 row_linked b request p q segment row position r d own =
     let e = Linked (number p) request segment row position in let u = row_after (trace p) segment r in
     ap (λ (x : Row). is_some x.linked) (stepped_row b e p q segment r d own) ∙ (ap (λ t. is_some (cond (t && eqb row r) (writes_row e u) u).linked) (eq-eqb segment segment refl) ∙ linked_there (eqb row r) (number p) request segment row position u)
 
-row_elsewhere : (b : Board) (request : Request) (p q : Pass) (segment row position s r : ℕ) → Did b (Linked (number p) request segment row position ∷ []) p q → owner b.shape s ≡ number p → segment ≢ s
+row_elsewhere : (b : Board) (request : Request) (p q : Pass) (segment row position s r : ℕ) → AddsAtOnce b (Linked (number p) request segment row position ∷ []) p q → owner b.shape s ≡ number p → segment ≢ s
     → row_after (trace q) s r ≡ row_after (trace p) s r
 row_elsewhere b request p q segment row position s r d own other =
     let e = Linked (number p) request segment row position in let u = row_after (trace p) s r in
     stepped_row b e p q s r d own ∙ ap (λ t. cond (t && eqb row r) (writes_row e u) u) (ne_eqb segment s other)
 
 -- the next row was linked, and then counted as used
-pub keeps_linked : (b : Board) (request : Request) (p r q : Pass) (segment row position : ℕ) → Did b (Linked (number p) request segment row position ∷ []) p r → r.plain ≡ p.plain
+pub keeps_linked : (b : Board) (request : Request) (p r q : Pass) (segment row position : ℕ) → AddsAtOnce b (Linked (number p) request segment row position ∷ []) p r → r.plain ≡ p.plain
     → current_of p ≡ Some segment → used_of p segment ≡ Some row → row < b.shape.rows
     → q.seat ≡ r.seat → used_of q segment ≡ Some (row + 1) → ((s : ℕ) → s ≢ segment → used_of q s ≡ used_of r s) → ((s : ℕ) → state_of q s ≡ state_of r s) → current_of q ≡ current_of r
     → IsPassOf b p → KeepsSegments b p → KeepsSegments b q
@@ -211,7 +211,7 @@ keeps_linked b request p r q segment row position d same current used lt seat no
     }
 
 -- the segment was refilled, and is in use, current, with no row used
-pub keeps_refilled : (b : Board) (p r q : Pass) (segment : ℕ) → Did b (Refilled (number p) segment ∷ []) p r → r.plain ≡ p.plain → owner b.shape segment ≡ number p
+pub keeps_refilled : (b : Board) (p r q : Pass) (segment : ℕ) → AddsAtOnce b (Refilled (number p) segment ∷ []) p r → r.plain ≡ p.plain → owner b.shape segment ≡ number p
     → q.seat ≡ r.seat → current_of q ≡ Some segment → state_of q segment ≡ Some InUse → ((s : ℕ) → s ≢ segment → state_of q s ≡ state_of r s) → used_of q segment ≡ Some 0 → ((s : ℕ) → s ≢ segment → used_of q s ≡ used_of r s)
     → IsPassOf b p → KeepsSegments b p → KeepsSegments b q
 keeps_refilled b p r q segment d same own seat current now states empty others is k =

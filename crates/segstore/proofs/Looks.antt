@@ -11,13 +11,13 @@ use Rattle.segcore.proofs.Moments.{none_both}
 use Rattle.segbase.specs.declared.board.Board.{Board}
 use Rattle.segbase.specs.declared.pass.Pass.{Pass}
 use Rattle.segbase.specs.declared.place.RowPlace.{RowPlace}
-use Rattle.segbase.specs.Passes.{number, trace, Did, Stepped}
+use Rattle.segbase.specs.Passes.{number, trace, AddsAtOnce, Stepped}
 use Rattle.segbase.proofs.Moves.{moved_then}
-use Rattle.segstore.specs.Reading.{Looked, IsReadable, ReadsRow, four_words}
+use Rattle.segstore.specs.Reading.{OnlyLooks, IsReadable, ReadsRow, four_words}
 
 -- ---- looks, one after another
 
-pub did_then : (b : Board) (p q r : Pass) → Did b [] p q → Did b [] q r → Did b [] p r
+pub did_then : (b : Board) (p q r : Pass) → AddsAtOnce b [] p q → AddsAtOnce b [] q r → AddsAtOnce b [] p r
 did_then b p q r d e =
     let now : trace r ≡ (e.others ++ d.others) ++ trace p = e.now ∙ (ap (λ h. e.others ++ h) d.now ∙ sym (append_assoc e.others d.others (trace p))) in record {
       moved = moved_then b [] [] p q r d.moved e.moved;
@@ -27,16 +27,16 @@ did_then b p q r d e =
       now = now;
     }
 
-pub looked_then : (b : Board) (p q r : Pass) → Looked b p q → Looked b q r → Looked b p r
+pub looked_then : (b : Board) (p q r : Pass) → OnlyLooks b p q → OnlyLooks b q r → OnlyLooks b p r
 looked_then b p q r l k = record { did = did_then b p q r l.did k.did; plain = k.plain ∙ l.plain; memo = k.memo ∙ l.memo }
 
 -- ---- rows that a pass may read
 
-pub same_row : (b : Board) (p q : Pass) (s r : ℕ) → Did b [] p q → IsReadable b p s r → row_after (trace q) s r ≡ row_after (trace p) s r
+pub same_row : (b : Board) (p q : Pass) (s r : ℕ) → AddsAtOnce b [] p q → IsReadable b p s r → row_after (trace q) s r ≡ row_after (trace p) s r
 same_row b p q s r d may = ap (λ h. row_after h s r) d.now ∙ read_row b.shape d.others (trace p) (number p) s r d.before d.none may.2
 
 -- a look keeps what the pass may read
-pub readable : (b : Board) (p q : Pass) (s r : ℕ) → Did b [] p q → IsReadable b p s r → IsReadable b q s r
+pub readable : (b : Board) (p q : Pass) (s r : ℕ) → AddsAtOnce b [] p q → IsReadable b p s r → IsReadable b q s r
 readable b p q s r d may = (
   may.0,
   may.1,

@@ -4,12 +4,12 @@ use Rattle.segbase.specs.declared.board.Board.{Board}
 use Rattle.segbase.specs.declared.pass.Pass.{Pass}
 use Rattle.segbase.specs.Passes.{IsPassOf}
 use Rattle.segbase.proofs.Moves as moves
-use Rattle.segstore.specs.Reading.{Looked, IsReader, IsReaderIn, Enters, Leaves}
+use Rattle.segstore.specs.Reading.{OnlyLooks, IsReader, IsReaderIn, Enters, LeavesSegment}
 
 pub stays : (b : Board) (p : Pass) → IsPassOf b p → IsReader b p p
 stays b p is = record { reads = moves.reads_nothing b p p (moves.stays b p is); plain = refl; memo = refl }
 
-pub looks : (b : Board) (p q : Pass) → Looked b p q → IsReader b p q
+pub looks : (b : Board) (p q : Pass) → OnlyLooks b p q → IsReader b p q
 looks b p q l = record { reads = moves.reads_nothing b p q l.did.moved; plain = l.plain; memo = l.memo }
 
 pub enters : (b : Board) (p q : Pass) (segment : ℕ) → Enters b p q segment → IsReaderIn b p q segment
@@ -24,5 +24,5 @@ enter_then b p q r segment i j = record { reads = moves.enter_then b p q r segme
 pub then_reader : (b : Board) (p q r : Pass) (segment : ℕ) → IsReaderIn b p q segment → IsReader b q r → IsReaderIn b p r segment
 then_reader b p q r segment i j = record { reads = moves.then_reads b p q r segment i.reads j.reads; plain = j.plain ∙ i.plain; memo = j.memo ∙ i.memo }
 
-pub leave_then : (b : Board) (p q r : Pass) (segment : ℕ) → IsReaderIn b p q segment → Leaves b q r segment → IsReader b p r
+pub leave_then : (b : Board) (p q r : Pass) (segment : ℕ) → IsReaderIn b p q segment → LeavesSegment b q r segment → IsReader b p r
 leave_then b p q r segment i j = record { reads = moves.leave_then b p q r segment i.reads j.moved; plain = j.plain ∙ i.plain; memo = j.memo ∙ i.memo }

@@ -11,7 +11,7 @@ use Rattle.segcore.specs.Kind.{none_reading, May}
 use Rattle.segcore.proofs.Readers.{some_reader}
 use Rattle.segbase.specs.declared.board.Board.{Board}
 use Rattle.segbase.specs.declared.pass.Pass.{Pass}
-use Rattle.segbase.specs.Passes.{number, trace, IsPassOf, Moved, Did, Stepped}
+use Rattle.segbase.specs.Passes.{number, trace, IsPassOf, AddsEvents, AddsAtOnce, Stepped}
 use Rattle.segbase.specs.Plain.{state_of}
 use Rattle.segbase.proofs.Moves.{stays}
 use Rattle.segstore.specs.Segments.{KeepsSegments}
@@ -34,9 +34,9 @@ is_read b p q s found t is step at f =
     let some : found ≢ 0 = λ e. false≢true (sym none ∙ eq-eqb found 0 e) in
     let count : found ≡ readers old s = step.told.found_is in
     let reader = some_reader b.shape old step.told.before s (omega (arith, some, count)) in (
-      record { moved = subst (λ es. Moved b es p q) (cond-false (eqb found 0) (Refilled (number p) s ∷ []) [] none) step.did.moved; plain = step.plain; memo = step.memo },
+      record { moved = subst (λ es. AddsEvents b es p q) (cond-false (eqb found 0) (Refilled (number p) s ∷ []) [] none) step.did.moved; plain = step.plain; memo = step.memo },
       (reader.0, subst (λ h. 0 < inside h reader.0 s) (sym now) reader.1),
     )
 
-pub did_refill : (b : Board) (p q : Pass) (s : ℕ) (t : Bool) → t ≡ true → Did b (cond t (Refilled (number p) s ∷ []) []) p q → Did b (Refilled (number p) s ∷ []) p q
-did_refill b p q s t y d = subst (λ es. Did b es p q) (cond-true t (Refilled (number p) s ∷ []) [] y) d
+pub did_refill : (b : Board) (p q : Pass) (s : ℕ) (t : Bool) → t ≡ true → AddsAtOnce b (cond t (Refilled (number p) s ∷ []) []) p q → AddsAtOnce b (Refilled (number p) s ∷ []) p q
+did_refill b p q s t y d = subst (λ es. AddsAtOnce b es p q) (cond-true t (Refilled (number p) s ∷ []) [] y) d

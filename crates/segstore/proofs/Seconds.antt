@@ -13,15 +13,15 @@ use Rattle.segcore.specs.Lawful.{IsSegment}
 use Rattle.segbase.specs.declared.board.Board.{Board}
 use Rattle.segbase.specs.declared.pass.Pass.{Pass}
 use Rattle.segbase.specs.declared.place.Place.{Place}
-use Rattle.segbase.specs.Passes.{number, trace, Did, Stepped}
+use Rattle.segbase.specs.Passes.{number, trace, AddsAtOnce, Stepped}
 use Rattle.segcore.proofs.Moments.{begins_on}
 use Rattle.segbase.proofs.Alone.{moved_alone}
 use Rattle.segbase.proofs.Moves.{moved_inside, moved_on}
 use Rattle.segbase.proofs.Staying.{none_both}
 use Rattle.segcore.specs.Kind.{look}
 use Rattle.segbase.specs.Spots.{cell_at}
-use Rattle.segstore.specs.Reading.{Looked, IsReadable, ReadsRow}
-use Rattle.segstore.specs.Linked.{segment_part, row_part, word_at, IsChained, WasLinked, SawItem, FoundItem, FoundKey, SeesAgain}
+use Rattle.segstore.specs.Reading.{OnlyLooks, IsReadable, ReadsRow}
+use Rattle.segstore.specs.Linked.{segment_part, row_part, word_of_place, IsChained, WasLinked, SawItem, FoundItem, FoundKey, SeesAgain}
 use Rattle.segstore.proofs.Looks.{looked_then}
 use Rattle.segstore.proofs.Words.{segment_of_packed, row_of_packed, same_segment, chained_later, stood_item}
 
@@ -40,14 +40,14 @@ pub unpacked : (o : Option Item) (item : Item) (w : ℕ) → IfSome o (λ item. 
 unpacked o item w some is = subst (λ x. IfSome x (λ item. item_word item ≡ w)) is some
 
 -- a look at a place
-pub looked_at : (b : Board) (p q : Pass) (place : Place) (found : ℕ) → Stepped b (look (cell_at b.shape place)) found p q → Looked b p q
+pub looked_at : (b : Board) (p q : Pass) (place : Place) (found : ℕ) → Stepped b (look (cell_at b.shape place)) found p q → OnlyLooks b p q
 looked_at b p q place found st = record { did = st.did; plain = st.plain; memo = st.memo }
 
 -- what the second look leaves, where it found the item that it was taken for
-pub sees_again : (b : Board) (p q : Pass) (place : Place) (word now : ℕ) (item : Item) → Did b [] p q → IsChained b.shape (trace p) place → 0 < inside (trace p) (number p) (segment_part word)
-    → now ≡ word_at b.shape (trace q) place → IsSameItem word now → item_word item ≡ now → SeesAgain b place word item q
+pub sees_again : (b : Board) (p q : Pass) (place : Place) (word now : ℕ) (item : Item) → AddsAtOnce b [] p q → IsChained b.shape (trace p) place → 0 < inside (trace p) (number p) (segment_part word)
+    → now ≡ word_of_place b.shape (trace q) place → IsSameItem word now → item_word item ≡ now → SeesAgain b place word item q
 sees_again b p q place word now item d c there is same of =
-    let here : word_at b.shape (trace q) place ≡ item_word item = sym is ∙ sym of in
+    let here : word_of_place b.shape (trace q) place ≡ item_word item = sym is ∙ sym of in
     let same' : IsSameItem word (item_word item) = subst (IsSameItem word) (sym of) same in
     let tag : 1 ≤ item_word item / 2 ^ 52 = subst (λ n. 1 ≤ n) same'.1 same'.0 in
     let s = stood_item b.shape (trace q) place (item_word item) d.moved.pass.valid d.moved.pass.lawful (chained_later b.shape (trace p) (trace q) place d.moved.pass.lawful (moved_on b [] p q d.moved) c) here tag in
@@ -69,10 +69,10 @@ pub holds_item : (b : Board) (q t : Pass) (place : Place) (item : Item) (key val
 holds_item b q t place item key value was reads j lt =
     ap (λ (x : Row). x.words j) (reads.same ∙ same_names item (trace q)) ∙ was.holds j lt
 
-abbrev pub saw_item : (b : Board) (p q t : Pass) (place : Place) (w : ℕ) (key value : List ℕ) → Looked b p q → Looked b q t → WasLinked b.shape place w key value (trace q) → SawItem b.shape place w key value (trace p) (trace t)
+abbrev pub saw_item : (b : Board) (p q t : Pass) (place : Place) (w : ℕ) (key value : List ℕ) → OnlyLooks b p q → OnlyLooks b q t → WasLinked b.shape place w key value (trace q) → SawItem b.shape place w key value (trace p) (trace t)
 saw_item b p q t place w key value d l was = record { at = trace q; between = (moved_on b [] p q d.did.moved, moved_on b [] q t l.did.moved); was = was }
 
-pub found_item : (b : Board) (p q t : Pass) (place : Place) (item : Item) (key value : List ℕ) → Looked b p q → WasLinked b.shape place (item_word item) key value (trace q) → 0 < inside (trace q) (number q) item.seg → ReadsRow b q t item.seg item.row → FoundItem b.shape place (item_word item) key value (trace p) (trace t)
+pub found_item : (b : Board) (p q t : Pass) (place : Place) (item : Item) (key value : List ℕ) → OnlyLooks b p q → WasLinked b.shape place (item_word item) key value (trace q) → 0 < inside (trace q) (number q) item.seg → ReadsRow b q t item.seg item.row → FoundItem b.shape place (item_word item) key value (trace p) (trace t)
 found_item b p q t place item key value d was entered reads = let m = reads.looked.did.moved in record {
   saw = saw_item b p q t place (item_word item) key value d reads.looked was;
   kept = (m.more, m.goes_on, subst (λ s. NoneRefills s m.more) (segment_of_item item) (m.kept item.seg entered));
@@ -84,7 +84,7 @@ found_item b p q t place item key value d was entered reads = let m = reads.look
 pub found_as : (z : Shape) (h g : List Event) (place : Place) (w : ℕ) (key value key' value' : List ℕ) → key ≡ key' → value' ≡ value → FoundItem z place w key value h g → FoundItem z place w key' value' h g
 found_as z h g place w key value key' value' ek ev found = subst (λ k. FoundItem z place w k value' h g) ek (subst (λ v. FoundItem z place w key v h g) (sym ev) found)
 
-pub then_row : (b : Board) (p q t : Pass) (s r : ℕ) → Looked b p q → ReadsRow b q t s r → Looked b p t
+pub then_row : (b : Board) (p q t : Pass) (s r : ℕ) → OnlyLooks b p q → ReadsRow b q t s r → OnlyLooks b p t
 then_row b p q t s r l reads = looked_then b p q t l reads.looked
 
 -- ---- the value of an item that was found, read later

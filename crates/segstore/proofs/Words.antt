@@ -21,7 +21,7 @@ use Rattle.segbase.specs.declared.place.Place.{Place}
 use Rattle.segbase.specs.Spots.{cell_at, position, home_bucket, home_in, depth_of}
 use Rattle.segbase.proofs.Placed.{item_home}
 use Rattle.segbase.proofs.Standing.{tag_of_word}
-use Rattle.segstore.specs.Linked.{segment_part, row_part, word_at, IsChained, WasLinked}
+use Rattle.segstore.specs.Linked.{segment_part, row_part, word_of_place, IsChained, WasLinked}
 
 -- ---- parts of words
 
@@ -74,7 +74,7 @@ pub record NamesIn (z : Shape) (h : List Event) (place : Place) (w : ℕ) : Type
   pub is_segment : segment_part w ≡ segment
   pub is_row : row_part w ≡ row
 
-named : (z : Shape) (h : List Event) (place : Place) (w t s r : ℕ) → IsValid z → word_at z h place ≡ w → Names z h (home_bucket z h place) (position z h place) (cell_at z place) t s r → NamesIn z h place w
+named : (z : Shape) (h : List Event) (place : Place) (w t s r : ℕ) → IsValid z → word_of_place z h place ≡ w → Names z h (home_bucket z h place) (position z h place) (cell_at z place) t s r → NamesIn z h place w
 named z h place w t s r v is x =
     let ls = low_segment z s v x.in_segment.0 in let lr = low_row z r v x.in_segment.1 in record {
       tag = t;
@@ -86,7 +86,7 @@ named z h place w t s r v is x =
       is_row = ap row_part (sym is ∙ x.reads) ∙ row_of_packed t x.frequency s r lr;
     }
 
-pub names_in : (z : Shape) (h : List Event) (place : Place) (w : ℕ) → IsValid z → IsLawful z h → IsChained z h place → word_at z h place ≡ w → 1 ≤ w / 2 ^ 52 → NamesIn z h place w
+pub names_in : (z : Shape) (h : List Event) (place : Place) (w : ℕ) → IsValid z → IsLawful z h → IsChained z h place → word_of_place z h place ≡ w → 1 ≤ w / 2 ^ 52 → NamesIn z h place w
 names_in z h place w v l c is tag =
     let b = home_bucket z h place in let n = position z h place in let cell = cell_at z place in
     ⊎_elim
@@ -98,7 +98,7 @@ names_in z h place w v l c is tag =
     ((says_of_keys z h v l).readings b n cell (item_home z h b n place l c.at) c.at)
 
 -- and is that of a key that stands
-pub stood_item : (z : Shape) (h : List Event) (place : Place) (w : ℕ) → IsValid z → IsLawful z h → IsChained z h place → word_at z h place ≡ w → 1 ≤ w / 2 ^ 52 → (key : List ℕ) × (value : List ℕ) × WasLinked z place w key value h
+pub stood_item : (z : Shape) (h : List Event) (place : Place) (w : ℕ) → IsValid z → IsLawful z h → IsChained z h place → word_of_place z h place ≡ w → 1 ≤ w / 2 ^ 52 → (key : List ℕ) × (value : List ℕ) × WasLinked z place w key value h
 stood_item z h place w v l c is tag =
     let x = names_in z h place w v l c is tag in
     let b = home_bucket z h place in let n = position z h place in

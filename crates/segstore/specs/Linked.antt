@@ -41,14 +41,14 @@ pub record IsChained (shape : Shape) (trace : List Event) (place : Place) : Type
   pub at : IsItemAt shape trace (home_bucket shape trace place) (position shape trace place) (cell_at shape place)
 
 -- the word of a place at a moment
-abbrev pub word_at : Shape → List Event → Place → ℕ
-word_at shape trace place = core.word shape trace (cell_at shape place)
+abbrev pub word_of_place : Shape → List Event → Place → ℕ
+word_of_place shape trace place = core.word shape trace (cell_at shape place)
 
 -- At a moment this item word stood at the place, and was the key's: the key stood with the value in the word's segment, and the word's row held the pair.
 pub record WasLinked (shape : Shape) (place : Place) (word : ℕ) (key value : List ℕ) (at : List Event) : Type 0 where
   pub lawful : IsLawful shape at
   pub chained : IsChained shape at place
-  pub stood : word_at shape at place ≡ word
+  pub stood : word_of_place shape at place ≡ word
   pub tag : tag_part word ≡ tag_of key
   pub here : (bucket_of shape key ≡ home_bucket shape at place) × KeyAt shape key at (position shape at place)
   pub valid : IsKey key × IsValue value
@@ -58,31 +58,31 @@ pub record WasLinked (shape : Shape) (place : Place) (word : ℕ) (key value : L
   pub holds : Holds (row_after at (segment_part word) (row_part word)) key value
 
 -- a look between two moments found this item word
-pub record SawItem (shape : Shape) (place : Place) (word : ℕ) (key value : List ℕ) (before now : List Event) : Type 0 where
+pub record SawItem (shape : Shape) (place : Place) (word : ℕ) (key value : List ℕ) (old new : List Event) : Type 0 where
   pub at : List Event
-  pub between : IsBetween before now at
+  pub between : IsBetween old new at
   pub was : WasLinked shape place word key value at
 
 -- and now its row is as it was then, since its segment wasn't filled again
-pub record FoundItem (shape : Shape) (place : Place) (word : ℕ) (key value : List ℕ) (before now : List Event) : Type 0 where
-  pub saw : SawItem shape place word key value before now
-  pub kept : (more : List Event) × (now ≡ more ++ saw.at) × NoneRefills (segment_part word) more
-  pub still : row_after now (segment_part word) (row_part word) ≡ row_after saw.at (segment_part word) (row_part word)
+pub record FoundItem (shape : Shape) (place : Place) (word : ℕ) (key value : List ℕ) (old new : List Event) : Type 0 where
+  pub saw : SawItem shape place word key value old new
+  pub kept : (more : List Event) × (new ≡ more ++ saw.at) × NoneRefills (segment_part word) more
+  pub still : row_after new (segment_part word) (row_part word) ≡ row_after saw.at (segment_part word) (row_part word)
   -- with one pass nothing has happened since
-  pub alone : shape.passes ≡ 1 → now ≡ saw.at
+  pub alone : shape.passes ≡ 1 → new ≡ saw.at
 
 -- The key's item was found, and its value is the row's: this is word 0 of it.
-pub record FoundKey (shape : Shape) (place : Place) (item : Item) (header : ℕ) (key : List ℕ) (before now : List Event) : Type 0 where
+pub record FoundKey (shape : Shape) (place : Place) (item : Item) (header : ℕ) (key : List ℕ) (old new : List Event) : Type 0 where
   pub value : List ℕ
-  pub found : FoundItem shape place (item_word item) key value before now
-  pub begins : header ≡ (row_after now item.seg item.row).words 0
+  pub found : FoundItem shape place (item_word item) key value old new
+  pub begins : header ≡ (row_after new item.seg item.row).words 0
 
 -- a look between them found this word
-pub record SawWord (shape : Shape) (place : Place) (word : ℕ) (before now : List Event) : Type 0 where
+pub record SawWord (shape : Shape) (place : Place) (word : ℕ) (old new : List Event) : Type 0 where
   pub at : List Event
-  pub between : IsBetween before now at
+  pub between : IsBetween old new at
   pub lawful : IsLawful shape at
-  pub stood : word_at shape at place ≡ word
+  pub stood : word_of_place shape at place ≡ word
 
 -- A second look saw the same item still: a key's, in whose segment the pass is, so that it may read the row.
 pub record SeesAgain (b : Board) (place : Place) (word : ℕ) (item : Item) (q : Pass) : Type 0 where
@@ -95,11 +95,11 @@ pub record SeesAgain (b : Board) (place : Place) (word : ℕ) (item : Item) (q :
 
 -- the second look at an item word
 abbrev pub IsLinked : Shape → Place → ℕ → Linked → List Event → List Event → Type 0
-IsLinked shape place word (linked.Same key value) before now = (same : ℕ) × IsSameItem word same × FoundItem shape place same key value before now
-IsLinked shape place word (linked.Changed other) before now = SawWord shape place other before now × ¬ (IsSameItem word other)
+IsLinked shape place word (linked.Same key value) old new = (same : ℕ) × IsSameItem word same × FoundItem shape place same key value old new
+IsLinked shape place word (linked.Changed other) old new = SawWord shape place other old new × ¬ (IsSameItem word other)
 
 -- the same, taken for a key
 abbrev pub IsKeyed : Shape → Place → ℕ → List ℕ → Keyed → List Event → List Event → Type 0
-IsKeyed shape place word key (keyed.Same item header) before now = IsSameItem word (item_word item) × FoundKey shape place item header key before now
-IsKeyed shape place word key (keyed.Other item) before now = IsSameItem word (item_word item) × ((other value : List ℕ) × (other ≢ key) × SawItem shape place (item_word item) other value before now)
-IsKeyed shape place word key (keyed.Changed other) before now = SawWord shape place other before now × ¬ (IsSameItem word other)
+IsKeyed shape place word key (keyed.Same item header) old new = IsSameItem word (item_word item) × FoundKey shape place item header key old new
+IsKeyed shape place word key (keyed.Other item) old new = IsSameItem word (item_word item) × ((other value : List ℕ) × (other ≢ key) × SawItem shape place (item_word item) other value old new)
+IsKeyed shape place word key (keyed.Changed other) old new = SawWord shape place other old new × ¬ (IsSameItem word other)

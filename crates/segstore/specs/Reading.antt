@@ -6,11 +6,11 @@ use Rattle.segcore.specs.Kind.{MayRead}
 use Rattle.segbase.specs.declared.board.Board.{Board}
 use Rattle.segbase.specs.declared.pass.Pass.{Pass}
 use Rattle.segcore.specs.declared.event.Event.TheVariants.{Entered, Left}
-use Rattle.segbase.specs.Passes.{sight, number, trace, Did, Moved, Reads, ReadsIn}
+use Rattle.segbase.specs.Passes.{sight, number, trace, AddsAtOnce, AddsEvents, Reads, ReadsIn}
 
 -- the pass only looked: it added nothing to what others did, and what it keeps is as it was
-pub record Looked (b : Board) (p q : Pass) : Type 0 where
-  pub did : Did b [] p q
+pub record OnlyLooks (b : Board) (p q : Pass) : Type 0 where
+  pub did : AddsAtOnce b [] p q
   pub plain : q.plain ≡ p.plain
   pub memo : (sight q).memo ≡ (sight p).memo
 
@@ -20,7 +20,7 @@ IsReadable b p segment row = IsSegment b.shape segment × (row < b.shape.rows) �
 
 -- the pass only looked, the row is as it was, and the pass may go on reading it
 pub record ReadsRow (b : Board) (p q : Pass) (segment row : ℕ) : Type 0 where
-  pub looked : Looked b p q
+  pub looked : OnlyLooks b p q
   pub readable : IsReadable b q segment row
   pub same : row_after (trace q) segment row ≡ row_after (trace p) segment row
 
@@ -44,12 +44,12 @@ pub record IsReaderIn (b : Board) (p q : Pass) (segment : ℕ) : Type 0 where
 
 -- it came into a segment, and did nothing else
 pub record Enters (b : Board) (p q : Pass) (segment : ℕ) : Type 0 where
-  pub moved : Moved b (Entered (number p) segment ∷ []) p q
+  pub moved : AddsEvents b (Entered (number p) segment ∷ []) p q
   pub plain : q.plain ≡ p.plain
   pub memo : (sight q).memo ≡ (sight p).memo
 
 -- it left a segment, and did nothing else
-pub record Leaves (b : Board) (p q : Pass) (segment : ℕ) : Type 0 where
-  pub moved : Moved b (Left (number p) segment ∷ []) p q
+pub record LeavesSegment (b : Board) (p q : Pass) (segment : ℕ) : Type 0 where
+  pub moved : AddsEvents b (Left (number p) segment ∷ []) p q
   pub plain : q.plain ≡ p.plain
   pub memo : (sight q).memo ≡ (sight p).memo

@@ -7,18 +7,18 @@ use Rattle.segcore.specs.declared.event.Event.TheVariants as event
 use Rattle.segcore.specs.Segment.{inside}
 use Rattle.segbase.specs.declared.board.Board.{Board}
 use Rattle.segbase.specs.declared.pass.Pass.{Pass}
-use Rattle.segbase.specs.Passes.{sight, number, trace, Moved}
+use Rattle.segbase.specs.Passes.{sight, number, trace, AddsEvents}
 use Rattle.segbase.specs.Plain.{current_of, state_of, used_of, locked_of, is_holding_of}
 
 -- the pass did nothing, and keeps what it kept
 pub record Idles (b : Board) (p q : Pass) : Type 0 where
-  pub moved : Moved b [] p q
+  pub moved : AddsEvents b [] p q
   pub plain : q.plain ≡ p.plain
   pub memo : (sight q).memo ≡ (sight p).memo
 
 -- the segment was refilled: it is in use and current, with no row used; the other segments are as they were
 pub record FillsAnew (b : Board) (segment : ℕ) (p q : Pass) : Type 0 where
-  pub moved : Moved b (event.Refilled (number p) segment ∷ []) p q
+  pub moved : AddsEvents b (event.Refilled (number p) segment ∷ []) p q
   pub current : current_of q ≡ Some segment
   pub state : state_of q segment ≡ Some InUse
   pub used : used_of q segment ≡ Some 0

@@ -4,7 +4,7 @@ ghost use Rattle.segcore.specs.Lawful.{IsSegment};
 ghost use Rattle.segcore.specs.Segment.{inside};
 ghost use Rattle.segcore.specs.Kind.{enter, May};
 ghost use Rattle.segbase.specs.Passes.{number, trace, IsPassOf};
-ghost use Rattle.segstore.specs.Reading.{Enters, Leaves};
+ghost use Rattle.segstore.specs.Reading.{Enters, LeavesSegment};
 
 use segbase::{Board, Pass};
 
@@ -22,7 +22,7 @@ pub fn leave_segment(board: &Board, pass: &mut Pass, segment: u32)
     requires pass { IsPassOf board.now pass.old }
     requires segment { IsSegment board.now.shape segment }
     requires inside { 0 < inside (trace pass.old) (number pass.old) segment }
-    ensures { Leaves board.now pass.old pass.new segment }
+    ensures { LeavesSegment board.now pass.old pass.new segment }
 {
     board.leave(pass, segment);
 }

@@ -3,7 +3,7 @@ ghost use Rattle.std.specs.Prelude.{◌<◌, IfOk, IfErr};
 ghost use Rattle.segword.specs.SameItem.{IsSameItem};
 ghost use Rattle.segcore.specs.Segment.{inside};
 ghost use Rattle.segbase.specs.Passes.{number, trace, IsPassOf};
-ghost use Rattle.segstore.specs.Reading.{Looked};
+ghost use Rattle.segstore.specs.Reading.{OnlyLooks};
 ghost use Rattle.segstore.specs.Linked.{segment_part, IsChained, SawWord, SeesAgain, IsLinked, IsKeyed};
 
 use crate::row::{pair_of_row, row_of_key};
@@ -35,7 +35,7 @@ pub fn read_linked(board: &Board, pass: &mut Pass, place: Place, word: u64) -> L
     requires pass { IsPassOf board.now pass.old }
     requires place { IsChained board.now.shape (trace pass.old) place }
     requires inside { 0 < inside (trace pass.old) (number pass.old) (segment_part word) }
-    ensures looked { Looked board.now pass.old pass.new }
+    ensures looked { OnlyLooks board.now pass.old pass.new }
     ensures linked { IsLinked board.now.shape place word result (trace pass.old) (trace pass.new) }
 {
     match look_again(board, pass, place, word) {
@@ -53,7 +53,7 @@ pub fn read_keyed(board: &Board, pass: &mut Pass, place: Place, word: u64, key: 
     requires pass { IsPassOf board.now pass.old }
     requires place { IsChained board.now.shape (trace pass.old) place }
     requires inside { 0 < inside (trace pass.old) (number pass.old) (segment_part word) }
-    ensures looked { Looked board.now pass.old pass.new }
+    ensures looked { OnlyLooks board.now pass.old pass.new }
     ensures keyed { IsKeyed board.now.shape place word key.now result (trace pass.old) (trace pass.new) }
 {
     match look_again(board, pass, place, word) {
@@ -70,7 +70,7 @@ fn look_again(board: &Board, pass: &mut Pass, place: Place, word: u64) -> Result
     requires pass { IsPassOf board.now pass.old }
     requires place { IsChained board.now.shape (trace pass.old) place }
     requires inside { 0 < inside (trace pass.old) (number pass.old) (segment_part word) }
-    ensures looked { Looked board.now pass.old pass.new }
+    ensures looked { OnlyLooks board.now pass.old pass.new }
     ensures same { IfOk result (λ item. SeesAgain board.now place word item pass.new) }
     ensures other { IfErr result (λ now. SawWord board.now.shape place now (trace pass.old) (trace pass.new) × ¬ (IsSameItem word now)) }
 {

@@ -4,7 +4,7 @@ ghost use Rattle.segword.specs.Bytes.{IsValue};
 ghost use Rattle.segword.specs.Row.{row_of};
 ghost use Rattle.segcore.specs.Row.{Holds, row_after};
 ghost use Rattle.segcore.specs.Lawful.{IsOwnRow};
-ghost use Rattle.segbase.specs.Passes.{sight, number, trace, IsPassOf, Moved};
+ghost use Rattle.segbase.specs.Passes.{sight, number, trace, IsPassOf, AddsEvents};
 ghost use Rattle.segbase.specs.Plain.{current_of, used_of};
 ghost use Rattle.segstore.specs.Rows.{fills};
 ghost use Rattle.segstore.specs.Segments.{KeepsSegments, has_room};
@@ -23,7 +23,7 @@ pub fn write_row(
     requires pass { IsPassOf board.now pass.old }
     requires segments { KeepsSegments board.now pass.old }
     ensures next { IfOk result (λ row. (current_of pass.old ≡ Some row.0) × (used_of pass.old row.0 ≡ Some row.1)) }
-    ensures moved { IfOk result (λ row. Moved board.now (fills (number pass.old) row.0 row.1 (row_of key.now value.now) 8) pass.old pass.new) }
+    ensures moved { IfOk result (λ row. AddsEvents board.now (fills (number pass.old) row.0 row.1 (row_of key.now value.now) 8) pass.old pass.new) }
     ensures own { IfOk result (λ row. IsOwnRow board.now.shape (trace pass.new) (number pass.new) row.0 row.1) }
     ensures holds { IfOk result (λ row. Holds (row_after (trace pass.new) row.0 row.1) key.now value.now) }
     ensures plain { pass.new.plain ≡ pass.old.plain }
@@ -47,7 +47,7 @@ pub fn fill_row(
 )
     requires pass { IsPassOf board.now pass.old }
     requires own { IsOwnRow board.now.shape (trace pass.old) (number pass.old) segment row }
-    ensures moved { Moved board.now (fills (number pass.old) segment row (row_of key.now value.now) 8) pass.old pass.new }
+    ensures moved { AddsEvents board.now (fills (number pass.old) segment row (row_of key.now value.now) 8) pass.old pass.new }
     ensures own { IsOwnRow board.now.shape (trace pass.new) (number pass.new) segment row }
     ensures holds { Holds (row_after (trace pass.new) segment row) key.now value.now }
     ensures valid { IsValue value.now }

@@ -26,8 +26,8 @@ use Rattle.segcore.proofs.Quiet.{quiet_row, quiet, used_stays}
 use Rattle.segbase.specs.declared.board.Board.{Board}
 use Rattle.segbase.specs.declared.pass.Pass.{Pass}
 use Rattle.segbase.specs.declared.place.Place.{Place}
-use Rattle.segbase.specs.Passes.{number, trace, Moved, Did}
-use Rattle.segbase.specs.Steps.{IsReadAs, IsFree, Takes}
+use Rattle.segbase.specs.Passes.{number, trace, AddsEvents, AddsAtOnce}
+use Rattle.segbase.specs.Steps.{IsWordOfContent, IsFree, Takes}
 use Rattle.segbase.specs.Spots.{cell_at, position}
 use Rattle.segbase.specs.Made.{IsNewPass, IsMade}
 use Rattle.segtests_words.specs.Entering.{shape, key, set, IsOutside, IsNew, KnowsUse}
@@ -39,7 +39,7 @@ abbrev pub IsEmptyBelow : List Event → ℕ → Type 0
 IsEmptyBelow h n = (m : ℕ) → 0 < m → m < n → (bucket_after shape h 0).items m ≡ nothing
 
 -- a word that reads 0 has nothing
-zero_nothing : (x : Content) → IsReadAs x 0 → x ≡ nothing
+zero_nothing : (x : Content) → IsWordOfContent x 0 → x ≡ nothing
 zero_nothing nothing r = refl
 zero_nothing (item a) r = absurd (let t = r.1 in omega arith)
 zero_nothing (next m) r = absurd (omega arith)
@@ -71,14 +71,14 @@ at_shape : (b : Board) (p : Pass) (F : Shape → Type 0) → IsOutside b p → F
 at_shape b p F o x = subst F (sym o.shape) x
 
 -- a pass that is in the segment as often as before is outside it
-outside_then : (b : Board) (own : List Event) (p q : Pass) → IsOutside b p → Moved b own p q → inside (trace q) (number p) 0 ≡ inside (trace p) (number p) 0 → IsOutside b q
+outside_then : (b : Board) (own : List Event) (p q : Pass) → IsOutside b p → AddsEvents b own p q → inside (trace q) (number p) 0 ≡ inside (trace p) (number p) 0 → IsOutside b q
 outside_then b own p q o m same = record { pass = m.pass; shape = o.shape; outside = ap (λ n. inside (trace q) n 0) m.same ∙ (same ∙ o.outside) }
 
-knows_then : (b : Board) (own : List Event) (p q : Pass) → KnowsUse b p → Moved b own p q → inside (trace q) (number p) 0 ≡ inside (trace p) (number p) 0 → KnowsUse b q
+knows_then : (b : Board) (own : List Event) (p q : Pass) → KnowsUse b p → AddsEvents b own p q → inside (trace q) (number p) 0 ≡ inside (trace p) (number p) 0 → KnowsUse b q
 knows_then b own p q k m same = record { outside = outside_then b own p q k.outside m same; used = ap (λ h. was_used h 0) m.goes_on ∙ used_stays m.more (trace p) 0 k.used }
 
 -- others leave its row
-row_kept : (b : Board) (own : List Event) (p q : Pass) → IsOutside b p → number p ≡ 0 → (d : Did b own p q) → row_after (d.others ++ trace p) 0 0 ≡ row_after (trace p) 0 0
+row_kept : (b : Board) (own : List Event) (p q : Pass) → IsOutside b p → number p ≡ 0 → (d : AddsAtOnce b own p q) → row_after (d.others ++ trace p) 0 0 ≡ row_after (trace p) 0 0
 row_kept b own p q o n d = quiet_row b.shape d.others (trace p) 0 0 d.before (subst (λ a. NoneBy a d.others) (n ∙ sym (ap (λ (z : Shape). owner z 0) o.shape)) d.none)
 
 -- ---- the pass that sets the key
@@ -101,14 +101,14 @@ pub record HasEmpty (b : Board) (p : Pass) (n : ℕ) : Type 0 where
   pub spare : (bucket_after b.shape (trace p) 0).spare ≡ None
   pub empty : IsEmptyBelow (trace p) n
 
-pub then_fills : (b : Board) (p q : Pass) → IsNew b p → number p ≡ 0 → Did b (Filled (number p) 0 0 0 1 ∷ []) p q → HasFilled b q
+pub then_fills : (b : Board) (p q : Pass) → IsNew b p → number p ≡ 0 → AddsAtOnce b (Filled (number p) 0 0 0 1 ∷ []) p q → HasFilled b q
 then_fills b p q new n d = let own = Filled (number p) 0 0 0 1 ∷ [] in record {
   outside = outside_then b own p q new.outside d.moved (moved_inside b own p q 0 d.moved);
   first = d.moved.same ∙ n;
   row = ap (λ h. row_after h 0 0) d.now ∙ ap (writes_row (Filled (number p) 0 0 0 1)) (row_kept b own p q new.outside n d ∙ ap (λ h. row_after h 0 0) new.nothing);
 }
 
-still_filled : (b : Board) (own : List Event) (p q : Pass) → HasFilled b p → (d : Did b own p q) → inside (own ++ trace p) (number p) 0 ≡ inside (trace p) (number p) 0 → row_after (own ++ (d.others ++ trace p)) 0 0 ≡ row_after (d.others ++ trace p) 0 0 → HasFilled b q
+still_filled : (b : Board) (own : List Event) (p q : Pass) → HasFilled b p → (d : AddsAtOnce b own p q) → inside (own ++ trace p) (number p) 0 ≡ inside (trace p) (number p) 0 → row_after (own ++ (d.others ++ trace p)) 0 0 ≡ row_after (d.others ++ trace p) 0 0 → HasFilled b q
 still_filled b own p q h d enters fills = record {
   outside = outside_then b own p q h.outside d.moved (moved_inside b own p q 0 d.moved ∙ enters);
   first = d.moved.same ∙ h.first;
@@ -130,14 +130,14 @@ then_takes b p q won h is t =
 abbrev pub at : ℕ → Place
 at n = record { bucket = 0; word = n }
 
-pub then_looks : (b : Board) (p q : Pass) (n found : ℕ) → HasEmpty b p n → 0 < n → n < 8 → Did b [] p q → found ≡ 0
-    → ((bucket position : ℕ) → IsItemAt b.shape (trace q) bucket position (cell_at b.shape (at n)) → IsReadAs ((bucket_after b.shape (trace q) bucket).items position) found) → HasEmpty b q (n + 1)
+pub then_looks : (b : Board) (p q : Pass) (n found : ℕ) → HasEmpty b p n → 0 < n → n < 8 → AddsAtOnce b [] p q → found ≡ 0
+    → ((bucket position : ℕ) → IsItemAt b.shape (trace q) bucket position (cell_at b.shape (at n)) → IsWordOfContent ((bucket_after b.shape (trace q) bucket).items position) found) → HasEmpty b q (n + 1)
 then_looks b p q n found h some few d empty reads =
     let o = h.filled.outside in
     let same = did_quiet b p q 0 d h.bit in
     let here : bucket_after shape (trace q) 0 ≡ bucket_after shape (trace p) 0 = subst (λ z. bucket_after z (trace q) 0 ≡ bucket_after z (trace p) 0) o.shape same in
-    let reads' : IsItemAt shape (trace q) 0 n (OfBucket 0 n) → IsReadAs ((bucket_after shape (trace q) 0).items n) found = subst (λ z. IsItemAt z (trace q) 0 n (cell_at z (at n)) → IsReadAs ((bucket_after z (trace q) 0).items n) found) o.shape (reads 0 n) in
-    let none : (bucket_after shape (trace q) 0).items n ≡ nothing = zero_nothing ((bucket_after shape (trace q) 0).items n) (subst (IsReadAs ((bucket_after shape (trace q) 0).items n)) empty (reads' ((omega arith, omega arith), (refl, refl, few)))) in
+    let reads' : IsItemAt shape (trace q) 0 n (OfBucket 0 n) → IsWordOfContent ((bucket_after shape (trace q) 0).items n) found = subst (λ z. IsItemAt z (trace q) 0 n (cell_at z (at n)) → IsWordOfContent ((bucket_after z (trace q) 0).items n) found) o.shape (reads 0 n) in
+    let none : (bucket_after shape (trace q) 0).items n ≡ nothing = zero_nothing ((bucket_after shape (trace q) 0).items n) (subst (IsWordOfContent ((bucket_after shape (trace q) 0).items n)) empty (reads' ((omega arith, omega arith), (refl, refl, few)))) in
     record {
       filled = still_filled b [] p q h.filled d refl refl;
       bit = did_has b p q 0 d h.bit;
@@ -213,7 +213,7 @@ pub record HasLinked (b : Board) (p : Pass) : Type 0 where
   pub written : (bucket_after b.shape (trace p) 0).written ≡ true
   pub spare : (bucket_after b.shape (trace p) 0).spare ≡ None
 
-pub then_links : (b : Board) (p q : Pass) (n : ℕ) → HasEmpty b p 8 → Did b (Linked (number p) set 0 0 n ∷ []) p q → HasLinked b q
+pub then_links : (b : Board) (p q : Pass) (n : ℕ) → HasEmpty b p 8 → AddsAtOnce b (Linked (number p) set 0 0 n ∷ []) p q → HasLinked b q
 then_links b p q n e d =
     let o = e.filled.outside in let own = Linked (number p) set 0 0 n ∷ [] in
     let same = quiet b.shape d.others (trace p) (number p) 0 d.before d.none e.bit.1 in
@@ -229,7 +229,7 @@ then_links b p q n e d =
 pub may_free : (b : Board) (p : Pass) → HasLinked b p → May b.shape (trace p) (number p) (release 0 true None)
 may_free b p h = (h.bit, h.written, h.spare, tt)
 
-pub then_frees : (b : Board) (p q : Pass) → HasLinked b p → Did b (Freed (number p) 0 true ∷ []) p q → KnowsUse b q
+pub then_frees : (b : Board) (p q : Pass) → HasLinked b p → AddsAtOnce b (Freed (number p) 0 true ∷ []) p q → KnowsUse b q
 then_frees b p q h d = let own = Freed (number p) 0 true ∷ [] in knows_then b own p q h.knows d.moved (moved_inside b own p q 0 d.moved)
 
 -- ---- passes that meet
@@ -245,10 +245,10 @@ pub next_new : (b : Board) (all left fewer : List Pass) (o t : Option Pass) (p :
 next_new b all left fewer o t p made is was there = let n = length fewer in
     new_outside b n p made.of (made.dealt.each n p (ap (λ l. slice_get l n) is ∙ front_of left (option_to_list o) n p (ap (λ l. slice_get l n) (was ∙ ap (λ x. fewer ++ option_to_list x) there) ∙ last_of fewer p)))
 
-pub met_first : (b : Board) (p q : Pass) → KnowsUse b p → Moved b [] p q → KnowsUse b q
+pub met_first : (b : Board) (p q : Pass) → KnowsUse b p → AddsEvents b [] p q → KnowsUse b q
 met_first b p q k m = knows_then b [] p q k m (moved_inside b [] p q 0 m)
 
-pub met_second : (b : Board) (p q r : Pass) → KnowsUse b p → IsOutside b q → Moved b [] q r → Begins (trace p) (trace r) → KnowsUse b r
+pub met_second : (b : Board) (p q r : Pass) → KnowsUse b p → IsOutside b q → AddsEvents b [] q r → Begins (trace p) (trace r) → KnowsUse b r
 met_second b p q r k o m met = record { outside = outside_then b [] q r o m (moved_inside b [] q r 0 m); used = ap (λ h. was_used h 0) met.1 ∙ used_stays met.0 (trace p) 0 k.used }
 
 -- ---- in and out
@@ -260,5 +260,5 @@ may_enter b p k = record {
   suits = (k.outside.pass.one_of, at_shape b p (λ z. 0 < z.passes * z.segments_each) k.outside (omega arith), (let o = k.outside.outside in omega arith), k.used);
 }
 
-pub comes_out : (b : Board) (p q r : Pass) → KnowsUse b p → Did b (Entered (number p) 0 ∷ []) p q → Did b (Left (number q) 0 ∷ []) q r → KnowsUse b r
+pub comes_out : (b : Board) (p q r : Pass) → KnowsUse b p → AddsAtOnce b (Entered (number p) 0 ∷ []) p q → AddsAtOnce b (Left (number q) 0 ∷ []) q r → KnowsUse b r
 comes_out b p q r k d e = let reads = leave_then b p q r 0 (reads_enter b p q 0 d.moved) e.moved in knows_then b reads.own p r k reads.moved (reads.inside 0)

@@ -7,7 +7,7 @@ use Rattle.segcore.specs.declared.event.Event.{Event}
 use Rattle.segcore.specs.declared.event.Event.TheVariants.{Took}
 use Rattle.segbase.specs.declared.board.Board.{Board}
 use Rattle.segbase.specs.declared.pass.Pass.{Pass}
-use Rattle.segbase.specs.Passes.{number, trace, Did}
+use Rattle.segbase.specs.Passes.{number, trace, AddsAtOnce}
 use Rattle.segbase.specs.Steps.{Takes}
 use Rattle.segtests_words.specs.Walk.{shape, took, HasDone}
 use Rattle.segbase.proofs.Alone.{moved_alone}
@@ -16,7 +16,7 @@ use Rattle.segbase.proofs.Alone.{moved_alone}
 pub here : (b : Board) (p : Pass) (es : List Event) (F : Shape → List Event → ℕ → Type 0) → HasDone b p es → F shape es 0 → F b.shape (trace p) (number p)
 here b p es F h x = subst (λ z. F z (trace p) (number p)) (sym h.shape) (subst (λ t. F shape t (number p)) (sym h.trace) (subst (λ n. F shape es n) (sym h.first) x))
 
-pub then : (b : Board) (p q : Pass) (es : List Event) (own : Shape → List Event → ℕ → List Event) → HasDone b p es → Did b (own b.shape (trace p) (number p)) p q → HasDone b q (own shape es 0 ++ es)
+pub then : (b : Board) (p q : Pass) (es : List Event) (own : Shape → List Event → ℕ → List Event) → HasDone b p es → AddsAtOnce b (own b.shape (trace p) (number p)) p q → HasDone b q (own shape es 0 ++ es)
 then b p q es own h d = record {
   pass = d.moved.pass;
   shape = h.shape;
@@ -31,12 +31,12 @@ then_takes b p q es won h is t = let takes : Takes b 0 true p q = subst (λ (w :
 
 -- ---- a step that came about
 
-pub then_if : (b : Board) (p q : Pass) (es : List Event) (own : Shape → List Event → ℕ → List Event) (t : Bool) → HasDone b p es → t ≡ true → Did b (cond t (own b.shape (trace p) (number p)) []) p q → HasDone b q (own shape es 0 ++ es)
-then_if b p q es own t h is d = then b p q es own h (subst (λ (w : Bool). Did b (cond w (own b.shape (trace p) (number p)) []) p q) is d)
+pub then_if : (b : Board) (p q : Pass) (es : List Event) (own : Shape → List Event → ℕ → List Event) (t : Bool) → HasDone b p es → t ≡ true → AddsAtOnce b (cond t (own b.shape (trace p) (number p)) []) p q → HasDone b q (own shape es 0 ++ es)
+then_if b p q es own t h is d = then b p q es own h (subst (λ (w : Bool). AddsAtOnce b (cond w (own b.shape (trace p) (number p)) []) p q) is d)
 
 when_ok : (r : Result (Unit {0}) ℕ) (t : Bool) (P : Type 0) → t ≡ true → t ≡ is_ok r → OnOk r P → P
 when_ok (Ok a) t P is same x = x
 when_ok (Err e) t P is same x = absurd (false≢true (sym same ∙ is))
 
-pub then_ok : (b : Board) (p q : Pass) (es : List Event) (own : Shape → List Event → ℕ → List Event) (r : Result (Unit {0}) ℕ) (t : Bool) → HasDone b p es → t ≡ true → t ≡ is_ok r → OnOk r (Did b (own b.shape (trace p) (number p)) p q) → HasDone b q (own shape es 0 ++ es)
-then_ok b p q es own r t h is same d = then b p q es own h (when_ok r t (Did b (own b.shape (trace p) (number p)) p q) is same d)
+pub then_ok : (b : Board) (p q : Pass) (es : List Event) (own : Shape → List Event → ℕ → List Event) (r : Result (Unit {0}) ℕ) (t : Bool) → HasDone b p es → t ≡ true → t ≡ is_ok r → OnOk r (AddsAtOnce b (own b.shape (trace p) (number p)) p q) → HasDone b q (own shape es 0 ++ es)
+then_ok b p q es own r t h is same d = then b p q es own h (when_ok r t (AddsAtOnce b (own b.shape (trace p) (number p)) p q) is same d)

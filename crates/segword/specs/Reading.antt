@@ -12,10 +12,10 @@ reading_word (Item item) = item_word item
 reading_word (Chain number) = chain_word number
 
 -- a chain leads to an overflow bucket that can be there
-abbrev pub IsReading : Reading → Type 0
-IsReading Empty = Unit {0}
-IsReading (Item item) = Unit {0}
-IsReading (Chain number) = number < 65536
+abbrev pub IsProperReading : Reading → Type 0
+IsProperReading Empty = Unit {0}
+IsProperReading (Item item) = Unit {0}
+IsProperReading (Chain number) = number < 65536
 
 -- the word is 0, has a tag, or chains to an overflow bucket
 abbrev pub HasReading : ℕ → Type 0

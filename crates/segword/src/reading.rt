@@ -15,11 +15,11 @@ pub enum Reading {
 }
 
 impl Reading {
-    ghost use Rattle.segword.specs.Reading.{reading_word, IsReading, HasReading};
+    ghost use Rattle.segword.specs.Reading.{reading_word, IsProperReading, HasReading};
 
     /// The word that is read so.
     pub fn pack(self) -> u64
-        requires { IsReading self }
+        requires { IsProperReading self }
         ensures { result ≡ reading_word self }
     {
         match self {
@@ -33,8 +33,8 @@ impl Reading {
     pub fn unpack(word: u64) -> Option<Reading>
         ensures variant { IsSome result ↔ HasReading word }
         ensures some { IfSome result (λ reading. reading_word reading ≡ word) }
-        ensures valid { IfSome result IsReading }
-        ensures packed { (reading : Reading) → IsReading reading → reading_word reading ≡ word → result ≡ Some reading }
+        ensures valid { IfSome result IsProperReading }
+        ensures packed { (reading : Reading) → IsProperReading reading → reading_word reading ≡ word → result ≡ Some reading }
     {
         if word == 0 {
             return Some(Reading::Empty);

@@ -11,22 +11,22 @@ use Rattle.segcore.specs.Kind.{HasBit}
 use Rattle.segcore.proofs.Quiet.{quiet, quiet_at}
 use Rattle.segbase.specs.declared.board.Board.{Board}
 use Rattle.segbase.specs.declared.pass.Pass.{Pass}
-use Rattle.segbase.specs.Passes.{number, trace, seen, Did}
+use Rattle.segbase.specs.Passes.{number, trace, seen, AddsAtOnce}
 use Rattle.segbase.proofs.Moves.{moved_then}
 use Rattle.segstore.specs.Refilling.{Idles}
 use Rattle.segpass.specs.Calls.{memo}
-use Rattle.segwrite.specs.Growing.{bucket_in, Prepares}
+use Rattle.segwrite.specs.Growing.{bucket_seen, Prepares}
 use Rattle.segpass.proofs.UnderBit.{moved_at}
 
-module _ (b : Board) (e : Event) (p q : Pass) (bucket : ℕ) (d : Did b (e ∷ []) p q) (bit : HasBit b.shape (trace p) (number p) bucket) where
+module _ (b : Board) (e : Event) (p q : Pass) (bucket : ℕ) (d : AddsAtOnce b (e ∷ []) p q) (bit : HasBit b.shape (trace p) (number p) bucket) where
   -- others did nothing in it meanwhile
-  pub as_seen : bucket_after b.shape (d.others ++ trace p) bucket ≡ bucket_in b bucket p
+  pub as_seen : bucket_after b.shape (d.others ++ trace p) bucket ≡ bucket_seen b bucket p
   as_seen = quiet b.shape d.others (trace p) (number p) bucket d.before d.none bit.1
 
   pub keys_as_seen : (key : List ℕ) → bucket_of b.shape key ≡ bucket → IsSameAt b.shape (after b.shape (seen p)) (after b.shape (event.seen (d.others ++ trace p))) key
   keys_as_seen key of = quiet_at b.shape d.others (trace p) (number p) key d.before d.none (ap (λ k. (bucket_after b.shape (trace p) k).holder) of ∙ bit.1)
 
-  pub acted : is (bucket_at b.shape e) bucket ≡ true → bucket_in b bucket q ≡ acts e (bucket_in b bucket p)
+  pub acted : is (bucket_at b.shape e) bucket ≡ true → bucket_seen b bucket q ≡ acts e (bucket_seen b bucket p)
   acted at = ap (λ h. bucket_after b.shape h bucket) d.now
       ∙ (cond-true (is (bucket_at b.shape e) bucket) (acts e (bucket_after b.shape (d.others ++ trace p) bucket)) (bucket_after b.shape (d.others ++ trace p) bucket) at ∙ ap (acts e) as_seen)
 

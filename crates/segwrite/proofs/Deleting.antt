@@ -19,7 +19,7 @@ use Rattle.segcore.specs.Kind.{May, release}
 use Rattle.segcore.specs.Lawful.{Fits, IsRefusal}
 use Rattle.segbase.specs.declared.board.Board.{Board}
 use Rattle.segbase.specs.declared.pass.Pass.{Pass}
-use Rattle.segbase.specs.Passes.{number, trace, seen, IsPassOf, Moved, Did}
+use Rattle.segbase.specs.Passes.{number, trace, seen, IsPassOf, AddsEvents, AddsAtOnce}
 use Rattle.segbase.specs.Spots.{position}
 use Rattle.segbase.specs.Steps.{HasItemOf}
 use Rattle.segbase.proofs.Moves.{moved_then}
@@ -31,7 +31,7 @@ use Rattle.segpass.specs.Calls.{memo}
 use Rattle.segwrite.specs.Writes.{Deletes}
 use Rattle.segpass.specs.Taking.{HasCleanBit, TookToWrite, TakesToWrite}
 use Rattle.segwrite.specs.Writing.{IsInChain, IsEarlier, IsTarget, Finds, own_word}
-use Rattle.segwrite.specs.Refusing.{reply_now, Refuses, Removes}
+use Rattle.segwrite.specs.Refusing.{reply_now, RefusesUnderBit, Removes}
 use Rattle.segwrite.proofs.Ending.{IsEntry, plain_back, memo_back, entered_on, entered, entered_undrawn, entered_unread, entered_taking}
 use Rattle.segwrite.proofs.Linking.{event_at, unlink_event, own_item}
 use Rattle.segwrite.proofs.Refused.{own_target, own_none, own_stands, refused_goes_on, refused_replied, refused_undrawn, refused_unread, refused_takes}
@@ -67,10 +67,10 @@ module _ (b : Board) (request : Request) (key : List ℕ) (bucket : ℕ) (asked 
   pub may_tell : own_word found ≡ None → IsPassOf b f × (HasCleanBit b f bucket × (bucket ≡ bucket_of b.shape (key_of request) × IsRefusal (reply_now b f request)))
   may_tell none = (search.moved.pass, (clean_now, (at_home, subst IsRefusal (sym (not_found none)) tt)))
 
-  pub tells : (s : Pass) → own_word found ≡ None → Refuses b request (reply_now b f request) f s → Removes b request delete.NotFound p s
+  pub tells : (s : Pass) → own_word found ≡ None → RefusesUnderBit b request (reply_now b f request) f s → Removes b request delete.NotFound p s
   tells s none told =
-      let told' : Refuses b request reply.NotFound f s = subst (λ r. Refuses b request r f s) (not_found none) told in record {
-        moved = subst (λ n. Moved b (Freed n (bucket_of b.shape (key_of request)) false ∷ Replied n request reply.NotFound ∷ []) p s) search.moved.same
+      let told' : RefusesUnderBit b request reply.NotFound f s = subst (λ r. RefusesUnderBit b request r f s) (not_found none) told in record {
+        moved = subst (λ n. AddsEvents b (Freed n (bucket_of b.shape (key_of request)) false ∷ Replied n request reply.NotFound ∷ []) p s) search.moved.same
             (moved_then b [] (Freed (number f) (bucket_of b.shape (key_of request)) false ∷ Replied (number f) request reply.NotFound ∷ []) p f s search.moved told'.moved);
         free = told'.free;
         plain = told'.plain ∙ search.plain;
@@ -93,7 +93,7 @@ module _ (b : Board) (request : Request) (key : List ℕ) (bucket : ℕ) (asked 
         let fits : Fits b.shape (trace f) gone = record { guarded = clean_home.bit; follows = (deletes_it, refl); suits = (own.0.0, own.0.1, own.0.2, clean_home.unwritten) } in
         (search.moved.pass, (fits, (the_target.0.chain, (own.0, own.1))))
 
-    module _ (r : Pass) (did : Did b (gone ∷ []) f r) where
+    module _ (r : Pass) (did : AddsAtOnce b (gone ∷ []) f r) where
       abbrev k : ℕ
       k = bucket_of b.shape (key_of request)
 
@@ -107,7 +107,7 @@ module _ (b : Board) (request : Request) (key : List ℕ) (bucket : ℕ) (asked 
             ((clean_home.bit.0, ap (λ u. u.holder) acted ∙ (clean_home.bit.1 ∙ ap Some (sym did.moved.same))), ap (λ u. u.written) acted, ap (λ u. u.spare) acted ∙ clean_home.undrawn, tt),
       )
 
-      pub leaves : (s : Pass) → r.plain ≡ f.plain → memo r ≡ memo f → Did b (Freed (number r) bucket true ∷ []) r s → (bucket_after b.shape (trace s) bucket).holder ≡ None → s.plain ≡ r.plain → memo s ≡ memo r → Removes b request delete.Deleted p s
+      pub leaves : (s : Pass) → r.plain ≡ f.plain → memo r ≡ memo f → AddsAtOnce b (Freed (number r) bucket true ∷ []) r s → (bucket_after b.shape (trace s) bucket).holder ≡ None → s.plain ≡ r.plain → memo s ≡ memo r → Removes b request delete.Deleted p s
       leaves s plain keeps freed free plain_too keeps_too =
           let at = position b.shape (trace f) target.place in
           let one = search.moved.same in
@@ -116,7 +116,7 @@ module _ (b : Board) (request : Request) (key : List ℕ) (bucket : ℕ) (asked 
           (λ i. Freed ((did.moved.same ∙ one) i) (at_home i) true ∷ Unlinked (one i) (key_of request) at None ∷ []) in (
             at,
             record {
-              moved = subst (λ es. Moved b es p s) named both;
+              moved = subst (λ es. AddsEvents b es p s) named both;
               free = subst (λ n. (bucket_after b.shape (trace s) n).holder ≡ None) at_home free;
               plain = plain_too ∙ (plain ∙ search.plain);
               memo = keeps_too ∙ (keeps ∙ search.memo);

@@ -7,17 +7,17 @@ use Rattle.segcore.specs.Overflow.{drawn_in}
 use Rattle.segcore.proofs.Limits.{drawn_few}
 use Rattle.segbase.specs.declared.board.Board.{Board}
 use Rattle.segbase.specs.declared.pass.Pass.{Pass}
-use Rattle.segbase.specs.Passes.{number, trace, IsPassOf, Did}
+use Rattle.segbase.specs.Passes.{number, trace, IsPassOf, AddsAtOnce}
 use Rattle.segbase.specs.Steps.{depth_to_draw, CounterMissed}
 use Rattle.segbase.proofs.Moves.{did_quiet, did_has}
 use Rattle.segpass.specs.Calls.{memo}
-use Rattle.segwrite.specs.Growing.{bucket_in, Draws}
+use Rattle.segwrite.specs.Growing.{bucket_seen, DrawsSpare}
 use Rattle.segpass.specs.Taking.{HasCleanBit}
 use Rattle.segwrite.proofs.Linking.{did_after, did_nothing}
 
 -- so many are drawn at least, and the pass did nothing yet
 pub record Drawing (b : Board) (from : ℕ) (first p : Pass) : Type 0 where
-  pub did : Did b [] first p
+  pub did : AddsAtOnce b [] first p
   pub plain : p.plain ≡ first.plain
   pub memo : memo p ≡ memo first
   pub drawn : from ≤ drawn_in (trace p)
@@ -26,27 +26,27 @@ pub drawing_first : (b : Board) (p : Pass) → IsPassOf b p → Drawing b 0 p p
 drawing_first b p is = record { did = did_nothing b p is; plain = refl; memo = refl; drawn = omega arith }
 
 module _ (b : Board) (bucket from : ℕ) (first p q : Pass) (d : Drawing b from first p) (clean : HasCleanBit b first bucket) where
-  same : bucket_in b bucket p ≡ bucket_in b bucket first
+  same : bucket_seen b bucket p ≡ bucket_seen b bucket first
   same = did_quiet b first p bucket d.did clean.bit
 
-  pub may_draw : (bucket_in b bucket first).chained < 3 → from < b.shape.overflow → May b.shape (trace p) (number p) (draw bucket (depth_to_draw b bucket p) from)
+  pub may_draw : (bucket_seen b bucket first).chained < 3 → from < b.shape.overflow → May b.shape (trace p) (number p) (draw bucket (depth_to_draw b bucket p) from)
   may_draw short left = let long = ap (λ (u : Bucket). u.chained) same in
       (did_has b first p bucket d.did clean.bit, ap (λ (u : Bucket). u.spare) same ∙ clean.undrawn, refl, omega (arith, short, long), left, d.drawn)
 
   pub drawing_later : (counter : ℕ) → CounterMissed b from counter p q → q.plain ≡ p.plain → memo q ≡ memo p → Drawing b counter first q
   drawing_later counter missed plain kept = record { did = did_after b [] first p q d.did missed.did; plain = plain ∙ d.plain; memo = kept ∙ d.memo; drawn = let e = missed.is in omega arith }
 
-  pub drawn_now : Did b (Drew (number p) bucket (depth_to_draw b bucket p) from ∷ []) p q → q.plain ≡ p.plain → memo q ≡ memo p → Draws b bucket (Some from) first q
+  pub drawn_now : AddsAtOnce b (Drew (number p) bucket (depth_to_draw b bucket p) from ∷ []) p q → q.plain ≡ p.plain → memo q ≡ memo p → DrawsSpare b bucket (Some from) first q
   drawn_now drew plain kept = (
     did_after b (Drew (number first) bucket (depth_to_draw b bucket first) from ∷ []) first p q d.did
-        (subst (λ n. Did b (Drew n bucket (depth_to_draw b bucket first) from ∷ []) p q) d.did.moved.same
-        (subst (λ (u : Bucket). Did b (Drew (number p) bucket (u.chained + 1) from ∷ []) p q) same drew)),
+        (subst (λ n. AddsAtOnce b (Drew n bucket (depth_to_draw b bucket first) from ∷ []) p q) d.did.moved.same
+        (subst (λ (u : Bucket). AddsAtOnce b (Drew (number p) bucket (u.chained + 1) from ∷ []) p q) same drew)),
     plain ∙ d.plain,
     kept ∙ d.memo,
   )
 
 -- all are drawn
-pub none_left : (b : Board) (bucket from : ℕ) (first p : Pass) → Drawing b from first p → b.shape.overflow ≤ from → Draws b bucket None first p
+pub none_left : (b : Board) (bucket from : ℕ) (first p : Pass) → Drawing b from first p → b.shape.overflow ≤ from → DrawsSpare b bucket None first p
 none_left b bucket from first p d over = (
   record { moved = d.did.moved; plain = d.plain; memo = d.memo },
   (let few = drawn_few b.shape (trace p) d.did.moved.pass.lawful in let low = d.drawn in omega (arith, over, few, low)),

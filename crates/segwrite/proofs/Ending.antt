@@ -13,7 +13,7 @@ use Rattle.segcore.specs.Lawful.{NoneAt}
 use Rattle.segbase.specs.declared.board.Board.{Board}
 use Rattle.segbase.specs.declared.pass.Plain.{Plain}
 use Rattle.segbase.specs.declared.pass.Pass.{Pass}
-use Rattle.segbase.specs.Passes.{number, mine, Moved}
+use Rattle.segbase.specs.Passes.{number, mine, AddsEvents}
 use Rattle.segbase.proofs.Moves.{moved_then}
 use Rattle.segstore.specs.Refilling.{Idles}
 use Rattle.segstore.proofs.Keeping.{IsCalm, keeps_plain}
@@ -42,8 +42,8 @@ module _ (b : Board) (bucket : ℕ) (counted : Bool) (act : ℕ → Event) (entr
   abbrev n : ℕ
   n = number p
 
-  moved : Moved b (Freed n bucket counted ∷ act n ∷ []) q s
-  moved = subst (λ m. Moved b (Freed m bucket counted ∷ act m ∷ []) q s) (idles.moved.same ∙ (took_moved b bucket p q quiet took).same)
+  moved : AddsEvents b (Freed n bucket counted ∷ act n ∷ []) q s
+  moved = subst (λ m. AddsEvents b (Freed m bucket counted ∷ act m ∷ []) q s) (idles.moved.same ∙ (took_moved b bucket p q quiet took).same)
       (moved_then b [] (Freed (number f) bucket counted ∷ act (number f) ∷ []) q f s idles.moved gives.moved)
 
   elsewhere : (other : ℕ) → bucket ≢ other → NoneAt b.shape other (act n ∷ [])

@@ -11,7 +11,7 @@ use Rattle.segbase.specs.declared.pass.Pass.{Pass}
 use Rattle.segbase.specs.declared.place.Place.{Place}
 use Rattle.segbase.specs.Passes.{number, trace}
 use Rattle.segbase.specs.Spots.{cell_at, position}
-use Rattle.segbase.specs.Steps.{HasItemOf, IsReadAs}
+use Rattle.segbase.specs.Steps.{HasItemOf, IsWordOfContent}
 use Rattle.segstore.specs.Refilling.{Idles}
 use Rattle.segwrite.specs.declared.find.Target.{Target}
 use Rattle.segwrite.specs.Writing.{IsInChain, IsEarlier, IsTarget, Updates, IsNext, Finds}
@@ -23,7 +23,7 @@ use Rattle.segwrite.proofs.Rising.{word_rose}
 
 module _ (b : Board) (key : List ℕ) (first p q : Pass) (place : Place) (word : ℕ) (empty : Option Target) (s : Searching b key first p place empty)
     (bit : HasBit b.shape (trace first) (number first) (bucket_of b.shape key)) (look : Idles b p q)
-    (tells : (bucket n : ℕ) → IsItemAt b.shape (trace q) bucket n (cell_at b.shape place) → IsReadAs ((bucket_after b.shape (trace q) bucket).items n) word) where
+    (tells : (bucket n : ℕ) → IsItemAt b.shape (trace q) bucket n (cell_at b.shape place) → IsWordOfContent ((bucket_after b.shape (trace q) bucket).items n) word) where
   abbrev k : ℕ
   k = bucket_of b.shape key
 
@@ -39,7 +39,7 @@ module _ (b : Board) (key : List ℕ) (first p q : Pass) (place : Place) (word :
   pub chain_looked : IsInChain b k place q
   chain_looked = looked.chain
 
-  pub reads_looked : IsReadAs ((bucket_after b.shape (trace q) k).items (position b.shape (trace q) place)) word
+  pub reads_looked : IsWordOfContent ((bucket_after b.shape (trace q) k).items (position b.shape (trace q) place)) word
   reads_looked = tells k (position b.shape (trace q) place) looked.chain.at
 
   module _ (r : Pass) (read : Idles b q r) where
@@ -49,7 +49,7 @@ module _ (b : Board) (key : List ℕ) (first p q : Pass) (place : Place) (word :
     now : Searching b key first r place empty
     now = searching_later b key first q r read bit_looked place empty looked
 
-    reads_now : IsReadAs ((bucket_after b.shape (trace r) k).items (position b.shape (trace r) place)) word
+    reads_now : IsWordOfContent ((bucket_after b.shape (trace r) k).items (position b.shape (trace r) place)) word
     reads_now = reads_later b key first q r read bit_looked place word looked.chain reads_looked
 
     -- the word is one that an item of the place had

@@ -15,7 +15,7 @@ use Rattle.segcore.proofs.Moments.{begins_on}
 use Rattle.segcore.proofs.Standing.{coherent}
 use Rattle.segbase.specs.declared.board.Board.{Board}
 use Rattle.segbase.specs.declared.pass.Pass.{Pass}
-use Rattle.segbase.specs.Passes.{number, trace, seen, IsPassOf, Moved, Did}
+use Rattle.segbase.specs.Passes.{number, trace, seen, IsPassOf, AddsEvents, AddsAtOnce}
 use Rattle.segbase.specs.Spots.{position}
 use Rattle.segbase.proofs.Moves.{moved_on}
 use Rattle.segwrite.specs.declared.find.Target.{Target}
@@ -35,8 +35,8 @@ first_of b key target p is found absent = ⊎_elim
     found.is
 
 -- it is still so at the link, under the bit
-pub took_first : (b : Board) (request : Request) (target : Target) (segment row : ℕ) (own : List Event) (p q r s : Pass) → Moved b own p q → IsPassOf b q → HasBit b.shape (trace q) (number q) (bucket_of b.shape (key_of request)) → IsTarget b (key_of request) target q
-    → Did b (linked_by b request segment row target.place q ∷ []) q r → trace s ≡ trace r → TookFirstEmpty b.shape request (number p) (trace p) (trace s)
+pub took_first : (b : Board) (request : Request) (target : Target) (segment row : ℕ) (own : List Event) (p q r s : Pass) → AddsEvents b own p q → IsPassOf b q → HasBit b.shape (trace q) (number q) (bucket_of b.shape (key_of request)) → IsTarget b (key_of request) target q
+    → AddsAtOnce b (linked_by b request segment row target.place q ∷ []) q r → trace s ≡ trace r → TookFirstEmpty b.shape request (number p) (trace p) (trace s)
 took_first b request target segment row own p q r s m is bit found d same =
     let z = b.shape in let key = key_of request in let home = bucket_of z key in let at = position z (trace q) target.place in let e = linked_by b request segment row target.place q in
     let then : List Event = d.others ++ trace q in record {

@@ -20,7 +20,7 @@ use Rattle.segcore.proofs.Orderly.{all_drawn_marked}
 use Rattle.segbase.specs.declared.board.Board.{Board}
 use Rattle.segbase.specs.declared.pass.Pass.{Pass}
 use Rattle.segbase.specs.declared.place.Place.{Place}
-use Rattle.segbase.specs.Passes.{number, trace, IsPassOf, Did}
+use Rattle.segbase.specs.Passes.{number, trace, IsPassOf, AddsAtOnce}
 use Rattle.segbase.specs.Spots.{cell_at, position}
 use Rattle.segbase.specs.Steps.{depth_to_draw}
 use Rattle.segpass.specs.Calls.{memo}
@@ -28,7 +28,7 @@ use Rattle.segwrite.specs.Full.{HasNoWord, CanGrow, DrewInNeed}
 use Rattle.segwrite.specs.FirstEmpty.{AreTakenBefore}
 use Rattle.segpass.specs.Taking.{HasCleanBit}
 use Rattle.segwrite.specs.Writing.{IsInChain, IsAbsent}
-use Rattle.segwrite.specs.Growing.{bucket_in, IsLast, home_at, HasSpare, Prepares, joins, Joins, Lengthens}
+use Rattle.segwrite.specs.Growing.{bucket_seen, IsLast, home_at, HasSpare, Prepares, joins, Joins, Lengthens}
 use Rattle.segwrite.proofs.Acting.{as_seen, keys_as_seen, acted, prepares, prepares_then}
 use Rattle.segwrite.proofs.Joining.{last_later, home_is}
 use Rattle.segwrite.proofs.Places.{position_at, overflow_at}
@@ -42,17 +42,17 @@ no_word z h key l all none absent =
     }
 
 module _ (b : Board) (bucket overflow : ℕ) (place : Place) (word : ℕ) (p r : Pass) (is : IsPassOf b p) (clean : HasCleanBit b p bucket) (l : IsLast b bucket place word p)
-    (all : HasNoEmptyWord (bucket_in b bucket p)) (drew : Did b (Drew (number p) bucket (depth_to_draw b bucket p) overflow ∷ []) p r) where
+    (all : HasNoEmptyWord (bucket_seen b bucket p)) (drew : AddsAtOnce b (Drew (number p) bucket (depth_to_draw b bucket p) overflow ∷ []) p r) where
   abbrev z : Shape
   z = b.shape
 
   abbrev u : Bucket
-  u = bucket_in b bucket p
+  u = bucket_seen b bucket p
 
   abbrev draws : Event
   draws = Drew (number p) bucket (depth_to_draw b bucket p) overflow
 
-  drawn : bucket_in b bucket r ≡ acts draws u
+  drawn : bucket_seen b bucket r ≡ acts draws u
   drawn = acted b draws p r bucket drew clean.bit (eq-eqb bucket bucket refl)
 
   pub spare_drawn : HasSpare b bucket overflow r
@@ -95,7 +95,7 @@ module _ (b : Board) (bucket overflow : ℕ) (place : Place) (word : ℕ) (p r :
     room = record { bucket = z.buckets + overflow; word = 2 }
 
     abbrev longer : Bucket
-    longer = bucket_in b bucket q
+    longer = bucket_seen b bucket q
 
     lawful_now : IsLawful z (trace q)
     lawful_now = joined.1.moved.pass.lawful

@@ -19,7 +19,7 @@ use Rattle.segcore.proofs.Standing.{coherent}
 use Rattle.segbase.specs.declared.board.Board.{Board}
 use Rattle.segbase.specs.declared.pass.Pass.{Pass}
 use Rattle.segbase.specs.Passes.{number, trace, IsPassOf}
-use Rattle.segbase.specs.Steps.{IsReadAs}
+use Rattle.segbase.specs.Steps.{IsWordOfContent}
 use Rattle.segbase.proofs.Standing.{tag_of_word, place_of_word}
 use Rattle.segbase.specs.declared.place.Place.{Place}
 use Rattle.segbase.specs.Spots.{position}
@@ -29,7 +29,7 @@ use Rattle.segwrite.specs.Writing.{IsInChain}
 use Rattle.segwrite.proofs.Places.{idle_bucket, same_position}
 
 -- the item of a position whose word has a tag
-pub item_here : (z : Shape) (h : List Event) (b n word : ℕ) (x : Content) → IsValid z → IsLawful z h → IsContent h b (bucket_after z h b) n x → IsReadAs x word → 1 ≤ word / 2 ^ 52 → (a : Slot) × (x ≡ item a) × IsWordOf a word
+pub item_here : (z : Shape) (h : List Event) (b n word : ℕ) (x : Content) → IsValid z → IsLawful z h → IsContent h b (bucket_after z h b) n x → IsWordOfContent x word → 1 ≤ word / 2 ^ 52 → (a : Slot) × (x ≡ item a) × IsWordOf a word
 item_here z h b n word nothing v l is reads tag = absurd (omega (arith, reads, tag))
 item_here z h b n word (item a) v l is reads tag = (a, refl, reads.0)
 item_here z h b n word (next m) v l is reads tag =
@@ -52,7 +52,7 @@ pub record IsNamed (z : Shape) (h : List Event) (b n : ℕ) (read : Item) : Type
   pub segment : slot.segment ≡ read.seg
   pub row : slot.row ≡ read.row
 
-pub named : (z : Shape) (h : List Event) (b n word : ℕ) (read : Item) → IsValid z → IsLawful z h → IsReadAs ((bucket_after z h b).items n) word → item_word read ≡ word → IsNamed z h b n read
+pub named : (z : Shape) (h : List Event) (b n word : ℕ) (read : Item) → IsValid z → IsLawful z h → IsWordOfContent ((bucket_after z h b).items n) word → item_word read ≡ word → IsNamed z h b n read
 named z h b n word read v l reads is =
     let tagged : 1 ≤ word / 2 ^ 52 = subst (λ w. 1 ≤ w / 2 ^ 52) is (subst (λ t. 1 ≤ t) (sym (tag_of_word read.tag read.freq read.seg read.row read.freq_in_range read.seg_in_range read.row_in_range)) read.tag_above_zero) in
     let found = item_here z h b n word ((bucket_after z h b).items n) v l ((chain_of z h l b).contents n) reads tagged in

@@ -5,7 +5,7 @@ use Rattle.std.specs.Prelude.{OnOk, IfErr}
 use Rattle.segword.specs.SameItem.{IsSameItem}
 use Rattle.segcore.specs.declared.event.Event.{Event}
 use Rattle.segcore.specs.declared.event.Event.TheVariants.{Put, Chained}
-use Rattle.segcore.specs.Bucket.{Content, nothing, item, next, copy, Bucket, last, fresh, bucket_at, is, acts}
+use Rattle.segcore.specs.Bucket.{Content, nothing, item, next, copy, Bucket, last, fresh_position, bucket_at, is, acts}
 use Rattle.segcore.specs.Filled.{HasNoEmptyWord}
 use Rattle.segcore.specs.Kind.{fill, chain, May, HasBit}
 use Rattle.segcore.specs.Lawful.{IsLawful}
@@ -21,15 +21,15 @@ use Rattle.segword.specs.declared.shape.Shape.{Shape}
 use Rattle.segbase.specs.declared.board.Board.{Board}
 use Rattle.segbase.specs.declared.pass.Pass.{Pass}
 use Rattle.segbase.specs.declared.place.Place.{Place}
-use Rattle.segbase.specs.Passes.{number, trace, IsPassOf, Did}
-use Rattle.segbase.specs.Spots.{cell_at, position, home_bucket, home_in, drawn_for}
+use Rattle.segbase.specs.Passes.{number, trace, IsPassOf, AddsAtOnce}
+use Rattle.segbase.specs.Spots.{cell_at, position, home_bucket, home_in, home_bucket_of}
 use Rattle.segbase.specs.Steps.{Missed}
 use Rattle.segcore.proofs.Exact.{content_at}
 use Rattle.segstore.proofs.Words.{at_place}
 use Rattle.segstore.proofs.Refills.{idles}
 use Rattle.segpass.specs.Calls.{memo}
 use Rattle.segwrite.specs.FirstEmpty.{AreTakenBefore}
-use Rattle.segwrite.specs.Growing.{bucket_in, IsLast, home_at, HasSpare, HasJoined, Prepares, puts, joins, TriesToJoin, Joins}
+use Rattle.segwrite.specs.Growing.{bucket_seen, IsLast, home_at, HasSpare, HasJoined, Prepares, puts, joins, TriesToJoin, Joins}
 use Rattle.segwrite.proofs.Acting.{acted, prepares, idle_prepares, prepares_then}
 use Rattle.segwrite.proofs.Places.{same_position, chain_later}
 use Rattle.segwrite.proofs.Rising.{item_rose, earlier_yet}
@@ -43,10 +43,10 @@ pub record LeavesEnd (e : Event) (u : Bucket) : Type 0 where
   pub here : (acts e u).items (last u) ≡ u.items (last u)
   pub frequencies : (h : List Event) (s r : ℕ) → frequency_of (e ∷ h) s r ≡ frequency_of h s r
 
-pub last_later : (b : Board) (e : Event) (p q : Pass) (bucket : ℕ) (place : Place) (word : ℕ) → IsPassOf b p → Did b (e ∷ []) p q → HasBit b.shape (trace p) (number p) bucket → is (bucket_at b.shape e) bucket ≡ true → LeavesEnd e (bucket_in b bucket p)
+pub last_later : (b : Board) (e : Event) (p q : Pass) (bucket : ℕ) (place : Place) (word : ℕ) → IsPassOf b p → AddsAtOnce b (e ∷ []) p q → HasBit b.shape (trace p) (number p) bucket → is (bucket_at b.shape e) bucket ≡ true → LeavesEnd e (bucket_seen b bucket p)
     → IsLast b bucket place word p → IsLast b bucket place word q
 last_later b e p q bucket place word is d bit at leaves l =
-    let z = b.shape in let u = bucket_in b bucket p in let v = bucket_in b bucket q in
+    let z = b.shape in let u = bucket_seen b bucket p in let v = bucket_seen b bucket q in
     let same : v ≡ acts e u = acted b e p q bucket d bit at in
     let end : last v ≡ last u = ap (λ (w : Bucket). last w) same ∙ ap (λ n. 8 * n + 7) leaves.chained in
     let still = same_position b (e ∷ []) p q bucket place d.moved l.chain in
@@ -69,10 +69,10 @@ pub last_missed : (b : Board) (p q : Pass) (bucket : ℕ) (place : Place) (word 
 last_missed b p q bucket place word found bit l m =
     let z = b.shape in let a = l.named in
     let same = moved_bucket b [] p q bucket m.did.moved bit tt in
-    let end : last (bucket_in b bucket q) ≡ last (bucket_in b bucket p) = ap (λ (u : Bucket). last u) same in
+    let end : last (bucket_seen b bucket q) ≡ last (bucket_seen b bucket p) = ap (λ (u : Bucket). last u) same in
     let still = same_position b [] p q bucket place m.did.moved l.chain in
     let later = chain_later b [] p q bucket place m.did.moved l.chain in
-    let there : (bucket_in b bucket q).items (last (bucket_in b bucket q)) ≡ item a = ap (λ (u : Bucket). u.items (last u)) same ∙ l.here in
+    let there : (bucket_seen b bucket q).items (last (bucket_seen b bucket q)) ≡ item a = ap (λ (u : Bucket). u.items (last u)) same ∙ l.here in
     let ends = still ∙ (l.ends ∙ sym end) in
     let high = m.higher l.earlier.0 l.earlier.1 in (
       record {
@@ -83,7 +83,7 @@ last_missed b p q bucket place word found bit l m =
         is = (
           frequency_of (trace q) a.segment a.row,
           low_frequency z (trace q) a.segment a.row m.did.moved.pass.lawful,
-          m.is ∙ (content_at z (trace q) bucket (position z (trace q) place) (cell_at z place) later.at ∙ ap (content_word (trace q)) (ap (bucket_in b bucket q).items ends ∙ there)),
+          m.is ∙ (content_at z (trace q) bucket (position z (trace q) place) (cell_at z place) later.at ∙ ap (content_word (trace q)) (ap (bucket_seen b bucket q).items ends ∙ there)),
         );
         earlier = subst (λ y. IsSameItem found y × (found ≤ y)) m.is ((subst (λ t. 1 ≤ t) high.0.1 high.0.0, refl, refl), omega arith);
       },
@@ -93,21 +93,21 @@ last_missed b p q bucket place word found bit l m =
 -- ---- the copy
 
 module _ (b : Board) (bucket overflow : ℕ) (place : Place) (word : ℕ) (p : Pass) (is : IsPassOf b p) (spare : HasSpare b bucket overflow p) (l : IsLast b bucket place word p) where
-  pub drawn_home : drawn_for (trace p) overflow ≡ bucket
+  pub drawn_home : home_bucket_of (trace p) overflow ≡ bucket
   drawn_home = ap home_in ((chain_of b.shape (trace p) is.lawful bucket).spare overflow spare.spare).1
 
-  pub may_fill : May b.shape (trace p) (number p) (fill (drawn_for (trace p) overflow) overflow word)
+  pub may_fill : May b.shape (trace p) (number p) (fill (home_bucket_of (trace p) overflow) overflow word)
   may_fill = subst (λ k. May b.shape (trace p) (number p) (fill k overflow word)) (sym drawn_home)
       (record { guarded = spare.bit; follows = tt; suits = (overflow, spare.spare, (l.named, l.here, l.is)) }, spare.spare)
 
-  module _ (r : Pass) (d : Did b (Put (number p) bucket word ∷ []) p r) where
+  module _ (r : Pass) (d : AddsAtOnce b (Put (number p) bucket word ∷ []) p r) where
     abbrev u : Bucket
-    u = bucket_in b bucket p
+    u = bucket_seen b bucket p
 
     abbrev e : Event
     e = Put (number p) bucket word
 
-    filled : bucket_in b bucket r ≡ acts e u
+    filled : bucket_seen b bucket r ≡ acts e u
     filled = acted b e p r bucket d spare.bit (eq-eqb bucket bucket refl)
 
     pub spare_filled : HasSpare b bucket overflow r
@@ -115,23 +115,23 @@ module _ (b : Board) (bucket overflow : ℕ) (place : Place) (word : ℕ) (p : P
       bit = (spare.bit.0, ap (λ (v : Bucket). v.holder) filled ∙ (spare.bit.1 ∙ ap Some (sym d.moved.same)));
       unwritten = ap (λ (v : Bucket). v.written) filled ∙ spare.unwritten;
       spare = ap (λ (v : Bucket). v.spare) filled ∙ spare.spare;
-      full = subst HasNoEmptyWord (sym filled) (λ n here none. spare.full n here (sym (cond-false (eqb (fresh u) n) (copy word) (u.items n) (ne_eqb (fresh u) n (λ same. let x = here.0 in omega (arith, same, x)))) ∙ none));
+      full = subst HasNoEmptyWord (sym filled) (λ n here none. spare.full n here (sym (cond-false (eqb (fresh_position u) n) (copy word) (u.items n) (ne_eqb (fresh_position u) n (λ same. let x = here.0 in omega (arith, same, x)))) ∙ none));
     }
 
     pub last_filled : IsLast b bucket place word r
     last_filled = last_later b e p r bucket place word is d spare.bit (eq-eqb bucket bucket refl) (record {
       chained = refl;
-      here = cond-false (eqb (fresh u) (last u)) (copy word) (u.items (last u)) (ne_eqb (fresh u) (last u) (λ same. omega arith));
+      here = cond-false (eqb (fresh_position u) (last u)) (copy word) (u.items (last u)) (ne_eqb (fresh_position u) (last u) (λ same. omega arith));
       frequencies = λ h s i. refl;
     }) l
 
-    pub copy_filled : (bucket_in b bucket r).items (fresh (bucket_in b bucket r)) ≡ copy word
-    copy_filled = ap (λ (v : Bucket). v.items (fresh v)) filled ∙ cond-true (eqb (fresh u) (fresh u)) (copy word) (u.items (fresh u)) (eq-eqb (fresh u) (fresh u) refl)
+    pub copy_filled : (bucket_seen b bucket r).items (fresh_position (bucket_seen b bucket r)) ≡ copy word
+    copy_filled = ap (λ (v : Bucket). v.items (fresh_position v)) filled ∙ cond-true (eqb (fresh_position u) (fresh_position u)) (copy word) (u.items (fresh_position u)) (eq-eqb (fresh_position u) (fresh_position u) refl)
 
 -- ---- the exchange
 
 -- nothing stands past word 1 of the overflow bucket that waits
-no_content : (h : List Event) (bucket n : ℕ) (u : Bucket) (x : Content) → IsContent h bucket u n x → fresh u < n → x ≡ nothing
+no_content : (h : List Event) (bucket n : ℕ) (u : Bucket) (x : Content) → IsContent h bucket u n x → fresh_position u < n → x ≡ nothing
 no_content h bucket n u nothing is past = refl
 no_content h bucket n u (item a) is past = let lt = is.0 in absurd (omega arith)
 no_content h bucket n u (next m) is past = let lt = is.1 in let e = is.2 in absurd (omega arith)
@@ -142,23 +142,23 @@ module _ (b : Board) (bucket overflow : ℕ) (place : Place) (word : ℕ) (p : P
   z = b.shape
 
   abbrev waiting : Bucket
-  waiting = bucket_in b bucket p
+  waiting = bucket_seen b bucket p
 
   pub home_is : home_at b place p ≡ bucket
   home_is = (at_place z (trace p) bucket (position z (trace p) place) place l.chain.at.1).0
 
-  pub may_chain : waiting.items (fresh waiting) ≡ copy word → May z (trace p) (number p) (chain (home_bucket z (trace p) place) (cell_at z place) word overflow)
+  pub may_chain : waiting.items (fresh_position waiting) ≡ copy word → May z (trace p) (number p) (chain (home_bucket z (trace p) place) (cell_at z place) word overflow)
   may_chain copied = subst (λ k. May z (trace p) (number p) (chain k (cell_at z place) word overflow)) (sym home_is)
       (record { guarded = spare.bit; follows = tt; suits = (spare.spare, (l.named, word, l.here, copied)) }, (subst (λ n. IsItemAt z (trace p) bucket n (cell_at z place)) l.ends l.chain.at).1, copied)
 
-  module _ (q : Pass) (d : Did b (Chained (number p) bucket overflow ∷ []) p q) where
+  module _ (q : Pass) (d : AddsAtOnce b (Chained (number p) bucket overflow ∷ []) p q) where
     abbrev event : Event
     event = Chained (number p) bucket overflow
 
     abbrev longer : Bucket
     longer = acts event waiting
 
-    grown : bucket_in b bucket q ≡ longer
+    grown : bucket_seen b bucket q ≡ longer
     grown = acted b event p q bucket d spare.bit (eq-eqb bucket bucket refl)
 
     empty : waiting.items (8 * (waiting.chained + 1) + 2) ≡ nothing
@@ -166,16 +166,16 @@ module _ (b : Board) (bucket overflow : ℕ) (place : Place) (word : ℕ) (p : P
 
     apart : longer.items (8 * (waiting.chained + 1) + 2) ≡ waiting.items (8 * (waiting.chained + 1) + 2)
     apart = let n = 8 * (waiting.chained + 1) + 2 in
-        cond-false (eqb (last waiting) n) (next overflow) _ (ne_eqb (last waiting) n (λ same. omega arith)) ∙ cond-false (eqb (fresh waiting) n) (waiting.items (last waiting)) (waiting.items n) (ne_eqb (fresh waiting) n (λ same. omega arith))
+        cond-false (eqb (last waiting) n) (next overflow) _ (ne_eqb (last waiting) n (λ same. omega arith)) ∙ cond-false (eqb (fresh_position waiting) n) (waiting.items (last waiting)) (waiting.items n) (ne_eqb (fresh_position waiting) n (λ same. omega arith))
 
     before : AreTakenBefore longer (8 * (waiting.chained + 1) + 2)
     before n lt here none = ⊎_elim
-        (λ end. let leads : next overflow ≡ nothing = sym (cond-true (eqb (last waiting) n) (next overflow) (cond (eqb (fresh waiting) n) (waiting.items (last waiting)) (waiting.items n)) (eq-eqb (last waiting) n end)) ∙ none in cc)
+        (λ end. let leads : next overflow ≡ nothing = sym (cond-true (eqb (last waiting) n) (next overflow) (cond (eqb (fresh_position waiting) n) (waiting.items (last waiting)) (waiting.items n)) (eq-eqb (last waiting) n end)) ∙ none in cc)
         (λ other.
-        let there = sym (cond-false (eqb (last waiting) n) (next overflow) (cond (eqb (fresh waiting) n) (waiting.items (last waiting)) (waiting.items n)) (ne_eqb (last waiting) n other)) ∙ none in ⊎_elim
-        (λ first. spare.full (last waiting) (omega arith, omega arith) (sym (cond-true (eqb (fresh waiting) n) (waiting.items (last waiting)) (waiting.items n) (eq-eqb (fresh waiting) n first)) ∙ there))
-        (λ old. let x = here.1 in spare.full n (omega (arith, lt, x, old), x) (sym (cond-false (eqb (fresh waiting) n) (waiting.items (last waiting)) (waiting.items n) (ne_eqb (fresh waiting) n old)) ∙ there))
-        (cases_eq (fresh waiting) n))
+        let there = sym (cond-false (eqb (last waiting) n) (next overflow) (cond (eqb (fresh_position waiting) n) (waiting.items (last waiting)) (waiting.items n)) (ne_eqb (last waiting) n other)) ∙ none in ⊎_elim
+        (λ first. spare.full (last waiting) (omega arith, omega arith) (sym (cond-true (eqb (fresh_position waiting) n) (waiting.items (last waiting)) (waiting.items n) (eq-eqb (fresh_position waiting) n first)) ∙ there))
+        (λ old. let x = here.1 in spare.full n (omega (arith, lt, x, old), x) (sym (cond-false (eqb (fresh_position waiting) n) (waiting.items (last waiting)) (waiting.items n) (ne_eqb (fresh_position waiting) n old)) ∙ there))
+        (cases_eq (fresh_position waiting) n))
         (cases_eq (last waiting) n)
 
     pub joined : HasJoined b bucket overflow q
@@ -195,12 +195,12 @@ module _ (b : Board) (bucket overflow : ℕ) (place : Place) (word : ℕ) (p : P
 -- ---- one try
 
 module _ (b : Board) (bucket overflow : ℕ) (place : Place) (word : ℕ) (p r q : Pass) (is : IsPassOf b p) (spare : HasSpare b bucket overflow p) (l : IsLast b bucket place word p)
-    (filled : Did b (Put (number p) bucket word ∷ []) p r) (plain : r.plain ≡ p.plain) (same : memo r ≡ memo p) where
+    (filled : AddsAtOnce b (Put (number p) bucket word ∷ []) p r) (plain : r.plain ≡ p.plain) (same : memo r ≡ memo p) where
   put : Prepares b (puts (number p) bucket (word ∷ [])) bucket p r
   unfolding puts
   put = prepares b (Put (number p) bucket word) p r bucket filled spare.bit refl plain same
 
-  pub tried : (result : Result (Unit {0}) ℕ) → OnOk result (Did b (Chained (number r) bucket overflow ∷ []) r q) → IfErr result (λ found. Missed b place word found r q) → q.plain ≡ r.plain → memo q ≡ memo r
+  pub tried : (result : Result (Unit {0}) ℕ) → OnOk result (AddsAtOnce b (Chained (number r) bucket overflow ∷ []) r q) → IfErr result (λ found. Missed b place word found r q) → q.plain ≡ r.plain → memo q ≡ memo r
       → TriesToJoin b bucket overflow place word result p q
   tried (Ok done) did missed after kept =
       let waits = spare_filled b bucket overflow place word p is spare l r filled in

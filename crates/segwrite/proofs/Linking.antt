@@ -14,7 +14,7 @@ use Rattle.segcore.proofs.Quiet.{later}
 use Rattle.segbase.specs.declared.board.Board.{Board}
 use Rattle.segbase.specs.declared.pass.Pass.{Pass}
 use Rattle.segbase.specs.declared.place.Place.{Place}
-use Rattle.segbase.specs.Passes.{number, trace, IsPassOf, Moved, Did}
+use Rattle.segbase.specs.Passes.{number, trace, IsPassOf, AddsEvents, AddsAtOnce}
 use Rattle.segbase.specs.Spots.{cell_at, position}
 use Rattle.segbase.specs.Steps.{Missed, IsFree, HasItemOf}
 use Rattle.segbase.proofs.Moves.{stays, moved_then}
@@ -25,17 +25,17 @@ use Rattle.segpass.proofs.UnderBit.{moved_bucket, moved_bit}
 use Rattle.segwrite.proofs.Places.{same_position, chain_later}
 
 -- a step after others that did nothing
-pub did_after : (b : Board) (own : List Event) (p q r : Pass) → Did b [] p q → Did b own q r → Did b own p r
+pub did_after : (b : Board) (own : List Event) (p q r : Pass) → AddsAtOnce b [] p q → AddsAtOnce b own q r → AddsAtOnce b own p r
 did_after b own p q r d e =
     let old : e.others ++ trace q ≡ (e.others ++ d.others) ++ trace p = ap (λ h. e.others ++ h) d.now ∙ sym (append_assoc e.others d.others (trace p)) in record {
-      moved = subst (λ es. Moved b es p r) (append-nil own) (moved_then b [] own p q r d.moved e.moved);
+      moved = subst (λ es. AddsEvents b es p r) (append-nil own) (moved_then b [] own p q r d.moved e.moved);
       others = e.others ++ d.others;
       none = none_both (number p) e.others d.others (subst (λ n. NoneBy n e.others) d.moved.same e.none) d.none;
       before = subst (IsLawful b.shape) old e.before;
       now = e.now ∙ ap (λ h. own ++ h) old;
     }
 
-pub did_nothing : (b : Board) (p : Pass) → IsPassOf b p → Did b [] p p
+pub did_nothing : (b : Board) (p : Pass) → IsPassOf b p → AddsAtOnce b [] p p
 did_nothing b p is = record { moved = stays b p is; others = []; none = tt; before = is.lawful; now = refl }
 
 -- ---- an exchange in the place of the key's item
@@ -50,7 +50,7 @@ event_at b event place p = event (number p) (position b.shape (trace p) place)
 
 -- it may come about now, where the word is the one that was seen last, or one of a higher frequency
 pub record Retrying (b : Board) (key : List ℕ) (event : ℕ → ℕ → Event) (place : Place) (old : ℕ) (first p : Pass) : Type 0 where
-  pub did : Did b [] first p
+  pub did : AddsAtOnce b [] first p
   pub same : event_at b event place p ≡ event_at b event place first
   pub fits : Fits b.shape (trace p) (event_at b event place p)
   pub bit : HasBit b.shape (trace p) (number p) (bucket_of b.shape key)
@@ -79,8 +79,8 @@ module _ (b : Board) (key : List ℕ) (event : ℕ → ℕ → Event) where
           earlier = subst (λ y. IsSameItem found y × (found ≤ y)) m.is ((subst (λ t. 1 ≤ t) high.0.1 high.0.0, refl, refl), omega arith);
         }
 
-    pub came_about : Did b (event_at b event place p ∷ []) p q → Did b (event_at b event place first ∷ []) first q
-    came_about d = did_after b (event_at b event place first ∷ []) first p q l.did (subst (λ e. Did b (e ∷ []) p q) l.same d)
+    pub came_about : AddsAtOnce b (event_at b event place p ∷ []) p q → AddsAtOnce b (event_at b event place first ∷ []) first q
+    came_about d = did_after b (event_at b event place first ∷ []) first p q l.did (subst (λ e. AddsAtOnce b (e ∷ []) p q) l.same d)
 
 -- the key's own word, and not one that is free for it
 pub own_item : (b : Board) (key : List ℕ) (target : Target) (p : Pass) → IsTarget b key target p → target.word ≢ 0 → HasItemOf b key target.place p × IsEarlier b target.place target.word p

@@ -28,7 +28,7 @@ use Rattle.segbase.specs.declared.place.Place.{Place}
 use Rattle.segbase.specs.Passes.{trace, IsPassOf}
 use Rattle.segbase.specs.Passes as passes
 use Rattle.segbase.specs.Spots.{cell_at, position, IsPlace}
-use Rattle.segbase.specs.Steps.{IsReadAs}
+use Rattle.segbase.specs.Steps.{IsWordOfContent}
 use Rattle.segwrite.specs.declared.find.Target.{Target}
 use Rattle.segwrite.specs.Writing.{next_word, first_word, LeadsTo, LeadsNowhere, IsNext, Finds}
 use Rattle.segwrite.proofs.Places.{position_at, overflow_at}
@@ -46,7 +46,7 @@ next_at z h b n place true lt at = (at.0, ap (λ w. w + 1) at.1, omega arith)
 next_at z h b n place false lt at = (at.0, at.1, (let e = at.2 in omega arith), omega arith)
 
 -- a chain word is that of the next bucket of the chain
-pub leads_to : (z : Shape) (h : List Event) (b n word number : ℕ) (x : Content) → IsLawful z h → IsContent h b (bucket_after z h b) n x → IsReadAs x word → number < 65536 → word ≡ number + 1
+pub leads_to : (z : Shape) (h : List Event) (b n word number : ℕ) (x : Content) → IsLawful z h → IsContent h b (bucket_after z h b) n x → IsWordOfContent x word → number < 65536 → word ≡ number + 1
     → (d : ℕ) × (d < (bucket_after z h b).chained) × (n ≡ 8 * d + 7) × (home_of h number ≡ Some (home b (d + 1)))
 leads_to z h b n word number nothing l is reads lt e = absurd (omega (arith, reads, e))
 leads_to z h b n word number (item a) l is reads lt e = let tag : 1 ≤ word / 2 ^ 52 = reads.1 in absurd (omega (arith, tag, lt, e))
@@ -58,7 +58,7 @@ pub first_at : (z : Shape) (h : List Event) (b d number : ℕ) → home_of h num
 first_at z h b d number is = subst (λ n. IsAt h b n (cell_at z (first_word z number))) (omega arith) (overflow_at z h b (d + 1) number 1 is (omega arith))
 
 -- a last word that leads nowhere ends the chain
-pub chain_ends : (z : Shape) (h : List Event) (b n d word : ℕ) → IsValid z → IsLawful z h → n ≡ 8 * d + 7 → IsReadAs ((bucket_after z h b).items n) word → LeadsNowhere word → (bucket_after z h b).chained ≤ d
+pub chain_ends : (z : Shape) (h : List Event) (b n d word : ℕ) → IsValid z → IsLawful z h → n ≡ 8 * d + 7 → IsWordOfContent ((bucket_after z h b).items n) word → LeadsNowhere word → (bucket_after z h b).chained ≤ d
 chain_ends z h b n d word v l e reads nowhere = let u = bucket_after z h b in ⊎_elim
     (λ lt.
     let j = joins z h b d l lt in
@@ -66,12 +66,12 @@ chain_ends z h b n d word v l e reads nowhere = let u = bucket_after z h b in �
     let content : IsContent h b u n (next j.0) = subst (IsContent h b u n) here ((chain_of z h l b).contents n) in
     let few = few_drawn z v in
     let in_table = home_in z h j.0 (home b (content.0 + 1)) l content.3 in
-    absurd (nowhere j.0 (omega (arith, few, in_table)) (subst (λ x. IsReadAs x word) here reads)))
+    absurd (nowhere j.0 (omega (arith, few, in_table)) (subst (λ x. IsWordOfContent x word) here reads)))
     (λ le. le)
     (cases_lt d u.chained)
 
 module _ (b : Board) (key : List ℕ) (first p : Pass) (place : Place) (word : ℕ) (empty : Option Target) (passed : Passed b key first p place empty)
-    (reads : IsReadAs ((bucket_after b.shape (trace p) (bucket_of b.shape key)).items (position b.shape (trace p) place)) word) where
+    (reads : IsWordOfContent ((bucket_after b.shape (trace p) (bucket_of b.shape key)).items (position b.shape (trace p) place)) word) where
   abbrev z : Shape
   z = b.shape
 
@@ -155,9 +155,9 @@ module _ (b : Board) (key : List ℕ) (first p : Pass) (place : Place) (word : �
   pub last_item : ((m : ℕ) → m < n + 1 → IsPosition u m → u.items m ≢ nothing) → n ≡ last u → (named : Slot) × (u.items (last u) ≡ item named) × IsWordOf named word
   last_item none ends =
       let lt : last u < n + 1 = omega (arith, ends) in
-      item_of (u.items (last u)) refl (subst (λ m. IsReadAs (u.items m) word) ends reads) ((chain_of z (trace p) is.lawful k).contents (last u)) (none (last u) lt (subst (IsPosition u) ends passed.chain.at.0))
+      item_of (u.items (last u)) refl (subst (λ m. IsWordOfContent (u.items m) word) ends reads) ((chain_of z (trace p) is.lawful k).contents (last u)) (none (last u) lt (subst (IsPosition u) ends passed.chain.at.0))
     where
-      item_of : (x : Content) → u.items (last u) ≡ x → IsReadAs x word → IsContent (trace p) k u (last u) x → x ≢ nothing → (named : Slot) × (u.items (last u) ≡ item named) × IsWordOf named word
+      item_of : (x : Content) → u.items (last u) ≡ x → IsWordOfContent x word → IsContent (trace p) k u (last u) x → x ≢ nothing → (named : Slot) × (u.items (last u) ≡ item named) × IsWordOf named word
       item_of nothing here read at some = absurd (some refl)
       item_of (item a) here read at some = (a, here, read.0)
       item_of (next m) here read at some = absurd (omega (arith, at.1, at.2))

@@ -14,10 +14,10 @@ use Rattle.segcore.proofs.Quiet.{position_stays}
 use Rattle.segbase.specs.declared.board.Board.{Board}
 use Rattle.segbase.specs.declared.pass.Pass.{Pass}
 use Rattle.segbase.specs.declared.place.Place.{Place}
-use Rattle.segbase.specs.Passes.{number, trace, Moved, Did, Stepped}
+use Rattle.segbase.specs.Passes.{number, trace, AddsEvents, AddsAtOnce, Stepped}
 use Rattle.segbase.specs.Spots.{cell_at, depth_of, position}
 use Rattle.segbase.proofs.Moves.{moved_then}
-use Rattle.segstore.specs.Reading.{Looked}
+use Rattle.segstore.specs.Reading.{OnlyLooks}
 use Rattle.segstore.specs.Refilling.{Idles}
 use Rattle.segwrite.specs.Writing.{IsInChain}
 use Rattle.segpass.proofs.UnderBit.{moved_bucket, moved_bit}
@@ -27,10 +27,10 @@ use Rattle.segpass.proofs.UnderBit.{moved_bucket, moved_bit}
 pub idles_then : (b : Board) (p q r : Pass) → Idles b p q → Idles b q r → Idles b p r
 idles_then b p q r i j = record { moved = moved_then b [] [] p q r i.moved j.moved; plain = j.plain ∙ i.plain; memo = j.memo ∙ i.memo }
 
-pub looked_idles : (b : Board) (p q : Pass) → Looked b p q → Idles b p q
+pub looked_idles : (b : Board) (p q : Pass) → OnlyLooks b p q → Idles b p q
 looked_idles b p q l = record { moved = l.did.moved; plain = l.plain; memo = l.memo }
 
-pub step_idles : (b : Board) (step : Step) (found : ℕ) (p q : Pass) → Stepped b step found p q → Did b [] p q → Idles b p q
+pub step_idles : (b : Board) (step : Step) (found : ℕ) (p q : Pass) → Stepped b step found p q → AddsAtOnce b [] p q → Idles b p q
 step_idles b step found p q s d = record { moved = d.moved; plain = s.plain; memo = s.memo }
 
 pub idle_bucket : (b : Board) (p q : Pass) (bucket : ℕ) → Idles b p q → HasBit b.shape (trace p) (number p) bucket → bucket_after b.shape (trace q) bucket ≡ bucket_after b.shape (trace p) bucket
@@ -50,7 +50,7 @@ position_of z h b n place false at = ap (λ o. 8 * depth_of o + place.word) at.1
 pub position_at : (z : Shape) (h : List Event) (b n : ℕ) (place : Place) → IsAt h b n (cell_at z place) → position z h place ≡ n
 position_at z h b n place at = position_of z h b n place (ltb place.bucket z.buckets) at
 
-module _ (b : Board) (own : List Event) (p q : Pass) (bucket : ℕ) (place : Place) (m : Moved b own p q) (chain : IsInChain b bucket place p) where
+module _ (b : Board) (own : List Event) (p q : Pass) (bucket : ℕ) (place : Place) (m : AddsEvents b own p q) (chain : IsInChain b bucket place p) where
   abbrev n : ℕ
   n = position b.shape (trace p) place
 

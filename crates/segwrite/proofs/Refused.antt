@@ -35,10 +35,10 @@ use Rattle.segwrite.specs.declared.write.When.{When}
 use Rattle.segwrite.specs.declared.write.When.TheVariants as when
 use Rattle.segpass.specs.Quiet.{IsQuiet}
 use Rattle.segpass.specs.Calls.{GoesOn, TakesOneBit, DrawsNothing, ReadsNothing}
-use Rattle.segwrite.specs.Writes.{IsReplied, IsWriteAnswer}
+use Rattle.segwrite.specs.Writes.{AddsReply, IsWriteAnswer}
 use Rattle.segpass.specs.Taking.{HasCleanBit, TookToWrite}
 use Rattle.segwrite.specs.Writing.{IsTarget, IsAbsent, own_word, Finds}
-use Rattle.segwrite.specs.Refusing.{request_of, IsToldBy, reply_now, Refuses}
+use Rattle.segwrite.specs.Refusing.{request_of, IsToldBy, reply_now, RefusesUnderBit}
 use Rattle.segwrite.proofs.Ending.{IsEntry, plain_back, memo_back, entered_on, entered, entered_undrawn, entered_unread, entered_taking}
 use Rattle.segpass.proofs.UnderBit.{moved_at}
 
@@ -129,14 +129,14 @@ told_by_look b request expected version bucket p q few is clean home there asked
 refusal_entry : (z : Shape) (request : Request) (said : Reply) → IsEntry z (bucket_of z (key_of request)) (λ pass. Replied pass request said) (λ pass. Wrote pass request said None)
 refusal_entry z request said = record { at = λ pass. refl; adds = λ pass. refl; of = λ pass. refl; still = λ pass. tt; calm = λ pass. tt; undrawn = λ pass. tt; untried = λ pass. tt }
 
-module _ (b : Board) (request : Request) (said : Reply) (p q f s : Pass) (quiet : IsQuiet b p) (took : TookToWrite b (bucket_of b.shape (key_of request)) p q) (idles : Idles b q f) (refuses : Refuses b request said f s) where
+module _ (b : Board) (request : Request) (said : Reply) (p q f s : Pass) (quiet : IsQuiet b p) (took : TookToWrite b (bucket_of b.shape (key_of request)) p q) (idles : Idles b q f) (refuses : RefusesUnderBit b request said f s) where
   abbrev home : ℕ
   home = bucket_of b.shape (key_of request)
 
   pub refused_goes_on : GoesOn b p s
   refused_goes_on = entered_on b home false (λ pass. Replied pass request said) (λ pass. Wrote pass request said None) (refusal_entry b.shape request said) p q f s quiet took idles refuses
 
-  pub refused_replied : IsReplied request said p s
+  pub refused_replied : AddsReply request said p s
   refused_replied = (
     entered b home false (λ pass. Replied pass request said) (λ pass. Wrote pass request said None) (refusal_entry b.shape request said) p q f s quiet took idles refuses,
     plain_back b home false (λ pass. Replied pass request said) (λ pass. Wrote pass request said None) (refusal_entry b.shape request said) p q f s quiet took idles refuses,
@@ -156,10 +156,10 @@ module _ (b : Board) (request : Request) (said : Reply) (p q f s : Pass) (quiet 
   pub refused_answer : (told : WriteAnswer) → reply_of_write told ≡ Some said → IsRefusal said → IsWriteAnswer b.shape request told p s
   refused_answer told is refusal = by told said is refusal refused_replied
     where
-      by : (told : WriteAnswer) (said : Reply) → reply_of_write told ≡ Some said → IsRefusal said → IsReplied request said p s → IsWriteAnswer b.shape request told p s
-      by write.NotStored said is refusal replied = subst (λ r. IsReplied request r p s) (sym (same_Some reply.NotStored said is)) replied
-      by write.Exists said is refusal replied = subst (λ r. IsReplied request r p s) (sym (same_Some reply.Exists said is)) replied
-      by write.NotFound said is refusal replied = subst (λ r. IsReplied request r p s) (sym (same_Some reply.NotFound said is)) replied
+      by : (told : WriteAnswer) (said : Reply) → reply_of_write told ≡ Some said → IsRefusal said → AddsReply request said p s → IsWriteAnswer b.shape request told p s
+      by write.NotStored said is refusal replied = subst (λ r. AddsReply request r p s) (sym (same_Some reply.NotStored said is)) replied
+      by write.Exists said is refusal replied = subst (λ r. AddsReply request r p s) (sym (same_Some reply.Exists said is)) replied
+      by write.NotFound said is refusal replied = subst (λ r. AddsReply request r p s) (sym (same_Some reply.NotFound said is)) replied
       by write.Stored said is refusal replied = absurd (subst IsRefusal (sym (same_Some reply.Stored said is)) refusal)
       by write.NoRoom said is refusal replied = absurd (none-some said is)
       by write.BucketFull said is refusal replied = absurd (none-some said is)

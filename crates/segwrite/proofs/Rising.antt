@@ -18,7 +18,7 @@ use Rattle.segcore.proofs.Standing.{coherent}
 use Rattle.segbase.specs.declared.board.Board.{Board}
 use Rattle.segbase.specs.declared.pass.Pass.{Pass}
 use Rattle.segbase.specs.declared.place.Place.{Place}
-use Rattle.segbase.specs.Passes.{number, trace, Moved}
+use Rattle.segbase.specs.Passes.{number, trace, AddsEvents}
 use Rattle.segbase.specs.Spots.{cell_at, position}
 use Rattle.segbase.proofs.Standing.{some_tag, tag_of_word, place_of_word}
 use Rattle.segcore.proofs.Exact.{content_at}
@@ -54,7 +54,7 @@ item_rose z h g b n cell a v l l' before after here there up =
 pub earlier_yet : (old before now : ℕ) → IsSameItem old before → old ≤ before → IsSameItem before now × (before ≤ now) → IsSameItem old now × (old ≤ now)
 earlier_yet old before now s le w = ((s.0, s.1 ∙ w.0.1, s.2 ∙ w.0.2), (let le' = w.1 in omega (arith, le, le')))
 
-module _ (b : Board) (own : List Event) (p q : Pass) (bucket : ℕ) (place : Place) (m : Moved b own p q) (bit : HasBit b.shape (trace p) (number p) bucket) (none : NoneAt b.shape bucket own) (chain : IsInChain b bucket place p) where
+module _ (b : Board) (own : List Event) (p q : Pass) (bucket : ℕ) (place : Place) (m : AddsEvents b own p q) (bit : HasBit b.shape (trace p) (number p) bucket) (none : NoneAt b.shape bucket own) (chain : IsInChain b bucket place p) where
   abbrev cell : Cell
   cell = cell_at b.shape place
 

@@ -18,7 +18,7 @@ use Rattle.segcore.specs.Lawful.{NoneAt}
 use Rattle.segbase.specs.declared.board.Board.{Board}
 use Rattle.segbase.specs.declared.pass.Pass.{Pass}
 use Rattle.segbase.specs.declared.place.Place.{Place}
-use Rattle.segbase.specs.Passes.{number, trace, seen, IsPassOf, Moved}
+use Rattle.segbase.specs.Passes.{number, trace, seen, IsPassOf, AddsEvents}
 use Rattle.segbase.proofs.Moves.{moved_on, moved_then}
 use Rattle.segstore.specs.Refilling.{Idles}
 use Rattle.segstore.proofs.Keeping.{AreCalm}
@@ -28,8 +28,8 @@ use Rattle.segwrite.specs.declared.find.Target.{Target}
 use Rattle.segpass.specs.Calls.{memo}
 use Rattle.segwrite.specs.Full.{DrewInNeed}
 use Rattle.segpass.specs.Taking.{HasCleanBit}
-use Rattle.segwrite.specs.Writing.{IsTarget, HasNoWord, Finds}
-use Rattle.segwrite.specs.Growing.{bucket_in, IsLast, Searches, target_of, puts, lengthens, CannotGrow, Lengthens, IsAsFound, MakesRoom}
+use Rattle.segwrite.specs.Writing.{IsTarget, HasFullChain, Finds}
+use Rattle.segwrite.specs.Growing.{bucket_seen, IsLast, Searches, target_of, puts, lengthens, CannotGrow, Lengthens, IsAsFound, MakesRoom}
 use Rattle.segwrite.proofs.Lengthening.{in_need_wider, longer_own, longer_other}
 use Rattle.segwrite.proofs.Places.{idle_bucket, same_position, chain_later}
 use Rattle.segwrite.proofs.Rising.{earlier_yet, word_rose}
@@ -43,8 +43,8 @@ use Rattle.segpass.proofs.UnderBit.{moved_bucket, moved_at}
 last_idle : (b : Board) (bucket : ℕ) (place : Place) (word : ℕ) (p q : Pass) → IsPassOf b p → HasBit b.shape (trace p) (number p) bucket → Idles b p q → IsLast b bucket place word p → IsLast b bucket place word q
 last_idle b bucket place word p q is bit i l =
     let same = moved_bucket b [] p q bucket i.moved bit tt in
-    let end : last (bucket_in b bucket q) ≡ last (bucket_in b bucket p) = ap (λ (u : Bucket). last u) same in
-    let rose = word_rose b [] p q bucket place i.moved bit tt l.chain l.named is.valid is.lawful (ap (bucket_in b bucket p).items l.ends ∙ l.here) in record {
+    let end : last (bucket_seen b bucket q) ≡ last (bucket_seen b bucket p) = ap (λ (u : Bucket). last u) same in
+    let rose = word_rose b [] p q bucket place i.moved bit tt l.chain l.named is.valid is.lawful (ap (bucket_seen b bucket p).items l.ends ∙ l.here) in record {
       chain = chain_later b [] p q bucket place i.moved l.chain;
       ends = same_position b [] p q bucket place i.moved l.chain ∙ (l.ends ∙ sym end);
       named = l.named;
@@ -81,7 +81,7 @@ puts_all P p b (w ∷ words) rest first more = more (puts p b words ++ rest) w (
 
 -- under the bit the pass did this, which adds no entry, and it still has a clean bit
 pub record IsReady (b : Board) (bucket : ℕ) (own : List Event) (p q : Pass) : Type 0 where
-  pub moved : Moved b own p q
+  pub moved : AddsEvents b own p q
   pub plain : q.plain ≡ p.plain
   pub memo : memo q ≡ memo p
   pub clean : HasCleanBit b q bucket
@@ -97,7 +97,7 @@ ready_idle b bucket p q i clean = record { moved = i.moved; plain = i.plain; mem
 pub ready_longer : (b : Board) (bucket : ℕ) (target : Target) (p q r : Pass) → Idles b p q → (l : Lengthens b bucket target q r) → IsReady b bucket (lengthens (number q) bucket l.depth l.overflow l.words) p r
 ready_longer b bucket target p q r i l =
     let n = number q in let drew : List Event = Drew n bucket l.depth l.overflow ∷ [] in let own = lengthens n bucket l.depth l.overflow l.words in record {
-      moved = subst (λ es. Moved b es p r) (append-nil own) (moved_then b [] own p q r i.moved l.prepares.moved);
+      moved = subst (λ es. AddsEvents b es p r) (append-nil own) (moved_then b [] own p q r i.moved l.prepares.moved);
       plain = l.prepares.plain ∙ i.plain;
       memo = l.prepares.memo ∙ i.memo;
       clean = l.clean;
@@ -154,9 +154,9 @@ module _ (b : Board) (key : List ℕ) (p q r : Pass) (i : Idles b p q) (is : IsP
         };
       }
 
-  pub no_room : (found : Found) (room : Option Target) → room ≡ None → Searches b key found q → MakesRoom b k found room q r → Idles b q r × CannotGrow b k r × HasNoWord b key r
+  pub no_room : (found : Found) (room : Option Target) → room ≡ None → Searches b key found q → MakesRoom b k found room q r → Idles b q r × CannotGrow b k r × HasFullChain b key r
   no_room (Word word) room none found makes = absurd (none-some word (sym none ∙ makes.0))
   no_room (Full end) room none found makes = full (subst (λ o. MakesRoom b k (Full end) o q r) none makes)
     where
-      full : Idles b q r × CannotGrow b k r → Idles b q r × CannotGrow b k r × HasNoWord b key r
+      full : Idles b q r × CannotGrow b k r → Idles b q r × CannotGrow b k r × HasFullChain b key r
       full m = (m.0, m.1, (searches_later b key (Full end) q r is clean.bit m.0 found).0)

@@ -17,7 +17,7 @@ use Rattle.segbase.specs.declared.pass.Pass.{Pass}
 use Rattle.segbase.specs.declared.place.Place.{Place}
 use Rattle.segbase.specs.Passes.{number, trace, IsPassOf}
 use Rattle.segbase.specs.Spots.{cell_at, position}
-use Rattle.segbase.specs.Steps.{IsFree, HasItemOf, IsReadAs}
+use Rattle.segbase.specs.Steps.{IsFree, HasItemOf, IsWordOfContent}
 use Rattle.segstore.specs.Refilling.{Idles}
 use Rattle.segstore.proofs.Refills.{idles}
 use Rattle.segwrite.specs.declared.find.Target.{Target}
@@ -113,19 +113,19 @@ module _ (b : Board) (key : List ℕ) (first p r : Pass) (i : Idles b p r) (bit 
     empty_is = subst (λ n. IsFirstEmpty b key n empty r) (sym (at_place place s.chain)) (empty_later (position b.shape (trace p) place) empty s.empty_is);
   }
 
-  pub reads_later : (place : Place) (word : ℕ) → IsInChain b k place p → IsReadAs ((bucket_after b.shape (trace p) k).items (position b.shape (trace p) place)) word
-      → IsReadAs ((bucket_after b.shape (trace r) k).items (position b.shape (trace r) place)) word
-  reads_later place word chain reads = subst (λ x. IsReadAs x word) (λ t. (sym same t).items (sym (at_place place chain) t)) reads
+  pub reads_later : (place : Place) (word : ℕ) → IsInChain b k place p → IsWordOfContent ((bucket_after b.shape (trace p) k).items (position b.shape (trace p) place)) word
+      → IsWordOfContent ((bucket_after b.shape (trace r) k).items (position b.shape (trace r) place)) word
+  reads_later place word chain reads = subst (λ x. IsWordOfContent x word) (λ t. (sym same t).items (sym (at_place place chain) t)) reads
 
 -- ---- a word that isn't the key's
 
-read_empty : (x : Content) (word : ℕ) → IsReadAs x word → word ≡ 0 → x ≡ nothing
+read_empty : (x : Content) (word : ℕ) → IsWordOfContent x word → word ≡ 0 → x ≡ nothing
 read_empty nothing word reads none = refl
 read_empty (item a) word reads none = let tag = reads.1 in absurd (omega (arith, tag, none))
 read_empty (next m) word reads none = absurd (omega (arith, reads, none))
 read_empty (copy w) word reads none = absurd reads
 
-module _ (b : Board) (key : List ℕ) (first p : Pass) (place : Place) (word : ℕ) (reads : IsReadAs ((bucket_after b.shape (trace p) (bucket_of b.shape key)).items (position b.shape (trace p) place)) word) where
+module _ (b : Board) (key : List ℕ) (first p : Pass) (place : Place) (word : ℕ) (reads : IsWordOfContent ((bucket_after b.shape (trace p) (bucket_of b.shape key)).items (position b.shape (trace p) place)) word) where
   abbrev u : Bucket
   u = bucket_after b.shape (trace p) (bucket_of b.shape key)
 
@@ -140,7 +140,7 @@ module _ (b : Board) (key : List ℕ) (first p : Pass) (place : Place) (word : �
   kept_empty None is why = λ m lt here none. ⊎_elim
       (λ less. is m less here none)
       (λ e. ⊎_elim
-      (λ full. full (subst (λ x. IsReadAs x word) (ap (λ a. u.items a) e ∙ none) reads))
+      (λ full. full (subst (λ x. IsWordOfContent x word) (ap (λ a. u.items a) e ∙ none) reads))
       (λ some. false≢true some)
       why)
       (last_or m lt)

@@ -23,7 +23,7 @@ use Rattle.segcore.proofs.Moments.{begins_on, marked_begins}
 use Rattle.segbase.specs.declared.board.Board.{Board}
 use Rattle.segbase.specs.declared.pass.Plain.{Plain}
 use Rattle.segbase.specs.declared.pass.Pass.{Pass}
-use Rattle.segbase.specs.Passes.{number, trace, marked, seen, IsPassOf, Moved, Did}
+use Rattle.segbase.specs.Passes.{number, trace, marked, seen, IsPassOf, AddsEvents, AddsAtOnce}
 use Rattle.segbase.specs.Passes as passes
 use Rattle.segbase.proofs.Moves.{moved_on, moved_then}
 use Rattle.segstore.specs.Rows.{fills}
@@ -36,8 +36,8 @@ use Rattle.segwrite.specs.Full.{IsFull, WasFull, GrowsFor}
 use Rattle.segwrite.specs.Writes.{UsesRow}
 use Rattle.segwrite.specs.FirstEmpty.{TookFirstEmpty}
 use Rattle.segpass.specs.Taking.{HasCleanBit, TookToWrite}
-use Rattle.segwrite.specs.Writing.{HasNoWord}
-use Rattle.segwrite.specs.Storing.{Stores, stores}
+use Rattle.segwrite.specs.Writing.{HasFullChain}
+use Rattle.segwrite.specs.Storing.{StoresUnderBit, stores}
 use Rattle.segwrite.specs.Growing.{CannotGrow}
 use Rattle.segpass.proofs.Bits.{none_at_both}
 use Rattle.segwrite.proofs.Growing.{no_word}
@@ -70,15 +70,15 @@ module _ (b : Board) (bucket : ℕ) (p q f : Pass) (quiet : IsQuiet b p) (took :
 
 -- ---- no word is left for a new key
 
-is_full : (b : Board) (key : List ℕ) (f : Pass) → IsPassOf b f → HasCleanBit b f (bucket_of b.shape key) → HasNoWord b key f → CannotGrow b (bucket_of b.shape key) f → IsFull b.shape (marked f) key
+is_full : (b : Board) (key : List ℕ) (f : Pass) → IsPassOf b f → HasCleanBit b f (bucket_of b.shape key) → HasFullChain b key f → CannotGrow b (bucket_of b.shape key) f → IsFull b.shape (marked f) key
 is_full b key f is clean none why =
     let long = wide b.shape (trace f) (bucket_of b.shape key) is.lawful clean.undrawn in let count = all_drawn_marked (trace f) in record {
       no_word = no_word b.shape (trace f) key is.lawful none.taken clean.undrawn none.absent;
       last = ⊎_elim (λ longest. inl (omega (arith, long, longest))) (λ all. inr (count ∙ all)) why;
     }
 
-module _ (b : Board) (key : List ℕ) (p q f s : Pass) (quiet : IsQuiet b p) (took : TookToWrite b (bucket_of b.shape key) p q) (idles : Idles b q f) (none : HasNoWord b key f) (why : CannotGrow b (bucket_of b.shape key) f)
-    (freed : Did b (Freed (number f) (bucket_of b.shape key) false ∷ []) f s) (free : (bucket_after b.shape (trace s) (bucket_of b.shape key)).holder ≡ None) (plain : s.plain ≡ f.plain) (same : memo s ≡ memo f) where
+module _ (b : Board) (key : List ℕ) (p q f s : Pass) (quiet : IsQuiet b p) (took : TookToWrite b (bucket_of b.shape key) p q) (idles : Idles b q f) (none : HasFullChain b key f) (why : CannotGrow b (bucket_of b.shape key) f)
+    (freed : AddsAtOnce b (Freed (number f) (bucket_of b.shape key) false ∷ []) f s) (free : (bucket_after b.shape (trace s) (bucket_of b.shape key)).holder ≡ None) (plain : s.plain ≡ f.plain) (same : memo s ≡ memo f) where
   abbrev k : ℕ
   k = bucket_of b.shape key
 
@@ -130,8 +130,8 @@ uses_around segment p f r s u before behind m n =
     }
 
 module _ (b : Board) (request : Request) (segment row : ℕ) (p q f r s : Pass) (quiet : IsQuiet b p) (took : TookToWrite b (bucket_of b.shape (key_of request)) p q) (before : List Event) (ready : IsReady b (bucket_of b.shape (key_of request)) before q f)
-    (done : Stores b request segment row f r) (keeps : KeepsSegments b r) (uses : UsesRow segment f r)
-    (freed : Did b (Freed (number r) (bucket_of b.shape (key_of request)) true ∷ []) r s) (free : (bucket_after b.shape (trace s) (bucket_of b.shape (key_of request))).holder ≡ None) (plain : s.plain ≡ r.plain) (same : memo s ≡ memo r) where
+    (done : StoresUnderBit b request segment row f r) (keeps : KeepsSegments b r) (uses : UsesRow segment f r)
+    (freed : AddsAtOnce b (Freed (number r) (bucket_of b.shape (key_of request)) true ∷ []) r s) (free : (bucket_after b.shape (trace s) (bucket_of b.shape (key_of request))).holder ≡ None) (plain : s.plain ≡ r.plain) (same : memo s ≡ memo r) where
   abbrev home : ℕ
   home = bucket_of b.shape (key_of request)
 
@@ -144,7 +144,7 @@ module _ (b : Board) (request : Request) (segment row : ℕ) (p q f r s : Pass) 
   abbrev entry : Entry
   entry = Wrote (number f) request Stored (Some segment)
 
-  moved : Moved b own q r
+  moved : AddsEvents b own q r
   moved = moved_then b before (stores (number f) request segment row done.0) q f r ready.moved done.1
 
   elsewhere : (other : ℕ) → home ≢ other → NoneAt b.shape other own

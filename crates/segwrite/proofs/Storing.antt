@@ -20,7 +20,7 @@ use Rattle.segcore.specs.Row.{Holds, row_after}
 use Rattle.segbase.specs.declared.board.Board.{Board}
 use Rattle.segbase.specs.declared.law.Sight.{Sight}
 use Rattle.segbase.specs.declared.pass.Pass.{Pass}
-use Rattle.segbase.specs.Passes.{number, trace, seen, IsPassOf, Moved, Did}
+use Rattle.segbase.specs.Passes.{number, trace, seen, IsPassOf, AddsEvents, AddsAtOnce}
 use Rattle.segbase.specs.Plain.{current_of, state_of, used_of, SameOwner}
 use Rattle.segbase.specs.Spots.{position}
 use Rattle.segbase.proofs.Moves.{moved_then}
@@ -32,7 +32,7 @@ use Rattle.segwrite.specs.declared.find.Target.{Target}
 use Rattle.segwrite.specs.FirstEmpty.{AreTakenBefore}
 use Rattle.segpass.specs.Taking.{HasCleanBit}
 use Rattle.segwrite.specs.Writing.{IsTarget}
-use Rattle.segwrite.specs.Storing.{IsNextRow, Stores, stores, HasWritten}
+use Rattle.segwrite.specs.Storing.{IsNextRow, StoresUnderBit, stores, HasWritten}
 use Rattle.segwrite.proofs.Filling.{fills_calm}
 use Rattle.segwrite.proofs.FirstEmpty.{took_first}
 use Rattle.segwrite.proofs.Linking.{linked_by}
@@ -42,7 +42,7 @@ use Rattle.segpass.proofs.UnderBit.{moved_bucket, moved_bit, moved_at, did_acts}
 
 -- ---- what stays so while the row is written
 
-module _ (b : Board) (own : List Event) (p q : Pass) (key : List ℕ) (m : Moved b own p q) (is : IsPassOf b p) (bit : HasBit b.shape (trace p) (number p) (bucket_of b.shape key)) (none : NoneAt b.shape (bucket_of b.shape key) own) where
+module _ (b : Board) (own : List Event) (p q : Pass) (key : List ℕ) (m : AddsEvents b own p q) (is : IsPassOf b p) (bit : HasBit b.shape (trace p) (number p) (bucket_of b.shape key)) (none : NoneAt b.shape (bucket_of b.shape key) own) where
   abbrev k : ℕ
   k = bucket_of b.shape key
 
@@ -86,7 +86,7 @@ module _ (b : Board) (request : Request) (target : Target) (segment row : ℕ) (
     suits = (own, holds, clean.unwritten, found.chain.at.0, ⊎_elim (λ free. inl (free.1, free.2)) (λ has. inr has.0) found.is, is_key, is_value);
   }
 
-  module _ (r : Pass) (d : Did b (linked_by b request segment row target.place q ∷ []) q r) (clean : HasCleanBit b q (bucket_of b.shape key)) where
+  module _ (r : Pass) (d : AddsAtOnce b (linked_by b request segment row target.place q ∷ []) q r) (clean : HasCleanBit b q (bucket_of b.shape key)) where
     abbrev home : ℕ
     home = bucket_of b.shape key
 
@@ -106,15 +106,15 @@ module _ (b : Board) (request : Request) (target : Target) (segment row : ℕ) (
 -- ---- all of it
 
 module _ (b : Board) (request : Request) (target : Target) (segment row : ℕ) (p q r s : Pass) (next : IsNextRow b segment row p)
-    (m : Moved b (fills (number p) segment row (row_of (key_of request) (value_of request)) 8) p q) (d : Did b (linked_by b request segment row target.place q ∷ []) q r)
+    (m : AddsEvents b (fills (number p) segment row (row_of (key_of request) (value_of request)) 8) p q) (d : AddsAtOnce b (linked_by b request segment row target.place q ∷ []) q r)
     (seat : s.seat ≡ r.seat) (owner_is : SameOwner r s) where
   abbrev at : ℕ
   at = position b.shape (trace q) target.place
 
-  pub stores_all : HasCleanBit b q (bucket_of b.shape (key_of request)) → IsTarget b (key_of request) target q → Stores b request segment row p s
+  pub stores_all : HasCleanBit b q (bucket_of b.shape (key_of request)) → IsTarget b (key_of request) target q → StoresUnderBit b request segment row p s
   stores_all clean found =
       let own = fills (number p) segment row (row_of (key_of request) (value_of request)) 8 in
-      let both : Moved b (stores (number p) request segment row at) p r = subst (λ n. Moved b (Linked n request segment row at ∷ own) p r) m.same (moved_then b own (linked_by b request segment row target.place q ∷ []) p q r m d.moved) in
+      let both : AddsEvents b (stores (number p) request segment row at) p r = subst (λ n. AddsEvents b (Linked n request segment row at ∷ own) p r) m.same (moved_then b own (linked_by b request segment row target.place q ∷ []) p q r m d.moved) in
       (at, moved_still b (stores (number p) request segment row at) p r s both seat owner_is, took_first b request target segment row own p q r s m m.pass clean.bit found d (seat_trace r s seat))
 
   pub keeps_all : q.plain ≡ p.plain → r.plain ≡ q.plain → used_of s segment ≡ Some (row + 1) → ((t : ℕ) → t ≢ segment → used_of s t ≡ used_of r t) → ((t : ℕ) → state_of s t ≡ state_of r t) → current_of s ≡ current_of r

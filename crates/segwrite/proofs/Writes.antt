@@ -17,7 +17,7 @@ use Rattle.segcore.specs.Kind.{HasBit, May, release}
 use Rattle.segcore.specs.Lawful.{IsRefusal}
 use Rattle.segbase.specs.declared.board.Board.{Board}
 use Rattle.segbase.specs.declared.pass.Pass.{Pass}
-use Rattle.segbase.specs.Passes.{number, trace, seen, IsPassOf, Did}
+use Rattle.segbase.specs.Passes.{number, trace, seen, IsPassOf, AddsAtOnce}
 use Rattle.segbase.specs.Plain.{current_of, used_of}
 use Rattle.segstore.specs.Segments.{KeepsSegments, has_room}
 use Rattle.segstore.specs.Refilling.{Idles}
@@ -31,10 +31,10 @@ use Rattle.segwrite.specs.Writes.{IsWriteAnswer, Writes, UsesRow}
 use Rattle.segwrite.specs.Full.{GrowsFor}
 use Rattle.segwrite.specs.FirstEmpty.{TookFirstEmpty}
 use Rattle.segpass.specs.Taking.{HasCleanBit, TookToWrite}
-use Rattle.segwrite.specs.Writing.{IsTarget, HasNoWord, own_word}
+use Rattle.segwrite.specs.Writing.{IsTarget, HasFullChain, own_word}
 use Rattle.segwrite.specs.Growing.{Searches, target_of, CannotGrow, IsAsFound, MakesRoom}
-use Rattle.segwrite.specs.Storing.{IsNextRow, Requests, Stores}
-use Rattle.segwrite.specs.Refusing.{request_of, IsToldBy, reply_now, Refuses}
+use Rattle.segwrite.specs.Storing.{IsNextRow, Requests, StoresUnderBit}
+use Rattle.segwrite.specs.Refusing.{request_of, IsToldBy, reply_now, RefusesUnderBit}
 use Rattle.segwrite.proofs.Lengthening.{grows_none}
 use Rattle.segwrite.proofs.Places.{idles_then}
 use Rattle.segwrite.proofs.Refused.{asks, own_where, adds_absent, refused_goes_on, refused_undrawn, refused_unread, refused_takes, refused_answer}
@@ -95,7 +95,7 @@ module _ (b : Board) (w : When) (request : Request) (key value words : List ℕ)
 
     module _ (room : ¬ (has_room b.shape p ≡ false)) where
       -- the cache refuses it
-      pub ends_refused : (answer : WriteAnswer) (s : Pass) → refusal ≡ Some answer → Refuses b request (reply_now b g request) g s → Writes b request answer p s
+      pub ends_refused : (answer : WriteAnswer) (s : Pass) → refusal ≡ Some answer → RefusesUnderBit b request (reply_now b g request) g s → Writes b request answer p s
       ends_refused answer s is refuses =
           let why = subst (IsToldBy (reply_now b g request)) is told in
           let undrawn = refused_undrawn b request (reply_now b g request) p q g s quiet took_it idle refuses in
@@ -123,7 +123,7 @@ module _ (b : Board) (w : When) (request : Request) (key value words : List ℕ)
 
       -- it finds no word
       module _ (unmade : room ≡ None) where
-        none : Idles b g r × CannotGrow b k r × HasNoWord b (key_of request) r
+        none : Idles b g r × CannotGrow b k r × HasFullChain b (key_of request) r
         none = no_room b (key_of request) q g r idle idle.moved.pass clean_there found room unmade found_now made
 
         idle_yet : Idles b q r
@@ -133,10 +133,10 @@ module _ (b : Board) (w : When) (request : Request) (key value words : List ℕ)
         pub may_end : IsPassOf b r × May b.shape (trace r) (number r) (release bucket false None)
         may_end = (idle_yet.moved.pass, may_free b bucket p q r quiet took idle_yet)
 
-        pub ends_full : ¬ (has_room b.shape p ≡ false) → (s : Pass) → refusal ≡ None → Did b (Freed (number r) bucket false ∷ []) r s → (bucket_after b.shape (trace s) bucket).holder ≡ None → s.plain ≡ r.plain → memo s ≡ memo r → Writes b request write.BucketFull p s
+        pub ends_full : ¬ (has_room b.shape p ≡ false) → (s : Pass) → refusal ≡ None → AddsAtOnce b (Freed (number r) bucket false ∷ []) r s → (bucket_after b.shape (trace s) bucket).holder ≡ None → s.plain ≡ r.plain → memo s ≡ memo r → Writes b request write.BucketFull p s
         ends_full rows s unrefused freed free plain same =
             let stored = subst (IsToldBy (reply_now b g request)) unrefused told in
-            let freed' = subst (λ n. Did b (Freed (number r) n false ∷ []) r s) at_home freed in
+            let freed' = subst (λ n. AddsAtOnce b (Freed (number r) n false ∷ []) r s) at_home freed in
             let free' = subst (λ n. (bucket_after b.shape (trace s) n).holder ≡ None) at_home free in
             let answer = full_answer b (key_of request) p q r s quiet took_it idle_yet none.2 none.1 freed' free' plain same in
             let version = (after b.shape (seen g)).version k in
@@ -169,10 +169,10 @@ module _ (b : Board) (w : When) (request : Request) (key value words : List ℕ)
             let requests : Requests b request words value r = record { of = (a.0 ∙ sym copied, a.1); stored = stored ∙ (λ i. reply_to request (is_some ((sym there.same.stands) i)) ((sym there.same.version) i)) } in
             (there.ready.moved.pass, (keeps, (row_is, (requests, (key_of_words, (tagged, (there.ready.clean, there.target_is)))))))
 
-        pub ends_stored : ¬ (has_room b.shape p ≡ false) → refusal ≡ None → (segment row : ℕ) (t s : Pass) → Stores b request segment row r t → KeepsSegments b t → UsesRow segment r t
-            → Did b (Freed (number t) bucket true ∷ []) t s → (bucket_after b.shape (trace s) bucket).holder ≡ None → s.plain ≡ t.plain → memo s ≡ memo t → Writes b request write.Stored p s
+        pub ends_stored : ¬ (has_room b.shape p ≡ false) → refusal ≡ None → (segment row : ℕ) (t s : Pass) → StoresUnderBit b request segment row r t → KeepsSegments b t → UsesRow segment r t
+            → AddsAtOnce b (Freed (number t) bucket true ∷ []) t s → (bucket_after b.shape (trace s) bucket).holder ≡ None → s.plain ≡ t.plain → memo s ≡ memo t → Writes b request write.Stored p s
         ends_stored rows unrefused segment row t s done kept uses freed free plain same =
-            let freed' = subst (λ n. Did b (Freed (number t) n true ∷ []) t s) at_home freed in
+            let freed' = subst (λ n. AddsAtOnce b (Freed (number t) n true ∷ []) t s) at_home freed in
             let free' = subst (λ n. (bucket_after b.shape (trace s) n).holder ≡ None) at_home free in
             let answer = stored_answer b request segment row p q r t s quiet took_it there.own there.ready done kept uses freed' free' plain same in
             let version = (after b.shape (seen g)).version k in

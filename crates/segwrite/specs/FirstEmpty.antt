@@ -21,11 +21,11 @@ pub record IsFirstEmpty (bucket : Bucket) (position : ℕ) : Type 0 where
   pub before : AreTakenBefore bucket position
 
 -- at the moment at which the pass linked the row of the request, between one trace and a longer one, it did so at the first empty word of its key's chain, where no item of the key stood
-pub record TookFirstEmpty (shape : Shape) (request : Request) (pass : ℕ) (before now : List Event) : Type 0 where
+pub record TookFirstEmpty (shape : Shape) (request : Request) (pass : ℕ) (old new : List Event) : Type 0 where
   pub at : List Event
   pub segment : ℕ
   pub row : ℕ
   pub position : ℕ
-  pub since : Begins before at
-  pub link : Begins (Linked pass request segment row position ∷ at) now
+  pub since : Begins old at
+  pub link : Begins (Linked pass request segment row position ∷ at) new
   pub first : standing (after shape (seen at)) (key_of request) ≡ None → IsFirstEmpty (bucket_after shape at (bucket_of shape (key_of request))) position

@@ -27,7 +27,7 @@ pub record IsFull (shape : Shape) (marks : List Mark) (key : List ℕ) : Type 0 
 
 -- so it was at a moment of the call
 abbrev pub WasFull : Shape → List ℕ → List Mark → List Mark → Type 0
-WasFull shape key before now = (marks : List Mark) × IsBetween before now marks × IsFull shape marks key
+WasFull shape key old new = (marks : List Mark) × IsBetween old new marks × IsFull shape marks key
 
 -- ---- growing
 
@@ -38,12 +38,12 @@ pub record CanGrow (shape : Shape) (marks : List Mark) (key : List ℕ) : Type 0
   pub left : all_drawn marks < shape.overflow
 
 -- at the moment at which the pass drew an overflow bucket for the bucket of a key, between one trace and a longer one, the key was new and found no word, and the chain could grow
-pub record DrewInNeed (shape : Shape) (key : List ℕ) (pass : ℕ) (before now : List Event) : Type 0 where
+pub record DrewInNeed (shape : Shape) (key : List ℕ) (pass : ℕ) (old new : List Event) : Type 0 where
   pub at : List Event
   pub depth : ℕ
   pub overflow : ℕ
-  pub since : Begins before at
-  pub draw : Begins (Drew pass (bucket_of shape key) depth overflow ∷ at) now
+  pub since : Begins old at
+  pub draw : Begins (Drew pass (bucket_of shape key) depth overflow ∷ at) new
   pub could : CanGrow shape (mark.marked at) key
 
 -- for the bucket of the request's key one overflow bucket was drawn at most, and only where it was needed, by a request that adds keys; for the others none

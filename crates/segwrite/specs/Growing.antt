@@ -12,7 +12,7 @@ use Rattle.segcore.specs.Overflow.{drawn_in, home, home_of}
 use Rattle.segbase.specs.declared.board.Board.{Board}
 use Rattle.segbase.specs.declared.pass.Pass.{Pass}
 use Rattle.segbase.specs.declared.place.Place.{Place}
-use Rattle.segbase.specs.Passes.{number, trace, seen, Moved, Did}
+use Rattle.segbase.specs.Passes.{number, trace, seen, AddsEvents, AddsAtOnce}
 use Rattle.segbase.specs.Spots.{position, home_bucket}
 use Rattle.segbase.specs.Steps.{depth_to_draw}
 use Rattle.segstore.specs.Refilling.{Idles}
@@ -24,32 +24,32 @@ use Rattle.segpass.specs.Calls.{memo}
 use Rattle.segwrite.specs.Full.{DrewInNeed}
 use Rattle.segwrite.specs.FirstEmpty.{AreTakenBefore}
 use Rattle.segpass.specs.Taking.{HasCleanBit}
-use Rattle.segwrite.specs.Writing.{IsInChain, IsEarlier, IsAbsent, IsTarget, HasNoWord}
+use Rattle.segwrite.specs.Writing.{IsInChain, IsEarlier, IsAbsent, IsTarget, HasFullChain}
 
 -- ---- the end of a chain
 
 -- a bucket and its chain, as the pass has seen them
-abbrev pub bucket_in : Board → ℕ → Pass → Bucket
-bucket_in b bucket p = bucket_after b.shape (trace p) bucket
+abbrev pub bucket_seen : Board → ℕ → Pass → Bucket
+bucket_seen b bucket p = bucket_after b.shape (trace p) bucket
 
 -- the place is that of the last word of the bucket's chain, an item stands there, and the word is one that it had
 pub record IsLast (b : Board) (bucket : ℕ) (place : Place) (word : ℕ) (p : Pass) : Type 0 where
   pub chain : IsInChain b bucket place p
-  pub ends : position b.shape (trace p) place ≡ last (bucket_in b bucket p)
+  pub ends : position b.shape (trace p) place ≡ last (bucket_seen b bucket p)
   pub named : Slot
-  pub here : (bucket_in b bucket p).items (last (bucket_in b bucket p)) ≡ item named
+  pub here : (bucket_seen b bucket p).items (last (bucket_seen b bucket p)) ≡ item named
   pub is : IsWordOf named word
   pub earlier : IsEarlier b place word p
 
 -- so a search finds it, and it counts the buckets of the chain
 pub record IsChainEnd (b : Board) (bucket : ℕ) (end : ChainEnd) (p : Pass) : Type 0 where
   pub last : IsLast b bucket end.place end.word p
-  pub buckets : end.buckets ≡ (bucket_in b bucket p).chained + 1
+  pub buckets : end.buckets ≡ (bucket_seen b bucket p).chained + 1
 
 -- what a search comes to: a word for the key; or the end of the chain, where the key is absent and no word is empty
 abbrev pub Searches : Board → List ℕ → Found → Pass → Type 0
 Searches b key (Word target) p = IsTarget b key target p
-Searches b key (Full end) p = HasNoWord b key p × IsChainEnd b (bucket_of b.shape key) end p
+Searches b key (Full end) p = HasFullChain b key p × IsChainEnd b (bucket_of b.shape key) end p
 
 abbrev pub target_of : Found → Option Target
 target_of (Word target) = Some target
@@ -66,22 +66,22 @@ home_at b place p = home_bucket b.shape (trace p) place
 -- ---- drawing
 
 -- the first overflow bucket that nobody had drawn is drawn; or all are
-abbrev pub Draws : Board → ℕ → Option ℕ → Pass → Pass → Type 0
-Draws b bucket None p q = Idles b p q × (drawn_in (trace q) ≡ b.shape.overflow)
-Draws b bucket (Some overflow) p q = Did b (Drew (number p) bucket (depth_to_draw b bucket p) overflow ∷ []) p q × (q.plain ≡ p.plain) × (memo q ≡ memo p)
+abbrev pub DrawsSpare : Board → ℕ → Option ℕ → Pass → Pass → Type 0
+DrawsSpare b bucket None p q = Idles b p q × (drawn_in (trace q) ≡ b.shape.overflow)
+DrawsSpare b bucket (Some overflow) p q = AddsAtOnce b (Drew (number p) bucket (depth_to_draw b bucket p) overflow ∷ []) p q × (q.plain ≡ p.plain) × (memo q ≡ memo p)
 
 -- the pass has the bit, under which nothing was written, and this overflow bucket waits to join the chain, none of whose words is empty
 pub record HasSpare (b : Board) (bucket overflow : ℕ) (p : Pass) : Type 0 where
   pub bit : HasBit b.shape (trace p) (number p) bucket
-  pub unwritten : (bucket_in b bucket p).written ≡ false
-  pub spare : (bucket_in b bucket p).spare ≡ Some overflow
-  pub full : HasNoEmptyWord (bucket_in b bucket p)
+  pub unwritten : (bucket_seen b bucket p).written ≡ false
+  pub spare : (bucket_seen b bucket p).spare ≡ Some overflow
+  pub full : HasNoEmptyWord (bucket_seen b bucket p)
 
 -- ---- joining
 
 -- the pass did just this by itself; the keys of the bucket stand as they stood, and its version is the same
 pub record Prepares (b : Board) (own : List Event) (bucket : ℕ) (p q : Pass) : Type 0 where
-  pub moved : Moved b own p q
+  pub moved : AddsEvents b own p q
   pub plain : q.plain ≡ p.plain
   pub memo : memo q ≡ memo p
   pub keys : (key : List ℕ) → bucket_of b.shape key ≡ bucket → IsSameAt b.shape (after b.shape (seen p)) (after b.shape (seen q)) key
@@ -89,9 +89,9 @@ pub record Prepares (b : Board) (own : List Event) (bucket : ℕ) (p q : Pass) :
 -- the overflow bucket is the last of the chain, and its word 2 is the first one that is empty
 pub record HasJoined (b : Board) (bucket overflow : ℕ) (p : Pass) : Type 0 where
   pub clean : HasCleanBit b p bucket
-  pub home : home_of (trace p) overflow ≡ Some (home bucket (bucket_in b bucket p).chained)
-  pub empty : (bucket_in b bucket p).items (8 * (bucket_in b bucket p).chained + 2) ≡ nothing
-  pub before : AreTakenBefore (bucket_in b bucket p) (8 * (bucket_in b bucket p).chained + 2)
+  pub home : home_of (trace p) overflow ≡ Some (home bucket (bucket_seen b bucket p).chained)
+  pub empty : (bucket_seen b bucket p).items (8 * (bucket_seen b bucket p).chained + 2) ≡ nothing
+  pub before : AreTakenBefore (bucket_seen b bucket p) (8 * (bucket_seen b bucket p).chained + 2)
 
 -- word 1 of the overflow bucket was stored for the bucket so often, with these words
 unfoldable pub puts : ℕ → ℕ → List ℕ → List Event
@@ -114,7 +114,7 @@ Joins b bucket overflow p q = (words : List ℕ) × Prepares b (joins (number p)
 
 -- the chain has four buckets, or no overflow bucket is left
 abbrev pub CannotGrow : Board → ℕ → Pass → Type 0
-CannotGrow b bucket p = ((bucket_in b bucket p).chained ≡ 3) ⊎ (drawn_in (trace p) ≡ b.shape.overflow)
+CannotGrow b bucket p = ((bucket_seen b bucket p).chained ≡ 3) ⊎ (drawn_in (trace p) ≡ b.shape.overflow)
 
 -- an overflow bucket was drawn, and joined the chain
 abbrev pub lengthens : ℕ → ℕ → ℕ → ℕ → List ℕ → List Event
@@ -140,7 +140,7 @@ Grows b bucket (Some target) p q = Lengthens b bucket target p q
 -- where a search found no word empty, none is, and the end of the chain is where it was
 abbrev pub IsAsFound : Board → ℕ → Found → Pass → Type 0
 IsAsFound b bucket (Word target) p = Unit {0}
-IsAsFound b bucket (Full end) p = HasNoEmptyWord (bucket_in b bucket p) × IsChainEnd b bucket end p
+IsAsFound b bucket (Full end) p = HasNoEmptyWord (bucket_seen b bucket p) × IsChainEnd b bucket end p
 
 -- the word that a search found serves the key; or the chain grew, where it could
 abbrev pub MakesRoom : Board → ℕ → Found → Option Target → Pass → Pass → Type 0

@@ -18,7 +18,7 @@ use Rattle.segcore.specs.Bucket.{bucket_after}
 use Rattle.segcore.specs.Lawful.{IsRefusal}
 use Rattle.segbase.specs.declared.board.Board.{Board}
 use Rattle.segbase.specs.declared.pass.Pass.{Pass}
-use Rattle.segbase.specs.Passes.{number, trace, seen, Moved}
+use Rattle.segbase.specs.Passes.{number, trace, seen, AddsEvents}
 use Rattle.segpass.specs.Calls.{memo}
 use Rattle.segwrite.specs.declared.write.When.{When}
 use Rattle.segwrite.specs.declared.write.When.TheVariants as when
@@ -40,17 +40,17 @@ reply_now b p request = reply_in b.shape (after b.shape (seen p)) request
 
 -- The bit of the bucket was given back. Since then the pass did just this, newest first, and keeps what it kept.
 pub record GivesBack (b : Board) (bucket : ℕ) (counted : Bool) (own : List Event) (p q : Pass) : Type 0 where
-  pub moved : Moved b (Freed (number p) bucket counted ∷ own) p q
+  pub moved : AddsEvents b (Freed (number p) bucket counted ∷ own) p q
   pub free : (bucket_after b.shape (trace q) bucket).holder ≡ None
   pub plain : q.plain ≡ p.plain
   pub memo : memo q ≡ memo p
 
 -- the refused request came into the history, and the bit was given back
-abbrev pub Refuses : Board → Request → Reply → Pass → Pass → Type 0
-Refuses b request reply p q = GivesBack b (bucket_of b.shape (key_of request)) false (Replied (number p) request reply ∷ []) p q
+abbrev pub RefusesUnderBit : Board → Request → Reply → Pass → Pass → Type 0
+RefusesUnderBit b request reply p q = GivesBack b (bucket_of b.shape (key_of request)) false (Replied (number p) request reply ∷ []) p q
 
 -- the key left its word, or was absent, and the bit was given back
 abbrev pub Removes : Board → Request → DeleteAnswer → Pass → Pass → Type 0
 Removes b request delete.Deleted p q = (position : ℕ) × GivesBack b (bucket_of b.shape (key_of request)) true (Unlinked (number p) (key_of request) position None ∷ []) p q
-Removes b request delete.NotFound p q = Refuses b request NotFound p q
+Removes b request delete.NotFound p q = RefusesUnderBit b request NotFound p q
 Removes b request delete.Busy p q = ⊥

@@ -12,7 +12,7 @@ use Rattle.segcore.specs.Bucket.{bucket_after}
 use Rattle.segcore.specs.Kind.{HasBit}
 use Rattle.segbase.specs.declared.board.Board.{Board}
 use Rattle.segbase.specs.declared.pass.Pass.{Pass}
-use Rattle.segbase.specs.Passes.{number, trace, seen, Moved}
+use Rattle.segbase.specs.Passes.{number, trace, seen, AddsEvents}
 use Rattle.segbase.specs.Plain.{current_of, used_of}
 use Rattle.segstore.specs.Rows.{fills}
 use Rattle.segwrite.specs.FirstEmpty.{TookFirstEmpty}
@@ -32,8 +32,8 @@ pub record Requests (b : Board) (request : Request) (key value : List ℕ) (p : 
 abbrev pub stores : ℕ → Request → ℕ → ℕ → ℕ → List Event
 stores pass request segment row position = Linked pass request segment row position ∷ fills pass segment row (row_of (key_of request) (value_of request)) 8
 
-abbrev pub Stores : Board → Request → ℕ → ℕ → Pass → Pass → Type 0
-Stores b request segment row p q = (position : ℕ) × Moved b (stores (number p) request segment row position) p q × TookFirstEmpty b.shape request (number p) (trace p) (trace q)
+abbrev pub StoresUnderBit : Board → Request → ℕ → ℕ → Pass → Pass → Type 0
+StoresUnderBit b request segment row p q = (position : ℕ) × AddsEvents b (stores (number p) request segment row position) p q × TookFirstEmpty b.shape request (number p) (trace p) (trace q)
 
 -- the pass has the bit, and something was written under it
 pub record HasWritten (b : Board) (p : Pass) (bucket : ℕ) : Type 0 where

@@ -11,17 +11,17 @@ use Rattle.segmodel.specs.Cache.{present, reply_in}
 use Rattle.segmodel.specs.History.{after, Begins, writes}
 
 -- from one history to a longer one the request of this pass was replied so: its entry came in right after this history, at which a cache of one thread replies so
-pub record IsTold (shape : Shape) (pass : ℕ) (request : Request) (said : Reply) (segment : Option ℕ) (before now history : List Entry) : Type 0 where
-  pub since : Begins before history
-  pub entered : Begins (Wrote pass request said segment ∷ history) now
+pub record IsTold (shape : Shape) (pass : ℕ) (request : Request) (said : Reply) (segment : Option ℕ) (old new history : List Entry) : Type 0 where
+  pub since : Begins old history
+  pub entered : Begins (Wrote pass request said segment ∷ history) new
   pub replied : said ≡ reply_in shape (after shape history) request
 
 abbrev pub WasTold : Shape → ℕ → Request → Reply → List Entry → List Entry → Type 0
-WasTold shape pass request said before now = (segment : Option ℕ) × ((history : List Entry) × IsTold shape pass request said segment before now history)
+WasTold shape pass request said old new = (segment : Option ℕ) × ((history : List Entry) × IsTold shape pass request said segment old new history)
 
 -- the reply to a cas of a key, with the version that the key's bucket had at an earlier moment
 abbrev pub cas_reply : Shape → List ℕ → List Entry → List Entry → Reply
-cas_reply shape key before now =
-    if is_some (present (after shape now) key) then
-    (if writes shape now (bucket_of shape key) % 2 ^ 32 == writes shape before (bucket_of shape key) % 2 ^ 32 then Stored else Exists)
+cas_reply shape key old new =
+    if is_some (present (after shape new) key) then
+    (if writes shape new (bucket_of shape key) % 2 ^ 32 == writes shape old (bucket_of shape key) % 2 ^ 32 then Stored else Exists)
     else NotFound

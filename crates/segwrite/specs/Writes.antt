@@ -34,15 +34,15 @@ pub record UsesRow (segment : ℕ) (p q : Pass) : Type 0 where
   pub memo : memo q ≡ memo p
 
 -- the request is replied so, by an entry that stores nothing
-abbrev pub IsReplied : Request → Reply → Pass → Pass → Type 0
-IsReplied request told p q = AddsEntry (Wrote (number p) request told None) p q × (q.plain ≡ p.plain) × (memo q ≡ memo p)
+abbrev pub AddsReply : Request → Reply → Pass → Pass → Type 0
+AddsReply request told p q = AddsEntry (Wrote (number p) request told None) p q × (q.plain ≡ p.plain) × (memo q ≡ memo p)
 
 -- a request to store was stored in the current segment, or refused by the cache with a reply, each by one entry; or refused for want of a row, a word (which only a set or an add of a new key needs) or the bit, by none
 abbrev pub IsWriteAnswer : Shape → Request → WriteAnswer → Pass → Pass → Type 0
 IsWriteAnswer shape request write.Stored p q = (segment : ℕ) × AddsEntry (Wrote (number p) request reply.Stored (Some segment)) p q × UsesRow segment p q
-IsWriteAnswer shape request write.NotStored p q = IsReplied request reply.NotStored p q
-IsWriteAnswer shape request write.Exists p q = IsReplied request reply.Exists p q
-IsWriteAnswer shape request write.NotFound p q = IsReplied request reply.NotFound p q
+IsWriteAnswer shape request write.NotStored p q = AddsReply request reply.NotStored p q
+IsWriteAnswer shape request write.Exists p q = AddsReply request reply.Exists p q
+IsWriteAnswer shape request write.NotFound p q = AddsReply request reply.NotFound p q
 IsWriteAnswer shape request write.NoRoom p q = ChangesNothing p q
 IsWriteAnswer shape request write.BucketFull p q = ChangesNothing p q × (adds_key request false ≡ true) × WasFull shape (key_of request) (marked p) (marked q)
 IsWriteAnswer shape request write.Busy p q = ChangesNothing p q × IsBusy (bucket_of shape (key_of request)) p q
@@ -56,8 +56,8 @@ IsSetAnswer _ = Unit {0}
 
 -- a delete is replied by one entry, or refused for want of the bit by none
 abbrev pub IsDeleteAnswer : Shape → List ℕ → DeleteAnswer → Pass → Pass → Type 0
-IsDeleteAnswer shape key delete.Deleted p q = IsReplied (Delete key) reply.Deleted p q
-IsDeleteAnswer shape key delete.NotFound p q = IsReplied (Delete key) reply.NotFound p q
+IsDeleteAnswer shape key delete.Deleted p q = AddsReply (Delete key) reply.Deleted p q
+IsDeleteAnswer shape key delete.NotFound p q = AddsReply (Delete key) reply.NotFound p q
 IsDeleteAnswer shape key delete.Busy p q = ChangesNothing p q × IsBusy (bucket_of shape key) p q
 
 -- A set, an add, a replace or a cas is answered so. NoRoom comes first, exactly where the pass has no row left; then Busy, always where the pass itself has the bucket locked. For any other answer it took one bit. A new key is stored in the first empty word of its bucket's chain.

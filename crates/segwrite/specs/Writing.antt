@@ -47,12 +47,12 @@ pub record IsTarget (b : Board) (key : List ℕ) (target : Target) (p : Pass) : 
   pub is : IsEmptyOrKeys b key target p
 
 -- the key is absent, and no word of its chain is empty
-pub record HasNoWord (b : Board) (key : List ℕ) (p : Pass) : Type 0 where
+pub record HasFullChain (b : Board) (key : List ℕ) (p : Pass) : Type 0 where
   pub absent : IsAbsent b key p
   pub taken : HasNoEmptyWord (bucket_after b.shape (trace p) (bucket_of b.shape key))
 
 abbrev pub Finds : Board → List ℕ → Option Target → Pass → Type 0
-Finds b key target p = MatchOption target (HasNoWord b key p) (λ found. IsTarget b key found p)
+Finds b key target p = MatchOption target (HasFullChain b key p) (λ found. IsTarget b key found p)
 
 -- the key's own word, where a search found it, and not one that is free for the key
 abbrev pub own_word : Option Target → Option Target

@@ -7,7 +7,7 @@ ghost use Rattle.segwrite.specs.Writing.{own_word, IsInChain, IsNext, Finds};
 ghost use Rattle.segword.specs.Shape.{IsValid};
 ghost use Rattle.segbase.specs.Passes.{number, trace, IsPassOf};
 ghost use Rattle.segbase.specs.Spots.{position};
-ghost use Rattle.segbase.specs.Steps.{IsReadAs, HasItemOf};
+ghost use Rattle.segbase.specs.Steps.{IsWordOfContent, HasItemOf};
 ghost use Rattle.segstore.specs.Refilling.{Idles};
 ghost use Rattle.segwrite.specs.Growing.{Searches};
 
@@ -154,7 +154,7 @@ fn is_item_of(
     requires tag { tag ≡ tag_of key.now }
     requires chain { IsInChain board.now (bucket_of board.now.shape key.now) place pass.old }
     requires bit { HasBit board.now.shape (trace pass.old) (number pass.old) (bucket_of board.now.shape key.now) }
-    requires word { IsReadAs ((bucket_after board.now.shape (trace pass.old) (bucket_of board.now.shape key.now)).items (position board.now.shape (trace pass.old) place)) word }
+    requires word { IsWordOfContent ((bucket_after board.now.shape (trace pass.old) (bucket_of board.now.shape key.now)).items (position board.now.shape (trace pass.old) place)) word }
     ensures idles { Idles board.now pass.old pass.new }
     ensures is { IsTrue result ↔ HasItemOf board.now key.now place pass.new }
 {

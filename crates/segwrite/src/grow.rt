@@ -3,7 +3,7 @@ ghost use Rattle.std.specs.Prelude.{◌<◌};
 ghost use Rattle.segcore.specs.Filled.{HasNoEmptyWord};
 ghost use Rattle.segbase.specs.Passes.{IsPassOf};
 ghost use Rattle.segpass.specs.Taking.{HasCleanBit};
-ghost use Rattle.segwrite.specs.Growing.{bucket_in, home_at, IsLast, IsChainEnd, IsAsFound, MakesRoom, Grows, Draws, HasSpare, TriesToJoin, Joins};
+ghost use Rattle.segwrite.specs.Growing.{bucket_seen, home_at, IsLast, IsChainEnd, IsAsFound, MakesRoom, Grows, DrawsSpare, HasSpare, TriesToJoin, Joins};
 
 use crate::find::{ChainEnd, Found, Target};
 use segbase::{Board, CHAIN_BUCKETS, Pass, Place};
@@ -26,7 +26,7 @@ pub(crate) fn make_room(board: &Board, pass: &mut Pass, bucket: u32, found: Foun
 fn grow(board: &Board, pass: &mut Pass, bucket: u32, end: ChainEnd) -> Option<Target>
     requires pass { IsPassOf board.now pass.old }
     requires clean { HasCleanBit board.now pass.old bucket }
-    requires full { HasNoEmptyWord (bucket_in board.now bucket pass.old) }
+    requires full { HasNoEmptyWord (bucket_seen board.now bucket pass.old) }
     requires end { IsChainEnd board.now bucket end pass.old }
     ensures grows { Grows board.now bucket result pass.old pass.new }
 {
@@ -46,8 +46,8 @@ fn grow(board: &Board, pass: &mut Pass, bucket: u32, end: ChainEnd) -> Option<Ta
 fn draw(board: &Board, pass: &mut Pass, bucket: u32) -> Option<u32>
     requires pass { IsPassOf board.now pass.old }
     requires clean { HasCleanBit board.now pass.old bucket }
-    requires short { (bucket_in board.now bucket pass.old).chained < 3 }
-    ensures draws { Draws board.now bucket result pass.old pass.new }
+    requires short { (bucket_seen board.now bucket pass.old).chained < 3 }
+    ensures draws { DrawsSpare board.now bucket result pass.old pass.new }
 {
     let mut from = 0;
     while from < board.shape().overflow {

@@ -5,7 +5,7 @@ ghost use Rattle.segmodel.specs.declared.request.Request.TheVariants.{Delete};
 ghost use Rattle.segmodel.specs.Places.{bucket_of, tag_of};
 ghost use Rattle.segcore.specs.declared.event.Event.TheVariants.{Unlinked};
 ghost use Rattle.segcore.specs.Lawful.{Fits};
-ghost use Rattle.segbase.specs.Passes.{number, trace, IsPassOf, Did};
+ghost use Rattle.segbase.specs.Passes.{number, trace, IsPassOf, AddsAtOnce};
 ghost use Rattle.segbase.specs.Spots.{position};
 ghost use Rattle.segbase.specs.Steps.{HasItemOf};
 ghost use Rattle.segpass.specs.Calls.{memo};
@@ -62,7 +62,7 @@ pub fn clear(board: &Board, pass: &mut Pass, target: Target)
     requires chain { IsInChain board.now (bucket_of board.now.shape left.0) target.place pass.old }
     requires has { HasItemOf board.now left.0 target.place pass.old }
     requires earlier { IsEarlier board.now target.place target.word pass.old }
-    ensures did { Did board.now (Unlinked (number pass.old) left.0 (position board.now.shape (trace pass.old) target.place) left.1 ∷ []) pass.old pass.new }
+    ensures did { AddsAtOnce board.now (Unlinked (number pass.old) left.0 (position board.now.shape (trace pass.old) target.place) left.1 ∷ []) pass.old pass.new }
     ensures same { (pass.new.plain ≡ pass.old.plain) × (memo pass.new ≡ memo pass.old) }
 {
     let mut old = target.word;

@@ -10,7 +10,7 @@ ghost use Rattle.segmodel.specs.Places.{bucket_of, tag_of};
 ghost use Rattle.segcore.specs.declared.event.Event.TheVariants.{Linked};
 ghost use Rattle.segcore.specs.Lawful.{Fits, IsRefusal};
 ghost use Rattle.segstore.specs.Segments.{KeepsSegments};
-ghost use Rattle.segbase.specs.Passes.{number, trace, seen, IsPassOf, Did};
+ghost use Rattle.segbase.specs.Passes.{number, trace, seen, IsPassOf, AddsAtOnce};
 ghost use Rattle.segbase.specs.Spots.{position};
 ghost use Rattle.segstore.specs.Refilling.{Idles};
 ghost use Rattle.segpass.specs.Quiet.{IsQuiet};
@@ -18,8 +18,8 @@ ghost use Rattle.segpass.specs.Calls.{memo};
 ghost use Rattle.segwrite.specs.Writes.{UsesRow, IsSetAnswer, Writes};
 ghost use Rattle.segpass.specs.Taking.{HasCleanBit};
 ghost use Rattle.segwrite.specs.Writing.{IsTarget};
-ghost use Rattle.segwrite.specs.Storing.{IsNextRow, Requests, Stores, HasWritten};
-ghost use Rattle.segwrite.specs.Refusing.{request_of, IsToldBy, reply_now, Refuses};
+ghost use Rattle.segwrite.specs.Storing.{IsNextRow, Requests, StoresUnderBit, HasWritten};
+ghost use Rattle.segwrite.specs.Refusing.{request_of, IsToldBy, reply_now, RefusesUnderBit};
 
 use crate::find::{Target, own_word, search};
 use crate::grow::make_room;
@@ -142,7 +142,7 @@ pub(crate) fn refuse(board: &Board, pass: &mut Pass, bucket: u32)
     requires clean { HasCleanBit board.now pass.old bucket }
     requires bucket { bucket ≡ bucket_of board.now.shape (key_of request) }
     requires refused { IsRefusal (reply_now board.now pass.old request) }
-    ensures refuses { Refuses board.now request (reply_now board.now pass.old request) pass.old pass.new }
+    ensures refuses { RefusesUnderBit board.now request (reply_now board.now pass.old request) pass.old pass.new }
 {
     board.release(pass, bucket, false);
 }
@@ -167,7 +167,7 @@ fn store(
     requires tag { tag ≡ tag_of key.now }
     requires bit { HasCleanBit board.now pass.old (bucket_of board.now.shape (key_of request)) }
     requires target { IsTarget board.now (key_of request) target pass.old }
-    ensures stores { Stores board.now request segment row pass.old pass.new }
+    ensures stores { StoresUnderBit board.now request segment row pass.old pass.new }
     ensures segments { KeepsSegments board.now pass.new }
     ensures uses { UsesRow segment pass.old pass.new }
     ensures bit { HasWritten board.now pass.new (bucket_of board.now.shape (key_of request)) }
@@ -190,7 +190,7 @@ fn link(board: &Board, pass: &mut Pass, target: Target, item: Item)
     requires item { (item.tag ≡ tag_of (key_of request)) × (item.freq ≡ 1) }
     requires target { IsTarget board.now (key_of request) target pass.old }
     requires fits { Fits board.now.shape (trace pass.old) (Linked (number pass.old) request item.seg item.row (position board.now.shape (trace pass.old) target.place)) }
-    ensures did { Did board.now (Linked (number pass.old) request item.seg item.row (position board.now.shape (trace pass.old) target.place) ∷ []) pass.old pass.new }
+    ensures did { AddsAtOnce board.now (Linked (number pass.old) request item.seg item.row (position board.now.shape (trace pass.old) target.place) ∷ []) pass.old pass.new }
     ensures same { (pass.new.plain ≡ pass.old.plain) × (memo pass.new ≡ memo pass.old) }
 {
     if target.word == 0 {

@@ -7,7 +7,7 @@ use Rattle.segword.specs.Shape.{IsValid}
 use Rattle.segcore.proofs.Coherent.{IsContent, place}
 use Rattle.segcore.specs.Bucket.{Slot, Content, nothing, item, next, copy, bucket_after, IsPosition}
 use Rattle.segcore.specs.ItemWord.{packed, IsInItem}
-use Rattle.segcore.specs.Kind.{bump, Kept}
+use Rattle.segcore.specs.Kind.{bump, KeepsLaw}
 use Rattle.segcore.specs.Lawful.{IsLawful}
 use Rattle.segcore.specs.Row.{row_after, frequency_of}
 use Rattle.segcore.specs.Word.{content_word, word_in, word, IsItemAt}
@@ -66,7 +66,7 @@ one_place z h b n b' n' a a' l is' is'' es er = let c = coherent z h l in let st
     (sym st.here ∙ (ap (bucket_of z) ek ∙ st'.here), same_Some n n' (sym (c.placed b n a is') ∙ (ap (place z h) ek ∙ c.placed b' n' a' is'')))
 
 pub bump_at : (z : Shape) (p b n : ℕ) (c : Cell) (t s r f g : ℕ) (h : List Event) → IsValid z → b < z.buckets
-    → IsItemAt z h b n c → IsInItem t s r → f < g → g < 256 → IsLawful z h → Kept z (bump b n c t s r f g) p h
+    → IsItemAt z h b n c → IsInItem t s r → f < g → g < 256 → IsLawful z h → KeepsLaw z (bump b n c t s r f g) p h
 bump_at z p b n c t s r f g h v lb i q lt lg l =
     let e = Bumped p s r g in
     let found = word z h c in

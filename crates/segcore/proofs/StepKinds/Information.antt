@@ -9,9 +9,9 @@ use Rattle.segmodel.specs.declared.request.Reply.{Reply}
 use Rattle.segmodel.specs.Request.{key_of}
 use Rattle.segcore.specs.Bucket.{Bucket, Content, is, acts, bucket_after}
 use Rattle.segcore.specs.Event.{NoneBy}
-use Rattle.segcore.specs.Kind.{take, release, glance, becomes, told, HasBit, Refuses, Kept}
+use Rattle.segcore.specs.Kind.{take, release, glance, becomes, told, HasBit, MayRefuse, KeepsLaw}
 use Rattle.segcore.specs.Lawful.{IsLawful}
-use Rattle.segcore.specs.Word.{same_cell, content_word, info_word, word_in, word}
+use Rattle.segcore.specs.Word.{same_cell, content_word, bucket_info_word, word_in, word}
 use Rattle.segmodel.specs.Places.{bucket_of}
 use Rattle.segcore.specs.declared.event.Event.{Event}
 use Rattle.segcore.specs.declared.event.Event.TheVariants.{Took, Bounced, Glanced, Freed, Replied}
@@ -26,7 +26,7 @@ use Rattle.segcore.proofs.StepKinds.Words.{made, unchanged, nothing_new, still}
 -- an event of the bucket that changes its information alone
 info_only : (z : Shape) (h : List Event) (e : Event) (u v : Bucket) → v.items ≡ u.items
     → ((c : Content) → content_word (e ∷ h) c ≡ content_word h c) → (m : ℕ)
-    → word_in z (e ∷ h) v m ≡ cond (eqb 0 m) (info_word z v) (word_in z h u m)
+    → word_in z (e ∷ h) v m ≡ cond (eqb 0 m) (bucket_info_word z v) (word_in z h u m)
 info_only z h e u v is' same zero = refl
 info_only z h e u v is' same (suc m) = rw (ne_eqb 0 (suc m) (λ e. omega arith)) (same (v.items (suc m)) ∙ ap (λ f. content_word h (f (suc m))) is')
 
@@ -49,7 +49,7 @@ others_bit : (o : Option ℕ) (p q : ℕ) → o ≡ Some q → is o p ≡ false 
 others_bit o p q e f s = false≢true (sym f ∙ (ap (λ x. is x p) e ∙ eq-eqb q p s))
 
 pub take_at : (z : Shape) (p b : ℕ) (own : Bool) (h : List Event) (o : Option ℕ)
-    → (bucket_after z h b).holder ≡ o → is o p ≡ own → b < z.buckets → IsLawful z h → Kept z (take b own) p h
+    → (bucket_after z h b).holder ≡ o → is o p ≡ own → b < z.buckets → IsLawful z h → KeepsLaw z (take b own) p h
 take_at z p b own h None held knows lt l =
     let v = (z.first_version + (bucket_after z h b).version) % 2 ^ 32 in
     made z (take b own) p h (Took p b ∷ []) (v * 2 ^ 32 + 1)
@@ -75,7 +75,7 @@ take_at z p b false h (Some q) held knows lt l =
 
 pub glance_at : (z : Shape) (p b : ℕ) (own : Bool) (h : List Event) (o : Option ℕ)
     → (bucket_after z h b).holder ≡ o → is o p ≡ own → b < z.buckets → IsLawful z h
-    → Kept z (glance b own) p h
+    → KeepsLaw z (glance b own) p h
 glance_at z p b own h None held knows lt l = let v = (z.first_version + (bucket_after z h b).version) % 2 ^ 32 in
     nothing_new z (glance b own) p h (rw held (let e : (v * 2 ^ 32 + 0) % 2 ≡ 0 = omega arith in rw e refl)) refl (lt, omega arith) l
 glance_at z p b true h (Some q) held knows lt l = let v = (z.first_version + (bucket_after z h b).version) % 2 ^ 32 in
@@ -113,17 +113,17 @@ told_bucket z p None h b = refl
 told_bucket z p (Some a) h b = same_either (eqb (bucket_of z (key_of a.0)) b) (bucket_after z h b)
 
 released : (z : Shape) (u : Bucket) (p b : ℕ) (c : Bool) (said : Option (Request × Reply)) → u.holder ≡ Some p
-    → becomes (release b c said) (info_word z u) ≡ info_word z (acts (Freed p b c) u)
+    → becomes (release b c said) (bucket_info_word z u) ≡ bucket_info_word z (acts (Freed p b c) u)
 released z u p b true said held = rw held (counted_word z.first_version u.version)
 released z u p b false said held = rw held (plain_word z.first_version u.version)
 
 pub release_at : (z : Shape) (p b : ℕ) (c : Bool) (said : Option (Request × Reply)) (h : List Event)
     → HasBit z h p b → (bucket_after z h b).written ≡ c → (bucket_after z h b).spare ≡ None
-    → IsLawful z (told p said ++ h) → Kept z (release b c said) p h
+    → IsLawful z (told p said ++ h) → KeepsLaw z (release b c said) p h
 release_at z p b c said h held w spared l =
     let same_b = told_bucket z p said h b in
     let e = Freed p b c in
-    let x = info_word z (acts e (bucket_after z h b)) in
+    let x = bucket_info_word z (acts e (bucket_after z h b)) in
     let then = told p said ++ h in
     made z (release b c said) p h (e ∷ told p said) x refl (released z (bucket_after z h b) p b c said held.1) (held.0, omega arith) (refl, all_told p said)
     (l, record { guarded = (held.0, ap (λ u. u.holder) same_b ∙ held.1); follows = tt; suits = (ap (λ u. u.written) same_b ∙ w, ap (λ u. u.spare) same_b ∙ spared) })
@@ -134,6 +134,6 @@ release_at z p b c said h held w spared l =
     ∙ ap (cond (same_cell (OfBucket b 0) d) x) (told_same z p said h d))
 
 pub later_told : (z : Shape) (more h : List Event) (p b : ℕ) (said : Option (Request × Reply))
-    → IsLawful z (more ++ h) → NoneBy p more → Refuses z h p b said → IsLawful z (told p said ++ (more ++ h))
+    → IsLawful z (more ++ h) → NoneBy p more → MayRefuse z h p b said → IsLawful z (told p said ++ (more ++ h))
 later_told z more h p b None l n r = l
 later_told z more h p b (Some a) l n r = (l, later z more h (Replied p a.0 a.1) l n refl r.1)

@@ -8,10 +8,10 @@ use Rattle.segmodel.specs.declared.request.Request.{Request}
 use Rattle.segmodel.specs.Request.{key_of}
 use Rattle.segcore.specs.Bucket.{Bucket, Slot, Content, nothing, item, next, copy, slot, acts, bucket_after, IsPosition}
 use Rattle.segcore.specs.ItemWord.{packed}
-use Rattle.segcore.specs.Kind.{link, clear, Kept}
+use Rattle.segcore.specs.Kind.{link, clear, KeepsLaw}
 use Rattle.segcore.specs.Lawful.{Fits, IsLawful}
 use Rattle.segcore.specs.Row.{Row, row_at, row_after, frequency_of}
-use Rattle.segcore.specs.Word.{content_word, info_word, word_in, word, IsAt}
+use Rattle.segcore.specs.Word.{content_word, bucket_info_word, word_in, word, IsAt}
 use Rattle.segmodel.specs.Places.{bucket_of, tag_of}
 use Rattle.segcore.specs.declared.event.Event.{Event}
 use Rattle.segcore.specs.declared.event.Event.TheVariants.{Linked, Unlinked, Bumped}
@@ -22,7 +22,7 @@ use Rattle.segcore.proofs.StepKinds.Words.{made, nothing_new, cell_in}
 
 -- an event that puts o at a position of its bucket, and keeps what the other words say
 pub put_content : (z : Shape) (h : List Event) (e : Event) (u v : Bucket) (n : ℕ) (o : Content) → 0 < n
-    → v.items ≡ (λ m. cond (eqb n m) o (u.items m)) → info_word z v ≡ info_word z u
+    → v.items ≡ (λ m. cond (eqb n m) o (u.items m)) → bucket_info_word z v ≡ bucket_info_word z u
     → ((m : ℕ) → content_word (e ∷ h) (u.items m) ≡ content_word h (u.items m))
     → (m : ℕ) → word_in z (e ∷ h) v m ≡ cond (eqb n m) (content_word (e ∷ h) o) (word_in z h u m)
 put_content z h e u v n o lt is' same_info kept zero = rw (ne_eqb n 0 (λ e. omega arith)) same_info
@@ -67,7 +67,7 @@ above u n i = let e = i.1 in omega arith
 
 pub link_at : (z : Shape) (p : ℕ) (q : Request) (s r n : ℕ) (c : Cell) (old : ℕ) (h : List Event)
     → Fits z h (Linked p q s r n) → IsAt h (bucket_of z (key_of q)) n c → IsLawful z h
-    → Kept z (link q s r n c old) p h
+    → KeepsLaw z (link q s r n c old) p h
 link_at z p q s r n c old h f i l =
     let b = bucket_of z (key_of q) in
     let u = bucket_after z h b in
@@ -92,7 +92,7 @@ link_at z p q s r n c old h f i l =
 
 pub clear_at : (z : Shape) (p : ℕ) (k : List ℕ) (n : ℕ) (c : Cell) (old : ℕ) (why : Option ℕ) (h : List Event)
     → Fits z h (Unlinked p k n why) → 0 < n → IsAt h (bucket_of z k) n c → IsLawful z h
-    → Kept z (clear k n c old why) p h
+    → KeepsLaw z (clear k n c old why) p h
 clear_at z p k n c old why h f lt i l =
     let b = bucket_of z k in
     let u = bucket_after z h b in

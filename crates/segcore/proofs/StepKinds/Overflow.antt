@@ -5,8 +5,8 @@ use Rattle.std.proofs.lemmas.Option.{none-some}
 use Rattle.segword.specs.declared.shape.Shape.{Shape}
 use Rattle.segword.specs.ChainWord.{chain_word}
 use Rattle.segcore.proofs.Coherent.{IsContent}
-use Rattle.segcore.specs.Bucket.{Bucket, Content, nothing, item, next, copy, last, fresh, acts, bucket_after}
-use Rattle.segcore.specs.Kind.{draw, fill, chain, HasBit, Kept}
+use Rattle.segcore.specs.Bucket.{Bucket, Content, nothing, item, next, copy, last, fresh_position, acts, bucket_after}
+use Rattle.segcore.specs.Kind.{draw, fill, chain, HasBit, KeepsLaw}
 use Rattle.segcore.specs.Lawful.{Fits, IsLawful}
 use Rattle.segcore.specs.Overflow.{Home, drawn_in, home_of}
 use Rattle.segcore.specs.Word.{IsCell, same_cell, content_word, word_in, overflow_word, word, IsAt}
@@ -21,19 +21,19 @@ use Rattle.segcore.proofs.StepKinds.Words.{made, nothing_new, over_still, word_c
 use Rattle.segcore.proofs.StepKinds.Items.{put_content, either_hit, either_miss}
 
 pub fill_at : (z : Shape) (p b m w : ℕ) (h : List Event) → Fits z h (Put p b w)
-    → (bucket_after z h b).spare ≡ Some m → IsLawful z h → Kept z (fill b m w) p h
+    → (bucket_after z h b).spare ≡ Some m → IsLawful z h → KeepsLaw z (fill b m w) p h
 fill_at z p b m w h f sp l =
     let u = bucket_after z h b in
     let e = Put p b w in
-    let i : IsAt h b (fresh u) (OfOverflow m 1) = (u.chained + 1, ((chain_of z h l b).spare m sp).1, omega arith, omega arith) in
-    made z (fill b m w) p h (e ∷ []) w refl refl (cell_in z h b (fresh u) (OfOverflow m 1) l f.guarded.0 i) (refl, tt) (l, f)
-    (λ d i'. touch z h e b (fresh u) w (OfOverflow m 1) l i (record { homes = λ m. refl; drawn = refl; rows = λ s' r' j. refl; readers = λ s'. refl })
-    (change_at z h e b (fresh u) w (λ k. refl) (put_content z h e u (acts e u) (fresh u) (copy w) (omega arith) refl refl (λ m. refl)) (λ a m g. refl)) d i')
+    let i : IsAt h b (fresh_position u) (OfOverflow m 1) = (u.chained + 1, ((chain_of z h l b).spare m sp).1, omega arith, omega arith) in
+    made z (fill b m w) p h (e ∷ []) w refl refl (cell_in z h b (fresh_position u) (OfOverflow m 1) l f.guarded.0 i) (refl, tt) (l, f)
+    (λ d i'. touch z h e b (fresh_position u) w (OfOverflow m 1) l i (record { homes = λ m. refl; drawn = refl; rows = λ s' r' j. refl; readers = λ s'. refl })
+    (change_at z h e b (fresh_position u) w (λ k. refl) (put_content z h e u (acts e u) (fresh_position u) (copy w) (omega arith) refl refl (λ m. refl)) (λ a m g. refl)) d i')
 
 pub chain_at : (z : Shape) (p b : ℕ) (c : Cell) (old m : ℕ) (h : List Event) → Fits z h (Chained p b m)
     → IsAt h b (last (bucket_after z h b)) c
-    → (bucket_after z h b).items (fresh (bucket_after z h b)) ≡ copy old → IsLawful z h
-    → Kept z (chain b c old m) p h
+    → (bucket_after z h b).items (fresh_position (bucket_after z h b)) ≡ copy old → IsLawful z h
+    → KeepsLaw z (chain b c old m) p h
 chain_at z p b c old m h f i is' l =
     let u = bucket_after z h b in
     let e = Chained p b m in
@@ -52,10 +52,10 @@ chain_at z p b c old m h f i is' l =
     own was (suc n) = let u = bucket_after z h b in ⊎_elim
         (λ t. rw t refl)
         (λ g. rw g (⊎_elim
-        (λ t. let hit : u.items (fresh u) ≡ u.items (suc n) = ap u.items (eqb-true (fresh u) (suc n) t) in
-        ap (content_word h) (cond-true (eqb (fresh u) (suc n)) (u.items (last u)) (u.items (suc n)) t) ∙ (was ∙ ap (content_word h) (sym is' ∙ hit)))
-        (λ f'. ap (content_word h) (cond-false (eqb (fresh u) (suc n)) (u.items (last u)) (u.items (suc n)) f'))
-        (cases_Bool (eqb (fresh u) (suc n)))))
+        (λ t. let hit : u.items (fresh_position u) ≡ u.items (suc n) = ap u.items (eqb-true (fresh_position u) (suc n) t) in
+        ap (content_word h) (cond-true (eqb (fresh_position u) (suc n)) (u.items (last u)) (u.items (suc n)) t) ∙ (was ∙ ap (content_word h) (sym is' ∙ hit)))
+        (λ f'. ap (content_word h) (cond-false (eqb (fresh_position u) (suc n)) (u.items (last u)) (u.items (suc n)) f'))
+        (cases_Bool (eqb (fresh_position u) (suc n)))))
         (cases_Bool (eqb (last u) (suc n)))
 
 -- beyond a chain with no spare bucket there is nothing
@@ -68,7 +68,7 @@ beyond h b u n (copy w) sp le i = absurd (none-some i.1.0 (sym sp ∙ i.1.1))
 
 pub draw_at : (z : Shape) (p b d from : ℕ) (h : List Event) → HasBit z h p b
     → (bucket_after z h b).spare ≡ None → d ≡ (bucket_after z h b).chained + 1 → d < 4 → from < z.overflow
-    → IsLawful z h → Kept z (draw b d from) p h
+    → IsLawful z h → KeepsLaw z (draw b d from) p h
 draw_at z p b d from h has sp ed lt few l =
     let found = drawn_in h in
     ⊎_elim

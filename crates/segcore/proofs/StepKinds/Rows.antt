@@ -1,7 +1,7 @@
 -- The step that stores a word of a row.
 use Rattle.std.proofs.Common.{◌≡◌, ℕ, Bool, true, false, cond, eqb, ◌&&◌, List, [], ◌∷◌, refl}
 use Rattle.segword.specs.declared.shape.Shape.{Shape}
-use Rattle.segcore.specs.Kind.{row_store, Kept}
+use Rattle.segcore.specs.Kind.{row_store, KeepsLaw}
 use Rattle.segcore.specs.Lawful.{Fits, IsLawful}
 use Rattle.segcore.specs.Overflow.{home_of}
 use Rattle.segcore.specs.Row.{Row, row_after}
@@ -19,7 +19,7 @@ stored_row true false u j w m = refl
 stored_row false b u j w m = refl
 
 pub store_at : (z : Shape) (p s r j w : ℕ) (h : List Event) → Fits z h (Filled p s r j w) → IsLawful z h
-    → Kept z (row_store s r j w) p h
+    → KeepsLaw z (row_store s r j w) p h
 store_at z p s r j w h f l = made z (row_store s r j w) p h (Filled p s r j w ∷ []) w refl refl (f.suits.0.0, f.suits.0.1, f.suits.1) (refl, tt) (l, f) words
   where
     words : (c : Cell) → IsCell z c

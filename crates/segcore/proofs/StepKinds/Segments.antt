@@ -5,7 +5,7 @@ use Rattle.segword.specs.declared.shape.Shape.{Shape}
 use Rattle.segword.specs.Shape.{IsValid}
 use Rattle.segcore.specs.Bucket.{bucket_after}
 use Rattle.segcore.specs.Event.{seen}
-use Rattle.segcore.specs.Kind.{enter, leave, none_reading, Kept}
+use Rattle.segcore.specs.Kind.{enter, leave, none_reading, KeepsLaw}
 use Rattle.segcore.specs.Lawful.{Fits, IsLawful}
 use Rattle.segcore.specs.Overflow.{drawn_in, home_of}
 use Rattle.segcore.specs.Row.{Row, row_after}
@@ -44,19 +44,19 @@ unlinked_words true u j = refl
 unlinked_words false u j = refl
 
 pub enter_at : (z : Shape) (p s : ℕ) (h : List Event) → IsValid z → Fits z h (Entered p s) → IsLawful z h
-    → Kept z (enter s) p h
+    → KeepsLaw z (enter s) p h
 enter_at z p s h v f l = let few = few_passes z v in let c = counted z h l s in
     made z (enter s) p h (Entered p s ∷ []) (readers h s + 1) refl (omega arith) f.suits.1 (refl, tt) (l, f)
     (λ d _. segment_word z h (Entered p s) s (readers h s + 1) (λ m. refl) refl (λ b n. refl) (λ t r j. refl) (λ t. for_segment s t (readers h) (λ n. n + 1)) d)
 
 pub leave_at : (z : Shape) (p s : ℕ) (h : List Event) → IsValid z → Fits z h (Left p s) → IsLawful z h
-    → Kept z (leave s) p h
+    → KeepsLaw z (leave s) p h
 leave_at z p s h v f l = let few = few_passes z v in let c = counted z h l s in let a = is_counted z h l p s f.suits.0 in let b = f.suits.2 in
     made z (leave s) p h (Left p s ∷ []) (readers h s - 1) refl (omega arith) f.suits.1 (refl, tt) (l, f)
     (λ d _. segment_word z h (Left p s) s (readers h s - 1) (λ m. refl) refl (λ b n. refl) (λ t r j. refl) (λ t. for_segment s t (readers h) (λ n. n - 1)) d)
 
 pub none_at : (z : Shape) (p s : ℕ) (h : List Event) → s < z.passes * z.segments_each → owner z s ≡ p
-    → NoneStandsIn (after z (seen h)) s → IsLawful z h → Kept z (none_reading s) p h
+    → NoneStandsIn (after z (seen h)) s → IsLawful z h → KeepsLaw z (none_reading s) p h
 none_at z p s h lt own none l = ⊎_elim
     (λ e. made z (none_reading s) p h (Refilled p s ∷ []) (readers h s) (rw (eq-eqb (readers h s) 0 e) refl) refl lt (refl, tt)
     (l, record { guarded = tt; follows = (none, own); suits = (lt, own, e) })

@@ -4,7 +4,7 @@ use Rattle.std.proofs.lemmas.Bool.{cases_Bool}
 use Rattle.segword.specs.declared.shape.Shape.{Shape}
 use Rattle.segcore.specs.Bucket.{Bucket, bucket_after}
 use Rattle.segcore.specs.Event.{AllBy}
-use Rattle.segcore.specs.Kind.{Step, cell, becomes, adds, Kept}
+use Rattle.segcore.specs.Kind.{Step, cell, becomes, adds, KeepsLaw}
 use Rattle.segcore.specs.Lawful.{IsLawful}
 use Rattle.segcore.specs.Overflow.{Home, home_of}
 use Rattle.segcore.specs.Word.{IsCell, same_cell, content_word, word_in, overflow_word, word, IsAt}
@@ -19,7 +19,7 @@ use Rattle.segcore.proofs.Limits.{drawn_few}
 pub made : (z : Shape) (st : Step) (p : ℕ) (h es : List Event) (x : ℕ) → adds st p (word z h (cell st)) ≡ es
     → becomes st (word z h (cell st)) ≡ x → IsCell z (cell st) → AllBy p es → IsLawful z (es ++ h)
     → ((c : Cell) → IsCell z c → word z (es ++ h) c ≡ cond (same_cell (cell st) c) x (word z h c))
-    → Kept z st p h
+    → KeepsLaw z st p h
 made z st p h es x e f i a l w = record { inside = i; own = rw e a; legal = rw e l; words = rw (e, f) w }
 
 -- a step that leaves its word alone
@@ -28,7 +28,7 @@ pub unchanged : (z : Shape) (h : List Event) (d : Cell) (x : ℕ) → x ≡ word
 unchanged z h d x e c = ⊎_elim (λ t. rw t (ap (word z h) (sym (same_place d c t)) ∙ sym e)) (λ f. rw f refl) (cases_Bool (same_cell d c))
 
 pub nothing_new : (z : Shape) (st : Step) (p : ℕ) (h : List Event) → adds st p (word z h (cell st)) ≡ []
-    → becomes st (word z h (cell st)) ≡ word z h (cell st) → IsCell z (cell st) → IsLawful z h → Kept z st p h
+    → becomes st (word z h (cell st)) ≡ word z h (cell st) → IsCell z (cell st) → IsLawful z h → KeepsLaw z st p h
 nothing_new z st p h e f i l = made z st p h [] (word z h (cell st)) e f i tt l (λ d _. unchanged z h (cell st) (word z h (cell st)) refl d)
 
 -- an event that changes no word of a chain

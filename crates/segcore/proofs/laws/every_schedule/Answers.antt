@@ -1,5 +1,5 @@
 use Rattle.segcore.proofs.Schedules.{lawful, sees_more}
-use Rattle.segcore.proofs.Says.{says}
+use Rattle.segcore.proofs.Facts.{says}
 use Rattle.segcore.proofs.laws.every_schedule.Goals as goal
 
 pub returns : goal.returns

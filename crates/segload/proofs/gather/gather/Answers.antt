@@ -2,7 +2,7 @@ use Rattle.std.proofs.Common.{◌≡◌, suc, ◌<◌, length, slice_get, drop, 
 use Rattle.std.proofs.lemmas.Option.{slice_get_read}
 use Rattle.std.specs.Vec.{vec_len}
 use Rattle.segpass.specs.Quiet.{IsQuiet}
-use Rattle.segload.specs.Gathering.{Looked, HasMetEach}
+use Rattle.segload.specs.Gathering.{AddsNoEntry, HasMetEach}
 use Rattle.segload.proofs.Gathered.{removed_later, gathered}
 use Rattle.segload.proofs.gather.gather.Goals as goal
 
@@ -30,7 +30,7 @@ returns c =
     let long : length one.new.others.items ≡ length c.remove.new.self.items = sym one.new.others.ok.0 ∙ (one.ensures.long ∙ c.remove.new.self.ok.0) in
     let long' : length two.new.others.items ≡ length one.new.others.items = sym two.new.others.ok.0 ∙ (two.ensures.long ∙ one.new.others.ok.0) in
     gathered b workers.items one.new.others.items two.new.others.items c.remove.result one.new.first two.new.first c.requires.all at
-    (subst (λ p. Looked b p one.new.first) c.into_pass-first.ensures one.ensures.first)
+    (subst (λ p. AddsNoEntry b p one.new.first) c.into_pass-first.ensures one.ensures.first)
     (subst (λ p. HasMetEach b p one.new.first (drop 1 workers.items) one.new.others.items) c.into_pass-first.ensures
     (subst (λ old. HasMetEach b c.into_pass-first.result one.new.first old one.new.others.items) (sym same) one.ensures.each))
     (long ∙ ap length (sym same)) two.ensures.first two.ensures.each long'

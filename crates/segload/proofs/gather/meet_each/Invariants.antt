@@ -2,12 +2,12 @@ use Rattle.std.proofs.Common.{◌≡◌, ℕ, ◌≤◌, ◌<◌, slice_get, Som
 use Rattle.std.specs.Vec.{vec_len}
 use Rattle.segindex.specs.Index.{board_of}
 use Rattle.segload.specs.declared.worker.Worker.{Worker}
-use Rattle.segload.specs.Gathering.{Looked, HasMet, AreQuiet}
+use Rattle.segload.specs.Gathering.{AddsNoEntry, HasMet, AreQuiet}
 use Rattle.segload.proofs.gather.meet_each.Given as goal
 
 abbrev pub invariant-loop-place : goal.invariant-loop-place
 invariant-loop-place l = record {
-  first : Looked (board_of l.index) l.fn.first l.first;
+  first : AddsNoEntry (board_of l.index) l.fn.first l.first;
   long : vec_len l.others ≡ vec_len l.fn.others;
   quiet : AreQuiet (board_of l.index) l.others.items;
   met : (n : ℕ) (worker after : Worker) → n < l.place → slice_get l.fn.others.items n ≡ Some worker → slice_get l.others.items n ≡ Some after → HasMet (board_of l.index) l.fn.first l.first worker.client.pass after.client.pass;

@@ -4,7 +4,7 @@ use Rattle.segbase.specs.Passes.{number}
 use Rattle.segcore.specs.Event.{seen}
 use Rattle.segmodel.specs.History.{mine}
 use Rattle.segpolicy.specs.Draws.{draws_of}
-use Rattle.segload.specs.Working.{Begins}
+use Rattle.segload.specs.Working.{BeginsLoad}
 use Rattle.segload.proofs.Lists.{AllAt, all_pushed, all_none}
 use Rattle.segload.proofs.load.begin_all.Goals as goal
 
@@ -56,6 +56,6 @@ loop-pass-preserved c =
       rest = λ n pass at.
           let is = was.rest (suc n) pass (ap (λ l. slice_get l (suc n)) steps.0 ∙ at) in
           (subst (λ m. IsNewPass b m pass) (omega (arith, pushed.len)) is.0, is.1);
-      begun = subst (AllAt (λ n worker. Begins b (draws_of c.args.seed n 64) n worker)) (sym pushed.items)
-          (all_pushed (λ n worker. Begins b (draws_of c.args.seed n 64) n worker) workers.items c.new.result was.begun (subst (λ m. Begins b (draws_of c.args.seed m 64) m c.new.result) here c.new.ensures));
+      begun = subst (AllAt (λ n worker. BeginsLoad b (draws_of c.args.seed n 64) n worker)) (sym pushed.items)
+          (all_pushed (λ n worker. BeginsLoad b (draws_of c.args.seed n 64) n worker) workers.items c.new.result was.begun (subst (λ m. BeginsLoad b (draws_of c.args.seed m 64) m c.new.result) here c.new.ensures));
     }

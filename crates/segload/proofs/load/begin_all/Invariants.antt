@@ -5,7 +5,7 @@ use Rattle.segbase.specs.Made.{IsNewPass}
 use Rattle.segindex.specs.Index.{board_of}
 use Rattle.segpass.specs.Quiet.{IsQuiet}
 use Rattle.segpolicy.specs.Draws.{draws_of}
-use Rattle.segload.specs.Working.{Begins}
+use Rattle.segload.specs.Working.{BeginsLoad}
 use Rattle.segload.proofs.Lists.{AllAt}
 use Rattle.segload.proofs.load.begin_all.Given as goal
 
@@ -16,5 +16,5 @@ invariant-loop-pass l = record {
   room : vec_len l.workers + into_iter_len l.pass-iterator ≤ vec_capacity l.workers;
   all : vec_len l.workers + into_iter_len l.pass-iterator ≡ vec_len l.fn.passes;
   rest : AllAt (λ n pass. IsNewPass (board_of l.index) (vec_len l.workers + n) pass × IsQuiet (board_of l.index) pass) (into_iter_items l.pass-iterator);
-  begun : AllAt (λ n worker. Begins (board_of l.index) (draws_of l.seed n 64) n worker) l.workers.items;
+  begun : AllAt (λ n worker. BeginsLoad (board_of l.index) (draws_of l.seed n 64) n worker) l.workers.items;
 }

@@ -1,4 +1,4 @@
-use Rattle.segmodel.proofs.Kept.{IsKept-fresh}
+use Rattle.segmodel.proofs.Sound.{IsKept-fresh}
 use Rattle.segmodel.proofs.ServingKeeps.{serving_keeps, commands_keep, turns_keep, refilled_where_none, held_is_not_refilled}
 use Rattle.segmodel.proofs.laws.serving_keeps.Goals as goal
 

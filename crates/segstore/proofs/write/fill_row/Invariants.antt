@@ -2,13 +2,13 @@ use Rattle.std.proofs.Common.{◌≡◌, ℕ, ◌<◌}
 use Rattle.std.specs.Prelude.{slice_index}
 use Rattle.segcore.specs.Row.{row_after}
 use Rattle.segcore.specs.Lawful.{IsOwnRow}
-use Rattle.segbase.specs.Passes.{sight, number, trace, Moved}
+use Rattle.segbase.specs.Passes.{sight, number, trace, AddsEvents}
 use Rattle.segstore.specs.Rows.{fills}
 use Rattle.segstore.proofs.write.fill_row.Given as goal
 
 abbrev pub invariant-loop-place : goal.invariant-loop-place
 invariant-loop-place l = record {
-  moved : Moved l.board (fills (number l.fn.pass) l.segment l.row l.words l.place) l.fn.pass l.pass;
+  moved : AddsEvents l.board (fills (number l.fn.pass) l.segment l.row l.words l.place) l.fn.pass l.pass;
   own : IsOwnRow l.board.shape (trace l.pass) (number l.pass) l.segment l.row;
   holds : (j : ℕ) → j < l.place → (row_after (trace l.pass) l.segment l.row).words j ≡ slice_index l.words j;
   plain : l.pass.plain ≡ l.fn.pass.plain;

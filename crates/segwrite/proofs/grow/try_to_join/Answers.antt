@@ -7,8 +7,8 @@ use Rattle.segcore.specs.Kind.{fill, May}
 use Rattle.segbase.specs.declared.board.Board.{Board}
 use Rattle.segbase.specs.declared.pass.Pass.{Pass}
 use Rattle.segbase.specs.declared.place.Place.{Place}
-use Rattle.segbase.specs.Passes.{number, trace, IsPassOf, Did}
-use Rattle.segbase.specs.Spots.{drawn_for}
+use Rattle.segbase.specs.Passes.{number, trace, IsPassOf, AddsAtOnce}
+use Rattle.segbase.specs.Spots.{home_bucket_of}
 use Rattle.segstore.proofs.Seconds.{unpacked}
 use Rattle.segwrite.specs.Growing.{home_at, IsLast, HasSpare}
 use Rattle.segwrite.proofs.Joining.{drawn_home, may_fill, spare_filled, last_filled, copy_filled, home_is, may_chain, tried}
@@ -17,14 +17,14 @@ use Rattle.segwrite.proofs.grow.try_to_join.Goals as goal
 pub fill_overflow-requires-clause-may : goal.fill_overflow-requires-clause-may
 fill_overflow-requires-clause-may c = let b = c.args.board.now in let r = c.requires in
     let word = unpacked c.unpack.result c.unwrap-item.result c.args.word c.unpack.ensures.some c.unwrap-item.ensures in
-    subst (λ w. May b.shape (trace c.args.pass.now) (number c.args.pass.now) (fill (drawn_for (trace c.args.pass.now) c.args.overflow) c.args.overflow w)) (sym word)
+    subst (λ w. May b.shape (trace c.args.pass.now) (number c.args.pass.now) (fill (home_bucket_of (trace c.args.pass.now) c.args.overflow) c.args.overflow w)) (sym word)
     (may_fill b _ c.args.overflow c.args.place c.args.word c.args.pass.now r.pass r.spare r.last)
 
 -- what was stored, in the terms of the bucket
 did_put : (b : Board) (bucket overflow : ℕ) (place : Place) (item : Item) (word : ℕ) (p r : Pass) → IsPassOf b p → HasSpare b bucket overflow p → IsLast b bucket place word p → item_word item ≡ word
-    → Did b (Put (number p) (drawn_for (trace p) overflow) (item_word item) ∷ []) p r → Did b (Put (number p) bucket word ∷ []) p r
+    → AddsAtOnce b (Put (number p) (home_bucket_of (trace p) overflow) (item_word item) ∷ []) p r → AddsAtOnce b (Put (number p) bucket word ∷ []) p r
 did_put b bucket overflow place item word p r is spare last same d =
-    subst (λ w. Did b (Put (number p) bucket w ∷ []) p r) same (subst (λ k. Did b (Put (number p) k (item_word item) ∷ []) p r) (drawn_home b bucket overflow place word p is spare last) d)
+    subst (λ w. AddsAtOnce b (Put (number p) bucket w ∷ []) p r) same (subst (λ k. AddsAtOnce b (Put (number p) k (item_word item) ∷ []) p r) (drawn_home b bucket overflow place word p is spare last) d)
 
 pub chain-requires-clause-may : goal.chain-requires-clause-may
 chain-requires-clause-may c = let b = c.args.board.now in let r = c.requires in let p = c.args.pass.now in let filled = c.fill_overflow.new.pass in
@@ -42,5 +42,5 @@ returns c = let b = c.args.board.now in let r = c.requires in let p = c.args.pas
     let there = home_is b bucket o c.args.place w filled d.moved.pass (spare_filled b bucket o c.args.place w p r.pass r.spare r.last filled d) (last_filled b bucket o c.args.place w p r.pass r.spare r.last filled d) in
     let put = c.fill_overflow.ensures.step.1 in let step = c.chain.ensures.step.1 in record {
       tries = tried b bucket o c.args.place w p filled c.chain.new.pass r.pass r.spare r.last d put.plain put.memo c.chain.result
-          (subst (λ k. OnOk c.chain.result (Did b (Chained (number filled) k o ∷ []) filled c.chain.new.pass)) there c.chain.ensures.chained) c.chain.ensures.missed step.plain step.memo;
+          (subst (λ k. OnOk c.chain.result (AddsAtOnce b (Chained (number filled) k o ∷ []) filled c.chain.new.pass)) there c.chain.ensures.chained) c.chain.ensures.missed step.plain step.memo;
     }

@@ -9,7 +9,7 @@ use Rattle.segcore.proofs.Exact.{tagged}
 use Rattle.segcore.proofs.Limits.{low_row, low_segment}
 use Rattle.segbase.specs.declared.board.Board.{Board}
 use Rattle.segbase.specs.declared.pass.Pass.{Pass}
-use Rattle.segbase.specs.Passes.{number, trace, Moved}
+use Rattle.segbase.specs.Passes.{number, trace, AddsEvents}
 use Rattle.segstore.specs.Rows.{fills}
 use Rattle.segstore.proofs.Keeping.{next_is_own}
 use Rattle.segwrite.proofs.Filling.{fills_nowhere}
@@ -33,11 +33,11 @@ invariant_of-item g c = let b = c.args.board.now in let r = c.requires in
 
 -- what was written is the request's pair
 pair_of : (b : Board) (request : Request) (key value : List ℕ) (segment row : ℕ) (p q : Pass) → key_of request ≡ key → value_of request ≡ value
-    → Moved b (fills (number p) segment row (row_of key value) 8) p q → Holds (row_after (trace q) segment row) key value → IsKey key → IsValue value
-    → Moved b (fills (number p) segment row (row_of (key_of request) (value_of request)) 8) p q × Holds (row_after (trace q) segment row) (key_of request) (value_of request) × IsKey (key_of request) × IsValue (value_of request)
+    → AddsEvents b (fills (number p) segment row (row_of key value) 8) p q → Holds (row_after (trace q) segment row) key value → IsKey key → IsValue value
+    → AddsEvents b (fills (number p) segment row (row_of (key_of request) (value_of request)) 8) p q × Holds (row_after (trace q) segment row) (key_of request) (value_of request) × IsKey (key_of request) × IsValue (value_of request)
 pair_of b request key value segment row p q k v m holds is_key is_value =
-    subst (λ x. Moved b (fills (number p) segment row (row_of x (value_of request)) 8) p q × Holds (row_after (trace q) segment row) x (value_of request) × IsKey x × IsValue (value_of request)) (sym k)
-    (subst (λ y. Moved b (fills (number p) segment row (row_of key y) 8) p q × Holds (row_after (trace q) segment row) key y × IsKey key × IsValue y) (sym v) (m, holds, is_key, is_value))
+    subst (λ x. AddsEvents b (fills (number p) segment row (row_of x (value_of request)) 8) p q × Holds (row_after (trace q) segment row) x (value_of request) × IsKey x × IsValue (value_of request)) (sym k)
+    (subst (λ y. AddsEvents b (fills (number p) segment row (row_of key y) 8) p q × Holds (row_after (trace q) segment row) key y × IsKey key × IsValue y) (sym v) (m, holds, is_key, is_value))
 
 pub link-requires : goal.link-requires
 link-requires g c = let b = c.args.board.now in let r = c.requires in let w = c.fill_row.ensures in

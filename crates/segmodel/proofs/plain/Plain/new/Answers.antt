@@ -1,7 +1,7 @@
 use Rattle.std.proofs.Common.{rules, ◌≡◌, ℕ, zero, suc, List, replicate, get_or, None, refl, ap, ◌∙◌}
 use Rattle.segmodel.specs.Segments.{by_bucket, state_from}
 use Rattle.segmodel.specs.State.{State, fresh}
-use Rattle.segmodel.proofs.Kept.{IsKept-fresh, IsKept-same}
+use Rattle.segmodel.proofs.Sound.{IsKept-fresh, IsKept-same}
 use Rattle.segmodel.proofs.plain.Plain.new.Goals as goal
 
 repeated : (count place number : ℕ) → get_or (replicate count number) place number ≡ number

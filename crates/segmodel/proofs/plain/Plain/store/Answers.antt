@@ -5,7 +5,7 @@ use Rattle.segmodel.specs.Segments.{fillings, by_bucket}
 use Rattle.segmodel.specs.State.{State}
 use Rattle.segmodel.specs.Serving.{stored}
 use Rattle.segmodel.specs.Plain.{state_of}
-use Rattle.segmodel.proofs.Kept.{IsKept-same}
+use Rattle.segmodel.proofs.Sound.{IsKept-same}
 use Rattle.segmodel.proofs.Stores.{Stores, stores_from, stored_state, stored_kept}
 use Rattle.segmodel.proofs.plain.Plain.store.Goals as goal
 

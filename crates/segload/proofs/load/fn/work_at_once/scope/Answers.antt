@@ -8,7 +8,7 @@ use Rattle.segload.specs.declared.worker.Worker.{Worker}
 use Rattle.segload.specs.declared.load.Worked.{Worked}
 use Rattle.segbase.specs.Passes.{number}
 use Rattle.segpolicy.specs.Draws.{draws_of}
-use Rattle.segload.specs.Working.{Begins, HasWorked}
+use Rattle.segload.specs.Working.{BeginsLoad, HasWorked}
 use Rattle.segload.proofs.Lists.{AllAt, all_pushed, all_none}
 use Rattle.segload.proofs.Starting.{first_begins, first_numbered, rest_begin, worked_there}
 use Rattle.segload.proofs.load.fn.work_at_once.scope.Goals as goal
@@ -31,7 +31,7 @@ loop-worker-init g c =
       finite = tt;
       room = made.capacity;
       few = let len = c.len-count.ensures in omega (arith, into.1, made.len);
-      rest = λ n worker at. subst (λ m. Begins b (draws_of c.captures.seed m 64) m worker) (omega (arith, count)) (c.requires.1 n worker (ap (λ l. slice_get l n) (sym into.0) ∙ at));
+      rest = λ n worker at. subst (λ m. BeginsLoad b (draws_of c.captures.seed m 64) m worker) (omega (arith, count)) (c.requires.1 n worker (ap (λ l. slice_get l n) (sym into.0) ∙ at));
       ours = λ n thread at. all_none n thread (ap (λ l. slice_get l n) (sym made.items) ∙ at);
       in_order = λ e n thread at. all_none n thread (ap (λ l. slice_get l n) (sym made.items) ∙ at);
     }

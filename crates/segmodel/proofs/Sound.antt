@@ -10,7 +10,7 @@ use Rattle.segmodel.specs.declared.entry.Cached.{Cached}
 use Rattle.segmodel.specs.declared.answer.SegState.TheVariants.{Empty, InUse, Evicted}
 use Rattle.segmodel.specs.declared.answer.RefillAnswer.TheVariants.{Refilled}
 use Rattle.segmodel.specs.Cache.{key_cmp, with_at, keys_in, put, deleted}
-use Rattle.segmodel.specs.State.{State, Filling, but_for, is_in, is_in_use, is_among, is_stored, IsKept, fresh}
+use Rattle.segmodel.specs.State.{State, Filling, but_for, is_in, is_in_use, is_among, is_stored, IsSound, fresh}
 use Rattle.segmodel.specs.Serving.{with_key, placed, may_chain, chained, with_filling, taken_out, after_refill}
 use Rattle.segmodel.proofs.Counts.{item, both, and_true, all_also, all_filter, all-insert_entry, count_none, count-insert_entry, count-filter}
 use Rattle.segmodel.specs.Places.{bucket_of}
@@ -19,11 +19,11 @@ use Rattle.segmodel.proofs.Ordered.{sorted-insert_entry, sorted-filter, sorted-a
 use Rattle.segmodel.proofs.Words.{count-keys_put, count-keys_filter}
 
 -- another state that is the same
-pub IsKept-same : {shape : Shape} {old new : State} → new ≡ old → IsKept shape old → IsKept shape new
-IsKept-same {shape = shape} same kept = subst (λ s. IsKept shape s) (sym same) kept
+pub IsKept-same : {shape : Shape} {old new : State} → new ≡ old → IsSound shape old → IsSound shape new
+IsKept-same {shape = shape} same kept = subst (λ s. IsSound shape s) (sym same) kept
 
 -- nothing stands at the start
-pub IsKept-fresh : (shape : Shape) → IsKept shape (fresh shape)
+pub IsKept-fresh : (shape : Shape) → IsSound shape (fresh shape)
 IsKept-fresh shape = record {
   items = refl;
   count = λ s. omega arith;
@@ -68,9 +68,9 @@ among_last keys k = list_any-append (is_at (key_cmp k)) keys (k ∷ [])
 
 -- a key is put into the current segment, which has a row left
 IsKept-placed : (shape : Shape) (key value : List ℕ) (t : ℕ) (state : State)
-    → IsKept shape state → state.current ≡ Some t → length (state.filling t).keys < shape.rows
+    → IsSound shape state → state.current ≡ Some t → length (state.filling t).keys < shape.rows
     → keys_in shape (put shape key value t state.cache) (bucket_of shape key) ≤ 6 * state.width (bucket_of shape key) + 1
-    → IsKept shape (placed shape key value t state)
+    → IsSound shape (placed shape key value t state)
 IsKept-placed shape key value t state kept is left fits = record {
   items = all-insert_entry (is_stored new) key (item value t) state.cache.items here (all_also (is_stored state.filling) (is_stored new) still state.cache.items kept.items);
   count = λ s. count s (cases_eq t s) (count-insert_entry s t key value state.cache.items);
@@ -140,8 +140,8 @@ IsKept-placed shape key value t state kept is left fits = record {
     in_use s (inr apart) at_s = ap (λ y. is_in_use y.state) (unchanged state.filling t s more apart) ∙ kept.in_use s at_s
 
 -- a chain that is one bucket longer, as it may be
-IsKept-chained : (shape : Shape) (b : ℕ) (chains : Bool) (state : State) → IsKept shape state → (chains ≡ true → may_chain shape state b ≡ true)
-    → IsKept shape (chained b chains state)
+IsKept-chained : (shape : Shape) (b : ℕ) (chains : Bool) (state : State) → IsSound shape state → (chains ≡ true → may_chain shape state b ≡ true)
+    → IsSound shape (chained b chains state)
 IsKept-chained shape b false state kept may = kept
 IsKept-chained shape b true state kept may = record {
   items = kept.items;
@@ -172,15 +172,15 @@ IsKept-chained shape b true state kept may = record {
 
 -- a key is put into the current segment, and its chain is one bucket longer where a word lacks
 pub IsKept-stored : (shape : Shape) (key value : List ℕ) (t : ℕ) (chains : Bool) (state : State)
-    → IsKept shape state → state.current ≡ Some t → length (state.filling t).keys < shape.rows → (chains ≡ true → may_chain shape state (bucket_of shape key) ≡ true)
+    → IsSound shape state → state.current ≡ Some t → length (state.filling t).keys < shape.rows → (chains ≡ true → may_chain shape state (bucket_of shape key) ≡ true)
     → keys_in shape (put shape key value t state.cache) (bucket_of shape key) ≤ 6 * (chained (bucket_of shape key) chains state).width (bucket_of shape key) + 1
-    → IsKept shape (chained (bucket_of shape key) chains (placed shape key value t state))
+    → IsSound shape (chained (bucket_of shape key) chains (placed shape key value t state))
 IsKept-stored shape key value t false state kept is left may fits = IsKept-placed shape key value t state kept is left fits
 IsKept-stored shape key value t true state kept is left may fits =
     IsKept-placed shape key value t (chained (bucket_of shape key) true state) (IsKept-chained shape (bucket_of shape key) true state kept may) is left fits
 
 -- a key that is deleted
-pub IsKept-deleted : (shape : Shape) (key : List ℕ) (state : State) → IsKept shape state → IsKept shape (record state { cache = deleted shape key state.cache })
+pub IsKept-deleted : (shape : Shape) (key : List ℕ) (state : State) → IsSound shape state → IsSound shape (record state { cache = deleted shape key state.cache })
 IsKept-deleted shape key state kept = record {
   items = all_filter (is_stored state.filling) (is_stored state.filling) (λ e. not (is_at (key_cmp key) e.0)) (λ e stored stays. stored) state.cache.items kept.items;
   count = λ s. let had = kept.count s in let less = count-filter (is_in s) (λ e. not (is_at (key_cmp key) e.0)) state.cache.items in omega arith;
@@ -203,7 +203,7 @@ current_but t (Some m) s e = elim (cases_eq m t) [
 ]
 
 -- some items are taken out, and the segment stays in use
-pub IsKept-taken : (shape : Shape) (t : ℕ) (goes : List ℕ × Cached → Bool) (state : State) → IsKept shape state → IsKept shape (taken_out t goes state)
+pub IsKept-taken : (shape : Shape) (t : ℕ) (goes : List ℕ × Cached → Bool) (state : State) → IsSound shape state → IsSound shape (taken_out t goes state)
 IsKept-taken shape t goes state kept = record {
   items = all_filter (is_stored state.filling) (is_stored state.filling) (λ e. not (goes e)) (λ e stored stays. stored) state.cache.items kept.items;
   count = λ s. let had = kept.count s in let less = count-filter (is_in s) (λ e. not (goes e)) state.cache.items in omega arith;
@@ -218,8 +218,8 @@ IsKept-taken shape t goes state kept = record {
 }
 
 -- all items of a segment are taken out, and it is evicted
-pub IsKept-evicted : (shape : Shape) (t : ℕ) (state : State) → IsKept shape state
-    → IsKept shape (with_filling t Evicted (state.filling t).keys (taken_out t (is_in t) state))
+pub IsKept-evicted : (shape : Shape) (t : ℕ) (state : State) → IsSound shape state
+    → IsSound shape (with_filling t Evicted (state.filling t).keys (taken_out t (is_in t) state))
 IsKept-evicted shape t state kept = record {
   items = all_filter (is_stored state.filling) (is_stored (with_at state.filling t gone)) (λ e. not (is_in t e)) still state.cache.items kept.items;
   count = λ s. count s (cases_eq t s);
@@ -266,13 +266,13 @@ elsewhere state t unused e stored same =
     false≢true (sym unused ∙ ap (λ s. is_in_use (state.filling s).state) same ∙ (both _ _ stored).0)
 
 -- in a segment that is not in use nothing stands
-pub none_in_unused : (shape : Shape) (state : State) (t : ℕ) → IsKept shape state → is_in_use (state.filling t).state ≡ false → count_by (is_in t) state.cache.items ≡ 0
+pub none_in_unused : (shape : Shape) (state : State) (t : ℕ) → IsSound shape state → is_in_use (state.filling t).state ≡ false → count_by (is_in t) state.cache.items ≡ 0
 none_in_unused shape state t kept unused = count_none (is_in t) state.cache.items
     (all_also (is_stored state.filling) (λ e. not (is_in t e)) (λ e stored. ap not (ne_eqb e.1.segment t (λ same. elsewhere state t unused e stored (sym same)))) state.cache.items kept.items)
 
 -- an own segment that is not in use is refilled
-pub IsKept-refilled : (shape : Shape) (t : ℕ) (state : State) → IsKept shape state → is_in_use (state.filling t).state ≡ false → t < shape.segments_each
-    → IsKept shape (after_refill t Refilled state)
+pub IsKept-refilled : (shape : Shape) (t : ℕ) (state : State) → IsSound shape state → is_in_use (state.filling t).state ≡ false → t < shape.segments_each
+    → IsSound shape (after_refill t Refilled state)
 IsKept-refilled shape t state kept unused mine = record {
   items = all_also (is_stored state.filling) (is_stored (with_at state.filling t anew)) (λ e stored. stored_still state.filling t anew e (elsewhere state t unused e stored) stored) state.cache.items kept.items;
   count = λ s. count s (cases_eq t s);

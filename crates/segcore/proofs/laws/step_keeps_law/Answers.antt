@@ -1,5 +1,5 @@
 use Rattle.segcore.proofs.StepKinds.{keeps}
-use Rattle.segcore.proofs.laws.kept_step.Goals as goal
+use Rattle.segcore.proofs.laws.step_keeps_law.Goals as goal
 
 pub returns : goal.returns
 returns c = keeps

@@ -19,12 +19,12 @@ use Rattle.segcore.specs.Word.{address, bit_of, content_word, word_in, overflow_
 use Rattle.segcore.specs.Mark.{marked}
 use Rattle.segcore.specs.Kind.{Step, cell, adds, HasBit}
 use Rattle.segcore.specs.World.{Knows, World, Reaches, IsLawfulWorld}
-use Rattle.segcore.specs.Says.{SaysOfPass, SaysOfPasses}
+use Rattle.segcore.specs.Facts.{PassFacts, PassesFacts}
 use Rattle.segcore.proofs.Coherent.{IsContent}
 use Rattle.segcore.proofs.Quiet.{quiet, quiet_none, quiet_row, not_mine, home_stays}
 use Rattle.segcore.proofs.Chains.{chain_of}
 use Rattle.segcore.proofs.StepKinds.Words.{word_content}
-use Rattle.segcore.proofs.Kept.{inside_list}
+use Rattle.segcore.proofs.KeepsLaw.{inside_list}
 use Rattle.segcore.proofs.Buckets.{info_bit, set_bit}
 use Rattle.segcore.proofs.Moments.{lawful_before, two_ends, marked_begins}
 
@@ -51,7 +51,7 @@ module _ (z : Shape) (p : ℕ) (more g : List Event) (l : IsLawful z (more ++ g)
       ∙ (same_content (more ++ g) g b u x (u.items x) (omega arith) (c.contents x)
       ∙ (sym (word_content z g u x (omega arith)) ∙ sym (ap (overflow_word z g w) at)))))
 
-says_of_pass : (z : Shape) (h : List Event) (p : ℕ) (v : View) → IsLawful z h → Knows p v h → SaysOfPass z h p v
+says_of_pass : (z : Shape) (h : List Event) (p : ℕ) (v : View) → IsLawful z h → Knows p v h → PassFacts z h p v
 says_of_pass z h p v l k = let l' : IsLawful z (k.more ++ v.trace) = subst (IsLawful z) k.rest l in record {
   number = k.number;
   more = k.more;
@@ -103,7 +103,7 @@ longest z [] w o lt = let v = in_list w.views 0 lt in (0, v.0, v.1, (o.new 0 v.0
 longest z (s ∷ ss) w r lt = let b = r.0 in let v : View = record r.1 { trace = adds s.1 s.0 (get_or b.words (address z (cell s.1)) 0) ++ b.trace } in
     (s.0, v, ap (λ x. get_elem? x.views s.0) r.5 ∙ set_here b.views s.0 v (inside_list b.views s.0 r.1 r.3), sym (ap (λ (x : World). x.trace) r.5))
 
-pub says_of_passes : (z : Shape) (ss : List (ℕ × Step)) (w : World) → Reaches z ss w → IsLawfulWorld z w → SaysOfPasses z w
+pub says_of_passes : (z : Shape) (ss : List (ℕ × Step)) (w : World) → Reaches z ss w → IsLawfulWorld z w → PassesFacts z w
 says_of_passes z ss w r l = record {
   each = λ p v at. says_of_pass z w.trace p v l.legal (l.knows p v at);
   one = one_of z w l;

@@ -18,11 +18,11 @@ use Rattle.segcore.specs.Row.{Holds, row_after}
 use Rattle.segcore.specs.Segment.{inside, NoneRefills}
 use Rattle.segcore.specs.Lawful.{NoneAt}
 use Rattle.segcore.specs.Word.{word}
-use Rattle.segcore.specs.Mark.{marked, all_entered, all_left, entered_by, left_by, IsPlaced, IsOrderly}
+use Rattle.segcore.specs.Mark.{marked, all_entered, all_left, times_entered, times_left, IsWellMarked, IsOrderly}
 use Rattle.segcore.specs.Kind.{HasBit}
 use Rattle.segcore.specs.World.{World}
-use Rattle.segcore.specs.Standing.{cached, SaysOfKeys}
-use Rattle.segcore.specs.Chains.{SaysOfBuckets}
+use Rattle.segcore.specs.Standing.{cached, KeyFacts}
+use Rattle.segcore.specs.Chains.{BucketFacts}
 
 -- ---- segments and rows
 
@@ -38,11 +38,11 @@ pub record IsKeptRow (shape : Shape) (trace more before : List Event) (pass : �
   pub holds : Holds (row_after trace segment row) (key_of request) (value_of request)
   pub stood : standing (after shape (seen (Linked pass request segment row position ∷ before))) (key_of request) ≡ Some (cached (value_of request) segment)
 
-pub record SaysOfSegments (shape : Shape) (trace : List Event) : Type 0 where
+pub record SegmentFacts (shape : Shape) (trace : List Event) : Type 0 where
   -- the segment word counts who came and hasn't left
   pub readers : (segment : ℕ) → word shape trace (OfSegment segment) + all_left (marked trace) segment ≡ all_entered (marked trace) segment
   -- a pass is in a segment as often as its marks say that it came and hasn't left
-  pub marks : (pass segment : ℕ) → inside trace pass segment + left_by pass (marked trace) segment ≡ entered_by pass (marked trace) segment
+  pub marks : (pass segment : ℕ) → inside trace pass segment + times_left pass (marked trace) segment ≡ times_entered pass (marked trace) segment
   -- at most twice, so that few readers are counted; and where one is counted a pass is there
   pub few : (pass segment : ℕ) → inside trace pass segment ≤ 2
   pub low : (segment : ℕ) → word shape trace (OfSegment segment) ≤ 2 * shape.passes
@@ -56,7 +56,7 @@ pub record SaysOfSegments (shape : Shape) (trace : List Event) : Type 0 where
 -- ---- passes
 
 -- what a pass has seen: others alone went on from there, and did nothing in the buckets that it has the bits of; and what it knows of its own rows, and of the overflow bucket that it drew, is so
-pub record SaysOfPass (shape : Shape) (trace : List Event) (pass : ℕ) (view : View) : Type 0 where
+pub record PassFacts (shape : Shape) (trace : List Event) (pass : ℕ) (view : View) : Type 0 where
   pub number : view.number ≡ pass
   pub more : List Event
   pub rest : trace ≡ more ++ view.trace
@@ -67,8 +67,8 @@ pub record SaysOfPass (shape : Shape) (trace : List Event) (pass : ℕ) (view : 
   pub drafts : (bucket number w : ℕ) → HasBit shape view.trace pass bucket → (bucket_after shape view.trace bucket).spare ≡ Some number
       → word shape trace (OfOverflow number w) ≡ word shape view.trace (OfOverflow number w)
 
-pub record SaysOfPasses (shape : Shape) (world : World) : Type 0 where
-  pub each : (pass : ℕ) (view : View) → get_elem? world.views pass ≡ some view → SaysOfPass shape world.trace pass view
+pub record PassesFacts (shape : Shape) (world : World) : Type 0 where
+  pub each : (pass : ℕ) (view : View) → get_elem? world.views pass ≡ some view → PassFacts shape world.trace pass view
   -- one history: of what two passes have seen, one goes on from the other
   pub one : (p q : ℕ) (left right : View) → get_elem? world.views p ≡ some left → get_elem? world.views q ≡ some right → AreOne left.trace right.trace
   pub one_marked : (p q : ℕ) (left right : View) → get_elem? world.views p ≡ some left → get_elem? world.views q ≡ some right → AreOne (marked left.trace) (marked right.trace)
@@ -84,11 +84,11 @@ pub record SaysOfPasses (shape : Shape) (world : World) : Type 0 where
 
 -- ---- all of it
 
-pub record Says (shape : Shape) (world : World) : Type 0 where
+pub record WorldFacts (shape : Shape) (world : World) : Type 0 where
   pub legal : IsLegal shape (seen world.trace)
-  pub placed : IsPlaced shape (marked world.trace)
+  pub placed : IsWellMarked shape (marked world.trace)
   pub orderly : IsOrderly (marked world.trace)
-  pub keys : SaysOfKeys shape world.trace
-  pub buckets : SaysOfBuckets shape world.trace
-  pub segments : SaysOfSegments shape world.trace
-  pub passes : SaysOfPasses shape world
+  pub keys : KeyFacts shape world.trace
+  pub buckets : BucketFacts shape world.trace
+  pub segments : SegmentFacts shape world.trace
+  pub passes : PassesFacts shape world

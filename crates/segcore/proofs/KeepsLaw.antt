@@ -9,7 +9,7 @@ use Rattle.segword.specs.Shape.{word_count}
 use Rattle.segcore.specs.declared.event.Event.{Event}
 use Rattle.segcore.specs.declared.view.View.{View}
 use Rattle.segcore.specs.Event.{NoneBy, AllBy}
-use Rattle.segcore.specs.Kind.{Step, cell, becomes, adds, Kept}
+use Rattle.segcore.specs.Kind.{Step, cell, becomes, adds, KeepsLaw}
 use Rattle.segcore.specs.Word.{IsCell, same_cell, address, word}
 use Rattle.segcore.specs.World.{Knows, Lawful}
 use Rattle.segcore.specs.declared.cell.Cell.{Cell}
@@ -33,7 +33,7 @@ each_word z ws F G d x here long each words c is = ⊎_elim
     get_or-set_other ws (address z d) (address z c) x 0 (λ e. apart z d c here is f (sym e)) ∙ each c is ∙ sym w)
     (cases_Bool (same_cell d c))
 
-pub steps : (z : Shape) (ws : List ℕ) (views : List View) (h : List Event) (p : ℕ) (v : View) (st : Step) → Lawful z ws views h → get_elem? views p ≡ some v → Kept z st p h
+pub steps : (z : Shape) (ws : List ℕ) (views : List View) (h : List Event) (p : ℕ) (v : View) (st : Step) → Lawful z ws views h → get_elem? views p ≡ some v → KeepsLaw z st p h
     → let found = get_or ws (address z (cell st)) 0 in Lawful z (set ws (address z (cell st)) (becomes st found)) (set views p (record v { trace = adds st p found ++ h })) (adds st p found ++ h)
 steps z ws views h p v st l at k =
     let found = get_or ws (address z (cell st)) 0 in

@@ -8,7 +8,7 @@ use Rattle.segmodel.specs.Places.{tag_of}
 use Rattle.segcore.specs.declared.event.Event.{Event}
 use Rattle.segcore.specs.declared.event.Event.TheVariants.{Took, Freed, Replied, Linked, Unlinked, Drew, Put, Chained}
 use Rattle.segcore.specs.declared.cell.Cell.TheVariants.{OfOverflow}
-use Rattle.segcore.specs.Bucket.{Slot, slot, Content, nothing, item, next, copy, Bucket, last, fresh, bucket_at, is, acts, bucket_after}
+use Rattle.segcore.specs.Bucket.{Slot, slot, Content, nothing, item, next, copy, Bucket, last, fresh_position, bucket_at, is, acts, bucket_after}
 use Rattle.segcore.specs.Overflow.{home, home_of}
 use Rattle.segcore.specs.ItemWord.{IsWordOf, IsItemWord}
 use Rattle.segcore.specs.Lawful.{IsLawful}
@@ -40,9 +40,9 @@ draft_acts z (Linked p q s r n) h b t l old = draft_at z n (item (slot (key_of q
 draft_acts z (Unlinked p k n why) h b t l old = draft_at z n nothing (bucket_after z h b).items tt (old b)
 draft_acts z (Drew p a d m) h b t l old = old b
 draft_acts z (Put p a w) h b t l old = let s = l.1.suits.2 in let x = (coherent z h l.0).items a (last (bucket_after z h a)) s.0 s.1 in
-    draft_at z (fresh (bucket_after z h b)) (copy w) (bucket_after z h b).items (s.0, s.2, x.within.0, x.within.1) (old b)
+    draft_at z (fresh_position (bucket_after z h b)) (copy w) (bucket_after z h b).items (s.0, s.2, x.within.0, x.within.1) (old b)
 draft_acts z (Chained p a m) h b t l old = let u = bucket_after z h b in
-    draft_at z (last u) (next m) (λ n. cond (eqb (fresh u) n) (u.items (last u)) (u.items n)) tt (draft_at z (fresh u) (u.items (last u)) u.items (old b (last u)) (old b))
+    draft_at z (last u) (next m) (λ n. cond (eqb (fresh_position u) n) (u.items (last u)) (u.items n)) tt (draft_at z (fresh_position u) (u.items (last u)) u.items (old b (last u)) (old b))
 draft_acts z e h b t l old = absurd (false≢true t)
 
 drafts : (z : Shape) (h : List Event) → IsLawful z h → (b n : ℕ) → IsDraft z ((bucket_after z h b).items n)

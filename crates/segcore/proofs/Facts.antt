@@ -5,7 +5,7 @@ use Rattle.std.proofs.Common.{ℕ, List}
 use Rattle.segword.specs.declared.shape.Shape.{Shape}
 use Rattle.segcore.specs.Kind.{Step}
 use Rattle.segcore.specs.World.{World, Reaches}
-use Rattle.segcore.specs.Says.{Says}
+use Rattle.segcore.specs.Facts.{WorldFacts}
 use Rattle.segcore.proofs.Schedules.{lawful}
 use Rattle.segcore.proofs.Standing.{legal}
 use Rattle.segcore.proofs.Marked.{placed}
@@ -13,9 +13,9 @@ use Rattle.segcore.proofs.Orderly.{orderly}
 use Rattle.segcore.proofs.Exact.{says_of_keys}
 use Rattle.segcore.proofs.Buckets.{says_of_buckets}
 use Rattle.segcore.proofs.Segments.{says_of_segments}
-use Rattle.segcore.proofs.Says.Passes.{says_of_passes}
+use Rattle.segcore.proofs.Facts.Passes.{says_of_passes}
 
-pub says : (z : Shape) (ss : List (ℕ × Step)) (w : World) → Reaches z ss w → Says z w
+pub says : (z : Shape) (ss : List (ℕ × Step)) (w : World) → Reaches z ss w → WorldFacts z w
 says z ss w r = let l = lawful z ss w r in let h = w.trace in record {
   legal = legal z h l.legal;
   placed = placed z h l.legal;
