@@ -2,6 +2,7 @@ pub mod Made
 pub mod Refills
 pub mod Meeting
 pub mod OnePass
+pub mod Probing
 pub mod QuietPass
 pub mod Pairs
 pub mod AtRest

@@ -3,4 +3,5 @@ pub mod Commands
 pub mod Index
 pub mod Laws
 pub mod Meeting
+pub mod Probing
 pub mod Refilling

@@ -6,6 +6,7 @@ mod index;
 mod laws;
 mod lock;
 mod meet;
+mod probe;
 mod read;
 mod segment;
 mod serve;

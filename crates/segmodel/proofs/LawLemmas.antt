@@ -31,7 +31,7 @@ at_sym q k = by (is_at (key_cmp k) q) (is_at (key_cmp q) k) refl refl
     by false false ea eb = refl
 
 -- one more entry, of the key or not
-last_left-cons : (key : List ℕ) (entry : Entry) (history : List Entry) → last_left key (entry ∷ history) ≡ cond (is_change_of key entry) (left_by entry) (last_left key history)
+pub last_left-cons : (key : List ℕ) (entry : Entry) (history : List Entry) → last_left key (entry ∷ history) ≡ cond (is_change_of key entry) (left_by entry) (last_left key history)
 last_left-cons key entry history = elim (is_change_of key entry) as (λ b. option_and_then left_by (cond b (Some entry) (find (is_change_of key) history)) ≡ cond b (left_by entry) (last_left key history)) [ true ↦ refl | false ↦ refl ]
 
 pub stands_as_left : StandsAsLeft

@@ -1,5 +1,5 @@
 -- Laws: what the definitions come to. Each is proved as the contract of a function in src/laws.rt.
-use Rattle.std.specs.Prelude.{◌≡◌, ℕ, ◌+◌, ◌%◌, ◌^◌, ◌==◌, ◌<◌, Bool, true, false, is_some, IsSome, IsSomeAnd, List, [], ◌∷◌, ◌++◌, length, find, Option, Some, None, option_map, option_and_then, if◌then◌else◌}
+use Rattle.std.specs.Prelude.{◌≡◌, ◌⊎◌, ℕ, ◌+◌, ◌%◌, ◌^◌, ◌==◌, ◌<◌, Bool, true, false, is_some, IsSome, IsSomeAnd, List, [], ◌∷◌, ◌++◌, length, find, Option, Some, None, option_map, option_and_then, if◌then◌else◌}
 use Rattle.std.specs.BTreeMap.{is_at}
 use Rattle.std.specs.List.{AllByRecursion}
 use Rattle.std.specs.List.Sorted.{IsStrictlySortedBy}
@@ -27,7 +27,7 @@ use Rattle.segmodel.specs.declared.answer.Outcome.{Outcome}
 use Rattle.segmodel.specs.Places.{bucket_of}
 use Rattle.segmodel.specs.Request.{key_of, value_of}
 use Rattle.segmodel.specs.Cache.{Cache, key_cmp, standing, present, reads, reads_version, reply_in}
-use Rattle.segmodel.specs.History.{NoneStandsIn, Follows, next, after, IsLegal, Begins, is_of, entries_of, stirred, is_write_to, writes, IsSameAt}
+use Rattle.segmodel.specs.History.{NoneStandsIn, Follows, next, after, IsLegal, Begins, CameBetween, is_of, entries_of, stirred, is_write_to, writes, IsSameAt}
 use Rattle.segmodel.specs.State.{State, IsSound, fresh}
 use Rattle.segmodel.specs.Serving.{Serves, ServesStore, ServesDelete, reply_of_write, reply_of_delete}
 use Rattle.segmodel.specs.Turns.{Turns, Runs}
@@ -72,6 +72,30 @@ StandsAsLeft = (shape : Shape) (history : List Entry) (key : List ℕ) → IsLeg
 abbrev pub ReadsAsLeft : Type 0
 ReadsAsLeft = (shape : Shape) (history : List Entry) (key : List ℕ) → IsLegal shape history
     → reads (after shape history) key ≡ option_map (λ item. item.value) (last_left key history)
+
+-- ---- why a key reads otherwise later
+
+-- the entry takes the key out: it was deleted or evicted
+abbrev pub TakesKeyOut : List ℕ → Entry → Type 0
+TakesKeyOut key (Wrote pass request Deleted segment) = key_of request ≡ key
+TakesKeyOut key (Evicted pass other segment) = other ≡ key
+TakesKeyOut key _ = ⊥
+
+-- the entry stores this value under the key
+abbrev pub StoresValue : List ℕ → List ℕ → Entry → Type 0
+StoresValue key value (Wrote pass request Stored segment) = (key_of request ≡ key) × (value_of request ≡ value)
+StoresValue key value _ = ⊥
+
+-- if a key that read a value reads none later, it was taken out in between
+abbrev pub GoneIsTakenOut : Type 0
+GoneIsTakenOut = (shape : Shape) (old new : List Entry) (key value : List ℕ) → IsLegal shape new → Begins old new
+    → reads (after shape old) key ≡ Some value → reads (after shape new) key ≡ None → CameBetween (TakesKeyOut key) old new
+
+-- if it reads another value later, that one was stored under it in between
+abbrev pub ChangedIsStored : Type 0
+ChangedIsStored = (shape : Shape) (old new : List Entry) (key value other : List ℕ) → IsLegal shape new → Begins old new
+    → reads (after shape old) key ≡ Some value → reads (after shape new) key ≡ Some other
+    → (other ≡ value) ⊎ CameBetween (StoresValue key other) old new
 
 -- ---- versions
 

@@ -8,7 +8,7 @@ ghost use Rattle.segmodel.specs.History.{after, Begins, IsLegal, stirred};
 ghost use Rattle.segmodel.specs.State.{fresh};
 ghost use Rattle.segmodel.specs.Serving.{after_refill, Serves};
 ghost use Rattle.segmodel.specs.Example.{shape, a, one, two, added, deleted, whole};
-ghost use Rattle.segmodel.specs.Laws.{LongerIsLegal, EarlierIsLegal, ItemsAreInOrder, StandsAsLeft, ReadsAsLeft, VersionCountsWrites, OthersKeepVersion, EvictionKeepsVersions, UnwrittenKeepsCache, CasFailsWhereWritten, AddNeedsAbsent, ReplaceNeedsPresent, CasNeedsVersion, OtherBucketsAreKept, StirredCountsAdded, UnstirredReadsTheSame, IsKeptAtTheStart, ServingKeeps, CommandsKeep, TurnsKeep, RefilledWhereNoneStands, HeldIsNotRefilled, StoreIsAnEntry, DeleteIsAnEntry, EveryTurnIsAnswered, OnlyEvictChooses, ServingIsHistory};
+ghost use Rattle.segmodel.specs.Laws.{LongerIsLegal, EarlierIsLegal, ItemsAreInOrder, StandsAsLeft, ReadsAsLeft, GoneIsTakenOut, ChangedIsStored, VersionCountsWrites, OthersKeepVersion, EvictionKeepsVersions, UnwrittenKeepsCache, CasFailsWhereWritten, AddNeedsAbsent, ReplaceNeedsPresent, CasNeedsVersion, OtherBucketsAreKept, StirredCountsAdded, UnstirredReadsTheSame, IsKeptAtTheStart, ServingKeeps, CommandsKeep, TurnsKeep, RefilledWhereNoneStands, HeldIsNotRefilled, StoreIsAnEntry, DeleteIsAnEntry, EveryTurnIsAnswered, OnlyEvictChooses, ServingIsHistory};
 
 /// Legal histories grow by entries that follow, and were legal at each earlier moment; what stands after them is a map.
 pub fn legal_histories()
@@ -21,6 +21,12 @@ pub fn legal_histories()
 pub fn last_change_decides()
     ensures stands { StandsAsLeft }
     ensures reads { ReadsAsLeft }
+{}
+
+/// A key that read a value reads none later only if it was deleted or evicted in between, and another value only if that one was stored under it.
+pub fn reads_change_by_entries()
+    ensures gone { GoneIsTakenOut }
+    ensures changed { ChangedIsStored }
 {}
 
 /// The version of a bucket counts the keys stored and deleted in it, modulo 2^32, and nothing else.
