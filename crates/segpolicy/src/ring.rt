@@ -53,8 +53,9 @@ impl Ring {
     }
 }
 
-/// The law of rings. Call `i` from now on, counted from 0, answers the number `i` places on, and of as
-/// many calls in a row as the ring has numbers, exactly one answers each number.
+/// The law of rings.
+/// Call `i` from now on, counted from 0, answers the number `i` places on,
+/// and of as many calls in a row as the ring has numbers, exactly one answers each number.
 pub fn each_number_comes_once(ring: &Ring)
     ensures in_order { (n i : ℕ) → i < n
         → slice_index (answers n ring.now) i

@@ -27,9 +27,10 @@ impl Model for Workload {
 }
 
 impl Workload {
-    const KEYS: u32 = 64;
+    /// How many keys a workload has where nothing else is said: `k0` to `k63`.
+    pub const KEYS: u32 = 64;
 
-    /// The commands of a pass over the 64 keys `k0` to `k63`.
+    /// The commands of a pass over the keys `k0` to `k63`.
     pub fn new(seed: u64, pass: u32) -> Workload
         ensures { result ≡ draws_of seed pass 64 }
     {

@@ -1,6 +1,6 @@
 -- A word that an item has, has no other reading.
 use Rattle.std.proofs.Common.{◌≡◌, ap, sym, arith}
-use Rattle.segword.specs.declared.reading.Reading.{Reading}
+use Rattle.segword.specs.Words.{Reading}
 use Rattle.segword.specs.declared.reading.Reading.TheVariants.{Empty, Item, Chain}
 use Rattle.segword.specs.declared.item.Item as item_type
 use Rattle.segword.specs.ItemWord.{item_word}

@@ -8,8 +8,9 @@ use crate::words::words_of;
 use crate::{Key, Value};
 use std::marker::Model;
 
-/// A key as rows hold it: its length, and its bytes in three words. It is made once a call and then compared with
-/// rows, without a key being read out of each. Contracts see it as the list of the key's bytes.
+/// A key as rows hold it: its length, and its bytes in three words.
+/// It is made once a call and then compared with rows, without a key being read out of each.
+/// Contracts see it as the list of the key's bytes.
 #[derive(Clone, Copy, Debug)]
 pub struct KeyWords {
     words: [u64; 4],

@@ -29,12 +29,14 @@ impl Reading {
         }
     }
 
-    /// The reading of a word, or `None` where it is neither 0 nor an item's nor a chain's. No such word stands in a table.
+    /// The reading of a word, or `None` where it is neither 0 nor an item's nor a chain's.
+    /// No such word stands in a table.
     pub fn unpack(word: u64) -> Option<Reading>
         ensures variant { IsSome result ↔ HasReading word }
         ensures some { IfSome result (λ reading. reading_word reading ≡ word) }
         ensures valid { IfSome result IsProperReading }
-        ensures packed { (reading : Reading) → IsProperReading reading → reading_word reading ≡ word → result ≡ Some reading }
+        ensures packed { (reading : Reading) → IsProperReading reading
+            → reading_word reading ≡ word → result ≡ Some reading }
     {
         if word == 0 {
             return Some(Reading::Empty);

@@ -29,8 +29,9 @@ fn word_at(bytes: &[u8], from: usize) -> u64
     }
 }
 
-// The word of fewer than eight bytes. Where they are four or more (or two or more), the last four are shifted until
-// only what stands behind the first four is left.
+// The word of fewer than eight bytes.
+// Where they are four or more (or two or more),
+// the last four are shifted until only what stands behind the first four is left.
 fn short_word(bytes: &[u8]) -> u64
     requires { length bytes.now < 8 }
     ensures { result ≡ word_of bytes.now }

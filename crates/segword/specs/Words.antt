@@ -1,0 +1,29 @@
+-- The words of this crate that others use, from one place.
+pub use Rattle.segword.specs.Bytes.{IsKey, IsValue}
+pub use Rattle.segword.specs.ChainWord.{chain_word, IsChainWord}
+pub use Rattle.segword.specs.Fnv.{hash_of, tag_from_hash, with_byte}
+pub use Rattle.segword.specs.InfoWord.{info_word}
+pub use Rattle.segword.specs.ItemWord.{item_word, tag_part}
+pub use Rattle.segword.specs.Props.{either-prop, IsKey-prop, IsValid-prop, IsValue-prop, pair-prop}
+pub use Rattle.segword.specs.Props.{quadruple-prop, triple-prop}
+pub use Rattle.segword.specs.Reading.{IsProperReading, reading_word}
+pub use Rattle.segword.specs.Row.{row_of}
+pub use Rattle.segword.specs.SameItem.{IsSameItem}
+pub use Rattle.segword.specs.Shape.{fault_number, IsFirstFault, IsValid, word_count}
+use Rattle.segword.specs.declared.info.Info as declared_info
+use Rattle.segword.specs.declared.item.Item as declared_item
+use Rattle.segword.specs.declared.reading.Reading as declared_reading
+use Rattle.segword.specs.declared.shape.Shape as declared_shape
+
+-- The types of this crate that others name.
+abbrev pub Info : Type 0
+Info = declared_info.Info
+
+abbrev pub Item : Type 0
+Item = declared_item.Item
+
+abbrev pub Reading : Type 0
+Reading = declared_reading.Reading
+
+abbrev pub Shape : Type 0
+Shape = declared_shape.Shape
