@@ -4,28 +4,22 @@ use Rattle.std.proofs.lemmas.Bool.{false≢true, false_from_ne_true}
 use Rattle.std.proofs.lemmas.List.Folds.{Any-from_list_any}
 use Rattle.std.specs.List.{list_any}
 use Rattle.std.specs.BTreeMap.{is_at}
-use Rattle.segword.specs.declared.shape.Shape.{Shape}
-use Rattle.segmodel.specs.declared.request.Request.{Request}
+use Rattle.segword.specs.Words.{Shape}
+use Rattle.segmodel.specs.Words.{Answer, Cached, DeleteAnswer, EvictAnswer, Reply, Request}
+use Rattle.segmodel.specs.Words.{SegState, WriteAnswer}
 use Rattle.segmodel.specs.declared.request.Request.TheVariants.{Set, Add, Replace, Cas, Delete}
-use Rattle.segmodel.specs.declared.request.Reply.{Reply}
 use Rattle.segmodel.specs.declared.request.Reply.TheVariants as reply
-use Rattle.segmodel.specs.declared.entry.Cached.{Cached}
 use Rattle.segmodel.specs.declared.answer.Command.{Command}
 use Rattle.segmodel.specs.declared.answer.Command.TheVariants.{Write, Get, Gets, Evict, Refill}
-use Rattle.segmodel.specs.declared.answer.Answer.{Answer}
 use Rattle.segmodel.specs.declared.answer.Answer.TheVariants as answer
-use Rattle.segmodel.specs.declared.answer.WriteAnswer.{WriteAnswer}
 use Rattle.segmodel.specs.declared.answer.WriteAnswer.TheVariants as write
-use Rattle.segmodel.specs.declared.answer.DeleteAnswer.{DeleteAnswer}
 use Rattle.segmodel.specs.declared.answer.DeleteAnswer.TheVariants as delete
-use Rattle.segmodel.specs.declared.answer.EvictAnswer.{EvictAnswer}
 use Rattle.segmodel.specs.declared.answer.EvictAnswer.TheVariants as evict
-use Rattle.segmodel.specs.declared.answer.SegState.{SegState}
 use Rattle.segmodel.specs.declared.answer.SegState.TheVariants as segment_is
 use Rattle.segmodel.specs.declared.answer.Turn.TheVariants.{Serve, Hold, Held, Release, Lock, Unlock}
 use Rattle.segmodel.specs.declared.answer.Outcome.TheVariants as outcome
 use Rattle.segmodel.specs.Places.{bucket_of}
-use Rattle.segmodel.specs.Request.{key_of, is_store, reply_to}
+use Rattle.segmodel.specs.Request.{key_of, moment_of, is_store, reply_to}
 use Rattle.segmodel.specs.Cache.{key_cmp, standing, present, reply_in}
 use Rattle.segmodel.specs.History.{StandsIn}
 use Rattle.segmodel.specs.State.{State, is_among, is_stored, is_locked, IsSound}
@@ -72,17 +66,17 @@ evict_is_answered shape old segment kept = by (list_any (is_locked shape old) (o
 
 -- the answer that tells the reply to a request to store
 write_told : (request : Request) (here : Bool) (version : ℕ) → is_store request ≡ true → (a : WriteAnswer) × (reply_of_write a ≡ Some (reply_to request here version))
-write_told (Set key value) here version is = (write.Stored, refl)
-write_told (Add key value) true version is = (write.NotStored, refl)
-write_told (Add key value) false version is = (write.Stored, refl)
-write_told (Replace key value) true version is = (write.Stored, refl)
-write_told (Replace key value) false version is = (write.NotStored, refl)
-write_told (Cas key value expected) true version is = elim (version == expected) as (λ b. (a : WriteAnswer) × (reply_of_write a ≡ Some (cond b reply.Stored reply.Exists))) [
+write_told (Set key value now) here version is = (write.Stored, refl)
+write_told (Add key value now) true version is = (write.NotStored, refl)
+write_told (Add key value now) false version is = (write.Stored, refl)
+write_told (Replace key value now) true version is = (write.Stored, refl)
+write_told (Replace key value now) false version is = (write.NotStored, refl)
+write_told (Cas key value expected now) true version is = elim (version == expected) as (λ b. (a : WriteAnswer) × (reply_of_write a ≡ Some (cond b reply.Stored reply.Exists))) [
   | true ↦ (write.Stored, refl)
   | false ↦ (write.Exists, refl)
 ]
-write_told (Cas key value expected) false version is = (write.NotFound, refl)
-write_told (Delete key) here version is = absurd (false≢true is)
+write_told (Cas key value expected now) false version is = (write.NotFound, refl)
+write_told (Delete key now) here version is = absurd (false≢true is)
 
 store_is_answered : (shape : Shape) (old : State) (request : Request) → is_store request ≡ true → (given : WriteAnswer) × (new : State) × ServesStore shape old request given new
 store_is_answered shape old request is = by (refusal shape old request)
@@ -90,21 +84,21 @@ store_is_answered shape old request is = by (refusal shape old request)
     by : (why : Option WriteAnswer) → (given : WriteAnswer) × (new : State) × MatchOption why (IsReplied shape old request (reply_of_write given) new) (λ w. IsGiven w old given new)
     by (Some w) = (w, old, (refl, refl))
     by None =
-        let told = write_told request (is_some (present old.cache (key_of request))) (old.cache.version (bucket_of shape (key_of request))) is in
+        let told = write_told request (is_some (present old.cache (moment_of request) (key_of request))) (old.cache.version (bucket_of shape (key_of request))) is in
         (told.0, after_reply shape request (reply_in shape old.cache request) old, (told.1, refl))
 
-delete_is_answered : (shape : Shape) (old : State) (key : List ℕ) → (given : DeleteAnswer) × (new : State) × ServesDelete shape old key given new
-delete_is_answered shape old key = by (is_locked shape old key)
+delete_is_answered : (shape : Shape) (old : State) (key : List ℕ) (now : ℕ) → (given : DeleteAnswer) × (new : State) × ServesDelete shape old key now given new
+delete_is_answered shape old key now = by (is_locked shape old key)
   where
-    told : (here : Bool) (version : ℕ) → (a : DeleteAnswer) × (reply_of_delete a ≡ Some (reply_to (Delete key) here version))
+    told : (here : Bool) (version : ℕ) → (a : DeleteAnswer) × (reply_of_delete a ≡ Some (reply_to (Delete key now) here version))
     told true version = (delete.Deleted, refl)
     told false version = (delete.NotFound, refl)
 
-    by : (locked : Bool) → (given : DeleteAnswer) × (new : State) × MatchBool locked (IsGiven delete.Busy old given new) (IsReplied shape old (Delete key) (reply_of_delete given) new)
+    by : (locked : Bool) → (given : DeleteAnswer) × (new : State) × MatchBool locked (IsGiven delete.Busy old given new) (IsReplied shape old (Delete key now) (reply_of_delete given) new)
     by true = (delete.Busy, old, (refl, refl))
     by false =
-        let told' = told (is_some (present old.cache key)) (old.cache.version (bucket_of shape key)) in
-        (told'.0, after_reply shape (Delete key) (reply_in shape old.cache (Delete key)) old, (told'.1, refl))
+        let told' = told (is_some (present old.cache now key)) (old.cache.version (bucket_of shape key)) in
+        (told'.0, after_reply shape (Delete key now) (reply_in shape old.cache (Delete key now)) old, (told'.1, refl))
 
 evict_or_not : (shape : Shape) (old : State) (segment : ℕ) → IsSound shape old → (own : Bool) (is : SegState)
     → (given : EvictAnswer) × (new : State) × MatchBool own (ServesEvict shape old segment is given new) (IsGiven evict.NotYours old given new)
@@ -118,20 +112,20 @@ stored_is_answered : (shape : Shape) (old : State) (request : Request) → is_st
 stored_is_answered shape old request is = let a = store_is_answered shape old request is in (answer.Write a.0, a.1, (a.0, refl, a.2))
 
 command_is_answered : (shape : Shape) (old : State) (command : Command) → IsSound shape old → (given : Answer) × (new : State) × Serves shape old command given new
-command_is_answered shape old (Write (Set key value)) kept = stored_is_answered shape old (Set key value) refl
-command_is_answered shape old (Write (Add key value)) kept = stored_is_answered shape old (Add key value) refl
-command_is_answered shape old (Write (Replace key value)) kept = stored_is_answered shape old (Replace key value) refl
-command_is_answered shape old (Write (Cas key value expected)) kept = stored_is_answered shape old (Cas key value expected) refl
-command_is_answered shape old (Write (Delete key)) kept = let a = delete_is_answered shape old key in (answer.Delete a.0, a.1, (a.0, refl, a.2))
-command_is_answered shape old (Get key) kept = (_, _, (refl, refl))
-command_is_answered shape old (Gets key) kept = (_, _, (refl, refl))
+command_is_answered shape old (Write (Set key value now)) kept = stored_is_answered shape old (Set key value now) refl
+command_is_answered shape old (Write (Add key value now)) kept = stored_is_answered shape old (Add key value now) refl
+command_is_answered shape old (Write (Replace key value now)) kept = stored_is_answered shape old (Replace key value now) refl
+command_is_answered shape old (Write (Cas key value expected now)) kept = stored_is_answered shape old (Cas key value expected now) refl
+command_is_answered shape old (Write (Delete key now)) kept = let a = delete_is_answered shape old key now in (answer.Delete a.0, a.1, (a.0, refl, a.2))
+command_is_answered shape old (Get key now) kept = (_, _, (refl, refl))
+command_is_answered shape old (Gets key now) kept = (_, _, (refl, refl))
 command_is_answered shape old (Evict segment) kept =
     let a = evict_or_not shape old segment kept (is_own shape segment) (old.filling segment).state in (answer.Evict a.0, a.1, (a.0, refl, a.2))
-command_is_answered shape old (Refill segment) kept = (_, _, (refl, refl))
+command_is_answered shape old (Refill segment deadline) kept = (_, _, (refl, refl))
 
 pub every_turn_is_answered : EveryTurnIsAnswered
 every_turn_is_answered shape old (Serve command) kept = let a = command_is_answered shape old command kept in (outcome.Answered a.0, a.1, (a.0, refl, a.2))
-every_turn_is_answered shape old (Hold key) kept = (_, _, (refl, refl))
+every_turn_is_answered shape old (Hold key now) kept = (_, _, (refl, refl))
 every_turn_is_answered shape old Held kept = (_, _, (refl, refl))
 every_turn_is_answered shape old Release kept = (_, _, (refl, refl))
 every_turn_is_answered shape old (Lock key) kept = (_, _, (refl, refl))
@@ -180,12 +174,12 @@ same_store shape old new other request given told = by (refusal shape old reques
     by (Some w) one two = same_given one two
     by None one two = (write_from_reply told _ two.0 ∙ sym (write_from_reply given _ one.0), two.1 ∙ sym one.1)
 
-same_delete : (shape : Shape) (old new other : State) (key : List ℕ) (given told : DeleteAnswer)
-    → ServesDelete shape old key given new → ServesDelete shape old key told other → (told ≡ given) × (other ≡ new)
-same_delete shape old new other key given told = by (is_locked shape old key)
+same_delete : (shape : Shape) (old new other : State) (key : List ℕ) (now : ℕ) (given told : DeleteAnswer)
+    → ServesDelete shape old key now given new → ServesDelete shape old key now told other → (told ≡ given) × (other ≡ new)
+same_delete shape old new other key now given told = by (is_locked shape old key)
   where
-    by : (locked : Bool) → MatchBool locked (IsGiven delete.Busy old given new) (IsReplied shape old (Delete key) (reply_of_delete given) new)
-        → MatchBool locked (IsGiven delete.Busy old told other) (IsReplied shape old (Delete key) (reply_of_delete told) other) → (told ≡ given) × (other ≡ new)
+    by : (locked : Bool) → MatchBool locked (IsGiven delete.Busy old given new) (IsReplied shape old (Delete key now) (reply_of_delete given) new)
+        → MatchBool locked (IsGiven delete.Busy old told other) (IsReplied shape old (Delete key now) (reply_of_delete told) other) → (told ≡ given) × (other ≡ new)
     by true one two = same_given one two
     by false one two = (delete_from_reply told _ two.0 ∙ sym (delete_from_reply given _ one.0), two.1 ∙ sym one.1)
 
@@ -198,23 +192,23 @@ same_stored shape old new other request given told one two =
 
 same_command : (shape : Shape) (old new other : State) (command : Command) (given told : Answer) → is_evict (Serve command) ≡ false
     → Serves shape old command given new → Serves shape old command told other → (told ≡ given) × (other ≡ new)
-same_command shape old new other (Write (Set key value)) given told still one two = same_stored shape old new other (Set key value) given told one two
-same_command shape old new other (Write (Add key value)) given told still one two = same_stored shape old new other (Add key value) given told one two
-same_command shape old new other (Write (Replace key value)) given told still one two = same_stored shape old new other (Replace key value) given told one two
-same_command shape old new other (Write (Cas key value expected)) given told still one two = same_stored shape old new other (Cas key value expected) given told one two
-same_command shape old new other (Write (Delete key)) given told still one two =
-    let same = same_delete shape old new other key one.0 two.0 one.2 two.2 in
+same_command shape old new other (Write (Set key value now)) given told still one two = same_stored shape old new other (Set key value now) given told one two
+same_command shape old new other (Write (Add key value now)) given told still one two = same_stored shape old new other (Add key value now) given told one two
+same_command shape old new other (Write (Replace key value now)) given told still one two = same_stored shape old new other (Replace key value now) given told one two
+same_command shape old new other (Write (Cas key value expected now)) given told still one two = same_stored shape old new other (Cas key value expected now) given told one two
+same_command shape old new other (Write (Delete key now)) given told still one two =
+    let same = same_delete shape old new other key now one.0 two.0 one.2 two.2 in
     (two.1 ∙ ap answer.Delete same.0 ∙ sym one.1, same.1)
-same_command shape old new other (Get key) given told still one two = same_given one two
-same_command shape old new other (Gets key) given told still one two = same_given one two
+same_command shape old new other (Get key now) given told still one two = same_given one two
+same_command shape old new other (Gets key now) given told still one two = same_given one two
 same_command shape old new other (Evict segment) given told still one two = absurd (false≢true (sym still))
-same_command shape old new other (Refill segment) given told still one two = same_given one two
+same_command shape old new other (Refill segment deadline) given told still one two = same_given one two
 
 pub only_evict_chooses : OnlyEvictChooses
 only_evict_chooses shape old new other (Serve command) given told still one two =
     let same = same_command shape old new other command one.0 two.0 still one.2 two.2 in
     (two.1 ∙ ap outcome.Answered same.0 ∙ sym one.1, same.1)
-only_evict_chooses shape old new other (Hold key) given told still one two = same_given one two
+only_evict_chooses shape old new other (Hold key now) given told still one two = same_given one two
 only_evict_chooses shape old new other Held given told still one two = same_given one two
 only_evict_chooses shape old new other Release given told still one two = same_given one two
 only_evict_chooses shape old new other (Lock key) given told still one two = same_given one two

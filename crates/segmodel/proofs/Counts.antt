@@ -8,7 +8,7 @@ use Rattle.std.proofs.lemmas.Map.Lookups.{exact_bytes}
 use Rattle.std.specs.List.{list_all}
 use Rattle.std.specs.Ordering.{match_ordering}
 use Rattle.std.specs.BTreeMap.{insert_entry}
-use Rattle.segmodel.specs.declared.entry.Cached.{Cached}
+use Rattle.segmodel.specs.Words.{Cached}
 use Rattle.segmodel.specs.State.{is_in}
 use Rattle.segmodel.specs.Cache.{key_cmp}
 

@@ -8,23 +8,16 @@ use Rattle.std.specs.BTreeMap.{is_at}
 use Rattle.std.specs.Map.{keys_of, lookup}
 use Rattle.std.proofs.lemmas.Cmp.{nat_list_cmp_total}
 use Rattle.std.proofs.lemmas.List.{length_push}
-use Rattle.segword.specs.declared.shape.Shape.{Shape}
-use Rattle.segmodel.specs.declared.entry.Cached.{Cached}
-use Rattle.segmodel.specs.declared.entry.Entry.{Entry}
+use Rattle.segword.specs.Words.{Shape}
+use Rattle.segmodel.specs.Words.{Cached, DeleteAnswer, Entry, EvictAnswer, RefillAnswer, Reply}
+use Rattle.segmodel.specs.Words.{Request, SegState, WriteAnswer}
 use Rattle.segmodel.specs.declared.entry.Entry.TheVariants as entry
-use Rattle.segmodel.specs.declared.request.Request.{Request}
 use Rattle.segmodel.specs.declared.request.Request.TheVariants.{Set, Add, Replace, Cas, Delete}
-use Rattle.segmodel.specs.declared.request.Reply.{Reply}
 use Rattle.segmodel.specs.declared.answer.Command.TheVariants.{Write, Get, Gets, Evict, Refill}
 use Rattle.segmodel.specs.declared.answer.Answer.TheVariants as answer
-use Rattle.segmodel.specs.declared.answer.WriteAnswer.{WriteAnswer}
-use Rattle.segmodel.specs.declared.answer.DeleteAnswer.{DeleteAnswer}
 use Rattle.segmodel.specs.declared.answer.DeleteAnswer.TheVariants as delete
-use Rattle.segmodel.specs.declared.answer.EvictAnswer.{EvictAnswer}
 use Rattle.segmodel.specs.declared.answer.EvictAnswer.TheVariants as evict
-use Rattle.segmodel.specs.declared.answer.RefillAnswer.{RefillAnswer}
 use Rattle.segmodel.specs.declared.answer.RefillAnswer.TheVariants as refill
-use Rattle.segmodel.specs.declared.answer.SegState.{SegState}
 use Rattle.segmodel.specs.declared.answer.SegState.TheVariants as segment_is
 use Rattle.segmodel.specs.Places.{owner}
 use Rattle.segmodel.specs.Cache.{Cache, key_cmp}
@@ -155,20 +148,20 @@ store_goes_on shape old new request given history kept legal is served = by (rep
         let h = store_is_an_entry shape old new request given r kept served some in
         goes_by shape old new history (entry.Wrote 0 request r (stored_in r old.current)) legal is h.0 h.1 (λ more. more ≡ entry_of_reply old.current request (Some r)) refl
 
-delete_goes_on : (shape : Shape) (old new : State) (key : List ℕ) (given : DeleteAnswer) (history : List Entry) → IsLegal shape history
-    → old.cache ≡ after shape history → ServesDelete shape old key given new
-    → GoesOn shape history new.cache (λ more. more ≡ entry_of_reply old.current (Delete key) (reply_of_delete given))
-delete_goes_on shape old new key given history legal is served = by (reply_of_delete given) refl
+delete_goes_on : (shape : Shape) (old new : State) (key : List ℕ) (now : ℕ) (given : DeleteAnswer) (history : List Entry) → IsLegal shape history
+    → old.cache ≡ after shape history → ServesDelete shape old key now given new
+    → GoesOn shape history new.cache (λ more. more ≡ entry_of_reply old.current (Delete key now) (reply_of_delete given))
+delete_goes_on shape old new key now given history legal is served = by (reply_of_delete given) refl
   where
-    unreplied : (locked : Bool) → MatchBool locked (IsGiven delete.Busy old given new) (IsReplied shape old (Delete key) (reply_of_delete given) new) → reply_of_delete given ≡ None → new ≡ old
+    unreplied : (locked : Bool) → MatchBool locked (IsGiven delete.Busy old given new) (IsReplied shape old (Delete key now) (reply_of_delete given) new) → reply_of_delete given ≡ None → new ≡ old
     unreplied true refused none = refused.1
     unreplied false replied none = let no : None ≡ Some (_) = sym none ∙ replied.0 in cc
 
-    by : (told : Option Reply) → reply_of_delete given ≡ told → GoesOn shape history new.cache (λ more. more ≡ entry_of_reply old.current (Delete key) told)
+    by : (told : Option Reply) → reply_of_delete given ≡ told → GoesOn shape history new.cache (λ more. more ≡ entry_of_reply old.current (Delete key now) told)
     by None none = stays shape old new history (λ more. more ≡ []) legal is (unreplied (is_locked shape old key) served none) refl
     by (Some r) some =
-        let h = delete_is_an_entry shape old new key given r served some in
-        goes_by shape old new history (entry.Wrote 0 (Delete key) r (stored_in r old.current)) legal is h.0 h.1 (λ more. more ≡ entry_of_reply old.current (Delete key) (Some r)) refl
+        let h = delete_is_an_entry shape old new key now given r served some in
+        goes_by shape old new history (entry.Wrote 0 (Delete key now) r (stored_in r old.current)) legal is h.0 h.1 (λ more. more ≡ entry_of_reply old.current (Delete key now) (Some r)) refl
 
 -- the items that go out of an own segment
 taken_goes_on : (shape : Shape) (old : State) (cache : Cache) (segment count : ℕ) (goes : List ℕ × Cached → Bool) (history : List Entry) → IsLegal shape history
@@ -202,40 +195,40 @@ evict_goes_on shape old new segment (evict.Busy n) history legal is true own seg
     (λ e goes. in_there segment e (both _ _ (both _ _ goes).0).0) served.1.1 (ap (λ (s : State). s.cache) served.1.2)
 evict_goes_on shape old new segment evict.NotYours history legal is true own segment_is.InUse served = absurd served
 
-refill_goes_on : (shape : Shape) (old new : State) (segment : ℕ) (history : List Entry) → IsSound shape old → IsLegal shape history → old.cache ≡ after shape history
-    → (told : RefillAnswer) → cond (is_own shape segment) (refill_answer old segment (old.filling segment).state) refill.NotYours ≡ told → new ≡ after_refill segment told old
-    → GoesOn shape history new.cache (Adds old.current (Refill segment) (answer.Refill told))
-refill_goes_on shape old new segment history kept legal is refill.Refilled at left =
+refill_goes_on : (shape : Shape) (old new : State) (segment deadline : ℕ) (history : List Entry) → IsSound shape old → IsLegal shape history → old.cache ≡ after shape history
+    → (told : RefillAnswer) → cond (is_own shape segment) (refill_answer old segment (old.filling segment).state) refill.NotYours ≡ told → new ≡ after_refill segment deadline told old
+    → GoesOn shape history new.cache (Adds old.current (Refill segment deadline) (answer.Refill told))
+refill_goes_on shape old new segment deadline history kept legal is refill.Refilled at left =
     let mine = refills shape old segment (is_own shape segment) (old.filling segment).state at in
-    goes_by shape old new history (entry.Refilled 0 segment) legal is (none_stands shape old segment kept mine.1, first_owner shape segment (own_below segment shape.segments_each mine.0))
-    (ap (λ (s : State). s.cache) left) (Adds old.current (Refill segment) (answer.Refill refill.Refilled)) refl
-refill_goes_on shape old new segment history kept legal is refill.NotYours at left = stays shape old new history (λ more. more ≡ []) legal is left refl
-refill_goes_on shape old new segment history kept legal is refill.NotEvicted at left = stays shape old new history (λ more. more ≡ []) legal is left refl
-refill_goes_on shape old new segment history kept legal is refill.Held at left = stays shape old new history (λ more. more ≡ []) legal is left refl
+    goes_by shape old new history (entry.Refilled 0 segment deadline) legal is (none_stands shape old segment kept mine.1, first_owner shape segment (own_below segment shape.segments_each mine.0))
+    (ap (λ (s : State). s.cache) left) (Adds old.current (Refill segment deadline) (answer.Refill refill.Refilled)) refl
+refill_goes_on shape old new segment deadline history kept legal is refill.NotYours at left = stays shape old new history (λ more. more ≡ []) legal is left refl
+refill_goes_on shape old new segment deadline history kept legal is refill.NotEvicted at left = stays shape old new history (λ more. more ≡ []) legal is left refl
+refill_goes_on shape old new segment deadline history kept legal is refill.Held at left = stays shape old new history (λ more. more ≡ []) legal is left refl
 
 pub serving_is_history : ServingIsHistory
-serving_is_history shape old new (Write (Delete key)) given history kept legal is served =
-    let h = delete_goes_on shape old new key served.0 history legal is served.2 in
-    (h.0, h.1, h.2, subst (λ g. Adds old.current (Write (Delete key)) g h.0) (sym served.1) h.3)
-serving_is_history shape old new (Write (Set key value)) given history kept legal is served =
-    let h = store_goes_on shape old new (Set key value) served.0 history kept legal is served.2 in
-    (h.0, h.1, h.2, subst (λ g. Adds old.current (Write (Set key value)) g h.0) (sym served.1) h.3)
-serving_is_history shape old new (Write (Add key value)) given history kept legal is served =
-    let h = store_goes_on shape old new (Add key value) served.0 history kept legal is served.2 in
-    (h.0, h.1, h.2, subst (λ g. Adds old.current (Write (Add key value)) g h.0) (sym served.1) h.3)
-serving_is_history shape old new (Write (Replace key value)) given history kept legal is served =
-    let h = store_goes_on shape old new (Replace key value) served.0 history kept legal is served.2 in
-    (h.0, h.1, h.2, subst (λ g. Adds old.current (Write (Replace key value)) g h.0) (sym served.1) h.3)
-serving_is_history shape old new (Write (Cas key value expected)) given history kept legal is served =
-    let h = store_goes_on shape old new (Cas key value expected) served.0 history kept legal is served.2 in
-    (h.0, h.1, h.2, subst (λ g. Adds old.current (Write (Cas key value expected)) g h.0) (sym served.1) h.3)
-serving_is_history shape old new (Get key) given history kept legal is served =
-    stays shape old new history (Adds old.current (Get key) given) legal is served.1 (subst (λ g. Adds old.current (Get key) g []) (sym served.0) refl)
-serving_is_history shape old new (Gets key) given history kept legal is served =
-    stays shape old new history (Adds old.current (Gets key) given) legal is served.1 (subst (λ g. Adds old.current (Gets key) g []) (sym served.0) refl)
+serving_is_history shape old new (Write (Delete key now)) given history kept legal is served =
+    let h = delete_goes_on shape old new key now served.0 history legal is served.2 in
+    (h.0, h.1, h.2, subst (λ g. Adds old.current (Write (Delete key now)) g h.0) (sym served.1) h.3)
+serving_is_history shape old new (Write (Set key value now)) given history kept legal is served =
+    let h = store_goes_on shape old new (Set key value now) served.0 history kept legal is served.2 in
+    (h.0, h.1, h.2, subst (λ g. Adds old.current (Write (Set key value now)) g h.0) (sym served.1) h.3)
+serving_is_history shape old new (Write (Add key value now)) given history kept legal is served =
+    let h = store_goes_on shape old new (Add key value now) served.0 history kept legal is served.2 in
+    (h.0, h.1, h.2, subst (λ g. Adds old.current (Write (Add key value now)) g h.0) (sym served.1) h.3)
+serving_is_history shape old new (Write (Replace key value now)) given history kept legal is served =
+    let h = store_goes_on shape old new (Replace key value now) served.0 history kept legal is served.2 in
+    (h.0, h.1, h.2, subst (λ g. Adds old.current (Write (Replace key value now)) g h.0) (sym served.1) h.3)
+serving_is_history shape old new (Write (Cas key value expected now)) given history kept legal is served =
+    let h = store_goes_on shape old new (Cas key value expected now) served.0 history kept legal is served.2 in
+    (h.0, h.1, h.2, subst (λ g. Adds old.current (Write (Cas key value expected now)) g h.0) (sym served.1) h.3)
+serving_is_history shape old new (Get key now) given history kept legal is served =
+    stays shape old new history (Adds old.current (Get key now) given) legal is served.1 (subst (λ g. Adds old.current (Get key now) g []) (sym served.0) refl)
+serving_is_history shape old new (Gets key now) given history kept legal is served =
+    stays shape old new history (Adds old.current (Gets key now) given) legal is served.1 (subst (λ g. Adds old.current (Gets key now) g []) (sym served.0) refl)
 serving_is_history shape old new (Evict segment) given history kept legal is served =
     let h = evict_goes_on shape old new segment served.0 history legal is (is_own shape segment) refl (old.filling segment).state served.2 in
     (h.0, h.1, h.2, subst (λ g. Adds old.current (Evict segment) g h.0) (sym served.1) h.3)
-serving_is_history shape old new (Refill segment) given history kept legal is served =
-    let h = refill_goes_on shape old new segment history kept legal is _ refl served.1 in
-    (h.0, h.1, h.2, subst (λ g. Adds old.current (Refill segment) g h.0) (sym served.0) h.3)
+serving_is_history shape old new (Refill segment deadline) given history kept legal is served =
+    let h = refill_goes_on shape old new segment deadline history kept legal is _ refl served.1 in
+    (h.0, h.1, h.2, subst (λ g. Adds old.current (Refill segment deadline) g h.0) (sym served.0) h.3)

@@ -1,22 +1,21 @@
 -- The proofs of the laws about histories.
 use Rattle.std.proofs.Common.{◌≡◌, ℕ, ◌+◌, ◌==◌, ◌%◌, ◌^◌, Bool, true, false, cond, not, List, [], ◌∷◌, ◌++◌, Option, Some, None, is_some, refl, sym, ap, ◌∙◌, subst, arith, eq-eqb, inl, inr, count_by}
-use Rattle.std.specs.Prelude.{find, option_map, option_and_then}
+use Rattle.std.specs.Prelude.{find, option_map, option_and_then, unwrap_or}
 use Rattle.std.proofs.lemmas.Bool.{ne_eqb, cases_eq}
 use Rattle.std.specs.BTreeMap.{is_at}
-use Rattle.segword.specs.declared.shape.Shape.{Shape}
-use Rattle.segmodel.specs.declared.entry.Cached.{Cached}
+use Rattle.segword.specs.Words.{Shape}
+use Rattle.segmodel.specs.Words.{Cached, Entry}
 use Rattle.segmodel.specs.declared.request.Request.TheVariants.{Cas}
 use Rattle.segmodel.specs.declared.request.Reply.TheVariants.{Stored, NotStored, Exists, NotFound, Deleted}
-use Rattle.segmodel.specs.declared.entry.Entry.{Entry}
 use Rattle.segmodel.specs.declared.entry.Entry.TheVariants.{Wrote, Evicted, Refilled}
 use Rattle.segmodel.specs.Places.{bucket_of}
 use Rattle.segmodel.specs.Request.{key_of, value_of, reply_to}
 use Rattle.segmodel.specs.Cache.{Cache, key_cmp, standing, present}
 use Rattle.segmodel.specs.History.{Follows, next, after, IsLegal, is_of, entries_of, stirred, IsSameAt, writes}
-use Rattle.segmodel.specs.Laws.{is_change_of, left_by, last_left, EarlierIsLegal, StandsAsLeft, ReadsAsLeft, CasFailsWhereWritten, StirredCountsAdded, UnstirredReadsTheSame}
+use Rattle.segmodel.specs.Laws.{is_change_of, left_by, last_left, is_refill_of, deadline_set_by, EarlierIsLegal, StandsAsLeft, ReadsAsLeft, DeadlineAsSet, CasFailsWhereWritten, StirredCountsAdded, UnstirredReadsTheSame}
 use Rattle.segmodel.proofs.Counts.{count_by-cons}
 use Rattle.segmodel.proofs.Keys.{same_key, at_self}
-use Rattle.segmodel.proofs.HistoryLemmas.{standing-put, standing-without, NoneOf, after_others, IsLegal-older, version-after}
+use Rattle.segmodel.proofs.HistoryLemmas.{standing-put, standing-without, NoneOf, after_others, IsLegal-older, version-after, kept-deadlines}
 
 pub earlier_legal : EarlierIsLegal
 earlier_legal shape before now begins legal = IsLegal-older shape begins.0 before (subst (IsLegal shape) begins.1 legal)
@@ -30,9 +29,16 @@ at_sym q k = by (is_at (key_cmp k) q) (is_at (key_cmp q) k) refl refl
     by false true ea eb = sym ea ∙ ap (λ x. is_at (key_cmp x) q) (sym (same_key q k eb)) ∙ at_self q
     by false false ea eb = refl
 
+-- one more entry, which is looked for or not
+found-cons : {X : Type 0} (Is : Entry → Bool) (part : Entry → Option X) (entry : Entry) (history : List Entry)
+    → option_and_then part (find Is (entry ∷ history)) ≡ cond (Is entry) (part entry) (option_and_then part (find Is history))
+found-cons Is part entry history =
+    elim (Is entry) as (λ b. option_and_then part (cond b (Some entry) (find Is history)) ≡ cond b (part entry) (option_and_then part (find Is history)))
+    [ true ↦ refl | false ↦ refl ]
+
 -- one more entry, of the key or not
 pub last_left-cons : (key : List ℕ) (entry : Entry) (history : List Entry) → last_left key (entry ∷ history) ≡ cond (is_change_of key entry) (left_by entry) (last_left key history)
-last_left-cons key entry history = elim (is_change_of key entry) as (λ b. option_and_then left_by (cond b (Some entry) (find (is_change_of key) history)) ≡ cond b (left_by entry) (last_left key history)) [ true ↦ refl | false ↦ refl ]
+last_left-cons key entry history = found-cons (is_change_of key) left_by entry history
 
 pub stands_as_left : StandsAsLeft
 stands_as_left shape [] key legal = refl
@@ -58,10 +64,25 @@ stands_as_left shape (entry ∷ history) key legal =
     by (Wrote pass request Exists s) follows rest = rest
     by (Wrote pass request NotFound s) follows rest = rest
     by (Evicted pass k s) follows rest = standing-without k cache key ∙ gone k rest
-    by (Refilled pass s) follows rest = rest
+    by (Refilled pass s d) follows rest = rest
 
 pub reads_as_left : ReadsAsLeft
-reads_as_left shape history key legal = ap (λ o. option_map (λ item. item.value) o) (stands_as_left shape history key legal)
+reads_as_left shape history now key legal = ap (λ o. option_map (λ item. item.value) o) (stands_as_left shape history key legal)
+
+pub deadline_as_set : DeadlineAsSet
+deadline_as_set shape [] segment = refl
+deadline_as_set shape (entry ∷ history) segment =
+    by entry (deadline_as_set shape history segment) ∙ sym (ap (λ o. unwrap_or o 0) (found-cons (is_refill_of segment) deadline_set_by entry history))
+  where
+    rest : Option ℕ
+    rest = option_and_then deadline_set_by (find (is_refill_of segment) history)
+
+    by : (entry : Entry) → (after shape history).deadline segment ≡ unwrap_or rest 0
+        → (next shape (after shape history) entry).deadline segment ≡ unwrap_or (cond (is_refill_of segment entry) (deadline_set_by entry) rest) 0
+    by (Wrote pass request reply s) set = ap (λ d. d segment) (kept-deadlines shape request reply s (after shape history)) ∙ set
+    by (Evicted pass k s) set = set
+    by (Refilled pass s d) set =
+        elim (s == segment) as (λ b. cond b d ((after shape history).deadline segment) ≡ unwrap_or (cond b (Some d) rest) 0) [ true ↦ refl | false ↦ set ]
 
 -- two sums with one number are equal modulo 2^32 where the others are
 same_version : (first m n : ℕ) → ((first + m) % 2 ^ 32 == (first + n) % 2 ^ 32) ≡ (m % 2 ^ 32 == n % 2 ^ 32)
@@ -78,17 +99,17 @@ read_version {v = v} (Some x) seen version e =
     sym (ap (λ (p : List ℕ × ℕ). p.1) pair)
 
 pub cas_fails : CasFailsWhereWritten
-cas_fails shape before now key seen value version small legal begins read = by (is_some (present (after shape now) key))
+cas_fails shape old new now later key seen value version small legal begins read = by (is_some (present (after shape new) later key))
   where
     b : ℕ
     b = bucket_of shape key
 
-    test : ((after shape now).version b == version) ≡ (writes shape now b % 2 ^ 32 == writes shape before b % 2 ^ 32)
-    test = (λ i. version-after shape now b small legal i == (read_version (present (after shape before) key) seen version read ∙ version-after shape before b small (earlier_legal shape before now begins legal)) i)
-        ∙ same_version shape.first_version (writes shape now b) (writes shape before b)
+    test : ((after shape new).version b == version) ≡ (writes shape new b % 2 ^ 32 == writes shape old b % 2 ^ 32)
+    test = (λ i. version-after shape new b small legal i == (read_version (present (after shape old) now key) seen version read ∙ version-after shape old b small (earlier_legal shape old new begins legal)) i)
+        ∙ same_version shape.first_version (writes shape new b) (writes shape old b)
 
-    by : (here : Bool) → reply_to (Cas key value version) here ((after shape now).version b)
-        ≡ cond here (cond (writes shape now b % 2 ^ 32 == writes shape before b % 2 ^ 32) Stored Exists) NotFound
+    by : (here : Bool) → reply_to (Cas key value version later) here ((after shape new).version b)
+        ≡ cond here (cond (writes shape new b % 2 ^ 32 == writes shape old b % 2 ^ 32) Stored Exists) NotFound
     by true = ap (λ t. cond t Stored Exists) test
     by false = refl
 
@@ -117,10 +138,10 @@ none_counted shape b (entry ∷ more) none = by (is_of shape b entry) refl (coun
     by false is sum rest = (is, rest (omega arith))
 
 pub unstirred : UnstirredReadsTheSame
-unstirred shape before now key begins still =
-    let counts : entries_of shape (bucket_of shape key) begins.0 ≡ 0 = sym (stirred_counts shape before begins.0 key) ∙ ap (stirred shape key before) (sym begins.1) ∙ still in
-    let same : IsSameAt shape (after shape before) (after shape (begins.0 ++ before)) key = after_others shape begins.0 before key (none_counted shape _ begins.0 counts) in
-    let here : IsSameAt shape (after shape before) (after shape now) key = subst (λ h. IsSameAt shape (after shape before) (after shape h) key) (sym begins.1) same in (
+unstirred shape old new now key begins still =
+    let counts : entries_of shape (bucket_of shape key) begins.0 ≡ 0 = sym (stirred_counts shape old begins.0 key) ∙ ap (stirred shape key old) (sym begins.1) ∙ still in
+    let same : IsSameAt shape (after shape old) (after shape (begins.0 ++ old)) key = after_others shape begins.0 old key (none_counted shape _ begins.0 counts) in
+    let here : IsSameAt shape (after shape old) (after shape new) key = subst (λ h. IsSameAt shape (after shape old) (after shape h) key) (sym begins.1) same in (
       ap (λ o. option_map (λ (item : Cached). item.value) o) here.stands,
       (λ i. option_map {U = List ℕ × ℕ} (λ item. (item.value, here.version i)) (here.stands i)),
     )

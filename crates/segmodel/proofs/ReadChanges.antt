@@ -3,10 +3,9 @@ use Rattle.std.proofs.Common.{◌≡◌, ℕ, Bool, true, false, cond, List, [],
 use Rattle.std.specs.Prelude.{◌⊎◌, option_map}
 use Rattle.std.proofs.lemmas.Bool.{false≢true}
 use Rattle.std.proofs.lemmas.Option.{none-some, same_Some}
-use Rattle.segword.specs.declared.shape.Shape.{Shape}
-use Rattle.segmodel.specs.declared.entry.Cached.{Cached}
+use Rattle.segword.specs.Words.{Shape}
+use Rattle.segmodel.specs.Words.{Cached, Entry}
 use Rattle.segmodel.specs.declared.request.Reply.TheVariants.{Stored, NotStored, Exists, NotFound, Deleted}
-use Rattle.segmodel.specs.declared.entry.Entry.{Entry}
 use Rattle.segmodel.specs.declared.entry.Entry.TheVariants.{Wrote, Evicted, Refilled}
 use Rattle.segmodel.specs.Request.{key_of, value_of}
 use Rattle.segmodel.specs.Cache.{reads}
@@ -28,63 +27,63 @@ changes shape history key (Wrote pass request NotStored s) read follows is e = a
 changes shape history key (Wrote pass request Exists s) read follows is e = absurd (false≢true is)
 changes shape history key (Wrote pass request NotFound s) read follows is e = absurd (false≢true is)
 changes shape history key (Evicted pass k s) read follows is e = inl (sym (same_key key k is), e)
-changes shape history key (Refilled pass s) read follows is e = absurd (false≢true is)
+changes shape history key (Refilled pass s d) read follows is e = absurd (false≢true is)
 
 -- one more entry leaves what the key reads, or changes it
-one_more : (shape : Shape) (history : List Entry) (key : List ℕ) (entry : Entry) → IsLegal shape (entry ∷ history)
-    → (reads (after shape (entry ∷ history)) key ≡ reads (after shape history) key) ⊎ Changes key entry (reads (after shape (entry ∷ history)) key)
-one_more shape history key entry legal = by (is_change_of key entry) refl
+one_more : (shape : Shape) (history : List Entry) (now : ℕ) (key : List ℕ) (entry : Entry) → IsLegal shape (entry ∷ history)
+    → (reads (after shape (entry ∷ history)) now key ≡ reads (after shape history) now key) ⊎ Changes key entry (reads (after shape (entry ∷ history)) now key)
+one_more shape history now key entry legal = by (is_change_of key entry) refl
   where
     value_in : Option Cached → Option (List ℕ)
     value_in o = option_map (λ item. item.value) o
 
-    read : (b : Bool) → is_change_of key entry ≡ b → reads (after shape (entry ∷ history)) key ≡ value_in (cond b (left_by entry) (last_left key history))
-    read b is = reads_as_left shape (entry ∷ history) key legal ∙ ap value_in (last_left-cons key entry history ∙ ap (λ c. cond c (left_by entry) (last_left key history)) is)
+    read : (b : Bool) → is_change_of key entry ≡ b → reads (after shape (entry ∷ history)) now key ≡ value_in (cond b (left_by entry) (last_left key history))
+    read b is = reads_as_left shape (entry ∷ history) now key legal ∙ ap value_in (last_left-cons key entry history ∙ ap (λ c. cond c (left_by entry) (last_left key history)) is)
 
     by : (b : Bool) → is_change_of key entry ≡ b
-        → (reads (after shape (entry ∷ history)) key ≡ reads (after shape history) key) ⊎ Changes key entry (reads (after shape (entry ∷ history)) key)
+        → (reads (after shape (entry ∷ history)) now key ≡ reads (after shape history) now key) ⊎ Changes key entry (reads (after shape (entry ∷ history)) now key)
     by true is = inr (changes shape history key entry _ legal.1 is (read true is))
-    by false is = inl (read false is ∙ sym (reads_as_left shape history key legal.0))
+    by false is = inl (read false is ∙ sym (reads_as_left shape history now key legal.0))
 
 -- what came in between came in between still, with one entry more
 later : (Is : Entry → Type 0) (entry : Entry) (old new : List Entry) → CameBetween Is old new → CameBetween Is old (entry ∷ new)
 later Is entry old new came = (came.0, (came.1.0, came.1.1, (entry ∷ came.1.2.0, ap (λ l. entry ∷ l) came.1.2.1), came.1.3))
 
-gone_since : (shape : Shape) (old more : List Entry) (key value : List ℕ) → IsLegal shape (more ++ old)
-    → reads (after shape old) key ≡ Some value → reads (after shape (more ++ old)) key ≡ None → CameBetween (TakesKeyOut key) old (more ++ old)
-gone_since shape old [] key value legal was none = absurd (none-some value (sym none ∙ was))
-gone_since shape old (entry ∷ more) key value legal was none = by (gone_since shape old more key value legal.0 was) (one_more shape (more ++ old) key entry legal)
+gone_since : (shape : Shape) (old more : List Entry) (now : ℕ) (key value : List ℕ) → IsLegal shape (more ++ old)
+    → reads (after shape old) now key ≡ Some value → reads (after shape (more ++ old)) now key ≡ None → CameBetween (TakesKeyOut key) old (more ++ old)
+gone_since shape old [] now key value legal was none = absurd (none-some value (sym none ∙ was))
+gone_since shape old (entry ∷ more) now key value legal was none = by (gone_since shape old more now key value legal.0 was) (one_more shape (more ++ old) now key entry legal)
   where
-    by : (reads (after shape (more ++ old)) key ≡ None → CameBetween (TakesKeyOut key) old (more ++ old))
-        → (reads (after shape (entry ∷ (more ++ old))) key ≡ reads (after shape (more ++ old)) key) ⊎ Changes key entry (reads (after shape (entry ∷ (more ++ old))) key)
+    by : (reads (after shape (more ++ old)) now key ≡ None → CameBetween (TakesKeyOut key) old (more ++ old))
+        → (reads (after shape (entry ∷ (more ++ old))) now key ≡ reads (after shape (more ++ old)) now key) ⊎ Changes key entry (reads (after shape (entry ∷ (more ++ old))) now key)
         → CameBetween (TakesKeyOut key) old (entry ∷ (more ++ old))
     by before (inl same) = later (TakesKeyOut key) entry old (more ++ old) (before (sym same ∙ none))
     by before (inr (inl out)) = (entry, (more ++ old, (more, refl), ([], refl), out.0))
     by before (inr (inr stored)) = absurd (none-some stored.0 (sym none ∙ stored.2))
 
-changed_since : (shape : Shape) (old more : List Entry) (key value other : List ℕ) → IsLegal shape (more ++ old)
-    → reads (after shape old) key ≡ Some value → reads (after shape (more ++ old)) key ≡ Some other
+changed_since : (shape : Shape) (old more : List Entry) (now : ℕ) (key value other : List ℕ) → IsLegal shape (more ++ old)
+    → reads (after shape old) now key ≡ Some value → reads (after shape (more ++ old)) now key ≡ Some other
     → (other ≡ value) ⊎ CameBetween (StoresValue key other) old (more ++ old)
-changed_since shape old [] key value other legal was read = inl (same_Some other value (sym read ∙ was))
-changed_since shape old (entry ∷ more) key value other legal was read = by (changed_since shape old more key value other legal.0 was) (one_more shape (more ++ old) key entry legal)
+changed_since shape old [] now key value other legal was read = inl (same_Some other value (sym read ∙ was))
+changed_since shape old (entry ∷ more) now key value other legal was read = by (changed_since shape old more now key value other legal.0 was) (one_more shape (more ++ old) now key entry legal)
   where
     still : (other ≡ value) ⊎ CameBetween (StoresValue key other) old (more ++ old) → (other ≡ value) ⊎ CameBetween (StoresValue key other) old (entry ∷ (more ++ old))
     still (inl same) = inl same
     still (inr came) = inr (later (StoresValue key other) entry old (more ++ old) came)
 
-    by : (reads (after shape (more ++ old)) key ≡ Some other → (other ≡ value) ⊎ CameBetween (StoresValue key other) old (more ++ old))
-        → (reads (after shape (entry ∷ (more ++ old))) key ≡ reads (after shape (more ++ old)) key) ⊎ Changes key entry (reads (after shape (entry ∷ (more ++ old))) key)
+    by : (reads (after shape (more ++ old)) now key ≡ Some other → (other ≡ value) ⊎ CameBetween (StoresValue key other) old (more ++ old))
+        → (reads (after shape (entry ∷ (more ++ old))) now key ≡ reads (after shape (more ++ old)) now key) ⊎ Changes key entry (reads (after shape (entry ∷ (more ++ old))) now key)
         → (other ≡ value) ⊎ CameBetween (StoresValue key other) old (entry ∷ (more ++ old))
     by before (inl same) = still (before (sym same ∙ read))
     by before (inr (inl out)) = absurd (none-some other (sym out.1 ∙ read))
     by before (inr (inr stored)) = inr (entry, (more ++ old, (more, refl), ([], refl), subst (λ v. StoresValue key v entry) (same_Some stored.0 other (sym stored.2 ∙ read)) stored.1))
 
 pub gone_is_taken_out : GoneIsTakenOut
-gone_is_taken_out shape old new key value legal begins was none =
+gone_is_taken_out shape old new now later key value legal begins was none =
     subst (CameBetween (TakesKeyOut key) old) (sym begins.1)
-    (gone_since shape old begins.0 key value (subst (IsLegal shape) begins.1 legal) was (subst (λ h. reads (after shape h) key ≡ None) begins.1 none))
+    (gone_since shape old begins.0 now key value (subst (IsLegal shape) begins.1 legal) was (subst (λ h. reads (after shape h) later key ≡ None) begins.1 none))
 
 pub changed_is_stored : ChangedIsStored
-changed_is_stored shape old new key value other legal begins was read =
+changed_is_stored shape old new now later key value other legal begins was read =
     subst (λ h. (other ≡ value) ⊎ CameBetween (StoresValue key other) old h) (sym begins.1)
-    (changed_since shape old begins.0 key value other (subst (IsLegal shape) begins.1 legal) was (subst (λ h. reads (after shape h) key ≡ Some other) begins.1 read))
+    (changed_since shape old begins.0 now key value other (subst (IsLegal shape) begins.1 legal) was (subst (λ h. reads (after shape h) later key ≡ Some other) begins.1 read))

@@ -4,25 +4,17 @@ use Rattle.std.proofs.lemmas.Bool.{false≢true}
 use Rattle.std.specs.List.{list_all}
 use Rattle.std.specs.Map.{lookup}
 use Rattle.std.specs.BTreeMap.{is_at}
-use Rattle.segword.specs.declared.shape.Shape.{Shape}
-use Rattle.segmodel.specs.declared.entry.Cached.{Cached}
-use Rattle.segmodel.specs.declared.request.Request.{Request}
+use Rattle.segword.specs.Words.{Shape}
+use Rattle.segmodel.specs.Words.{Cached, DeleteAnswer, EvictAnswer, Outcome, RefillAnswer, Reply}
+use Rattle.segmodel.specs.Words.{Request, SegState, Turn, WriteAnswer}
 use Rattle.segmodel.specs.declared.request.Request.TheVariants.{Set, Add, Replace, Cas, Delete}
-use Rattle.segmodel.specs.declared.request.Reply.{Reply}
 use Rattle.segmodel.specs.declared.request.Reply.TheVariants as reply
-use Rattle.segmodel.specs.declared.answer.WriteAnswer.{WriteAnswer}
 use Rattle.segmodel.specs.declared.answer.WriteAnswer.TheVariants as write
-use Rattle.segmodel.specs.declared.answer.DeleteAnswer.{DeleteAnswer}
 use Rattle.segmodel.specs.declared.answer.DeleteAnswer.TheVariants as delete
-use Rattle.segmodel.specs.declared.answer.EvictAnswer.{EvictAnswer}
 use Rattle.segmodel.specs.declared.answer.EvictAnswer.TheVariants as evict
-use Rattle.segmodel.specs.declared.answer.RefillAnswer.{RefillAnswer}
 use Rattle.segmodel.specs.declared.answer.RefillAnswer.TheVariants as refill
-use Rattle.segmodel.specs.declared.answer.SegState.{SegState}
 use Rattle.segmodel.specs.declared.answer.SegState.TheVariants.{Empty, InUse, Evicted}
 use Rattle.segmodel.specs.declared.answer.Command.TheVariants.{Write, Get, Gets, Evict, Refill}
-use Rattle.segmodel.specs.declared.answer.Turn.{Turn}
-use Rattle.segmodel.specs.declared.answer.Outcome.{Outcome}
 use Rattle.segmodel.specs.declared.answer.Turn.TheVariants.{Serve, Hold, Held, Release, Lock, Unlock}
 use Rattle.segmodel.specs.Places.{bucket_of}
 use Rattle.segmodel.specs.Request.{key_of, value_of, reply_to}
@@ -83,16 +75,16 @@ store_kept shape old new request given kept served = elim (refused_or (is_out_of
       | inr replied ↦ IsKept-same replied.2.1 (replied_kept shape request (reply_in shape old.cache request) old kept replied.0 replied.1 refl)
     ]
 
-delete_kept : (shape : Shape) (old new : State) (key : List ℕ) (given : DeleteAnswer) → IsSound shape old → ServesDelete shape old key given new → IsSound shape new
-delete_kept shape old new key given kept served = by (is_locked shape old key) served
+delete_kept : (shape : Shape) (old new : State) (key : List ℕ) (now : ℕ) (given : DeleteAnswer) → IsSound shape old → ServesDelete shape old key now given new → IsSound shape new
+delete_kept shape old new key now given kept served = by (is_locked shape old key) served
   where
-    gone : (here : Bool) (version : ℕ) → new ≡ after_reply shape (Delete key) (reply_to (Delete key) here version) old → IsSound shape new
+    gone : (here : Bool) (version : ℕ) → new ≡ after_reply shape (Delete key now) (reply_to (Delete key now) here version) old → IsSound shape new
     gone true version left = IsKept-same left (IsKept-deleted shape key old kept)
     gone false version left = IsKept-same left kept
 
-    by : (locked : Bool) → MatchBool locked (IsGiven delete.Busy old given new) (IsReplied shape old (Delete key) (reply_of_delete given) new) → IsSound shape new
+    by : (locked : Bool) → MatchBool locked (IsGiven delete.Busy old given new) (IsReplied shape old (Delete key now) (reply_of_delete given) new) → IsSound shape new
     by true busy = IsKept-same busy.1 kept
-    by false replied = gone (is_some (present old.cache key)) (old.cache.version (bucket_of shape key)) replied.1
+    by false replied = gone (is_some (present old.cache now key)) (old.cache.version (bucket_of shape key)) replied.1
 
 -- ---- evict and refill
 
@@ -116,27 +108,27 @@ refills shape state segment true Evicted e = (refl, refl)
 refills shape state segment true InUse e = cc
 refills shape state segment false is e = cc
 
-refill_kept : (shape : Shape) (old : State) (segment : ℕ) → IsSound shape old → (given : RefillAnswer)
-    → cond (is_own shape segment) (refill_answer old segment (old.filling segment).state) refill.NotYours ≡ given → IsSound shape (after_refill segment given old)
-refill_kept shape old segment kept refill.Refilled e =
+refill_kept : (shape : Shape) (old : State) (segment deadline : ℕ) → IsSound shape old → (given : RefillAnswer)
+    → cond (is_own shape segment) (refill_answer old segment (old.filling segment).state) refill.NotYours ≡ given → IsSound shape (after_refill segment deadline given old)
+refill_kept shape old segment deadline kept refill.Refilled e =
     let own = refills shape old segment (is_own shape segment) (old.filling segment).state e in
-    IsKept-refilled shape segment old kept own.1 (own_below segment shape.segments_each own.0)
-refill_kept shape old segment kept refill.NotYours e = kept
-refill_kept shape old segment kept refill.NotEvicted e = kept
-refill_kept shape old segment kept refill.Held e = kept
+    IsKept-refilled shape segment deadline old kept own.1 (own_below segment shape.segments_each own.0)
+refill_kept shape old segment deadline kept refill.NotYours e = kept
+refill_kept shape old segment deadline kept refill.NotEvicted e = kept
+refill_kept shape old segment deadline kept refill.Held e = kept
 
 -- ---- commands and turns
 
 pub serving_keeps : ServingKeeps
-serving_keeps shape old new (Write (Delete key)) given kept served = delete_kept shape old new key served.0 kept served.2
-serving_keeps shape old new (Write (Set key value)) given kept served = store_kept shape old new (Set key value) served.0 kept served.2
-serving_keeps shape old new (Write (Add key value)) given kept served = store_kept shape old new (Add key value) served.0 kept served.2
-serving_keeps shape old new (Write (Replace key value)) given kept served = store_kept shape old new (Replace key value) served.0 kept served.2
-serving_keeps shape old new (Write (Cas key value expected)) given kept served = store_kept shape old new (Cas key value expected) served.0 kept served.2
-serving_keeps shape old new (Get key) given kept served = IsKept-same served.1 kept
-serving_keeps shape old new (Gets key) given kept served = IsKept-same served.1 kept
+serving_keeps shape old new (Write (Delete key now)) given kept served = delete_kept shape old new key now served.0 kept served.2
+serving_keeps shape old new (Write (Set key value now)) given kept served = store_kept shape old new (Set key value now) served.0 kept served.2
+serving_keeps shape old new (Write (Add key value now)) given kept served = store_kept shape old new (Add key value now) served.0 kept served.2
+serving_keeps shape old new (Write (Replace key value now)) given kept served = store_kept shape old new (Replace key value now) served.0 kept served.2
+serving_keeps shape old new (Write (Cas key value expected now)) given kept served = store_kept shape old new (Cas key value expected now) served.0 kept served.2
+serving_keeps shape old new (Get key now) given kept served = IsKept-same served.1 kept
+serving_keeps shape old new (Gets key now) given kept served = IsKept-same served.1 kept
 serving_keeps shape old new (Evict segment) given kept served = evict_or shape old new segment served.0 (is_own shape segment) kept served.2
-serving_keeps shape old new (Refill segment) given kept served = IsKept-same served.1 (refill_kept shape old segment kept _ refl)
+serving_keeps shape old new (Refill segment deadline) given kept served = IsKept-same served.1 (refill_kept shape old segment deadline kept _ refl)
 
 -- what is found under a key passes the test that all items pass
 pub found_passes : (p : List ℕ × Cached → Bool) (key : List ℕ) (item : Cached) (items : List (List ℕ × Cached)) → list_all p items ≡ true
@@ -154,16 +146,16 @@ found_passes p key item (e ∷ es) all found =
     by false is found rest = rest found
 
 -- what stands is in a segment that was filled
-filled : (shape : Shape) (state : State) (key : List ℕ) (item : Cached) → IsSound shape state → present state.cache key ≡ Some item → (state.filling item.segment).state ≢ Empty
-filled shape state key item kept found empty =
+filled : (shape : Shape) (state : State) (now : ℕ) (key : List ℕ) (item : Cached) → IsSound shape state → present state.cache now key ≡ Some item → (state.filling item.segment).state ≢ Empty
+filled shape state now key item kept found empty =
     let stored = found_passes (is_stored state.filling) key item state.cache.items kept.items found in
     false≢true (sym (ap is_in_use empty) ∙ (both _ _ stored).0)
 
 -- what is held then is in a segment that was filled
-held_filled : (shape : Shape) (state : State) (key : List ℕ) → IsSound shape state → (held : Option Cached) → state.held ≡ held
-    → (item : Cached) → held_after held (present state.cache key) ≡ Some item → (state.filling item.segment).state ≢ Empty
-held_filled shape state key kept None is item e = filled shape state key item kept e
-held_filled shape state key kept (Some x) is item e = kept.held item (is ∙ e)
+held_filled : (shape : Shape) (state : State) (now : ℕ) (key : List ℕ) → IsSound shape state → (held : Option Cached) → state.held ≡ held
+    → (item : Cached) → held_after held (present state.cache now key) ≡ Some item → (state.filling item.segment).state ≢ Empty
+held_filled shape state now key kept None is item e = filled shape state now key item kept e
+held_filled shape state now key kept (Some x) is item e = kept.held item (is ∙ e)
 
 -- a hold of an item whose segment was filled, and a lock
 aside : (shape : Shape) (old new : State) (held : Option Cached) (locked : Option ℕ) → IsSound shape old
@@ -183,7 +175,7 @@ aside shape old new held locked kept filled is = IsKept-same is (record {
 
 turn_keeps : (shape : Shape) (old new : State) (turn : Turn) (given : Outcome) → IsSound shape old → Turns shape old turn given new → IsSound shape new
 turn_keeps shape old new (Serve command) given kept turns = serving_keeps shape old new command turns.0 kept turns.2
-turn_keeps shape old new (Hold key) given kept turns = aside shape old new _ old.locked kept (held_filled shape old key kept old.held refl) turns.1
+turn_keeps shape old new (Hold key now) given kept turns = aside shape old new _ old.locked kept (held_filled shape old now key kept old.held refl) turns.1
 turn_keeps shape old new Held given kept turns = IsKept-same turns.1 kept
 turn_keeps shape old new Release given kept turns = aside shape old new None old.locked kept (λ item e. cc) turns.1
 turn_keeps shape old new (Lock key) given kept turns = aside shape old new old.held _ kept kept.held turns.1
@@ -215,14 +207,14 @@ none_stands shape state segment kept unused key stands = by (standing state.cach
         false≢true (sym unused ∙ ap (λ s. is_in_use (state.filling s).state) (sym same) ∙ (both _ _ stored).0)
 
 pub refilled_where_none : RefilledWhereNoneStands
-refilled_where_none shape old new segment kept served =
+refilled_where_none shape old new segment deadline kept served =
     let given : cond (is_own shape segment) (refill_answer old segment (old.filling segment).state) refill.NotYours ≡ refill.Refilled = cc in
     none_stands shape old segment kept (refills shape old segment (is_own shape segment) (old.filling segment).state given).1
 
 -- ---- a held item's segment
 
 pub held_is_not_refilled : HeldIsNotRefilled
-held_is_not_refilled shape old new item kept is served = by (is_own shape item.segment) (old.filling item.segment).state refl given
+held_is_not_refilled shape old new item deadline kept is served = by (is_own shape item.segment) (old.filling item.segment).state refl given
   where
     told : RefillAnswer
     told = cond (is_own shape item.segment) (refill_answer old item.segment (old.filling item.segment).state) refill.NotYours

@@ -5,8 +5,8 @@ use Rattle.std.proofs.lemmas.List.{length_push}
 use Rattle.std.proofs.lemmas.List.Folds.{list_any-append}
 use Rattle.std.specs.List.{list_any}
 use Rattle.std.specs.BTreeMap.{insert_entry, is_at}
-use Rattle.segword.specs.declared.shape.Shape.{Shape}
-use Rattle.segmodel.specs.declared.entry.Cached.{Cached}
+use Rattle.segword.specs.Words.{Shape}
+use Rattle.segmodel.specs.Words.{Cached}
 use Rattle.segmodel.specs.declared.answer.SegState.TheVariants.{Empty, InUse, Evicted}
 use Rattle.segmodel.specs.declared.answer.RefillAnswer.TheVariants.{Refilled}
 use Rattle.segmodel.specs.Cache.{key_cmp, with_at, keys_in, put, deleted}
@@ -271,9 +271,9 @@ none_in_unused shape state t kept unused = count_none (is_in t) state.cache.item
     (all_also (is_stored state.filling) (λ e. not (is_in t e)) (λ e stored. ap not (ne_eqb e.1.segment t (λ same. elsewhere state t unused e stored (sym same)))) state.cache.items kept.items)
 
 -- an own segment that is not in use is refilled
-pub IsKept-refilled : (shape : Shape) (t : ℕ) (state : State) → IsSound shape state → is_in_use (state.filling t).state ≡ false → t < shape.segments_each
-    → IsSound shape (after_refill t Refilled state)
-IsKept-refilled shape t state kept unused mine = record {
+pub IsKept-refilled : (shape : Shape) (t d : ℕ) (state : State) → IsSound shape state → is_in_use (state.filling t).state ≡ false → t < shape.segments_each
+    → IsSound shape (after_refill t d Refilled state)
+IsKept-refilled shape t d state kept unused mine = record {
   items = all_also (is_stored state.filling) (is_stored (with_at state.filling t anew)) (λ e stored. stored_still state.filling t anew e (elsewhere state t unused e stored) stored) state.cache.items kept.items;
   count = λ s. count s (cases_eq t s);
   rows = λ s. rows s (cases_eq t s);

@@ -7,9 +7,8 @@ use Rattle.std.specs.List.Sorted.{IsStrictlySortedBy}
 use Rattle.std.specs.BTreeMap.{insert_entry, is_at}
 use Rattle.std.specs.Map.{keys_of, lookup}
 use Rattle.std.proofs.lemmas.Bool.{false≢true, eqb-false}
-use Rattle.segword.specs.declared.shape.Shape.{Shape}
-use Rattle.segmodel.specs.declared.entry.Cached.{Cached}
-use Rattle.segmodel.specs.declared.request.Request.{Request}
+use Rattle.segword.specs.Words.{Shape}
+use Rattle.segmodel.specs.Words.{Cached, Request}
 use Rattle.segmodel.specs.declared.request.Request.TheVariants.{Set, Add, Replace, Cas, Delete}
 use Rattle.segmodel.specs.declared.request.Reply.TheVariants.{Stored}
 use Rattle.segmodel.specs.Places.{bucket_of}
@@ -64,19 +63,19 @@ count-keys_filter p test (e ∷ es) =
 
 -- a request that is stored where its key doesn't stand adds the key
 adds_new : (request : Request) (version : ℕ) → reply_to request false version ≡ Stored → adds_key request false ≡ true
-adds_new (Set key value) version is = refl
-adds_new (Add key value) version is = refl
-adds_new (Replace key value) version is = cc
-adds_new (Cas key value expected) version is = cc
-adds_new (Delete key) version is = cc
+adds_new (Set key value now) version is = refl
+adds_new (Add key value now) version is = refl
+adds_new (Replace key value now) version is = cc
+adds_new (Cas key value expected now) version is = cc
+adds_new (Delete key now) version is = cc
 
 -- and one that is stored where it stands doesn't
 pub adds_none : (request : Request) → adds_key request true ≡ false
-adds_none (Set key value) = refl
-adds_none (Add key value) = refl
-adds_none (Replace key value) = refl
-adds_none (Cas key value expected) = refl
-adds_none (Delete key) = refl
+adds_none (Set key value now) = refl
+adds_none (Add key value now) = refl
+adds_none (Replace key value now) = refl
+adds_none (Cas key value expected now) = refl
+adds_none (Delete key now) = refl
 
 -- the width of a chain that is made longer where a word lacks
 longer : (shape : Shape) (state : State) (b : ℕ) → (chained b true state).width b ≡ state.width b + 1

@@ -2,15 +2,12 @@
 use Rattle.std.proofs.Common.{◌≡◌, ℕ, ◌<◌, ◌&&◌, not, ◌⊎◌, inl, inr, Bool, true, false, cond, Option, Some, None, IsSomeAnd, refl, sym, ap, ◌∙◌, subst, MatchBool, MatchOption}
 use Rattle.std.proofs.lemmas.Bool.{false≢true}
 use Rattle.std.proofs.Math.Nat.{div-eq_of_lt}
-use Rattle.segword.specs.declared.shape.Shape.{Shape}
-use Rattle.segmodel.specs.declared.request.Request.{Request}
+use Rattle.segword.specs.Words.{Shape}
+use Rattle.segmodel.specs.Words.{DeleteAnswer, Reply, Request, WriteAnswer}
 use Rattle.segmodel.specs.declared.request.Request.TheVariants.{Delete}
-use Rattle.segmodel.specs.declared.request.Reply.{Reply}
 use Rattle.segmodel.specs.declared.request.Reply.TheVariants.{Stored, NotStored, Exists, NotFound, Deleted}
 use Rattle.segmodel.specs.declared.entry.Entry.TheVariants.{Wrote}
-use Rattle.segmodel.specs.declared.answer.WriteAnswer.{WriteAnswer}
 use Rattle.segmodel.specs.declared.answer.WriteAnswer.TheVariants as write
-use Rattle.segmodel.specs.declared.answer.DeleteAnswer.{DeleteAnswer}
 use Rattle.segmodel.specs.declared.answer.DeleteAnswer.TheVariants as delete
 use Rattle.segmodel.specs.Places.{bucket_of, owner}
 use Rattle.segmodel.specs.Request.{key_of, value_of}
@@ -79,15 +76,15 @@ store_is_an_entry shape old new request given reply kept served told =
     ]
 
 pub delete_is_an_entry : DeleteIsAnEntry
-delete_is_an_entry shape old new key given reply served told = by (is_locked shape old key) served
+delete_is_an_entry shape old new key now given reply served told = by (is_locked shape old key) served
   where
     placed_delete : (given : DeleteAnswer) → reply_of_delete given ≡ Some reply → IsPlaced shape 0 reply (stored_in reply old.current)
     placed_delete delete.Deleted e = subst (λ r. IsPlaced shape 0 r (stored_in r old.current)) (let same : Deleted ≡ reply = cc in same) refl
     placed_delete delete.NotFound e = subst (λ r. IsPlaced shape 0 r (stored_in r old.current)) (let same : NotFound ≡ reply = cc in same) refl
     placed_delete delete.Busy e = cc
 
-    by : (locked : Bool) → MatchBool locked (IsGiven delete.Busy old given new) (IsReplied shape old (Delete key) (reply_of_delete given) new)
-        → Follows shape old.cache (Wrote 0 (Delete key) reply (stored_in reply old.current))
-        × (new.cache ≡ next shape old.cache (Wrote 0 (Delete key) reply (stored_in reply old.current)))
+    by : (locked : Bool) → MatchBool locked (IsGiven delete.Busy old given new) (IsReplied shape old (Delete key now) (reply_of_delete given) new)
+        → Follows shape old.cache (Wrote 0 (Delete key now) reply (stored_in reply old.current))
+        × (new.cache ≡ next shape old.cache (Wrote 0 (Delete key now) reply (stored_in reply old.current)))
     by true busy = let no : None ≡ Some reply = (sym (ap reply_of_delete busy.0) ∙ told) in cc
-    by false replied = entry_of shape old new (Delete key) (reply_of_delete given) reply (placed_delete given told) replied told
+    by false replied = entry_of shape old new (Delete key now) (reply_of_delete given) reply (placed_delete given told) replied told

@@ -1,7 +1,7 @@
 -- A history in which each kind of entry comes, so that the laws are seen to speak of something: one pass, one segment of eight rows, one bucket,
--- so that the keys a and e share it. An entry is named after what it does.
+-- so that the keys a and e share it. Each write comes a moment after the one before. An entry is named after what it does.
 use Rattle.std.specs.Prelude.{ℕ, List, [], ◌∷◌, Some, None}
-use Rattle.segword.specs.declared.shape.Shape.{Shape}
+use Rattle.segword.specs.Words.{Shape}
 use Rattle.segmodel.specs.declared.request.Request.TheVariants.{Set, Add, Replace, Cas, Delete}
 use Rattle.segmodel.specs.declared.request.Reply.TheVariants.{Stored, NotStored, Exists, Deleted}
 use Rattle.segmodel.specs.declared.entry.Entry.{Entry}
@@ -23,19 +23,19 @@ one = 49 ∷ []
 abbrev pub two : List ℕ
 two = 50 ∷ []
 
--- the segment is refilled, and a is added: the version of the bucket is 1
+-- the segment is refilled up to moment 10, and a is added: the version of the bucket is 1
 abbrev pub added : List Entry
-added = Wrote 0 (Add a one) Stored (Some 0) ∷ Refilled 0 0 ∷ []
+added = Wrote 0 (Add a one 1) Stored (Some 0) ∷ Refilled 0 0 10 ∷ []
 
 -- e is set: the version is 2, so that a cas that brings 1 is replied Exists
 abbrev pub refused : List Entry
-refused = Wrote 0 (Cas a two 1) Exists None ∷ Wrote 0 (Set e two) Stored (Some 0) ∷ added
+refused = Wrote 0 (Cas a two 1 3) Exists None ∷ Wrote 0 (Set e two 2) Stored (Some 0) ∷ added
 
 -- a cas that brings 2 stores, a replace stores, a second add doesn't, and a delete takes e out: the version is 5
 abbrev pub deleted : List Entry
-deleted = Wrote 0 (Delete e) Deleted None ∷ Wrote 0 (Add a one) NotStored None ∷ Wrote 0 (Replace a two) Stored (Some 0)
-    ∷ Wrote 0 (Cas a two 2) Stored (Some 0) ∷ refused
+deleted = Wrote 0 (Delete e 7) Deleted None ∷ Wrote 0 (Add a one 6) NotStored None ∷ Wrote 0 (Replace a two 5) Stored (Some 0)
+    ∷ Wrote 0 (Cas a two 2 4) Stored (Some 0) ∷ refused
 
--- a is evicted, and the segment is refilled
+-- a is evicted, and the segment is refilled up to moment 20
 abbrev pub whole : List Entry
-whole = Refilled 0 0 ∷ Evicted 0 a 0 ∷ deleted
+whole = Refilled 0 0 20 ∷ Evicted 0 a 0 ∷ deleted

@@ -1,10 +1,10 @@
 -- Laws: what the definitions come to. Each is proved as the contract of a function in src/laws.rt.
-use Rattle.std.specs.Prelude.{◌≡◌, ◌⊎◌, ℕ, ◌+◌, ◌%◌, ◌^◌, ◌==◌, ◌<◌, Bool, true, false, is_some, IsSome, IsSomeAnd, List, [], ◌∷◌, ◌++◌, length, find, Option, Some, None, option_map, option_and_then, if◌then◌else◌}
+use Rattle.std.specs.Prelude.{◌≡◌, ◌⊎◌, ℕ, ◌+◌, ◌%◌, ◌^◌, ◌==◌, ◌<◌, Bool, true, false, is_some, IsSome, IsSomeAnd, List, [], ◌∷◌, ◌++◌, length, find, Option, Some, None, option_map, option_and_then, unwrap_or, if◌then◌else◌}
 use Rattle.std.specs.BTreeMap.{is_at}
 use Rattle.std.specs.List.{AllByRecursion}
 use Rattle.std.specs.List.Sorted.{IsStrictlySortedBy}
 use Rattle.std.specs.Map.{keys_of}
-use Rattle.segword.specs.declared.shape.Shape.{Shape}
+use Rattle.segword.specs.Words.{Shape}
 use Rattle.segmodel.specs.declared.request.Request.{Request}
 use Rattle.segmodel.specs.declared.request.Request.TheVariants.{Add, Replace, Cas, Delete}
 use Rattle.segmodel.specs.declared.request.Reply.{Reply}
@@ -68,10 +68,25 @@ last_left key history = option_and_then left_by (find (is_change_of key) history
 abbrev pub StandsAsLeft : Type 0
 StandsAsLeft = (shape : Shape) (history : List Entry) (key : List ℕ) → IsLegal shape history → standing (after shape history) key ≡ last_left key history
 
--- and a key reads the value of that
+-- and a key reads the value of that, at each moment
 abbrev pub ReadsAsLeft : Type 0
-ReadsAsLeft = (shape : Shape) (history : List Entry) (key : List ℕ) → IsLegal shape history
-    → reads (after shape history) key ≡ option_map (λ item. item.value) (last_left key history)
+ReadsAsLeft = (shape : Shape) (history : List Entry) (now : ℕ) (key : List ℕ) → IsLegal shape history
+    → reads (after shape history) now key ≡ option_map (λ item. item.value) (last_left key history)
+
+-- whether an entry refills the segment
+abbrev pub is_refill_of : ℕ → Entry → Bool
+is_refill_of segment (Refilled pass other deadline) = other == segment
+is_refill_of segment _ = false
+
+-- the deadline that an entry sets, if it is a refilling
+abbrev pub deadline_set_by : Entry → Option ℕ
+deadline_set_by (Refilled pass segment deadline) = Some deadline
+deadline_set_by _ = None
+
+-- a segment has the deadline that its last refilling set, and 0 before the first
+abbrev pub DeadlineAsSet : Type 0
+DeadlineAsSet = (shape : Shape) (history : List Entry) (segment : ℕ)
+    → (after shape history).deadline segment ≡ unwrap_or (option_and_then deadline_set_by (find (is_refill_of segment) history)) 0
 
 -- ---- why a key reads otherwise later
 
@@ -88,13 +103,13 @@ StoresValue key value _ = ⊥
 
 -- if a key that read a value reads none later, it was taken out in between
 abbrev pub GoneIsTakenOut : Type 0
-GoneIsTakenOut = (shape : Shape) (old new : List Entry) (key value : List ℕ) → IsLegal shape new → Begins old new
-    → reads (after shape old) key ≡ Some value → reads (after shape new) key ≡ None → CameBetween (TakesKeyOut key) old new
+GoneIsTakenOut = (shape : Shape) (old new : List Entry) (now later : ℕ) (key value : List ℕ) → IsLegal shape new → Begins old new
+    → reads (after shape old) now key ≡ Some value → reads (after shape new) later key ≡ None → CameBetween (TakesKeyOut key) old new
 
 -- if it reads another value later, that one was stored under it in between
 abbrev pub ChangedIsStored : Type 0
-ChangedIsStored = (shape : Shape) (old new : List Entry) (key value other : List ℕ) → IsLegal shape new → Begins old new
-    → reads (after shape old) key ≡ Some value → reads (after shape new) key ≡ Some other
+ChangedIsStored = (shape : Shape) (old new : List Entry) (now later : ℕ) (key value other : List ℕ) → IsLegal shape new → Begins old new
+    → reads (after shape old) now key ≡ Some value → reads (after shape new) later key ≡ Some other
     → (other ≡ value) ⊎ CameBetween (StoresValue key other) old new
 
 -- ---- versions
@@ -126,11 +141,11 @@ UnwrittenKeepsCache = (shape : Shape) (cache : Cache) (pass : ℕ) (request : Re
 -- The version law. A cas brings the version that a gets gave at an earlier moment of the same history. Where its key is present it fails exactly
 -- where its bucket was written in between, counted modulo 2^32.
 abbrev pub CasFailsWhereWritten : Type 0
-CasFailsWhereWritten = (shape : Shape) (old new : List Entry) (key seen value : List ℕ) (version : ℕ)
+CasFailsWhereWritten = (shape : Shape) (old new : List Entry) (now later : ℕ) (key seen value : List ℕ) (version : ℕ)
     → shape.first_version < 2 ^ 32 → IsLegal shape new → Begins old new
-    → reads_version shape (after shape old) key ≡ Some (seen, version)
-    → reply_in shape (after shape new) (Cas key value version)
-    ≡ (if is_some (present (after shape new) key) then
+    → reads_version shape (after shape old) now key ≡ Some (seen, version)
+    → reply_in shape (after shape new) (Cas key value version later)
+    ≡ (if is_some (present (after shape new) later key) then
     (if writes shape new (bucket_of shape key) % 2 ^ 32 == writes shape old (bucket_of shape key) % 2 ^ 32 then Stored else Exists)
     else NotFound)
 
@@ -138,18 +153,18 @@ CasFailsWhereWritten = (shape : Shape) (old new : List Entry) (key seen value : 
 
 -- an add stores only under an absent key
 abbrev pub AddNeedsAbsent : Type 0
-AddNeedsAbsent = (shape : Shape) (cache : Cache) (pass : ℕ) (key value : List ℕ) (segment : Option ℕ)
-    → Follows shape cache (Wrote pass (Add key value) Stored segment) → reads cache key ≡ None
+AddNeedsAbsent = (shape : Shape) (cache : Cache) (pass now : ℕ) (key value : List ℕ) (segment : Option ℕ)
+    → Follows shape cache (Wrote pass (Add key value now) Stored segment) → reads cache now key ≡ None
 
 -- a replace stores only under a present one
 abbrev pub ReplaceNeedsPresent : Type 0
-ReplaceNeedsPresent = (shape : Shape) (cache : Cache) (pass : ℕ) (key value : List ℕ) (segment : Option ℕ)
-    → Follows shape cache (Wrote pass (Replace key value) Stored segment) → IsSome (reads cache key)
+ReplaceNeedsPresent = (shape : Shape) (cache : Cache) (pass now : ℕ) (key value : List ℕ) (segment : Option ℕ)
+    → Follows shape cache (Wrote pass (Replace key value now) Stored segment) → IsSome (reads cache now key)
 
 -- a cas stores only under a present one, whose bucket has the expected version
 abbrev pub CasNeedsVersion : Type 0
-CasNeedsVersion = (shape : Shape) (cache : Cache) (pass : ℕ) (key value : List ℕ) (expected : ℕ) (segment : Option ℕ)
-    → Follows shape cache (Wrote pass (Cas key value expected) Stored segment) → IsSomeAnd (reads_version shape cache key) (λ read. read.1 ≡ expected)
+CasNeedsVersion = (shape : Shape) (cache : Cache) (pass : ℕ) (key value : List ℕ) (expected now : ℕ) (segment : Option ℕ)
+    → Follows shape cache (Wrote pass (Cas key value expected now) Stored segment) → IsSomeAnd (reads_version shape cache now key) (λ read. read.1 ≡ expected)
 
 -- ---- other buckets
 
@@ -164,8 +179,8 @@ StirredCountsAdded = (shape : Shape) (before more : List Entry) (key : List ℕ)
 
 -- where nothing was stirred between two moments, a key reads the same at both, and with the same version
 abbrev pub UnstirredReadsTheSame : Type 0
-UnstirredReadsTheSame = (shape : Shape) (old new : List Entry) (key : List ℕ) → Begins old new → stirred shape key old new ≡ 0
-    → (reads (after shape new) key ≡ reads (after shape old) key) × (reads_version shape (after shape new) key ≡ reads_version shape (after shape old) key)
+UnstirredReadsTheSame = (shape : Shape) (old new : List Entry) (now : ℕ) (key : List ℕ) → Begins old new → stirred shape key old new ≡ 0
+    → (reads (after shape new) now key ≡ reads (after shape old) now key) × (reads_version shape (after shape new) now key ≡ reads_version shape (after shape old) now key)
 
 -- ---- serving
 
@@ -187,13 +202,13 @@ TurnsKeep = (shape : Shape) (old new : State) (turns : List Turn) (given : List 
 
 -- a segment is refilled only where no key stands in it
 abbrev pub RefilledWhereNoneStands : Type 0
-RefilledWhereNoneStands = (shape : Shape) (old new : State) (segment : ℕ)
-    → IsSound shape old → Serves shape old (Refill segment) (answer.Refill refill.Refilled) new → NoneStandsIn old.cache segment
+RefilledWhereNoneStands = (shape : Shape) (old new : State) (segment deadline : ℕ)
+    → IsSound shape old → Serves shape old (Refill segment deadline) (answer.Refill refill.Refilled) new → NoneStandsIn old.cache segment
 
 -- and not while an item of it is held
 abbrev pub HeldIsNotRefilled : Type 0
-HeldIsNotRefilled = (shape : Shape) (old new : State) (item : Cached)
-    → IsSound shape old → old.held ≡ Some item → Serves shape old (Refill item.segment) (answer.Refill refill.Refilled) new → ⊥
+HeldIsNotRefilled = (shape : Shape) (old new : State) (item : Cached) (deadline : ℕ)
+    → IsSound shape old → old.held ≡ Some item → Serves shape old (Refill item.segment deadline) (answer.Refill refill.Refilled) new → ⊥
 
 -- the segment that an entry of this reply names: the current one where something was stored
 abbrev pub stored_in : Reply → Option ℕ → Option ℕ
@@ -209,10 +224,10 @@ StoreIsAnEntry = (shape : Shape) (old new : State) (request : Request) (given : 
 
 -- and so is a delete
 abbrev pub DeleteIsAnEntry : Type 0
-DeleteIsAnEntry = (shape : Shape) (old new : State) (key : List ℕ) (given : DeleteAnswer) (reply : Reply)
-    → ServesDelete shape old key given new → reply_of_delete given ≡ Some reply
-    → Follows shape old.cache (Wrote 0 (Delete key) reply (stored_in reply old.current))
-    × (new.cache ≡ next shape old.cache (Wrote 0 (Delete key) reply (stored_in reply old.current)))
+DeleteIsAnEntry = (shape : Shape) (old new : State) (key : List ℕ) (now : ℕ) (given : DeleteAnswer) (reply : Reply)
+    → ServesDelete shape old key now given new → reply_of_delete given ≡ Some reply
+    → Follows shape old.cache (Wrote 0 (Delete key now) reply (stored_in reply old.current))
+    × (new.cache ≡ next shape old.cache (Wrote 0 (Delete key now) reply (stored_in reply old.current)))
 
 -- ---- turns
 
@@ -253,7 +268,7 @@ abbrev pub Adds : Option ℕ → Command → Answer → List Entry → Type 0
 Adds current (Write request) (answer.Write told) more = more ≡ entry_of_reply current request (reply_of_write told)
 Adds current (Write request) (answer.Delete told) more = more ≡ entry_of_reply current request (reply_of_delete told)
 Adds current (Evict segment) (answer.Evict told) more = AllByRecursion (IsEvictionFrom segment) more × (length more ≡ keys_evicted told)
-Adds current (Refill segment) (answer.Refill refill.Refilled) more = more ≡ Refilled 0 segment ∷ []
+Adds current (Refill segment deadline) (answer.Refill refill.Refilled) more = more ≡ Refilled 0 segment deadline ∷ []
 Adds current _ _ more = more ≡ []
 
 -- where the cache is that of a legal history, it is that of a longer one after a command was served

@@ -1,7 +1,6 @@
 -- Where things belong: a key to a bucket, under a tag; a segment to a pass. A shape has the numbers that this depends on.
 use Rattle.std.specs.Prelude.{ℕ, ◌/◌, ◌%◌, List}
-use Rattle.segword.specs.declared.shape.Shape.{Shape}
-use Rattle.segword.specs.Fnv.{hash_of, tag_from_hash}
+use Rattle.segword.specs.Words.{hash_of, Shape, tag_from_hash}
 
 -- the bucket of a key: its 64-bit FNV-1a hash modulo the number of buckets
 abbrev pub bucket_of : Shape → List ℕ → ℕ

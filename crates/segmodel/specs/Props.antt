@@ -4,8 +4,7 @@ use Rattle.std.specs.Coded.{×_prop, Unit-prop}
 use Rattle.std.proofs.Common.{sym, ◌∙◌}
 use Rattle.std.proofs.Props.{props}
 use Rattle.std.proofs.lemmas.List.{append_cancel_right}
-use Rattle.segword.specs.declared.shape.Shape.{Shape}
-use Rattle.segword.specs.Props.{pair-prop}
+use Rattle.segword.specs.Words.{pair-prop, Shape}
 use Rattle.segmodel.specs.declared.request.Request.{Request}
 use Rattle.segmodel.specs.declared.request.Reply.{Reply}
 use Rattle.segmodel.specs.declared.request.Reply.TheVariants.{Stored}
@@ -35,7 +34,7 @@ IsPlaced-prop shape pass _ named = hlevel props
 pub Follows-prop : (shape : Shape) (cache : Cache) (entry : Entry) → IsProp (Follows shape cache entry)
 Follows-prop shape cache (Wrote pass request reply segment) = ×_prop (Reply-set reply _) (IsPlaced-prop shape pass reply segment)
 Follows-prop shape cache (Evicted pass key segment) = hlevel props
-Follows-prop shape cache (Refilled pass segment) = hlevel props
+Follows-prop shape cache (Refilled pass segment deadline) = hlevel props
 
 pub IsLegal-prop : (shape : Shape) (history : List Entry) → IsProp (IsLegal shape history)
 IsLegal-prop shape [] = Unit-prop

@@ -1,6 +1,6 @@
 -- The turns of a pass: commands, and what it does with its one hold and its one lock. Whole runs of turns or commands.
 use Rattle.std.specs.Prelude.{◌≡◌, List, [], ◌∷◌, ℕ, Option, Some, None}
-use Rattle.segword.specs.declared.shape.Shape.{Shape}
+use Rattle.segword.specs.Words.{Shape}
 use Rattle.segmodel.specs.declared.entry.Cached.{Cached}
 use Rattle.segmodel.specs.declared.answer.Answer.{Answer}
 use Rattle.segmodel.specs.declared.answer.Turn.{Turn}
@@ -51,8 +51,8 @@ unlock_outcome (Some bucket) = outcome.Unlocked
 -- from the old state the turn may have this outcome, and then the new state follows
 abbrev pub Turns : Shape → State → Turn → Outcome → State → Type 0
 Turns shape old (Serve command) given new = (told : Answer) × (given ≡ outcome.Answered told) × Serves shape old command told new
-Turns shape old (Hold key) given new =
-    let found = present old.cache key in
+Turns shape old (Hold key now) given new =
+    let found = present old.cache now key in
     IsGiven (hold_outcome old.held found) (record old { held = held_after old.held found }) given new
 Turns shape old Held given new = IsGiven (held_outcome old.held) old given new
 Turns shape old Release given new = IsGiven (release_outcome old.held) (record old { held = None }) given new

@@ -8,22 +8,36 @@ ghost use Rattle.segmodel.specs.History.{after, Begins, IsLegal, stirred};
 ghost use Rattle.segmodel.specs.State.{fresh};
 ghost use Rattle.segmodel.specs.Serving.{after_refill, Serves};
 ghost use Rattle.segmodel.specs.Example.{shape, a, one, two, added, deleted, whole};
-ghost use Rattle.segmodel.specs.Laws.{LongerIsLegal, EarlierIsLegal, ItemsAreInOrder, StandsAsLeft, ReadsAsLeft, GoneIsTakenOut, ChangedIsStored, VersionCountsWrites, OthersKeepVersion, EvictionKeepsVersions, UnwrittenKeepsCache, CasFailsWhereWritten, AddNeedsAbsent, ReplaceNeedsPresent, CasNeedsVersion, OtherBucketsAreKept, StirredCountsAdded, UnstirredReadsTheSame, IsKeptAtTheStart, ServingKeeps, CommandsKeep, TurnsKeep, RefilledWhereNoneStands, HeldIsNotRefilled, StoreIsAnEntry, DeleteIsAnEntry, EveryTurnIsAnswered, OnlyEvictChooses, ServingIsHistory};
+ghost use Rattle.segmodel.specs.Laws.{LongerIsLegal, EarlierIsLegal, ItemsAreInOrder, StandsAsLeft};
+ghost use Rattle.segmodel.specs.Laws.{ReadsAsLeft, DeadlineAsSet};
+ghost use Rattle.segmodel.specs.Laws.{GoneIsTakenOut, ChangedIsStored};
+ghost use Rattle.segmodel.specs.Laws.{VersionCountsWrites, OthersKeepVersion};
+ghost use Rattle.segmodel.specs.Laws.{EvictionKeepsVersions, UnwrittenKeepsCache};
+ghost use Rattle.segmodel.specs.Laws.{CasFailsWhereWritten, AddNeedsAbsent, ReplaceNeedsPresent};
+ghost use Rattle.segmodel.specs.Laws.{CasNeedsVersion, OtherBucketsAreKept, StirredCountsAdded};
+ghost use Rattle.segmodel.specs.Laws.{UnstirredReadsTheSame, IsKeptAtTheStart, ServingKeeps};
+ghost use Rattle.segmodel.specs.Laws.{CommandsKeep, TurnsKeep, RefilledWhereNoneStands};
+ghost use Rattle.segmodel.specs.Laws.{HeldIsNotRefilled, StoreIsAnEntry, DeleteIsAnEntry};
+ghost use Rattle.segmodel.specs.Laws.{EveryTurnIsAnswered, OnlyEvictChooses, ServingIsHistory};
 
-/// Legal histories grow by entries that follow, and were legal at each earlier moment; what stands after them is a map.
+/// Legal histories grow by entries that follow, and were legal at each earlier moment;
+/// what stands after them is a map.
 pub fn legal_histories()
     ensures longer { LongerIsLegal }
     ensures earlier { EarlierIsLegal }
     ensures ordered { ItemsAreInOrder }
 {}
 
-/// What a key reads is what its last write, deletion or eviction left.
+/// What a key reads is what its last write, deletion or eviction left,
+/// and a segment's deadline is the one that its last refilling set.
 pub fn last_change_decides()
     ensures stands { StandsAsLeft }
     ensures reads { ReadsAsLeft }
+    ensures deadline { DeadlineAsSet }
 {}
 
-/// A key that read a value reads none later only if it was deleted or evicted in between, and another value only if that one was stored under it.
+/// A key that read a value reads none later only if it was deleted or evicted in between,
+/// and another value only if that one was stored under it.
 pub fn reads_change_by_entries()
     ensures gone { GoneIsTakenOut }
     ensures changed { ChangedIsStored }
@@ -37,7 +51,10 @@ pub fn versions_count_writes()
     ensures unwritten { UnwrittenKeepsCache }
 {}
 
-/// A cas with the version that an earlier gets gave fails exactly where its key's bucket was written since, or its key is absent.
+/// A cas with the version that a gets of its key gave at an earlier moment
+/// is NotFound if the key is absent.
+/// Otherwise it is Exists exactly if the writes of its bucket differ, modulo 2^32,
+/// at the two moments, else Stored.
 pub fn cas_fails_where_written()
     ensures { CasFailsWhereWritten }
 {}
@@ -56,7 +73,8 @@ pub fn buckets_are_apart()
     ensures still { UnstirredReadsTheSame }
 {}
 
-/// What always holds of a state holds at the start, and turns keep it; so a segment is refilled only where nothing stands in it and nothing of it is held.
+/// What always holds of a state holds at the start, and turns keep it;
+/// so a segment is refilled only where nothing stands in it and nothing of it is held.
 pub fn serving_keeps()
     ensures start { IsKeptAtTheStart }
     ensures command { ServingKeeps }
@@ -66,7 +84,8 @@ pub fn serving_keeps()
     ensures held { HeldIsNotRefilled }
 {}
 
-/// A write or delete that is served with a reply is an entry that may come next, and leaves the cache that this entry leaves.
+/// A write or delete that is served with a reply is an entry that may come next,
+/// and leaves the cache that this entry leaves.
 pub fn served_writes_are_entries()
     ensures store { StoreIsAnEntry }
     ensures delete { DeleteIsAnEntry }
@@ -78,7 +97,8 @@ pub fn turns_are_answered()
     ensures one { OnlyEvictChooses }
 {}
 
-/// Serving a command adds the entries that its answer tells to the history, and leaves the cache that the longer history leaves.
+/// Serving a command adds the entries that its answer tells to the history,
+/// and leaves the cache that the longer history leaves.
 pub fn serving_is_history()
     ensures { ServingIsHistory }
 {}
@@ -87,9 +107,10 @@ pub fn serving_is_history()
 pub fn example()
     ensures legal { IsLegal shape whole }
     ensures earlier { Begins added whole }
-    ensures read { reads_version shape (after shape added) a ≡ Some (one, 1) }
-    ensures later { reads_version shape (after shape deleted) a ≡ Some (two, 5) }
-    ensures gone { reads_version shape (after shape whole) a ≡ None }
+    ensures read { reads_version shape (after shape added) 1 a ≡ Some (one, 1) }
+    ensures later { reads_version shape (after shape deleted) 7 a ≡ Some (two, 5) }
+    ensures gone { reads_version shape (after shape whole) 7 a ≡ None }
     ensures stirred { stirred shape a added whole ≡ 7 }
-    ensures refilled { Serves shape (fresh shape) (Refill 0) (answer.Refill Refilled) (after_refill 0 Refilled (fresh shape)) }
+    ensures refilled { Serves shape (fresh shape) (Refill 0 10) (answer.Refill Refilled)
+        (after_refill 0 10 Refilled (fresh shape)) }
 {}

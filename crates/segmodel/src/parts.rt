@@ -1,11 +1,12 @@
 //! Changes of the plain cache's parts: its segments, its map, its numbers for each bucket.
-ghost use Rattle.std.specs.Prelude.{◌≡◌, [], ◌<◌, ◌+◌, ◌-◌, ◌^◌, true, if◌then◌else◌, ℕ, length, count_by, filter, not, OnOk, IfOk, vec_len};
+ghost use Rattle.std.specs.Prelude.{◌≡◌, [], ◌<◌, ◌+◌, ◌-◌, ◌^◌, true, if◌then◌else◌, ℕ, length};
+ghost use Rattle.std.specs.Prelude.{count_by, filter, not, OnOk, IfOk, vec_len};
 ghost use Rattle.std.specs.BTreeMap.{is_at};
 ghost use Rattle.segmodel.specs.Cache.{key_cmp, with_at, counted};
 ghost use Rattle.segmodel.specs.State.{but_for, is_in};
 ghost use Rattle.segmodel.specs.Serving.{with_key};
 ghost use Rattle.segmodel.specs.declared.answer.SegState.TheVariants.{InUse, Evicted};
-ghost use Rattle.segmodel.specs.Segments.{HasRow, AllEmpty, fillings, by_bucket};
+ghost use Rattle.segmodel.specs.Segments.{HasRow, AllEmpty, fillings, deadlines, by_bucket};
 
 use crate::segment::Segment;
 use crate::{Cached, PlainFault, SegState};
@@ -26,6 +27,7 @@ pub fn reserve_row(segments: &mut Vec<Segment>, segment: usize) -> Result<(), Pl
     requires { segment < vec_len segments.old }
     ensures len { vec_len segments.new ≡ vec_len segments.old }
     ensures same { fillings segments.new.items ≡ fillings segments.old.items }
+    ensures deadlines { deadlines segments.new.items ≡ deadlines segments.old.items }
     ensures ok { OnOk result (HasRow segments.new.items segment) }
 {
     if segments[segment].keys.reserve(1).is_err() {
@@ -39,7 +41,9 @@ pub fn add_row(segments: &mut Vec<Segment>, segment: usize, key: Key)
     requires { HasRow segments.old.items segment }
     ensures len { vec_len segments.new ≡ vec_len segments.old }
     ensures added { fillings segments.new.items
-        ≡ with_at (fillings segments.old.items) segment (with_key key (fillings segments.old.items segment)) }
+        ≡ with_at (fillings segments.old.items) segment
+        (with_key key (fillings segments.old.items segment)) }
+    ensures deadlines { deadlines segments.new.items ≡ deadlines segments.old.items }
 {
     segments[segment].keys.push_reserved(key);
 }
@@ -77,25 +81,30 @@ pub fn mark_evicted(segments: &mut Vec<Segment>, segment: usize)
     ensures len { vec_len segments.new ≡ vec_len segments.old }
     ensures marked { fillings segments.new.items ≡ with_at (fillings segments.old.items) segment
         (record { state = Evicted; keys = (fillings segments.old.items segment).keys }) }
+    ensures deadlines { deadlines segments.new.items ≡ deadlines segments.old.items }
 {
     segments[segment].state = SegState::Evicted;
 }
 
-// Begins to fill a segment.
-pub fn renew(segments: &mut Vec<Segment>, segment: usize)
+// Begins to fill a segment, up to a deadline.
+pub fn renew(segments: &mut Vec<Segment>, segment: usize, deadline: u32)
     requires { segment < vec_len segments.old }
     ensures len { vec_len segments.new ≡ vec_len segments.old }
     ensures renewed { fillings segments.new.items ≡ with_at (fillings segments.old.items) segment
         (record { state = InUse; keys = [] }) }
+    ensures deadline { deadlines segments.new.items
+        ≡ with_at (deadlines segments.old.items) segment deadline }
 {
     segments[segment].keys.clear();
     segments[segment].state = SegState::InUse;
+    segments[segment].deadline = deadline;
 }
 
 // Takes all items of a segment out of the map.
 pub fn take_items(items: &mut BTreeMap<Key, Cached>, segment: u32) -> usize
     ensures count { result ≡ count_by (is_in segment) items.old.entries }
-    ensures items { items.new.entries ≡ filter (λ entry. not (is_in segment entry)) items.old.entries }
+    ensures items { items.new.entries
+        ≡ filter (λ entry. not (is_in segment entry)) items.old.entries }
 {
     let before = items.len();
     items.retain(|_, item| item.segment != segment);
@@ -123,6 +132,7 @@ pub fn empty_segments(alloc: Global, count: u32) -> Result<Vec<Segment>, PlainFa
         let segment = Segment {
             state: SegState::Empty,
             keys: Vec::new(alloc),
+            deadline: 0,
         };
         if segments.push(segment).is_err() {
             return Err(PlainFault::OutOfMemory);
@@ -133,7 +143,8 @@ pub fn empty_segments(alloc: Global, count: u32) -> Result<Vec<Segment>, PlainFa
 
 // Takes the item of a key out of the map, if there is one.
 pub fn remove_item(items: &mut BTreeMap<Key, Cached>, key: &Key)
-    ensures { items.new.entries ≡ filter (λ entry. not (is_at (key_cmp key.now) entry.0)) items.old.entries }
+    ensures { items.new.entries
+        ≡ filter (λ entry. not (is_at (key_cmp key.now) entry.0)) items.old.entries }
 {
     let _count = items.len();
     items.remove(key);

@@ -1,7 +1,7 @@
 use Rattle.std.proofs.Common.{List, [], ◌∷◌, refl, None, Some}
 use Rattle.segmodel.specs.declared.request.Request.TheVariants.{Set, Add, Replace, Cas, Delete}
 use Rattle.segmodel.specs.declared.request.Reply.TheVariants.{Stored, NotStored, Exists, Deleted}
-use Rattle.segmodel.specs.declared.entry.Entry.{Entry}
+use Rattle.segmodel.specs.Words.{Entry}
 use Rattle.segmodel.specs.declared.entry.Entry.TheVariants.{Wrote, Evicted, Refilled}
 use Rattle.segmodel.specs.History.{after, NoneStandsIn, IsLegal}
 use Rattle.segmodel.specs.Example.{shape, a, e, one, two, added, refused, deleted}
@@ -26,8 +26,8 @@ pub returns-clause-legal : goal.returns-clause-legal
 returns-clause-legal c = ((legal_deleted, (refl, refl)), (none_after, refl))
 
 abbrev more : List Entry
-more = Refilled 0 0 ∷ Evicted 0 a 0 ∷ Wrote 0 (Delete e) Deleted None ∷ Wrote 0 (Add a one) NotStored None ∷ Wrote 0 (Replace a two) Stored (Some 0)
-    ∷ Wrote 0 (Cas a two 2) Stored (Some 0) ∷ Wrote 0 (Cas a two 1) Exists None ∷ Wrote 0 (Set e two) Stored (Some 0) ∷ []
+more = Refilled 0 0 20 ∷ Evicted 0 a 0 ∷ Wrote 0 (Delete e 7) Deleted None ∷ Wrote 0 (Add a one 6) NotStored None ∷ Wrote 0 (Replace a two 5) Stored (Some 0)
+    ∷ Wrote 0 (Cas a two 2 4) Stored (Some 0) ∷ Wrote 0 (Cas a two 1 3) Exists None ∷ Wrote 0 (Set e two 2) Stored (Some 0) ∷ []
 
 pub returns-clause-earlier : goal.returns-clause-earlier
 returns-clause-earlier c = (more, refl)

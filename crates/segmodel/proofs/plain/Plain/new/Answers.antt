@@ -20,8 +20,8 @@ invariant_of-result c =
     let widths = all_same c.in-Ok-vec.widths.items shape.buckets 1 (c.in-Ok-vec.ensures.items_if_clones_equal (λ y is. is)) in
     let state : ◌≡◌ {A = State} (state_from shape c.new.result.entries c.in-Ok.versions.items c.in-Ok-vec.widths.items 0 c.in_ok-segments.segments.items None) (fresh shape) =
     λ i. record (fresh shape) {
-      cache = record { items = c.new.ensures.empty i; version = versions i };
-      filling = λ segment. c.in_ok-segments.ensures.empty segment i;
+      cache = record { items = c.new.ensures.empty i; version = versions i; deadline = λ segment. (c.in_ok-segments.ensures.empty segment).1 i };
+      filling = λ segment. (c.in_ok-segments.ensures.empty segment).0 i;
       width = widths i;
     } in
     record {

@@ -1,7 +1,7 @@
 use Rattle.std.proofs.Common.{rules, ◌≡◌, Some, ap, ◌∙◌}
 use Rattle.segmodel.specs.Places.{bucket_of}
 use Rattle.segmodel.specs.Request.{key_of, value_of}
-use Rattle.segmodel.specs.Segments.{fillings, by_bucket}
+use Rattle.segmodel.specs.Segments.{fillings, deadlines, by_bucket}
 use Rattle.segmodel.specs.State.{State}
 use Rattle.segmodel.specs.Serving.{stored}
 use Rattle.segmodel.specs.Plain.{state_of}
@@ -15,7 +15,10 @@ invariant_of-self c = record {
   each_version = search rules;
   each_width = search rules;
   each_segment = search rules;
-  kept = IsKept-same (λ i. record (state_of c.args.self.now) { filling = c.reserve_row.ensures.same i }) c.args.self.now.kept;
+  kept = IsKept-same (λ i. record (state_of c.args.self.now) {
+    cache = record (state_of c.args.self.now).cache { deadline = c.reserve_row.ensures.deadlines i };
+    filling = c.reserve_row.ensures.same i;
+  }) c.args.self.now.kept;
 }
 
 pub invariant_of-self-2 : goal.invariant_of-self-2
@@ -30,13 +33,13 @@ invariant_of-self-2 c =
     (c.copy-2.ensures.value ∙ key) (c.copy-3.ensures.value ∙ key) (c.copy.ensures.value ∙ c.requires.value) b c.reserve_row.ensures.same
     c.in-Ok.ensures.entries (c.count_write.ensures.counted c.args.self.now.shape.first_version) c.add_row.ensures.added in
     let left : ◌≡◌ {A = State} (record (state_of c.args.self.now) {
-      cache = record { items = c.insert.new.self.entries; version = by_bucket c.count_write.new.versions.items c.args.self.now.shape.first_version };
+      cache = record { items = c.insert.new.self.entries; version = by_bucket c.count_write.new.versions.items c.args.self.now.shape.first_version; deadline = deadlines c.add_row.new.segments.items };
       filling = fillings c.add_row.new.segments.items;
       width = by_bucket c.chain.new.widths.items 1;
       drawn = c.chain.new.drawn;
     }) (stored c.args.self.now.shape c.args.request.now (Some c.args.segment) (state_of c.args.self.now)) =
-    stored_state c.args.self.now.shape c.args.request.now c.args.segment c.args.chains (state_of c.args.self.now) _ _ _ _ _ c.bucket-bucket.result
-    c.requires.chains b stores c.chain.ensures.wider c.chain.ensures.drawn in
+    stored_state c.args.self.now.shape c.args.request.now c.args.segment c.args.chains (state_of c.args.self.now) _ _ _ _ _ _ c.bucket-bucket.result
+    c.requires.chains b stores (c.add_row.ensures.deadlines ∙ c.reserve_row.ensures.deadlines) c.chain.ensures.wider c.chain.ensures.drawn in
     record {
       has_buckets = search rules;
       each_version = search rules;
@@ -58,11 +61,11 @@ returns-clause-ok c =
     (c.copy-2.ensures.value ∙ key) (c.copy-3.ensures.value ∙ key) (c.copy.ensures.value ∙ c.requires.value) b c.reserve_row.ensures.same
     c.in-Ok.ensures.entries (c.count_write.ensures.counted c.args.self.now.shape.first_version) c.add_row.ensures.added in
     let left : ◌≡◌ {A = State} (record (state_of c.args.self.now) {
-      cache = record { items = c.insert.new.self.entries; version = by_bucket c.count_write.new.versions.items c.args.self.now.shape.first_version };
+      cache = record { items = c.insert.new.self.entries; version = by_bucket c.count_write.new.versions.items c.args.self.now.shape.first_version; deadline = deadlines c.add_row.new.segments.items };
       filling = fillings c.add_row.new.segments.items;
       width = by_bucket c.chain.new.widths.items 1;
       drawn = c.chain.new.drawn;
     }) (stored c.args.self.now.shape c.args.request.now (Some c.args.segment) (state_of c.args.self.now)) =
-    stored_state c.args.self.now.shape c.args.request.now c.args.segment c.args.chains (state_of c.args.self.now) _ _ _ _ _ c.bucket-bucket.result
-    c.requires.chains b stores c.chain.ensures.wider c.chain.ensures.drawn in
+    stored_state c.args.self.now.shape c.args.request.now c.args.segment c.args.chains (state_of c.args.self.now) _ _ _ _ _ _ c.bucket-bucket.result
+    c.requires.chains b stores (c.add_row.ensures.deadlines ∙ c.reserve_row.ensures.deadlines) c.chain.ensures.wider c.chain.ensures.drawn in
     left
