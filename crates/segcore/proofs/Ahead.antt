@@ -1,7 +1,7 @@
 -- A search along a chain, for anything whose place only moves forward until it is gone.
 use Rattle.std.proofs.Common.{ℕ, ◌+◌, ◌<◌, ◌≤◌, List, [], ◌∷◌, ◌++◌, sym, refl, ap, subst, inl, inr, ⊎_elim, ◌⊎◌, arith}
 use Rattle.std.proofs.lemmas.Bool.{cases_eq}
-use Rattle.segmodel.specs.History.{Begins}
+use Rattle.segmodel.specs.Words.{Begins}
 use Rattle.segcore.specs.Ahead.{WasGone, Ahead}
 use Rattle.segcore.proofs.Moments.{begins_on}
 

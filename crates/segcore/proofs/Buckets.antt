@@ -1,11 +1,9 @@
 -- What a lawful trace says of information words, chains and overflow buckets.
 use Rattle.std.proofs.Common.{◌≡◌, ◌≢◌, ℕ, ◌+◌, ◌*◌, ◌/◌, ◌%◌, ◌^◌, ◌<◌, ◌≤◌, false, cond, List, Option, Some, None, sym, refl, ap, ◌∙◌, subst, inl, inr, ◌⊎◌, ⊎_elim, arith}
-use Rattle.segword.specs.declared.shape.Shape.{Shape}
-use Rattle.segword.specs.ChainWord.{chain_word}
-use Rattle.segmodel.specs.History.{after, writes}
+use Rattle.segword.specs.Words.{chain_word, Shape}
+use Rattle.segmodel.specs.Words.{after, writes}
 use Rattle.segmodel.proofs.HistoryLemmas.{version-after}
-use Rattle.segcore.specs.declared.event.Event.{Event}
-use Rattle.segcore.specs.declared.cell.Cell.{Cell}
+use Rattle.segcore.specs.Words.{Cell, Event}
 use Rattle.segcore.specs.declared.cell.Cell.TheVariants.{OfBucket}
 use Rattle.segcore.specs.Event.{seen}
 use Rattle.segcore.specs.Bucket.{Content, nothing, item, next, copy, Bucket, bucket_after}

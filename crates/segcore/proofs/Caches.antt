@@ -2,17 +2,11 @@
 use Rattle.std.proofs.Common.{◌≡◌, ℕ, ◌+◌, Bool, true, false, cond, eqb, not, zero-add, List, ◌∷◌, Option, Some, None, sym, refl, ap, ◌∙◌, arith}
 use Rattle.std.specs.Prelude.{IsSomeAnd}
 use Rattle.std.specs.BTreeMap.{is_at}
-use Rattle.segword.specs.declared.shape.Shape.{Shape}
-use Rattle.segmodel.specs.declared.request.Request.{Request}
-use Rattle.segmodel.specs.declared.request.Reply.{Reply}
+use Rattle.segword.specs.Words.{Shape}
 use Rattle.segmodel.specs.declared.request.Reply.TheVariants.{Stored, NotStored, Exists, NotFound, Deleted}
-use Rattle.segmodel.specs.declared.entry.Cached.{Cached}
-use Rattle.segmodel.specs.declared.entry.Entry.{Entry}
 use Rattle.segmodel.specs.declared.entry.Entry.TheVariants.{Wrote, Evicted, Refilled}
-use Rattle.segmodel.specs.Request.{key_of, value_of}
-use Rattle.segmodel.specs.Places.{bucket_of}
-use Rattle.segmodel.specs.Cache.{key_cmp, standing}
-use Rattle.segmodel.specs.History.{StandsIn, after, is_write_to, writes}
+use Rattle.segmodel.specs.Words.{after, bucket_of, Cached, Entry, is_write_to, key_cmp, key_of}
+use Rattle.segmodel.specs.Words.{Reply, Request, standing, StandsIn, value_of, writes}
 use Rattle.segmodel.proofs.HistoryLemmas as model
 use Rattle.segmodel.proofs.Keys as model_keys
 use Rattle.segmodel.proofs.Counts.{count_by-cons}
@@ -106,5 +100,5 @@ writes_wrote z p q NotFound s h b = count_by-cons (is_write_to z b) (Wrote p q N
 pub writes_evicted : (z : Shape) (p : ℕ) (k : List ℕ) (s : ℕ) (h : List Entry) (b : ℕ) → writes z (Evicted p k s ∷ h) b ≡ writes z h b
 writes_evicted z p k s h b = count_by-cons (is_write_to z b) (Evicted p k s) h ∙ zero-add (writes z h b)
 
-pub writes_refilled : (z : Shape) (p s : ℕ) (h : List Entry) (b : ℕ) → writes z (Refilled p s ∷ h) b ≡ writes z h b
-writes_refilled z p s h b = count_by-cons (is_write_to z b) (Refilled p s) h ∙ zero-add (writes z h b)
+pub writes_refilled : (z : Shape) (p s d : ℕ) (h : List Entry) (b : ℕ) → writes z (Refilled p s d ∷ h) b ≡ writes z h b
+writes_refilled z p s d h b = count_by-cons (is_write_to z b) (Refilled p s d) h ∙ zero-add (writes z h b)

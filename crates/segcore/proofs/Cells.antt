@@ -2,17 +2,15 @@
 use Rattle.std.proofs.Common.{◌≡◌, ℕ, ◌+◌, ◌*◌, ◌<◌, ◌≤◌, true, false, cond, eqb, ◌&&◌, List, [], ◌∷◌, ◌++◌, Option, Some, None, sym, refl, ap, ◌∙◌, subst, ⊎_elim, arith}
 use Rattle.std.proofs.lemmas.Bool.{cases_Bool, cond-true, cond-false, eqb-true, eq-eqb, and_parts, and_from}
 use Rattle.std.proofs.lemmas.Option.{same_Some, none-some}
-use Rattle.segword.specs.declared.shape.Shape.{Shape}
-use Rattle.segcore.specs.declared.event.Event.{Event}
+use Rattle.segword.specs.Words.{Shape}
+use Rattle.segcore.specs.Words.{Cell, Event}
 use Rattle.segcore.specs.declared.event.Event.TheVariants.{Drew}
-use Rattle.segcore.specs.declared.cell.Cell.{Cell}
 use Rattle.segcore.specs.declared.cell.Cell.TheVariants.{OfCounter, OfBucket, OfOverflow, OfSegment, OfRow}
 use Rattle.segcore.specs.Bucket.{bucket_at, is, acts, bucket_after}
 use Rattle.segcore.specs.Lawful.{IsLawful}
 use Rattle.segcore.specs.Overflow.{Home, drawn_in, home_of}
 use Rattle.segcore.specs.Row.{row_after}
-use Rattle.segcore.specs.Segment.{readers}
-use Rattle.segcore.specs.Word.{IsCell, same_cell, word_in, overflow_word, word, IsAt}
+use Rattle.segcore.specs.Word.{IsCell, same_cell, word_in, overflow_word, word, IsAt, segment_word}
 use Rattle.segcore.proofs.Caches.{one_test}
 use Rattle.segcore.proofs.Quiet.{home_stays, home_drawn}
 use Rattle.segcore.proofs.Chains.{chain_of}
@@ -111,7 +109,7 @@ pub record Elsewhere (z : Shape) (h : List Event) (e : Event) : Type 0 where
   pub homes : (m : ℕ) → home_of (e ∷ h) m ≡ home_of h m
   pub drawn : drawn_in (e ∷ h) ≡ drawn_in h
   pub rows : (s r j : ℕ) → (row_after (e ∷ h) s r).words j ≡ (row_after h s r).words j
-  pub readers : (s : ℕ) → readers (e ∷ h) s ≡ readers h s
+  pub segments : (s : ℕ) → segment_word (e ∷ h) s ≡ segment_word h s
 
 module _ (z : Shape) (h : List Event) (e : Event) (b0 n0 x : ℕ) (c0 : Cell) (l : IsLawful z h) (i0 : IsAt h b0 n0 c0) (s : Elsewhere z h e)
     (change : (b n : ℕ) → word_in z (e ∷ h) (bucket_after z (e ∷ h) b) n ≡ cond (eqb b0 b && eqb n0 n) x (word_in z h (bucket_after z h b) n)) where
@@ -125,7 +123,7 @@ module _ (z : Shape) (h : List Event) (e : Event) (b0 n0 x : ℕ) (c0 : Cell) (l
 
   pub touch : (c : Cell) → IsCell z c → word z (e ∷ h) c ≡ cond (same_cell c0 c) x (word z h c)
   touch OfCounter i = s.drawn ∙ sym (cond-false (same_cell c0 OfCounter) x (drawn_in h) (not_there OfCounter (λ b n i. i)))
-  touch (OfSegment t) i = s.readers t ∙ sym (cond-false (same_cell c0 (OfSegment t)) x (readers h t) (not_there (OfSegment t) (λ b n i. i)))
+  touch (OfSegment t) i = s.segments t ∙ sym (cond-false (same_cell c0 (OfSegment t)) x (segment_word h t) (not_there (OfSegment t) (λ b n i. i)))
   touch (OfRow t r j) i = s.rows t r j ∙ sym (cond-false (same_cell c0 (OfRow t r j)) x ((row_after h t r).words j) (not_there (OfRow t r j) (λ b n i. i)))
   touch (OfBucket b w) i = change b w ∙ ap (λ t. cond t x (word_in z h (bucket_after z h b) w)) (at_same z h b0 n0 b w c0 (OfBucket b w) l i0 (refl, refl, i.1))
   touch (OfOverflow m w) i = ap (overflow_word z (e ∷ h) w) (s.homes m) ∙ over m w (home_of h m) i.1 refl

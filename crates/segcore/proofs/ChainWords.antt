@@ -1,13 +1,9 @@
 -- What the word at a chain's position says to one who reads it without the bit: not the key, not the row, or on to the next bucket.
 use Rattle.std.proofs.Common.{◌≡◌, ◌≢◌, ℕ, ◌+◌, ◌*◌, ◌/◌, ◌%◌, ◌^◌, ◌<◌, ◌≤◌, ◌⊎◌, List, Some, sym, ap, ◌∙◌, subst, ⊎_elim, arith}
 use Rattle.std.proofs.lemmas.Bool.{cases_lt}
-use Rattle.segword.specs.declared.shape.Shape.{Shape}
-use Rattle.segword.specs.Shape.{IsValid}
-use Rattle.segword.specs.ChainWord.{chain_word}
-use Rattle.segmodel.specs.Places.{bucket_of, tag_of}
-use Rattle.segmodel.specs.History.{Begins}
-use Rattle.segcore.specs.declared.event.Event.{Event}
-use Rattle.segcore.specs.declared.cell.Cell.{Cell}
+use Rattle.segword.specs.Words.{chain_word, IsValid, Shape}
+use Rattle.segmodel.specs.Words.{Begins, bucket_of, tag_of}
+use Rattle.segcore.specs.Words.{Cell, Event}
 use Rattle.segcore.specs.Bucket.{bucket_after}
 use Rattle.segcore.specs.Overflow.{home, home_of}
 use Rattle.segcore.specs.ItemWord.{packed}

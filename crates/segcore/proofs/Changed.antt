@@ -1,22 +1,19 @@
 -- An item word that came to have another item had an entry of its bucket meanwhile; and what the information word says under a free bit.
 use Rattle.std.proofs.Common.{◌≡◌, ◌≢◌, ℕ, ◌+◌, ◌*◌, ◌<◌, ◌≤◌, Bool, true, false, cond, eqb, ◌⊎◌, List, [], ◌∷◌, ◌++◌, Option, Some, None, sym, refl, ap, ◌∙◌, subst, inl, inr, ⊎_elim, arith}
 use Rattle.std.proofs.lemmas.Bool.{cases_Bool, false≢true, cond-false, eqb-true, eqb-false}
-use Rattle.segword.specs.declared.shape.Shape.{Shape}
-use Rattle.segword.specs.Shape.{IsValid}
+use Rattle.segword.specs.Words.{IsValid, Shape}
 use Rattle.segmodel.specs.declared.request.Reply.TheVariants.{Stored}
-use Rattle.segmodel.specs.declared.entry.Entry.{Entry}
 use Rattle.segmodel.specs.declared.entry.Entry.TheVariants as entry
-use Rattle.segmodel.specs.Request.{key_of}
-use Rattle.segmodel.specs.Places.{bucket_of, tag_of}
-use Rattle.segmodel.specs.History.{Begins, is_of, entries_of, stirred}
+use Rattle.segmodel.specs.Words.{Begins, bucket_of, entries_of, Entry, is_of, key_of, stirred}
+use Rattle.segmodel.specs.Words.{tag_of}
 use Rattle.segmodel.proofs.Counts.{count_by-cons}
-use Rattle.segcore.specs.declared.event.Event.{Event}
+use Rattle.segcore.specs.Words.{Cell, Event, Leaving}
 use Rattle.segcore.specs.declared.event.Event.TheVariants.{Linked, Unlinked, Chained}
-use Rattle.segcore.specs.declared.cell.Cell.{Cell}
 use Rattle.segcore.specs.Event.{removal, entry_of, with_entry, seen}
 use Rattle.segcore.specs.Bucket.{Slot, item, last, acts, bucket_after}
 use Rattle.segcore.specs.Lawful.{IsLawful}
 use Rattle.segcore.specs.Standing.{Names}
+use Rattle.segcore.specs.declared.event.Leaving.TheVariants.{Deletes, Evicts}
 use Rattle.segcore.proofs.Moments.{lawful_before}
 use Rattle.segcore.proofs.Quiet.{chained_grows}
 use Rattle.segcore.proofs.Chains.{same_item, copy_item}
@@ -50,9 +47,9 @@ IsJoined z h b n = (d : ℕ) × (n ≡ 8 * d + 7) × (d < (bucket_after z h b).c
 abbrev After : Shape → ℕ → ℕ → Slot → List Event → List Event → Type 0
 After z b n a h g = ((bucket_after z g b).items n ≡ item a) ⊎ ((entries_of z b (seen h) + 1 ≤ entries_of z b (seen g)) ⊎ IsJoined z g b n)
 
-removal_of : (z : Shape) (b p : ℕ) (k : List ℕ) (why : Option ℕ) → eqb (bucket_of z k) b ≡ true → is_of z b (removal p k why) ≡ true
-removal_of z b p k None t = t
-removal_of z b p k (Some s) t = t
+removal_of : (z : Shape) (b p : ℕ) (k : List ℕ) (why : Leaving) → eqb (bucket_of z k) b ≡ true → is_of z b (removal p k why) ≡ true
+removal_of z b p k (Deletes m) t = t
+removal_of z b p k (Evicts s) t = t
 
 one_event : (z : Shape) (e : Event) (h : List Event) (b n : ℕ) (a : Slot) → IsLawful z (e ∷ h) → (bucket_after z h b).items n ≡ item a → After z b n a h (e ∷ h)
 one_event z (Linked p q s r m) h b n a l is' = ⊎_elim

@@ -1,26 +1,24 @@
 -- The counts of a pass: other passes' events leave them, and its own steps add to them what their kind says.
-use Rattle.std.proofs.Common.{◌≡◌, ◌≢◌, ℕ, ◌+◌, ◌%◌, Bool, true, false, cond, eqb, ◌&&◌, not, List, [], ◌∷◌, ◌++◌, Option, Some, None, sym, refl, ap, ◌∙◌, arith}
+use Rattle.std.proofs.Common.{◌≡◌, ◌≢◌, ℕ, ◌+◌, ◌%◌, Bool, true, false, cond, eqb, ◌&&◌, not, List, [], ◌∷◌, ◌++◌, Option, Some, None, sym, refl, ap, ◌∙◌, arith, ◌*◌, ◌^◌}
 use Rattle.std.proofs.lemmas.Bool.{cond-true, cond-false, eq-eqb, ne_eqb}
-use Rattle.segmodel.specs.declared.request.Request.{Request}
-use Rattle.segmodel.specs.declared.request.Reply.{Reply}
 use Rattle.segmodel.specs.declared.request.Reply.TheVariants.{Stored}
-use Rattle.segmodel.specs.declared.entry.Entry.{Entry}
 use Rattle.segmodel.specs.declared.entry.Entry.TheVariants as entry
-use Rattle.segmodel.specs.History.{pass_of, mine}
-use Rattle.segcore.specs.declared.event.Event.{Event}
+use Rattle.segmodel.specs.Words.{Entry, mine, pass_of, Reply, Request}
+use Rattle.segcore.specs.Words.{Event, Leaving}
 use Rattle.segcore.specs.declared.event.Event.TheVariants.{Took, Bounced, Glanced, Freed, Replied, Filled, Linked, Unlinked, Drew, Put, Chained, Bumped, Entered, Left, Refilled}
 use Rattle.segcore.specs.Event.{by, removal, entry_of, with_entry, seen, NoneBy, AllBy}
 use Rattle.segcore.specs.ItemWord.{packed}
 use Rattle.segcore.specs.Kind.{Step, take, release, info_look, glance, look, link, clear, draw, fill, chain, bump, row_store, row_load, enter, leave, none_reading, told, unless_own, adds}
 use Rattle.segcore.proofs.Quiet.{off}
 use Rattle.segcore.specs.Count.{taken, bounced, glanced, drew, raised, entered, taken_by, bounced_by, glanced_by, drew_by, raised_by, entered_by, CountsStep}
+use Rattle.segcore.specs.declared.event.Leaving.TheVariants.{Deletes, Evicts}
 
 -- ---- entries
 
 -- an entry is of the pass whose event it is
-removal_by : (p : ℕ) (k : List ℕ) (why : Option ℕ) → pass_of (removal p k why) ≡ p
-removal_by p k None = refl
-removal_by p k (Some s) = refl
+removal_by : (p : ℕ) (k : List ℕ) (why : Leaving) → pass_of (removal p k why) ≡ p
+removal_by p k (Deletes m) = refl
+removal_by p k (Evicts s) = refl
 
 mine_of : (p : ℕ) (x : Entry) (h : List Entry) → pass_of x ≡ p → mine p (x ∷ h) ≡ x ∷ mine p h
 mine_of p x h e = cond-true (eqb (pass_of x) p) (x ∷ mine p h) (mine p h) (eq-eqb (pass_of x) p e)
@@ -32,14 +30,14 @@ other_entry : (p : ℕ) (e : Event) (h : List Event) → by e ≢ p → mine p (
 other_entry p (Replied q r y) h ne = mine_not p (entry.Wrote q r y None) (seen h) ne
 other_entry p (Linked q r s i n) h ne = mine_not p (entry.Wrote q r Stored (Some s)) (seen h) ne
 other_entry p (Unlinked q k n why) h ne = mine_not p (removal q k why) (seen h) (λ e. ne (sym (removal_by q k why) ∙ e))
-other_entry p (Refilled q s) h ne = mine_not p (entry.Refilled q s) (seen h) ne
+other_entry p (Refilled q s d) h ne = mine_not p (entry.Refilled q s d) (seen h) ne
 other_entry p e h ne = refl
 
 own_entry : (p : ℕ) (e : Event) (h : List Event) → by e ≡ p → mine p (seen (e ∷ h)) ≡ with_entry (entry_of e) (mine p (seen h))
 own_entry p (Replied q r y) h is = mine_of p (entry.Wrote q r y None) (seen h) is
 own_entry p (Linked q r s i n) h is = mine_of p (entry.Wrote q r Stored (Some s)) (seen h) is
 own_entry p (Unlinked q k n why) h is = mine_of p (removal q k why) (seen h) (removal_by q k why ∙ is)
-own_entry p (Refilled q s) h is = mine_of p (entry.Refilled q s) (seen h) is
+own_entry p (Refilled q s d) h is = mine_of p (entry.Refilled q s d) (seen h) is
 own_entry p e h is = refl
 
 pub mine_others : (p : ℕ) (more h : List Event) → NoneBy p more → mine p (seen (more ++ h)) ≡ mine p (seen h)
@@ -132,7 +130,7 @@ module _ (F : List Event → ℕ) (p : ℕ) (h : List Event) (skips : (e : Event
   plain (row_store s r j w) found i = skips (Filled p s r j w) h tt
   plain (enter s) found i = absurd i
   plain (leave s) found i = skips (Left p s) h tt
-  plain (none_reading s) found i = of_cond (eqb found 0) (Refilled p s) tt
+  plain (none_reading s old d) found i = of_cond (eqb found (old * 2 ^ 32)) (Refilled p s d) tt
 
   pub adds_none : (step : Step) (found : ℕ) → IsPlainStep step → F (adds step p found ++ h) ≡ 0 + F h
   adds_none step found i = let e = plain step found i in omega arith
@@ -316,7 +314,7 @@ own_adds p (bump b n c t s r f g) found = all_of_cond p (eqb found (packed t f s
 own_adds p (row_store s r j w) found = (refl, tt)
 own_adds p (enter s) found = (refl, tt)
 own_adds p (leave s) found = (refl, tt)
-own_adds p (none_reading s) found = all_of_cond p (eqb found 0) _ [] (refl, tt) tt
+own_adds p (none_reading s old d) found = all_of_cond p (eqb found (old * 2 ^ 32)) _ [] (refl, tt) tt
 
 -- a step's counts, from those of the trace before it
 pub counted : (step : Step) (p found : ℕ) (more old : List Event) → NoneBy p more → CountsStep step p found old (adds step p found ++ (more ++ old))

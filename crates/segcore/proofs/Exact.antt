@@ -2,16 +2,10 @@
 use Rattle.std.proofs.Common.{◌^◌, ◌≡◌, ℕ, ◌+◌, ◌<◌, List, [], ◌∷◌, take, drop, Some, sym, refl, ap, ◌∙◌, subst, inl, inr, arith}
 use Rattle.std.specs.Prelude.{slice_index, fold}
 use Rattle.std.proofs.lemmas.Option.{same_Some}
-use Rattle.segword.specs.declared.shape.Shape.{Shape}
-use Rattle.segword.specs.Shape.{IsValid}
-use Rattle.segword.specs.Bytes.{IsKey, IsValue}
-use Rattle.segword.specs.Fnv.{with_byte, hash_of}
-use Rattle.segword.specs.Row.{row_of}
+use Rattle.segword.specs.Words.{hash_of, IsKey, IsValid, IsValue, row_of, Shape, with_byte}
 use Rattle.segword.proofs.RowLemmas.{key_of_row, value_of_row}
-use Rattle.segmodel.specs.declared.entry.Cached.{Cached}
-use Rattle.segmodel.specs.Places.{bucket_of, tag_of}
-use Rattle.segcore.specs.declared.event.Event.{Event}
-use Rattle.segcore.specs.declared.cell.Cell.{Cell}
+use Rattle.segmodel.specs.Words.{bucket_of, Cached, tag_of}
+use Rattle.segcore.specs.Words.{Cell, Event}
 use Rattle.segcore.specs.Bucket.{Slot, slot, Content, nothing, item, next, copy, bucket_after}
 use Rattle.segcore.specs.Event.{seen}
 use Rattle.segcore.specs.Overflow.{home}

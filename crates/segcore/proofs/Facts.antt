@@ -2,7 +2,7 @@
 pub mod Drafts
 pub mod Passes
 use Rattle.std.proofs.Common.{ℕ, List}
-use Rattle.segword.specs.declared.shape.Shape.{Shape}
+use Rattle.segword.specs.Words.{Shape}
 use Rattle.segcore.specs.Kind.{Step}
 use Rattle.segcore.specs.World.{World, Reaches}
 use Rattle.segcore.specs.Facts.{WorldFacts}
@@ -22,6 +22,6 @@ says z ss w r = let l = lawful z ss w r in let h = w.trace in record {
   orderly = orderly z h l.legal;
   keys = says_of_keys z h l.valid l.legal;
   buckets = says_of_buckets z h l.legal;
-  segments = says_of_segments z h l.legal;
+  segments = says_of_segments z h l.valid l.legal;
   passes = says_of_passes z ss w r l;
 }

@@ -4,15 +4,12 @@ use Rattle.std.proofs.lemmas.Bool.{cases_Bool}
 use mathlib.Core.Option.{some, some-ne-none}
 use lib.ListN.{get_elem?}
 use Rattle.atomic_table.proofs.Lists.{at_set}
-use Rattle.segword.specs.declared.shape.Shape.{Shape}
-use Rattle.segword.specs.Shape.{word_count}
-use Rattle.segcore.specs.declared.event.Event.{Event}
-use Rattle.segcore.specs.declared.view.View.{View}
+use Rattle.segword.specs.Words.{Shape, word_count}
+use Rattle.segcore.specs.Words.{Cell, Event, View}
 use Rattle.segcore.specs.Event.{NoneBy, AllBy}
 use Rattle.segcore.specs.Kind.{Step, cell, becomes, adds, KeepsLaw}
 use Rattle.segcore.specs.Word.{IsCell, same_cell, address, word}
 use Rattle.segcore.specs.World.{Knows, Lawful}
-use Rattle.segcore.specs.declared.cell.Cell.{Cell}
 use Rattle.segcore.proofs.Addresses.{in_count, apart, same_place}
 
 pub none_after : (p q : ℕ) (xs ys : List Event) → AllBy p xs → q ≢ p → NoneBy q ys → NoneBy q (xs ++ ys)

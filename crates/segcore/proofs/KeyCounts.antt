@@ -9,19 +9,13 @@ use Rattle.std.specs.BTreeMap.{insert_entry, is_at}
 use Rattle.std.specs.Map.{keys_of, lookup}
 use Rattle.std.proofs.lemmas.Bool.{cases_Bool, cond-true, cond-false, eqb-true, ne_eqb, false≢true}
 use Rattle.std.proofs.lemmas.Map.Lookups.{exact_bytes}
-use Rattle.segword.specs.declared.shape.Shape.{Shape}
-use Rattle.segmodel.specs.declared.request.Reply.{Reply}
+use Rattle.segword.specs.Words.{Shape}
 use Rattle.segmodel.specs.declared.request.Reply.TheVariants.{Stored, Deleted, NotStored, Exists, NotFound}
-use Rattle.segmodel.specs.declared.request.Request.{Request}
-use Rattle.segmodel.specs.declared.entry.Cached.{Cached}
-use Rattle.segmodel.specs.Request.{key_of, value_of}
-use Rattle.segmodel.specs.Places.{bucket_of}
-use Rattle.segmodel.specs.Cache.{Cache, key_cmp, keys_in, standing, with_at}
-use Rattle.segmodel.specs.History.{after, written}
+use Rattle.segmodel.specs.Words.{after, bucket_of, Cache, Cached, key_cmp, key_of, keys_in, Reply}
+use Rattle.segmodel.specs.Words.{Request, standing, value_of, with_at, written}
 use Rattle.segmodel.proofs.Counts.{count_by-cons}
 use Rattle.segmodel.proofs.Ordered.{Above, above_lower, sorted-after}
-use Rattle.segcore.specs.declared.cell.Cell.{Cell}
-use Rattle.segcore.specs.declared.event.Event.{Event}
+use Rattle.segcore.specs.Words.{Cell, Event, Leaving}
 use Rattle.segcore.specs.declared.event.Event.TheVariants.{Replied, Linked, Unlinked, Chained}
 use Rattle.segcore.specs.Event.{removal, seen}
 use Rattle.segcore.specs.Bucket.{Slot, slot, Content, nothing, item, next, copy, Bucket, last, fresh_position, bucket_at, is, acts, bucket_after, empty_bucket}
@@ -30,6 +24,7 @@ use Rattle.segcore.specs.Standing.{cached}
 use Rattle.segcore.specs.Word.{content_word, word, IsItemAt}
 use Rattle.segcore.specs.Mark.{marked, width}
 use Rattle.segcore.specs.Filled.{item_count, items_below, HasNoEmptyWord}
+use Rattle.segcore.specs.declared.event.Leaving.TheVariants.{Deletes, Evicts}
 use Rattle.segcore.proofs.Coherent.{Coherent}
 use Rattle.segcore.proofs.Standing.{Puts, links, unlinks, Turning, Calm, is_calm, coherent}
 use Rattle.segcore.proofs.Chains.{chain_of}
@@ -140,10 +135,10 @@ same_cache z q NotFound cache i = refl
 same_cache z q Stored cache i = absurd i
 same_cache z q Deleted cache i = absurd i
 
-same_keys : (z : Shape) (e : Event) (h : List Event) → Turning e ≡ false → Suits z h e → after z (seen (e ∷ h)) ≡ after z (seen h)
+same_keys : (z : Shape) (e : Event) (h : List Event) → Turning e ≡ false → Suits z h e → (after z (seen (e ∷ h))).items ≡ (after z (seen h)).items
 same_keys z (Linked p q s r n) h t u = absurd (false≢true (sym t))
 same_keys z (Unlinked p k n why) h t u = absurd (false≢true (sym t))
-same_keys z (Replied p q y) h t u = same_cache z q y (after z (seen h)) u
+same_keys z (Replied p q y) h t u = ap (λ cache. cache.items) (same_cache z q y (after z (seen h)) u)
 same_keys z e h t u = refl
 
 same_count : (x y : Content) → ((a : Slot) → x ≡ item a → y ≡ item a) → ((a : Slot) → y ≡ item a → x ≡ item a) → item_count x ≡ item_count y
@@ -154,7 +149,7 @@ same_count x y on back = refl
 calm_count : (z : Shape) (e : Event) (h : List Event) (b m : ℕ) → IsLawful z (e ∷ h) → Turning e ≡ false → Calm z h e → keys_in z (after z (seen h)) b ≡ items_below (bucket_after z h b) m
     → keys_in z (after z (seen (e ∷ h))) b ≡ items_below (bucket_after z (e ∷ h) b) m
 calm_count z e h b m l t q same =
-    ap (λ cache. keys_in z cache b) (same_keys z e h t l.1.suits) ∙ (same ∙ sym (same_below (bucket_after z h b) (bucket_after z (e ∷ h) b) m
+    ap (λ items. count_by (λ key. bucket_of z key == b) (keys_of items)) (same_keys z e h t l.1.suits) ∙ (same ∙ sym (same_below (bucket_after z h b) (bucket_after z (e ∷ h) b) m
     (λ n lt. same_count ((bucket_after z (e ∷ h) b).items n) ((bucket_after z h b).items n) (q.back b n) (q.on b n))))
 
 -- ---- a lawful trace
@@ -185,9 +180,9 @@ counts z (Unlinked p k n why ∷ h) b m le l =
     none true = omega arith
     none false = omega arith
 
-    removed : (why : Option ℕ) → keys_in z (after z (removal p k why ∷ seen h)) b + if_there (is_some (standing (after z (seen h)) k)) (cond (eqb (bucket_of z k) b) 1 0) ≡ keys_in z (after z (seen h)) b
-    removed None = count_without (λ key. bucket_of z key == b) k (after z (seen h)).items (sorted-after z (seen h))
-    removed (Some s) = count_without (λ key. bucket_of z key == b) k (after z (seen h)).items (sorted-after z (seen h))
+    removed : (why : Leaving) → keys_in z (after z (removal p k why ∷ seen h)) b + if_there (is_some (standing (after z (seen h)) k)) (cond (eqb (bucket_of z k) b) 1 0) ≡ keys_in z (after z (seen h)) b
+    removed (Deletes m) = count_without (λ key. bucket_of z key == b) k (after z (seen h)).items (sorted-after z (seen h))
+    removed (Evicts s) = count_without (λ key. bucket_of z key == b) k (after z (seen h)).items (sorted-after z (seen h))
 counts z (Chained p a j ∷ h) b m le l =
     let e = Chained p a j in
     let u = bucket_after z h b in

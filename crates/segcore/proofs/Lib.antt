@@ -18,6 +18,7 @@ pub mod Scans
 pub mod Marked
 pub mod Orderly
 pub mod Exact
+pub mod Deadlines
 pub mod Entered
 pub mod Facts
 pub mod WorkedExample

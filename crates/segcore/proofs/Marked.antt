@@ -1,19 +1,18 @@
 -- What a lawful history's marks come to is what its events do, and they hold together.
 use Rattle.std.proofs.Common.{◌≡◌, ◌≢◌, ℕ, ◌+◌, Bool, true, false, cond, eqb, List, [], ◌∷◌, Option, Some, None, sym, refl, ap, ◌∙◌, subst, ⊎_elim, arith}
 use Rattle.std.proofs.lemmas.Bool.{cases_Bool, cond-true, cond-false, eqb-true}
-use Rattle.segword.specs.declared.shape.Shape.{Shape}
-use Rattle.segmodel.specs.declared.request.Reply.{Reply}
+use Rattle.segword.specs.Words.{Shape}
 use Rattle.segmodel.specs.declared.request.Reply.TheVariants.{Stored, NotStored, Exists, NotFound, Deleted}
-use Rattle.segmodel.specs.Request.{key_of}
+use Rattle.segmodel.specs.Words.{bucket_of, key_of, Reply}
 use Rattle.segcore.proofs.Caches.{stands}
 use Rattle.segcore.proofs.Coherent.{moved, Coherent}
 use Rattle.segcore.specs.Bucket.{Bucket, bucket_at, is, acts, bucket_after}
 use Rattle.segcore.specs.Event.{seen}
 use Rattle.segcore.specs.Lawful.{IsRefusal, HasRoomFor, IsLawful}
 use Rattle.segcore.specs.Mark.{same_key, marked, entries, drawn_for, chained_to, onward, place, IsAfterAt, IsWellMarked}
-use Rattle.segmodel.specs.Places.{bucket_of}
-use Rattle.segcore.specs.declared.event.Event.{Event}
+use Rattle.segcore.specs.Words.{Event}
 use Rattle.segcore.specs.declared.event.Event.TheVariants.{Replied, Linked, Unlinked, Drew, Chained, Bumped, Entered, Left, Refilled}
+use Rattle.segcore.specs.declared.event.Leaving.TheVariants.{Deletes, Evicts}
 use Rattle.segcore.proofs.Coherent as trace
 use Rattle.segcore.proofs.Standing.{coherent}
 
@@ -22,7 +21,7 @@ entries_marked [] = refl
 entries_marked (Replied p q y ∷ h) = rw (entries_marked h) refl
 entries_marked (Linked p q s r n ∷ h) = rw (entries_marked h) refl
 entries_marked (Unlinked p k n why ∷ h) = rw (entries_marked h) refl
-entries_marked (Refilled p s ∷ h) = rw (entries_marked h) refl
+entries_marked (Refilled p s d ∷ h) = rw (entries_marked h) refl
 entries_marked (e ∷ h) = entries_marked h
 
 kept : {A : Type 0} (F : Bucket → A) (t : Bool) (u v : Bucket) → F v ≡ F u → F (cond t v u) ≡ F u
@@ -94,10 +93,10 @@ placed z [] l = tt
 placed z (Replied p q y ∷ h) l = (placed z h l.0, refusal_after y (key_of q) (marked h) l.1.suits)
 placed z (Linked p q s r n ∷ h) l = let at_n = l.1.suits.3 in let same = chained_marked z h (bucket_of z (key_of q)) in let lt = at_n.0 in
     ((placed z h l.0, ((omega arith, at_n.1), own_place z h (key_of q) n (coherent z h l.0) l.1.suits.4)), refl)
-placed z (Unlinked p k n None ∷ h) l = (placed z h l.0, tt)
-placed z (Unlinked p k n (Some s) ∷ h) l = (placed z h l.0, tt)
+placed z (Unlinked p k n (Deletes m) ∷ h) l = (placed z h l.0, tt)
+placed z (Unlinked p k n (Evicts s) ∷ h) l = (placed z h l.0, tt)
 placed z (Chained p b m ∷ h) l = (placed z h l.0, drawn_marked z h b l.0 ∙ (ap (λ o. (bucket_after z h b).chained + one_if o) l.1.suits.0 ∙ ap (λ n. n + 1) (sym (chained_marked z h b))))
-placed z (Refilled p s ∷ h) l = (placed z h l.0, tt)
+placed z (Refilled p s d ∷ h) l = (placed z h l.0, tt)
 placed z (Drew p b d m ∷ h) l = (placed z h l.0, tt)
 placed z (Bumped p s r f ∷ h) l = (placed z h l.0, tt)
 placed z (Entered p s ∷ h) l = (placed z h l.0, tt)

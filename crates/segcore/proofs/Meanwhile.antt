@@ -5,16 +5,15 @@ use Rattle.std.proofs.lemmas.Option.{none-some}
 use Rattle.segcore.specs.Bucket.{Slot, item, bucket_after}
 use Rattle.segcore.specs.Row.{row_after, frequency_of}
 use Rattle.segcore.proofs.Standing.{coherent}
-use Rattle.segword.specs.declared.shape.Shape.{Shape}
-use Rattle.segcore.specs.declared.event.Event.{Event}
+use Rattle.segword.specs.Words.{Shape}
+use Rattle.segcore.specs.Words.{Event, View}
 use Rattle.segcore.specs.declared.event.Event.TheVariants.{Linked, Bumped, Refilled}
-use Rattle.segcore.specs.declared.view.View.{View}
-use Rattle.segcore.specs.Event.{seen, NoneBy}
-use Rattle.segcore.specs.Segment.{refills, NoneRefills}
-use Rattle.segcore.specs.Lawful.{IsLawful}
+use Rattle.segcore.specs.Event.{by, seen, NoneBy}
+use Rattle.segcore.specs.Segment.{refills, NoneRefills, deadline_of}
+use Rattle.segcore.specs.Lawful.{Fits, IsLawful}
 use Rattle.segcore.specs.Word.{bucket_info_word, word}
 use Rattle.segcore.specs.Kind.{Step, info_look, row_load, cell, adds, May}
-use Rattle.segmodel.specs.History.{Begins}
+use Rattle.segmodel.specs.Words.{Begins, owner}
 use Rattle.segcore.specs.Mark.{marked}
 use Rattle.segcore.specs.World.{Told}
 use Rattle.segcore.specs.Count.{CountsStep}
@@ -27,13 +26,30 @@ use Rattle.segcore.proofs.Segments.{is_pass}
 use Rattle.segcore.proofs.Readable.{read_row, may_read}
 use Rattle.segcore.proofs.Counts.{mine_others, taken_others, bounced_others, glanced_others, drew_others, raised_others, entered_others, counted}
 
-refilled_event : (e : Event) (h : List Event) (s : ℕ) → ((q : ℕ) → e ≢ Refilled q s) → refills (e ∷ h) s ≡ refills h s
-refilled_event (Refilled q t) h s ne = cond-false (eqb t s) (refills h s + 1) (refills h s) (ne_eqb t s (λ e. ne q (ap (Refilled q) e)))
+refilled_event : (e : Event) (h : List Event) (s : ℕ) → ((q d : ℕ) → e ≢ Refilled q s d) → refills (e ∷ h) s ≡ refills h s
+refilled_event (Refilled q t d) h s ne = cond-false (eqb t s) (refills h s + 1) (refills h s) (ne_eqb t s (λ e. ne q d (ap (λ x. Refilled q x d) e)))
 refilled_event e h s ne = refl
 
 pub same_refills : (more h : List Event) (s : ℕ) → NoneRefills s more → refills (more ++ h) s ≡ refills h s
 same_refills [] h s n = refl
 same_refills (e ∷ more) h s n = refilled_event e (more ++ h) s n.0 ∙ same_refills more h s n.1
+
+deadline_event : (e : Event) (h : List Event) (s : ℕ) → ((q d : ℕ) → e ≢ Refilled q s d) → deadline_of (e ∷ h) s ≡ deadline_of h s
+deadline_event (Refilled q t d) h s ne = cond-false (eqb t s) d (deadline_of h s) (ne_eqb t s (λ e. ne q d (ap (λ x. Refilled q x d) e)))
+deadline_event e h s ne = refl
+
+pub same_deadline : (more h : List Event) (s : ℕ) → NoneRefills s more → deadline_of (more ++ h) s ≡ deadline_of h s
+same_deadline [] h s n = refl
+same_deadline (e ∷ more) h s n = deadline_event e (more ++ h) s n.0 ∙ same_deadline more h s n.1
+
+-- only its owner sets the deadline of a segment
+own_event : (z : Shape) (e : Event) (h : List Event) (s : ℕ) → Fits z h e → by e ≢ owner z s → deadline_of (e ∷ h) s ≡ deadline_of h s
+own_event z (Refilled q t d) h s f ne = cond-false (eqb t s) d (deadline_of h s) (ne_eqb t s (λ e. ne (sym f.suits.1 ∙ ap (owner z) e)))
+own_event z e h s f ne = refl
+
+pub own_deadline : (z : Shape) (more h : List Event) (s : ℕ) → IsLawful z (more ++ h) → NoneBy (owner z s) more → deadline_of (more ++ h) s ≡ deadline_of h s
+own_deadline z [] h s l n = refl
+own_deadline z (e ∷ more) h s l n = own_event z e (more ++ h) s l.1 n.0 ∙ own_deadline z more h s l.0 n.1
 
 -- an event leaves the frequency of a linked row, or raises it
 pub one_rise : (z : Shape) (e : Event) (h : List Event) (s r : ℕ) (k : List ℕ) → IsLawful z (e ∷ h) → (row_after h s r).linked ≡ Some k → frequency_of h s r ≤ frequency_of (e ∷ h) s r
@@ -74,6 +90,8 @@ meanwhile z p more h l n = let early = lawful_before z more h l in record {
   stays = λ s. quiet_inside more h p s n;
   not_refilled = λ s there. no_refill z more h p s (is_pass z h p s early there) l n there;
   filling = λ s there. same_refills more h s (no_refill z more h p s (is_pass z h p s early there) l n there);
+  deadlines = λ s there. same_deadline more h s (no_refill z more h p s (is_pass z h p s early there) l n there);
+  own_deadlines = λ s own. own_deadline z more h s l (subst (λ x. NoneBy x more) (sym own) n);
   entries = mine_others p more h n;
   takes = taken_others p more h n;
   bounces = λ b. bounced_others p b more h n;

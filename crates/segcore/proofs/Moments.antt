@@ -1,9 +1,8 @@
 -- Points of one trace: which begins which, and what a longer one keeps.
 use Rattle.std.proofs.Common.{◌≡◌, ℕ, List, [], ◌∷◌, ◌++◌, Option, Some, None, sym, refl, ap, ◌∙◌, subst, inl, inr, append_assoc}
-use Rattle.segword.specs.declared.shape.Shape.{Shape}
-use Rattle.segmodel.specs.declared.entry.Entry.{Entry}
-use Rattle.segmodel.specs.History.{Begins, AreOne}
-use Rattle.segcore.specs.declared.event.Event.{Event}
+use Rattle.segword.specs.Words.{Shape}
+use Rattle.segmodel.specs.Words.{AreOne, Begins, Entry}
+use Rattle.segcore.specs.Words.{Event}
 use Rattle.segcore.specs.declared.event.Event.TheVariants.{Replied, Linked, Unlinked, Drew, Chained, Bumped, Entered, Left, Refilled}
 use Rattle.segcore.specs.Event.{entry_of, with_entry, seen, NoneBy}
 use Rattle.segcore.specs.Lawful.{IsLawful}
@@ -35,7 +34,7 @@ marks_begin : (e : Event) (m : List Mark) → Begins m (marks_of e m)
 marks_begin (Replied p q y) m = (_ ∷ [], refl)
 marks_begin (Linked p q s r n) m = (_ ∷ _ ∷ [], refl)
 marks_begin (Unlinked p k n why) m = (_ ∷ [], refl)
-marks_begin (Refilled p s) m = (_ ∷ [], refl)
+marks_begin (Refilled p s d) m = (_ ∷ [], refl)
 marks_begin (Drew p b d n) m = (_ ∷ [], refl)
 marks_begin (Chained p b n) m = (_ ∷ [], refl)
 marks_begin (Bumped p s r f) m = (_ ∷ [], refl)

@@ -1,9 +1,9 @@
 -- What a lawful trace's marks count is what its events do: readers, rows, frequencies and drawn buckets; and they come in order.
-use Rattle.std.proofs.Common.{◌≡◌, ℕ, ◌+◌, ◌<◌, ◌≤◌, Bool, true, false, cond, eqb, ◌&&◌, ◌||◌, List, [], ◌∷◌, Option, Some, None, sym, refl, ap, ◌∙◌, subst, ⊎_elim, arith}
+use Rattle.std.proofs.Common.{◌≡◌, ℕ, ◌+◌, ◌<◌, ◌≤◌, Bool, true, false, cond, eqb, ◌&&◌, ◌||◌, List, [], ◌∷◌, Some, None, sym, refl, ap, ◌∙◌, subst, ⊎_elim, arith}
 use Rattle.std.proofs.lemmas.Bool.{cases_Bool, eqb-true, and_parts}
-use Rattle.segword.specs.declared.shape.Shape.{Shape}
-use Rattle.segmodel.specs.Request.{key_of}
-use Rattle.segcore.specs.declared.event.Event.{Event}
+use Rattle.segword.specs.Words.{Shape}
+use Rattle.segmodel.specs.Words.{key_of}
+use Rattle.segcore.specs.Words.{Event, Leaving}
 use Rattle.segcore.specs.declared.event.Event.TheVariants.{Replied, Filled, Linked, Unlinked, Drew, Chained, Bumped, Entered, Left, Refilled}
 use Rattle.segcore.specs.Event.{removal}
 use Rattle.segcore.specs.Overflow.{drawn_in}
@@ -11,6 +11,7 @@ use Rattle.segcore.specs.Row.{Row, writes_row, row_after, frequency_of}
 use Rattle.segcore.specs.Segment.{inside, readers, was_used}
 use Rattle.segcore.specs.Lawful.{IsLawful}
 use Rattle.segcore.specs.Mark.{Mark, enters, marked, all_drawn, all_entered, all_left, times_entered, times_left, is_segment_named, linked_in, frequency_in, IsOrderly}
+use Rattle.segcore.specs.declared.event.Leaving.TheVariants.{Deletes, Evicts}
 use Rattle.segcore.proofs.Readers.{is_counted}
 
 pub all_drawn_marked : (h : List Event) → all_drawn (marked h) ≡ drawn_in h
@@ -43,14 +44,14 @@ filled_cond : (t : Bool) (u v : Row) → v.linked ≡ u.linked → u.linked ≡ 
 filled_cond true u v e = sym e
 filled_cond false u v e = refl
 
-removed_rows : (p : ℕ) (k : List ℕ) (why : Option ℕ) (h : List Mark) (s r : ℕ) → linked_in (enters (removal p k why) ∷ h) s r ≡ linked_in h s r
-removed_rows p k None h s r = refl
-removed_rows p k (Some t) h s r = refl
+removed_rows : (p : ℕ) (k : List ℕ) (why : Leaving) (h : List Mark) (s r : ℕ) → linked_in (enters (removal p k why) ∷ h) s r ≡ linked_in h s r
+removed_rows p k (Deletes m) h s r = refl
+removed_rows p k (Evicts t) h s r = refl
 
 pub linked_marked : (h : List Event) (s r : ℕ) → linked_in (marked h) s r ≡ (row_after h s r).linked
 linked_marked [] s r = refl
 linked_marked (Linked p q t i n ∷ h) s r = ap (cond (eqb t s && eqb i r) (Some (key_of q))) (linked_marked h s r) ∙ linked_cond (eqb t s && eqb i r) (row_after h s r) (key_of q)
-linked_marked (Refilled p t ∷ h) s r = ap (cond (eqb t s) None) (linked_marked h s r) ∙ unlinked_cond (eqb t s) (row_after h s r)
+linked_marked (Refilled p t d ∷ h) s r = ap (cond (eqb t s) None) (linked_marked h s r) ∙ unlinked_cond (eqb t s) (row_after h s r)
 linked_marked (Filled p t i j w ∷ h) s r = linked_marked h s r ∙ filled_cond (eqb t s && eqb i r) (row_after h s r) (writes_row (Filled p t i j w) (row_after h s r)) refl
 linked_marked (Unlinked p k n why ∷ h) s r = removed_rows p k why (marked h) s r ∙ linked_marked h s r
 linked_marked (e ∷ h) s r = linked_marked h s r
@@ -76,16 +77,16 @@ inside_marked z (e ∷ h) p s l = inside_marked z h p s l.0
 
 -- ---- the order of the marks
 
-removed_order : (p : ℕ) (k : List ℕ) (why : Option ℕ) (h : List Mark) → IsOrderly h → IsOrderly (enters (removal p k why) ∷ h)
-removed_order p k None h i = (i, tt)
-removed_order p k (Some s) h i = (i, tt)
+removed_order : (p : ℕ) (k : List ℕ) (why : Leaving) (h : List Mark) → IsOrderly h → IsOrderly (enters (removal p k why) ∷ h)
+removed_order p k (Deletes m) h i = (i, tt)
+removed_order p k (Evicts s) h i = (i, tt)
 
 pub orderly : (z : Shape) (h : List Event) → IsLawful z h → IsOrderly (marked h)
 orderly z [] l = tt
 orderly z (Replied p q y ∷ h) l = (orderly z h l.0, tt)
 orderly z (Linked p q s r n ∷ h) l = ((orderly z h l.0, linked_marked h s r ∙ l.1.suits.0.3), tt)
 orderly z (Unlinked p k n why ∷ h) l = removed_order p k why (marked h) (orderly z h l.0)
-orderly z (Refilled p s ∷ h) l = (orderly z h l.0, (let a = readers_marked z h s l.0 in let b = l.1.suits.2 in omega arith))
+orderly z (Refilled p s d ∷ h) l = (orderly z h l.0, (let a = readers_marked z h s l.0 in let b = l.1.suits.2 in omega arith))
 orderly z (Drew p b d m ∷ h) l = (orderly z h l.0, tt)
 orderly z (Chained p b m ∷ h) l = (orderly z h l.0, tt)
 orderly z (Bumped p s r f ∷ h) l = (orderly z h l.0, tt)

@@ -2,13 +2,12 @@
 use Rattle.std.proofs.Common.{◌≡◌, ◌≢◌, ℕ, ◌+◌, ◌<◌, ◌≤◌, Bool, true, false, cond, eqb, ◌&&◌, ◌||◌, List, [], ◌∷◌, ◌++◌, Option, Some, None, MatchOption, sym, refl, ap, ◌∙◌, subst, ⊎_elim, arith}
 use Rattle.std.proofs.lemmas.Bool.{cases_Bool, cond-false, eqb-true, ne_eqb, and_parts, false≢true, false_from_ne_true}
 use Rattle.std.proofs.lemmas.Option.{same_Some, none-some}
-use Rattle.segword.specs.declared.shape.Shape.{Shape}
-use Rattle.segmodel.specs.declared.request.Request.{Request}
+use Rattle.segword.specs.Words.{Shape}
 use Rattle.segmodel.specs.declared.request.Request.TheVariants.{Delete}
-use Rattle.segmodel.specs.declared.request.Reply.{Reply}
 use Rattle.segmodel.specs.declared.request.Reply.TheVariants.{Stored, Deleted}
 use Rattle.segmodel.specs.declared.entry.Entry.TheVariants as entry
-use Rattle.segmodel.specs.Request.{key_of, reply_to}
+use Rattle.segmodel.specs.Words.{after, bucket_of, Follows, IsSameAt, key_of, owner, Reply}
+use Rattle.segmodel.specs.Words.{reply_to, Request}
 use Rattle.segcore.proofs.Caches.{stands}
 use Rattle.segcore.specs.Bucket.{bucket_at, is, acts, bucket_after, IsPosition, Bucket}
 use Rattle.segcore.specs.Event.{by, removal, seen, NoneBy}
@@ -16,12 +15,11 @@ use Rattle.segcore.specs.Lawful.{NoneAt, needs, Suits, Fits, IsLawful, is_of_now
 use Rattle.segcore.specs.Overflow.{drawn_in, Home, home_of}
 use Rattle.segcore.specs.Row.{row_at, row_after}
 use Rattle.segcore.specs.Segment.{inside, was_used}
-use Rattle.segmodel.specs.Places.{bucket_of, owner}
-use Rattle.segmodel.specs.History.{after, Follows, IsSameAt}
 use Rattle.segmodel.proofs.HistoryLemmas.{next_other}
 use Rattle.std.specs.Prelude.{is_some, IsSomeAnd}
-use Rattle.segcore.specs.declared.event.Event.{Event}
+use Rattle.segcore.specs.Words.{Event, Leaving}
 use Rattle.segcore.specs.declared.event.Event.TheVariants.{Took, Freed, Replied, Filled, Linked, Unlinked, Drew, Put, Chained, Entered, Left, Refilled}
+use Rattle.segcore.specs.declared.event.Leaving.TheVariants.{Deletes, Evicts}
 
 -- an event at a bucket whose bit the pass q has is one of q
 needs_by : (e : Event) (q : ℕ) → needs e ≡ Some q → by e ≡ q
@@ -43,9 +41,9 @@ quiet z (e ∷ more) h p b l n held =
     let off = away z (more ++ h) e b p l.1 n.0 (ap (λ u. u.holder) ih ∙ held) in
     rw off ih
 
-removed_at : (z : Shape) (p : ℕ) (k' : List ℕ) (why : Option ℕ) (h : List Event) (k : List ℕ) → eqb (bucket_of z k') (bucket_of z k) ≡ false → IsSameAt z (after z (seen h)) (after z (removal p k' why ∷ seen h)) k
-removed_at z p k' None h k f = next_other z (after z (seen h)) (removal p k' None) k f
-removed_at z p k' (Some s) h k f = next_other z (after z (seen h)) (removal p k' (Some s)) k f
+removed_at : (z : Shape) (p : ℕ) (k' : List ℕ) (why : Leaving) (h : List Event) (k : List ℕ) → eqb (bucket_of z k') (bucket_of z k) ≡ false → IsSameAt z (after z (seen h)) (after z (removal p k' why ∷ seen h)) k
+removed_at z p k' (Deletes m) h k f = next_other z (after z (seen h)) (removal p k' (Deletes m)) k f
+removed_at z p k' (Evicts s) h k f = next_other z (after z (seen h)) (removal p k' (Evicts s)) k f
 
 -- an event of another bucket leaves what stands under a key, and the version of its bucket
 pub same_at : (z : Shape) (e : Event) (h : List Event) (k : List ℕ) → is (bucket_at z e) (bucket_of z k) ≡ false → IsSameAt z (after z (seen h)) (after z (seen (e ∷ h))) k
@@ -71,14 +69,14 @@ quiet_stands z more h p k l n held = (quiet_at z more h p k l n held).stands
 at_row : (z : Shape) (h : List Event) (e : Event) (s r : ℕ) → Suits z h e → row_at e s r ≡ true → owner z s ≡ by e
 at_row z h (Filled p s' r' j w) s r u t = let q = and_parts (eqb s' s) (eqb r' r) t in rw (← eqb-true s' s q.0) u.0.2
 at_row z h (Linked p q' s' r' n) s r u t = let q = and_parts (eqb s' s) (eqb r' r) t in rw (← eqb-true s' s q.0) u.0.2
-at_row z h (Refilled p s') s r u t = rw (← eqb-true s' s t) u.1
+at_row z h (Refilled p s' d) s r u t = rw (← eqb-true s' s t) u.1
 at_row z h e s r u t = absurd (false≢true t)
 
 -- a row whose words an event writes or links isn't linked
-pub at_unlinked : (z : Shape) (h : List Event) (e : Event) (s r : ℕ) → Suits z h e → ((p t : ℕ) → e ≢ Refilled p t) → row_at e s r ≡ true → (row_after h s r).linked ≡ None
+pub at_unlinked : (z : Shape) (h : List Event) (e : Event) (s r : ℕ) → Suits z h e → ((p t d : ℕ) → e ≢ Refilled p t d) → row_at e s r ≡ true → (row_after h s r).linked ≡ None
 at_unlinked z h (Filled p s' r' j w) s r u other t = let q = and_parts (eqb s' s) (eqb r' r) t in rw (← eqb-true s' s q.0, ← eqb-true r' r q.1) u.0.3
 at_unlinked z h (Linked p q' s' r' n) s r u other t = let q = and_parts (eqb s' s) (eqb r' r) t in rw (← eqb-true s' s q.0, ← eqb-true r' r q.1) u.0.3
-at_unlinked z h (Refilled p s') s r u other t = absurd (other p s' refl)
+at_unlinked z h (Refilled p s' d) s r u other t = absurd (other p s' d refl)
 at_unlinked z h e s r u other t = absurd (false≢true t)
 
 pub quiet_row : (z : Shape) (more h : List Event) (s r : ℕ) → IsLawful z (more ++ h) → NoneBy (owner z s) more → row_after (more ++ h) s r ≡ row_after h s r
@@ -163,9 +161,9 @@ later_follows z more h p q y s l n held f =
     let same = quiet_at z more h p (key_of q) l n held in
     (f.0 ∙ (λ i. reply_to q (is_some ((sym same.stands) i)) ((sym same.version) i)), f.1)
 
-later_left : (z : Shape) (more h : List Event) (p : ℕ) (k : List ℕ) (why : Option ℕ) → IsLawful z (more ++ h) → NoneBy p more → (bucket_after z h (bucket_of z k)).holder ≡ Some p → Follows z (after z (seen h)) (removal p k why) → Follows z (after z (seen (more ++ h))) (removal p k why)
-later_left z more h p k None l n held f = later_follows z more h p (Delete k) Deleted None l n held f
-later_left z more h p k (Some s) l n held f = (subst (λ o. IsSomeAnd o (λ item. item.segment ≡ s)) (sym (quiet_stands z more h p k l n held)) f.0, f.1)
+later_left : (z : Shape) (more h : List Event) (p : ℕ) (k : List ℕ) (why : Leaving) → IsLawful z (more ++ h) → NoneBy p more → (bucket_after z h (bucket_of z k)).holder ≡ Some p → Follows z (after z (seen h)) (removal p k why) → Follows z (after z (seen (more ++ h))) (removal p k why)
+later_left z more h p k (Deletes m) l n held f = later_follows z more h p (Delete k m) Deleted None l n held f
+later_left z more h p k (Evicts s) l n held f = (subst (λ o. IsSomeAnd o (λ item. item.segment ≡ s)) (sym (quiet_stands z more h p k l n held)) f.0, f.1)
 
 pub later : (z : Shape) (more h : List Event) (e : Event) → IsLawful z (more ++ h) → NoneBy (by e) more → is_of_now e ≡ false → Fits z h e → Fits z (more ++ h) e
 later z more h (Entered p s) l n t f = record { guarded = tt; follows = tt; suits = (f.suits.0, f.suits.1, rw (quiet_inside more h p s n) f.suits.2, used_stays more h s f.suits.3) }

@@ -1,7 +1,7 @@
 -- What a pass may read of rows stays as it is while the pass does nothing.
 use Rattle.std.proofs.Common.{◌≡◌, ℕ, ◌<◌, List, [], ◌∷◌, ◌++◌, Some, refl, sym, ap, ◌∙◌, subst, inl, inr}
-use Rattle.segword.specs.declared.shape.Shape.{Shape}
-use Rattle.segcore.specs.declared.event.Event.{Event}
+use Rattle.segword.specs.Words.{Shape}
+use Rattle.segcore.specs.Words.{Event}
 use Rattle.segcore.specs.Event.{NoneBy, seen}
 use Rattle.segcore.specs.Bucket.{Slot, item, bucket_after}
 use Rattle.segcore.specs.Row.{row_after}
@@ -19,7 +19,7 @@ named_once : (z : Shape) (e : Event) (h : List Event) (b n : ℕ) (a : Slot) →
 named_once z e h b n a l is =
     let i = (coherent z h l.0).items b n a is in
     row_stays z e h a.segment a.row a.key l
-    (λ p same. (subst (λ x. IsLawful z (x ∷ h)) same l).1.follows.0 a.key (stands_in z (seen h) a.key a.segment (i.value, i.stands)))
+    (λ p d same. (subst (λ x. IsLawful z (x ∷ h)) same l).1.follows.0 a.key (stands_in z (seen h) a.key a.segment (i.value, i.stands)))
     i.linked
 
 -- and under the bucket's bit for any number

@@ -2,14 +2,10 @@
 use Rattle.std.proofs.Common.{◌≡◌, ◌≢◌, ℕ, ◌+◌, ◌*◌, ◌%◌, ◌≤◌, cond, eqb, ◌⊎◌, List, [], ◌∷◌, ◌++◌, Option, Some, None, sym, refl, ap, ◌∙◌, subst, inl, inr, ⊎_elim, arith}
 use Rattle.std.proofs.lemmas.Bool.{cases_Bool, cases_eq, cond-true, cond-false, eqb-true}
 use Rattle.std.proofs.lemmas.Option.{same_Some, none-some}
-use Rattle.segword.specs.declared.shape.Shape.{Shape}
-use Rattle.segmodel.specs.declared.request.Request.{Request}
-use Rattle.segmodel.specs.declared.request.Reply.{Reply}
+use Rattle.segword.specs.Words.{Shape}
 use Rattle.segmodel.specs.declared.request.Reply.TheVariants.{Stored, NotStored, Exists, NotFound, Deleted}
-use Rattle.segmodel.specs.declared.entry.Cached.{Cached}
-use Rattle.segmodel.specs.declared.entry.Entry.{Entry}
 use Rattle.segmodel.specs.declared.entry.Entry.TheVariants as entry
-use Rattle.segmodel.specs.Request.{key_of}
+use Rattle.segmodel.specs.Words.{Begins, bucket_of, Cached, Entry, key_of, Reply, Request}
 use Rattle.segcore.proofs.Caches.{put, stands, stands_wrote, stands_evicted}
 use Rattle.segcore.specs.Mark.{same_key, Mark, enters, drawn, chained, at, bumped, entered, left, entries, chained_to, onward, place, last_at, IsAbsent, IsIn, IsAfterAt, IsWellMarked}
 use Rattle.segcore.specs.Ahead.{WasGone, Ahead}
@@ -17,8 +13,6 @@ use Rattle.segcore.specs.Bucket.{Slot, slot}
 use Rattle.segcore.specs.Scan.{IsNowhere, IsNotAt, position_after, IsScan, IsScanOf}
 use Rattle.segcore.proofs.Moments.{begins_on}
 use Rattle.segcore.proofs.Ahead.{ahead_later, ahead_passed, ahead_jump, ahead_end}
-use Rattle.segmodel.specs.Places.{bucket_of}
-use Rattle.segmodel.specs.History.{Begins}
 use Rattle.segcore.proofs.Keys.{key_true, same_true}
 
 -- the key stands, and its place is m or a later one
@@ -115,7 +109,7 @@ has_place z k (enters (entry.Evicted q k' s) ∷ h) x p t = ⊎_elim
     (λ e. absurd (none-some x (sym (stands_evicted z q k' s (entries h) k ∙ cond-true (same_key k' k) None (stands z (entries h) k) e) ∙ t)))
     (λ f. let i = has_place z k h x p.0 (sym (stands_evicted z q k' s (entries h) k ∙ cond-false (same_key k' k) None (stands z (entries h) k) f) ∙ t) in record { at = i.at; place = i.place; within = i.within })
     (cases_Bool (same_key k' k))
-has_place z k (enters (entry.Refilled q s) ∷ h) x p t = let i = has_place z k h x p.0 t in record { at = i.at; place = i.place; within = i.within }
+has_place z k (enters (entry.Refilled q s d) ∷ h) x p t = let i = has_place z k h x p.0 t in record { at = i.at; place = i.place; within = i.within }
 has_place z k (at k' u r n f ∷ h) x p t = let i = has_place z k h x p.0 t in ⊎_elim
     (λ e. record { at = n; place = cond-true (same_key k' k) (Some n) (place z h k) e; within = subst (λ y. IsIn z h y n) (key_true k' k e) p.1.0 })
     (λ g. record { at = i.at; place = cond-false (same_key k' k) (Some n) (place z h k) g ∙ i.place; within = i.within })

@@ -3,13 +3,12 @@ use Rattle.std.proofs.Common.{◌≡◌, ℕ, List, [], ◌∷◌, ◌++◌, get
 use mathlib.Core.Option.{some-injective}
 use Rattle.atomic_table.proofs.Lists.{set_here, set_else}
 use Rattle.std.proofs.lemmas.Bool.{cases_eq}
-use Rattle.segmodel.specs.History.{Begins}
+use Rattle.segmodel.specs.Words.{Begins}
 use Rattle.segcore.proofs.Moments.{marked_begins, seen_begins}
 use mathlib.Core.Option.{some}
 use lib.ListN.{get_elem?}
-use Rattle.segword.specs.declared.shape.Shape.{Shape}
-use Rattle.segcore.specs.declared.event.Event.{Event}
-use Rattle.segcore.specs.declared.view.View.{View}
+use Rattle.segword.specs.Words.{Shape}
+use Rattle.segcore.specs.Words.{Event, View}
 use Rattle.segcore.specs.Event.{NoneBy}
 use Rattle.segcore.specs.Kind.{adds, cell, Step, May, KeepsLaw}
 use Rattle.segcore.specs.Lawful.{IsLawful}

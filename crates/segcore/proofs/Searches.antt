@@ -2,13 +2,8 @@
 use Rattle.std.proofs.Common.{◌≡◌, ◌≢◌, ℕ, ◌+◌, ◌*◌, ◌%◌, ◌<◌, ◌≤◌, eqb, ◌⊎◌, List, [], ◌∷◌, Option, Some, None, sym, refl, ap, ◌∙◌, subst, inl, inr, ⊎_elim, arith}
 use Rattle.std.proofs.lemmas.Bool.{cases_Bool, cases_eq, cond-true, cond-false, eqb-true, eqb-false}
 use Rattle.std.proofs.lemmas.Option.{same_Some, none-some}
-use Rattle.segword.specs.declared.shape.Shape.{Shape}
-use Rattle.segmodel.specs.declared.request.Request.{Request}
-use Rattle.segmodel.specs.declared.entry.Cached.{Cached}
-use Rattle.segmodel.specs.Request.{key_of, value_of}
-use Rattle.segmodel.specs.Places.{bucket_of, tag_of}
-use Rattle.segmodel.specs.History.{Begins}
-use Rattle.segcore.specs.declared.event.Event.{Event}
+use Rattle.segmodel.specs.Words.{Begins, bucket_of, Cached, key_of, Request, tag_of, value_of}
+use Rattle.segcore.specs.Words.{Cell, Event, Leaving}
 use Rattle.segcore.specs.declared.event.Event.TheVariants.{Linked, Unlinked, Chained}
 use Rattle.segcore.specs.Event.{seen}
 use Rattle.segcore.specs.Bucket.{Slot, slot, item, nothing, last, fresh_position, IsPosition, acts, bucket_after}
@@ -22,8 +17,7 @@ use Rattle.segcore.proofs.Keys.{same_true}
 use Rattle.segcore.proofs.Caches.{stands}
 use Rattle.segcore.proofs.Chains.{same_item, copy_item}
 use Rattle.segcore.proofs.Standing.{coherent, links, unlinks, here, there, gone, rows_stay, is_calm, grown, at_fresh, elsewhere, others_same}
-use Rattle.segword.specs.Shape.{IsValid}
-use Rattle.segcore.specs.declared.cell.Cell.{Cell}
+use Rattle.segword.specs.Words.{IsValid, Shape}
 use Rattle.segcore.specs.Word.{IsAt}
 use Rattle.segcore.specs.Mark as marks
 use Rattle.segcore.proofs.Marked.{place_marked}
@@ -75,7 +69,7 @@ linked_fate z h p q s r n' b n a l is' =
       here = subst (λ t. (bucket_after z (e ∷ h) t).items n ≡ item (slot a.key s r)) eb (here z h e k n' o x w n ∙ (cond-true (eqb n' n) o ((bucket_after z h b0).items n) hit ∙ ap (λ t. item (slot t s r)) (sym own)));
       last = cond-true (same_key k a.key) (Some (slot a.key s r)) (last_at (marked h) a.key) (same_true k a.key (sym own));
       fresh = l.1.suits.0.3;
-      rows = rows_stay z h e l.1.suits (λ p' t' same. cc) a.segment a.row a.key ((c.items b n a is').value) (c.items b n a is').linked (c.items b n a is').stands;
+      rows = rows_stay z h e l.1.suits (λ p' t' d' same. cc) a.segment a.row a.key ((c.items b n a is').value) (c.items b n a is').linked (c.items b n a is').stands;
     })))
     (λ miss. inl (n, omega arith, subst (λ t. (bucket_after z (e ∷ h) t).items n ≡ item a) eb (here z h e k n' o x w n ∙ (cond-false (eqb n' n) o ((bucket_after z h b0).items n) miss ∙ old))))
     (cases_Bool (eqb n' n)))
@@ -85,7 +79,7 @@ linked_fate z h p q s r n' b n a l is' =
     nothing_item : (a : Slot) → nothing ≡ item a → None ≡ Some a
     nothing_item a e = cc
 
-unlinked_fate : (z : Shape) (h : List Event) (p : ℕ) (k : List ℕ) (n' : ℕ) (why : Option ℕ) (b n : ℕ) (a : Slot) → IsLawful z (Unlinked p k n' why ∷ h) → (bucket_after z h b).items n ≡ item a → Fate z h (Unlinked p k n' why) b n a
+unlinked_fate : (z : Shape) (h : List Event) (p : ℕ) (k : List ℕ) (n' : ℕ) (why : Leaving) (b n : ℕ) (a : Slot) → IsLawful z (Unlinked p k n' why ∷ h) → (bucket_after z h b).items n ≡ item a → Fate z h (Unlinked p k n' why) b n a
 unlinked_fate z h p k n' why b n a l is' =
     let e = Unlinked p k n' why in let b0 = bucket_of z k in let w = unlinks z h p k n' why in ⊎_elim
     (λ y. let eb = eqb-true b0 b y in

@@ -1,20 +1,20 @@
 -- What a lawful trace says of segments: nobody is in one that is refilled, and its linked rows keep their pairs.
-use Rattle.std.proofs.Common.{◌≡◌, ℕ, ◌<◌, ◌≤◌, eqb, ◌&&◌, List, [], ◌∷◌, ◌++◌, Some, sym, refl, ap, ◌∙◌, subst, ⊎_elim, arith}
+use Rattle.std.proofs.Common.{◌≡◌, ℕ, ◌<◌, ◌≤◌, ◌+◌, eqb, ◌&&◌, List, [], ◌∷◌, ◌++◌, Some, sym, refl, ap, ◌∙◌, subst, ⊎_elim, arith}
 use Rattle.std.proofs.lemmas.Bool.{cond-true, cond-false, cases_lt, eq-eqb, and_parts, and_from, eqb-true, false_from_ne_true}
 use Rattle.std.proofs.lemmas.Option.{none-some}
-use Rattle.segword.specs.declared.shape.Shape.{Shape}
-use Rattle.segmodel.specs.declared.request.Request.{Request}
+use Rattle.segword.specs.Words.{IsValid, Shape}
 use Rattle.segmodel.specs.declared.request.Reply.TheVariants.{Stored}
-use Rattle.segmodel.specs.Request.{key_of, value_of}
-use Rattle.segcore.specs.declared.event.Event.{Event}
+use Rattle.segmodel.specs.Words.{key_of, Request, value_of}
+use Rattle.segcore.specs.Words.{Event}
 use Rattle.segcore.specs.declared.event.Event.TheVariants.{Linked, Entered, Left, Refilled}
 use Rattle.segcore.specs.Event.{seen}
 use Rattle.segcore.specs.Row.{Row, writes_row, row_after}
 use Rattle.segcore.specs.Segment.{inside, NoneRefills}
 use Rattle.segcore.specs.Lawful.{IsLawful}
 use Rattle.segcore.specs.Standing.{cached}
-use Rattle.segcore.specs.Mark.{same_key}
+use Rattle.segcore.specs.Mark.{all_left, marked, same_key}
 use Rattle.segcore.specs.Facts.{NoneLinks, IsKeptRow, SegmentFacts}
+use Rattle.segcore.proofs.Deadlines.{deadline_seen, word_parts}
 use Rattle.segcore.proofs.Keys.{same_true}
 use Rattle.segcore.proofs.Caches.{stands, stands_wrote}
 use Rattle.segcore.proofs.Moments.{lawful_before}
@@ -33,8 +33,8 @@ strangers z (e ∷ h) p s l le = strangers z h p s l.0 le
 pub is_pass : (z : Shape) (h : List Event) (p s : ℕ) → IsLawful z h → 0 < inside h p s → p < z.passes
 is_pass z h p s l there = ⊎_elim (λ lt. lt) (λ le. let e = strangers z h p s l le in absurd (omega arith)) (cases_lt p z.passes)
 
-pub none_inside : (z : Shape) (more h : List Event) (q p s : ℕ) → IsLawful z (more ++ (Refilled q s ∷ h)) → inside h p s ≡ 0
-none_inside z more h q p s l = ⊎_elim (λ few. none_in z more h q p s few l) (λ le. strangers z h p s (lawful_before z more (Refilled q s ∷ h) l).0 le) (cases_lt p z.passes)
+pub none_inside : (z : Shape) (more h : List Event) (q p s d : ℕ) → IsLawful z (more ++ (Refilled q s d ∷ h)) → inside h p s ≡ 0
+none_inside z more h q p s d l = ⊎_elim (λ few. none_in z more h q p s d few l) (λ le. strangers z h p s (lawful_before z more (Refilled q s d ∷ h) l).0 le) (cases_lt p z.passes)
 
 -- ---- rows
 
@@ -61,13 +61,14 @@ kept_row z more h p q s r n l none =
       stood = stands_wrote z p q Stored (Some s) (seen h) k ∙ cond-true (same_key k k) (Some (cached (value_of q) s)) (stands z (seen h) k) (same_true k k refl);
     }
 
-pub says_of_segments : (z : Shape) (h : List Event) → IsLawful z h → SegmentFacts z h
-says_of_segments z h l = record {
-  readers = λ s. readers_marked z h s l;
+pub says_of_segments : (z : Shape) (h : List Event) → IsValid z → IsLawful z h → SegmentFacts z h
+says_of_segments z h v l = record {
+  deadlines = λ s. (word_parts z h s v l).0 ∙ sym (deadline_seen z h s);
+  readers = λ s. ap (λ n. n + all_left (marked h) s) (word_parts z h s v l).1 ∙ readers_marked z h s l;
   marks = λ p s. inside_marked z h p s l;
   few = λ p s. at_most z h l p s;
-  low = λ s. let c = counted z h l s in omega arith;
-  reader = λ s there. some_reader z h l s there;
-  refilled = λ more g q p s is'. none_inside z more g q p s (subst (IsLawful z) is' l);
+  low = λ s. let c = counted z h l s in let w = (word_parts z h s v l).1 in omega arith;
+  reader = λ s there. some_reader z h l s (subst (λ x. 0 < x) (word_parts z h s v l).1 there);
+  refilled = λ more g q p s d is'. none_inside z more g q p s d (subst (IsLawful z) is' l);
   rows = λ more g p q s r n is' none. subst (λ x. IsKeptRow z x more g p q s r n) (sym is') (kept_row z more g p q s r n (subst (IsLawful z) is' l) none);
 }

@@ -2,12 +2,9 @@
 use Rattle.std.proofs.Common.{◌≡◌, ◌≢◌, ℕ, Bool, true, false, cond, eqb, ◌⊎◌, List, [], ◌∷◌, Option, Some, None, sym, refl, ap, ◌∙◌, subst, inl, inr, ⊎_elim, arith}
 use Rattle.std.proofs.lemmas.Bool.{cases_Bool, cond-true, cond-false, eqb-true, eqb-false, eq-eqb, ne_eqb, false≢true, false_from_ne_true}
 use Rattle.std.proofs.lemmas.Option.{same_Some, none-some}
-use Rattle.segword.specs.declared.shape.Shape.{Shape}
-use Rattle.segmodel.specs.declared.request.Request.{Request}
-use Rattle.segmodel.specs.declared.request.Reply.{Reply}
+use Rattle.segword.specs.Words.{Shape}
 use Rattle.segmodel.specs.declared.request.Reply.TheVariants.{Stored, NotStored, Exists, NotFound, Deleted}
-use Rattle.segmodel.specs.declared.entry.Cached.{Cached}
-use Rattle.segmodel.specs.Request.{key_of, value_of}
+use Rattle.segmodel.specs.Words.{bucket_of, Cached, IsLegal, key_of, Reply, Request, value_of}
 use Rattle.segcore.proofs.Caches.{put, stands, stands_wrote, stands_evicted, stands_in}
 use Rattle.segmodel.specs.declared.request.Request.TheVariants.{Delete}
 use Rattle.segcore.proofs.Coherent.{IsContent, IsChain, IsStanding, moved, place, Coherent}
@@ -17,10 +14,9 @@ use Rattle.segcore.specs.Lawful.{IsRefusal, HasRoomFor, Suits, IsLawful}
 use Rattle.segcore.specs.Mark.{same_key, marked, last_at}
 use Rattle.segcore.specs.Row.{Row, row_at, writes_row, row_after}
 use Rattle.segcore.specs.Standing.{cached}
-use Rattle.segmodel.specs.Places.{bucket_of}
-use Rattle.segmodel.specs.History.{IsLegal}
-use Rattle.segcore.specs.declared.event.Event.{Event}
+use Rattle.segcore.specs.Words.{Event, Leaving}
 use Rattle.segcore.specs.declared.event.Event.TheVariants.{Replied, Filled, Linked, Unlinked, Put, Chained, Refilled}
+use Rattle.segcore.specs.declared.event.Leaving.TheVariants.{Deletes, Evicts}
 use Rattle.segcore.proofs.Keys.{key_true, same_true, key_false, same_false}
 use Rattle.segcore.proofs.Quiet.{at_unlinked}
 use Rattle.segcore.proofs.Chains.{same_item, no_item, next_item, copy_item, chain_of}
@@ -157,7 +153,7 @@ module _ (z : Shape) (h : List Event) (e : Event) (k0 : List ℕ) (n : ℕ) (o :
   }
 
 -- a linked row is no row that an event touches
-pub rows_stay : (z : Shape) (h : List Event) (e : Event) → Suits z h e → ((p t : ℕ) → e ≢ Refilled p t) → LinkedRowsStay z h e
+pub rows_stay : (z : Shape) (h : List Event) (e : Event) → Suits z h e → ((p t d : ℕ) → e ≢ Refilled p t d) → LinkedRowsStay z h e
 rows_stay z h e u other s r k v on _ = cond-false (row_at e s r) (writes_row e (row_after h s r)) (row_after h s r) (false_from_ne_true (row_at e s r) (λ t. none-some k (sym (at_unlinked z h e s r u other t) ∙ on)))
 
 pub links : (z : Shape) (h : List Event) (p : ℕ) (q : Request) (s r n : ℕ) → Suits z h (Linked p q s r n) → Puts z h (Linked p q s r n) (key_of q) n (item (slot (key_of q) s r)) (Some (cached (value_of q) s))
@@ -181,7 +177,7 @@ links z h p q s r n u = let e = Linked p q s r n in let k = key_of q in
       items = λ w. refl;
       chained = λ w. refl;
       keys = stands_wrote z p q Stored (Some s) (seen h);
-      rows = rows_stay z h e u (λ p' t' same. cc);
+      rows = rows_stay z h e u (λ p' t' d' same. cc);
       places = λ k' f. cond-false (same_key k k') (Some n) (place z h k') f;
       lasts = λ k' f. cond-false (same_key k k') (Some (slot k' s r)) (last_at (marked h) k') f;
       new_place = λ a is'. cond-true (same_key k a.key) (Some n) (place z h a.key) (same_true k a.key (ap (λ o. o.key) (same_item (slot k s r) a is')));
@@ -190,11 +186,11 @@ links z h p q s r n u = let e = Linked p q s r n in let k = key_of q in
       has = λ y is'. (slot k s r, refl);
     }
 
-pub gone : (z : Shape) (p : ℕ) (k : List ℕ) (why : Option ℕ) (h : List Event) (k' : List ℕ) → stands z (removal p k why ∷ seen h) k' ≡ cond (same_key k k') None (stands z (seen h) k')
-gone z p k None h k' = stands_wrote z p (Delete k) Deleted None (seen h) k'
-gone z p k (Some s) h k' = stands_evicted z p k s (seen h) k'
+pub gone : (z : Shape) (p : ℕ) (k : List ℕ) (why : Leaving) (h : List Event) (k' : List ℕ) → stands z (removal p k why ∷ seen h) k' ≡ cond (same_key k k') None (stands z (seen h) k')
+gone z p k (Deletes m) h k' = stands_wrote z p (Delete k m) Deleted None (seen h) k'
+gone z p k (Evicts s) h k' = stands_evicted z p k s (seen h) k'
 
-pub unlinks : (z : Shape) (h : List Event) (p : ℕ) (k : List ℕ) (n : ℕ) (why : Option ℕ) → Puts z h (Unlinked p k n why) k n nothing None
+pub unlinks : (z : Shape) (h : List Event) (p : ℕ) (k : List ℕ) (n : ℕ) (why : Leaving) → Puts z h (Unlinked p k n why) k n nothing None
 unlinks z h p k n why = record {
   at = λ b. refl;
   items = λ w. refl;
@@ -342,9 +338,9 @@ same_lasts (Linked p q s r n) h k t = absurd (false≢true (sym t))
 same_lasts e h k t = refl
 
 calm_rows : (z : Shape) (e : Event) (h : List Event) → IsLawful z (e ∷ h) → LinkedRowsStay z h e
-calm_rows z (Refilled p s) h l t r k v on is' = cond-false (eqb s t) (writes_row (Refilled p s) (row_after h t r)) (row_after h t r) (ne_eqb s t (λ e. l.1.follows.0 k (stands_in z (seen h) k s (v, is' ∙ ap (λ q. Some (cached v q)) (sym e)))))
-calm_rows z (Filled p s r j w) h l t i k v on is' = rows_stay z h (Filled p s r j w) l.1.suits (λ p' t' same. cc) t i k v on is'
-calm_rows z (Linked p q s r n) h l t i k v on is' = rows_stay z h (Linked p q s r n) l.1.suits (λ p' t' same. cc) t i k v on is'
+calm_rows z (Refilled p s d) h l t r k v on is' = cond-false (eqb s t) (writes_row (Refilled p s d) (row_after h t r)) (row_after h t r) (ne_eqb s t (λ e. l.1.follows.0 k (stands_in z (seen h) k s (v, is' ∙ ap (λ q. Some (cached v q)) (sym e)))))
+calm_rows z (Filled p s r j w) h l t i k v on is' = rows_stay z h (Filled p s r j w) l.1.suits (λ p' t' d' same. cc) t i k v on is'
+calm_rows z (Linked p q s r n) h l t i k v on is' = rows_stay z h (Linked p q s r n) l.1.suits (λ p' t' d' same. cc) t i k v on is'
 calm_rows z e h l s r k v on is' = refl
 
 pub is_calm : (z : Shape) (e : Event) (h : List Event) → Turning e ≡ false → IsLawful z (e ∷ h) → Coherent z h → Calm z h e
@@ -374,7 +370,7 @@ coherent z (e ∷ h) l = let c = coherent z h l.0 in calm z h e l (is_calm z e h
 left_legal : (z : Shape) (h : List Event) → IsLawful z h → IsLegal z (seen h)
 left_legal z [] l = tt
 left_legal z (Replied p q y ∷ h) l = (left_legal z h l.0, l.1.follows)
-left_legal z (Refilled p s ∷ h) l = (left_legal z h l.0, l.1.follows)
+left_legal z (Refilled p s d ∷ h) l = (left_legal z h l.0, l.1.follows)
 left_legal z (Linked p q s r n ∷ h) l = (left_legal z h l.0, l.1.follows)
 left_legal z (Unlinked p k n why ∷ h) l = (left_legal z h l.0, l.1.follows)
 left_legal z (e ∷ h) l = left_legal z h l.0

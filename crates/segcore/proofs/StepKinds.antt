@@ -7,16 +7,14 @@ pub mod Frequencies
 pub mod Rows
 pub mod Segments
 use Rattle.std.proofs.Common.{ℕ, ◌+◌, List, ◌++◌, sym, refl, ap, ◌∙◌, subst, arith}
-use Rattle.segword.specs.declared.shape.Shape.{Shape}
-use Rattle.segword.specs.Shape.{IsValid}
-use Rattle.segmodel.specs.Request.{key_of}
+use Rattle.segword.specs.Words.{IsValid, Shape}
+use Rattle.segmodel.specs.Words.{bucket_of, key_of}
 use Rattle.segcore.specs.Bucket.{last, fresh_position, bucket_after}
 use Rattle.segcore.specs.Event.{NoneBy}
 use Rattle.segcore.specs.Kind.{Step, take, release, info_look, glance, look, link, clear, draw, fill, chain, bump, row_store, row_load, enter, leave, none_reading, May, KeepsLaw}
 use Rattle.segcore.specs.Lawful.{IsLawful}
 use Rattle.segcore.specs.Word.{IsAt}
-use Rattle.segmodel.specs.Places.{bucket_of}
-use Rattle.segcore.specs.declared.event.Event.{Event}
+use Rattle.segcore.specs.Words.{Event}
 use Rattle.segcore.specs.declared.event.Event.TheVariants.{Filled, Linked, Unlinked, Put, Chained, Entered, Left}
 use Rattle.segcore.proofs.Quiet.{quiet, later, position_stays}
 use Rattle.segcore.proofs.Cells.{at_stays}
@@ -52,4 +50,4 @@ keeps z (chain b c old m) p more h v l n may = let same_b = quiet z more h p b l
 keeps z (bump b m c t s r f g) p more h v l n may = bump_at z p b m c t s r f g (more ++ h) v may.0 (position_stays z more h b m may.1.0, at_stays z more h b m c l may.1.1) may.2 may.3 may.4 l
 keeps z (enter s) p more h v l n may = enter_at z p s (more ++ h) v (later z more h (Entered p s) l n refl may) l
 keeps z (leave s) p more h v l n may = leave_at z p s (more ++ h) v (later z more h (Left p s) l n refl may) l
-keeps z (none_reading s) p more h v l n may = none_at z p s (more ++ h) may.0 may.1.1 (empty_stays z more h s l (rw may.1.1 n) may.1.0) l
+keeps z (none_reading s old d) p more h v l n may = none_at z p s old d (more ++ h) v may.0 may.1.1 may.2 (empty_stays z more h s l (rw may.1.1 n) may.1.0) l

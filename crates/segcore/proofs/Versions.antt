@@ -1,19 +1,17 @@
 -- The version of a bucket counts its writes, but for the one under a set bit.
 use Rattle.std.proofs.Common.{◌≡◌, ℕ, ◌+◌, Bool, true, false, cond, eqb, List, [], ◌∷◌, Option, Some, None, sym, refl, ap, ◌∙◌, ⊎_elim, arith}
 use Rattle.std.proofs.lemmas.Bool.{cases_Bool, cond-true, cond-false, eqb-true, false≢true}
-use Rattle.segword.specs.declared.shape.Shape.{Shape}
-use Rattle.segmodel.specs.declared.request.Reply.{Reply}
+use Rattle.segword.specs.Words.{Shape}
 use Rattle.segmodel.specs.declared.request.Reply.TheVariants.{Stored, NotStored, Exists, NotFound, Deleted}
-use Rattle.segmodel.specs.Request.{key_of}
+use Rattle.segmodel.specs.Words.{bucket_of, key_of, Reply, writes}
 use Rattle.segcore.proofs.Caches.{one_more, writes_wrote, writes_evicted, writes_refilled}
 use Rattle.segmodel.specs.declared.request.Request.TheVariants.{Delete}
 use Rattle.segcore.specs.Bucket.{Bucket, bucket_at, is, acts, bucket_after, written_by}
 use Rattle.segcore.specs.Event.{seen, removal, by}
 use Rattle.segcore.specs.Lawful.{MayLeave, IsRefusal, IsLawful, needs}
-use Rattle.segmodel.specs.Places.{bucket_of}
-use Rattle.segmodel.specs.History.{writes}
-use Rattle.segcore.specs.declared.event.Event.{Event}
+use Rattle.segcore.specs.Words.{Event, Leaving}
 use Rattle.segcore.specs.declared.event.Event.TheVariants.{Took, Freed, Replied, Linked, Unlinked, Refilled}
+use Rattle.segcore.specs.declared.event.Leaving.TheVariants.{Deletes, Evicts}
 use Rattle.std.proofs.Common.{MatchOption, ◌<◌}
 use Rattle.std.proofs.lemmas.Option.{none-some}
 
@@ -31,30 +29,30 @@ freed : (u : Bucket) (n : ℕ) (c : Bool) → u.written ≡ c → n ≡ u.versio
 freed u n true w e = e ∙ ap (λ b. u.version + one_if b) w ∙ omega arith
 freed u n false w e = e ∙ ap (λ b. u.version + one_if b) w
 
-deleted : (z : Shape) (p : ℕ) (k : List ℕ) (why : Option ℕ) (h : List Event) (u : Bucket) (s : ℕ) (b : ℕ) → eqb (bucket_of z k) b ≡ true → MayLeave why u.written s → writes z (seen h) b ≡ u.version + one_if u.written
+deleted : (z : Shape) (p : ℕ) (k : List ℕ) (why : Leaving) (h : List Event) (u : Bucket) (s : ℕ) (b : ℕ) → eqb (bucket_of z k) b ≡ true → MayLeave why u.written s → writes z (seen h) b ≡ u.version + one_if u.written
     → writes z (removal p k why ∷ seen h) b ≡ u.version + one_if (written_by why u.written)
-deleted z p k None h u s b t w e = writes_wrote z p (Delete k) Deleted None (seen h) b ∙ cond-true (eqb (bucket_of z k) b) (writes z (seen h) b + 1) (writes z (seen h) b) t ∙ ap (λ n. n + 1) (e ∙ ap (λ c. u.version + one_if c) w) ∙ omega arith
-deleted z p k (Some t') h u s b t w e = writes_evicted z p k t' (seen h) b ∙ e
+deleted z p k (Deletes m) h u s b t w e = writes_wrote z p (Delete k m) Deleted None (seen h) b ∙ cond-true (eqb (bucket_of z k) b) (writes z (seen h) b + 1) (writes z (seen h) b) t ∙ ap (λ n. n + 1) (e ∙ ap (λ c. u.version + one_if c) w) ∙ omega arith
+deleted z p k (Evicts t') h u s b t w e = writes_evicted z p k t' (seen h) b ∙ e
 
 at_event : (z : Shape) (e : Event) (h : List Event) (b : ℕ) → is (bucket_at z e) b ≡ true → IsLawful z (e ∷ h) → writes z (seen h) b ≡ (bucket_after z h b).version + one_if (bucket_after z h b).written
     → writes z (seen (e ∷ h)) b ≡ (acts e (bucket_after z h b)).version + one_if (acts e (bucket_after z h b)).written
 at_event z (Freed p a c) h b t l i = freed (bucket_after z h b) (writes z (seen h) b) c (rw (← eqb-true a b t) l.1.suits.0) i
-at_event z (Refilled p s) h b t l i = absurd (false≢true t)
+at_event z (Refilled p s d) h b t l i = absurd (false≢true t)
 at_event z (Replied p q y) h b t l i = writes_wrote z p q y None (seen h) b ∙ cond-true (eqb (bucket_of z (key_of q)) b) (one_more y (writes z (seen h) b)) (writes z (seen h) b) t ∙ (same_more y (writes z (seen h) b) l.1.suits ∙ i)
 at_event z (Linked p q s r n) h b t l i = let w : (bucket_after z h b).written ≡ false = rw (← eqb-true (bucket_of z (key_of q)) b t) l.1.suits.2 in
     writes_wrote z p q Stored (Some s) (seen h) b ∙ cond-true (eqb (bucket_of z (key_of q)) b) (writes z (seen h) b + 1) (writes z (seen h) b) t ∙ (ap (λ n. n + 1) (i ∙ ap (λ c. (bucket_after z h b).version + one_if c) w) ∙ omega arith)
 at_event z (Unlinked p k n why) h b t l i = deleted z p k why h (bucket_after z h b) l.1.suits.0.segment b t (rw (← eqb-true (bucket_of z k) b t) l.1.suits.3) i
 at_event z e h b t l i = i
 
-removed_writes : (z : Shape) (p : ℕ) (k : List ℕ) (why : Option ℕ) (h : List Event) (b : ℕ) → eqb (bucket_of z k) b ≡ false → writes z (removal p k why ∷ seen h) b ≡ writes z (seen h) b
-removed_writes z p k None h b f = writes_wrote z p (Delete k) Deleted None (seen h) b ∙ cond-false (eqb (bucket_of z k) b) (writes z (seen h) b + 1) (writes z (seen h) b) f
-removed_writes z p k (Some s) h b f = writes_evicted z p k s (seen h) b
+removed_writes : (z : Shape) (p : ℕ) (k : List ℕ) (why : Leaving) (h : List Event) (b : ℕ) → eqb (bucket_of z k) b ≡ false → writes z (removal p k why ∷ seen h) b ≡ writes z (seen h) b
+removed_writes z p k (Deletes m) h b f = writes_wrote z p (Delete k m) Deleted None (seen h) b ∙ cond-false (eqb (bucket_of z k) b) (writes z (seen h) b + 1) (writes z (seen h) b) f
+removed_writes z p k (Evicts s) h b f = writes_evicted z p k s (seen h) b
 
 same_writes : (z : Shape) (e : Event) (h : List Event) (b : ℕ) → is (bucket_at z e) b ≡ false → writes z (seen (e ∷ h)) b ≡ writes z (seen h) b
 same_writes z (Replied p q y) h b f = writes_wrote z p q y None (seen h) b ∙ cond-false (eqb (bucket_of z (key_of q)) b) (one_more y (writes z (seen h) b)) (writes z (seen h) b) f
 same_writes z (Linked p q s r n) h b f = writes_wrote z p q Stored (Some s) (seen h) b ∙ cond-false (eqb (bucket_of z (key_of q)) b) (writes z (seen h) b + 1) (writes z (seen h) b) f
 same_writes z (Unlinked p k n why) h b f = removed_writes z p k why h b f
-same_writes z (Refilled p s) h b f = writes_refilled z p s (seen h) b
+same_writes z (Refilled p s d) h b f = writes_refilled z p s d (seen h) b
 same_writes z e h b f = refl
 
 -- how often the keys of a bucket were written

@@ -1,6 +1,6 @@
 -- What a search knows on its way along a chain, for anything that only moves forward there: it was gone at some point since the search began, or it is still ahead.
 use Rattle.std.specs.Prelude.{ℕ, ◌≤◌, ◌⊎◌, List}
-use Rattle.segmodel.specs.History.{Begins}
+use Rattle.segmodel.specs.Words.{Begins}
 
 -- between two moments there was one at which it was gone
 abbrev pub WasGone : {A : Type 0} → (List A → Type 0) → List A → List A → Type 0

@@ -1,11 +1,11 @@
 -- The state of a bucket and its chain after a trace: who has the bit, the version, and what stands at each position.
 use Rattle.std.specs.Prelude.{ℕ, ◌+◌, ◌*◌, ◌%◌, ◌<◌, ◌==◌, Bool, true, false, List, [], ◌∷◌, Option, Some, None, if◌then◌else◌}
-use Rattle.segword.specs.declared.shape.Shape.{Shape}
-use Rattle.segmodel.specs.Request.{key_of}
-use Rattle.segmodel.specs.Places.{bucket_of}
-use Rattle.segmodel.specs.Cache.{with_at}
+use Rattle.segword.specs.Words.{Shape}
+use Rattle.segmodel.specs.Words.{bucket_of, key_of, with_at}
 use Rattle.segcore.specs.declared.event.Event.{Event}
 use Rattle.segcore.specs.declared.event.Event.TheVariants.{Took, Freed, Replied, Linked, Unlinked, Drew, Put, Chained}
+use Rattle.segcore.specs.declared.event.Leaving.TheVariants.{Deletes, Evicts}
+use Rattle.segcore.specs.declared.event.Leaving.{Leaving}
 
 -- what an item word names: the row that its link named, and the key that stands there
 pub record Slot : Type 0 where
@@ -55,7 +55,7 @@ bucket_at shape (Took pass bucket) = Some bucket
 bucket_at shape (Freed pass bucket counted) = Some bucket
 bucket_at shape (Replied pass request reply) = Some (bucket_of shape (key_of request))
 bucket_at shape (Linked pass request segment row position) = Some (bucket_of shape (key_of request))
-bucket_at shape (Unlinked pass key position evicted) = Some (bucket_of shape key)
+bucket_at shape (Unlinked pass key position why) = Some (bucket_of shape key)
 bucket_at shape (Drew pass bucket depth number) = Some bucket
 bucket_at shape (Put pass bucket word) = Some bucket
 bucket_at shape (Chained pass bucket number) = Some bucket
@@ -67,16 +67,16 @@ is None number = false
 is (Some other) number = other == number
 
 -- an item that leaves its word was written to by a delete, and not by an eviction
-abbrev pub written_by : Option ℕ → Bool → Bool
-written_by None written = true
-written_by (Some segment) written = written
+abbrev pub written_by : Leaving → Bool → Bool
+written_by (Deletes now) written = true
+written_by (Evicts segment) written = written
 
 -- what an event of the bucket leaves
 abbrev pub acts : Event → Bucket → Bucket
 acts (Took pass b) bucket = record bucket { holder = Some pass }
 acts (Freed pass b counted) bucket = record bucket { holder = None; written = false; version = if counted then bucket.version + 1 else bucket.version }
 acts (Linked pass request segment row position) bucket = record bucket { written = true; items = with_at bucket.items position (item (slot (key_of request) segment row)) }
-acts (Unlinked pass key position evicted) bucket = record bucket { written = written_by evicted bucket.written; items = with_at bucket.items position nothing }
+acts (Unlinked pass key position why) bucket = record bucket { written = written_by why bucket.written; items = with_at bucket.items position nothing }
 acts (Drew pass b depth number) bucket = record bucket { spare = Some number }
 acts (Put pass b word) bucket = record bucket { items = with_at bucket.items (fresh_position bucket) (copy word) }
 -- the item of the last word moves to the first word of the new bucket

@@ -1,9 +1,7 @@
 -- What a lawful trace says of buckets: their information words, their chains, and the overflow buckets.
 use Rattle.std.specs.Prelude.{◌≡◌, ◌≢◌, ℕ, ◌+◌, ◌*◌, ◌/◌, ◌%◌, ◌^◌, ◌<◌, ◌≤◌, ◌⊎◌, List, Some, None, if◌then◌else◌}
-use Rattle.segword.specs.declared.shape.Shape.{Shape}
-use Rattle.segword.specs.Shape.{IsValid}
-use Rattle.segword.specs.ChainWord.{chain_word}
-use Rattle.segmodel.specs.History.{after}
+use Rattle.segword.specs.Words.{chain_word, IsValid, Shape}
+use Rattle.segmodel.specs.Words.{after}
 use Rattle.segcore.specs.declared.event.Event.{Event}
 use Rattle.segcore.specs.declared.cell.Cell.{Cell}
 use Rattle.segcore.specs.declared.cell.Cell.TheVariants.{OfCounter, OfBucket, OfOverflow}

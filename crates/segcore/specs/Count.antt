@@ -1,6 +1,6 @@
 -- What a pass's contracts count in its trace, and what each step adds to that. Its own entries are `mine pass (seen trace)`.
 use Rattle.std.specs.Prelude.{◌≡◌, ℕ, ◌+◌, ◌%◌, ◌==◌, ◌&&◌, not, List, [], ◌∷◌, ◌++◌, if◌then◌else◌}
-use Rattle.segmodel.specs.History.{mine}
+use Rattle.segmodel.specs.Words.{mine}
 use Rattle.segcore.specs.declared.event.Event.{Event}
 use Rattle.segcore.specs.declared.event.Event.TheVariants.{Took, Bounced, Glanced, Drew, Bumped, Entered}
 use Rattle.segcore.specs.Event.{seen}

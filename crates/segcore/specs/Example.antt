@@ -1,7 +1,7 @@
 -- A trace in which each kind of event comes, and a schedule with each kind of step by which two passes reach it, so that the theorems are seen to speak of something.
 -- One bucket, so that the keys a and b share it, one overflow bucket, and two passes of two segments each, of two rows. A trace is named after what was done last.
 use Rattle.std.specs.Prelude.{ℕ, true, false, List, [], ◌∷◌, ◌++◌, Some, None, replicate, slice_index_or}
-use Rattle.segword.specs.declared.shape.Shape.{Shape}
+use Rattle.segword.specs.Words.{Shape}
 use Rattle.segmodel.specs.declared.request.Request.TheVariants.{Set, Add, Replace}
 use Rattle.segmodel.specs.declared.request.Reply.TheVariants.{NotStored}
 use Rattle.segcore.specs.declared.event.Event.{Event}
@@ -11,6 +11,7 @@ use Rattle.segcore.specs.declared.cell.Cell.TheVariants.{OfBucket, OfOverflow}
 use Rattle.segcore.specs.Kind.{Step, take, release, info_look, glance, look, link, clear, draw, fill, chain, bump, row_store, row_load, enter, leave, none_reading}
 use Rattle.segcore.specs.Mark.{Mark, marked}
 use Rattle.segcore.specs.World.{World, after_step}
+use Rattle.segcore.specs.declared.event.Leaving.TheVariants.{Deletes, Evicts}
 
 abbrev pub shape : Shape
 shape = record { buckets = 1; overflow = 1; passes = 2; segments_each = 2; rows = 2; first_version = 0 }
@@ -32,7 +33,7 @@ two = 50 ∷ []
 
 -- pass 0 writes a row of segment 0, and sets a in word 7
 abbrev pub stored : List Event
-stored = Freed 0 0 true ∷ Linked 0 (Set a one) 0 0 7 ∷ Filled 0 0 0 4 49 ∷ Filled 0 0 0 1 97 ∷ Filled 0 0 0 0 257 ∷ Took 0 0 ∷ []
+stored = Freed 0 0 true ∷ Linked 0 (Set a one 0) 0 0 7 ∷ Filled 0 0 0 4 49 ∷ Filled 0 0 0 1 97 ∷ Filled 0 0 0 0 257 ∷ Took 0 0 ∷ []
 
 -- pass 1 reads it, and raises its frequency
 abbrev pub bumped : List Event
@@ -44,19 +45,19 @@ moved = Freed 0 0 false ∷ Chained 0 0 0 ∷ Put 0 0 0xaf60_2000_0000_0000 ∷ 
 
 -- pass 1 adds b in word 1, while pass 0 finds its bit twice
 abbrev pub added : List Event
-added = Freed 1 0 true ∷ Linked 1 (Add b two) 2 0 1 ∷ Filled 1 2 0 4 50 ∷ Filled 1 2 0 1 98 ∷ Filled 1 2 0 0 257 ∷ Glanced 0 0 ∷ Bounced 0 0 ∷ Took 1 0 ∷ moved
+added = Freed 1 0 true ∷ Linked 1 (Add b two 2) 2 0 1 ∷ Filled 1 2 0 4 50 ∷ Filled 1 2 0 1 98 ∷ Filled 1 2 0 0 257 ∷ Glanced 0 0 ∷ Bounced 0 0 ∷ Took 1 0 ∷ moved
 
 -- and its add of a is refused
 abbrev pub refused : List Event
-refused = Freed 1 0 false ∷ Replied 1 (Add a two) NotStored ∷ Took 1 0 ∷ added
+refused = Freed 1 0 false ∷ Replied 1 (Add a two 3) NotStored ∷ Took 1 0 ∷ added
 
 -- pass 0 replaces a by its next row, where it has moved to
 abbrev pub replaced : List Event
-replaced = Freed 0 0 true ∷ Linked 0 (Replace a two) 0 1 9 ∷ Filled 0 0 1 4 50 ∷ Filled 0 0 1 1 97 ∷ Filled 0 0 1 0 257 ∷ Took 0 0 ∷ refused
+replaced = Freed 0 0 true ∷ Linked 0 (Replace a two 4) 0 1 9 ∷ Filled 0 0 1 4 50 ∷ Filled 0 0 1 1 97 ∷ Filled 0 0 1 0 257 ∷ Took 0 0 ∷ refused
 
 -- pass 0 deletes b, and evicts a from its segment
 abbrev pub evicted : List Event
-evicted = Freed 0 0 false ∷ Unlinked 0 a 9 (Some 0) ∷ Took 0 0 ∷ Freed 0 0 true ∷ Unlinked 0 b 1 None ∷ Took 0 0 ∷ replaced
+evicted = Freed 0 0 false ∷ Unlinked 0 a 9 (Evicts 0) ∷ Took 0 0 ∷ Freed 0 0 true ∷ Unlinked 0 b 1 (Deletes 5) ∷ Took 0 0 ∷ replaced
 
 -- pass 1 comes into that segment, and pass 0 finds it read
 abbrev pub read : List Event
@@ -66,9 +67,9 @@ read = Entered 1 0 ∷ evicted
 abbrev pub elsewhere : List Event
 elsewhere = Entered 1 2 ∷ Left 1 0 ∷ read
 
--- and pass 0's segment is refilled
+-- and pass 0's segment is refilled, up to moment 9
 abbrev pub refilled : List Event
-refilled = Refilled 0 0 ∷ elsewhere
+refilled = Refilled 0 0 9 ∷ elsewhere
 
 -- ---- a scan
 
@@ -100,7 +101,7 @@ after_steps (taken ∷ steps) = stepped taken (after_steps steps)
 
 -- the steps that come to each trace; an item word has the tag 0xaf6, for a and for b
 abbrev pub to_stored : List (ℕ × Step)
-to_stored = (0, release 0 true None) ∷ (0, link (Set a one) 0 0 7 (OfBucket 0 7) 0)
+to_stored = (0, release 0 true None) ∷ (0, link (Set a one 0) 0 0 7 (OfBucket 0 7) 0)
     ∷ (0, row_store 0 0 4 49) ∷ (0, row_store 0 0 1 97) ∷ (0, row_store 0 0 0 257) ∷ (0, take 0 false) ∷ []
 
 -- a reader looks again once it is in the segment; its second bump expects a word that is gone
@@ -113,20 +114,20 @@ to_moved = (0, release 0 false None) ∷ (0, chain 0 (OfBucket 0 7) 0xaf60_2000_
     ∷ (0, draw 0 1 0) ∷ (0, look (OfBucket 0 7)) ∷ (0, take 0 false) ∷ to_bumped
 
 abbrev pub to_added : List (ℕ × Step)
-to_added = (1, release 0 true None) ∷ (1, link (Add b two) 2 0 1 (OfBucket 0 1) 0)
+to_added = (1, release 0 true None) ∷ (1, link (Add b two 2) 2 0 1 (OfBucket 0 1) 0)
     ∷ (1, row_store 2 0 4 50) ∷ (1, row_store 2 0 1 98) ∷ (1, row_store 2 0 0 257) ∷ (0, glance 0 false) ∷ (0, take 0 false) ∷ (1, take 0 false) ∷ to_moved
 
 abbrev pub to_refused : List (ℕ × Step)
-to_refused = (1, release 0 false (Some (Add a two, NotStored))) ∷ (1, take 0 false) ∷ to_added
+to_refused = (1, release 0 false (Some (Add a two 3, NotStored))) ∷ (1, take 0 false) ∷ to_added
 
 abbrev pub to_replaced : List (ℕ × Step)
-to_replaced = (0, release 0 true None) ∷ (0, link (Replace a two) 0 1 9 (OfOverflow 0 1) 0xaf60_2000_0000_0000)
+to_replaced = (0, release 0 true None) ∷ (0, link (Replace a two 4) 0 1 9 (OfOverflow 0 1) 0xaf60_2000_0000_0000)
     ∷ (0, row_store 0 1 4 50) ∷ (0, row_store 0 1 1 97) ∷ (0, row_store 0 1 0 257) ∷ (0, info_look 0) ∷ (0, take 0 false) ∷ to_refused
 
 abbrev pub to_evicted : List (ℕ × Step)
-to_evicted = (0, release 0 false None) ∷ (0, clear a 9 (OfOverflow 0 1) 0xaf60_1000_0000_0001 (Some 0)) ∷ (0, take 0 false)
-    ∷ (0, release 0 true None) ∷ (0, clear b 1 (OfBucket 0 1) 0xaf60_1000_0020_0000 None) ∷ (0, take 0 false) ∷ to_replaced
+to_evicted = (0, release 0 false None) ∷ (0, clear a 9 (OfOverflow 0 1) 0xaf60_1000_0000_0001 (Evicts 0)) ∷ (0, take 0 false)
+    ∷ (0, release 0 true None) ∷ (0, clear b 1 (OfBucket 0 1) 0xaf60_1000_0020_0000 (Deletes 5)) ∷ (0, take 0 false) ∷ to_replaced
 
 abbrev pub to_refilled : List (ℕ × Step)
 -- a first try to refill the segment finds a reader
-to_refilled = (0, none_reading 0) ∷ (1, enter 2) ∷ (1, leave 0) ∷ (0, none_reading 0) ∷ (1, enter 0) ∷ to_evicted
+to_refilled = (0, none_reading 0 0 9) ∷ (1, enter 2) ∷ (1, leave 0) ∷ (0, none_reading 0 0 9) ∷ (1, enter 0) ∷ to_evicted

@@ -1,13 +1,9 @@
 -- What a lawful world says: every fact about its words, its history and its passes.
-use Rattle.std.specs.Prelude.{◌≡◌, ◌≢◌, ℕ, ◌+◌, ◌*◌, ◌%◌, ◌^◌, ◌<◌, ◌≤◌, List, [], ◌∷◌, ◌++◌, length, Some}
+use Rattle.std.specs.Prelude.{◌≡◌, ◌≢◌, ℕ, ◌+◌, ◌*◌, ◌/◌, ◌%◌, ◌^◌, ◌<◌, ◌≤◌, List, [], ◌∷◌, ◌++◌, length, Some}
 use mathlib.Core.Option.{some}
 use lib.ListN.{get_elem?}
-use Rattle.segword.specs.declared.shape.Shape.{Shape}
-use Rattle.segmodel.specs.declared.request.Request.{Request}
-use Rattle.segmodel.specs.Request.{key_of, value_of}
-use Rattle.segmodel.specs.Places.{owner}
-use Rattle.segmodel.specs.Cache.{standing}
-use Rattle.segmodel.specs.History.{after, IsLegal, AreOne}
+use Rattle.segword.specs.Words.{Shape}
+use Rattle.segmodel.specs.Words.{after, AreOne, IsLegal, key_of, owner, Request, standing, value_of}
 use Rattle.segcore.specs.declared.event.Event.{Event}
 use Rattle.segcore.specs.declared.event.Event.TheVariants.{Linked, Refilled}
 use Rattle.segcore.specs.declared.cell.Cell.TheVariants.{OfBucket, OfOverflow, OfSegment, OfRow}
@@ -39,16 +35,18 @@ pub record IsKeptRow (shape : Shape) (trace more before : List Event) (pass : �
   pub stood : standing (after shape (seen (Linked pass request segment row position ∷ before))) (key_of request) ≡ Some (cached (value_of request) segment)
 
 pub record SegmentFacts (shape : Shape) (trace : List Event) : Type 0 where
-  -- the segment word counts who came and hasn't left
-  pub readers : (segment : ℕ) → word shape trace (OfSegment segment) + all_left (marked trace) segment ≡ all_entered (marked trace) segment
+  -- the segment word's upper half is the segment's deadline
+  pub deadlines : (segment : ℕ) → word shape trace (OfSegment segment) / 2 ^ 32 ≡ (after shape (seen trace)).deadline segment
+  -- its lower half counts who came and hasn't left
+  pub readers : (segment : ℕ) → word shape trace (OfSegment segment) % 2 ^ 32 + all_left (marked trace) segment ≡ all_entered (marked trace) segment
   -- a pass is in a segment as often as its marks say that it came and hasn't left
   pub marks : (pass segment : ℕ) → inside trace pass segment + times_left pass (marked trace) segment ≡ times_entered pass (marked trace) segment
   -- at most twice, so that few readers are counted; and where one is counted a pass is there
   pub few : (pass segment : ℕ) → inside trace pass segment ≤ 2
-  pub low : (segment : ℕ) → word shape trace (OfSegment segment) ≤ 2 * shape.passes
-  pub reader : (segment : ℕ) → 0 < word shape trace (OfSegment segment) → (pass : ℕ) × (0 < inside trace pass segment)
+  pub low : (segment : ℕ) → word shape trace (OfSegment segment) % 2 ^ 32 ≤ 2 * shape.passes
+  pub reader : (segment : ℕ) → 0 < word shape trace (OfSegment segment) % 2 ^ 32 → (pass : ℕ) × (0 < inside trace pass segment)
   -- at a refilling no pass is in the segment
-  pub refilled : (more before : List Event) (filler pass segment : ℕ) → trace ≡ more ++ (Refilled filler segment ∷ before) → inside before pass segment ≡ 0
+  pub refilled : (more before : List Event) (filler pass segment deadline : ℕ) → trace ≡ more ++ (Refilled filler segment deadline ∷ before) → inside before pass segment ≡ 0
   pub rows : (more before : List Event) (pass : ℕ) (request : Request) (segment row position : ℕ)
       → trace ≡ more ++ (Linked pass request segment row position ∷ before) → NoneRefills segment more
       → IsKeptRow shape trace more before pass request segment row position

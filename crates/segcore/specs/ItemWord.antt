@@ -1,6 +1,6 @@
 -- The word of an item in the table: tag, frequency, segment and row.
 use Rattle.std.specs.Prelude.{◌≡◌, ℕ, ◌+◌, ◌*◌, ◌^◌, ◌<◌}
-use Rattle.segmodel.specs.Places.{tag_of}
+use Rattle.segmodel.specs.Words.{tag_of}
 use Rattle.segcore.specs.Bucket.{Slot}
 
 -- tag in bits 63..52, frequency in 51..44, segment in 43..20, row in 19..0

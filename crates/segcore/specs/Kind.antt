@@ -1,14 +1,9 @@
 -- The kinds of step: the one word that each touches, what that word becomes, the events that it adds, and where a pass may take it.
-use Rattle.std.specs.Prelude.{◌≡◌, ℕ, ◌+◌, ◌%◌, ◌^◌, ◌<◌, ◌≤◌, ◌==◌, ◌⊎◌, Bool, true, false, List, [], ◌∷◌, ◌++◌, Option, Some, None, bit_or, if◌then◌else◌}
+use Rattle.std.specs.Prelude.{◌≡◌, ℕ, ◌+◌, ◌%◌, ◌^◌, ◌<◌, ◌≤◌, ◌==◌, ◌⊎◌, Bool, true, false, List, [], ◌∷◌, ◌++◌, Option, Some, None, bit_or, if◌then◌else◌, ◌*◌}
 use prog.Atomic.{either}
-use Rattle.segword.specs.declared.shape.Shape.{Shape}
-use Rattle.segword.specs.ChainWord.{chain_word}
-use Rattle.segmodel.specs.declared.request.Request.{Request}
-use Rattle.segmodel.specs.declared.request.Reply.{Reply}
+use Rattle.segword.specs.Words.{chain_word, Shape}
 use Rattle.segmodel.specs.declared.entry.Entry.TheVariants as entry
-use Rattle.segmodel.specs.Request.{key_of}
-use Rattle.segmodel.specs.Places.{bucket_of, owner, tag_of}
-use Rattle.segmodel.specs.History.{after, Follows}
+use Rattle.segmodel.specs.Words.{after, bucket_of, Follows, key_of, owner, Reply, Request, tag_of}
 use Rattle.segcore.specs.declared.event.Event.{Event}
 use Rattle.segcore.specs.declared.event.Event.TheVariants.{Took, Bounced, Glanced, Freed, Replied, Filled, Linked, Unlinked, Drew, Put, Chained, Bumped, Entered, Left, Refilled}
 use Rattle.segcore.specs.declared.cell.Cell.{Cell}
@@ -21,6 +16,7 @@ use Rattle.segcore.specs.Segment.{inside}
 use Rattle.segcore.specs.ItemWord.{packed, IsInItem}
 use Rattle.segcore.specs.Lawful.{IsSegment, Fits, IsLawful}
 use Rattle.segcore.specs.Word.{IsCell, same_cell, word, IsAt, IsItemAt}
+use Rattle.segcore.specs.declared.event.Leaving.{Leaving}
 
 -- what a pass can do to one word of the table, with what it takes for it
 pub data Step : Type 0 where
@@ -36,8 +32,8 @@ pub data Step : Type 0 where
   look : Cell → Step
   -- for a request: segment, row, position and its cell, and the word that is to be there (a link finds 0, a replace an item)
   link : Request → ℕ → ℕ → ℕ → Cell → ℕ → Step
-  -- a key, its position and cell, the word that is to be there, and the segment that is evicted, if one is
-  clear : List ℕ → ℕ → Cell → ℕ → Option ℕ → Step
+  -- a key, its position and cell, the word that is to be there, and why it leaves
+  clear : List ℕ → ℕ → Cell → ℕ → Leaving → Step
   -- for a bucket, at a depth of its chain: from this number of drawn ones
   draw : ℕ → ℕ → ℕ → Step
   -- for a bucket: word 1 of the overflow bucket of this number takes this word
@@ -49,10 +45,10 @@ pub data Step : Type 0 where
   -- segment, row, place in the row, word
   row_store : ℕ → ℕ → ℕ → ℕ → Step
   row_load : ℕ → ℕ → ℕ → Step
-  -- of a segment: one reader more, one fewer, and none
+  -- of a segment: one reader more, one fewer; and none where it has this deadline, and then another one
   enter : ℕ → Step
   leave : ℕ → Step
-  none_reading : ℕ → Step
+  none_reading : ℕ → ℕ → ℕ → Step
 
 -- the one word that it touches
 abbrev pub cell : Step → Cell
@@ -62,7 +58,7 @@ cell (info_look bucket) = OfBucket bucket 0
 cell (glance bucket own) = OfBucket bucket 0
 cell (look of) = of
 cell (link request segment row position of old) = of
-cell (clear key position of old evicted) = of
+cell (clear key position of old why) = of
 cell (draw bucket depth from) = OfCounter
 cell (fill bucket number w) = OfOverflow number 1
 cell (chain bucket of old number) = of
@@ -71,7 +67,7 @@ cell (row_store segment row place w) = OfRow segment row place
 cell (row_load segment row place) = OfRow segment row place
 cell (enter segment) = OfSegment segment
 cell (leave segment) = OfSegment segment
-cell (none_reading segment) = OfSegment segment
+cell (none_reading segment old deadline) = OfSegment segment
 
 -- what the found word becomes; sums are those of 64-bit words
 abbrev pub becomes : Step → ℕ → ℕ
@@ -79,7 +75,7 @@ becomes (take bucket own) = λ found. bit_or found 1
 becomes (release bucket true said) = λ found. (found + 4294967295) % 2 ^ 64
 becomes (release bucket false said) = λ found. (found + 18446744073709551615) % 2 ^ 64
 becomes (link request segment row position of old) = λ found. either (found == old) (packed (tag_of (key_of request)) 1 segment row) found
-becomes (clear key position of old evicted) = λ found. either (found == old) 0 found
+becomes (clear key position of old why) = λ found. either (found == old) 0 found
 becomes (draw bucket depth from) = λ found. either (found == from) (from + 1) found
 becomes (fill bucket number w) = λ found. w
 becomes (chain bucket of old number) = λ found. either (found == old) (chain_word number) found
@@ -87,6 +83,7 @@ becomes (bump bucket position of tag segment row frequency raised) = λ found. e
 becomes (row_store segment row place w) = λ found. w
 becomes (enter segment) = λ found. (found + 1) % 2 ^ 64
 becomes (leave segment) = λ found. (found + 18446744073709551615) % 2 ^ 64
+becomes (none_reading segment old deadline) = λ found. either (found == old * 2 ^ 32) (deadline * 2 ^ 32) found
 becomes _ = λ found. found
 
 -- a refused write is told with the release
@@ -105,7 +102,7 @@ adds (take bucket own) pass found = if found % 2 == 0 then Took pass bucket ∷ 
 adds (release bucket counted said) pass found = Freed pass bucket counted ∷ told pass said
 adds (glance bucket own) pass found = if found % 2 == 0 then [] else unless_own own (Glanced pass bucket)
 adds (link request segment row position of old) pass found = if found == old then Linked pass request segment row position ∷ [] else []
-adds (clear key position of old evicted) pass found = if found == old then Unlinked pass key position evicted ∷ [] else []
+adds (clear key position of old why) pass found = if found == old then Unlinked pass key position why ∷ [] else []
 adds (draw bucket depth from) pass found = if found == from then Drew pass bucket depth from ∷ [] else []
 adds (fill bucket number w) pass found = Put pass bucket w ∷ []
 adds (chain bucket of old number) pass found = if found == old then Chained pass bucket number ∷ [] else []
@@ -114,7 +111,7 @@ adds (bump bucket position of tag segment row frequency raised) pass found =
 adds (row_store segment row place w) pass found = Filled pass segment row place w ∷ []
 adds (enter segment) pass found = Entered pass segment ∷ []
 adds (leave segment) pass found = Left pass segment ∷ []
-adds (none_reading segment) pass found = if found == 0 then Refilled pass segment ∷ [] else []
+adds (none_reading segment old deadline) pass found = if found == old * 2 ^ 32 then Refilled pass segment deadline ∷ [] else []
 adds _ pass found = []
 
 -- ---- where it may be taken
@@ -158,8 +155,8 @@ May shape trace pass (glance bucket own) = KnowsBit shape trace pass bucket own
 May shape trace pass (look of) = IsCell shape of × IsItemCell of
 May shape trace pass (link request segment row position of old) =
     Fits shape trace (Linked pass request segment row position) × IsItemAt shape trace (bucket_of shape (key_of request)) position of
-May shape trace pass (clear key position of old evicted) =
-    Fits shape trace (Unlinked pass key position evicted) × IsItemAt shape trace (bucket_of shape key) position of
+May shape trace pass (clear key position of old why) =
+    Fits shape trace (Unlinked pass key position why) × IsItemAt shape trace (bucket_of shape key) position of
 May shape trace pass (draw bucket depth from) =
     let state = bucket_after shape trace bucket in
     HasBit shape trace pass bucket × (state.spare ≡ None) × (depth ≡ state.chained + 1) × (depth < 4) × (from < shape.overflow) × (from ≤ drawn_in trace)
@@ -173,7 +170,8 @@ May shape trace pass (row_store segment row place w) = Fits shape trace (Filled 
 May shape trace pass (row_load segment row place) = IsSegment shape segment × (row < shape.rows) × (place < 8) × MayRead shape trace pass segment row
 May shape trace pass (enter segment) = Fits shape trace (Entered pass segment)
 May shape trace pass (leave segment) = Fits shape trace (Left pass segment)
-May shape trace pass (none_reading segment) = IsSegment shape segment × Follows shape (after shape (seen trace)) (entry.Refilled pass segment)
+May shape trace pass (none_reading segment old deadline) =
+    IsSegment shape segment × Follows shape (after shape (seen trace)) (entry.Refilled pass segment deadline) × (deadline < 2 ^ 32)
 
 -- what a step leaves of the trace at which the word changed: it is one of the table's words, the longer trace is lawful, and each word is what that makes it
 pub record KeepsLaw (shape : Shape) (step : Step) (pass : ℕ) (trace : List Event) : Type 0 where

@@ -1,13 +1,9 @@
 -- Which event may come next after a trace, and which traces are lawful: each event could come where it stands.
-use Rattle.std.specs.Prelude.{◌≡◌, ◌≢◌, ℕ, ◌+◌, ◌*◌, ◌<◌, Bool, true, false, List, [], ◌∷◌, ◌⊎◌, Option, Some, None, MatchOption}
-use Rattle.segword.specs.declared.shape.Shape.{Shape}
-use Rattle.segword.specs.Bytes.{IsKey, IsValue}
-use Rattle.segmodel.specs.declared.request.Reply.{Reply}
+use Rattle.std.specs.Prelude.{◌≡◌, ◌≢◌, ℕ, ◌+◌, ◌*◌, ◌<◌, Bool, true, false, List, [], ◌∷◌, ◌⊎◌, Option, Some, None, MatchOption, ◌^◌}
+use Rattle.segword.specs.Words.{IsKey, IsValue, Shape}
 use Rattle.segmodel.specs.declared.request.Reply.TheVariants.{NotStored, Exists, NotFound}
-use Rattle.segmodel.specs.Request.{key_of, value_of}
-use Rattle.segmodel.specs.Places.{bucket_of, owner}
-use Rattle.segmodel.specs.Cache.{standing}
-use Rattle.segmodel.specs.History.{Follows, after}
+use Rattle.segmodel.specs.Words.{after, bucket_of, Follows, key_of, owner, Reply, standing}
+use Rattle.segmodel.specs.Words.{value_of}
 use Rattle.segcore.specs.declared.event.Event.{Event}
 use Rattle.segcore.specs.declared.event.Event.TheVariants.{Took, Bounced, Glanced, Freed, Replied, Filled, Linked, Unlinked, Drew, Put, Chained, Bumped, Entered, Left, Refilled}
 use Rattle.segcore.specs.Event.{by, entry_of, seen}
@@ -16,6 +12,8 @@ use Rattle.segcore.specs.Overflow.{drawn_in}
 use Rattle.segcore.specs.Row.{Holds, row_after, frequency_of}
 use Rattle.segcore.specs.Segment.{inside, readers, was_used}
 use Rattle.segcore.specs.ItemWord.{IsWordOf}
+use Rattle.segcore.specs.declared.event.Leaving.TheVariants.{Deletes, Evicts}
+use Rattle.segcore.specs.declared.event.Leaving.{Leaving}
 
 -- who has the bit just before an event of its bucket: nobody before a take, and else the pass whose event it is
 abbrev pub needs : Event → Option ℕ
@@ -57,9 +55,9 @@ HasRoomFor shape trace key position =
     ⊎ HasItemOf shape trace key position
 
 -- an evicted item is of the segment that is named, and a delete is the first write under its bit
-abbrev pub MayLeave : Option ℕ → Bool → ℕ → Type 0
-MayLeave None written segment = written ≡ false
-MayLeave (Some evicted) written segment = evicted ≡ segment
+abbrev pub MayLeave : Leaving → Bool → ℕ → Type 0
+MayLeave (Deletes now) written segment = written ≡ false
+MayLeave (Evicts evicted) written segment = evicted ≡ segment
 
 abbrev pub IsOther : ℕ → Option ℕ → Type 0
 IsOther pass holder = (other : ℕ) × (holder ≡ Some other) × (other ≢ pass)
@@ -83,9 +81,9 @@ Suits shape trace (Linked pass request segment row position) =
     × HasRoomFor shape trace (key_of request) position
     × IsKey (key_of request)
     × IsValue (value_of request)
-Suits shape trace (Unlinked pass key position evicted) =
+Suits shape trace (Unlinked pass key position why) =
     let state = bucket_after shape trace (bucket_of shape key) in
-    (named : Slot) × (state.items position ≡ item named) × (named.key ≡ key) × MayLeave evicted state.written named.segment
+    (named : Slot) × (state.items position ≡ item named) × (named.key ≡ key) × MayLeave why state.written named.segment
 Suits shape trace (Drew pass bucket depth number) =
     let state = bucket_after shape trace bucket in
     (number ≡ drawn_in trace) × (number < shape.overflow) × (state.spare ≡ None) × (depth ≡ state.chained + 1) × (depth < 4)
@@ -99,7 +97,8 @@ Suits shape trace (Bumped pass segment row frequency) = (frequency_of trace segm
 Suits shape trace (Entered pass segment) =
     (pass < shape.passes) × IsSegment shape segment × (inside trace pass segment < 2) × (was_used trace segment ≡ true)
 Suits shape trace (Left pass segment) = (pass < shape.passes) × IsSegment shape segment × (0 < inside trace pass segment)
-Suits shape trace (Refilled pass segment) = IsSegment shape segment × (owner shape segment ≡ pass) × (readers trace segment ≡ 0)
+Suits shape trace (Refilled pass segment deadline) =
+    IsSegment shape segment × (owner shape segment ≡ pass) × (readers trace segment ≡ 0) × (deadline < 2 ^ 32)
 
 -- the event may come next
 pub record Fits (shape : Shape) (trace : List Event) (event : Event) : Type 0 where
@@ -124,5 +123,5 @@ is_of_now (Bounced pass bucket) = true
 is_of_now (Glanced pass bucket) = true
 is_of_now (Drew pass bucket depth number) = true
 is_of_now (Bumped pass segment row frequency) = true
-is_of_now (Refilled pass segment) = true
+is_of_now (Refilled pass segment deadline) = true
 is_of_now _ = false

@@ -1,12 +1,9 @@
 -- Laws: what every schedule, every lawful trace and every step come to. Each is proved as the
 -- contract of a function in src/laws.rt.
 use Rattle.std.specs.Prelude.{◌≡◌, ◌≢◌, ℕ, ◌+◌, ◌*◌, ◌/◌, ◌%◌, ◌^◌, ◌<◌, ◌≤◌, ◌⊎◌, false, List, ◌∷◌, ◌++◌, Option, Some, None}
-use Rattle.segword.specs.declared.shape.Shape.{Shape}
-use Rattle.segword.specs.Shape.{IsValid}
-use Rattle.segword.specs.ChainWord.{chain_word}
-use Rattle.segmodel.specs.Places.{bucket_of, tag_of}
-use Rattle.segmodel.specs.Cache.{keys_in}
-use Rattle.segmodel.specs.History.{IsLegal, Begins, after, writes, entries_of, stirred}
+use Rattle.segword.specs.Words.{chain_word, IsValid, Shape}
+use Rattle.segmodel.specs.Words.{after, Begins, bucket_of, entries_of, IsLegal, keys_in, stirred}
+use Rattle.segmodel.specs.Words.{tag_of, writes}
 use Rattle.segcore.specs.declared.cell.Cell.{Cell}
 use Rattle.segcore.specs.declared.cell.Cell.TheVariants.{OfBucket}
 use Rattle.segcore.specs.declared.event.Event.{Event}
@@ -94,7 +91,7 @@ LawfulBucketFacts = (shape : Shape) (trace : List Event) → IsLawful shape trac
 
 -- It says who is in a segment, and what its rows hold.
 abbrev pub LawfulSegmentFacts : Type 0
-LawfulSegmentFacts = (shape : Shape) (trace : List Event) → IsLawful shape trace
+LawfulSegmentFacts = (shape : Shape) (trace : List Event) → IsValid shape → IsLawful shape trace
     → SegmentFacts shape trace
 
 -- ---- steps

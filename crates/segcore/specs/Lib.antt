@@ -21,3 +21,4 @@ pub mod Segment
 pub mod Standing
 pub mod Word
 pub mod World
+pub mod Words

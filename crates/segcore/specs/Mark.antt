@@ -1,15 +1,10 @@
 -- Marked histories: the history of entries with the marks that say where items came to stand and how chains grew; where a key's item is after one, and which hold together.
 use Rattle.std.specs.Prelude.{◌≡◌, ℕ, ◌+◌, ◌*◌, ◌%◌, ◌<◌, ◌==◌, ◌&&◌, ◌||◌, Bool, true, false, List, [], ◌∷◌, Option, Some, None, if◌then◌else◌}
 use Rattle.std.specs.Str.{bytes_eq}
-use Rattle.segword.specs.declared.shape.Shape.{Shape}
-use Rattle.segmodel.specs.declared.request.Reply.{Reply}
+use Rattle.segword.specs.Words.{Shape}
 use Rattle.segmodel.specs.declared.request.Reply.TheVariants.{Stored}
-use Rattle.segmodel.specs.declared.entry.Entry.{Entry}
 use Rattle.segmodel.specs.declared.entry.Entry.TheVariants as entry
-use Rattle.segmodel.specs.Request.{key_of}
-use Rattle.segmodel.specs.Places.{bucket_of}
-use Rattle.segmodel.specs.Cache.{standing}
-use Rattle.segmodel.specs.History.{after}
+use Rattle.segmodel.specs.Words.{after, bucket_of, Entry, key_of, Reply, standing}
 use Rattle.segcore.specs.declared.event.Event.{Event}
 use Rattle.segcore.specs.declared.event.Event.TheVariants.{Replied, Linked, Unlinked, Drew, Chained, Bumped, Entered, Left, Refilled}
 use Rattle.segcore.specs.Event.{removal}
@@ -34,8 +29,8 @@ abbrev pub marks_of : Event → List Mark → List Mark
 marks_of (Replied pass request reply) marks = enters (entry.Wrote pass request reply None) ∷ marks
 marks_of (Linked pass request segment row position) marks =
     enters (entry.Wrote pass request Stored (Some segment)) ∷ at (key_of request) segment row position 1 ∷ marks
-marks_of (Unlinked pass key position evicted) marks = enters (removal pass key evicted) ∷ marks
-marks_of (Refilled pass segment) marks = enters (entry.Refilled pass segment) ∷ marks
+marks_of (Unlinked pass key position why) marks = enters (removal pass key why) ∷ marks
+marks_of (Refilled pass segment deadline) marks = enters (entry.Refilled pass segment deadline) ∷ marks
 marks_of (Drew pass bucket depth number) marks = drawn bucket ∷ marks
 marks_of (Chained pass bucket number) marks = chained bucket ∷ marks
 marks_of (Bumped pass segment row frequency) marks = bumped segment row frequency ∷ marks
@@ -166,13 +161,13 @@ is_segment_named (_ ∷ marks) segment = is_segment_named marks segment
 abbrev pub linked_in : List Mark → ℕ → ℕ → Option (List ℕ)
 linked_in [] segment row = None
 linked_in (at key s r position frequency ∷ marks) segment row = if (s == segment) && (r == row) then Some key else linked_in marks segment row
-linked_in (enters (entry.Refilled pass s) ∷ marks) segment row = if s == segment then None else linked_in marks segment row
+linked_in (enters (entry.Refilled pass s deadline) ∷ marks) segment row = if s == segment then None else linked_in marks segment row
 linked_in (_ ∷ marks) segment row = linked_in marks segment row
 
 abbrev pub MayCome : List Mark → Mark → Type 0
 MayCome marks (at key segment row position frequency) = linked_in marks segment row ≡ None
 MayCome marks (entered pass segment) = is_segment_named marks segment ≡ true
-MayCome marks (enters (entry.Refilled pass segment)) = all_entered marks segment ≡ all_left marks segment
+MayCome marks (enters (entry.Refilled pass segment deadline)) = all_entered marks segment ≡ all_left marks segment
 MayCome marks _ = Unit {0}
 
 -- each `at` is of a row that no other names in this filling; before each `entered` an `at` names its segment; and at each Refilled as many had left the segment as had come

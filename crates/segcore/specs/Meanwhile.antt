@@ -1,13 +1,12 @@
 -- What others leave alone between the trace that a pass has seen and a longer one that has nothing more of that pass.
 use Rattle.std.specs.Prelude.{◌≡◌, ◌≢◌, ℕ, ◌<◌, ◌≤◌, false, List, ◌++◌, Some}
-use Rattle.segword.specs.declared.shape.Shape.{Shape}
-use Rattle.segmodel.specs.Places.{bucket_of, owner}
-use Rattle.segmodel.specs.History.{after, mine, IsSameAt, NoneStandsIn}
+use Rattle.segword.specs.Words.{Shape}
+use Rattle.segmodel.specs.Words.{after, bucket_of, IsSameAt, mine, NoneStandsIn, owner}
 use Rattle.segcore.specs.declared.event.Event.{Event}
 use Rattle.segcore.specs.Event.{by, seen}
 use Rattle.segcore.specs.Bucket.{Slot, item, bucket_after}
 use Rattle.segcore.specs.Row.{row_after, frequency_of}
-use Rattle.segcore.specs.Segment.{inside, refills, NoneRefills}
+use Rattle.segcore.specs.Segment.{inside, refills, NoneRefills, deadline_of}
 use Rattle.segcore.specs.Lawful.{Fits, is_of_now, NoneAt}
 use Rattle.segcore.specs.Count.{taken, bounced, glanced, drew, raised, entered}
 use Rattle.segcore.specs.Kind.{Step, info_look, row_load, cell, HasBit, MayRead, May}
@@ -39,6 +38,9 @@ pub record Meanwhile (shape : Shape) (pass : ℕ) (more old : List Event) : Type
   -- the segments that it is in: they aren't refilled
   pub stays : (segment : ℕ) → inside (more ++ old) pass segment ≡ inside old pass segment
   pub not_refilled : (segment : ℕ) → 0 < inside old pass segment → NoneRefills segment more
+  -- the deadlines of these, and of its own segments
+  pub deadlines : (segment : ℕ) → 0 < inside old pass segment → deadline_of (more ++ old) segment ≡ deadline_of old segment
+  pub own_deadlines : (segment : ℕ) → owner shape segment ≡ pass → deadline_of (more ++ old) segment ≡ deadline_of old segment
   pub filling : (segment : ℕ) → 0 < inside old pass segment → refills (more ++ old) segment ≡ refills old segment
   -- its own entries and counts
   pub entries : mine pass (seen (more ++ old)) ≡ mine pass (seen old)

@@ -1,14 +1,13 @@
 -- Facts of traces that have at most one proof, so that a struct may keep them in a ghost field.
-use Rattle.std.specs.Prelude.{◌≡◌, ℕ, Bool, List, [], ◌∷◌, Option, Some, None}
+use Rattle.std.specs.Prelude.{◌≡◌, ℕ, Bool, List, [], ◌∷◌, Option, Some}
 use Rattle.std.specs.Coded.{×_prop, Unit-prop}
 use Rattle.std.proofs.Common.{sym, ap, ◌∙◌, subst, arith}
 use Rattle.std.proofs.Props.{props}
 use Rattle.std.proofs.lemmas.Option.{same_Some}
-use Rattle.segword.specs.declared.shape.Shape.{Shape}
-use Rattle.segword.specs.Props.{pair-prop, triple-prop, quadruple-prop, either-prop, IsKey-prop, IsValue-prop}
-use Rattle.segmodel.specs.declared.request.Reply.{Reply}
+use Rattle.segword.specs.Words.{either-prop, IsKey-prop, IsValue-prop, pair-prop, quadruple-prop}
+use Rattle.segword.specs.Words.{Shape, triple-prop}
 use Rattle.segmodel.specs.declared.request.Reply.TheVariants.{Stored, NotStored, Exists, NotFound, Deleted}
-use Rattle.segmodel.specs.Props.{Request-set, Reply-set, Cached-set, Follows-prop}
+use Rattle.segmodel.specs.Words.{Cached-set, Follows-prop, Reply, Reply-set, Request-set}
 use Rattle.segcore.specs.declared.event.Event.{Event}
 use Rattle.segcore.specs.declared.event.Event.TheVariants.{Took, Bounced, Glanced, Freed, Replied, Filled, Linked, Unlinked, Drew, Put, Chained, Bumped, Entered, Left, Refilled}
 use Rattle.segcore.specs.Event.{AllBy}
@@ -16,6 +15,8 @@ use Rattle.segcore.specs.Bucket.{Slot, slot, Content, nothing, item, copy}
 use Rattle.segcore.specs.ItemWord.{IsWordOf}
 use Rattle.segcore.specs.Segment.{NoneRefills}
 use Rattle.segcore.specs.Lawful.{HasItemOf, HasRoomFor, IsRefusal, MayLeave, IsOther, Suits, Fits, IsLawful, NoneAt}
+use Rattle.segcore.specs.declared.event.Leaving.TheVariants.{Deletes, Evicts}
+use Rattle.segcore.specs.declared.event.Leaving.{Leaving}
 
 pub Event-set : IsSet Event
 Event-set = hlevel (props, Request-set, Reply-set)
@@ -75,9 +76,9 @@ IsRefusal-prop NotStored = Unit-prop
 IsRefusal-prop Exists = Unit-prop
 IsRefusal-prop NotFound = Unit-prop
 
-Leaves-prop : (evicted : Option ℕ) (written : Bool) (segment : ℕ) → IsProp (MayLeave evicted written segment)
-Leaves-prop None written segment = hlevel props
-Leaves-prop (Some evicted) written segment = hlevel props
+Leaves-prop : (why : Leaving) (written : Bool) (segment : ℕ) → IsProp (MayLeave why written segment)
+Leaves-prop (Deletes now) written segment = hlevel props
+Leaves-prop (Evicts evicted) written segment = hlevel props
 
 IsOther-prop : (pass : ℕ) (holder : Option ℕ) → IsProp (IsOther pass holder)
 IsOther-prop pass holder = triple-prop (λ other. hlevel props) (λ x y at on. same_some holder x y at.0 on.0)
@@ -90,7 +91,7 @@ Suits-prop shape trace (Freed pass bucket counted) = hlevel props
 Suits-prop shape trace (Replied pass request reply) = IsRefusal-prop reply
 Suits-prop shape trace (Filled pass segment row place word) = hlevel props
 Suits-prop shape trace (Linked pass request segment row position) = hlevel (props, HasRoomFor-prop, IsKey-prop, IsValue-prop)
-Suits-prop shape trace (Unlinked pass key position evicted) =
+Suits-prop shape trace (Unlinked pass key position why) =
     quadruple-prop (λ named. hlevel (props, Content-set, Leaves-prop)) (λ x y at on. same_item _ x y at.0 on.0)
 Suits-prop shape trace (Drew pass bucket depth number) = hlevel props
 Suits-prop shape trace (Put pass bucket word) =
@@ -101,7 +102,7 @@ Suits-prop shape trace (Chained pass bucket number) = ×_prop (hlevel props) (ha
 Suits-prop shape trace (Bumped pass segment row frequency) = hlevel props
 Suits-prop shape trace (Entered pass segment) = hlevel props
 Suits-prop shape trace (Left pass segment) = hlevel props
-Suits-prop shape trace (Refilled pass segment) = hlevel props
+Suits-prop shape trace (Refilled pass segment deadline) = hlevel props
 
 pub Fits-prop : (shape : Shape) (trace : List Event) (event : Event) → IsProp (Fits shape trace event)
 Fits-prop shape trace event = hlevel (props, Follows-prop, Suits-prop)

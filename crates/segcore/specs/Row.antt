@@ -1,8 +1,7 @@
 -- The state of a segment's rows after a trace: their words, which key was linked to each in this filling, and the frequency of its item.
 use Rattle.std.specs.Prelude.{◌≡◌, ℕ, ◌<◌, ◌==◌, ◌&&◌, Bool, false, List, [], ◌∷◌, Option, Some, None, slice_index, if◌then◌else◌}
-use Rattle.segword.specs.Row.{row_of}
-use Rattle.segmodel.specs.Request.{key_of}
-use Rattle.segmodel.specs.Cache.{with_at}
+use Rattle.segword.specs.Words.{row_of}
+use Rattle.segmodel.specs.Words.{key_of, with_at}
 use Rattle.segcore.specs.declared.event.Event.{Event}
 use Rattle.segcore.specs.declared.event.Event.TheVariants.{Filled, Linked, Bumped, Refilled}
 
@@ -16,14 +15,14 @@ pub record Row : Type 0 where
 abbrev pub row_at : Event → ℕ → ℕ → Bool
 row_at (Filled pass s r place word) segment row = (s == segment) && (r == row)
 row_at (Linked pass request s r position) segment row = (s == segment) && (r == row)
-row_at (Refilled pass s) segment row = s == segment
+row_at (Refilled pass s deadline) segment row = s == segment
 row_at _ segment row = false
 
 -- what an event of the row leaves
 abbrev pub writes_row : Event → Row → Row
 writes_row (Filled pass s r place word) row = record row { words = with_at row.words place word }
 writes_row (Linked pass request s r position) row = record row { linked = Some (key_of request) }
-writes_row (Refilled pass s) row = record row { linked = None }
+writes_row (Refilled pass s deadline) row = record row { linked = None }
 writes_row _ row = row
 
 -- the state of a row after a trace

@@ -1,9 +1,8 @@
 -- Scans of a chain, over marked histories alone: looks at its words in turn, each at a later point,
 -- none of which found what is sought.
 use Rattle.std.specs.Prelude.{◌≡◌, ◌≢◌, ℕ, ◌+◌, ◌*◌, ◌%◌, ◌==◌, ◌⊎◌, List, [], ◌∷◌, Option, Some, None, if◌then◌else◌}
-use Rattle.segword.specs.declared.shape.Shape.{Shape}
-use Rattle.segmodel.specs.Places.{bucket_of}
-use Rattle.segmodel.specs.History.{IsLegal, Begins}
+use Rattle.segword.specs.Words.{Shape}
+use Rattle.segmodel.specs.Words.{Begins, bucket_of, IsLegal}
 use Rattle.segcore.specs.Bucket.{slot}
 use Rattle.segcore.specs.Mark.{Mark, entries, chained_to, place, last_at, IsAbsent, IsWellMarked}
 

@@ -1,4 +1,4 @@
--- The segments after a trace: who reads in them, and how often each was refilled.
+-- The segments after a trace: who reads in them, the deadline of each, and how often each was refilled.
 use Rattle.std.specs.Prelude.{◌≢◌, ℕ, ◌+◌, ◌-◌, ◌==◌, ◌&&◌, ◌||◌, Bool, false, List, [], ◌∷◌, if◌then◌else◌}
 use Rattle.segcore.specs.declared.event.Event.{Event}
 use Rattle.segcore.specs.declared.event.Event.TheVariants.{Linked, Entered, Left, Refilled}
@@ -17,6 +17,12 @@ readers (Entered q s ∷ trace) segment = if s == segment then readers trace seg
 readers (Left q s ∷ trace) segment = if s == segment then readers trace segment - 1 else readers trace segment
 readers (_ ∷ trace) segment = readers trace segment
 
+-- the deadline of a segment, which its last refilling set
+abbrev pub deadline_of : List Event → ℕ → ℕ
+deadline_of [] segment = 0
+deadline_of (Refilled pass s deadline ∷ trace) segment = if s == segment then deadline else deadline_of trace segment
+deadline_of (_ ∷ trace) segment = deadline_of trace segment
+
 -- whether an item was ever linked in it
 abbrev pub was_used : List Event → ℕ → Bool
 was_used [] segment = false
@@ -26,10 +32,10 @@ was_used (_ ∷ trace) segment = was_used trace segment
 -- how often it was filled anew
 abbrev pub refills : List Event → ℕ → ℕ
 refills [] segment = 0
-refills (Refilled pass s ∷ trace) segment = if s == segment then refills trace segment + 1 else refills trace segment
+refills (Refilled pass s deadline ∷ trace) segment = if s == segment then refills trace segment + 1 else refills trace segment
 refills (_ ∷ trace) segment = refills trace segment
 
 -- no event fills the segment anew
 abbrev pub NoneRefills : ℕ → List Event → Type 0
 NoneRefills segment [] = Unit {0}
-NoneRefills segment (event ∷ trace) = ((pass : ℕ) → event ≢ Refilled pass segment) × NoneRefills segment trace
+NoneRefills segment (event ∷ trace) = ((pass deadline : ℕ) → event ≢ Refilled pass segment deadline) × NoneRefills segment trace

@@ -1,12 +1,7 @@
 -- What a lawful trace says of keys and item words: which word a key that stands has, and that chains have no other words.
 use Rattle.std.specs.Prelude.{◌≡◌, ℕ, ◌+◌, ◌*◌, ◌<◌, ◌⊎◌, List, Some}
-use Rattle.segword.specs.declared.shape.Shape.{Shape}
-use Rattle.segword.specs.Bytes.{IsKey, IsValue}
-use Rattle.segword.specs.ChainWord.{chain_word}
-use Rattle.segmodel.specs.declared.entry.Cached.{Cached}
-use Rattle.segmodel.specs.Places.{bucket_of, tag_of}
-use Rattle.segmodel.specs.Cache.{standing}
-use Rattle.segmodel.specs.History.{after}
+use Rattle.segword.specs.Words.{chain_word, IsKey, IsValue, Shape}
+use Rattle.segmodel.specs.Words.{after, bucket_of, Cached, standing, tag_of}
 use Rattle.segcore.specs.declared.event.Event.{Event}
 use Rattle.segcore.specs.declared.cell.Cell.{Cell}
 use Rattle.segcore.specs.Event.{seen}

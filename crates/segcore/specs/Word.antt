@@ -1,15 +1,14 @@
 -- The words of the table, each as what the trace makes it; where each stands, and which of them are the words of a chain.
 use Rattle.std.specs.Prelude.{◌≡◌, ℕ, zero, suc, ◌+◌, ◌*◌, ◌%◌, ◌^◌, ◌<◌, ◌==◌, ◌&&◌, Bool, true, false, List, Option, Some, None}
-use Rattle.segword.specs.declared.shape.Shape.{Shape}
-use Rattle.segmodel.specs.Places.{tag_of}
-use Rattle.segword.specs.ChainWord.{chain_word}
+use Rattle.segmodel.specs.Words.{tag_of}
+use Rattle.segword.specs.Words.{chain_word, Shape}
 use Rattle.segcore.specs.declared.event.Event.{Event}
 use Rattle.segcore.specs.declared.cell.Cell.{Cell}
 use Rattle.segcore.specs.declared.cell.Cell.TheVariants.{OfCounter, OfBucket, OfOverflow, OfSegment, OfRow}
 use Rattle.segcore.specs.Bucket.{Bucket, Content, nothing, item, next, copy, IsPosition, bucket_after}
 use Rattle.segcore.specs.Overflow.{Home, home, home_of, drawn_in}
 use Rattle.segcore.specs.Row.{row_after, frequency_of}
-use Rattle.segcore.specs.Segment.{readers}
+use Rattle.segcore.specs.Segment.{readers, deadline_of}
 use Rattle.segcore.specs.ItemWord.{packed}
 
 -- ---- cells
@@ -70,12 +69,16 @@ abbrev pub overflow_word : Shape → List Event → ℕ → Option Home → ℕ
 overflow_word shape trace word None = 0
 overflow_word shape trace word (Some of) = word_in shape trace (bucket_after shape trace of.bucket) (8 * of.depth + word)
 
+-- the deadline in bits 63..32, and how many readers the segment has in the others
+abbrev pub segment_word : List Event → ℕ → ℕ
+segment_word trace segment = deadline_of trace segment * 2 ^ 32 + readers trace segment
+
 -- the word of a cell after a trace
 abbrev pub word : Shape → List Event → Cell → ℕ
 word shape trace OfCounter = drawn_in trace
 word shape trace (OfBucket bucket w) = word_in shape trace (bucket_after shape trace bucket) w
 word shape trace (OfOverflow number w) = overflow_word shape trace w (home_of trace number)
-word shape trace (OfSegment segment) = readers trace segment
+word shape trace (OfSegment segment) = segment_word trace segment
 word shape trace (OfRow segment row place) = (row_after trace segment row).words place
 
 -- ---- the words of a chain

@@ -2,9 +2,8 @@
 use Rattle.std.specs.Prelude.{◌≡◌, ℕ, ◌≤◌, List, [], ◌∷◌, ◌++◌, length, slice_index, slice_set}
 use mathlib.Core.Option.{some}
 use lib.ListN.{get_elem?}
-use Rattle.segword.specs.declared.shape.Shape.{Shape}
-use Rattle.segword.specs.Shape.{word_count, IsValid}
-use Rattle.segmodel.specs.History.{Begins}
+use Rattle.segword.specs.Words.{IsValid, Shape, word_count}
+use Rattle.segmodel.specs.Words.{Begins}
 use Rattle.segcore.specs.declared.event.Event.{Event}
 use Rattle.segcore.specs.declared.cell.Cell.{Cell}
 use Rattle.segcore.specs.declared.view.View.{View}

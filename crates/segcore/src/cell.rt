@@ -1,6 +1,7 @@
 //! The words of the table by what they are.
 
-/// A word: the overflow counter; a bucket's, by its number and 0 to 7; an overflow bucket's; a segment's reader count; a word of a segment's row, by its place in it.
+/// A word: the overflow counter; a bucket's, by its number and 0 to 7; an overflow bucket's;
+/// a segment's reader count; a word of a segment's row, by its place in it.
 #[derive(Clone, Copy, Drop)]
 pub enum Cell {
     OfCounter,

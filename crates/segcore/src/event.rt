@@ -2,7 +2,9 @@
 use segmodel::{Reply, Request};
 use segword::Key;
 
-/// What a step did, the pass first. A position counts along a bucket's chain: `8 * d + w` is word `w` of the bucket at depth `d`. No value of it is made.
+/// What a step did, the pass first.
+/// A position counts along a bucket's chain: `8 * d + w` is word `w` of the bucket at depth `d`.
+/// No value of it is made.
 pub enum Event {
     /// The bucket's bit was taken.
     Took(u32, u32),
@@ -18,13 +20,14 @@ pub enum Event {
     Filled(u32, u32, u32, u32, u64),
     /// The item of a stored write came into a word: request, segment, row, position.
     Linked(u32, Request, u32, u32, u32),
-    /// The item of a key left its position: deleted, or evicted from this segment.
-    Unlinked(u32, Key, u32, Option<u32>),
+    /// The item of a key left its position.
+    Unlinked(u32, Key, u32, Leaving),
     /// An overflow bucket was drawn for a bucket: its depth in the chain, its number.
     Drew(u32, u32, u32, u32),
     /// Word 1 of the overflow bucket drawn for a bucket was stored.
     Put(u32, u32, u64),
-    /// The drawn bucket of this number joined the chain of a bucket, and the item of the last word moved into it.
+    /// The drawn bucket of this number joined the chain of a bucket,
+    /// and the item of the last word moved into it.
     Chained(u32, u32, u32),
     /// The item of a row got a higher frequency: segment, row, frequency.
     Bumped(u32, u32, u32, u32),
@@ -32,6 +35,14 @@ pub enum Event {
     Entered(u32, u32),
     /// It left.
     Left(u32, u32),
-    /// A segment of the pass's own is filled anew, from its first row.
-    Refilled(u32, u32),
+    /// A segment of the pass's own is filled anew, from its first row, up to a deadline.
+    Refilled(u32, u32, u32),
+}
+
+/// Why an item leaves its word. No value of it is made.
+pub enum Leaving {
+    /// It is deleted, at this moment.
+    Deletes(u32),
+    /// It is evicted from this segment.
+    Evicts(u32),
 }

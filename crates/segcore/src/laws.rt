@@ -1,8 +1,8 @@
 //! The theorems of the core. Each function does nothing: its contract is the law.
 ghost use Rattle.std.specs.Prelude.{◌≡◌, ◌∷◌, ◌++◌, ℕ, List, [], Option, Some, None};
-ghost use Rattle.segmodel.specs.Cache.{standing};
-ghost use Rattle.segmodel.specs.History.{after};
-ghost use Rattle.segcore.specs.declared.cell.Cell.TheVariants.{OfCounter, OfBucket, OfOverflow, OfSegment};
+ghost use Rattle.segmodel.specs.Words.{after, standing};
+ghost use Rattle.segcore.specs.declared.cell.Cell.TheVariants.{OfCounter, OfBucket, OfOverflow};
+ghost use Rattle.segcore.specs.declared.cell.Cell.TheVariants.{OfSegment};
 ghost use Rattle.segcore.specs.declared.event.Event.TheVariants.{Took};
 ghost use Rattle.segcore.specs.Event.{seen};
 ghost use Rattle.segcore.specs.Lawful.{IsLawful};
@@ -11,8 +11,25 @@ ghost use Rattle.segcore.specs.Mark.{marked};
 ghost use Rattle.segcore.specs.Scan.{IsScanOf};
 ghost use Rattle.segcore.specs.Standing.{cached};
 ghost use Rattle.segcore.specs.World.{Reaches};
-ghost use Rattle.segcore.specs.Example.{shape, a, two, stored, bumped, moved, replaced, read, evicted, refilled, elsewhere, looks, view_of, after_steps, to_refilled};
-ghost use Rattle.segcore.specs.Laws.{EveryScheduleIsLawful, SightOnlyGrows, EveryScheduleSaysAll, ScanPassesAMiss, SeenHistoryIsLegal, MarksArePlaced, MarksAreOrderly, MarksLeaveTheHistory, MarksCountTheChain, LawfulKeyFacts, LawfulBucketFacts, LawfulSegmentFacts, AllowedStepKeepsTheRule, OthersLeaveItAlone, OwnStepIsCounted, OwnStepOnlyAdds, EverySearchBeginsAhead, AheadStaysAhead, SearchPassesAnother, SearchSkipsWordZero, EndedSearchMissed, SoughtWordNamesIt, WordOfItsRowIsTheKeys, KeyIsAtItsPlace, PlaceHasTheKey, OtherTagIsNotTheKeys, OtherPlaceIsNotTheRows, ChainWordLeadsOn, OtherLastWordEndsTheChain, ChainsOnlyGrow, PositionsStay, EntriesOnlyGrow, ChangedWordHadAnEntry, EntryStirsTheKey, FreeWordHasTheVersion, UnwrittenWordHasTheVersion, VersionIsOfTheWrites, KeysAreAsManyAsItems, KeysFitTheirChain, FullChainHasAllItsKeys, ChainIsAsLongAsWide, FilledWordHasContent};
+ghost use Rattle.segcore.specs.Example.{shape, a, two, stored, bumped, moved, replaced, read};
+ghost use Rattle.segcore.specs.Example.{evicted, refilled, elsewhere, looks, view_of, after_steps};
+ghost use Rattle.segcore.specs.Example.{to_refilled};
+ghost use Rattle.segcore.specs.Laws.{EveryScheduleIsLawful, SightOnlyGrows, EveryScheduleSaysAll};
+ghost use Rattle.segcore.specs.Laws.{ScanPassesAMiss, SeenHistoryIsLegal, MarksArePlaced};
+ghost use Rattle.segcore.specs.Laws.{MarksAreOrderly, MarksLeaveTheHistory, MarksCountTheChain};
+ghost use Rattle.segcore.specs.Laws.{LawfulKeyFacts, LawfulBucketFacts, LawfulSegmentFacts};
+ghost use Rattle.segcore.specs.Laws.{AllowedStepKeepsTheRule, OthersLeaveItAlone, OwnStepIsCounted};
+ghost use Rattle.segcore.specs.Laws.{OwnStepOnlyAdds, EverySearchBeginsAhead, AheadStaysAhead};
+ghost use Rattle.segcore.specs.Laws.{SearchPassesAnother, SearchSkipsWordZero, EndedSearchMissed};
+ghost use Rattle.segcore.specs.Laws.{SoughtWordNamesIt, WordOfItsRowIsTheKeys, KeyIsAtItsPlace};
+ghost use Rattle.segcore.specs.Laws.{PlaceHasTheKey, OtherTagIsNotTheKeys, OtherPlaceIsNotTheRows};
+ghost use Rattle.segcore.specs.Laws.{ChainWordLeadsOn, OtherLastWordEndsTheChain, ChainsOnlyGrow};
+ghost use Rattle.segcore.specs.Laws.{PositionsStay, EntriesOnlyGrow, ChangedWordHadAnEntry};
+ghost use Rattle.segcore.specs.Laws.{EntryStirsTheKey, FreeWordHasTheVersion};
+ghost use Rattle.segcore.specs.Laws.{UnwrittenWordHasTheVersion, VersionIsOfTheWrites};
+ghost use Rattle.segcore.specs.Laws.{KeysAreAsManyAsItems, KeysFitTheirChain};
+ghost use Rattle.segcore.specs.Laws.{FullChainHasAllItsKeys, ChainIsAsLongAsWide};
+ghost use Rattle.segcore.specs.Laws.{FilledWordHasContent};
 
 /// Whatever steps the passes take, in whatever order, the world that they reach is lawful, and what
 /// each pass has seen only grows.

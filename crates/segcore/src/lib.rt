@@ -1,4 +1,5 @@
-//! The world of the index as plain data: events, words, what a pass knows, the kinds of step, and the rule that each keeps.
+//! The world of the index as plain data: events, words, what a pass knows, the kinds of step,
+//! and the rule that each keeps.
 #![tactic(auto)]
 
 mod cell;
@@ -7,7 +8,7 @@ mod laws;
 mod view;
 
 pub use cell::Cell;
-pub use event::Event;
+pub use event::{Event, Leaving};
 pub use laws::{
     between_steps, chain_words, changed_word, every_schedule, example, keys_of_bucket,
     lawful_trace, miss_point, place_of_key, search, step_keeps_law, version_of_bucket,

@@ -1,11 +1,9 @@
 -- Word 1 of an overflow bucket that is drawn and waits to be chained: empty, or a copy of an item word.
 use Rattle.std.proofs.Common.{◌≡◌, ℕ, ◌+◌, ◌*◌, ◌<◌, true, cond, eqb, List, [], ◌∷◌, Some, ◌∙◌, ap, refl, inl, inr, ◌⊎◌, ⊎_elim, arith}
 use Rattle.std.proofs.lemmas.Bool.{cases_Bool, false≢true}
-use Rattle.segword.specs.declared.shape.Shape.{Shape}
-use Rattle.segword.specs.Shape.{IsValid}
-use Rattle.segmodel.specs.Request.{key_of}
-use Rattle.segmodel.specs.Places.{tag_of}
-use Rattle.segcore.specs.declared.event.Event.{Event}
+use Rattle.segword.specs.Words.{IsValid, Shape}
+use Rattle.segmodel.specs.Words.{key_of, tag_of}
+use Rattle.segcore.specs.Words.{Event}
 use Rattle.segcore.specs.declared.event.Event.TheVariants.{Took, Freed, Replied, Linked, Unlinked, Drew, Put, Chained}
 use Rattle.segcore.specs.declared.cell.Cell.TheVariants.{OfOverflow}
 use Rattle.segcore.specs.Bucket.{Slot, slot, Content, nothing, item, next, copy, Bucket, last, fresh_position, bucket_at, is, acts, bucket_after}

@@ -5,11 +5,10 @@ use Rattle.std.proofs.lemmas.Option.{same_Some, none-some}
 use mathlib.Core.Option.{some}
 use lib.ListN.{get_elem?}
 use Rattle.atomic_table.proofs.Lists.{set_here}
-use Rattle.segword.specs.declared.shape.Shape.{Shape}
-use Rattle.segmodel.specs.History.{AreOne}
-use Rattle.segcore.specs.declared.event.Event.{Event}
+use Rattle.segword.specs.Words.{Shape}
+use Rattle.segmodel.specs.Words.{AreOne}
+use Rattle.segcore.specs.Words.{Event, View}
 use Rattle.segcore.specs.declared.cell.Cell.TheVariants.{OfOverflow}
-use Rattle.segcore.specs.declared.view.View.{View}
 use Rattle.segcore.specs.Event.{NoneBy}
 use Rattle.segcore.specs.Bucket.{Content, nothing, item, next, copy, Bucket, bucket_after}
 use Rattle.segcore.specs.Overflow.{home, home_of}

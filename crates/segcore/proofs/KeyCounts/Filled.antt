@@ -1,8 +1,8 @@
 -- How many positions of a chain have an item: after one position changed, past the end of the chain, and by its buckets.
 use Rattle.std.proofs.Common.{◌≡◌, ◌≢◌, ℕ, zero, suc, ◌+◌, ◌*◌, ◌<◌, ◌≤◌, List, cond, eqb, sym, refl, ap, ◌∙◌, subst, ⊎_elim, arith, add-one}
 use Rattle.std.proofs.lemmas.Bool.{cases_eq, cond-true, cond-false, eq-eqb, ne_eqb}
-use Rattle.segword.specs.declared.shape.Shape.{Shape}
-use Rattle.segcore.specs.declared.event.Event.{Event}
+use Rattle.segword.specs.Words.{Shape}
+use Rattle.segcore.specs.Words.{Event}
 use Rattle.segcore.specs.Bucket.{Slot, Content, nothing, item, next, copy, Bucket, IsPosition, bucket_after}
 use Rattle.segcore.specs.Lawful.{IsLawful}
 use Rattle.segcore.specs.Filled.{item_count, items_below, HasNoEmptyWord}

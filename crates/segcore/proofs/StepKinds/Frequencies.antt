@@ -2,8 +2,7 @@
 use Rattle.std.proofs.Common.{◌≡◌, ℕ, zero, suc, ◌^◌, ◌<◌, cond, eqb, ◌&&◌, List, [], ◌∷◌, sym, refl, ap, ◌∙◌, ⊎_elim, arith}
 use Rattle.std.proofs.lemmas.Bool.{cases_Bool, cond-true, cond-false, eqb-true, eq-eqb, and_parts, and_from, false≢true, false_from_ne_true}
 use Rattle.std.proofs.lemmas.Option.{same_Some}
-use Rattle.segword.specs.declared.shape.Shape.{Shape}
-use Rattle.segword.specs.Shape.{IsValid}
+use Rattle.segword.specs.Words.{IsValid, Shape}
 use Rattle.segcore.proofs.Coherent.{IsContent, place}
 use Rattle.segcore.specs.Bucket.{Slot, Content, nothing, item, next, copy, bucket_after, IsPosition}
 use Rattle.segcore.specs.ItemWord.{packed, IsInItem}
@@ -11,10 +10,9 @@ use Rattle.segcore.specs.Kind.{bump, KeepsLaw}
 use Rattle.segcore.specs.Lawful.{IsLawful}
 use Rattle.segcore.specs.Row.{row_after, frequency_of}
 use Rattle.segcore.specs.Word.{content_word, word_in, word, IsItemAt}
-use Rattle.segmodel.specs.Places.{bucket_of, tag_of}
-use Rattle.segcore.specs.declared.event.Event.{Event}
+use Rattle.segmodel.specs.Words.{bucket_of, tag_of}
+use Rattle.segcore.specs.Words.{Cell, Event}
 use Rattle.segcore.specs.declared.event.Event.TheVariants.{Bumped}
-use Rattle.segcore.specs.declared.cell.Cell.{Cell}
 use Rattle.segcore.proofs.Quiet.{home_drawn}
 use Rattle.segcore.proofs.Chains.{chain_of}
 use Rattle.segcore.proofs.Standing.{coherent}
@@ -77,7 +75,7 @@ bump_at z p b n c t s r f g h v lb i q lt lg l =
     let fq = x.frequency in
     made z (bump b n c t s r f g) p h (e ∷ []) (packed t g s r) (cond-true (eqb found old) (e ∷ []) [] y) (either_hit found old (packed t g s r) y) inside' (refl, tt)
     (l, record { guarded = tt; follows = tt; suits = (omega arith, lg) })
-    (λ d i'. touch z h e b n (packed t g s r) c l i.1 (record { homes = λ m. refl; drawn = refl; rows = λ s' r' j. refl; readers = λ s'. refl }) (change x) d i'))
+    (λ d i'. touch z h e b n (packed t g s r) c l i.1 (record { homes = λ m. refl; drawn = refl; rows = λ s' r' j. refl; segments = λ s'. refl }) (change x) d i'))
     (λ y. nothing_new z (bump b n c t s r f g) p h (cond-false (eqb found old) (e ∷ []) [] y) (either_miss found old (packed t g s r) y) inside' l)
     (cases_Bool (eqb found old))
   where

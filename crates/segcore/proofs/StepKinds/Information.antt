@@ -3,19 +3,15 @@ use Rattle.std.proofs.Common.{◌≡◌, ◌≢◌, ℕ, zero, suc, ◌+◌, ◌
 use Rattle.std.proofs.lemmas.Bool.{eqb-true, eq-eqb, ne_eqb, false≢true}
 use Rattle.std.proofs.lemmas.Nat.{or_shifted, or_block}
 use Rattle.std.specs.Int.Bits.{or_zero_r}
-use Rattle.segword.specs.declared.shape.Shape.{Shape}
-use Rattle.segmodel.specs.declared.request.Request.{Request}
-use Rattle.segmodel.specs.declared.request.Reply.{Reply}
-use Rattle.segmodel.specs.Request.{key_of}
+use Rattle.segword.specs.Words.{Shape}
+use Rattle.segmodel.specs.Words.{bucket_of, key_of, Reply, Request}
 use Rattle.segcore.specs.Bucket.{Bucket, Content, is, acts, bucket_after}
 use Rattle.segcore.specs.Event.{NoneBy}
 use Rattle.segcore.specs.Kind.{take, release, glance, becomes, told, HasBit, MayRefuse, KeepsLaw}
 use Rattle.segcore.specs.Lawful.{IsLawful}
 use Rattle.segcore.specs.Word.{same_cell, content_word, bucket_info_word, word_in, word}
-use Rattle.segmodel.specs.Places.{bucket_of}
-use Rattle.segcore.specs.declared.event.Event.{Event}
+use Rattle.segcore.specs.Words.{Cell, Event}
 use Rattle.segcore.specs.declared.event.Event.TheVariants.{Took, Bounced, Glanced, Freed, Replied}
-use Rattle.segcore.specs.declared.cell.Cell.{Cell}
 use Rattle.segcore.specs.declared.cell.Cell.TheVariants.{OfBucket}
 use Rattle.segcore.proofs.Quiet.{quiet, later, not_mine}
 use Rattle.segcore.proofs.Cells.{touch, change_at}
@@ -58,7 +54,7 @@ take_at z p b own h None held knows lt l =
     (lt, omega arith)
     (refl, tt)
     (l, record { guarded = (lt, held); follows = tt; suits = tt })
-    (λ c i. touch z h (Took p b) b 0 (v * 2 ^ 32 + 1) (OfBucket b 0) l (refl, refl, omega arith) (record { homes = λ m. refl; drawn = refl; rows = λ s r j. refl; readers = λ s. refl })
+    (λ c i. touch z h (Took p b) b 0 (v * 2 ^ 32 + 1) (OfBucket b 0) l (refl, refl, omega arith) (record { homes = λ m. refl; drawn = refl; rows = λ s r j. refl; segments = λ s. refl })
     (change_at z h (Took p b) b 0 (v * 2 ^ 32 + 1) (λ k. refl) (info_only z h (Took p b) (bucket_after z h b) (acts (Took p b) (bucket_after z h b)) refl (λ c. refl)) (λ a n f. refl)) c i)
 take_at z p b true h (Some q) held knows lt l =
     let v = (z.first_version + (bucket_after z h b).version) % 2 ^ 32 in
@@ -71,7 +67,7 @@ take_at z p b false h (Some q) held knows lt l =
     (lt, omega arith)
     (refl, tt)
     (l, record { guarded = tt; follows = tt; suits = (q, held, others_bit (Some q) p q refl knows) })
-    (λ c i. still z h (Bounced p b) (record { homes = λ m. refl; drawn = refl; rows = λ s r j. refl; readers = λ s. refl }) (λ a n. refl) c ∙ unchanged z h (OfBucket b 0) (v * 2 ^ 32 + 1) (rw held refl) c)
+    (λ c i. still z h (Bounced p b) (record { homes = λ m. refl; drawn = refl; rows = λ s r j. refl; segments = λ s. refl }) (λ a n. refl) c ∙ unchanged z h (OfBucket b 0) (v * 2 ^ 32 + 1) (rw held refl) c)
 
 pub glance_at : (z : Shape) (p b : ℕ) (own : Bool) (h : List Event) (o : Option ℕ)
     → (bucket_after z h b).holder ≡ o → is o p ≡ own → b < z.buckets → IsLawful z h
@@ -84,7 +80,7 @@ glance_at z p b false h (Some q) held knows lt l = let v = (z.first_version + (b
     made z (glance b false) p h (Glanced p b ∷ []) (word z h (OfBucket b 0))
     (rw held (let e : (v * 2 ^ 32 + 1) % 2 ≡ 1 = omega arith in rw e refl)) refl (lt, omega arith) (refl, tt)
     (l, record { guarded = tt; follows = tt; suits = (q, held, others_bit (Some q) p q refl knows) })
-    (λ c i. still z h (Glanced p b) (record { homes = λ m. refl; drawn = refl; rows = λ s r j. refl; readers = λ s. refl }) (λ a n. refl) c ∙ unchanged z h (OfBucket b 0) (word z h (OfBucket b 0)) refl c)
+    (λ c i. still z h (Glanced p b) (record { homes = λ m. refl; drawn = refl; rows = λ s r j. refl; segments = λ s. refl }) (λ a n. refl) c ∙ unchanged z h (OfBucket b 0) (word z h (OfBucket b 0)) refl c)
 
 -- whether a pass has the bit stays so
 pub bit_known : (z : Shape) (more h : List Event) (p b : ℕ) (own : Bool) → IsLawful z (more ++ h)
@@ -104,7 +100,7 @@ bit_known z more h p b false l n k = lacks (bucket_after z (more ++ h) b).holder
 told_same : (z : Shape) (p : ℕ) (said : Option (Request × Reply)) (h : List Event) (c : Cell)
     → word z (told p said ++ h) c ≡ word z h c
 told_same z p None h c = refl
-told_same z p (Some a) h c = still z h (Replied p a.0 a.1) (record { homes = λ m. refl; drawn = refl; rows = λ s r j. refl; readers = λ s. refl })
+told_same z p (Some a) h c = still z h (Replied p a.0 a.1) (record { homes = λ m. refl; drawn = refl; rows = λ s r j. refl; segments = λ s. refl })
     (λ b n. ap (λ u. word_in z h u n) (same_either (eqb (bucket_of z (key_of a.0)) b) (bucket_after z h b))) c
 
 told_bucket : (z : Shape) (p : ℕ) (said : Option (Request × Reply)) (h : List Event) (b : ℕ)
@@ -127,7 +123,7 @@ release_at z p b c said h held w spared l =
     let then = told p said ++ h in
     made z (release b c said) p h (e ∷ told p said) x refl (released z (bucket_after z h b) p b c said held.1) (held.0, omega arith) (refl, all_told p said)
     (l, record { guarded = (held.0, ap (λ u. u.holder) same_b ∙ held.1); follows = tt; suits = (ap (λ u. u.written) same_b ∙ w, ap (λ u. u.spare) same_b ∙ spared) })
-    (λ d i. touch z then e b 0 x (OfBucket b 0) l (refl, refl, omega arith) (record { homes = λ m. refl; drawn = refl; rows = λ s r j. refl; readers = λ s. refl })
+    (λ d i. touch z then e b 0 x (OfBucket b 0) l (refl, refl, omega arith) (record { homes = λ m. refl; drawn = refl; rows = λ s r j. refl; segments = λ s. refl })
     (change_at z then e b 0 x (λ k. refl)
     (λ m. subst (λ u. word_in z (e ∷ then) (acts e u) m ≡ cond (eqb 0 m) x (word_in z then u m)) (sym same_b) (info_only z then e (bucket_after z h b) (acts e (bucket_after z h b)) refl (λ c. refl) m))
     (λ a n f. refl)) d i

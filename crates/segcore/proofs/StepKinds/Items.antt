@@ -1,21 +1,18 @@
 -- The steps that put an item into a word of a chain, or take it out: link, clear.
-use Rattle.std.proofs.Common.{◌≡◌, ℕ, zero, suc, ◌<◌, Bool, true, false, cond, eqb, ◌&&◌, List, [], ◌∷◌, Option, Some, None, sym, refl, ap, ◌∙◌, subst, ⊎_elim, arith}
+use Rattle.std.proofs.Common.{◌≡◌, ℕ, zero, suc, ◌<◌, Bool, true, false, cond, eqb, ◌&&◌, List, [], ◌∷◌, Some, None, sym, refl, ap, ◌∙◌, subst, ⊎_elim, arith}
 use Rattle.std.proofs.lemmas.Bool.{cases_Bool, cond-true, cond-false, eqb-true, eq-eqb, ne_eqb, and_parts, and_from, false_from_ne_true}
 use Rattle.std.proofs.lemmas.Option.{none-some}
 use prog.Atomic.{either}
-use Rattle.segword.specs.declared.shape.Shape.{Shape}
-use Rattle.segmodel.specs.declared.request.Request.{Request}
-use Rattle.segmodel.specs.Request.{key_of}
+use Rattle.segword.specs.Words.{Shape}
+use Rattle.segmodel.specs.Words.{bucket_of, key_of, Request, tag_of}
 use Rattle.segcore.specs.Bucket.{Bucket, Slot, Content, nothing, item, next, copy, slot, acts, bucket_after, IsPosition}
 use Rattle.segcore.specs.ItemWord.{packed}
 use Rattle.segcore.specs.Kind.{link, clear, KeepsLaw}
 use Rattle.segcore.specs.Lawful.{Fits, IsLawful}
 use Rattle.segcore.specs.Row.{Row, row_at, row_after, frequency_of}
 use Rattle.segcore.specs.Word.{content_word, bucket_info_word, word_in, word, IsAt}
-use Rattle.segmodel.specs.Places.{bucket_of, tag_of}
-use Rattle.segcore.specs.declared.event.Event.{Event}
+use Rattle.segcore.specs.Words.{Cell, Event, Leaving}
 use Rattle.segcore.specs.declared.event.Event.TheVariants.{Linked, Unlinked, Bumped}
-use Rattle.segcore.specs.declared.cell.Cell.{Cell}
 use Rattle.segcore.proofs.Standing.{coherent}
 use Rattle.segcore.proofs.Cells.{touch, change_at}
 use Rattle.segcore.proofs.StepKinds.Words.{made, nothing_new, cell_in}
@@ -79,7 +76,7 @@ link_at z p q s r n c old h f i l =
     let new : content_word (e ∷ h) (item (slot (key_of q) s r)) ≡ x = ap (λ y. packed (tag_of (key_of q)) y s r) (cond-true (eqb s s && eqb r r) 1 (frequency_of h s r) (and_from (eqb s s) (eqb r r) (eq-eqb s s refl) (eq-eqb r r refl))) in
     ⊎_elim
     (λ t. made z (link q s r n c old) p h (e ∷ []) x (cond-true (eqb found old) (e ∷ []) [] t) (either_hit found old x t) inside' (refl, tt) (l, f)
-    (λ d i'. touch z h e b n x c l i (record { homes = λ m. refl; drawn = refl; rows = λ s' r' j. linked_words (row_at e s' r') (row_after h s' r') (key_of q) j; readers = λ s'. refl })
+    (λ d i'. touch z h e b n x c l i (record { homes = λ m. refl; drawn = refl; rows = λ s' r' j. linked_words (row_at e s' r') (row_after h s' r') (key_of q) j; segments = λ s'. refl })
     (change_at z h e b n x (λ k. refl)
     (λ m. put_content z h e u (acts e u) n (item (slot (key_of q) s r)) (above u n f.suits.3) refl refl (kept b) m ∙ ap (λ y. cond (eqb n m) y (word_in z h u m)) new)
     (λ a m g. others a m)) d i'))
@@ -90,7 +87,7 @@ link_at z p q s r n c old h f i l =
     others a zero = refl
     others a (suc m) = linked_kept h p q s r n ((bucket_after z h a).items (suc m)) (unnamed z h s r a (suc m) l f.suits.0.3)
 
-pub clear_at : (z : Shape) (p : ℕ) (k : List ℕ) (n : ℕ) (c : Cell) (old : ℕ) (why : Option ℕ) (h : List Event)
+pub clear_at : (z : Shape) (p : ℕ) (k : List ℕ) (n : ℕ) (c : Cell) (old : ℕ) (why : Leaving) (h : List Event)
     → Fits z h (Unlinked p k n why) → 0 < n → IsAt h (bucket_of z k) n c → IsLawful z h
     → KeepsLaw z (clear k n c old why) p h
 clear_at z p k n c old why h f lt i l =
@@ -101,7 +98,7 @@ clear_at z p k n c old why h f lt i l =
     let inside' = cell_in z h b n c l f.guarded.0 i in
     ⊎_elim
     (λ t. made z (clear k n c old why) p h (e ∷ []) 0 (cond-true (eqb found old) (e ∷ []) [] t) (either_hit found old 0 t) inside' (refl, tt) (l, f)
-    (λ d i'. touch z h e b n 0 c l i (record { homes = λ m. refl; drawn = refl; rows = λ s' r' j. refl; readers = λ s'. refl })
+    (λ d i'. touch z h e b n 0 c l i (record { homes = λ m. refl; drawn = refl; rows = λ s' r' j. refl; segments = λ s'. refl })
     (change_at z h e b n 0 (λ k. refl) (put_content z h e u (acts e u) n nothing lt refl refl (λ m. refl)) (λ a m g. refl)) d i'))
     (λ g. nothing_new z (clear k n c old why) p h (cond-false (eqb found old) (e ∷ []) [] g) (either_miss found old 0 g) inside' l)
     (cases_Bool (eqb found old))

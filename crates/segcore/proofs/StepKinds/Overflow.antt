@@ -2,17 +2,15 @@
 use Rattle.std.proofs.Common.{◌≡◌, ℕ, zero, suc, ◌+◌, ◌*◌, ◌<◌, ◌≤◌, Bool, true, false, cond, eqb, List, [], ◌∷◌, Option, Some, None, sym, refl, ap, ◌∙◌, ⊎_elim, arith}
 use Rattle.std.proofs.lemmas.Bool.{cases_Bool, cond-true, cond-false, eqb-true, ne_eqb}
 use Rattle.std.proofs.lemmas.Option.{none-some}
-use Rattle.segword.specs.declared.shape.Shape.{Shape}
-use Rattle.segword.specs.ChainWord.{chain_word}
+use Rattle.segword.specs.Words.{chain_word, Shape}
 use Rattle.segcore.proofs.Coherent.{IsContent}
 use Rattle.segcore.specs.Bucket.{Bucket, Content, nothing, item, next, copy, last, fresh_position, acts, bucket_after}
 use Rattle.segcore.specs.Kind.{draw, fill, chain, HasBit, KeepsLaw}
 use Rattle.segcore.specs.Lawful.{Fits, IsLawful}
 use Rattle.segcore.specs.Overflow.{Home, drawn_in, home_of}
 use Rattle.segcore.specs.Word.{IsCell, same_cell, content_word, word_in, overflow_word, word, IsAt}
-use Rattle.segcore.specs.declared.event.Event.{Event}
+use Rattle.segcore.specs.Words.{Cell, Event}
 use Rattle.segcore.specs.declared.event.Event.TheVariants.{Drew, Put, Chained}
-use Rattle.segcore.specs.declared.cell.Cell.{Cell}
 use Rattle.segcore.specs.declared.cell.Cell.TheVariants.{OfCounter, OfBucket, OfOverflow, OfSegment, OfRow}
 use Rattle.segcore.proofs.Quiet.{home_drawn}
 use Rattle.segcore.proofs.Chains.{chain_of}
@@ -27,7 +25,7 @@ fill_at z p b m w h f sp l =
     let e = Put p b w in
     let i : IsAt h b (fresh_position u) (OfOverflow m 1) = (u.chained + 1, ((chain_of z h l b).spare m sp).1, omega arith, omega arith) in
     made z (fill b m w) p h (e ∷ []) w refl refl (cell_in z h b (fresh_position u) (OfOverflow m 1) l f.guarded.0 i) (refl, tt) (l, f)
-    (λ d i'. touch z h e b (fresh_position u) w (OfOverflow m 1) l i (record { homes = λ m. refl; drawn = refl; rows = λ s' r' j. refl; readers = λ s'. refl })
+    (λ d i'. touch z h e b (fresh_position u) w (OfOverflow m 1) l i (record { homes = λ m. refl; drawn = refl; rows = λ s' r' j. refl; segments = λ s'. refl })
     (change_at z h e b (fresh_position u) w (λ k. refl) (put_content z h e u (acts e u) (fresh_position u) (copy w) (omega arith) refl refl (λ m. refl)) (λ a m g. refl)) d i')
 
 pub chain_at : (z : Shape) (p b : ℕ) (c : Cell) (old m : ℕ) (h : List Event) → Fits z h (Chained p b m)
@@ -41,7 +39,7 @@ chain_at z p b c old m h f i is' l =
     let inside' = cell_in z h b (last u) c l f.guarded.0 i in
     ⊎_elim
     (λ t. made z (chain b c old m) p h (e ∷ []) (chain_word m) (cond-true (eqb found old) (e ∷ []) [] t) (either_hit found old (chain_word m) t) inside' (refl, tt) (l, f)
-    (λ d i'. touch z h e b (last u) (chain_word m) c l i (record { homes = λ m. refl; drawn = refl; rows = λ s' r' j. refl; readers = λ s'. refl })
+    (λ d i'. touch z h e b (last u) (chain_word m) c l i (record { homes = λ m. refl; drawn = refl; rows = λ s' r' j. refl; segments = λ s'. refl })
     (change_at z h e b (last u) (chain_word m) (λ k. refl) (own (sym (word_content z h u (last u) (omega arith)) ∙ (sym (at_word z h b (last u) c i) ∙ eqb-true found old t))) (λ a m g. refl)) d i'))
     (λ g. nothing_new z (chain b c old m) p h (cond-false (eqb found old) (e ∷ []) [] g) (either_miss found old (chain_word m) g) inside' l)
     (cases_Bool (eqb found old))

@@ -1,14 +1,13 @@
 -- The step that stores a word of a row.
 use Rattle.std.proofs.Common.{◌≡◌, ℕ, Bool, true, false, cond, eqb, ◌&&◌, List, [], ◌∷◌, refl}
-use Rattle.segword.specs.declared.shape.Shape.{Shape}
+use Rattle.segword.specs.Words.{Shape}
 use Rattle.segcore.specs.Kind.{row_store, KeepsLaw}
 use Rattle.segcore.specs.Lawful.{Fits, IsLawful}
 use Rattle.segcore.specs.Overflow.{home_of}
 use Rattle.segcore.specs.Row.{Row, row_after}
 use Rattle.segcore.specs.Word.{IsCell, same_cell, word}
-use Rattle.segcore.specs.declared.event.Event.{Event}
+use Rattle.segcore.specs.Words.{Cell, Event}
 use Rattle.segcore.specs.declared.event.Event.TheVariants.{Filled}
-use Rattle.segcore.specs.declared.cell.Cell.{Cell}
 use Rattle.segcore.specs.declared.cell.Cell.TheVariants.{OfCounter, OfBucket, OfOverflow, OfSegment, OfRow}
 use Rattle.segcore.proofs.StepKinds.Words.{made, over_still}
 

@@ -1,15 +1,14 @@
 -- What a step leaves of the words: one changes, or none. Each kind of step is shown by these.
 use Rattle.std.proofs.Common.{◌≡◌, ℕ, zero, suc, ◌+◌, ◌*◌, ◌<◌, cond, List, [], ◌∷◌, ◌++◌, Option, Some, None, sym, refl, ap, ◌∙◌, ⊎_elim, arith}
 use Rattle.std.proofs.lemmas.Bool.{cases_Bool}
-use Rattle.segword.specs.declared.shape.Shape.{Shape}
+use Rattle.segword.specs.Words.{Shape}
 use Rattle.segcore.specs.Bucket.{Bucket, bucket_after}
 use Rattle.segcore.specs.Event.{AllBy}
 use Rattle.segcore.specs.Kind.{Step, cell, becomes, adds, KeepsLaw}
 use Rattle.segcore.specs.Lawful.{IsLawful}
 use Rattle.segcore.specs.Overflow.{Home, home_of}
 use Rattle.segcore.specs.Word.{IsCell, same_cell, content_word, word_in, overflow_word, word, IsAt}
-use Rattle.segcore.specs.declared.event.Event.{Event}
-use Rattle.segcore.specs.declared.cell.Cell.{Cell}
+use Rattle.segcore.specs.Words.{Cell, Event}
 use Rattle.segcore.specs.declared.cell.Cell.TheVariants.{OfCounter, OfBucket, OfOverflow, OfSegment, OfRow}
 use Rattle.segcore.proofs.Addresses.{same_place}
 use Rattle.segcore.proofs.Quiet.{home_drawn}
@@ -44,7 +43,7 @@ pub still : (z : Shape) (h : List Event) (e : Event) → Elsewhere z h e
 still z h e s f OfCounter = s.drawn
 still z h e s f (OfBucket b w) = f b w
 still z h e s f (OfOverflow m w) = ap (overflow_word z (e ∷ h) w) (s.homes m) ∙ over_still z h e f w (home_of h m)
-still z h e s f (OfSegment t) = s.readers t
+still z h e s f (OfSegment t) = s.segments t
 still z h e s f (OfRow t r j) = s.rows t r j
 
 pub word_content : (z : Shape) (h : List Event) (u : Bucket) (n : ℕ) → 0 < n

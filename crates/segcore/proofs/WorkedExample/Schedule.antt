@@ -3,11 +3,10 @@ use Rattle.std.proofs.Common.{◌≡◌, ℕ, zero, suc, List, [], ◌∷◌, sy
 use Rattle.std.proofs.lemmas.List.{get_or-replicate, length-replicate}
 use mathlib.Core.Option.{some, some-injective, some-ne-none}
 use lib.ListN.{get_elem?}
-use Rattle.segword.specs.Shape.{IsValid}
+use Rattle.segword.specs.Words.{IsValid}
 use Rattle.segcore.specs.declared.event.Event.TheVariants.{Took}
-use Rattle.segcore.specs.declared.cell.Cell.{Cell}
+use Rattle.segcore.specs.Words.{Cell, View}
 use Rattle.segcore.specs.declared.cell.Cell.TheVariants.{OfCounter, OfBucket, OfOverflow, OfSegment, OfRow}
-use Rattle.segcore.specs.declared.view.View.{View}
 use Rattle.segcore.specs.Kind.{Step, May}
 use Rattle.segcore.specs.Word.{address, word}
 use Rattle.segcore.specs.World.{IsFresh, IsOpening, Reaches}
@@ -223,7 +222,7 @@ refilled_so = (
       (
         (evicted_so, refl, record { guarded = tt; follows = tt; suits = (omega arith, omega arith, omega arith, refl) }),
         refl,
-        (omega arith, ((λ k i. i), refl)),
+        (omega arith, ((λ k i. i), refl), omega arith),
       ),
       refl,
       elsewhere_next.0.1,
@@ -232,7 +231,7 @@ refilled_so = (
     elsewhere_next.1,
   ),
   refl,
-  (omega arith, ((λ k i. i), refl)),
+  (omega arith, ((λ k i. i), refl), omega arith),
 )
 
 -- two passes step, and have then seen different ends of one trace

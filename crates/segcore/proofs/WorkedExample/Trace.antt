@@ -1,7 +1,7 @@
 -- The example is lawful: no rule on the way contradicts another.
 use Rattle.std.proofs.Common.{◌≡◌, ℕ, zero, suc, ◌<◌, Bool, true, false, List, [], ◌∷◌, Some, None, refl, ◌∙◌, inl, inr, arith, length, get_or}
-use Rattle.segword.specs.Bytes.{IsKey, IsValue}
-use Rattle.segcore.specs.declared.event.Event.{Event}
+use Rattle.segword.specs.Words.{IsKey, IsValue}
+use Rattle.segcore.specs.Words.{Event}
 use Rattle.segcore.specs.declared.event.Event.TheVariants.{Took, Bounced, Glanced, Freed, Filled}
 use Rattle.segcore.specs.Bucket.{slot, bucket_after}
 use Rattle.segcore.specs.Row.{Row, Holds, row_after}
@@ -199,5 +199,5 @@ elsewhere_next = (
 pub example : IsLawful shape refilled
 example = (
   elsewhere_next,
-  record { guarded = tt; follows = ((λ k i. i), refl); suits = (omega arith, refl, refl) },
+  record { guarded = tt; follows = ((λ k i. i), refl); suits = (omega arith, refl, refl, omega arith) },
 )

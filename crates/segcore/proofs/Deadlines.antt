@@ -1,0 +1,39 @@
+-- The deadline of a segment: the trace and the cache agree on it, and the segment's word has it in its upper half.
+use Rattle.std.proofs.Common.{◌≡◌, ℕ, ◌+◌, ◌*◌, ◌/◌, ◌%◌, ◌^◌, ◌<◌, cond, eqb, List, [], ◌∷◌, None, refl, ap, ◌∙◌, ⊎_elim, arith}
+use Rattle.std.proofs.lemmas.Bool.{cases_Bool}
+use Rattle.segword.specs.Words.{IsValid, Shape}
+use Rattle.segmodel.specs.Words.{after}
+use Rattle.segmodel.proofs.HistoryLemmas.{kept-deadlines}
+use Rattle.segcore.specs.Words.{Event}
+use Rattle.segcore.specs.declared.event.Event.TheVariants.{Replied, Linked, Unlinked, Refilled}
+use Rattle.segcore.specs.declared.event.Leaving.TheVariants.{Deletes, Evicts}
+use Rattle.segcore.specs.Event.{seen}
+use Rattle.segcore.specs.Segment.{readers, deadline_of}
+use Rattle.segcore.specs.Lawful.{IsLawful}
+use Rattle.segcore.specs.Word.{segment_word}
+use Rattle.segcore.proofs.Readers.{counted}
+use Rattle.segcore.proofs.Limits.{few_passes}
+
+-- the cache's deadline of a segment is the one that its last refilling set
+pub deadline_seen : (z : Shape) (h : List Event) (s : ℕ) → (after z (seen h)).deadline s ≡ deadline_of h s
+deadline_seen z [] s = refl
+deadline_seen z (Replied p q y ∷ h) s = ap (λ d. d s) (kept-deadlines z q y None (after z (seen h))) ∙ deadline_seen z h s
+deadline_seen z (Linked p q t r n ∷ h) s = deadline_seen z h s
+deadline_seen z (Unlinked p k n (Deletes m) ∷ h) s = deadline_seen z h s
+deadline_seen z (Unlinked p k n (Evicts t) ∷ h) s = deadline_seen z h s
+deadline_seen z (Refilled p t d ∷ h) s = ap (cond (eqb t s) d) (deadline_seen z h s)
+deadline_seen z (e ∷ h) s = deadline_seen z h s
+
+-- it fits half a word
+pub low_deadline : (z : Shape) (h : List Event) → IsLawful z h → (s : ℕ) → deadline_of h s < 2 ^ 32
+low_deadline z [] l s = omega arith
+low_deadline z (Refilled p t d ∷ h) l s = let lt = l.1.suits.3 in let i = low_deadline z h l.0 s in ⊎_elim (λ y. rw y lt) (λ n. rw n i) (cases_Bool (eqb t s))
+low_deadline z (e ∷ h) l s = low_deadline z h l.0 s
+
+halves : (d n : ℕ) → n < 2 ^ 32 → ((d * 2 ^ 32 + n) / 2 ^ 32 ≡ d) × ((d * 2 ^ 32 + n) % 2 ^ 32 ≡ n)
+halves d n lt = (omega arith, omega arith)
+
+-- the halves of a segment's word
+pub word_parts : (z : Shape) (h : List Event) (s : ℕ) → IsValid z → IsLawful z h
+    → (segment_word h s / 2 ^ 32 ≡ deadline_of h s) × (segment_word h s % 2 ^ 32 ≡ readers h s)
+word_parts z h s v l = halves (deadline_of h s) (readers h s) (let few = few_passes z v in let c = counted z h l s in omega arith)
