@@ -4,18 +4,13 @@ use mathlib.Core.Option.{some}
 use lib.ListN.{get_elem?}
 use Rattle.atomic_table.specs.Table.{State, Me, keeps, stepped, Allows}
 use Rattle.atomic_table.proofs.Lists.{at_set, set_here, set_else}
-use Rattle.segword.specs.declared.shape.Shape.{Shape}
-use Rattle.segcore.specs.declared.event.Event.{Event}
-use Rattle.segcore.specs.declared.view.View.{View}
-use Rattle.segcore.specs.Lawful.{IsLawful}
-use Rattle.segcore.specs.Word.{address, word}
-use Rattle.segcore.specs.World.{Told}
-use Rattle.segcore.specs.Kind.{Step, cell, becomes, adds, May}
+use Rattle.segword.specs.Words.{Shape}
+use Rattle.segcore.specs.Words.{address, adds, becomes, cell, Event, IsLawful, May, Step, Told}
+use Rattle.segcore.specs.Words.{View, word}
 use Rattle.segcore.proofs.KeepsLaw.{steps, inside_list}
 use Rattle.segcore.proofs.Schedules.{kept_at}
 use Rattle.segbase.specs.declared.law.Sight.{Sight}
-use Rattle.segbase.specs.declared.board.Board.{Board}
-use Rattle.segbase.specs.declared.pass.Pass.{Pass}
+use Rattle.segbase.specs.Words.{Board, Pass}
 use Rattle.segbase.specs.declared.place.Spot.{Spot}
 use Rattle.segbase.specs.Ruled.{IsSight, Rule, Learns}
 use Rattle.segbase.specs.Spots.{cell_of}

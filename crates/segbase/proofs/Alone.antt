@@ -2,21 +2,17 @@
 use Rattle.std.proofs.Common.{◌≡◌, ◌≢◌, ℕ, ◌+◌, ◌<◌, ◌≤◌, cond, eqb, ◌&&◌, List, [], ◌∷◌, ◌++◌, Some, refl, sym, ap, ◌∙◌, subst, ⊎_elim, arith, append-nil}
 use Rattle.std.proofs.lemmas.Bool.{cases_eq, eq-eqb}
 use Rattle.std.proofs.lemmas.Option.{none-some}
-use Rattle.segword.specs.declared.shape.Shape.{Shape}
+use Rattle.segword.specs.Words.{Shape}
 use Rattle.segmodel.specs.History as history
-use Rattle.segcore.specs.declared.event.Event.{Event}
 use Rattle.segcore.specs.declared.event.Event.TheVariants.{Bounced, Glanced, Drew}
-use Rattle.segcore.specs.Event.{by, NoneBy, AllBy}
+use Rattle.segcore.specs.Words.{AllBy, bucket_after, by, drawn_for, Event, IsLawful, IsOther}
+use Rattle.segcore.specs.Words.{NoneBy}
 use Rattle.segcore.specs.Event as event
-use Rattle.segcore.specs.Bucket.{bucket_after}
-use Rattle.segcore.specs.Lawful.{IsLawful, IsOther}
 use Rattle.segcore.specs.Count as count
-use Rattle.segcore.specs.Mark.{drawn_for}
 use Rattle.segcore.specs.Mark as mark
 use Rattle.segcore.proofs.Counts.{mine_own}
 use Rattle.segcore.proofs.Quiet.{not_mine}
-use Rattle.segbase.specs.declared.board.Board.{Board}
-use Rattle.segbase.specs.declared.pass.Pass.{Pass}
+use Rattle.segbase.specs.Words.{Board, Pass}
 use Rattle.segbase.specs.Passes.{number, trace, marked, seen, mine, bounced, glanced, drew, IsPassOf, AddsEvents}
 use Rattle.segbase.proofs.Owning.{own_all}
 

@@ -1,7 +1,7 @@
 -- Traces that begin others.
 use Rattle.std.proofs.Common.{List, ◌++◌, sym, ap, ◌∙◌, append_assoc}
-use Rattle.segcore.specs.declared.event.Event.{Event}
-use Rattle.segmodel.specs.History.{Begins}
+use Rattle.segcore.specs.Words.{Event}
+use Rattle.segmodel.specs.Words.{Begins}
 
 pub begins_on : (more h g : List Event) → Begins h g → Begins h (more ++ g)
 begins_on more h g b = (more ++ b.0, ap (λ x. more ++ x) b.1 ∙ sym (append_assoc more b.0 h))

@@ -7,18 +7,12 @@ use mathlib.Core.Option.{some}
 use lib.ListN.{get_elem?}
 use Rattle.atomic_table.specs.Table.{Me, Splits, Joins}
 use Rattle.atomic_table.proofs.Lists.{at_set, at_snoc}
-use Rattle.segword.specs.declared.shape.Shape.{Shape}
-use Rattle.segmodel.specs.History.{Begins, AreOne}
-use Rattle.segcore.specs.declared.event.Event.{Event}
-use Rattle.segcore.specs.Event.{AllBy}
-use Rattle.segcore.specs.Lawful.{IsLawful}
-use Rattle.segcore.specs.Kind.{row_load, May}
-use Rattle.segcore.specs.declared.view.View.{View}
-use Rattle.segbase.specs.declared.law.Memo.{Memo}
+use Rattle.segword.specs.Words.{Shape}
+use Rattle.segmodel.specs.Words.{AreOne, Begins}
+use Rattle.segcore.specs.Words.{AllBy, Event, IsLawful, May, row_load, View}
+use Rattle.segbase.specs.Words.{Board, Memo, Pass}
 use Rattle.segbase.specs.declared.law.Sight.{Sight}
 use Rattle.segbase.specs.declared.pass.Plain.{Plain}
-use Rattle.segbase.specs.declared.pass.Pass.{Pass}
-use Rattle.segbase.specs.declared.board.Board.{Board}
 use Rattle.segbase.specs.Minding.{Minds}
 use Rattle.segbase.specs.Passes.{sight, view, number, trace, IsPassOf, IsMemo}
 use Rattle.segbase.specs.Ruled.{Rule, IsSight, witness, spent, meets, minding}

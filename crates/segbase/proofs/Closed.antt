@@ -3,13 +3,9 @@ use Rattle.std.proofs.Common.{◌≡◌, ℕ, zero, suc, List, [], ◌∷◌, �
 use mathlib.Core.Option.{some, some-injective, some-ne-none}
 use lib.ListN.{get_elem?}
 use Rattle.atomic_table.specs.Table.{Final, Seen}
-use Rattle.segword.specs.declared.shape.Shape.{Shape}
-use Rattle.segcore.specs.declared.event.Event.{Event}
-use Rattle.segcore.specs.declared.cell.Cell.{Cell}
-use Rattle.segcore.specs.Event.{NoneBy, AllBy}
-use Rattle.segcore.specs.Word.{IsCell, address, word}
-use Rattle.segbase.specs.declared.board.Board.{Board}
-use Rattle.segbase.specs.declared.pass.Pass.{Pass}
+use Rattle.segword.specs.Words.{Shape}
+use Rattle.segcore.specs.Words.{address, AllBy, Cell, Event, IsCell, NoneBy, word}
+use Rattle.segbase.specs.Words.{Board, Pass}
 use Rattle.segbase.specs.declared.closing.Words.{Words}
 use Rattle.segbase.specs.Ruled.{Rule}
 use Rattle.segbase.specs.Passes.{sight, number, trace, IsPassOf}

@@ -4,12 +4,8 @@ use mathlib.Core.Option.{some, some-injective, some-ne-none}
 use lib.ListN.{get_elem?}
 use Rattle.atomic_table.specs.Table.{opening, Splits}
 use Rattle.atomic_table.proofs.Lists.{at_set, at_longer, at_last, set_here, set_else}
-use Rattle.segword.specs.declared.shape.Shape.{Shape}
-use Rattle.segword.specs.Shape.{IsValid}
-use Rattle.segcore.specs.declared.event.Event.{Event}
-use Rattle.segcore.specs.declared.view.View.{View}
-use Rattle.segcore.specs.Event.{NoneBy}
-use Rattle.segcore.specs.World.{Knows, Lawful}
+use Rattle.segword.specs.Words.{IsValid, Shape}
+use Rattle.segcore.specs.Words.{Event, Knows, Lawful, NoneBy, View}
 use Rattle.segbase.specs.declared.law.Sight.{Sight}
 use Rattle.segbase.specs.Opening.{IsOpened}
 use Rattle.segbase.specs.Ruled.{Rule, IsSight, first_sight, dealer, newcomer}

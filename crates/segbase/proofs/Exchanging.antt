@@ -2,20 +2,13 @@
 use Rattle.std.proofs.Common.{◌≡◌, ◌≢◌, ℕ, ◌+◌, ◌*◌, ◌%◌, ◌<◌, ◌≤◌, eqb, cond, List, [], ◌∷◌, ◌++◌, refl, sym, ap, ◌∙◌, subst, arith}
 use Rattle.std.proofs.lemmas.Bool.{cond-true, cond-false, eq-eqb, ne_eqb}
 use Rattle.std.proofs.lemmas.Nat.{mod-mul-add}
-use Rattle.segword.specs.declared.shape.Shape.{Shape}
-use Rattle.segcore.specs.declared.event.Event.{Event}
-use Rattle.segcore.specs.declared.view.View.{View}
+use Rattle.segword.specs.Words.{Shape}
 use Rattle.segcore.specs.declared.event.Event.TheVariants.{Drew}
-use Rattle.segcore.specs.declared.cell.Cell.{Cell}
-use Rattle.segcore.specs.Overflow.{drawn_in}
-use Rattle.segcore.specs.Bucket.{Slot, nothing, item, last, bucket_after}
-use Rattle.segcore.specs.Kind.{Step, cell, adds, draw, HasBit}
-use Rattle.segcore.specs.Word.{content_word, word, IsAt, IsItemAt}
+use Rattle.segcore.specs.Words.{adds, bucket_after, Cell, cell, content_word, draw, drawn_in, Event}
+use Rattle.segcore.specs.Words.{HasBit, IsAt, IsItemAt, item, last, nothing, Slot, Step, View, word}
 use Rattle.segcore.proofs.Quiet.{drawn_grows}
 use Rattle.segcore.proofs.Limits.{drawn_few, few_drawn}
-use Rattle.segbase.specs.declared.place.Place.{Place}
-use Rattle.segbase.specs.declared.board.Board.{Board}
-use Rattle.segbase.specs.declared.pass.Pass.{Pass}
+use Rattle.segbase.specs.Words.{Board, Pass, Place}
 use Rattle.segbase.specs.Passes.{number, trace, IsPassOf, AddsAtOnce, Stepped}
 use Rattle.segbase.specs.Spots.{cell_at}
 use Rattle.segbase.specs.Steps.{Missed, CounterMissed}

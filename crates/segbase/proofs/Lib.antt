@@ -5,6 +5,7 @@ pub mod Carried
 pub mod Closed
 pub mod Dealt
 pub mod Exchanging
+pub mod Known
 pub mod Minded
 pub mod Moves
 pub mod Opened

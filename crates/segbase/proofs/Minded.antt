@@ -1,10 +1,10 @@
 -- What a pass keeps in mind stays true as it sees more.
 use Rattle.std.proofs.Common.{◌≡◌, ℕ, List, None, sym, ◌∙◌}
 use Rattle.std.proofs.lemmas.Option.{none-some}
-use Rattle.segword.specs.declared.shape.Shape.{Shape}
-use Rattle.segmodel.specs.History.{Begins}
-use Rattle.segcore.specs.declared.event.Event.{Event}
-use Rattle.segbase.specs.declared.law.Memo.{Memo}
+use Rattle.segword.specs.Words.{Shape}
+use Rattle.segmodel.specs.Words.{Begins}
+use Rattle.segcore.specs.Words.{Event}
+use Rattle.segbase.specs.Words.{Memo}
 use Rattle.segbase.specs.Minding.{Minds}
 use Rattle.segbase.proofs.Begun.{begins_then}
 

@@ -1,21 +1,15 @@
 -- Calls one after another: what a pass adds by itself adds up, and a reader is where it was before.
 use Rattle.std.proofs.Common.{◌≡◌, ℕ, ◌+◌, ◌-◌, ◌<◌, Bool, true, false, cond, eqb, ◌&&◌, List, [], ◌∷◌, ◌++◌, Option, Some, None, refl, sym, ap, ◌∙◌, subst, append_assoc, arith}
 use Rattle.std.proofs.lemmas.Bool.{cond-true, eq-eqb}
-use Rattle.segmodel.specs.History.{Begins, mine}
-use Rattle.segcore.specs.declared.event.Event.{Event}
+use Rattle.segmodel.specs.Words.{Begins, Entry, mine}
 use Rattle.segcore.specs.declared.event.Event.TheVariants.{Entered, Left}
-use Rattle.segmodel.specs.declared.entry.Entry.{Entry}
-use Rattle.segcore.specs.Event.{entry_of, with_entry, seen}
-use Rattle.segcore.specs.Segment.{inside}
-use Rattle.segcore.specs.Count.{taken, bounced, glanced, drew, raised, entered}
-use Rattle.segbase.specs.declared.board.Board.{Board}
-use Rattle.segbase.specs.declared.pass.Pass.{Pass}
+use Rattle.segcore.specs.Words.{bounced, bucket_after, drew, entered, entry_of, Event, glanced}
+use Rattle.segcore.specs.Words.{HasBit, inside, May, raised, release, seen, taken, with_entry}
+use Rattle.segbase.specs.Words.{Board, Pass}
 use Rattle.segbase.specs.Traces.{own_of, StaysIn, OnlyReads}
 use Rattle.segbase.specs.Passes.{number, trace, IsPassOf, AddsEvents, AddsAtOnce, Reads, ReadsIn}
 use Rattle.segbase.specs.Passes as passes
 use Rattle.segbase.specs.Steps.{Takes}
-use Rattle.segcore.specs.Bucket.{bucket_after}
-use Rattle.segcore.specs.Kind.{HasBit, May, release}
 use Rattle.segcore.proofs.Quiet.{quiet}
 use Rattle.segbase.proofs.Owning.{own_both, own_inside, own_mine, own_taken, own_bounced, own_glanced, own_drew, own_raised, own_entered}
 use Rattle.segbase.proofs.Staying.{stays_now, stays_first, stays_last, stays_both, none_both}

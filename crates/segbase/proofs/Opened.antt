@@ -2,11 +2,9 @@
 use Rattle.std.proofs.Common.{◌≡◌, ◌≢◌, ℕ, zero, suc, ◌+◌, ◌*◌, ◌%◌, ◌^◌, ◌<◌, ◌≤◌, ◌⊎◌, List, [], length, get_or, set, eqb, sym, ap, ◌∙◌, subst, inl, inr, ⊎_elim, arith, get_or-set_same, get_or-set_other}
 use Rattle.std.proofs.lemmas.Bool.{cases_Bool, eqb-true, eq-eqb, false≢true}
 use Rattle.std.proofs.Math.Nat.{mod-eq_of_lt}
-use Rattle.segword.specs.declared.shape.Shape.{Shape}
-use Rattle.segword.specs.Shape.{word_count}
-use Rattle.segcore.specs.declared.cell.Cell.{Cell}
+use Rattle.segword.specs.Words.{Shape, word_count}
 use Rattle.segcore.specs.declared.cell.Cell.TheVariants.{OfCounter, OfBucket, OfOverflow, OfSegment, OfRow}
-use Rattle.segcore.specs.Word.{IsCell, address, segments_at, segment_size, word}
+use Rattle.segcore.specs.Words.{address, Cell, IsCell, segment_size, segments_at, word}
 use Rattle.segbase.specs.Opening.{IsOpened}
 
 -- the first buckets, this many, have the information word v, and every other word is 0

@@ -1,46 +1,36 @@
 -- What the plain part of a pass says of the segments that it owns, and that its setters leave the pass what it is.
-use Rattle.std.proofs.Common.{◌≡◌, ℕ, zero, suc, ◌+◌, ◌-◌, ◌*◌, ◌/◌, ◌%◌, ◌<◌, ◌≤◌, true, nat_le, List, [], ◌∷◌, length, Option, Some, None, is_some, slice_get, refl, sym, ap, ◌∙◌, subst, ⊎_elim, arith, mod-lt, div-add-mod'}
+use Rattle.std.proofs.Common.{◌≡◌, ℕ, zero, suc, ◌+◌, ◌-◌, ◌*◌, ◌/◌, ◌%◌, ◌<◌, ◌≤◌, true, nat_le, List, [], ◌∷◌, length, Option, Some, None, is_some, slice_get, refl, sym, ap, ◌∙◌, ⊎_elim, arith, mod-lt, div-add-mod'}
 use Rattle.std.proofs.lemmas.Bool.{cases_Bool, cond-true, cond-false, leb-true, le-leb, false≢true}
 use Rattle.std.proofs.lemmas.Nat.{div-mul-add}
-use Rattle.atomic_table.specs.declared.shared.Seat.{Seat}
-use Rattle.segmodel.specs.Places.{owner}
-use Rattle.segcore.specs.declared.event.Event.{Event}
-use Rattle.segcore.specs.Event.{AllBy}
-use Rattle.segcore.specs.Lawful.{IsLawful}
-use Rattle.segbase.specs.declared.law.Sight.{Sight}
-use Rattle.segbase.specs.declared.pass.OwnSegment.{OwnSegment}
-use Rattle.segbase.specs.declared.pass.Pass.{Pass}
-use Rattle.segbase.specs.declared.board.Board.{Board}
-use Rattle.segbase.specs.Minding.{Minds}
-use Rattle.segbase.specs.Plain.{own_segment, state_in, state_of, SameOwner}
+use Rattle.segmodel.specs.Words.{owner}
+use Rattle.segcore.specs.Words.{Event}
+use Rattle.segbase.specs.Words.{Board, OwnSegment, Pass}
+use Rattle.segbase.specs.declared.pass.Plain.{Plain}
+use Rattle.segbase.specs.Plain.{own_segment, state_in, state_of, used_in, deadline_in}
 use Rattle.segbase.specs.Passes.{number, IsPassOf, AddsEvents}
 
--- a pass whose plain part alone changed, but not whose it is
-pub still_pass : (b : Board) (p q : Pass) → IsPassOf b p → q.seat ≡ p.seat → SameOwner p q → IsPassOf b q
-still_pass b p q is seat owner =
-    let same : number q ≡ number p = ap (λ (s : Seat (Unit {0}) Sight). s.me.0.view.number) seat in record {
-      table = ap (λ (s : Seat (Unit {0}) Sight). s.table_id) seat ∙ is.table;
-      bare = ap (λ (s : Seat (Unit {0}) Sight). s.me.1) seat ∙ is.bare;
-      is_pass = ap (λ (s : Seat (Unit {0}) Sight). s.me.0.is_pass) seat ∙ is.is_pass;
-      valid = is.valid;
-      lawful = subst (IsLawful b.shape) (sym (ap (λ (s : Seat (Unit {0}) Sight). s.me.0.view.trace) seat)) is.lawful;
-      one_of = subst (λ n. n < b.shape.passes) (sym same) is.one_of;
-      alone = λ one. subst (λ (s : Seat (Unit {0}) Sight). AllBy s.me.0.view.number s.me.0.view.trace) (sym seat) (is.alone one);
-      minds = subst (λ (s : Seat (Unit {0}) Sight). Minds b.shape s.me.0.view.trace s.me.0.view.number s.me.0.memo) (sym seat) is.minds;
-      numbered = owner.number ∙ (is.numbered ∙ sym same);
-      first = owner.first ∙ (is.first ∙ ap (λ n. n * b.shape.segments_each) (sym same));
-      owns = owner.count ∙ is.owns;
-    }
+-- whose pass it is
+abbrev pub owner_of : Plain → ℕ × ℕ × ℕ
+owner_of x = (x.number, x.first, length x.segments.items)
 
-pub moved_still : (b : Board) (own : List Event) (p q r : Pass) → AddsEvents b own p q → r.seat ≡ q.seat → SameOwner q r → AddsEvents b own p r
-moved_still b own p q r m seat owner = record {
-  pass = still_pass b q r m.pass seat owner;
-  same = ap (λ (s : Seat (Unit {0}) Sight). s.me.0.view.number) seat ∙ m.same;
-  more = m.more;
-  goes_on = ap (λ (s : Seat (Unit {0}) Sight). s.me.0.view.trace) seat ∙ m.goes_on;
-  adds = m.adds;
-  kept = m.kept;
+-- a pass whose plain part alone changed, but not whose it is
+pub still_pass : (b : Board) (p : Pass) (x : Plain) → IsPassOf b p → owner_of x ≡ owner_of p.plain → IsPassOf b (record p { plain = x })
+still_pass b p x is same = record {
+  table = is.table;
+  bare = is.bare;
+  is_pass = is.is_pass;
+  valid = is.valid;
+  lawful = is.lawful;
+  one_of = is.one_of;
+  alone = is.alone;
+  minds = is.minds;
+  numbered = ap (λ o. o.0) same ∙ is.numbered;
+  first = ap (λ o. o.1) same ∙ is.first;
+  owns = ap (λ o. o.2) same ∙ is.owns;
 }
+
+pub moved_still : (b : Board) (own : List Event) (p q : Pass) (x : Plain) → AddsEvents b own p q → owner_of x ≡ owner_of q.plain → AddsEvents b own p (record q { plain = x })
+moved_still b own p q x m same = record { pass = still_pass b q x m.pass same; same = m.same; more = m.more; goes_on = m.goes_on; adds = m.adds; kept = m.kept }
 
 got_within : {A : Type 0} (l : List A) (i : ℕ) → is_some (slice_get l i) ≡ true → i < length l
 got_within [] i e = absurd (false≢true e)
@@ -52,9 +42,17 @@ gets_within [] i lt = absurd (omega arith)
 gets_within (x ∷ xs) zero lt = refl
 gets_within (x ∷ xs) (suc i) lt = gets_within xs i (omega arith)
 
-state_there : (o : Option OwnSegment) → is_some (state_in o) ≡ is_some o
+pub state_there : (o : Option OwnSegment) → is_some (state_in o) ≡ is_some o
 state_there None = refl
 state_there (Some own) = refl
+
+pub used_there : (o : Option OwnSegment) → is_some (used_in o) ≡ is_some o
+used_there None = refl
+used_there (Some own) = refl
+
+pub deadline_there : (o : Option OwnSegment) → is_some (deadline_in o) ≡ is_some o
+deadline_there None = refl
+deadline_there (Some own) = refl
 
 -- the pass tells the state of just the segments that it owns
 pub owns_state : (b : Board) (p : Pass) (s : ℕ) → IsPassOf b p → is_some (state_of p s) ≡ true → owner b.shape s ≡ number p

@@ -1,13 +1,10 @@
 -- A pass's own events, picked from among all: whatever only they change is the same for them alone.
 use Rattle.std.proofs.Common.{◌≡◌, ◌≢◌, ℕ, ◌+◌, ◌-◌, cond, eqb, ◌&&◌, List, [], ◌∷◌, ◌++◌, Option, Some, None, refl, sym, ap, ◌∙◌, ⊎_elim}
 use Rattle.std.proofs.lemmas.Bool.{cases_Bool, eq-eqb, ne_eqb, false≢true}
-use Rattle.segcore.specs.declared.event.Event.{Event}
 use Rattle.segcore.specs.declared.event.Event.TheVariants.{Took, Bounced, Glanced, Drew, Bumped, Entered, Left}
-use Rattle.segcore.specs.Event.{by, entry_of, with_entry, seen, NoneBy, AllBy}
-use Rattle.segcore.specs.Segment.{inside}
-use Rattle.segmodel.specs.declared.entry.Entry.{Entry}
-use Rattle.segmodel.specs.History.{pass_of, mine}
-use Rattle.segcore.specs.Count.{taken, bounced, glanced, drew, raised, entered}
+use Rattle.segcore.specs.Words.{AllBy, bounced, by, drew, entered, entry_of, Event, glanced, inside}
+use Rattle.segcore.specs.Words.{NoneBy, raised, seen, taken, with_entry}
+use Rattle.segmodel.specs.Words.{Entry, mine, pass_of}
 use Rattle.segcore.proofs.Counts.{mine_others, taken_others, bounced_others, glanced_others, drew_others, raised_others, entered_others}
 use Rattle.segcore.proofs.Quiet.{quiet_inside}
 use Rattle.segbase.specs.Traces.{own_of}

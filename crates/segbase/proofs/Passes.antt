@@ -5,10 +5,9 @@ use Rattle.std.proofs.lemmas.Option.{same_Some, none-some}
 use Rattle.segmodel.proofs.ListPlaces.{front_or_last}
 use Rattle.atomic_table.specs.declared.shared.Seat.{Seat}
 use Rattle.atomic_table.specs.Table.{Me}
-use Rattle.segword.specs.Shape.{IsValid}
+use Rattle.segword.specs.Words.{IsValid}
 use Rattle.segbase.specs.declared.law.Sight.{Sight}
-use Rattle.segbase.specs.declared.pass.Pass.{Pass}
-use Rattle.segbase.specs.declared.board.Board.{Board}
+use Rattle.segbase.specs.Words.{Board, Pass}
 use Rattle.segbase.specs.Ruled.{dealer, newcomer}
 use Rattle.segbase.specs.Passes.{sight, view, number, trace}
 use Rattle.segbase.proofs.Minded.{nothing_minded}

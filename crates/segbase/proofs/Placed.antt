@@ -2,18 +2,13 @@
 use Rattle.std.proofs.Common.{◌≡◌, ℕ, ◌+◌, ◌-◌, ◌<◌, Bool, true, false, cond, eqb, ltb, List, [], ◌∷◌, Some, refl, sym, ◌∙◌, subst, ⊎_elim, arith}
 use Rattle.std.proofs.lemmas.Bool.{cases_Bool, cond-true, cond-false, ltb-true}
 use Rattle.std.proofs.lemmas.Option.{none-some, same_Some}
-use Rattle.segword.specs.declared.shape.Shape.{Shape}
-use Rattle.segword.specs.Shape.{IsValid}
-use Rattle.segcore.specs.declared.event.Event.{Event}
+use Rattle.segword.specs.Words.{IsValid, Shape}
 use Rattle.segcore.specs.declared.event.Event.TheVariants.{Drew}
 use Rattle.segcore.specs.declared.cell.Cell.TheVariants.{OfBucket, OfOverflow}
-use Rattle.segcore.specs.Bucket.{bucket_after}
-use Rattle.segcore.specs.Overflow.{Home, home, home_of}
-use Rattle.segcore.specs.Lawful.{IsLawful}
-use Rattle.segcore.specs.Word.{IsAt, IsItemAt}
+use Rattle.segcore.specs.Words.{bucket_after, Event, Home, home, home_of, IsAt, IsItemAt, IsLawful}
 use Rattle.segcore.proofs.Chains.{chain_of}
 use Rattle.segcore.proofs.Limits.{few_drawn, home_in}
-use Rattle.segbase.specs.declared.place.Place.{Place}
+use Rattle.segbase.specs.Words.{Place}
 use Rattle.segbase.specs.Spots.{cell_at}
 
 -- an overflow bucket is drawn for a bucket of the table

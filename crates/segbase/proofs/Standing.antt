@@ -2,20 +2,11 @@
 use Rattle.std.proofs.Common.{◌≡◌, ◌≢◌, ℕ, ◌+◌, ◌*◌, ◌/◌, ◌%◌, ◌^◌, ◌<◌, ◌≤◌, List, ◌++◌, Some, refl, sym, ap, ◌∙◌, subst, arith}
 use Rattle.std.proofs.lemmas.Nat.{div-mul-add, mod-mul-add}
 use Rattle.std.proofs.Math.Nat.{le-max_right}
-use Rattle.segword.specs.declared.shape.Shape.{Shape}
-use Rattle.segword.specs.Fnv.{hash_of}
-use Rattle.segword.specs.Shape.{IsValid}
-use Rattle.segword.specs.SameItem.{IsSameItem}
-use Rattle.segcore.specs.declared.event.Event.{Event}
-use Rattle.segcore.specs.declared.cell.Cell.{Cell}
-use Rattle.segcore.specs.Event.{NoneBy}
-use Rattle.segcore.specs.Bucket.{Slot, Content, nothing, item, next, copy, IsPosition, bucket_after}
-use Rattle.segcore.specs.Row.{frequency_of}
-use Rattle.segmodel.specs.Places.{tag_of}
-use Rattle.segcore.specs.ItemWord.{packed}
-use Rattle.segcore.specs.Lawful.{IsLawful}
-use Rattle.segcore.specs.Word.{content_word, word, IsItemAt}
-use Rattle.segcore.specs.Kind.{HasBit}
+use Rattle.segword.specs.Words.{hash_of, IsSameItem, IsValid, Shape}
+use Rattle.segcore.specs.Words.{bucket_after, Cell, Content, content_word, copy, Event}
+use Rattle.segcore.specs.Words.{frequency_of, HasBit, IsItemAt, IsLawful, IsPosition, item, next}
+use Rattle.segcore.specs.Words.{NoneBy, nothing, packed, Slot, word}
+use Rattle.segmodel.specs.Words.{tag_of}
 use Rattle.segcore.proofs.Meanwhile.{meanwhile}
 use Rattle.segcore.proofs.Quiet.{quiet}
 use Rattle.segcore.proofs.Limits.{low_row, low_segment, low_frequency}

@@ -1,10 +1,7 @@
 -- A segment in which a pass stays isn't filled again.
 use Rattle.std.proofs.Common.{◌≡◌, ℕ, ◌<◌, List, [], ◌∷◌, ◌++◌, sym, subst, append_assoc}
-use Rattle.segword.specs.declared.shape.Shape.{Shape}
-use Rattle.segcore.specs.declared.event.Event.{Event}
-use Rattle.segcore.specs.Segment.{inside}
-use Rattle.segcore.specs.Lawful.{IsLawful}
-use Rattle.segcore.specs.Segment.{NoneRefills}
+use Rattle.segword.specs.Words.{Shape}
+use Rattle.segcore.specs.Words.{Event, inside, IsLawful, NoneRefills}
 use Rattle.segbase.specs.Traces.{StaysIn}
 use Rattle.segbase.proofs.Owning.{inside_follows}
 use Rattle.segcore.proofs.Entered.{not_refilled}

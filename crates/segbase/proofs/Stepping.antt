@@ -1,19 +1,12 @@
 -- What a pass that took a step has done.
 use Rattle.std.proofs.Common.{◌≡◌, ℕ, ◌*◌, ◌≤◌, List, [], ◌++◌, length, sym, ap, ◌∙◌, subst, append_assoc, append-nil}
-use Rattle.segword.specs.declared.shape.Shape.{Shape}
-use Rattle.segcore.specs.declared.event.Event.{Event}
-use Rattle.segcore.specs.declared.view.View.{View}
-use Rattle.segcore.specs.Event.{NoneBy, AllBy}
-use Rattle.segcore.specs.Lawful.{IsLawful}
-use Rattle.segcore.specs.Word.{IsCell}
-use Rattle.segcore.specs.Kind.{Step, adds, May}
-use Rattle.segcore.specs.World.{Told}
+use Rattle.segword.specs.Words.{Shape}
+use Rattle.segcore.specs.Words.{adds, AllBy, Event, IsCell, IsLawful, May, NoneBy, Step, Told, View}
 use Rattle.segcore.proofs.Quiet.{quiet_inside}
 use Rattle.segcore.proofs.Entered.{no_refill}
 use Rattle.segcore.proofs.StepKinds.{keeps}
-use Rattle.segbase.specs.declared.board.Board.{Board}
+use Rattle.segbase.specs.Words.{Board, Pass}
 use Rattle.segbase.specs.declared.pass.Plain.{Plain}
-use Rattle.segbase.specs.declared.pass.Pass.{Pass}
 use Rattle.segbase.specs.declared.place.Spot.{Spot}
 use Rattle.segbase.specs.Traces.{own_of, StaysIn}
 use Rattle.segbase.specs.Spots.{cell_of}

@@ -2,22 +2,15 @@
 use Rattle.std.proofs.Common.{◌≡◌, ◌≢◌, ℕ, ◌+◌, ◌*◌, ◌%◌, ◌^◌, ◌≤◌, Bool, true, false, cond, eqb, List, [], ◌∷◌, ◌++◌, Option, Some, None, refl, sym, ap, ◌∙◌, subst, arith}
 use Rattle.std.proofs.lemmas.Bool.{cond-true, cond-false, eq-eqb}
 use Rattle.std.proofs.lemmas.Option.{none-some}
-use Rattle.segword.specs.declared.shape.Shape.{Shape}
-use Rattle.segword.specs.declared.info.Info.{Info}
-use Rattle.segword.specs.InfoWord.{info_word}
-use Rattle.segcore.specs.declared.event.Event.{Event}
+use Rattle.segword.specs.Words.{Info, info_word, Shape}
 use Rattle.segcore.specs.declared.event.Event.TheVariants.{Took, Bounced}
-use Rattle.segcore.specs.declared.view.View.{View}
-use Rattle.segcore.specs.Bucket.{Bucket, is, acts, bucket_after}
-use Rattle.segcore.specs.Lawful.{IsLawful}
-use Rattle.segcore.specs.Kind.{take, info_look, unless_own, HasBit}
-use Rattle.segcore.specs.Word.{bit_of}
+use Rattle.segcore.specs.Words.{acts, bit_of, Bucket, bucket_after, Event, HasBit, info_look, is}
+use Rattle.segcore.specs.Words.{IsLawful, take, unless_own, View}
 use Rattle.segcore.specs.Word as core
 use Rattle.segcore.proofs.Quiet.{quiet}
 use Rattle.segcore.proofs.Homes.{spare_held}
 use Rattle.segcore.proofs.Versions.{free}
-use Rattle.segbase.specs.declared.board.Board.{Board}
-use Rattle.segbase.specs.declared.pass.Pass.{Pass}
+use Rattle.segbase.specs.Words.{Board, Pass}
 use Rattle.segbase.specs.Passes.{number, trace, AddsAtOnce, Stepped}
 use Rattle.segbase.specs.Steps.{has_bit, Takes}
 

@@ -1,13 +1,8 @@
 -- The words of a board that was closed, and what had happened by then.
 use Rattle.std.specs.Prelude.{◌≡◌, ℕ, List, ◌++◌, slice_index}
 use Rattle.std.specs.Slots.{slots_items}
-use Rattle.segword.specs.declared.shape.Shape.{Shape}
-use Rattle.segword.specs.Shape.{IsValid}
-use Rattle.segcore.specs.declared.event.Event.{Event}
-use Rattle.segcore.specs.declared.cell.Cell.{Cell}
-use Rattle.segcore.specs.Event.{NoneBy}
-use Rattle.segcore.specs.Lawful.{IsLawful}
-use Rattle.segcore.specs.Word.{IsCell, address, word}
+use Rattle.segword.specs.Words.{IsValid, Shape}
+use Rattle.segcore.specs.Words.{address, Cell, Event, IsCell, IsLawful, NoneBy, word}
 use Rattle.segbase.specs.declared.closing.Words.{Words}
 use Rattle.segbase.specs.declared.board.Board.{Board}
 use Rattle.segbase.specs.declared.pass.Pass.{Pass}

@@ -9,3 +9,4 @@ pub mod Ruled
 pub mod Spots
 pub mod Steps
 pub mod Traces
+pub mod Words

@@ -1,7 +1,6 @@
 -- A board that was just made, and its passes.
 use Rattle.std.specs.Prelude.{◌≡◌, ℕ, ◌*◌, List, [], length, replicate, Some, None, false, slice_get}
-use Rattle.segword.specs.declared.shape.Shape.{Shape}
-use Rattle.segword.specs.Shape.{IsValid, IsFirstFault}
+use Rattle.segword.specs.Words.{IsFirstFault, IsValid, Shape}
 use Rattle.segmodel.specs.declared.answer.SegState.TheVariants.{Empty}
 use Rattle.segbase.specs.declared.fault.MakeFault.{MakeFault}
 use Rattle.segbase.specs.declared.fault.MakeFault.TheVariants as fault
@@ -17,7 +16,7 @@ IsMakeFault shape (fault.Shape f) = IsFirstFault shape f
 IsMakeFault shape fault.OutOfMemory = IsValid shape
 
 abbrev pub unfilled : OwnSegment
-unfilled = record { state = Empty; used = 0 }
+unfilled = record { state = Empty; used = 0; deadline = 0 }
 
 pub record IsNewPlain (shape : Shape) (n : ℕ) (plain : Plain) : Type 0 where
   pub number : plain.number ≡ n

@@ -1,10 +1,8 @@
 -- What a pass keeps in mind was so at a moment that it has seen.
 use Rattle.std.specs.Prelude.{◌≡◌, ℕ, List, Some}
-use Rattle.segword.specs.declared.shape.Shape.{Shape}
-use Rattle.segmodel.specs.History.{Begins, IsStanding}
-use Rattle.segcore.specs.declared.event.Event.{Event}
-use Rattle.segcore.specs.Event.{seen}
-use Rattle.segcore.specs.Kind.{HasBit}
+use Rattle.segword.specs.Words.{Shape}
+use Rattle.segmodel.specs.Words.{Begins, IsStanding}
+use Rattle.segcore.specs.Words.{Event, HasBit, seen}
 use Rattle.segbase.specs.declared.law.Held.{Held}
 use Rattle.segbase.specs.declared.law.Locked.{Locked}
 use Rattle.segbase.specs.declared.law.Memo.{Memo}

@@ -1,9 +1,7 @@
 -- The words of a table at the start.
 use Rattle.std.specs.Prelude.{◌≡◌, ℕ, List, [], length, slice_index}
-use Rattle.segword.specs.declared.shape.Shape.{Shape}
-use Rattle.segword.specs.Shape.{word_count}
-use Rattle.segcore.specs.declared.cell.Cell.{Cell}
-use Rattle.segcore.specs.Word.{IsCell, address, word}
+use Rattle.segword.specs.Words.{Shape, word_count}
+use Rattle.segcore.specs.Words.{address, Cell, IsCell, word}
 
 -- each word is what it is where nothing has happened
 pub record IsOpened (shape : Shape) (words : List ℕ) : Type 0 where

@@ -1,22 +1,14 @@
 -- A pass as contracts see it, and what its steps and calls do.
 use Rattle.std.specs.Prelude.{◌≡◌, ℕ, ◌+◌, ◌*◌, ◌<◌, ◌==◌, List, [], ◌++◌, length, Option, true, if◌then◌else◌}
-use Rattle.segword.specs.Shape.{IsValid}
-use Rattle.segmodel.specs.declared.entry.Entry.{Entry}
-use Rattle.segcore.specs.declared.event.Event.{Event}
-use Rattle.segcore.specs.declared.view.View.{View}
-use Rattle.segcore.specs.Segment.{inside}
-use Rattle.segcore.specs.Lawful.{IsLawful}
+use Rattle.segword.specs.Words.{IsValid}
+use Rattle.segcore.specs.Words.{adds, AllBy, becomes, cell, Event, inside, IsLawful, Mark, May}
+use Rattle.segcore.specs.Words.{NoneBy, NoneRefills, Step, Told, View}
 use Rattle.segcore.specs.Count as count
-use Rattle.segcore.specs.Mark.{Mark}
-use Rattle.segcore.specs.Event.{NoneBy, AllBy}
 use Rattle.segcore.specs.Event as event
 use Rattle.segcore.specs.Mark as mark
 use Rattle.segcore.specs.Segment as segments
-use Rattle.segmodel.specs.History.{Begins}
+use Rattle.segmodel.specs.Words.{Begins, Entry}
 use Rattle.segmodel.specs.History as history
-use Rattle.segcore.specs.Segment.{NoneRefills}
-use Rattle.segcore.specs.Kind.{Step, cell, becomes, adds, May}
-use Rattle.segcore.specs.World.{Told}
 use Rattle.segbase.specs.declared.law.Held.{Held}
 use Rattle.segbase.specs.declared.law.Locked.{Locked}
 use Rattle.segbase.specs.declared.law.Memo.{Memo}
@@ -117,6 +109,10 @@ pub record AddsEvents (b : Board) (own : List Event) (p q : Pass) : Type 0 where
   pub adds : own_of (number p) more ≡ own
   -- a segment that it stayed in wasn't filled again
   pub kept : (s : ℕ) → StaysIn own (trace p) (number p) s → NoneRefills s more
+
+-- it did nothing itself, and keeps its plain part and what it has in mind
+abbrev pub SeesMore : Board → Pass → Pass → Type 0
+SeesMore b p q = AddsEvents b [] p q × (q.plain ≡ p.plain) × ((sight q).memo ≡ (sight p).memo)
 
 -- One step: others did something, nothing of it the pass's, and then the pass added just these events.
 pub record AddsAtOnce (b : Board) (own : List Event) (p q : Pass) : Type 0 where

@@ -1,6 +1,8 @@
 -- The plain facts of a pass, which its owner's calls alone change.
-use Rattle.std.specs.Prelude.{◌≡◌, ℕ, ◌-◌, nat_le, Bool, length, Option, Some, None, slice_get, if◌then◌else◌}
-use Rattle.segmodel.specs.declared.answer.SegState.{SegState}
+use Rattle.std.specs.Prelude.{ℕ, ◌-◌, nat_le, Bool, Option, Some, None, option_map, slice_get, if◌then◌else◌}
+use Rattle.std.specs.Global.{Vec}
+use Rattle.std.specs.Vec.{with_item}
+use Rattle.segmodel.specs.Words.{SegState}
 use Rattle.segbase.specs.declared.pass.OwnSegment.{OwnSegment}
 use Rattle.segbase.specs.declared.pass.Plain.{Plain}
 use Rattle.segbase.specs.declared.pass.Pass.{Pass}
@@ -29,27 +31,46 @@ abbrev pub used_in : Option OwnSegment → Option ℕ
 used_in None = None
 used_in (Some own) = Some own.used
 
+abbrev pub deadline_in : Option OwnSegment → Option ℕ
+deadline_in None = None
+deadline_in (Some own) = Some own.deadline
+
 abbrev pub state_of : Pass → ℕ → Option SegState
 state_of p segment = state_in (own_segment p.plain segment)
 
 abbrev pub used_of : Pass → ℕ → Option ℕ
 used_of p segment = used_in (own_segment p.plain segment)
 
--- the same pass of the same board
-pub record SameOwner (p q : Pass) : Type 0 where
-  pub number : q.plain.number ≡ p.plain.number
-  pub first : q.plain.first ≡ p.plain.first
-  pub count : length q.plain.segments.items ≡ length p.plain.segments.items
+abbrev pub deadline_of : Pass → ℕ → Option ℕ
+deadline_of p segment = deadline_in (own_segment p.plain segment)
 
--- both have the same segments, in the same states, with as many rows used
-pub record SameSegments (p q : Pass) : Type 0 where
-  pub owner : SameOwner p q
-  pub state : (segment : ℕ) → state_of q segment ≡ state_of p segment
-  pub used : (segment : ℕ) → used_of q segment ≡ used_of p segment
+-- ---- what its owner's calls make of it
 
--- all else of their plain parts is the same
-pub record SameButSegments (p q : Pass) : Type 0 where
-  pub owner : SameOwner p q
-  pub current : current_of q ≡ current_of p
-  pub locked : locked_of q ≡ locked_of p
-  pub holding : is_holding_of q ≡ is_holding_of p
+-- with another current segment, another lock, another hold
+abbrev pub with_current : Option ℕ → Plain → Plain
+with_current current plain = record plain { current = current }
+
+abbrev pub with_locked : Option ℕ → Plain → Plain
+with_locked locked plain = record plain { locked = locked }
+
+abbrev pub with_holding : Bool → Plain → Plain
+with_holding holding plain = record plain { is_holding = holding }
+
+-- one of the segments is known so
+abbrev pub put_own : Vec OwnSegment → ℕ → Option OwnSegment → Vec OwnSegment
+put_own segments place None = segments
+put_own segments place (Some own) = with_item segments place own
+
+-- a segment of its own changed so
+abbrev pub with_own : ℕ → (OwnSegment → OwnSegment) → Plain → Plain
+with_own segment change plain = record plain { segments = put_own plain.segments (segment - plain.first) (option_map change (own_segment plain segment)) }
+
+-- with another state of an own segment, other rows used of it, or another deadline
+abbrev pub with_state : ℕ → SegState → Plain → Plain
+with_state segment state = with_own segment (λ own. record own { state = state })
+
+abbrev pub with_used : ℕ → ℕ → Plain → Plain
+with_used segment used = with_own segment (λ own. record own { used = used })
+
+abbrev pub with_deadline : ℕ → ℕ → Plain → Plain
+with_deadline segment deadline = with_own segment (λ own. record own { deadline = deadline })

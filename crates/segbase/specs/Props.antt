@@ -2,12 +2,9 @@
 use Rattle.std.specs.Prelude.{ℕ, List}
 use Rattle.std.proofs.Props.{props}
 use Rattle.atomic_table.specs.Seated.{table_id_coded}
-use Rattle.segword.specs.declared.shape.Shape.{Shape}
-use Rattle.segword.specs.Props.{IsValid-prop}
-use Rattle.segmodel.specs.History.{Begins}
-use Rattle.segmodel.specs.Props.{Begins-prop, IsStanding-prop}
-use Rattle.segcore.specs.declared.event.Event.{Event}
-use Rattle.segcore.specs.Props.{Event-set, IsLawful-prop, AllBy-prop}
+use Rattle.segword.specs.Words.{IsValid-prop, Shape}
+use Rattle.segmodel.specs.Words.{Begins, Begins-prop, IsStanding-prop}
+use Rattle.segcore.specs.Words.{AllBy-prop, Event, Event-set, IsLawful-prop}
 use Rattle.segbase.specs.declared.law.Held.{Held}
 use Rattle.segbase.specs.declared.law.Locked.{Locked}
 use Rattle.segbase.specs.declared.law.Memo.{Memo}

@@ -3,15 +3,11 @@ use Rattle.std.specs.Prelude.{◌≡◌, ℕ, ◌+◌, ◌≤◌, true, false, L
 use mathlib.Core.Option.{some}
 use lib.ListN.{get_elem?}
 use Rattle.atomic_table.specs.Table.{State, Me, Step as TableStep}
-use Rattle.segword.specs.declared.shape.Shape.{Shape}
-use Rattle.segcore.specs.declared.event.Event.{Event}
-use Rattle.segcore.specs.declared.view.View.{View}
-use Rattle.segcore.specs.Event.{NoneBy}
-use Rattle.segcore.specs.World.{Lawful, Told}
-use Rattle.segcore.specs.Kind.{Step}
+use Rattle.segword.specs.Words.{Shape}
+use Rattle.segcore.specs.Words.{Event, Lawful, NoneBy, Step, Told, View}
 use Rattle.segbase.specs.declared.law.Memo.{Memo}
 use Rattle.segbase.specs.declared.law.Sight.{Sight}
-use Rattle.segmodel.specs.History.{Begins}
+use Rattle.segmodel.specs.Words.{Begins}
 
 -- what a seat knows has happened; and of the passes, the view is the one of its number
 pub record IsSight (views : List View) (trace : List Event) (sight : Sight) : Type 0 where

@@ -1,11 +1,8 @@
 -- Which word of the table a place or a spot is.
 use Rattle.std.specs.Prelude.{◌≡◌, ℕ, ◌+◌, ◌*◌, ◌-◌, ◌<◌, nat_lt, List, Option, Some, None, if◌then◌else◌}
-use Rattle.segword.specs.declared.shape.Shape.{Shape}
-use Rattle.segcore.specs.declared.event.Event.{Event}
-use Rattle.segcore.specs.declared.cell.Cell.{Cell}
+use Rattle.segword.specs.Words.{Shape}
 use Rattle.segcore.specs.declared.cell.Cell.TheVariants.{OfCounter, OfBucket, OfOverflow, OfSegment, OfRow}
-use Rattle.segcore.specs.Overflow.{Home, home_of}
-use Rattle.segcore.specs.Word.{address, segments_at, segment_size}
+use Rattle.segcore.specs.Words.{address, Cell, Event, Home, home_of, segment_size, segments_at}
 use Rattle.segbase.specs.declared.layout.Layout.{Layout}
 use Rattle.segbase.specs.declared.place.Place.{Place}
 use Rattle.segbase.specs.declared.place.RowPlace.{RowPlace}

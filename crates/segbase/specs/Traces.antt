@@ -1,9 +1,7 @@
 -- What a pass's own events, among those of others, come to. A trace has its newest event first.
 use Rattle.std.specs.Prelude.{ℕ, ◌<◌, ◌==◌, List, [], ◌∷◌, ◌++◌, if◌then◌else◌}
-use Rattle.segcore.specs.declared.event.Event.{Event}
 use Rattle.segcore.specs.declared.event.Event.TheVariants.{Glanced, Bumped, Entered, Left}
-use Rattle.segcore.specs.Event.{by}
-use Rattle.segcore.specs.Segment.{inside}
+use Rattle.segcore.specs.Words.{by, Event, inside}
 
 -- the events of one pass
 abbrev pub own_of : ℕ → List Event → List Event

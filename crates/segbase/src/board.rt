@@ -1,6 +1,6 @@
 //! The board: the table of the index's words, and how it is made.
 ghost use Rattle.std.specs.Prelude.{◌≡◌, ◌<◌, ◌≤◌, ◌^◌, [], IfOk, IfErr};
-ghost use Rattle.segword.specs.Shape.{word_count};
+ghost use Rattle.segword.specs.Words.{word_count};
 ghost use Rattle.segbase.specs.Spots.{IsLayoutOf};
 
 use crate::fault::MakeFault;
@@ -27,11 +27,12 @@ pub struct Board {
 }
 
 impl Board {
-    ghost use Rattle.segword.specs.Shape.{IsValid};
+    ghost use Rattle.segword.specs.Words.{IsValid};
     ghost use Rattle.segbase.specs.Ruled.{first_sight};
     ghost use Rattle.segbase.specs.Made.{IsDealt, IsNewPlain, IsMade, IsMakeFault};
 
-    /// A board of this shape with its passes, in the order of their numbers. The calls that use them take no more memory.
+    /// A board of this shape with its passes, in the order of their numbers.
+    /// The calls that use them are given no allocator.
     pub fn new(alloc: Global, shape: Shape) -> Result<(Board, Vec<Pass>), MakeFault>
         ensures made { IfOk result (λ made. IsMade shape made.0 made.1.items) }
         ensures fault { IfErr result (IsMakeFault shape) }
@@ -63,7 +64,8 @@ impl Board {
     // All passes. The first seat deals the others.
     fn deal(&self, alloc: Global, first: Seat<(), Sight>) -> Result<Vec<Pass>, AllocError>
         requires valid { IsValid self.now.shape }
-        requires seat { (first.table_id ≡ self.now.table.shared.table_id) × (first.me ≡ (first_sight, [])) }
+        requires seat { (first.table_id ≡ self.now.table.shared.table_id)
+            × (first.me ≡ (first_sight, [])) }
         ensures { IfOk result (λ passes. IsDealt self.now self.now.shape.passes passes.items) }
     {
         let mut passes = Vec::with_capacity(alloc, self.shape.passes as usize)?;
@@ -79,11 +81,13 @@ impl Board {
     fn pass(&self, alloc: Global, seat: Seat<(), Sight>, number: u32) -> Result<Pass, AllocError>
         requires valid { IsValid self.now.shape }
         requires number { number < self.now.shape.passes }
-        ensures { IfOk result (λ pass. (pass.seat ≡ seat) × IsNewPlain self.now.shape number pass.plain) }
+        ensures { IfOk result (λ pass.
+            (pass.seat ≡ seat) × IsNewPlain self.now.shape number pass.plain) }
     {
         let unfilled = OwnSegment {
             state: SegState::Empty,
             used: 0,
+            deadline: 0,
         };
         let segments = vec![in alloc; unfilled; self.shape.segments_each as usize]?;
         let plain = Plain {

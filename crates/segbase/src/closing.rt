@@ -1,11 +1,11 @@
 //! A board at its end: its words at rest, which no pass changes any more.
 ghost use Rattle.std.specs.Prelude.{◌≡◌, ◌<◌, ◌≤◌, ◌^◌, ℕ, List, slice_index};
 ghost use Rattle.std.specs.Slots.{slots_len, IsFull};
-ghost use Rattle.segword.specs.Shape.{word_count};
+ghost use Rattle.segword.specs.Words.{word_count};
 ghost use Rattle.segcore.specs.declared.event.Event.{Event};
 ghost use Rattle.segcore.specs.declared.cell.Cell.{Cell};
 ghost use Rattle.segcore.specs.declared.cell.Cell.TheVariants.{OfRow};
-ghost use Rattle.segcore.specs.Lawful.{IsSegment};
+ghost use Rattle.segcore.specs.Words.{IsSegment};
 ghost use Rattle.segbase.specs.Spots.{IsLayoutOf};
 
 use crate::board::Board;
@@ -62,7 +62,7 @@ impl Board {
 }
 
 impl Words {
-    ghost use Rattle.segcore.specs.Word.{IsCell, address};
+    ghost use Rattle.segcore.specs.Words.{address, IsCell};
     ghost use Rattle.segbase.specs.Spots.{IsPlace, cell_at, cell_of};
     ghost use Rattle.segbase.specs.Closing.{shape_of, word_of_cell};
 
@@ -73,10 +73,13 @@ impl Words {
         self.shape
     }
 
-    /// The word at a place of the table. The counter lies first, then the buckets, the overflow buckets, and each segment's word with its rows.
+    /// The word at a place of the table.
+    /// The counter lies first, then the buckets, the overflow buckets,
+    /// and each segment's word with its rows.
     pub fn at(&self, place: usize) -> u64
         requires { place < word_count (shape_of self.now) }
-        ensures { (cell : Cell) → address (shape_of self.now) cell ≡ place → result ≡ word_of_cell self.now cell }
+        ensures { (cell : Cell) → address (shape_of self.now) cell ≡ place
+            → result ≡ word_of_cell self.now cell }
     {
         self.closed.word(place)
     }
@@ -93,7 +96,8 @@ impl Words {
     pub fn row(&self, segment: u32, row: u32) -> [u64; 8]
         requires segment { IsSegment (shape_of self.now) segment }
         requires row { row < (shape_of self.now).rows }
-        ensures { (place : ℕ) → place < 8 → slice_index result place ≡ word_of_cell self.now (OfRow segment row place) }
+        ensures { (place : ℕ) → place < 8
+            → slice_index result place ≡ word_of_cell self.now (OfRow segment row place) }
     {
         let mut words = [0; 8];
         for place in 0..8u8 {

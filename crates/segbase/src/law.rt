@@ -21,7 +21,8 @@ pub struct Locked {
     pub trace: LinkedList<Event>,
 }
 
-/// What a pass keeps in mind for contracts alone. No word, rule or other pass depends on it, and no value of it is made.
+/// What a pass keeps in mind for contracts alone.
+/// No word, rule or other pass depends on it, and no value of it is made.
 pub struct Memo {
     pub holding: Option<Held>,
     pub locked: Option<Locked>,

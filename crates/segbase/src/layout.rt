@@ -1,7 +1,7 @@
 //! Where each word lies in the table.
 ghost use Rattle.std.specs.Prelude.{◌≡◌, ◌<◌, ◌≤◌, ◌^◌};
-ghost use Rattle.segword.specs.Shape.{IsValid, word_count};
-ghost use Rattle.segcore.specs.Word.{IsCell, address};
+ghost use Rattle.segword.specs.Words.{IsValid, word_count};
+ghost use Rattle.segcore.specs.Words.{address, IsCell};
 ghost use Rattle.segbase.specs.Spots.{IsLayoutOf, cell_of};
 
 use crate::place::{Place, Spot};
@@ -25,7 +25,8 @@ impl Layout {
         }
     }
 
-    // The place of a word. An overflow bucket lies behind the buckets, so its number tells its place as theirs do.
+    // The place of a word.
+    // An overflow bucket lies behind the buckets, so its number tells its place as theirs do.
     pub(crate) fn index(&self, shape: &Shape, spot: Spot) -> usize
         requires layout { IsLayoutOf shape.now self.now }
         requires small { word_count shape.now ≤ 2 ^ 26 }

@@ -1,4 +1,5 @@
-//! The index's words in one shared table, and the steps of its passes, each one atomic event of its kind on one word.
+//! The index's words in one shared table, and the steps of its passes,
+//! each one atomic event of its kind on one word.
 #![tactic(auto)]
 
 mod board;

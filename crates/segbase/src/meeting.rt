@@ -1,6 +1,8 @@
-//! What passes learn of each other, and what they keep in mind. The table lets a view change where a word is loaded, so what passes tell each other is told by loads, which change none.
-ghost use Rattle.std.specs.Prelude.{◌≡◌, []};
-ghost use Rattle.segmodel.specs.History.{Begins, AreOne};
+//! What passes learn of each other, and what they keep in mind.
+//! The table lets a view change where a word is loaded,
+//! so what passes tell each other is told by loads, which change none.
+ghost use Rattle.std.specs.Prelude.{◌≡◌};
+ghost use Rattle.segmodel.specs.Words.{AreOne, Begins};
 ghost use Rattle.segbase.specs.declared.law.Memo.{Memo};
 
 use crate::board::Board;
@@ -9,15 +11,17 @@ use crate::pass::Pass;
 use std::marker::Brand;
 
 impl Board {
-    ghost use Rattle.segbase.specs.Passes.{sight, view, trace, IsPassOf, IsMemo, AddsEvents};
+    ghost use Rattle.segbase.specs.Passes.{sight, view, trace, IsPassOf, IsMemo, SeesMore};
 
-    /// Both passes have then seen what either had seen before, the second all that the first has. Of what the two had seen, one began the other.
+    /// Both passes have then seen what either had seen before, the second all that the first has.
+    /// Of what the two had seen, one began the other.
     pub fn meet(&self, first: &mut Pass, second: &mut Pass)
         requires first { IsPassOf self.now first.old }
         requires second { IsPassOf self.now second.old }
-        ensures first { AddsEvents self.now [] first.old first.new × (first.new.plain ≡ first.old.plain) × ((sight first.new).memo ≡ (sight first.old).memo) }
-        ensures second { AddsEvents self.now [] second.old second.new × (second.new.plain ≡ second.old.plain) × ((sight second.new).memo ≡ (sight second.old).memo) }
-        ensures met { Begins (trace second.old) (trace first.new) × Begins (trace first.new) (trace second.new) }
+        ensures first { SeesMore self.now first.old first.new }
+        ensures second { SeesMore self.now second.old second.new }
+        ensures met { Begins (trace second.old) (trace first.new)
+            × Begins (trace first.new) (trace second.new) }
         ensures one { AreOne (trace first.old) (trace second.old) }
     {
         self.tell(first, second);
@@ -28,8 +32,9 @@ impl Board {
     fn tell(&self, pass: &mut Pass, other: &mut Pass)
         requires pass { IsPassOf self.now pass.old }
         requires other { IsPassOf self.now other.old }
-        ensures pass { AddsEvents self.now [] pass.old pass.new × (pass.new.plain ≡ pass.old.plain) × ((sight pass.new).memo ≡ (sight pass.old).memo) }
-        ensures other { IsPassOf self.now other.new × (sight other.new ≡ sight other.old) × (other.new.plain ≡ other.old.plain) }
+        ensures pass { SeesMore self.now pass.old pass.new }
+        ensures other { IsPassOf self.now other.new
+            × (sight other.new ≡ sight other.old) × (other.new.plain ≡ other.old.plain) }
         ensures met { Begins (trace other.old) (trace pass.new) }
     {
         let carried = self.table.shared.split_seat::<Carry>(&mut other.seat);
@@ -38,7 +43,8 @@ impl Board {
         self.row_load(pass, own, 0, 0);
     }
 
-    /// The pass keeps in mind what it holds and what it has locked, each as it was at a moment that it has seen, for contracts alone.
+    /// The pass keeps in mind what it holds and what it has locked,
+    /// each as it was at a moment that it has seen, for contracts alone.
     pub fn remember(&self, pass: &mut Pass)
         ghost memo: { Memo }
         requires pass { IsPassOf self.now pass.old }

@@ -1,6 +1,6 @@
 //! The words of a table at the start.
 ghost use Rattle.std.specs.Prelude.{IfOk};
-ghost use Rattle.segword.specs.Shape.{IsValid};
+ghost use Rattle.segword.specs.Words.{IsValid};
 ghost use Rattle.segbase.specs.Opening.{IsOpened};
 
 use segword::{Info, Shape};

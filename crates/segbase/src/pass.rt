@@ -1,5 +1,5 @@
 //! A caller's token for the steps, with the plain facts that only its owner changes.
-ghost use Rattle.std.specs.Prelude.{◌≡◌, ◌≢◌, ℕ, Some, IsSome};
+ghost use Rattle.std.specs.Prelude.{◌≡◌, IsSome};
 
 use crate::law::Sight;
 use atomic_table::Seat;
@@ -10,6 +10,7 @@ use segmodel::SegState;
 pub(crate) struct OwnSegment {
     pub(crate) state: SegState,
     pub(crate) used: u32,
+    pub(crate) deadline: u32,
 }
 
 // What a pass knows by itself.
@@ -32,7 +33,10 @@ pub struct Pass {
 }
 
 impl Pass {
-    ghost use Rattle.segbase.specs.Plain.{number_of, current_of, state_of, used_of, locked_of, is_holding_of, own_segment, SameSegments, SameButSegments};
+    ghost use Rattle.segbase.specs.Plain.{number_of, current_of, state_of, used_of, deadline_of};
+    ghost use Rattle.segbase.specs.Plain.{locked_of, is_holding_of, own_segment};
+    ghost use Rattle.segbase.specs.Plain.{with_current, with_state, with_used, with_deadline};
+    ghost use Rattle.segbase.specs.Plain.{with_locked, with_holding};
 
     /// Its number, below the number of passes.
     pub fn number(&self) -> u32
@@ -62,6 +66,13 @@ impl Pass {
         Some(self.own(segment)?.used)
     }
 
+    /// The deadline of a segment of its own, which the last refilling set, or 0; `None` for any other.
+    pub fn deadline(&self, segment: u32) -> Option<u32>
+        ensures { result ≡ deadline_of self.now segment }
+    {
+        Some(self.own(segment)?.deadline)
+    }
+
     /// The bucket that it has locked.
     pub fn locked(&self) -> Option<u32>
         ensures { result ≡ locked_of self.now }
@@ -78,9 +89,7 @@ impl Pass {
 
     /// Names the segment that it stores into.
     pub fn set_current(&mut self, current: Option<u32>)
-        ensures current { current_of self.new ≡ current }
-        ensures same { SameSegments self.old self.new × (locked_of self.new ≡ locked_of self.old) × (is_holding_of self.new ≡ is_holding_of self.old) }
-        ensures seat { self.new.seat ≡ self.old.seat }
+        ensures { self.new ≡ record self.old { plain = with_current current self.old.plain } }
     {
         self.plain.current = current;
     }
@@ -88,11 +97,7 @@ impl Pass {
     /// Sets the state of a segment of its own.
     pub fn set_state(&mut self, segment: u32, state: SegState)
         requires own { IsSome (state_of self.old segment) }
-        ensures state { state_of self.new segment ≡ Some state }
-        ensures others { (other : ℕ) → other ≢ segment → state_of self.new other ≡ state_of self.old other }
-        ensures used { (other : ℕ) → used_of self.new other ≡ used_of self.old other }
-        ensures same { SameButSegments self.old self.new }
-        ensures seat { self.new.seat ≡ self.old.seat }
+        ensures { self.new ≡ record self.old { plain = with_state segment state self.old.plain } }
     {
         self.plain.segments[(segment - self.plain.first) as usize].state = state;
     }
@@ -100,29 +105,30 @@ impl Pass {
     /// Sets how many rows of a segment of its own are used.
     pub fn set_used(&mut self, segment: u32, used: u32)
         requires own { IsSome (used_of self.old segment) }
-        ensures used { used_of self.new segment ≡ Some used }
-        ensures others { (other : ℕ) → other ≢ segment → used_of self.new other ≡ used_of self.old other }
-        ensures state { (other : ℕ) → state_of self.new other ≡ state_of self.old other }
-        ensures same { SameButSegments self.old self.new }
-        ensures seat { self.new.seat ≡ self.old.seat }
+        ensures { self.new ≡ record self.old { plain = with_used segment used self.old.plain } }
     {
         self.plain.segments[(segment - self.plain.first) as usize].used = used;
     }
 
+    /// Sets the deadline of a segment of its own.
+    pub fn set_deadline(&mut self, segment: u32, deadline: u32)
+        requires own { IsSome (deadline_of self.old segment) }
+        ensures { self.new
+            ≡ record self.old { plain = with_deadline segment deadline self.old.plain } }
+    {
+        self.plain.segments[(segment - self.plain.first) as usize].deadline = deadline;
+    }
+
     /// Names the bucket that it has locked.
     pub fn set_locked(&mut self, locked: Option<u32>)
-        ensures locked { locked_of self.new ≡ locked }
-        ensures same { SameSegments self.old self.new × (current_of self.new ≡ current_of self.old) × (is_holding_of self.new ≡ is_holding_of self.old) }
-        ensures seat { self.new.seat ≡ self.old.seat }
+        ensures { self.new ≡ record self.old { plain = with_locked locked self.old.plain } }
     {
         self.plain.locked = locked;
     }
 
     /// Tells whether it holds an item.
     pub fn set_holding(&mut self, holding: bool)
-        ensures holding { is_holding_of self.new ≡ holding }
-        ensures same { SameSegments self.old self.new × (current_of self.new ≡ current_of self.old) × (locked_of self.new ≡ locked_of self.old) }
-        ensures seat { self.new.seat ≡ self.old.seat }
+        ensures { self.new ≡ record self.old { plain = with_holding holding self.old.plain } }
     {
         self.plain.is_holding = holding;
     }

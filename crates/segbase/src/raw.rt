@@ -1,8 +1,7 @@
 //! The raw operations on one word. Each takes its step as a value that contracts alone see.
 ghost use Rattle.std.specs.Prelude.{◌≡◌, ℕ, ◌+◌, ◌%◌, ◌^◌, ◌<◌, ◌==◌, bit_or};
 ghost use prog.Atomic.{either};
-ghost use Rattle.segcore.specs.Kind.{Step};
-ghost use Rattle.segcore.specs.Word.{IsCell, address};
+ghost use Rattle.segcore.specs.Words.{address, IsCell, Step};
 
 use crate::board::Board;
 use crate::pass::Pass;

@@ -1,33 +1,42 @@
 //! Steps at segments: their rows, and who reads in them.
-ghost use Rattle.std.specs.Prelude.{◌≡◌, ℕ, ◌==◌, [], ◌∷◌, if◌then◌else◌};
+ghost use Rattle.std.specs.Prelude.{◌≡◌, ℕ, ◌*◌, ◌^◌, ◌==◌, [], ◌∷◌, if◌then◌else◌};
+ghost use Rattle.segmodel.specs.Words.{after};
 ghost use Rattle.segcore.specs.declared.event.Event.TheVariants.{Filled, Entered, Left, Refilled};
-ghost use Rattle.segcore.specs.Row.{row_after};
+ghost use Rattle.segcore.specs.Words.{enter, IsCell, leave, none_reading, row_after, row_load};
+ghost use Rattle.segcore.specs.Words.{row_store};
 ghost use Rattle.segcore.specs.declared.cell.Cell.TheVariants.{OfRow};
-ghost use Rattle.segcore.specs.Word.{IsCell};
 ghost use Rattle.segbase.specs.Spots.{IsRowAt};
-ghost use Rattle.segcore.specs.Kind.{row_store, row_load, enter, leave, none_reading, May};
 
 use crate::board::Board;
 use crate::pass::Pass;
 use crate::place::{RowPlace, Spot};
 
+// The word of a segment with this deadline in which nobody reads.
+fn unread(deadline: u32) -> u64
+    ensures { result ≡ deadline * 2 ^ 32 }
+{
+    u64::from(deadline) << 32
+}
+
 impl Board {
-    ghost use Rattle.segbase.specs.Passes.{number, trace, IsPassOf, AddsAtOnce, Stepped};
+    ghost use Rattle.segbase.specs.Passes.{number, seen, trace, IsPassOf, AddsAtOnce, Stepped};
+    ghost use Rattle.segbase.specs.Steps.{MayTake, TakesStep, AddsOne};
 
     /// Stores a word of a row of the pass's own that isn't linked in this filling.
     pub fn row_store(&self, pass: &mut Pass, segment: u32, row: u32, word: u8, value: u64)
         requires pass { IsPassOf self.now pass.old }
-        requires may { May self.now.shape (trace pass.old) (number pass.old) (row_store segment row word value) }
-        ensures step { (found : ℕ) × Stepped self.now (row_store segment row word value) found pass.old pass.new }
-        ensures did { AddsAtOnce self.now (Filled (number pass.old) segment row word value ∷ []) pass.old pass.new }
+        requires may { MayTake self.now pass.old (row_store segment row word value) }
+        ensures step { TakesStep self.now (row_store segment row word value) pass.old pass.new }
+        ensures did { AddsOne self.now (λ n. Filled n segment row word value) pass.old pass.new }
     {
         self.store_at(pass, Spot::Row(segment, row, word), value);
     }
 
-    /// A word of a row that can't change: the row is the pass's own, or the pass is in its segment and it was linked in this filling, or a word of a bucket whose bit the pass has names it.
+    /// A word of a row that can't change: the row is the pass's own, or the pass is in its segment
+    /// and it was linked in this filling, or a word of a bucket whose bit the pass has names it.
     pub fn row_load(&self, pass: &mut Pass, segment: u32, row: u32, word: u8) -> u64
         requires pass { IsPassOf self.now pass.old }
-        requires may { May self.now.shape (trace pass.old) (number pass.old) (row_load segment row word) }
+        requires may { MayTake self.now pass.old (row_load segment row word) }
         ensures step { Stepped self.now (row_load segment row word) result pass.old pass.new }
         ensures did { AddsAtOnce self.now [] pass.old pass.new }
         ensures word { result ≡ (row_after (trace pass.new) segment row).words word }
@@ -52,8 +61,9 @@ impl Board {
     pub fn row_load_at(&self, pass: &mut Pass, row: RowPlace, word: u8) -> u64
         requires pass { IsPassOf self.now pass.old }
         requires start { IsRowAt self.now.shape row }
-        requires may { May self.now.shape (trace pass.old) (number pass.old) (row_load row.segment row.row word) }
-        ensures step { Stepped self.now (row_load row.segment row.row word) result pass.old pass.new }
+        requires may { MayTake self.now pass.old (row_load row.segment row.row word) }
+        ensures step { Stepped self.now (row_load row.segment row.row word) result
+            pass.old pass.new }
         ensures did { AddsAtOnce self.now [] pass.old pass.new }
         ensures word { result ≡ (row_after (trace pass.new) row.segment row.row).words word }
     {
@@ -65,33 +75,41 @@ impl Board {
         self.load_index(pass, Spot::Row(segment, row, word), start + word as usize)
     }
 
-    /// One reader more.
-    pub fn enter(&self, pass: &mut Pass, segment: u32)
+    /// One reader more. The answer is the segment's deadline, which stays as long as the reader.
+    pub fn enter(&self, pass: &mut Pass, segment: u32) -> u32
         requires pass { IsPassOf self.now pass.old }
-        requires may { May self.now.shape (trace pass.old) (number pass.old) (enter segment) }
-        ensures step { (found : ℕ) × Stepped self.now (enter segment) found pass.old pass.new }
-        ensures did { AddsAtOnce self.now (Entered (number pass.old) segment ∷ []) pass.old pass.new }
+        requires may { MayTake self.now pass.old (enter segment) }
+        ensures step { TakesStep self.now (enter segment) pass.old pass.new }
+        ensures did { AddsOne self.now (λ n. Entered n segment) pass.old pass.new }
+        ensures deadline { result
+            ≡ (after self.now.shape (seen pass.new)).deadline segment }
     {
-        self.add_at(pass, Spot::Segment(segment), 1);
+        (self.add_at(pass, Spot::Segment(segment), 1) >> 32) as u32
     }
 
     /// One reader fewer.
     pub fn leave(&self, pass: &mut Pass, segment: u32)
         requires pass { IsPassOf self.now pass.old }
-        requires may { May self.now.shape (trace pass.old) (number pass.old) (leave segment) }
-        ensures step { (found : ℕ) × Stepped self.now (leave segment) found pass.old pass.new }
-        ensures did { AddsAtOnce self.now (Left (number pass.old) segment ∷ []) pass.old pass.new }
+        requires may { MayTake self.now pass.old (leave segment) }
+        ensures step { TakesStep self.now (leave segment) pass.old pass.new }
+        ensures did { AddsOne self.now (λ n. Left n segment) pass.old pass.new }
     {
         self.add_at(pass, Spot::Segment(segment), u64::MAX);
     }
 
-    /// Whether no reader is counted in a segment of the pass's own in which no key stands; in that event its refilling enters the history.
-    pub fn none_reading(&self, pass: &mut Pass, segment: u32) -> bool
+    /// Whether no reader is counted in a segment of the pass's own with this deadline, in which no
+    /// key stands. In that event it gets another deadline, and its refilling enters the history.
+    pub fn none_reading(&self, pass: &mut Pass, segment: u32, old: u32, deadline: u32) -> bool
         requires pass { IsPassOf self.now pass.old }
-        requires may { May self.now.shape (trace pass.old) (number pass.old) (none_reading segment) }
-        ensures step { (found : ℕ) × Stepped self.now (none_reading segment) found pass.old pass.new × (result ≡ (found == 0)) }
-        ensures did { AddsAtOnce self.now (if result then Refilled (number pass.old) segment ∷ [] else []) pass.old pass.new }
+        requires may { MayTake self.now pass.old (none_reading segment old deadline) }
+        ensures step { (found : ℕ)
+            × Stepped self.now (none_reading segment old deadline) found pass.old pass.new
+            × (result ≡ (found == old * 2 ^ 32)) }
+        ensures did { AddsAtOnce self.now
+            (if result then Refilled (number pass.old) segment deadline ∷ [] else [])
+            pass.old pass.new }
     {
-        self.load_at(pass, Spot::Segment(segment)) == 0
+        let word = unread(old);
+        self.exchange_at(pass, Spot::Segment(segment), word, unread(deadline)) == word
     }
 }

@@ -2,14 +2,10 @@
 use Rattle.std.proofs.Common.{◌≡◌, ℕ, true, eqb, ◌&&◌, List, [], ◌∷◌, Some, sym, ap, ◌∙◌, subst, ⊎_elim}
 use Rattle.std.proofs.lemmas.Bool.{cases_Bool, cond-true, cond-false, eqb-true, and_parts}
 use Rattle.std.proofs.lemmas.Option.{none-some, same_Some}
-use Rattle.segword.specs.declared.shape.Shape.{Shape}
-use Rattle.segword.specs.Bytes.{IsKey, IsValue}
-use Rattle.segmodel.specs.declared.request.Request.{Request}
-use Rattle.segmodel.specs.Request.{key_of, value_of}
-use Rattle.segcore.specs.declared.event.Event.{Event}
+use Rattle.segword.specs.Words.{IsKey, IsValue, Shape}
+use Rattle.segmodel.specs.Words.{key_of, Request, value_of}
 use Rattle.segcore.specs.declared.event.Event.TheVariants.{Filled, Linked, Refilled}
-use Rattle.segcore.specs.Lawful.{IsLawful}
-use Rattle.segcore.specs.Row.{Row, Holds, writes_row, row_after}
+use Rattle.segcore.specs.Words.{Event, Holds, IsLawful, Row, row_after, writes_row}
 
 -- the row holds the pair of this key and some value
 pub record IsPairOf (row : Row) (key : List ℕ) : Type 0 where
@@ -43,7 +39,7 @@ linked_pair z (Filled p t i place w ∷ h) s r k l on = let e = Filled p t i pla
     (λ miss. let same = cond-false (eqb t s && eqb i r) (writes_row e u) u miss in
     subst (λ x. IsPairOf x k) (sym same) (linked_pair z h s r k l.0 (ap (λ (x : Row). x.linked) (sym same) ∙ on)))
     (cases_Bool (eqb t s && eqb i r))
-linked_pair z (Refilled p t ∷ h) s r k l on = let e = Refilled p t in let u = row_after h s r in ⊎_elim
+linked_pair z (Refilled p t d ∷ h) s r k l on = let e = Refilled p t d in let u = row_after h s r in ⊎_elim
     (λ hit. absurd (none-some k (ap (λ (y : Row). y.linked) (sym (cond-true (eqb t s) (writes_row e u) u hit)) ∙ on)))
     (λ miss. let same = cond-false (eqb t s) (writes_row e u) u miss in
     subst (λ x. IsPairOf x k) (sym same) (linked_pair z h s r k l.0 (ap (λ (x : Row). x.linked) (sym same) ∙ on)))

@@ -1,68 +1,68 @@
 -- What a pass keeps of its own segments stays so over its calls: those that link and refill nothing, a link of its next row, and a refilling.
-use Rattle.std.proofs.Common.{◌≡◌, ◌≢◌, ℕ, ◌+◌, ◌*◌, ◌/◌, ◌%◌, ◌<◌, Bool, true, false, cond, eqb, nat_lt, ◌&&◌, is_some, List, [], ◌∷◌, ◌++◌, length, Option, Some, None, refl, sym, ap, ◌∙◌, subst, ⊎_elim, arith, mod-lt, div-add-mod', mul_comm}
+use Rattle.std.proofs.Common.{◌≡◌, ◌≢◌, ℕ, ◌+◌, ◌*◌, ◌/◌, ◌%◌, ◌<◌, Bool, true, false, cond, eqb, nat_lt, ◌&&◌, is_some, IsSome, List, [], ◌∷◌, ◌++◌, Option, Some, None, refl, sym, ap, ◌∙◌, subst, ⊎_elim, arith, mod-lt, div-add-mod', mul_comm, unwrap_or}
 use Rattle.std.proofs.lemmas.Bool.{cases_Bool, cases_eq, cases_lt, lt-ltb, le-ltb, cond-true, cond-false, eq-eqb, ne_eqb, false≢true}
 use Rattle.std.proofs.lemmas.Nat.{mul-add-lt}
 use Rattle.std.proofs.lemmas.Option.{same_Some, none-some}
-use Rattle.atomic_table.specs.declared.shared.Seat.{Seat}
-use Rattle.segword.specs.declared.shape.Shape.{Shape}
-use Rattle.segmodel.specs.declared.request.Request.{Request}
-use Rattle.segmodel.specs.declared.answer.SegState.{SegState}
+use Rattle.segword.specs.Words.{Shape}
 use Rattle.segmodel.specs.declared.answer.SegState.TheVariants.{InUse}
-use Rattle.segmodel.specs.Places.{owner}
-use Rattle.segmodel.specs.History.{after, NoneStandsIn}
-use Rattle.segcore.specs.declared.event.Event.{Event}
+use Rattle.segmodel.specs.Words.{after, NoneStandsIn, owner, Request, SegState}
 use Rattle.segcore.specs.declared.event.Event.TheVariants.{Filled, Linked, Refilled}
-use Rattle.segcore.specs.Event.{by, NoneBy}
+use Rattle.segcore.specs.Words.{by, Event, IsLawful, IsOwnRow, IsSegment, NoneBy, Row, row_after}
+use Rattle.segcore.specs.Words.{writes_row}
 use Rattle.segcore.specs.Event as event
-use Rattle.segcore.specs.Lawful.{IsSegment, IsOwnRow, IsLawful}
-use Rattle.segcore.specs.Row.{Row, writes_row, row_after}
+use Rattle.segcore.specs.Segment as segment_of
 use Rattle.segcore.proofs.Caches.{stands_in, has_value}
 use Rattle.segcore.proofs.Quiet.{quiet_row}
+use Rattle.segcore.proofs.Meanwhile.{own_deadline}
+use Rattle.segcore.proofs.Deadlines.{deadline_seen}
 use Rattle.segcore.proofs.Readers.{still_empty, empty_stays}
-use Rattle.segbase.specs.declared.law.Sight.{Sight}
-use Rattle.segbase.specs.declared.board.Board.{Board}
-use Rattle.segbase.specs.declared.pass.OwnSegment.{OwnSegment}
 use Rattle.segbase.specs.declared.pass.Plain.{Plain}
-use Rattle.segbase.specs.declared.pass.Pass.{Pass}
-use Rattle.segbase.specs.Passes.{sight, number, trace, seen, IsPassOf, AddsEvents, AddsAtOnce}
-use Rattle.segbase.specs.Plain.{current_of, state_of, used_of, own_segment, state_in, used_in, SameOwner, SameSegments}
-use Rattle.segbase.specs.Traces.{own_of}
-use Rattle.segbase.proofs.Owned.{owns_state}
+use Rattle.segbase.specs.Words.{AddsAtOnce, AddsEvents, Board, current_of, IsPassOf, number, own_of, deadline_of, deadline_in}
+use Rattle.segbase.specs.Words.{own_segment, OwnSegment, Pass, seen, state_in, state_of, trace}
+use Rattle.segbase.specs.Words.{used_in, used_of, with_state, with_used}
+use Rattle.segbase.proofs.Known.{state_set, used_set, state_apart, used_apart, state_kept, used_kept, owner_stated, owner_counted, deadline_set, owner_lasting, state_lasting, used_lasting, deadline_counted, deadline_apart, deadline_stated}
+use Rattle.segbase.proofs.Owned.{owner_of, owns_state, state_there, used_there, moved_still, deadline_there}
+use Rattle.segstore.specs.Refilling.{refilled}
 use Rattle.segstore.specs.Segments.{KeepsSegments}
 use Rattle.segstore.proofs.Rows.{stepped_row}
 
 -- ---- the segments of a pass
 
-there_too : (o : Option OwnSegment) (used : ℕ) → used_in o ≡ Some used → is_some (state_in o) ≡ true
-there_too None used is' = absurd (none-some used is')
-there_too (Some own) used is' = refl
+-- it knows a segment of which it counts the used rows
+known : (p : Pass) (s used : ℕ) → used_of p s ≡ Some used → IsSome (own_segment p.plain s)
+known p s used there = sym (used_there (own_segment p.plain s)) ∙ ap is_some there
 
 pub owns_used : (b : Board) (p : Pass) (s used : ℕ) → IsPassOf b p → used_of p s ≡ Some used → owner b.shape s ≡ number p
-owns_used b p s used is there = owns_state b p s is (there_too (own_segment p.plain s) used there)
+owns_used b p s used is there = owns_state b p s is (state_there (own_segment p.plain s) ∙ known p s used there)
 
 pub owns_stated : (b : Board) (p : Pass) (s : ℕ) (state : SegState) → IsPassOf b p → state_of p s ≡ Some state → owner b.shape s ≡ number p
 owns_stated b p s state is there = owns_state b p s is (ap is_some there)
 
-pub then_owner : (p q r : Pass) → SameOwner p q → SameOwner q r → SameOwner p r
-then_owner p q r a b = record { number = b.number ∙ a.number; first = b.first ∙ a.first; count = b.count ∙ a.count }
+pub owns_lasting : (b : Board) (p : Pass) (s deadline : ℕ) → IsPassOf b p → deadline_of p s ≡ Some deadline → owner b.shape s ≡ number p
+owns_lasting b p s deadline is there =
+    owns_state b p s is (state_there (own_segment p.plain s) ∙ (sym (deadline_there (own_segment p.plain s)) ∙ ap is_some there))
 
--- with an equal seat it has seen as much, and has the same in mind
-pub seat_trace : (p q : Pass) → q.seat ≡ p.seat → trace q ≡ trace p
-seat_trace p q same = ap (λ (x : Seat (Unit {0}) Sight). x.me.0.view.trace) same
+-- of a segment whose state it knows it knows the deadline
+pub knows_deadline : (p : Pass) (s : ℕ) (state : SegState) → state_of p s ≡ Some state → deadline_of p s ≡ Some (unwrap_or (deadline_of p s) 0)
+knows_deadline p s state there = by (own_segment p.plain s) there
+  where
+    by : (o : Option OwnSegment) → state_in o ≡ Some state → deadline_in o ≡ Some (unwrap_or (deadline_in o) 0)
+    by None none = absurd (none-some state none)
+    by (Some own) there = refl
 
-pub same_memo : (p q : Pass) → q.seat ≡ p.seat → (sight q).memo ≡ (sight p).memo
-same_memo p q same = ap (λ (x : Seat (Unit {0}) Sight). x.me.0.memo) same
+-- with an equal plain part it knows the same of its segments
+pub same_states : (p q : Pass) (s : ℕ) → q.plain ≡ p.plain → state_of q s ≡ state_of p s
+same_states p q s same = ap (λ (x : Plain). state_in (own_segment x s)) same
 
--- with an equal plain part all is the same
-pub same_plain : (p q : Pass) → q.plain ≡ p.plain → SameSegments p q × (current_of q ≡ current_of p)
-same_plain p q same = (
-  record {
-    owner = record { number = ap (λ (x : Plain). x.number) same; first = ap (λ (x : Plain). x.first) same; count = ap (λ (x : Plain). length x.segments.items) same };
-    state = λ s. ap (λ (x : Plain). state_in (own_segment x s)) same;
-    used = λ s. ap (λ (x : Plain). used_in (own_segment x s)) same;
-  },
-  ap (λ (x : Plain). x.current) same,
-)
+pub same_used : (p q : Pass) (s : ℕ) → q.plain ≡ p.plain → used_of q s ≡ used_of p s
+same_used p q s same = ap (λ (x : Plain). used_in (own_segment x s)) same
+
+pub same_deadlines : (p q : Pass) (s : ℕ) → q.plain ≡ p.plain → deadline_of q s ≡ deadline_of p s
+same_deadlines p q s same = ap (λ (x : Plain). deadline_in (own_segment x s)) same
+
+-- what it knows of them, and the current one
+abbrev pub stored_in : Plain → (ℕ → Option OwnSegment) × Option ℕ
+stored_in x = (own_segment x, x.current)
 
 pub in_table : (b : Board) (p : Pass) (s : ℕ) → IsPassOf b p → owner b.shape s ≡ number p → IsSegment b.shape s
 in_table b p s is own =
@@ -86,7 +86,7 @@ next_is_own b p s row is k used lt =
 
 abbrev pub IsCalm : Event → Type 0
 IsCalm (Linked p q s r n) = ⊥
-IsCalm (Refilled p s) = ⊥
+IsCalm (Refilled p s d) = ⊥
 IsCalm e = Unit {0}
 
 abbrev pub AreCalm : List Event → Type 0
@@ -102,9 +102,13 @@ same_linked false u v same = refl
 
 calm_linked : (e : Event) (h : List Event) (s r : ℕ) → IsCalm e → (row_after (e ∷ h) s r).linked ≡ (row_after h s r).linked
 calm_linked (Linked p q t i n) h s r calm = absurd calm
-calm_linked (Refilled p t) h s r calm = absurd calm
+calm_linked (Refilled p t d) h s r calm = absurd calm
 calm_linked (Filled p t i place w) h s r calm = same_linked (eqb t s && eqb i r) (row_after h s r) (writes_row (Filled p t i place w) (row_after h s r)) refl
 calm_linked e h s r calm = refl
+
+calm_deadline : (e : Event) (h : List Event) (s : ℕ) → IsCalm e → segment_of.deadline_of (e ∷ h) s ≡ segment_of.deadline_of h s
+calm_deadline (Refilled p t d) h s calm = absurd calm
+calm_deadline e h s calm = refl
 
 pub own_linked : (z : Shape) (more h : List Event) (p s r : ℕ) → IsLawful z (more ++ h) → AreCalm (own_of p more) → owner z s ≡ p → (row_after (more ++ h) s r).linked ≡ (row_after h s r).linked
 own_linked z [] h p s r l calm own = refl
@@ -114,6 +118,24 @@ own_linked z (e ∷ more) h p s r l calm own = ⊎_elim
     (λ f. let c : AreCalm (own_of p more) = subst AreCalm (cond-false (eqb (by e) p) (e ∷ own_of p more) (own_of p more) f) calm in
     ap (λ (u : Row). u.linked) (quiet_row z (e ∷ []) (more ++ h) s r l ((λ same. false≢true (sym f ∙ eq-eqb (by e) p (same ∙ own))), tt)) ∙ own_linked z more h p s r l.0 c own)
     (cases_Bool (eqb (by e) p))
+
+deadline_lasts : (z : Shape) (more h : List Event) (p s : ℕ) → IsLawful z (more ++ h) → AreCalm (own_of p more) → owner z s ≡ p → segment_of.deadline_of (more ++ h) s ≡ segment_of.deadline_of h s
+deadline_lasts z [] h p s l calm own = refl
+deadline_lasts z (e ∷ more) h p s l calm own = ⊎_elim
+    (λ t. let c : AreCalm (e ∷ own_of p more) = subst AreCalm (cond-true (eqb (by e) p) (e ∷ own_of p more) (own_of p more) t) calm in
+    calm_deadline e (more ++ h) s c.0 ∙ deadline_lasts z more h p s l.0 c.1 own)
+    (λ f. let c : AreCalm (own_of p more) = subst AreCalm (cond-false (eqb (by e) p) (e ∷ own_of p more) (own_of p more) f) calm in
+    own_deadline z (e ∷ []) (more ++ h) s l ((λ same. false≢true (sym f ∙ eq-eqb (by e) p (same ∙ own))), tt) ∙ deadline_lasts z more h p s l.0 c own)
+    (cases_Bool (eqb (by e) p))
+
+-- the cache's deadline of a segment where the trace's is the same
+same_cached : (z : Shape) (h g : List Event) (s : ℕ) → segment_of.deadline_of g s ≡ segment_of.deadline_of h s → (after z (event.seen g)).deadline s ≡ (after z (event.seen h)).deadline s
+same_cached z h g s same = deadline_seen z g s ∙ (same ∙ sym (deadline_seen z h s))
+
+-- what others did before a step leaves the deadlines of the pass's own segments
+others_deadline : (b : Board) (own : List Event) (p q : Pass) (s : ℕ) → (d : AddsAtOnce b own p q) → owner b.shape s ≡ number p
+    → segment_of.deadline_of (d.others ++ trace p) s ≡ segment_of.deadline_of (trace p) s
+others_deadline b own p q s d of = own_deadline b.shape d.others (trace p) s d.before (subst (λ x. NoneBy x d.others) (sym of) d.none)
 
 none_by_link : (z : Shape) (e : Event) (h : List Event) (s : ℕ) → IsLawful z (e ∷ h) → ((p : ℕ) (q : Request) (row n : ℕ) → e ≢ Linked p q s row n) → NoneStandsIn (after z (event.seen h)) s → NoneStandsIn (after z (event.seen (e ∷ h))) s
 none_by_link z e h s l other none k is' = none k (stands_in z (event.seen h) k s (still_empty z h e s k l.1 other (has_value z (event.seen (e ∷ h)) k s is')))
@@ -127,20 +149,27 @@ own_empty z (e ∷ more) h p s l calm own none = ⊎_elim
     empty_stays z (e ∷ []) (more ++ h) s l ((λ same. false≢true (sym f ∙ eq-eqb (by e) p (same ∙ own))), tt) (own_empty z more h p s l.0 c own none))
     (cases_Bool (eqb (by e) p))
 
-pub keeps : (b : Board) (own : List Event) (p q : Pass) → AddsEvents b own p q → AreCalm own → SameSegments p q → current_of q ≡ current_of p → KeepsSegments b p → KeepsSegments b q
-keeps b own p q m calm same current k =
+pub keeps : (b : Board) (own : List Event) (p q : Pass) → AddsEvents b own p q → AreCalm own → stored_in q.plain ≡ stored_in p.plain → KeepsSegments b p → KeepsSegments b q
+keeps b own p q m calm same k =
     let lawful : IsLawful b.shape (m.more ++ trace p) = subst (IsLawful b.shape) m.goes_on m.pass.lawful in
-    let calmly : AreCalm (own_of (number p) m.more) = subst AreCalm (sym m.adds) calm in record {
-      few = λ s used there. k.few s used (sym (same.used s) ∙ there);
-      rows = λ s used r there lt. ap is_some (ap (λ h. (row_after h s r).linked) m.goes_on ∙ own_linked b.shape m.more (trace p) (number p) s r lawful calmly (owns_used b q s used m.pass there ∙ m.same)) ∙ k.rows s used r (sym (same.used s) ∙ there) lt;
-      in_use = λ s is'. same.state s ∙ k.in_use s (sym current ∙ is');
+    let calmly : AreCalm (own_of (number p) m.more) = subst AreCalm (sym m.adds) calm in
+    let states : (s : ℕ) → state_of q s ≡ state_of p s = λ s i. state_in ((same i).0 s) in
+    let used : (s : ℕ) → used_of q s ≡ used_of p s = λ s i. used_in ((same i).0 s) in
+    let lasts : (s : ℕ) → deadline_of q s ≡ deadline_of p s = λ s i. deadline_in ((same i).0 s) in record {
+      few = λ s n there. k.few s n (sym (used s) ∙ there);
+      rows = λ s n r there lt. ap is_some (ap (λ h. (row_after h s r).linked) m.goes_on ∙ own_linked b.shape m.more (trace p) (number p) s r lawful calmly (owns_used b q s n m.pass there ∙ m.same)) ∙ k.rows s n r (sym (used s) ∙ there) lt;
+      deadlines = λ s n there. ap (λ h. (after b.shape (event.seen h)).deadline s) m.goes_on
+          ∙ (same_cached b.shape (trace p) (m.more ++ trace p) s
+          (deadline_lasts b.shape m.more (trace p) (number p) s lawful calmly (owns_lasting b q s n m.pass there ∙ m.same))
+          ∙ k.deadlines s n (sym (lasts s) ∙ there));
+      in_use = λ s is'. states s ∙ k.in_use s (sym (ap (λ x. x.1) same) ∙ is');
       unused = λ s state is' other. subst (λ h. NoneStandsIn (after b.shape (event.seen h)) s) (sym m.goes_on)
-          (own_empty b.shape m.more (trace p) (number p) s lawful calmly (owns_stated b q s state m.pass is' ∙ m.same) (k.unused s state (sym (same.state s) ∙ is') other));
+          (own_empty b.shape m.more (trace p) (number p) s lawful calmly (owns_stated b q s state m.pass is' ∙ m.same) (k.unused s state (sym (states s) ∙ is') other));
     }
 
 -- a call with an equal plain part
 pub keeps_plain : (b : Board) (own : List Event) (p q : Pass) → AddsEvents b own p q → AreCalm own → q.plain ≡ p.plain → KeepsSegments b p → KeepsSegments b q
-keeps_plain b own p q m calm same k = let s = same_plain p q same in keeps b own p q m calm s.0 s.1 k
+keeps_plain b own p q m calm same = keeps b own p q m calm (ap stored_in same)
 
 -- ---- a link of the next row, and a refilling
 
@@ -183,55 +212,100 @@ row_elsewhere b request p q segment row position s r d own other =
     stepped_row b e p q s r d own ∙ ap (λ t. cond (t && eqb row r) (writes_row e u) u) (ne_eqb segment s other)
 
 -- the next row was linked, and then counted as used
-pub keeps_linked : (b : Board) (request : Request) (p r q : Pass) (segment row position : ℕ) → AddsAtOnce b (Linked (number p) request segment row position ∷ []) p r → r.plain ≡ p.plain
+pub keeps_linked : (b : Board) (request : Request) (p r : Pass) (segment row position : ℕ) → AddsAtOnce b (Linked (number p) request segment row position ∷ []) p r → r.plain ≡ p.plain
     → current_of p ≡ Some segment → used_of p segment ≡ Some row → row < b.shape.rows
-    → q.seat ≡ r.seat → used_of q segment ≡ Some (row + 1) → ((s : ℕ) → s ≢ segment → used_of q s ≡ used_of r s) → ((s : ℕ) → state_of q s ≡ state_of r s) → current_of q ≡ current_of r
-    → IsPassOf b p → KeepsSegments b p → KeepsSegments b q
-keeps_linked b request p r q segment row position d same current used lt seat now others states still is k =
-    let plain = same_plain p r same in let at = seat_trace r q seat in
+    → IsPassOf b p → KeepsSegments b p → KeepsSegments b (record r { plain = with_used segment (row + 1) r.plain })
+keeps_linked b request p r segment row position d same current used lt is k =
+    let q : Pass = record r { plain = with_used segment (row + 1) r.plain } in
     let own = owns_used b p segment row is used in
-    let old_used : (s u : ℕ) → segment ≢ s → used_of q s ≡ Some u → used_of p s ≡ Some u = λ s u other there. sym (plain.0.used s) ∙ (sym (others s (λ e. other (sym e))) ∙ there) in record {
+    let now : used_of q segment ≡ Some (row + 1) = used_set r.plain segment (row + 1) (known r segment row (same_used p r segment same ∙ used)) in
+    let old_used : (s u : ℕ) → segment ≢ s → used_of q s ≡ Some u → used_of p s ≡ Some u = λ s u other there. sym (used_apart r.plain segment (row + 1) s (λ e. other (sym e)) ∙ same_used p r s same) ∙ there in
+    let lasts : (s : ℕ) → deadline_of q s ≡ deadline_of p s = λ s. deadline_counted r.plain segment (row + 1) s ∙ same_deadlines p r s same in
+    let states : (s : ℕ) → state_of q s ≡ state_of p s = λ s. state_kept r.plain segment (row + 1) s ∙ same_states p r s same in record {
       few = λ s u there. ⊎_elim
           (λ e. let x : row + 1 ≡ u = same_Some (row + 1) u (sym now ∙ (ap (used_of q) e ∙ there)) in omega arith)
           (λ other. k.few s u (old_used s u other there))
           (cases_eq segment s);
-      rows = λ s u i there below. ap (λ h. is_some (row_after h s i).linked) at ∙ ⊎_elim
+      rows = λ s u i there below. ⊎_elim
           (λ e. let x : row + 1 ≡ u = same_Some (row + 1) u (sym now ∙ (ap (used_of q) e ∙ there)) in
           subst (λ y. is_some (row_after (trace r) y i).linked ≡ nat_lt i u) e
           (row_linked b request p r segment row position i d own ∙ (ap (cond (eqb row i) true) (k.rows segment row i used below) ∙ (one_more_row i row ∙ ap (nat_lt i) x))))
           (λ other. let before = old_used s u other there in
           ap (λ (x : Row). is_some x.linked) (row_elsewhere b request p r segment row position s i d (owns_used b p s u is before) other) ∙ k.rows s u i before below)
           (cases_eq segment s);
-      in_use = λ s is'. states s ∙ (plain.0.state s ∙ k.in_use s (sym (still ∙ plain.1) ∙ is'));
+      deadlines = λ s n there. let before = sym (lasts s) ∙ there in
+          same_cached b.shape (trace p) (trace r) s (ap (λ h. segment_of.deadline_of h s) d.now ∙ others_deadline b _ p r s d (owns_lasting b p s n is before))
+          ∙ k.deadlines s n before;
+      in_use = λ s is'. states s ∙ k.in_use s (sym (ap (λ (x : Plain). x.current) same) ∙ is');
       unused = λ s state is' not.
-          let before : state_of p s ≡ Some state = sym (plain.0.state s) ∙ (sym (states s) ∙ is') in
+          let before : state_of p s ≡ Some state = sym (states s) ∙ is' in
           let other : segment ≢ s = λ e. not (same_Some state InUse (sym before ∙ (ap (state_of p) (sym e) ∙ k.in_use segment current))) in
-          subst (λ h. NoneStandsIn (after b.shape (event.seen h)) s) (sym at)
-          (empty_then b (Linked (number p) request segment row position) p r s d (owns_stated b p s state is before) (λ x q' i n e. other (same_Some segment s (ap linked_at e))) (k.unused s state before not));
+          empty_then b (Linked (number p) request segment row position) p r s d (owns_stated b p s state is before) (λ x q' i n e. other (same_Some segment s (ap linked_at e))) (k.unused s state before not);
     }
 
+-- what is known of the segments after a refilling
+module _ (x : Plain) (segment deadline : ℕ) where
+  abbrev emptied : Plain
+  emptied = with_used segment 0 (with_state segment InUse x)
+
+  pub refilled_owner : owner_of (refilled segment deadline x) ≡ owner_of x
+  refilled_owner = owner_lasting emptied segment deadline ∙ (owner_counted (with_state segment InUse x) segment 0 ∙ owner_stated x segment InUse)
+
+  pub refilled_state : IsSome (own_segment x segment) → state_in (own_segment (refilled segment deadline x) segment) ≡ Some InUse
+  refilled_state there = state_lasting emptied segment deadline segment ∙ (state_kept (with_state segment InUse x) segment 0 segment ∙ state_set x segment InUse there)
+
+  still_there : IsSome (own_segment x segment) → IsSome (own_segment (with_state segment InUse x) segment)
+  still_there there = sym (state_there (own_segment (with_state segment InUse x) segment)) ∙ ap is_some (state_set x segment InUse there)
+
+  pub refilled_used : IsSome (own_segment x segment) → used_in (own_segment (refilled segment deadline x) segment) ≡ Some 0
+  refilled_used there = used_lasting emptied segment deadline segment ∙ used_set (with_state segment InUse x) segment 0 (still_there there)
+
+  pub refilled_deadline : IsSome (own_segment x segment) → deadline_in (own_segment (refilled segment deadline x) segment) ≡ Some deadline
+  refilled_deadline there = deadline_set emptied segment deadline
+      (sym (used_there (own_segment emptied segment)) ∙ ap is_some (used_set (with_state segment InUse x) segment 0 (still_there there)))
+
+  pub others_state : (s : ℕ) → s ≢ segment → state_in (own_segment (refilled segment deadline x) s) ≡ state_in (own_segment x s)
+  others_state s ne = state_lasting emptied segment deadline s ∙ (state_kept (with_state segment InUse x) segment 0 s ∙ state_apart x segment InUse s ne)
+
+  pub others_used : (s : ℕ) → s ≢ segment → used_in (own_segment (refilled segment deadline x) s) ≡ used_in (own_segment x s)
+  others_used s ne = used_lasting emptied segment deadline s ∙ (used_apart (with_state segment InUse x) segment 0 s ne ∙ used_kept x segment InUse s)
+
+  pub others_last : (s : ℕ) → s ≢ segment → deadline_in (own_segment (refilled segment deadline x) s) ≡ deadline_in (own_segment x s)
+  others_last s ne = deadline_apart emptied segment deadline s ne
+      ∙ (deadline_counted (with_state segment InUse x) segment 0 s ∙ deadline_stated x segment InUse s)
+
 -- the segment was refilled, and is in use, current, with no row used
-pub keeps_refilled : (b : Board) (p r q : Pass) (segment : ℕ) → AddsAtOnce b (Refilled (number p) segment ∷ []) p r → r.plain ≡ p.plain → owner b.shape segment ≡ number p
-    → q.seat ≡ r.seat → current_of q ≡ Some segment → state_of q segment ≡ Some InUse → ((s : ℕ) → s ≢ segment → state_of q s ≡ state_of r s) → used_of q segment ≡ Some 0 → ((s : ℕ) → s ≢ segment → used_of q s ≡ used_of r s)
-    → IsPassOf b p → KeepsSegments b p → KeepsSegments b q
-keeps_refilled b p r q segment d same own seat current now states empty others is k =
-    let plain = same_plain p r same in let at = seat_trace r q seat in let e = Refilled (number p) segment in
-    let old_used : (s u : ℕ) → segment ≢ s → used_of q s ≡ Some u → used_of p s ≡ Some u = λ s u other there. sym (plain.0.used s) ∙ (sym (others s (λ x. other (sym x))) ∙ there) in record {
+pub keeps_refilled : (b : Board) (p r : Pass) (segment deadline : ℕ) (state : SegState) → AddsAtOnce b (Refilled (number p) segment deadline ∷ []) p r → r.plain ≡ p.plain → state_of p segment ≡ Some state
+    → IsPassOf b p → KeepsSegments b p → KeepsSegments b (record r { plain = refilled segment deadline r.plain })
+keeps_refilled b p r segment deadline state d same was is k =
+    let q : Pass = record r { plain = refilled segment deadline r.plain } in let e = Refilled (number p) segment deadline in
+    let there_now : IsSome (own_segment r.plain segment) = sym (state_there (own_segment r.plain segment)) ∙ ap is_some (same_states p r segment same ∙ was) in
+    let still = moved_still b _ p r (refilled segment deadline r.plain) d.moved (refilled_owner r.plain segment deadline) in
+    let known_owner : (s n : ℕ) → deadline_of q s ≡ Some n → owner b.shape s ≡ number p = (λ s n there. owns_lasting b q s n still.pass there ∙ still.same) in
+    let now : state_of q segment ≡ Some InUse = refilled_state r.plain segment deadline there_now in
+    let empty : used_of q segment ≡ Some 0 = refilled_used r.plain segment deadline there_now in
+    let old_used : (s u : ℕ) → segment ≢ s → used_of q s ≡ Some u → used_of p s ≡ Some u = λ s u other there. sym (others_used r.plain segment deadline s (λ x. other (sym x)) ∙ same_used p r s same) ∙ there in record {
       few = λ s u there. ⊎_elim
           (λ x. let y : 0 ≡ u = same_Some 0 u (sym empty ∙ (ap (used_of q) x ∙ there)) in omega arith)
           (λ other. k.few s u (old_used s u other there))
           (cases_eq segment s);
-      rows = λ s u i there below. ap (λ h. is_some (row_after h s i).linked) at ∙ ⊎_elim
+      rows = λ s u i there below. ⊎_elim
           (λ x. let y : 0 ≡ u = same_Some 0 u (sym empty ∙ (ap (used_of q) x ∙ there)) in
-          ap (λ (v : Row). is_some v.linked) (stepped_row b e p r s i d (ap (owner b.shape) (sym x) ∙ own) ∙ cond-true (eqb segment s) (writes_row e (row_after (trace p) s i)) (row_after (trace p) s i) (eq-eqb segment s x))
+          ap (λ (v : Row). is_some v.linked) (stepped_row b e p r s i d (ap (owner b.shape) (sym x) ∙ owns_stated b p segment state is was) ∙ cond-true (eqb segment s) (writes_row e (row_after (trace p) s i)) (row_after (trace p) s i) (eq-eqb segment s x))
           ∙ (sym (le-ltb i 0 (omega arith)) ∙ ap (nat_lt i) y))
           (λ other. let before = old_used s u other there in
           ap (λ (v : Row). is_some v.linked) (stepped_row b e p r s i d (owns_used b p s u is before) ∙ cond-false (eqb segment s) (writes_row e (row_after (trace p) s i)) (row_after (trace p) s i) (ne_eqb segment s other)) ∙ k.rows s u i before below)
           (cases_eq segment s);
-      in_use = λ s is'. ap (state_of q) (sym (same_Some segment s (sym current ∙ is'))) ∙ now;
-      unused = λ s state is' not.
-          let other : segment ≢ s = λ x. not (same_Some state InUse (sym is' ∙ (ap (state_of q) (sym x) ∙ now))) in
-          let before : state_of p s ≡ Some state = sym (plain.0.state s) ∙ (sym (states s (λ x. other (sym x))) ∙ is') in
-          subst (λ h. NoneStandsIn (after b.shape (event.seen h)) s) (sym at)
-          (empty_then b e p r s d (owns_stated b p s state is before) (λ x q' i n same. none-some s (ap linked_at same)) (k.unused s state before not));
+      deadlines = λ s n there. let lasts : segment_of.deadline_of (trace r) s ≡ cond (eqb segment s) deadline (segment_of.deadline_of (trace p) s) =
+          ap (λ h. segment_of.deadline_of h s) d.now ∙ ap (cond (eqb segment s) deadline) (others_deadline b _ p r s d (known_owner s n there)) in ⊎_elim
+          (λ x. let y : deadline ≡ n = same_Some deadline n (sym (refilled_deadline r.plain segment deadline there_now) ∙ (ap (deadline_of q) x ∙ there)) in
+          deadline_seen b.shape (trace r) s ∙ (lasts ∙ (cond-true (eqb segment s) deadline (segment_of.deadline_of (trace p) s) (eq-eqb segment s x) ∙ y)))
+          (λ other. let before : deadline_of p s ≡ Some n = sym (others_last r.plain segment deadline s (λ x. other (sym x)) ∙ same_deadlines p r s same) ∙ there in
+          same_cached b.shape (trace p) (trace r) s (lasts ∙ cond-false (eqb segment s) deadline (segment_of.deadline_of (trace p) s) (ne_eqb segment s other)) ∙ k.deadlines s n before)
+          (cases_eq segment s);
+      in_use = λ s is'. ap (state_of q) (sym (same_Some segment s is')) ∙ now;
+      unused = λ s n is' not.
+          let other : segment ≢ s = λ x. not (same_Some n InUse (sym is' ∙ (ap (state_of q) (sym x) ∙ now))) in
+          let before : state_of p s ≡ Some n = sym (others_state r.plain segment deadline s (λ x. other (sym x)) ∙ same_states p r s same) ∙ is' in
+          empty_then b e p r s d (owns_stated b p s n is before) (λ x q' i n same. none-some s (ap linked_at same)) (k.unused s n before not);
     }

@@ -1,17 +1,12 @@
 -- A pass that only looks: looks add up, and what it may read stays as it is.
 use Rattle.std.proofs.Common.{◌≡◌, ℕ, ◌<◌, List, [], ◌++◌, refl, sym, ap, ◌∙◌, subst, append_assoc, arith}
 use Rattle.std.specs.Prelude.{slice_index}
-use Rattle.segcore.specs.Event.{NoneBy}
-use Rattle.segword.specs.Row.{row_of}
-use Rattle.segcore.specs.Row.{Row, row_after}
-use Rattle.segcore.specs.Lawful.{IsLawful}
-use Rattle.segcore.specs.Kind.{MayRead, May, row_load}
+use Rattle.segcore.specs.Words.{IsLawful, May, MayRead, NoneBy, Row, row_after, row_load}
+use Rattle.segword.specs.Words.{row_of}
 use Rattle.segcore.proofs.Readable.{read_row, may_read}
 use Rattle.segcore.proofs.Moments.{none_both}
-use Rattle.segbase.specs.declared.board.Board.{Board}
-use Rattle.segbase.specs.declared.pass.Pass.{Pass}
 use Rattle.segbase.specs.declared.place.RowPlace.{RowPlace}
-use Rattle.segbase.specs.Passes.{number, trace, AddsAtOnce, Stepped}
+use Rattle.segbase.specs.Words.{AddsAtOnce, Board, number, Pass, Stepped, trace}
 use Rattle.segbase.proofs.Moves.{moved_then}
 use Rattle.segstore.specs.Reading.{OnlyLooks, IsReadable, ReadsRow, four_words}
 

@@ -1,8 +1,6 @@
 -- A pass that reads, one call after another.
 use Rattle.std.proofs.Common.{ℕ, refl, ◌∙◌}
-use Rattle.segbase.specs.declared.board.Board.{Board}
-use Rattle.segbase.specs.declared.pass.Pass.{Pass}
-use Rattle.segbase.specs.Passes.{IsPassOf}
+use Rattle.segbase.specs.Words.{Board, IsPassOf, Pass}
 use Rattle.segbase.proofs.Moves as moves
 use Rattle.segstore.specs.Reading.{OnlyLooks, IsReader, IsReaderIn, Enters, LeavesSegment}
 

@@ -2,17 +2,11 @@
 use Rattle.std.proofs.Common.{◌≡◌, ℕ, ◌+◌, ◌<◌, eqb, List, [], ◌∷◌, refl, sym, ap, ◌∙◌, subst, ⊎_elim, arith, cond, add-one}
 use Rattle.std.proofs.lemmas.Bool.{cases_eq, cond-true, cond-false, eq-eqb, ne_eqb, and_from}
 use Rattle.std.specs.Prelude.{slice_index}
-use Rattle.segmodel.specs.Cache.{with_at}
-use Rattle.segmodel.specs.Places.{owner}
-use Rattle.segcore.specs.declared.event.Event.{Event}
+use Rattle.segmodel.specs.Words.{owner, with_at}
 use Rattle.segcore.specs.declared.event.Event.TheVariants.{Filled}
-use Rattle.segcore.specs.Event.{NoneBy}
-use Rattle.segcore.specs.Lawful.{IsOwnRow}
-use Rattle.segcore.specs.Row.{Row, writes_row, row_at, row_after}
+use Rattle.segcore.specs.Words.{Event, IsOwnRow, NoneBy, Row, row_after, row_at, writes_row}
 use Rattle.segcore.proofs.Quiet.{quiet_row}
-use Rattle.segbase.specs.declared.board.Board.{Board}
-use Rattle.segbase.specs.declared.pass.Pass.{Pass}
-use Rattle.segbase.specs.Passes.{number, trace, IsPassOf, AddsEvents, AddsAtOnce}
+use Rattle.segbase.specs.Words.{AddsAtOnce, AddsEvents, Board, IsPassOf, number, Pass, trace}
 use Rattle.segbase.proofs.Moves.{stays, moved_then}
 use Rattle.segstore.specs.Rows.{fills}
 

@@ -1,25 +1,13 @@
 -- A second look at an item word, and reads of the item's row after it.
 use Rattle.std.proofs.Common.{◌≡◌, ℕ, ◌/◌, ◌^◌, ◌<◌, ◌≤◌, List, [], ◌++◌, Option, Some, refl, sym, ap, ◌∙◌, subst, inl, inr, append_assoc}
 use Rattle.std.specs.Prelude.{IfSome}
-use Rattle.segword.specs.Bytes.{IsKey, IsValue}
-use Rattle.segword.specs.SameItem.{IsSameItem}
-use Rattle.segword.specs.ItemWord.{item_word}
-use Rattle.segword.specs.declared.item.Item.{Item}
-use Rattle.segword.specs.declared.shape.Shape.{Shape}
-use Rattle.segcore.specs.declared.event.Event.{Event}
-use Rattle.segcore.specs.Row.{Row, Holds, row_after}
-use Rattle.segcore.specs.Segment.{inside, NoneRefills}
-use Rattle.segcore.specs.Lawful.{IsSegment}
-use Rattle.segbase.specs.declared.board.Board.{Board}
-use Rattle.segbase.specs.declared.pass.Pass.{Pass}
-use Rattle.segbase.specs.declared.place.Place.{Place}
-use Rattle.segbase.specs.Passes.{number, trace, AddsAtOnce, Stepped}
+use Rattle.segword.specs.Words.{IsKey, IsSameItem, IsValue, Item, item_word, Shape}
+use Rattle.segcore.specs.Words.{Event, Holds, inside, IsSegment, look, NoneRefills, Row, row_after}
+use Rattle.segbase.specs.Words.{AddsAtOnce, Board, cell_at, number, Pass, Place, Stepped, trace}
 use Rattle.segcore.proofs.Moments.{begins_on}
 use Rattle.segbase.proofs.Alone.{moved_alone}
 use Rattle.segbase.proofs.Moves.{moved_inside, moved_on}
 use Rattle.segbase.proofs.Staying.{none_both}
-use Rattle.segcore.specs.Kind.{look}
-use Rattle.segbase.specs.Spots.{cell_at}
 use Rattle.segstore.specs.Reading.{OnlyLooks, IsReadable, ReadsRow}
 use Rattle.segstore.specs.Linked.{segment_part, row_part, word_of_place, IsChained, WasLinked, SawItem, FoundItem, FoundKey, SeesAgain}
 use Rattle.segstore.proofs.Looks.{looked_then}

@@ -1,24 +1,16 @@
 -- What the words of a chain's places are: their parts, and the item that stands there.
 use Rattle.std.proofs.Common.{◌≡◌, ℕ, ◌+◌, ◌-◌, ◌*◌, ◌/◌, ◌%◌, ◌^◌, ◌<◌, ◌≤◌, Bool, true, false, cond, ltb, List, refl, sym, ap, ◌∙◌, subst, ⊎_elim, arith}
 use Rattle.std.proofs.lemmas.Nat.{div-mul-add, mod-mul-add}
-use Rattle.segword.specs.declared.shape.Shape.{Shape}
-use Rattle.segword.specs.Shape.{IsValid}
-use Rattle.segword.specs.SameItem.{IsSameItem}
-use Rattle.segmodel.specs.Places.{tag_of}
-use Rattle.segmodel.specs.History.{Begins}
-use Rattle.segcore.specs.declared.event.Event.{Event}
+use Rattle.segword.specs.Words.{IsSameItem, IsValid, Shape}
+use Rattle.segmodel.specs.Words.{Begins, tag_of}
 use Rattle.segcore.specs.declared.cell.Cell.TheVariants.{OfBucket, OfOverflow}
-use Rattle.segcore.specs.ItemWord.{packed}
-use Rattle.segcore.specs.Lawful.{IsLawful}
-use Rattle.segcore.specs.Overflow.{home_of}
-use Rattle.segcore.specs.Word.{IsAt, IsItemAt}
-use Rattle.segcore.specs.Standing.{Names, ChainsOn, IsOfKey}
+use Rattle.segcore.specs.Words.{ChainsOn, Event, home_of, IsAt, IsItemAt, IsLawful, IsOfKey, Names}
+use Rattle.segcore.specs.Words.{packed}
 use Rattle.segcore.proofs.Limits.{few_drawn, low_row, low_segment}
 use Rattle.segcore.proofs.Standing.{coherent}
 use Rattle.segcore.proofs.Exact.{named_at, says_of_keys}
 use Rattle.segcore.proofs.ChainWords.{place_stays}
-use Rattle.segbase.specs.declared.place.Place.{Place}
-use Rattle.segbase.specs.Spots.{cell_at, position, home_bucket, home_in, depth_of}
+use Rattle.segbase.specs.Words.{cell_at, depth_of, home_bucket, home_in, Place, position}
 use Rattle.segbase.proofs.Placed.{item_home}
 use Rattle.segbase.proofs.Standing.{tag_of_word}
 use Rattle.segstore.specs.Linked.{segment_part, row_part, word_of_place, IsChained, WasLinked}

@@ -4,3 +4,4 @@ pub mod Reading
 pub mod Segments
 pub mod Rows
 pub mod Refilling
+pub mod Words

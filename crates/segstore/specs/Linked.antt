@@ -1,27 +1,12 @@
 -- Item words that a pass looks at a second time, in whose segment it is: what stood there, and that its row is still the one.
 use Rattle.std.specs.Prelude.{◌≡◌, ◌≢◌, ℕ, ◌/◌, ◌%◌, ◌^◌, ◌<◌, List, ◌++◌, Some}
-use Rattle.segword.specs.declared.shape.Shape.{Shape}
-use Rattle.segword.specs.Bytes.{IsKey, IsValue}
-use Rattle.segword.specs.declared.item.Item.{Item}
-use Rattle.segword.specs.ItemWord.{item_word, tag_part}
-use Rattle.segword.specs.SameItem.{IsSameItem}
-use Rattle.segmodel.specs.Places.{bucket_of, tag_of}
-use Rattle.segmodel.specs.Cache.{standing}
-use Rattle.segmodel.specs.History.{IsBetween, after}
-use Rattle.segcore.specs.declared.event.Event.{Event}
-use Rattle.segcore.specs.Event.{seen}
-use Rattle.segcore.specs.Row.{Holds, row_after}
-use Rattle.segcore.specs.Lawful.{IsLawful, IsSegment}
-use Rattle.segcore.specs.Segment.{inside, NoneRefills}
-use Rattle.segcore.specs.Word.{IsItemAt}
+use Rattle.segword.specs.Words.{IsKey, IsSameItem, IsValue, Item, item_word, Shape, tag_part}
+use Rattle.segmodel.specs.Words.{after, bucket_of, IsBetween, standing, tag_of}
+use Rattle.segcore.specs.Words.{cached, Event, Holds, inside, IsItemAt, IsLawful, IsSegment, KeyAt}
+use Rattle.segcore.specs.Words.{NoneRefills, row_after, seen}
 use Rattle.segcore.specs.Word as core
-use Rattle.segcore.specs.Search.{KeyAt}
-use Rattle.segcore.specs.Standing.{cached}
-use Rattle.segbase.specs.declared.board.Board.{Board}
-use Rattle.segbase.specs.declared.pass.Pass.{Pass}
-use Rattle.segbase.specs.declared.place.Place.{Place}
-use Rattle.segbase.specs.Passes.{number, trace}
-use Rattle.segbase.specs.Spots.{IsPlace, cell_at, position, home_bucket}
+use Rattle.segbase.specs.Words.{Board, cell_at, home_bucket, IsPlace, number, Pass, Place, position}
+use Rattle.segbase.specs.Words.{trace}
 use Rattle.segstore.specs.Reading.{IsReadable}
 use Rattle.segstore.specs.declared.read.Linked.{Linked}
 use Rattle.segstore.specs.declared.read.Linked.TheVariants as linked

@@ -1,7 +1,6 @@
 -- What a pass keeps of its own segments has at most one proof, so that a struct may keep it in a ghost field.
 use Rattle.std.proofs.Props.{props}
-use Rattle.segbase.specs.declared.board.Board.{Board}
-use Rattle.segbase.specs.declared.pass.Pass.{Pass}
+use Rattle.segbase.specs.Words.{Board, Pass}
 use Rattle.segstore.specs.Segments.{KeepsSegments}
 
 pub KeepsSegments-prop : (b : Board) (p : Pass) → IsProp (KeepsSegments b p)

@@ -1,12 +1,9 @@
 -- What a pass reads of a row, and what it does by that.
 use Rattle.std.specs.Prelude.{◌≡◌, ℕ, ◌+◌, ◌<◌, List, [], ◌∷◌}
-use Rattle.segcore.specs.Row.{row_after}
-use Rattle.segcore.specs.Lawful.{IsSegment}
-use Rattle.segcore.specs.Kind.{MayRead}
-use Rattle.segbase.specs.declared.board.Board.{Board}
-use Rattle.segbase.specs.declared.pass.Pass.{Pass}
+use Rattle.segcore.specs.Words.{IsSegment, MayRead, row_after}
 use Rattle.segcore.specs.declared.event.Event.TheVariants.{Entered, Left}
-use Rattle.segbase.specs.Passes.{sight, number, trace, AddsAtOnce, AddsEvents, Reads, ReadsIn}
+use Rattle.segbase.specs.Words.{AddsAtOnce, AddsEvents, Board, number, Pass, Reads, ReadsIn, sight}
+use Rattle.segbase.specs.Words.{trace}
 
 -- the pass only looked: it added nothing to what others did, and what it keeps is as it was
 pub record OnlyLooks (b : Board) (p q : Pass) : Type 0 where

@@ -1,9 +1,15 @@
 -- What the writing of a row adds to a trace.
 use Rattle.std.specs.Prelude.{ℕ, zero, suc, List, [], ◌∷◌, slice_index}
-use Rattle.segcore.specs.declared.event.Event.{Event}
+use Rattle.segcore.specs.Words.{Event}
 use Rattle.segcore.specs.declared.event.Event.TheVariants.{Filled}
+use Rattle.segword.specs.Words.{row_of}
+use Rattle.segbase.specs.Words.{AddsEvents, Board, number, Pass}
 
 -- the pass stored the first words into the row, one after another
 unfoldable pub fills : ℕ → ℕ → ℕ → List ℕ → ℕ → List Event
 fills pass segment row words zero = []
 fills pass segment row words (suc place) = Filled pass segment row place (slice_index words place) ∷ fills pass segment row words place
+
+-- it stored the eight words of the pair, and did nothing else
+abbrev pub FillsRow : Board → ℕ → ℕ → List ℕ → List ℕ → Pass → Pass → Type 0
+FillsRow b segment row key value p q = AddsEvents b (fills (number p) segment row (row_of key value) 8) p q

@@ -1,14 +1,10 @@
 -- What a pass keeps of its own segments, and that this is so.
 use Rattle.std.specs.Prelude.{◌≡◌, ◌≢◌, ℕ, ◌<◌, ◌≤◌, nat_lt, Bool, false, is_some, Option, Some, None, option_and_then}
-use Rattle.segword.specs.declared.shape.Shape.{Shape}
-use Rattle.segmodel.specs.declared.answer.SegState.{SegState}
+use Rattle.segword.specs.Words.{Shape}
 use Rattle.segmodel.specs.declared.answer.SegState.TheVariants.{InUse}
-use Rattle.segmodel.specs.History.{after, NoneStandsIn}
-use Rattle.segcore.specs.Row.{row_after}
-use Rattle.segbase.specs.declared.board.Board.{Board}
-use Rattle.segbase.specs.declared.pass.Pass.{Pass}
-use Rattle.segbase.specs.Passes.{trace, seen}
-use Rattle.segbase.specs.Plain.{current_of, state_of, used_of}
+use Rattle.segmodel.specs.Words.{after, NoneStandsIn, SegState}
+use Rattle.segcore.specs.Words.{row_after}
+use Rattle.segbase.specs.Words.{Board, current_of, deadline_of, Pass, seen, state_of, trace, used_of}
 
 -- the pass's plain part says what is so of its own segments
 pub record KeepsSegments (b : Board) (p : Pass) : Type 0 where
@@ -16,6 +12,8 @@ pub record KeepsSegments (b : Board) (p : Pass) : Type 0 where
   pub few : (segment used : ℕ) → used_of p segment ≡ Some used → used ≤ b.shape.rows
   -- the rows that an item was linked to in this filling are the used ones
   pub rows : (segment used row : ℕ) → used_of p segment ≡ Some used → row < b.shape.rows → is_some (row_after (trace p) segment row).linked ≡ nat_lt row used
+  -- the deadline of a segment is the one that it knows
+  pub deadlines : (segment deadline : ℕ) → deadline_of p segment ≡ Some deadline → (after b.shape (seen p)).deadline segment ≡ deadline
   -- the segment that it stores into is in use
   pub in_use : (segment : ℕ) → current_of p ≡ Some segment → state_of p segment ≡ Some InUse
   -- no key stands in a segment that isn't in use

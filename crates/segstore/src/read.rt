@@ -1,10 +1,11 @@
 //! Second looks at item words, by a pass that is in their segment, and what their rows hold.
 ghost use Rattle.std.specs.Prelude.{◌<◌, IfOk, IfErr};
-ghost use Rattle.segword.specs.SameItem.{IsSameItem};
-ghost use Rattle.segcore.specs.Segment.{inside};
-ghost use Rattle.segbase.specs.Passes.{number, trace, IsPassOf};
+ghost use Rattle.segword.specs.Words.{IsSameItem};
+ghost use Rattle.segcore.specs.Words.{inside};
+ghost use Rattle.segbase.specs.Words.{IsPassOf, number, trace};
 ghost use Rattle.segstore.specs.Reading.{OnlyLooks};
-ghost use Rattle.segstore.specs.Linked.{segment_part, IsChained, SawWord, SeesAgain, IsLinked, IsKeyed};
+ghost use Rattle.segstore.specs.Linked.{segment_part, IsChained, SawWord, SeesAgain, IsLinked};
+ghost use Rattle.segstore.specs.Linked.{IsKeyed};
 
 use crate::row::{pair_of_row, row_of_key};
 use segbase::{Board, Pass, Place};
@@ -22,7 +23,8 @@ pub enum Linked {
 /// What a second look found that was taken for a key.
 #[derive(Clone, Debug, Drop, PartialEq, Eq)]
 pub enum Keyed {
-    /// The same item, its frequency aside, and the key's: the item as it stands now, and word 0 of its row.
+    /// The same item, its frequency aside, and the key's: the item as it stands now,
+    /// and word 0 of its row.
     Same(Item, u64),
     /// The same item, and another key's: the item as it stands now.
     Other(Item),
@@ -30,7 +32,8 @@ pub enum Keyed {
     Changed(u64),
 }
 
-/// Looks again at a word of a chain that had this item, whose segment the pass is in, and reads the item's row.
+/// Looks again at a word of a chain that had this item, whose segment the pass is in,
+/// and reads the item's row.
 pub fn read_linked(board: &Board, pass: &mut Pass, place: Place, word: u64) -> Linked
     requires pass { IsPassOf board.now pass.old }
     requires place { IsChained board.now.shape (trace pass.old) place }
@@ -54,7 +57,8 @@ pub fn read_keyed(board: &Board, pass: &mut Pass, place: Place, word: u64, key: 
     requires place { IsChained board.now.shape (trace pass.old) place }
     requires inside { 0 < inside (trace pass.old) (number pass.old) (segment_part word) }
     ensures looked { OnlyLooks board.now pass.old pass.new }
-    ensures keyed { IsKeyed board.now.shape place word key.now result (trace pass.old) (trace pass.new) }
+    ensures keyed { IsKeyed board.now.shape place word key.now result
+        (trace pass.old) (trace pass.new) }
 {
     match look_again(board, pass, place, word) {
         Ok(item) => match row_of_key(board, pass, item.seg, item.row, key) {
@@ -65,14 +69,17 @@ pub fn read_keyed(board: &Board, pass: &mut Pass, place: Place, word: u64, key: 
     }
 }
 
-// The second look: the item as it stands now, its frequency aside the same, or the word that stands there.
+// The second look: the item as it stands now, its frequency aside the same,
+// or the word that stands there.
 fn look_again(board: &Board, pass: &mut Pass, place: Place, word: u64) -> Result<Item, u64>
     requires pass { IsPassOf board.now pass.old }
     requires place { IsChained board.now.shape (trace pass.old) place }
     requires inside { 0 < inside (trace pass.old) (number pass.old) (segment_part word) }
     ensures looked { OnlyLooks board.now pass.old pass.new }
     ensures same { IfOk result (λ item. SeesAgain board.now place word item pass.new) }
-    ensures other { IfErr result (λ now. SawWord board.now.shape place now (trace pass.old) (trace pass.new) × ¬ (IsSameItem word now)) }
+    ensures other { IfErr result (λ now.
+        SawWord board.now.shape place now (trace pass.old) (trace pass.new)
+        × ¬ (IsSameItem word now)) }
 {
     let now = board.look(pass, place);
     if !same_item(word, now) {

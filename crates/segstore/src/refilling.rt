@@ -2,19 +2,19 @@
 ghost use Rattle.std.specs.Prelude.{◌≡◌, ◌↔◌, Some, None};
 ghost use Rattle.segmodel.specs.declared.answer.RefillAnswer.TheVariants.{NotYours, NotEvicted};
 ghost use Rattle.segmodel.specs.declared.answer.SegState.TheVariants.{InUse};
-ghost use Rattle.segbase.specs.Passes.{IsPassOf};
-ghost use Rattle.segbase.specs.Plain.{state_of};
+ghost use Rattle.segbase.specs.Words.{IsPassOf, state_of};
 ghost use Rattle.segstore.specs.Segments.{KeepsSegments};
 ghost use Rattle.segstore.specs.Refilling.{IsOutcome};
 
 use segbase::{Board, Pass};
 use segmodel::{RefillAnswer, SegState};
 
-/// Makes a segment of the pass's own, in which no key stands and nobody reads, the one that it stores into, with no row used.
-pub fn refill(board: &Board, pass: &mut Pass, segment: u32) -> RefillAnswer
+/// Makes a segment of the pass's own, in which no key stands and nobody reads,
+/// the one that it stores into, with no row used and with this deadline.
+pub fn refill(board: &Board, pass: &mut Pass, segment: u32, deadline: u32) -> RefillAnswer
     requires pass { IsPassOf board.now pass.old }
     requires segments { KeepsSegments board.now pass.old }
-    ensures outcome { IsOutcome board.now segment result pass.old pass.new }
+    ensures outcome { IsOutcome board.now segment deadline result pass.old pass.new }
     ensures segments { KeepsSegments board.now pass.new }
     ensures not_yours { (result ≡ NotYours) ↔ (state_of pass.old segment ≡ None) }
     ensures in_use { (result ≡ NotEvicted) ↔ (state_of pass.old segment ≡ Some InUse) }
@@ -25,11 +25,13 @@ pub fn refill(board: &Board, pass: &mut Pass, segment: u32) -> RefillAnswer
     if state == SegState::InUse {
         return RefillAnswer::NotEvicted;
     }
-    if !board.none_reading(pass, segment) {
+    let old = pass.deadline(segment).unwrap_or(0);
+    if !board.none_reading(pass, segment, old, deadline) {
         return RefillAnswer::Held;
     }
     pass.set_state(segment, SegState::InUse);
     pass.set_used(segment, 0);
+    pass.set_deadline(segment, deadline);
     pass.set_current(Some(segment));
     RefillAnswer::Refilled
 }

@@ -1,6 +1,6 @@
 //! Whether a pass has a row left to store into.
 ghost use Rattle.std.specs.Prelude.{◌≡◌, ◌↔◌, ◌<◌, Some, false, IfOk, IsErr};
-ghost use Rattle.segbase.specs.Plain.{current_of, used_of};
+ghost use Rattle.segbase.specs.Words.{current_of, used_of};
 ghost use Rattle.segstore.specs.Segments.{has_room};
 
 use segbase::{Board, Pass};
@@ -18,7 +18,9 @@ pub fn has_room(board: &Board, pass: &Pass) -> bool
 
 /// The row that the pass stores into next: the first of its current segment that isn't used.
 pub fn next_row(board: &Board, pass: &Pass) -> Result<(u32, u32), NoRoom>
-    ensures next { IfOk result (λ next. (current_of pass.now ≡ Some next.0) × (used_of pass.now next.0 ≡ Some next.1) × (next.1 < board.now.shape.rows)) }
+    ensures next { IfOk result (λ next.
+        (current_of pass.now ≡ Some next.0) × (used_of pass.now next.0 ≡ Some next.1)
+        × (next.1 < board.now.shape.rows)) }
     ensures no_room { IsErr result ↔ (has_room board.now.shape pass.now ≡ false) }
 {
     let segment = pass.current().ok_or(NoRoom)?;

@@ -1,8 +1,8 @@
 //! Rows that a pass may read, word by word.
 ghost use Rattle.std.specs.Prelude.{◌≡◌, ℕ, ◌≤◌, ◌↔◌, List, IfSome, IsSome, Some};
-ghost use Rattle.segword.specs.Bytes.{IsKey, IsValue};
-ghost use Rattle.segcore.specs.Row.{row_after, Holds};
-ghost use Rattle.segbase.specs.Passes.{trace, IsPassOf};
+ghost use Rattle.segword.specs.Words.{IsKey, IsValue};
+ghost use Rattle.segcore.specs.Words.{Holds, row_after};
+ghost use Rattle.segbase.specs.Words.{IsPassOf, trace};
 ghost use Rattle.segstore.specs.Reading.{IsReadable, ReadsRow, four_words};
 
 use segbase::{Board, Pass};
@@ -24,7 +24,8 @@ fn load_words(board: &Board, pass: &mut Pass, segment: u32, row: u32, from: u8) 
     [first, second, third, fourth]
 }
 
-/// Word 0 of a row, where the row is one of the key: its first four words are compared with the key's.
+/// Word 0 of a row, where the row is one of the key:
+/// its first four words are compared with the key's.
 #[inline(always)]
 pub fn row_of_key(
     board: &Board,
@@ -36,9 +37,11 @@ pub fn row_of_key(
     requires pass { IsPassOf board.now pass.old }
     requires readable { IsReadable board.now pass.old segment row }
     ensures reads { ReadsRow board.now pass.old pass.new segment row }
-    ensures header { IfSome result (λ word. word ≡ (row_after (trace pass.new) segment row).words 0) }
+    ensures header { IfSome result (λ word.
+        word ≡ (row_after (trace pass.new) segment row).words 0) }
     ensures key { (held value : List ℕ) → IsKey held → IsValue value
-        → Holds (row_after (trace pass.new) segment row) held value → IsSome result ↔ (held ≡ key.now) }
+        → Holds (row_after (trace pass.new) segment row) held value
+        → IsSome result ↔ (held ≡ key.now) }
 {
     let words = load_words(board, pass, segment, row, 0);
     if !key.begins(&words) {

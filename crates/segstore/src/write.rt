@@ -1,19 +1,17 @@
 //! Rows written before an item names them.
 ghost use Rattle.std.specs.Prelude.{◌≡◌, ◌↔◌, Some, false, IfOk, IsErr};
-ghost use Rattle.segword.specs.Bytes.{IsValue};
-ghost use Rattle.segword.specs.Row.{row_of};
-ghost use Rattle.segcore.specs.Row.{Holds, row_after};
-ghost use Rattle.segcore.specs.Lawful.{IsOwnRow};
-ghost use Rattle.segbase.specs.Passes.{sight, number, trace, IsPassOf, AddsEvents};
-ghost use Rattle.segbase.specs.Plain.{current_of, used_of};
-ghost use Rattle.segstore.specs.Rows.{fills};
+ghost use Rattle.segword.specs.Words.{IsValue};
+ghost use Rattle.segcore.specs.Words.{Holds, IsOwnRow, row_after};
+ghost use Rattle.segbase.specs.Words.{current_of, IsPassOf, number, sight, trace, used_of};
+ghost use Rattle.segstore.specs.Rows.{FillsRow};
 ghost use Rattle.segstore.specs.Segments.{KeepsSegments, has_room};
 
 use crate::room::{NoRoom, next_row};
 use segbase::{Board, Pass};
 use segword::{Key, KeyWords, Value};
 
-/// Writes a key and a value into the row that the pass stores into next, and tells its segment and its number. The row isn't counted as used by it.
+/// Writes a key and a value into the row that the pass stores into next,
+/// and tells its segment and its number. The row isn't counted as used by it.
 pub fn write_row(
     board: &Board,
     pass: &mut Pass,
@@ -22,10 +20,14 @@ pub fn write_row(
 ) -> Result<(u32, u32), NoRoom>
     requires pass { IsPassOf board.now pass.old }
     requires segments { KeepsSegments board.now pass.old }
-    ensures next { IfOk result (λ row. (current_of pass.old ≡ Some row.0) × (used_of pass.old row.0 ≡ Some row.1)) }
-    ensures moved { IfOk result (λ row. AddsEvents board.now (fills (number pass.old) row.0 row.1 (row_of key.now value.now) 8) pass.old pass.new) }
-    ensures own { IfOk result (λ row. IsOwnRow board.now.shape (trace pass.new) (number pass.new) row.0 row.1) }
-    ensures holds { IfOk result (λ row. Holds (row_after (trace pass.new) row.0 row.1) key.now value.now) }
+    ensures next { IfOk result (λ row.
+        (current_of pass.old ≡ Some row.0) × (used_of pass.old row.0 ≡ Some row.1)) }
+    ensures moved { IfOk result (λ row.
+        FillsRow board.now row.0 row.1 key.now value.now pass.old pass.new) }
+    ensures own { IfOk result (λ row.
+        IsOwnRow board.now.shape (trace pass.new) (number pass.new) row.0 row.1) }
+    ensures holds { IfOk result (λ row.
+        Holds (row_after (trace pass.new) row.0 row.1) key.now value.now) }
     ensures plain { pass.new.plain ≡ pass.old.plain }
     ensures memo { (sight pass.new).memo ≡ (sight pass.old).memo }
     ensures no_room { IsErr result ↔ (has_room board.now.shape pass.old ≡ false) }
@@ -36,7 +38,8 @@ pub fn write_row(
     Ok((segment, row))
 }
 
-/// Writes a key and a value into a row of the pass's own that no item named in this filling. The row isn't counted as used by it.
+/// Writes a key and a value into a row of the pass's own that no item named in this filling.
+/// The row isn't counted as used by it.
 pub fn fill_row(
     board: &Board,
     pass: &mut Pass,
@@ -47,7 +50,7 @@ pub fn fill_row(
 )
     requires pass { IsPassOf board.now pass.old }
     requires own { IsOwnRow board.now.shape (trace pass.old) (number pass.old) segment row }
-    ensures moved { AddsEvents board.now (fills (number pass.old) segment row (row_of key.now value.now) 8) pass.old pass.new }
+    ensures moved { FillsRow board.now segment row key.now value.now pass.old pass.new }
     ensures own { IsOwnRow board.now.shape (trace pass.new) (number pass.new) segment row }
     ensures holds { Holds (row_after (trace pass.new) segment row) key.now value.now }
     ensures valid { IsValue value.now }

@@ -1,7 +1,7 @@
 use Rattle.std.proofs.lemmas.Bool.{false≢true}
 use Rattle.std.proofs.Common.{refl}
-use Rattle.segword.specs.ItemWord.{item_word}
-use Rattle.segbase.specs.Passes.{trace}
+use Rattle.segword.specs.Words.{item_word}
+use Rattle.segbase.specs.Words.{trace}
 use Rattle.segstore.proofs.Seconds.{holds_item, saw_item, found_item, found_as, then_row}
 use Rattle.segstore.proofs.read.read_keyed.Goals as goal
 

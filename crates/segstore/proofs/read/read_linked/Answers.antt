@@ -1,7 +1,7 @@
 use Rattle.std.proofs.Common.{refl, sym, ap, ◌∙◌}
 use Rattle.std.proofs.lemmas.Option.{same_Some}
-use Rattle.segword.specs.ItemWord.{item_word}
-use Rattle.segbase.specs.Passes.{trace}
+use Rattle.segword.specs.Words.{item_word}
+use Rattle.segbase.specs.Words.{trace}
 use Rattle.segstore.proofs.Seconds.{holds_item, found_item, found_as, then_row}
 use Rattle.segstore.proofs.read.read_linked.Goals as goal
 

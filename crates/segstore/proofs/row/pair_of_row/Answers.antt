@@ -1,5 +1,5 @@
 use Rattle.std.proofs.Common.{ap, sym, ◌∙◌}
-use Rattle.segcore.specs.Row.{Row}
+use Rattle.segcore.specs.Words.{Row}
 use Rattle.segstore.specs.Reading.{four_words}
 use Rattle.segstore.proofs.Looks.{reads_then, whole_row}
 use Rattle.segstore.proofs.row.pair_of_row.Goals as goal

@@ -1,8 +1,7 @@
 use Rattle.std.proofs.Common.{◌≡◌, ℕ, ◌<◌}
 use Rattle.std.specs.Prelude.{slice_index}
-use Rattle.segcore.specs.Row.{row_after}
-use Rattle.segcore.specs.Lawful.{IsOwnRow}
-use Rattle.segbase.specs.Passes.{sight, number, trace, AddsEvents}
+use Rattle.segcore.specs.Words.{IsOwnRow, row_after}
+use Rattle.segbase.specs.Words.{AddsEvents, number, sight, trace}
 use Rattle.segstore.specs.Rows.{fills}
 use Rattle.segstore.proofs.write.fill_row.Given as goal
 

@@ -1,6 +1,5 @@
 use Rattle.std.proofs.Common.{◌≡◌, ◌+◌, ◌<◌, cond, eqb, ap, ◌∙◌, rules}
-use Rattle.segcore.specs.Count.{raised}
-use Rattle.segcore.specs.ItemWord.{packed}
+use Rattle.segcore.specs.Words.{packed, raised}
 use Rattle.segcore.proofs.Counts.{bump_raised}
 use Rattle.segbase.specs.Passes.{number, trace}
 use Rattle.segbase.specs.Steps.{freq_part}

@@ -1,4 +1,4 @@
-use Rattle.segcore.specs.Kind.{bump}
+use Rattle.segcore.specs.Words.{bump}
 use Rattle.segbase.specs.Passes.{trace}
 use Rattle.segbase.specs.Spots.{cell_at, position, home_bucket}
 use Rattle.segbase.specs.Steps.{freq_part}

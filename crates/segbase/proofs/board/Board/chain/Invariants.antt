@@ -1,4 +1,4 @@
-use Rattle.segcore.specs.Kind.{chain}
+use Rattle.segcore.specs.Words.{chain}
 use Rattle.segbase.specs.Passes.{trace}
 use Rattle.segbase.specs.Spots.{cell_at, home_bucket}
 use Rattle.segbase.proofs.board.Board.chain.Given as goal

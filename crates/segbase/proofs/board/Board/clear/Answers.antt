@@ -1,5 +1,5 @@
 use Rattle.std.proofs.Common.{refl}
-use Rattle.segmodel.specs.Places.{bucket_of}
+use Rattle.segmodel.specs.Words.{bucket_of}
 use Rattle.segbase.proofs.Exchanging.{missed}
 use Rattle.segbase.proofs.board.Board.clear.Goals as goal
 

@@ -1,4 +1,4 @@
-use Rattle.segcore.specs.Kind.{clear}
+use Rattle.segcore.specs.Words.{clear}
 use Rattle.segbase.specs.Passes.{trace}
 use Rattle.segbase.specs.Spots.{cell_at, position, place_in}
 use Rattle.segbase.proofs.board.Board.clear.Given as goal

@@ -1,5 +1,5 @@
 use Rattle.std.proofs.Common.{◌<◌, ap, sym, subst, ◌∙◌, arith}
-use Rattle.segword.specs.declared.shape.Shape.{Shape}
+use Rattle.segword.specs.Words.{Shape}
 use Rattle.segbase.proofs.Dealt.{deals}
 use Rattle.segbase.proofs.Passes.{get_first, one_more}
 use Rattle.segbase.proofs.board.Board.deal.Goals as goal

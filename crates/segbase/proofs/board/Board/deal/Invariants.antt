@@ -1,5 +1,5 @@
 use Rattle.std.proofs.Common.{◌≡◌, Some, slice_get}
-use Rattle.segbase.specs.declared.pass.Pass.{Pass}
+use Rattle.segbase.specs.Words.{Pass}
 use Rattle.segbase.specs.Passes.{view}
 use Rattle.segbase.specs.Made.{IsDealt}
 use Rattle.segbase.proofs.board.Board.deal.Given as goal

@@ -1,5 +1,5 @@
 use Rattle.std.proofs.Common.{◌≤◌, sym, subst, arith}
-use Rattle.segcore.specs.Overflow.{drawn_in}
+use Rattle.segcore.specs.Words.{drawn_in}
 use Rattle.segbase.specs.Passes.{trace}
 use Rattle.segbase.specs.Steps.{CounterMissed}
 use Rattle.segbase.proofs.Exchanging.{drawn_few_enough, counter_missed}

@@ -1,4 +1,4 @@
-use Rattle.segcore.specs.Kind.{draw}
+use Rattle.segcore.specs.Words.{draw}
 use Rattle.segbase.specs.Spots.{bucket_in}
 use Rattle.segbase.specs.Steps.{depth_to_draw}
 use Rattle.segbase.proofs.board.Board.draw_overflow.Given as goal

@@ -1,4 +1,4 @@
-use Rattle.segcore.specs.Kind.{enter}
+use Rattle.segcore.specs.Words.{enter}
 use Rattle.segbase.specs.Spots.{segment_in}
 use Rattle.segbase.proofs.board.Board.enter.Given as goal
 

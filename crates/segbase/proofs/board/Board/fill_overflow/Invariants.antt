@@ -1,4 +1,4 @@
-use Rattle.segcore.specs.Kind.{fill}
+use Rattle.segcore.specs.Words.{fill}
 use Rattle.segbase.specs.Passes.{trace}
 use Rattle.segbase.specs.Spots.{number_in, home_bucket_of}
 use Rattle.segbase.proofs.board.Board.fill_overflow.Given as goal

@@ -1,4 +1,4 @@
-use Rattle.segcore.specs.Kind.{glance}
+use Rattle.segcore.specs.Words.{glance}
 use Rattle.segbase.specs.Spots.{bucket_in}
 use Rattle.segbase.specs.Steps.{has_bit}
 use Rattle.segbase.proofs.board.Board.glance.Given as goal

@@ -1,6 +1,5 @@
 use Rattle.std.proofs.Common.{◌≡◌, Option, IfSome, sym, subst}
-use Rattle.segword.specs.declared.info.Info.{Info}
-use Rattle.segword.specs.InfoWord.{info_word}
+use Rattle.segword.specs.Words.{Info, info_word}
 use Rattle.segbase.proofs.Taking.{looked}
 use Rattle.segbase.proofs.board.Board.info_look.Goals as goal
 

@@ -1,4 +1,4 @@
-use Rattle.segcore.specs.Kind.{info_look}
+use Rattle.segcore.specs.Words.{info_look}
 use Rattle.segbase.specs.Spots.{bucket_in}
 use Rattle.segbase.proofs.board.Board.info_look.Given as goal
 

@@ -1,4 +1,4 @@
-use Rattle.segcore.specs.Kind.{leave}
+use Rattle.segcore.specs.Words.{leave}
 use Rattle.segbase.specs.Spots.{segment_in}
 use Rattle.segbase.proofs.board.Board.leave.Given as goal
 

@@ -1,6 +1,5 @@
 use Rattle.std.proofs.Common.{refl}
-use Rattle.segmodel.specs.Request.{key_of}
-use Rattle.segmodel.specs.Places.{bucket_of}
+use Rattle.segmodel.specs.Words.{bucket_of, key_of}
 use Rattle.segbase.proofs.Exchanging.{hit, finds_nothing}
 use Rattle.segbase.proofs.board.Board.link.Goals as goal
 

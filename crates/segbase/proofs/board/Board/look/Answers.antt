@@ -1,6 +1,5 @@
 use Rattle.std.proofs.Common.{ap, sym, ◌∙◌}
-use Rattle.segcore.specs.declared.view.View.{View}
-use Rattle.segcore.specs.Word.{word}
+use Rattle.segcore.specs.Words.{View, word}
 use Rattle.segbase.specs.Spots.{cell_at}
 use Rattle.segbase.proofs.Standing.{reads}
 use Rattle.segbase.proofs.board.Board.look.Goals as goal

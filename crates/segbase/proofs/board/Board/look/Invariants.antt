@@ -1,4 +1,4 @@
-use Rattle.segcore.specs.Kind.{look}
+use Rattle.segcore.specs.Words.{look}
 use Rattle.segbase.specs.Spots.{cell_at, place_in}
 use Rattle.segbase.proofs.board.Board.look.Given as goal
 

@@ -1,5 +1,5 @@
 use Rattle.std.specs.Prelude.{◌==◌}
-use Rattle.segcore.specs.Kind.{release}
+use Rattle.segcore.specs.Words.{release}
 use Rattle.segbase.specs.Spots.{bucket_in}
 use Rattle.segbase.proofs.board.Board.release.Given as goal
 

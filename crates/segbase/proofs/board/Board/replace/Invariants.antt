@@ -1,4 +1,4 @@
-use Rattle.segcore.specs.Kind.{link}
+use Rattle.segcore.specs.Words.{link}
 use Rattle.segbase.specs.Passes.{trace}
 use Rattle.segbase.specs.Spots.{cell_at, position}
 use Rattle.segbase.proofs.board.Board.replace.Given as goal

@@ -1,4 +1,4 @@
-use Rattle.segcore.specs.Kind.{row_load}
+use Rattle.segcore.specs.Words.{row_load}
 use Rattle.segbase.specs.Spots.{segment_in, row_in, word_number_in}
 use Rattle.segbase.proofs.board.Board.row_load.Given as goal
 

@@ -1,7 +1,7 @@
 use Rattle.std.proofs.Common.{◌≡◌, ◌+◌, ◌<◌, refl, subst, sym, arith}
-use Rattle.segword.specs.Shape.{word_count}
+use Rattle.segword.specs.Words.{word_count}
 use Rattle.segcore.specs.declared.cell.Cell.TheVariants.{OfRow}
-use Rattle.segcore.specs.Word.{address}
+use Rattle.segcore.specs.Words.{address}
 use Rattle.segcore.proofs.Addresses.{in_count}
 use Rattle.segbase.proofs.board.Board.row_load_at.Goals as goal
 

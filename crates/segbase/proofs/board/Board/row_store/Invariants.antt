@@ -1,4 +1,4 @@
-use Rattle.segcore.specs.Kind.{row_store}
+use Rattle.segcore.specs.Words.{row_store}
 use Rattle.segbase.specs.Spots.{segment_in, row_in, word_number_in}
 use Rattle.segbase.proofs.board.Board.row_store.Given as goal
 

@@ -1,4 +1,4 @@
-use Rattle.segcore.specs.Kind.{take}
+use Rattle.segcore.specs.Words.{take}
 use Rattle.segbase.specs.Spots.{bucket_in}
 use Rattle.segbase.specs.Steps.{has_bit}
 use Rattle.segbase.proofs.board.Board.take.Given as goal

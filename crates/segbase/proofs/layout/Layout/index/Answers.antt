@@ -1,5 +1,5 @@
 use Rattle.std.proofs.Common.{subst, arith}
-use Rattle.segcore.specs.Word.{IsCell}
+use Rattle.segcore.specs.Words.{IsCell}
 use Rattle.segcore.specs.declared.cell.Cell.TheVariants.{OfSegment, OfRow}
 use Rattle.segcore.proofs.Addresses.{in_count}
 use Rattle.segbase.specs.Spots.{cell_of}
