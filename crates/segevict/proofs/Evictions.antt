@@ -1,78 +1,53 @@
 -- The eviction of a segment, row by row: what was taken out so far, and that no key stands there when all its rows are gone.
 use Rattle.std.proofs.Common.{◌≡◌, ◌≢◌, ℕ, ◌+◌, ◌<◌, ◌≤◌, Bool, true, false, cond, eqb, ◌&&◌, is_some, List, [], ◌∷◌, ◌++◌, length, Option, Some, None, refl, sym, ap, ◌∙◌, subst, inl, inr, ⊎_elim, arith}
-use Rattle.std.proofs.lemmas.Bool.{cases_eq, cases_Bool, cond-true, cond-false, ne_eqb, ltb-true}
+use Rattle.std.proofs.lemmas.Bool.{cases_eq, cases_Bool, cond-true, cond-false, eq-eqb, ne_eqb, ltb-true, false≢true}
 use Rattle.std.proofs.lemmas.Option.{none-some, same_Some}
-use Rattle.segmodel.specs.declared.entry.Entry.{Entry}
 use Rattle.segmodel.specs.declared.entry.Entry.TheVariants as entry
-use Rattle.segmodel.specs.declared.entry.Cached.{Cached}
-use Rattle.segmodel.specs.declared.answer.EvictAnswer.{EvictAnswer}
 use Rattle.segmodel.specs.declared.answer.EvictAnswer.TheVariants as evict
 use Rattle.segmodel.specs.declared.answer.SegState.TheVariants.{InUse, Evicted}
-use Rattle.segmodel.specs.Places.{bucket_of}
-use Rattle.segmodel.specs.History.{Begins, after, NoneStandsIn}
-use Rattle.segmodel.specs.State.{but_for}
-use Rattle.segcore.specs.declared.event.Event.{Event}
+use Rattle.segmodel.specs.Words.{after, Begins, bucket_of, but_for, Cached, Entry, EvictAnswer}
+use Rattle.segmodel.specs.Words.{NoneStandsIn}
 use Rattle.segcore.specs.declared.event.Event.TheVariants.{Bounced}
-use Rattle.segcore.specs.Event as event
 use Rattle.segcore.specs.Count as count
-use Rattle.segcore.specs.Row.{row_after}
-use Rattle.segcore.specs.Search.{RowGone}
-use Rattle.segcore.specs.Standing.{cached}
+use Rattle.segcore.specs.Words.{cached, Event, row_after, RowGone}
 use Rattle.segcore.proofs.Caches.{stands as standing_at, has_value}
 use Rattle.segcore.proofs.Moments.{begins_on}
 use Rattle.segcore.proofs.Standing.{coherent}
-use Rattle.segbase.specs.declared.board.Board.{Board}
-use Rattle.segbase.specs.declared.law.Memo.{Memo}
 use Rattle.segbase.specs.declared.pass.Plain.{Plain}
-use Rattle.segbase.specs.declared.pass.Pass.{Pass}
-use Rattle.segbase.specs.Passes.{number, trace, seen, mine, bounced, AddsEvents}
-use Rattle.segbase.specs.Plain.{current_of, state_of, used_of, locked_of, is_holding_of, SameOwner, SameSegments, SameButSegments}
-use Rattle.segbase.proofs.Moves.{stays, moved_mine}
-use Rattle.segbase.proofs.Owned.{moved_still}
-use Rattle.segstore.specs.Segments.{KeepsSegments}
-use Rattle.segstore.proofs.Keeping.{seat_trace, same_memo, same_plain}
+use Rattle.segbase.specs.Words.{Board, bounced, current_of, mine, number, own_segment, Pass, seen}
+use Rattle.segbase.specs.Words.{state_in, state_of, trace, used_of, with_current, with_state}
+use Rattle.segbase.proofs.Known.{state_set, state_apart, used_kept, owner_stated, deadline_stated}
+use Rattle.segbase.proofs.Moves.{stays}
+use Rattle.segbase.proofs.Owned.{owner_of, state_there, still_pass}
+use Rattle.segstore.specs.Words.{KeepsSegments}
+use Rattle.segstore.proofs.Keeping.{same_used}
 use Rattle.segevict.specs.declared.eviction.RowAnswer.TheVariants as row_answer
-use Rattle.segpass.specs.Quiet.{IsQuiet}
-use Rattle.segpass.specs.Calls.{memo, GoesOn, DrawsNothing, ReadsNothing}
-use Rattle.segevict.specs.Evicting.{AreEvictions, TriesForKeys, TakesOut, IsBarred, IsEvictAnswer}
+use Rattle.segpass.specs.Words.{DrawsNothing, GoesOn, IsQuiet, memo, ReadsNothing}
+use Rattle.segevict.specs.Evicting.{AreEvictions, ended, TriesForKeys, TakesOut, IsBarred, IsEvictAnswer}
 use Rattle.segevict.specs.Unlinking.{KeepsGone, EvictsRow}
-use Rattle.segpass.proofs.Bits.{bit_before}
-use Rattle.segpass.proofs.Draws.{moved_undrawn, draws_none_then}
-use Rattle.segevict.proofs.KeyTries.{no_tries, tries_then, tries_after}
-use Rattle.segpass.proofs.Quiet.{quiet_again, goes_on}
+use Rattle.segpass.proofs.Draws.{draws_none_then}
+use Rattle.segevict.proofs.KeyTries.{no_tries, tries_then}
 use Rattle.segevict.proofs.RowsOut.{goes_then, keeps_gone_then}
-use Rattle.segpass.proofs.Still.{no_reader, settles_still}
 
 -- ---- a change of the plain part alone
 
-module _ (b : Board) (p q : Pass) (quiet : IsQuiet b p) (seat : q.seat ≡ p.seat) (owner : SameOwner p q) where
-  unmoved : AddsEvents b [] p q
-  unmoved = moved_still b [] p p q (stays b p quiet.pass) seat owner
-
-  pub same_mine : mine q ≡ mine p
-  same_mine = moved_mine b [] p q unmoved
-
-  pub same_drew : DrawsNothing p q
-  same_drew = moved_undrawn b [] p q unmoved tt
-
-  pub same_readings : ReadsNothing p q
-  same_readings = no_reader b [] p q unmoved tt
-
-  pub plain_goes_on : locked_of q ≡ locked_of p → is_holding_of q ≡ is_holding_of p → KeepsSegments b q → GoesOn b p q
-  plain_goes_on locks holds segments =
-      let same = same_memo p q seat in
-      let there = settles_still b [] p q unmoved tt (ap (λ (x : Memo). x.holding) same) holds in
-      goes_on b [] p q unmoved (quiet_again b [] p q quiet (record {
-        moved = unmoved;
-        memo = same;
-        locked_of = locks;
-        holding = holds;
-        segments = segments;
-        bits = λ bucket. bit_before b [] p q bucket unmoved tt;
-        untouched = λ lock is. tt;
-        readings = there.readings;
-        stays = there.stays;
-      }))
+module _ (b : Board) (p : Pass) (x : Plain) (quiet : IsQuiet b p) (same : owner_of x ≡ owner_of p.plain) where
+  pub plain_goes_on : x.locked ≡ p.plain.locked → x.is_holding ≡ p.plain.is_holding → KeepsSegments b (record p { plain = x }) → GoesOn b p (record p { plain = x })
+  plain_goes_on locks holds segments = record {
+    quiet = record {
+      pass = still_pass b p x quiet.pass same;
+      segments = segments;
+      locks = locks ∙ quiet.locks;
+      bits = λ bucket has. locks ∙ quiet.bits bucket has;
+      lock = quiet.lock;
+      holds = holds ∙ quiet.holds;
+      inside = quiet.inside;
+      hold = quiet.hold;
+    };
+    same = refl;
+    marked = ([], refl);
+    seen = ([], refl);
+  }
 
 -- ---- counts only grow
 
@@ -184,18 +159,9 @@ but_other segment (Some n) other = cond-false (eqb n segment) None (Some n) (ne_
 
 -- ---- the answer
 
-module _ (b : Board) (segment row taken : ℕ) (p q : Pass) (in_use : state_of p segment ≡ Some InUse) (ended : current_of p ≢ Some segment) (e : Evicting b segment row taken p q) where
-  same : SameSegments p q × (current_of q ≡ current_of p)
-  same = same_plain p q e.plain
-
-  current_then : current_of q ≡ but_for segment (current_of p)
-  current_then = same.1 ∙ sym (but_other segment (current_of p) ended)
-
-  locked_then : locked_of q ≡ locked_of p
-  locked_then = ap (λ (x : Plain). x.locked) e.plain
-
-  holding_then : is_holding_of q ≡ is_holding_of p
-  holding_then = ap (λ (x : Plain). x.is_holding) e.plain
+module _ (b : Board) (segment row taken : ℕ) (p q : Pass) (in_use : state_of p segment ≡ Some InUse) (over : current_of p ≢ Some segment) (e : Evicting b segment row taken p q) where
+  plain_then : q.plain ≡ ended segment p.plain
+  plain_then = e.plain ∙ ap (λ o. with_current o p.plain) (sym (but_other segment (current_of p) over))
 
   -- the bit of a bucket couldn't be had
   module _ (r : Pass) (busy : EvictsRow b segment row row_answer.Busy q r) where
@@ -220,22 +186,17 @@ module _ (b : Board) (segment row taken : ℕ) (p q : Pass) (in_use : state_of p
         )
 
     pub barred_answer : ((rows : ℕ) → used_of p segment ≡ Some rows → row < rows) → IsEvictAnswer b.shape segment (evict.Busy taken) p r
-    barred_answer left = let now = same_plain q r busy.plain in (
+    barred_answer left = (
       in_use,
       record {
         evictions = e.evictions;
         counted = e.counted;
         all = e.all;
         entries = busy.answer.0 ∙ e.entries;
-        current = now.1 ∙ current_then;
-        used = λ other. now.0.used other ∙ same.0.used other;
-        other_states = λ other apart. now.0.state other ∙ same.0.state other;
-        locked = ap (λ (x : Plain). x.locked) busy.plain ∙ locked_then;
-        is_holding = ap (λ (x : Plain). x.is_holding) busy.plain ∙ holding_then;
         memo = busy.memo ∙ e.memo;
         tries = λ rows is. tries_then b.shape segment row 1 rows p q r e.on.seen busy.on.seen (let lt = left rows is in omega arith) e.tries busy.tries;
       },
-      now.0.state segment ∙ (same.0.state segment ∙ in_use),
+      busy.plain ∙ plain_then,
       barred_by,
     )
 
@@ -253,110 +214,89 @@ module _ (b : Board) (segment row taken : ℕ) (p q : Pass) (in_use : state_of p
         let a = there.1 in let st = c.items (bucket_of b.shape key) there.0 a there.2 in
         let at : a.segment ≡ segment = ap segment_in (sym st.stands ∙ ((λ t. standing_at b.shape (seen q) (there.3 t)) ∙ value.1)) in
         let linked : is_some (row_after (trace q) segment a.row).linked ≡ true = ap (λ s. is_some (row_after (trace q) s a.row).linked) (sym at) ∙ ap is_some st.linked in
-        let lt : a.row < row = ltb-true a.row row (sym (e.on.quiet.segments.rows segment row a.row (same.0.used segment ∙ all_rows) st.within.1) ∙ linked) in
+        let lt : a.row < row = ltb-true a.row row (sym (e.on.quiet.segments.rows segment row a.row (same_used p q segment e.plain ∙ all_rows) st.within.1) ∙ linked) in
         e.below a.row lt (bucket_of b.shape key) there.0 a there.2 at refl
 
-    module _ (r : Pass) (seat : r.seat ≡ q.seat) (state : state_of r segment ≡ Some Evicted) (others : (other : ℕ) → other ≢ segment → state_of r other ≡ state_of q other) (used : (other : ℕ) → used_of r other ≡ used_of q other) (but : SameButSegments q r) where
-      none_now : NoneStandsIn (after b.shape (seen r)) segment
-      none_now = subst (λ h. NoneStandsIn (after b.shape (event.seen h)) segment) (sym (seat_trace q r seat)) none_stands
+    -- the segment's state told so
+    abbrev pub emptied : Pass
+    emptied = record q { plain = with_state segment Evicted q.plain }
 
-      keeps_now : KeepsSegments b r
-      keeps_now = let k = e.on.quiet.segments in let at = seat_trace q r seat in record {
-        few = λ s n is. k.few s n (sym (used s) ∙ is);
-        rows = λ s n i is lt. ap (λ h. is_some (row_after h s i).linked) at ∙ k.rows s n i (sym (used s) ∙ is) lt;
-        in_use = λ s is. let old : current_of q ≡ Some s = sym but.current ∙ is in
-            others s (λ x. ended (sym same.1 ∙ (old ∙ ap Some x))) ∙ k.in_use s old;
-        unused = λ s n is other. ⊎_elim
-            (λ x. subst (λ t. NoneStandsIn (after b.shape (seen r)) t) (sym x) none_now)
-            (λ apart. subst (λ h. NoneStandsIn (after b.shape (event.seen h)) s) (sym at) (k.unused s n (sym (others s apart) ∙ is) other))
-            (cases_eq s segment);
-      }
+    tries_alike : {most : ℕ} → TriesForKeys b.shape segment most p q → TriesForKeys b.shape segment most p emptied
+    tries_alike x = record { keys = x.keys; few = x.few; stood = x.stood; taken = x.taken; bounced = x.bounced }
 
-      now_on : GoesOn b q r
-      now_on = plain_goes_on b q r e.on.quiet seat but.owner but.locked but.holding keeps_now
+    keeps_now : KeepsSegments b emptied
+    keeps_now = let k = e.on.quiet.segments in record {
+      few = λ s n is. k.few s n (sym (used_kept q.plain segment Evicted s) ∙ is);
+      rows = λ s n i is lt. k.rows s n i (sym (used_kept q.plain segment Evicted s) ∙ is) lt;
+      deadlines = λ s n is. k.deadlines s n (sym (deadline_stated q.plain segment Evicted s) ∙ is);
+      in_use = λ s is. state_apart q.plain segment Evicted s (λ x. over (ap (λ (y : Plain). y.current) (sym e.plain) ∙ (is ∙ ap Some x))) ∙ k.in_use s is;
+      unused = λ s n is other. ⊎_elim
+          (λ x. subst (NoneStandsIn (after b.shape (seen q))) (sym x) none_stands)
+          (λ apart. k.unused s n (sym (state_apart q.plain segment Evicted s apart) ∙ is) other)
+          (cases_eq s segment);
+    }
 
-      pub emptied_on : GoesOn b p r
-      emptied_on = goes_then b p q r e.on now_on
+    pub emptied_on : GoesOn b p emptied
+    emptied_on = goes_then b p q emptied e.on (plain_goes_on b q emptied.plain e.on.quiet (owner_stated q.plain segment Evicted) refl refl keeps_now)
 
-      pub emptied_undrawn : DrawsNothing p r
-      emptied_undrawn = draws_none_then p q r e.draws_nothing (same_drew b q r e.on.quiet seat but.owner)
+    pub emptied_answer : IsEvictAnswer b.shape segment (evict.Evicted taken) p emptied
+    emptied_answer = inl (
+      in_use,
+      record {
+        evictions = e.evictions;
+        counted = e.counted;
+        all = e.all;
+        entries = e.entries;
+        memo = e.memo;
+        tries = λ rows is. tries_alike (subst (λ n. TriesForKeys b.shape segment n p q) (same_Some row rows (sym all_rows ∙ is)) e.tries);
+      },
+      ap (with_state segment Evicted) plain_then,
+      none_stands,
+    )
 
-      pub emptied_unread : ReadsNothing p r
-      emptied_unread = same_readings b q r e.on.quiet seat but.owner ∙ e.reads_nothing
-
-      pub emptied_answer : IsEvictAnswer b.shape segment (evict.Evicted taken) p r
-      emptied_answer = inl (
-        in_use,
-        record {
-          evictions = e.evictions;
-          counted = e.counted;
-          all = e.all;
-          entries = same_mine b q r e.on.quiet seat but.owner ∙ e.entries;
-          current = but.current ∙ current_then;
-          used = λ other. used other ∙ same.0.used other;
-          other_states = λ other apart. others other apart ∙ same.0.state other;
-          locked = but.locked ∙ locked_then;
-          is_holding = but.holding ∙ holding_then;
-          memo = same_memo q r seat ∙ e.memo;
-          tries = λ rows is. let all : row ≡ rows = same_Some row rows (sym all_rows ∙ is) in tries_then b.shape segment row 0 rows p q r e.on.seen now_on.seen (omega arith) e.tries (no_tries b segment 0 q r (unmoved b q r e.on.quiet seat but.owner));
-        },
-        state,
-        none_now,
-      )
+-- what the segment's state is then
+pub emptied_state : (segment : ℕ) (p q : Pass) → state_of p segment ≡ Some InUse → q.plain ≡ with_state segment Evicted (ended segment p.plain) → state_of q segment ≡ Some Evicted
+emptied_state segment p q before plain =
+    ap (λ (x : Plain). state_in (own_segment x segment)) plain ∙ state_set (ended segment p.plain) segment Evicted (sym (state_there (own_segment p.plain segment)) ∙ ap is_some before)
 
 -- ---- from the whole call on
 
-module _ (b : Board) (segment : ℕ) (p s : Pass) (quiet : IsQuiet b p) (in_use : state_of p segment ≡ Some InUse) (current : current_of s ≡ but_for segment (current_of p)) (same : SameSegments p s) (locks : locked_of s ≡ locked_of p) (holds : is_holding_of s ≡ is_holding_of p) (seat : s.seat ≡ p.seat) where
-  in_one : (o : Option ℕ) (n : ℕ) → but_for segment o ≡ Some n → o ≡ Some n
-  in_one None n is = is
+module _ (b : Board) (segment : ℕ) (p : Pass) (quiet : IsQuiet b p) (in_use : state_of p segment ≡ Some InUse) where
+  -- nothing is stored in the segment any more
+  abbrev pub closed : Pass
+  closed = record p { plain = ended segment p.plain }
+
+  in_one : (o : Option ℕ) (n : ℕ) → but_for segment o ≡ Some n → (o ≡ Some n) × (n ≢ segment)
+  in_one None n is = absurd (none-some n is)
   in_one (Some m) n is = ⊎_elim
       (λ t. absurd (none-some n (sym (cond-true (eqb m segment) None (Some m) t) ∙ is)))
-      (λ f. sym (cond-false (eqb m segment) None (Some m) f) ∙ is)
+      (λ f. let here = sym (cond-false (eqb m segment) None (Some m) f) ∙ is in (here, λ e. false≢true (sym f ∙ eq-eqb m segment (same_Some m n here ∙ e))))
       (cases_Bool (eqb m segment))
 
-  keeps_ended : KeepsSegments b s
-  keeps_ended = let k = quiet.segments in let at = seat_trace p s seat in record {
-    few = λ t n is. k.few t n (sym (same.used t) ∙ is);
-    rows = λ t n i is lt. ap (λ h. is_some (row_after h t i).linked) at ∙ k.rows t n i (sym (same.used t) ∙ is) lt;
-    in_use = λ t is. same.state t ∙ k.in_use t (in_one (current_of p) t (sym current ∙ is));
-    unused = λ t n is other. subst (λ h. NoneStandsIn (after b.shape (event.seen h)) t) (sym at) (k.unused t n (sym (same.state t) ∙ is) other);
-  }
+  pub closed_over : current_of closed ≢ Some segment
+  closed_over is = (in_one (current_of p) segment is).1 refl
 
-  pub ends_on : GoesOn b p s
-  ends_on = plain_goes_on b p s quiet seat same.owner locks holds keeps_ended
+  pub closes_on : GoesOn b p closed
+  closes_on = let k = quiet.segments in
+      plain_goes_on b p closed.plain quiet refl refl refl (record { few = k.few; rows = k.rows; deadlines = k.deadlines; in_use = λ t is. k.in_use t (in_one (current_of p) t is).0; unused = k.unused })
 
-  pub ends_in_use : state_of s segment ≡ Some InUse
-  ends_in_use = same.state segment ∙ in_use
-
-  from_ended : (n : ℕ) (q : Pass) → TakesOut b.shape segment n s q → TakesOut b.shape segment n p q
-  from_ended n q t = record {
+  from_closed : (n : ℕ) (q : Pass) → TakesOut b.shape segment n closed q → TakesOut b.shape segment n p q
+  from_closed n q t = record {
     evictions = t.evictions;
     counted = t.counted;
-    all = subst (λ m. AreEvictions m segment t.evictions) ends_on.same t.all;
-    entries = t.entries ∙ ap (λ l. t.evictions ++ l) (same_mine b p s quiet seat same.owner);
-    current = t.current ∙ (ap (but_for segment) current ∙ but_again segment (current_of p));
-    used = λ other. t.used other ∙ same.used other;
-    other_states = λ other apart. t.other_states other apart ∙ same.state other;
-    locked = t.locked ∙ locks;
-    is_holding = t.is_holding ∙ holds;
-    memo = t.memo ∙ same_memo p s seat;
-    tries = λ rows is. tries_after b segment rows p s q (unmoved b p s quiet seat same.owner) ends_on.seen (t.tries rows (same.used segment ∙ is));
+    all = t.all;
+    entries = t.entries;
+    memo = t.memo;
+    tries = λ rows is. let x = t.tries rows is in record { keys = x.keys; few = x.few; stood = x.stood; taken = x.taken; bounced = x.bounced };
   }
 
-  barred_ended : (q : Pass) → IsBarred b.shape segment s q → IsBarred b.shape segment p q
-  barred_ended q by = (
-    by.0,
-    (by.1.0, (begins_on (seen p) (seen s) by.1.0 ends_on.seen by.1.1.0, by.1.1.1), by.1.2),
-    ⊎_elim
-        (λ locked. inl (sym locks ∙ locked))
-        (λ tried. inr (let grew = bounced_grows p s (bucket_of b.shape by.0) ends_on.same ([], seat_trace p s seat) in let t = tried in omega arith))
-        by.2,
-  )
+  closed_twice : ended segment closed.plain ≡ closed.plain
+  closed_twice = ap (λ o. with_current o p.plain) (but_again segment (current_of p))
 
-  pub evict_answers : (told : EvictAnswer) (q : Pass) → IsEvictAnswer b.shape segment told s q → told ≢ evict.NotYours → IsEvictAnswer b.shape segment told p q
+  pub evict_answers : (told : EvictAnswer) (q : Pass) → IsEvictAnswer b.shape segment told closed q → told ≢ evict.NotYours → IsEvictAnswer b.shape segment told p q
   evict_answers (evict.Evicted n) q is yours = ⊎_elim
-      (λ all. inl (in_use, from_ended n q all.1, all.2, all.3))
-      (λ none. absurd (none.0 ends_in_use))
+      (λ all. inl (in_use, from_closed n q all.1, all.2 ∙ ap (with_state segment Evicted) closed_twice, all.3))
+      (λ none. absurd (none.0 in_use))
       is
   evict_answers evict.NotYours q is yours = absurd (yours refl)
-  evict_answers (evict.Busy n) q is yours = (in_use, from_ended n q is.1, is.2, barred_ended q is.3)
+  evict_answers (evict.Busy n) q is yours = (in_use, from_closed n q is.1, is.2 ∙ closed_twice, is.3)

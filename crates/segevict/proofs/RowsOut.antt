@@ -1,32 +1,25 @@
 -- What an eviction of a row comes to: its key is gone before, or the bit of its bucket is taken, or can't be had.
 use Rattle.std.proofs.Common.{◌≡◌, ◌≢◌, ℕ, ◌+◌, ◌≤◌, true, false, eqb, is_some, List, [], ◌∷◌, ◌++◌, Option, Some, None, refl, sym, ap, ◌∙◌, subst, inl, inr, ⊎_elim, arith}
 use Rattle.std.proofs.lemmas.Bool.{cond-true, eq-eqb, ne_eqb, false≢true}
-use Rattle.segword.specs.declared.item.Item.{Item}
-use Rattle.segmodel.specs.declared.entry.Entry.{Entry}
+use Rattle.segword.specs.Words.{Item}
 use Rattle.segmodel.specs.declared.entry.Entry.TheVariants.{Evicted}
-use Rattle.segmodel.specs.Places.{bucket_of, owner}
-use Rattle.segmodel.specs.History.{Begins}
-use Rattle.segcore.specs.declared.event.Event.{Event}
+use Rattle.segmodel.specs.Words.{Begins, bucket_of, Entry, owner}
 use Rattle.segcore.specs.declared.event.Event.TheVariants.{Freed, Unlinked}
 use Rattle.segcore.specs.Event as event
-use Rattle.segcore.specs.Bucket.{bucket_after}
-use Rattle.segcore.specs.Lawful.{NoneAt}
-use Rattle.segcore.specs.Search.{RowGone}
+use Rattle.segcore.specs.Words.{bucket_after, Event, NoneAt, RowGone}
+use Rattle.segcore.specs.declared.event.Leaving.TheVariants.{Evicts}
 use Rattle.segcore.proofs.Moments.{begins_on}
-use Rattle.segbase.specs.declared.board.Board.{Board}
 use Rattle.segbase.specs.declared.pass.Plain.{Plain}
-use Rattle.segbase.specs.declared.pass.Pass.{Pass}
-use Rattle.segbase.specs.Passes.{number, trace, seen, mine, taken, bounced, AddsEvents, AddsAtOnce}
+use Rattle.segbase.specs.Words.{AddsAtOnce, AddsEvents, Board, bounced, mine, number, Pass, seen}
+use Rattle.segbase.specs.Words.{taken, trace}
 use Rattle.segbase.proofs.Moves.{moved_on, moved_bounced}
-use Rattle.segstore.specs.Refilling.{Idles}
-use Rattle.segstore.specs.Segments.{KeepsSegments}
+use Rattle.segstore.specs.Words.{Idles, KeepsSegments}
 use Rattle.segstore.proofs.Keeping.{AreCalm, keeps_plain}
-use Rattle.segwrite.specs.declared.find.Target.{Target}
+use Rattle.segwrite.specs.Words.{Target}
 use Rattle.segevict.specs.declared.eviction.RowAnswer.{RowAnswer}
 use Rattle.segevict.specs.declared.eviction.RowAnswer.TheVariants as row_answer
-use Rattle.segpass.specs.Quiet.{IsQuiet}
-use Rattle.segpass.specs.Calls.{memo, GoesOn, ChangesNothing, DrawsNothing, ReadsNothing, IsBusy}
-use Rattle.segpass.specs.Taking.{TookToWrite}
+use Rattle.segpass.specs.Words.{ChangesNothing, DrawsNothing, GoesOn, IsBusy, IsQuiet, memo}
+use Rattle.segpass.specs.Words.{ReadsNothing, TookToWrite}
 use Rattle.segevict.specs.Evicting.{TriesForKeys}
 use Rattle.segevict.specs.Unlinking.{IsStoredIn, IsNamedAt, FindsRow, TakesRow, KeepsGone, EvictsRow}
 use Rattle.segpass.proofs.Bounces.{bounces_calm}
@@ -175,7 +168,7 @@ module _ (b : Board) (bucket : ℕ) (sought : Item) (p f : Pass) (quiet : IsQuie
     pub row_is_evicted : (target : Target) → IsNamedAt b bucket sought target f → (r s : Pass) → TakesRow b bucket sought true q r → AddsAtOnce b (Freed (number r) bucket false ∷ []) r s → (bucket_after b.shape (trace s) bucket).holder ≡ None → r.plain ≡ q.plain → memo r ≡ memo q → s.plain ≡ r.plain → memo s ≡ memo r
         → EvictsRow b sought.seg sought.row row_answer.Evicted p s
     row_is_evicted target n r s t freed free plain same plain' same' =
-        let key = t.takes.0 in let own : List Event = Unlinked (number q) key t.takes.1 (Some sought.seg) ∷ [] in let added : List Entry = Evicted (number q) key sought.seg ∷ [] in
+        let key = t.takes.0 in let own : List Event = Unlinked (number q) key t.takes.1 (Evicts sought.seg) ∷ [] in let added : List Entry = Evicted (number q) key sought.seg ∷ [] in
         let elsewhere : (other : ℕ) → bucket ≢ other → NoneAt b.shape other own = λ other apart. (ne_eqb (bucket_of b.shape key) other (λ e. apart (t.takes.2 ∙ e)), tt) in
         let at_take = (took_moved b bucket f q quiet_looking took).same in
         let old = (does_nothing b p f quiet i.moved i.plain i.memo).entries in record {

@@ -3,34 +3,20 @@ use Rattle.std.proofs.Common.{◌≡◌, ℕ, ◌+◌, ◌-◌, ◌*◌, ◌/◌
 use Rattle.std.proofs.lemmas.Bool.{cases_lt, cond-true, lt-ltb}
 use Rattle.std.proofs.lemmas.Option.{none-some, same_Some}
 use Rattle.std.specs.Prelude.{MatchOption}
-use Rattle.segword.specs.declared.shape.Shape.{Shape}
-use Rattle.segword.specs.Shape.{IsValid}
-use Rattle.segword.specs.declared.item.Item.{Item}
-use Rattle.segword.specs.ItemWord.{item_word}
-use Rattle.segword.specs.SameItem.{IsSameItem}
-use Rattle.segmodel.specs.Places.{tag_of}
-use Rattle.segcore.specs.declared.event.Event.{Event}
-use Rattle.segcore.specs.Bucket.{item, bucket_after, IsPosition}
-use Rattle.segcore.specs.Lawful.{IsLawful}
-use Rattle.segcore.specs.Overflow.{home}
-use Rattle.segcore.specs.Row.{row_after}
-use Rattle.segcore.specs.Search.{RowGone, RowAt}
-use Rattle.segcore.specs.Word.{IsAt, IsItemAt}
+use Rattle.segword.specs.Words.{IsSameItem, IsValid, Item, item_word, Shape}
+use Rattle.segmodel.specs.Words.{tag_of}
+use Rattle.segcore.specs.Words.{bucket_after, Event, home, IsAt, IsItemAt, IsLawful, IsPosition}
+use Rattle.segcore.specs.Words.{item, row_after, RowAt, RowGone}
 use Rattle.segcore.proofs.Chains.{chain_of}
 use Rattle.segcore.proofs.Limits.{bucket_in, home_in, low_row, low_segment}
 use Rattle.segcore.proofs.Standing.{coherent}
-use Rattle.segbase.specs.declared.board.Board.{Board}
-use Rattle.segbase.specs.declared.pass.Pass.{Pass}
-use Rattle.segbase.specs.declared.place.Place.{Place}
-use Rattle.segbase.specs.Traces.{own_of}
-use Rattle.segbase.specs.Passes.{number, trace, IsPassOf, AddsEvents}
-use Rattle.segbase.specs.Spots.{cell_at, position, IsPlace}
-use Rattle.segbase.specs.Steps.{IsWordOfContent}
+use Rattle.segbase.specs.Words.{AddsEvents, Board, cell_at, IsPassOf, IsPlace, IsWordOfContent}
+use Rattle.segbase.specs.Words.{number, own_of, Pass, Place, position, trace}
 use Rattle.segbase.proofs.Standing.{tag_of_word, place_of_word}
-use Rattle.segstore.specs.Refilling.{Idles}
+use Rattle.segstore.specs.Words.{Idles}
 use Rattle.segstore.proofs.Keeping.{AreCalm, own_linked}
 use Rattle.segstore.proofs.Refills.{idles}
-use Rattle.segwrite.specs.Writing.{IsInChain, next_word, first_word, LeadsTo, LeadsNowhere, IsNext}
+use Rattle.segwrite.specs.Words.{first_word, IsInChain, IsNext, LeadsNowhere, LeadsTo, next_word}
 use Rattle.segevict.specs.Unlinking.{IsStoredIn}
 use Rattle.segwrite.proofs.Items.{item_here}
 use Rattle.segwrite.proofs.Onward.{depth_of_place, next_at, leads_to, first_at, chain_ends}

@@ -1,15 +1,13 @@
 -- A used row of a segment of the pass's own: the pass may read it, and it holds the pair of the key that was linked to it.
 use Rattle.std.proofs.Common.{◌≡◌, ℕ, ◌<◌, true, is_some, List, Option, Some, None, refl, sym, ap, ◌∙◌, inl, arith}
 use Rattle.std.proofs.lemmas.Bool.{lt-ltb, false≢true}
-use Rattle.segmodel.specs.Places.{owner}
-use Rattle.segcore.specs.Row.{Row, row_after}
-use Rattle.segbase.specs.declared.board.Board.{Board}
-use Rattle.segbase.specs.declared.pass.Pass.{Pass}
-use Rattle.segbase.specs.Passes.{number, trace}
-use Rattle.segstore.specs.Reading.{IsReadable, ReadsRow}
+use Rattle.segmodel.specs.Words.{owner}
+use Rattle.segcore.specs.Words.{Row, row_after}
+use Rattle.segbase.specs.Words.{Board, number, Pass, trace}
+use Rattle.segstore.specs.Words.{IsReadable, ReadsRow}
 use Rattle.segstore.proofs.Held.{IsPairOf, linked_pair}
 use Rattle.segstore.proofs.Keeping.{in_table, owns_used}
-use Rattle.segpass.specs.Quiet.{IsQuiet}
+use Rattle.segpass.specs.Words.{IsQuiet}
 use Rattle.segevict.specs.Unlinking.{IsUsedRow}
 
 pub record OfRow (b : Board) (segment row : ℕ) (p : Pass) : Type 0 where

@@ -1,40 +1,26 @@
 -- The key of a row leaves its word under the bit: it may, and after that no word names the row.
-use Rattle.std.proofs.Common.{◌≡◌, ℕ, ◌≤◌, eqb, true, false, List, [], ◌∷◌, ◌++◌, Option, Some, None, refl, sym, ap, ◌∙◌, subst, arith}
+use Rattle.std.proofs.Common.{◌≡◌, ℕ, ◌≤◌, eqb, true, false, List, [], ◌∷◌, ◌++◌, Some, None, refl, sym, ap, ◌∙◌, subst, arith}
 use Rattle.std.proofs.lemmas.Bool.{cond-true, eq-eqb}
 use Rattle.std.proofs.lemmas.Option.{none-some, same_Some}
-use Rattle.segword.specs.declared.shape.Shape.{Shape}
-use Rattle.segword.specs.declared.item.Item.{Item}
-use Rattle.segword.specs.SameItem.{IsSameItem}
-use Rattle.segmodel.specs.Places.{bucket_of}
-use Rattle.segmodel.specs.History.{after, StandsIn}
-use Rattle.segcore.specs.declared.event.Event.{Event}
+use Rattle.segword.specs.Words.{IsSameItem, Item, Shape}
+use Rattle.segmodel.specs.Words.{after, bucket_of, StandsIn}
 use Rattle.segcore.specs.declared.event.Event.TheVariants.{Unlinked}
-use Rattle.segcore.specs.Event.{NoneBy}
+use Rattle.segcore.specs.Words.{acts, bucket_after, cached, Content, Event, Fits, HasBit, IsLawful, Leaving}
+use Rattle.segcore.specs.Words.{item as holds, NoneAt, NoneBy, row_after, RowGone, same_key, Slot}
 use Rattle.segcore.specs.Event as event
-use Rattle.segcore.specs.Bucket.{Slot, Content, item as holds, acts, bucket_after}
-use Rattle.segcore.specs.Kind.{HasBit}
-use Rattle.segcore.specs.Lawful.{Fits, IsLawful, NoneAt}
-use Rattle.segcore.specs.Mark.{same_key}
-use Rattle.segcore.specs.Row.{row_after}
-use Rattle.segcore.specs.Search.{RowGone}
-use Rattle.segcore.specs.Standing.{cached}
+use Rattle.segcore.specs.declared.event.Leaving.TheVariants.{Evicts}
 use Rattle.segcore.proofs.Caches.{stands, stands_in}
 use Rattle.segcore.proofs.Coherent.{IsStanding}
 use Rattle.segcore.proofs.Keys.{same_true}
 use Rattle.segcore.proofs.Quiet.{quiet, quiet_row}
 use Rattle.segcore.proofs.Standing.{coherent, gone}
-use Rattle.segbase.specs.declared.board.Board.{Board}
-use Rattle.segbase.specs.declared.pass.Pass.{Pass}
-use Rattle.segbase.specs.declared.place.Place.{Place}
-use Rattle.segbase.specs.Passes.{number, trace, IsPassOf, AddsEvents, AddsAtOnce}
-use Rattle.segbase.specs.Spots.{position, home_bucket}
-use Rattle.segbase.specs.Steps.{HasItemOf}
+use Rattle.segbase.specs.Words.{AddsAtOnce, AddsEvents, Board, HasItemOf, home_bucket, IsPassOf}
+use Rattle.segbase.specs.Words.{number, Pass, Place, position, trace}
 use Rattle.segbase.proofs.Moves.{moved_then}
-use Rattle.segstore.specs.Refilling.{Idles}
+use Rattle.segstore.specs.Words.{Idles}
 use Rattle.segstore.proofs.Words.{at_place}
-use Rattle.segwrite.specs.declared.find.Target.{Target}
-use Rattle.segpass.specs.Taking.{HasCleanBit}
-use Rattle.segwrite.specs.Writing.{IsInChain, IsEarlier}
+use Rattle.segpass.specs.Words.{HasCleanBit}
+use Rattle.segwrite.specs.Words.{IsEarlier, IsInChain, Target}
 use Rattle.segevict.specs.Unlinking.{IsStoredIn, IsNamedAt, TakesRow}
 use Rattle.segevict.proofs.Seeking.{stored_over}
 use Rattle.segpass.proofs.UnderBit.{moved_bucket, moved_bit}
@@ -44,15 +30,15 @@ clean_over b own p q bucket m none clean = let same = moved_bucket b own p q buc
     record { bit = moved_bit b own p q bucket m clean.bit none; unwritten = ap (λ u. u.written) same ∙ clean.unwritten; undrawn = ap (λ u. u.spare) same ∙ clean.undrawn }
 
 -- the key and the segment of the item at a place, as it leaves
-abbrev pub left_of : Content → List ℕ × Option ℕ
-left_of (holds a) = (a.key, Some a.segment)
-left_of _ = ([], None)
+abbrev pub left_of : Content → List ℕ × Leaving
+left_of (holds a) = (a.key, Evicts a.segment)
+left_of _ = ([], Evicts 0)
 
-abbrev pub left_at : Board → Place → Pass → List ℕ × Option ℕ
+abbrev pub left_at : Board → Place → Pass → List ℕ × Leaving
 left_at b place p = left_of ((bucket_after b.shape (trace p) (home_bucket b.shape (trace p) place)).items (position b.shape (trace p) place))
 
 -- an eviction leaves no word that names the row of its key
-evicted_gone : (z : Shape) (h : List Event) (p n s r : ℕ) (key : List ℕ) (why : Option ℕ) → IsLawful z (Unlinked p key n why ∷ h) → (row_after h s r).linked ≡ Some key → RowGone z s r (Unlinked p key n why ∷ h)
+evicted_gone : (z : Shape) (h : List Event) (p n s r : ℕ) (key : List ℕ) (why : Leaving) → IsLawful z (Unlinked p key n why ∷ h) → (row_after h s r).linked ≡ Some key → RowGone z s r (Unlinked p key n why ∷ h)
 evicted_gone z h p n s r key why l on b m a is es er =
     let i = (coherent z (Unlinked p key n why ∷ h) l).items b m a is in
     let same : a.key ≡ key = same_Some a.key key (sym i.linked ∙ ((λ t. (row_after h (es t) (er t)).linked) ∙ on)) in
@@ -73,9 +59,9 @@ module _ (b : Board) (bucket : ℕ) (sought : Item) (f : Pass) (is : IsPassOf b 
   pub named_key : a.key ≡ stored.key
   named_key = same_Some a.key stored.key (sym st.linked ∙ ((λ t. (row_after (trace f) (n.named.2.0 t) (n.named.2.1 t)).linked) ∙ stored.linked))
 
-  pub left_is : left_at b target.place f ≡ (stored.key, Some sought.seg)
+  pub left_is : left_at b target.place f ≡ (stored.key, Evicts sought.seg)
   left_is = ap (λ k. left_of ((bucket_after b.shape (trace f) k).items at)) (at_place b.shape (trace f) bucket at target.place n.chain.at.1).0
-      ∙ (ap left_of n.named.1 ∙ (λ t. (named_key t, Some (n.named.2.0 t))))
+      ∙ (ap left_of n.named.1 ∙ (λ t. (named_key t, Evicts (n.named.2.0 t))))
 
   -- it stands in the segment
   pub named_stands : StandsIn (after b.shape (event.seen (trace f))) stored.key sought.seg
@@ -84,10 +70,10 @@ module _ (b : Board) (bucket : ℕ) (sought : Item) (f : Pass) (is : IsPassOf b 
       stands_in b.shape (event.seen (trace f)) stored.key sought.seg (st.value, stood)
 
   -- under the bit it may leave its word
-  abbrev pub Clears : List ℕ × Option ℕ → Type 0
+  abbrev pub Clears : List ℕ × Leaving → Type 0
   Clears left = Fits b.shape (trace f) (Unlinked (number f) left.0 at left.1) × IsInChain b (bucket_of b.shape left.0) target.place f × HasItemOf b left.0 target.place f × IsEarlier b target.place target.word f
 
-  clears : HasBit b.shape (trace f) (number f) bucket → Clears (stored.key, Some sought.seg)
+  clears : HasBit b.shape (trace f) (number f) bucket → Clears (stored.key, Evicts sought.seg)
   clears bit =
       let here : (bucket_after b.shape (trace f) (bucket_of b.shape stored.key)).items at ≡ holds a = subst (λ k. (bucket_after b.shape (trace f) k).items at ≡ holds a) stored.home n.named.1 in (
         record {
@@ -124,14 +110,14 @@ module _ (b : Board) (bucket : ℕ) (sought : Item) (p f : Pass) (stored : IsSto
     there = position b.shape (trace f) target.place
 
     abbrev e : Event
-    e = Unlinked (number f) k there (Some sought.seg)
+    e = Unlinked (number f) k there (Evicts sought.seg)
 
     pub may_clear : Clears b bucket sought f i.moved.pass stored_now target n (left_at b target.place f)
     may_clear = clears_left b bucket sought f i.moved.pass stored_now target n clean_now.bit
 
     module _ (q : Pass) (done : AddsAtOnce b (Unlinked (number f) (left_at b target.place f).0 there (left_at b target.place f).1 ∷ []) f q) where
       d : AddsAtOnce b (e ∷ []) f q
-      d = subst (λ (left : List ℕ × Option ℕ). AddsAtOnce b (Unlinked (number f) left.0 there left.1 ∷ []) f q) (left_is b bucket sought f i.moved.pass stored_now target n) done
+      d = subst (λ (left : List ℕ × Leaving). AddsAtOnce b (Unlinked (number f) left.0 there left.1 ∷ []) f q) (left_is b bucket sought f i.moved.pass stored_now target n) done
 
       linked_before : (row_after (d.others ++ trace f) sought.seg sought.row).linked ≡ Some k
       linked_before = ap (λ u. u.linked) (quiet_row b.shape d.others (trace f) sought.seg sought.row d.before (subst (λ m. NoneBy m d.others) (sym stored_now.own) d.none)) ∙ stored_now.linked
@@ -143,8 +129,8 @@ module _ (b : Board) (bucket : ℕ) (sought : Item) (p f : Pass) (stored : IsSto
 
       pub takes_one : TakesRow b bucket sought true p q
       takes_one = record {
-        takes = (k, there, stored_now.home, subst (λ m. AddsEvents b (Unlinked m k there (Some sought.seg) ∷ []) p q) i.moved.same (moved_then b [] (e ∷ []) p f q i.moved d.moved));
-        gone = subst (RowGone b.shape sought.seg sought.row) (sym d.now) (evicted_gone b.shape (d.others ++ trace f) (number f) there sought.seg sought.row k (Some sought.seg) (subst (IsLawful b.shape) d.now d.moved.pass.lawful) linked_before);
+        takes = (k, there, stored_now.home, subst (λ m. AddsEvents b (Unlinked m k there (Evicts sought.seg) ∷ []) p q) i.moved.same (moved_then b [] (e ∷ []) p f q i.moved d.moved));
+        gone = subst (RowGone b.shape sought.seg sought.row) (sym d.now) (evicted_gone b.shape (d.others ++ trace f) (number f) there sought.seg sought.row k (Evicts sought.seg) (subst (IsLawful b.shape) d.now d.moved.pass.lawful) linked_before);
         bit = record {
           bit = (clean_now.bit.0, ap (λ u. u.holder) bucket_now ∙ (clean_now.bit.1 ∙ ap Some (sym d.moved.same)));
           unwritten = ap (λ u. u.written) bucket_now ∙ clean_now.unwritten;

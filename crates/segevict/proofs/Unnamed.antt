@@ -3,21 +3,12 @@ use Rattle.std.proofs.Common.{◌≡◌, ℕ, ◌+◌, ◌*◌, ◌%◌, ◌≤�
 use Rattle.std.proofs.lemmas.Bool.{cases_Bool, cases_eq, cond-true, cond-false}
 use Rattle.std.proofs.lemmas.List.{length-append}
 use Rattle.std.proofs.lemmas.Option.{none-some}
-use Rattle.segword.specs.declared.shape.Shape.{Shape}
-use Rattle.segmodel.specs.Places.{bucket_of, owner}
-use Rattle.segmodel.specs.History.{Begins}
-use Rattle.segcore.specs.declared.event.Event.{Event}
-use Rattle.segcore.specs.Event.{by}
-use Rattle.segcore.specs.Bucket.{bucket_after}
-use Rattle.segcore.specs.Lawful.{IsLawful}
-use Rattle.segcore.specs.Row.{row_after}
-use Rattle.segcore.specs.Search.{RowGone, RowAt}
+use Rattle.segword.specs.Words.{Shape}
+use Rattle.segmodel.specs.Words.{Begins, bucket_of, owner}
+use Rattle.segcore.specs.Words.{bucket_after, by, Event, IsLawful, row_after, RowAt, RowGone}
 use Rattle.segcore.proofs.Searches.{row_first, row_moves}
 use Rattle.segcore.proofs.Standing.{coherent}
-use Rattle.segbase.specs.declared.board.Board.{Board}
-use Rattle.segbase.specs.declared.pass.Pass.{Pass}
-use Rattle.segbase.specs.Traces.{own_of}
-use Rattle.segbase.specs.Passes.{number, trace, AddsEvents}
+use Rattle.segbase.specs.Words.{AddsEvents, Board, number, own_of, Pass, trace}
 use Rattle.segstore.proofs.Keeping.{AreCalm, own_linked}
 use Rattle.segpass.proofs.Before.{one_before}
 

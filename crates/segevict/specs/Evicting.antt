@@ -1,19 +1,15 @@
 -- What an evict answers: how many keys it took out of the segment, each by one entry, and that none stands there then, or whose bucket was in the way.
 use Rattle.std.specs.Prelude.{◌≡◌, ◌≢◌, ◌↔◌, ◌⊎◌, ℕ, ◌+◌, ◌*◌, ◌≤◌, ◌==◌, List, [], ◌∷◌, ◌++◌, length, Some, None, All, count_by}
-use Rattle.segword.specs.declared.shape.Shape.{Shape}
-use Rattle.segmodel.specs.declared.entry.Entry.{Entry}
+use Rattle.segword.specs.Words.{Shape}
 use Rattle.segmodel.specs.declared.entry.Entry.TheVariants as entry
-use Rattle.segmodel.specs.declared.answer.EvictAnswer.{EvictAnswer}
 use Rattle.segmodel.specs.declared.answer.EvictAnswer.TheVariants as evict
 use Rattle.segmodel.specs.declared.answer.SegState.TheVariants.{InUse, Evicted}
-use Rattle.segmodel.specs.Places.{bucket_of}
-use Rattle.segmodel.specs.History.{after, IsBetween, StandsIn, NoneStandsIn}
-use Rattle.segmodel.specs.State.{but_for}
-use Rattle.segbase.specs.declared.board.Board.{Board}
-use Rattle.segbase.specs.declared.pass.Pass.{Pass}
-use Rattle.segbase.specs.Passes.{number, seen, mine, taken, bounced}
-use Rattle.segbase.specs.Plain.{current_of, state_of, used_of, locked_of, is_holding_of}
-use Rattle.segpass.specs.Calls.{memo, GoesOn, DrawsNothing, ReadsNothing}
+use Rattle.segmodel.specs.Words.{after, bucket_of, but_for, Entry, EvictAnswer, IsBetween}
+use Rattle.segmodel.specs.Words.{NoneStandsIn, StandsIn}
+use Rattle.segbase.specs.declared.pass.Plain.{Plain}
+use Rattle.segbase.specs.Words.{Board, bounced, locked_of, mine, number, Pass, seen, state_of}
+use Rattle.segbase.specs.Words.{taken, used_of, with_current, with_state}
+use Rattle.segpass.specs.Words.{DrawsNothing, GoesOn, memo, ReadsNothing}
 
 -- each of the entries is an eviction by the pass of a key out of the segment
 abbrev pub AreEvictions : ℕ → ℕ → List Entry → Type 0
@@ -32,21 +28,20 @@ pub record TriesForKeys (shape : Shape) (segment most : ℕ) (p q : Pass) : Type
   pub taken : taken q ≤ taken p + length keys
   pub bounced : (bucket : ℕ) → bounced q bucket ≤ bounced p bucket + 64 * count_by (λ key. bucket_of shape key == bucket) keys
 
--- So many keys were taken out of the segment, in which nothing is stored any more; all else that the pass keeps is as it was, but for the segment's state. It tried for bits for no more keys than the segment has used rows.
+-- So many keys were taken out of the segment. It tried for bits for no more keys than the segment has used rows.
 pub record TakesOut (shape : Shape) (segment count : ℕ) (p q : Pass) : Type 0 where
   pub evictions : List Entry
   pub counted : length evictions ≡ count
   pub all : AreEvictions (number p) segment evictions
   pub entries : mine q ≡ evictions ++ mine p
-  pub current : current_of q ≡ but_for segment (current_of p)
-  pub used : (other : ℕ) → used_of q other ≡ used_of p other
-  pub other_states : (other : ℕ) → other ≢ segment → state_of q other ≡ state_of p other
-  pub locked : locked_of q ≡ locked_of p
-  pub is_holding : is_holding_of q ≡ is_holding_of p
   pub memo : memo q ≡ memo p
   pub tries : (rows : ℕ) → used_of p segment ≡ Some rows → TriesForKeys shape segment rows p q
 
--- the bucket of a key that stood in the segment is one that the pass itself has locked, or whose bit it found set by another 64 times
+-- nothing is stored in the segment any more
+abbrev pub ended : ℕ → Plain → Plain
+ended segment plain = with_current (but_for segment plain.current) plain
+
+-- the bucket of a key that stood in the segment is one that the pass itself has locked, or whose bit it found set by another 64 times or more
 abbrev pub IsBarred : Shape → ℕ → Pass → Pass → Type 0
 IsBarred shape segment p q = (key : List ℕ) × StoodIn shape segment key (seen p) (seen q)
     × ((locked_of p ≡ Some (bucket_of shape key)) ⊎ (bounced p (bucket_of shape key) + 64 ≤ bounced q (bucket_of shape key)))
@@ -54,11 +49,11 @@ IsBarred shape segment p q = (key : List ℕ) × StoodIn shape segment key (seen
 -- An own segment in use is emptied, or stays in use with what couldn't be taken out; calling again goes on. One that isn't in use has nothing to take out.
 abbrev pub IsEvictAnswer : Shape → ℕ → EvictAnswer → Pass → Pass → Type 0
 IsEvictAnswer shape segment (evict.Evicted count) p q =
-    ((state_of p segment ≡ Some InUse) × TakesOut shape segment count p q × (state_of q segment ≡ Some Evicted) × NoneStandsIn (after shape (seen q)) segment)
+    ((state_of p segment ≡ Some InUse) × TakesOut shape segment count p q × (q.plain ≡ with_state segment Evicted (ended segment p.plain)) × NoneStandsIn (after shape (seen q)) segment)
     ⊎ ((state_of p segment ≢ Some InUse) × (count ≡ 0) × (q ≡ p))
 IsEvictAnswer shape segment evict.NotYours p q = q ≡ p
 IsEvictAnswer shape segment (evict.Busy count) p q =
-    (state_of p segment ≡ Some InUse) × TakesOut shape segment count p q × (state_of q segment ≡ Some InUse) × IsBarred shape segment p q
+    (state_of p segment ≡ Some InUse) × TakesOut shape segment count p q × (q.plain ≡ ended segment p.plain) × IsBarred shape segment p q
 
 -- An evict is answered so: NotYours exactly if the segment isn't one of the pass's own. It draws no overflow bucket and reads nothing.
 pub record EvictsSegment (b : Board) (segment : ℕ) (told : EvictAnswer) (p q : Pass) : Type 0 where

@@ -1,2 +1,3 @@
 pub mod Evicting
 pub mod Unlinking
+pub mod Words

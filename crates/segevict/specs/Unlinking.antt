@@ -1,26 +1,17 @@
 -- How the keys that were stored in a segment's rows leave their words: the search for the word that names a row, and what is done with it.
 use Rattle.std.specs.Prelude.{◌≡◌, ℕ, ◌<◌, Bool, true, false, List, [], ◌∷◌, Option, Some, MatchOption}
-use Rattle.segword.specs.declared.item.Item.{Item}
-use Rattle.segword.specs.ItemWord.{item_word}
-use Rattle.segword.specs.SameItem.{IsSameItem}
+use Rattle.segword.specs.Words.{IsSameItem, Item, item_word}
 use Rattle.segmodel.specs.declared.entry.Entry.TheVariants as entry
-use Rattle.segmodel.specs.Places.{bucket_of, tag_of, owner}
-use Rattle.segmodel.specs.History.{Begins}
+use Rattle.segmodel.specs.Words.{Begins, bucket_of, owner, tag_of}
 use Rattle.segcore.specs.declared.event.Event.TheVariants.{Unlinked}
-use Rattle.segcore.specs.Row.{row_after}
-use Rattle.segcore.specs.Search.{RowGone, RowAt}
-use Rattle.segcore.specs.Word.{word}
-use Rattle.segbase.specs.declared.board.Board.{Board}
-use Rattle.segbase.specs.declared.pass.Pass.{Pass}
-use Rattle.segbase.specs.Passes.{number, trace, mine, AddsEvents}
-use Rattle.segbase.specs.Plain.{used_of}
-use Rattle.segbase.specs.Spots.{cell_at, position}
-use Rattle.segwrite.specs.declared.find.Target.{Target}
+use Rattle.segcore.specs.Words.{row_after, RowAt, RowGone, word}
+use Rattle.segcore.specs.declared.event.Leaving.TheVariants.{Evicts}
+use Rattle.segbase.specs.Words.{AddsEvents, Board, cell_at, mine, number, Pass, position, trace}
+use Rattle.segbase.specs.Words.{used_of}
 use Rattle.segevict.specs.declared.eviction.RowAnswer.{RowAnswer}
 use Rattle.segevict.specs.declared.eviction.RowAnswer.TheVariants as row_answer
-use Rattle.segpass.specs.Calls.{memo, GoesOn, DrawsNothing, ReadsNothing}
-use Rattle.segpass.specs.Taking.{HasCleanBit}
-use Rattle.segwrite.specs.Writing.{IsInChain}
+use Rattle.segpass.specs.Words.{DrawsNothing, GoesOn, HasCleanBit, memo, ReadsNothing}
+use Rattle.segwrite.specs.Words.{IsInChain, Target}
 use Rattle.segevict.specs.Evicting.{TriesForKeys, IsBarred}
 
 -- ---- rows
@@ -54,7 +45,7 @@ FindsRow b bucket item found p = MatchOption found (RowGone b.shape item.seg ite
 
 -- the word was cleared, and its key so taken out of the segment; or there was none
 abbrev pub TakesKey : Board → ℕ → Item → Bool → Pass → Pass → Type 0
-TakesKey b bucket item true p q = (key : List ℕ) × (at : ℕ) × (bucket ≡ bucket_of b.shape key) × AddsEvents b (Unlinked (number p) key at (Some item.seg) ∷ []) p q
+TakesKey b bucket item true p q = (key : List ℕ) × (at : ℕ) × (bucket ≡ bucket_of b.shape key) × AddsEvents b (Unlinked (number p) key at (Evicts item.seg) ∷ []) p q
 TakesKey b bucket item false p q = AddsEvents b [] p q
 
 -- under the bit; no word names the row any more

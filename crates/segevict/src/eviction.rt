@@ -1,16 +1,14 @@
-//! Evictions: the keys that stand in a segment of the pass's own are taken out of it, one after the other.
+//! Evictions: the keys that stand in a segment of the pass's own are taken out of it,
+//! one after the other.
 ghost use Rattle.std.specs.Prelude.{◌≡◌, ◌≢◌, ◌<◌, Option, Some};
 ghost use Rattle.segmodel.specs.declared.answer.SegState.TheVariants.{InUse};
 ghost use Rattle.segmodel.specs.declared.answer.EvictAnswer.TheVariants.{NotYours};
-ghost use Rattle.segmodel.specs.Places.{bucket_of};
-ghost use Rattle.segmodel.specs.State.{but_for};
-ghost use Rattle.segbase.specs.Plain.{current_of, locked_of, is_holding_of, SameSegments, state_of};
-ghost use Rattle.segbase.specs.Passes.{IsPassOf};
-ghost use Rattle.segstore.specs.Refilling.{Idles};
-ghost use Rattle.segpass.specs.Quiet.{IsQuiet};
-ghost use Rattle.segpass.specs.Calls.{memo, GoesOn, DrawsNothing, ReadsNothing};
-ghost use Rattle.segpass.specs.Taking.{HasCleanBit};
-ghost use Rattle.segevict.specs.Evicting.{IsEvictAnswer, EvictsSegment};
+ghost use Rattle.segmodel.specs.Words.{bucket_of};
+ghost use Rattle.segbase.specs.Words.{current_of, IsPassOf, state_of};
+ghost use Rattle.segstore.specs.Words.{Idles};
+ghost use Rattle.segpass.specs.Words.{DrawsNothing, GoesOn, HasCleanBit, IsQuiet, memo};
+ghost use Rattle.segpass.specs.Words.{ReadsNothing};
+ghost use Rattle.segevict.specs.Evicting.{ended, IsEvictAnswer, EvictsSegment};
 ghost use Rattle.segevict.specs.Unlinking.{IsUsedRow, IsStoredIn, FindsRow, TakesRow, EvictsRow};
 
 use segbase::{Board, Pass, Place};
@@ -31,16 +29,16 @@ pub(crate) enum RowAnswer {
 
 // Nothing more is stored in the segment.
 fn end_storing(pass: &mut Pass, segment: u32)
-    ensures current { current_of pass.new ≡ but_for segment (current_of pass.old) }
-    ensures same { SameSegments pass.old pass.new × (locked_of pass.new ≡ locked_of pass.old) × (is_holding_of pass.new ≡ is_holding_of pass.old) }
-    ensures seat { pass.new.seat ≡ pass.old.seat }
+    ensures { pass.new ≡ record pass.old { plain = ended segment pass.old.plain } }
 {
     if pass.current() == Some(segment) {
         pass.set_current(None);
     }
 }
 
-/// Takes out every key that stands in a segment of the pass's own, so that it can be refilled. Nothing is stored there from then on, also where the answer is Busy: then the keys that are left go when it is asked again.
+/// Takes out every key that stands in a segment of the pass's own, so that it can be refilled.
+/// Nothing is stored there from then on, also where the answer is Busy:
+/// then the keys that are left go when it is asked again.
 pub fn evict(board: &Board, pass: &mut Pass, segment: u32) -> EvictAnswer
     requires quiet { IsQuiet board.now pass.old }
     ensures evicts { EvictsSegment board.now segment result pass.old pass.new }
@@ -142,7 +140,8 @@ fn find_row(board: &Board, pass: &mut Pass, bucket: u32, item: Item) -> Option<T
     }
 }
 
-// Clears the word that names the row of an item, under the bit of its bucket. It is false where there is none.
+// Clears the word that names the row of an item, under the bit of its bucket.
+// It is false where there is none.
 fn clear_row(board: &Board, pass: &mut Pass, bucket: u32, item: Item) -> bool
     requires pass { IsPassOf board.now pass.old }
     requires stored { IsStoredIn board.now bucket item pass.old }

@@ -2,15 +2,11 @@
 use Rattle.std.proofs.Common.{◌≡◌, ℕ, cond, eqb, ◌⊎◌, List, [], ◌∷◌, ◌++◌, Some, None, refl, sym, ap, ◌∙◌, subst, inl, inr, ⊎_elim}
 use Rattle.std.proofs.lemmas.Bool.{cases_Bool, cond-true, cond-false}
 use Rattle.std.proofs.lemmas.Option.{none-some}
-use Rattle.segword.specs.declared.shape.Shape.{Shape}
-use Rattle.segmodel.specs.Places.{bucket_of}
-use Rattle.segmodel.specs.Request.{key_of}
-use Rattle.segcore.specs.declared.event.Event.{Event}
+use Rattle.segword.specs.Words.{Shape}
+use Rattle.segmodel.specs.Words.{bucket_of, key_of}
 use Rattle.segcore.specs.declared.event.Event.TheVariants.{Linked, Unlinked, Chained}
-use Rattle.segcore.specs.Bucket.{Slot, slot, nothing, item, next, last, fresh_position, acts, bucket_after}
-use Rattle.segcore.specs.Row.{Row, row_after}
-use Rattle.segcore.specs.Segment.{NoneRefills}
-use Rattle.segcore.specs.Lawful.{IsLawful}
+use Rattle.segcore.specs.Words.{acts, bucket_after, Event, fresh_position, IsLawful, item, last}
+use Rattle.segcore.specs.Words.{next, NoneRefills, nothing, Row, row_after, Slot, slot}
 use Rattle.segcore.proofs.Chains.{same_item, no_item, next_item}
 use Rattle.segcore.proofs.Standing.{coherent, is_calm}
 use Rattle.segcore.proofs.Segments.{row_since}

@@ -2,17 +2,11 @@
 use Rattle.std.proofs.Common.{◌≡◌, ◌≢◌, ℕ, eqb, List, [], ◌∷◌, ◌++◌, Some, None, sym, ap, ◌∙◌, subst, ⊎_elim}
 use Rattle.std.proofs.lemmas.Bool.{cases_Bool, cases_eq, cond-true, cond-false, eq-eqb, false≢true}
 use Rattle.std.proofs.lemmas.Option.{same_Some, none-some}
-use Rattle.segword.specs.declared.shape.Shape.{Shape}
-use Rattle.segcore.specs.declared.event.Event.{Event}
+use Rattle.segword.specs.Words.{Shape}
 use Rattle.segcore.specs.declared.event.Event.TheVariants.{Took, Freed}
-use Rattle.segcore.specs.Event.{by}
-use Rattle.segcore.specs.Bucket.{Bucket, bucket_at, is, acts, bucket_after}
-use Rattle.segcore.specs.Lawful.{NoneAt}
-use Rattle.segcore.specs.Kind.{HasBit}
-use Rattle.segbase.specs.declared.board.Board.{Board}
-use Rattle.segbase.specs.declared.pass.Pass.{Pass}
-use Rattle.segbase.specs.Traces.{own_of}
-use Rattle.segbase.specs.Passes.{number, trace, AddsEvents}
+use Rattle.segcore.specs.Words.{acts, Bucket, bucket_after, bucket_at, by, Event, HasBit, is}
+use Rattle.segcore.specs.Words.{NoneAt}
+use Rattle.segbase.specs.Words.{AddsEvents, Board, number, own_of, Pass, trace}
 
 pub none_at_both : (z : Shape) (b : ℕ) (xs ys : List Event) → NoneAt z b xs → NoneAt z b ys → NoneAt z b (xs ++ ys)
 none_at_both z b [] ys n m = m

@@ -1,9 +1,7 @@
 -- What tries that found a bit set leave: nothing but their count.
 use Rattle.std.proofs.Common.{◌≡◌, ◌≢◌, ℕ, zero, suc, ◌+◌, eqb, ◌&&◌, List, ◌++◌, refl, sym, ◌∙◌, arith}
 use Rattle.std.proofs.lemmas.Bool.{cond-true, cond-false, eq-eqb, ne_eqb, and_from, and_right}
-use Rattle.segcore.specs.declared.event.Event.{Event}
-use Rattle.segcore.specs.Event.{seen}
-use Rattle.segcore.specs.Count.{taken, bounced}
+use Rattle.segcore.specs.Words.{bounced, Event, seen, taken}
 use Rattle.segstore.proofs.Keeping.{AreCalm}
 use Rattle.segpass.specs.Taking.{bounces}
 use Rattle.segpass.proofs.Draws.{AreUndrawn}

@@ -1,8 +1,6 @@
 -- What a call costs is one value: where nothing of it happened the parts are the same, and so is the whole.
 use Rattle.std.proofs.Common.{[], refl}
-use Rattle.segbase.specs.declared.board.Board.{Board}
-use Rattle.segbase.specs.declared.pass.Pass.{Pass}
-use Rattle.segbase.specs.Passes.{AddsEvents}
+use Rattle.segbase.specs.Words.{AddsEvents, Board, Pass}
 use Rattle.segpass.specs.Calls.{TakesNoBit, DrawsNothing, ReadsNothing, CostsNothing}
 use Rattle.segpass.proofs.Draws.{moved_undrawn}
 use Rattle.segpass.proofs.Idling.{took_none}

@@ -1,12 +1,9 @@
 -- How many overflow buckets the events of a call draw for a bucket: none, or one where its chain grew.
 use Rattle.std.proofs.Common.{◌≡◌, ℕ, List, [], ◌∷◌, ◌++◌, refl, ◌∙◌}
-use Rattle.segcore.specs.declared.event.Event.{Event}
 use Rattle.segcore.specs.declared.event.Event.TheVariants.{Drew}
-use Rattle.segcore.specs.Count.{drew}
-use Rattle.segbase.specs.declared.board.Board.{Board}
-use Rattle.segbase.specs.declared.pass.Pass.{Pass}
-use Rattle.segbase.specs.Passes.{number, trace, AddsEvents, Reads}
-use Rattle.segbase.specs.Traces.{IsReaderEvent, OnlyReads}
+use Rattle.segcore.specs.Words.{drew, Event}
+use Rattle.segbase.specs.Words.{AddsEvents, Board, IsReaderEvent, number, OnlyReads, Pass, Reads}
+use Rattle.segbase.specs.Words.{trace}
 use Rattle.segbase.proofs.Moves.{moved_drew}
 use Rattle.segpass.specs.Calls.{DrawsNothing}
 

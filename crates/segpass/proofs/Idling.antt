@@ -2,16 +2,10 @@
 use Rattle.std.proofs.Common.{◌≡◌, ℕ, ◌<◌, false, List, [], ◌++◌, None, refl, sym, ap, ◌∙◌, inl, inr, ⊎_elim}
 use Rattle.std.proofs.lemmas.Option.{none-some}
 use Rattle.segmodel.specs.History as history
-use Rattle.segcore.specs.declared.event.Event.{Event}
 use Rattle.segcore.specs.Event as event
-use Rattle.segcore.specs.Count.{taken, bounced}
-use Rattle.segcore.specs.Lawful.{NoneAt}
-use Rattle.segbase.specs.declared.board.Board.{Board}
-use Rattle.segbase.specs.declared.law.Memo.{Memo}
+use Rattle.segcore.specs.Words.{bounced, Event, NoneAt, taken}
 use Rattle.segbase.specs.declared.pass.Plain.{Plain}
-use Rattle.segbase.specs.declared.pass.Pass.{Pass}
-use Rattle.segbase.specs.Passes.{number, trace, AddsEvents}
-use Rattle.segbase.specs.Plain.{locked_of}
+use Rattle.segbase.specs.Words.{AddsEvents, Board, locked_of, Memo, number, Pass, trace}
 use Rattle.segbase.proofs.Moves.{stays, moved_mine, moved_taken, moved_bounced}
 use Rattle.segstore.proofs.Keeping.{AreCalm, keeps_plain}
 use Rattle.segpass.specs.Quiet.{IsQuiet}

@@ -2,26 +2,17 @@
 use Rattle.std.proofs.Common.{◌≡◌, ℕ, ◌<◌, eqb, cond, is_some, List, [], ◌∷◌, ◌++◌, Option, Some, None, option_map, refl, sym, ap, ◌∙◌, subst, append_assoc, arith}
 use Rattle.std.proofs.lemmas.Bool.{cond-true, eq-eqb}
 use Rattle.std.proofs.lemmas.Option.{none-some, same_Some}
-use Rattle.segword.specs.declared.shape.Shape.{Shape}
-use Rattle.segcore.specs.declared.event.Event.{Event}
+use Rattle.segword.specs.Words.{Shape}
 use Rattle.segcore.specs.declared.event.Event.TheVariants.{Glanced, Bumped, Entered, Left}
-use Rattle.segcore.specs.Bucket.{bucket_after}
-use Rattle.segcore.specs.Segment.{inside}
-use Rattle.segcore.specs.Lawful.{NoneAt}
-use Rattle.segcore.specs.Kind.{HasBit}
+use Rattle.segcore.specs.Words.{bucket_after, Event, HasBit, inside, NoneAt}
 use Rattle.segcore.proofs.Moments.{marked_begins}
-use Rattle.segbase.specs.declared.board.Board.{Board}
-use Rattle.segbase.specs.declared.law.Held.{Held}
-use Rattle.segbase.specs.declared.law.Locked.{Locked}
-use Rattle.segbase.specs.declared.law.Memo.{Memo}
 use Rattle.segbase.specs.declared.pass.Plain.{Plain}
-use Rattle.segbase.specs.declared.pass.Pass.{Pass}
-use Rattle.segbase.specs.Traces.{StaysIn, IsReaderEvent, OnlyReads}
-use Rattle.segbase.specs.Passes.{sight, number, trace, holding, locked, AddsEvents, Reads}
-use Rattle.segbase.specs.Plain.{locked_of, is_holding_of}
+use Rattle.segbase.specs.Words.{AddsEvents, Board, Held, holding, is_holding_of, IsReaderEvent}
+use Rattle.segbase.specs.Words.{Locked, locked, locked_of, Memo, number, OnlyReads, Pass, Reads}
+use Rattle.segbase.specs.Words.{sight, StaysIn, trace}
 use Rattle.segbase.proofs.Moves.{moved_on, moved_seen}
 use Rattle.segbase.proofs.Staying.{none_both}
-use Rattle.segstore.specs.Segments.{KeepsSegments}
+use Rattle.segstore.specs.Words.{KeepsSegments}
 use Rattle.segpass.specs.Quiet.{IsLock, IsHold, is_held_in, IsQuiet}
 use Rattle.segpass.specs.Taking.{HasCleanBit}
 use Rattle.segpass.specs.Calls.{GoesOn}

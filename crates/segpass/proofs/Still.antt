@@ -1,15 +1,9 @@
 -- Calls that enter and leave no segment, raise no frequency and look at no bit: the pass is where it was.
 use Rattle.std.proofs.Common.{◌≡◌, ℕ, ◌<◌, List, [], ◌∷◌, ◌++◌, sym, refl, ap, ◌∙◌, subst}
-use Rattle.segcore.specs.declared.event.Event.{Event}
-use Rattle.segcore.specs.declared.view.View.{View}
 use Rattle.segcore.specs.declared.event.Event.TheVariants.{Glanced, Bumped, Entered, Left}
-use Rattle.segcore.specs.Segment.{inside}
-use Rattle.segcore.specs.Count.{raised, entered, glanced}
-use Rattle.segbase.specs.declared.board.Board.{Board}
-use Rattle.segbase.specs.declared.pass.Pass.{Pass}
-use Rattle.segbase.specs.Traces.{StaysIn}
-use Rattle.segbase.specs.Passes.{number, trace, view, holding, IsPassOf, AddsEvents}
-use Rattle.segbase.specs.Plain.{is_holding_of}
+use Rattle.segcore.specs.Words.{entered, Event, glanced, inside, raised, View}
+use Rattle.segbase.specs.Words.{AddsEvents, Board, holding, is_holding_of, IsPassOf, number, Pass}
+use Rattle.segbase.specs.Words.{StaysIn, trace, view}
 use Rattle.segbase.proofs.Moves.{moved_inside, moved_raised, moved_entered, moved_glanced}
 use Rattle.segpass.specs.Calls.{ReadsNothing}
 use Rattle.segpass.proofs.Quiet.{SettlesIn}

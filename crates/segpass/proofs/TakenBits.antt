@@ -1,12 +1,9 @@
 -- Which bits a call tried for: its tries come first, and what it does then has none.
 use Rattle.std.proofs.Common.{◌≡◌, ℕ, ◌+◌, ◌<◌, eqb, List, [], ◌∷◌, ◌++◌, refl, ap, ◌∙◌, append_assoc, arith}
 use Rattle.std.proofs.lemmas.Bool.{cond-true, eq-eqb}
-use Rattle.segcore.specs.declared.event.Event.{Event}
 use Rattle.segcore.specs.declared.event.Event.TheVariants.{Took, Bounced}
-use Rattle.segcore.specs.Count.{taken, bounced}
-use Rattle.segbase.specs.declared.board.Board.{Board}
-use Rattle.segbase.specs.declared.pass.Pass.{Pass}
-use Rattle.segbase.specs.Passes.{number, trace, AddsEvents}
+use Rattle.segcore.specs.Words.{bounced, Event, taken}
+use Rattle.segbase.specs.Words.{AddsEvents, Board, number, Pass, trace}
 use Rattle.segbase.specs.Passes as passes
 use Rattle.segbase.proofs.Moves.{moved_taken, moved_bounced}
 use Rattle.segpass.specs.Calls.{TakesOneBit}

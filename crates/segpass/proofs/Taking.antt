@@ -1,16 +1,11 @@
 -- The tries of a call for a bucket's bit, one after another.
 use Rattle.std.proofs.Common.{◌≡◌, ◌⊎◌, ℕ, zero, suc, ◌+◌, ◌<◌, true, false, List, [], ◌∷◌, Option, Some, None, refl, sym, ap, ◌∙◌, subst, inl, inr, ⊎_elim, arith, add-one}
 use Rattle.std.proofs.lemmas.Bool.{cases_Bool, eqb-true, eq-eqb, false≢true, false_from_ne_true}
-use Rattle.segword.specs.declared.shape.Shape.{Shape}
-use Rattle.segcore.specs.declared.event.Event.{Event}
+use Rattle.segword.specs.Words.{Shape}
 use Rattle.segcore.specs.declared.event.Event.TheVariants.{Took, Bounced}
-use Rattle.segcore.specs.Bucket.{is, bucket_after}
-use Rattle.segcore.specs.Lawful.{NoneAt}
-use Rattle.segcore.specs.Kind.{unless_own, HasBit}
-use Rattle.segbase.specs.declared.board.Board.{Board}
-use Rattle.segbase.specs.declared.pass.Pass.{Pass}
-use Rattle.segbase.specs.Passes.{number, trace, IsPassOf, AddsEvents, AddsAtOnce}
-use Rattle.segbase.specs.Steps.{has_bit, Takes}
+use Rattle.segcore.specs.Words.{bucket_after, Event, HasBit, is, NoneAt, unless_own}
+use Rattle.segbase.specs.Words.{AddsAtOnce, AddsEvents, Board, has_bit, IsPassOf, number, Pass}
+use Rattle.segbase.specs.Words.{Takes, trace}
 use Rattle.segbase.proofs.Moves.{stays, moved_then}
 use Rattle.segpass.specs.Taking.{bounces, TakesBucket}
 use Rattle.segpass.proofs.UnderBit.{moved_bit}

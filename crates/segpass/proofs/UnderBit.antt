@@ -1,20 +1,13 @@
 -- While a pass has a bucket's bit, nothing happens in the bucket but by its own steps.
 use Rattle.std.proofs.Common.{◌≡◌, ℕ, true, eqb, List, [], ◌∷◌, ◌++◌, Some, refl, sym, ap, ◌∙◌, subst, ⊎_elim}
 use Rattle.std.proofs.lemmas.Bool.{cases_Bool, cond-true, cond-false, eq-eqb, false≢true}
-use Rattle.segword.specs.declared.shape.Shape.{Shape}
-use Rattle.segmodel.specs.Places.{bucket_of}
-use Rattle.segmodel.specs.History.{after, IsSameAt}
-use Rattle.segcore.specs.declared.event.Event.{Event}
-use Rattle.segcore.specs.Event.{by}
+use Rattle.segword.specs.Words.{Shape}
+use Rattle.segmodel.specs.Words.{after, bucket_of, IsSameAt}
+use Rattle.segcore.specs.Words.{acts, bucket_after, bucket_at, by, Event, HasBit, is, IsLawful}
+use Rattle.segcore.specs.Words.{NoneAt}
 use Rattle.segcore.specs.Event as event
-use Rattle.segcore.specs.Bucket.{bucket_at, is, acts, bucket_after}
-use Rattle.segcore.specs.Lawful.{NoneAt, IsLawful}
-use Rattle.segcore.specs.Kind.{HasBit}
 use Rattle.segcore.proofs.Quiet.{quiet, quiet_none, same_at}
-use Rattle.segbase.specs.declared.board.Board.{Board}
-use Rattle.segbase.specs.declared.pass.Pass.{Pass}
-use Rattle.segbase.specs.Traces.{own_of}
-use Rattle.segbase.specs.Passes.{number, trace, seen, AddsEvents, AddsAtOnce}
+use Rattle.segbase.specs.Words.{AddsAtOnce, AddsEvents, Board, number, own_of, Pass, seen, trace}
 
 -- events none of which is of the bucket leave it
 pub unchanged : (z : Shape) (more h : List Event) (b : ℕ) → NoneAt z b more → bucket_after z (more ++ h) b ≡ bucket_after z h b

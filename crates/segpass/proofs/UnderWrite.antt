@@ -2,23 +2,16 @@
 use Rattle.std.proofs.Common.{◌≡◌, ◌≢◌, ℕ, ◌<◌, Bool, true, false, List, [], ◌∷◌, ◌++◌, Some, None, option_map, sym, ap, ◌∙◌, subst, ⊎_elim, append_assoc}
 use Rattle.std.proofs.lemmas.Bool.{cases_eq, ne_eqb}
 use Rattle.std.proofs.lemmas.Option.{none-some}
-use Rattle.segmodel.specs.declared.entry.Entry.{Entry}
+use Rattle.segmodel.specs.Words.{Entry}
 use Rattle.segmodel.specs.History as history
-use Rattle.segcore.specs.declared.event.Event.{Event}
 use Rattle.segcore.specs.declared.event.Event.TheVariants.{Took, Freed}
 use Rattle.segcore.specs.Event as event
 use Rattle.segcore.specs.Count as count
-use Rattle.segcore.specs.Bucket.{bucket_after}
-use Rattle.segcore.specs.Kind.{HasBit}
-use Rattle.segcore.specs.Lawful.{NoneAt}
-use Rattle.segbase.specs.declared.board.Board.{Board}
-use Rattle.segbase.specs.declared.law.Locked.{Locked}
-use Rattle.segbase.specs.declared.law.Memo.{Memo}
-use Rattle.segbase.specs.declared.pass.Pass.{Pass}
-use Rattle.segbase.specs.Passes.{number, trace, mine, seen, drew, locked, AddsEvents, AddsAtOnce}
-use Rattle.segbase.specs.Plain.{locked_of, is_holding_of}
+use Rattle.segcore.specs.Words.{bucket_after, Event, HasBit, NoneAt}
+use Rattle.segbase.specs.Words.{AddsAtOnce, AddsEvents, Board, drew, is_holding_of, Locked, locked}
+use Rattle.segbase.specs.Words.{locked_of, Memo, mine, number, Pass, seen, trace}
 use Rattle.segbase.proofs.Moves.{moved_then, moved_mine, moved_drew}
-use Rattle.segstore.specs.Segments.{KeepsSegments}
+use Rattle.segstore.specs.Words.{KeepsSegments}
 use Rattle.segstore.proofs.Keeping.{keeps_plain}
 use Rattle.segpass.specs.Quiet.{IsQuiet}
 use Rattle.segpass.specs.Calls.{memo, GoesOn, TakesOneBit, DrawsNothing, ReadsNothing}

@@ -1,12 +1,8 @@
 -- What calls do to the pass that makes them.
 use Rattle.std.specs.Prelude.{◌≡◌, ◌≢◌, ◌⊎◌, ℕ, ◌+◌, ◌<◌, ◌∷◌, Some}
-use Rattle.segmodel.specs.declared.entry.Entry.{Entry}
-use Rattle.segmodel.specs.History.{Begins}
-use Rattle.segbase.specs.declared.board.Board.{Board}
-use Rattle.segbase.specs.declared.pass.Pass.{Pass}
-use Rattle.segbase.specs.Passes.{number, marked, seen, mine, drew, sight, taken, bounced, glanced, raised, entered}
-use Rattle.segbase.specs.Plain.{locked_of}
-use Rattle.segbase.specs.declared.law.Memo.{Memo}
+use Rattle.segmodel.specs.Words.{Begins, Entry}
+use Rattle.segbase.specs.Words.{Board, bounced, drew, entered, glanced, locked_of, marked, Memo}
+use Rattle.segbase.specs.Words.{mine, number, Pass, raised, seen, sight, taken}
 use Rattle.segpass.specs.Quiet.{IsQuiet}
 
 -- it is the same pass, quiet again, and what it has seen only grew

@@ -3,3 +3,4 @@ pub mod Locks
 pub mod Props
 pub mod Quiet
 pub mod Taking
+pub mod Words

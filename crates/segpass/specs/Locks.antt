@@ -1,35 +1,30 @@
 -- What a lock and an unlock of a bucket answer.
-use Rattle.std.specs.Prelude.{◌≡◌, ◌≢◌, ◌↔◌, ℕ, Bool, true, false, is_some, List, Some, None}
-use Rattle.segword.specs.declared.shape.Shape.{Shape}
-use Rattle.segmodel.specs.declared.entry.Entry.{Entry}
-use Rattle.segmodel.specs.Places.{bucket_of}
-use Rattle.segmodel.specs.History.{Begins, entries_of}
+use Rattle.std.specs.Prelude.{◌≡◌, ◌≢◌, ◌↔◌, ℕ, Bool, true, false, is_some, List, Option, Some, None, option_map}
+use Rattle.segword.specs.Words.{Shape}
+use Rattle.segmodel.specs.Words.{Begins, bucket_of, entries_of, Entry}
 use Rattle.segcore.specs.Event as event
-use Rattle.segbase.specs.declared.board.Board.{Board}
-use Rattle.segbase.specs.declared.law.Locked.{Locked}
-use Rattle.segbase.specs.declared.pass.Pass.{Pass}
-use Rattle.segbase.specs.Passes.{trace, seen, mine, holding, locked}
-use Rattle.segbase.specs.Passes as passes
-use Rattle.segbase.specs.Plain.{current_of, locked_of, is_holding_of, SameSegments}
+use Rattle.segbase.specs.Words.{Board, Locked, locked, locked_of, mine, Pass, seen, trace}
+use Rattle.segbase.specs.Words.{with_locked}
 use Rattle.segpass.specs.declared.bucket.LockAnswer.{LockAnswer}
 use Rattle.segpass.specs.declared.bucket.LockAnswer.TheVariants as lock
-use Rattle.segpass.specs.Calls.{GoesOn, ChangesNothing, TakesOneBit, TriesInVain, DrawsNothing, ReadsNothing, CostsNothing}
+use Rattle.segpass.specs.Calls.{memo, GoesOn, ChangesNothing, TakesOneBit, TriesInVain, DrawsNothing, ReadsNothing, CostsNothing}
 
 -- ---- locks
 
--- the bucket is locked, as of what the pass has seen now: it took its bit for that
+-- the bucket locked, as of what the pass has seen now
+abbrev pub lock_now : Pass → ℕ → Locked
+lock_now p bucket = record { bucket = bucket; trace = trace p }
+
+-- this bucket is locked from now on, or none; all else that the pass keeps is as it was
+pub record SetsLock (bucket : Option ℕ) (p q : Pass) : Type 0 where
+  pub plain : q.plain ≡ with_locked bucket p.plain
+  pub memo : memo q ≡ record (memo p) { locked = option_map (lock_now q) bucket }
+
+-- the bucket is locked: the pass took its bit for that
 pub record Locks (bucket : ℕ) (p q : Pass) : Type 0 where
   pub entries : mine q ≡ mine p
-  pub lock : Locked
-  pub locked : locked q ≡ Some lock
-  pub of : lock.bucket ≡ bucket
-  pub since : lock.trace ≡ trace q
-  pub history : event.seen lock.trace ≡ seen q
+  pub sets : SetsLock (Some bucket) p q
   pub takes : TakesOneBit bucket p q
-  pub locked_of : locked_of q ≡ Some bucket
-  pub current : current_of q ≡ current_of p
-  pub segments : SameSegments p q
-  pub holding : (holding q ≡ holding p) × (is_holding_of q ≡ is_holding_of p)
 
 abbrev pub IsLockAnswer : Shape → List ℕ → LockAnswer → Pass → Pass → Type 0
 IsLockAnswer shape key lock.Locked p q = Locks (bucket_of shape key) p q
@@ -51,12 +46,8 @@ NoneSince shape lock new = Begins (event.seen lock.trace) new × (entries_of sha
 -- the bucket is locked no more, and no entry of it came in since it was locked
 pub record Unlocks (shape : Shape) (p q : Pass) : Type 0 where
   pub entries : mine q ≡ mine p
-  pub locked : locked q ≡ None
-  pub locked_of : locked_of q ≡ None
-  pub none_since : (lock : Locked) → passes.locked p ≡ Some lock → NoneSince shape lock (seen q)
-  pub current : current_of q ≡ current_of p
-  pub segments : SameSegments p q
-  pub holding : (holding q ≡ holding p) × (is_holding_of q ≡ is_holding_of p)
+  pub sets : SetsLock None p q
+  pub none_since : (lock : Locked) → locked p ≡ Some lock → NoneSince shape lock (seen q)
 
 abbrev pub IsUnlockAnswer : Shape → Bool → Pass → Pass → Type 0
 IsUnlockAnswer shape true p q = Unlocks shape p q

@@ -3,19 +3,11 @@ use Rattle.std.specs.Prelude.{ℕ, List, Option}
 use Rattle.std.proofs.Props.{props}
 use mathlib.Core.Bool.{Bool-set}
 use mathlib.Core.HLevel.{is_prop→PathP}
-use Rattle.segword.specs.declared.shape.Shape.{Shape}
-use Rattle.segmodel.specs.Props.{IsStanding-prop}
-use Rattle.segcore.specs.declared.event.Event.{Event}
-use Rattle.segcore.specs.Segment.{NoneRefills}
-use Rattle.segcore.specs.Lawful.{NoneAt}
-use Rattle.segcore.specs.Kind.{HasBit}
-use Rattle.segcore.specs.Props.{NoneAt-prop, NoneRefills-prop}
-use Rattle.segbase.specs.declared.law.Held.{Held}
-use Rattle.segbase.specs.declared.law.Locked.{Locked}
-use Rattle.segbase.specs.declared.board.Board.{Board}
-use Rattle.segbase.specs.declared.pass.Pass.{Pass}
-use Rattle.segbase.specs.Props.{traces-prop, IsPassOf-prop}
-use Rattle.segstore.specs.Props.{KeepsSegments-prop}
+use Rattle.segword.specs.Words.{Shape}
+use Rattle.segmodel.specs.Words.{IsStanding-prop}
+use Rattle.segcore.specs.Words.{Event, HasBit, NoneAt, NoneAt-prop, NoneRefills, NoneRefills-prop}
+use Rattle.segbase.specs.Words.{Board, Held, IsPassOf-prop, Locked, Pass, traces-prop}
+use Rattle.segstore.specs.Words.{KeepsSegments-prop}
 use Rattle.segpass.specs.Quiet.{IsLock, IsHold, IsQuiet}
 
 IsLock-prop : (shape : Shape) (trace : List Event) (pass : ℕ) (lock : Locked) → IsProp (IsLock shape trace pass lock)

@@ -1,20 +1,12 @@
 -- What is so of a pass between calls: it has no bit but that of its lock, is in no segment but that of its hold, and its plain part says what is so.
 use Rattle.std.specs.Prelude.{◌≡◌, ℕ, ◌==◌, Bool, false, is_some, List, ◌++◌, Option, Some, None, option_map, if◌then◌else◌}
-use Rattle.segword.specs.declared.shape.Shape.{Shape}
-use Rattle.segmodel.specs.History.{IsStanding}
-use Rattle.segcore.specs.declared.event.Event.{Event}
+use Rattle.segword.specs.Words.{Shape}
+use Rattle.segmodel.specs.Words.{IsStanding}
 use Rattle.segcore.specs.Event as event
-use Rattle.segcore.specs.Bucket.{bucket_after}
-use Rattle.segcore.specs.Segment.{inside, NoneRefills}
-use Rattle.segcore.specs.Lawful.{NoneAt}
-use Rattle.segcore.specs.Kind.{HasBit}
-use Rattle.segbase.specs.declared.board.Board.{Board}
-use Rattle.segbase.specs.declared.law.Held.{Held}
-use Rattle.segbase.specs.declared.law.Locked.{Locked}
-use Rattle.segbase.specs.declared.pass.Pass.{Pass}
-use Rattle.segbase.specs.Passes.{number, trace, holding, locked, IsPassOf}
-use Rattle.segbase.specs.Plain.{locked_of, is_holding_of}
-use Rattle.segstore.specs.Segments.{KeepsSegments}
+use Rattle.segcore.specs.Words.{bucket_after, Event, HasBit, inside, NoneAt, NoneRefills}
+use Rattle.segbase.specs.Words.{Board, Held, holding, is_holding_of, IsPassOf, Locked, locked}
+use Rattle.segbase.specs.Words.{locked_of, number, Pass, trace}
+use Rattle.segstore.specs.Words.{KeepsSegments}
 
 -- the pass has had the bit of the bucket since it locked it, and nothing was done in the bucket since
 pub record IsLock (shape : Shape) (trace : List Event) (pass : ℕ) (lock : Locked) : Type 0 where

@@ -1,14 +1,13 @@
 //! Buckets taken and given back, for the time of a call or locked for longer.
 ghost use Rattle.std.specs.Prelude.{◌≡◌, ◌≢◌, ◌<◌, ◌↔◌, is_some, None, IfSome, false};
-ghost use Rattle.segcore.specs.Kind.{HasBit};
+ghost use Rattle.segcore.specs.Words.{HasBit};
 ghost use Rattle.segpass.specs.declared.bucket.LockAnswer.TheVariants as lock;
 ghost use Rattle.segpass.specs.Taking.{TakesToWrite};
-ghost use Rattle.segbase.specs.Passes.{number, trace, IsPassOf};
-ghost use Rattle.segbase.specs.Plain.{locked_of};
+ghost use Rattle.segbase.specs.Words.{IsPassOf, locked_of, number, trace, view};
 ghost use Rattle.segpass.specs.Quiet.{IsQuiet};
 ghost use Rattle.segpass.specs.Calls.{memo};
-ghost use Rattle.segpass.specs.Locks.{LocksBucket, UnlocksBucket};
-ghost use Rattle.segpass.specs.Taking.{TakesBucket, SetsLock};
+ghost use Rattle.segpass.specs.Locks.{LocksBucket, SetsLock, UnlocksBucket};
+ghost use Rattle.segpass.specs.Taking.{TakesBucket};
 
 use segbase::{Board, Pass};
 use segword::{Key, bucket_of, hash};
@@ -60,6 +59,7 @@ fn set_lock(board: &Board, pass: &mut Pass, bucket: Option<u32>)
     requires pass { IsPassOf board.now pass.old }
     requires bit { IfSome bucket (HasBit board.now.shape (trace pass.old) (number pass.old)) }
     ensures pass { IsPassOf board.now pass.new }
+    ensures view { view pass.new ≡ view pass.old }
     ensures sets { SetsLock bucket pass.old pass.new }
 {
     pass.set_locked(bucket);

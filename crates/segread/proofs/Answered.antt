@@ -1,33 +1,20 @@
 -- What readers make of a scan: their answers by the history, and that they changed nothing.
 use Rattle.std.proofs.Common.{◌≡◌, ℕ, Bool, true, false, cond, List, [], ◌∷◌, ◌++◌, ◌≢◌, Some, None, option_map, refl, ap, ◌∙◌}
-use Rattle.segword.specs.declared.shape.Shape.{Shape}
-use Rattle.segmodel.specs.declared.answer.GetAnswer.{GetAnswer}
-use Rattle.segmodel.specs.declared.answer.GetsAnswer.{GetsAnswer}
+use Rattle.segword.specs.Words.{Shape}
 use Rattle.segmodel.specs.declared.answer.GetsAnswer.TheVariants as gets
-use Rattle.segmodel.specs.declared.entry.Cached.{Cached}
-use Rattle.segmodel.specs.Places.{bucket_of}
-use Rattle.segmodel.specs.History.{Begins}
-use Rattle.segcore.specs.declared.event.Event.{Event}
+use Rattle.segmodel.specs.Words.{Begins, bucket_of, Cached, GetAnswer, GetsAnswer}
 use Rattle.segcore.specs.declared.event.Event.TheVariants.{Glanced, Bumped, Entered, Left}
 use Rattle.segcore.specs.Event as event
 use Rattle.segcore.specs.Count as count
-use Rattle.segcore.specs.Lawful.{IsLawful}
-use Rattle.segcore.specs.Ahead.{WasGone}
-use Rattle.segcore.specs.Search.{KeyGone}
+use Rattle.segcore.specs.Words.{Event, IsLawful, KeyGone, WasGone}
 use Rattle.segcore.proofs.Moments.{begins_on, seen_begins}
-use Rattle.segbase.specs.declared.board.Board.{Board}
-use Rattle.segbase.specs.declared.pass.Pass.{Pass}
-use Rattle.segbase.specs.declared.place.Place.{Place}
-use Rattle.segbase.specs.Traces.{OnlyReads}
-use Rattle.segbase.specs.Passes.{number, trace, seen, sight, taken, AddsEvents, AddsAtOnce}
-use Rattle.segbase.specs.Plain.{locked_of}
+use Rattle.segbase.specs.Words.{AddsAtOnce, AddsEvents, Board, locked_of, number, OnlyReads, Pass}
+use Rattle.segbase.specs.Words.{Place, seen, sight, taken, trace}
 use Rattle.segbase.proofs.Moves.{moved_inside, moved_taken, moved_bounced}
-use Rattle.segstore.specs.Reading.{IsReader}
-use Rattle.segstore.specs.Linked.{IsChained, FoundItem}
+use Rattle.segstore.specs.Words.{FoundItem, IsChained, IsReader}
 use Rattle.segstore.proofs.Words.{chained_later}
 use Rattle.segstore.proofs.Readers.{looks}
-use Rattle.segpass.specs.Quiet.{IsQuiet}
-use Rattle.segpass.specs.Calls.{TakesNoBit, RaisesNothing}
+use Rattle.segpass.specs.Words.{IsQuiet, RaisesNothing, TakesNoBit}
 use Rattle.segpass.proofs.Draws.{reader_draws_none}
 use Rattle.segread.specs.Reads.{ReadsBetween, IsGetAnswer, ReadsKey}
 use Rattle.segread.specs.Gets.{IsGetsAnswer, ReadsVersion}
@@ -36,12 +23,12 @@ use Rattle.segread.proofs.Reading.{read_on}
 
 -- ---- the answer
 
-pub found_reads : (z : Shape) (place : Place) (w : ℕ) (key value : List ℕ) (h g f : List Event) → Begins g f → FoundItem z place w key value h g → ReadsBetween z key (event.seen h) (event.seen f) (Some value)
-found_reads z place w key value h g f on found = let s = found.saw in
+pub found_reads : (z : Shape) (place : Place) (w : ℕ) (key value : List ℕ) (now : ℕ) (h g f : List Event) → Begins g f → FoundItem z place w key value h g → ReadsBetween z key now (event.seen h) (event.seen f) (Some value)
+found_reads z place w key value now h g f on found = let s = found.saw in
     (event.seen s.at, (seen_begins h s.at s.between.0, seen_begins s.at f (begins_on s.at g f s.between.1 on)), ap (option_map (λ (item : Cached). item.value)) s.was.stands)
 
-pub gone_reads : (z : Shape) (key : List ℕ) (h g : List Event) → WasGone (KeyGone z key) h g → ReadsBetween z key (event.seen h) (event.seen g) None
-gone_reads z key h g gone = (event.seen gone.0, (seen_begins h gone.0 gone.1, seen_begins gone.0 g gone.2), ap (option_map (λ (item : Cached). item.value)) gone.3)
+pub gone_reads : (z : Shape) (key : List ℕ) (now : ℕ) (h g : List Event) → WasGone (KeyGone z key) h g → ReadsBetween z key now (event.seen h) (event.seen g) None
+gone_reads z key now h g gone = (event.seen gone.0, (seen_begins h gone.0 gone.1, seen_begins gone.0 g gone.2), ap (option_map (λ (item : Cached). item.value)) gone.3)
 
 -- ---- hits
 
@@ -98,8 +85,8 @@ reads_no_bit b p q i = record {
 
 -- ---- whole calls
 
-pub reads_key : (b : Board) (key : List ℕ) (draw : ℕ) (told : GetAnswer) (p q : Pass) → IsQuiet b p → IsReader b p q → TriesFew p q → GetRaises b.shape key draw told p q → IsGetAnswer b.shape key told (seen p) (seen q) → ReadsKey b key draw told p q
-reads_key b key draw told p q quiet i few raised answer = let on = read_on b p q quiet i.reads i.plain i.memo in record {
+pub reads_key : (b : Board) (key : List ℕ) (draw now : ℕ) (told : GetAnswer) (p q : Pass) → IsQuiet b p → IsReader b p q → TriesFew p q → GetRaises b.shape key draw told p q → IsGetAnswer b.shape key now told (seen p) (seen q) → ReadsKey b key draw now told p q
+reads_key b key draw now told p q quiet i few raised answer = let on = read_on b p q quiet i.reads i.plain i.memo in record {
   on = on.0;
   keeps = on.1;
   takes_no_bit = reads_no_bit b p q i;
@@ -109,9 +96,9 @@ reads_key b key draw told p q quiet i few raised answer = let on = read_on b p q
   answer = answer;
 }
 
-pub reads_version : (b : Board) (key : List ℕ) (draw : ℕ) (told : GetsAnswer) (p q : Pass) → IsQuiet b p → IsReader b p q → TriesFew p q → GetsRaises b.shape key draw told p q → IsGetsAnswer b.shape key told p q
-    → ((value : List ℕ) (version : ℕ) → told ≡ gets.Found value version → locked_of p ≢ Some (bucket_of b.shape key)) → ReadsVersion b key draw told p q
-reads_version b key draw told p q quiet i few raised answer unlocked = let on = read_on b p q quiet i.reads i.plain i.memo in record {
+pub reads_version : (b : Board) (key : List ℕ) (draw now : ℕ) (told : GetsAnswer) (p q : Pass) → IsQuiet b p → IsReader b p q → TriesFew p q → GetsRaises b.shape key draw told p q → IsGetsAnswer b.shape key now told p q
+    → ((value : List ℕ) (version : ℕ) → told ≡ gets.Found value version → locked_of p ≢ Some (bucket_of b.shape key)) → ReadsVersion b key draw now told p q
+reads_version b key draw now told p q quiet i few raised answer unlocked = let on = read_on b p q quiet i.reads i.plain i.memo in record {
   on = on.0;
   keeps = on.1;
   takes_no_bit = reads_no_bit b p q i;

@@ -1,17 +1,13 @@
 -- How often a reader comes into segments, from try to try and from word to word; and that none but a hit raises a frequency.
 use Rattle.std.proofs.Common.{◌≡◌, ℕ, ◌+◌, ◌%◌, ◌<◌, ◌≤◌, Bool, true, false, [], ◌∷◌, refl, ap, ◌∙◌, arith}
 use Rattle.std.proofs.lemmas.Bool.{eq-eqb}
-use Rattle.segword.specs.declared.info.Info.{Info}
+use Rattle.segword.specs.Words.{Info}
 use Rattle.segcore.specs.declared.event.Event.TheVariants.{Glanced, Entered, Left}
-use Rattle.segcore.specs.declared.view.View.{View}
 use Rattle.segcore.specs.Count as count
-use Rattle.segcore.specs.Kind.{unless_own}
-use Rattle.segbase.specs.declared.board.Board.{Board}
-use Rattle.segbase.specs.declared.pass.Pass.{Pass}
-use Rattle.segbase.specs.Passes.{number, view, entered, AddsEvents}
-use Rattle.segbase.specs.Steps.{has_bit, Glances}
+use Rattle.segcore.specs.Words.{unless_own, View}
+use Rattle.segbase.specs.Words.{AddsEvents, Board, entered, Glances, has_bit, number, Pass, view}
 use Rattle.segbase.proofs.Moves.{moved_entered, moved_raised}
-use Rattle.segpass.specs.Calls.{RaisesNothing}
+use Rattle.segpass.specs.Words.{RaisesNothing}
 use Rattle.segread.specs.Hits.{TriesFew}
 use Rattle.segread.specs.Scanning.{words_below, IsTry, Tries}
 

@@ -1,26 +1,18 @@
 -- What tries for a value with its version add up to: entries of the key's bucket, and its bit found set.
 use Rattle.std.proofs.Common.{◌≡◌, ◌≢◌, ℕ, ◌+◌, ◌≤◌, Bool, true, false, cond, eqb, ◌&&◌, List, [], ◌∷◌, ◌++◌, Option, Some, None, refl, sym, ap, ◌∙◌, subst, arith, ◌⊎◌, inl, inr}
 use Rattle.std.proofs.lemmas.Bool.{cond-true, and_from, eq-eqb, eqb-true, false_from_ne_true}
-use Rattle.segword.specs.declared.shape.Shape.{Shape}
-use Rattle.segword.specs.declared.info.Info.{Info}
-use Rattle.segword.specs.Shape.{IsValid}
-use Rattle.segmodel.specs.Places.{bucket_of}
-use Rattle.segmodel.specs.History.{Begins}
-use Rattle.segcore.specs.declared.event.Event.{Event}
+use Rattle.segword.specs.Words.{Info, IsValid, Shape}
+use Rattle.segmodel.specs.Words.{Begins, bucket_of}
 use Rattle.segcore.specs.declared.event.Event.TheVariants.{Glanced}
 use Rattle.segcore.specs.Count as count
-use Rattle.segcore.specs.Bucket.{is, bucket_after}
-use Rattle.segcore.specs.Kind.{unless_own}
+use Rattle.segcore.specs.Words.{bucket_after, Event, is, unless_own}
 use Rattle.segcore.proofs.Moments.{begins_on, seen_begins}
 use Rattle.segcore.proofs.Changed.{entries_begin}
 use Rattle.segcore.proofs.Limits.{bucket_in}
-use Rattle.segbase.specs.declared.board.Board.{Board}
-use Rattle.segbase.specs.declared.pass.Pass.{Pass}
-use Rattle.segbase.specs.Traces.{OnlyReads}
-use Rattle.segbase.specs.Passes.{number, trace, sight, seen, glanced, AddsEvents, AddsAtOnce}
-use Rattle.segbase.specs.Steps.{has_bit, Glances}
+use Rattle.segbase.specs.Words.{AddsAtOnce, AddsEvents, Board, glanced, Glances, has_bit, number}
+use Rattle.segbase.specs.Words.{OnlyReads, Pass, seen, sight, trace}
 use Rattle.segbase.proofs.Moves.{moved_on, moved_seen, moved_inside, moved_glanced}
-use Rattle.segstore.specs.Reading.{IsReader}
+use Rattle.segstore.specs.Words.{IsReader}
 use Rattle.segstore.proofs.Readers.{looks}
 use Rattle.segread.specs.Scanning.{CountsTries}
 use Rattle.segread.specs.Gets.{disturbed, StoodBetween, IsDisturbed, HasNoBit, Disturbs}
@@ -85,38 +77,38 @@ clear_reads b c p q info g clear plain memo = (looks b p q (record { did = (g.0 
 
 -- ---- counts
 
-pub disturbs_none : (b : Board) (key : List ℕ) (n : ℕ) (p q : Pass) → IsReader b p q → Disturbs b.shape key n n p q
-disturbs_none b key n p q i = let up = moved_on b i.reads.own p q i.reads.moved in let e = entries_begin b.shape (bucket_of b.shape key) (trace p) (trace q) up in let g = glances_grow b i.reads.own p q (bucket_of b.shape key) i.reads.moved in (seen_begins (trace p) (trace q) up, omega arith, inl (omega arith))
+pub disturbs_none : (b : Board) (key : List ℕ) (now : ℕ) (n : ℕ) (p q : Pass) → IsReader b p q → Disturbs b.shape key now n n p q
+disturbs_none b key now n p q i = let up = moved_on b i.reads.own p q i.reads.moved in let e = entries_begin b.shape (bucket_of b.shape key) (trace p) (trace q) up in let g = glances_grow b i.reads.own p q (bucket_of b.shape key) i.reads.moved in (seen_begins (trace p) (trace q) up, omega arith, inl (omega arith))
 
-stood_from : (z : Shape) (key : List ℕ) (p q r : Pass) → Begins (seen p) (seen q) → StoodBetween z key q r → StoodBetween z key p r
-stood_from z key p q r up (value, (history, between, is)) = (value, (history, (begins_on (seen p) (seen q) history up between.0, between.1), is))
+stood_from : (z : Shape) (key : List ℕ) (now : ℕ) (p q r : Pass) → Begins (seen p) (seen q) → StoodBetween z key now q r → StoodBetween z key now p r
+stood_from z key now p q r up (value, (history, between, is)) = (value, (history, (begins_on (seen p) (seen q) history up between.0, between.1), is))
 
-stood_to : (z : Shape) (key : List ℕ) (p q r : Pass) → Begins (seen q) (seen r) → StoodBetween z key p q → StoodBetween z key p r
-stood_to z key p q r up (value, (history, between, is)) = (value, (history, (between.0, begins_on history (seen q) (seen r) between.1 up), is))
+stood_to : (z : Shape) (key : List ℕ) (now : ℕ) (p q r : Pass) → Begins (seen q) (seen r) → StoodBetween z key now p q → StoodBetween z key now p r
+stood_to z key now p q r up (value, (history, between, is)) = (value, (history, (between.0, begins_on history (seen q) (seen r) between.1 up), is))
 
 -- by entries, or where the key stood
-by_both : (z : Shape) (key : List ℕ) (some more most : ℕ) (p q r : Pass) → Begins (seen p) (seen q) → Begins (seen q) (seen r) → CountsTries z key some more (trace p) (trace q) ⊎ StoodBetween z key p q → CountsTries z key more most (trace q) (trace r) ⊎ StoodBetween z key q r → CountsTries z key some most (trace p) (trace r) ⊎ StoodBetween z key p r
-by_both z key some more most p q r up on (inl a) (inl b) = inl (omega (arith, a, b))
-by_both z key some more most p q r up on (inl a) (inr s) = inr (stood_from z key p q r up s)
-by_both z key some more most p q r up on (inr s) b = inr (stood_to z key p q r on s)
+by_both : (z : Shape) (key : List ℕ) (now : ℕ) (some more most : ℕ) (p q r : Pass) → Begins (seen p) (seen q) → Begins (seen q) (seen r) → CountsTries z key some more (trace p) (trace q) ⊎ StoodBetween z key now p q → CountsTries z key more most (trace q) (trace r) ⊎ StoodBetween z key now q r → CountsTries z key some most (trace p) (trace r) ⊎ StoodBetween z key now p r
+by_both z key now some more most p q r up on (inl a) (inl b) = inl (omega (arith, a, b))
+by_both z key now some more most p q r up on (inl a) (inr s) = inr (stood_from z key now p q r up s)
+by_both z key now some more most p q r up on (inr s) b = inr (stood_to z key now p q r on s)
 
-pub disturbs_then : (z : Shape) (key : List ℕ) (some more most : ℕ) (p q r : Pass) → Disturbs z key some more p q → Disturbs z key more most q r → Disturbs z key some most p r
-disturbs_then z key some more most p q r c d = (begins_on (seen p) (seen q) (seen r) c.0 d.0, (let x = c.1 in let y = d.1 in omega (arith, x, y)), by_both z key some more most p q r c.0 d.0 c.2 d.2)
+pub disturbs_then : (z : Shape) (key : List ℕ) (now : ℕ) (some more most : ℕ) (p q r : Pass) → Disturbs z key now some more p q → Disturbs z key now more most q r → Disturbs z key now some most p r
+disturbs_then z key now some more most p q r c d = (begins_on (seen p) (seen q) (seen r) c.0 d.0, (let x = c.1 in let y = d.1 in omega (arith, x, y)), by_both z key now some more most p q r c.0 d.0 c.2 d.2)
 
 -- tries that are counted by entries alone
-pub by_entries : (b : Board) (key : List ℕ) (some more : ℕ) (p q : Pass) → IsReader b p q → CountsTries b.shape key some more (trace p) (trace q) → Disturbs b.shape key some more p q
-by_entries b key some more p q i c = let g = glances_grow b i.reads.own p q (bucket_of b.shape key) i.reads.moved in (moved_seen b i.reads.own p q i.reads.moved, omega (arith, c, g), inl c)
+pub by_entries : (b : Board) (key : List ℕ) (now : ℕ) (some more : ℕ) (p q : Pass) → IsReader b p q → CountsTries b.shape key some more (trace p) (trace q) → Disturbs b.shape key now some more p q
+by_entries b key now some more p q i c = let g = glances_grow b i.reads.own p q (bucket_of b.shape key) i.reads.moved in (moved_seen b i.reads.own p q i.reads.moved, omega (arith, c, g), inl c)
 
 -- and one more by the bit, which was found set
-pub by_bit : (b : Board) (key : List ℕ) (some more : ℕ) (p q : Pass) → IsReader b p q → CountsTries b.shape key some more (trace p) (trace q) → glanced p (bucket_of b.shape key) + 1 ≤ glanced q (bucket_of b.shape key) → StoodBetween b.shape key p q → Disturbs b.shape key some (more + 1) p q
-by_bit b key some more p q i c g stood = (moved_seen b i.reads.own p q i.reads.moved, omega (arith, c, g), inr stood)
+pub by_bit : (b : Board) (key : List ℕ) (now : ℕ) (some more : ℕ) (p q : Pass) → IsReader b p q → CountsTries b.shape key some more (trace p) (trace q) → glanced p (bucket_of b.shape key) + 1 ≤ glanced q (bucket_of b.shape key) → StoodBetween b.shape key now p q → Disturbs b.shape key now some (more + 1) p q
+by_bit b key now some more p q i c g stood = (moved_seen b i.reads.own p q i.reads.moved, omega (arith, c, g), inr stood)
 
 -- 64 tries: so often the pass was disturbed
-is_disturbed_by : (z : Shape) (key : List ℕ) (p q : Pass) → 64 ≤ disturbed z key p q → CountsTries z key 0 64 (trace p) (trace q) ⊎ StoodBetween z key p q → IsDisturbed z key p q
-is_disturbed_by z key p q all (inl a) = inl (omega (arith, a))
-is_disturbed_by z key p q all (inr s) = inr (all, s)
+is_disturbed_by : (z : Shape) (key : List ℕ) (now : ℕ) (p q : Pass) → 64 ≤ disturbed z key p q → CountsTries z key 0 64 (trace p) (trace q) ⊎ StoodBetween z key now p q → IsDisturbed z key now p q
+is_disturbed_by z key now p q all (inl a) = inl (omega (arith, a))
+is_disturbed_by z key now p q all (inr s) = inr (all, s)
 
-pub is_disturbed : (b : Board) (key : List ℕ) (p q : Pass) → IsReader b p q → Disturbs b.shape key 0 64 p q → IsDisturbed b.shape key p q
-is_disturbed b key p q i x =
+pub is_disturbed : (b : Board) (key : List ℕ) (now : ℕ) (p q : Pass) → IsReader b p q → Disturbs b.shape key now 0 64 p q → IsDisturbed b.shape key now p q
+is_disturbed b key now p q i x =
     let e = entries_begin b.shape (bucket_of b.shape key) (trace p) (trace q) (moved_on b i.reads.own p q i.reads.moved) in let g = glances_grow b i.reads.own p q (bucket_of b.shape key) i.reads.moved in let c = x.1 in
-    is_disturbed_by b.shape key p q (omega (arith, e, g, c)) x.2
+    is_disturbed_by b.shape key now p q (omega (arith, e, g, c)) x.2

@@ -1,27 +1,19 @@
 -- The value of a hit, read from within its segment, and what the hit raises.
 use Rattle.std.proofs.Common.{◌≡◌, ℕ, ◌<◌, List, [], ◌++◌, sym, ap, ◌∙◌, subst, append_assoc, refl}
-use Rattle.segword.specs.Bytes.{IsKey, IsValue}
-use Rattle.segword.specs.ItemWord.{item_word}
-use Rattle.segword.specs.declared.item.Item.{Item}
-use Rattle.segmodel.specs.History.{Begins}
-use Rattle.segcore.specs.declared.event.Event.{Event}
-use Rattle.segcore.specs.Lawful.{IsLawful}
-use Rattle.segcore.specs.Row.{Row, Holds, row_after}
-use Rattle.segcore.specs.Segment.{inside, NoneRefills}
+use Rattle.segword.specs.Words.{IsKey, IsValue, Item, item_word}
+use Rattle.segmodel.specs.Words.{Begins}
+use Rattle.segcore.specs.Words.{Event, Holds, inside, IsLawful, NoneRefills, Row, row_after}
 use Rattle.segcore.proofs.Moments.{begins_on}
 use Rattle.segcore.proofs.Segments.{row_since}
-use Rattle.segbase.specs.declared.board.Board.{Board}
-use Rattle.segbase.specs.declared.pass.Pass.{Pass}
-use Rattle.segbase.specs.declared.place.Place.{Place}
-use Rattle.segbase.specs.Passes.{number, trace, AddsEvents}
+use Rattle.segbase.specs.Words.{AddsEvents, Board, number, Pass, Place, trace}
 use Rattle.segbase.proofs.Alone.{moved_alone}
 use Rattle.segbase.proofs.Moves.{moved_on, is_inside}
 use Rattle.segbase.proofs.Staying.{none_both}
-use Rattle.segstore.specs.Reading.{IsReadable, IsReader, IsReaderIn, ReadsRow, LeavesSegment}
-use Rattle.segstore.specs.Linked.{segment_part, row_part, FoundItem, FoundKey}
+use Rattle.segstore.specs.Words.{FoundItem, FoundKey, IsReadable, IsReader, IsReaderIn}
+use Rattle.segstore.specs.Words.{LeavesSegment, ReadsRow, row_part, segment_part}
 use Rattle.segstore.proofs.Readers.{looks, then_reader, leave_then}
 use Rattle.segstore.proofs.Seconds.{segment_of_item, found_readable, found_value}
-use Rattle.segpass.specs.Calls.{RaisesNothing}
+use Rattle.segpass.specs.Words.{RaisesNothing}
 use Rattle.segread.specs.Hits.{RaisesFrom, RaisesOne}
 use Rattle.segread.proofs.Raising.{raises_after, raises_sooner}
 

@@ -2,57 +2,41 @@
 use Rattle.std.proofs.Common.{◌≡◌, ◌≢◌, ◌↔◌, ℕ, ◌+◌, ◌-◌, ◌<◌, Bool, true, false, cond, eqb, ◌&&◌, is_some, List, [], ◌∷◌, ◌++◌, Option, Some, None, IfSome, option_map, refl, sym, ap, ◌∙◌, subst, inl, inr, append_assoc, arith}
 use Rattle.std.proofs.lemmas.Bool.{cond-true, eq-eqb, false≢true}
 use Rattle.std.proofs.lemmas.Option.{none-some, same_Some}
-use Rattle.atomic_table.specs.declared.shared.Seat.{Seat}
-use Rattle.segword.specs.declared.shape.Shape.{Shape}
-use Rattle.segword.specs.ItemWord.{item_word}
-use Rattle.segword.specs.declared.item.Item.{Item}
-use Rattle.segmodel.specs.declared.entry.Entry.{Entry}
+use Rattle.segword.specs.Words.{Item, item_word, Shape}
 use Rattle.segmodel.specs.declared.entry.Entry.TheVariants as entry
-use Rattle.segmodel.specs.Cache.{standing}
-use Rattle.segmodel.specs.History.{Begins, after}
+use Rattle.segmodel.specs.Words.{after, Begins, Entry, standing}
 use Rattle.segmodel.specs.History as history
-use Rattle.segcore.specs.declared.event.Event.{Event}
 use Rattle.segcore.specs.declared.event.Event.TheVariants.{Left, Unlinked, Refilled}
-use Rattle.segcore.specs.declared.view.View.{View}
 use Rattle.segcore.specs.Event as event
-use Rattle.segcore.specs.Lawful.{IsLawful, IsSegment}
-use Rattle.segcore.specs.Row.{Row, row_after}
-use Rattle.segcore.specs.Segment.{inside, NoneRefills}
+use Rattle.segcore.specs.Words.{cached, Event, inside, IsLawful, IsSegment, NoneRefills, Row}
+use Rattle.segcore.specs.Words.{row_after, View}
+use Rattle.segcore.specs.declared.event.Leaving.TheVariants.{Deletes, Evicts}
 use Rattle.segcore.proofs.Entered.{no_refill}
-use Rattle.segcore.specs.Standing.{cached}
 use Rattle.segcore.proofs.Moments.{begins_on, seen_begins}
-use Rattle.segbase.specs.declared.board.Board.{Board}
-use Rattle.segbase.specs.declared.law.Held.{Held}
-use Rattle.segbase.specs.declared.law.Locked.{Locked}
-use Rattle.segbase.specs.declared.law.Memo.{Memo}
-use Rattle.segbase.specs.declared.law.Sight.{Sight}
-use Rattle.segbase.specs.declared.pass.Pass.{Pass}
 use Rattle.segbase.specs.declared.pass.Plain.{Plain}
-use Rattle.segbase.specs.declared.place.Place.{Place}
-use Rattle.segbase.specs.Minding.{HasHeld, Minds}
-use Rattle.segbase.specs.Passes.{sight, number, trace, seen, holding, locked, IsPassOf, IsMemo, AddsEvents, AddsAtOnce}
-use Rattle.segbase.specs.Plain.{is_holding_of}
-use Rattle.segbase.specs.Traces.{OnlyReads}
+use Rattle.segbase.specs.Words.{AddsAtOnce, AddsEvents, Board, HasHeld, Held, holding}
+use Rattle.segbase.specs.Words.{is_holding_of, IsMemo, IsPassOf, Locked, locked, locked_of, Memo}
+use Rattle.segbase.specs.Words.{mine, number, OnlyReads, Pass, Place, seen, trace, view}
+use Rattle.segbase.specs.Words.{with_holding}
+use Rattle.segbase.proofs.Owned.{still_pass}
 use Rattle.segbase.proofs.Staying.{none_both}
 use Rattle.segbase.proofs.Moves.{moved_inside, moved_mine}
-use Rattle.segstore.specs.Linked.{segment_part, row_part, FoundItem}
-use Rattle.segstore.specs.Reading.{IsReadable, IsReader, IsReaderIn}
-use Rattle.segstore.proofs.Keeping.{same_plain, keeps}
+use Rattle.segstore.specs.Words.{FoundItem, IsReadable, IsReader, IsReaderIn, row_part}
+use Rattle.segstore.specs.Words.{segment_part}
+use Rattle.segstore.proofs.Keeping.{stored_in, keeps}
 use Rattle.segstore.proofs.Seconds.{segment_of_item, row_of_item}
-use Rattle.segread.specs.declared.held.Hold.{Hold}
-use Rattle.segread.specs.declared.held.HoldAnswer.{HoldAnswer}
+use Rattle.segread.specs.Words.{Hold, HoldAnswer}
 use Rattle.segread.specs.declared.held.HoldAnswer.TheVariants as answer
-use Rattle.segpass.specs.Calls.{memo, GoesOn, ChangesNothing, TakesNoBit, DrawsNothing, RaisesNothing}
-use Rattle.segpass.specs.Quiet.{IsLock, IsHold, is_held_in, IsQuiet}
+use Rattle.segpass.specs.Words.{ChangesNothing, DrawsNothing, GoesOn, is_held_in, IsHold, IsLock}
+use Rattle.segpass.specs.Words.{IsQuiet, memo, RaisesNothing, TakesNoBit}
 use Rattle.segread.specs.Hits.{TriesFew}
-use Rattle.segread.specs.Holds.{IsRowOf, IsHoldOf, KeepsButHold, TakesHold, IsHoldAnswer, HoldsItem, NoneFills, IsUnfilled, Releases, SetsHold}
+use Rattle.segread.specs.Holds.{IsRowOf, IsHoldOf, TakesHold, IsHoldAnswer, HoldsItem, NoneFills, IsUnfilled, Releases, SetsHold}
 use Rattle.segpass.proofs.Still.{then_minds}
 use Rattle.segpass.proofs.Bits.{none_at_both, bit_before}
 use Rattle.segpass.proofs.Draws.{moved_undrawn, reads_undrawn, reader_draws_none}
 use Rattle.segread.proofs.Answered.{reads_set_none, reads_try_none, reads_no_bit}
 use Rattle.segpass.proofs.Idling.{took_none}
 use Rattle.segread.proofs.Holding.{held_at, held_from, held_past, held_stood, has_held, is_hold, held_row, row_of_hold}
-use Rattle.segpass.proofs.Locking.{segments_then}
 use Rattle.segpass.proofs.Quiet.{has_lock, goes_on, reads_none}
 use Rattle.segread.proofs.Reading.{reads_calm, reads_unseen, read_on}
 use Rattle.segpass.proofs.UnderBit.{moved_none}
@@ -62,11 +46,15 @@ use Rattle.segpass.proofs.UnderBit.{moved_none}
 if_held : (P : Held → Type 0) (o : Option Held) (held : Held) → IfSome o P → o ≡ Some held → P held
 if_held P o held some is = subst (λ x. IfSome x P) is some
 
-pub minds_hold : (b : Board) (p q : Pass) (held : Option Held) → IsPassOf b p → IfSome held (HasHeld b.shape (trace p)) → q.seat ≡ p.seat → IsMemo b q (record { holding = held; locked = locked q })
-minds_hold b p q held is has seat =
-    let now : IfSome held (HasHeld b.shape (trace q)) = subst (λ (s : Seat (Unit {0}) Sight). IfSome held (HasHeld b.shape s.me.0.view.trace)) (sym seat) has in
-    let minds : IsMemo b q (sight q).memo = subst (λ (s : Seat (Unit {0}) Sight). Minds b.shape s.me.0.view.trace s.me.0.view.number s.me.0.memo) (sym seat) is.minds in
-    record { holding = λ x here. if_held (HasHeld b.shape (trace q)) held x now here; locked = minds.locked }
+pub minds_hold : (b : Board) (p q : Pass) (held : Option Held) (some : Bool) → IsPassOf b p → IfSome held (HasHeld b.shape (trace p)) → q ≡ record p { plain = with_holding some p.plain } → IsPassOf b q × IsMemo b q (record (memo q) { holding = held })
+minds_hold b p q held some is has same = subst (λ x. IsPassOf b x × IsMemo b x (record (memo x) { holding = held })) (sym same)
+    (still_pass b p (with_holding some p.plain) is refl, record { holding = λ x here. if_held (HasHeld b.shape (trace p)) held x has here; locked = is.minds.locked })
+
+pub sets_now : (p r q : Pass) (held : Option Held) (some : Bool) → some ≡ is_some held → r ≡ record p { plain = with_holding some p.plain } → q.plain ≡ r.plain → memo q ≡ record (memo r) { holding = held } → SetsHold held p q
+sets_now p r q held some is set plain minds = record {
+  plain = plain ∙ (ap (λ (x : Pass). x.plain) set ∙ ap (λ t. with_holding t p.plain) is);
+  memo = minds ∙ ap (λ (x : Pass). record (memo x) { holding = held }) set;
+}
 
 -- ---- what a hold says
 
@@ -104,21 +92,25 @@ stays shape hold p q is same = record { held = is.held; holds = same ∙ is.hold
 -- ---- quiet again
 
 -- what a reader does, and then what the pass says of its hold
-module _ (b : Board) (own : List Event) (held : Option Held) (p r q : Pass) (quiet : IsQuiet b p) (m : AddsEvents b own p r) (only : OnlyReads own) (plain : r.plain ≡ p.plain) (same : memo r ≡ memo p) (is : IsPassOf b q) (sets : SetsHold held r q) where
+module _ (b : Board) (own : List Event) (held : Option Held) (p r q : Pass) (quiet : IsQuiet b p) (m : AddsEvents b own p r) (only : OnlyReads own) (plain : r.plain ≡ p.plain) (same : memo r ≡ memo p) (is : IsPassOf b q) (view_is : view q ≡ view r) (sets : SetsHold held r q) where
   pub moved_to : AddsEvents b own p q
-  moved_to = then_minds b own p r q m sets.view is
+  moved_to = then_minds b own p r q m view_is is
 
-  pub keeps_but : KeepsButHold p q
-  keeps_but = record {
-    entries = moved_mine b own p q moved_to ∙ ap (history.mine (number p)) (reads_unseen own (trace p) only);
-    current = sets.current ∙ (same_plain p r plain).1;
-    segments = segments_then p r q (same_plain p r plain).0 sets.segments;
-    locked = (sets.locked.0 ∙ ap (λ (x : Memo). x.locked) same, sets.locked.1 ∙ ap (λ (x : Plain). x.locked) plain);
-  }
+  pub entries_stay : mine q ≡ mine p
+  entries_stay = moved_mine b own p q moved_to ∙ ap (history.mine (number p)) (reads_unseen own (trace p) only)
+
+  pub sets_hold : SetsHold held p q
+  sets_hold = record { plain = sets.plain ∙ ap (with_holding (is_some held)) plain; memo = sets.memo ∙ ap (λ (m : Memo). record m { holding = held }) same }
+
+  locked_stays : locked_of q ≡ locked_of p
+  locked_stays = ap (λ (x : Plain). x.locked) sets_hold.plain
+
+  holding_now : holding q ≡ held
+  holding_now = ap (λ (m : Memo). m.holding) sets_hold.memo
 
   lock_stays : (lock : Locked) → locked q ≡ Some lock → IsLock b.shape (trace q) (number q) lock
   lock_stays lock here =
-      let before : locked p ≡ Some lock = sym keeps_but.locked.0 ∙ here in
+      let before : locked p ≡ Some lock = sym (ap (λ (m : Memo). m.locked) sets_hold.memo) ∙ here in
       let old = quiet.lock lock before in record {
         more = moved_to.more ++ old.more;
         since = moved_to.goes_on ∙ (ap (λ h. moved_to.more ++ h) old.since ∙ sym (append_assoc moved_to.more old.more lock.trace));
@@ -131,13 +123,13 @@ module _ (b : Board) (own : List Event) (held : Option Held) (p r q : Pass) (qui
   pub goes_on_holding : ((s : ℕ) → inside (trace q) (number p) s ≡ (let n : ℕ = cond (is_held_in held s) 1 0 in n)) → ((hold : Held) → held ≡ Some hold → IsHold b.shape (trace r) hold) → GoesOn b p q
   goes_on_holding readings hold = goes_on b own p q moved_to (record {
     pass = is;
-    segments = keeps b own p q moved_to (reads_calm own only) keeps_but.segments keeps_but.current quiet.segments;
-    locks = keeps_but.locked.1 ∙ (quiet.locks ∙ ap (λ o. option_map (λ (lock : Locked). lock.bucket) o) (sym keeps_but.locked.0));
-    bits = λ bucket has. keeps_but.locked.1 ∙ quiet.bits bucket (bit_before b own p q bucket moved_to (reads_none b.shape bucket own only) has);
+    segments = keeps b own p q moved_to (reads_calm own only) (ap stored_in sets_hold.plain) quiet.segments;
+    locks = locked_stays ∙ (quiet.locks ∙ ap (λ (m : Memo). option_map (λ (lock : Locked). lock.bucket) m.locked) (sym sets_hold.memo));
+    bits = λ bucket has. locked_stays ∙ quiet.bits bucket (bit_before b own p q bucket moved_to (reads_none b.shape bucket own only) has);
     lock = lock_stays;
-    holds = sets.is_holding ∙ ap is_some (sym sets.holding);
-    inside = λ s. ap (λ n. inside (trace q) n s) moved_to.same ∙ (readings s ∙ ap (λ o. cond (is_held_in o s) 1 0) (sym sets.holding));
-    hold = λ x here. subst (λ (v : View). IsHold b.shape v.trace x) (sym sets.view) (hold x (sym sets.holding ∙ here));
+    holds = ap (λ (x : Plain). x.is_holding) sets_hold.plain ∙ ap is_some (sym holding_now);
+    inside = λ s. ap (λ n. inside (trace q) n s) moved_to.same ∙ (readings s ∙ ap (λ o. cond (is_held_in o s) 1 0) (sym holding_now));
+    hold = λ x here. subst (λ (v : View). IsHold b.shape v.trace x) (sym view_is) (hold x (sym holding_now ∙ here));
   })
 
   pub takes_no_bit : TakesNoBit p q
@@ -150,7 +142,7 @@ module _ (b : Board) (own : List Event) (held : Option Held) (p r q : Pass) (qui
 
 module _ (b : Board) (p r q : Pass) (place : Place) (item : Item) (key value : List ℕ) (hold : Hold) (quiet : IsQuiet b p) (free : false ≡ is_holding_of p) (reads : IsReaderIn b p r item.seg)
     (found : FoundItem b.shape place (item_word item) key value (trace p) (trace r)) (segment : hold.segment ≡ item.seg) (row : hold.row ≡ item.row) (is : IsPassOf b q)
-    (sets : SetsHold (Some (held_at b.shape (trace r) key value item.seg)) r q) where
+    (view_is : view q ≡ view r) (sets : SetsHold (Some (held_at b.shape (trace r) key value item.seg)) r q) where
   abbrev z : Shape
   z = b.shape
 
@@ -182,7 +174,7 @@ module _ (b : Board) (p r q : Pass) (place : Place) (item : Item) (key value : L
   abbrev is_hold_of : IsHoldOf z hold q
   is_hold_of = let was = found.saw.was in record {
     held = held;
-    holds = sets.holding;
+    holds = ap (λ (m : Memo). m.holding) sets.memo;
     segment = segment;
     in_table = (subst (IsSegment z) (sym (segment ∙ es)) was.in_segment.0, subst (λ n. n < z.rows) (sym (row ∙ row_of_item item)) was.in_segment.1);
     valid = was.valid;
@@ -193,28 +185,29 @@ module _ (b : Board) (p r q : Pass) (place : Place) (item : Item) (key value : L
   in_no_segment s = quiet.inside s ∙ ap (λ o. cond (is_held_in o s) 1 0) (no_hold (holding p) (free ∙ quiet.holds))
 
   readings : (s : ℕ) → inside (trace q) (number p) s ≡ (let n : ℕ = cond (eqb item.seg s) 1 0 in n)
-  readings s = ap (λ (v : View). inside v.trace (number p) s) sets.view ∙ (reads.reads.inside s ∙ ap (λ n. cond (eqb item.seg s) (n + 1) n) (in_no_segment s))
+  readings s = ap (λ (v : View). inside v.trace (number p) s) view_is ∙ (reads.reads.inside s ∙ ap (λ n. cond (eqb item.seg s) (n + 1) n) (in_no_segment s))
 
-  pub takes_hold : GoesOn b p q × TakesHold z key hold p q
-  takes_hold = (
-    goes_on_holding b reads.reads.own (Some held) p r q quiet reads.reads.moved reads.reads.only reads.plain reads.memo is sets readings
+  pub takes_hold : (now : ℕ) → GoesOn b p q × TakesHold z key now hold p q
+  takes_hold now = (
+    goes_on_holding b reads.reads.own (Some held) p r q quiet reads.reads.moved reads.reads.only reads.plain reads.memo is view_is sets readings
         (λ x here. subst (IsHold z (trace r)) (same_Some held x here) (is_hold z key value item.seg item.row at (trace r) lawful kept stands)),
     record {
       is = is_hold_of;
       of = refl;
       stood = held_stood z key value item.seg item.row at (trace r) lawful kept stands;
+      finds = (held_stood z key value item.seg item.row at (trace r) lawful kept stands).stands;
       between = (
         seen_begins (trace p) held.trace (begins_on (trace p) at held.trace found.saw.between.0 (held_from z key value item.seg item.row at (trace r) lawful kept stands)),
-        seen_begins held.trace (trace q) (subst (λ (v : View). Begins held.trace v.trace) (sym sets.view) (held_past z key value item.seg item.row at (trace r) lawful kept stands)),
+        seen_begins held.trace (trace q) (subst (λ (v : View). Begins held.trace v.trace) (sym view_is) (held_past z key value item.seg item.row at (trace r) lawful kept stands)),
       );
-      is_holding = sets.is_holding;
-      same = keeps_but b reads.reads.own (Some held) p r q quiet reads.reads.moved reads.reads.only reads.plain reads.memo is sets;
+      entries = entries_stay b reads.reads.own (Some held) p r q quiet reads.reads.moved reads.reads.only reads.plain reads.memo is view_is sets;
+      sets = sets_hold b reads.reads.own (Some held) p r q quiet reads.reads.moved reads.reads.only reads.plain reads.memo is view_is sets;
     },
   )
 
 -- no item was found
-pub holds_none : (b : Board) (key : List ℕ) (told : HoldAnswer) (p q : Pass) → IsQuiet b p → IsReader b p q → TriesFew p q → RaisesNothing p q → (ChangesNothing p q → IsHoldAnswer b.shape key told p q) → ((told ≡ answer.AlreadyHolding) ↔ (is_holding_of p ≡ true)) → HoldsItem b key told p q
-holds_none b key told p q quiet i few none then already = let on = read_on b p q quiet i.reads i.plain i.memo in record {
+pub holds_none : (b : Board) (key : List ℕ) (now : ℕ) (told : HoldAnswer) (p q : Pass) → IsQuiet b p → IsReader b p q → TriesFew p q → RaisesNothing p q → (ChangesNothing p q → IsHoldAnswer b.shape key now told p q) → ((told ≡ answer.AlreadyHolding) ↔ (is_holding_of p ≡ true)) → HoldsItem b key now told p q
+holds_none b key now told p q quiet i few none then already = let on = read_on b p q quiet i.reads i.plain i.memo in record {
   on = on.0;
   takes_no_bit = reads_no_bit b p q i;
   draws_nothing = reader_draws_none b p q i.reads;
@@ -235,19 +228,19 @@ has_found b p r place item key value reads found =
 -- ---- its end
 
 abbrev filled_in : Option Entry → Option ℕ
-filled_in (Some (entry.Refilled p s)) = Some s
+filled_in (Some (entry.Refilled p s d)) = Some s
 filled_in o = None
 
-no_entry : (e : Event) (s : ℕ) → ((p : ℕ) → e ≢ Refilled p s) → (p : ℕ) → event.entry_of e ≢ Some (entry.Refilled p s)
-no_entry (Refilled q t) s other p same = other q (ap (Refilled q) (same_Some t s (ap filled_in same)))
-no_entry (Unlinked q k n None) s other p same = none-some s (ap filled_in same)
-no_entry (Unlinked q k n (Some t)) s other p same = none-some s (ap filled_in same)
-no_entry e s other p same = none-some s (ap filled_in same)
+no_entry : (e : Event) (s : ℕ) → ((p d : ℕ) → e ≢ Refilled p s d) → (p d : ℕ) → event.entry_of e ≢ Some (entry.Refilled p s d)
+no_entry (Refilled q t f) s other p d same = other q f (ap (λ x. Refilled q x f) (same_Some t s (ap filled_in same)))
+no_entry (Unlinked q k n (Deletes m)) s other p d same = none-some s (ap filled_in same)
+no_entry (Unlinked q k n (Evicts t)) s other p d same = none-some s (ap filled_in same)
+no_entry e s other p d same = none-some s (ap filled_in same)
 
-none_filled : (s : ℕ) (o : Option Entry) (before now : List Entry) → ((p : ℕ) → o ≢ Some (entry.Refilled p s)) → (more : List Entry) × (now ≡ more ++ before) × NoneFills s more
+none_filled : (s : ℕ) (o : Option Entry) (before now : List Entry) → ((p d : ℕ) → o ≢ Some (entry.Refilled p s d)) → (more : List Entry) × (now ≡ more ++ before) × NoneFills s more
     → (more : List Entry) × (event.with_entry o now ≡ more ++ before) × NoneFills s more
 none_filled s None before now other x = x
-none_filled s (Some e) before now other x = (e ∷ x.0, ap (λ h. e ∷ h) x.1, ((λ p same. other p (ap Some same)), x.2))
+none_filled s (Some e) before now other x = (e ∷ x.0, ap (λ h. e ∷ h) x.1, ((λ p d same. other p d (ap Some same)), x.2))
 
 -- events that refill no segment add no such entry
 unfilled : (s : ℕ) (more h : List Event) → NoneRefills s more → (entries : List Entry) × (event.seen (more ++ h) ≡ entries ++ event.seen h) × NoneFills s entries
@@ -258,7 +251,7 @@ left_once : (t : Bool) → (let n : ℕ = cond t (cond t 1 0 - 1) (cond t 1 0) i
 left_once true = refl
 left_once false = refl
 
-module _ (b : Board) (p r q : Pass) (hold : Hold) (quiet : IsQuiet b p) (of : IsHoldOf b.shape hold p) (did : AddsAtOnce b (Left (number p) hold.segment ∷ []) p r) (plain : r.plain ≡ p.plain) (same : memo r ≡ memo p) (is : IsPassOf b q) (sets : SetsHold None r q) where
+module _ (b : Board) (p r q : Pass) (hold : Hold) (quiet : IsQuiet b p) (of : IsHoldOf b.shape hold p) (did : AddsAtOnce b (Left (number p) hold.segment ∷ []) p r) (plain : r.plain ≡ p.plain) (same : memo r ≡ memo p) (is : IsPassOf b q) (view_is : view q ≡ view r) (sets : SetsHold None r q) where
   abbrev own : List Event
   own = Left (number p) hold.segment ∷ []
 
@@ -276,18 +269,17 @@ module _ (b : Board) (p r q : Pass) (hold : Hold) (quiet : IsQuiet b p) (of : Is
       let none : NoneRefills held.segment did.others = subst (λ s. NoneRefills s did.others) segment (no_refill b.shape did.others (trace p) (number p) hold.segment quiet.pass.one_of did.before did.none (is_inside b p hold quiet of)) in
       let x = unfilled held.segment (did.others ++ old.more) held.trace (none_both held.segment did.others old.more none old.kept) in
       let now : trace q ≡ Left (number p) hold.segment ∷ ((did.others ++ old.more) ++ held.trace) =
-      ap (λ (v : View). v.trace) sets.view ∙ (did.now ∙ ap (λ h. Left (number p) hold.segment ∷ h) (ap (λ h. did.others ++ h) old.since ∙ sym (append_assoc did.others old.more held.trace))) in
+      ap (λ (v : View). v.trace) view_is ∙ (did.now ∙ ap (λ h. Left (number p) hold.segment ∷ h) (ap (λ h. did.others ++ h) old.since ∙ sym (append_assoc did.others old.more held.trace))) in
       (x.0, ap event.seen now ∙ x.1, x.2)
 
   pub releases : GoesOn b p q × Releases p q
   releases = (
-    goes_on_holding b own None p r q quiet did.moved (tt, tt) plain same is sets
-        (λ s. ap (λ (v : View). inside v.trace (number p) s) sets.view ∙ (moved_inside b own p r s did.moved ∙ left s))
+    goes_on_holding b own None p r q quiet did.moved (tt, tt) plain same is view_is sets
+        (λ s. ap (λ (v : View). inside v.trace (number p) s) view_is ∙ (moved_inside b own p r s did.moved ∙ left s))
         (λ x here. absurd (none-some x here)),
     record {
-      holding = sets.holding;
-      is_holding = sets.is_holding;
+      entries = entries_stay b own None p r q quiet did.moved (tt, tt) plain same is view_is sets;
+      sets = sets_hold b own None p r q quiet did.moved (tt, tt) plain same is view_is sets;
       unfilled = none_refilled;
-      same = keeps_but b own None p r q quiet did.moved (tt, tt) plain same is sets;
     },
   )

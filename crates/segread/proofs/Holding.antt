@@ -1,24 +1,15 @@
 -- The item that a pass holds: the moment at which it stood, and its row since.
 use Rattle.std.proofs.Common.{◌≡◌, ℕ, Bool, true, false, cond, eqb, ◌&&◌, List, [], ◌∷◌, ◌++◌, Option, Some, None, refl, sym, ap, ◌∙◌, subst, ⊎_elim}
 use Rattle.std.proofs.lemmas.Bool.{cases_Bool, cond-true, cond-false, eq-eqb, and_parts, and_from, eqb-true, false≢true}
-use Rattle.segword.specs.declared.shape.Shape.{Shape}
-use Rattle.segmodel.specs.declared.entry.Cached.{Cached}
-use Rattle.segmodel.specs.Cache.{standing}
-use Rattle.segmodel.specs.History.{Begins, after, IsStanding}
-use Rattle.segcore.specs.declared.event.Event.{Event}
-use Rattle.segcore.specs.Event.{seen}
-use Rattle.segcore.specs.Lawful.{IsLawful}
-use Rattle.segcore.specs.Mark.{same_key}
-use Rattle.segcore.specs.Row.{row_after}
-use Rattle.segcore.specs.Segment.{NoneRefills}
-use Rattle.segcore.specs.Standing.{cached}
+use Rattle.segword.specs.Words.{Shape}
+use Rattle.segmodel.specs.Words.{after, Begins, Cached, IsStanding, standing}
+use Rattle.segcore.specs.Words.{cached, Event, IsLawful, NoneRefills, row_after, same_key, seen}
 use Rattle.segcore.proofs.Keys.{key_true, same_true}
 use Rattle.segcore.proofs.Moments.{lawful_before}
 use Rattle.segcore.proofs.Segments.{row_since}
 use Rattle.segcore.proofs.Standing.{legal}
-use Rattle.segbase.specs.declared.law.Held.{Held}
-use Rattle.segbase.specs.Minding.{HasHeld}
-use Rattle.segpass.specs.Quiet.{IsHold}
+use Rattle.segbase.specs.Words.{HasHeld, Held}
+use Rattle.segpass.specs.Words.{IsHold}
 
 -- ---- the last moment at which it stood
 

@@ -1,34 +1,21 @@
 -- A value and a version of one moment: between two looks that found one item stood that item, and the version was that of a clear bit.
 use Rattle.std.proofs.Common.{◌≡◌, ℕ, ◌+◌, ◌/◌, ◌%◌, ◌^◌, ◌<◌, ◌≤◌, List, ◌++◌, Some, None, option_map, sym, ap, ◌∙◌, subst, arith}
 use Rattle.std.proofs.lemmas.Option.{same_Some}
-use Rattle.segword.specs.declared.shape.Shape.{Shape}
-use Rattle.segword.specs.Shape.{IsValid}
-use Rattle.segword.specs.SameItem.{IsSameItem}
-use Rattle.segmodel.specs.declared.entry.Cached.{Cached}
-use Rattle.segmodel.specs.Places.{bucket_of}
-use Rattle.segmodel.specs.Cache.{standing, reads_version}
-use Rattle.segmodel.specs.History.{after}
-use Rattle.segcore.specs.declared.event.Event.{Event}
+use Rattle.segword.specs.Words.{IsSameItem, IsValid, Shape}
+use Rattle.segmodel.specs.Words.{after, bucket_of, Cached, reads_version, standing}
 use Rattle.segcore.specs.declared.cell.Cell.TheVariants.{OfBucket}
 use Rattle.segcore.specs.Event as event
-use Rattle.segcore.specs.Bucket.{bucket_after}
-use Rattle.segcore.specs.Row.{Row, Holds, row_after}
-use Rattle.segcore.specs.Segment.{inside, NoneRefills}
-use Rattle.segcore.specs.Lawful.{IsLawful}
-use Rattle.segcore.specs.Standing.{cached}
-use Rattle.segcore.specs.Word.{word}
+use Rattle.segcore.specs.Words.{bucket_after, cached, Event, Holds, inside, IsLawful, NoneRefills}
+use Rattle.segcore.specs.Words.{Row, row_after, word}
 use Rattle.segcore.proofs.Buckets.{bit_small, unwritten_version}
 use Rattle.segcore.proofs.Versions.{free}
 use Rattle.segcore.proofs.Standing.{coherent}
 use Rattle.segcore.proofs.Exact.{named_at, one_value}
 use Rattle.segcore.proofs.Segments.{row_since}
-use Rattle.segbase.specs.declared.board.Board.{Board}
-use Rattle.segbase.specs.declared.pass.Pass.{Pass}
-use Rattle.segbase.specs.declared.place.Place.{Place}
-use Rattle.segbase.specs.Passes.{number, trace, seen}
-use Rattle.segbase.specs.Spots.{cell_at, position, home_bucket}
-use Rattle.segstore.specs.Reading.{IsReader}
-use Rattle.segstore.specs.Linked.{segment_part, row_part, word_of_place, IsChained, FoundItem}
+use Rattle.segbase.specs.Words.{Board, cell_at, home_bucket, number, Pass, Place, position, seen}
+use Rattle.segbase.specs.Words.{trace}
+use Rattle.segstore.specs.Words.{FoundItem, IsChained, IsReader, row_part, segment_part}
+use Rattle.segstore.specs.Words.{word_of_place}
 use Rattle.segstore.proofs.Words.{same_segment, names_in}
 use Rattle.segpass.proofs.Before.{stood_before}
 
@@ -86,29 +73,29 @@ module _ (z : Shape) (place : Place) (w w' : ℕ) (key value : List ℕ) (h g : 
       let ev = one_value (row_after r s n) i.slot.key then'.value key value then'.valid.0 was.valid.0 then'.valid.1 was.valid.1 held held' in
       ap (standing (after z (event.seen r))) (sym ek) ∙ (then'.stands ∙ (λ j. Some (cached (ev j) (es j))))
 
-  pub reads_then : (version : ℕ) → z.first_version < 2 ^ 32 → (bucket_after z r (bucket_of z key)).holder ≡ None → version ≡ (z.first_version + (bucket_after z r (bucket_of z key)).version) % 2 ^ 32
-      → reads_version z (after z (event.seen r)) key ≡ Some (value, version)
-  reads_then version few none is =
+  pub reads_then : (now version : ℕ) → z.first_version < 2 ^ 32 → (bucket_after z r (bucket_of z key)).holder ≡ None → version ≡ (z.first_version + (bucket_after z r (bucket_of z key)).version) % 2 ^ 32
+      → reads_version z (after z (event.seen r)) now key ≡ Some (value, version)
+  reads_then now version few none is =
       let b = bucket_of z key in
       let cache = after z (event.seen r) in
       let e : version ≡ cache.version b = is ∙ clear_version z r b few lr none in
       ap (option_map (λ (item : Cached). (item.value, cache.version b))) stands_then ∙ ap (λ (m : ℕ). Some (value, m)) (sym e)
 
 -- of passes: p before the try, q in the segment, r after the look at the information, and t after the third look
-pub one_moment : (b : Board) (p q r t : Pass) (place : Place) (w w' : ℕ) (key value : List ℕ) (version : ℕ) → b.shape.first_version < 2 ^ 32 → IsValid b.shape → FoundItem b.shape place w key value (trace p) (trace q)
+pub one_moment : (b : Board) (p q r t : Pass) (place : Place) (w w' : ℕ) (key value : List ℕ) (now version : ℕ) → b.shape.first_version < 2 ^ 32 → IsValid b.shape → FoundItem b.shape place w key value (trace p) (trace q)
     → 0 < inside (trace q) (number q) (segment_part w) → IsReader b q r → IsReader b r t → IsChained b.shape (trace t) place → word_of_place b.shape (trace t) place ≡ w' → IsSameItem w w'
     → (bucket_after b.shape (trace r) (bucket_of b.shape key)).holder ≡ None → version ≡ (b.shape.first_version + (bucket_after b.shape (trace r) (bucket_of b.shape key)).version) % 2 ^ 32
-    → reads_version b.shape (after b.shape (seen r)) key ≡ Some (value, version)
-one_moment b p q r t place w w' key value version few v found there i j c stood same none is =
+    → reads_version b.shape (after b.shape (seen r)) now key ≡ Some (value, version)
+one_moment b p q r t place w w' key value now version few v found there i j c stood same none is =
     let z = b.shape in let s = segment_part w in
     let m = i.reads.moved in let k = j.reads.moved in
     let there' : 0 < inside (trace r) (number r) s = subst (λ n. 0 < inside (trace r) n s) (sym m.same) (subst (λ n. 0 < n) (sym (i.reads.inside s)) there) in
     let to_t : trace t ≡ k.more ++ (m.more ++ trace q) = k.goes_on ∙ ap (λ h. k.more ++ h) m.goes_on in
-    subst (λ h. reads_version z (after z (event.seen h)) key ≡ Some (value, version)) (sym m.goes_on)
+    subst (λ h. reads_version z (after z (event.seen h)) now key ≡ Some (value, version)) (sym m.goes_on)
     (reads_then z place w w' key value (trace p) (trace q) k.more m.more v found
     (subst (IsLawful z) to_t k.pass.lawful) (subst (IsLawful z) m.goes_on m.pass.lawful)
     (k.kept s (j.reads.stays s there')) (m.kept s (i.reads.stays s there))
     (subst (λ h. IsChained z h place) to_t c) (subst (λ h. word_of_place z h place ≡ w') to_t stood) same
-    version few
+    now version few
     (subst (λ h. (bucket_after z h (bucket_of z key)).holder ≡ None) m.goes_on none)
     (subst (λ h. version ≡ (z.first_version + (bucket_after z h (bucket_of z key)).version) % 2 ^ 32) m.goes_on is))

@@ -3,45 +3,29 @@ use Rattle.std.proofs.Common.{◌≡◌, ℕ, ◌+◌, ◌<◌, ◌≤◌, Bool,
 use Rattle.std.proofs.lemmas.Bool.Decides.{eqb_tells}
 use Rattle.std.proofs.lemmas.Bool.{cond-true, cond-false, eq-eqb, eqb-true, false≢true}
 use Rattle.std.proofs.lemmas.Option.{same_Some}
-use Rattle.segword.specs.declared.shape.Shape.{Shape}
-use Rattle.segword.specs.Shape.{IsValid}
-use Rattle.segword.specs.declared.item.Item.{Item}
-use Rattle.segword.specs.ItemWord.{item_word}
-use Rattle.segmodel.specs.Places.{tag_of}
-use Rattle.segmodel.specs.History.{Begins, after}
-use Rattle.segmodel.specs.Cache.{standing}
-use Rattle.segcore.specs.declared.event.Event.{Event}
+use Rattle.segword.specs.Words.{IsValid, Item, item_word, Shape}
+use Rattle.segmodel.specs.Words.{after, Begins, standing, tag_of}
 use Rattle.segcore.specs.declared.event.Event.TheVariants.{Bumped}
-use Rattle.segcore.specs.declared.view.View.{View}
-use Rattle.segcore.specs.Event.{seen}
-use Rattle.segcore.specs.Bucket.{bucket_after}
+use Rattle.segcore.specs.Words.{bucket_after, bump, cached, content_word, Event, frequency_of}
+use Rattle.segcore.specs.Words.{Holds, inside, last_at, marked, packed, Row, row_after, seen, View}
+use Rattle.segcore.specs.Words.{word}
 use Rattle.segcore.specs.Bucket as buckets
-use Rattle.segcore.specs.Mark.{marked, last_at}
 use Rattle.segcore.proofs.Orderly.{frequency_marked}
-use Rattle.segcore.specs.ItemWord.{packed}
-use Rattle.segcore.specs.Kind.{bump}
-use Rattle.segcore.specs.Row.{Row, Holds, row_after, frequency_of}
-use Rattle.segcore.specs.Segment.{inside}
-use Rattle.segcore.specs.Standing.{cached}
-use Rattle.segcore.specs.Word.{content_word, word}
 use Rattle.segcore.proofs.Entered.{no_refill}
 use Rattle.segcore.proofs.Exact.{content_at, one_value}
 use Rattle.segcore.proofs.Moments.{begins_on}
 use Rattle.segcore.proofs.Limits.{low_row, low_segment, low_frequency}
 use Rattle.segcore.proofs.Segments.{row_since}
 use Rattle.segcore.proofs.Standing.{coherent}
-use Rattle.segpolicy.specs.Frequency.{draw_raises, frequency_after_hit}
-use Rattle.segbase.specs.declared.board.Board.{Board}
-use Rattle.segbase.specs.declared.pass.Pass.{Pass}
-use Rattle.segbase.specs.declared.place.Place.{Place}
-use Rattle.segbase.specs.Passes.{number, trace, raised, entered, IsPassOf, AddsEvents, AddsAtOnce, Stepped}
-use Rattle.segbase.specs.Spots.{cell_at, position, home_bucket}
+use Rattle.segpolicy.specs.Words.{draw_raises, frequency_after_hit}
+use Rattle.segbase.specs.Words.{AddsAtOnce, AddsEvents, Board, cell_at, entered, home_bucket}
+use Rattle.segbase.specs.Words.{IsPassOf, number, Pass, Place, position, raised, Stepped, trace}
 use Rattle.segbase.proofs.Alone.{moved_alone}
 use Rattle.segbase.proofs.Moves.{moved_entered}
-use Rattle.segstore.specs.Linked.{segment_part, row_part, IsChained, WasLinked, FoundItem}
+use Rattle.segstore.specs.Words.{FoundItem, IsChained, row_part, segment_part, WasLinked}
 use Rattle.segstore.proofs.Words.{chained_later, stood_item}
 use Rattle.segstore.proofs.Seconds.{segment_of_item, row_of_item}
-use Rattle.segpass.specs.Calls.{RaisesNothing}
+use Rattle.segpass.specs.Words.{RaisesNothing}
 use Rattle.segread.specs.Hits.{HasFrequency, CountsHit, PassesHit, IsOvertaken, RaisesFrom, RaisesOne}
 use Rattle.segread.proofs.Tries.{has_tag}
 

@@ -1,18 +1,14 @@
 -- A quiet pass that only read goes on quietly, and has changed nothing.
 use Rattle.std.proofs.Common.{◌≡◌, List, [], ◌∷◌, ◌++◌, refl, ap, ◌∙◌}
 use Rattle.segmodel.specs.History as history
-use Rattle.segcore.specs.declared.event.Event.{Event}
+use Rattle.segcore.specs.Words.{Event}
 use Rattle.segcore.specs.declared.event.Event.TheVariants.{Glanced, Bumped, Entered, Left}
 use Rattle.segcore.specs.Event as event
-use Rattle.segbase.specs.declared.board.Board.{Board}
-use Rattle.segbase.specs.declared.pass.Pass.{Pass}
-use Rattle.segbase.specs.Traces.{IsReaderEvent, OnlyReads}
-use Rattle.segbase.specs.Passes.{number, trace, Reads}
+use Rattle.segbase.specs.Words.{Board, IsReaderEvent, number, OnlyReads, Pass, Reads, trace}
 use Rattle.segbase.proofs.Moves.{moved_mine}
-use Rattle.segstore.specs.Segments.{KeepsSegments}
+use Rattle.segstore.specs.Words.{KeepsSegments}
 use Rattle.segstore.proofs.Keeping.{IsCalm, AreCalm, keeps_plain}
-use Rattle.segpass.specs.Quiet.{IsQuiet}
-use Rattle.segpass.specs.Calls.{memo, GoesOn, ChangesNothing}
+use Rattle.segpass.specs.Words.{ChangesNothing, GoesOn, IsQuiet, memo}
 use Rattle.segpass.proofs.Quiet.{quiet_reads, goes_on}
 
 is_calm : (e : Event) → IsReaderEvent e → IsCalm e

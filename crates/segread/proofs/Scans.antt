@@ -1,34 +1,20 @@
 -- Looks at the words of a chain in turn, and what comes after each: the next word, or the next bucket, or the chain's end.
 use Rattle.std.proofs.Common.{◌≡◌, ◌≢◌, ℕ, ◌+◌, ◌-◌, ◌*◌, ◌%◌, ◌^◌, ◌<◌, ◌≤◌, Bool, true, false, cond, ltb, ◌⊎◌, List, [], Some, None, refl, sym, ap, ◌∙◌, subst, inl, inr, ⊎_elim, arith}
 use Rattle.std.proofs.lemmas.Bool.{cases_lt, lt-ltb, le-ltb}
-use Rattle.segword.specs.declared.item.Item.{Item}
-use Rattle.segword.specs.declared.shape.Shape.{Shape}
-use Rattle.segword.specs.Shape.{IsValid}
-use Rattle.segword.specs.ChainWord.{chain_word, IsChainWord}
-use Rattle.segmodel.specs.Places.{bucket_of}
-use Rattle.segmodel.specs.History.{Begins}
-use Rattle.segcore.specs.declared.event.Event.{Event}
-use Rattle.segcore.specs.declared.cell.Cell.{Cell}
+use Rattle.segword.specs.Words.{chain_word, IsChainWord, IsValid, Item, Shape}
+use Rattle.segmodel.specs.Words.{Begins, bucket_of}
 use Rattle.segcore.specs.declared.cell.Cell.TheVariants.{OfBucket, OfOverflow}
-use Rattle.segcore.specs.Bucket.{bucket_after}
-use Rattle.segcore.specs.Overflow.{home, home_of}
-use Rattle.segcore.specs.Lawful.{IsLawful}
-use Rattle.segcore.specs.Word.{IsAt, IsItemAt}
-use Rattle.segcore.specs.Ahead.{WasGone}
-use Rattle.segcore.specs.Search.{KeyGone, KeyAhead}
+use Rattle.segcore.specs.Words.{bucket_after, Cell, Event, home, home_of, IsAt, IsItemAt, IsLawful}
+use Rattle.segcore.specs.Words.{KeyAhead, KeyGone, WasGone}
 use Rattle.segcore.proofs.Moments.{begins_on}
 use Rattle.segcore.proofs.Limits.{bucket_in, few_drawn}
 use Rattle.segcore.proofs.Chains.{chain_of}
 use Rattle.segcore.proofs.ChainWords.{leads_on, ends_there}
 use Rattle.segcore.proofs.Searches.{key_first, key_later, key_skipped, key_ended}
-use Rattle.segbase.specs.declared.board.Board.{Board}
-use Rattle.segbase.specs.declared.pass.Pass.{Pass}
-use Rattle.segbase.specs.declared.place.Place.{Place}
-use Rattle.segbase.specs.Passes.{trace, IsPassOf}
-use Rattle.segbase.specs.Spots.{IsPlace, cell_at, position, home_bucket, depth_of}
+use Rattle.segbase.specs.Words.{Board, cell_at, depth_of, home_bucket, IsPassOf, IsPlace, Pass}
+use Rattle.segbase.specs.Words.{Place, position, trace}
 use Rattle.segbase.proofs.Moves.{moved_on}
-use Rattle.segstore.specs.Reading.{IsReader, IsReaderIn}
-use Rattle.segstore.specs.Linked.{word_of_place, IsChained, FoundKey}
+use Rattle.segstore.specs.Words.{FoundKey, IsChained, IsReader, IsReaderIn, word_of_place}
 use Rattle.segstore.proofs.Words.{at_place, same_place, chained_later}
 use Rattle.segstore.proofs.Readers.{stays, reader_then, enter_then}
 use Rattle.segread.specs.declared.scan.Hit.{Hit}
@@ -38,7 +24,7 @@ use Rattle.segread.specs.declared.scan.Way.{Way}
 use Rattle.segread.specs.declared.scan.Way.TheVariants.{Found, Passed, Busy}
 use Rattle.segread.specs.Scanning.{place_of, words_below, IsPlaceOf, IsPlaceAfter, IsOnWay, IsScanner, IsTry, ComesIn, Tries, CountsTries, AdvancesSearch, HasPassed, IsHit, IsPast, GivesUp, IsEnded, IsWay, IsScanFrom, IsScanAnswer}
 use Rattle.segread.specs.Hits.{TriesFew}
-use Rattle.segpass.specs.Calls.{RaisesNothing}
+use Rattle.segpass.specs.Words.{RaisesNothing}
 use Rattle.segread.proofs.ComingIn.{tries_none, tries_once, tries_then, at_most, word_more, words_few, words_most}
 use Rattle.segread.proofs.Tries.{Trying, hit_from, word_wider, counts_none, counts_later, counts_then}
 

@@ -2,40 +2,24 @@
 use Rattle.std.proofs.Common.{◌≡◌, ◌≢◌, ℕ, ◌+◌, ◌/◌, ◌^◌, ◌<◌, ◌≤◌, Bool, true, false, cond, eqb, ◌&&◌, ◌||◌, List, [], ◌∷◌, Some, None, refl, sym, ap, ◌∙◌, subst, arith}
 use Rattle.std.proofs.lemmas.Bool.{cond-false}
 use Rattle.std.proofs.lemmas.Option.{none-some}
-use Rattle.segword.specs.declared.shape.Shape.{Shape}
-use Rattle.segword.specs.declared.item.Item.{Item}
-use Rattle.segword.specs.Shape.{IsValid}
-use Rattle.segword.specs.ItemWord.{item_word}
-use Rattle.segword.specs.SameItem.{IsSameItem}
-use Rattle.segmodel.specs.Places.{bucket_of, tag_of}
-use Rattle.segmodel.specs.History.{Begins, entries_of}
-use Rattle.segcore.specs.declared.event.Event.{Event}
+use Rattle.segword.specs.Words.{IsSameItem, IsValid, Item, item_word, Shape}
+use Rattle.segmodel.specs.Words.{Begins, bucket_of, entries_of, tag_of}
 use Rattle.segcore.specs.declared.event.Event.TheVariants.{Filled, Linked, Refilled}
-use Rattle.segcore.specs.Event.{seen}
-use Rattle.segcore.specs.Bucket.{bucket_after}
+use Rattle.segcore.specs.Words.{bucket_after, enter, Event, inside, IsAt, IsLawful, KeyAt, May}
+use Rattle.segcore.specs.Words.{Names, Row, row_after, seen, was_used, writes_row}
 use Rattle.segcore.specs.Bucket as buckets
-use Rattle.segcore.specs.Word.{IsAt}
-use Rattle.segcore.specs.Standing.{Names}
-use Rattle.segcore.specs.Row.{Row, writes_row, row_after}
-use Rattle.segcore.specs.Segment.{inside, was_used}
-use Rattle.segcore.specs.Lawful.{IsLawful}
-use Rattle.segcore.specs.Search.{KeyAt}
-use Rattle.segcore.specs.Kind.{May, enter}
 use Rattle.segcore.proofs.Quiet.{used_stays}
 use Rattle.segcore.proofs.Moments.{begins_on}
 use Rattle.segcore.proofs.Chains.{same_item}
 use Rattle.segcore.proofs.Changed.{changed_word, entries_begin}
 use Rattle.segcore.proofs.ChainWords.{other_tag}
 use Rattle.segcore.proofs.Searches.{key_later, key_passed}
-use Rattle.segbase.specs.declared.board.Board.{Board}
-use Rattle.segbase.specs.declared.pass.Pass.{Pass}
-use Rattle.segbase.specs.declared.place.Place.{Place}
-use Rattle.segbase.specs.Passes.{number, trace, IsPassOf, AddsAtOnce}
-use Rattle.segbase.specs.Spots.{cell_at, position, home_bucket}
+use Rattle.segbase.specs.Words.{AddsAtOnce, Board, cell_at, home_bucket, IsPassOf, number, Pass}
+use Rattle.segbase.specs.Words.{Place, position, trace}
 use Rattle.segbase.proofs.Standing.{tag_of_word}
 use Rattle.segbase.proofs.Moves.{moved_on}
-use Rattle.segstore.specs.Reading.{IsReader}
-use Rattle.segstore.specs.Linked.{segment_part, word_of_place, IsChained, SawItem, FoundItem, FoundKey, SawWord, IsKeyed}
+use Rattle.segstore.specs.Words.{FoundItem, FoundKey, IsChained, IsKeyed, IsReader, SawItem}
+use Rattle.segstore.specs.Words.{SawWord, segment_part, word_of_place}
 use Rattle.segstore.specs.declared.read.Keyed.{Keyed}
 use Rattle.segstore.specs.declared.read.Keyed.TheVariants.{Same, Other, Changed}
 use Rattle.segstore.proofs.Words.{same_place, chained_later, names_in, stood_item, same_parts}
@@ -194,7 +178,7 @@ linked_used [] s r k on = absurd (none-some k on)
 linked_used (Linked p q t i n ∷ h) s r k on =
     used_or (eqb t s) (was_used h s) (λ f. linked_used h s r k (ap (λ (u : Row). u.linked) (sym (cond-false (eqb t s && eqb i r) (writes_row (Linked p q t i n) (row_after h s r)) (row_after h s r) (ap (λ a. a && eqb i r) f))) ∙ on))
 linked_used (Filled p t i j w ∷ h) s r k on = linked_used h s r k (same_linked (eqb t s && eqb i r) (row_after h s r) (writes_row (Filled p t i j w) (row_after h s r)) k refl on)
-linked_used (Refilled p t ∷ h) s r k on = linked_used h s r k (linked_in (eqb t s) (row_after h s r) (writes_row (Refilled p t) (row_after h s r)) k refl on)
+linked_used (Refilled p t d ∷ h) s r k on = linked_used h s r k (linked_in (eqb t s) (row_after h s r) (writes_row (Refilled p t d) (row_after h s r)) k refl on)
 linked_used (e ∷ h) s r k on = linked_used h s r k on
 
 -- the pass may enter the segment of an item that was seen

@@ -1,29 +1,17 @@
 -- One scan for a value with its version: what is known once the item's word was looked at again, and what the scan comes to.
 use Rattle.std.proofs.Common.{◌≡◌, ◌≢◌, ℕ, ◌+◌, ◌%◌, ◌^◌, ◌<◌, ◌≤◌, Bool, true, false, List, [], Some, None, refl, sym, ◌∙◌, subst, arith}
-use Rattle.segword.specs.declared.shape.Shape.{Shape}
-use Rattle.segword.specs.declared.info.Info.{Info}
-use Rattle.segword.specs.Bytes.{IsKey, IsValue}
-use Rattle.segword.specs.Shape.{IsValid}
-use Rattle.segword.specs.ItemWord.{item_word, tag_part}
-use Rattle.segword.specs.SameItem.{IsSameItem}
-use Rattle.segmodel.specs.Places.{bucket_of, tag_of}
-use Rattle.segmodel.specs.History.{Begins, entries_of}
+use Rattle.segword.specs.Words.{Info, IsKey, IsSameItem, IsValid, IsValue, item_word, Shape}
+use Rattle.segword.specs.Words.{tag_part}
+use Rattle.segmodel.specs.Words.{Begins, bucket_of, entries_of, tag_of}
 use Rattle.segcore.specs.Event as event
-use Rattle.segcore.specs.Bucket.{bucket_after}
-use Rattle.segcore.specs.Lawful.{IsLawful}
-use Rattle.segcore.specs.Row.{Holds, row_after}
-use Rattle.segcore.specs.Segment.{inside}
+use Rattle.segcore.specs.Words.{bucket_after, Holds, inside, IsLawful, row_after}
 use Rattle.segcore.proofs.Moments.{begins_on, seen_begins}
 use Rattle.segcore.proofs.Searches.{key_later}
-use Rattle.segbase.specs.declared.board.Board.{Board}
-use Rattle.segbase.specs.declared.pass.Pass.{Pass}
-use Rattle.segbase.specs.declared.place.Place.{Place}
-use Rattle.segbase.specs.Passes.{number, trace, sight, seen, entered}
-use Rattle.segbase.specs.Spots.{position}
-use Rattle.segbase.specs.Steps.{Glances}
+use Rattle.segbase.specs.Words.{Board, entered, Glances, number, Pass, Place, position, seen, sight}
+use Rattle.segbase.specs.Words.{trace}
 use Rattle.segbase.proofs.Moves.{moved_on, is_inside}
-use Rattle.segstore.specs.Reading.{OnlyLooks, IsReader, IsReaderIn, ReadsRow, LeavesSegment}
-use Rattle.segstore.specs.Linked.{word_of_place, FoundItem}
+use Rattle.segstore.specs.Words.{FoundItem, IsReader, IsReaderIn, LeavesSegment, OnlyLooks}
+use Rattle.segstore.specs.Words.{ReadsRow, word_of_place}
 use Rattle.segstore.proofs.Words.{same_place, chained_later}
 use Rattle.segstore.proofs.Seconds.{segment_of_item}
 use Rattle.segstore.proofs.Readers.{looks, reader_then, then_reader, leave_then}
@@ -41,11 +29,11 @@ use Rattle.segread.proofs.Scans.{in_chain, place_later, hit_place, next_of, end_
 use Rattle.segread.proofs.Tries.{has_tag, counts_later, one_entry, passed_word}
 
 -- with p the pass before the scan, q in the item's segment, v after its value was read, g after the look at the information, and l after the third look
-module _ (b : Board) (key : List ℕ) (from tries : ℕ) (hit : Hit) (value : List ℕ) (info : Info) (now : ℕ) (p q v g l : Pass) (valid : IsValid b.shape) (few : b.shape.first_version < 2 ^ 32) (free : HasNoBit b.shape key p)
+module _ (b : Board) (key : List ℕ) (now from tries : ℕ) (hit : Hit) (value : List ℕ) (info : Info) (third : ℕ) (p q v g l : Pass) (valid : IsValid b.shape) (few : b.shape.first_version < 2 ^ 32) (free : HasNoBit b.shape key p)
     (scan : IsReaderIn b p q hit.item.seg) (x : IsHit b.shape key from tries hit p q) (row : ReadsRow b q v hit.item.seg hit.item.row)
     (is_value : (k w : List ℕ) → IsKey k → IsValue w → Holds (row_after (trace v) hit.item.seg hit.item.row) k w → value ≡ w)
     (glance : Glances b (bucket_of b.shape key) info v g) (plain : g.plain ≡ v.plain) (memo : (sight g).memo ≡ (sight v).memo)
-    (version : info.version ≡ (b.shape.first_version + (bucket_after b.shape (trace g) (bucket_of b.shape key)).version) % 2 ^ 32) (look : OnlyLooks b g l) (stands : now ≡ word_of_place b.shape (trace l) hit.place) where
+    (version : info.version ≡ (b.shape.first_version + (bucket_after b.shape (trace g) (bucket_of b.shape key)).version) % 2 ^ 32) (look : OnlyLooks b g l) (stands : third ≡ word_of_place b.shape (trace l) hit.place) where
   abbrev z : Shape
   z = b.shape
 
@@ -99,10 +87,10 @@ module _ (b : Board) (key : List ℕ) (from tries : ℕ) (hit : Hit) (value : Li
   out = out_then q v l (looked b q v row.looked.did.moved) (out_then v g l (coming.glanced b c info v g glance) (looked b g l look.did.moved))
 
   -- another item came in since this one stood
-  one_more : ¬ (IsSameItem (item_word hit.item) now) → 1 ≤ tag_part now → CountsTries z key tries (hit.tries + 1) (trace p) (trace l)
+  one_more : ¬ (IsSameItem (item_word hit.item) third) → 1 ≤ tag_part third → CountsTries z key tries (hit.tries + 1) (trace p) (trace l)
   one_more ne tag =
       let saw = x.found.found.saw in
-      let more = one_entry z hit.place (item_word hit.item) now saw.at (trace l) valid saw.was.lawful lawful (begins_on saw.at (trace q) (trace l) saw.between.1 on) saw.was.chained saw.was.stood (sym stands) (has_tag hit.item) tag ne in
+      let more = one_entry z hit.place (item_word hit.item) third saw.at (trace l) valid saw.was.lawful lawful (begins_on saw.at (trace q) (trace l) saw.between.1 on) saw.was.chained saw.was.stood (sym stands) (has_tag hit.item) tag ne in
       let more' : entries_of z c (event.seen saw.at) + 1 ≤ entries_of z c (seen l) = subst (λ n. entries_of z n (event.seen saw.at) + 1 ≤ entries_of z n (seen l)) (sym saw.was.here.0) more in
       let counted = x.counted in omega (arith, more', counted)
 
@@ -110,15 +98,15 @@ module _ (b : Board) (key : List ℕ) (from tries : ℕ) (hit : Hit) (value : Li
   found_l clear = found_on b g l hit.place hit.item key value (trace p) (is_inside b p g hit.item.seg (then_reader b p v g hit.item.seg in_v at_g).reads) look.did.moved
       (found_on b v g hit.place hit.item key value (trace p) (is_inside b p v hit.item.seg in_v.reads) (glance.0 clear).0.moved found_v)
 
-  one_version : info.held ≡ false → IsSameItem (item_word hit.item) now → ReadsVersionBetween z key (seen p) (seen l) (Some (value, info.version))
+  one_version : info.held ≡ false → IsSameItem (item_word hit.item) third → ReadsVersionBetween z key now (seen p) (seen l) (Some (value, info.version))
   one_version clear same = let i = clear_reads b c v g info glance clear plain memo in (
     seen g,
     (seen_begins (trace p) (trace g) (begins_on (trace p) (trace v) (trace g) (moved_on b in_v.reads.own p v in_v.reads.moved) (moved_on b at_g.reads.own v g at_g.reads.moved)), seen_begins (trace g) (trace l) (moved_on b at_l.reads.own g l at_l.reads.moved)),
-    one_moment b p v g l hit.place (item_word hit.item) now key value info.version few valid found_v
+    one_moment b p v g l hit.place (item_word hit.item) third key value now info.version few valid found_v
         (subst (λ s. 0 < inside (trace v) (number v) s) (segment_of_item hit.item) (is_inside b p v hit.item.seg in_v.reads)) at_g at_l (chained_later z (trace q) (trace l) hit.place lawful on at_q.0) (sym stands) same i.1 version,
   )
 
-  pub is_seen : IsSeen b key from tries hit value info now p l
+  pub is_seen : IsSeen b key now from tries hit value info third p l
   is_seen = record {
     reads = in_l;
     in_table = row.readable.0;
@@ -128,7 +116,7 @@ module _ (b : Board) (key : List ℕ) (from tries : ℕ) (hit : Hit) (value : Li
     onward = subst (λ n. words_below from + tries ≤ words_below n + hit.tries) same_at x.onward;
     brings = subst (λ n. AdvancesSearch z key from n (trace p) (trace l)) same_at (λ start here ahead. key_later z key (position z (trace q) hit.place) start (trace q) (trace l) lawful (begins_on start (trace p) (trace q) here up) on (x.brings start here ahead));
     counted = counts_later z key tries hit.tries (trace p) x.found.found.saw.at (trace l) (begins_on x.found.found.saw.at (trace q) (trace l) x.found.found.saw.between.1 on) x.counted;
-    stood = (value, found_reads z hit.place (item_word hit.item) key value (trace p) (trace v) (trace l) (moved_on b from_v.reads.own v l from_v.reads.moved) found_v);
+    stood = (value, found_reads z hit.place (item_word hit.item) key value now (trace p) (trace v) (trace l) (moved_on b from_v.reads.own v l from_v.reads.moved) found_v);
     stands = stands;
     glanced = λ held. let one = (set_reads b key v g info valid still_free glance held plain memo).1 in let before = glances_grow b in_v.reads.own p v c in_v.reads.moved in let after = glances_grow b at_l.reads.own g l c at_l.reads.moved in
         omega (arith, one, before, after);
@@ -138,7 +126,7 @@ module _ (b : Board) (key : List ℕ) (from tries : ℕ) (hit : Hit) (value : Li
   }
 
 -- with l after the third look, and r after it left the segment
-module _ (b : Board) (key : List ℕ) (from tries : ℕ) (hit : Hit) (value : List ℕ) (info : Info) (now : ℕ) (p l r : Pass) (s : IsSeen b key from tries hit value info now p l) (gone : LeavesSegment b l r hit.item.seg) where
+module _ (b : Board) (key : List ℕ) (now from tries : ℕ) (hit : Hit) (value : List ℕ) (info : Info) (third : ℕ) (p l r : Pass) (s : IsSeen b key now from tries hit value info third p l) (gone : LeavesSegment b l r hit.item.seg) where
   pub left : IsReader b p r
   left = leave_then b p l r hit.item.seg s.reads gone
 
@@ -158,7 +146,7 @@ module _ (b : Board) (key : List ℕ) (from tries : ℕ) (hit : Hit) (value : Li
   same_r = sym (same_place b.shape (trace l) (trace r) hit.place lawful_r to_r s.place.0).1
 
   -- from its place, with a try more
-  again : Disturbs b.shape key tries (hit.tries + 1) p r → MovesOn b.shape key from tries hit.place (hit.tries + 1) p r
+  again : Disturbs b.shape key now tries (hit.tries + 1) p r → MovesOn b.shape key now from tries hit.place (hit.tries + 1) p r
   again disturbs = record {
     few = let few = s.few in omega arith;
     place = place_later b.shape key hit.place (trace l) (trace r) lawful_r to_r s.place;
@@ -168,45 +156,45 @@ module _ (b : Board) (key : List ℕ) (from tries : ℕ) (hit : Hit) (value : Li
     onward = let on = s.onward in omega (arith, on, same_r);
   }
 
-  pub again_held : info.held ≡ true → MovesOn b.shape key from tries hit.place (hit.tries + 1) p r
-  again_held held = again (by_bit b key tries hit.tries p r left (counts_later b.shape key tries hit.tries (trace p) (trace l) (trace r) to_r s.counted)
+  pub again_held : info.held ≡ true → MovesOn b.shape key now from tries hit.place (hit.tries + 1) p r
+  again_held held = again (by_bit b key now tries hit.tries p r left (counts_later b.shape key tries hit.tries (trace p) (trace l) (trace r) to_r s.counted)
       (let one = s.glanced held in let more = glances_grow b _ l r (bucket_of b.shape key) gone.moved in omega (arith, one, more))
       (let stood = s.stood in let at = stood.1 in (stood.0, (at.0, (at.1.0, begins_on at.0 (seen l) (seen r) at.1.1 (seen_begins (trace l) (trace r) to_r)), at.2))))
 
-  pub again_changed : ¬ (IsSameItem (item_word hit.item) now) → 1 ≤ tag_part now → MovesOn b.shape key from tries hit.place (hit.tries + 1) p r
-  again_changed ne tag = again (by_entries b key tries (hit.tries + 1) p r left (counts_later b.shape key tries (hit.tries + 1) (trace p) (trace l) (trace r) to_r (s.changed ne tag)))
+  pub again_changed : ¬ (IsSameItem (item_word hit.item) third) → 1 ≤ tag_part third → MovesOn b.shape key now from tries hit.place (hit.tries + 1) p r
+  again_changed ne tag = again (by_entries b key now tries (hit.tries + 1) p r left (counts_later b.shape key tries (hit.tries + 1) (trace p) (trace l) (trace r) to_r (s.changed ne tag)))
 
   -- past it, where no item with the tag stood there
-  module _ (valid : IsValid b.shape) (tag : ℕ) (is : tag ≡ tag_of key) (other : tag_part now ≢ tag) where
+  module _ (valid : IsValid b.shape) (tag : ℕ) (is : tag ≡ tag_of key) (other : tag_part third ≢ tag) where
     abbrev at : ℕ
     at = position b.shape (trace l) hit.place
 
-    passed : HasPassed b.shape key at (at + 1) hit.place now (trace l) (trace r)
-    passed = passed_word b.shape key hit.place now tag (trace l) (trace l) (trace r) valid s.place ([], refl) (record { at = trace l; between = (([], refl), to_r); lawful = s.reads.reads.moved.pass.lawful; stood = sym s.stands }) is other
+    passed : HasPassed b.shape key at (at + 1) hit.place third (trace l) (trace r)
+    passed = passed_word b.shape key hit.place third tag (trace l) (trace l) (trace r) valid s.place ([], refl) (record { at = trace l; between = (([], refl), to_r); lawful = s.reads.reads.moved.pass.lawful; stood = sym s.stands }) is other
 
     in' : (0 < at % 8) × (at < 32)
     in' = in_chain b.shape (trace l) hit.place s.reads.reads.moved.pass.lawful s.place.0
 
-    pub goes_past : (next : Place) → IsPlaceAfter b.shape hit.place now (Some next) → MovesOn b.shape key from tries next hit.tries p r
+    pub goes_past : (next : Place) → IsPlaceAfter b.shape hit.place third (Some next) → MovesOn b.shape key now from tries next hit.tries p r
     goes_past next after =
-        let n = next_of b.shape key hit.place at now (trace l) (trace r) valid lawful_r s.place passed next after in
+        let n = next_of b.shape key hit.place at third (trace l) (trace r) valid lawful_r s.place passed next after in
         let words : words_below (position b.shape (trace r) next) ≡ words_below at + 1 = sym n.words ∙ word_more at in'.0 in record {
           few = let few = s.few in omega arith;
           place = n.place;
-          disturbs = by_entries b key tries hit.tries p r left (counts_later b.shape key tries hit.tries (trace p) (trace l) (trace r) to_r s.counted);
+          disturbs = by_entries b key now tries hit.tries p r left (counts_later b.shape key tries hit.tries (trace p) (trace l) (trace r) to_r s.counted);
           tried = at_most from at (position b.shape (trace r) next) tries (hit.tries + 1) hit.tries p r (omega (arith, words)) (tries_out from at tries (hit.tries + 1) p l r s.tried out_r);
           brings = λ start here ahead. n.brings start (begins_on start (trace p) (trace l) here to_l) (s.brings start here ahead);
           onward = let on = s.onward in omega (arith, on, words);
         }
 
-    pub ends_past : IsPlaceAfter b.shape hit.place now None → IsEnded b.shape key from tries p r
+    pub ends_past : IsPlaceAfter b.shape hit.place third None → IsEnded b.shape key from tries p r
     ends_past after = record {
-      gone = λ start here ahead. end_of b.shape key hit.place at now (trace l) (trace r) valid lawful_r s.place passed after start (begins_on start (trace p) (trace l) here to_l) (s.brings start here ahead);
+      gone = λ start here ahead. end_of b.shape key hit.place at third (trace l) (trace r) valid lawful_r s.place passed after start (begins_on start (trace p) (trace l) here to_l) (s.brings start here ahead);
       tried = at_most from at 32 tries (hit.tries + 1) 63 p r (let few = s.few in let most = words_few at in'.1 in omega (arith, few, most)) (tries_out from at tries (hit.tries + 1) p l r s.tried out_r);
     }
 
 -- a hit: with l after the third look, t after it was counted, and r after the pass left the segment
-module _ (b : Board) (key : List ℕ) (from tries draw : ℕ) (hit : Hit) (value : List ℕ) (info : Info) (now : ℕ) (p l t r : Pass) (s : IsSeen b key from tries hit value info now p l) (clear : info.held ≡ false) (same : IsSameItem (item_word hit.item) now)
+module _ (b : Board) (key : List ℕ) (now from tries draw : ℕ) (hit : Hit) (value : List ℕ) (info : Info) (third : ℕ) (p l t r : Pass) (s : IsSeen b key now from tries hit value info third p l) (clear : info.held ≡ false) (same : IsSameItem (item_word hit.item) third)
     (counted : IsReader b l t) (out : entered t ≡ entered l) (raises : RaisesFrom b.shape key value draw (trace p) l t) (gone : LeavesSegment b t r hit.item.seg) where
   in_t : IsReaderIn b p t hit.item.seg
   in_t = then_reader b p l t hit.item.seg s.reads counted
@@ -217,7 +205,7 @@ module _ (b : Board) (key : List ℕ) (from tries draw : ℕ) (hit : Hit) (value
   to_end : Begins (trace l) (trace r)
   to_end = begins_on (trace l) (trace t) (trace r) (moved_on b counted.reads.own l t counted.reads.moved) (moved_on b _ t r gone.moved)
 
-  pub hit_told : ReadsVersionBetween b.shape key (seen p) (seen r) (Some (value, info.version)) × RaisesOne b.shape key value draw p r × ComesIn from 32 tries 63 p r
+  pub hit_told : ReadsVersionBetween b.shape key now (seen p) (seen r) (Some (value, info.version)) × RaisesOne b.shape key value draw p r × ComesIn from 32 tries 63 p r
   hit_told = let x = s.version clear same in let away = leaves b hit.item.seg t r gone.moved in (
     (x.0, (x.1.0, begins_on x.0 (seen l) (seen r) x.1.1 (seen_begins (trace l) (trace r) to_end)), x.2),
     hit_raises b key value draw p l t r s.reads.reads.moved.same (moved_on b s.reads.reads.own p l s.reads.reads.moved) (moved_on b _ t r gone.moved) s.tried.raises_nothing raises away.1,

@@ -1,31 +1,19 @@
 -- What a gets answers: a value and a version of one moment; and what each of its scans comes to, of which one goes on where the one before was disturbed.
 use Rattle.std.specs.Prelude.{◌≡◌, ◌≢◌, ◌⊎◌, true, false, ℕ, ◌+◌, ◌-◌, ◌<◌, ◌≤◌, List, Option, Some, None}
-use Rattle.segword.specs.declared.shape.Shape.{Shape}
-use Rattle.segword.specs.declared.info.Info.{Info}
-use Rattle.segword.specs.ItemWord.{item_word, tag_part}
-use Rattle.segword.specs.SameItem.{IsSameItem}
-use Rattle.segmodel.specs.declared.entry.Entry.{Entry}
-use Rattle.segmodel.specs.declared.answer.GetsAnswer.{GetsAnswer}
+use Rattle.segword.specs.Words.{Info, IsSameItem, item_word, Shape, tag_part}
 use Rattle.segmodel.specs.declared.answer.GetsAnswer.TheVariants as gets
-use Rattle.segmodel.specs.Places.{bucket_of}
-use Rattle.segmodel.specs.Cache.{reads_version}
-use Rattle.segmodel.specs.History.{after, Begins, IsBetween, entries_of, stirred}
-use Rattle.segcore.specs.Kind.{HasBit}
-use Rattle.segcore.specs.Lawful.{IsSegment}
-use Rattle.segbase.specs.declared.board.Board.{Board}
-use Rattle.segbase.specs.declared.pass.Pass.{Pass}
-use Rattle.segbase.specs.declared.place.Place.{Place}
-use Rattle.segbase.specs.Passes.{number, trace, seen, glanced}
-use Rattle.segbase.specs.Plain.{locked_of}
-use Rattle.segbase.specs.Spots.{position}
-use Rattle.segstore.specs.Reading.{IsReader, IsReaderIn}
-use Rattle.segstore.specs.Linked.{word_of_place, FoundItem}
+use Rattle.segmodel.specs.Words.{after, Begins, bucket_of, entries_of, Entry, GetsAnswer, IsBetween}
+use Rattle.segmodel.specs.Words.{reads_version, stirred}
+use Rattle.segcore.specs.Words.{HasBit, IsSegment}
+use Rattle.segbase.specs.Words.{Board, glanced, locked_of, number, Pass, Place, position, seen}
+use Rattle.segbase.specs.Words.{trace}
+use Rattle.segstore.specs.Words.{FoundItem, IsReader, IsReaderIn, word_of_place}
 use Rattle.segread.specs.declared.scan.Hit.{Hit}
 use Rattle.segread.specs.declared.version.Sight.{Sight}
 use Rattle.segread.specs.declared.version.Sight.TheVariants as sight
 use Rattle.segread.specs.declared.version.Attempt.{Attempt}
 use Rattle.segread.specs.declared.version.Attempt.TheVariants as attempt
-use Rattle.segpass.specs.Calls.{GoesOn, ChangesNothing, TakesNoBit, DrawsNothing}
+use Rattle.segpass.specs.Words.{ChangesNothing, DrawsNothing, GoesOn, TakesNoBit}
 use Rattle.segread.specs.Reads.{ReadsBetween}
 use Rattle.segread.specs.Hits.{TriesFew, RaisesOne, GetsRaises}
 use Rattle.segread.specs.Scanning.{IsPlaceOf, words_below, ComesIn, Tries, CountsTries, AdvancesSearch, IsEnded, GivesUp}
@@ -33,40 +21,40 @@ use Rattle.segread.specs.Scanning.{IsPlaceOf, words_below, ComesIn, Tries, Count
 -- ---- the answer
 
 -- at some moment from one history to a longer one, the key read so, with the version of its bucket
-abbrev pub ReadsVersionBetween : Shape → List ℕ → List Entry → List Entry → Option (List ℕ × ℕ) → Type 0
-ReadsVersionBetween shape key old new read = (history : List Entry) × IsBetween old new history × (reads_version shape (after shape history) key ≡ read)
+abbrev pub ReadsVersionBetween : Shape → List ℕ → ℕ → List Entry → List Entry → Option (List ℕ × ℕ) → Type 0
+ReadsVersionBetween shape key now old new read = (history : List Entry) × IsBetween old new history × (reads_version shape (after shape history) now key ≡ read)
 
 -- How much the pass was disturbed at the key's bucket: the entries of it that came in, and the looks of the pass that found the bucket's bit set by another.
 abbrev pub disturbed : Shape → List ℕ → Pass → Pass → ℕ
 disturbed shape key p q = stirred shape key (seen p) (seen q) + (glanced q (bucket_of shape key) - glanced p (bucket_of shape key))
 
 -- the key stood at some moment from the one pass to the other
-abbrev pub StoodBetween : Shape → List ℕ → Pass → Pass → Type 0
-StoodBetween shape key p q = (value : List ℕ) × ReadsBetween shape key (seen p) (seen q) (Some value)
+abbrev pub StoodBetween : Shape → List ℕ → ℕ → Pass → Pass → Type 0
+StoodBetween shape key now p q = (value : List ℕ) × ReadsBetween shape key now (seen p) (seen q) (Some value)
 
 -- 64 entries of the key's bucket came in; or, where the key stood, as many with the looks that found the bit set
-abbrev pub IsDisturbed : Shape → List ℕ → Pass → Pass → Type 0
-IsDisturbed shape key p q = (64 ≤ stirred shape key (seen p) (seen q)) ⊎ ((64 ≤ disturbed shape key p q) × StoodBetween shape key p q)
+abbrev pub IsDisturbed : Shape → List ℕ → ℕ → Pass → Pass → Type 0
+IsDisturbed shape key now p q = (64 ≤ stirred shape key (seen p) (seen q)) ⊎ ((64 ≤ disturbed shape key p q) × StoodBetween shape key now p q)
 
 -- the key stands, and its bucket is locked by the pass itself
-abbrev pub StandsLocked : Shape → List ℕ → Pass → Pass → Type 0
-StandsLocked shape key p q = (locked_of p ≡ Some (bucket_of shape key)) × StoodBetween shape key p q
+abbrev pub StandsLocked : Shape → List ℕ → ℕ → Pass → Pass → Type 0
+StandsLocked shape key now p q = (locked_of p ≡ Some (bucket_of shape key)) × StoodBetween shape key now p q
 
 -- a gets answers as a cache of one thread does at some moment of the call; it is Busy only where the pass was disturbed 64 times, or has the bucket of a key that stands locked by itself
-abbrev pub IsGetsAnswer : Shape → List ℕ → GetsAnswer → Pass → Pass → Type 0
-IsGetsAnswer shape key (gets.Found value version) p q = ReadsVersionBetween shape key (seen p) (seen q) (Some (value, version))
-IsGetsAnswer shape key gets.Miss p q = ReadsBetween shape key (seen p) (seen q) None
-IsGetsAnswer shape key gets.Busy p q = IsDisturbed shape key p q ⊎ StandsLocked shape key p q
+abbrev pub IsGetsAnswer : Shape → List ℕ → ℕ → GetsAnswer → Pass → Pass → Type 0
+IsGetsAnswer shape key now (gets.Found value version) p q = ReadsVersionBetween shape key now (seen p) (seen q) (Some (value, version))
+IsGetsAnswer shape key now gets.Miss p q = ReadsBetween shape key now (seen p) (seen q) None
+IsGetsAnswer shape key now gets.Busy p q = IsDisturbed shape key now p q ⊎ StandsLocked shape key now p q
 
 -- A gets of a key is answered so. It changes nothing, takes no bit, draws no overflow bucket, and only a hit raises a frequency. It finds nothing in a bucket that the pass itself has locked.
-pub record ReadsVersion (b : Board) (key : List ℕ) (draw : ℕ) (told : GetsAnswer) (p q : Pass) : Type 0 where
+pub record ReadsVersion (b : Board) (key : List ℕ) (draw now : ℕ) (told : GetsAnswer) (p q : Pass) : Type 0 where
   pub on : GoesOn b p q
   pub keeps : ChangesNothing p q
   pub takes_no_bit : TakesNoBit p q
   pub draws_nothing : DrawsNothing p q
   pub tries : TriesFew p q
   pub raises : GetsRaises b.shape key draw told p q
-  pub answer : IsGetsAnswer b.shape key told p q
+  pub answer : IsGetsAnswer b.shape key now told p q
   pub unlocked : (value : List ℕ) (version : ℕ) → told ≡ gets.Found value version
       → locked_of p ≢ Some (bucket_of b.shape key)
 
@@ -77,16 +65,16 @@ abbrev pub HasNoBit : Shape → List ℕ → Pass → Type 0
 HasNoBit shape key p = ¬ (HasBit shape (trace p) (number p) (bucket_of shape key))
 
 -- the tries that were counted, from some to more, are at most as many as the disturbances at the key's bucket
-abbrev pub Disturbs : Shape → List ℕ → ℕ → ℕ → Pass → Pass → Type 0
-Disturbs shape key some more p q =
+abbrev pub Disturbs : Shape → List ℕ → ℕ → ℕ → ℕ → Pass → Pass → Type 0
+Disturbs shape key now some more p q =
     let bucket = bucket_of shape key in
     Begins (seen p) (seen q) × (entries_of shape bucket (seen p) + glanced p bucket + more ≤ entries_of shape bucket (seen q) + glanced q bucket + some)
-    × (CountsTries shape key some more (trace p) (trace q) ⊎ StoodBetween shape key p q)
+    × (CountsTries shape key some more (trace p) (trace q) ⊎ StoodBetween shape key now p q)
 
 -- ---- one scan for the key and its version, from a position on, with so many tries counted before
 
 -- The key's item was found, and the pass is still in its segment. The bucket's information was looked at, and after that the word in the item's place.
-pub record IsSeen (b : Board) (key : List ℕ) (from tries : ℕ) (hit : Hit) (value : List ℕ) (info : Info) (word : ℕ) (p q : Pass) : Type 0 where
+pub record IsSeen (b : Board) (key : List ℕ) (now from tries : ℕ) (hit : Hit) (value : List ℕ) (info : Info) (word : ℕ) (p q : Pass) : Type 0 where
   pub reads : IsReaderIn b p q hit.item.seg
   pub in_table : IsSegment b.shape hit.item.seg
   pub few : hit.tries < 64
@@ -95,7 +83,7 @@ pub record IsSeen (b : Board) (key : List ℕ) (from tries : ℕ) (hit : Hit) (v
   pub onward : words_below from + tries ≤ words_below (position b.shape (trace q) hit.place) + hit.tries
   pub brings : AdvancesSearch b.shape key from (position b.shape (trace q) hit.place) (trace p) (trace q)
   pub counted : CountsTries b.shape key tries hit.tries (trace p) (trace q)
-  pub stood : StoodBetween b.shape key p q
+  pub stood : StoodBetween b.shape key now p q
   pub stands : word ≡ word_of_place b.shape (trace q) hit.place
   -- the bit was set
   pub glanced : info.held ≡ true → glanced p (bucket_of b.shape key) + 1 ≤ glanced q (bucket_of b.shape key)
@@ -104,28 +92,28 @@ pub record IsSeen (b : Board) (key : List ℕ) (from tries : ℕ) (hit : Hit) (v
       → CountsTries b.shape key tries (hit.tries + 1) (trace p) (trace q)
   -- the bit was clear, and the item stood there still
   pub version : info.held ≡ false → IsSameItem (item_word hit.item) word
-      → ReadsVersionBetween b.shape key (seen p) (seen q) (Some (value, info.version))
+      → ReadsVersionBetween b.shape key now (seen p) (seen q) (Some (value, info.version))
   pub found : info.held ≡ false → FoundItem b.shape hit.place (item_word hit.item) key value (trace p) (trace q)
 
-abbrev pub IsVersionSight : Board → List ℕ → ℕ → ℕ → Sight → Pass → Pass → Type 0
-IsVersionSight b key from tries (sight.Found hit value info word) p q = IsSeen b key from tries hit value info word p q
-IsVersionSight b key from tries sight.Absent p q = IsReader b p q × IsEnded b.shape key from tries p q
-IsVersionSight b key from tries sight.Busy p q = IsReader b p q × GivesUp b.shape key from tries p q
+abbrev pub IsVersionSight : Board → List ℕ → ℕ → ℕ → ℕ → Sight → Pass → Pass → Type 0
+IsVersionSight b key now from tries (sight.Found hit value info word) p q = IsSeen b key now from tries hit value info word p q
+IsVersionSight b key now from tries sight.Absent p q = IsReader b p q × IsEnded b.shape key from tries p q
+IsVersionSight b key now from tries sight.Busy p q = IsReader b p q × GivesUp b.shape key from tries p q
 
 -- The next scan goes on from this place, with so many tries counted. It has a try less or a word less before it.
-pub record MovesOn (shape : Shape) (key : List ℕ) (from tries : ℕ) (next : Place) (counted : ℕ) (p q : Pass) : Type 0 where
+pub record MovesOn (shape : Shape) (key : List ℕ) (now from tries : ℕ) (next : Place) (counted : ℕ) (p q : Pass) : Type 0 where
   pub few : counted ≤ 64
   pub place : IsPlaceOf shape (trace q) key next
-  pub disturbs : Disturbs shape key tries counted p q
+  pub disturbs : Disturbs shape key now tries counted p q
   pub tried : Tries from (position shape (trace q) next) tries counted p q
   pub brings : AdvancesSearch shape key from (position shape (trace q) next) (trace p) (trace q)
   pub onward : words_below from + tries < words_below (position shape (trace q) next) + counted
 
 -- one scan answers, or goes on
-abbrev pub IsAttempt : Shape → List ℕ → ℕ → ℕ → ℕ → Attempt → Pass → Pass → Type 0
-IsAttempt shape key draw from tries (attempt.Told (gets.Found value version)) p q =
-    ReadsVersionBetween shape key (seen p) (seen q) (Some (value, version))
+abbrev pub IsAttempt : Shape → List ℕ → ℕ → ℕ → ℕ → ℕ → Attempt → Pass → Pass → Type 0
+IsAttempt shape key now draw from tries (attempt.Told (gets.Found value version)) p q =
+    ReadsVersionBetween shape key now (seen p) (seen q) (Some (value, version))
     × RaisesOne shape key value draw p q × ComesIn from 32 tries 63 p q
-IsAttempt shape key draw from tries (attempt.Told gets.Miss) p q = IsEnded shape key from tries p q
-IsAttempt shape key draw from tries (attempt.Told gets.Busy) p q = Disturbs shape key tries 64 p q × Tries from 32 tries 63 p q
-IsAttempt shape key draw from tries (attempt.GoesOn place counted) p q = MovesOn shape key from tries place counted p q
+IsAttempt shape key now draw from tries (attempt.Told gets.Miss) p q = IsEnded shape key from tries p q
+IsAttempt shape key now draw from tries (attempt.Told gets.Busy) p q = Disturbs shape key now tries 64 p q × Tries from 32 tries 63 p q
+IsAttempt shape key now draw from tries (attempt.GoesOn place counted) p q = MovesOn shape key now from tries place counted p q

@@ -1,24 +1,15 @@
 -- What readers do beside their answers: how often they come into segments, and which frequency a hit raises.
 use Rattle.std.specs.Prelude.{◌≡◌, ◌≢◌, ◌<◌, ◌⊎◌, ℕ, ◌+◌, ◌≤◌, true, false, List, ◌∷◌, Some}
-use Rattle.segword.specs.declared.shape.Shape.{Shape}
-use Rattle.segmodel.specs.declared.answer.GetAnswer.{GetAnswer}
+use Rattle.segword.specs.Words.{Item, item_word, Shape}
 use Rattle.segmodel.specs.declared.answer.GetAnswer.TheVariants as get
-use Rattle.segmodel.specs.declared.answer.GetsAnswer.{GetsAnswer}
 use Rattle.segmodel.specs.declared.answer.GetsAnswer.TheVariants as gets
-use Rattle.segmodel.specs.Cache.{standing}
-use Rattle.segmodel.specs.History.{Begins, after}
-use Rattle.segcore.specs.declared.event.Event.{Event}
+use Rattle.segmodel.specs.Words.{after, Begins, GetAnswer, GetsAnswer, standing}
 use Rattle.segcore.specs.declared.event.Event.TheVariants.{Bumped}
-use Rattle.segcore.specs.Event.{seen}
-use Rattle.segcore.specs.Bucket.{slot}
-use Rattle.segcore.specs.Mark.{marked, last_at, frequency_in}
-use Rattle.segcore.specs.Standing.{cached}
-use Rattle.segpolicy.specs.Frequency.{draw_raises}
-use Rattle.segbase.specs.declared.pass.Pass.{Pass}
-use Rattle.segbase.specs.Passes.{number, trace, raised, entered}
-use Rattle.segbase.specs.declared.place.Place.{Place}
-use Rattle.segstore.specs.Linked.{WasLinked, word_of_place}
-use Rattle.segpass.specs.Calls.{RaisesNothing}
+use Rattle.segcore.specs.Words.{cached, Event, frequency_in, inside, last_at, marked, seen, slot}
+use Rattle.segpolicy.specs.Words.{draw_raises}
+use Rattle.segbase.specs.Words.{Board, entered, number, Pass, Place, raised, trace}
+use Rattle.segstore.specs.Words.{FoundItem, WasLinked, word_of_place}
+use Rattle.segpass.specs.Words.{RaisesNothing}
 
 -- It came into segments at most as often as a scan of a chain may try: 63 tries that are counted, and one more at each of 28 words.
 abbrev pub TriesFew : Pass → Pass → Type 0
@@ -72,6 +63,11 @@ RaisesFrom shape key value draw before p q =
 
 abbrev pub RaisesOne : Shape → List ℕ → List ℕ → ℕ → Pass → Pass → Type 0
 RaisesOne shape key value draw p q = RaisesFrom shape key value draw (trace p) p q
+
+-- So it raises the frequency of the item at a place from the moment on at which that was found for a key; it is in the item's segment.
+abbrev pub RaisesFound : Board → Place → Item → ℕ → Pass → Pass → Type 0
+RaisesFound b place item draw p q = (key value : List ℕ) (before : List Event) → 0 < inside (trace p) (number p) item.seg → FoundItem b.shape place (item_word item) key value before (trace p)
+    → RaisesFrom b.shape key value draw before p q
 
 -- only a hit raises a frequency
 abbrev pub GetRaises : Shape → List ℕ → ℕ → GetAnswer → Pass → Pass → Type 0

@@ -1,24 +1,16 @@
 -- What a hold is of the pass that holds, and what the calls of holds do.
-use Rattle.std.specs.Prelude.{◌≡◌, ◌≢◌, ◌↔◌, ℕ, ◌<◌, ◌≤◌, false, true, is_some, List, [], ◌∷◌, ◌++◌, Option, Some, None, IfSome}
-use Rattle.segword.specs.declared.shape.Shape.{Shape}
-use Rattle.segword.specs.Bytes.{IsKey, IsValue}
-use Rattle.segmodel.specs.declared.entry.Entry.{Entry}
+use Rattle.std.specs.Prelude.{◌≡◌, ◌≢◌, ◌↔◌, ℕ, ◌<◌, ◌≤◌, true, is_some, List, [], ◌∷◌, ◌++◌, Option, Some, None, IfSome}
+use Rattle.segword.specs.Words.{IsKey, IsValue, Shape}
 use Rattle.segmodel.specs.declared.entry.Entry.TheVariants.{Refilled}
-use Rattle.segmodel.specs.History.{IsBetween, IsStanding, stirred}
-use Rattle.segcore.specs.declared.event.Event.{Event}
+use Rattle.segmodel.specs.Words.{after, Entry, IsBetween, IsStanding, present, stirred}
 use Rattle.segcore.specs.Event as event
-use Rattle.segcore.specs.Lawful.{IsSegment}
-use Rattle.segcore.specs.Row.{row_after, Holds}
-use Rattle.segbase.specs.declared.board.Board.{Board}
-use Rattle.segbase.specs.declared.law.Held.{Held}
-use Rattle.segbase.specs.declared.pass.Pass.{Pass}
-use Rattle.segbase.specs.Passes.{view, seen, mine, holding, locked}
-use Rattle.segbase.specs.Passes as passes
-use Rattle.segbase.specs.Plain.{current_of, locked_of, is_holding_of, SameSegments}
+use Rattle.segcore.specs.Words.{Event, Holds, IsSegment, row_after}
+use Rattle.segbase.specs.Words.{Board, Held, holding, is_holding_of, mine, Pass, seen, with_holding}
 use Rattle.segread.specs.declared.held.Hold.{Hold}
 use Rattle.segread.specs.declared.held.HoldAnswer.{HoldAnswer}
 use Rattle.segread.specs.declared.held.HoldAnswer.TheVariants as hold_answer
-use Rattle.segpass.specs.Calls.{GoesOn, ChangesNothing, TakesNoBit, DrawsNothing, RaisesNothing, CostsNothing}
+use Rattle.segpass.specs.Words.{ChangesNothing, CostsNothing, DrawsNothing, GoesOn, RaisesNothing}
+use Rattle.segpass.specs.Words.{memo, TakesNoBit}
 use Rattle.segread.specs.Hits.{TriesFew}
 use Rattle.segread.specs.Reads.{ReadsBetween}
 
@@ -37,37 +29,37 @@ pub record IsHoldOf (shape : Shape) (hold : Hold) (p : Pass) : Type 0 where
   pub valid : IsKey held.key × IsValue held.value
   pub row : IsRowOf held.trace hold held
 
--- it added no entry, and keeps its segments and its lock as they were
-pub record KeepsButHold (p q : Pass) : Type 0 where
-  pub entries : mine q ≡ mine p
-  pub current : current_of q ≡ current_of p
-  pub segments : SameSegments p q
-  pub locked : (locked q ≡ locked p) × (locked_of q ≡ locked_of p)
+-- this is held from now on, or nothing; all else that the pass keeps is as it was
+pub record SetsHold (held : Option Held) (p q : Pass) : Type 0 where
+  pub plain : q.plain ≡ with_holding (is_some held) p.plain
+  pub memo : memo q ≡ record (memo p) { holding = held }
 
--- the pass holds an item of the key, which stood at some moment of the call
-pub record TakesHold (shape : Shape) (key : List ℕ) (hold : Hold) (p q : Pass) : Type 0 where
+-- the pass holds an item of the key, which stood at some moment of the call, and was present then for the moment that was handed in
+pub record TakesHold (shape : Shape) (key : List ℕ) (now : ℕ) (hold : Hold) (p q : Pass) : Type 0 where
   pub is : IsHoldOf shape hold q
   pub of : is.held.key ≡ key
   pub stood : IsStanding shape (event.seen is.held.trace) is.held.key is.held.value is.held.segment
+  pub finds : present (after shape (event.seen is.held.trace)) now is.held.key
+      ≡ Some (record { value = is.held.value; segment = is.held.segment })
   pub between : IsBetween (seen p) (seen q) (event.seen is.held.trace)
-  pub is_holding : is_holding_of q ≡ true
-  pub same : KeepsButHold p q
+  pub entries : mine q ≡ mine p
+  pub sets : SetsHold (Some is.held) p q
 
 -- a hold is taken, or answers as a get does and changes nothing
-abbrev pub IsHoldAnswer : Shape → List ℕ → HoldAnswer → Pass → Pass → Type 0
-IsHoldAnswer shape key (hold_answer.Holding hold) p q = TakesHold shape key hold p q
-IsHoldAnswer shape key hold_answer.Miss p q = ChangesNothing p q × ReadsBetween shape key (seen p) (seen q) None
-IsHoldAnswer shape key hold_answer.Busy p q = ChangesNothing p q × (64 ≤ stirred shape key (seen p) (seen q))
-IsHoldAnswer shape key hold_answer.AlreadyHolding p q = q ≡ p
+abbrev pub IsHoldAnswer : Shape → List ℕ → ℕ → HoldAnswer → Pass → Pass → Type 0
+IsHoldAnswer shape key now (hold_answer.Holding hold) p q = TakesHold shape key now hold p q
+IsHoldAnswer shape key now hold_answer.Miss p q = ChangesNothing p q × ReadsBetween shape key now (seen p) (seen q) None
+IsHoldAnswer shape key now hold_answer.Busy p q = ChangesNothing p q × (64 ≤ stirred shape key (seen p) (seen q))
+IsHoldAnswer shape key now hold_answer.AlreadyHolding p q = q ≡ p
 
 -- A hold of a key is answered so: AlreadyHolding exactly if the pass holds an item. It takes no bit, draws no overflow bucket, and raises no frequency.
-pub record HoldsItem (b : Board) (key : List ℕ) (told : HoldAnswer) (p q : Pass) : Type 0 where
+pub record HoldsItem (b : Board) (key : List ℕ) (now : ℕ) (told : HoldAnswer) (p q : Pass) : Type 0 where
   pub on : GoesOn b p q
   pub takes_no_bit : TakesNoBit p q
   pub draws_nothing : DrawsNothing p q
   pub raises_nothing : RaisesNothing p q
   pub tries : TriesFew p q
-  pub answer : IsHoldAnswer b.shape key told p q
+  pub answer : IsHoldAnswer b.shape key now told p q
   pub already : (told ≡ hold_answer.AlreadyHolding) ↔ (is_holding_of p ≡ true)
 
 -- The value of a hold is the one that the pass holds. Reading it changes nothing and costs nothing, and the hold stays.
@@ -81,7 +73,7 @@ pub record ReadsHeld (b : Board) (taken : Hold) (told : List ℕ) (p q : Pass) :
 -- none of the entries is a refilling of the segment
 abbrev pub NoneFills : ℕ → List Entry → Type 0
 NoneFills segment [] = Unit {0}
-NoneFills segment (entry ∷ history) = ((pass : ℕ) → entry ≢ Refilled pass segment) × NoneFills segment history
+NoneFills segment (entry ∷ history) = ((pass deadline : ℕ) → entry ≢ Refilled pass segment deadline) × NoneFills segment history
 
 -- the segment of what is held wasn't filled again up to this history
 abbrev pub IsUnfilled : Held → List Entry → Type 0
@@ -89,22 +81,12 @@ IsUnfilled held new = (more : List Entry) × (new ≡ more ++ event.seen held.tr
 
 -- the pass holds nothing, and up to now the segment of what it held wasn't filled again
 pub record Releases (p q : Pass) : Type 0 where
-  pub holding : holding q ≡ None
-  pub is_holding : is_holding_of q ≡ false
-  pub unfilled : (held : Held) → passes.holding p ≡ Some held → IsUnfilled held (seen q)
-  pub same : KeepsButHold p q
+  pub entries : mine q ≡ mine p
+  pub sets : SetsHold None p q
+  pub unfilled : (held : Held) → holding p ≡ Some held → IsUnfilled held (seen q)
 
 -- The end of a hold releases it, and costs nothing.
 pub record ReleasesHold (b : Board) (p q : Pass) : Type 0 where
   pub on : GoesOn b p q
   pub costs_nothing : CostsNothing p q
   pub releases : Releases p q
-
--- this is held now, or nothing; all else that the pass keeps is as it was
-pub record SetsHold (held : Option Held) (p q : Pass) : Type 0 where
-  pub view : view q ≡ view p
-  pub holding : holding q ≡ held
-  pub is_holding : is_holding_of q ≡ is_some held
-  pub current : current_of q ≡ current_of p
-  pub segments : SameSegments p q
-  pub locked : (locked q ≡ locked p) × (locked_of q ≡ locked_of p)

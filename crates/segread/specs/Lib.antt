@@ -4,3 +4,4 @@ pub mod Holds
 pub mod Props
 pub mod Reads
 pub mod Scanning
+pub mod Words

@@ -5,15 +5,9 @@ use Rattle.std.proofs.Props.{props}
 use Rattle.std.proofs.lemmas.Option.{same_Some}
 use mathlib.Core.HLevel.{is_prop→PathP}
 use native.Mathlib.Nat.{ℕ_set}
-use Rattle.segword.specs.declared.shape.Shape.{Shape}
-use Rattle.segword.specs.Bytes.{IsKey, IsValue}
-use Rattle.segword.specs.Props.{pair-prop, IsKey-prop, IsValue-prop}
-use Rattle.segcore.specs.declared.event.Event.{Event}
-use Rattle.segcore.specs.Lawful.{IsSegment}
-use Rattle.segbase.specs.declared.law.Held.{Held}
-use Rattle.segbase.specs.declared.pass.Pass.{Pass}
-use Rattle.segbase.specs.Passes.{holding}
-use Rattle.segbase.specs.Props.{Held-set}
+use Rattle.segword.specs.Words.{IsKey, IsKey-prop, IsValue, IsValue-prop, pair-prop, Shape}
+use Rattle.segcore.specs.Words.{Event, IsSegment}
+use Rattle.segbase.specs.Words.{Held, Held-set, holding, Pass}
 use Rattle.segread.specs.declared.held.Hold.{Hold}
 use Rattle.segread.specs.Holds.{IsRowOf, IsHoldOf}
 

@@ -1,21 +1,10 @@
 -- A reader's way along the chain of a key, without the bucket's bit: what its looks found, how many tries it counted, and how often it came into segments.
 use Rattle.std.specs.Prelude.{◌≡◌, ◌⊎◌, ℕ, ◌+◌, ◌-◌, ◌/◌, ◌<◌, ◌≤◌, List, Option, Some, None}
-use Rattle.segword.specs.declared.shape.Shape.{Shape}
-use Rattle.segword.specs.ChainWord.{chain_word, IsChainWord}
-use Rattle.segmodel.specs.Places.{bucket_of}
-use Rattle.segmodel.specs.History.{Begins, entries_of}
-use Rattle.segcore.specs.declared.event.Event.{Event}
-use Rattle.segcore.specs.Event.{seen}
-use Rattle.segcore.specs.Segment.{inside}
-use Rattle.segcore.specs.Ahead.{WasGone}
-use Rattle.segcore.specs.Search.{KeyGone, KeyAhead}
-use Rattle.segbase.specs.declared.board.Board.{Board}
-use Rattle.segbase.specs.declared.pass.Pass.{Pass}
-use Rattle.segbase.specs.declared.place.Place.{Place}
-use Rattle.segbase.specs.Passes.{number, trace, entered}
-use Rattle.segbase.specs.Spots.{home_bucket, position}
-use Rattle.segstore.specs.Reading.{IsReader, IsReaderIn}
-use Rattle.segstore.specs.Linked.{IsChained, SawWord, FoundKey}
+use Rattle.segword.specs.Words.{chain_word, IsChainWord, Shape}
+use Rattle.segmodel.specs.Words.{Begins, bucket_of, entries_of}
+use Rattle.segcore.specs.Words.{Event, inside, KeyAhead, KeyGone, seen, WasGone}
+use Rattle.segbase.specs.Words.{Board, entered, home_bucket, number, Pass, Place, position, trace}
+use Rattle.segstore.specs.Words.{FoundKey, IsChained, IsReader, IsReaderIn, SawWord}
 use Rattle.segstore.specs.declared.read.Keyed.{Keyed}
 use Rattle.segstore.specs.declared.read.Keyed.TheVariants as keyed
 use Rattle.segread.specs.declared.scan.Hit.{Hit}
@@ -23,7 +12,7 @@ use Rattle.segread.specs.declared.scan.Way.{Way}
 use Rattle.segread.specs.declared.scan.Way.TheVariants as way
 use Rattle.segread.specs.declared.scan.Scan.{Scan}
 use Rattle.segread.specs.declared.scan.Scan.TheVariants as scan
-use Rattle.segpass.specs.Calls.{RaisesNothing}
+use Rattle.segpass.specs.Words.{RaisesNothing}
 
 -- ---- chains
 

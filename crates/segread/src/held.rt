@@ -1,14 +1,15 @@
-//! Items held: a pass stays in the segment of an item, so that its value stands there until it is released, also where its key is deleted, stored again or evicted.
+//! Items held: a pass stays in the segment of an item, so that its value stands there until it is
+//! released, also where its key is deleted, stored again or evicted.
 ghost use Rattle.std.specs.Prelude.{◌≡◌, Option, is_some, IfSome};
 ghost use Rattle.segbase.specs.declared.law.Held.{Held};
 ghost use Rattle.segbase.specs.declared.pass.Pass.{Pass};
-ghost use Rattle.segbase.specs.Passes.{trace, holding, IsPassOf};
+ghost use Rattle.segbase.specs.Words.{HasHeld, holding, IsPassOf, trace, view};
 ghost use Rattle.segword.specs.declared.shape.Shape.{Shape};
 ghost use Rattle.segbase.specs.declared.board.Board.{Board};
 ghost use Rattle.segread.specs.declared.held.Hold.{Hold};
-ghost use Rattle.segpass.specs.Quiet.{IsQuiet};
-ghost use Rattle.segread.specs.Holds.{IsHoldOf, IsRowOf, HoldsItem, ReadsHeld, ReleasesHold, SetsHold};
-ghost use Rattle.segbase.specs.Minding.{HasHeld};
+ghost use Rattle.segpass.specs.Words.{IsQuiet};
+ghost use Rattle.segread.specs.Holds.{IsHoldOf, IsRowOf, HoldsItem, ReadsHeld, ReleasesHold};
+ghost use Rattle.segread.specs.Holds.{SetsHold};
 
 use crate::scan::{Scan, scan_for};
 use segbase::{Board, Pass};
@@ -33,10 +34,12 @@ pub enum HoldAnswer<'i> {
     AlreadyHolding,
 }
 
-/// Holds the item of a key. Its value can be read until it is released, and a pass holds one item at most. No frequency changes.
-pub fn hold_item<'i>(board: &'i Board, pass: &mut Pass, key: &Key) -> HoldAnswer<'i>
+/// Holds the item of a key at a moment.
+/// Its value can be read until it is released, and a pass holds one item at most.
+/// No frequency changes.
+pub fn hold_item<'i>(board: &'i Board, pass: &mut Pass, key: &Key, now: u32) -> HoldAnswer<'i>
     requires pass { IsQuiet board.now pass.old }
-    ensures holds { HoldsItem board.now key.now result pass.old pass.new }
+    ensures holds { HoldsItem board.now key.now now result pass.old pass.new }
 {
     if pass.is_holding() {
         return HoldAnswer::AlreadyHolding;
@@ -82,21 +85,26 @@ pub fn release(board: &Board, pass: &mut Pass, hold: Hold<'_>)
     set_hold(board, pass, None);
 }
 
-// Names what the pass holds: the item of this key, which stood with the value in the segment, or nothing.
+// Names what the pass holds: the item of this key, which stood with the value in the segment,
+// or nothing.
 fn set_hold(board: &Board, pass: &mut Pass, item: Option<(&Key, &Value, u32)>)
     ghost held: { Option Held }
     requires pass { IsPassOf board.now pass.old }
     requires held { IfSome held (HasHeld board.now.shape (trace pass.old)) }
     requires item { is_some item ≡ is_some held }
     ensures pass { IsPassOf board.now pass.new }
+    ensures view { view pass.new ≡ view pass.old }
     ensures sets { SetsHold held pass.old pass.new }
 {
     pass.set_holding(item.is_some());
     board.remember(pass);
 }
 
-/// A hold is a pass's own as long as the pass holds the same, whatever it does meanwhile, and its row holds the pair that long. This function does nothing: its contract is the theorem.
+/// A hold is a pass's own as long as the pass holds the same, whatever it does meanwhile,
+/// and its row holds the pair that long. This function does nothing: its contract is the theorem.
 pub fn hold_stays()
-    ensures stays { (shape : Shape) (hold : Hold) (p q : Pass) → IsHoldOf shape hold p → holding q ≡ holding p → IsHoldOf shape hold q }
-    ensures row { (board : Board) (hold : Hold) (p : Pass) (is : IsHoldOf board.shape hold p) → IsQuiet board p → IsRowOf (trace p) hold is.held }
+    ensures stays { (shape : Shape) (hold : Hold) (p q : Pass)
+        → IsHoldOf shape hold p → holding q ≡ holding p → IsHoldOf shape hold q }
+    ensures row { (board : Board) (hold : Hold) (p : Pass) (is : IsHoldOf board.shape hold p)
+        → IsQuiet board p → IsRowOf (trace p) hold is.held }
 {}

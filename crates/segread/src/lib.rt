@@ -1,4 +1,5 @@
-//! Readers: values, values with their version, and holds, each found along the key's chain without any bit.
+//! Readers: values, values with their version, and holds,
+//! each found along the key's chain without any bit.
 #![tactic(auto)]
 
 mod held;

@@ -1,14 +1,10 @@
 //! Values read without any bit.
-ghost use Rattle.std.specs.Prelude.{◌≡◌, ◌<◌, ℕ, List};
-ghost use Rattle.segword.specs.ItemWord.{item_word};
-ghost use Rattle.segcore.specs.declared.event.Event.{Event};
-ghost use Rattle.segcore.specs.Segment.{inside};
-ghost use Rattle.segbase.specs.Passes.{number, trace, entered, IsPassOf};
-ghost use Rattle.segstore.specs.Reading.{IsReader};
-ghost use Rattle.segstore.specs.Linked.{IsChained, FoundItem};
-ghost use Rattle.segpass.specs.Quiet.{IsQuiet};
+ghost use Rattle.std.specs.Prelude.{◌≡◌};
+ghost use Rattle.segbase.specs.Words.{entered, IsPassOf, trace};
+ghost use Rattle.segstore.specs.Words.{IsChained, IsReader};
+ghost use Rattle.segpass.specs.Words.{IsQuiet};
 ghost use Rattle.segread.specs.Reads.{ReadsKey};
-ghost use Rattle.segread.specs.Hits.{RaisesFrom};
+ghost use Rattle.segread.specs.Hits.{RaisesFound};
 
 use crate::scan::{Scan, scan_for};
 use segbase::{Board, Pass, Place};
@@ -17,10 +13,11 @@ use segpolicy::next_frequency;
 use segstore::{leave_segment, value_of_row};
 use segword::{Item, Key};
 
-/// The value under a key. A hit raises the frequency of the key's item where the draw, a number at random, says so.
-pub fn get(board: &Board, pass: &mut Pass, key: &Key, draw: u32) -> GetAnswer
+/// The value under a key at a moment.
+/// A hit raises the frequency of the key's item where the draw, a number at random, says so.
+pub fn get(board: &Board, pass: &mut Pass, key: &Key, draw: u32, now: u32) -> GetAnswer
     requires pass { IsQuiet board.now pass.old }
-    ensures reads { ReadsKey board.now key.now draw result pass.old pass.new }
+    ensures reads { ReadsKey board.now key.now draw now result pass.old pass.new }
 {
     match scan_for(board, pass, key) {
         Scan::Found(hit) => {
@@ -40,7 +37,7 @@ pub(crate) fn count_hit(board: &Board, pass: &mut Pass, place: Place, item: Item
     requires place { IsChained board.now.shape (trace pass.old) place }
     ensures reads { IsReader board.now pass.old pass.new }
     ensures stays_out { entered pass.new ≡ entered pass.old }
-    ensures raises { (key value : List ℕ) (before : List Event) → 0 < inside (trace pass.old) (number pass.old) item.seg → FoundItem board.now.shape place (item_word item) key value before (trace pass.old) → RaisesFrom board.now.shape key value draw before pass.old pass.new }
+    ensures raises { RaisesFound board.now place item draw pass.old pass.new }
 {
     let mut hit = item;
     hit.freq = next_frequency(item.freq, draw);

@@ -1,22 +1,24 @@
-//! A reader's way along the chain of a key, without the bucket's bit: a look at each word, and at a word with the key's tag a second look from within the item's segment. It can go on from any place of the chain.
+//! A reader's way along the chain of a key, without the bucket's bit: a look at each word,
+//! and at a word with the key's tag a second look from within the item's segment.
+//! It can go on from any place of the chain.
 ghost use Rattle.std.specs.Prelude.{◌≡◌, ◌≢◌, ◌+◌, ◌<◌, ◌≤◌, IfSome, IsNone};
-ghost use Rattle.segword.specs.ItemWord.{item_word, tag_part};
-ghost use Rattle.segword.specs.Shape.{IsValid};
-ghost use Rattle.segmodel.specs.Places.{tag_of};
-ghost use Rattle.segcore.specs.Kind.{May, enter};
-ghost use Rattle.segbase.specs.Passes.{number, trace, IsPassOf};
-ghost use Rattle.segbase.specs.Spots.{position};
-ghost use Rattle.segstore.specs.Linked.{IsChained, IsKeyed};
-ghost use Rattle.segpass.specs.Quiet.{IsQuiet};
-ghost use Rattle.segpass.specs.Calls.{RaisesNothing};
+ghost use Rattle.segword.specs.Words.{IsValid, item_word, tag_part};
+ghost use Rattle.segmodel.specs.Words.{tag_of};
+ghost use Rattle.segcore.specs.Words.{enter, May};
+ghost use Rattle.segbase.specs.Words.{IsPassOf, number, position, trace};
+ghost use Rattle.segstore.specs.Words.{IsChained, IsKeyed};
+ghost use Rattle.segpass.specs.Words.{IsQuiet, RaisesNothing};
 ghost use Rattle.segread.specs.Hits.{TriesFew};
-ghost use Rattle.segread.specs.Scanning.{place_of, IsPlaceOf, IsPlaceAfter, MayEnterAny, IsTrial, IsOnWay, IsScanner, IsTry, IsWay, IsScanFrom, IsScanAnswer};
+ghost use Rattle.segread.specs.Scanning.{place_of, IsPlaceOf, IsPlaceAfter, MayEnterAny, IsTrial};
+ghost use Rattle.segread.specs.Scanning.{IsOnWay, IsScanner, IsTry, IsWay, IsScanFrom};
+ghost use Rattle.segread.specs.Scanning.{IsScanAnswer};
 
 use segbase::{Board, CHAIN_BUCKETS, Pass, Place};
 use segstore::{Keyed, enter_segment, leave_segment, read_keyed};
 use segword::{Chain, Item, Key, KeyWords, bucket_of, hash, tag_of};
 
-// An item of the key, in whose segment the pass is: where it stands, and word 0 of its row. So many tries were counted before it.
+// An item of the key, in whose segment the pass is: where it stands, and word 0 of its row.
+// So many tries were counted before it.
 #[derive(Clone, Copy, Drop)]
 pub(crate) struct Hit {
     pub(crate) place: Place,
@@ -56,7 +58,8 @@ pub(crate) fn item_of_tag(word: u64, tag: u16) -> Option<Item>
     Item::unpack(word).filter(|item| item.tag == tag)
 }
 
-// Comes into the segment of an item that was seen, and looks a second time. The pass stays there where the item is the key's.
+// Comes into the segment of an item that was seen, and looks a second time.
+// The pass stays there where the item is the key's.
 #[inline(always)]
 pub(crate) fn try_item(
     board: &Board,
@@ -70,7 +73,8 @@ pub(crate) fn try_item(
     requires may { May board.now.shape (trace pass.old) (number pass.old) (enter item.seg) }
     ensures reads { IsTrial board.now result pass.old pass.new }
     ensures once { IsTry pass.old pass.new }
-    ensures keyed { IsKeyed board.now.shape place (item_word item) key.now result (trace pass.old) (trace pass.new) }
+    ensures keyed { IsKeyed board.now.shape place (item_word item) key.now result
+        (trace pass.old) (trace pass.new) }
 {
     enter_segment(board, pass, item.seg);
     match read_keyed(board, pass, place, item.pack(), key) {
@@ -174,7 +178,8 @@ fn visit_bucket(
     )
 }
 
-// The place after one of a chain at which this word stood: the next word of its bucket, or word 1 of the bucket that its last word leads to.
+// The place after one of a chain at which this word stood: the next word of its bucket,
+// or word 1 of the bucket that its last word leads to.
 #[inline(always)]
 pub(crate) fn place_after(board: &Board, place: Place, word: u64) -> Option<Place>
     requires valid { IsValid board.now.shape }

@@ -1,16 +1,14 @@
 //! Values with the version of their bucket, both of one moment, read without any bit.
 ghost use Rattle.std.specs.Prelude.{◌≡◌, ◌≢◌, ℕ, ◌^◌, ◌<◌, List, Some};
 ghost use Rattle.segmodel.specs.declared.answer.GetsAnswer.TheVariants as gets;
-ghost use Rattle.segmodel.specs.Places.{bucket_of, tag_of};
-ghost use Rattle.segbase.specs.Passes.{trace, IsPassOf};
-ghost use Rattle.segbase.specs.Plain.{locked_of};
-ghost use Rattle.segbase.specs.Spots.{position};
-ghost use Rattle.segstore.specs.Reading.{IsReader};
-ghost use Rattle.segpass.specs.Quiet.{IsQuiet};
-ghost use Rattle.segpass.specs.Calls.{RaisesNothing};
+ghost use Rattle.segmodel.specs.Words.{bucket_of, tag_of};
+ghost use Rattle.segbase.specs.Words.{IsPassOf, locked_of, position, trace};
+ghost use Rattle.segstore.specs.Words.{IsReader};
+ghost use Rattle.segpass.specs.Words.{IsQuiet, RaisesNothing};
 ghost use Rattle.segread.specs.Scanning.{IsPlaceOf, MayEnterAny};
 ghost use Rattle.segread.specs.Hits.{TriesFew, GetsRaises};
-ghost use Rattle.segread.specs.Gets.{ReadsVersion, IsGetsAnswer, HasNoBit, IsVersionSight, IsAttempt};
+ghost use Rattle.segread.specs.Gets.{ReadsVersion, IsGetsAnswer, HasNoBit, IsVersionSight};
+ghost use Rattle.segread.specs.Gets.{IsAttempt};
 
 use crate::read::count_hit;
 use crate::scan::{Hit, Scan, TRIES, item_of_tag, place_after, scan_for, scan_from};
@@ -22,7 +20,8 @@ use segword::{Info, Key, KeyWords, Value, bucket_of, hash, same_item, tag_of};
 // What a scan for a key and its version saw.
 #[derive(Drop)]
 enum Sight {
-    // The key's item and its value, the information of its bucket, and the word that stood in the item's place after that.
+    // The key's item and its value, the information of its bucket,
+    // and the word that stood in the item's place after that.
     Found(Hit, Value, Info, u64),
     Absent,
     // The words changed at each try.
@@ -33,31 +32,44 @@ enum Sight {
 #[derive(Drop)]
 enum Attempt {
     Told(GetsAnswer),
-    // The bit was set, or the item changed: the next scan goes on from this place, with so many tries counted.
+    // The bit was set, or the item changed: the next scan goes on from this place,
+    // with so many tries counted.
     GoesOn(Place, u32),
 }
 
-/// The value under a key with the version of the key's bucket, for a later compare-and-swap. It is Busy where the pass has the bucket locked by itself and the key stands. A hit raises the frequency of the key's item where the draw, a number at random, says so.
-pub fn gets(board: &Board, pass: &mut Pass, key: &Key, draw: u32) -> GetsAnswer
+/// The value under a key at a moment with the version of the key's bucket,
+/// for a later compare-and-swap.
+/// It is Busy where the pass has the bucket locked by itself and the key stands.
+/// A hit raises the frequency of the key's item where the draw, a number at random, says so.
+pub fn gets(board: &Board, pass: &mut Pass, key: &Key, draw: u32, now: u32) -> GetsAnswer
     requires pass { IsQuiet board.now pass.old }
-    ensures reads { ReadsVersion board.now key.now draw result pass.old pass.new }
+    ensures reads { ReadsVersion board.now key.now draw now result pass.old pass.new }
 {
     let hash = hash(key);
     let home = bucket_of(hash, board.shape().buckets);
     if pass.locked() == Some(home) {
-        return find_locked(board, pass, key);
+        return find_locked(board, pass, key, now);
     }
-    find_version(board, pass, home, &KeyWords::new(key), tag_of(hash), draw)
+    find_version(
+        board,
+        pass,
+        home,
+        &KeyWords::new(key),
+        tag_of(hash),
+        draw,
+        now,
+    )
 }
 
-// Whether a key stands whose bucket the pass itself has locked: its version is another one once the bucket is unlocked.
-fn find_locked(board: &Board, pass: &mut Pass, key: &Key) -> GetsAnswer
+// Whether a key stands whose bucket the pass itself has locked:
+// its version is another one once the bucket is unlocked.
+fn find_locked(board: &Board, pass: &mut Pass, key: &Key, now: u32) -> GetsAnswer
     requires pass { IsQuiet board.now pass.old }
     requires locked { locked_of pass.old ≡ Some (bucket_of board.now.shape key.now) }
     ensures reads { IsReader board.now pass.old pass.new }
     ensures tries { TriesFew pass.old pass.new }
     ensures raises_nothing { RaisesNothing pass.old pass.new }
-    ensures answer { IsGetsAnswer board.now.shape key.now result pass.old pass.new }
+    ensures answer { IsGetsAnswer board.now.shape key.now now result pass.old pass.new }
     ensures none { (value : List ℕ) (version : ℕ) → result ≢ gets.Found value version }
 {
     match scan_for(board, pass, key) {
@@ -70,7 +82,8 @@ fn find_locked(board: &Board, pass: &mut Pass, key: &Key) -> GetsAnswer
     }
 }
 
-// Looks for a key and its version along its chain, which begins with this bucket. If a scan was disturbed, the next one goes on from there.
+// Looks for a key and its version along its chain, which begins with this bucket.
+// If a scan was disturbed, the next one goes on from there.
 fn find_version(
     board: &Board,
     pass: &mut Pass,
@@ -78,6 +91,7 @@ fn find_version(
     key: &KeyWords,
     tag: u16,
     draw: u32,
+    now: u32,
 ) -> GetsAnswer
     requires pass { IsPassOf board.now pass.old }
     requires reader { MayEnterAny pass.old }
@@ -88,7 +102,7 @@ fn find_version(
     ensures reads { IsReader board.now pass.old pass.new }
     ensures tries { TriesFew pass.old pass.new }
     ensures raises { GetsRaises board.now.shape key.now draw result pass.old pass.new }
-    ensures answer { IsGetsAnswer board.now.shape key.now result pass.old pass.new }
+    ensures answer { IsGetsAnswer board.now.shape key.now now result pass.old pass.new }
 {
     let mut place = Place {
         bucket: home,
@@ -96,7 +110,7 @@ fn find_version(
     };
     let mut tries = 0;
     while tries < TRIES {
-        match try_version(board, pass, home, place, key, tag, tries, draw) {
+        match try_version(board, pass, home, place, key, tag, tries, draw, now) {
             Attempt::Told(answer) => return answer,
             Attempt::GoesOn(next, counted) => {
                 place = next;
@@ -107,7 +121,8 @@ fn find_version(
     GetsAnswer::Busy
 }
 
-// One scan from a place on. The version is of one moment with the value if the bit is clear and the item stands there still.
+// One scan from a place on.
+// The version is of one moment with the value if the bit is clear and the item stands there still.
 fn try_version(
     board: &Board,
     pass: &mut Pass,
@@ -117,6 +132,7 @@ fn try_version(
     tag: u16,
     tries: u32,
     draw: u32,
+    now: u32,
 ) -> Attempt
     requires pass { IsPassOf board.now pass.old }
     requires reader { MayEnterAny pass.old }
@@ -128,24 +144,24 @@ fn try_version(
     requires tries { tries < 64 }
     ensures reads { IsReader board.now pass.old pass.new }
     ensures attempt { let at = position board.now.shape (trace pass.old) place in
-        IsAttempt board.now.shape key.now draw at tries result pass.old pass.new }
+        IsAttempt board.now.shape key.now now draw at tries result pass.old pass.new }
 {
-    match see_version(board, pass, home, place, key, tag, tries) {
-        Sight::Found(hit, value, info, now) => {
+    match see_version(board, pass, home, place, key, tag, tries, now) {
+        Sight::Found(hit, value, info, word) => {
             if info.held {
                 leave_segment(board, pass, hit.item.seg);
                 return Attempt::GoesOn(hit.place, hit.tries + 1);
             }
-            if same_item(hit.item.pack(), now) {
+            if same_item(hit.item.pack(), word) {
                 count_hit(board, pass, hit.place, hit.item, draw);
                 leave_segment(board, pass, hit.item.seg);
                 return Attempt::Told(GetsAnswer::Found(value, info.version));
             }
             leave_segment(board, pass, hit.item.seg);
-            if let Some(_other) = item_of_tag(now, tag) {
+            if let Some(_other) = item_of_tag(word, tag) {
                 return Attempt::GoesOn(hit.place, hit.tries + 1);
             }
-            match place_after(board, hit.place, now) {
+            match place_after(board, hit.place, word) {
                 Some(next) => Attempt::GoesOn(next, hit.tries),
                 None => Attempt::Told(GetsAnswer::Miss),
             }
@@ -155,7 +171,8 @@ fn try_version(
     }
 }
 
-// Looks for a key from a place on. At its item the bucket's information is looked at between two looks at the item's word.
+// Looks for a key from a place on.
+// At its item the bucket's information is looked at between two looks at the item's word.
 #[inline(always)]
 fn see_version(
     board: &Board,
@@ -165,6 +182,7 @@ fn see_version(
     key: &KeyWords,
     tag: u16,
     tries: u32,
+    now: u32,
 ) -> Sight
     requires pass { IsPassOf board.now pass.old }
     requires reader { MayEnterAny pass.old }
@@ -175,14 +193,14 @@ fn see_version(
     requires versions { board.now.shape.first_version < 2 ^ 32 }
     requires tries { tries < 64 }
     ensures sight { let at = position board.now.shape (trace pass.old) place in
-        IsVersionSight board.now key.now at tries result pass.old pass.new }
+        IsVersionSight board.now key.now now at tries result pass.old pass.new }
 {
     match scan_from(board, pass, place, key, tag, tries) {
         Scan::Found(hit) => {
             let value = value_of_row(board, pass, hit.item.seg, hit.item.row, hit.header);
             let info = board.glance(pass, home);
-            let now = board.look(pass, hit.place);
-            Sight::Found(hit, value, info, now)
+            let word = board.look(pass, hit.place);
+            Sight::Found(hit, value, info, word)
         }
         Scan::Absent => Sight::Absent,
         Scan::Busy => Sight::Busy,

@@ -1,20 +1,15 @@
 -- A step in a bucket whose bit the pass has: what it leaves of the bucket, and of its keys where it adds no entry.
 use Rattle.std.proofs.Common.{◌≡◌, ℕ, true, List, [], ◌∷◌, ◌++◌, None, sym, ap, ◌∙◌, subst}
 use Rattle.std.proofs.lemmas.Bool.{cond-true}
-use Rattle.segmodel.specs.Places.{bucket_of}
-use Rattle.segmodel.specs.History.{after, IsSameAt}
-use Rattle.segcore.specs.declared.event.Event.{Event}
-use Rattle.segcore.specs.Event.{entry_of, with_entry}
+use Rattle.segmodel.specs.Words.{after, bucket_of, IsSameAt}
+use Rattle.segcore.specs.Words.{acts, bucket_after, bucket_at, entry_of, Event, HasBit, is}
+use Rattle.segcore.specs.Words.{with_entry}
 use Rattle.segcore.specs.Event as event
-use Rattle.segcore.specs.Bucket.{bucket_at, is, acts, bucket_after}
-use Rattle.segcore.specs.Kind.{HasBit}
 use Rattle.segcore.proofs.Quiet.{quiet, quiet_at}
-use Rattle.segbase.specs.declared.board.Board.{Board}
-use Rattle.segbase.specs.declared.pass.Pass.{Pass}
-use Rattle.segbase.specs.Passes.{number, trace, seen, AddsAtOnce}
+use Rattle.segbase.specs.Words.{AddsAtOnce, Board, number, Pass, seen, trace}
 use Rattle.segbase.proofs.Moves.{moved_then}
-use Rattle.segstore.specs.Refilling.{Idles}
-use Rattle.segpass.specs.Calls.{memo}
+use Rattle.segstore.specs.Words.{Idles}
+use Rattle.segpass.specs.Words.{memo}
 use Rattle.segwrite.specs.Growing.{bucket_seen, Prepares}
 use Rattle.segpass.proofs.UnderBit.{moved_at}
 

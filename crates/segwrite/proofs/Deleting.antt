@@ -1,35 +1,23 @@
 -- A delete, from the take of the bit to its answer.
 use Rattle.std.proofs.Common.{◌≡◌, ◌≢◌, ℕ, true, false, is_some, List, [], ◌∷◌, Option, Some, None, refl, sym, ap, ◌∙◌, subst}
 use Rattle.std.proofs.lemmas.Bool.{eq-eqb}
-use Rattle.segword.specs.declared.shape.Shape.{Shape}
-use Rattle.segmodel.specs.declared.request.Request.{Request}
+use Rattle.segword.specs.Words.{Shape}
 use Rattle.segmodel.specs.declared.request.Request.TheVariants.{Delete}
 use Rattle.segmodel.specs.declared.request.Reply.TheVariants as reply
-use Rattle.segmodel.specs.declared.answer.DeleteAnswer.{DeleteAnswer}
 use Rattle.segmodel.specs.declared.answer.DeleteAnswer.TheVariants as delete
 use Rattle.segmodel.specs.declared.entry.Entry.TheVariants.{Wrote}
-use Rattle.segmodel.specs.Request.{key_of, reply_to}
-use Rattle.segmodel.specs.Places.{bucket_of}
-use Rattle.segmodel.specs.Cache.{present}
-use Rattle.segmodel.specs.History.{after}
-use Rattle.segcore.specs.declared.event.Event.{Event}
+use Rattle.segcore.specs.declared.event.Leaving.TheVariants as leaving
+use Rattle.segmodel.specs.Words.{after, bucket_of, DeleteAnswer, key_of, moment_of, present, reply_to, Request}
 use Rattle.segcore.specs.declared.event.Event.TheVariants.{Freed, Replied, Unlinked}
-use Rattle.segcore.specs.Bucket.{acts, bucket_after}
-use Rattle.segcore.specs.Kind.{May, release}
-use Rattle.segcore.specs.Lawful.{Fits, IsRefusal}
-use Rattle.segbase.specs.declared.board.Board.{Board}
-use Rattle.segbase.specs.declared.pass.Pass.{Pass}
-use Rattle.segbase.specs.Passes.{number, trace, seen, IsPassOf, AddsEvents, AddsAtOnce}
-use Rattle.segbase.specs.Spots.{position}
-use Rattle.segbase.specs.Steps.{HasItemOf}
+use Rattle.segcore.specs.Words.{acts, bucket_after, Event, Fits, IsRefusal, May, release}
+use Rattle.segbase.specs.Words.{AddsAtOnce, AddsEvents, Board, HasItemOf, IsPassOf, number, Pass}
+use Rattle.segbase.specs.Words.{position, seen, trace}
 use Rattle.segbase.proofs.Moves.{moved_then}
-use Rattle.segstore.specs.Refilling.{Idles}
+use Rattle.segstore.specs.Words.{Idles}
 use Rattle.segstore.proofs.Refills.{idles}
-use Rattle.segwrite.specs.declared.find.Target.{Target}
-use Rattle.segpass.specs.Quiet.{IsQuiet}
-use Rattle.segpass.specs.Calls.{memo}
+use Rattle.segwrite.specs.Words.{Target}
+use Rattle.segpass.specs.Words.{HasCleanBit, IsQuiet, memo, TakesToWrite, TookToWrite}
 use Rattle.segwrite.specs.Writes.{Deletes}
-use Rattle.segpass.specs.Taking.{HasCleanBit, TookToWrite, TakesToWrite}
 use Rattle.segwrite.specs.Writing.{IsInChain, IsEarlier, IsTarget, Finds, own_word}
 use Rattle.segwrite.specs.Refusing.{reply_now, RefusesUnderBit, Removes}
 use Rattle.segwrite.proofs.Ending.{IsEntry, plain_back, memo_back, entered_on, entered, entered_undrawn, entered_unread, entered_taking}
@@ -45,7 +33,7 @@ clean_idle b bucket p f clean i = let same = moved_bucket b [] p f bucket i.move
 
 -- ---- under the bit: from p, where it was taken, to f, where the search ended
 
-module _ (b : Board) (request : Request) (key : List ℕ) (bucket : ℕ) (asked : request ≡ Delete key) (home : bucket ≡ bucket_of b.shape key) (p f : Pass) (found : Option Target) (clean : HasCleanBit b p bucket) (search : Idles b p f) (finds : Finds b key found f) where
+module _ (b : Board) (request : Request) (key : List ℕ) (now : ℕ) (bucket : ℕ) (asked : request ≡ Delete key now) (home : bucket ≡ bucket_of b.shape key) (p f : Pass) (found : Option Target) (clean : HasCleanBit b p bucket) (search : Idles b p f) (finds : Finds b key found f) where
   key_is : key ≡ key_of request
   key_is = sym (ap key_of asked)
 
@@ -58,11 +46,11 @@ module _ (b : Board) (request : Request) (key : List ℕ) (bucket : ℕ) (asked 
   clean_home : HasCleanBit b f (bucket_of b.shape (key_of request))
   clean_home = subst (HasCleanBit b f) at_home clean_now
 
-  replies : reply_now b f request ≡ reply_to (Delete key) (is_some (present (after b.shape (seen f)) key)) ((after b.shape (seen f)).version (bucket_of b.shape key))
+  replies : reply_now b f request ≡ reply_to (Delete key now) (is_some (present (after b.shape (seen f)) now key)) ((after b.shape (seen f)).version (bucket_of b.shape key))
   replies = ap (reply_now b f) asked
 
   not_found : own_word found ≡ None → reply_now b f request ≡ reply.NotFound
-  not_found none = replies ∙ ap (λ o. reply_to (Delete key) (is_some o) ((after b.shape (seen f)).version (bucket_of b.shape key))) (own_none b key found f finds none)
+  not_found none = replies ∙ ap (λ o. reply_to (Delete key now) (is_some o) ((after b.shape (seen f)).version (bucket_of b.shape key))) (own_none b key found f finds none)
 
   pub may_tell : own_word found ≡ None → IsPassOf b f × (HasCleanBit b f bucket × (bucket ≡ bucket_of b.shape (key_of request) × IsRefusal (reply_now b f request)))
   may_tell none = (search.moved.pass, (clean_now, (at_home, subst IsRefusal (sym (not_found none)) tt)))
@@ -79,13 +67,13 @@ module _ (b : Board) (request : Request) (key : List ℕ) (bucket : ℕ) (asked 
 
   module _ (target : Target) (own : own_word found ≡ Some target) where
     abbrev gone : Event
-    gone = event_at b (unlink_event (key_of request) None) target.place f
+    gone = event_at b (unlink_event (key_of request) (leaving.Deletes (moment_of request))) target.place f
 
     the_target : IsTarget b (key_of request) target f × (target.word ≢ 0)
     the_target = let t = own_target b key found target f finds own in (subst (λ k. IsTarget b k target f) key_is t.0, t.1)
 
-    deletes_it : reply.Deleted ≡ reply_now b f (Delete (key_of request))
-    deletes_it = sym (ap (λ t. reply_to (Delete (key_of request)) t ((after b.shape (seen f)).version (bucket_of b.shape (key_of request)))) (own_stands b (key_of request) target f search.moved.pass the_target.0 the_target.1))
+    deletes_it : reply.Deleted ≡ reply_now b f (Delete (key_of request) (moment_of request))
+    deletes_it = sym (ap (λ t. reply_to (Delete (key_of request) (moment_of request)) t ((after b.shape (seen f)).version (bucket_of b.shape (key_of request)))) (own_stands b (key_of request) (moment_of request) target f search.moved.pass the_target.0 the_target.1))
 
     pub may_clear : IsPassOf b f × (Fits b.shape (trace f) gone × (IsInChain b (bucket_of b.shape (key_of request)) target.place f × (HasItemOf b (key_of request) target.place f × IsEarlier b target.place target.word f)))
     may_clear =
@@ -112,8 +100,8 @@ module _ (b : Board) (request : Request) (key : List ℕ) (bucket : ℕ) (asked 
           let at = position b.shape (trace f) target.place in
           let one = search.moved.same in
           let both = moved_then b [] (Freed (number r) bucket true ∷ gone ∷ []) p f s search.moved (moved_then b (gone ∷ []) (Freed (number r) bucket true ∷ []) f r s did.moved freed.moved) in
-          let named : (Freed (number r) bucket true ∷ gone ∷ []) ≡ (Freed (number p) k true ∷ Unlinked (number p) (key_of request) at None ∷ []) =
-          (λ i. Freed ((did.moved.same ∙ one) i) (at_home i) true ∷ Unlinked (one i) (key_of request) at None ∷ []) in (
+          let named : (Freed (number r) bucket true ∷ gone ∷ []) ≡ (Freed (number p) k true ∷ Unlinked (number p) (key_of request) at (leaving.Deletes (moment_of request)) ∷ []) =
+          (λ i. Freed ((did.moved.same ∙ one) i) (at_home i) true ∷ Unlinked (one i) (key_of request) at (leaving.Deletes (moment_of request)) ∷ []) in (
             at,
             record {
               moved = subst (λ es. AddsEvents b es p s) named both;
@@ -126,36 +114,36 @@ module _ (b : Board) (request : Request) (key : List ℕ) (bucket : ℕ) (asked 
 -- ---- the answer
 
 -- the bit can't be had
-pub deletes_nothing : (b : Board) (key : List ℕ) (p q : Pass) → TakesToWrite b (bucket_of b.shape key) false p q → Deletes b key delete.Busy p q
-deletes_nothing b key p q busy = record { on = busy.0; answer = (busy.1, busy.2); locked = λ has. refl; takes = λ other. absurd (other refl); draws_nothing = busy.3; reads_nothing = busy.4 }
+pub deletes_nothing : (b : Board) (key : List ℕ) (now : ℕ) (p q : Pass) → TakesToWrite b (bucket_of b.shape key) false p q → Deletes b key now delete.Busy p q
+deletes_nothing b key now p q busy = record { on = busy.0; answer = (busy.1, busy.2); locked = λ has. refl; takes = λ other. absurd (other refl); draws_nothing = busy.3; reads_nothing = busy.4 }
 
-deletion_entry : (z : Shape) (key : List ℕ) (at : ℕ) → IsEntry z (bucket_of z key) (λ pass. Unlinked pass key at None) (λ pass. Wrote pass (Delete key) reply.Deleted None)
-deletion_entry z key at = record { at = λ pass. refl; adds = λ pass. refl; of = λ pass. refl; still = λ pass. tt; calm = λ pass. tt; undrawn = λ pass. tt; untried = λ pass. tt }
+deletion_entry : (z : Shape) (key : List ℕ) (now at : ℕ) → IsEntry z (bucket_of z key) (λ pass. Unlinked pass key at (leaving.Deletes now)) (λ pass. Wrote pass (Delete key now) reply.Deleted None)
+deletion_entry z key now at = record { at = λ pass. refl; adds = λ pass. refl; of = λ pass. refl; still = λ pass. tt; calm = λ pass. tt; undrawn = λ pass. tt; untried = λ pass. tt }
 
-module _ (b : Board) (key : List ℕ) (p q s : Pass) (quiet : IsQuiet b p) (took : TookToWrite b (bucket_of b.shape key) p q) where
+module _ (b : Board) (key : List ℕ) (now : ℕ) (p q s : Pass) (quiet : IsQuiet b p) (took : TookToWrite b (bucket_of b.shape key) p q) where
   looked : Idles b q q
   looked = idles b q (took_moved b (bucket_of b.shape key) p q quiet took).pass
 
-  pub deletes : (told : DeleteAnswer) → Removes b (Delete key) told q s → Deletes b key told p s
+  pub deletes : (told : DeleteAnswer) → Removes b (Delete key now) told q s → Deletes b key now told p s
   deletes delete.Deleted (at, gives) =
-      let k = bucket_of b.shape key in let is = deletion_entry b.shape key at in record {
-        on = entered_on b k true (λ pass. Unlinked pass key at None) (λ pass. Wrote pass (Delete key) reply.Deleted None) is p q q s quiet took looked gives;
+      let k = bucket_of b.shape key in let is = deletion_entry b.shape key now at in record {
+        on = entered_on b k true (λ pass. Unlinked pass key at (leaving.Deletes now)) (λ pass. Wrote pass (Delete key now) reply.Deleted None) is p q q s quiet took looked gives;
         answer = (
-          entered b k true (λ pass. Unlinked pass key at None) (λ pass. Wrote pass (Delete key) reply.Deleted None) is p q q s quiet took looked gives,
-          plain_back b k true (λ pass. Unlinked pass key at None) (λ pass. Wrote pass (Delete key) reply.Deleted None) is p q q s quiet took looked gives,
-          memo_back b k true (λ pass. Unlinked pass key at None) (λ pass. Wrote pass (Delete key) reply.Deleted None) is p q q s quiet took looked gives,
+          entered b k true (λ pass. Unlinked pass key at (leaving.Deletes now)) (λ pass. Wrote pass (Delete key now) reply.Deleted None) is p q q s quiet took looked gives,
+          plain_back b k true (λ pass. Unlinked pass key at (leaving.Deletes now)) (λ pass. Wrote pass (Delete key now) reply.Deleted None) is p q q s quiet took looked gives,
+          memo_back b k true (λ pass. Unlinked pass key at (leaving.Deletes now)) (λ pass. Wrote pass (Delete key now) reply.Deleted None) is p q q s quiet took looked gives,
         );
         locked = λ has. absurd (took.unlocked has);
-        takes = λ other. entered_taking b k true (λ pass. Unlinked pass key at None) (λ pass. Wrote pass (Delete key) reply.Deleted None) is p q q s quiet took looked gives;
-        draws_nothing = entered_undrawn b k true (λ pass. Unlinked pass key at None) (λ pass. Wrote pass (Delete key) reply.Deleted None) is p q q s quiet took looked gives;
-        reads_nothing = entered_unread b k true (λ pass. Unlinked pass key at None) (λ pass. Wrote pass (Delete key) reply.Deleted None) is p q q s quiet took looked gives;
+        takes = λ other. entered_taking b k true (λ pass. Unlinked pass key at (leaving.Deletes now)) (λ pass. Wrote pass (Delete key now) reply.Deleted None) is p q q s quiet took looked gives;
+        draws_nothing = entered_undrawn b k true (λ pass. Unlinked pass key at (leaving.Deletes now)) (λ pass. Wrote pass (Delete key now) reply.Deleted None) is p q q s quiet took looked gives;
+        reads_nothing = entered_unread b k true (λ pass. Unlinked pass key at (leaving.Deletes now)) (λ pass. Wrote pass (Delete key now) reply.Deleted None) is p q q s quiet took looked gives;
       }
   deletes delete.NotFound refuses = record {
-    on = refused_goes_on b (Delete key) reply.NotFound p q q s quiet took looked refuses;
-    answer = refused_replied b (Delete key) reply.NotFound p q q s quiet took looked refuses;
+    on = refused_goes_on b (Delete key now) reply.NotFound p q q s quiet took looked refuses;
+    answer = refused_replied b (Delete key now) reply.NotFound p q q s quiet took looked refuses;
     locked = λ has. absurd (took.unlocked has);
-    takes = λ other. refused_takes b (Delete key) reply.NotFound p q q s quiet took looked refuses;
-    draws_nothing = refused_undrawn b (Delete key) reply.NotFound p q q s quiet took looked refuses;
-    reads_nothing = refused_unread b (Delete key) reply.NotFound p q q s quiet took looked refuses;
+    takes = λ other. refused_takes b (Delete key now) reply.NotFound p q q s quiet took looked refuses;
+    draws_nothing = refused_undrawn b (Delete key now) reply.NotFound p q q s quiet took looked refuses;
+    reads_nothing = refused_unread b (Delete key now) reply.NotFound p q q s quiet took looked refuses;
   }
   deletes delete.Busy none = absurd none

@@ -1,18 +1,13 @@
 -- Draws of the next overflow bucket, each from the number to which the one before it found that others had drawn.
 use Rattle.std.proofs.Common.{◌≡◌, ℕ, ◌+◌, ◌<◌, ◌≤◌, [], ◌∷◌, Some, None, refl, ap, ◌∙◌, subst, arith}
 use Rattle.segcore.specs.declared.event.Event.TheVariants.{Drew}
-use Rattle.segcore.specs.Bucket.{Bucket}
-use Rattle.segcore.specs.Kind.{draw, May}
-use Rattle.segcore.specs.Overflow.{drawn_in}
+use Rattle.segcore.specs.Words.{Bucket, draw, drawn_in, May}
 use Rattle.segcore.proofs.Limits.{drawn_few}
-use Rattle.segbase.specs.declared.board.Board.{Board}
-use Rattle.segbase.specs.declared.pass.Pass.{Pass}
-use Rattle.segbase.specs.Passes.{number, trace, IsPassOf, AddsAtOnce}
-use Rattle.segbase.specs.Steps.{depth_to_draw, CounterMissed}
+use Rattle.segbase.specs.Words.{AddsAtOnce, Board, CounterMissed, depth_to_draw, IsPassOf, number}
+use Rattle.segbase.specs.Words.{Pass, trace}
 use Rattle.segbase.proofs.Moves.{did_quiet, did_has}
-use Rattle.segpass.specs.Calls.{memo}
+use Rattle.segpass.specs.Words.{HasCleanBit, memo}
 use Rattle.segwrite.specs.Growing.{bucket_seen, DrawsSpare}
-use Rattle.segpass.specs.Taking.{HasCleanBit}
 use Rattle.segwrite.proofs.Linking.{did_after, did_nothing}
 
 -- so many are drawn at least, and the pass did nothing yet

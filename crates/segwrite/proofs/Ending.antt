@@ -1,25 +1,18 @@
 -- A write or delete whose bit is given back after one event that added an entry: its answer is that entry, and the pass is quiet again.
 use Rattle.std.proofs.Common.{◌≡◌, ◌≢◌, ℕ, Bool, eqb, List, [], ◌∷◌, Some, ap, ◌∙◌, subst}
 use Rattle.std.proofs.lemmas.Bool.{cond-true, eq-eqb, ne_eqb}
-use Rattle.segword.specs.declared.shape.Shape.{Shape}
-use Rattle.segmodel.specs.declared.entry.Entry.{Entry}
-use Rattle.segmodel.specs.History.{pass_of}
-use Rattle.segcore.specs.declared.event.Event.{Event}
+use Rattle.segword.specs.Words.{Shape}
+use Rattle.segmodel.specs.Words.{Entry, pass_of}
 use Rattle.segcore.specs.declared.event.Event.TheVariants.{Freed}
-use Rattle.segcore.specs.Bucket.{bucket_at, is}
-use Rattle.segcore.specs.Event.{entry_of, with_entry}
+use Rattle.segcore.specs.Words.{bucket_at, entry_of, Event, is, NoneAt, with_entry}
 use Rattle.segcore.specs.Event as event
-use Rattle.segcore.specs.Lawful.{NoneAt}
-use Rattle.segbase.specs.declared.board.Board.{Board}
 use Rattle.segbase.specs.declared.pass.Plain.{Plain}
-use Rattle.segbase.specs.declared.pass.Pass.{Pass}
-use Rattle.segbase.specs.Passes.{number, mine, AddsEvents}
+use Rattle.segbase.specs.Words.{AddsEvents, Board, mine, number, Pass}
 use Rattle.segbase.proofs.Moves.{moved_then}
-use Rattle.segstore.specs.Refilling.{Idles}
+use Rattle.segstore.specs.Words.{Idles}
 use Rattle.segstore.proofs.Keeping.{IsCalm, keeps_plain}
-use Rattle.segpass.specs.Quiet.{IsQuiet}
-use Rattle.segpass.specs.Calls.{memo, GoesOn, TakesOneBit, DrawsNothing, ReadsNothing, AddsEntry}
-use Rattle.segpass.specs.Taking.{TookToWrite}
+use Rattle.segpass.specs.Words.{AddsEntry, DrawsNothing, GoesOn, IsQuiet, memo, ReadsNothing}
+use Rattle.segpass.specs.Words.{TakesOneBit, TookToWrite}
 use Rattle.segwrite.specs.Refusing.{GivesBack}
 use Rattle.segpass.proofs.Draws.{IsUndrawn}
 use Rattle.segwrite.proofs.Sets.{found_plain, found_keeps}

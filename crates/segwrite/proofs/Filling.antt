@@ -1,12 +1,10 @@
 -- What the writing of a row leaves: words of the row alone.
 use Rattle.std.proofs.Common.{◌≡◌, ℕ, zero, suc, List, [], ◌∷◌, ◌++◌, refl}
 use Rattle.std.specs.Prelude.{slice_index}
-use Rattle.segword.specs.declared.shape.Shape.{Shape}
-use Rattle.segcore.specs.declared.event.Event.{Event}
+use Rattle.segword.specs.Words.{Shape}
 use Rattle.segcore.specs.declared.event.Event.TheVariants.{Filled}
-use Rattle.segcore.specs.Event.{seen}
-use Rattle.segcore.specs.Lawful.{NoneAt}
-use Rattle.segstore.specs.Rows.{fills}
+use Rattle.segcore.specs.Words.{Event, NoneAt, seen}
+use Rattle.segstore.specs.Words.{fills}
 use Rattle.segstore.proofs.Keeping.{AreCalm}
 use Rattle.segpass.proofs.Draws.{AreUndrawn}
 use Rattle.segpass.proofs.Still.{AreStill}

@@ -1,19 +1,13 @@
 -- One turn of the search for a key's word: the word is looked at, and its row is read where it may be the key's.
 use Rattle.std.proofs.Common.{◌≡◌, ℕ, ◌+◌, ◌-◌, ◌*◌, ◌/◌, ◌<◌, ◌≤◌, eqb, List, [], Option, Some, None, refl, sym, ap, ◌∙◌, subst, inr, arith}
 use mir.Val.{bool_byte}
-use Rattle.segword.specs.SameItem.{IsSameItem}
-use Rattle.segmodel.specs.Places.{bucket_of}
-use Rattle.segcore.specs.Bucket.{Slot, item, bucket_after}
-use Rattle.segcore.specs.Kind.{HasBit}
-use Rattle.segcore.specs.Word.{word as word_at, IsItemAt}
-use Rattle.segbase.specs.declared.board.Board.{Board}
-use Rattle.segbase.specs.declared.pass.Pass.{Pass}
-use Rattle.segbase.specs.declared.place.Place.{Place}
-use Rattle.segbase.specs.Passes.{number, trace}
-use Rattle.segbase.specs.Spots.{cell_at, position}
-use Rattle.segbase.specs.Steps.{HasItemOf, IsWordOfContent}
-use Rattle.segstore.specs.Refilling.{Idles}
-use Rattle.segwrite.specs.declared.find.Target.{Target}
+use Rattle.segword.specs.Words.{IsSameItem}
+use Rattle.segmodel.specs.Words.{bucket_of}
+use Rattle.segcore.specs.Words.{bucket_after, HasBit, IsItemAt, item, Slot, word as word_at}
+use Rattle.segbase.specs.Words.{Board, cell_at, HasItemOf, IsWordOfContent, number, Pass, Place}
+use Rattle.segbase.specs.Words.{position, trace}
+use Rattle.segstore.specs.Words.{Idles}
+use Rattle.segwrite.specs.Words.{Target}
 use Rattle.segwrite.specs.Writing.{IsInChain, IsEarlier, IsTarget, Updates, IsNext, Finds}
 use Rattle.segwrite.specs.Growing.{IsChainEnd, Searches, or_end}
 use Rattle.segwrite.proofs.Places.{idles_then, idle_bucket, idle_bit, same_position}

@@ -1,24 +1,16 @@
 -- A row that was linked for a new key took the first empty word of its chain.
 use Rattle.std.proofs.Common.{◌≡◌, ℕ, List, [], ◌∷◌, ◌++◌, refl, sym, ap, ◌∙◌, subst, ⊎_elim}
 use Rattle.std.proofs.lemmas.Option.{none-some}
-use Rattle.segword.specs.declared.shape.Shape.{Shape}
-use Rattle.segmodel.specs.declared.request.Request.{Request}
-use Rattle.segmodel.specs.Request.{key_of}
-use Rattle.segmodel.specs.Places.{bucket_of}
-use Rattle.segmodel.specs.Cache.{standing}
-use Rattle.segmodel.specs.History.{after, Begins}
-use Rattle.segcore.specs.declared.event.Event.{Event}
+use Rattle.segword.specs.Words.{Shape}
+use Rattle.segmodel.specs.Words.{after, Begins, bucket_of, key_of, Request, standing}
 use Rattle.segcore.specs.declared.event.Event.TheVariants.{Linked}
-use Rattle.segcore.specs.Bucket.{bucket_after}
-use Rattle.segcore.specs.Kind.{HasBit}
+use Rattle.segcore.specs.Words.{bucket_after, Event, HasBit}
 use Rattle.segcore.proofs.Moments.{begins_on}
 use Rattle.segcore.proofs.Standing.{coherent}
-use Rattle.segbase.specs.declared.board.Board.{Board}
-use Rattle.segbase.specs.declared.pass.Pass.{Pass}
-use Rattle.segbase.specs.Passes.{number, trace, seen, IsPassOf, AddsEvents, AddsAtOnce}
-use Rattle.segbase.specs.Spots.{position}
+use Rattle.segbase.specs.Words.{AddsAtOnce, AddsEvents, Board, IsPassOf, number, Pass, position}
+use Rattle.segbase.specs.Words.{seen, trace}
 use Rattle.segbase.proofs.Moves.{moved_on}
-use Rattle.segwrite.specs.declared.find.Target.{Target}
+use Rattle.segwrite.specs.Words.{Target}
 use Rattle.segwrite.specs.FirstEmpty.{IsFirstEmpty, TookFirstEmpty}
 use Rattle.segwrite.specs.Writing.{IsAbsent, IsTarget}
 use Rattle.segwrite.proofs.Acting.{as_seen, keys_as_seen}

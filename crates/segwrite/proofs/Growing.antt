@@ -1,34 +1,24 @@
 -- A chain that grew: an overflow bucket was drawn where no word was left, joined the chain, and has an empty word for a new key.
 use Rattle.std.proofs.Common.{◌≡◌, ℕ, ◌+◌, ◌*◌, ◌<◌, List, [], ◌∷◌, ◌++◌, Some, None, refl, sym, ap, ◌∙◌, subst, inl, arith}
 use Rattle.std.proofs.lemmas.Bool.{eq-eqb}
-use Rattle.segword.specs.declared.shape.Shape.{Shape}
-use Rattle.segmodel.specs.Places.{bucket_of}
-use Rattle.segmodel.specs.Cache.{standing, keys_in}
-use Rattle.segmodel.specs.History.{after, Begins}
-use Rattle.segcore.specs.declared.event.Event.{Event}
+use Rattle.segword.specs.Words.{Shape}
+use Rattle.segmodel.specs.Words.{after, Begins, bucket_of, keys_in, standing}
 use Rattle.segcore.specs.declared.event.Event.TheVariants.{Drew}
 use Rattle.segcore.specs.Event as event
 use Rattle.segcore.specs.Mark as mark
-use Rattle.segcore.specs.Bucket.{nothing, Bucket, acts, bucket_after}
-use Rattle.segcore.specs.Filled.{HasNoEmptyWord}
-use Rattle.segcore.specs.Lawful.{IsLawful}
-use Rattle.segcore.specs.Word.{IsItemAt}
+use Rattle.segcore.specs.Words.{acts, Bucket, bucket_after, Event, HasNoEmptyWord, IsItemAt}
+use Rattle.segcore.specs.Words.{IsLawful, nothing}
 use Rattle.segcore.proofs.KeyCounts.{counted_full, wide}
 use Rattle.segcore.proofs.Limits.{home_in}
 use Rattle.segcore.proofs.Marked.{entries_marked}
 use Rattle.segcore.proofs.Orderly.{all_drawn_marked}
-use Rattle.segbase.specs.declared.board.Board.{Board}
-use Rattle.segbase.specs.declared.pass.Pass.{Pass}
-use Rattle.segbase.specs.declared.place.Place.{Place}
-use Rattle.segbase.specs.Passes.{number, trace, IsPassOf, AddsAtOnce}
-use Rattle.segbase.specs.Spots.{cell_at, position}
-use Rattle.segbase.specs.Steps.{depth_to_draw}
-use Rattle.segpass.specs.Calls.{memo}
+use Rattle.segbase.specs.Words.{AddsAtOnce, Board, cell_at, depth_to_draw, home_at, IsPassOf}
+use Rattle.segbase.specs.Words.{number, Pass, Place, position, trace}
+use Rattle.segpass.specs.Words.{HasCleanBit, memo}
 use Rattle.segwrite.specs.Full.{HasNoWord, CanGrow, DrewInNeed}
 use Rattle.segwrite.specs.FirstEmpty.{AreTakenBefore}
-use Rattle.segpass.specs.Taking.{HasCleanBit}
 use Rattle.segwrite.specs.Writing.{IsInChain, IsAbsent}
-use Rattle.segwrite.specs.Growing.{bucket_seen, IsLast, home_at, HasSpare, Prepares, joins, Joins, Lengthens}
+use Rattle.segwrite.specs.Growing.{bucket_seen, IsLast, HasSpare, Prepares, joins, Joins, Lengthens}
 use Rattle.segwrite.proofs.Acting.{as_seen, keys_as_seen, acted, prepares, prepares_then}
 use Rattle.segwrite.proofs.Joining.{last_later, home_is}
 use Rattle.segwrite.proofs.Places.{position_at, overflow_at}

@@ -1,30 +1,17 @@
 -- What a word of a chain, read under the bucket's bit, says of the item there.
 use Rattle.std.proofs.Common.{◌≡◌, ◌≢◌, ◌↔◌, ℕ, ◌+◌, ◌*◌, ◌/◌, ◌%◌, ◌^◌, ◌<◌, ◌≤◌, List, [], refl, sym, ap, ◌∙◌, subst, inr, arith}
-use Rattle.segword.specs.declared.shape.Shape.{Shape}
-use Rattle.segword.specs.declared.item.Item.{Item}
-use Rattle.segword.specs.Shape.{IsValid}
-use Rattle.segword.specs.Bytes.{IsKey, IsValue}
-use Rattle.segword.specs.ItemWord.{item_word}
-use Rattle.segmodel.specs.Places.{tag_of}
-use Rattle.segcore.specs.declared.event.Event.{Event}
-use Rattle.segcore.specs.Bucket.{Slot, Content, nothing, item, next, copy, bucket_after}
-use Rattle.segcore.specs.ItemWord.{IsWordOf}
-use Rattle.segcore.specs.Kind.{HasBit}
-use Rattle.segcore.specs.Lawful.{IsLawful}
-use Rattle.segcore.specs.Row.{Holds, row_after}
+use Rattle.segword.specs.Words.{IsKey, IsValid, IsValue, Item, item_word, Shape}
+use Rattle.segmodel.specs.Words.{tag_of}
+use Rattle.segcore.specs.Words.{bucket_after, Content, copy, Event, HasBit, Holds, IsLawful}
+use Rattle.segcore.specs.Words.{IsWordOf, item, next, nothing, row_after, Slot}
 use Rattle.segcore.proofs.Chains.{chain_of, same_item}
 use Rattle.segcore.proofs.Coherent.{IsContent}
 use Rattle.segcore.proofs.Limits.{few_drawn, home_in, low_row, low_segment}
 use Rattle.segcore.proofs.Standing.{coherent}
-use Rattle.segbase.specs.declared.board.Board.{Board}
-use Rattle.segbase.specs.declared.pass.Pass.{Pass}
-use Rattle.segbase.specs.Passes.{number, trace, IsPassOf}
-use Rattle.segbase.specs.Steps.{IsWordOfContent}
+use Rattle.segbase.specs.Words.{Board, IsPassOf, IsWordOfContent, number, Pass, Place, position}
+use Rattle.segbase.specs.Words.{trace}
 use Rattle.segbase.proofs.Standing.{tag_of_word, place_of_word}
-use Rattle.segbase.specs.declared.place.Place.{Place}
-use Rattle.segbase.specs.Spots.{position}
-use Rattle.segstore.specs.Reading.{IsReadable}
-use Rattle.segstore.specs.Refilling.{Idles}
+use Rattle.segstore.specs.Words.{Idles, IsReadable}
 use Rattle.segwrite.specs.Writing.{IsInChain}
 use Rattle.segwrite.proofs.Places.{idle_bucket, same_position}
 

@@ -2,34 +2,24 @@
 use Rattle.std.proofs.Common.{◌≡◌, ℕ, ◌+◌, ◌*◌, ◌<◌, ◌≤◌, true, eqb, List, [], ◌∷◌, ◌++◌, Some, Result, Ok, Err, refl, sym, ap, ◌∙◌, subst, cond, ⊎_elim, arith}
 use Rattle.std.proofs.lemmas.Bool.{cases_eq, cond-true, cond-false, eq-eqb, ne_eqb}
 use Rattle.std.specs.Prelude.{OnOk, IfErr}
-use Rattle.segword.specs.SameItem.{IsSameItem}
-use Rattle.segcore.specs.declared.event.Event.{Event}
+use Rattle.segword.specs.Words.{IsSameItem, Shape}
 use Rattle.segcore.specs.declared.event.Event.TheVariants.{Put, Chained}
-use Rattle.segcore.specs.Bucket.{Content, nothing, item, next, copy, Bucket, last, fresh_position, bucket_at, is, acts}
-use Rattle.segcore.specs.Filled.{HasNoEmptyWord}
-use Rattle.segcore.specs.Kind.{fill, chain, May, HasBit}
-use Rattle.segcore.specs.Lawful.{IsLawful}
-use Rattle.segcore.specs.Overflow.{home, home_of}
-use Rattle.segcore.specs.Row.{frequency_of}
-use Rattle.segcore.specs.Word.{content_word, IsItemAt}
+use Rattle.segcore.specs.Words.{acts, Bucket, bucket_at, chain, Content, content_word, copy, Event}
+use Rattle.segcore.specs.Words.{fill, frequency_of, fresh_position, HasBit, HasNoEmptyWord, home}
+use Rattle.segcore.specs.Words.{home_of, is, IsItemAt, IsLawful, item, last, May, next, nothing}
 use Rattle.segcore.proofs.Chains.{chain_of}
 use Rattle.segcore.proofs.Coherent.{IsContent}
 use Rattle.segcore.proofs.Limits.{low_frequency}
 use Rattle.segcore.proofs.Meanwhile.{meanwhile}
 use Rattle.segcore.proofs.Quiet.{home_stays}
-use Rattle.segword.specs.declared.shape.Shape.{Shape}
-use Rattle.segbase.specs.declared.board.Board.{Board}
-use Rattle.segbase.specs.declared.pass.Pass.{Pass}
-use Rattle.segbase.specs.declared.place.Place.{Place}
-use Rattle.segbase.specs.Passes.{number, trace, IsPassOf, AddsAtOnce}
-use Rattle.segbase.specs.Spots.{cell_at, position, home_bucket, home_in, home_bucket_of}
-use Rattle.segbase.specs.Steps.{Missed}
+use Rattle.segbase.specs.Words.{AddsAtOnce, Board, cell_at, home_at, home_bucket, home_bucket_of}
+use Rattle.segbase.specs.Words.{home_in, IsPassOf, Missed, number, Pass, Place, position, trace}
 use Rattle.segcore.proofs.Exact.{content_at}
 use Rattle.segstore.proofs.Words.{at_place}
 use Rattle.segstore.proofs.Refills.{idles}
-use Rattle.segpass.specs.Calls.{memo}
+use Rattle.segpass.specs.Words.{memo}
 use Rattle.segwrite.specs.FirstEmpty.{AreTakenBefore}
-use Rattle.segwrite.specs.Growing.{bucket_seen, IsLast, home_at, HasSpare, HasJoined, Prepares, puts, joins, TriesToJoin, Joins}
+use Rattle.segwrite.specs.Growing.{bucket_seen, IsLast, HasSpare, HasJoined, Prepares, puts, joins, TriesToJoin, Joins}
 use Rattle.segwrite.proofs.Acting.{acted, prepares, idle_prepares, prepares_then}
 use Rattle.segwrite.proofs.Places.{same_position, chain_later}
 use Rattle.segwrite.proofs.Rising.{item_rose, earlier_yet}

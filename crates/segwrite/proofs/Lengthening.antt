@@ -1,18 +1,14 @@
 -- How many overflow buckets a call draws for a bucket whose chain grew: one, and for others none.
 use Rattle.std.proofs.Common.{◌≡◌, ◌≢◌, ℕ, ◌+◌, cond, eqb, List, [], ◌∷◌, ◌++◌, refl, sym, ◌∙◌, inl, arith}
 use Rattle.std.proofs.lemmas.Bool.{eq-eqb, ne_eqb}
-use Rattle.segword.specs.declared.shape.Shape.{Shape}
-use Rattle.segmodel.specs.declared.request.Request.{Request}
-use Rattle.segmodel.specs.Request.{key_of}
-use Rattle.segmodel.specs.Places.{bucket_of}
-use Rattle.segmodel.specs.History.{Begins}
-use Rattle.segcore.specs.declared.event.Event.{Event}
+use Rattle.segword.specs.Words.{Shape}
+use Rattle.segmodel.specs.Words.{Begins, bucket_of, key_of, Request}
 use Rattle.segcore.specs.declared.event.Event.TheVariants.{Drew}
-use Rattle.segcore.specs.Count.{drew}
+use Rattle.segcore.specs.Words.{drew, Event}
 use Rattle.segcore.proofs.Moments.{begins_on}
 use Rattle.segcore.proofs.Counts.{one_more}
-use Rattle.segbase.specs.declared.pass.Pass.{Pass}
-use Rattle.segpass.specs.Calls.{DrawsNothing}
+use Rattle.segbase.specs.Words.{Pass}
+use Rattle.segpass.specs.Words.{DrawsNothing}
 use Rattle.segwrite.specs.Full.{DrewInNeed, GrowsFor}
 use Rattle.segwrite.specs.Growing.{puts, lengthens}
 

@@ -1,25 +1,15 @@
 -- The exchange of the key's word, for an item or for nothing: it comes about, at the first try or after its frequency rose.
-use Rattle.std.proofs.Common.{◌≡◌, ◌≢◌, ℕ, ◌≤◌, false, List, [], ◌∷◌, ◌++◌, Option, refl, sym, ap, ◌∙◌, subst, ⊎_elim, append_assoc, append-nil, arith}
-use Rattle.segword.specs.declared.item.Item.{Item}
-use Rattle.segword.specs.SameItem.{IsSameItem}
-use Rattle.segmodel.specs.declared.request.Request.{Request}
-use Rattle.segmodel.specs.Request.{key_of}
-use Rattle.segmodel.specs.Places.{bucket_of}
-use Rattle.segcore.specs.declared.event.Event.{Event}
+use Rattle.std.proofs.Common.{◌≡◌, ◌≢◌, ℕ, ◌≤◌, false, List, [], ◌∷◌, ◌++◌, refl, sym, ap, ◌∙◌, subst, ⊎_elim, append_assoc, append-nil, arith}
+use Rattle.segword.specs.Words.{IsSameItem, Item}
+use Rattle.segmodel.specs.Words.{bucket_of, key_of, Request}
 use Rattle.segcore.specs.declared.event.Event.TheVariants.{Linked, Unlinked}
-use Rattle.segcore.specs.Event.{by, NoneBy}
-use Rattle.segcore.specs.Kind.{link, May, HasBit}
-use Rattle.segcore.specs.Lawful.{Fits, IsLawful, is_of_now}
+use Rattle.segcore.specs.Words.{by, Event, Fits, HasBit, is_of_now, IsLawful, Leaving, link, May, NoneBy}
 use Rattle.segcore.proofs.Quiet.{later}
-use Rattle.segbase.specs.declared.board.Board.{Board}
-use Rattle.segbase.specs.declared.pass.Pass.{Pass}
-use Rattle.segbase.specs.declared.place.Place.{Place}
-use Rattle.segbase.specs.Passes.{number, trace, IsPassOf, AddsEvents, AddsAtOnce}
-use Rattle.segbase.specs.Spots.{cell_at, position}
-use Rattle.segbase.specs.Steps.{Missed, IsFree, HasItemOf}
+use Rattle.segbase.specs.Words.{AddsAtOnce, AddsEvents, Board, cell_at, HasItemOf, IsFree, IsPassOf}
+use Rattle.segbase.specs.Words.{Missed, number, Pass, Place, position, trace}
 use Rattle.segbase.proofs.Moves.{stays, moved_then}
 use Rattle.segcore.proofs.Moments.{none_both}
-use Rattle.segwrite.specs.declared.find.Target.{Target}
+use Rattle.segwrite.specs.Words.{Target}
 use Rattle.segwrite.specs.Writing.{IsInChain, IsEarlier, IsTarget}
 use Rattle.segpass.proofs.UnderBit.{moved_bucket, moved_bit}
 use Rattle.segwrite.proofs.Places.{same_position, chain_later}
@@ -116,8 +106,8 @@ module _ (b : Board) (request : Request) (item : Item) where
 
 -- ---- a clear
 
-abbrev pub unlink_event : List ℕ → Option ℕ → ℕ → ℕ → Event
-unlink_event key evicted pass at = Unlinked pass key at evicted
+abbrev pub unlink_event : List ℕ → Leaving → ℕ → ℕ → Event
+unlink_event key why pass at = Unlinked pass key at why
 
-pub is_unlink : (key : List ℕ) (evicted : Option ℕ) → IsExchange (unlink_event key evicted)
-is_unlink key evicted = record { by_pass = λ pass at. refl; settled = λ pass at. refl }
+pub is_unlink : (key : List ℕ) (why : Leaving) → IsExchange (unlink_event key why)
+is_unlink key why = record { by_pass = λ pass at. refl; settled = λ pass at. refl }

@@ -4,32 +4,21 @@ use Rattle.std.proofs.lemmas.Bool.{cases_lt, ne_eqb}
 use mir.Val.{bool_byte}
 use Rattle.std.proofs.lemmas.Option.{none-some, same_Some}
 use Rattle.std.specs.Prelude.{MatchOption}
-use Rattle.segword.specs.declared.shape.Shape.{Shape}
-use Rattle.segword.specs.Shape.{IsValid}
-use Rattle.segmodel.specs.declared.entry.Cached.{Cached}
-use Rattle.segmodel.specs.Places.{bucket_of}
-use Rattle.segmodel.specs.Cache.{standing}
-use Rattle.segmodel.specs.History.{after}
-use Rattle.segcore.specs.declared.event.Event.{Event}
+use Rattle.segword.specs.Words.{IsValid, Shape}
+use Rattle.segmodel.specs.Words.{after, bucket_of, Cached, standing}
 use Rattle.segcore.specs.declared.cell.Cell.TheVariants.{OfBucket, OfOverflow}
-use Rattle.segcore.specs.Bucket.{Slot, Content, nothing, item, next, copy, Bucket, last, IsPosition, bucket_after}
-use Rattle.segcore.specs.ItemWord.{IsWordOf}
-use Rattle.segcore.specs.Lawful.{IsLawful}
-use Rattle.segcore.specs.Overflow.{home, home_of}
-use Rattle.segcore.specs.Word.{IsAt, IsItemAt}
+use Rattle.segcore.specs.Words.{Bucket, bucket_after, Content, copy, Event, home, home_of, IsAt}
+use Rattle.segcore.specs.Words.{IsItemAt, IsLawful, IsPosition, IsWordOf, item, last, next, nothing}
+use Rattle.segcore.specs.Words.{Slot}
 use Rattle.segcore.proofs.Chains.{chain_of}
 use Rattle.segcore.proofs.Coherent.{IsContent}
 use Rattle.segcore.proofs.Homes.{joins}
 use Rattle.segcore.proofs.Limits.{few_drawn, home_in}
 use Rattle.segcore.proofs.Standing.{coherent}
-use Rattle.segbase.specs.declared.board.Board.{Board}
-use Rattle.segbase.specs.declared.pass.Pass.{Pass}
-use Rattle.segbase.specs.declared.place.Place.{Place}
-use Rattle.segbase.specs.Passes.{trace, IsPassOf}
+use Rattle.segbase.specs.Words.{Board, cell_at, IsPassOf, IsPlace, IsWordOfContent, Pass, Place}
+use Rattle.segbase.specs.Words.{position, trace}
 use Rattle.segbase.specs.Passes as passes
-use Rattle.segbase.specs.Spots.{cell_at, position, IsPlace}
-use Rattle.segbase.specs.Steps.{IsWordOfContent}
-use Rattle.segwrite.specs.declared.find.Target.{Target}
+use Rattle.segwrite.specs.Words.{Target}
 use Rattle.segwrite.specs.Writing.{next_word, first_word, LeadsTo, LeadsNowhere, IsNext, Finds}
 use Rattle.segwrite.proofs.Places.{position_at, overflow_at}
 use Rattle.segwrite.proofs.Searching.{Searching, Passed, NoneBelow, IsFirstEmpty, position_of_item}

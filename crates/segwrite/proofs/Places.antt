@@ -1,24 +1,16 @@
 -- Places of a chain stay where they are, and a pass that only looks leaves all of its bucket as it is.
 use Rattle.std.proofs.Common.{◌≡◌, ℕ, ◌+◌, ◌-◌, ◌*◌, ◌<◌, Bool, true, false, cond, ltb, List, [], ◌++◌, Some, refl, sym, ap, ◌∙◌, subst, arith}
 use Rattle.std.proofs.lemmas.Bool.{cond-false, le-ltb}
-use Rattle.segword.specs.declared.shape.Shape.{Shape}
-use Rattle.segcore.specs.declared.event.Event.{Event}
+use Rattle.segword.specs.Words.{Shape}
 use Rattle.segcore.specs.declared.cell.Cell.TheVariants.{OfBucket, OfOverflow}
-use Rattle.segcore.specs.Bucket.{bucket_after}
-use Rattle.segcore.specs.Kind.{Step, HasBit}
-use Rattle.segcore.specs.Lawful.{IsLawful}
-use Rattle.segcore.specs.Overflow.{home, home_of}
-use Rattle.segcore.specs.Word.{IsAt, IsItemAt}
+use Rattle.segcore.specs.Words.{bucket_after, Event, HasBit, home, home_of, IsAt, IsItemAt}
+use Rattle.segcore.specs.Words.{IsLawful, Step}
 use Rattle.segcore.proofs.Cells.{at_stays}
 use Rattle.segcore.proofs.Quiet.{position_stays}
-use Rattle.segbase.specs.declared.board.Board.{Board}
-use Rattle.segbase.specs.declared.pass.Pass.{Pass}
-use Rattle.segbase.specs.declared.place.Place.{Place}
-use Rattle.segbase.specs.Passes.{number, trace, AddsEvents, AddsAtOnce, Stepped}
-use Rattle.segbase.specs.Spots.{cell_at, depth_of, position}
+use Rattle.segbase.specs.Words.{AddsAtOnce, AddsEvents, Board, cell_at, depth_of, number, Pass}
+use Rattle.segbase.specs.Words.{Place, position, Stepped, trace}
 use Rattle.segbase.proofs.Moves.{moved_then}
-use Rattle.segstore.specs.Reading.{OnlyLooks}
-use Rattle.segstore.specs.Refilling.{Idles}
+use Rattle.segstore.specs.Words.{Idles, OnlyLooks}
 use Rattle.segwrite.specs.Writing.{IsInChain}
 use Rattle.segpass.proofs.UnderBit.{moved_bucket, moved_bit}
 

@@ -3,40 +3,27 @@ use Rattle.std.proofs.Common.{◌≡◌, ◌≢◌, ℕ, ◌+◌, ◌/◌, ◌%�
 use Rattle.std.specs.Bool.{then_some}
 use Rattle.std.proofs.lemmas.Bool.{cases_Bool, cond-true, cond-false, eq-eqb, ne_eqb, false≢true}
 use Rattle.std.proofs.lemmas.Option.{same_Some, none-some}
-use Rattle.segword.specs.declared.shape.Shape.{Shape}
+use Rattle.segword.specs.Words.{Shape}
 use Rattle.segmodel.specs.declared.entry.Entry.TheVariants.{Wrote}
-use Rattle.segmodel.specs.declared.request.Request.{Request}
 use Rattle.segmodel.specs.declared.request.Request.TheVariants.{Set, Add, Replace, Cas, Delete}
-use Rattle.segmodel.specs.declared.request.Reply.{Reply}
 use Rattle.segmodel.specs.declared.request.Reply.TheVariants as reply
-use Rattle.segmodel.specs.declared.answer.WriteAnswer.{WriteAnswer}
 use Rattle.segmodel.specs.declared.answer.WriteAnswer.TheVariants as write
-use Rattle.segmodel.specs.Request.{key_of, value_of, adds_key, reply_to}
-use Rattle.segmodel.specs.Places.{bucket_of}
-use Rattle.segmodel.specs.Cache.{present, standing}
-use Rattle.segmodel.specs.History.{after}
-use Rattle.segmodel.specs.Serving.{reply_of_write}
-use Rattle.segcore.specs.declared.event.Event.{Event}
+use Rattle.segmodel.specs.Words.{adds_key, after, bucket_of, key_of, present, Reply, reply_of_write}
+use Rattle.segmodel.specs.Words.{reply_to, Request, standing, value_of, WriteAnswer}
 use Rattle.segcore.specs.declared.event.Event.TheVariants.{Replied}
 use Rattle.segcore.specs.Event as event
 use Rattle.segcore.specs.declared.cell.Cell.TheVariants.{OfBucket}
-use Rattle.segcore.specs.Bucket.{bucket_after}
-use Rattle.segcore.specs.Kind.{HasBit}
-use Rattle.segcore.specs.Lawful.{IsLawful, IsRefusal}
-use Rattle.segcore.specs.Word.{word}
+use Rattle.segcore.specs.Words.{bucket_after, Event, HasBit, IsLawful, IsRefusal, word}
 use Rattle.segcore.proofs.Buckets.{bit_small, unwritten_version}
 use Rattle.segcore.proofs.Standing.{coherent}
-use Rattle.segbase.specs.declared.board.Board.{Board}
-use Rattle.segbase.specs.declared.pass.Pass.{Pass}
-use Rattle.segbase.specs.Passes.{number, trace, seen, IsPassOf}
-use Rattle.segstore.specs.Refilling.{Idles}
-use Rattle.segwrite.specs.declared.find.Target.{Target}
+use Rattle.segbase.specs.Words.{Board, IsPassOf, number, Pass, seen, trace}
+use Rattle.segstore.specs.Words.{Idles}
+use Rattle.segwrite.specs.Words.{Target}
 use Rattle.segwrite.specs.declared.write.When.{When}
 use Rattle.segwrite.specs.declared.write.When.TheVariants as when
-use Rattle.segpass.specs.Quiet.{IsQuiet}
-use Rattle.segpass.specs.Calls.{GoesOn, TakesOneBit, DrawsNothing, ReadsNothing}
+use Rattle.segpass.specs.Words.{DrawsNothing, GoesOn, HasCleanBit, IsQuiet, ReadsNothing}
+use Rattle.segpass.specs.Words.{TakesOneBit, TookToWrite}
 use Rattle.segwrite.specs.Writes.{AddsReply, IsWriteAnswer}
-use Rattle.segpass.specs.Taking.{HasCleanBit, TookToWrite}
 use Rattle.segwrite.specs.Writing.{IsTarget, IsAbsent, own_word, Finds}
 use Rattle.segwrite.specs.Refusing.{request_of, IsToldBy, reply_now, RefusesUnderBit}
 use Rattle.segwrite.proofs.Ending.{IsEntry, plain_back, memo_back, entered_on, entered, entered_undrawn, entered_unread, entered_taking}
@@ -44,11 +31,12 @@ use Rattle.segpass.proofs.UnderBit.{moved_at}
 
 -- ---- which request it is, and which reply
 
-pub asks : (w : When) (key value : List ℕ) (request : Request) → request ≡ request_of w key value → (key_of request ≡ key) × (value_of request ≡ value) × (request ≡ request_of w (key_of request) (value_of request))
-asks when.Always key value request is = (ap key_of is, ap value_of is, is ∙ (λ i. Set (sym (ap key_of is) i) (sym (ap value_of is) i)))
-asks when.Absent key value request is = (ap key_of is, ap value_of is, is ∙ (λ i. Add (sym (ap key_of is) i) (sym (ap value_of is) i)))
-asks when.Present key value request is = (ap key_of is, ap value_of is, is ∙ (λ i. Replace (sym (ap key_of is) i) (sym (ap value_of is) i)))
-asks (when.Unchanged n) key value request is = (ap key_of is, ap value_of is, is ∙ (λ i. Cas (sym (ap key_of is) i) (sym (ap value_of is) i) n))
+pub asks : (w : When) (key value : List ℕ) (now : ℕ) (request : Request) → request ≡ request_of w key value now
+    → (key_of request ≡ key) × (value_of request ≡ value) × (request ≡ request_of w (key_of request) (value_of request) now)
+asks when.Always key value now request is = (ap key_of is, ap value_of is, is ∙ (λ i. Set (sym (ap key_of is) i) (sym (ap value_of is) i) now))
+asks when.Absent key value now request is = (ap key_of is, ap value_of is, is ∙ (λ i. Add (sym (ap key_of is) i) (sym (ap value_of is) i) now))
+asks when.Present key value now request is = (ap key_of is, ap value_of is, is ∙ (λ i. Replace (sym (ap key_of is) i) (sym (ap value_of is) i) now))
+asks (when.Unchanged n) key value now request is = (ap key_of is, ap value_of is, is ∙ (λ i. Cas (sym (ap key_of is) i) (sym (ap value_of is) i) n now))
 
 -- the search found the key's own word
 pub own_target : (b : Board) (key : List ℕ) (found : Option Target) (target : Target) (p : Pass) → Finds b key found p → own_word found ≡ Some target → IsTarget b key target p × (target.word ≢ 0)
@@ -70,8 +58,8 @@ own_none b key (Some found) p finds is = ⊎_elim
     finds.is
 
 -- an item of the key's own word stands
-pub own_stands : (b : Board) (key : List ℕ) (target : Target) (p : Pass) → IsPassOf b p → IsTarget b key target p → target.word ≢ 0 → is_some (present (after b.shape (seen p)) key) ≡ true
-own_stands b key target p is found some = ⊎_elim
+pub own_stands : (b : Board) (key : List ℕ) (now : ℕ) (target : Target) (p : Pass) → IsPassOf b p → IsTarget b key target p → target.word ≢ 0 → is_some (present (after b.shape (seen p)) now key) ≡ true
+own_stands b key now target p is found some = ⊎_elim
     (λ free. absurd (some free.0))
     (λ has.
     let z = b.shape in let named = has.0 in
@@ -80,27 +68,27 @@ own_stands b key target p is found some = ⊎_elim
     found.is
 
 -- so there is one exactly where the key is present
-pub own_where : (b : Board) (key : List ℕ) (found : Option Target) (p : Pass) → IsPassOf b p → Finds b key found p → is_some (own_word found) ≡ is_some (present (after b.shape (seen p)) key)
-own_where b key found p is finds = by (own_word found) refl
+pub own_where : (b : Board) (key : List ℕ) (now : ℕ) (found : Option Target) (p : Pass) → IsPassOf b p → Finds b key found p → is_some (own_word found) ≡ is_some (present (after b.shape (seen p)) now key)
+own_where b key now found p is finds = by (own_word found) refl
   where
-    by : (own : Option Target) → own_word found ≡ own → is_some own ≡ is_some (present (after b.shape (seen p)) key)
+    by : (own : Option Target) → own_word found ≡ own → is_some own ≡ is_some (present (after b.shape (seen p)) now key)
     by None same = sym (ap is_some (own_none b key found p finds same))
-    by (Some target) same = let own = own_target b key found target p finds same in sym (own_stands b key target p is own.0 own.1)
+    by (Some target) same = let own = own_target b key found target p finds same in sym (own_stands b key now target p is own.0 own.1)
 
 -- only a set or an add is stored under an absent key
 pub adds_absent : (request : Request) (version : ℕ) → reply_to request false version ≡ reply.Stored → adds_key request false ≡ true
-adds_absent (Set key value) version is = refl
-adds_absent (Add key value) version is = refl
-adds_absent (Replace key value) version is = absurd (let e : reply.NotStored ≡ reply.Stored = is in cc)
-adds_absent (Cas key value expected) version is = absurd (let e : reply.NotFound ≡ reply.Stored = is in cc)
-adds_absent (Delete key) version is = absurd (let e : reply.NotFound ≡ reply.Stored = is in cc)
+adds_absent (Set key value now) version is = refl
+adds_absent (Add key value now) version is = refl
+adds_absent (Replace key value now) version is = absurd (let e : reply.NotStored ≡ reply.Stored = is in cc)
+adds_absent (Cas key value expected now) version is = absurd (let e : reply.NotFound ≡ reply.Stored = is in cc)
+adds_absent (Delete key now) version is = absurd (let e : reply.NotFound ≡ reply.Stored = is in cc)
 
 -- a cas of a present key is refused where the version is another one
-pub told_by_version : (request : Request) (expected version : ℕ) (is_present : Bool) → request ≡ request_of (when.Unchanged expected) (key_of request) (value_of request) → is_present ≡ true
+pub told_by_version : (request : Request) (expected now version : ℕ) (is_present : Bool) → request ≡ request_of (when.Unchanged expected) (key_of request) (value_of request) now → is_present ≡ true
     → IsToldBy (reply_to request is_present version) (then_some (not (eqb version expected)) write.Exists)
-told_by_version request expected version is_present is there =
+told_by_version request expected now version is_present is there =
     subst (λ r. IsToldBy (reply_to r is_present version) (then_some (not (eqb version expected)) write.Exists)) (sym is)
-    (subst (λ t. IsToldBy (reply_to (Cas (key_of request) (value_of request) expected) t version) (then_some (not (eqb version expected)) write.Exists)) (sym there) (by (eqb version expected)))
+    (subst (λ t. IsToldBy (reply_to (Cas (key_of request) (value_of request) expected now) t version) (then_some (not (eqb version expected)) write.Exists)) (sym there) (by (eqb version expected)))
   where
     by : (same : Bool) → IsToldBy (cond same reply.Stored reply.Exists) (then_some (not same) write.Exists)
     by true = refl
@@ -114,15 +102,15 @@ unwritten_is z h bucket few l none =
     let x : word z h (OfBucket bucket 0) / 2 ^ 32 ≡ (z.first_version + (bucket_after z h bucket).version) % 2 ^ 32 = omega arith in
     sym x ∙ unwritten_version z h bucket few l none
 
-pub told_by_look : (b : Board) (request : Request) (expected version bucket : ℕ) (p q : Pass) → b.shape.first_version < 2 ^ 32 → IsPassOf b p → HasCleanBit b p bucket → bucket ≡ bucket_of b.shape (key_of request)
-    → is_some (present (after b.shape (seen p)) (key_of request)) ≡ true → request ≡ request_of (when.Unchanged expected) (key_of request) (value_of request) → Idles b p q
+pub told_by_look : (b : Board) (request : Request) (expected now version bucket : ℕ) (p q : Pass) → b.shape.first_version < 2 ^ 32 → IsPassOf b p → HasCleanBit b p bucket → bucket ≡ bucket_of b.shape (key_of request)
+    → is_some (present (after b.shape (seen p)) now (key_of request)) ≡ true → request ≡ request_of (when.Unchanged expected) (key_of request) (value_of request) now → Idles b p q
     → version ≡ (b.shape.first_version + (bucket_after b.shape (trace p) bucket).version) % 2 ^ 32 → IsToldBy (reply_now b q request) (then_some (not (eqb version expected)) write.Exists)
-told_by_look b request expected version bucket p q few is clean home there asked idles read =
+told_by_look b request expected now version bucket p q few is clean home there asked idles read =
     let z = b.shape in let k = bucket_of z (key_of request) in
     let same = moved_at b [] p q (key_of request) idles.moved (subst (λ n. HasBit z (trace p) (number p) n) home clean.bit) tt in
-    let now : (after z (seen q)).version k ≡ version = same.version ∙ (ap (after z (seen p)).version (sym home) ∙ (sym (unwritten_is z (trace p) bucket few is.lawful clean.unwritten) ∙ sym read)) in
-    subst (λ n. IsToldBy (reply_now b q request) (then_some (not (eqb n expected)) write.Exists)) now
-    (told_by_version request expected ((after z (seen q)).version k) (is_some (present (after z (seen q)) (key_of request))) asked (ap is_some same.stands ∙ there))
+    let read_now : (after z (seen q)).version k ≡ version = same.version ∙ (ap (after z (seen p)).version (sym home) ∙ (sym (unwritten_is z (trace p) bucket few is.lawful clean.unwritten) ∙ sym read)) in
+    subst (λ n. IsToldBy (reply_now b q request) (then_some (not (eqb n expected)) write.Exists)) read_now
+    (told_by_version request expected now ((after z (seen q)).version k) (is_some (present (after z (seen q)) now (key_of request))) asked (ap is_some same.stands ∙ there))
 
 -- ---- the answer
 

@@ -1,25 +1,13 @@
 -- Under a bucket's bit the words of its items change in their frequencies alone, which only rise.
 use Rattle.std.proofs.Common.{◌≡◌, ℕ, ◌^◌, ◌<◌, ◌≤◌, List, [], ◌∷◌, ◌++◌, sym, ap, ◌∙◌, subst, arith}
-use Rattle.segword.specs.declared.shape.Shape.{Shape}
-use Rattle.segword.specs.Shape.{IsValid}
-use Rattle.segword.specs.SameItem.{IsSameItem}
-use Rattle.segmodel.specs.Places.{tag_of}
-use Rattle.segcore.specs.declared.cell.Cell.{Cell}
-use Rattle.segcore.specs.declared.event.Event.{Event}
-use Rattle.segcore.specs.Bucket.{Slot, item, bucket_after}
-use Rattle.segcore.specs.ItemWord.{packed}
-use Rattle.segcore.specs.Kind.{HasBit}
-use Rattle.segcore.specs.Lawful.{IsLawful, NoneAt}
-use Rattle.segcore.specs.Row.{frequency_of}
-use Rattle.segcore.specs.Word.{content_word, word, IsItemAt}
+use Rattle.segword.specs.Words.{IsSameItem, IsValid, Shape}
+use Rattle.segmodel.specs.Words.{tag_of}
+use Rattle.segcore.specs.Words.{bucket_after, Cell, content_word, Event, frequency_of, HasBit}
+use Rattle.segcore.specs.Words.{IsItemAt, IsLawful, item, NoneAt, packed, Slot, word}
 use Rattle.segcore.proofs.Limits.{low_row, low_segment, low_frequency}
 use Rattle.segcore.proofs.Meanwhile.{one_rise}
 use Rattle.segcore.proofs.Standing.{coherent}
-use Rattle.segbase.specs.declared.board.Board.{Board}
-use Rattle.segbase.specs.declared.pass.Pass.{Pass}
-use Rattle.segbase.specs.declared.place.Place.{Place}
-use Rattle.segbase.specs.Passes.{number, trace, AddsEvents}
-use Rattle.segbase.specs.Spots.{cell_at, position}
+use Rattle.segbase.specs.Words.{AddsEvents, Board, cell_at, number, Pass, Place, position, trace}
 use Rattle.segbase.proofs.Standing.{some_tag, tag_of_word, place_of_word}
 use Rattle.segcore.proofs.Exact.{content_at}
 use Rattle.segwrite.specs.Writing.{IsInChain, IsEarlier}

@@ -2,32 +2,20 @@
 use Rattle.std.proofs.Common.{◌≡◌, ◌≢◌, ◌⊎◌, ℕ, ◌+◌, List, [], ◌∷◌, ◌++◌, Option, Some, None, refl, sym, ap, ◌∙◌, subst, inl, inr, append-nil}
 use Rattle.std.proofs.lemmas.Bool.{ne_eqb}
 use Rattle.std.proofs.lemmas.Option.{none-some, same_Some}
-use Rattle.segword.specs.declared.shape.Shape.{Shape}
-use Rattle.segmodel.specs.declared.entry.Entry.{Entry}
-use Rattle.segmodel.specs.Places.{bucket_of}
-use Rattle.segmodel.specs.Cache.{standing}
-use Rattle.segmodel.specs.History.{after, IsSameAt}
-use Rattle.segcore.specs.declared.event.Event.{Event}
+use Rattle.segword.specs.Words.{Shape}
+use Rattle.segmodel.specs.Words.{after, bucket_of, Entry, IsSameAt, standing}
 use Rattle.segcore.specs.declared.event.Event.TheVariants.{Drew, Put}
 use Rattle.segcore.specs.Event as event
-use Rattle.segcore.specs.Count.{drew}
-use Rattle.segcore.specs.Bucket.{Bucket, last}
-use Rattle.segcore.specs.Filled.{HasNoEmptyWord}
-use Rattle.segcore.specs.Kind.{HasBit}
-use Rattle.segcore.specs.Lawful.{NoneAt}
-use Rattle.segbase.specs.declared.board.Board.{Board}
-use Rattle.segbase.specs.declared.pass.Pass.{Pass}
-use Rattle.segbase.specs.declared.place.Place.{Place}
-use Rattle.segbase.specs.Passes.{number, trace, seen, IsPassOf, AddsEvents}
+use Rattle.segcore.specs.Words.{Bucket, drew, Event, HasBit, HasNoEmptyWord, last, NoneAt}
+use Rattle.segbase.specs.Words.{AddsEvents, Board, IsPassOf, number, Pass, Place, seen, trace}
 use Rattle.segbase.proofs.Moves.{moved_on, moved_then}
-use Rattle.segstore.specs.Refilling.{Idles}
+use Rattle.segstore.specs.Words.{Idles}
 use Rattle.segstore.proofs.Keeping.{AreCalm}
 use Rattle.segwrite.specs.declared.find.Found.{Found}
 use Rattle.segwrite.specs.declared.find.Found.TheVariants.{Word, Full}
-use Rattle.segwrite.specs.declared.find.Target.{Target}
-use Rattle.segpass.specs.Calls.{memo}
+use Rattle.segwrite.specs.Words.{Target}
+use Rattle.segpass.specs.Words.{HasCleanBit, memo}
 use Rattle.segwrite.specs.Full.{DrewInNeed}
-use Rattle.segpass.specs.Taking.{HasCleanBit}
 use Rattle.segwrite.specs.Writing.{IsTarget, HasFullChain, Finds}
 use Rattle.segwrite.specs.Growing.{bucket_seen, IsLast, Searches, target_of, puts, lengthens, CannotGrow, Lengthens, IsAsFound, MakesRoom}
 use Rattle.segwrite.proofs.Lengthening.{in_need_wider, longer_own, longer_other}

@@ -2,25 +2,18 @@
 use Rattle.std.proofs.Common.{◌≡◌, ◌≢◌, ◌⊎◌, ℕ, ◌+◌, ◌-◌, ◌/◌, ◌<◌, ◌≤◌, Bool, true, false, ltb, is_some, List, [], Option, Some, None, refl, sym, ap, ◌∙◌, subst, inl, inr, ⊎_elim, arith}
 use mir.Val.{bool_byte}
 use Rattle.std.proofs.lemmas.Bool.{cases_eq, cond-true, lt-ltb, false≢true}
-use Rattle.segword.specs.declared.shape.Shape.{Shape}
-use Rattle.segmodel.specs.Places.{bucket_of}
-use Rattle.segcore.specs.declared.event.Event.{Event}
+use Rattle.segword.specs.Words.{Shape}
+use Rattle.segmodel.specs.Words.{bucket_of}
 use Rattle.segcore.specs.declared.cell.Cell.TheVariants.{OfBucket, OfOverflow}
-use Rattle.segcore.specs.Bucket.{Slot, Content, nothing, item, next, copy, Bucket, IsPosition, bucket_after}
-use Rattle.segcore.specs.Kind.{HasBit}
-use Rattle.segcore.specs.Lawful.{IsLawful}
-use Rattle.segcore.specs.Word.{IsAt, IsItemAt}
+use Rattle.segcore.specs.Words.{Bucket, bucket_after, Content, copy, Event, HasBit, IsAt, IsItemAt}
+use Rattle.segcore.specs.Words.{IsLawful, IsPosition, item, next, nothing, Slot}
 use Rattle.segcore.proofs.Chains.{chain_of}
 use Rattle.segcore.proofs.Coherent.{IsContent}
-use Rattle.segbase.specs.declared.board.Board.{Board}
-use Rattle.segbase.specs.declared.pass.Pass.{Pass}
-use Rattle.segbase.specs.declared.place.Place.{Place}
-use Rattle.segbase.specs.Passes.{number, trace, IsPassOf}
-use Rattle.segbase.specs.Spots.{cell_at, position}
-use Rattle.segbase.specs.Steps.{IsFree, HasItemOf, IsWordOfContent}
-use Rattle.segstore.specs.Refilling.{Idles}
+use Rattle.segbase.specs.Words.{Board, cell_at, HasItemOf, IsFree, IsPassOf, IsWordOfContent}
+use Rattle.segbase.specs.Words.{number, Pass, Place, position, trace}
+use Rattle.segstore.specs.Words.{Idles}
 use Rattle.segstore.proofs.Refills.{idles}
-use Rattle.segwrite.specs.declared.find.Target.{Target}
+use Rattle.segwrite.specs.Words.{Target}
 use Rattle.segwrite.specs.FirstEmpty.{AreTakenBefore}
 use Rattle.segwrite.specs.Writing.{IsInChain, IsFirst, Updates}
 use Rattle.segwrite.proofs.Places.{idles_then, idle_bucket, position_at, same_position, chain_later}

@@ -1,41 +1,29 @@
 -- The answers of a write that stored, and of one that found its bucket full.
 use Rattle.std.proofs.Common.{◌≡◌, ◌≢◌, ℕ, true, false, eqb, List, [], ◌∷◌, ◌++◌, ◌+◌, Some, None, refl, sym, ap, ◌∙◌, inl, inr, ⊎_elim, append_assoc, arith}
 use Rattle.std.proofs.lemmas.Bool.{cond-true, eq-eqb, ne_eqb}
-use Rattle.segword.specs.Row.{row_of}
-use Rattle.segmodel.specs.declared.entry.Entry.{Entry}
+use Rattle.segword.specs.Words.{row_of}
 use Rattle.segmodel.specs.declared.entry.Entry.TheVariants.{Wrote}
-use Rattle.segmodel.specs.declared.request.Request.{Request}
 use Rattle.segmodel.specs.declared.request.Reply.TheVariants.{Stored}
-use Rattle.segmodel.specs.Request.{key_of, value_of, adds_key}
-use Rattle.segmodel.specs.Places.{bucket_of}
-use Rattle.segmodel.specs.Cache.{standing}
-use Rattle.segmodel.specs.History.{after}
-use Rattle.segcore.specs.declared.event.Event.{Event}
+use Rattle.segmodel.specs.Words.{adds_key, after, bucket_of, Entry, key_of, Request, standing}
+use Rattle.segmodel.specs.Words.{value_of}
 use Rattle.segcore.specs.declared.event.Event.TheVariants.{Freed}
 use Rattle.segcore.specs.Event as event
-use Rattle.segcore.specs.Count.{drew}
-use Rattle.segcore.specs.Bucket.{bucket_after}
-use Rattle.segcore.specs.Kind.{May, release}
-use Rattle.segcore.specs.Lawful.{NoneAt}
+use Rattle.segcore.specs.Words.{bucket_after, drew, Event, May, NoneAt, release}
 use Rattle.segcore.proofs.KeyCounts.{wide}
 use Rattle.segcore.proofs.Orderly.{all_drawn_marked}
 use Rattle.segcore.proofs.Moments.{begins_on, marked_begins}
-use Rattle.segbase.specs.declared.board.Board.{Board}
 use Rattle.segbase.specs.declared.pass.Plain.{Plain}
-use Rattle.segbase.specs.declared.pass.Pass.{Pass}
-use Rattle.segbase.specs.Passes.{number, trace, marked, seen, IsPassOf, AddsEvents, AddsAtOnce}
+use Rattle.segbase.specs.Words.{AddsAtOnce, AddsEvents, Board, IsPassOf, marked, number, Pass}
+use Rattle.segbase.specs.Words.{trace, with_own}
 use Rattle.segbase.specs.Passes as passes
 use Rattle.segbase.proofs.Moves.{moved_on, moved_then}
-use Rattle.segstore.specs.Rows.{fills}
-use Rattle.segstore.specs.Segments.{KeepsSegments}
-use Rattle.segstore.specs.Refilling.{Idles}
-use Rattle.segstore.proofs.Keeping.{same_plain, keeps_plain}
-use Rattle.segpass.specs.Quiet.{IsQuiet}
-use Rattle.segpass.specs.Calls.{memo, GoesOn, ChangesNothing, TakesOneBit, DrawsNothing, ReadsNothing, AddsEntry}
+use Rattle.segstore.specs.Words.{fills, Idles, KeepsSegments}
+use Rattle.segstore.proofs.Keeping.{keeps_plain}
+use Rattle.segpass.specs.Words.{AddsEntry, ChangesNothing, DrawsNothing, GoesOn, HasCleanBit}
+use Rattle.segpass.specs.Words.{IsQuiet, memo, ReadsNothing, TakesOneBit, TookToWrite}
 use Rattle.segwrite.specs.Full.{IsFull, WasFull, GrowsFor}
-use Rattle.segwrite.specs.Writes.{UsesRow}
+use Rattle.segwrite.specs.Writes.{one_more, UsesRow}
 use Rattle.segwrite.specs.FirstEmpty.{TookFirstEmpty}
-use Rattle.segpass.specs.Taking.{HasCleanBit, TookToWrite}
 use Rattle.segwrite.specs.Writing.{HasFullChain}
 use Rattle.segwrite.specs.Storing.{StoresUnderBit, stores}
 use Rattle.segwrite.specs.Growing.{CannotGrow}
@@ -118,16 +106,11 @@ module _ (b : Board) (key : List ℕ) (p q f s : Pass) (quiet : IsQuiet b p) (to
 -- ---- stored
 
 uses_around : (segment : ℕ) (p f r s : Pass) → UsesRow segment f r → f.plain ≡ p.plain → s.plain ≡ r.plain → memo f ≡ memo p → memo s ≡ memo r → UsesRow segment p s
-uses_around segment p f r s u before behind m n =
-    let old = same_plain p f before in let new = same_plain r s behind in record {
-      current = (sym old.1 ∙ u.current.0, new.1 ∙ u.current.1);
-      used = λ used is. new.0.used segment ∙ u.used used (old.0.used segment ∙ is);
-      others = λ other apart. new.0.used other ∙ (u.others other apart ∙ old.0.used other);
-      states = λ other. new.0.state other ∙ (u.states other ∙ old.0.state other);
-      locked = ap (λ (x : Plain). x.locked) behind ∙ (u.locked ∙ ap (λ (x : Plain). x.locked) before);
-      is_holding = ap (λ (x : Plain). x.is_holding) behind ∙ (u.is_holding ∙ ap (λ (x : Plain). x.is_holding) before);
-      memo = n ∙ (u.memo ∙ m);
-    }
+uses_around segment p f r s u before behind m n = record {
+  current = ap (λ (x : Plain). x.current) (sym before) ∙ u.current;
+  plain = behind ∙ (u.plain ∙ ap (with_own segment one_more) before);
+  memo = n ∙ (u.memo ∙ m);
+}
 
 module _ (b : Board) (request : Request) (segment row : ℕ) (p q f r s : Pass) (quiet : IsQuiet b p) (took : TookToWrite b (bucket_of b.shape (key_of request)) p q) (before : List Event) (ready : IsReady b (bucket_of b.shape (key_of request)) before q f)
     (done : StoresUnderBit b request segment row f r) (keeps : KeepsSegments b r) (uses : UsesRow segment f r)
@@ -161,7 +144,7 @@ module _ (b : Board) (request : Request) (segment row : ℕ) (p q f r s : Pass) 
 
   pub stored_goes_on : GoesOn b p s
   stored_goes_on = write_goes_on b home p q quiet took r s own (entry ∷ []) true moved elsewhere still adds freed free
-      uses_all.memo uses_all.locked uses_all.is_holding (keeps_plain b (Freed (number r) home true ∷ []) r s freed.moved (tt, tt) plain keeps)
+      uses_all.memo (ap (λ (x : Plain). x.locked) uses_all.plain) (ap (λ (x : Plain). x.is_holding) uses_all.plain) (keeps_plain b (Freed (number r) home true ∷ []) r s freed.moved (tt, tt) plain keeps)
 
   pub stored_answer : AddsEntry (Wrote (number p) request Stored (Some segment)) p s × UsesRow segment p s
   stored_answer =

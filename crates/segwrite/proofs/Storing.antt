@@ -1,36 +1,28 @@
 -- Storing under the bit: the row, the item word that names it, and the count of used rows.
-use Rattle.std.proofs.Common.{◌≡◌, ◌≢◌, ℕ, ◌+◌, List, [], ◌∷◌, Some, refl, sym, ap, ◌∙◌, subst, inl, inr, ⊎_elim}
+use Rattle.std.proofs.Common.{◌≡◌, ℕ, ◌+◌, List, [], ◌∷◌, Option, Some, None, option_map, refl, sym, ap, ◌∙◌, subst, inl, inr, ⊎_elim}
 use Rattle.std.proofs.lemmas.Bool.{eq-eqb}
+use Rattle.std.proofs.lemmas.Option.{same_Some}
 use Rattle.std.specs.Prelude.{is_some}
-use Rattle.atomic_table.specs.declared.shared.Seat.{Seat}
-use Rattle.segword.specs.Bytes.{IsKey, IsValue}
-use Rattle.segword.specs.Row.{row_of}
-use Rattle.segmodel.specs.declared.request.Request.{Request}
+use Rattle.segword.specs.Words.{IsKey, IsValue, row_of}
 use Rattle.segmodel.specs.declared.request.Reply.TheVariants.{Stored}
-use Rattle.segmodel.specs.Request.{key_of, value_of, reply_to}
-use Rattle.segmodel.specs.Places.{bucket_of}
-use Rattle.segmodel.specs.Cache.{reply_in}
-use Rattle.segmodel.specs.History.{after, IsSameAt}
-use Rattle.segcore.specs.declared.event.Event.{Event}
+use Rattle.segmodel.specs.Words.{after, bucket_of, IsSameAt, key_of, reply_in, reply_to, Request}
+use Rattle.segmodel.specs.Words.{value_of}
 use Rattle.segcore.specs.declared.event.Event.TheVariants.{Linked}
-use Rattle.segcore.specs.Bucket.{acts, bucket_after}
-use Rattle.segcore.specs.Kind.{HasBit}
-use Rattle.segcore.specs.Lawful.{IsOwnRow, Fits, NoneAt}
-use Rattle.segcore.specs.Row.{Holds, row_after}
-use Rattle.segbase.specs.declared.board.Board.{Board}
-use Rattle.segbase.specs.declared.law.Sight.{Sight}
-use Rattle.segbase.specs.declared.pass.Pass.{Pass}
-use Rattle.segbase.specs.Passes.{number, trace, seen, IsPassOf, AddsEvents, AddsAtOnce}
-use Rattle.segbase.specs.Plain.{current_of, state_of, used_of, SameOwner}
-use Rattle.segbase.specs.Spots.{position}
+use Rattle.segcore.specs.Words.{acts, bucket_after, Event, Fits, HasBit, Holds, IsOwnRow, NoneAt}
+use Rattle.segcore.specs.Words.{row_after}
+use Rattle.segbase.specs.declared.pass.Plain.{Plain}
+use Rattle.segbase.specs.Words.{AddsAtOnce, AddsEvents, Board, IsPassOf, number, own_segment}
+use Rattle.segbase.specs.Words.{OwnSegment, Pass, position, seen, trace, used_in, with_own}
+use Rattle.segbase.specs.Words.{with_used}
 use Rattle.segbase.proofs.Moves.{moved_then}
+use Rattle.segbase.proofs.Known.{counted, own_alike, owner_counted}
 use Rattle.segbase.proofs.Owned.{moved_still}
-use Rattle.segstore.specs.Rows.{fills}
-use Rattle.segstore.specs.Segments.{KeepsSegments}
-use Rattle.segstore.proofs.Keeping.{seat_trace, same_plain, keeps_plain, keeps_linked}
-use Rattle.segwrite.specs.declared.find.Target.{Target}
+use Rattle.segstore.specs.Words.{fills, KeepsSegments}
+use Rattle.segstore.proofs.Keeping.{same_used, keeps_plain, keeps_linked}
+use Rattle.segwrite.specs.Words.{Target}
 use Rattle.segwrite.specs.FirstEmpty.{AreTakenBefore}
-use Rattle.segpass.specs.Taking.{HasCleanBit}
+use Rattle.segpass.specs.Words.{HasCleanBit, memo}
+use Rattle.segwrite.specs.Writes.{one_more, UsesRow}
 use Rattle.segwrite.specs.Writing.{IsTarget}
 use Rattle.segwrite.specs.Storing.{IsNextRow, StoresUnderBit, stores, HasWritten}
 use Rattle.segwrite.proofs.Filling.{fills_calm}
@@ -94,32 +86,47 @@ module _ (b : Board) (request : Request) (target : Target) (segment row : ℕ) (
     linked_bucket = did_acts b (linked_by b request segment row target.place q) q r home d (eq-eqb home home refl) clean.bit
 
     -- what is so once the row is counted as used
-    pub has_written : (s : Pass) → s.seat ≡ r.seat → HasWritten b s home
-    has_written s seat =
-        let at = seat_trace r s seat in let same = ap (λ h. bucket_after b.shape h home) at ∙ linked_bucket in
-        let one = ap (λ (x : Seat (Unit {0}) Sight). x.me.0.view.number) seat ∙ d.moved.same in record {
-          bit = (clean.bit.0, ap (λ u. u.holder) same ∙ (clean.bit.1 ∙ ap Some (sym one)));
-          written = ap (λ u. u.written) same;
-          undrawn = ap (λ u. u.spare) same ∙ clean.undrawn;
-        }
+    pub has_written : (x : Plain) → HasWritten b (record r { plain = x }) home
+    has_written x = record {
+      bit = (clean.bit.0, ap (λ u. u.holder) linked_bucket ∙ (clean.bit.1 ∙ ap Some (sym d.moved.same)));
+      written = ap (λ u. u.written) linked_bucket;
+      undrawn = ap (λ u. u.spare) linked_bucket ∙ clean.undrawn;
+    }
 
 -- ---- all of it
 
-module _ (b : Board) (request : Request) (target : Target) (segment row : ℕ) (p q r s : Pass) (next : IsNextRow b segment row p)
-    (m : AddsEvents b (fills (number p) segment row (row_of (key_of request) (value_of request)) 8) p q) (d : AddsAtOnce b (linked_by b request segment row target.place q ∷ []) q r)
-    (seat : s.seat ≡ r.seat) (owner_is : SameOwner r s) where
+-- one row more is used where so many were
+one_used : (segment row : ℕ) (x : Plain) → used_in (own_segment x segment) ≡ Some row → with_used segment (row + 1) x ≡ with_own segment one_more x
+one_used segment row x used = own_alike x segment (counted (row + 1)) one_more (same (own_segment x segment) used)
+  where
+    same : (o : Option OwnSegment) → used_in o ≡ Some row → option_map (counted (row + 1)) o ≡ option_map one_more o
+    same None is = refl
+    same (Some own) is = ap (λ n. Some (counted (n + 1) own)) (sym (same_Some own.used row is))
+
+module _ (b : Board) (request : Request) (target : Target) (segment row : ℕ) (p q r : Pass) (next : IsNextRow b segment row p)
+    (m : AddsEvents b (fills (number p) segment row (row_of (key_of request) (value_of request)) 8) p q) (d : AddsAtOnce b (linked_by b request segment row target.place q ∷ []) q r) where
   abbrev at : ℕ
   at = position b.shape (trace q) target.place
 
-  pub stores_all : HasCleanBit b q (bucket_of b.shape (key_of request)) → IsTarget b (key_of request) target q → StoresUnderBit b request segment row p s
+  -- with the row counted as used
+  abbrev after_all : Pass
+  after_all = record r { plain = with_used segment (row + 1) r.plain }
+
+  pub stores_all : HasCleanBit b q (bucket_of b.shape (key_of request)) → IsTarget b (key_of request) target q → StoresUnderBit b request segment row p after_all
   stores_all clean found =
       let own = fills (number p) segment row (row_of (key_of request) (value_of request)) 8 in
       let both : AddsEvents b (stores (number p) request segment row at) p r = subst (λ n. AddsEvents b (Linked n request segment row at ∷ own) p r) m.same (moved_then b own (linked_by b request segment row target.place q ∷ []) p q r m d.moved) in
-      (at, moved_still b (stores (number p) request segment row at) p r s both seat owner_is, took_first b request target segment row own p q r s m m.pass clean.bit found d (seat_trace r s seat))
+      (at, moved_still b (stores (number p) request segment row at) p r after_all.plain both (owner_counted r.plain segment (row + 1)), took_first b request target segment row own p q r after_all m m.pass clean.bit found d refl)
 
-  pub keeps_all : q.plain ≡ p.plain → r.plain ≡ q.plain → used_of s segment ≡ Some (row + 1) → ((t : ℕ) → t ≢ segment → used_of s t ≡ used_of r t) → ((t : ℕ) → state_of s t ≡ state_of r t) → current_of s ≡ current_of r
-      → KeepsSegments b p → KeepsSegments b s
-  keeps_all first second used others states current k =
-      let kq = keeps_plain b (fills (number p) segment row (row_of (key_of request) (value_of request)) 8) p q m (fills_calm (number p) segment row (row_of (key_of request) (value_of request)) 8) first k in
-      let same = same_plain p q first in
-      keeps_linked b request q r s segment row at d second (same.1 ∙ next.current) (same.0.used segment ∙ next.used) next.fits seat used others states current m.pass kq
+  module _ (first : q.plain ≡ p.plain) (second : r.plain ≡ q.plain) where
+    pub keeps_all : KeepsSegments b p → KeepsSegments b after_all
+    keeps_all k =
+        let kq = keeps_plain b (fills (number p) segment row (row_of (key_of request) (value_of request)) 8) p q m (fills_calm (number p) segment row (row_of (key_of request) (value_of request)) 8) first k in
+        keeps_linked b request q r segment row at d second (ap (λ (x : Plain). x.current) first ∙ next.current) (same_used p q segment first ∙ next.used) next.fits m.pass kq
+
+    pub uses_all : memo q ≡ memo p → memo r ≡ memo q → UsesRow segment p after_all
+    uses_all minds same = record {
+      current = next.current;
+      plain = one_used segment row r.plain (same_used p r segment (second ∙ first) ∙ next.used) ∙ ap (with_own segment one_more) (second ∙ first);
+      memo = same ∙ minds;
+    }

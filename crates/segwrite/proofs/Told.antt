@@ -2,25 +2,18 @@
 use Rattle.std.proofs.Common.{◌≡◌, ℕ, suc, ◌^◌, ◌<◌, ◌==◌, List, [], ◌∷◌, ◌++◌, length, Option, Some, None, refl, sym, ap, ◌∙◌, subst, ⊎_elim, arith}
 use Rattle.std.proofs.lemmas.Bool.{cases_Bool, cond-true, cond-false}
 use Rattle.std.proofs.lemmas.Option.{same_Some, none-some}
-use Rattle.segmodel.specs.declared.request.Request.{Request}
 use Rattle.segmodel.specs.declared.request.Request.TheVariants.{Set, Cas, Delete}
-use Rattle.segmodel.specs.declared.request.Reply.{Reply}
 use Rattle.segmodel.specs.declared.request.Reply.TheVariants as reply
-use Rattle.segmodel.specs.declared.answer.WriteAnswer.{WriteAnswer}
 use Rattle.segmodel.specs.declared.answer.WriteAnswer.TheVariants as write
-use Rattle.segmodel.specs.declared.answer.DeleteAnswer.{DeleteAnswer}
 use Rattle.segmodel.specs.declared.answer.DeleteAnswer.TheVariants as delete
-use Rattle.segmodel.specs.declared.entry.Entry.{Entry}
 use Rattle.segmodel.specs.declared.entry.Entry.TheVariants.{Wrote}
-use Rattle.segmodel.specs.Cache.{reads_version}
-use Rattle.segmodel.specs.History.{after, Begins, IsLegal, pass_of, mine}
-use Rattle.segmodel.specs.Serving.{reply_of_write, reply_of_delete}
+use Rattle.segmodel.specs.Words.{after, Begins, DeleteAnswer, Entry, IsLegal, mine, pass_of}
+use Rattle.segmodel.specs.Words.{reads_version, Reply, reply_of_delete, reply_of_write, Request}
+use Rattle.segmodel.specs.Words.{WriteAnswer}
 use Rattle.segmodel.proofs.LawLemmas.{earlier_legal, cas_fails}
 use Rattle.segcore.proofs.Standing.{legal}
-use Rattle.segbase.specs.declared.board.Board.{Board}
-use Rattle.segbase.specs.declared.pass.Pass.{Pass}
-use Rattle.segbase.specs.Passes.{number, trace, seen}
-use Rattle.segpass.specs.Calls.{GoesOn, AddsEntry}
+use Rattle.segbase.specs.Words.{Board, number, Pass, seen, trace}
+use Rattle.segpass.specs.Words.{AddsEntry, GoesOn}
 use Rattle.segwrite.specs.Writes.{IsWriteAnswer, IsSetAnswer, IsDeleteAnswer, Writes, Deletes}
 use Rattle.segwrite.specs.Telling.{IsTold, WasTold, cas_reply}
 
@@ -55,13 +48,13 @@ told_at b request said segment p q on adds =
     (came.0, record { since = came.1; entered = now; replied = (earlier_legal z (entry ∷ came.0) (seen q) now lawful).1.0 })
 
 -- a set is replied Stored alone
-pub stores_always : (b : Board) (key value : List ℕ) (told : WriteAnswer) (p q : Pass) → Writes b (Set key value) told p q → IsSetAnswer told
-stores_always b key value told p q w = by told w.answer
+pub stores_always : (b : Board) (key value : List ℕ) (now : ℕ) (told : WriteAnswer) (p q : Pass) → Writes b (Set key value now) told p q → IsSetAnswer told
+stores_always b key value now told p q w = by told w.answer
   where
-    other : (said : Reply) → AddsEntry (Wrote (number p) (Set key value) said None) p q → said ≡ reply.Stored
-    other said adds = (told_at b (Set key value) said None p q w.on adds).1.replied
+    other : (said : Reply) → AddsEntry (Wrote (number p) (Set key value now) said None) p q → said ≡ reply.Stored
+    other said adds = (told_at b (Set key value now) said None p q w.on adds).1.replied
 
-    by : (told : WriteAnswer) → IsWriteAnswer b.shape (Set key value) told p q → IsSetAnswer told
+    by : (told : WriteAnswer) → IsWriteAnswer b.shape (Set key value now) told p q → IsSetAnswer told
     by write.NotStored answer = let e : reply.NotStored ≡ reply.Stored = other reply.NotStored answer.0 in cc
     by write.Exists answer = let e : reply.Exists ≡ reply.Stored = other reply.Exists answer.0 in cc
     by write.NotFound answer = let e : reply.NotFound ≡ reply.Stored = other reply.NotFound answer.0 in cc
@@ -83,24 +76,24 @@ adds_reply b request write.Busy said p q answer is = absurd (none-some said is)
 pub write_told : (b : Board) (request : Request) (told : WriteAnswer) (said : Reply) (p q : Pass) → Writes b request told p q → reply_of_write told ≡ Some said → WasTold b.shape (number p) request said (seen p) (seen q)
 write_told b request told said p q w is = let added = adds_reply b request told said p q w.answer is in (added.0, told_at b request said added.0 p q w.on added.1)
 
-pub delete_told : (b : Board) (key : List ℕ) (told : DeleteAnswer) (said : Reply) (p q : Pass) → Deletes b key told p q → reply_of_delete told ≡ Some said → WasTold b.shape (number p) (Delete key) said (seen p) (seen q)
-delete_told b key told said p q d is = (None, told_at b (Delete key) said None p q d.on (by told d.answer is))
+pub delete_told : (b : Board) (key : List ℕ) (now : ℕ) (told : DeleteAnswer) (said : Reply) (p q : Pass) → Deletes b key now told p q → reply_of_delete told ≡ Some said → WasTold b.shape (number p) (Delete key now) said (seen p) (seen q)
+delete_told b key now told said p q d is = (None, told_at b (Delete key now) said None p q d.on (by told d.answer is))
   where
-    by : (told : DeleteAnswer) → IsDeleteAnswer b.shape key told p q → reply_of_delete told ≡ Some said → AddsEntry (Wrote (number p) (Delete key) said None) p q
-    by delete.Deleted answer is = subst (λ r. AddsEntry (Wrote (number p) (Delete key) r None) p q) (same_Some reply.Deleted said is) answer.0
-    by delete.NotFound answer is = subst (λ r. AddsEntry (Wrote (number p) (Delete key) r None) p q) (same_Some reply.NotFound said is) answer.0
+    by : (told : DeleteAnswer) → IsDeleteAnswer b.shape key now told p q → reply_of_delete told ≡ Some said → AddsEntry (Wrote (number p) (Delete key now) said None) p q
+    by delete.Deleted answer is = subst (λ r. AddsEntry (Wrote (number p) (Delete key now) r None) p q) (same_Some reply.Deleted said is) answer.0
+    by delete.NotFound answer is = subst (λ r. AddsEntry (Wrote (number p) (Delete key now) r None) p q) (same_Some reply.NotFound said is) answer.0
     by delete.Busy answer is = absurd (none-some said is)
 
 -- ---- the version law
 
-module _ (b : Board) (key read value : List ℕ) (version : ℕ) (told : WriteAnswer) (said : Reply) (p q : Pass) (few : b.shape.first_version < 2 ^ 32) (w : Writes b (Cas key value version) told p q) (is : reply_of_write told ≡ Some said) where
-  abbrev there : WasTold b.shape (number p) (Cas key value version) said (seen p) (seen q)
-  there = write_told b (Cas key value version) told said p q w is
+module _ (b : Board) (key read value : List ℕ) (version now : ℕ) (told : WriteAnswer) (said : Reply) (p q : Pass) (few : b.shape.first_version < 2 ^ 32) (w : Writes b (Cas key value version now) told p q) (is : reply_of_write told ≡ Some said) where
+  abbrev there : WasTold b.shape (number p) (Cas key value version now) said (seen p) (seen q)
+  there = write_told b (Cas key value version now) told said p q w is
 
   legal_there : IsLegal b.shape there.1.0
   legal_there =
-      let z = b.shape in let entry = Wrote (number p) (Cas key value version) said there.0 in
+      let z = b.shape in let entry = Wrote (number p) (Cas key value version now) said there.0 in
       (earlier_legal z (entry ∷ there.1.0) (seen q) there.1.1.entered (legal z (trace q) w.on.quiet.pass.lawful)).0
 
-  pub cas_told : (before : List Entry) → reads_version b.shape (after b.shape before) key ≡ Some (read, version) → Begins before there.1.0 → said ≡ cas_reply b.shape key before there.1.0
-  cas_told before got begins = there.1.1.replied ∙ cas_fails b.shape before there.1.0 key read value version few legal_there begins got
+  pub cas_told : (then' : ℕ) (before : List Entry) → reads_version b.shape (after b.shape before) then' key ≡ Some (read, version) → Begins before there.1.0 → said ≡ cas_reply b.shape key now before there.1.0
+  cas_told then' before got begins = there.1.1.replied ∙ cas_fails b.shape before there.1.0 then' now key read value version few legal_there begins got

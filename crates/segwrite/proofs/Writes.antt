@@ -1,36 +1,26 @@
 -- A write of a key, from the take of the bit to its answer: what was found, what the cache replies, and each way in which it ends.
 use Rattle.std.proofs.Common.{◌≡◌, ◌≢◌, ℕ, ◌^◌, ◌<◌, Bool, true, false, is_some, List, [], ◌∷◌, Option, Some, None, refl, sym, ap, ◌∙◌, subst}
 use Rattle.std.proofs.lemmas.Option.{same_Some, none-some}
-use Rattle.segword.specs.Bytes.{IsKey}
-use Rattle.segmodel.specs.declared.request.Request.{Request}
+use Rattle.segword.specs.Words.{IsKey}
 use Rattle.segmodel.specs.declared.request.Reply.TheVariants.{Stored}
-use Rattle.segmodel.specs.declared.answer.WriteAnswer.{WriteAnswer}
 use Rattle.segmodel.specs.declared.answer.WriteAnswer.TheVariants as write
-use Rattle.segmodel.specs.Request.{key_of, value_of, adds_key, reply_to}
-use Rattle.segmodel.specs.Places.{bucket_of, tag_of}
-use Rattle.segmodel.specs.Cache.{present, standing}
-use Rattle.segmodel.specs.History.{after}
-use Rattle.segmodel.specs.Serving.{reply_of_write}
+use Rattle.segmodel.specs.Words.{adds_key, after, bucket_of, key_of, present, reply_of_write}
+use Rattle.segmodel.specs.Words.{reply_to, Request, standing, tag_of, value_of, WriteAnswer}
 use Rattle.segcore.specs.declared.event.Event.TheVariants.{Freed}
-use Rattle.segcore.specs.Bucket.{bucket_after}
-use Rattle.segcore.specs.Kind.{HasBit, May, release}
-use Rattle.segcore.specs.Lawful.{IsRefusal}
-use Rattle.segbase.specs.declared.board.Board.{Board}
-use Rattle.segbase.specs.declared.pass.Pass.{Pass}
-use Rattle.segbase.specs.Passes.{number, trace, seen, IsPassOf, AddsAtOnce}
-use Rattle.segbase.specs.Plain.{current_of, used_of}
-use Rattle.segstore.specs.Segments.{KeepsSegments, has_room}
-use Rattle.segstore.specs.Refilling.{Idles}
-use Rattle.segstore.proofs.Keeping.{same_plain, keeps_plain}
+use Rattle.segcore.specs.Words.{bucket_after, HasBit, IsRefusal, May, release}
+use Rattle.segbase.specs.declared.pass.Plain.{Plain}
+use Rattle.segbase.specs.Words.{AddsAtOnce, Board, current_of, IsPassOf, number, Pass, seen, trace}
+use Rattle.segbase.specs.Words.{used_of}
+use Rattle.segstore.specs.Words.{has_room, Idles, KeepsSegments}
+use Rattle.segstore.proofs.Keeping.{same_used, keeps_plain}
 use Rattle.segwrite.specs.declared.find.Found.{Found}
-use Rattle.segwrite.specs.declared.find.Target.{Target}
+use Rattle.segwrite.specs.Words.{Target}
 use Rattle.segwrite.specs.declared.write.When.{When}
-use Rattle.segpass.specs.Quiet.{IsQuiet}
-use Rattle.segpass.specs.Calls.{memo, GoesOn, TakesOneBit, DrawsNothing, ReadsNothing}
+use Rattle.segpass.specs.Words.{DrawsNothing, GoesOn, HasCleanBit, IsQuiet, memo, ReadsNothing}
+use Rattle.segpass.specs.Words.{TakesOneBit, TookToWrite}
 use Rattle.segwrite.specs.Writes.{IsWriteAnswer, Writes, UsesRow}
 use Rattle.segwrite.specs.Full.{GrowsFor}
 use Rattle.segwrite.specs.FirstEmpty.{TookFirstEmpty}
-use Rattle.segpass.specs.Taking.{HasCleanBit, TookToWrite}
 use Rattle.segwrite.specs.Writing.{IsTarget, HasFullChain, own_word}
 use Rattle.segwrite.specs.Growing.{Searches, target_of, CannotGrow, IsAsFound, MakesRoom}
 use Rattle.segwrite.specs.Storing.{IsNextRow, Requests, StoresUnderBit}
@@ -59,13 +49,13 @@ writes_with b request told p q s room took some on answer takes grows none first
   reads_nothing = still;
 }
 
-module _ (b : Board) (w : When) (request : Request) (key value words : List ℕ) (bucket : ℕ) (asked : request ≡ request_of w key value) (home : bucket ≡ bucket_of b.shape key) (copied : words ≡ key)
+module _ (b : Board) (w : When) (request : Request) (key value words : List ℕ) (now bucket : ℕ) (asked : request ≡ request_of w key value now) (home : bucket ≡ bucket_of b.shape key) (copied : words ≡ key)
     (p q f : Pass) (found : Found) (quiet : IsQuiet b p) (took : TookToWrite b bucket p q) (search : Idles b q f) (searches : Searches b words found f) where
   abbrev k : ℕ
   k = bucket_of b.shape (key_of request)
 
   key_is : key_of request ≡ key
-  key_is = (asks w key value request asked).0
+  key_is = (asks w key value now request asked).0
 
   pub at_home : bucket ≡ k
   at_home = home ∙ ap (bucket_of b.shape) (sym key_is)
@@ -80,8 +70,8 @@ module _ (b : Board) (w : When) (request : Request) (key value words : List ℕ)
   found_it = subst (λ x. Searches b x found f) (copied ∙ sym key_is) searches
 
   -- what the refusal is told from
-  pub may_refuse : b.shape.first_version < 2 ^ 32 → (has : Bool) → has ≡ is_some (own_word (target_of found)) → IsPassOf b f × (b.shape.first_version < 2 ^ 32 × (HasCleanBit b f bucket × (bucket ≡ k × (has ≡ is_some (present (after b.shape (seen f)) (key_of request)) × request ≡ request_of w (key_of request) (value_of request)))))
-  may_refuse few has is = (search.moved.pass, (few, (clean, (at_home, (is ∙ own_where b (key_of request) (target_of found) f search.moved.pass (finds_of b (key_of request) found f found_it), (asks w key value request asked).2)))))
+  pub may_refuse : b.shape.first_version < 2 ^ 32 → (has : Bool) → has ≡ is_some (own_word (target_of found)) → IsPassOf b f × (b.shape.first_version < 2 ^ 32 × (HasCleanBit b f bucket × (bucket ≡ k × (has ≡ is_some (present (after b.shape (seen f)) now (key_of request)) × request ≡ request_of w (key_of request) (value_of request) now))))
+  may_refuse few has is = (search.moved.pass, (few, (clean, (at_home, (is ∙ own_where b (key_of request) now (target_of found) f search.moved.pass (finds_of b (key_of request) found f found_it), (asks w key value now request asked).2)))))
 
   module _ (g : Pass) (refusal : Option WriteAnswer) (looks : Idles b f g) (told : IsToldBy (reply_now b g request) refusal) where
     idle : Idles b q g
@@ -163,9 +153,9 @@ module _ (b : Board) (w : When) (request : Request) (key value words : List ℕ)
         pub may_store : (segment row tag : ℕ) → refusal ≡ None → (current_of p ≡ Some segment) × (used_of p segment ≡ Some row) × (row < b.shape.rows) → IsKey words → tag ≡ tag_of words
             → IsPassOf b r × (KeepsSegments b r × (IsNextRow b segment row r × (Requests b request words value r × (IsKey words × (tag ≡ tag_of words × (HasCleanBit b r k × IsTarget b (key_of request) target r))))))
         may_store segment row tag unrefused next key_of_words tagged =
-            let same = same_plain p r (there.ready.plain ∙ took.plain) in let a = asks w key value request asked in
+            let same = there.ready.plain ∙ took.plain in let a = asks w key value now request asked in
             let stored = sym (subst (IsToldBy (reply_now b g request)) unrefused told) in
-            let row_is : IsNextRow b segment row r = record { current = same.1 ∙ next.0; used = same.0.used segment ∙ next.1; fits = next.2 } in
+            let row_is : IsNextRow b segment row r = record { current = ap (λ (x : Plain). x.current) same ∙ next.0; used = same_used p r segment same ∙ next.1; fits = next.2 } in
             let requests : Requests b request words value r = record { of = (a.0 ∙ sym copied, a.1); stored = stored ∙ (λ i. reply_to request (is_some ((sym there.same.stands) i)) ((sym there.same.version) i)) } in
             (there.ready.moved.pass, (keeps, (row_is, (requests, (key_of_words, (tagged, (there.ready.clean, there.target_is)))))))
 

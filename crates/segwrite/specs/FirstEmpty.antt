@@ -1,15 +1,9 @@
 -- The word of its bucket's chain that a new key takes: the first that is empty, in the order of a scan.
 use Rattle.std.specs.Prelude.{◌≡◌, ◌≢◌, ℕ, ◌<◌, List, ◌∷◌, None}
-use Rattle.segword.specs.declared.shape.Shape.{Shape}
-use Rattle.segmodel.specs.declared.request.Request.{Request}
-use Rattle.segmodel.specs.Request.{key_of}
-use Rattle.segmodel.specs.Places.{bucket_of}
-use Rattle.segmodel.specs.Cache.{standing}
-use Rattle.segmodel.specs.History.{after, Begins}
-use Rattle.segcore.specs.declared.event.Event.{Event}
+use Rattle.segword.specs.Words.{Shape}
+use Rattle.segmodel.specs.Words.{after, Begins, bucket_of, key_of, Request, standing}
 use Rattle.segcore.specs.declared.event.Event.TheVariants.{Linked}
-use Rattle.segcore.specs.Event.{seen}
-use Rattle.segcore.specs.Bucket.{nothing, Bucket, IsPosition, bucket_after}
+use Rattle.segcore.specs.Words.{Bucket, bucket_after, Event, IsPosition, nothing, seen}
 
 -- each word of the chain before this position has an item or leads on
 abbrev pub AreTakenBefore : Bucket → ℕ → Type 0

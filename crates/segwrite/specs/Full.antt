@@ -1,17 +1,12 @@
 -- When a bucket has no word left for a new key, and when its chain can grow.
 use Rattle.std.specs.Prelude.{◌≡◌, ◌≢◌, ◌⊎◌, ℕ, ◌+◌, ◌*◌, ◌<◌, true, false, List, ◌∷◌, None}
-use Rattle.segword.specs.declared.shape.Shape.{Shape}
-use Rattle.segmodel.specs.declared.request.Request.{Request}
-use Rattle.segmodel.specs.Places.{bucket_of}
-use Rattle.segmodel.specs.Request.{key_of, adds_key}
-use Rattle.segmodel.specs.Cache.{standing, keys_in}
-use Rattle.segmodel.specs.History.{after, Begins, IsBetween}
-use Rattle.segcore.specs.declared.event.Event.{Event}
+use Rattle.segword.specs.Words.{Shape}
+use Rattle.segmodel.specs.Words.{adds_key, after, Begins, bucket_of, IsBetween, key_of, keys_in}
+use Rattle.segmodel.specs.Words.{Request, standing}
 use Rattle.segcore.specs.declared.event.Event.TheVariants.{Drew}
-use Rattle.segcore.specs.Mark.{Mark, entries, width, all_drawn}
+use Rattle.segcore.specs.Words.{all_drawn, entries, Event, Mark, width}
 use Rattle.segcore.specs.Mark as mark
-use Rattle.segbase.specs.declared.pass.Pass.{Pass}
-use Rattle.segbase.specs.Passes.{number, trace, drew}
+use Rattle.segbase.specs.Words.{drew, number, Pass, trace}
 
 -- ---- refusals
 

@@ -1,29 +1,19 @@
 -- How a chain grows under its bucket's bit: an overflow bucket is drawn, the item of the chain's last word is copied to word 1 of it, and that word then leads on to it.
 use Rattle.std.specs.Prelude.{◌≡◌, ℕ, ◌+◌, ◌*◌, ◌<◌, ◌⊎◌, List, [], ◌∷◌, ◌++◌, map, false, Option, Some, None, Result, Ok, Err}
-use Rattle.segmodel.specs.Places.{bucket_of}
-use Rattle.segmodel.specs.History.{after, IsSameAt}
-use Rattle.segcore.specs.declared.event.Event.{Event}
+use Rattle.segmodel.specs.Words.{after, bucket_of, IsSameAt}
 use Rattle.segcore.specs.declared.event.Event.TheVariants.{Drew, Put, Chained}
-use Rattle.segcore.specs.Bucket.{Slot, nothing, item, Bucket, last, bucket_after}
-use Rattle.segcore.specs.Filled.{HasNoEmptyWord}
-use Rattle.segcore.specs.ItemWord.{IsWordOf}
-use Rattle.segcore.specs.Kind.{HasBit}
-use Rattle.segcore.specs.Overflow.{drawn_in, home, home_of}
-use Rattle.segbase.specs.declared.board.Board.{Board}
-use Rattle.segbase.specs.declared.pass.Pass.{Pass}
-use Rattle.segbase.specs.declared.place.Place.{Place}
-use Rattle.segbase.specs.Passes.{number, trace, seen, AddsEvents, AddsAtOnce}
-use Rattle.segbase.specs.Spots.{position, home_bucket}
-use Rattle.segbase.specs.Steps.{depth_to_draw}
-use Rattle.segstore.specs.Refilling.{Idles}
+use Rattle.segcore.specs.Words.{Bucket, bucket_after, drawn_in, Event, HasBit, HasNoEmptyWord, home}
+use Rattle.segcore.specs.Words.{home_of, IsWordOf, item, last, nothing, Slot}
+use Rattle.segbase.specs.Words.{AddsAtOnce, AddsEvents, Board, depth_to_draw, number, Pass, Place}
+use Rattle.segbase.specs.Words.{position_at, seen, trace}
+use Rattle.segstore.specs.Words.{Idles}
 use Rattle.segwrite.specs.declared.find.ChainEnd.{ChainEnd}
 use Rattle.segwrite.specs.declared.find.Target.{Target}
 use Rattle.segwrite.specs.declared.find.Found.{Found}
 use Rattle.segwrite.specs.declared.find.Found.TheVariants.{Word, Full}
-use Rattle.segpass.specs.Calls.{memo}
+use Rattle.segpass.specs.Words.{HasCleanBit, memo}
 use Rattle.segwrite.specs.Full.{DrewInNeed}
 use Rattle.segwrite.specs.FirstEmpty.{AreTakenBefore}
-use Rattle.segpass.specs.Taking.{HasCleanBit}
 use Rattle.segwrite.specs.Writing.{IsInChain, IsEarlier, IsAbsent, IsTarget, HasFullChain}
 
 -- ---- the end of a chain
@@ -35,7 +25,7 @@ bucket_seen b bucket p = bucket_after b.shape (trace p) bucket
 -- the place is that of the last word of the bucket's chain, an item stands there, and the word is one that it had
 pub record IsLast (b : Board) (bucket : ℕ) (place : Place) (word : ℕ) (p : Pass) : Type 0 where
   pub chain : IsInChain b bucket place p
-  pub ends : position b.shape (trace p) place ≡ last (bucket_seen b bucket p)
+  pub ends : position_at b place p ≡ last (bucket_seen b bucket p)
   pub named : Slot
   pub here : (bucket_seen b bucket p).items (last (bucket_seen b bucket p)) ≡ item named
   pub is : IsWordOf named word
@@ -58,10 +48,6 @@ target_of (Full end) = None
 abbrev pub or_end : ChainEnd → Option Target → Found
 or_end end None = Full end
 or_end end (Some target) = Word target
-
--- the bucket whose chain a place is in
-abbrev pub home_at : Board → Place → Pass → ℕ
-home_at b place p = home_bucket b.shape (trace p) place
 
 -- ---- drawing
 

@@ -6,3 +6,4 @@ pub mod Storing
 pub mod Telling
 pub mod Writes
 pub mod Writing
+pub mod Words

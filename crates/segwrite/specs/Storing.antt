@@ -1,20 +1,12 @@
 -- What storing under a bucket's bit leaves, before the bit is given back.
 use Rattle.std.specs.Prelude.{◌≡◌, ℕ, ◌<◌, true, List, ◌∷◌, Some, None}
-use Rattle.segword.specs.Row.{row_of}
-use Rattle.segmodel.specs.declared.request.Request.{Request}
+use Rattle.segword.specs.Words.{row_of}
 use Rattle.segmodel.specs.declared.request.Reply.TheVariants.{Stored}
-use Rattle.segmodel.specs.Request.{key_of, value_of}
-use Rattle.segmodel.specs.Cache.{reply_in}
-use Rattle.segmodel.specs.History.{after}
-use Rattle.segcore.specs.declared.event.Event.{Event}
+use Rattle.segmodel.specs.Words.{after, key_of, reply_in, Request, value_of}
 use Rattle.segcore.specs.declared.event.Event.TheVariants.{Linked}
-use Rattle.segcore.specs.Bucket.{bucket_after}
-use Rattle.segcore.specs.Kind.{HasBit}
-use Rattle.segbase.specs.declared.board.Board.{Board}
-use Rattle.segbase.specs.declared.pass.Pass.{Pass}
-use Rattle.segbase.specs.Passes.{number, trace, seen, AddsEvents}
-use Rattle.segbase.specs.Plain.{current_of, used_of}
-use Rattle.segstore.specs.Rows.{fills}
+use Rattle.segcore.specs.Words.{bucket_after, Event, HasBit}
+use Rattle.segbase.specs.Words.{AddsEvents, Board, current_of, number, Pass, seen, trace, used_of}
+use Rattle.segstore.specs.Words.{fills}
 use Rattle.segwrite.specs.FirstEmpty.{TookFirstEmpty}
 
 -- the row is the next one of the pass's current segment

@@ -1,14 +1,10 @@
 -- What the replies to writes tell of the one history.
 use Rattle.std.specs.Prelude.{◌≡◌, ℕ, ◌%◌, ◌^◌, ◌==◌, is_some, List, ◌∷◌, Option, if◌then◌else◌}
-use Rattle.segword.specs.declared.shape.Shape.{Shape}
-use Rattle.segmodel.specs.declared.entry.Entry.{Entry}
+use Rattle.segword.specs.Words.{Shape}
 use Rattle.segmodel.specs.declared.entry.Entry.TheVariants.{Wrote}
-use Rattle.segmodel.specs.declared.request.Request.{Request}
-use Rattle.segmodel.specs.declared.request.Reply.{Reply}
 use Rattle.segmodel.specs.declared.request.Reply.TheVariants.{Stored, Exists, NotFound}
-use Rattle.segmodel.specs.Places.{bucket_of}
-use Rattle.segmodel.specs.Cache.{present, reply_in}
-use Rattle.segmodel.specs.History.{after, Begins, writes}
+use Rattle.segmodel.specs.Words.{after, Begins, bucket_of, Entry, present, Reply, reply_in, Request}
+use Rattle.segmodel.specs.Words.{writes}
 
 -- from one history to a longer one the request of this pass was replied so: its entry came in right after this history, at which a cache of one thread replies so
 pub record IsTold (shape : Shape) (pass : ℕ) (request : Request) (said : Reply) (segment : Option ℕ) (old new history : List Entry) : Type 0 where
@@ -19,9 +15,9 @@ pub record IsTold (shape : Shape) (pass : ℕ) (request : Request) (said : Reply
 abbrev pub WasTold : Shape → ℕ → Request → Reply → List Entry → List Entry → Type 0
 WasTold shape pass request said old new = (segment : Option ℕ) × ((history : List Entry) × IsTold shape pass request said segment old new history)
 
--- the reply to a cas of a key, with the version that the key's bucket had at an earlier moment
-abbrev pub cas_reply : Shape → List ℕ → List Entry → List Entry → Reply
-cas_reply shape key old new =
-    if is_some (present (after shape new) key) then
+-- the reply to a cas of a key at a moment, with the version that the key's bucket had at an earlier moment
+abbrev pub cas_reply : Shape → List ℕ → ℕ → List Entry → List Entry → Reply
+cas_reply shape key now old new =
+    if is_some (present (after shape new) now key) then
     (if writes shape new (bucket_of shape key) % 2 ^ 32 == writes shape old (bucket_of shape key) % 2 ^ 32 then Stored else Exists)
     else NotFound

@@ -1,36 +1,31 @@
 -- What a write or a delete answers, in the terms of the model, and what it changes and costs.
 use Rattle.std.specs.Prelude.{◌≡◌, ◌≢◌, ◌↔◌, ℕ, ◌+◌, true, false, List, Some, None}
-use Rattle.segword.specs.declared.shape.Shape.{Shape}
+use Rattle.segword.specs.Words.{Shape}
 use Rattle.segmodel.specs.declared.entry.Entry.TheVariants.{Wrote}
-use Rattle.segmodel.specs.declared.request.Request.{Request}
 use Rattle.segmodel.specs.declared.request.Request.TheVariants.{Delete}
-use Rattle.segmodel.specs.declared.request.Reply.{Reply}
 use Rattle.segmodel.specs.declared.request.Reply.TheVariants as reply
-use Rattle.segmodel.specs.declared.answer.WriteAnswer.{WriteAnswer}
 use Rattle.segmodel.specs.declared.answer.WriteAnswer.TheVariants as write
-use Rattle.segmodel.specs.declared.answer.DeleteAnswer.{DeleteAnswer}
 use Rattle.segmodel.specs.declared.answer.DeleteAnswer.TheVariants as delete
-use Rattle.segmodel.specs.Places.{bucket_of}
-use Rattle.segmodel.specs.Request.{key_of, adds_key}
-use Rattle.segbase.specs.declared.board.Board.{Board}
-use Rattle.segbase.specs.declared.pass.Pass.{Pass}
-use Rattle.segbase.specs.Passes.{number, trace, marked}
-use Rattle.segbase.specs.Plain.{current_of, state_of, used_of, locked_of, is_holding_of}
-use Rattle.segstore.specs.Segments.{has_room}
-use Rattle.segpass.specs.Calls.{memo, GoesOn, ChangesNothing, TakesOneBit, DrawsNothing, ReadsNothing, AddsEntry, IsBusy}
+use Rattle.segmodel.specs.Words.{adds_key, bucket_of, DeleteAnswer, key_of, Reply, Request}
+use Rattle.segmodel.specs.Words.{WriteAnswer}
+use Rattle.segbase.specs.Words.{Board, current_of, locked_of, marked, number, OwnSegment, Pass}
+use Rattle.segbase.specs.Words.{trace, with_own}
+use Rattle.segstore.specs.Words.{has_room}
+use Rattle.segpass.specs.Words.{AddsEntry, ChangesNothing, DrawsNothing, GoesOn, IsBusy, memo}
+use Rattle.segpass.specs.Words.{ReadsNothing, TakesOneBit}
 use Rattle.segwrite.specs.FirstEmpty.{TookFirstEmpty}
 use Rattle.segwrite.specs.Full.{WasFull, GrowsFor}
 
 -- ---- writes
 
+-- one more row of an own segment is used
+abbrev pub one_more : OwnSegment → OwnSegment
+one_more own = record own { used = own.used + 1 }
+
 -- one more row of its current segment is used, and nothing else of what the pass keeps is changed
 pub record UsesRow (segment : ℕ) (p q : Pass) : Type 0 where
-  pub current : (current_of p ≡ Some segment) × (current_of q ≡ Some segment)
-  pub used : (used : ℕ) → used_of p segment ≡ Some used → used_of q segment ≡ Some (used + 1)
-  pub others : (other : ℕ) → other ≢ segment → used_of q other ≡ used_of p other
-  pub states : (other : ℕ) → state_of q other ≡ state_of p other
-  pub locked : locked_of q ≡ locked_of p
-  pub is_holding : is_holding_of q ≡ is_holding_of p
+  pub current : current_of p ≡ Some segment
+  pub plain : q.plain ≡ with_own segment one_more p.plain
   pub memo : memo q ≡ memo p
 
 -- the request is replied so, by an entry that stores nothing
@@ -55,10 +50,10 @@ IsSetAnswer write.NotFound = ⊥
 IsSetAnswer _ = Unit {0}
 
 -- a delete is replied by one entry, or refused for want of the bit by none
-abbrev pub IsDeleteAnswer : Shape → List ℕ → DeleteAnswer → Pass → Pass → Type 0
-IsDeleteAnswer shape key delete.Deleted p q = AddsReply (Delete key) reply.Deleted p q
-IsDeleteAnswer shape key delete.NotFound p q = AddsReply (Delete key) reply.NotFound p q
-IsDeleteAnswer shape key delete.Busy p q = ChangesNothing p q × IsBusy (bucket_of shape key) p q
+abbrev pub IsDeleteAnswer : Shape → List ℕ → ℕ → DeleteAnswer → Pass → Pass → Type 0
+IsDeleteAnswer shape key now delete.Deleted p q = AddsReply (Delete key now) reply.Deleted p q
+IsDeleteAnswer shape key now delete.NotFound p q = AddsReply (Delete key now) reply.NotFound p q
+IsDeleteAnswer shape key now delete.Busy p q = ChangesNothing p q × IsBusy (bucket_of shape key) p q
 
 -- A set, an add, a replace or a cas is answered so. NoRoom comes first, exactly where the pass has no row left; then Busy, always where the pass itself has the bucket locked. For any other answer it took one bit. A new key is stored in the first empty word of its bucket's chain.
 pub record Writes (b : Board) (request : Request) (told : WriteAnswer) (p q : Pass) : Type 0 where
@@ -74,9 +69,9 @@ pub record Writes (b : Board) (request : Request) (told : WriteAnswer) (p q : Pa
   pub reads_nothing : ReadsNothing p q
 
 -- a delete is answered so; it needs no row
-pub record Deletes (b : Board) (key : List ℕ) (told : DeleteAnswer) (p q : Pass) : Type 0 where
+pub record Deletes (b : Board) (key : List ℕ) (now : ℕ) (told : DeleteAnswer) (p q : Pass) : Type 0 where
   pub on : GoesOn b p q
-  pub answer : IsDeleteAnswer b.shape key told p q
+  pub answer : IsDeleteAnswer b.shape key now told p q
   pub locked : locked_of p ≡ Some (bucket_of b.shape key) → told ≡ delete.Busy
   pub takes : told ≢ delete.Busy → TakesOneBit (bucket_of b.shape key) p q
   pub draws_nothing : DrawsNothing p q

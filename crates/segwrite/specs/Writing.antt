@@ -1,20 +1,10 @@
 -- The word of a key's chain that a write of the key changes.
 use Rattle.std.specs.Prelude.{◌≡◌, ◌≢◌, ℕ, ◌+◌, ◌<◌, ◌≤◌, ◌==◌, ◌⊎◌, List, true, is_some, Option, Some, None, MatchOption, if◌then◌else◌}
-use Rattle.segword.specs.declared.shape.Shape.{Shape}
-use Rattle.segword.specs.ChainWord.{chain_word}
-use Rattle.segword.specs.SameItem.{IsSameItem}
-use Rattle.segmodel.specs.Places.{bucket_of}
-use Rattle.segmodel.specs.Cache.{standing}
-use Rattle.segmodel.specs.History.{after}
-use Rattle.segcore.specs.Bucket.{bucket_after}
-use Rattle.segcore.specs.Filled.{HasNoEmptyWord}
-use Rattle.segcore.specs.Word.{word, IsItemAt}
-use Rattle.segbase.specs.declared.board.Board.{Board}
-use Rattle.segbase.specs.declared.pass.Pass.{Pass}
-use Rattle.segbase.specs.declared.place.Place.{Place}
-use Rattle.segbase.specs.Passes.{trace, seen}
-use Rattle.segbase.specs.Spots.{cell_at, position, IsPlace}
-use Rattle.segbase.specs.Steps.{IsFree, HasItemOf}
+use Rattle.segword.specs.Words.{chain_word, IsSameItem, Shape}
+use Rattle.segmodel.specs.Words.{after, bucket_of, standing}
+use Rattle.segcore.specs.Words.{bucket_after, HasNoEmptyWord, IsItemAt, word}
+use Rattle.segbase.specs.Words.{Board, cell_at, HasItemOf, IsFree, IsPlace, Pass, Place, position}
+use Rattle.segbase.specs.Words.{seen, trace}
 use Rattle.segwrite.specs.declared.find.Target.{Target}
 use Rattle.segwrite.specs.FirstEmpty.{AreTakenBefore}
 

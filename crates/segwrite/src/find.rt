@@ -1,27 +1,28 @@
-//! The word of a key's chain that a write changes, found under the bucket's bit by one pass over the chain, or the end of the chain where there is none.
+//! The word of a key's chain that a write changes, found under the bucket's bit by one pass over
+//! the chain, or the end of the chain where there is none.
 ghost use Rattle.std.specs.Prelude.{◌≡◌, ◌≤◌, ◌↔◌, IsTrue};
-ghost use Rattle.segmodel.specs.Places.{bucket_of, tag_of};
-ghost use Rattle.segcore.specs.Bucket.{bucket_after};
-ghost use Rattle.segcore.specs.Kind.{HasBit};
+ghost use Rattle.segmodel.specs.Words.{bucket_of, tag_of};
+ghost use Rattle.segcore.specs.Words.{HasBit};
 ghost use Rattle.segwrite.specs.Writing.{own_word, IsInChain, IsNext, Finds};
-ghost use Rattle.segword.specs.Shape.{IsValid};
-ghost use Rattle.segbase.specs.Passes.{number, trace, IsPassOf};
-ghost use Rattle.segbase.specs.Spots.{position};
-ghost use Rattle.segbase.specs.Steps.{IsWordOfContent, HasItemOf};
-ghost use Rattle.segstore.specs.Refilling.{Idles};
+ghost use Rattle.segword.specs.Words.{IsValid};
+ghost use Rattle.segbase.specs.Words.{content_for, HasItemOf, IsPassOf, IsWordOfContent};
+ghost use Rattle.segbase.specs.Words.{number, trace};
+ghost use Rattle.segstore.specs.Words.{Idles};
 ghost use Rattle.segwrite.specs.Growing.{Searches};
 
 use segbase::{Board, Pass, Place};
 use segword::{Chain, Item, KeyWords};
 
-/// A word of a chain, and what stood there: the item of a key, or 0 where the key is absent and the word is free for it.
+/// A word of a chain, and what stood there: the item of a key,
+/// or 0 where the key is absent and the word is free for it.
 #[derive(Clone, Copy, Drop)]
 pub struct Target {
     pub place: Place,
     pub word: u64,
 }
 
-/// The last word of a chain none of whose words is empty: its place, the item word that stood there, and how many buckets the chain has.
+/// The last word of a chain none of whose words is empty: its place,
+/// the item word that stood there, and how many buckets the chain has.
 #[derive(Clone, Copy, Drop)]
 pub(crate) struct ChainEnd {
     pub(crate) place: Place,
@@ -153,8 +154,9 @@ fn is_item_of(
     requires pass { IsPassOf board.now pass.old }
     requires tag { tag ≡ tag_of key.now }
     requires chain { IsInChain board.now (bucket_of board.now.shape key.now) place pass.old }
-    requires bit { HasBit board.now.shape (trace pass.old) (number pass.old) (bucket_of board.now.shape key.now) }
-    requires word { IsWordOfContent ((bucket_after board.now.shape (trace pass.old) (bucket_of board.now.shape key.now)).items (position board.now.shape (trace pass.old) place)) word }
+    requires bit { HasBit board.now.shape (trace pass.old) (number pass.old)
+        (bucket_of board.now.shape key.now) }
+    requires word { IsWordOfContent (content_for board.now key.now place pass.old) word }
     ensures idles { Idles board.now pass.old pass.new }
     ensures is { IsTrue result ↔ HasItemOf board.now key.now place pass.new }
 {

@@ -1,15 +1,19 @@
-//! Growing of a chain none of whose words is empty, under the bit of its bucket: an overflow bucket is drawn, and joins the chain with the item of its last word.
+//! Growing of a chain none of whose words is empty, under the bit of its bucket:
+//! an overflow bucket is drawn, and joins the chain with the item of its last word.
 ghost use Rattle.std.specs.Prelude.{◌<◌};
-ghost use Rattle.segcore.specs.Filled.{HasNoEmptyWord};
-ghost use Rattle.segbase.specs.Passes.{IsPassOf};
-ghost use Rattle.segpass.specs.Taking.{HasCleanBit};
-ghost use Rattle.segwrite.specs.Growing.{bucket_seen, home_at, IsLast, IsChainEnd, IsAsFound, MakesRoom, Grows, DrawsSpare, HasSpare, TriesToJoin, Joins};
+ghost use Rattle.segcore.specs.Words.{HasNoEmptyWord};
+ghost use Rattle.segbase.specs.Words.{home_at, IsPassOf};
+ghost use Rattle.segpass.specs.Words.{HasCleanBit};
+ghost use Rattle.segwrite.specs.Growing.{bucket_seen, IsLast, IsChainEnd, IsAsFound, MakesRoom};
+ghost use Rattle.segwrite.specs.Growing.{Grows, DrawsSpare, HasSpare, TriesToJoin, Joins};
 
 use crate::find::{ChainEnd, Found, Target};
 use segbase::{Board, CHAIN_BUCKETS, Pass, Place};
 use segword::Item;
 
-// The word for a key: the one that a search found, or one of an overflow bucket that joins the chain. It is `None` where the chain is full and can't grow.
+// The word for a key: the one that a search found,
+// or one of an overflow bucket that joins the chain.
+// It is `None` where the chain is full and can't grow.
 pub(crate) fn make_room(board: &Board, pass: &mut Pass, bucket: u32, found: Found) -> Option<Target>
     requires pass { IsPassOf board.now pass.old }
     requires clean { HasCleanBit board.now pass.old bucket }
@@ -22,7 +26,8 @@ pub(crate) fn make_room(board: &Board, pass: &mut Pass, bucket: u32, found: Foun
     }
 }
 
-// Makes room for a new key of a bucket none of whose words is empty: word 2 of an overflow bucket that joins its chain. It is `None` where the chain can't grow.
+// Makes room for a new key of a bucket none of whose words is empty:
+// word 2 of an overflow bucket that joins its chain. It is `None` where the chain can't grow.
 fn grow(board: &Board, pass: &mut Pass, bucket: u32, end: ChainEnd) -> Option<Target>
     requires pass { IsPassOf board.now pass.old }
     requires clean { HasCleanBit board.now pass.old bucket }
@@ -42,7 +47,8 @@ fn grow(board: &Board, pass: &mut Pass, bucket: u32, end: ChainEnd) -> Option<Ta
     Some(Target { place, word: 0 })
 }
 
-// Draws the next overflow bucket for a bucket whose chain may grow. It is `None` where all of them are drawn.
+// Draws the next overflow bucket for a bucket whose chain may grow.
+// It is `None` where all of them are drawn.
 fn draw(board: &Board, pass: &mut Pass, bucket: u32) -> Option<u32>
     requires pass { IsPassOf board.now pass.old }
     requires clean { HasCleanBit board.now pass.old bucket }
@@ -59,7 +65,8 @@ fn draw(board: &Board, pass: &mut Pass, bucket: u32) -> Option<u32>
     None
 }
 
-// Lets the overflow bucket that waits for the chain of a place join it. While the item that moves there is hit, its frequency rises, and the word is copied again.
+// Lets the overflow bucket that waits for the chain of a place join it.
+// While the item that moves there is hit, its frequency rises, and the word is copied again.
 fn join(board: &Board, pass: &mut Pass, place: Place, word: u64, overflow: u32)
     requires pass { IsPassOf board.now pass.old }
     requires spare { HasSpare board.now (home_at board.now place pass.old) overflow pass.old }
@@ -72,7 +79,8 @@ fn join(board: &Board, pass: &mut Pass, place: Place, word: u64, overflow: u32)
     }
 }
 
-// Copies the word of the chain's last item to the overflow bucket, and lets the chain lead on to it where that word still stands. `Err` has the word that does.
+// Copies the word of the chain's last item to the overflow bucket,
+// and lets the chain lead on to it where that word still stands. `Err` has the word that does.
 fn try_to_join(
     board: &Board,
     pass: &mut Pass,
@@ -83,7 +91,8 @@ fn try_to_join(
     requires pass { IsPassOf board.now pass.old }
     requires spare { HasSpare board.now (home_at board.now place pass.old) overflow pass.old }
     requires last { IsLast board.now (home_at board.now place pass.old) place word pass.old }
-    ensures tries { TriesToJoin board.now (home_at board.now place pass.old) overflow place word result pass.old pass.new }
+    ensures tries { TriesToJoin board.now (home_at board.now place pass.old) overflow
+        place word result pass.old pass.new }
 {
     let item = Item::unpack(word).unwrap();
     board.fill_overflow(pass, overflow, item);

@@ -1,18 +1,14 @@
 //! Keys taken out, each under the bit of its bucket.
-ghost use Rattle.std.specs.Prelude.{◌≡◌, List, ℕ, Option, [], ◌∷◌};
+ghost use Rattle.std.specs.Prelude.{◌≡◌, List, ℕ};
 ghost use Rattle.segmodel.specs.declared.request.Request.{Request};
 ghost use Rattle.segmodel.specs.declared.request.Request.TheVariants.{Delete};
-ghost use Rattle.segmodel.specs.Places.{bucket_of, tag_of};
+ghost use Rattle.segmodel.specs.Words.{bucket_of, tag_of};
 ghost use Rattle.segcore.specs.declared.event.Event.TheVariants.{Unlinked};
-ghost use Rattle.segcore.specs.Lawful.{Fits};
-ghost use Rattle.segbase.specs.Passes.{number, trace, IsPassOf, AddsAtOnce};
-ghost use Rattle.segbase.specs.Spots.{position};
-ghost use Rattle.segbase.specs.Steps.{HasItemOf};
-ghost use Rattle.segpass.specs.Calls.{memo};
+ghost use Rattle.segcore.specs.Words.{Fits, Leaving};
+ghost use Rattle.segbase.specs.Words.{AddsUnlink, HasItemOf, IsPassOf, number, position_at, trace};
+ghost use Rattle.segpass.specs.Words.{HasCleanBit, IsQuiet, memo};
 ghost use Rattle.segwrite.specs.Writing.{IsInChain, IsEarlier};
-ghost use Rattle.segpass.specs.Quiet.{IsQuiet};
 ghost use Rattle.segwrite.specs.Writes.{Deletes};
-ghost use Rattle.segpass.specs.Taking.{HasCleanBit};
 ghost use Rattle.segwrite.specs.Refusing.{Removes};
 
 use crate::find::{Target, find, own_word};
@@ -23,26 +19,33 @@ use segpass::take_to_write;
 use segword::{Key, KeyWords, bucket_of, hash, tag_of};
 
 /// Takes the key out. It needs no row.
-pub fn delete(board: &Board, pass: &mut Pass, key: &Key) -> DeleteAnswer
+pub fn delete(board: &Board, pass: &mut Pass, key: &Key, now: u32) -> DeleteAnswer
     requires quiet { IsQuiet board.now pass.old }
-    ensures deletes { Deletes board.now key.now result pass.old pass.new }
+    ensures deletes { Deletes board.now key.now now result pass.old pass.new }
 {
     let hash = hash(key);
     let bucket = bucket_of(hash, board.shape().buckets);
     if !take_to_write(board, pass, bucket) {
         return DeleteAnswer::Busy;
     }
-    remove(board, pass, bucket, &KeyWords::new(key), tag_of(hash))
+    remove(board, pass, bucket, &KeyWords::new(key), tag_of(hash), now)
 }
 
 // Takes the key out of its bucket, whose bit the pass has, and gives the bit back.
-fn remove(board: &Board, pass: &mut Pass, bucket: u32, key: &KeyWords, tag: u16) -> DeleteAnswer
+fn remove(
+    board: &Board,
+    pass: &mut Pass,
+    bucket: u32,
+    key: &KeyWords,
+    tag: u16,
+    now: u32,
+) -> DeleteAnswer
     ghost request: { Request }
     requires pass { IsPassOf board.now pass.old }
     requires clean { HasCleanBit board.now pass.old bucket }
     requires bucket { bucket ≡ bucket_of board.now.shape key.now }
     requires tag { tag ≡ tag_of key.now }
-    requires request { request ≡ Delete key.now }
+    requires request { request ≡ Delete key.now now }
     ensures removes { Removes board.now request result pass.old pass.new }
 {
     let Some(target) = own_word(find(board, pass, bucket, key, tag)) else {
@@ -54,15 +57,17 @@ fn remove(board: &Board, pass: &mut Pass, bucket: u32, key: &KeyWords, tag: u16)
     DeleteAnswer::Deleted
 }
 
-/// Lets the item of a key leave its word, under the bit of its bucket. Its frequency may rise, and the exchange is tried again.
+/// Lets the item of a key leave its word, under the bit of its bucket.
+/// Its frequency may rise, and the exchange is tried again.
 pub fn clear(board: &Board, pass: &mut Pass, target: Target)
-    ghost left: { List ℕ × Option ℕ }
+    ghost left: { List ℕ × Leaving }
     requires pass { IsPassOf board.now pass.old }
-    requires fits { Fits board.now.shape (trace pass.old) (Unlinked (number pass.old) left.0 (position board.now.shape (trace pass.old) target.place) left.1) }
+    requires fits { Fits board.now.shape (trace pass.old)
+        (Unlinked (number pass.old) left.0 (position_at board.now target.place pass.old) left.1) }
     requires chain { IsInChain board.now (bucket_of board.now.shape left.0) target.place pass.old }
     requires has { HasItemOf board.now left.0 target.place pass.old }
     requires earlier { IsEarlier board.now target.place target.word pass.old }
-    ensures did { AddsAtOnce board.now (Unlinked (number pass.old) left.0 (position board.now.shape (trace pass.old) target.place) left.1 ∷ []) pass.old pass.new }
+    ensures did { AddsUnlink board.now target.place left pass.old pass.new }
     ensures same { (pass.new.plain ≡ pass.old.plain) × (memo pass.new ≡ memo pass.old) }
 {
     let mut old = target.word;

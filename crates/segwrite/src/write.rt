@@ -1,22 +1,15 @@
 //! Writes of keys, each under the bit of its key's bucket.
-ghost use Rattle.std.specs.Prelude.{◌≡◌, ◌^◌, ◌<◌, is_some, [], ◌∷◌};
-ghost use Rattle.segword.specs.Bytes.{IsKey};
+ghost use Rattle.std.specs.Prelude.{◌≡◌, ◌^◌, ◌<◌, is_some};
+ghost use Rattle.segword.specs.Words.{IsKey};
 ghost use Rattle.segmodel.specs.declared.request.Request.{Request};
 ghost use Rattle.segmodel.specs.declared.request.Request.TheVariants.{Set, Add, Replace, Cas};
-ghost use Rattle.segmodel.specs.Request.{key_of, value_of};
-ghost use Rattle.segmodel.specs.Cache.{present};
-ghost use Rattle.segmodel.specs.History.{after};
-ghost use Rattle.segmodel.specs.Places.{bucket_of, tag_of};
+ghost use Rattle.segmodel.specs.Words.{after, bucket_of, key_of, present, tag_of, value_of};
 ghost use Rattle.segcore.specs.declared.event.Event.TheVariants.{Linked};
-ghost use Rattle.segcore.specs.Lawful.{Fits, IsRefusal};
-ghost use Rattle.segstore.specs.Segments.{KeepsSegments};
-ghost use Rattle.segbase.specs.Passes.{number, trace, seen, IsPassOf, AddsAtOnce};
-ghost use Rattle.segbase.specs.Spots.{position};
-ghost use Rattle.segstore.specs.Refilling.{Idles};
-ghost use Rattle.segpass.specs.Quiet.{IsQuiet};
-ghost use Rattle.segpass.specs.Calls.{memo};
+ghost use Rattle.segcore.specs.Words.{Fits, IsRefusal};
+ghost use Rattle.segstore.specs.Words.{Idles, KeepsSegments};
+ghost use Rattle.segbase.specs.Words.{AddsLink, IsPassOf, number, position_at, seen, trace};
+ghost use Rattle.segpass.specs.Words.{HasCleanBit, IsQuiet, memo};
 ghost use Rattle.segwrite.specs.Writes.{UsesRow, IsSetAnswer, Writes};
-ghost use Rattle.segpass.specs.Taking.{HasCleanBit};
 ghost use Rattle.segwrite.specs.Writing.{IsTarget};
 ghost use Rattle.segwrite.specs.Storing.{IsNextRow, Requests, StoresUnderBit, HasWritten};
 ghost use Rattle.segwrite.specs.Refusing.{request_of, IsToldBy, reply_now, RefusesUnderBit};
@@ -41,43 +34,58 @@ pub(crate) enum When {
 }
 
 /// Stores the value under the key.
-pub fn set(board: &Board, pass: &mut Pass, key: &Key, value: &Value) -> WriteAnswer
+pub fn set(board: &Board, pass: &mut Pass, key: &Key, value: &Value, now: u32) -> WriteAnswer
     requires quiet { IsQuiet board.now pass.old }
-    ensures writes { Writes board.now (Set key.now value.now) result pass.old pass.new }
+    ensures writes { Writes board.now (Set key.now value.now now) result pass.old pass.new }
     ensures set { IsSetAnswer result }
 {
-    write(board, pass, key, value, When::Always)
+    write(board, pass, key, value, When::Always, now)
 }
 
 /// Stores the value under the key, which is absent: else it is NotStored.
-pub fn add(board: &Board, pass: &mut Pass, key: &Key, value: &Value) -> WriteAnswer
+pub fn add(board: &Board, pass: &mut Pass, key: &Key, value: &Value, now: u32) -> WriteAnswer
     requires quiet { IsQuiet board.now pass.old }
-    ensures writes { Writes board.now (Add key.now value.now) result pass.old pass.new }
+    ensures writes { Writes board.now (Add key.now value.now now) result pass.old pass.new }
 {
-    write(board, pass, key, value, When::Absent)
+    write(board, pass, key, value, When::Absent, now)
 }
 
 /// Stores the value under the key, which is present: else it is NotStored.
-pub fn replace(board: &Board, pass: &mut Pass, key: &Key, value: &Value) -> WriteAnswer
+pub fn replace(board: &Board, pass: &mut Pass, key: &Key, value: &Value, now: u32) -> WriteAnswer
     requires quiet { IsQuiet board.now pass.old }
-    ensures writes { Writes board.now (Replace key.now value.now) result pass.old pass.new }
+    ensures writes { Writes board.now (Replace key.now value.now now) result pass.old pass.new }
 {
-    write(board, pass, key, value, When::Present)
+    write(board, pass, key, value, When::Present, now)
 }
 
-/// Stores the value under the key, whose bucket has the expected version: else it is Exists, or NotFound where the key is absent.
-pub fn cas(board: &Board, pass: &mut Pass, key: &Key, value: &Value, expected: u32) -> WriteAnswer
+/// Stores the value under the key, whose bucket has the expected version: else it is Exists,
+/// or NotFound where the key is absent.
+pub fn cas(
+    board: &Board,
+    pass: &mut Pass,
+    key: &Key,
+    value: &Value,
+    expected: u32,
+    now: u32,
+) -> WriteAnswer
     requires quiet { IsQuiet board.now pass.old }
-    ensures writes { Writes board.now (Cas key.now value.now expected) result pass.old pass.new }
+    ensures writes { Writes board.now (Cas key.now value.now expected now) result pass.old pass.new }
 {
-    write(board, pass, key, value, When::Unchanged(expected))
+    write(board, pass, key, value, When::Unchanged(expected), now)
 }
 
 // Stores the value under the key where the cache doesn't refuse it.
-fn write(board: &Board, pass: &mut Pass, key: &Key, value: &Value, when: When) -> WriteAnswer
+fn write(
+    board: &Board,
+    pass: &mut Pass,
+    key: &Key,
+    value: &Value,
+    when: When,
+    now: u32,
+) -> WriteAnswer
     ghost request: { Request }
     requires quiet { IsQuiet board.now pass.old }
-    requires request { request ≡ request_of when key.now value.now }
+    requires request { request ≡ request_of when key.now value.now now }
     ensures writes { Writes board.now request result pass.old pass.new }
 {
     let Ok((segment, row)) = segstore::next_row(board, pass) else {
@@ -92,7 +100,7 @@ fn write(board: &Board, pass: &mut Pass, key: &Key, value: &Value, when: When) -
     }
     let found = search(board, pass, bucket, &words, tag);
     let is_present = own_word(found.target()).is_some();
-    if let Some(refusal) = refusal(board, pass, bucket, is_present, when) {
+    if let Some(refusal) = refusal(board, pass, bucket, is_present, when, now) {
         refuse(board, pass, bucket);
         return refusal;
     }
@@ -105,21 +113,24 @@ fn write(board: &Board, pass: &mut Pass, key: &Key, value: &Value, when: When) -
     WriteAnswer::Stored
 }
 
-// What the cache answers in place of storing. The version is looked at only where the write depends on it.
+// What the cache answers in place of storing.
+// The version is looked at only where the write depends on it.
 fn refusal(
     board: &Board,
     pass: &mut Pass,
     bucket: u32,
     is_present: bool,
     when: When,
+    now: u32,
 ) -> Option<WriteAnswer>
     ghost request: { Request }
     requires pass { IsPassOf board.now pass.old }
     requires versions { board.now.shape.first_version < 2 ^ 32 }
     requires clean { HasCleanBit board.now pass.old bucket }
     requires bucket { bucket ≡ bucket_of board.now.shape (key_of request) }
-    requires present { is_present ≡ is_some (present (after board.now.shape (seen pass.old)) (key_of request)) }
-    requires request { request ≡ request_of when (key_of request) (value_of request) }
+    requires present { is_present
+        ≡ is_some (present (after board.now.shape (seen pass.old)) now (key_of request)) }
+    requires request { request ≡ request_of when (key_of request) (value_of request) now }
     ensures idles { Idles board.now pass.old pass.new }
     ensures told { IsToldBy (reply_now board.now pass.new request) result }
 {
@@ -142,7 +153,8 @@ pub(crate) fn refuse(board: &Board, pass: &mut Pass, bucket: u32)
     requires clean { HasCleanBit board.now pass.old bucket }
     requires bucket { bucket ≡ bucket_of board.now.shape (key_of request) }
     requires refused { IsRefusal (reply_now board.now pass.old request) }
-    ensures refuses { RefusesUnderBit board.now request (reply_now board.now pass.old request) pass.old pass.new }
+    ensures refuses { RefusesUnderBit board.now request (reply_now board.now pass.old request)
+        pass.old pass.new }
 {
     board.release(pass, bucket, false);
 }
@@ -183,14 +195,17 @@ fn store(
     pass.set_used(segment, row + 1);
 }
 
-// Puts the item of a stored write into the key's word. While that has an item of the key, its frequency may rise, and the exchange is tried again.
+// Puts the item of a stored write into the key's word.
+// While that has an item of the key, its frequency may rise, and the exchange is tried again.
 fn link(board: &Board, pass: &mut Pass, target: Target, item: Item)
     ghost request: { Request }
     requires pass { IsPassOf board.now pass.old }
     requires item { (item.tag ≡ tag_of (key_of request)) × (item.freq ≡ 1) }
     requires target { IsTarget board.now (key_of request) target pass.old }
-    requires fits { Fits board.now.shape (trace pass.old) (Linked (number pass.old) request item.seg item.row (position board.now.shape (trace pass.old) target.place)) }
-    ensures did { AddsAtOnce board.now (Linked (number pass.old) request item.seg item.row (position board.now.shape (trace pass.old) target.place) ∷ []) pass.old pass.new }
+    requires fits { Fits board.now.shape (trace pass.old)
+        (Linked (number pass.old) request item.seg item.row
+        (position_at board.now target.place pass.old)) }
+    ensures did { AddsLink board.now target.place request item pass.old pass.new }
     ensures same { (pass.new.plain ≡ pass.old.plain) × (memo pass.new ≡ memo pass.old) }
 {
     if target.word == 0 {

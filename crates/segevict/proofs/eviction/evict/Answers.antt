@@ -1,16 +1,27 @@
-use Rattle.std.proofs.Common.{rules, ◌≡◌, Some, refl, inr, ◌∙◌}
+use Rattle.std.proofs.Common.{rules, ◌≡◌, ◌≢◌, Some, refl, sym, subst, inr}
 use Rattle.segmodel.specs.declared.answer.SegState.TheVariants.{InUse}
-use Rattle.segbase.specs.Plain.{state_of}
-use Rattle.segpass.proofs.Draws.{draws_none_then}
+use Rattle.segbase.specs.Words.{current_of, state_of}
+use Rattle.segpass.specs.Words.{DrawsNothing, GoesOn, IsQuiet, ReadsNothing}
+use Rattle.segevict.specs.Evicting.{IsEvictAnswer}
 use Rattle.segpass.proofs.Idling.{goes_same}
-use Rattle.segevict.proofs.Evictions.{same_drew, same_readings, ends_on, evict_answers}
+use Rattle.segevict.proofs.Evictions.{closed, closed_over, closes_on, evict_answers}
 use Rattle.segevict.proofs.RowsOut.{goes_then}
 use Rattle.segevict.proofs.eviction.evict.Goals as goal
 
 pub evict_rows-requires-clause-quiet : goal.evict_rows-requires-clause-quiet
-evict_rows-requires-clause-quiet c = let e = c.end_storing.ensures in
+evict_rows-requires-clause-quiet c =
     let in_use : state_of c.args.pass.now c.args.segment ≡ Some InUse = search rules in
-    (ends_on c.args.board.now c.args.segment c.args.pass.now c.end_storing.new.pass c.requires.quiet in_use e.current e.same.0 e.same.1 e.same.2 e.seat).quiet
+    subst (IsQuiet c.args.board.now) (sym c.end_storing.ensures) (closes_on c.args.board.now c.args.segment c.args.pass.now c.requires.quiet in_use).quiet
+
+pub evict_rows-requires-clause-in_use : goal.evict_rows-requires-clause-in_use
+evict_rows-requires-clause-in_use c =
+    let in_use : state_of c.args.pass.now c.args.segment ≡ Some InUse = search rules in
+    subst (λ r. state_of r c.args.segment ≡ Some InUse) (sym c.end_storing.ensures) in_use
+
+pub evict_rows-requires-clause-ended : goal.evict_rows-requires-clause-ended
+evict_rows-requires-clause-ended c =
+    let in_use : state_of c.args.pass.now c.args.segment ≡ Some InUse = search rules in
+    subst (λ r. current_of r ≢ Some c.args.segment) (sym c.end_storing.ensures) (closed_over c.args.board.now c.args.segment c.args.pass.now c.requires.quiet in_use)
 
 pub returns-in_default : goal.returns-in_default
 returns-in_default c = record {
@@ -36,15 +47,15 @@ returns-then-ne c = record {
 
 pub returns : goal.returns
 returns c =
-    let b = c.args.board.now in let s = c.args.segment in let p = c.args.pass.now in let r = c.end_storing.new.pass in let q = c.evict_rows.new.pass in
+    let b = c.args.board.now in let s = c.args.segment in let p = c.args.pass.now in let q = c.evict_rows.new.pass in let told = c.evict_rows.result in
     let e = c.end_storing.ensures in let rows = c.evict_rows.ensures in
     let in_use : state_of p s ≡ Some InUse = search rules in
     record {
       evicts = record {
-        on = goes_then b p r q (ends_on b s p r c.requires.quiet in_use e.current e.same.0 e.same.1 e.same.2 e.seat) rows.on;
-        answer = evict_answers b s p r c.requires.quiet in_use e.current e.same.0 e.same.1 e.same.2 e.seat c.evict_rows.result q rows.answer rows.yours;
+        on = goes_then b p (closed b s p c.requires.quiet in_use) q (closes_on b s p c.requires.quiet in_use) (subst (λ r. GoesOn b r q) e rows.on);
+        answer = evict_answers b s p c.requires.quiet in_use told q (subst (λ r. IsEvictAnswer b.shape s told r q) e rows.answer) rows.yours;
         not_yours = search (rules, in_use, rows.yours);
-        draws_nothing = draws_none_then p r q (same_drew b p r c.requires.quiet e.seat e.same.0.owner) rows.draws_nothing;
-        reads_nothing = rows.reads_nothing ∙ same_readings b p r c.requires.quiet e.seat e.same.0.owner;
+        draws_nothing = subst (λ r. DrawsNothing r q) e rows.draws_nothing;
+        reads_nothing = subst (λ r. ReadsNothing r q) e rows.reads_nothing;
       };
     }

@@ -1,6 +1,6 @@
 use Rattle.std.proofs.Common.{sym, subst}
 use Rattle.std.proofs.lemmas.Bool.{both_ways}
-use Rattle.segword.specs.SameItem.{IsSameItem}
+use Rattle.segword.specs.Words.{IsSameItem}
 use Rattle.segwrite.proofs.Places.{step_idles}
 use Rattle.segevict.proofs.Seeking.{seeking_first, idles_looked, chain_looked, named_here, seeking_on, less_left, gone_at_end}
 use Rattle.segevict.proofs.eviction.find_row.Goals as goal

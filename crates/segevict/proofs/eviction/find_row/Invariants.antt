@@ -1,6 +1,5 @@
 use Rattle.std.proofs.Common.{◌-◌}
-use Rattle.segbase.specs.Passes.{trace}
-use Rattle.segbase.specs.Spots.{position}
+use Rattle.segbase.specs.Words.{position, trace}
 use Rattle.segevict.proofs.Seeking.{Seeking}
 use Rattle.segevict.proofs.eviction.find_row.Given as goal
 

@@ -1,8 +1,8 @@
 use Rattle.std.proofs.Common.{◌≡◌, ◌%◌, refl, sym, ap, ◌∙◌, subst}
 use Rattle.std.specs.Prelude.{IsSome}
 use Rattle.std.proofs.lemmas.Option.{same_Some}
-use Rattle.segword.specs.Fnv.{tag_from_hash}
-use Rattle.segmodel.specs.Places.{bucket_of, tag_of}
+use Rattle.segword.specs.Words.{tag_from_hash}
+use Rattle.segmodel.specs.Words.{bucket_of, tag_of}
 use Rattle.segevict.proofs.StoredRows.{of_row, still_linked, still_own, pair_held}
 use Rattle.segevict.proofs.eviction.item_of_row.Goals as goal
 

@@ -1,5 +1,5 @@
 use Rattle.std.proofs.Common.{◌≡◌, ◌%◌, ◌<◌, refl, sym, ◌∙◌, subst, rules}
-use Rattle.segmodel.specs.Places.{bucket_of}
+use Rattle.segmodel.specs.Words.{bucket_of}
 use Rattle.segcore.proofs.Limits.{bucket_in}
 use Rattle.segpass.proofs.Idling.{gave_up, in_vain, goes_same}
 use Rattle.segpass.proofs.Locking.{unlocked, locks_bucket, locks_undrawn, locks_unread}
@@ -39,13 +39,13 @@ returns c =
     let bucket = c.bucket_of-bucket.result in let took = c.if-not-take_bucket.ensures in let set = c.set_lock.ensures in
     let home : bucket ≡ bucket_of b.shape c.args.key.now = c.bucket_of-bucket.ensures ∙ (λ i. c.hash.ensures i % (c.shape.ensures i).buckets) in
     let free = sym c.locked.ensures ∙ unlocked c.locked.result c.if-is_some.ensures in
-    let locks = locks_bucket b p r q bucket c.requires.quiet free took.takes took.same.0 took.same.1 set.pass set.sets in
+    let locks = locks_bucket b p r q bucket c.requires.quiet free took.takes took.same.0 took.same.1 set.pass set.view set.sets in
     record {
       locks = record {
         on = locks.0;
         answer = rw (← home) locks.1;
         already = search (rules, free);
-        draws_nothing = locks_undrawn b p r q bucket c.requires.quiet free took.takes took.same.0 took.same.1 set.pass set.sets;
-        reads_nothing = locks_unread b p r q bucket c.requires.quiet free took.takes took.same.0 took.same.1 set.pass set.sets;
+        draws_nothing = locks_undrawn b p r q bucket c.requires.quiet free took.takes took.same.0 took.same.1 set.pass set.view set.sets;
+        reads_nothing = locks_unread b p r q bucket c.requires.quiet free took.takes took.same.0 took.same.1 set.pass set.view set.sets;
       };
     }

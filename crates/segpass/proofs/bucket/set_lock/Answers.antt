@@ -1,8 +1,9 @@
-use Rattle.segbase.proofs.Owned.{still_pass}
-use Rattle.segpass.proofs.Locking.{minds_now}
+use Rattle.segpass.proofs.Locking.{minds_now, sets_now}
 use Rattle.segpass.proofs.bucket.set_lock.Goals as goal
 
 pub remember-requires : goal.remember-requires
-remember-requires c =
-    let b = c.args.board.now in let p = c.args.pass.now in let q = c.set_locked.new.self in let set = c.set_locked.ensures in
-    (still_pass b p q c.requires.pass set.seat set.same.0.owner, minds_now b p q c.args.bucket c.requires.pass c.requires.bit set.seat set.locked)
+remember-requires c = minds_now c.args.board.now c.args.pass.now c.set_locked.new.self c.args.bucket c.requires.pass c.requires.bit c.set_locked.ensures
+
+pub returns-clause-sets : goal.returns-clause-sets
+returns-clause-sets c = let r = c.remember.ensures in
+    sets_now c.args.pass.now c.set_locked.new.self c.remember.new.pass c.args.bucket c.set_locked.ensures r.same.0 r.same.1 r.memo

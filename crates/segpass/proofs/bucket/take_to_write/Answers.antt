@@ -1,7 +1,7 @@
 use Rattle.std.proofs.Common.{◌≢◌, Some, not, eqb, refl, sym, ap, ◌∙◌}
 use Rattle.std.specs.Option.{option_eq}
 use Rattle.std.proofs.lemmas.Bool.{eq-eqb, false≢true}
-use Rattle.segbase.specs.Plain.{locked_of}
+use Rattle.segbase.specs.Words.{locked_of}
 use Rattle.segpass.proofs.UnderWrite.{takes_to_write}
 use Rattle.segpass.proofs.bucket.take_to_write.Goals as goal
 

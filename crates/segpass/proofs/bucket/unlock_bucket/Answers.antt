@@ -25,15 +25,15 @@ pub returns : goal.returns
 returns c =
     let b = c.args.board.now in let p = c.args.pass.now in let r = c.release.new.pass in let q = c.set_lock.new.pass in
     let quiet = c.requires.quiet in let had = sym c.in-Some.ensures in let freed = c.release.ensures in let step = freed.step.1 in let set = c.set_lock.ensures in
-    let unlocks = unlocks_bucket b p r q c.in-Some.bucket quiet had freed.did freed.free step.plain step.memo set.pass set.sets in
+    let unlocks = unlocks_bucket b p r q c.in-Some.bucket quiet had freed.did freed.free step.plain step.memo set.pass set.view set.sets in
     record {
       unlocks = record {
         on = unlocks.0;
         answer = unlocks.1;
         was_locked = search rules;
         costs_nothing = costs_nothing p q
-            (takes_none b p r q c.in-Some.bucket quiet had freed.did freed.free step.plain step.memo set.pass set.sets)
-            (unlocks_undrawn b p r q c.in-Some.bucket quiet had freed.did freed.free step.plain step.memo set.pass set.sets)
-            (unlocks_unread b p r q c.in-Some.bucket quiet had freed.did freed.free step.plain step.memo set.pass set.sets);
+            (takes_none b p r q c.in-Some.bucket quiet had freed.did freed.free step.plain step.memo set.pass set.view set.sets)
+            (unlocks_undrawn b p r q c.in-Some.bucket quiet had freed.did freed.free step.plain step.memo set.pass set.view set.sets)
+            (unlocks_unread b p r q c.in-Some.bucket quiet had freed.did freed.free step.plain step.memo set.pass set.view set.sets);
       };
     }

@@ -1,6 +1,6 @@
 use Rattle.std.proofs.Common.{◌≡◌, [], IfSome, sym, ap, subst, ◌∙◌, arith}
-use Rattle.segcore.specs.Row.{Row}
-use Rattle.segbase.specs.declared.law.Memo.{Memo}
+use Rattle.segcore.specs.Words.{Row}
+use Rattle.segbase.specs.Words.{Memo}
 use Rattle.segstore.proofs.Looks.{loaded, may_load, reads_then}
 use Rattle.segstore.proofs.Readers.{looks}
 use Rattle.segpass.proofs.Costs.{costs_nothing}

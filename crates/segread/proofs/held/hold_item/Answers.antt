@@ -1,5 +1,5 @@
 use Rattle.std.proofs.Common.{Some, refl, ◌∙◌, arith, rules}
-use Rattle.segbase.specs.Passes.{trace}
+use Rattle.segbase.specs.Words.{trace}
 use Rattle.segpass.proofs.Idling.{goes_same}
 use Rattle.segread.proofs.Answered.{gone_reads}
 use Rattle.segread.proofs.ComingIn.{looked, same_view, out_then, few_out}
@@ -40,13 +40,13 @@ returns-in-Found c =
     let f = c.in-Found in let hit = f.hit in let key = c.args.key.now in let set = c.set_hold.ensures in
     let read = read_in b p q t hit.item.seg hit.item.row f.ensures.reads v.ensures.reads in
     let found = read_value b p q t hit.place hit.item hit.header key v.result f.ensures.reads f.ensures.scan v.ensures.reads v.ensures.value in
-    let holds = takes_hold b p t r hit.place hit.item key v.result (record { board = c.args.board; segment = hit.item.seg; row = hit.item.row }) c.requires.pass c.if-is_holding.ensures read found refl refl set.pass set.sets in
+    let holds = takes_hold b p t r hit.place hit.item key v.result (record { board = c.args.board; segment = hit.item.seg; row = hit.item.row }) c.requires.pass c.if-is_holding.ensures read found refl refl set.pass set.view set.sets c.args.now in
     let held = Some (held_at b.shape (trace t) key v.result hit.item.seg) in
-    let still = out_then q t r (looked b q t v.ensures.reads.looked.did.moved) (same_view t r set.sets.view) in record {
+    let still = out_then q t r (looked b q t v.ensures.reads.looked.did.moved) (same_view t r set.view) in record {
       holds = record {
         on = holds.0;
-        takes_no_bit = takes_no_bit b read.reads.own held p t r c.requires.pass read.reads.moved read.reads.only read.plain read.memo set.pass set.sets;
-        draws_nothing = draws_nothing b read.reads.own held p t r c.requires.pass read.reads.moved read.reads.only read.plain read.memo set.pass set.sets;
+        takes_no_bit = takes_no_bit b read.reads.own held p t r c.requires.pass read.reads.moved read.reads.only read.plain read.memo set.pass set.view set.sets;
+        draws_nothing = draws_nothing b read.reads.own held p t r c.requires.pass read.reads.moved read.reads.only read.plain read.memo set.pass set.view set.sets;
         raises_nothing = still.1 ∙ f.ensures.raises_nothing;
         tries = few_out p q r f.ensures.tries still;
         answer = holds.1;
@@ -56,10 +56,10 @@ returns-in-Found c =
 
 pub returns-in-Absent : goal.returns-in-Absent
 returns-in-Absent c = let b = c.args.board.now in let p = c.args.pass.now in let q = c.scan_for.new.pass in let x = c.in-Absent.ensures in record {
-  holds = holds_none b c.args.key.now _ p q c.requires.pass x.reads x.tries x.raises_nothing (λ keeps. (keeps, gone_reads b.shape c.args.key.now (trace p) (trace q) x.scan)) (search rules);
+  holds = holds_none b c.args.key.now c.args.now _ p q c.requires.pass x.reads x.tries x.raises_nothing (λ keeps. (keeps, gone_reads b.shape c.args.key.now c.args.now (trace p) (trace q) x.scan)) (search rules);
 }
 
 pub returns-in-Busy : goal.returns-in-Busy
 returns-in-Busy c = let x = c.in-Busy.ensures in record {
-  holds = holds_none c.args.board.now c.args.key.now _ c.args.pass.now c.scan_for.new.pass c.requires.pass x.reads x.tries x.raises_nothing (λ keeps. (keeps, (let more = x.scan in omega arith))) (search rules);
+  holds = holds_none c.args.board.now c.args.key.now c.args.now _ c.args.pass.now c.scan_for.new.pass c.requires.pass x.reads x.tries x.raises_nothing (λ keeps. (keeps, (let more = x.scan in omega arith))) (search rules);
 }

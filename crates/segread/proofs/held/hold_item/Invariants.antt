@@ -1,5 +1,5 @@
 use Rattle.std.proofs.Common.{option_map}
-use Rattle.segbase.specs.Passes.{trace}
+use Rattle.segbase.specs.Words.{trace}
 use Rattle.segread.proofs.Holding.{held_at}
 use Rattle.segread.proofs.held.hold_item.Given as goal
 

@@ -1,6 +1,6 @@
 use Rattle.std.proofs.Common.{None, [], ◌∷◌}
 use Rattle.segcore.specs.declared.event.Event.TheVariants.{Left}
-use Rattle.segbase.specs.Passes.{number}
+use Rattle.segbase.specs.Words.{number}
 use Rattle.segbase.proofs.Moves.{moved_raised, moved_entered, moved_glanced}
 use Rattle.segpass.proofs.Costs.{costs_nothing}
 use Rattle.segread.proofs.HoldCalls.{moved_to, releases, takes_no_bit, draws_nothing}
@@ -10,13 +10,13 @@ pub returns : goal.returns
 returns c =
     let b = c.args.board.now in let p = c.args.pass.now in let r = c.leave.new.pass in let q = c.set_hold.new.pass in let left = c.leave.ensures in let st = left.step.1 in let set = c.set_hold.ensures in
     let own = Left (number p) c.args.hold.segment ∷ [] in
-    let ends = releases b p r q c.args.hold c.requires.pass c.requires.hold left.did st.plain st.memo set.pass set.sets in
-    let m = moved_to b own None p r q c.requires.pass left.did.moved (tt, tt) st.plain st.memo set.pass set.sets in record {
+    let ends = releases b p r q c.args.hold c.requires.pass c.requires.hold left.did st.plain st.memo set.pass set.view set.sets in
+    let m = moved_to b own None p r q c.requires.pass left.did.moved (tt, tt) st.plain st.memo set.pass set.view set.sets in record {
       releases = record {
         on = ends.0;
         costs_nothing = costs_nothing p q
-            (takes_no_bit b own None p r q c.requires.pass left.did.moved (tt, tt) st.plain st.memo set.pass set.sets)
-            (draws_nothing b own None p r q c.requires.pass left.did.moved (tt, tt) st.plain st.memo set.pass set.sets)
+            (takes_no_bit b own None p r q c.requires.pass left.did.moved (tt, tt) st.plain st.memo set.pass set.view set.sets)
+            (draws_nothing b own None p r q c.requires.pass left.did.moved (tt, tt) st.plain st.memo set.pass set.view set.sets)
             (λ i. (moved_raised b own p q m i, moved_entered b own p q m i, λ bucket. moved_glanced b own p q bucket m i));
         releases = ends.1;
       };

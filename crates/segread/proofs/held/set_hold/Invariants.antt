@@ -1,5 +1,5 @@
-use Rattle.segbase.specs.Passes.{locked}
+use Rattle.segpass.specs.Words.{memo}
 use Rattle.segread.proofs.held.set_hold.Given as goal
 
 abbrev pub ghost-remember : goal.ghost-remember
-ghost-remember g a = record { holding = g.held; locked = locked a.pass.now }
+ghost-remember g a = record (memo a.pass.now) { holding = g.held }

@@ -1,6 +1,6 @@
 use Rattle.std.proofs.Common.{◌∙◌, arith}
-use Rattle.segword.specs.ItemWord.{item_word}
-use Rattle.segbase.specs.Passes.{trace}
+use Rattle.segword.specs.Words.{item_word}
+use Rattle.segbase.specs.Words.{trace}
 use Rattle.segbase.proofs.Moves.{moved_on, is_inside}
 use Rattle.segstore.proofs.Readers.{then_reader}
 use Rattle.segread.proofs.ComingIn.{looked, leaves}
@@ -35,21 +35,21 @@ returns-in-Found c =
     let left = moved_on b _ t r c.leave_segment.ensures.moved in
     let still = looked b q v.new.pass v.ensures.reads.looked.did.moved in
     let out = leaves b hit.item.seg t r c.leave_segment.ensures.moved in record {
-      reads = reads_key b key c.args.draw _ p r c.requires.pass
+      reads = reads_key b key c.args.draw c.args.now _ p r c.requires.pass
           (read_and_left b p q v.new.pass t r hit.item.seg hit.item.row f.ensures.reads v.ensures.reads c.count_hit.ensures.reads c.leave_segment.ensures)
           (let few = f.ensures.tries in let before = still.0 in let same = c.count_hit.ensures.stays_out in let gone = out.0 in omega arith)
           (hit_raises b key v.result c.args.draw p v.new.pass t r read.reads.moved.same (moved_on b _ p v.new.pass read.reads.moved) left (still.1 ∙ f.ensures.raises_nothing)
           (c.count_hit.ensures.raises key v.result (trace p) (is_inside b p v.new.pass hit.item.seg read.reads) found) out.1)
-          (found_reads b.shape hit.place (item_word hit.item) key v.result (trace p) (trace v.new.pass) (trace r)
+          (found_reads b.shape hit.place (item_word hit.item) key v.result c.args.now (trace p) (trace v.new.pass) (trace r)
           (begins_on (trace v.new.pass) (trace t) (trace r) (moved_on b _ v.new.pass t c.count_hit.ensures.reads.reads.moved) left) found);
     }
 
 pub returns-in-Absent : goal.returns-in-Absent
 returns-in-Absent c = let b = c.args.board.now in let p = c.args.pass.now in let q = c.scan_for.new.pass in let x = c.in-Absent.ensures in record {
-  reads = reads_key b c.args.key.now c.args.draw _ p q c.requires.pass x.reads x.tries x.raises_nothing (gone_reads b.shape c.args.key.now (trace p) (trace q) x.scan);
+  reads = reads_key b c.args.key.now c.args.draw c.args.now _ p q c.requires.pass x.reads x.tries x.raises_nothing (gone_reads b.shape c.args.key.now c.args.now (trace p) (trace q) x.scan);
 }
 
 pub returns-in-Busy : goal.returns-in-Busy
 returns-in-Busy c = let x = c.in-Busy.ensures in record {
-  reads = reads_key c.args.board.now c.args.key.now c.args.draw _ c.args.pass.now c.scan_for.new.pass c.requires.pass x.reads x.tries x.raises_nothing (let more = x.scan in omega arith);
+  reads = reads_key c.args.board.now c.args.key.now c.args.draw c.args.now _ c.args.pass.now c.scan_for.new.pass c.requires.pass x.reads x.tries x.raises_nothing (let more = x.scan in omega arith);
 }

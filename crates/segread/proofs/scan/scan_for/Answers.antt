@@ -1,7 +1,6 @@
 use Rattle.std.proofs.Common.{◌≡◌, ◌%◌, ◌∙◌, subst}
-use Rattle.segmodel.specs.Places.{bucket_of}
-use Rattle.segbase.specs.Passes.{trace}
-use Rattle.segbase.specs.Spots.{position}
+use Rattle.segmodel.specs.Words.{bucket_of}
+use Rattle.segbase.specs.Words.{position, trace}
 use Rattle.segread.specs.Scanning.{place_of, IsScanFrom}
 use Rattle.segread.proofs.Scans.{first_place, whole_scan}
 use Rattle.segread.proofs.scan.scan_for.Goals as goal

@@ -1,6 +1,5 @@
 use Rattle.std.proofs.Common.{◌+◌, arith}
-use Rattle.segbase.specs.Passes.{trace}
-use Rattle.segbase.specs.Spots.{position}
+use Rattle.segbase.specs.Words.{position, trace}
 use Rattle.segstore.proofs.Readers.{reader_then, enter_then}
 use Rattle.segread.specs.Scanning.{place_of}
 use Rattle.segread.proofs.Scans.{at_depth, last_of, in_chain, scanned_none, scanned_next, hit_then, gives_up_then, ended_then, next_of, end_of}

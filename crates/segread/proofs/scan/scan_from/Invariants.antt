@@ -1,6 +1,5 @@
 use Rattle.std.proofs.Common.{◌+◌, ◌*◌, ◌≤◌}
-use Rattle.segbase.specs.Passes.{trace}
-use Rattle.segbase.specs.Spots.{position}
+use Rattle.segbase.specs.Words.{position, trace}
 use Rattle.segread.specs.Scanning.{IsPlaceOf}
 use Rattle.segread.proofs.Scans.{HasScanned}
 use Rattle.segread.proofs.scan.scan_from.Given as goal

@@ -1,6 +1,5 @@
 use Rattle.std.proofs.Common.{◌≡◌, ◌+◌, refl, subst, inl, arith}
-use Rattle.segbase.specs.Passes.{trace}
-use Rattle.segbase.specs.Spots.{position}
+use Rattle.segbase.specs.Words.{position, trace}
 use Rattle.segread.specs.Scanning.{place_of, IsPlaceOf, IsWay}
 use Rattle.segread.proofs.Scans.{HasScanned, last_of, on_way, scanned_none, scanned_next, way_then, way_else, next_of}
 use Rattle.segread.proofs.scan.visit_bucket.Goals as goal

@@ -1,5 +1,4 @@
-use Rattle.segbase.specs.Passes.{trace}
-use Rattle.segbase.specs.Spots.{position}
+use Rattle.segbase.specs.Words.{position, trace}
 use Rattle.segread.specs.Scanning.{place_of, IsPlaceOf}
 use Rattle.segread.proofs.Scans.{HasScanned}
 use Rattle.segread.proofs.scan.visit_bucket.Given as goal

@@ -1,8 +1,7 @@
 use Rattle.std.proofs.Common.{◌∙◌, [], refl, arith, sym, subst}
-use Rattle.segbase.specs.Passes.{trace}
-use Rattle.segbase.specs.Spots.{position}
+use Rattle.segbase.specs.Words.{position, trace}
 use Rattle.segbase.proofs.Moves.{moved_on}
-use Rattle.segstore.specs.Linked.{SawItem}
+use Rattle.segstore.specs.Words.{SawItem}
 use Rattle.segstore.proofs.Words.{chained_later}
 use Rattle.segstore.proofs.Seconds.{looked_at}
 use Rattle.segstore.proofs.Readers.{looks, reader_then, enter_then}

@@ -1,6 +1,5 @@
-use Rattle.segbase.specs.Passes.{trace}
-use Rattle.segbase.specs.Spots.{position}
-use Rattle.segstore.specs.Reading.{IsReader}
+use Rattle.segbase.specs.Words.{position, trace}
+use Rattle.segstore.specs.Words.{IsReader}
 use Rattle.segread.specs.Scanning.{Tries}
 use Rattle.segread.proofs.Tries.{Trying}
 use Rattle.segread.proofs.scan.visit_word.Given as goal

@@ -1,6 +1,6 @@
 use Rattle.std.proofs.Common.{◌∙◌, inl, inr, arith}
-use Rattle.segword.specs.ItemWord.{item_word}
-use Rattle.segbase.specs.Passes.{trace}
+use Rattle.segword.specs.Words.{item_word}
+use Rattle.segbase.specs.Words.{trace}
 use Rattle.segbase.proofs.Moves.{moved_on}
 use Rattle.segstore.proofs.Readers.{leave_then}
 use Rattle.segread.proofs.ComingIn.{leaves, few_out}
@@ -12,10 +12,10 @@ returns-in-Found-clause-reads c = let f = c.in-Found in leave_then c.args.board.
 
 pub returns-in-Found-clause-answer : goal.returns-in-Found-clause-answer
 returns-in-Found-clause-answer c = let b = c.args.board.now in let f = c.in-Found in let q = c.scan_for.new.pass in let r = c.leave_segment.new.pass in
-    inr (c.requires.locked, (_, found_reads c.args.board.now.shape f.hit.place (item_word f.hit.item) c.args.key.now f.ensures.scan.value (trace c.args.pass.now) (trace q) (trace r) (moved_on b _ q r c.leave_segment.ensures.moved) f.ensures.scan.found))
+    inr (c.requires.locked, (_, found_reads c.args.board.now.shape f.hit.place (item_word f.hit.item) c.args.key.now f.ensures.scan.value c.args.now (trace c.args.pass.now) (trace q) (trace r) (moved_on b _ q r c.leave_segment.ensures.moved) f.ensures.scan.found))
 
 pub returns-in-Absent-clause-answer : goal.returns-in-Absent-clause-answer
-returns-in-Absent-clause-answer c = gone_reads c.args.board.now.shape c.args.key.now (trace c.args.pass.now) (trace c.scan_for.new.pass) c.in-Absent.ensures.scan
+returns-in-Absent-clause-answer c = gone_reads c.args.board.now.shape c.args.key.now c.args.now (trace c.args.pass.now) (trace c.scan_for.new.pass) c.in-Absent.ensures.scan
 
 pub returns-in-Found-clause-tries : goal.returns-in-Found-clause-tries
 returns-in-Found-clause-tries c = let q = c.scan_for.new.pass in let r = c.leave_segment.new.pass in

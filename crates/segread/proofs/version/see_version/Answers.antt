@@ -1,8 +1,6 @@
 use Rattle.std.proofs.Common.{◌≡◌, ◌+◌, ◌%◌, ◌^◌, subst}
-use Rattle.segcore.specs.Bucket.{bucket_after}
-use Rattle.segbase.specs.Passes.{trace}
-use Rattle.segbase.specs.Spots.{position}
-use Rattle.segbase.specs.Steps.{Glances}
+use Rattle.segcore.specs.Words.{bucket_after}
+use Rattle.segbase.specs.Words.{Glances, position, trace}
 use Rattle.segstore.proofs.Seconds.{looked_at}
 use Rattle.segread.proofs.Hits.{hit_readable}
 use Rattle.segread.proofs.Versions.{is_seen}
@@ -14,8 +12,8 @@ value_of_row-value-requires-clause-readable c = let f = c.in-Found in let hit = 
 
 pub returns-in-Found : goal.returns-in-Found
 returns-in-Found c =
-    let b = c.args.board.now in let z = b.shape in let p = c.args.pass.now in let f = c.in-Found in let v = c.value_of_row-value in let g = c.glance-info in let l = c.look-now in let step = g.ensures.step in record {
-      sight = is_seen b c.args.key.now (position z (trace p) c.args.place) c.args.tries f.hit v.result g.result l.result p c.scan_from.new.pass v.new.pass g.new.pass l.new.pass c.requires.pass.valid c.requires.versions c.requires.free
+    let b = c.args.board.now in let z = b.shape in let p = c.args.pass.now in let f = c.in-Found in let v = c.value_of_row-value in let g = c.glance-info in let l = c.look-word in let step = g.ensures.step in record {
+      sight = is_seen b c.args.key.now c.args.now (position z (trace p) c.args.place) c.args.tries f.hit v.result g.result l.result p c.scan_from.new.pass v.new.pass g.new.pass l.new.pass c.requires.pass.valid c.requires.versions c.requires.free
           f.ensures.reads f.ensures.scan v.ensures.reads v.ensures.value (subst (λ n. Glances b n g.result v.new.pass g.new.pass) c.requires.home g.ensures.glances) step.plain step.memo
           (subst (λ n. g.result.version ≡ (z.first_version + (bucket_after z (trace g.new.pass) n).version) % 2 ^ 32) c.requires.home g.ensures.version)
           (looked_at b g.new.pass l.new.pass f.hit.place l.result l.ensures.step) l.ensures.found;

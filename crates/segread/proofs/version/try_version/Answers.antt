@@ -1,9 +1,7 @@
 use Rattle.std.proofs.Common.{◌/◌, ◌^◌, ◌≤◌, refl, sym, subst}
 use Rattle.std.proofs.lemmas.Bool.{false≢true}
-use Rattle.segword.specs.ItemWord.{item_word}
-use Rattle.segword.specs.SameItem.{IsSameItem}
-use Rattle.segbase.specs.Passes.{trace}
-use Rattle.segbase.specs.Spots.{position}
+use Rattle.segword.specs.Words.{IsSameItem, item_word}
+use Rattle.segbase.specs.Words.{position, trace}
 use Rattle.segbase.proofs.Moves.{is_inside}
 use Rattle.segread.proofs.Disturbing.{by_entries}
 use Rattle.segread.proofs.Tries.{has_tag}
@@ -16,43 +14,43 @@ leave_segment-requires-clause-segment c = c.in-Found.ensures.sight.in_table
 pub returns-then-info : goal.returns-then-info
 returns-then-info c =
     let b = c.args.board.now in let key = c.args.key.now in let p = c.args.pass.now in let l = c.see_version.new.pass in let r = c.leave_segment in let f = c.in-Found in let from = position b.shape (trace p) c.args.place in record {
-      reads = left b key from c.args.tries f.hit f.value f.info f.now p l r.new.pass f.ensures.sight r.ensures;
-      attempt = again_held b key from c.args.tries f.hit f.value f.info f.now p l r.new.pass f.ensures.sight r.ensures c.if-info.true;
+      reads = left b key c.args.now from c.args.tries f.hit f.value f.info f.word p l r.new.pass f.ensures.sight r.ensures;
+      attempt = again_held b key c.args.now from c.args.tries f.hit f.value f.info f.word p l r.new.pass f.ensures.sight r.ensures c.if-info.true;
     }
 
 pub returns-then-same_item : goal.returns-then-same_item
 returns-then-same_item c =
     let b = c.args.board.now in let key = c.args.key.now in let p = c.args.pass.now in let l = c.see_version.new.pass in let t = c.count_hit in let r = c.leave_segment-then-same_item in let f = c.in-Found in let x = f.ensures.sight in let from = position b.shape (trace p) c.args.place in
-    let same = subst (λ w. IsSameItem w f.now) c.pack.ensures (c.if-same_item.ensures.0 refl) in
+    let same = subst (λ w. IsSameItem w f.word) c.pack.ensures (c.if-same_item.ensures.0 refl) in
     let raised = t.ensures.raises key f.value (trace p) (is_inside b p l f.hit.item.seg x.reads.reads) (x.found c.if-info.false) in record {
-      reads = hit_left b key from c.args.tries c.args.draw f.hit f.value f.info f.now p l t.new.pass r.new.pass x c.if-info.false same t.ensures.reads t.ensures.stays_out raised r.ensures;
-      attempt = hit_told b key from c.args.tries c.args.draw f.hit f.value f.info f.now p l t.new.pass r.new.pass x c.if-info.false same t.ensures.reads t.ensures.stays_out raised r.ensures;
+      reads = hit_left b key c.args.now from c.args.tries c.args.draw f.hit f.value f.info f.word p l t.new.pass r.new.pass x c.if-info.false same t.ensures.reads t.ensures.stays_out raised r.ensures;
+      attempt = hit_told b key c.args.now from c.args.tries c.args.draw f.hit f.value f.info f.word p l t.new.pass r.new.pass x c.if-info.false same t.ensures.reads t.ensures.stays_out raised r.ensures;
     }
 
 pub returns-in-Some : goal.returns-in-Some
 returns-in-Some c =
     let b = c.args.board.now in let key = c.args.key.now in let p = c.args.pass.now in let l = c.see_version.new.pass in let r = c.leave_segment-in-Found in let f = c.in-Found in let from = position b.shape (trace p) c.args.place in
-    let other : ¬ (IsSameItem (item_word f.hit.item) f.now) = λ same. false≢true (c.if-same_item.ensures.1 (subst (λ w. IsSameItem w f.now) (sym c.pack.ensures) same)) in record {
-      reads = left b key from c.args.tries f.hit f.value f.info f.now p l r.new.pass f.ensures.sight r.ensures;
-      attempt = again_changed b key from c.args.tries f.hit f.value f.info f.now p l r.new.pass f.ensures.sight r.ensures other (subst (λ w. 1 ≤ w / 2 ^ 52) c.in-Some.ensures.some.0 (has_tag c.in-Some._other));
+    let other : ¬ (IsSameItem (item_word f.hit.item) f.word) = λ same. false≢true (c.if-same_item.ensures.1 (subst (λ w. IsSameItem w f.word) (sym c.pack.ensures) same)) in record {
+      reads = left b key c.args.now from c.args.tries f.hit f.value f.info f.word p l r.new.pass f.ensures.sight r.ensures;
+      attempt = again_changed b key c.args.now from c.args.tries f.hit f.value f.info f.word p l r.new.pass f.ensures.sight r.ensures other (subst (λ w. 1 ≤ w / 2 ^ 52) c.in-Some.ensures.some.0 (has_tag c.in-Some._other));
     }
 
 pub returns-in-Some-place_after : goal.returns-in-Some-place_after
 returns-in-Some-place_after c =
     let b = c.args.board.now in let key = c.args.key.now in let p = c.args.pass.now in let l = c.see_version.new.pass in let r = c.leave_segment-in-Found in let f = c.in-Found in let from = position b.shape (trace p) c.args.place in record {
-      reads = left b key from c.args.tries f.hit f.value f.info f.now p l r.new.pass f.ensures.sight r.ensures;
-      attempt = goes_past b key from c.args.tries f.hit f.value f.info f.now p l r.new.pass f.ensures.sight r.ensures c.requires.pass.valid c.args.tag c.requires.tag (c.in_default.ensures.none refl) c.in-Some-place_after.next c.in-Some-place_after.ensures.after;
+      reads = left b key c.args.now from c.args.tries f.hit f.value f.info f.word p l r.new.pass f.ensures.sight r.ensures;
+      attempt = goes_past b key c.args.now from c.args.tries f.hit f.value f.info f.word p l r.new.pass f.ensures.sight r.ensures c.requires.pass.valid c.args.tag c.requires.tag (c.in_default.ensures.none refl) c.in-Some-place_after.next c.in-Some-place_after.ensures.after;
     }
 
 pub returns-in-None : goal.returns-in-None
 returns-in-None c =
     let b = c.args.board.now in let key = c.args.key.now in let p = c.args.pass.now in let l = c.see_version.new.pass in let r = c.leave_segment-in-Found in let f = c.in-Found in let from = position b.shape (trace p) c.args.place in record {
-      reads = left b key from c.args.tries f.hit f.value f.info f.now p l r.new.pass f.ensures.sight r.ensures;
-      attempt = ends_past b key from c.args.tries f.hit f.value f.info f.now p l r.new.pass f.ensures.sight r.ensures c.requires.pass.valid c.args.tag c.requires.tag (c.in_default.ensures.none refl) c.in-None.ensures.after;
+      reads = left b key c.args.now from c.args.tries f.hit f.value f.info f.word p l r.new.pass f.ensures.sight r.ensures;
+      attempt = ends_past b key c.args.now from c.args.tries f.hit f.value f.info f.word p l r.new.pass f.ensures.sight r.ensures c.requires.pass.valid c.args.tag c.requires.tag (c.in_default.ensures.none refl) c.in-None.ensures.after;
     }
 
 pub returns-in-Busy : goal.returns-in-Busy
 returns-in-Busy c = let b = c.args.board.now in let p = c.args.pass.now in let q = c.see_version.new.pass in let x = c.in-Busy.ensures.sight in record {
   reads = x.0;
-  attempt = (by_entries b c.args.key.now c.args.tries 64 p q x.0 x.1.counts, x.1.tried);
+  attempt = (by_entries b c.args.key.now c.args.now c.args.tries 64 p q x.0 x.1.counts, x.1.tried);
 }

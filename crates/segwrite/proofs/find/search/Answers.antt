@@ -1,9 +1,7 @@
 use Rattle.std.proofs.Common.{eqb, ◌+◌, ◌-◌, ◌*◌, ◌<◌, sym, ap, ◌∙◌, subst, arith}
 use Rattle.std.proofs.lemmas.Bool.{both_ways}
-use Rattle.segcore.specs.Bucket.{bucket_after}
-use Rattle.segcore.specs.Kind.{HasBit}
-use Rattle.segbase.specs.Spots.{position}
-use Rattle.segbase.specs.Passes.{number, trace}
+use Rattle.segcore.specs.Words.{bucket_after, HasBit}
+use Rattle.segbase.specs.Words.{number, position, trace}
 use Rattle.segwrite.proofs.Places.{idles_then, step_idles}
 use Rattle.segwrite.specs.Growing.{Searches}
 use Rattle.segwrite.proofs.Searching.{searching_first, first_bucket, few_buckets, one_at_most}

@@ -1,7 +1,6 @@
 use Rattle.std.proofs.Common.{◌≡◌, ◌+◌, ◌-◌, ◌*◌, ◌/◌}
-use Rattle.segcore.specs.Bucket.{bucket_after}
-use Rattle.segbase.specs.Passes.{trace}
-use Rattle.segbase.specs.Spots.{position}
+use Rattle.segcore.specs.Words.{bucket_after}
+use Rattle.segbase.specs.Words.{position, trace}
 use Rattle.segwrite.proofs.Searching.{Searching}
 use Rattle.segwrite.proofs.find.search.Given as goal
 

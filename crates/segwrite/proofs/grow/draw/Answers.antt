@@ -1,5 +1,5 @@
 use Rattle.std.proofs.Common.{◌<◌, ◌≤◌, subst}
-use Rattle.segword.specs.declared.shape.Shape.{Shape}
+use Rattle.segword.specs.Words.{Shape}
 use Rattle.segwrite.proofs.Drawing.{drawing_first, may_draw, drawing_later, drawn_now, none_left}
 use Rattle.segwrite.proofs.grow.draw.Goals as goal
 

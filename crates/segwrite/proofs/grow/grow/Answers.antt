@@ -1,7 +1,7 @@
 use Rattle.std.proofs.Common.{◌+◌, sym, subst, inl, arith}
-use Rattle.segword.specs.declared.shape.Shape.{Shape}
+use Rattle.segword.specs.Words.{Shape}
 use Rattle.segcore.proofs.Chains.{chain_of}
-use Rattle.segbase.specs.Passes.{trace}
+use Rattle.segbase.specs.Words.{trace}
 use Rattle.segstore.proofs.Refills.{idles}
 use Rattle.segwrite.specs.Growing.{IsLast, HasSpare, Joins, Lengthens}
 use Rattle.segwrite.proofs.Growing.{spare_drawn, last_drawn, home_drawn, lengthened}

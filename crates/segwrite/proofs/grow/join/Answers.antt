@@ -1,5 +1,6 @@
 use Rattle.std.proofs.Common.{Ok, Err, subst}
-use Rattle.segwrite.specs.Growing.{home_at, TriesToJoin}
+use Rattle.segbase.specs.Words.{home_at}
+use Rattle.segwrite.specs.Growing.{TriesToJoin}
 use Rattle.segwrite.proofs.Joining.{joining_first, home_still, joining_later, joins_now}
 use Rattle.segwrite.proofs.grow.join.Goals as goal
 

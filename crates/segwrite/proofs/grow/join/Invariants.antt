@@ -1,5 +1,5 @@
 use Rattle.std.proofs.Common.{◌-◌, ◌^◌}
-use Rattle.segwrite.specs.Growing.{home_at}
+use Rattle.segbase.specs.Words.{home_at}
 use Rattle.segwrite.proofs.Joining.{Joining}
 use Rattle.segwrite.proofs.grow.join.Given as goal
 

@@ -1,16 +1,12 @@
 use Rattle.std.proofs.Common.{◌≡◌, ℕ, [], ◌∷◌, sym, subst}
 use Rattle.std.specs.Prelude.{OnOk}
-use Rattle.segword.specs.declared.item.Item.{Item}
-use Rattle.segword.specs.ItemWord.{item_word}
+use Rattle.segword.specs.Words.{Item, item_word}
 use Rattle.segcore.specs.declared.event.Event.TheVariants.{Put, Chained}
-use Rattle.segcore.specs.Kind.{fill, May}
-use Rattle.segbase.specs.declared.board.Board.{Board}
-use Rattle.segbase.specs.declared.pass.Pass.{Pass}
-use Rattle.segbase.specs.declared.place.Place.{Place}
-use Rattle.segbase.specs.Passes.{number, trace, IsPassOf, AddsAtOnce}
-use Rattle.segbase.specs.Spots.{home_bucket_of}
+use Rattle.segcore.specs.Words.{fill, May}
+use Rattle.segbase.specs.Words.{AddsAtOnce, Board, home_at, home_bucket_of, IsPassOf, number, Pass}
+use Rattle.segbase.specs.Words.{Place, trace}
 use Rattle.segstore.proofs.Seconds.{unpacked}
-use Rattle.segwrite.specs.Growing.{home_at, IsLast, HasSpare}
+use Rattle.segwrite.specs.Growing.{IsLast, HasSpare}
 use Rattle.segwrite.proofs.Joining.{drawn_home, may_fill, spare_filled, last_filled, copy_filled, home_is, may_chain, tried}
 use Rattle.segwrite.proofs.grow.try_to_join.Goals as goal
 

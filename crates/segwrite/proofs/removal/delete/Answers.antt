@@ -1,8 +1,8 @@
 use Rattle.std.proofs.Common.{◌≡◌, ◌%◌, false, refl, sym, ap, ◌∙◌, subst}
-use Rattle.segword.specs.Fnv.{tag_from_hash}
+use Rattle.segword.specs.Words.{tag_from_hash}
 use Rattle.segmodel.specs.declared.request.Request.TheVariants.{Delete}
-use Rattle.segmodel.specs.Places.{bucket_of, tag_of}
-use Rattle.segpass.specs.Taking.{TookToWrite, TakesToWrite}
+use Rattle.segmodel.specs.Words.{bucket_of, tag_of}
+use Rattle.segpass.specs.Words.{TakesToWrite, TookToWrite}
 use Rattle.segwrite.specs.Refusing.{Removes}
 use Rattle.segwrite.proofs.Deleting.{deletes, deletes_nothing}
 use Rattle.segpass.proofs.UnderWrite.{took_moved, took_clean}
@@ -11,7 +11,7 @@ use Rattle.segwrite.proofs.removal.delete.Goals as goal
 pub returns-then-not-take_to_write : goal.returns-then-not-take_to_write
 returns-then-not-take_to_write c =
     let home : c.bucket_of-bucket.result ≡ bucket_of c.args.board.now.shape c.args.key.now = c.bucket_of-bucket.ensures ∙ (λ i. c.hash-hash.ensures i % (c.shape.ensures i).buckets) in
-    record { deletes = deletes_nothing c.args.board.now c.args.key.now c.args.pass.now c.take_to_write.new.pass (subst (λ k. TakesToWrite c.args.board.now k false c.args.pass.now c.take_to_write.new.pass) home c.if-not-take_to_write.ensures.takes) }
+    record { deletes = deletes_nothing c.args.board.now c.args.key.now c.args.now c.args.pass.now c.take_to_write.new.pass (subst (λ k. TakesToWrite c.args.board.now k false c.args.pass.now c.take_to_write.new.pass) home c.if-not-take_to_write.ensures.takes) }
 
 pub remove-requires : goal.remove-requires
 remove-requires c = let b = c.args.board.now in let words = c.new in let took = c.if-not-take_to_write.ensures.takes in
@@ -23,6 +23,6 @@ pub returns : goal.returns
 returns c = let b = c.args.board.now in let words = c.new in
     let home : c.bucket_of-bucket.result ≡ bucket_of b.shape c.args.key.now = c.bucket_of-bucket.ensures ∙ (λ i. c.hash-hash.ensures i % (c.shape.ensures i).buckets) in
     record {
-      deletes = deletes b c.args.key.now _ _ _ c.requires.quiet (subst (λ k. TookToWrite b k c.args.pass.now c.take_to_write.new.pass) home c.if-not-take_to_write.ensures.takes) c.remove.result
-          (subst (λ k. Removes b (Delete k) c.remove.result c.take_to_write.new.pass c.remove.new.pass) words.ensures.value c.remove.ensures.removes);
+      deletes = deletes b c.args.key.now c.args.now _ _ _ c.requires.quiet (subst (λ k. TookToWrite b k c.args.pass.now c.take_to_write.new.pass) home c.if-not-take_to_write.ensures.takes) c.remove.result
+          (subst (λ k. Removes b (Delete k c.args.now) c.remove.result c.take_to_write.new.pass c.remove.new.pass) words.ensures.value c.remove.ensures.removes);
     }

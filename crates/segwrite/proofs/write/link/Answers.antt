@@ -1,5 +1,5 @@
 use Rattle.std.proofs.Common.{refl, ◌∙◌}
-use Rattle.segmodel.specs.Request.{key_of}
+use Rattle.segmodel.specs.Words.{key_of}
 use Rattle.segwrite.proofs.Linking.{own_item, retry_first, retry_later, came_about, link_event, is_link}
 use Rattle.segwrite.proofs.write.link.Goals as goal
 

@@ -1,19 +1,16 @@
 use Rattle.std.proofs.Common.{◌≡◌, ℕ, List, refl, sym, ap, ◌∙◌, subst, arith}
-use Rattle.segword.specs.Bytes.{IsKey, IsValue}
-use Rattle.segword.specs.Row.{row_of}
-use Rattle.segmodel.specs.declared.request.Request.{Request}
-use Rattle.segmodel.specs.Places.{bucket_of, tag_of}
-use Rattle.segmodel.specs.Request.{key_of, value_of}
-use Rattle.segcore.specs.Row.{Holds, row_after}
+use Rattle.segword.specs.Words.{IsKey, IsValue, row_of}
+use Rattle.segmodel.specs.Words.{bucket_of, key_of, Request, tag_of, value_of}
+use Rattle.segcore.specs.Words.{Holds, row_after}
 use Rattle.segcore.proofs.Exact.{tagged}
 use Rattle.segcore.proofs.Limits.{low_row, low_segment}
-use Rattle.segbase.specs.declared.board.Board.{Board}
-use Rattle.segbase.specs.declared.pass.Pass.{Pass}
-use Rattle.segbase.specs.Passes.{number, trace, AddsEvents}
-use Rattle.segstore.specs.Rows.{fills}
+use Rattle.segbase.specs.Words.{AddsEvents, Board, number, Pass, trace}
+use Rattle.segstore.specs.Words.{fills, KeepsSegments}
+use Rattle.segwrite.specs.Storing.{HasWritten, StoresUnderBit}
+use Rattle.segwrite.specs.Writes.{UsesRow}
 use Rattle.segstore.proofs.Keeping.{next_is_own}
 use Rattle.segwrite.proofs.Filling.{fills_nowhere}
-use Rattle.segwrite.proofs.Storing.{target_later, clean_later, reply_later, may_store, has_written, stores_all, keeps_all}
+use Rattle.segwrite.proofs.Storing.{target_later, clean_later, reply_later, may_store, has_written, stores_all, keeps_all, uses_all}
 use Rattle.segwrite.proofs.write.store.Goals as goal
 
 pub fill_row-requires-clause-own : goal.fill_row-requires-clause-own
@@ -52,24 +49,33 @@ link-requires g c = let b = c.args.board.now in let r = c.requires in let w = c.
     (pair.0.pass, ((r.1.1.1.1.1.0 ∙ ap tag_of (sym asks.of.0), refl), (target, may_store b g.request c.args.target s row _ clean_now target stored w.own pair.1 pair.2 pair.3)))
 
 pub returns-clause-stores : goal.returns-clause-stores
-returns-clause-stores g c = let b = c.args.board.now in let r = c.requires in let w = c.fill_row.ensures in let u = c.set_used.ensures in
+returns-clause-stores g c = let b = c.args.board.now in let r = c.requires in let w = c.fill_row.ensures in let counts = sym c.set_used.ensures in
     let asks = r.1.1.1.0 in let clean = r.1.1.1.1.1.1.0 in
     let pair = pair_of b g.request c.args.key.now c.args.value.now c.args.segment c.args.row _ _ asks.of.0 asks.of.1 w.moved w.holds r.1.1.1.1.0 w.valid in
     let own = fills (number c.args.pass.now) c.args.segment c.args.row (row_of (key_of g.request) (value_of g.request)) 8 in
     let none = fills_nowhere b.shape (bucket_of b.shape (key_of g.request)) (number c.args.pass.now) c.args.segment c.args.row (row_of (key_of g.request) (value_of g.request)) 8 in
-    stores_all b g.request c.args.target c.args.segment c.args.row _ _ _ _ r.1.1.0 pair.0 c.link.ensures.did u.seat u.same.owner
-    (clean_later b own _ _ (key_of g.request) pair.0 r.0 clean.bit none clean) (target_later b own _ _ (key_of g.request) pair.0 r.0 clean.bit none c.args.target r.1.1.1.1.1.1.1)
+    subst (StoresUnderBit b g.request c.args.segment c.args.row c.args.pass.now) counts
+    (stores_all b g.request c.args.target c.args.segment c.args.row _ _ _ r.1.1.0 pair.0 c.link.ensures.did
+    (clean_later b own _ _ (key_of g.request) pair.0 r.0 clean.bit none clean) (target_later b own _ _ (key_of g.request) pair.0 r.0 clean.bit none c.args.target r.1.1.1.1.1.1.1))
 
 pub returns-clause-segments : goal.returns-clause-segments
-returns-clause-segments g c = let b = c.args.board.now in let r = c.requires in let w = c.fill_row.ensures in let u = c.set_used.ensures in
+returns-clause-segments g c = let b = c.args.board.now in let r = c.requires in let w = c.fill_row.ensures in let counts = sym c.set_used.ensures in
     let asks = r.1.1.1.0 in
     let pair = pair_of b g.request c.args.key.now c.args.value.now c.args.segment c.args.row _ _ asks.of.0 asks.of.1 w.moved w.holds r.1.1.1.1.0 w.valid in
-    keeps_all b g.request c.args.target c.args.segment c.args.row _ _ _ _ r.1.1.0 pair.0 c.link.ensures.did u.seat u.same.owner w.plain c.link.ensures.same.0 u.used u.others u.state u.same.current r.1.0
+    subst (KeepsSegments b) counts (keeps_all b g.request c.args.target c.args.segment c.args.row _ _ _ r.1.1.0 pair.0 c.link.ensures.did w.plain c.link.ensures.same.0 r.1.0)
+
+pub returns-clause-uses : goal.returns-clause-uses
+returns-clause-uses g c = let b = c.args.board.now in let r = c.requires in let w = c.fill_row.ensures in let counts = sym c.set_used.ensures in
+    let asks = r.1.1.1.0 in
+    let pair = pair_of b g.request c.args.key.now c.args.value.now c.args.segment c.args.row _ _ asks.of.0 asks.of.1 w.moved w.holds r.1.1.1.1.0 w.valid in
+    subst (UsesRow c.args.segment c.args.pass.now) counts
+    (uses_all b g.request c.args.target c.args.segment c.args.row _ _ _ r.1.1.0 pair.0 c.link.ensures.did w.plain c.link.ensures.same.0 w.memo c.link.ensures.same.1)
 
 pub returns-clause-bit : goal.returns-clause-bit
-returns-clause-bit g c = let b = c.args.board.now in let r = c.requires in let w = c.fill_row.ensures in let u = c.set_used.ensures in
+returns-clause-bit g c = let b = c.args.board.now in let r = c.requires in let w = c.fill_row.ensures in let counts = sym c.set_used.ensures in
     let asks = r.1.1.1.0 in let clean = r.1.1.1.1.1.1.0 in
     let pair = pair_of b g.request c.args.key.now c.args.value.now c.args.segment c.args.row _ _ asks.of.0 asks.of.1 w.moved w.holds r.1.1.1.1.0 w.valid in
     let own = fills (number c.args.pass.now) c.args.segment c.args.row (row_of (key_of g.request) (value_of g.request)) 8 in
     let none = fills_nowhere b.shape (bucket_of b.shape (key_of g.request)) (number c.args.pass.now) c.args.segment c.args.row (row_of (key_of g.request) (value_of g.request)) 8 in
-    has_written b g.request c.args.target c.args.segment c.args.row _ _ c.link.ensures.did (clean_later b own _ _ (key_of g.request) pair.0 r.0 clean.bit none clean) _ u.seat
+    subst (λ s. HasWritten b s (bucket_of b.shape (key_of g.request))) counts
+    (has_written b g.request c.args.target c.args.segment c.args.row _ _ c.link.ensures.did (clean_later b own _ _ (key_of g.request) pair.0 r.0 clean.bit none clean) _)

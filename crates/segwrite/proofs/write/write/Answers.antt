@@ -1,8 +1,7 @@
 use Rattle.std.proofs.Common.{rules, is_some, ◌≡◌, ◌%◌, sym, ap, ◌∙◌, subst}
 use Rattle.std.proofs.lemmas.Bool.{false≢true}
-use Rattle.segword.specs.Bytes.{IsKey}
-use Rattle.segword.specs.Fnv.{tag_from_hash}
-use Rattle.segmodel.specs.Places.{bucket_of, tag_of}
+use Rattle.segword.specs.Words.{IsKey, tag_from_hash}
+use Rattle.segmodel.specs.Words.{bucket_of, tag_of}
 use Rattle.segwrite.specs.Storing.{HasWritten}
 use Rattle.segwrite.specs.Writing.{own_word}
 use Rattle.segwrite.proofs.Writes.{at_home, may_refuse, may_tell, may_make, may_end, may_store, ends_refused, ends_full, ends_stored}
@@ -11,32 +10,32 @@ use Rattle.segwrite.proofs.write.write.Goals as goal
 pub refusal-requires : goal.refusal-requires
 refusal-requires g c = let b = c.args.board.now in let words = c.new-words in let find = c.search-found in
     let home : c.bucket_of-bucket.result ≡ bucket_of b.shape c.args.key.now = c.bucket_of-bucket.ensures ∙ (λ i. c.hash-hash.ensures i % (c.shape.ensures i).buckets) in
-    may_refuse b c.args.when g.request _ _ _ _ c.requires.1 home words.ensures.value _ _ _ _ c.requires.0 c.if-not-take_to_write.ensures.takes find.ensures.idles find.ensures.searches (search rules) c.is_some-is_present.result (c.is_some-is_present.ensures ∙ ap is_some (c.own_word.ensures ∙ ap own_word c.target.ensures))
+    may_refuse b c.args.when g.request _ _ _ _ _ c.requires.1 home words.ensures.value _ _ _ _ c.requires.0 c.if-not-take_to_write.ensures.takes find.ensures.idles find.ensures.searches (search rules) c.is_some-is_present.result (c.is_some-is_present.ensures ∙ ap is_some (c.own_word.ensures ∙ ap own_word c.target.ensures))
 
 pub refuse-requires : goal.refuse-requires
 refuse-requires g c = let b = c.args.board.now in let words = c.new-words in let find = c.search-found in
     let home : c.bucket_of-bucket.result ≡ bucket_of b.shape c.args.key.now = c.bucket_of-bucket.ensures ∙ (λ i. c.hash-hash.ensures i % (c.shape.ensures i).buckets) in
-    may_tell b c.args.when g.request _ _ _ _ c.requires.1 home words.ensures.value _ _ _ _ c.requires.0 c.if-not-take_to_write.ensures.takes find.ensures.idles find.ensures.searches _ _ c.refusal.ensures.idles c.refusal.ensures.told c.in-Some.refusal c.in-Some.is
+    may_tell b c.args.when g.request _ _ _ _ _ c.requires.1 home words.ensures.value _ _ _ _ c.requires.0 c.if-not-take_to_write.ensures.takes find.ensures.idles find.ensures.searches _ _ c.refusal.ensures.idles c.refusal.ensures.told c.in-Some.refusal c.in-Some.is
 
 pub returns-in-Some : goal.returns-in-Some
 returns-in-Some g c = let b = c.args.board.now in let words = c.new-words in let find = c.search-found in
     let home : c.bucket_of-bucket.result ≡ bucket_of b.shape c.args.key.now = c.bucket_of-bucket.ensures ∙ (λ i. c.hash-hash.ensures i % (c.shape.ensures i).buckets) in
-    record { writes = ends_refused b c.args.when g.request _ _ _ _ c.requires.1 home words.ensures.value _ _ _ _ c.requires.0 c.if-not-take_to_write.ensures.takes find.ensures.idles find.ensures.searches _ _ c.refusal.ensures.idles c.refusal.ensures.told (λ none. false≢true (c.in-Ok.ensures.no_room.1 none)) c.in-Some.refusal _ c.in-Some.is c.refuse.ensures.refuses }
+    record { writes = ends_refused b c.args.when g.request _ _ _ _ _ c.requires.1 home words.ensures.value _ _ _ _ c.requires.0 c.if-not-take_to_write.ensures.takes find.ensures.idles find.ensures.searches _ _ c.refusal.ensures.idles c.refusal.ensures.told (λ none. false≢true (c.in-Ok.ensures.no_room.1 none)) c.in-Some.refusal _ c.in-Some.is c.refuse.ensures.refuses }
 
 pub make_room-requires : goal.make_room-requires
 make_room-requires g c = let b = c.args.board.now in let words = c.new-words in let find = c.search-found in
     let home : c.bucket_of-bucket.result ≡ bucket_of b.shape c.args.key.now = c.bucket_of-bucket.ensures ∙ (λ i. c.hash-hash.ensures i % (c.shape.ensures i).buckets) in
-    let may = may_make b c.args.when g.request _ _ _ _ c.requires.1 home words.ensures.value _ _ _ _ c.requires.0 c.if-not-take_to_write.ensures.takes find.ensures.idles find.ensures.searches _ _ c.refusal.ensures.idles c.refusal.ensures.told in record { pass = may.0; clean = may.1; found = may.2 }
+    let may = may_make b c.args.when g.request _ _ _ _ _ c.requires.1 home words.ensures.value _ _ _ _ c.requires.0 c.if-not-take_to_write.ensures.takes find.ensures.idles find.ensures.searches _ _ c.refusal.ensures.idles c.refusal.ensures.told in record { pass = may.0; clean = may.1; found = may.2 }
 
 pub release-requires : goal.release-requires
 release-requires g c = let b = c.args.board.now in let words = c.new-words in let find = c.search-found in
     let home : c.bucket_of-bucket.result ≡ bucket_of b.shape c.args.key.now = c.bucket_of-bucket.ensures ∙ (λ i. c.hash-hash.ensures i % (c.shape.ensures i).buckets) in
-    may_end b c.args.when g.request _ _ _ _ c.requires.1 home words.ensures.value _ _ _ _ c.requires.0 c.if-not-take_to_write.ensures.takes find.ensures.idles find.ensures.searches _ _ c.refusal.ensures.idles c.refusal.ensures.told _ c.make_room.result c.make_room.ensures.makes c.in_default-make_room.is
+    may_end b c.args.when g.request _ _ _ _ _ c.requires.1 home words.ensures.value _ _ _ _ c.requires.0 c.if-not-take_to_write.ensures.takes find.ensures.idles find.ensures.searches _ _ c.refusal.ensures.idles c.refusal.ensures.told _ c.make_room.result c.make_room.ensures.makes c.in_default-make_room.is
 
 pub returns-in_default-make_room : goal.returns-in_default-make_room
 returns-in_default-make_room g c = let b = c.args.board.now in let words = c.new-words in let find = c.search-found in let step = c.release.ensures.step.1 in
     let home : c.bucket_of-bucket.result ≡ bucket_of b.shape c.args.key.now = c.bucket_of-bucket.ensures ∙ (λ i. c.hash-hash.ensures i % (c.shape.ensures i).buckets) in record {
-      writes = ends_full b c.args.when g.request _ _ _ _ c.requires.1 home words.ensures.value _ _ _ _ c.requires.0 c.if-not-take_to_write.ensures.takes find.ensures.idles find.ensures.searches _ _ c.refusal.ensures.idles c.refusal.ensures.told _ c.make_room.result c.make_room.ensures.makes c.in_default-make_room.is
+      writes = ends_full b c.args.when g.request _ _ _ _ _ c.requires.1 home words.ensures.value _ _ _ _ c.requires.0 c.if-not-take_to_write.ensures.takes find.ensures.idles find.ensures.searches _ _ c.refusal.ensures.idles c.refusal.ensures.told _ c.make_room.result c.make_room.ensures.makes c.in_default-make_room.is
           (λ none. false≢true (c.in-Ok.ensures.no_room.1 none)) _ c.in_default-refusal.is c.release.ensures.did c.release.ensures.free step.plain step.memo;
     }
 
@@ -44,18 +43,18 @@ pub store-requires : goal.store-requires
 store-requires g c = let b = c.args.board.now in let words = c.new-words in let find = c.search-found in
     let home : c.bucket_of-bucket.result ≡ bucket_of b.shape c.args.key.now = c.bucket_of-bucket.ensures ∙ (λ i. c.hash-hash.ensures i % (c.shape.ensures i).buckets) in
     let tag = c.tag_of-tag.ensures ∙ (ap tag_from_hash c.hash-hash.ensures ∙ ap tag_of (sym words.ensures.value)) in
-    may_store b c.args.when g.request _ _ _ _ c.requires.1 home words.ensures.value _ _ _ _ c.requires.0 c.if-not-take_to_write.ensures.takes find.ensures.idles find.ensures.searches _ _ c.refusal.ensures.idles c.refusal.ensures.told _ c.make_room.result c.make_room.ensures.makes c.in-Some-make_room.target c.in-Some-make_room.is
+    may_store b c.args.when g.request _ _ _ _ _ c.requires.1 home words.ensures.value _ _ _ _ c.requires.0 c.if-not-take_to_write.ensures.takes find.ensures.idles find.ensures.searches _ _ c.refusal.ensures.idles c.refusal.ensures.told _ c.make_room.result c.make_room.ensures.makes c.in-Some-make_room.target c.in-Some-make_room.is
     c.in-Ok.segment c.in-Ok.row _ c.in_default-refusal.is c.in-Ok.ensures.next (subst IsKey (sym words.ensures.value) words.ensures.valid) tag
 
 pub release-requires-2 : goal.release-requires-2
 release-requires-2 g c = let b = c.args.board.now in let words = c.new-words in let find = c.search-found in
     let home : c.bucket_of-bucket.result ≡ bucket_of b.shape c.args.key.now = c.bucket_of-bucket.ensures ∙ (λ i. c.hash-hash.ensures i % (c.shape.ensures i).buckets) in
-    let at = at_home b c.args.when g.request _ _ _ _ c.requires.1 home words.ensures.value _ _ _ _ c.requires.0 c.if-not-take_to_write.ensures.takes find.ensures.idles find.ensures.searches in
+    let at = at_home b c.args.when g.request _ _ _ _ _ c.requires.1 home words.ensures.value _ _ _ _ c.requires.0 c.if-not-take_to_write.ensures.takes find.ensures.idles find.ensures.searches in
     let wrote = subst (HasWritten b c.store.new.pass) (sym at) c.store.ensures.bit in (c.store.ensures.stores.1.pass, (wrote.bit, wrote.written, wrote.undrawn, tt))
 
 pub returns : goal.returns
 returns g c = let b = c.args.board.now in let words = c.new-words in let find = c.search-found in let step = c.release-2.ensures.step.1 in let s = c.store.ensures in
     let home : c.bucket_of-bucket.result ≡ bucket_of b.shape c.args.key.now = c.bucket_of-bucket.ensures ∙ (λ i. c.hash-hash.ensures i % (c.shape.ensures i).buckets) in record {
-      writes = ends_stored b c.args.when g.request _ _ _ _ c.requires.1 home words.ensures.value _ _ _ _ c.requires.0 c.if-not-take_to_write.ensures.takes find.ensures.idles find.ensures.searches _ _ c.refusal.ensures.idles c.refusal.ensures.told _ c.make_room.result c.make_room.ensures.makes c.in-Some-make_room.target c.in-Some-make_room.is
+      writes = ends_stored b c.args.when g.request _ _ _ _ _ c.requires.1 home words.ensures.value _ _ _ _ c.requires.0 c.if-not-take_to_write.ensures.takes find.ensures.idles find.ensures.searches _ _ c.refusal.ensures.idles c.refusal.ensures.told _ c.make_room.result c.make_room.ensures.makes c.in-Some-make_room.target c.in-Some-make_room.is
           (λ none. false≢true (c.in-Ok.ensures.no_room.1 none)) c.in_default-refusal.is c.in-Ok.segment c.in-Ok.row _ _ s.stores s.segments s.uses c.release-2.ensures.did c.release-2.ensures.free step.plain step.memo;
     }

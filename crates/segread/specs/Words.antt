@@ -1,0 +1,17 @@
+-- The words of this crate that others use, from one place.
+pub use Rattle.segread.specs.Gets.{disturbed, IsDisturbed, IsGetsAnswer, ReadsVersion}
+pub use Rattle.segread.specs.Gets.{ReadsVersionBetween, StandsLocked}
+pub use Rattle.segread.specs.Holds.{HoldsItem, IsHoldAnswer, IsHoldOf, ReadsHeld, Releases}
+pub use Rattle.segread.specs.Holds.{ReleasesHold, SetsHold}
+pub use Rattle.segread.specs.Props.{IsHoldOf-prop}
+pub use Rattle.segread.specs.Reads.{IsGetAnswer, ReadsBetween, ReadsKey}
+pub use Rattle.segread.specs.Scanning.{place_of}
+use Rattle.segread.specs.declared.held.Hold as declared_hold
+use Rattle.segread.specs.declared.held.HoldAnswer as declared_hold_answer
+
+-- The types of this crate that others name.
+abbrev pub Hold : Type 0
+Hold = declared_hold.Hold
+
+abbrev pub HoldAnswer : Type 0
+HoldAnswer = declared_hold_answer.HoldAnswer

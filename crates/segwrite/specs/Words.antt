@@ -1,0 +1,12 @@
+-- The words of this crate that others use, from one place.
+pub use Rattle.segwrite.specs.Full.{CanGrow, GrowsFor, HasNoWord, WasFull}
+pub use Rattle.segwrite.specs.Telling.{cas_reply, IsTold, WasTold}
+pub use Rattle.segwrite.specs.Writes.{AddsReply, Deletes, IsDeleteAnswer, IsSetAnswer}
+pub use Rattle.segwrite.specs.Writes.{IsWriteAnswer, one_more, UsesRow, Writes}
+pub use Rattle.segwrite.specs.Writing.{first_word, IsEarlier, IsInChain, IsNext, LeadsNowhere}
+pub use Rattle.segwrite.specs.Writing.{LeadsTo, next_word}
+use Rattle.segwrite.specs.declared.find.Target as declared_target
+
+-- The types of this crate that others name.
+abbrev pub Target : Type 0
+Target = declared_target.Target
