@@ -3,35 +3,23 @@ use Rattle.std.proofs.Common.{◌≡◌, ℕ, ◌+◌, ◌-◌, ◌*◌, ◌%◌
 use Rattle.std.proofs.lemmas.Bool.{cases_lt, lt-ltb, le-ltb}
 use Rattle.std.proofs.lemmas.List.{ext_get_or}
 use Rattle.std.specs.Prelude.{slice_index, Option, option_map}
-use Rattle.segword.specs.declared.shape.Shape.{Shape}
-use Rattle.segword.specs.declared.item.Item.{Item}
-use Rattle.segword.specs.Shape.{IsValid}
-use Rattle.segword.specs.Bytes.{IsKey, IsValue}
-use Rattle.segword.specs.ItemWord.{item_word}
-use Rattle.segword.specs.ChainWord.{chain_word, IsChainWord}
-use Rattle.segword.specs.Row.{row_of}
-use Rattle.segmodel.specs.declared.entry.Cached.{Cached}
-use Rattle.segcore.specs.declared.event.Event.{Event}
-use Rattle.segcore.specs.declared.cell.Cell.{Cell}
+use Rattle.segword.specs.Words.{chain_word, IsChainWord, IsKey, IsValid, IsValue, Item, item_word}
+use Rattle.segword.specs.Words.{row_of, Shape}
+use Rattle.segmodel.specs.Words.{Cached}
 use Rattle.segcore.specs.declared.cell.Cell.TheVariants.{OfRow}
-use Rattle.segcore.specs.Bucket.{bucket_after}
-use Rattle.segcore.specs.Overflow.{home as home_at, home_of}
-use Rattle.segcore.specs.Row.{row_after}
-use Rattle.segcore.specs.Lawful.{IsSegment}
-use Rattle.segcore.specs.Word.{word, IsItemAt}
-use Rattle.segcore.specs.Search.{KeyAt}
+use Rattle.segcore.specs.Words.{bucket_after, Cell, Event, home as home_at, home_of, IsItemAt}
+use Rattle.segcore.specs.Words.{IsSegment, KeyAt, row_after, word}
 use Rattle.segcore.proofs.Chains.{chain_of}
 use Rattle.segcore.proofs.ChainWords.{leads_on, ends_there}
 use Rattle.segcore.proofs.Limits.{few_drawn}
 use Rattle.segcore.proofs.StepKinds.{cell_in}
-use Rattle.segbase.specs.declared.place.Place.{Place}
 use Rattle.segbase.specs.declared.closing.Words.{Words}
-use Rattle.segbase.specs.Spots.{cell_at, position, home_bucket}
-use Rattle.segbase.specs.Closing.{shape_of, word_of_cell, IsAtRest}
+use Rattle.segbase.specs.Words.{cell_at, home_bucket, IsAtRest, Place, position, shape_of}
+use Rattle.segbase.specs.Words.{word_of_cell}
 use Rattle.segbase.proofs.Placed.{item_home}
-use Rattle.segstore.specs.Linked.{segment_part, row_part, IsChained, WasLinked}
+use Rattle.segstore.specs.Words.{IsChained, row_part, segment_part, WasLinked}
 use Rattle.segstore.proofs.Words.{at_place, stood_item, segment_of_packed, row_of_packed}
-use Rattle.segread.specs.Scanning.{place_of}
+use Rattle.segread.specs.Words.{place_of}
 use Rattle.segindex.specs.Closing.{IsWordIn, IsBucketIn, IsPairAt}
 
 -- ---- a word

@@ -1,27 +1,20 @@
 -- What no command changes: a pass holds after it what it held before.
 use Rattle.std.proofs.Common.{◌≡◌, ℕ, List, ap, inl, inr}
-use Rattle.segword.specs.declared.shape.Shape.{Shape}
-use Rattle.segmodel.specs.declared.answer.Answer.{Answer}
+use Rattle.segword.specs.Words.{Shape}
+use Rattle.segmodel.specs.Words.{Answer, DeleteAnswer, EvictAnswer, RefillAnswer, Request}
+use Rattle.segmodel.specs.Words.{WriteAnswer}
 use Rattle.segmodel.specs.declared.answer.Answer.TheVariants as answer
 use Rattle.segmodel.specs.declared.answer.Command.{Command}
 use Rattle.segmodel.specs.declared.answer.Command.TheVariants as command
-use Rattle.segmodel.specs.declared.answer.WriteAnswer.{WriteAnswer}
 use Rattle.segmodel.specs.declared.answer.WriteAnswer.TheVariants as write
-use Rattle.segmodel.specs.declared.answer.DeleteAnswer.{DeleteAnswer}
 use Rattle.segmodel.specs.declared.answer.DeleteAnswer.TheVariants as delete
-use Rattle.segmodel.specs.declared.answer.EvictAnswer.{EvictAnswer}
 use Rattle.segmodel.specs.declared.answer.EvictAnswer.TheVariants as evict
-use Rattle.segmodel.specs.declared.answer.RefillAnswer.{RefillAnswer}
 use Rattle.segmodel.specs.declared.answer.RefillAnswer.TheVariants as refill
-use Rattle.segmodel.specs.declared.request.Request.{Request}
 use Rattle.segmodel.specs.declared.request.Request.TheVariants as request
-use Rattle.segbase.specs.declared.board.Board.{Board}
-use Rattle.segbase.specs.declared.law.Memo.{Memo}
-use Rattle.segbase.specs.declared.pass.Pass.{Pass}
-use Rattle.segbase.specs.Passes.{holding}
-use Rattle.segpass.specs.Calls.{memo}
-use Rattle.segwrite.specs.Writes.{IsWriteAnswer, IsDeleteAnswer}
-use Rattle.segevict.specs.Evicting.{IsEvictAnswer}
+use Rattle.segbase.specs.Words.{Board, holding, Memo, Pass}
+use Rattle.segpass.specs.Words.{memo}
+use Rattle.segwrite.specs.Words.{IsDeleteAnswer, IsWriteAnswer}
+use Rattle.segevict.specs.Words.{IsEvictAnswer}
 use Rattle.segindex.specs.Commands.{AnswersCommand}
 use Rattle.segindex.specs.Refilling.{IsRefillAnswer}
 
@@ -37,10 +30,10 @@ write_holds shape request write.NoRoom p q is = held_then p q is.memo
 write_holds shape request write.BucketFull p q is = held_then p q is.0.memo
 write_holds shape request write.Busy p q is = held_then p q is.0.memo
 
-delete_holds : (shape : Shape) (key : List ℕ) (told : DeleteAnswer) (p q : Pass) → IsDeleteAnswer shape key told p q → holding q ≡ holding p
-delete_holds shape key delete.Deleted p q is = held_then p q is.2
-delete_holds shape key delete.NotFound p q is = held_then p q is.2
-delete_holds shape key delete.Busy p q is = held_then p q is.0.memo
+delete_holds : (shape : Shape) (key : List ℕ) (now : ℕ) (told : DeleteAnswer) (p q : Pass) → IsDeleteAnswer shape key now told p q → holding q ≡ holding p
+delete_holds shape key now delete.Deleted p q is = held_then p q is.2
+delete_holds shape key now delete.NotFound p q is = held_then p q is.2
+delete_holds shape key now delete.Busy p q is = held_then p q is.0.memo
 
 evict_holds : (shape : Shape) (segment : ℕ) (told : EvictAnswer) (p q : Pass) → IsEvictAnswer shape segment told p q → holding q ≡ holding p
 evict_holds shape segment (evict.Evicted count) p q is = elim is [
@@ -50,20 +43,20 @@ evict_holds shape segment (evict.Evicted count) p q is = elim is [
 evict_holds shape segment evict.NotYours p q is = ap holding is
 evict_holds shape segment (evict.Busy count) p q is = held_then p q is.1.memo
 
-refill_holds : (segment : ℕ) (told : RefillAnswer) (p q : Pass) → IsRefillAnswer segment told p q → holding q ≡ holding p
-refill_holds segment refill.Refilled p q is = held_then p q is.memo
-refill_holds segment refill.NotYours p q is = ap holding is
-refill_holds segment refill.NotEvicted p q is = ap holding is
-refill_holds segment refill.Held p q is = held_then p q is.0.memo
+refill_holds : (segment deadline : ℕ) (told : RefillAnswer) (p q : Pass) → IsRefillAnswer segment deadline told p q → holding q ≡ holding p
+refill_holds segment deadline refill.Refilled p q is = held_then p q is.memo
+refill_holds segment deadline refill.NotYours p q is = ap holding is
+refill_holds segment deadline refill.NotEvicted p q is = ap holding is
+refill_holds segment deadline refill.Held p q is = held_then p q is.0.memo
 
 pub command_holds : (b : Board) (p q : Pass) (command : Command) (draw : ℕ) (told : Answer) → AnswersCommand b command draw told p q → holding q ≡ holding p
-command_holds b p q (command.Write (request.Set key value)) draw (answer.Write told) is = write_holds b.shape (request.Set key value) told p q is.answer
-command_holds b p q (command.Write (request.Add key value)) draw (answer.Write told) is = write_holds b.shape (request.Add key value) told p q is.answer
-command_holds b p q (command.Write (request.Replace key value)) draw (answer.Write told) is = write_holds b.shape (request.Replace key value) told p q is.answer
-command_holds b p q (command.Write (request.Cas key value version)) draw (answer.Write told) is = write_holds b.shape (request.Cas key value version) told p q is.answer
-command_holds b p q (command.Write (request.Delete key)) draw (answer.Delete told) is = delete_holds b.shape key told p q is.answer
-command_holds b p q (command.Get key) draw (answer.Get told) is = held_then p q is.keeps.memo
-command_holds b p q (command.Gets key) draw (answer.Gets told) is = held_then p q is.keeps.memo
+command_holds b p q (command.Write (request.Set key value now)) draw (answer.Write told) is = write_holds b.shape (request.Set key value now) told p q is.answer
+command_holds b p q (command.Write (request.Add key value now)) draw (answer.Write told) is = write_holds b.shape (request.Add key value now) told p q is.answer
+command_holds b p q (command.Write (request.Replace key value now)) draw (answer.Write told) is = write_holds b.shape (request.Replace key value now) told p q is.answer
+command_holds b p q (command.Write (request.Cas key value version now)) draw (answer.Write told) is = write_holds b.shape (request.Cas key value version now) told p q is.answer
+command_holds b p q (command.Write (request.Delete key now)) draw (answer.Delete told) is = delete_holds b.shape key now told p q is.answer
+command_holds b p q (command.Get key now) draw (answer.Get told) is = held_then p q is.keeps.memo
+command_holds b p q (command.Gets key now) draw (answer.Gets told) is = held_then p q is.keeps.memo
 command_holds b p q (command.Evict segment) draw (answer.Evict told) is = evict_holds b.shape segment told p q is.answer
-command_holds b p q (command.Refill segment) draw (answer.Refill told) is = refill_holds segment told p q is.answer
+command_holds b p q (command.Refill segment deadline) draw (answer.Refill told) is = refill_holds segment deadline told p q is.answer
 command_holds b p q command draw told is = absurd is

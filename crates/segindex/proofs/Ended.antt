@@ -6,23 +6,17 @@ use Rattle.std.specs.Ordering.{is_lt}
 use Rattle.std.specs.List.Sorted.{IsStrictlySortedBy, IsSortedBy, IsPermutation}
 use Rattle.std.specs.Map.{keys_of}
 use Rattle.std.specs.BTreeMap.{is_at}
-use Rattle.segword.specs.declared.shape.Shape.{Shape}
-use Rattle.segmodel.specs.declared.entry.Cached.{Cached}
-use Rattle.segmodel.specs.Cache.{key_cmp, reads}
-use Rattle.segmodel.specs.History.{after}
+use Rattle.segword.specs.Words.{Shape}
+use Rattle.segmodel.specs.Words.{after, Cached, key_cmp, value_under}
 use Rattle.segmodel.specs.History as history
 use Rattle.segmodel.proofs.Ordered.{sorted-after}
-use Rattle.segcore.specs.declared.event.Event.{Event}
-use Rattle.segcore.specs.Event.{seen}
+use Rattle.segcore.specs.Words.{Event, seen}
 use Rattle.segcore.proofs.Counts.{mine_others}
 use Rattle.segcore.proofs.Limits.{bucket_in}
 use Rattle.segcore.proofs.Moments.{seen_begins}
 use Rattle.segcore.proofs.Standing.{legal}
-use Rattle.segbase.specs.declared.board.Board.{Board}
-use Rattle.segbase.specs.declared.pass.Pass.{Pass}
 use Rattle.segbase.specs.declared.closing.Words.{Words}
-use Rattle.segbase.specs.Passes.{number, trace}
-use Rattle.segbase.specs.Closing.{shape_of, IsAtRest, Closes}
+use Rattle.segbase.specs.Words.{Board, Closes, IsAtRest, number, Pass, shape_of, trace}
 use Rattle.segindex.specs.Closing.{Pairs, pair_of, pairs_of, listed, IsListed, IsEnd, IsContent, IsContentSeen, HasContent, WantsMemory}
 use Rattle.segindex.proofs.Pairs.{AreDistinct, IsOrdered, ordered, listed_sorted, listed_unsorted, one_list}
 
@@ -43,8 +37,8 @@ module _ (words : Words) (now : List Event) (rest : IsAtRest words now) (pairs s
   in_order : AreDistinct sorted × IsOrdered sorted
   in_order = ordered pairs sorted all.distinct moves up
 
-  same_value : (key : List ℕ) → listed sorted key ≡ reads (after z (seen now)) key
-  same_value key = same_options (listed sorted key) (reads (after z (seen now)) key)
+  same_value : (key : List ℕ) → listed sorted key ≡ value_under (after z (seen now)) key
+  same_value key = same_options (listed sorted key) (value_under (after z (seen now)) key)
       (λ value is. (all.only key value (listed_unsorted pairs sorted key value all.distinct moves is)).1)
       (λ value is. listed_sorted pairs sorted key value in_order.0 moves (all.all key value (inl (bucket_in z key rest.valid)) is))
 

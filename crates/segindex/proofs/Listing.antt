@@ -4,16 +4,9 @@ use Rattle.std.proofs.lemmas.Bool.{cases_eq}
 use Rattle.std.proofs.lemmas.Option.{none-some, same_Some}
 use Rattle.std.specs.Prelude.{option_map, Result, Ok, Err, OnErr}
 use Rattle.std.specs.Option.{option_to_list}
-use Rattle.segword.specs.declared.shape.Shape.{Shape}
-use Rattle.segmodel.specs.declared.entry.Cached.{Cached}
-use Rattle.segmodel.specs.Places.{bucket_of}
-use Rattle.segmodel.specs.Cache.{reads, standing}
-use Rattle.segmodel.specs.History.{after}
-use Rattle.segcore.specs.declared.event.Event.{Event}
-use Rattle.segcore.specs.Event.{seen}
-use Rattle.segcore.specs.Bucket.{Slot, item, IsPosition, bucket_after}
-use Rattle.segcore.specs.Lawful.{IsLawful}
-use Rattle.segcore.specs.Search.{KeyAt}
+use Rattle.segword.specs.Words.{Shape}
+use Rattle.segmodel.specs.Words.{after, bucket_of, Cached, value_under, standing}
+use Rattle.segcore.specs.Words.{bucket_after, Event, IsLawful, IsPosition, item, KeyAt, seen, Slot}
 use Rattle.segcore.proofs.Chains.{same_item}
 use Rattle.segcore.proofs.Coherent.{place}
 use Rattle.segcore.proofs.Standing.{coherent}
@@ -27,7 +20,7 @@ on_err (Err fault) here = here
 
 module _ (z : Shape) (h : List Event) (l : IsLawful z h) where
   abbrev read : List ℕ → Option (List ℕ)
-  read key = reads (after z (seen h)) key
+  read key = value_under (after z (seen h)) key
 
   abbrev ListsBefore : ℕ → ℕ → Pairs → Type 0
   ListsBefore home at pairs = Lists z h (IsBefore z h home at) pairs

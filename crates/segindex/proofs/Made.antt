@@ -1,40 +1,51 @@
--- A pass of a new index is quiet.
-use Rattle.std.proofs.Common.{◌≡◌, ℕ, zero, suc, ◌-◌, ◌≤◌, nat_le, nat_lt, cond, is_some, Some, None, option_map, replicate, slice_get, sym, ap, ◌∙◌, subst, ⊎_elim, arith}
+-- The passes of a new index are quiet.
+use Rattle.std.proofs.Common.{refl, ◌≡◌, ℕ, zero, suc, ◌-◌, ◌≤◌, All, List, get_or, nat_le, nat_lt, cond, is_some, Some, None, option_map, replicate, slice_get, sym, ap, ◌∙◌, subst, ⊎_elim, arith, Option}
 use Rattle.std.proofs.lemmas.Bool.{cases_Bool, cond-true, cond-false, le-ltb}
-use Rattle.std.proofs.lemmas.Option.{none-some, same_Some}
-use Rattle.segmodel.specs.History.{after, NoneStandsIn}
+use Rattle.std.proofs.lemmas.Option.{none-some, same_Some, slice_get-get_or}
+use Rattle.segword.specs.Words.{Shape}
+use Rattle.segmodel.specs.Words.{after, NoneStandsIn}
 use Rattle.segcore.specs.Event as event
-use Rattle.segcore.specs.Row.{row_after}
-use Rattle.segcore.specs.Bucket.{bucket_after}
-use Rattle.segcore.specs.Segment.{inside}
-use Rattle.segbase.specs.declared.law.Locked.{Locked}
-use Rattle.segbase.specs.declared.pass.Pass.{Pass}
-use Rattle.segbase.specs.declared.board.Board.{Board}
-use Rattle.segbase.specs.Passes.{number}
-use Rattle.segbase.specs.Plain.{used_in, used_of}
-use Rattle.segbase.specs.Made.{unfilled, IsNewPlain, IsNewPass}
-use Rattle.segstore.specs.Segments.{KeepsSegments}
-use Rattle.segpass.specs.Quiet.{is_held_in, IsQuiet}
+use Rattle.segcore.specs.Words.{bucket_after, inside, row_after}
+use Rattle.segbase.specs.Words.{Board, IsMade, IsNewPass, IsNewPlain, Locked, number, Pass, deadline_of, OwnSegment, deadline_in, own_segment}
+use Rattle.segbase.specs.Words.{unfilled, used_in, used_of}
+use Rattle.segstore.specs.Words.{KeepsSegments}
+use Rattle.segpass.specs.Words.{is_held_in, IsQuiet}
+use Rattle.segindex.specs.Words.{Index}
+use Rattle.segindex.specs.Index.{board_of, IsNew}
 
-unused : (n k used : ℕ) → used_in (slice_get (replicate n unfilled) k) ≡ Some used → used ≡ 0
-unused zero k used e = absurd (none-some used e)
-unused (suc n) zero used e = sym (same_Some 0 used e)
-unused (suc n) (suc k) used e = unused n k used e
+-- what is told of a segment that was never filled is 0, be it the rows used or the deadline
+record TellsZero (told : Option OwnSegment → Option ℕ) : Type 0 where
+  none : told None ≡ None
+  zero_of : told (Some unfilled) ≡ Some 0
 
--- no row of a segment of a new pass is used
+module _ (told : Option OwnSegment → Option ℕ) (tells : TellsZero told) where
+  unused : (n k count : ℕ) → told (slice_get (replicate n unfilled) k) ≡ Some count → count ≡ 0
+  unused zero k count e = absurd (none-some count (sym tells.none ∙ e))
+  unused (suc n) zero count e = sym (same_Some 0 count (sym tells.zero_of ∙ e))
+  unused (suc n) (suc k) count e = unused n k count e
+
+  -- so it is told of each segment of a new pass
+  zero_told : (b : Board) (n : ℕ) (p : Pass) (segment count : ℕ) → IsNewPlain b.shape n p.plain → told (own_segment p.plain segment) ≡ Some count → count ≡ 0
+  zero_told b n p segment count new is =
+      let first = p.plain.first in
+      let got = slice_get p.plain.segments.items (segment - first) in ⊎_elim
+      (λ t. unused b.shape.segments_each (segment - first) count (ap (λ l. told (slice_get l (segment - first))) (sym new.segments) ∙ (sym (ap told (cond-true (nat_le first segment) got None t)) ∙ is)))
+      (λ f. absurd (none-some count (sym tells.none ∙ (sym (ap told (cond-false (nat_le first segment) got None f)) ∙ is))))
+      (cases_Bool (nat_le first segment))
+
+-- no row of a segment of a new pass is used, and its deadline is 0
 pub none_used : (b : Board) (n : ℕ) (p : Pass) (segment used : ℕ) → IsNewPlain b.shape n p.plain → used_of p segment ≡ Some used → used ≡ 0
-none_used b n p segment used new is =
-    let first = p.plain.first in
-    let got = slice_get p.plain.segments.items (segment - first) in ⊎_elim
-    (λ t. unused b.shape.segments_each (segment - first) used (ap (λ l. used_in (slice_get l (segment - first))) (sym new.segments) ∙ (sym (ap used_in (cond-true (nat_le first segment) got None t)) ∙ is)))
-    (λ f. absurd (none-some used (sym (ap used_in (cond-false (nat_le first segment) got None f)) ∙ is)))
-    (cases_Bool (nat_le first segment))
+none_used = zero_told used_in (record { none = refl; zero_of = refl })
+
+no_deadline : (b : Board) (n : ℕ) (p : Pass) (segment deadline : ℕ) → IsNewPlain b.shape n p.plain → deadline_of p segment ≡ Some deadline → deadline ≡ 0
+no_deadline = zero_told deadline_in (record { none = refl; zero_of = refl })
 
 pub new_keeps : (b : Board) (n : ℕ) (p : Pass) → IsNewPass b n p → KeepsSegments b p
 new_keeps b n p new = record {
   few = λ segment used is. subst (λ u. u ≤ b.shape.rows) (sym (none_used b n p segment used new.plain is)) (omega arith);
   rows = λ segment used row is within.
       ap (λ h. is_some (row_after h segment row).linked) new.nothing ∙ sym (ap (nat_lt row) (none_used b n p segment used new.plain is) ∙ le-ltb row 0 (omega arith));
+  deadlines = λ segment deadline is. ap (λ h. (after b.shape (event.seen h)).deadline segment) new.nothing ∙ sym (no_deadline b n p segment deadline new.plain is);
   in_use = λ segment is. absurd (none-some segment (sym new.plain.current ∙ is));
   unused = λ segment state is other. subst (λ h. NoneStandsIn (after b.shape (event.seen h)) segment) (sym new.nothing) (λ key stands. stands);
 }
@@ -50,3 +61,11 @@ new_quiet b n p new = record {
   inside = λ segment. ap (λ h. inside h (number p) segment) new.nothing ∙ sym (ap (λ o. cond (is_held_in o segment) 1 0) new.holding);
   hold = λ hold is. absurd (none-some hold (sym new.holding ∙ is));
 }
+
+pub all_quiet : (shape : Shape) (b : Board) (passes : List Pass) → IsMade shape b passes → All (IsQuiet b) passes
+all_quiet shape b passes made n p within = let q = get_or passes n p in new_quiet b n q (made.dealt.each n q (slice_get-get_or passes n p within))
+
+-- each pass of a new index has seen nothing, and is quiet
+pub each_new : (shape : Shape) (index : Index) (passes : List Pass) → IsNew shape index passes → (n : ℕ) (p : Pass) → slice_get passes n ≡ Some p
+    → IsNewPass (board_of index) n p × IsQuiet (board_of index) p
+each_new shape index passes new n p is = let one = new.made.dealt.each n p is in (one, new_quiet (board_of index) n p one)

@@ -1,20 +1,16 @@
 -- What two passes that met know of each other.
 use Rattle.std.proofs.Common.{◌≡◌, ℕ, ◌==◌, [], List, sym, ap, ◌∙◌, subst, inl, inr, ⊎_elim}
 use Rattle.std.proofs.lemmas.List.Elements.{filter-append}
-use Rattle.segmodel.specs.declared.entry.Entry.{Entry}
-use Rattle.segmodel.specs.History.{Begins, AreOne, pass_of}
+use Rattle.segmodel.specs.Words.{AreOne, Begins, Entry, pass_of}
 use Rattle.segmodel.specs.History as history
-use Rattle.segcore.specs.declared.event.Event.{Event}
+use Rattle.segcore.specs.Words.{Event}
 use Rattle.segcore.specs.Event as event
 use Rattle.segcore.specs.Mark as mark
 use Rattle.segcore.proofs.Moments.{marked_begins, seen_begins}
-use Rattle.segbase.specs.declared.board.Board.{Board}
-use Rattle.segbase.specs.declared.pass.Pass.{Pass}
-use Rattle.segbase.specs.Passes.{number, trace, mine, AddsEvents}
+use Rattle.segbase.specs.Words.{AddsEvents, Board, mine, number, Pass, trace}
 use Rattle.segbase.proofs.Begun.{begins_then}
 use Rattle.segbase.proofs.Moves.{moved_on, moved_mine}
-use Rattle.segpass.specs.Quiet.{IsQuiet}
-use Rattle.segpass.specs.Calls.{memo}
+use Rattle.segpass.specs.Words.{IsQuiet, memo}
 use Rattle.segpass.proofs.Costs.{idle_costs_nothing}
 use Rattle.segpass.proofs.Idling.{goes_nowhere, does_nothing}
 use Rattle.segindex.specs.Meeting.{Meets, OnlyLearns}

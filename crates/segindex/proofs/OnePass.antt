@@ -3,30 +3,21 @@ use Rattle.std.specs.Prelude.{MatchOption}
 use Rattle.std.proofs.Common.{◌≡◌, ◌≢◌, ℕ, ◌+◌, ◌<◌, true, List, [], ◌∷◌, Option, Some, None, refl, sym, ap, subst, ◌∙◌, ⊎_elim, append-nil, arith}
 use Rattle.std.proofs.lemmas.Bool.{cases_Bool, cond-true, cond-false, eqb-true, false≢true}
 use Rattle.std.proofs.lemmas.Option.{none-some, same_Some}
-use Rattle.segword.specs.declared.shape.Shape.{Shape}
-use Rattle.segcore.specs.declared.event.Event.{Event}
+use Rattle.segword.specs.Words.{Shape}
 use Rattle.segcore.specs.declared.event.Event.TheVariants.{Took, Bounced, Freed}
-use Rattle.segcore.specs.Event.{by, seen, AllBy}
-use Rattle.segcore.specs.Bucket.{Bucket, bucket_at, is, acts, bucket_after}
-use Rattle.segcore.specs.Count.{bounced}
-use Rattle.segcore.specs.Lawful.{needs, IsOther, IsLawful}
-use Rattle.segcore.specs.Mark.{width, chained_to}
-use Rattle.segcore.specs.Segment.{inside}
+use Rattle.segcore.specs.Words.{acts, AllBy, bounced, Bucket, bucket_after, bucket_at, by}
+use Rattle.segcore.specs.Words.{chained_to, Event, inside, is, IsLawful, IsOther, needs, seen}
+use Rattle.segcore.specs.Words.{width}
 use Rattle.segcore.proofs.Counts.{mine_own}
 use Rattle.segcore.proofs.Homes.{spare_held}
 use Rattle.segcore.proofs.KeyCounts.{wide}
 use Rattle.segcore.proofs.Marked.{chained_marked}
 use Rattle.segcore.proofs.Quiet.{quiet_inside}
-use Rattle.segbase.specs.declared.board.Board.{Board}
-use Rattle.segbase.specs.declared.pass.Pass.{Pass}
-use Rattle.segbase.specs.Passes.{number, trace}
+use Rattle.segbase.specs.Words.{Board, locked_of, number, Pass, trace}
 use Rattle.segbase.specs.Passes as passes
-use Rattle.segbase.specs.Plain.{locked_of}
-use Rattle.segpass.specs.Quiet.{IsQuiet}
-use Rattle.segpass.specs.Calls.{IsBusy}
+use Rattle.segpass.specs.Words.{IsBusy, IsQuiet}
 use Rattle.segpass.proofs.Quiet.{has_locked}
-use Rattle.segmodel.specs.History.{mine, entries_of, stirred}
-use Rattle.segmodel.specs.Places.{bucket_of}
+use Rattle.segmodel.specs.Words.{bucket_of, entries_of, mine, stirred}
 use Rattle.segbase.proofs.Alone.{none_by}
 
 pub all_mine : (p : ℕ) (h : List Event) → AllBy p h → mine p (seen h) ≡ seen h

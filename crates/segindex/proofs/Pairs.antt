@@ -18,7 +18,7 @@ use Rattle.std.specs.List.{IsDistinct}
 use Rattle.std.specs.List.Sorted.{IsStrictlySortedBy, IsSortedBy, IsPermutation}
 use Rattle.std.specs.Map.{keys_of}
 use Rattle.std.specs.BTreeMap.{is_at}
-use Rattle.segmodel.specs.Cache.{key_cmp}
+use Rattle.segmodel.specs.Words.{key_cmp}
 use Rattle.segmodel.proofs.Keys.{same_key, at_self}
 use Rattle.segindex.specs.Closing.{Pairs, listed}
 

@@ -1,29 +1,27 @@
 -- What a get reads after a set of its key was stored, by the contracts of both and the laws of the model.
-use Rattle.std.proofs.Common.{◌≡◌, ℕ, List, ◌∷◌, Option, Some, None, sym, ap, ◌∙◌, inl, inr}
+use Rattle.std.proofs.Common.{◌≡◌, ℕ, List, ◌∷◌, Option, Some, None, ap, ◌∙◌, inl, inr}
 use Rattle.std.specs.Prelude.{◌⊎◌, option_map}
 use Rattle.std.proofs.lemmas.Bool.{cond-true}
-use Rattle.segword.specs.declared.shape.Shape.{Shape}
-use Rattle.segmodel.specs.declared.entry.Entry.{Entry}
+use Rattle.segword.specs.Words.{Shape}
 use Rattle.segmodel.specs.declared.entry.Entry.TheVariants.{Wrote}
 use Rattle.segmodel.specs.declared.request.Request.TheVariants.{Set}
 use Rattle.segmodel.specs.declared.request.Reply.TheVariants.{Stored}
-use Rattle.segmodel.specs.declared.answer.GetAnswer.{GetAnswer}
 use Rattle.segmodel.specs.declared.answer.GetAnswer.TheVariants as get
-use Rattle.segmodel.specs.Cache.{reads}
-use Rattle.segmodel.specs.History.{after, Begins, CameBetween, IsLegal, Follows}
-use Rattle.segmodel.specs.Laws.{TakesKeyOut, StoresValue, EarlierIsLegal, GoneIsTakenOut, ChangedIsStored}
+use Rattle.segmodel.specs.Words.{after, Begins, CameBetween, ChangedIsStored, EarlierIsLegal, Entry}
+use Rattle.segmodel.specs.Words.{Follows, GetAnswer, GoneIsTakenOut, IsLegal, reads, StoresValue}
+use Rattle.segmodel.specs.Words.{TakesKeyOut}
 use Rattle.segmodel.proofs.Keys.{at_self}
 use Rattle.segmodel.proofs.HistoryLemmas.{standing-put}
 use Rattle.segcore.proofs.Moments.{begins_on}
-use Rattle.segread.specs.Reads.{IsGetAnswer}
+use Rattle.segread.specs.Words.{IsGetAnswer}
 use Rattle.segindex.specs.Probing.{IsReadSince}
 
 -- a key that was just stored reads its value
-stored_reads : (shape : Shape) (pass : ℕ) (key value : List ℕ) (segment : Option ℕ) (history : List Entry)
-    → Follows shape (after shape history) (Wrote pass (Set key value) Stored segment)
-    → reads (after shape (Wrote pass (Set key value) Stored segment ∷ history)) key ≡ Some value
-stored_reads shape pass key value None history follows = absurd follows.1
-stored_reads shape pass key value (Some s) history follows =
+stored_reads : (shape : Shape) (pass : ℕ) (key value : List ℕ) (now : ℕ) (segment : Option ℕ) (history : List Entry)
+    → Follows shape (after shape history) (Wrote pass (Set key value now) Stored segment)
+    → reads (after shape (Wrote pass (Set key value now) Stored segment ∷ history)) now key ≡ Some value
+stored_reads shape pass key value now None history follows = absurd follows.1
+stored_reads shape pass key value now (Some s) history follows =
     ap (λ o. option_map (λ item. item.value) o) (standing-put shape key value s (after shape history) key ∙ cond-true _ _ _ (at_self key))
 
 -- what came in before an earlier moment came in before a later one
@@ -31,23 +29,23 @@ came_by : (Is : Entry → Type 0) (old at new : List Entry) → Begins at new �
 came_by Is old at new begins came = (came.0, (came.1.0, came.1.1, begins_on (came.0 ∷ came.1.0) at new came.1.2 begins, came.1.3))
 
 pub read_since : EarlierIsLegal → GoneIsTakenOut → ChangedIsStored
-    → (shape : Shape) (pass : ℕ) (key value : List ℕ) (told : GetAnswer) (segment : Option ℕ) (history old new : List Entry)
-    → IsLegal shape new → Begins old new → Begins (Wrote pass (Set key value) Stored segment ∷ history) old → IsGetAnswer shape key told old new
-    → IsReadSince shape key value told (Wrote pass (Set key value) Stored segment ∷ history) old new
-read_since earlier gone changed shape pass key value (get.Found other) segment history old new legal grows begins answer =
+    → (shape : Shape) (pass : ℕ) (key value : List ℕ) (now : ℕ) (told : GetAnswer) (segment : Option ℕ) (history old new : List Entry)
+    → IsLegal shape new → Begins old new → Begins (Wrote pass (Set key value now) Stored segment ∷ history) old → IsGetAnswer shape key now told old new
+    → IsReadSince shape key value told (Wrote pass (Set key value now) Stored segment ∷ history) old new
+read_since earlier gone changed shape pass key value now (get.Found other) segment history old new legal grows begins answer =
     let at = answer.0 in
     let since = begins_on _ old at begins answer.1.0 in
     let legal_at = earlier shape at new answer.1.1 legal in
-    still (changed shape _ at key value other legal_at since (stored_reads shape pass key value segment history (earlier shape _ at since legal_at).1) answer.2)
+    still (changed shape _ at now now key value other legal_at since (stored_reads shape pass key value now segment history (earlier shape _ at since legal_at).1) answer.2)
   where
-    still : (other ≡ value) ⊎ CameBetween (StoresValue key other) (Wrote pass (Set key value) Stored segment ∷ history) answer.0
-        → (other ≡ value) ⊎ CameBetween (StoresValue key other) (Wrote pass (Set key value) Stored segment ∷ history) new
+    still : (other ≡ value) ⊎ CameBetween (StoresValue key other) (Wrote pass (Set key value now) Stored segment ∷ history) answer.0
+        → (other ≡ value) ⊎ CameBetween (StoresValue key other) (Wrote pass (Set key value now) Stored segment ∷ history) new
     still (inl same) = inl same
     still (inr came) = inr (came_by (StoresValue key other) _ answer.0 new answer.1.1 came)
-read_since earlier gone changed shape pass key value get.Miss segment history old new legal grows begins answer =
+read_since earlier gone changed shape pass key value now get.Miss segment history old new legal grows begins answer =
     let at = answer.0 in
     let since = begins_on _ old at begins answer.1.0 in
     let legal_at = earlier shape at new answer.1.1 legal in
     came_by (TakesKeyOut key) _ at new answer.1.1
-    (gone shape _ at key value legal_at since (stored_reads shape pass key value segment history (earlier shape _ at since legal_at).1) answer.2)
-read_since earlier gone changed shape pass key value get.Busy segment history old new legal grows begins answer = answer
+    (gone shape _ at now now key value legal_at since (stored_reads shape pass key value now segment history (earlier shape _ at since legal_at).1) answer.2)
+read_since earlier gone changed shape pass key value now get.Busy segment history old new legal grows begins answer = answer

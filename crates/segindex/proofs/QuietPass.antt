@@ -2,29 +2,20 @@
 use Rattle.std.proofs.Common.{◌≡◌, ℕ, ◌+◌, ◌*◌, ◌<◌, ◌≤◌, eqb, [], ◌∷◌, ⊎_elim, arith, nat_lt, List, is_some, Some, ap, sym, ◌∙◌, subst}
 use Rattle.std.proofs.lemmas.Bool.{cases_Bool}
 use Rattle.std.specs.Prelude.{◌↔◌, IsSome}
-use Rattle.segword.specs.declared.shape.Shape.{Shape}
-use Rattle.segmodel.specs.Places.{owner}
-use Rattle.segmodel.specs.Cache.{keys_in}
-use Rattle.segmodel.specs.History.{after}
+use Rattle.segword.specs.Words.{Shape}
+use Rattle.segmodel.specs.Words.{after, keys_in, owner}
 use Rattle.segmodel.specs.History as history
-use Rattle.segcore.specs.declared.event.Event.{Event}
-use Rattle.segcore.specs.Event.{seen}
-use Rattle.segcore.specs.Lawful.{IsLawful}
-use Rattle.segcore.specs.Mark.{Mark, drawn, linked_in, chained_to, drawn_for, all_drawn, marked}
+use Rattle.segcore.specs.Words.{all_drawn, chained_to, drawn, drawn_for, Event, IsLawful, linked_in}
+use Rattle.segcore.specs.Words.{Mark, marked, seen}
 use Rattle.segcore.proofs.KeyCounts.{counted_few}
 use Rattle.segcore.proofs.Limits.{drawn_few}
 use Rattle.segcore.proofs.Marked.{chained_marked, drawn_marked}
 use Rattle.segcore.proofs.Moments.{seen_begins}
 use Rattle.segcore.proofs.Orderly.{all_drawn_marked, linked_marked}
-use Rattle.segbase.specs.declared.board.Board.{Board}
-use Rattle.segbase.specs.declared.law.Locked.{Locked}
-use Rattle.segbase.specs.declared.pass.Pass.{Pass}
-use Rattle.segbase.specs.Passes.{number, trace, locked}
+use Rattle.segbase.specs.Words.{Board, Locked, locked, number, Pass, state_of, trace, used_of}
 use Rattle.segbase.specs.Passes as passes
-use Rattle.segbase.specs.Plain.{state_of, used_of}
 use Rattle.segbase.proofs.Owned.{owns_state, state_owned}
-use Rattle.segpass.specs.Quiet.{IsQuiet}
-use Rattle.segpass.specs.Locks.{NoneSince}
+use Rattle.segpass.specs.Words.{IsQuiet, NoneSince}
 use Rattle.segpass.proofs.Meanwhile.{none_entries}
 
 -- a pass knows just the segments that it owns

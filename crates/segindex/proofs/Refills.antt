@@ -1,27 +1,22 @@
 -- A refill in the terms of its answer.
-use Rattle.std.proofs.Common.{◌≡◌, ℕ, ◌<◌, Bool, true, false, cond, eqb, List, [], ◌∷◌, Some, None, refl, sym, ap, ◌∙◌, subst, inl, inr, ⊎_elim, arith}
+use Rattle.std.proofs.Common.{◌≡◌, ◌≢◌, ℕ, IsSome, ◌<◌, Bool, true, false, cond, eqb, List, [], ◌∷◌, Some, None, refl, sym, ap, ◌∙◌, subst, inl, inr, ⊎_elim, arith}
 use Rattle.std.proofs.lemmas.Bool.{cases_eq, cases_Bool, cond-true, cond-false, eq-eqb, false≢true}
 use Rattle.std.proofs.lemmas.Option.{same_Some, none-some}
-use Rattle.segmodel.specs.declared.answer.RefillAnswer.{RefillAnswer}
+use Rattle.segmodel.specs.Words.{RefillAnswer, SegState}
 use Rattle.segmodel.specs.declared.answer.RefillAnswer.TheVariants as refill
-use Rattle.segmodel.specs.declared.answer.SegState.{SegState}
 use Rattle.segmodel.specs.declared.answer.SegState.TheVariants.{InUse, Evicted}
 use Rattle.segmodel.specs.declared.entry.Entry.TheVariants as entry
-use Rattle.segcore.specs.declared.event.Event.{Event}
 use Rattle.segcore.specs.declared.event.Event.TheVariants.{Refilled}
-use Rattle.segcore.specs.Event.{by}
-use Rattle.segcore.specs.Segment.{inside, NoneRefills}
-use Rattle.segbase.specs.declared.board.Board.{Board}
-use Rattle.segbase.specs.declared.pass.Pass.{Pass}
-use Rattle.segbase.specs.Traces.{own_of}
-use Rattle.segbase.specs.Passes.{number, trace, mine, holding, AddsEvents}
-use Rattle.segbase.specs.Plain.{state_of}
+use Rattle.segcore.specs.Words.{by, Event, inside, NoneRefills}
+use Rattle.segbase.specs.declared.pass.Plain.{Plain}
+use Rattle.segbase.specs.Words.{AddsEvents, Board, holding, mine, number, own_of, own_segment, Pass}
+use Rattle.segbase.specs.Words.{state_in, state_of, trace, used_in, used_of}
 use Rattle.segbase.proofs.Moves.{moved_inside, moved_mine}
-use Rattle.segstore.specs.Segments.{KeepsSegments}
-use Rattle.segstore.specs.Refilling.{Idles, FillsAnew, IsOutcome}
-use Rattle.segpass.specs.Quiet.{is_held_in, IsQuiet}
-use Rattle.segpass.specs.Calls.{GoesOn, CostsNothing}
-use Rattle.segindex.specs.Refilling.{IsBeingRead, IsRefillAnswer}
+use Rattle.segbase.proofs.Owned.{state_there}
+use Rattle.segstore.specs.Words.{FillsAnew, Idles, IsOutcome, KeepsSegments}
+use Rattle.segpass.specs.Words.{CostsNothing, GoesOn, is_held_in, IsQuiet}
+use Rattle.segindex.specs.Refilling.{IsBeingRead, IsRefillAnswer, Refills}
+use Rattle.segstore.proofs.Keeping.{refilled_state, refilled_used, others_state, others_used}
 use Rattle.segpass.proofs.Bits.{bit_before}
 use Rattle.segpass.proofs.Draws.{moved_undrawn}
 use Rattle.segpass.proofs.Quiet.{StaysQuiet, quiet_again, goes_on}
@@ -31,24 +26,24 @@ use Rattle.segpass.proofs.Costs.{costs_nothing, idle_costs_nothing}
 
 -- ---- quiet again
 
-fills_settles : (b : Board) (s : ℕ) (p q : Pass) → FillsAnew b s p q → KeepsSegments b q → StaysQuiet b (Refilled (number p) s ∷ []) p q
-fills_settles b s p q f segments = record {
+fills_settles : (b : Board) (s d : ℕ) (p q : Pass) → FillsAnew b s d p q → KeepsSegments b q → StaysQuiet b (Refilled (number p) s d ∷ []) p q
+fills_settles b s d p q f segments = record {
   moved = f.moved;
   memo = f.memo;
-  locked_of = f.locked;
-  holding = f.is_holding;
+  locked_of = ap (λ (x : Plain). x.locked) f.plain;
+  holding = ap (λ (x : Plain). x.is_holding) f.plain;
   segments = segments;
-  bits = λ bucket. bit_before b (Refilled (number p) s ∷ []) p q bucket f.moved (refl, tt);
+  bits = λ bucket. bit_before b (Refilled (number p) s d ∷ []) p q bucket f.moved (refl, tt);
   untouched = λ lock is. (refl, tt);
-  readings = λ t. moved_inside b (Refilled (number p) s ∷ []) p q t f.moved;
+  readings = λ t. moved_inside b (Refilled (number p) s d ∷ []) p q t f.moved;
   stays = λ t there. (there, there);
 }
 
-pub refill_goes_on : (b : Board) (s : ℕ) (r : RefillAnswer) (p q : Pass) → IsQuiet b p → IsOutcome b s r p q → KeepsSegments b q → GoesOn b p q
-refill_goes_on b s refill.Refilled p q quiet is k = let own = Refilled (number p) s ∷ [] in goes_on b own p q is.moved (quiet_again b own p q quiet (fills_settles b s p q is k))
-refill_goes_on b s refill.NotYours p q quiet is k = rw is (goes_same b p quiet)
-refill_goes_on b s refill.NotEvicted p q quiet is k = rw is (goes_same b p quiet)
-refill_goes_on b s refill.Held p q quiet is k = goes_nowhere b p q quiet is.0.moved is.0.plain is.0.memo
+pub refill_goes_on : (b : Board) (s d : ℕ) (r : RefillAnswer) (p q : Pass) → IsQuiet b p → IsOutcome b s d r p q → KeepsSegments b q → GoesOn b p q
+refill_goes_on b s d refill.Refilled p q quiet is k = let own = Refilled (number p) s d ∷ [] in goes_on b own p q is.moved (quiet_again b own p q quiet (fills_settles b s d p q is k))
+refill_goes_on b s d refill.NotYours p q quiet is k = rw is (goes_same b p quiet)
+refill_goes_on b s d refill.NotEvicted p q quiet is k = rw is (goes_same b p quiet)
+refill_goes_on b s d refill.Held p q quiet is k = goes_nowhere b p q quiet is.0.moved is.0.plain is.0.memo
 
 -- ---- the answer
 
@@ -63,28 +58,41 @@ is_read b s other p q quiet i there = ⊎_elim
     (λ ne. inl (other, ne, there))
     (cases_eq other (number q))
 
-pub refill_answers : (b : Board) (s : ℕ) (r : RefillAnswer) (p q : Pass) → IsQuiet b p → IsOutcome b s r p q → IsRefillAnswer s r p q
-refill_answers b s refill.Refilled p q quiet is = record {
-  entry = moved_mine b (Refilled (number p) s ∷ []) p q is.moved ∙ cond-true (eqb (number p) (number p)) (entry.Refilled (number p) s ∷ mine p) (mine p) (eq-eqb (number p) (number p) refl);
-  current = is.current;
-  state = is.state;
-  used = is.used;
-  other_states = is.other_states;
-  other_used = is.other_used;
-  locked = is.locked;
-  is_holding = is.is_holding;
+pub refill_answers : (b : Board) (s d : ℕ) (r : RefillAnswer) (p q : Pass) → IsQuiet b p → IsOutcome b s d r p q → IsRefillAnswer s d r p q
+refill_answers b s d refill.Refilled p q quiet is = record {
+  entry = moved_mine b (Refilled (number p) s d ∷ []) p q is.moved ∙ cond-true (eqb (number p) (number p)) (entry.Refilled (number p) s d ∷ mine p) (mine p) (eq-eqb (number p) (number p) refl);
+  own = is.own;
+  plain = is.plain;
   memo = is.memo;
 }
-refill_answers b s refill.NotYours p q quiet is = is
-refill_answers b s refill.NotEvicted p q quiet is = is
-refill_answers b s refill.Held p q quiet is = (does_nothing b p q quiet is.0.moved is.0.plain is.0.memo, is_read b s is.1.0 p q quiet is.0 is.1.1)
+refill_answers b s d refill.NotYours p q quiet is = is
+refill_answers b s d refill.NotEvicted p q quiet is = is
+refill_answers b s d refill.Held p q quiet is = (does_nothing b p q quiet is.0.moved is.0.plain is.0.memo, is_read b s is.1.0 p q quiet is.0 is.1.1)
 
-pub refill_costs_nothing : (b : Board) (s : ℕ) (r : RefillAnswer) (p q : Pass) → IsOutcome b s r p q → CostsNothing p q
-refill_costs_nothing b s refill.Refilled p q is = let own = Refilled (number p) s ∷ [] in
+pub refill_costs_nothing : (b : Board) (s d : ℕ) (r : RefillAnswer) (p q : Pass) → IsOutcome b s d r p q → CostsNothing p q
+refill_costs_nothing b s d refill.Refilled p q is = let own = Refilled (number p) s d ∷ [] in
     costs_nothing p q (took_none b own p q is.moved refl (λ bucket. refl)) (moved_undrawn b own p q is.moved (tt, tt)) (no_reader b own p q is.moved (tt, tt))
-refill_costs_nothing b s refill.NotYours p q is = rw is refl
-refill_costs_nothing b s refill.NotEvicted p q is = rw is refl
-refill_costs_nothing b s refill.Held p q is = idle_costs_nothing b p q is.0.moved
+refill_costs_nothing b s d refill.NotYours p q is = rw is refl
+refill_costs_nothing b s d refill.NotEvicted p q is = rw is refl
+refill_costs_nothing b s d refill.Held p q is = idle_costs_nothing b p q is.0.moved
+
+-- ---- what is known of the segments
+
+module _ (segment deadline : ℕ) (p q : Pass) (is : Refills segment deadline p q) where
+  own_before : IsSome (own_segment p.plain segment)
+  own_before = sym (state_there (own_segment p.plain segment)) ∙ is.own
+
+  pub refills_state : state_of q segment ≡ Some InUse
+  refills_state = ap (λ (x : Plain). state_in (own_segment x segment)) is.plain ∙ refilled_state p.plain segment deadline own_before
+
+  pub refills_used : used_of q segment ≡ Some 0
+  refills_used = ap (λ (x : Plain). used_in (own_segment x segment)) is.plain ∙ refilled_used p.plain segment deadline own_before
+
+  pub other_states : (s : ℕ) → s ≢ segment → state_of q s ≡ state_of p s
+  other_states s ne = ap (λ (x : Plain). state_in (own_segment x s)) is.plain ∙ others_state p.plain segment deadline s ne
+
+  pub other_used : (s : ℕ) → s ≢ segment → used_of q s ≡ used_of p s
+  other_used s ne = ap (λ (x : Plain). used_in (own_segment x s)) is.plain ∙ others_used p.plain segment deadline s ne
 
 -- ---- a segment in which the pass holds an item
 
@@ -95,18 +103,18 @@ none_own s p (e ∷ more) none = ⊎_elim
     (λ f. subst (NoneRefills s) (sym (cond-false (eqb (by e) p) (e ∷ own_of p more) (own_of p more) f)) (none_own s p more none.1))
     (cases_Bool (eqb (by e) p))
 
-stays_unfilled : (b : Board) (s : ℕ) (p q : Pass) → AddsEvents b (Refilled (number p) s ∷ []) p q → 0 < inside (trace p) (number p) s → ⊥
-stays_unfilled b s p q m there =
-    let none : NoneRefills s (Refilled (number p) s ∷ []) = subst (NoneRefills s) m.adds (none_own s (number p) m.more (m.kept s (there, there))) in
-    none.0 (number p) refl
+stays_unfilled : (b : Board) (s d : ℕ) (p q : Pass) → AddsEvents b (Refilled (number p) s d ∷ []) p q → 0 < inside (trace p) (number p) s → ⊥
+stays_unfilled b s d p q m there =
+    let none : NoneRefills s (Refilled (number p) s d ∷ []) = subst (NoneRefills s) m.adds (none_own s (number p) m.more (m.kept s (there, there))) in
+    none.0 (number p) d refl
 
 abbrev is_evicted : SegState → Bool
 is_evicted Evicted = true
 is_evicted state = false
 
-pub refill_held : (b : Board) (s : ℕ) (r : RefillAnswer) (p q : Pass) → IsQuiet b p → IsOutcome b s r p q → (r ≡ refill.NotYours → state_of p s ≡ None) → (r ≡ refill.NotEvicted → state_of p s ≡ Some InUse) → state_of p s ≡ Some Evicted → is_held_in (holding p) s ≡ true → r ≡ refill.Held
-refill_held b s refill.Refilled p q quiet is yours used evicted held =
-    absurd (stays_unfilled b s p q is.moved (subst (λ n. 0 < n) (sym (quiet.inside s ∙ ap (λ t. cond t 1 0) held)) (omega arith)))
-refill_held b s refill.NotYours p q quiet is yours used evicted held = absurd (none-some Evicted (sym (yours refl) ∙ evicted))
-refill_held b s refill.NotEvicted p q quiet is yours used evicted held = absurd (false≢true (ap is_evicted (same_Some InUse Evicted (sym (used refl) ∙ evicted))))
-refill_held b s refill.Held p q quiet is yours used evicted held = refl
+pub refill_held : (b : Board) (s d : ℕ) (r : RefillAnswer) (p q : Pass) → IsQuiet b p → IsOutcome b s d r p q → (r ≡ refill.NotYours → state_of p s ≡ None) → (r ≡ refill.NotEvicted → state_of p s ≡ Some InUse) → state_of p s ≡ Some Evicted → is_held_in (holding p) s ≡ true → r ≡ refill.Held
+refill_held b s d refill.Refilled p q quiet is yours used evicted held =
+    absurd (stays_unfilled b s d p q is.moved (subst (λ n. 0 < n) (sym (quiet.inside s ∙ ap (λ t. cond t 1 0) held)) (omega arith)))
+refill_held b s d refill.NotYours p q quiet is yours used evicted held = absurd (none-some Evicted (sym (yours refl) ∙ evicted))
+refill_held b s d refill.NotEvicted p q quiet is yours used evicted held = absurd (false≢true (ap is_evicted (same_Some InUse Evicted (sym (used refl) ∙ evicted))))
+refill_held b s d refill.Held p q quiet is yours used evicted held = refl

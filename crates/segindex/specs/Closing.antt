@@ -4,24 +4,16 @@ use Rattle.std.specs.List.{IsDistinct}
 use Rattle.std.specs.Ordering.{eq_by_cmp}
 use Rattle.std.specs.Map.{lookup, keys_of}
 use Rattle.std.specs.BTreeMap.{is_at}
-use Rattle.segword.specs.declared.shape.Shape.{Shape}
-use Rattle.segmodel.specs.declared.entry.Entry.{Entry}
-use Rattle.segmodel.specs.declared.entry.Cached.{Cached}
-use Rattle.segmodel.specs.Places.{bucket_of}
-use Rattle.segmodel.specs.Cache.{Cache, key_cmp, reads}
-use Rattle.segmodel.specs.History.{after, IsLegal, Begins}
+use Rattle.segword.specs.Words.{Shape}
+use Rattle.segmodel.specs.Words.{after, Begins, bucket_of, Cache, Cached, Entry, IsLegal, key_cmp}
+use Rattle.segmodel.specs.Words.{value_under}
 use Rattle.segmodel.specs.History as history
-use Rattle.segcore.specs.declared.event.Event.{Event}
 use Rattle.segcore.specs.Event as event
-use Rattle.segcore.specs.Word.{IsItemAt}
-use Rattle.segcore.specs.Search.{KeyAt}
-use Rattle.segbase.specs.declared.pass.Pass.{Pass}
+use Rattle.segcore.specs.Words.{Event, IsItemAt, KeyAt}
 use Rattle.segbase.specs.declared.closing.Words.{Words}
-use Rattle.segbase.specs.declared.place.Place.{Place}
-use Rattle.segbase.specs.Passes.{number, seen, mine}
-use Rattle.segbase.specs.Spots.{IsPlace, cell_at}
+use Rattle.segbase.specs.Words.{cell_at, IsPlace, mine, number, Pass, Place, seen}
 use Rattle.segbase.specs.Closing as closing
-use Rattle.segread.specs.Scanning.{place_of}
+use Rattle.segread.specs.Words.{place_of}
 
 -- ---- the content
 
@@ -51,7 +43,7 @@ IsContentSeen shape p content = content ≡ pairs_of (after shape (seen p))
 
 -- some key stands after the history
 abbrev pub HasContent : Shape → List Entry → Type 0
-HasContent shape last = (key : List ℕ) × (value : List ℕ) × (reads (after shape last) key ≡ Some value)
+HasContent shape last = (key : List ℕ) × (value : List ℕ) × (value_under (after shape last) key ≡ Some value)
 
 -- there was content to be listed at the end, after such a history; with one pass, after what the pass has seen
 pub record WantsMemory (shape : Shape) (p : Pass) : Type 0 where
@@ -73,8 +65,8 @@ listed pairs key = lookup (is_at (key_cmp key)) pairs
 -- the pairs that stand at some moment, of just those keys of which this is so, each once
 pub record Lists (shape : Shape) (trace : List Event) (Of : List ℕ → Type 0) (pairs : Pairs) : Type 0 where
   pub distinct : IsDistinct (eq_by_cmp key_cmp) (keys_of pairs)
-  pub only : (key value : List ℕ) → listed pairs key ≡ Some value → Of key × (reads (after shape (event.seen trace)) key ≡ Some value)
-  pub all : (key value : List ℕ) → Of key → reads (after shape (event.seen trace)) key ≡ Some value → listed pairs key ≡ Some value
+  pub only : (key value : List ℕ) → listed pairs key ≡ Some value → Of key × (value_under (after shape (event.seen trace)) key ≡ Some value)
+  pub all : (key value : List ℕ) → Of key → value_under (after shape (event.seen trace)) key ≡ Some value → listed pairs key ≡ Some value
 
 -- the key's item is at a position below this one of the bucket's chain, or in a bucket before
 abbrev pub IsBefore : Shape → List Event → ℕ → ℕ → List ℕ → Type 0
@@ -97,4 +89,4 @@ IsBucketIn words trace home depth bucket = (word : ℕ) → 0 < word → word < 
 abbrev pub IsPairAt : Shape → List Event → ℕ → ℕ → Option (List ℕ × List ℕ) → Type 0
 IsPairAt shape trace home at None = (key : List ℕ) → bucket_of shape key ≡ home → ¬ (KeyAt shape key trace at)
 IsPairAt shape trace home at (Some pair) =
-    (bucket_of shape pair.0 ≡ home) × KeyAt shape pair.0 trace at × (reads (after shape (event.seen trace)) pair.0 ≡ Some pair.1)
+    (bucket_of shape pair.0 ≡ home) × KeyAt shape pair.0 trace at × (value_under (after shape (event.seen trace)) pair.0 ≡ Some pair.1)

@@ -1,11 +1,8 @@
 -- An index as contracts see it.
-use Rattle.std.specs.Prelude.{◌≡◌, ℕ, List, length, Some, slice_get}
-use Rattle.segword.specs.declared.shape.Shape.{Shape}
-use Rattle.segword.specs.Shape.{IsValid}
-use Rattle.segbase.specs.declared.board.Board.{Board}
-use Rattle.segbase.specs.declared.pass.Pass.{Pass}
-use Rattle.segbase.specs.Made.{IsNewPass}
-use Rattle.segpass.specs.Quiet.{IsQuiet}
+use Rattle.std.specs.Prelude.{All, List}
+use Rattle.segword.specs.Words.{Shape}
+use Rattle.segbase.specs.Words.{Board, IsMade, Pass}
+use Rattle.segpass.specs.Words.{IsQuiet}
 use Rattle.segindex.specs.declared.index.Index.{Index}
 
 abbrev pub board_of : Index → Board
@@ -16,7 +13,5 @@ shape_of index = index.board.shape
 
 -- an index that was just made, and its passes in the order of their numbers, which have seen nothing
 pub record IsNew (shape : Shape) (index : Index) (passes : List Pass) : Type 0 where
-  pub valid : IsValid shape
-  pub of : shape_of index ≡ shape
-  pub long : length passes ≡ shape.passes
-  pub each : (n : ℕ) (p : Pass) → slice_get passes n ≡ Some p → IsNewPass (board_of index) n p × IsQuiet (board_of index) p
+  pub made : IsMade shape (board_of index) passes
+  pub quiet : All (IsQuiet (board_of index)) passes

@@ -1,32 +1,17 @@
 -- Laws of quiet passes and of replies: what the contracts of the calls come to. Each is proved as the contract of a function in src/laws.rt.
 use Rattle.std.specs.Prelude.{◌≡◌, ◌≢◌, ℕ, ◌+◌, ◌*◌, ◌^◌, ◌<◌, ◌≤◌, ◌↔◌, nat_lt, is_some, IsSome, List, Some}
-use Rattle.segmodel.specs.declared.request.Request.{Request}
 use Rattle.segmodel.specs.declared.request.Request.TheVariants.{Cas, Delete}
-use Rattle.segmodel.specs.declared.request.Reply.{Reply}
-use Rattle.segmodel.specs.declared.entry.Entry.{Entry}
-use Rattle.segmodel.specs.declared.answer.WriteAnswer.{WriteAnswer}
-use Rattle.segmodel.specs.declared.answer.DeleteAnswer.{DeleteAnswer}
 use Rattle.segmodel.specs.declared.answer.GetsAnswer.TheVariants.{Found}
-use Rattle.segmodel.specs.declared.answer.SegState.{SegState}
 use Rattle.segmodel.specs.declared.answer.SegState.TheVariants.{InUse}
-use Rattle.segmodel.specs.Places.{owner}
-use Rattle.segmodel.specs.Cache.{keys_in}
-use Rattle.segmodel.specs.History.{Begins, IsLegal, after, stirred, NoneStandsIn}
-use Rattle.segmodel.specs.Serving.{reply_of_write, reply_of_delete}
-use Rattle.segcore.specs.Mark.{entries, width, chained_to, linked_in}
-use Rattle.segcore.specs.Segment.{inside}
-use Rattle.segcore.specs.Lawful.{IsSegment}
-use Rattle.segbase.specs.declared.board.Board.{Board}
-use Rattle.segbase.specs.declared.law.Locked.{Locked}
-use Rattle.segbase.specs.declared.pass.Pass.{Pass}
-use Rattle.segbase.specs.Passes.{number, trace, marked, seen, mine, bounced, glanced, locked}
-use Rattle.segbase.specs.Plain.{current_of, state_of, used_of, locked_of}
-use Rattle.segpass.specs.Quiet.{IsQuiet}
-use Rattle.segpass.specs.Calls.{IsBusy}
-use Rattle.segpass.specs.Locks.{NoneSince}
-use Rattle.segwrite.specs.Writes.{Writes, Deletes}
-use Rattle.segread.specs.Gets.{IsGetsAnswer}
-use Rattle.segwrite.specs.Telling.{WasTold, cas_reply}
+use Rattle.segmodel.specs.Words.{after, Begins, DeleteAnswer, Entry, IsLegal, keys_in, NoneStandsIn}
+use Rattle.segmodel.specs.Words.{owner, Reply, reply_of_delete, reply_of_write, Request, SegState}
+use Rattle.segmodel.specs.Words.{stirred, WriteAnswer}
+use Rattle.segcore.specs.Words.{chained_to, entries, inside, IsSegment, linked_in, width}
+use Rattle.segbase.specs.Words.{Board, bounced, current_of, glanced, Locked, locked, locked_of}
+use Rattle.segbase.specs.Words.{marked, mine, number, Pass, seen, state_of, trace, used_of}
+use Rattle.segpass.specs.Words.{IsBusy, IsQuiet, NoneSince}
+use Rattle.segwrite.specs.Words.{cas_reply, Deletes, WasTold, Writes}
+use Rattle.segread.specs.Words.{IsGetsAnswer}
 
 -- ---- a quiet pass
 
@@ -124,23 +109,23 @@ WritesAtAMoment = (b : Board) (p q : Pass) (request : Request) (told : WriteAnsw
 
 -- so is a reply to a delete
 abbrev pub DeletesAtAMoment : Type 0
-DeletesAtAMoment = (b : Board) (p q : Pass) (key : List ℕ) (told : DeleteAnswer) (said : Reply)
-    → Deletes b key told p q → reply_of_delete told ≡ Some said
-    → WasTold b.shape (number p) (Delete key) said (seen p) (seen q)
+DeletesAtAMoment = (b : Board) (p q : Pass) (key : List ℕ) (now : ℕ) (told : DeleteAnswer) (said : Reply)
+    → Deletes b key now told p q → reply_of_delete told ≡ Some said
+    → WasTold b.shape (number p) (Delete key now) said (seen p) (seen q)
 
 -- A gets by one pass, from `reader` to `found`, gave the version that a cas by any pass, from `p` to `q`, then expects, and the cas was replied.
--- Told of such two calls is the moment of the gets (`got.0`) and that of the cas (`was.1.0`).
-abbrev pub OfGetsAndCas : ((b : Board) → List ℕ → (found p : Pass) → Reply → (read entered : List Entry) → Type 0) → Type 0
-OfGetsAndCas Is = (b : Board) (reader found p q : Pass) (key read value : List ℕ) (version : ℕ) (told : WriteAnswer) (said : Reply)
+-- Told of such two calls is what the history was at the gets (`got.0`) and at the cas (`was.1.0`), whose moment is `now`.
+abbrev pub OfGetsAndCas : ((b : Board) → List ℕ → (now : ℕ) → (found p : Pass) → Reply → (read entered : List Entry) → Type 0) → Type 0
+OfGetsAndCas Is = (b : Board) (reader found p q : Pass) (key read value : List ℕ) (version before now : ℕ) (told : WriteAnswer) (said : Reply)
     → b.shape.first_version < 2 ^ 32
-    → (got : IsGetsAnswer b.shape key (Found read version) reader found)
-    → Writes b (Cas key value version) told p q → reply_of_write told ≡ Some said
-    → (was : WasTold b.shape (number p) (Cas key value version) said (seen p) (seen q)) × Is b key found p said got.0 was.1.0
+    → (got : IsGetsAnswer b.shape key before (Found read version) reader found)
+    → Writes b (Cas key value version now) told p q → reply_of_write told ≡ Some said
+    → (was : WasTold b.shape (number p) (Cas key value version now) said (seen p) (seen q)) × Is b key now found p said got.0 was.1.0
 
 -- A cas that is entered later than the gets is NotFound if its key is absent then, Exists exactly if the bucket's writes at the two moments differ modulo 2^32, else Stored.
 abbrev pub CasFailsWhereWrittenSince : Type 0
-CasFailsWhereWrittenSince = OfGetsAndCas (λ b key found p said read entered. Begins read entered → said ≡ cas_reply b.shape key read entered)
+CasFailsWhereWrittenSince = OfGetsAndCas (λ b key now found p said read entered. Begins read entered → said ≡ cas_reply b.shape key now read entered)
 
 -- It is entered later if its pass, when it called, had seen all that the gets had seen.
 abbrev pub CasCalledLaterFails : Type 0
-CasCalledLaterFails = OfGetsAndCas (λ b key found p said read entered. Begins (seen found) (seen p) → said ≡ cas_reply b.shape key read entered)
+CasCalledLaterFails = OfGetsAndCas (λ b key now found p said read entered. Begins (seen found) (seen p) → said ≡ cas_reply b.shape key now read entered)

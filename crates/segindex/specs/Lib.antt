@@ -5,3 +5,4 @@ pub mod Laws
 pub mod Meeting
 pub mod Probing
 pub mod Refilling
+pub mod Words

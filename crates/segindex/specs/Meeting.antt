@@ -1,10 +1,8 @@
 -- What two passes have seen once they met.
-use Rattle.segmodel.specs.History.{Begins, AreOne}
+use Rattle.segmodel.specs.Words.{AreOne, Begins}
 use Rattle.segmodel.specs.History as history
-use Rattle.segbase.specs.declared.board.Board.{Board}
-use Rattle.segbase.specs.declared.pass.Pass.{Pass}
-use Rattle.segbase.specs.Passes.{number, marked, seen, mine}
-use Rattle.segpass.specs.Calls.{GoesOn, ChangesNothing, CostsNothing}
+use Rattle.segbase.specs.Words.{Board, marked, mine, number, Pass, seen}
+use Rattle.segpass.specs.Words.{ChangesNothing, CostsNothing, GoesOn}
 
 -- Two passes met: of what they had seen, one began the other; now both have seen all of it, and the second all that the first has.
 -- What either had seen of the other's entries was a beginning of these.

@@ -1,22 +1,16 @@
 -- A probe: a set of a key and, if it was stored, a get of the key.
 use Rattle.std.specs.Prelude.{◌≡◌, ◌≢◌, ◌⊎◌, ℕ, ◌≤◌, List, ◌∷◌, Option}
-use Rattle.segword.specs.declared.shape.Shape.{Shape}
-use Rattle.segmodel.specs.declared.entry.Entry.{Entry}
+use Rattle.segword.specs.Words.{Shape}
 use Rattle.segmodel.specs.declared.entry.Entry.TheVariants.{Wrote}
 use Rattle.segmodel.specs.declared.request.Request.TheVariants.{Set}
 use Rattle.segmodel.specs.declared.request.Reply.TheVariants.{Stored}
-use Rattle.segmodel.specs.declared.answer.GetAnswer.{GetAnswer}
 use Rattle.segmodel.specs.declared.answer.GetAnswer.TheVariants as get
-use Rattle.segmodel.specs.declared.answer.WriteAnswer.{WriteAnswer}
 use Rattle.segmodel.specs.declared.answer.WriteAnswer.TheVariants as write
-use Rattle.segmodel.specs.History.{CameBetween, stirred}
-use Rattle.segmodel.specs.Laws.{TakesKeyOut, StoresValue}
-use Rattle.segbase.specs.declared.board.Board.{Board}
-use Rattle.segbase.specs.declared.pass.Pass.{Pass}
-use Rattle.segbase.specs.Passes.{number, seen}
-use Rattle.segread.specs.Reads.{ReadsKey}
-use Rattle.segwrite.specs.Telling.{IsTold}
-use Rattle.segwrite.specs.Writes.{IsSetAnswer, Writes}
+use Rattle.segmodel.specs.Words.{CameBetween, Entry, GetAnswer, stirred, StoresValue, TakesKeyOut}
+use Rattle.segmodel.specs.Words.{WriteAnswer}
+use Rattle.segbase.specs.Words.{Board, number, Pass, seen}
+use Rattle.segread.specs.Words.{ReadsKey}
+use Rattle.segwrite.specs.Words.{IsSetAnswer, IsTold, Writes}
 
 -- Since a moment at which a value was stored under the key, a get answers so: another value only if that one was stored
 -- since, a miss only if the key was deleted or evicted since, and Busy only if 64 entries of its bucket came in during the get.
@@ -26,17 +20,17 @@ IsReadSince shape key value get.Miss stored old new = CameBetween (TakesKeyOut k
 IsReadSince shape key value get.Busy stored old new = 64 ≤ stirred shape key old new
 
 -- what was stored was read since, after its entry
-pub record ReadsStored (shape : Shape) (pass : ℕ) (key value : List ℕ) (told : GetAnswer) (old between new : List Entry) : Type 0 where
+pub record ReadsStored (shape : Shape) (pass : ℕ) (key value : List ℕ) (now : ℕ) (told : GetAnswer) (old between new : List Entry) : Type 0 where
   pub segment : Option ℕ
   pub history : List Entry
-  pub stored : IsTold shape pass (Set key value) Stored segment old between history
-  pub read : IsReadSince shape key value told (Wrote pass (Set key value) Stored segment ∷ history) between new
+  pub stored : IsTold shape pass (Set key value now) Stored segment old between history
+  pub read : IsReadSince shape key value told (Wrote pass (Set key value now) Stored segment ∷ history) between new
 
--- The set comes first, with this pass after it. If it was refused, the key isn't read and the get's answer is Busy.
-pub record Probes (b : Board) (key value : List ℕ) (draw : ℕ) (told : WriteAnswer × GetAnswer) (p q : Pass) : Type 0 where
+-- The set and the get are of one moment. The set comes first, with this pass after it. If it was refused, the key isn't read and the get's answer is Busy.
+pub record Probes (b : Board) (key value : List ℕ) (draw now : ℕ) (told : WriteAnswer × GetAnswer) (p q : Pass) : Type 0 where
   pub between : Pass
-  pub writes : Writes b (Set key value) told.0 p between
+  pub writes : Writes b (Set key value now) told.0 p between
   pub set : IsSetAnswer told.0
   pub refused : told.0 ≢ write.Stored → (told.1 ≡ get.Busy) × (q ≡ between)
-  pub reads : told.0 ≡ write.Stored → ReadsKey b key draw told.1 between q
-  pub stored : told.0 ≡ write.Stored → ReadsStored b.shape (number p) key value told.1 (seen p) (seen between) (seen q)
+  pub reads : told.0 ≡ write.Stored → ReadsKey b key draw now told.1 between q
+  pub stored : told.0 ≡ write.Stored → ReadsStored b.shape (number p) key value now told.1 (seen p) (seen between) (seen q)

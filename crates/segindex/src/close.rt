@@ -1,9 +1,11 @@
 //! The content of an index at its end, read from its words at rest.
-ghost use Rattle.std.specs.Prelude.{◌≡◌, ℕ, ◌+◌, ◌*◌, ◌<◌, ◌≤◌, List, IfOk, IfErr, OnOk, OnErr, vec_len};
+ghost use Rattle.std.specs.Prelude.{◌≡◌, ℕ, ◌+◌, ◌*◌, ◌<◌, ◌≤◌, List, IfOk, IfErr, OnOk, OnErr};
+ghost use Rattle.std.specs.Prelude.{vec_len};
 ghost use Rattle.segcore.specs.declared.event.Event.{Event};
-ghost use Rattle.segcore.specs.Event.{seen};
-ghost use Rattle.segbase.specs.Closing.{shape_of, IsAtRest};
-ghost use Rattle.segindex.specs.Closing.{HasContent, HasPairs, IsListed, IsWordIn, IsBucketIn, IsPairAt};
+ghost use Rattle.segcore.specs.Words.{seen};
+ghost use Rattle.segbase.specs.Words.{IsAtRest, shape_of};
+ghost use Rattle.segindex.specs.Closing.{HasContent, HasPairs, IsListed, IsWordIn, IsBucketIn};
+ghost use Rattle.segindex.specs.Closing.{IsPairAt};
 
 use crate::index::Index;
 use segbase::{CHAIN_BUCKETS, Pass, Place, Words};
@@ -18,18 +20,29 @@ pub struct OutOfMemory;
 
 impl Index {
     ghost use Rattle.segindex.specs.Index as index;
-    ghost use Rattle.segpass.specs.Quiet.{IsQuiet};
+    ghost use Rattle.segpass.specs.Words.{IsQuiet};
     ghost use Rattle.segindex.specs.Closing.{IsContent, WantsMemory, IsContentSeen};
 
-    /// Ends the index, and lists what stands in it: each key with its value, in the order of the keys. That is the content after all that any pass did, whether this one has seen it or not; buckets that are still locked are listed like the others. It can't be called while an item is held.
+    /// Ends the index, and lists its content: each key with its value,
+    /// in the order of the keys.
+    /// It is the content after some legal history
+    /// that goes on from what this pass has seen by entries of others,
+    /// and with one pass after just what that has seen.
+    /// With several passes the contract leaves open which entries of others these are.
+    /// It can't be called while an item is held.
     ///
-    /// Each bucket has four times seven words at most, so it lists no more pairs. It takes memory for the list, where a key stands at all. Where that is refused, index and pass are gone all the same.
+    /// Each bucket has four times seven words at most, so no more pairs are listed.
+    /// It takes memory for the list, if a key stands at all.
+    /// If that is refused, index and pass are gone all the same.
     pub fn close(self, alloc: Global, pass: Pass) -> Result<Vec<(Key, Value)>, OutOfMemory>
         requires { IsQuiet (index.board_of self) pass }
-        ensures content { IfOk result (λ content. IsContent (index.shape_of self) pass content.items) }
-        ensures few { IfOk result (λ content. vec_len content ≤ 28 * (index.shape_of self).buckets) }
+        ensures content { IfOk result (λ content.
+            IsContent (index.shape_of self) pass content.items) }
+        ensures few { IfOk result (λ content.
+            vec_len content ≤ 28 * (index.shape_of self).buckets) }
         ensures wanted { IfErr result (λ _. WantsMemory (index.shape_of self) pass) }
-        ensures alone { (index.shape_of self).passes ≡ 1 → IfOk result (λ content. IsContentSeen (index.shape_of self) pass content.items) }
+        ensures alone { (index.shape_of self).passes ≡ 1
+            → IfOk result (λ content. IsContentSeen (index.shape_of self) pass content.items) }
     {
         let Index { board } = self;
         let words = board.close(pass);
@@ -44,7 +57,8 @@ impl Index {
 // The pairs of all buckets.
 fn list_pairs(alloc: Global, words: &Words) -> Result<Vec<(Key, Value)>, AllocError>
     requires rest { (trace : List Event) × IsAtRest words.now trace }
-    ensures lists { IfOk result (λ pairs. (trace : List Event) → IsAtRest words.now trace → IsListed words.now trace (shape_of words.now).buckets 1 pairs.items) }
+    ensures lists { IfOk result (λ pairs. (trace : List Event) → IsAtRest words.now trace
+        → IsListed words.now trace (shape_of words.now).buckets 1 pairs.items) }
     ensures few { IfOk result (λ pairs. vec_len pairs ≤ 28 * (shape_of words.now).buckets) }
     ensures wanted { IfErr result (λ _. HasPairs words.now) }
 {
@@ -59,7 +73,9 @@ fn list_pairs(alloc: Global, words: &Words) -> Result<Vec<(Key, Value)>, AllocEr
 fn list_chain(words: &Words, home: u32, pairs: &mut Vec<(Key, Value)>) -> Result<(), AllocError>
     requires rest { (trace : List Event) × IsAtRest words.now trace }
     requires home { home < (shape_of words.now).buckets }
-    ensures lists { OnOk result ((trace : List Event) → IsAtRest words.now trace → IsListed words.now trace home 1 pairs.old.items → IsListed words.now trace (home + 1) 1 pairs.new.items) }
+    ensures lists { OnOk result ((trace : List Event) → IsAtRest words.now trace
+        → IsListed words.now trace home 1 pairs.old.items
+        → IsListed words.now trace (home + 1) 1 pairs.new.items) }
     ensures few { OnOk result (vec_len pairs.new ≤ vec_len pairs.old + 28) }
     ensures wanted { OnErr result (HasPairs words.now) }
 {
@@ -76,11 +92,16 @@ fn list_chain(words: &Words, home: u32, pairs: &mut Vec<(Key, Value)>) -> Result
 
 // Lists the pairs of one bucket of a chain.
 fn list_bucket(words: &Words, bucket: u32, pairs: &mut Vec<(Key, Value)>) -> Result<(), AllocError>
-    requires { (trace : List Event) × (home : ℕ) × (depth : ℕ) × IsAtRest words.now trace × IsBucketIn words.now trace home depth bucket }
-    ensures lists { OnOk result ((trace : List Event) (home depth : ℕ) → IsAtRest words.now trace → IsBucketIn words.now trace home depth bucket
-        → IsListed words.now trace home (8 * depth + 1) pairs.old.items → IsListed words.now trace home (8 * depth + 8) pairs.new.items) }
+    requires { (trace : List Event) × (home : ℕ) × (depth : ℕ)
+        × IsAtRest words.now trace × IsBucketIn words.now trace home depth bucket }
+    ensures lists { OnOk result ((trace : List Event) (home depth : ℕ)
+        → IsAtRest words.now trace → IsBucketIn words.now trace home depth bucket
+        → IsListed words.now trace home (8 * depth + 1) pairs.old.items
+        → IsListed words.now trace home (8 * depth + 8) pairs.new.items) }
     ensures few { OnOk result (vec_len pairs.new ≤ vec_len pairs.old + 7) }
-    ensures wanted { OnErr result ((trace : List Event) (home depth : ℕ) → IsAtRest words.now trace → IsBucketIn words.now trace home depth bucket → HasContent (shape_of words.now) (seen trace)) }
+    ensures wanted { OnErr result ((trace : List Event) (home depth : ℕ)
+        → IsAtRest words.now trace → IsBucketIn words.now trace home depth bucket
+        → HasContent (shape_of words.now) (seen trace)) }
 {
     for word in 1..8u8 {
         if let Some(pair) = pair_at(words, Place { bucket, word }) {
@@ -92,8 +113,11 @@ fn list_bucket(words: &Words, bucket: u32, pairs: &mut Vec<(Key, Value)>) -> Res
 
 // The pair that a word of a chain names, if it names one.
 fn pair_at(words: &Words, place: Place) -> Option<(Key, Value)>
-    requires { (trace : List Event) × (home : ℕ) × (at : ℕ) × IsAtRest words.now trace × IsWordIn words.now trace home at place }
-    ensures { (trace : List Event) (home at : ℕ) → IsAtRest words.now trace → IsWordIn words.now trace home at place → IsPairAt (shape_of words.now) trace home at result }
+    requires { (trace : List Event) × (home : ℕ) × (at : ℕ)
+        × IsAtRest words.now trace × IsWordIn words.now trace home at place }
+    ensures { (trace : List Event) (home at : ℕ)
+        → IsAtRest words.now trace → IsWordIn words.now trace home at place
+        → IsPairAt (shape_of words.now) trace home at result }
 {
     let item = Item::unpack(words.item(place))?;
     read_row(&words.row(item.seg, item.row))

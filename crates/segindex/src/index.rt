@@ -12,11 +12,12 @@ pub struct Index {
 }
 
 impl Index {
-    ghost use Rattle.segbase.specs.Made.{IsMakeFault};
+    ghost use Rattle.segbase.specs.Words.{IsMakeFault};
     ghost use Rattle.segindex.specs.Index.{shape_of};
     ghost use Rattle.segindex.specs.Index.{IsNew};
 
-    /// An index of this shape with its passes, in the order of their numbers. No later call takes memory but `close`.
+    /// An index of this shape with its passes, in the order of their numbers.
+    /// Of the later calls `close` alone is given an allocator.
     pub fn new(alloc: Global, shape: Shape) -> Result<(Index, Vec<Pass>), MakeFault>
         ensures made { IfOk result (λ made. IsNew shape made.0 made.1.items) }
         ensures fault { IfErr result (IsMakeFault shape) }

@@ -1,7 +1,20 @@
-//! Laws of quiet passes and of replies, beside what the calls say. These functions do nothing: their contracts are the theorems.
-ghost use Rattle.segindex.specs.Laws.{SeenIsLegal, MarksAreBeside, KnowsItsOwn, OwnAreInTable, UsedAreLinked, CurrentIsInUse, UnusedIsEmpty, LockedIsStill, KeysAreFew, ChainsAreShort, AllAreOwn, NoTakeBounced, NoLookGlanced, NobodyIsInside, BusyIsLocked, DrawnHaveJoined, NothingIsStirred, WritesAtAMoment, DeletesAtAMoment, CasFailsWhereWrittenSince, CasCalledLaterFails};
+//! Laws of quiet passes and of replies, beside what the calls say.
+//! These functions do nothing: their contracts are the theorems.
+ghost use Rattle.segindex.specs.Laws.{SeenIsLegal, MarksAreBeside, KnowsItsOwn, OwnAreInTable};
+ghost use Rattle.segindex.specs.Laws.{UsedAreLinked, CurrentIsInUse, UnusedIsEmpty, LockedIsStill};
+ghost use Rattle.segindex.specs.Laws.{KeysAreFew, ChainsAreShort, AllAreOwn, NoTakeBounced};
+ghost use Rattle.segindex.specs.Laws.{NoLookGlanced, NobodyIsInside, BusyIsLocked, DrawnHaveJoined};
+ghost use Rattle.segindex.specs.Laws.{NothingIsStirred, WritesAtAMoment, DeletesAtAMoment};
+ghost use Rattle.segindex.specs.Laws.{CasFailsWhereWrittenSince, CasCalledLaterFails};
 
-/// What a quiet pass has seen is a history of a cache of one thread, with marks. The pass knows just its own segments, and of their rows those are used that an item was linked to. The segment that it stores into is in use, and no key stands in one that isn't. No entry came into the bucket that it has locked. At most seven keys of a bucket stand, and six more for each overflow bucket that joined its chain. No more of these joined than there are.
+/// What a quiet pass has seen is a history of a cache of one thread, with marks.
+/// The pass knows just its own segments,
+/// and of their rows those are used that an item was linked to.
+/// The segment that it stores into is in use, and no key stands in one that isn't.
+/// No entry came into the bucket that it has locked.
+/// At most seven keys of a bucket stand,
+/// and six more for each overflow bucket that joined its chain.
+/// No more of these joined than there are.
 pub fn quiet_pass()
     ensures legal { SeenIsLegal }
     ensures unmarked { MarksAreBeside }
@@ -15,7 +28,11 @@ pub fn quiet_pass()
     ensures few_chained { ChainsAreShort }
 {}
 
-/// If an index has one pass, each entry that the pass has seen is its own. No bit that it met, by a take or a look, was another's, and nobody else is in a segment. Only the bucket that it has locked itself is Busy. Each overflow bucket that was drawn has joined its chain. While the pass adds no entry, nothing comes into a bucket.
+/// If an index has one pass, each entry that the pass has seen is its own.
+/// No bit that it met, by a take or a look, was another's, and nobody else is in a segment.
+/// Only the bucket that it has locked itself is Busy.
+/// Each overflow bucket that was drawn has joined its chain.
+/// While the pass adds no entry, nothing comes into a bucket.
 pub fn one_pass()
     ensures own { AllAreOwn }
     ensures free { NoTakeBounced }
@@ -26,13 +43,18 @@ pub fn one_pass()
     ensures still { NothingIsStirred }
 {}
 
-/// A reply to a write or a delete is that of a cache of one thread at one moment of the call, at which its entry came into the history.
+/// A reply to a write or a delete is that of a cache of one thread at one moment of the call,
+/// at which its entry came into the history.
 pub fn replies_at_a_moment()
     ensures writes { WritesAtAMoment }
     ensures deletes { DeletesAtAMoment }
 {}
 
-/// A cas with the version that a gets of its key gave, and that is entered later, is NotFound if the key is absent then. Otherwise it is Exists exactly if the writes of its bucket differ, modulo 2^32, at the moments of the two, else Stored. It is entered later if its pass, when it called, had seen all that the gets had seen.
+/// A cas with the version that a gets of its key gave, and that is entered later,
+/// is NotFound if the key is absent then.
+/// Otherwise it is Exists exactly if the writes of its bucket differ, modulo 2^32,
+/// at the moments of the two, else Stored.
+/// It is entered later if its pass, when it called, had seen all that the gets had seen.
 pub fn cas_fails_where_written()
     ensures entered_later { CasFailsWhereWrittenSince }
     ensures called_later { CasCalledLaterFails }

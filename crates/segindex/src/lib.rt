@@ -1,4 +1,7 @@
-//! The object index: its calls, for many passes on threads of their own. What a call answers is what a cache used by one thread alone would, after some part of the history that all passes share.
+//! The object index: its calls, for many passes on threads of their own.
+//! What a call reads, and how a write or a delete is replied,
+//! is what a cache used by one thread alone would answer,
+//! after some part of the history that all passes share.
 #![tactic(auto)]
 
 mod close;

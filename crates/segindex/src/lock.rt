@@ -5,11 +5,12 @@ use segpass::LockAnswer;
 use segword::Key;
 
 impl Index {
-    ghost use Rattle.segpass.specs.Quiet.{IsQuiet};
-    ghost use Rattle.segpass.specs.Locks.{LocksBucket, UnlocksBucket};
+    ghost use Rattle.segpass.specs.Words.{IsQuiet, LocksBucket, UnlocksBucket};
     ghost use Rattle.segindex.specs.Index.{board_of};
 
-    /// Locks the bucket of a key. Until it is unlocked no other pass writes in it, and a delete and every write that has room are answered Busy.
+    /// Locks the bucket of a key.
+    /// Until it is unlocked no other pass writes in it,
+    /// and a delete and every write that has room are answered Busy.
     pub fn lock_bucket(&self, pass: &mut Pass, key: &Key) -> LockAnswer
         requires quiet { IsQuiet (board_of self.now) pass.old }
         ensures locks { LocksBucket (board_of self.now) key.now result pass.old pass.new }

@@ -1,4 +1,5 @@
-//! A set and a get of one key. Their contracts and the laws of replies are all that its own contract stands on.
+//! A set and a get of one key.
+//! Their contracts and the laws of replies are all that its own contract stands on.
 use crate::index::Index;
 use crate::laws::{quiet_pass, replies_at_a_moment};
 use segbase::Pass;
@@ -7,26 +8,29 @@ use segmodel::{GetAnswer, WriteAnswer};
 use segword::{Key, Value};
 
 impl Index {
-    ghost use Rattle.segpass.specs.Quiet.{IsQuiet};
+    ghost use Rattle.segpass.specs.Words.{IsQuiet};
     ghost use Rattle.segindex.specs.Index.{board_of};
     ghost use Rattle.segindex.specs.Probing.{Probes};
 
-    /// Stores the value under the key and, if it was stored, reads the key. If the set was refused, the key isn't read and the second answer is Busy.
+    /// Stores the value under the key and, if it was stored, reads the key.
+    /// If the set was refused, the key isn't read and the second answer is Busy.
     pub fn probe(
         &self,
         pass: &mut Pass,
         key: &Key,
         value: &Value,
         draw: u32,
+        now: u32,
     ) -> (WriteAnswer, GetAnswer)
         requires quiet { IsQuiet (board_of self.now) pass.old }
-        ensures probes { Probes (board_of self.now) key.now value.now draw result pass.old pass.new }
+        ensures probes { Probes (board_of self.now) key.now value.now draw now result
+            pass.old pass.new }
     {
-        let told = self.set(pass, key, value);
+        let told = self.set(pass, key, value, now);
         let WriteAnswer::Stored = told else {
             return (told, GetAnswer::Busy);
         };
-        let read = self.get(pass, key, draw);
+        let read = self.get(pass, key, draw, now);
         replies_at_a_moment();
         quiet_pass();
         legal_histories();

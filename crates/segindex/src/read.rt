@@ -6,34 +6,39 @@ use segread::{Hold, HoldAnswer};
 use segword::{Key, Value};
 
 impl Index {
-    ghost use Rattle.segpass.specs.Quiet.{IsQuiet};
-    ghost use Rattle.segread.specs.Reads.{ReadsKey};
-    ghost use Rattle.segread.specs.Gets.{ReadsVersion};
-    ghost use Rattle.segread.specs.Holds.{IsHoldOf, HoldsItem, ReadsHeld, ReleasesHold};
+    ghost use Rattle.segpass.specs.Words.{IsQuiet};
+    ghost use Rattle.segread.specs.Words.{HoldsItem, IsHoldOf, ReadsHeld, ReadsKey, ReadsVersion};
+    ghost use Rattle.segread.specs.Words.{ReleasesHold};
     ghost use Rattle.segindex.specs.Index.{board_of, shape_of};
 
-    /// The value under a key. A hit raises the frequency of the key's item if the draw, a random number, says so.
-    pub fn get(&self, pass: &mut Pass, key: &Key, draw: u32) -> GetAnswer
+    /// The value under a key at a moment.
+    /// A hit raises the frequency of the key's item if the draw, a random number, says so.
+    pub fn get(&self, pass: &mut Pass, key: &Key, draw: u32, now: u32) -> GetAnswer
         requires pass { IsQuiet (board_of self.now) pass.old }
-        ensures reads { ReadsKey (board_of self.now) key.now draw result pass.old pass.new }
+        ensures reads { ReadsKey (board_of self.now) key.now draw now result pass.old pass.new }
     {
-        segread::get(&self.board, pass, key, draw)
+        segread::get(&self.board, pass, key, draw, now)
     }
 
-    /// The value under a key with the version of the key's bucket, for a later compare-and-swap. The answer is Busy if the key is present and this pass holds the lock of its bucket. A hit raises the frequency of the key's item if the draw, a random number, says so.
-    pub fn gets(&self, pass: &mut Pass, key: &Key, draw: u32) -> GetsAnswer
+    /// The value under a key at a moment, with the version of the key's bucket,
+    /// for a later compare-and-swap.
+    /// The answer is Busy if the key is present and this pass holds the lock of its bucket.
+    /// A hit raises the frequency of the key's item if the draw, a random number, says so.
+    pub fn gets(&self, pass: &mut Pass, key: &Key, draw: u32, now: u32) -> GetsAnswer
         requires pass { IsQuiet (board_of self.now) pass.old }
-        ensures reads { ReadsVersion (board_of self.now) key.now draw result pass.old pass.new }
+        ensures reads { ReadsVersion (board_of self.now) key.now draw now result
+            pass.old pass.new }
     {
-        segread::gets(&self.board, pass, key, draw)
+        segread::gets(&self.board, pass, key, draw, now)
     }
 
-    /// Holds the item of a key: its value can be read until it is released. A pass holds one item at most. No frequency changes.
-    pub fn hold<'i>(&'i self, pass: &mut Pass, key: &Key) -> HoldAnswer<'i>
+    /// Holds the item of a key at a moment: its value can be read until it is released.
+    /// A pass holds one item at most. No frequency changes.
+    pub fn hold<'i>(&'i self, pass: &mut Pass, key: &Key, now: u32) -> HoldAnswer<'i>
         requires pass { IsQuiet (board_of self.now) pass.old }
-        ensures holds { HoldsItem (board_of self.now) key.now result pass.old pass.new }
+        ensures holds { HoldsItem (board_of self.now) key.now now result pass.old pass.new }
     {
-        segread::hold_item(&self.board, pass, key)
+        segread::hold_item(&self.board, pass, key, now)
     }
 
     /// The value that is held: the one that stood under the key when it was held.

@@ -4,12 +4,14 @@ use segbase::Pass;
 use segmodel::{EvictAnswer, RefillAnswer};
 
 impl Index {
-    ghost use Rattle.segpass.specs.Quiet.{IsQuiet};
-    ghost use Rattle.segevict.specs.Evicting.{EvictsSegment};
+    ghost use Rattle.segpass.specs.Words.{IsQuiet};
+    ghost use Rattle.segevict.specs.Words.{EvictsSegment};
     ghost use Rattle.segindex.specs.Index.{board_of};
     ghost use Rattle.segindex.specs.Refilling.{RefillsSegment};
 
-    /// Takes every key out of a segment of the pass's own, so that it can be refilled. From then on nothing is stored there, even if the answer is Busy: then another evict takes out the keys that are left.
+    /// Takes every key out of a segment of the pass's own, so that it can be refilled.
+    /// From then on nothing is stored there, even if the answer is Busy:
+    /// then another evict takes out the keys that are left.
     pub fn evict(&self, pass: &mut Pass, segment: u32) -> EvictAnswer
         requires quiet { IsQuiet (board_of self.now) pass.old }
         ensures evicts { EvictsSegment (board_of self.now) segment result pass.old pass.new }
@@ -17,11 +19,13 @@ impl Index {
         segevict::evict(&self.board, pass, segment)
     }
 
-    /// Makes a segment of the pass's own, in which no key stands and no item is read or held, the one that it stores into.
-    pub fn refill(&self, pass: &mut Pass, segment: u32) -> RefillAnswer
+    /// Makes a segment of the pass's own, in which no key stands and no item is read or held,
+    /// the one that it stores into.
+    pub fn refill(&self, pass: &mut Pass, segment: u32, deadline: u32) -> RefillAnswer
         requires pass { IsQuiet (board_of self.now) pass.old }
-        ensures refills { RefillsSegment (board_of self.now) segment result pass.old pass.new }
+        ensures refills { RefillsSegment (board_of self.now) segment deadline result
+            pass.old pass.new }
     {
-        segstore::refill(&self.board, pass, segment)
+        segstore::refill(&self.board, pass, segment, deadline)
     }
 }

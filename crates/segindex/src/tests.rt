@@ -1,7 +1,8 @@
-//! The words that calls leave in the table, which no public call shows. Tests of public calls alone are in crates of tests.
-ghost use Rattle.std.specs.Prelude.{◌≡◌, ℕ, slice_get, Some, IfSome};
+//! The words that calls leave in the table, which no public call shows.
+//! Tests of public calls alone are in crates of tests.
+ghost use Rattle.std.specs.Prelude.{All, IfSome};
 ghost use Rattle.segindex.specs.Index.{board_of};
-ghost use Rattle.segpass.specs.Quiet.{IsQuiet};
+ghost use Rattle.segpass.specs.Words.{IsQuiet};
 
 use crate::{Index, Pass};
 use segbase::Place;
@@ -19,24 +20,27 @@ const SHAPE: Shape = Shape {
     first_version: 0,
 };
 
-// The last two of the passes.
-fn last_two(index: &Index, mut passes: Vec<Pass>) -> Option<(Pass, Pass)>
-    requires { (n : ℕ) (pass : Pass) → slice_get passes.items n ≡ Some pass → IsQuiet (board_of index.now) pass }
-    ensures { IfSome result (λ two. IsQuiet (board_of index.now) two.0 × IsQuiet (board_of index.now) two.1) }
+// Takes the last pass out of the list.
+fn pop(index: &Index, passes: &mut Vec<Pass>) -> Option<Pass>
+    requires { All (IsQuiet (board_of index.now)) passes.old.items }
+    ensures last { IfSome result (IsQuiet (board_of index.now)) }
+    ensures others { All (IsQuiet (board_of index.now)) passes.new.items }
 {
-    let second = passes.pop()?;
-    let first = passes.pop()?;
-    Some((first, second))
+    passes.pop()
 }
 
 #[test]
 fn a_set_writes_its_words(rt: HostRuntime) -> Result<(), Fail> {
-    let (index, passes) = Index::new(rt.alloc(), SHAPE)?;
-    let (mut pass, _) = last_two(&index, passes).expect(&rt, "two passes");
+    let (index, mut passes) = Index::new(rt.alloc(), SHAPE)?;
+    let _second = pop(&index, &mut passes);
+    let mut pass = pop(&index, &mut passes).expect(&rt, "two passes");
     let key = Key::new(b"a").expect(&rt, "a key");
     let value = Value::new(b"1").expect(&rt, "a value");
-    assert_eq!(rt; index.refill(&mut pass, 0), RefillAnswer::Refilled);
-    assert_eq!(rt; index.set(&mut pass, &key, &value), WriteAnswer::Stored);
+    assert_eq!(rt;
+        index.refill(&mut pass, 0, u32::MAX),
+        RefillAnswer::Refilled
+    );
+    assert_eq!(rt; index.set(&mut pass, &key, &value, 0), WriteAnswer::Stored);
     // Tag af6, frequency 1, segment 0, row 0.
     let place = Place { bucket: 0, word: 1 };
     assert_eq!(rt; index.board.look(&mut pass, place), 0xaf60_1000_0000_0000);
@@ -48,16 +52,20 @@ fn a_set_writes_its_words(rt: HostRuntime) -> Result<(), Fail> {
 
 #[test]
 fn hits_raise_the_frequency(rt: HostRuntime) -> Result<(), Fail> {
-    let (index, passes) = Index::new(rt.alloc(), SHAPE)?;
-    let (mut pass, _) = last_two(&index, passes).expect(&rt, "two passes");
+    let (index, mut passes) = Index::new(rt.alloc(), SHAPE)?;
+    let _second = pop(&index, &mut passes);
+    let mut pass = pop(&index, &mut passes).expect(&rt, "two passes");
     let key = Key::new(b"a").expect(&rt, "a key");
     let value = Value::new(b"1").expect(&rt, "a value");
-    assert_eq!(rt; index.refill(&mut pass, 0), RefillAnswer::Refilled);
-    assert_eq!(rt; index.set(&mut pass, &key, &value), WriteAnswer::Stored);
+    assert_eq!(rt;
+        index.refill(&mut pass, 0, u32::MAX),
+        RefillAnswer::Refilled
+    );
+    assert_eq!(rt; index.set(&mut pass, &key, &value, 0), WriteAnswer::Stored);
     let found = GetAnswer::Found(value);
-    assert_eq!(rt; index.get(&mut pass, &key, 0), found);
-    assert_eq!(rt; index.get(&mut pass, &key, 0), found);
-    assert_eq!(rt; index.get(&mut pass, &key, 0), found);
+    assert_eq!(rt; index.get(&mut pass, &key, 0, 0), found);
+    assert_eq!(rt; index.get(&mut pass, &key, 0, 0), found);
+    assert_eq!(rt; index.get(&mut pass, &key, 0, 0), found);
     // Tag af6, frequency 4, segment 0, row 0.
     let place = Place { bucket: 0, word: 1 };
     assert_eq!(rt; index.board.look(&mut pass, place), 0xaf60_4000_0000_0000);

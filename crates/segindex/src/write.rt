@@ -7,48 +7,60 @@ use segmodel::{DeleteAnswer, WriteAnswer};
 use segword::{Key, Value};
 
 impl Index {
-    ghost use Rattle.segpass.specs.Quiet.{IsQuiet};
-    ghost use Rattle.segwrite.specs.Writes.{IsSetAnswer, Writes, Deletes};
+    ghost use Rattle.segpass.specs.Words.{IsQuiet};
+    ghost use Rattle.segwrite.specs.Words.{Deletes, IsSetAnswer, Writes};
     ghost use Rattle.segindex.specs.Index.{board_of};
 
     /// Stores the value under the key.
-    pub fn set(&self, pass: &mut Pass, key: &Key, value: &Value) -> WriteAnswer
+    pub fn set(&self, pass: &mut Pass, key: &Key, value: &Value, now: u32) -> WriteAnswer
         requires quiet { IsQuiet (board_of self.now) pass.old }
-        ensures writes { Writes (board_of self.now) (Set key.now value.now) result pass.old pass.new }
+        ensures writes { Writes (board_of self.now) (Set key.now value.now now) result
+            pass.old pass.new }
         ensures set { IsSetAnswer result }
     {
-        segwrite::set(&self.board, pass, key, value)
+        segwrite::set(&self.board, pass, key, value, now)
     }
 
     /// Stores the value if the key is absent. Otherwise the answer is NotStored.
-    pub fn add(&self, pass: &mut Pass, key: &Key, value: &Value) -> WriteAnswer
+    pub fn add(&self, pass: &mut Pass, key: &Key, value: &Value, now: u32) -> WriteAnswer
         requires quiet { IsQuiet (board_of self.now) pass.old }
-        ensures writes { Writes (board_of self.now) (Add key.now value.now) result pass.old pass.new }
+        ensures writes { Writes (board_of self.now) (Add key.now value.now now) result
+            pass.old pass.new }
     {
-        segwrite::add(&self.board, pass, key, value)
+        segwrite::add(&self.board, pass, key, value, now)
     }
 
     /// Stores the value if the key is present. Otherwise the answer is NotStored.
-    pub fn replace(&self, pass: &mut Pass, key: &Key, value: &Value) -> WriteAnswer
+    pub fn replace(&self, pass: &mut Pass, key: &Key, value: &Value, now: u32) -> WriteAnswer
         requires quiet { IsQuiet (board_of self.now) pass.old }
-        ensures writes { Writes (board_of self.now) (Replace key.now value.now) result pass.old pass.new }
+        ensures writes { Writes (board_of self.now) (Replace key.now value.now now) result
+            pass.old pass.new }
     {
-        segwrite::replace(&self.board, pass, key, value)
+        segwrite::replace(&self.board, pass, key, value, now)
     }
 
-    /// Stores the value if the key's bucket has the expected version. Otherwise the answer is Exists, or NotFound if the key is absent.
-    pub fn cas(&self, pass: &mut Pass, key: &Key, value: &Value, expected: u32) -> WriteAnswer
+    /// Stores the value if the key's bucket has the expected version.
+    /// Otherwise the answer is Exists, or NotFound if the key is absent.
+    pub fn cas(
+        &self,
+        pass: &mut Pass,
+        key: &Key,
+        value: &Value,
+        expected: u32,
+        now: u32,
+    ) -> WriteAnswer
         requires quiet { IsQuiet (board_of self.now) pass.old }
-        ensures writes { Writes (board_of self.now) (Cas key.now value.now expected) result pass.old pass.new }
+        ensures writes { Writes (board_of self.now) (Cas key.now value.now expected now) result
+            pass.old pass.new }
     {
-        segwrite::cas(&self.board, pass, key, value, expected)
+        segwrite::cas(&self.board, pass, key, value, expected, now)
     }
 
     /// Takes the key out. A delete needs no row.
-    pub fn delete(&self, pass: &mut Pass, key: &Key) -> DeleteAnswer
+    pub fn delete(&self, pass: &mut Pass, key: &Key, now: u32) -> DeleteAnswer
         requires quiet { IsQuiet (board_of self.now) pass.old }
-        ensures deletes { Deletes (board_of self.now) key.now result pass.old pass.new }
+        ensures deletes { Deletes (board_of self.now) key.now now result pass.old pass.new }
     {
-        segwrite::delete(&self.board, pass, key)
+        segwrite::delete(&self.board, pass, key, now)
     }
 }

@@ -3,60 +3,53 @@ use Rattle.std.proofs.Common.{◌≡◌, ◌≢◌, ℕ, Bool, true, false, List
 use Rattle.std.specs.Prelude.{MatchBool}
 use Rattle.segmodel.specs.declared.entry.Entry.TheVariants.{Wrote}
 use Rattle.segmodel.specs.declared.request.Request.TheVariants.{Delete}
-use Rattle.segmodel.specs.declared.request.Reply.{Reply}
 use Rattle.segmodel.specs.declared.request.Reply.TheVariants as reply
-use Rattle.segmodel.specs.declared.answer.DeleteAnswer.{DeleteAnswer}
 use Rattle.segmodel.specs.declared.answer.DeleteAnswer.TheVariants as delete
 use Rattle.segmodel.specs.declared.answer.Answer.TheVariants as answer
 use Rattle.segmodel.specs.declared.answer.Command.TheVariants as command
-use Rattle.segmodel.specs.Places.{bucket_of}
-use Rattle.segmodel.specs.Cache.{reply_in}
-use Rattle.segmodel.specs.History.{after}
-use Rattle.segmodel.specs.State.{is_locked}
-use Rattle.segmodel.specs.Serving.{IsGiven, after_reply, reply_of_delete, ServesDelete}
+use Rattle.segmodel.specs.Words.{after, after_reply, bucket_of, DeleteAnswer, is_locked, IsGiven}
+use Rattle.segmodel.specs.Words.{Reply, reply_in, reply_of_delete, ServesDelete}
 use Rattle.segmodel.specs.Serving as model
-use Rattle.segbase.specs.declared.board.Board.{Board}
-use Rattle.segbase.specs.declared.pass.Pass.{Pass}
-use Rattle.segbase.specs.Passes.{number, seen}
-use Rattle.segwrite.specs.Writes.{AddsReply, Deletes}
+use Rattle.segbase.specs.Words.{Board, number, Pass, seen}
+use Rattle.segwrite.specs.Words.{AddsReply, Deletes}
 use Rattle.segsolo.specs.Alone.{keys_stored_in, state_at, IsAlone, ServesAlone}
 use Rattle.segindex.proofs.OnePass.{busy_by_lock}
 use Rattle.segsolo.proofs.AlonePass.{more_seen, as_replied, counts_replied, reply_then, left, locked_here, free_here, served, served_still}
 use Rattle.segsolo.proofs.AloneWidths.{same_widths}
 
-module _ (b : Board) (p q : Pass) (key : List ℕ) (was : IsAlone b p) (told : DeleteAnswer) (is : Deletes b key told p q) where
+module _ (b : Board) (p q : Pass) (key : List ℕ) (now : ℕ) (was : IsAlone b p) (told : DeleteAnswer) (is : Deletes b key now told p q) where
   serves_so : (locked : Bool) → is_locked b.shape (state_at b.shape p) key ≡ locked
-      → MatchBool locked (IsGiven delete.Busy (state_at b.shape p) told (state_at b.shape q)) (model.IsReplied b.shape (state_at b.shape p) (Delete key) (reply_of_delete told) (state_at b.shape q))
-      → ServesDelete b.shape (state_at b.shape p) key told (state_at b.shape q)
-  serves_so locked is served = subst (λ (t : Bool). MatchBool t (IsGiven delete.Busy (state_at b.shape p) told (state_at b.shape q)) (model.IsReplied b.shape (state_at b.shape p) (Delete key) (reply_of_delete told) (state_at b.shape q))) (sym is) served
+      → MatchBool locked (IsGiven delete.Busy (state_at b.shape p) told (state_at b.shape q)) (model.IsReplied b.shape (state_at b.shape p) (Delete key now) (reply_of_delete told) (state_at b.shape q))
+      → ServesDelete b.shape (state_at b.shape p) key now told (state_at b.shape q)
+  serves_so locked is served = subst (λ (t : Bool). MatchBool t (IsGiven delete.Busy (state_at b.shape p) told (state_at b.shape q)) (model.IsReplied b.shape (state_at b.shape p) (Delete key now) (reply_of_delete told) (state_at b.shape q))) (sym is) served
 
   -- replied by one entry
-  replied : (r : Reply) → told ≢ delete.Busy → reply_of_delete told ≡ Some r → AddsReply (Delete key) r p q
-      → ((s : ℕ) → keys_stored_in (Wrote (number p) (Delete key) r None ∷ seen p) s ≡ keys_stored_in (seen p) s)
-      → after_reply b.shape (Delete key) r (state_at b.shape p) ≡ record (state_at b.shape p) { cache = after b.shape (Wrote (number p) (Delete key) r None ∷ seen p) }
-      → ServesAlone b (command.Write (Delete key)) (answer.Delete told) p q
-  replied r other is_reply answered keeps leaves = served b (command.Write (Delete key)) (answer.Delete told) p q was is.on.quiet
-      (counts_replied b p q (Wrote (number p) (Delete key) r None) was is.on.quiet answered.0 answered.1 keeps) (
+  replied : (r : Reply) → told ≢ delete.Busy → reply_of_delete told ≡ Some r → AddsReply (Delete key now) r p q
+      → ((s : ℕ) → keys_stored_in (Wrote (number p) (Delete key now) r None ∷ seen p) s ≡ keys_stored_in (seen p) s)
+      → after_reply b.shape (Delete key now) r (state_at b.shape p) ≡ record (state_at b.shape p) { cache = after b.shape (Wrote (number p) (Delete key now) r None ∷ seen p) }
+      → ServesAlone b (command.Write (Delete key now)) (answer.Delete told) p q
+  replied r other is_reply answered keeps leaves = served b (command.Write (Delete key now)) (answer.Delete told) p q was is.on.quiet
+      (counts_replied b p q (Wrote (number p) (Delete key now) r None) was is.on.quiet answered.0 answered.1 keeps) (
         told,
         refl,
         serves_so false (free_here b.shape p key (λ locked. other (is.locked locked))) (
           is_reply ∙ ap Some was_replied,
-          as_replied b p q (Wrote (number p) (Delete key) r None) was is.on.quiet answered.0 answered.1 answered.2 keeps (same_widths b p q was is.on is.draws_nothing)
-              ∙ (sym leaves ∙ ap (λ r. after_reply b.shape (Delete key) r (state_at b.shape p)) was_replied),
+          as_replied b p q (Wrote (number p) (Delete key now) r None) was is.on.quiet answered.0 answered.1 answered.2 keeps (same_widths b p q was is.on is.draws_nothing)
+              ∙ (sym leaves ∙ ap (λ r. after_reply b.shape (Delete key now) r (state_at b.shape p)) was_replied),
         ),
       )
     where
-      was_replied : r ≡ reply_in b.shape (after b.shape (seen p)) (Delete key)
-      was_replied = reply_then b p q (Delete key) r None is.on.quiet (more_seen b p q (Wrote (number p) (Delete key) r None ∷ []) was is.on.quiet answered.0)
+      was_replied : r ≡ reply_in b.shape (after b.shape (seen p)) (Delete key now)
+      was_replied = reply_then b p q (Delete key now) r None is.on.quiet (more_seen b p q (Wrote (number p) (Delete key now) r None ∷ []) was is.on.quiet answered.0)
 
-pub serves_delete : (b : Board) (p q : Pass) (key : List ℕ) (told : DeleteAnswer) → IsAlone b p → Deletes b key told p q
-    → ServesAlone b (command.Write (Delete key)) (answer.Delete told) p q
-serves_delete b p q key delete.Deleted was is = replied b p q key was delete.Deleted is reply.Deleted (λ e. cc) refl is.answer (λ s. refl) refl
-serves_delete b p q key delete.NotFound was is = replied b p q key was delete.NotFound is reply.NotFound (λ e. cc) refl is.answer (λ s. refl) refl
-serves_delete b p q key delete.Busy was is =
-    served_still b (command.Write (Delete key)) (answer.Delete delete.Busy) p q was is.on.quiet is.answer.0 (
+pub serves_delete : (b : Board) (p q : Pass) (key : List ℕ) (now : ℕ) (told : DeleteAnswer) → IsAlone b p → Deletes b key now told p q
+    → ServesAlone b (command.Write (Delete key now)) (answer.Delete told) p q
+serves_delete b p q key now delete.Deleted was is = replied b p q key now was delete.Deleted is reply.Deleted (λ e. cc) refl is.answer (λ s. refl) refl
+serves_delete b p q key now delete.NotFound was is = replied b p q key now was delete.NotFound is reply.NotFound (λ e. cc) refl is.answer (λ s. refl) refl
+serves_delete b p q key now delete.Busy was is =
+    served_still b (command.Write (Delete key now)) (answer.Delete delete.Busy) p q was is.on.quiet is.answer.0 (
       delete.Busy,
       refl,
-      serves_so b p q key was delete.Busy is true (locked_here b.shape p key (busy_by_lock b p q (bucket_of b.shape key) was.quiet is.on.quiet was.one is.answer.1))
+      serves_so b p q key now was delete.Busy is true (locked_here b.shape p key (busy_by_lock b p q (bucket_of b.shape key) was.quiet is.on.quiet was.one is.answer.1))
           (refl, left b p q was is.on.quiet is.answer.0 (same_widths b p q was is.on is.draws_nothing)),
     )

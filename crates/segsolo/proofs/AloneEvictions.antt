@@ -7,20 +7,17 @@ use Rattle.std.specs.BTreeMap.{is_at}
 use Rattle.std.proofs.lemmas.Bool.{false≢true}
 use Rattle.std.proofs.lemmas.List.{append_cancel_right}
 use Rattle.std.proofs.lemmas.Option.{none-some}
-use Rattle.segword.specs.declared.shape.Shape.{Shape}
-use Rattle.segmodel.specs.declared.entry.Entry.{Entry}
+use Rattle.segword.specs.Words.{Shape}
 use Rattle.segmodel.specs.declared.entry.Entry.TheVariants as entry
-use Rattle.segmodel.specs.declared.entry.Cached.{Cached}
-use Rattle.segmodel.specs.Places.{bucket_of}
-use Rattle.segmodel.specs.Cache.{key_cmp, standing, without}
-use Rattle.segmodel.specs.History.{after, is_of, entries_of, IsLegal, StandsIn}
+use Rattle.segmodel.specs.Words.{after, bucket_of, Cached, entries_of, Entry, is_of, IsLegal}
+use Rattle.segmodel.specs.Words.{key_cmp, standing, StandsIn, without}
 use Rattle.segmodel.proofs.Counts.{count_by-cons}
 use Rattle.segmodel.proofs.HistoryLemmas.{standing-without}
 use Rattle.segmodel.proofs.Keys.{same_key, at_self}
 use Rattle.segmodel.proofs.Ordered.{Above, sorted-after}
 use Rattle.segcore.proofs.KeyCounts.{count_without, if_there}
 use Rattle.segsolo.specs.Alone.{keys_stored_in}
-use Rattle.segevict.specs.Evicting.{AreEvictions}
+use Rattle.segevict.specs.Words.{AreEvictions}
 use Rattle.segmodel.proofs.Words.{above_absent}
 
 -- ---- lists

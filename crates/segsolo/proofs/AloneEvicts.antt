@@ -6,31 +6,26 @@ use Rattle.std.proofs.lemmas.Bool.{false≢true, cases_Bool, eqb-true}
 use Rattle.std.proofs.lemmas.List.Folds.{Any-from_list_any}
 use Rattle.std.proofs.lemmas.Option.{same_Some}
 use Rattle.std.specs.BTreeMap.{is_at}
-use Rattle.segmodel.specs.declared.entry.Cached.{Cached}
-use Rattle.segmodel.specs.declared.answer.SegState.{SegState}
 use Rattle.segmodel.specs.declared.answer.SegState.TheVariants.{Empty, InUse, Evicted}
-use Rattle.segmodel.specs.declared.answer.EvictAnswer.{EvictAnswer}
 use Rattle.segmodel.specs.declared.answer.EvictAnswer.TheVariants as evict
 use Rattle.segmodel.specs.declared.answer.Answer.TheVariants as answer
 use Rattle.segmodel.specs.declared.answer.Command.TheVariants as command
-use Rattle.segmodel.specs.Places.{bucket_of}
-use Rattle.segmodel.specs.Cache.{Cache, key_cmp, standing, with_at}
-use Rattle.segmodel.specs.History.{after, entries_of, is_of, IsLegal, StandsIn, NoneStandsIn}
-use Rattle.segmodel.specs.State.{Filling, is_in, is_locked, is_named, is_stored}
-use Rattle.segmodel.specs.Serving.{may_go, taken_out, Evicts, ServesEvict, IsGiven}
+use Rattle.segmodel.specs.Words.{after, bucket_of, but_for, Cache, Cached, entries_of, EvictAnswer}
+use Rattle.segmodel.specs.Words.{Evicts, Filling, is_in, is_locked, is_named, is_of, is_stored}
+use Rattle.segmodel.specs.Words.{IsGiven, IsLegal, key_cmp, may_go, NoneStandsIn, SegState}
+use Rattle.segmodel.specs.Words.{ServesEvict, standing, StandsIn, taken_out, with_at}
 use Rattle.segmodel.proofs.Counts.{count-split, both, and_true}
 use Rattle.segmodel.proofs.Ordered.{sorted-after}
 use Rattle.segmodel.proofs.ServingKeeps.{found_passes}
 use Rattle.segcore.proofs.Standing.{legal}
-use Rattle.segbase.specs.declared.law.Locked.{Locked}
-use Rattle.segbase.specs.declared.law.Memo.{Memo}
-use Rattle.segbase.specs.declared.board.Board.{Board}
-use Rattle.segbase.specs.declared.pass.Pass.{Pass}
-use Rattle.segbase.specs.Passes.{number, trace, seen, locked}
-use Rattle.segbase.specs.Plain.{state_of, locked_of}
+use Rattle.segbase.specs.declared.pass.Plain.{Plain}
+use Rattle.segbase.specs.Words.{Board, Locked, locked, locked_of, Memo, number, own_segment, Pass}
+use Rattle.segbase.specs.Words.{seen, state_in, state_of, trace, used_in, with_state}
 use Rattle.segbase.proofs.Alone.{bounced_alone}
-use Rattle.segpass.specs.Calls.{GoesOn, DrawsNothing}
-use Rattle.segevict.specs.Evicting.{TakesOut, IsBarred, IsEvictAnswer}
+use Rattle.segbase.proofs.Known.{state_apart, used_kept}
+use Rattle.segevict.proofs.Evictions.{emptied_state}
+use Rattle.segpass.specs.Words.{DrawsNothing, GoesOn}
+use Rattle.segevict.specs.Words.{ended, IsBarred, IsEvictAnswer, TakesOut}
 use Rattle.segsolo.specs.Alone.{keys_stored_in, or_empty, item_of, state_at, CountsRows, IsAlone, ServesAlone}
 use Rattle.segindex.proofs.QuietPass.{none_since}
 use Rattle.segsolo.proofs.AlonePass.{more_seen, at_state, not_own, own_is, locked_here, served}
@@ -52,7 +47,14 @@ found_there : (o : Option Cached) (segment : ℕ) → IsSomeAnd o (λ item. item
 found_there None segment none = absurd none
 found_there (Some item) segment there = (item, refl, there)
 
-module _ (b : Board) (p q : Pass) (segment count : ℕ) (was : IsAlone b p) (on : GoesOn b p q) (undrawn : DrawsNothing p q) (takes : TakesOut b.shape segment count p q) where
+-- what an evict leaves of the plain part, whatever becomes of the segment's state
+abbrev rest_of : Plain → (ℕ → Option ℕ) × Option ℕ × Option ℕ
+rest_of x = ((λ s. used_in (own_segment x s)), x.current, x.locked)
+
+rest_emptied : (p q : Pass) (segment : ℕ) → q.plain ≡ with_state segment Evicted (ended segment p.plain) → rest_of q.plain ≡ rest_of (ended segment p.plain)
+rest_emptied p q segment now = ap rest_of now ∙ (λ i. ((λ s. used_kept (ended segment p.plain) segment Evicted s i), but_for segment p.plain.current, p.plain.locked))
+
+module _ (b : Board) (p q : Pass) (segment count : ℕ) (was : IsAlone b p) (on : GoesOn b p q) (undrawn : DrawsNothing p q) (takes : TakesOut b.shape segment count p q) (rest : rest_of q.plain ≡ rest_of (ended segment p.plain)) where
   more : seen q ≡ takes.evictions ++ seen p
   more = more_seen b p q takes.evictions was on.quiet takes.entries
 
@@ -99,7 +101,7 @@ module _ (b : Board) (p q : Pass) (segment count : ℕ) (was : IsAlone b p) (on 
   keys_then s = ap (λ h. keys_stored_in h s) more ∙ stored_still b.shape (number p) segment (seen p) s takes.evictions takes.all
 
   counts : CountsRows q
-  counts s n is = was.used s n (sym (takes.used s) ∙ is) ∙ ap (λ (keys : List (List ℕ)). length keys) (sym (keys_then s))
+  counts s n is = was.used s n (sym (ap (λ r. r.0 s) rest) ∙ is) ∙ ap (λ (keys : List (List ℕ)). length keys) (sym (keys_then s))
 
   -- an item that is evicted is in the segment, and in no locked bucket
   evicted_here : (key : List ℕ) (item : Cached) → standing (after b.shape (seen p)) key ≡ Some item → is_evicted takes.evictions key ≡ true → is_in segment (key, item) ≡ true
@@ -112,11 +114,11 @@ module _ (b : Board) (p q : Pass) (segment count : ℕ) (was : IsAlone b p) (on 
   at_taken goes filling same states keys =
       let widths = same_widths b p q was on undrawn in
       at_state b.shape q (record (taken_out segment goes (state_at b.shape p)) { filling = filling })
-      (cache_left goes same) states (λ s. keys_then s ∙ keys s) takes.current widths.wide widths.drawn (ap (λ (m : Memo). option_map item_of m.holding) takes.memo) takes.locked
+      (cache_left goes same) states (λ s. keys_then s ∙ keys s) (ap (λ r. r.1) rest) widths.wide widths.drawn (ap (λ (m : Memo). option_map item_of m.holding) takes.memo) (ap (λ r. r.2) rest)
 
   -- ---- Evicted
 
-  module _ (now : state_of q segment ≡ Some Evicted) (empty : NoneStandsIn (after b.shape (seen q)) segment) where
+  module _ (before : state_of p segment ≡ Some InUse) (now : q.plain ≡ with_state segment Evicted (ended segment p.plain)) (empty : NoneStandsIn (after b.shape (seen q)) segment) where
     -- all that stood in the segment is evicted
     all_evicted : (key : List ℕ) → StandsIn (after b.shape (seen p)) key segment → is_evicted takes.evictions key ≡ true
     all_evicted key stands = ⊎_elim
@@ -133,8 +135,8 @@ module _ (b : Board) (p q : Pass) (segment count : ℕ) (was : IsAlone b p) (on 
 
     state_then : (s : ℕ) → or_empty (state_of q s) ≡ (with_at (state_at b.shape p).filling segment emptied s).state
     state_then = by_segment (λ s. or_empty (state_of q s) ≡ (with_at (state_at b.shape p).filling segment emptied s).state) segment
-        (ap or_empty now ∙ sym (ap (λ (f : Filling). f.state) (with_at-same (state_at b.shape p).filling segment segment emptied refl)))
-        (λ s ne. ap or_empty (takes.other_states s (λ e. ne (sym e))) ∙ sym (ap (λ (f : Filling). f.state) (with_at-other (state_at b.shape p).filling segment s emptied ne)))
+        (ap or_empty (emptied_state segment p q before now) ∙ sym (ap (λ (f : Filling). f.state) (with_at-same (state_at b.shape p).filling segment segment emptied refl)))
+        (λ s ne. ap (λ (x : Plain). or_empty (state_in (own_segment x s))) now ∙ (ap or_empty (state_apart (ended segment p.plain) segment Evicted s (λ e. ne (sym e))) ∙ sym (ap (λ (f : Filling). f.state) (with_at-other (state_at b.shape p).filling segment s emptied ne))))
 
     same_keys : (s : ℕ) → keys_stored_in (seen p) s ≡ (with_at (state_at b.shape p).filling segment emptied s).keys
     same_keys s = by (eqb segment s) (eqb-true segment s)
@@ -152,7 +154,7 @@ module _ (b : Board) (p q : Pass) (segment count : ℕ) (was : IsAlone b p) (on 
 
   -- ---- Busy
 
-  module _ (before : state_of p segment ≡ Some InUse) (now : state_of q segment ≡ Some InUse) (barred : IsBarred b.shape segment p q) where
+  module _ (now : q.plain ≡ ended segment p.plain) (barred : IsBarred b.shape segment p q) where
     abbrev goes : List ℕ × Cached → Bool
     goes = may_go b.shape (state_at b.shape p) segment (is_evicted takes.evictions)
 
@@ -163,7 +165,7 @@ module _ (b : Board) (p q : Pass) (segment count : ℕ) (was : IsAlone b p) (on 
         (λ may. (both (is_in segment (key, item) && not (is_locked b.shape (state_at b.shape p) key)) (is_evicted takes.evictions key) may).1)
 
     state_still : (s : ℕ) → or_empty (state_of q s) ≡ or_empty (state_of p s)
-    state_still = by_segment (λ s. or_empty (state_of q s) ≡ or_empty (state_of p s)) segment (ap or_empty (now ∙ sym before)) (λ s ne. ap or_empty (takes.other_states s (λ e. ne (sym e))))
+    state_still s = ap (λ (x : Plain). or_empty (state_in (own_segment x s))) now
 
     -- the bucket that was in the way is the one that the pass has locked
     has_locked : locked_of p ≡ Some (bucket_of b.shape barred.0)
@@ -217,7 +219,7 @@ module _ (b : Board) (p q : Pass) (segment : ℕ) (was : IsAlone b p) (on : Goes
 
   evict_serves : (told : EvictAnswer) → IsEvictAnswer b.shape segment told p q → ((told ≡ evict.NotYours) ↔ (state_of p segment ≡ None)) → ServesAlone b (command.Evict segment) (answer.Evict told) p q
   evict_serves (evict.Evicted count) (inl (before, takes, now, empty)) not_yours =
-      own_serves (evict.Evicted count) InUse (counts b p q segment count was on undrawn takes) before (evicts_all b p q segment count was on undrawn takes now empty)
+      own_serves (evict.Evicted count) InUse (counts b p q segment count was on undrawn takes (rest_emptied p q segment now)) before (evicts_all b p q segment count was on undrawn takes (rest_emptied p q segment now) before now empty)
   evict_serves (evict.Evicted count) (inr (other, zero, same)) not_yours = by (state_of p segment) refl
     where
       by : (kept : Option SegState) → state_of p segment ≡ kept → ServesAlone b (command.Evict segment) (answer.Evict (evict.Evicted count)) p q
@@ -230,7 +232,7 @@ module _ (b : Board) (p q : Pass) (segment : ℕ) (was : IsAlone b p) (on : Goes
         (sym (not_own b p segment was (not_yours.0 refl))) (refl, ap (state_at b.shape) same),
   )
   evict_serves (evict.Busy count) (before, takes, now, barred) not_yours =
-      own_serves (evict.Busy count) InUse (counts b p q segment count was on undrawn takes) before (evicts_some b p q segment count was on undrawn takes before now barred)
+      own_serves (evict.Busy count) InUse (counts b p q segment count was on undrawn takes (ap rest_of now)) before (evicts_some b p q segment count was on undrawn takes (ap rest_of now) now barred)
 
 pub serves_evict : (b : Board) (p q : Pass) (segment : ℕ) (told : EvictAnswer) → IsAlone b p → GoesOn b p q → DrawsNothing p q
     → IsEvictAnswer b.shape segment told p q → ((told ≡ evict.NotYours) ↔ (state_of p segment ≡ None)) → ServesAlone b (command.Evict segment) (answer.Evict told) p q

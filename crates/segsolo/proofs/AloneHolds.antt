@@ -3,23 +3,17 @@ use Rattle.std.proofs.Common.{◌≡◌, ◌≢◌, ℕ, true, false, List, is_s
 use Rattle.std.specs.Prelude.{◌↔◌, IfSome}
 use Rattle.std.proofs.lemmas.Bool.{false≢true, cases_Bool}
 use Rattle.std.proofs.lemmas.Option.{none-some}
-use Rattle.segmodel.specs.declared.entry.Cached.{Cached}
 use Rattle.segmodel.specs.declared.answer.Turn.TheVariants as turn
 use Rattle.segmodel.specs.declared.answer.Outcome.TheVariants as outcome
-use Rattle.segmodel.specs.Cache.{present, standing, reads}
-use Rattle.segmodel.specs.History.{after}
+use Rattle.segmodel.specs.Words.{after, Cached, present, reads, standing}
 use Rattle.segmodel.specs.Turns as turns
 use Rattle.segcore.specs.Event as event
-use Rattle.segbase.specs.declared.law.Held.{Held}
-use Rattle.segbase.specs.declared.board.Board.{Board}
-use Rattle.segbase.specs.declared.pass.Pass.{Pass}
-use Rattle.segbase.specs.Passes.{seen, mine, holding}
-use Rattle.segbase.specs.Plain.{is_holding_of}
-use Rattle.segread.specs.declared.held.Hold.{Hold}
-use Rattle.segread.specs.declared.held.HoldAnswer.{HoldAnswer}
+use Rattle.segbase.specs.Words.{Board, Held, holding, is_holding_of, mine, Pass, seen}
 use Rattle.segread.specs.declared.held.HoldAnswer.TheVariants as answer
-use Rattle.segpass.specs.Calls.{GoesOn, ChangesNothing, DrawsNothing}
-use Rattle.segread.specs.Holds.{IsHoldOf, IsHoldAnswer, KeepsButHold, Releases, HoldsItem, ReadsHeld, ReleasesHold}
+use Rattle.segpass.specs.Words.{ChangesNothing, DrawsNothing, GoesOn}
+use Rattle.segread.specs.Words.{Hold, HoldAnswer, HoldsItem, IsHoldAnswer, IsHoldOf, ReadsHeld}
+use Rattle.segread.specs.Words.{Releases, ReleasesHold, SetsHold}
+use Rattle.segstore.proofs.Keeping.{stored_in}
 use Rattle.segpass.proofs.Costs.{draws_nothing}
 use Rattle.segsolo.specs.Alone.{item_of, state_at, IsAlone, TurnsAlone, outcome_of_hold}
 use Rattle.segsolo.proofs.AlonePass.{none_if, same_moment, same_seen, as_was, left, counts_still, turned, turned_still}
@@ -36,10 +30,10 @@ untouched b p q same = ap (state_at b.shape) same
 
 module _ (b : Board) (p q : Pass) (was : IsAlone b p) (on : GoesOn b p q) (undrawn : DrawsNothing p q) where
   -- another item is held, or none; the rest is as it was
-  holds_alone : KeepsButHold p q → state_at b.shape q ≡ record (state_at b.shape p) { held = option_map item_of (holding q) }
-  holds_alone keeps =
-      as_was b.shape p q (same_seen b p q was on.quiet keeps.entries) keeps.segments.state keeps.current (same_widths b p q was on undrawn)
-      ∙ ap (λ o. record (state_at b.shape p) { held = option_map item_of (holding q); locked = o }) keeps.locked.1
+  holds_alone : (held : Option Held) → mine q ≡ mine p → SetsHold held p q → state_at b.shape q ≡ record (state_at b.shape p) { held = option_map item_of held }
+  holds_alone held same sets =
+      as_was b.shape p q (same_seen b p q was on.quiet same) (ap stored_in sets.plain) (same_widths b p q was on undrawn)
+      ∙ (λ i. record (state_at b.shape p) { held = option_map item_of ((sets.memo i).holding); locked = (sets.plain i).locked })
 
   -- ---- hold
 
@@ -58,31 +52,31 @@ module _ (b : Board) (p q : Pass) (was : IsAlone b p) (on : GoesOn b p q) (undra
   none_present None is = refl
   none_present (Some item) is = absurd (none-some item.value (sym is))
 
-  hold_turn : (key : List ℕ) (told : HoldAnswer) → IsHoldAnswer b.shape key told p q → ((told ≡ answer.AlreadyHolding) ↔ (is_holding_of p ≡ true))
-      → TurnsAlone b (turn.Hold key) (outcome_of_hold told) p q
-  hold_turn key (answer.Holding hold) takes already =
-      let same = same_seen b p q was on.quiet takes.same.entries in
+  hold_turn : (key : List ℕ) (now : ℕ) (told : HoldAnswer) → IsHoldAnswer b.shape key now told p q → ((told ≡ answer.AlreadyHolding) ↔ (is_holding_of p ≡ true))
+      → TurnsAlone b (turn.Hold key now) (outcome_of_hold told) p q
+  hold_turn key now (answer.Holding hold) takes already =
+      let same = same_seen b p q was on.quiet takes.entries in
       let held = takes.is.held in
       let free : option_map item_of (holding p) ≡ None = ap (option_map item_of) (free_hold (answer.Holding hold) already (λ e. cc)) in
-      let found : present (after b.shape (seen p)) key ≡ Some (item_of held) =
+      let found : present (after b.shape (seen p)) now key ≡ Some (item_of held) =
       (λ i. standing (after b.shape (sym (same_moment (seen p) (seen q) (event.seen held.trace) same takes.between) i)) (sym takes.of i)) ∙ takes.stood.stands in
-      turned b (turn.Hold key) outcome.Holding p q was on.quiet (counts_still p q was.used same takes.same.segments.used) (
+      turned b (turn.Hold key now) outcome.Holding p q was on.quiet (counts_still p q was.used same (ap stored_in takes.sets.plain)) (
         (λ i. turns.hold_outcome (sym free i) (sym found i)),
-        holds_alone takes.same
-            ∙ ap (λ o. record (state_at b.shape p) { held = o }) (ap (option_map item_of) takes.is.holds ∙ (λ i. turns.held_after (sym free i) (sym found i))),
+        holds_alone (Some held) takes.entries takes.sets
+            ∙ ap (λ o. record (state_at b.shape p) { held = o }) (λ i. turns.held_after (sym free i) (sym found i)),
       )
-  hold_turn key answer.Miss (nothing, gone) already =
+  hold_turn key now answer.Miss (nothing, gone) already =
       let free : option_map item_of (holding p) ≡ None = ap (option_map item_of) (free_hold answer.Miss already (λ e. cc)) in
-      let absent : present (after b.shape (seen p)) key ≡ None = none_present (present (after b.shape (seen p)) key) (read_then b p q key was on nothing None gone) in
-      turned_still b (turn.Hold key) outcome.Miss p q was on.quiet nothing (
+      let absent : present (after b.shape (seen p)) now key ≡ None = none_present (present (after b.shape (seen p)) now key) (read_then b p q key now was on nothing None gone) in
+      turned_still b (turn.Hold key now) outcome.Miss p q was on.quiet nothing (
         (λ i. turns.hold_outcome (sym free i) (sym absent i)),
         left b p q was on.quiet nothing (same_widths b p q was on undrawn)
             ∙ ap (λ o. record (state_at b.shape p) { held = o }) (free ∙ (λ i. turns.held_after (sym free i) (sym absent i))),
       )
-  hold_turn key answer.Busy (nothing, many) already = absurd (never_stirred b p q key was on nothing many)
-  hold_turn key answer.AlreadyHolding same already =
-      let stays = holds_still (holding p) (present (after b.shape (seen p)) key) (sym was.quiet.holds ∙ already.0 refl) in
-      turned_still b (turn.Hold key) outcome.AlreadyHolding p q was on.quiet (as_nothing same) (
+  hold_turn key now answer.Busy (nothing, many) already = absurd (never_stirred b p q key now was on nothing many)
+  hold_turn key now answer.AlreadyHolding same already =
+      let stays = holds_still (holding p) (present (after b.shape (seen p)) now key) (sym was.quiet.holds ∙ already.0 refl) in
+      turned_still b (turn.Hold key now) outcome.AlreadyHolding p q was on.quiet (as_nothing same) (
         stays.0,
         untouched b p q same ∙ ap (λ o. record (state_at b.shape p) { held = o }) stays.1,
       )
@@ -102,15 +96,15 @@ module _ (b : Board) (p q : Pass) (was : IsAlone b p) (on : GoesOn b p q) (undra
   -- ---- release
 
   release_turn : (hold : Hold) → IsHoldOf b.shape hold p → Releases p q → TurnsAlone b turn.Release outcome.Released p q
-  release_turn hold is releases = turned b turn.Release outcome.Released p q was on.quiet (counts_still p q was.used (same_seen b p q was on.quiet releases.same.entries) releases.same.segments.used) (
+  release_turn hold is releases = turned b turn.Release outcome.Released p q was on.quiet (counts_still p q was.used (same_seen b p q was on.quiet releases.entries) (ap stored_in releases.sets.plain)) (
     sym (ap (λ o. turns.release_outcome (option_map item_of o)) is.holds),
-    holds_alone releases.same ∙ ap (λ o. record (state_at b.shape p) { held = option_map item_of o }) releases.holding,
+    holds_alone None releases.entries releases.sets,
   )
 
 -- ---- as turns
 
-pub turns_hold : (b : Board) (p q : Pass) (key : List ℕ) (told : HoldAnswer) → IsAlone b p → HoldsItem b key told p q → TurnsAlone b (turn.Hold key) (outcome_of_hold told) p q
-turns_hold b p q key told was is = hold_turn b p q was is.on is.draws_nothing key told is.answer is.already
+pub turns_hold : (b : Board) (p q : Pass) (key : List ℕ) (now : ℕ) (told : HoldAnswer) → IsAlone b p → HoldsItem b key now told p q → TurnsAlone b (turn.Hold key now) (outcome_of_hold told) p q
+turns_hold b p q key now told was is = hold_turn b p q was is.on is.draws_nothing key now told is.answer is.already
 
 pub turns_held : (b : Board) (p q : Pass) (hold : Hold) (value : List ℕ) → IsAlone b p → IsHoldOf b.shape hold p → ReadsHeld b hold value p q → TurnsAlone b turn.Held (outcome.Value value) p q
 turns_held b p q hold value was of is = held_turn b p q was is.on (draws_nothing p q is.costs_nothing) hold value of is.keeps is.value

@@ -5,16 +5,13 @@ use Rattle.std.proofs.lemmas.Bool.{false≢true}
 use Rattle.std.proofs.lemmas.Option.{none-some}
 use Rattle.segmodel.specs.declared.answer.Turn.TheVariants as turn
 use Rattle.segmodel.specs.declared.answer.Outcome.TheVariants as outcome
-use Rattle.segmodel.specs.Places.{bucket_of}
+use Rattle.segmodel.specs.Words.{bucket_of}
 use Rattle.segmodel.specs.Turns as turns
-use Rattle.segbase.specs.declared.board.Board.{Board}
-use Rattle.segbase.specs.declared.pass.Pass.{Pass}
-use Rattle.segbase.specs.Passes.{mine, holding}
-use Rattle.segbase.specs.Plain.{current_of, locked_of, SameSegments}
-use Rattle.segpass.specs.declared.bucket.LockAnswer.{LockAnswer}
+use Rattle.segbase.specs.Words.{Board, locked_of, mine, Pass}
 use Rattle.segpass.specs.declared.bucket.LockAnswer.TheVariants as lock
-use Rattle.segpass.specs.Calls.{GoesOn, DrawsNothing}
-use Rattle.segpass.specs.Locks.{IsLockAnswer, IsUnlockAnswer, LocksBucket, UnlocksBucket}
+use Rattle.segpass.specs.Words.{DrawsNothing, GoesOn, IsLockAnswer, IsUnlockAnswer, LockAnswer}
+use Rattle.segpass.specs.Words.{LocksBucket, SetsLock, UnlocksBucket}
+use Rattle.segstore.proofs.Keeping.{stored_in}
 use Rattle.segpass.proofs.Costs.{draws_nothing}
 use Rattle.segpass.proofs.Idling.{unchanged}
 use Rattle.segsolo.specs.Alone.{item_of, state_at, IsAlone, TurnsAlone, outcome_of_lock, outcome_of_unlock}
@@ -23,11 +20,11 @@ use Rattle.segsolo.proofs.AlonePass.{none_if, same_seen, as_was, left, counts_st
 use Rattle.segsolo.proofs.AloneWidths.{same_widths}
 
 -- another bucket is locked, or none; the rest is as it was
-locks_alone : (b : Board) (p q : Pass) → IsAlone b p → GoesOn b p q → DrawsNothing p q → mine q ≡ mine p → SameSegments p q → current_of q ≡ current_of p → holding q ≡ holding p
-    → state_at b.shape q ≡ record (state_at b.shape p) { locked = locked_of q }
-locks_alone b p q was on undrawn same segments current held =
-    as_was b.shape p q (same_seen b p q was on.quiet same) segments.state current (same_widths b p q was on undrawn)
-    ∙ ap (λ o. record (state_at b.shape p) { held = option_map item_of o; locked = locked_of q }) held
+locks_alone : (b : Board) (p q : Pass) (bucket : Option ℕ) → IsAlone b p → GoesOn b p q → DrawsNothing p q → mine q ≡ mine p → SetsLock bucket p q
+    → state_at b.shape q ≡ record (state_at b.shape p) { locked = bucket }
+locks_alone b p q bucket was on undrawn same sets =
+    as_was b.shape p q (same_seen b p q was on.quiet same) (ap stored_in sets.plain) (same_widths b p q was on undrawn)
+    ∙ (λ i. record (state_at b.shape p) { held = option_map item_of ((sets.memo i).holding); locked = (sets.plain i).locked })
 
 module _ (b : Board) (p q : Pass) (was : IsAlone b p) (on : GoesOn b p q) (undrawn : DrawsNothing p q) where
   -- ---- lock
@@ -47,10 +44,10 @@ module _ (b : Board) (p q : Pass) (was : IsAlone b p) (on : GoesOn b p q) (undra
       → TurnsAlone b (turn.Lock key) (outcome_of_lock told) p q
   lock_turn key lock.Locked locks already =
       let free = other_answer lock.Locked already (λ e. cc) in
-      turned b (turn.Lock key) outcome.Locked p q was on.quiet (counts_still p q was.used (same_seen b p q was on.quiet locks.entries) locks.segments.used) (
+      turned b (turn.Lock key) outcome.Locked p q was on.quiet (counts_still p q was.used (same_seen b p q was on.quiet locks.entries) (ap stored_in locks.sets.plain)) (
         sym (ap turns.lock_outcome free),
-        locks_alone b p q was on undrawn locks.entries locks.segments locks.current locks.holding.0
-            ∙ ap (λ o. record (state_at b.shape p) { locked = o }) (locks.locked_of ∙ sym (ap (turns.locked_after (bucket_of b.shape key)) free)),
+        locks_alone b p q (Some (bucket_of b.shape key)) was on undrawn locks.entries locks.sets
+            ∙ ap (λ o. record (state_at b.shape p) { locked = o }) (sym (ap (turns.locked_after (bucket_of b.shape key)) free)),
       )
   lock_turn key lock.Busy (nothing, vain) already =
       let free = other_answer lock.Busy already (λ e. cc) in
@@ -69,10 +66,9 @@ module _ (b : Board) (p q : Pass) (was : IsAlone b p) (on : GoesOn b p q) (undra
 
   unlock_turn : (told : Bool) → IsUnlockAnswer b.shape told p q → told ≡ is_some (locked_of p) → TurnsAlone b turn.Unlock (outcome_of_unlock told) p q
   unlock_turn true unlocks was_locked =
-      turned b turn.Unlock outcome.Unlocked p q was on.quiet (counts_still p q was.used (same_seen b p q was on.quiet unlocks.entries) unlocks.segments.used) (
+      turned b turn.Unlock outcome.Unlocked p q was on.quiet (counts_still p q was.used (same_seen b p q was on.quiet unlocks.entries) (ap stored_in unlocks.sets.plain)) (
         unlocks_one (locked_of p) was_locked,
-        locks_alone b p q was on undrawn unlocks.entries unlocks.segments unlocks.current unlocks.holding.0
-            ∙ ap (λ o. record (state_at b.shape p) { locked = o }) unlocks.locked_of,
+        locks_alone b p q None was on undrawn unlocks.entries unlocks.sets,
       )
   unlock_turn false same was_locked =
       let nothing = unchanged p q same in

@@ -1,36 +1,23 @@
 -- The only pass of an index: its history is its own, its segments are those of the model, and a call that leaves it as it was leaves the state that it is at.
 use Rattle.std.proofs.Common.{◌≡◌, ◌≢◌, ℕ, ◌/◌, ◌<◌, nat_lt, true, false, List, [], ◌∷◌, ◌++◌, length, is_some, Option, Some, None, option_map, refl, sym, ap, subst, ◌∙◌, ⊎_elim, arith, length-append, eq-eqb}
 use Rattle.std.proofs.lemmas.Bool.{false≢true, cases_Bool, lt-ltb, ne_eqb}
-use Rattle.segword.specs.declared.shape.Shape.{Shape}
-use Rattle.segmodel.specs.declared.entry.Entry.{Entry}
+use Rattle.segword.specs.Words.{Shape}
 use Rattle.segmodel.specs.declared.entry.Entry.TheVariants.{Wrote}
-use Rattle.segmodel.specs.declared.request.Request.{Request}
-use Rattle.segmodel.specs.declared.request.Reply.{Reply}
-use Rattle.segmodel.specs.declared.answer.SegState.{SegState}
 use Rattle.segmodel.specs.declared.answer.Command.{Command}
-use Rattle.segmodel.specs.declared.answer.Answer.{Answer}
-use Rattle.segmodel.specs.declared.answer.Turn.{Turn}
 use Rattle.segmodel.specs.declared.answer.Turn.TheVariants.{Serve}
-use Rattle.segmodel.specs.declared.answer.Outcome.{Outcome}
 use Rattle.segmodel.specs.declared.answer.Outcome.TheVariants.{Answered}
-use Rattle.segmodel.specs.Places.{owner, bucket_of}
-use Rattle.segmodel.specs.Cache.{reply_in}
-use Rattle.segmodel.specs.History.{after, IsBetween, IsLegal}
-use Rattle.segmodel.specs.State.{State, is_locked, is_named}
-use Rattle.segmodel.specs.Serving.{is_own, Serves}
-use Rattle.segmodel.specs.Turns.{Turns}
+use Rattle.segmodel.specs.Words.{after, Answer, bucket_of, Entry, is_locked, is_named, is_own}
+use Rattle.segmodel.specs.Words.{IsBetween, IsLegal, Outcome, owner, Reply, reply_in, Request}
+use Rattle.segmodel.specs.Words.{SegState, Serves, State, Turn, Turns}
 use Rattle.segmodel.proofs.ServingKeeps.{turns_keep}
 use Rattle.segmodel.proofs.Written.{first_owner}
-use Rattle.segcore.specs.Mark.{width, all_drawn}
+use Rattle.segcore.specs.Words.{all_drawn, width}
 use Rattle.segcore.proofs.Standing.{legal}
-use Rattle.segbase.specs.declared.law.Memo.{Memo}
-use Rattle.segbase.specs.declared.board.Board.{Board}
-use Rattle.segbase.specs.declared.pass.Pass.{Pass}
-use Rattle.segbase.specs.Passes.{number, trace, marked, seen, mine, holding}
-use Rattle.segbase.specs.Plain.{current_of, state_of, used_of, own_segment, state_in, used_in, locked_of}
+use Rattle.segbase.specs.Words.{Board, current_of, holding, locked_of, marked, Memo, mine, number}
+use Rattle.segbase.specs.Words.{Pass, seen, state_in, state_of, trace, used_in}
 use Rattle.segbase.proofs.Alone.{mine_alone}
-use Rattle.segpass.specs.Quiet.{IsQuiet}
-use Rattle.segpass.specs.Calls.{memo, ChangesNothing, AddsEntry}
+use Rattle.segstore.proofs.Keeping.{same_states, same_used, stored_in}
+use Rattle.segpass.specs.Words.{AddsEntry, ChangesNothing, IsQuiet, memo}
 use Rattle.segsolo.specs.Alone.{keys_stored_in, or_empty, item_of, state_at, CountsRows, IsAlone, ServesAlone, TurnsAlone}
 use Rattle.segindex.proofs.QuietPass.{owned}
 
@@ -110,26 +97,20 @@ at_state shape q state cache states keys current wide drawn held locked = λ i. 
   locked = locked i;
 }
 
-pub same_states : (p q : Pass) (segment : ℕ) → q.plain ≡ p.plain → state_of q segment ≡ state_of p segment
-same_states p q segment plain = ap (λ plain. state_in (own_segment plain segment)) plain
-
-pub same_used : (p q : Pass) (segment : ℕ) → q.plain ≡ p.plain → used_of q segment ≡ used_of p segment
-same_used p q segment plain = ap (λ plain. used_in (own_segment plain segment)) plain
-
 -- a pass that saw nothing new, whose segments are as they were, is at the same state but for its hold and its lock
-pub as_was : (shape : Shape) (p q : Pass) → seen q ≡ seen p → ((segment : ℕ) → state_of q segment ≡ state_of p segment) → current_of q ≡ current_of p → SameWidths p q
+pub as_was : (shape : Shape) (p q : Pass) → seen q ≡ seen p → stored_in q.plain ≡ stored_in p.plain → SameWidths p q
     → state_at shape q ≡ record (state_at shape p) { held = option_map item_of (holding q); locked = locked_of q }
-as_was shape p q same states current widths = at_state shape q (record (state_at shape p) { held = option_map item_of (holding q); locked = locked_of q })
-    (ap (after shape) same) (λ segment. ap or_empty (states segment)) (λ segment. ap (λ h. keys_stored_in h segment) same) current widths.wide widths.drawn refl refl
+as_was shape p q same kept widths = at_state shape q (record (state_at shape p) { held = option_map item_of (holding q); locked = locked_of q })
+    (ap (after shape) same) (λ segment. ap (λ k. or_empty (state_in (k.0 segment))) kept) (λ segment. ap (λ h. keys_stored_in h segment) same) (ap (λ k. k.1) kept) widths.wide widths.drawn refl refl
 
 pub left : (b : Board) (p q : Pass) → IsAlone b p → IsQuiet b q → ChangesNothing p q → SameWidths p q → state_at b.shape q ≡ state_at b.shape p
-left b p q was quiet nothing widths = as_was b.shape p q (same_seen b p q was quiet nothing.entries) (λ segment. same_states p q segment nothing.plain) (ap (λ plain. plain.current) nothing.plain) widths
+left b p q was quiet nothing widths = as_was b.shape p q (same_seen b p q was quiet nothing.entries) (ap stored_in nothing.plain) widths
     ∙ (λ i. record (state_at b.shape p) { held = option_map item_of ((nothing.memo i).holding); locked = (nothing.plain i).locked })
 
 -- ---- rows
 
-pub counts_still : (p q : Pass) → CountsRows p → seen q ≡ seen p → ((segment : ℕ) → used_of q segment ≡ used_of p segment) → CountsRows q
-counts_still p q counts same used segment count is = counts segment count (sym (used segment) ∙ is) ∙ ap (λ h. length (keys_stored_in h segment)) (sym same)
+pub counts_still : (p q : Pass) → CountsRows p → seen q ≡ seen p → stored_in q.plain ≡ stored_in p.plain → CountsRows q
+counts_still p q counts same kept segment count is = counts segment count (sym (ap (λ k. used_in (k.0 segment)) kept) ∙ is) ∙ ap (λ h. length (keys_stored_in h segment)) (sym same)
 
 -- ---- an entry that stores nothing
 
@@ -185,7 +166,7 @@ turned b turn given p q was quiet counts served = (
 pub turned_still : (b : Board) (turn : Turn) (given : Outcome) (p q : Pass) → IsAlone b p → IsQuiet b q → ChangesNothing p q
     → Turns b.shape (state_at b.shape p) turn given (state_at b.shape q) → TurnsAlone b turn given p q
 turned_still b turn given p q was quiet nothing served =
-    turned b turn given p q was quiet (counts_still p q was.used (same_seen b p q was quiet nothing.entries) (λ segment. same_used p q segment nothing.plain)) served
+    turned b turn given p q was quiet (counts_still p q was.used (same_seen b p q was quiet nothing.entries) (ap stored_in nothing.plain)) served
 
 -- and so does a command
 pub served : (b : Board) (command : Command) (given : Answer) (p q : Pass) → IsAlone b p → IsQuiet b q → CountsRows q

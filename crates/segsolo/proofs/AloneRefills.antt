@@ -4,28 +4,21 @@ use Rattle.std.specs.Prelude.{◌↔◌}
 use Rattle.std.proofs.lemmas.Bool.{false≢true, cond-true, cond-false, cases_Bool, cases_eq, ne_eqb, eqb-true}
 use Rattle.std.proofs.lemmas.Option.{same_Some}
 use Rattle.segmodel.specs.declared.entry.Entry.TheVariants as entry
-use Rattle.segmodel.specs.declared.answer.SegState.{SegState}
 use Rattle.segmodel.specs.declared.answer.SegState.TheVariants.{Empty, InUse, Evicted}
-use Rattle.segmodel.specs.declared.answer.RefillAnswer.{RefillAnswer}
 use Rattle.segmodel.specs.declared.answer.RefillAnswer.TheVariants as refill
 use Rattle.segmodel.specs.declared.answer.Answer.TheVariants as answer
 use Rattle.segmodel.specs.declared.answer.Command.TheVariants as command
-use Rattle.segmodel.specs.Cache.{with_at}
-use Rattle.segmodel.specs.History.{after}
-use Rattle.segmodel.specs.State.{Filling}
-use Rattle.segmodel.specs.Serving.{is_own, is_held, refill_answer, after_refill}
-use Rattle.segbase.specs.declared.law.Held.{Held}
-use Rattle.segbase.specs.declared.law.Memo.{Memo}
-use Rattle.segbase.specs.declared.board.Board.{Board}
-use Rattle.segbase.specs.declared.pass.Pass.{Pass}
-use Rattle.segbase.specs.Passes.{seen, number, trace, holding}
-use Rattle.segbase.specs.Plain.{state_of, used_of}
+use Rattle.segmodel.specs.Words.{after, after_refill, Filling, is_held, is_own, refill_answer}
+use Rattle.segmodel.specs.Words.{RefillAnswer, SegState, with_at}
+use Rattle.segbase.specs.declared.pass.Plain.{Plain}
+use Rattle.segbase.specs.Words.{Board, Held, holding, Memo, number, Pass, seen, state_of, trace}
+use Rattle.segbase.specs.Words.{used_of}
 use Rattle.segpass.proofs.Idling.{unchanged}
-use Rattle.segpass.specs.Quiet.{is_held_in}
-use Rattle.segpass.specs.Calls.{GoesOn, ChangesNothing, DrawsNothing}
-use Rattle.segindex.specs.Refilling.{IsBeingRead, Refills, IsRefillAnswer}
+use Rattle.segpass.specs.Words.{ChangesNothing, DrawsNothing, GoesOn, is_held_in}
+use Rattle.segindex.specs.Words.{IsBeingRead, IsRefillAnswer, Refills}
 use Rattle.segsolo.specs.Alone.{keys_stored_in, or_empty, item_of, state_at, CountsRows, IsAlone, ServesAlone}
 use Rattle.segindex.proofs.OnePass.{nobody_inside}
+use Rattle.segindex.proofs.Refills.{refills_state, refills_used, other_states, other_used}
 use Rattle.segsolo.proofs.AlonePass.{more_seen, at_state, left, not_own, own_is, served, served_still}
 use Rattle.segsolo.proofs.AloneWidths.{same_widths}
 
@@ -39,7 +32,7 @@ with_at-other f place n value ne = rw (ne_eqb place n ne) refl
 pub by_segment : (P : ℕ → Type 0) (segment : ℕ) → P segment → ((other : ℕ) → segment ≢ other → P other) → (other : ℕ) → P other
 by_segment P segment here rest other = elim (cases_eq segment other) [ inl e ↦ subst P e here | inr ne ↦ rest other ne ]
 
-module _ (b : Board) (p q : Pass) (segment : ℕ) (was : IsAlone b p) (on : GoesOn b p q) (undrawn : DrawsNothing p q) where
+module _ (b : Board) (p q : Pass) (segment deadline : ℕ) (was : IsAlone b p) (on : GoesOn b p q) (undrawn : DrawsNothing p q) where
   -- what the model answers
   abbrev told : RefillAnswer
   told = cond (is_own b.shape segment) (refill_answer (state_at b.shape p) segment (or_empty (state_of p segment))) refill.NotYours
@@ -61,11 +54,11 @@ module _ (b : Board) (p q : Pass) (segment : ℕ) (was : IsAlone b p) (on : Goes
       let nobody = nobody_inside (number q) other segment (trace q) apart (on.quiet.pass.alone was.one) in absurd (omega arith)
   read_by_itself (inr held) = held
 
-  still_serves : (given : RefillAnswer) → told ≡ given → ChangesNothing p q → after_refill segment given (state_at b.shape p) ≡ state_at b.shape p
-      → ServesAlone b (command.Refill segment) (answer.Refill given) p q
-  still_serves given e nothing stays = served_still b (command.Refill segment) (answer.Refill given) p q was on.quiet nothing (
+  still_serves : (given : RefillAnswer) → told ≡ given → ChangesNothing p q → after_refill segment deadline given (state_at b.shape p) ≡ state_at b.shape p
+      → ServesAlone b (command.Refill segment deadline) (answer.Refill given) p q
+  still_serves given e nothing stays = served_still b (command.Refill segment deadline) (answer.Refill given) p q was on.quiet nothing (
     sym (ap answer.Refill e),
-    left b p q was on.quiet nothing (same_widths b p q was on undrawn) ∙ (sym stays ∙ sym (ap (λ g. after_refill segment g (state_at b.shape p)) e)),
+    left b p q was on.quiet nothing (same_widths b p q was on undrawn) ∙ (sym stays ∙ sym (ap (λ g. after_refill segment deadline g (state_at b.shape p)) e)),
   )
 
   -- ---- Held
@@ -87,17 +80,17 @@ module _ (b : Board) (p q : Pass) (segment : ℕ) (was : IsAlone b p) (on : Goes
   refilled_told InUse ne free = absurd (ne refl)
   refilled_told Evicted ne free = cond-false (is_held (option_map item_of (holding p)) segment) refill.Held refill.Refilled (held_alike (holding p) ∙ free refl)
 
-  module _ (refills : Refills segment p q) where
-    more : seen q ≡ entry.Refilled (number p) segment ∷ seen p
-    more = more_seen b p q (entry.Refilled (number p) segment ∷ []) was on.quiet refills.entry
+  module _ (refills : Refills segment deadline p q) where
+    more : seen q ≡ entry.Refilled (number p) segment deadline ∷ seen p
+    more = more_seen b p q (entry.Refilled (number p) segment deadline ∷ []) was on.quiet refills.entry
 
     abbrev begun : Filling
     begun = record { state = InUse; keys = [] }
 
     state_then : (s : ℕ) → or_empty (state_of q s) ≡ (with_at (state_at b.shape p).filling segment begun s).state
     state_then = by_segment (λ s. or_empty (state_of q s) ≡ (with_at (state_at b.shape p).filling segment begun s).state) segment
-        (ap or_empty refills.state ∙ sym (ap (λ (f : Filling). f.state) (with_at-same (state_at b.shape p).filling segment segment begun refl)))
-        (λ s ne. ap or_empty (refills.other_states s (λ e. ne (sym e))) ∙ sym (ap (λ (f : Filling). f.state) (with_at-other (state_at b.shape p).filling segment s begun ne)))
+        (ap or_empty (refills_state segment deadline p q refills) ∙ sym (ap (λ (f : Filling). f.state) (with_at-same (state_at b.shape p).filling segment segment begun refl)))
+        (λ s ne. ap or_empty (other_states segment deadline p q refills s (λ e. ne (sym e))) ∙ sym (ap (λ (f : Filling). f.state) (with_at-other (state_at b.shape p).filling segment s begun ne)))
 
     keys_then : (s : ℕ) → keys_stored_in (seen q) s ≡ (with_at (state_at b.shape p).filling segment begun s).keys
     keys_then s = ap (λ h. keys_stored_in h s) more ∙ by (eqb segment s)
@@ -106,32 +99,32 @@ module _ (b : Board) (p q : Pass) (segment : ℕ) (was : IsAlone b p) (on : Goes
         by true = refl
         by false = refl
 
-    at_refilled : state_at b.shape q ≡ after_refill segment refill.Refilled (state_at b.shape p)
+    at_refilled : state_at b.shape q ≡ after_refill segment deadline refill.Refilled (state_at b.shape p)
     at_refilled =
         let widths = same_widths b p q was on undrawn in
-        at_state b.shape q (after_refill segment refill.Refilled (state_at b.shape p))
-        (ap (after b.shape) more) state_then keys_then refills.current widths.wide widths.drawn (ap (λ (m : Memo). option_map item_of m.holding) refills.memo) refills.locked
+        at_state b.shape q (after_refill segment deadline refill.Refilled (state_at b.shape p))
+        (ap (after b.shape) more) state_then keys_then (ap (λ (x : Plain). x.current) refills.plain) widths.wide widths.drawn (ap (λ (m : Memo). option_map item_of m.holding) refills.memo) (ap (λ (x : Plain). x.locked) refills.plain)
 
     counts : CountsRows q
     counts s count is = by_segment (λ s. used_of q s ≡ Some count → count ≡ length (with_at (state_at b.shape p).filling segment begun s).keys) segment
-        (λ is. same_Some count 0 (sym is ∙ refills.used) ∙ sym (ap (λ (f : Filling). length f.keys) (with_at-same (state_at b.shape p).filling segment segment begun refl)))
-        (λ s ne is. was.used s count (sym (refills.other_used s (λ e. ne (sym e))) ∙ is) ∙ sym (ap (λ (f : Filling). length f.keys) (with_at-other (state_at b.shape p).filling segment s begun ne)))
+        (λ is. same_Some count 0 (sym is ∙ refills_used segment deadline p q refills) ∙ sym (ap (λ (f : Filling). length f.keys) (with_at-same (state_at b.shape p).filling segment segment begun refl)))
+        (λ s ne is. was.used s count (sym (other_used segment deadline p q refills s (λ e. ne (sym e))) ∙ is) ∙ sym (ap (λ (f : Filling). length f.keys) (with_at-other (state_at b.shape p).filling segment s begun ne)))
         s is ∙ ap (λ (keys : List (List ℕ)). length keys) (sym (keys_then s))
 
-  refill_serves : (given : RefillAnswer) → IsRefillAnswer segment given p q → ((given ≡ refill.NotYours) ↔ (state_of p segment ≡ None)) → ((given ≡ refill.NotEvicted) ↔ (state_of p segment ≡ Some InUse))
-      → (state_of p segment ≡ Some Evicted → is_held_in (holding p) segment ≡ true → given ≡ refill.Held) → ServesAlone b (command.Refill segment) (answer.Refill given) p q
+  refill_serves : (given : RefillAnswer) → IsRefillAnswer segment deadline given p q → ((given ≡ refill.NotYours) ↔ (state_of p segment ≡ None)) → ((given ≡ refill.NotEvicted) ↔ (state_of p segment ≡ Some InUse))
+      → (state_of p segment ≡ Some Evicted → is_held_in (holding p) segment ≡ true → given ≡ refill.Held) → ServesAlone b (command.Refill segment deadline) (answer.Refill given) p q
   refill_serves refill.NotYours same not_yours_where in_use held = still_serves refill.NotYours (not_yours (not_yours_where.0 refl)) (unchanged p q same) refl
   refill_serves refill.NotEvicted same not_yours_where in_use held = still_serves refill.NotEvicted (of_own InUse (in_use.0 refl)) (unchanged p q same) refl
   refill_serves refill.Held (nothing, read) not_yours_where in_use held = by (state_of p segment) refl
     where
-      by : (kept : Option SegState) → state_of p segment ≡ kept → ServesAlone b (command.Refill segment) (answer.Refill refill.Held) p q
+      by : (kept : Option SegState) → state_of p segment ≡ kept → ServesAlone b (command.Refill segment deadline) (answer.Refill refill.Held) p q
       by None e = let no : refill.Held ≡ refill.NotYours = not_yours_where.1 e in cc
       by (Some is) e =
           let here : is_held_in (holding p) segment ≡ true = ap (λ (m : Memo). is_held_in m.holding segment) (sym nothing.memo) ∙ read_by_itself read in
           still_serves refill.Held (of_own is e ∙ held_told is e (λ used. let no : refill.Held ≡ refill.NotEvicted = in_use.1 (e ∙ ap Some used) in cc) here) nothing refl
   refill_serves refill.Refilled refills not_yours_where in_use held = by (state_of p segment) refl
     where
-      by : (kept : Option SegState) → state_of p segment ≡ kept → ServesAlone b (command.Refill segment) (answer.Refill refill.Refilled) p q
+      by : (kept : Option SegState) → state_of p segment ≡ kept → ServesAlone b (command.Refill segment deadline) (answer.Refill refill.Refilled) p q
       by None e = let no : refill.Refilled ≡ refill.NotYours = not_yours_where.1 e in cc
       by (Some is) e =
           let is_told : told ≡ refill.Refilled = of_own is e ∙ refilled_told is (λ used. let no : refill.Refilled ≡ refill.NotEvicted = in_use.1 (e ∙ ap Some used) in cc)
@@ -139,12 +132,12 @@ module _ (b : Board) (p q : Pass) (segment : ℕ) (was : IsAlone b p) (on : Goes
           (λ here. let no : refill.Refilled ≡ refill.Held = held (e ∙ ap Some evicted) here in cc)
           (λ free. free)
           (cases_Bool (is_held_in (holding p) segment))) in
-          served b (command.Refill segment) (answer.Refill refill.Refilled) p q was on.quiet (counts refills)
-          (sym (ap answer.Refill is_told), at_refilled refills ∙ sym (ap (λ g. after_refill segment g (state_at b.shape p)) is_told))
+          served b (command.Refill segment deadline) (answer.Refill refill.Refilled) p q was on.quiet (counts refills)
+          (sym (ap answer.Refill is_told), at_refilled refills ∙ sym (ap (λ g. after_refill segment deadline g (state_at b.shape p)) is_told))
 
 -- ---- served
 
-pub serves_refill : (b : Board) (p q : Pass) (segment : ℕ) (told : RefillAnswer) → IsAlone b p → GoesOn b p q → DrawsNothing p q → IsRefillAnswer segment told p q
+pub serves_refill : (b : Board) (p q : Pass) (segment deadline : ℕ) (told : RefillAnswer) → IsAlone b p → GoesOn b p q → DrawsNothing p q → IsRefillAnswer segment deadline told p q
     → ((told ≡ refill.NotYours) ↔ (state_of p segment ≡ None)) → ((told ≡ refill.NotEvicted) ↔ (state_of p segment ≡ Some InUse))
-    → (state_of p segment ≡ Some Evicted → is_held_in (holding p) segment ≡ true → told ≡ refill.Held) → ServesAlone b (command.Refill segment) (answer.Refill told) p q
-serves_refill b p q segment told was on undrawn is not_yours in_use held = refill_serves b p q segment was on undrawn told is not_yours in_use held
+    → (state_of p segment ≡ Some Evicted → is_held_in (holding p) segment ≡ true → told ≡ refill.Held) → ServesAlone b (command.Refill segment deadline) (answer.Refill told) p q
+serves_refill b p q segment deadline told was on undrawn is not_yours in_use held = refill_serves b p q segment deadline was on undrawn told is not_yours in_use held

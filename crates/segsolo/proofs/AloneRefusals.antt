@@ -3,24 +3,16 @@ use Rattle.std.proofs.Common.{◌≡◌, ℕ, ◌+◌, ◌*◌, ◌==◌, ◌&&�
 use Rattle.std.specs.Prelude.{option_and_then}
 use Rattle.std.proofs.lemmas.Bool.{cases_lt, lt-ltb, le-ltb, lt-leb, le-leb, and_right}
 use Rattle.std.proofs.lemmas.Option.{none-some}
-use Rattle.segword.specs.declared.shape.Shape.{Shape}
-use Rattle.segmodel.specs.declared.request.Request.{Request}
-use Rattle.segmodel.specs.declared.answer.SegState.{SegState}
+use Rattle.segword.specs.Words.{Shape}
 use Rattle.segmodel.specs.declared.answer.SegState.TheVariants.{InUse}
-use Rattle.segmodel.specs.Places.{bucket_of}
-use Rattle.segmodel.specs.Request.{key_of, adds_key}
-use Rattle.segmodel.specs.Cache.{standing, keys_in}
-use Rattle.segmodel.specs.History.{after}
-use Rattle.segmodel.specs.Serving.{is_out_of_rows, may_chain, lacks_word}
-use Rattle.segcore.specs.Mark.{entries, all_drawn, width}
+use Rattle.segmodel.specs.Words.{adds_key, after, bucket_of, is_out_of_rows, key_of, keys_in}
+use Rattle.segmodel.specs.Words.{lacks_word, may_chain, Request, SegState, standing}
+use Rattle.segcore.specs.Words.{all_drawn, entries, width}
 use Rattle.segcore.proofs.Marked.{entries_marked}
-use Rattle.segbase.specs.declared.board.Board.{Board}
-use Rattle.segbase.specs.declared.pass.OwnSegment.{OwnSegment}
-use Rattle.segbase.specs.declared.pass.Pass.{Pass}
-use Rattle.segbase.specs.Passes.{trace, marked, seen}
-use Rattle.segbase.specs.Plain.{current_of, used_of, own_segment, state_in, used_in}
-use Rattle.segstore.specs.Segments.{has_room, is_below}
-use Rattle.segwrite.specs.Full.{WasFull}
+use Rattle.segbase.specs.Words.{Board, current_of, marked, own_segment, OwnSegment, Pass, seen}
+use Rattle.segbase.specs.Words.{state_in, trace, used_in, used_of}
+use Rattle.segstore.specs.Words.{has_room, is_below}
+use Rattle.segwrite.specs.Words.{WasFull}
 use Rattle.segsolo.specs.Alone.{keys_stored_in, state_at, IsAlone}
 use Rattle.segsolo.proofs.AlonePass.{same_moment, SameWidths}
 use Rattle.segsolo.proofs.Grown.{entries_begin, drawn_begin, all_begin}

@@ -1,20 +1,15 @@
 -- A new index with one pass is at the state at the start.
 use Rattle.std.proofs.Common.{◌≡◌, ℕ, zero, suc, ◌-◌, nat_le, cond, Bool, true, false, length, replicate, slice_get, List, [], ◌∷◌, ◌++◌, Some, None, option_map, refl, sym, ap, subst, ◌∙◌, arith}
 use Rattle.std.proofs.lemmas.List.{length_push}
-use Rattle.segword.specs.declared.shape.Shape.{Shape}
+use Rattle.segword.specs.Words.{Shape}
 use Rattle.segmodel.specs.declared.answer.SegState.TheVariants.{Empty}
-use Rattle.segmodel.specs.History.{after}
-use Rattle.segmodel.specs.State.{fresh}
+use Rattle.segmodel.specs.Words.{after, fresh}
 use Rattle.segmodel.proofs.Sound.{IsKept-fresh, IsKept-same}
 use Rattle.segcore.specs.Event as event
-use Rattle.segcore.specs.Mark.{width, all_drawn}
+use Rattle.segcore.specs.Words.{all_drawn, width}
 use Rattle.segcore.specs.Mark as mark
-use Rattle.segbase.specs.declared.board.Board.{Board}
-use Rattle.segbase.specs.declared.pass.Pass.{Pass}
-use Rattle.segbase.specs.Plain.{state_in, state_of}
-use Rattle.segbase.specs.Made.{unfilled, IsNewPass}
-use Rattle.segindex.specs.declared.index.Index.{Index}
-use Rattle.segindex.specs.Index.{board_of, IsNew}
+use Rattle.segbase.specs.Words.{Board, IsNewPass, Pass, state_in, state_of, unfilled}
+use Rattle.segindex.specs.Words.{board_of, Index, IsNew}
 use Rattle.segsolo.specs.Alone.{keys_stored_in, or_empty, item_of, state_at, IsAlone}
 use Rattle.segsolo.proofs.AlonePass.{at_state}
 use Rattle.segindex.proofs.Made.{new_quiet, none_used}
@@ -65,11 +60,11 @@ only_one (other ∷ left) p one = let long = length_push left p in let more : su
 pub starts_new : (shape : Shape) (index : Index) (passes : List Pass) (p : Pass) → IsNew shape index passes → shape.passes ≡ 1 → slice_get passes 0 ≡ Some p
     → IsAlone (board_of index) p × (state_at shape p ≡ fresh shape)
 starts_new shape index passes p new one first =
-    let starts = starts_alone (board_of index) p (new.each 0 p first).0 (ap (λ s. s.passes) new.of ∙ one) in
-    (starts.0, subst (λ s. state_at s p ≡ fresh s) new.of starts.1)
+    let starts = starts_alone (board_of index) p (new.made.dealt.each 0 p first) (ap (λ s. s.passes) new.made.of ∙ one) in
+    (starts.0, subst (λ s. state_at s p ≡ fresh s) new.made.of starts.1)
 
 -- its only pass, the last of the list
 pub starts_last : (shape : Shape) (index : Index) (passes left : List Pass) (p : Pass) → IsNew shape index passes → shape.passes ≡ 1 → passes ≡ left ++ p ∷ []
     → IsAlone (board_of index) p × (state_at shape p ≡ fresh shape)
 starts_last shape index passes left p new one last =
-    starts_new shape index passes p new one (ap (λ l. slice_get l 0) last ∙ only_one left p (ap (λ (l : List Pass). length l) (sym last) ∙ (new.long ∙ one)))
+    starts_new shape index passes p new one (ap (λ l. slice_get l 0) last ∙ only_one left p (ap (λ (l : List Pass). length l) (sym last) ∙ (new.made.dealt.long ∙ one)))

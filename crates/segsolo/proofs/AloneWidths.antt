@@ -4,33 +4,25 @@ use Rattle.std.specs.List.Sorted.{IsStrictlySortedBy}
 use Rattle.std.specs.Map.{keys_of}
 use Rattle.std.proofs.lemmas.Bool.{cases_eq, ne_eqb, eqb-true, and_left, and_right, lt-ltb}
 use Rattle.std.proofs.lemmas.Option.{none-some}
-use Rattle.segword.specs.declared.shape.Shape.{Shape}
-use Rattle.segmodel.specs.declared.entry.Cached.{Cached}
+use Rattle.segword.specs.Words.{Shape}
 use Rattle.segmodel.specs.declared.entry.Entry.TheVariants.{Wrote}
-use Rattle.segmodel.specs.declared.request.Request.{Request}
 use Rattle.segmodel.specs.declared.request.Reply.TheVariants.{Stored}
-use Rattle.segmodel.specs.Places.{bucket_of}
-use Rattle.segmodel.specs.Request.{key_of, value_of, adds_key}
-use Rattle.segmodel.specs.Cache.{key_cmp, standing, keys_in, put}
-use Rattle.segmodel.specs.History.{after, IsBetween}
-use Rattle.segmodel.specs.State.{State}
-use Rattle.segmodel.specs.Serving.{lacks_word, may_chain, chained}
+use Rattle.segmodel.specs.Words.{adds_key, after, bucket_of, Cached, chained, IsBetween, key_cmp}
+use Rattle.segmodel.specs.Words.{key_of, keys_in, lacks_word, may_chain, put, Request, standing}
+use Rattle.segmodel.specs.Words.{State, value_of}
 use Rattle.segmodel.proofs.HistoryLemmas.{standing-put}
 use Rattle.segmodel.proofs.Keys.{at_self}
 use Rattle.segmodel.proofs.Ordered.{sorted-after}
 use Rattle.segcore.specs.declared.event.Event.TheVariants.{Drew}
-use Rattle.segcore.specs.Mark.{Mark, entries, drawn_for, all_drawn, width}
+use Rattle.segcore.specs.Words.{all_drawn, drawn_for, entries, Mark, width}
 use Rattle.segcore.specs.Mark as mark
 use Rattle.segcore.proofs.KeyCounts.{count_put, if_there}
 use Rattle.segcore.proofs.Marked.{entries_marked, chained_marked, drawn_marked}
 use Rattle.segcore.proofs.Moments.{begins_on, marked_begins}
-use Rattle.segbase.specs.declared.board.Board.{Board}
-use Rattle.segbase.specs.declared.pass.Pass.{Pass}
-use Rattle.segbase.specs.Passes.{number, trace, marked, seen, drew}
+use Rattle.segbase.specs.Words.{Board, drew, marked, number, Pass, seen, trace}
 use Rattle.segbase.proofs.Alone.{drew_alone}
-use Rattle.segpass.specs.Quiet.{IsQuiet}
-use Rattle.segpass.specs.Calls.{GoesOn, DrawsNothing}
-use Rattle.segwrite.specs.Full.{GrowsFor, CanGrow}
+use Rattle.segpass.specs.Words.{DrawsNothing, GoesOn, IsQuiet}
+use Rattle.segwrite.specs.Words.{CanGrow, GrowsFor}
 use Rattle.segsolo.specs.Alone.{state_at, IsAlone}
 use Rattle.segindex.proofs.QuietPass.{keys_few}
 use Rattle.segsolo.proofs.AlonePass.{SameWidths}

@@ -1,33 +1,28 @@
 -- With one pass, a set, an add, a replace and a cas are served as the model says.
-use Rattle.std.proofs.Common.{◌≡◌, ◌≢◌, ℕ, ◌+◌, ◌&&◌, not, Bool, true, false, cond, List, [], ◌∷◌, ◌++◌, length, is_some, Some, None, option_map, refl, sym, ap, subst, ◌∙◌, ⊎_elim, eqb, eq-eqb}
+use Rattle.std.proofs.Common.{◌≡◌, ◌≢◌, ℕ, ◌+◌, ◌&&◌, not, Bool, true, false, cond, List, [], ◌∷◌, ◌++◌, length, is_some, Option, Some, None, option_map, refl, sym, ap, subst, ◌∙◌, ⊎_elim, eqb, eq-eqb}
 use Rattle.std.proofs.lemmas.Bool.{cases_Bool, cond-true, cond-false, ne_eqb, eqb-true, and_left}
 use Rattle.std.proofs.lemmas.List.{length_push}
-use Rattle.std.proofs.lemmas.Option.{same_Some}
+use Rattle.std.proofs.lemmas.Option.{none-some, same_Some}
 use Rattle.segmodel.specs.declared.entry.Entry.TheVariants.{Wrote}
-use Rattle.segmodel.specs.declared.request.Request.{Request}
 use Rattle.segmodel.specs.declared.request.Request.TheVariants.{Set, Add, Replace, Cas, Delete}
-use Rattle.segmodel.specs.declared.request.Reply.{Reply}
 use Rattle.segmodel.specs.declared.request.Reply.TheVariants as reply
-use Rattle.segmodel.specs.declared.answer.WriteAnswer.{WriteAnswer}
 use Rattle.segmodel.specs.declared.answer.WriteAnswer.TheVariants as write
 use Rattle.segmodel.specs.declared.answer.Answer.TheVariants as answer
 use Rattle.segmodel.specs.declared.answer.Command.TheVariants as command
-use Rattle.segmodel.specs.Places.{bucket_of}
-use Rattle.segmodel.specs.Request.{key_of, value_of, is_store, adds_key, reply_to}
-use Rattle.segmodel.specs.Cache.{put, present, reply_in, with_at}
-use Rattle.segmodel.specs.History.{after}
-use Rattle.segmodel.specs.State.{Filling, State, is_locked}
-use Rattle.segmodel.specs.Serving.{is_out_of_rows, may_chain, lacks_word, with_key, placed, chained, stored, after_reply, reply_of_write, ServesStore}
+use Rattle.segmodel.specs.Words.{adds_key, after, after_reply, bucket_of, chained, Filling, moment_of}
+use Rattle.segmodel.specs.Words.{is_locked, is_out_of_rows, is_store, key_of, lacks_word, may_chain}
+use Rattle.segmodel.specs.Words.{placed, present, put, Reply, reply_in, reply_of_write, reply_to}
+use Rattle.segmodel.specs.Words.{Request, ServesStore, State, stored, value_of, with_at, with_key}
+use Rattle.segmodel.specs.Words.{WriteAnswer}
 use Rattle.segmodel.proofs.Stores.{serves_replied}
 use Rattle.segmodel.proofs.Stores as stores
-use Rattle.segbase.specs.declared.law.Memo.{Memo}
-use Rattle.segbase.specs.declared.board.Board.{Board}
-use Rattle.segbase.specs.declared.pass.Pass.{Pass}
-use Rattle.segbase.specs.Passes.{number, seen}
-use Rattle.segbase.specs.Plain.{state_of, used_of}
-use Rattle.segstore.specs.Segments.{has_room}
-use Rattle.segpass.specs.Calls.{ChangesNothing}
-use Rattle.segwrite.specs.Writes.{AddsReply, UsesRow, Writes}
+use Rattle.segbase.specs.declared.pass.Plain.{Plain}
+use Rattle.segbase.specs.Words.{Board, Memo, number, own_segment, OwnSegment, Pass, seen, state_in}
+use Rattle.segbase.specs.Words.{state_of, used_in, used_of}
+use Rattle.segbase.proofs.Known.{own_here, own_apart, own_kept}
+use Rattle.segstore.specs.Words.{has_room}
+use Rattle.segpass.specs.Words.{ChangesNothing}
+use Rattle.segwrite.specs.Words.{AddsReply, one_more, UsesRow, Writes}
 use Rattle.segsolo.specs.Alone.{keys_stored_in, or_empty, item_of, state_at, CountsRows, IsAlone, ServesAlone}
 use Rattle.segindex.proofs.OnePass.{busy_by_lock}
 use Rattle.segsolo.proofs.AlonePass.{same_seen, more_seen, at_state, as_replied, counts_replied, reply_then, left, locked_here, free_here, served, served_still}
@@ -37,12 +32,12 @@ use Rattle.segsolo.proofs.AloneWidths.{same_widths, Grows, grown}
 
 -- a request that is answered otherwise than Stored would put no new key
 adds_nothing : (request : Request) (here : Bool) (version : ℕ) → is_store request ≡ true → reply_to request here version ≢ reply.Stored → adds_key request here ≡ false
-adds_nothing (Set key value) here version store other = absurd (other refl)
-adds_nothing (Add key value) true version store other = refl
-adds_nothing (Add key value) false version store other = absurd (other refl)
-adds_nothing (Replace key value) here version store other = refl
-adds_nothing (Cas key value expected) here version store other = refl
-adds_nothing (Delete key) here version store other = refl
+adds_nothing (Set key value now) here version store other = absurd (other refl)
+adds_nothing (Add key value now) true version store other = refl
+adds_nothing (Add key value now) false version store other = absurd (other refl)
+adds_nothing (Replace key value now) here version store other = refl
+adds_nothing (Cas key value expected now) here version store other = refl
+adds_nothing (Delete key now) here version store other = refl
 
 -- ---- a request that is stored
 
@@ -58,8 +53,25 @@ module _ (b : Board) (p q : Pass) (request : Request) (segment : ℕ) (was : IsA
       ∙ sym (ap (λ (f : Filling). f.keys) (with_at-other (state_at b.shape p).filling segment s (with_key (key_of request) ((state_at b.shape p).filling segment)) ne)))
       s
 
+  states_kept : (s : ℕ) → state_of q s ≡ state_of p s
+  states_kept s = ap (λ (x : Plain). state_in (own_segment x s)) uses.plain ∙ own_kept p.plain segment one_more state_in same s
+    where
+      same : (o : Option OwnSegment) → state_in (option_map one_more o) ≡ state_in o
+      same None = refl
+      same (Some own) = refl
+
+  used_more : (used : ℕ) → used_of p segment ≡ Some used → used_of q segment ≡ Some (used + 1)
+  used_more used is = ap (λ (x : Plain). used_in (own_segment x segment)) uses.plain ∙ (ap used_in (own_here p.plain segment one_more) ∙ more_in (own_segment p.plain segment) is)
+    where
+      more_in : (o : Option OwnSegment) → used_in o ≡ Some used → used_in (option_map one_more o) ≡ Some (used + 1)
+      more_in None is = absurd (none-some used is)
+      more_in (Some own) is = ap (λ n. Some (n + 1)) (same_Some own.used used is)
+
+  used_elsewhere : (s : ℕ) → s ≢ segment → used_of q s ≡ used_of p s
+  used_elsewhere s ne = ap (λ (x : Plain). used_in (own_segment x s)) uses.plain ∙ ap used_in (own_apart p.plain segment one_more s ne)
+
   state_then : (s : ℕ) → or_empty (state_of q s) ≡ (filling s).state
-  state_then s = ap or_empty (uses.states s) ∙ by (eqb segment s) (eqb-true segment s)
+  state_then s = ap or_empty (states_kept s) ∙ by (eqb segment s) (eqb-true segment s)
     where
       by : (here : Bool) → (here ≡ true → segment ≡ s) → or_empty (state_of p s) ≡ (cond here (with_key (key_of request) ((state_at b.shape p).filling segment)) ((state_at b.shape p).filling s)).state
       by true same = ap (λ s. or_empty (state_of p s)) (sym (same refl))
@@ -67,10 +79,10 @@ module _ (b : Board) (p q : Pass) (request : Request) (segment : ℕ) (was : IsA
 
   counts : CountsRows q
   counts s count is = by_segment (λ s. used_of q s ≡ Some count → count ≡ length (filling s).keys) segment
-      (λ is. same_Some count (length (keys_stored_in (seen p) segment) + 1) (sym is ∙ uses.used (length (keys_stored_in (seen p) segment)) (rows_of b p segment was uses.current.0))
+      (λ is. same_Some count (length (keys_stored_in (seen p) segment) + 1) (sym is ∙ used_more (length (keys_stored_in (seen p) segment)) (rows_of b p segment was uses.current))
       ∙ (sym (length_push (keys_stored_in (seen p) segment) (key_of request))
       ∙ sym (ap (λ (f : Filling). length f.keys) (with_at-same (state_at b.shape p).filling segment segment (with_key (key_of request) ((state_at b.shape p).filling segment)) refl))))
-      (λ s ne is. was.used s count (sym (uses.others s (λ e. ne (sym e))) ∙ is)
+      (λ s ne is. was.used s count (sym (used_elsewhere s (λ e. ne (sym e))) ∙ is)
       ∙ sym (ap (λ (f : Filling). length f.keys) (with_at-other (state_at b.shape p).filling segment s (with_key (key_of request) ((state_at b.shape p).filling segment)) ne)))
       s is ∙ ap (λ (keys : List (List ℕ)). length keys) (sym (keys_then s))
 
@@ -97,9 +109,9 @@ module _ (b : Board) (p q : Pass) (request : Request) (segment : ℕ) (was : IsA
         width = (longer (lacks_word b.shape (state_at b.shape p) request)).width;
         drawn = (longer (lacks_word b.shape (state_at b.shape p) request)).drawn;
       })
-      (ap (after b.shape) more) state_then keys_then (uses.current.1 ∙ sym uses.current.0) grows.wide grows.drawn
-      (ap (λ (m : Memo). option_map item_of m.holding) uses.memo) uses.locked
-      ∙ (placed_alike (lacks_word b.shape (state_at b.shape p) request) ∙ sym (ap (λ current. stored b.shape request current (state_at b.shape p)) uses.current.0))
+      (ap (after b.shape) more) state_then keys_then (ap (λ (x : Plain). x.current) uses.plain) grows.wide grows.drawn
+      (ap (λ (m : Memo). option_map item_of m.holding) uses.memo) (ap (λ (x : Plain). x.locked) uses.plain)
+      ∙ (placed_alike (lacks_word b.shape (state_at b.shape p) request) ∙ sym (ap (λ current. stored b.shape request current (state_at b.shape p)) uses.current))
 
 -- ---- any request to store
 
@@ -142,8 +154,8 @@ module _ (b : Board) (p q : Pass) (request : Request) (store : is_store request 
         (stores.serves_write b.shape (state_at b.shape p) (state_at b.shape q) request told store
         (serves_replied b.shape (state_at b.shape p) request told (state_at b.shape q) (has_rows rows) (unlocked rows other)
         (and_left (lacks_word b.shape (state_at b.shape p) request) (not (may_chain b.shape (state_at b.shape p) (bucket_of b.shape (key_of request))))
-        (and_left (adds_key request (is_some (present (after b.shape (seen p)) (key_of request)))) _
-        (adds_nothing request (is_some (present (after b.shape (seen p)) (key_of request))) ((after b.shape (seen p)).version (bucket_of b.shape (key_of request))) store (λ e. unstored (was_replied ∙ e)))))
+        (and_left (adds_key request (is_some (present (after b.shape (seen p)) (moment_of request) (key_of request)))) _
+        (adds_nothing request (is_some (present (after b.shape (seen p)) (moment_of request) (key_of request))) ((after b.shape (seen p)).version (bucket_of b.shape (key_of request))) store (λ e. unstored (was_replied ∙ e)))))
         r was_replied is_reply (same_state ∙ sym stays)))
       where
         was_replied : r ≡ reply_in b.shape (after b.shape (seen p)) request

@@ -1,8 +1,8 @@
 -- What a marked history keeps when it goes on: its entries, and the buckets that were drawn.
 use Rattle.std.proofs.Common.{◌≡◌, ◌≢◌, ℕ, ◌+◌, cond, List, [], ◌∷◌, ◌++◌, refl, sym, ap, ◌∙◌, inl, inr, ◌⊎◌, ⊎_elim, arith, eqb, eq-eqb}
 use Rattle.std.proofs.lemmas.Bool.{cases_Bool, cases_eq, ne_eqb}
-use Rattle.segmodel.specs.History.{Begins, IsBetween}
-use Rattle.segcore.specs.Mark.{Mark, enters, drawn, entries, drawn_for, all_drawn}
+use Rattle.segmodel.specs.Words.{Begins, IsBetween}
+use Rattle.segcore.specs.Words.{all_drawn, drawn, drawn_for, enters, entries, Mark}
 use Rattle.segsolo.proofs.AlonePass.{same_moment}
 
 -- ---- joined

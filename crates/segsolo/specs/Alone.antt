@@ -1,39 +1,26 @@
 -- The only pass of an index: which state of the model it is at, by what it has seen and what it keeps.
 use Rattle.std.specs.Prelude.{◌≡◌, ℕ, ◌==◌, Bool, true, false, List, [], ◌∷◌, ◌++◌, length, Option, Some, None, option_map, if◌then◌else◌}
-use Rattle.segword.specs.declared.shape.Shape.{Shape}
+use Rattle.segword.specs.Words.{Shape}
 use Rattle.segmodel.specs.declared.request.Reply.TheVariants.{Stored}
-use Rattle.segmodel.specs.declared.entry.Entry.{Entry}
 use Rattle.segmodel.specs.declared.entry.Entry.TheVariants.{Wrote, Refilled}
-use Rattle.segmodel.specs.declared.entry.Cached.{Cached}
-use Rattle.segmodel.specs.declared.answer.SegState.{SegState}
 use Rattle.segmodel.specs.declared.answer.SegState.TheVariants.{Empty}
 use Rattle.segmodel.specs.declared.answer.Command.{Command}
-use Rattle.segmodel.specs.declared.answer.Answer.{Answer}
-use Rattle.segmodel.specs.declared.answer.Turn.{Turn}
-use Rattle.segmodel.specs.declared.answer.Outcome.{Outcome}
 use Rattle.segmodel.specs.declared.answer.Outcome.TheVariants as outcome
-use Rattle.segmodel.specs.Request.{key_of}
-use Rattle.segmodel.specs.History.{after}
-use Rattle.segmodel.specs.State.{State, IsSound}
-use Rattle.segmodel.specs.Serving.{Serves}
-use Rattle.segmodel.specs.Turns.{Turns}
-use Rattle.segcore.specs.Mark.{width, all_drawn}
-use Rattle.segbase.specs.declared.law.Held.{Held}
-use Rattle.segbase.specs.declared.board.Board.{Board}
-use Rattle.segbase.specs.declared.pass.Pass.{Pass}
-use Rattle.segbase.specs.Passes.{marked, seen, holding}
-use Rattle.segbase.specs.Plain.{current_of, state_of, used_of, locked_of}
-use Rattle.segpass.specs.declared.bucket.LockAnswer.{LockAnswer}
+use Rattle.segmodel.specs.Words.{after, Answer, Cached, Entry, IsSound, key_of, Outcome, SegState}
+use Rattle.segmodel.specs.Words.{Serves, State, Turn, Turns}
+use Rattle.segcore.specs.Words.{all_drawn, width}
+use Rattle.segbase.specs.Words.{Board, current_of, Held, holding, locked_of, marked, Pass, seen}
+use Rattle.segbase.specs.Words.{state_of, used_of}
 use Rattle.segpass.specs.declared.bucket.LockAnswer.TheVariants as lock
-use Rattle.segread.specs.declared.held.HoldAnswer.{HoldAnswer}
+use Rattle.segread.specs.Words.{HoldAnswer}
 use Rattle.segread.specs.declared.held.HoldAnswer.TheVariants as hold
-use Rattle.segpass.specs.Quiet.{IsQuiet}
+use Rattle.segpass.specs.Words.{IsQuiet, LockAnswer}
 
 -- the keys that were stored in a segment since it was last refilled, oldest first
 abbrev pub keys_stored_in : List Entry → ℕ → List (List ℕ)
 keys_stored_in [] segment = []
 keys_stored_in (Wrote pass request Stored (Some other) ∷ history) segment = if other == segment then keys_stored_in history segment ++ key_of request ∷ [] else keys_stored_in history segment
-keys_stored_in (Refilled pass other ∷ history) segment = if other == segment then [] else keys_stored_in history segment
+keys_stored_in (Refilled pass other deadline ∷ history) segment = if other == segment then [] else keys_stored_in history segment
 keys_stored_in (_ ∷ history) segment = keys_stored_in history segment
 
 -- nothing is kept of a segment that isn't the pass's: the model takes it as one that was never filled

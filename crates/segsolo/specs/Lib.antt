@@ -2,3 +2,4 @@ pub mod Alone
 pub mod Props
 pub mod Served
 pub mod Solo
+pub mod Words

@@ -1,22 +1,14 @@
 -- If an index has one pass, each of its calls is served as the model says. What the call's contract says is enough.
 use Rattle.std.specs.Prelude.{◌≡◌, ℕ, Bool, false, List, Some, slice_get}
-use Rattle.segword.specs.declared.shape.Shape.{Shape}
-use Rattle.segmodel.specs.declared.answer.Answer.{Answer}
+use Rattle.segword.specs.Words.{Shape}
 use Rattle.segmodel.specs.declared.answer.Command.{Command}
 use Rattle.segmodel.specs.declared.answer.Turn.TheVariants as turn
 use Rattle.segmodel.specs.declared.answer.Outcome.TheVariants as outcome
-use Rattle.segmodel.specs.State.{fresh}
-use Rattle.segbase.specs.declared.board.Board.{Board}
-use Rattle.segbase.specs.declared.pass.Pass.{Pass}
-use Rattle.segbase.specs.Plain.{is_holding_of}
-use Rattle.segpass.specs.declared.bucket.LockAnswer.{LockAnswer}
-use Rattle.segpass.specs.Locks.{LocksBucket, UnlocksBucket}
-use Rattle.segread.specs.declared.held.Hold.{Hold}
-use Rattle.segread.specs.declared.held.HoldAnswer.{HoldAnswer}
-use Rattle.segread.specs.Holds.{IsHoldOf, HoldsItem, ReadsHeld, ReleasesHold}
-use Rattle.segindex.specs.declared.index.Index.{Index}
-use Rattle.segindex.specs.Commands.{AnswersCommand}
-use Rattle.segindex.specs.Index.{board_of, IsNew}
+use Rattle.segmodel.specs.Words.{Answer, fresh}
+use Rattle.segbase.specs.Words.{Board, is_holding_of, Pass}
+use Rattle.segpass.specs.Words.{LockAnswer, LocksBucket, UnlocksBucket}
+use Rattle.segread.specs.Words.{Hold, HoldAnswer, HoldsItem, IsHoldOf, ReadsHeld, ReleasesHold}
+use Rattle.segindex.specs.Words.{AnswersCommand, board_of, Index, IsNew}
 use Rattle.segsolo.specs.Alone.{state_at, IsAlone, ServesAlone, TurnsAlone, outcome_of_lock, outcome_of_unlock, outcome_of_hold}
 
 -- a new index with one pass is at the state at the start
@@ -44,8 +36,8 @@ UnlockIsServed = (b : Board) (p q : Pass) (told : Bool) → IsAlone b p
 -- ---- holds
 
 abbrev pub HoldIsServed : Type 0
-HoldIsServed = (b : Board) (p q : Pass) (key : List ℕ) (told : HoldAnswer) → IsAlone b p
-    → HoldsItem b key told p q → TurnsAlone b (turn.Hold key) (outcome_of_hold told) p q
+HoldIsServed = (b : Board) (p q : Pass) (key : List ℕ) (now : ℕ) (told : HoldAnswer) → IsAlone b p
+    → HoldsItem b key now told p q → TurnsAlone b (turn.Hold key now) (outcome_of_hold told) p q
 
 abbrev pub HeldIsServed : Type 0
 HeldIsServed = (b : Board) (p q : Pass) (hold : Hold) (value : List ℕ) → IsAlone b p → IsHoldOf b.shape hold p

@@ -1,8 +1,7 @@
 -- An index with its one pass as contracts see it: its shape, and the state of the model that it is at.
-use Rattle.segword.specs.declared.shape.Shape.{Shape}
-use Rattle.segmodel.specs.State.{State}
-use Rattle.segbase.specs.declared.board.Board.{Board}
-use Rattle.segbase.specs.declared.pass.Pass.{Pass}
+use Rattle.segword.specs.Words.{Shape}
+use Rattle.segmodel.specs.Words.{State}
+use Rattle.segbase.specs.Words.{Board, Pass}
 use Rattle.segsolo.specs.declared.solo.Solo.{Solo}
 use Rattle.segsolo.specs.Alone.{state_at}
 

@@ -1,10 +1,9 @@
-//! An index with its one pass, which serves commands one after the other, as the cache of one thread does.
+//! An index with its one pass, which serves commands one after the other,
+//! as the cache of one thread does.
 ghost use Rattle.std.specs.Prelude.{◌≡◌, IsOk, IfOk, IfErr};
-ghost use Rattle.segmodel.specs.State.{fresh};
-ghost use Rattle.segmodel.specs.Serving.{Serves};
-ghost use Rattle.segbase.specs.Made.{IsMakeFault};
-ghost use Rattle.segindex.specs.Commands.{AnswersCommand};
-ghost use Rattle.segindex.specs.Index.{board_of as index_board_of};
+ghost use Rattle.segmodel.specs.Words.{fresh, Serves};
+ghost use Rattle.segbase.specs.Words.{IsMakeFault};
+ghost use Rattle.segindex.specs.Words.{AnswersCommand, board_of as index_board_of};
 ghost use Rattle.segsolo.specs.Alone.{IsAlone};
 ghost use Rattle.segsolo.specs.Props.{IsAlone-prop};
 
@@ -27,7 +26,8 @@ pub struct Solo {
 impl Solo {
     ghost use Rattle.segsolo.specs.Solo.{board_of, shape_of, state_of, pass_of};
 
-    /// An index of this shape, which has one pass, with nothing stored. It takes all its memory here.
+    /// An index of this shape, which has one pass, with nothing stored.
+    /// No later call is given an allocator.
     pub fn new(alloc: Global, shape: Shape) -> Result<Solo, MakeFault>
         requires one_pass { shape.passes ≡ 1 }
         ensures shape { IfOk result (λ solo. shape_of solo ≡ shape) }
@@ -41,11 +41,13 @@ impl Solo {
         }
     }
 
-    /// Serves one command. It takes no memory, so it never fails.
+    /// Serves one command. It never fails.
     pub fn answer(&mut self, command: &Command) -> Answer
         ensures shape { shape_of self.new ≡ shape_of self.old }
-        ensures serves { Serves (shape_of self.old) (state_of self.old) command.now result (state_of self.new) }
-        ensures answers { AnswersCommand (board_of self.old) command.now 0 result (pass_of self.old) (pass_of self.new) }
+        ensures serves { Serves (shape_of self.old) (state_of self.old) command.now
+            result (state_of self.new) }
+        ensures answers { AnswersCommand (board_of self.old) command.now 0 result
+            (pass_of self.old) (pass_of self.new) }
     {
         self.index.serve(&mut self.pass, command, DRAW)
     }
@@ -61,7 +63,8 @@ impl Shelf for Solo {
     fn serve(&mut self, command: &Command) -> Result<Answer, PlainFault>
         ensures never_fails { IsOk result }
         ensures shape { shape_of self.new ≡ shape_of self.old }
-        ensures serves { IfOk result (λ answer. Serves (shape_of self.old) (state_of self.old) command.now answer (state_of self.new)) }
+        ensures serves { IfOk result (λ answer.
+            Serves (shape_of self.old) (state_of self.old) command.now answer (state_of self.new)) }
     {
         Ok(self.answer(command))
     }

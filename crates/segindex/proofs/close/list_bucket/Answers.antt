@@ -1,6 +1,6 @@
 use Rattle.std.proofs.Common.{◌≡◌, ℕ, ◌+◌, ◌*◌, List, ◌++◌, Vec, Global, sym, ap, subst, ◌∙◌, arith, append-nil}
 use Rattle.std.specs.Option.{option_to_list}
-use Rattle.segbase.specs.Closing.{shape_of}
+use Rattle.segbase.specs.Words.{shape_of}
 use Rattle.segindex.specs.Closing.{IsListed, IsPairAt}
 use Rattle.segindex.proofs.Listing.{on_err, lists_word}
 use Rattle.segindex.proofs.close.list_bucket.Goals as goal

@@ -1,8 +1,7 @@
 use Rattle.std.proofs.Common.{◌≡◌, ◌+◌, ◌<◌, refl, sym, ap, ◌∙◌, subst, arith}
 use Rattle.std.proofs.lemmas.Bool.{false≢true}
-use Rattle.segword.specs.declared.shape.Shape.{Shape}
-use Rattle.segword.specs.ChainWord.{IsChainWord}
-use Rattle.segbase.specs.Closing.{shape_of}
+use Rattle.segword.specs.Words.{IsChainWord, Shape}
+use Rattle.segbase.specs.Words.{shape_of}
 use Rattle.segindex.specs.Closing.{IsBucketIn}
 use Rattle.segindex.proofs.AtRest.{first_bucket, next_bucket, chain_ends, not_deeper}
 use Rattle.segindex.proofs.Listing.{on_err, lists_bucket, lists_chain}

@@ -1,7 +1,7 @@
 use Rattle.std.proofs.Common.{◌+◌, ◌*◌, ◌≤◌, List}
 use Rattle.std.specs.Vec.{vec_len}
-use Rattle.segcore.specs.declared.event.Event.{Event}
-use Rattle.segbase.specs.Closing.{IsAtRest}
+use Rattle.segcore.specs.Words.{Event}
+use Rattle.segbase.specs.Words.{IsAtRest}
 use Rattle.segindex.specs.Closing.{IsListed, IsBucketIn}
 use Rattle.segindex.proofs.close.list_chain.Given as goal
 

@@ -1,6 +1,6 @@
 use Rattle.std.proofs.Common.{◌≡◌, ap, subst, arith}
-use Rattle.segword.specs.declared.shape.Shape.{Shape}
-use Rattle.segbase.specs.Closing.{shape_of}
+use Rattle.segword.specs.Words.{Shape}
+use Rattle.segbase.specs.Words.{shape_of}
 use Rattle.segindex.specs.Closing.{IsListed}
 use Rattle.segindex.proofs.Listing.{lists_none}
 use Rattle.segindex.proofs.close.list_pairs.Goals as goal

@@ -1,4 +1,4 @@
-use Rattle.segbase.specs.Passes.{number, trace}
+use Rattle.segbase.specs.Words.{number, trace}
 use Rattle.segbase.proofs.Alone.{glanced_alone}
 use Rattle.segindex.proofs.OnePass.{all_mine, free_of_others, nobody_inside, busy_by_lock, none_stirred, all_joined}
 use Rattle.segindex.proofs.laws.one_pass.Goals as goal

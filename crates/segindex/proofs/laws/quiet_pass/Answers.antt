@@ -1,4 +1,4 @@
-use Rattle.segbase.specs.Passes.{trace}
+use Rattle.segbase.specs.Words.{trace}
 use Rattle.segcore.proofs.Marked.{entries_marked}
 use Rattle.segcore.proofs.Standing.{legal}
 use Rattle.segstore.proofs.Keeping.{in_table}

@@ -4,5 +4,5 @@ use Rattle.segindex.proofs.laws.replies_at_a_moment.Goals as goal
 pub returns : goal.returns
 returns c = record {
   writes = λ b p q request told said w is. write_told b request told said p q w is;
-  deletes = λ b p q key told said d is. delete_told b key told said p q d is;
+  deletes = λ b p q key now told said d is. delete_told b key now told said p q d is;
 }

@@ -2,7 +2,7 @@ use Rattle.std.proofs.Common.{List, ℕ, rules}
 use Rattle.std.proofs.lemmas.Cmp.{nat_list_cmp_total}
 use Rattle.std.proofs.lemmas.List.Sorted.{ranks_by, answers_always}
 use Rattle.std.specs.Ordering.{is_lt}
-use Rattle.segmodel.specs.Cache.{key_cmp}
+use Rattle.segmodel.specs.Words.{key_cmp}
 use Rattle.segindex.proofs.Ended.{wants_memory, some_content, alone_content}
 use Rattle.segindex.proofs.index.Index.close.Goals as goal
 

@@ -1,8 +1,8 @@
-use Rattle.std.proofs.Common.{◌≡◌, Some, refl, ap}
+use Rattle.std.proofs.Common.{refl, ap}
 use Rattle.segmodel.specs.declared.request.Request.TheVariants.{Set}
 use Rattle.segmodel.specs.declared.request.Reply.TheVariants.{Stored}
-use Rattle.segmodel.specs.Serving.{reply_of_write}
-use Rattle.segbase.specs.Passes.{number, seen}
+use Rattle.segmodel.specs.Words.{reply_of_write}
+use Rattle.segbase.specs.Words.{number, seen}
 use Rattle.segindex.specs.Index.{board_of}
 use Rattle.segindex.proofs.Probing.{read_since}
 use Rattle.segindex.proofs.index.Index.probe.Goals as goal
@@ -27,7 +27,7 @@ returns c =
     let get = c.get-read.ensures.reads in
     let key = c.args.key.now in
     let value = c.args.value.now in
-    let told = c.replies_at_a_moment.ensures.writes b c.args.pass.now between (Set key value) c.set-told.result Stored c.set-told.ensures.writes (ap reply_of_write c.in-Stored.is) in
+    let told = c.replies_at_a_moment.ensures.writes b c.args.pass.now between (Set key value c.args.now) c.set-told.result Stored c.set-told.ensures.writes (ap reply_of_write c.in-Stored.is) in
     record {
       probes = record {
         between = between;
@@ -40,7 +40,7 @@ returns c =
           history = told.1.0;
           stored = told.1.1;
           read = read_since c.legal_histories.ensures.earlier c.reads_change_by_entries.ensures.gone c.reads_change_by_entries.ensures.changed
-              b.shape (number c.args.pass.now) key value c.get-read.result told.0 told.1.0 (seen between) (seen q)
+              b.shape (number c.args.pass.now) key value c.args.now c.get-read.result told.0 told.1.0 (seen between) (seen q)
               (c.quiet_pass.ensures.legal b q get.on.quiet) get.on.seen told.1.1.entered get.answer;
         };
       };

@@ -10,11 +10,11 @@ returns c =
     let told = c.refill.result in let r = c.refill.ensures in
     record {
       refills = record {
-        on = refill_goes_on b s told p q c.requires.pass r.outcome r.segments;
-        answer = refill_answers b s told p q c.requires.pass r.outcome;
+        on = refill_goes_on b s c.args.deadline told p q c.requires.pass r.outcome r.segments;
+        answer = refill_answers b s c.args.deadline told p q c.requires.pass r.outcome;
         not_yours = r.not_yours;
         in_use = r.in_use;
-        held = refill_held b s told p q c.requires.pass r.outcome r.not_yours.0 r.in_use.0;
-        costs_nothing = refill_costs_nothing b s told p q r.outcome;
+        held = refill_held b s c.args.deadline told p q c.requires.pass r.outcome r.not_yours.0 r.in_use.0;
+        costs_nothing = refill_costs_nothing b s c.args.deadline told p q r.outcome;
       };
     }

@@ -10,5 +10,5 @@ invariant_of-result c = record {
 
 pub returns-clause-start : goal.returns-clause-start
 returns-clause-start c =
-    ap (λ shape. state_at shape c.in-Some.pass) c.in_ok-index.ensures.made.of
+    ap (λ shape. state_at shape c.in-Some.pass) c.in_ok-index.ensures.made.made.of
     ∙ (starts_last c.args.shape c.in_ok-index.index c.in_ok-index.passes.items c.pop.new.self.items c.in-Some.pass c.in_ok-index.ensures.made c.requires.one_pass c.in-Some.ensures.items).1

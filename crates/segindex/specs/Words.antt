@@ -1,0 +1,11 @@
+-- The words of this crate that others use, from one place.
+pub use Rattle.segindex.specs.Closing.{IsEnd}
+pub use Rattle.segindex.specs.Commands.{AnswersCommand}
+pub use Rattle.segindex.specs.Index.{board_of, IsNew, shape_of}
+pub use Rattle.segindex.specs.Meeting.{Meets}
+pub use Rattle.segindex.specs.Refilling.{IsBeingRead, IsRefillAnswer, Refills}
+use Rattle.segindex.specs.declared.index.Index as declared_index
+
+-- The types of this crate that others name.
+abbrev pub Index : Type 0
+Index = declared_index.Index
