@@ -1,11 +1,8 @@
 -- How a run over a server ends: as the turns of the model say, and as the turns of its passes say.
 use Rattle.std.proofs.Common.{Ok, Err, Result, ◌≡◌, ℕ, List, [], ◌∷◌, ◌++◌, inl, inr, refl, ◌∙◌, ap, subst}
-use Rattle.segword.specs.declared.shape.Shape.{Shape}
-use Rattle.segmodel.specs.declared.answer.Outcome.{Outcome}
-use Rattle.segmodel.specs.State.{fresh}
-use Rattle.segmodel.specs.Turns.{Runs}
-use Rattle.segindex.specs.Index.{board_of, shape_of}
-use Rattle.segindex.specs.Index.{IsNew}
+use Rattle.segword.specs.Words.{Shape}
+use Rattle.segmodel.specs.Words.{fresh, Outcome, Runs}
+use Rattle.segindex.specs.Words.{board_of, IsNew, shape_of}
 use Rattle.segscript.specs.Spelling.{PassTurn}
 use Rattle.segscript.specs.Script.{ServesLines, Steps, ServesScript}
 use Rattle.segscript.specs.Passes.{OneTakes}
@@ -13,7 +10,7 @@ use Rattle.segscript.specs.EachTurn.{EachTurn}
 use Rattle.segscript.specs.Run.{ServesWholeLines, EndOfRun, RunOutcome}
 use Rattle.segscript.specs.Server.{TurnsOne, state}
 use Rattle.segscript.specs.declared.server.Server.{Server}
-use Rattle.segscript.specs.declared.fault.RunFault.{RunFault}
+use Rattle.segscript.specs.Words.{RunFault}
 use Rattle.segscript.specs.declared.fault.RunFault.TheVariants as fault
 
 -- ---- turns that are read in another way

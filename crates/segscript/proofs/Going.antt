@@ -1,11 +1,11 @@
 -- Where a run is between two reads, and how it ends.
 use Rattle.std.proofs.Common.{Ok, Err, Result, ◌≡◌, ℕ, ◌+◌, ◌≤◌, ◌-◌, ◌^◌, min, length-take, List, [], ◌++◌, length, take, inl, inr, refl, ◌∙◌, ap, arith, append-nil, length-append}
-use Rattle.segmodel.specs.declared.answer.Outcome.{Outcome}
+use Rattle.segmodel.specs.Words.{Outcome}
 use Rattle.segscript.specs.Spelling.{PassTurn}
 use Rattle.segscript.specs.Device.{flushed}
 use Rattle.segscript.specs.Running.{HasServed, FeedOutcome, FinishOutcome}
 use Rattle.segscript.specs.Run.{EndOfRun}
-use Rattle.segscript.specs.declared.fault.RunFault.{RunFault}
+use Rattle.segscript.specs.Words.{RunFault}
 use Rattle.segscript.specs.declared.fault.RunFault.TheVariants as fault
 use Rattle.segscript.proofs.LineLemmas.{reached, at_start}
 use Rattle.segscript.proofs.Feeding.{seen_bad_where}

@@ -3,7 +3,7 @@ use Rattle.std.proofs.Common.{Err, Bool, ◌≡◌, ◌≢◌, ℕ, ◌+◌, ◌
 use Rattle.std.specs.List.{flat_map, AllByRecursion}
 use Rattle.std.proofs.lemmas.Grind.{flat_map-append}
 use Rattle.std.proofs.lemmas.Bool.{eqb-true}
-use Rattle.segmodel.specs.declared.answer.Outcome.{Outcome}
+use Rattle.segmodel.specs.Words.{Outcome}
 use Rattle.segmodel.proofs.RunLemmas.{Runs-append}
 use Rattle.segscript.specs.Spelling.{PassTurn, IsSayable, spelling}
 use Rattle.segscript.specs.Replies.{reply}
@@ -11,7 +11,7 @@ use Rattle.segscript.specs.Script.{IsLine, ended, Splits, Say, IsBad, ServesLine
 use Rattle.segscript.specs.Device.{IsBeginning}
 use Rattle.segscript.specs.Run.{ServesWholeLines, IsSeenBad}
 use Rattle.segscript.specs.Running.{HasServed, LineOutcome, FeedOutcome, FinishOutcome}
-use Rattle.segscript.specs.declared.fault.RunFault.{RunFault}
+use Rattle.segscript.specs.Words.{RunFault}
 use Rattle.segscript.specs.declared.fault.RunFault.TheVariants as fault
 
 Say-append : (passes : ℕ) (xs ys : List (List ℕ)) (ts us : List PassTurn) → Say passes xs ts → Say passes ys us → Say passes (xs ++ ys) (ts ++ us)

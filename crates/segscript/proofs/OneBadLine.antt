@@ -5,13 +5,13 @@ use Rattle.std.specs.Prelude.{IsOk}
 use Rattle.std.proofs.lemmas.Bool.{true≢false}
 use Rattle.std.proofs.lemmas.Bool.Decides.{eqb_tells}
 use Rattle.std.proofs.lemmas.Grind.{flat_map-append}
-use Rattle.segword.specs.declared.shape.Shape.{Shape}
-use Rattle.segmodel.specs.State.{fresh}
+use Rattle.segword.specs.Words.{Shape}
+use Rattle.segmodel.specs.Words.{fresh}
 use Rattle.segscript.specs.Spelling.{PassTurn}
 use Rattle.segscript.specs.Script.{IsLine, ended, Say, IsBad, Steps, IsTextOf, IsFirstBad}
 use Rattle.segscript.specs.Device.{HandsOut}
 use Rattle.segscript.specs.Run.{IsSeenBad, RunOutcome, is_read_fault, is_write_fault, is_make_fault}
-use Rattle.segscript.specs.declared.fault.RunFault.{RunFault}
+use Rattle.segscript.specs.Words.{RunFault}
 use Rattle.segscript.specs.declared.fault.RunFault.TheVariants as fault
 use Rattle.segscript.proofs.LineLemmas.{IsLine-append, lines-append}
 use Rattle.segscript.proofs.Lines.{lines_fit}

@@ -7,9 +7,9 @@ use Rattle.std.proofs.lemmas.Slice.Eq.{bytes_eq-Decides}
 use Rattle.std.proofs.lemmas.Bool.{true≢false}
 use Rattle.segmodel.specs.declared.request.Request.TheVariants.{Set, Add, Replace, Cas, Delete}
 use Rattle.segmodel.specs.declared.answer.Command.TheVariants.{Write, Get, Gets, Evict, Refill}
-use Rattle.segmodel.specs.declared.answer.Turn.{Turn}
+use Rattle.segmodel.specs.Words.{Turn}
 use Rattle.segmodel.specs.declared.answer.Turn.TheVariants.{Serve, Hold, Held, Release, Lock, Unlock}
-use Rattle.segscript.specs.Spelling.{PassTurn, IsValueWord, IsWritable, IsSayable, value_word, pass_word, spelling}
+use Rattle.segscript.specs.Spelling.{PassTurn, IsValueWord, IsWritable, IsSayable, value_word, moment_word, pass_word, spelling}
 use Rattle.segscript.specs.Verb.{verb, verb_word, arguments_of, line_words}
 use Rattle.segscript.specs.declared.verb.Verb.{Verb}
 use Rattle.segscript.specs.declared.verb.Verb.TheVariants as verbs
@@ -29,6 +29,9 @@ value-one [] [] fv fw same = refl
 value-one [] (b ∷ bs) fv fw same = absurd (fw.2 (sym same))
 value-one (a ∷ as') [] fv fw same = absurd (fv.2 same)
 value-one (a ∷ as') (b ∷ bs) fv fw same = same
+
+moment-one : (m n : ℕ) → m < 2 ^ 32 → n < 2 ^ 32 → moment_word m ≡ moment_word n → m ≡ n
+moment-one m n small small' same = let d : decimal m ≡ decimal n = cc in number-one m n small small' d
 
 differ : (a b : List ℕ) → bytes_eq a b ≡ false → a ≡ b → ⊥
 differ a b e same = true≢false (sym ((bytes_eq-Decides a b).1 same) ∙ e)
@@ -64,56 +67,80 @@ verb-one verbs.Unlock verbs.Unlock same = refl
 verb-one verbs.Unlock w same = absurd (differ (verb_word verbs.Unlock) (verb_word w) refl same)
 
 arguments-one : (t u : Turn) → IsWritable t → IsWritable u → verb t ≡ verb u → arguments_of t ≡ arguments_of u → t ≡ u
-arguments-one (Serve (Refill m)) (Serve (Refill n)) ft fu same args = ap (λ n. Serve (Refill n)) (number-one m n ft fu (first (decimal m) (decimal n) [] [] args))
-arguments-one (Serve (Refill _)) (Serve (Write (Set _ _))) ft fu same args = absurd (cc)
-arguments-one (Serve (Refill _)) _ ft fu same args = absurd (cc)
+arguments-one (Serve (Refill m d)) (Serve (Refill n e)) ft fu same args =
+    let digits : decimal m ≡ decimal n = cc in
+    let segment = number-one m n ft.0 fu.0 digits in
+    let more : decimal d ≡ decimal e = cc in
+    let deadline = number-one d e ft.1 fu.1 more in cc
+arguments-one (Serve (Refill _ _)) (Serve (Write (Set _ _ _))) ft fu same args = absurd (cc)
+arguments-one (Serve (Refill _ _)) _ ft fu same args = absurd (cc)
 arguments-one (Serve (Evict m)) (Serve (Evict n)) ft fu same args = ap (λ n. Serve (Evict n)) (number-one m n ft fu (first (decimal m) (decimal n) [] [] args))
-arguments-one (Serve (Evict _)) (Serve (Write (Set _ _))) ft fu same args = absurd (cc)
+arguments-one (Serve (Evict _)) (Serve (Write (Set _ _ _))) ft fu same args = absurd (cc)
 arguments-one (Serve (Evict _)) _ ft fu same args = absurd (cc)
-arguments-one (Serve (Write (Set k v))) (Serve (Write (Set l w))) ft fu same args =
+arguments-one (Serve (Write (Set k v m))) (Serve (Write (Set l w n))) ft fu same args =
     let key : k ≡ l = cc in
     let word : value_word v ≡ value_word w = cc in
-    let value = value-one v w ft.1 fu.1 word in cc
-arguments-one (Serve (Write (Set _ _))) _ ft fu same args = absurd (cc)
-arguments-one (Serve (Write (Add k v))) (Serve (Write (Add l w))) ft fu same args =
+    let value = value-one v w ft.1 fu.1 word in
+    let moment : moment_word m ≡ moment_word n = cc in
+    let now = moment-one m n ft.2 fu.2 moment in cc
+arguments-one (Serve (Write (Set _ _ _))) _ ft fu same args = absurd (cc)
+arguments-one (Serve (Write (Add k v m))) (Serve (Write (Add l w n))) ft fu same args =
     let key : k ≡ l = cc in
     let word : value_word v ≡ value_word w = cc in
-    let value = value-one v w ft.1 fu.1 word in cc
-arguments-one (Serve (Write (Add _ _))) _ ft fu same args = absurd (cc)
-arguments-one (Serve (Write (Replace k v))) (Serve (Write (Replace l w))) ft fu same args =
+    let value = value-one v w ft.1 fu.1 word in
+    let moment : moment_word m ≡ moment_word n = cc in
+    let now = moment-one m n ft.2 fu.2 moment in cc
+arguments-one (Serve (Write (Add _ _ _))) _ ft fu same args = absurd (cc)
+arguments-one (Serve (Write (Replace k v m))) (Serve (Write (Replace l w n))) ft fu same args =
     let key : k ≡ l = cc in
     let word : value_word v ≡ value_word w = cc in
-    let value = value-one v w ft.1 fu.1 word in cc
-arguments-one (Serve (Write (Replace _ _))) _ ft fu same args = absurd (cc)
-arguments-one (Serve (Write (Cas k v m))) (Serve (Write (Cas l w n))) ft fu same args =
+    let value = value-one v w ft.1 fu.1 word in
+    let moment : moment_word m ≡ moment_word n = cc in
+    let now = moment-one m n ft.2 fu.2 moment in cc
+arguments-one (Serve (Write (Replace _ _ _))) _ ft fu same args = absurd (cc)
+arguments-one (Serve (Write (Cas k v m i))) (Serve (Write (Cas l w n j))) ft fu same args =
     let key : k ≡ l = cc in
     let word : value_word v ≡ value_word w = cc in
     let value = value-one v w ft.1 fu.1 word in
     let digits : decimal m ≡ decimal n = cc in
-    let number = number-one m n ft.2 fu.2 digits in cc
-arguments-one (Serve (Write (Cas _ _ _))) _ ft fu same args = absurd (cc)
-arguments-one (Serve (Write (Delete k))) (Serve (Write (Delete l))) ft fu same args = ap (λ k. Serve (Write (Delete k))) (first k l [] [] args)
-arguments-one (Serve (Write (Delete _))) _ ft fu same args = absurd (cc)
-arguments-one (Serve (Get k)) (Serve (Get l)) ft fu same args = ap (λ k. Serve (Get k)) (first k l [] [] args)
-arguments-one (Serve (Get _)) (Serve (Write (Set _ _))) ft fu same args = absurd (cc)
-arguments-one (Serve (Get _)) _ ft fu same args = absurd (cc)
-arguments-one (Serve (Gets k)) (Serve (Gets l)) ft fu same args = ap (λ k. Serve (Gets k)) (first k l [] [] args)
-arguments-one (Serve (Gets _)) (Serve (Write (Set _ _))) ft fu same args = absurd (cc)
-arguments-one (Serve (Gets _)) _ ft fu same args = absurd (cc)
-arguments-one (Hold k) (Hold l) ft fu same args = ap Hold (first k l [] [] args)
-arguments-one (Hold _) (Serve (Write (Set _ _))) ft fu same args = absurd (cc)
-arguments-one (Hold _) _ ft fu same args = absurd (cc)
+    let number = number-one m n ft.2 fu.2 digits in
+    let moment : moment_word i ≡ moment_word j = cc in
+    let now = moment-one i j ft.3 fu.3 moment in cc
+arguments-one (Serve (Write (Cas _ _ _ _))) _ ft fu same args = absurd (cc)
+arguments-one (Serve (Write (Delete k m))) (Serve (Write (Delete l n))) ft fu same args =
+    let key : k ≡ l = cc in
+    let moment : moment_word m ≡ moment_word n = cc in
+    let now = moment-one m n ft.1 fu.1 moment in cc
+arguments-one (Serve (Write (Delete _ _))) _ ft fu same args = absurd (cc)
+arguments-one (Serve (Get k m)) (Serve (Get l n)) ft fu same args =
+    let key : k ≡ l = cc in
+    let moment : moment_word m ≡ moment_word n = cc in
+    let now = moment-one m n ft.1 fu.1 moment in cc
+arguments-one (Serve (Get _ _)) (Serve (Write (Set _ _ _))) ft fu same args = absurd (cc)
+arguments-one (Serve (Get _ _)) _ ft fu same args = absurd (cc)
+arguments-one (Serve (Gets k m)) (Serve (Gets l n)) ft fu same args =
+    let key : k ≡ l = cc in
+    let moment : moment_word m ≡ moment_word n = cc in
+    let now = moment-one m n ft.1 fu.1 moment in cc
+arguments-one (Serve (Gets _ _)) (Serve (Write (Set _ _ _))) ft fu same args = absurd (cc)
+arguments-one (Serve (Gets _ _)) _ ft fu same args = absurd (cc)
+arguments-one (Hold k m) (Hold l n) ft fu same args =
+    let key : k ≡ l = cc in
+    let moment : moment_word m ≡ moment_word n = cc in
+    let now = moment-one m n ft.1 fu.1 moment in cc
+arguments-one (Hold _ _) (Serve (Write (Set _ _ _))) ft fu same args = absurd (cc)
+arguments-one (Hold _ _) _ ft fu same args = absurd (cc)
 arguments-one Held Held ft fu same args = refl
-arguments-one Held (Serve (Write (Set _ _))) ft fu same args = absurd (cc)
+arguments-one Held (Serve (Write (Set _ _ _))) ft fu same args = absurd (cc)
 arguments-one Held _ ft fu same args = absurd (cc)
 arguments-one Release Release ft fu same args = refl
-arguments-one Release (Serve (Write (Set _ _))) ft fu same args = absurd (cc)
+arguments-one Release (Serve (Write (Set _ _ _))) ft fu same args = absurd (cc)
 arguments-one Release _ ft fu same args = absurd (cc)
 arguments-one (Lock k) (Lock l) ft fu same args = ap Lock (first k l [] [] args)
-arguments-one (Lock _) (Serve (Write (Set _ _))) ft fu same args = absurd (cc)
+arguments-one (Lock _) (Serve (Write (Set _ _ _))) ft fu same args = absurd (cc)
 arguments-one (Lock _) _ ft fu same args = absurd (cc)
 arguments-one Unlock Unlock ft fu same args = refl
-arguments-one Unlock (Serve (Write (Set _ _))) ft fu same args = absurd (cc)
+arguments-one Unlock (Serve (Write (Set _ _ _))) ft fu same args = absurd (cc)
 arguments-one Unlock _ ft fu same args = absurd (cc)
 
 pass-one : (p q : ℕ) → p < 2 ^ 32 → q < 2 ^ 32 → pass_word p ≡ pass_word q → p ≡ q

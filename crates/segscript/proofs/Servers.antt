@@ -2,16 +2,12 @@
 use Rattle.std.proofs.Common.{◌≡◌, ℕ, zero, suc, ◌+◌, ◌<◌, ◌≤◌, List, [], ◌∷◌, ◌++◌, length, replicate, set, slice_get, Option, Some, None, refl, sym, ap, subst, subst₂, ◌∙◌, inl, inr, arith}
 use Rattle.std.proofs.lemmas.Option.{same_Some, none-some, slice_get_within}
 use Rattle.segmodel.proofs.ListPlaces.{last_of, front_of, found_set, elsewhere}
-use Rattle.segword.specs.declared.shape.Shape.{Shape}
-use Rattle.segmodel.specs.State.{fresh}
-use Rattle.segbase.specs.declared.board.Board.{Board}
-use Rattle.segbase.specs.declared.pass.Pass.{Pass}
-use Rattle.segbase.specs.Passes.{number, holding}
-use Rattle.segbase.specs.Plain.{locked_of}
-use Rattle.segbase.specs.Made.{IsNewPass}
-use Rattle.segread.specs.declared.held.Hold.{Hold}
-use Rattle.segpass.specs.Quiet.{IsQuiet}
-use Rattle.segsolo.specs.Alone.{state_at}
+use Rattle.segword.specs.Words.{Shape}
+use Rattle.segmodel.specs.Words.{fresh}
+use Rattle.segbase.specs.Words.{Board, holding, IsNewPass, locked_of, number, Pass}
+use Rattle.segread.specs.Words.{Hold}
+use Rattle.segpass.specs.Words.{IsQuiet}
+use Rattle.segsolo.specs.Words.{state_at}
 use Rattle.segsolo.proofs.AloneStarts.{starts_alone, starts_fresh}
 use Rattle.segscript.specs.Passes.{IsHoldKept, IsIdle, AreInOrder, first_state}
 

@@ -1,22 +1,16 @@
 -- What the calls of the index say, as turns of a pass; and holds that are kept from call to call.
 use Rattle.std.proofs.Common.{◌≡◌, ℕ, Bool, List, Option, Some, None, is_some, refl, ap, ◌∙◌}
-use Rattle.segword.specs.declared.shape.Shape.{Shape}
-use Rattle.segmodel.specs.declared.answer.Answer.{Answer}
+use Rattle.segword.specs.Words.{Shape}
+use Rattle.segmodel.specs.Words.{Answer}
 use Rattle.segmodel.specs.declared.answer.Command.{Command}
 use Rattle.segmodel.specs.declared.answer.Turn.TheVariants as turn
 use Rattle.segmodel.specs.declared.answer.Outcome.TheVariants as outcome
-use Rattle.segbase.specs.declared.board.Board.{Board}
-use Rattle.segbase.specs.declared.pass.Pass.{Pass}
-use Rattle.segbase.specs.Passes.{holding}
-use Rattle.segpass.specs.declared.bucket.LockAnswer.{LockAnswer}
-use Rattle.segpass.specs.Calls.{GoesOn}
-use Rattle.segpass.specs.Locks.{LocksBucket, UnlocksBucket}
-use Rattle.segread.specs.declared.held.Hold.{Hold}
-use Rattle.segread.specs.declared.held.HoldAnswer.{HoldAnswer}
-use Rattle.segread.specs.Holds.{IsHoldOf, HoldsItem, ReadsHeld, ReleasesHold}
+use Rattle.segbase.specs.Words.{Board, holding, Pass}
+use Rattle.segpass.specs.Words.{GoesOn, LockAnswer, LocksBucket, UnlocksBucket}
+use Rattle.segread.specs.Words.{Hold, HoldAnswer, HoldsItem, IsHoldOf, ReadsHeld, ReleasesHold}
 use Rattle.segread.proofs.HoldCalls.{stays}
-use Rattle.segindex.specs.Commands.{AnswersCommand}
-use Rattle.segsolo.specs.Alone.{outcome_of_lock, outcome_of_unlock, outcome_of_hold}
+use Rattle.segindex.specs.Words.{AnswersCommand}
+use Rattle.segsolo.specs.Words.{outcome_of_hold, outcome_of_lock, outcome_of_unlock}
 use Rattle.segsolo.proofs.AloneCommands.{serves_command}
 use Rattle.segsolo.proofs.AloneHolds.{turns_hold, turns_held, turns_release}
 use Rattle.segsolo.proofs.AloneLocks.{turns_lock, turns_unlock}
@@ -37,8 +31,8 @@ serve_turn b p q command told on is = record {
   alone = λ was. let served = serves_command b p q command draw told was is in (served.0, (told, refl, served.1));
 }
 
-pub hold_turn : (b : Board) (p q : Pass) (key : List ℕ) (given : HoldAnswer) → HoldsItem b key given p q → TakesTurn b (turn.Hold key) (outcome_of_hold given) p q
-hold_turn b p q key given is = record { goes_on = is.on; tells = (given, refl, is); alone = λ was. turns_hold b p q key given was is }
+pub hold_turn : (b : Board) (p q : Pass) (key : List ℕ) (now : ℕ) (given : HoldAnswer) → HoldsItem b key now given p q → TakesTurn b (turn.Hold key now) (outcome_of_hold given) p q
+hold_turn b p q key now given is = record { goes_on = is.on; tells = (given, refl, is); alone = λ was. turns_hold b p q key now given was is }
 
 pub held_turn : (b : Board) (p q : Pass) (hold : Hold) (value : List ℕ) → IsHoldOf b.shape hold p → ReadsHeld b hold value p q → TakesTurn b turn.Held (outcome.Value value) p q
 held_turn b p q hold value of is = record { goes_on = is.on; tells = (hold, of, is); alone = λ was. turns_held b p q hold value was of is }

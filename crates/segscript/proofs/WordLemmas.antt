@@ -7,13 +7,13 @@ use Rattle.std.proofs.lemmas.List.Elements.{All-from_recursion}
 use Rattle.std.proofs.lemmas.List.Splits.{join_with_byte-slice_split}
 use Rattle.std.proofs.lemmas.Str.Parse.{digit_at}
 use Rattle.std.proofs.lemmas.Fmt.{decimal_is_IsNumeral, decimal_injective}
-use Rattle.segscript.specs.Spelling.{PassTurn, IsWordByte, IsNumber, IsWritable, IsSayable, value_word, pass_word, turn_words, spelling}
+use Rattle.segscript.specs.Spelling.{PassTurn, IsWordByte, IsNumber, IsWritable, IsSayable, value_word, moment_word, pass_word, turn_words, spelling}
 use Rattle.segscript.specs.Reading.{ReadsAs}
 use Rattle.segmodel.specs.declared.request.Request.TheVariants.{Set, Add, Replace, Cas, Delete}
 use Rattle.segmodel.specs.declared.answer.Command.TheVariants.{Write, Get, Gets, Evict, Refill}
-use Rattle.segmodel.specs.declared.answer.Turn.{Turn}
+use Rattle.segmodel.specs.Words.{Turn}
 use Rattle.segmodel.specs.declared.answer.Turn.TheVariants.{Serve, Hold, Held, Release, Lock, Unlock}
-use Rattle.segscript.specs.Verb.{verb, verb_word, arguments_of, IsTurnOf, IsPass, IsPair, pair_words, IsTriple, triple_words, line_words}
+use Rattle.segscript.specs.Verb.{verb, verb_word, arguments_of, IsTurnOf, IsPass, AreNumbers, number_words, IsPair, pair_words, IsTriple, triple_words, AreFour, four_words, line_words}
 use Rattle.segscript.specs.declared.verb.Verb.{Verb}
 use Rattle.segscript.specs.declared.verb.Verb.TheVariants as verbs
 use Rattle.std.proofs.lemmas.Grind.{common_steps}
@@ -124,17 +124,20 @@ verb_words verbs.Release = plain_word (verb_word verbs.Release) (search rules)
 verb_words verbs.Lock = plain_word (verb_word verbs.Lock) (search rules)
 verb_words verbs.Unlock = plain_word (verb_word verbs.Unlock) (search rules)
 
+moment_plain : (m : ℕ) → m < 2 ^ 32 → IsSpaceless (moment_word m)
+moment_plain m small k d within = elim k as (λ k. k < length (moment_word m) → eqb (get_or (moment_word m) k d) 32 ≡ false) [ zero ↦ λ w. refl | suc j ↦ λ w. decimal_word m small j d (omega arith) ] within
+
 spaceless_arguments : (t : Turn) → IsWritable t → AllByRecursion IsSpaceless (arguments_of t)
-spaceless_arguments (Serve (Refill n)) fits = (decimal_word n fits, tt)
+spaceless_arguments (Serve (Refill n d)) fits = (decimal_word n fits.0, (decimal_word d fits.1, tt))
 spaceless_arguments (Serve (Evict n)) fits = (decimal_word n fits, tt)
-spaceless_arguments (Serve (Write (Set k v))) fits = (plain_word k fits.0.2, (value_words v fits.1.1, tt))
-spaceless_arguments (Serve (Write (Add k v))) fits = (plain_word k fits.0.2, (value_words v fits.1.1, tt))
-spaceless_arguments (Serve (Write (Replace k v))) fits = (plain_word k fits.0.2, (value_words v fits.1.1, tt))
-spaceless_arguments (Serve (Write (Cas k v n))) fits = (plain_word k fits.0.2, (value_words v fits.1.1, (decimal_word n fits.2, tt)))
-spaceless_arguments (Serve (Write (Delete k))) fits = (plain_word k fits.2, tt)
-spaceless_arguments (Serve (Get k)) fits = (plain_word k fits.2, tt)
-spaceless_arguments (Serve (Gets k)) fits = (plain_word k fits.2, tt)
-spaceless_arguments (Hold k) fits = (plain_word k fits.2, tt)
+spaceless_arguments (Serve (Write (Set k v m))) fits = (plain_word k fits.0.2, (value_words v fits.1.1, (moment_plain m fits.2, tt)))
+spaceless_arguments (Serve (Write (Add k v m))) fits = (plain_word k fits.0.2, (value_words v fits.1.1, (moment_plain m fits.2, tt)))
+spaceless_arguments (Serve (Write (Replace k v m))) fits = (plain_word k fits.0.2, (value_words v fits.1.1, (moment_plain m fits.2, tt)))
+spaceless_arguments (Serve (Write (Cas k v n m))) fits = (plain_word k fits.0.2, (value_words v fits.1.1, (decimal_word n fits.2, (moment_plain m fits.3, tt))))
+spaceless_arguments (Serve (Write (Delete k m))) fits = (plain_word k fits.0.2, (moment_plain m fits.1, tt))
+spaceless_arguments (Serve (Get k m)) fits = (plain_word k fits.0.2, (moment_plain m fits.1, tt))
+spaceless_arguments (Serve (Gets k m)) fits = (plain_word k fits.0.2, (moment_plain m fits.1, tt))
+spaceless_arguments (Hold k m) fits = (plain_word k fits.0.2, (moment_plain m fits.1, tt))
 spaceless_arguments Held fits = tt
 spaceless_arguments Release fits = tt
 spaceless_arguments (Lock k) fits = (plain_word k fits.2, tt)
@@ -142,32 +145,32 @@ spaceless_arguments Unlock fits = tt
 
 -- the words of a turn are its command word and what stands behind it
 words_of : (t : Turn) → turn_words t ≡ verb_word (verb t) ∷ arguments_of t
-words_of (Serve (Refill n)) = refl
+words_of (Serve (Refill n d)) = refl
 words_of (Serve (Evict n)) = refl
-words_of (Serve (Write (Set k v))) = refl
-words_of (Serve (Write (Add k v))) = refl
-words_of (Serve (Write (Replace k v))) = refl
-words_of (Serve (Write (Cas k v n))) = refl
-words_of (Serve (Write (Delete k))) = refl
-words_of (Serve (Get k)) = refl
-words_of (Serve (Gets k)) = refl
-words_of (Hold k) = refl
+words_of (Serve (Write (Set k v m))) = refl
+words_of (Serve (Write (Add k v m))) = refl
+words_of (Serve (Write (Replace k v m))) = refl
+words_of (Serve (Write (Cas k v n m))) = refl
+words_of (Serve (Write (Delete k m))) = refl
+words_of (Serve (Get k m)) = refl
+words_of (Serve (Gets k m)) = refl
+words_of (Hold k m) = refl
 words_of Held = refl
 words_of Release = refl
 words_of (Lock k) = refl
 words_of Unlock = refl
 
-few_words : (t : Turn) → length (arguments_of t) ≤ 3
-few_words (Serve (Refill n)) = omega arith
+few_words : (t : Turn) → length (arguments_of t) ≤ 4
+few_words (Serve (Refill n d)) = omega arith
 few_words (Serve (Evict n)) = omega arith
-few_words (Serve (Write (Set k v))) = omega arith
-few_words (Serve (Write (Add k v))) = omega arith
-few_words (Serve (Write (Replace k v))) = omega arith
-few_words (Serve (Write (Cas k v n))) = omega arith
-few_words (Serve (Write (Delete k))) = omega arith
-few_words (Serve (Get k)) = omega arith
-few_words (Serve (Gets k)) = omega arith
-few_words (Hold k) = omega arith
+few_words (Serve (Write (Set k v m))) = omega arith
+few_words (Serve (Write (Add k v m))) = omega arith
+few_words (Serve (Write (Replace k v m))) = omega arith
+few_words (Serve (Write (Cas k v n m))) = omega arith
+few_words (Serve (Write (Delete k m))) = omega arith
+few_words (Serve (Get k m)) = omega arith
+few_words (Serve (Gets k m)) = omega arith
+few_words (Hold k m) = omega arith
 few_words Held = omega arith
 few_words Release = omega arith
 few_words (Lock k) = omega arith
@@ -193,26 +196,55 @@ none-many_words passes line many t fits same =
     let most : length (spaces line) ≡ length (line_words t) = ap length e in
     omega arith
 
-pub none-set : (parts : List (List ℕ)) → ((p : List ℕ × List ℕ) → IsPair p → parts ≡ pair_words p → ⊥) → (t : Turn) → IsTurnOf verbs.Set t → parts ≡ arguments_of t → ⊥
-none-set parts none (Serve (Write (Set k v))) fits same = none (k, v) fits.0 same
+pub none-refill : (parts : List (List ℕ)) → ((p : ℕ × ℕ) → AreNumbers p → parts ≡ number_words p → ⊥) → (t : Turn) → IsTurnOf verbs.Refill t → parts ≡ arguments_of t → ⊥
+none-refill parts none (Serve (Refill n d)) fits same = none (n, d) fits.0 same
+none-refill parts none (Serve (Write (Set _ _ _))) fits same = let e = fits.1 in cc
+none-refill parts none _ fits same = let e = fits.1 in cc
+
+pub none-set : (parts : List (List ℕ)) → ((p : List ℕ × List ℕ × ℕ) → IsTriple p → parts ≡ triple_words p → ⊥) → (t : Turn) → IsTurnOf verbs.Set t → parts ≡ arguments_of t → ⊥
+none-set parts none (Serve (Write (Set k v m))) fits same = none (k, v, m) fits.0 same
 none-set parts none _ fits same = let e = fits.1 in cc
 
-pub none-add : (parts : List (List ℕ)) → ((p : List ℕ × List ℕ) → IsPair p → parts ≡ pair_words p → ⊥) → (t : Turn) → IsTurnOf verbs.Add t → parts ≡ arguments_of t → ⊥
-none-add parts none (Serve (Write (Add k v))) fits same = none (k, v) fits.0 same
+pub none-add : (parts : List (List ℕ)) → ((p : List ℕ × List ℕ × ℕ) → IsTriple p → parts ≡ triple_words p → ⊥) → (t : Turn) → IsTurnOf verbs.Add t → parts ≡ arguments_of t → ⊥
+none-add parts none (Serve (Write (Add k v m))) fits same = none (k, v, m) fits.0 same
 none-add parts none _ fits same = let e = fits.1 in cc
 
-pub none-replace : (parts : List (List ℕ)) → ((p : List ℕ × List ℕ) → IsPair p → parts ≡ pair_words p → ⊥) → (t : Turn) → IsTurnOf verbs.Replace t → parts ≡ arguments_of t → ⊥
-none-replace parts none (Serve (Write (Replace k v))) fits same = none (k, v) fits.0 same
+pub none-replace : (parts : List (List ℕ)) → ((p : List ℕ × List ℕ × ℕ) → IsTriple p → parts ≡ triple_words p → ⊥) → (t : Turn) → IsTurnOf verbs.Replace t → parts ≡ arguments_of t → ⊥
+none-replace parts none (Serve (Write (Replace k v m))) fits same = none (k, v, m) fits.0 same
 none-replace parts none _ fits same = let e = fits.1 in cc
 
-pub none-cas : (parts : List (List ℕ)) → ((p : List ℕ × List ℕ × ℕ) → IsTriple p → parts ≡ triple_words p → ⊥) → (t : Turn) → IsTurnOf verbs.Cas t → parts ≡ arguments_of t → ⊥
-none-cas parts none (Serve (Write (Cas k v n))) fits same = none (k, v, n) fits.0 same
+pub none-cas : (parts : List (List ℕ)) → ((p : List ℕ × List ℕ × ℕ × ℕ) → AreFour p → parts ≡ four_words p → ⊥) → (t : Turn) → IsTurnOf verbs.Cas t → parts ≡ arguments_of t → ⊥
+none-cas parts none (Serve (Write (Cas k v n m))) fits same = none (k, v, n, m) fits.0 same
 none-cas parts none _ fits same = let e = fits.1 in cc
 
--- the third word of these is no number
-pub none-third : (words : List (List ℕ)) (third : List ℕ) → get_or words 2 [] ≡ third → ((n : ℕ) → IsNumber n → third ≡ decimal n → ⊥)
+pub none-delete : (parts : List (List ℕ)) → ((p : List ℕ × ℕ) → IsPair p → parts ≡ pair_words p → ⊥) → (t : Turn) → IsTurnOf verbs.Delete t → parts ≡ arguments_of t → ⊥
+none-delete parts none (Serve (Write (Delete k m))) fits same = none (k, m) fits.0 same
+none-delete parts none _ fits same = let e = fits.1 in cc
+
+pub none-get : (parts : List (List ℕ)) → ((p : List ℕ × ℕ) → IsPair p → parts ≡ pair_words p → ⊥) → (t : Turn) → IsTurnOf verbs.Get t → parts ≡ arguments_of t → ⊥
+none-get parts none (Serve (Get k m)) fits same = none (k, m) fits.0 same
+none-get parts none (Serve (Write (Set _ _ _))) fits same = let e = fits.1 in cc
+none-get parts none _ fits same = let e = fits.1 in cc
+
+pub none-gets : (parts : List (List ℕ)) → ((p : List ℕ × ℕ) → IsPair p → parts ≡ pair_words p → ⊥) → (t : Turn) → IsTurnOf verbs.Gets t → parts ≡ arguments_of t → ⊥
+none-gets parts none (Serve (Gets k m)) fits same = none (k, m) fits.0 same
+none-gets parts none (Serve (Write (Set _ _ _))) fits same = let e = fits.1 in cc
+none-gets parts none _ fits same = let e = fits.1 in cc
+
+pub none-hold : (parts : List (List ℕ)) → ((p : List ℕ × ℕ) → IsPair p → parts ≡ pair_words p → ⊥) → (t : Turn) → IsTurnOf verbs.Hold t → parts ≡ arguments_of t → ⊥
+none-hold parts none (Hold k m) fits same = none (k, m) fits.0 same
+none-hold parts none (Serve (Write (Set _ _ _))) fits same = let e = fits.1 in cc
+none-hold parts none _ fits same = let e = fits.1 in cc
+
+-- the third word of these is no moment
+pub none-third : (words : List (List ℕ)) (third : List ℕ) → get_or words 2 [] ≡ third → ((n : ℕ) → IsNumber n → third ≡ moment_word n → ⊥)
     → (t : List ℕ × List ℕ × ℕ) → IsTriple t → words ≡ triple_words t → ⊥
 none-third words third is none t fits same = none t.2 fits.2 (sym is ∙ ap (λ l. get_or l 2 []) same)
+
+-- the fourth word of these is no moment
+pub none-fourth : (words : List (List ℕ)) (fourth : List ℕ) → get_or words 3 [] ≡ fourth → ((n : ℕ) → IsNumber n → fourth ≡ moment_word n → ⊥)
+    → (t : List ℕ × List ℕ × ℕ × ℕ) → AreFour t → words ≡ four_words t → ⊥
+none-fourth words fourth is none t fits same = none t.3 fits.3 (sym is ∙ ap (λ l. get_or l 3 []) same)
 
 -- a pass number has one word
 pub none-pass : (passes pass : ℕ) (word : List ℕ) → IsNumber pass × (take (length word - 1) (drop 1 word) ≡ decimal pass) → passes ≤ pass → (a : ℕ) → IsPass passes a → word ≡ pass_word a → ⊥

@@ -1,10 +1,8 @@
 -- What a run of a script says of each of its turns, with any number of passes.
 use Rattle.std.specs.Prelude.{ℕ, List, Result, Err}
-use Rattle.segword.specs.declared.shape.Shape.{Shape}
-use Rattle.segbase.specs.declared.pass.Pass.{Pass}
-use Rattle.segindex.specs.declared.index.Index.{Index}
-use Rattle.segindex.specs.Index.{board_of}
-use Rattle.segindex.specs.Index.{IsNew}
+use Rattle.segword.specs.Words.{Shape}
+use Rattle.segbase.specs.Words.{Pass}
+use Rattle.segindex.specs.Words.{board_of, Index, IsNew}
 use Rattle.segscript.specs.Passes.{OneTakes}
 use Rattle.segscript.specs.Run.{EndOfRun}
 use Rattle.segscript.specs.declared.fault.RunFault.{RunFault}

@@ -13,3 +13,4 @@ pub mod Server
 pub mod Spelling
 pub mod Told
 pub mod Verb
+pub mod Words

@@ -1,17 +1,11 @@
 -- The passes of an index between turns, each with the hold that is kept beside it, and the turns that they take.
 use Rattle.std.specs.Prelude.{◌≡◌, ◌≢◌, ℕ, List, [], ◌∷◌, Option, Some, None, slice_get}
-use Rattle.segword.specs.declared.shape.Shape.{Shape}
-use Rattle.segmodel.specs.declared.answer.Turn.{Turn}
-use Rattle.segmodel.specs.declared.answer.Outcome.{Outcome}
-use Rattle.segmodel.specs.State.{State, fresh}
-use Rattle.segbase.specs.declared.board.Board.{Board}
-use Rattle.segbase.specs.declared.pass.Pass.{Pass}
-use Rattle.segbase.specs.Passes.{number, holding}
-use Rattle.segread.specs.declared.held.Hold.{Hold}
-use Rattle.segpass.specs.Quiet.{IsQuiet}
-use Rattle.segpass.specs.Calls.{GoesOn}
-use Rattle.segread.specs.Holds.{IsHoldOf}
-use Rattle.segsolo.specs.Alone.{state_at, IsAlone, TurnsAlone}
+use Rattle.segword.specs.Words.{Shape}
+use Rattle.segmodel.specs.Words.{fresh, Outcome, State, Turn}
+use Rattle.segbase.specs.Words.{Board, holding, number, Pass}
+use Rattle.segpass.specs.Words.{GoesOn, IsQuiet}
+use Rattle.segread.specs.Words.{Hold, IsHoldOf}
+use Rattle.segsolo.specs.Words.{IsAlone, state_at, TurnsAlone}
 use Rattle.segscript.specs.Spelling.{PassTurn}
 use Rattle.segscript.specs.Told.{IsOutcomeOfCall}
 

@@ -1,20 +1,14 @@
 -- The line of an outcome.
 use Rattle.std.specs.Prelude.{ℕ, List, ◌++◌, codes, decimal}
-use Rattle.segmodel.specs.declared.answer.Answer.{Answer}
+use Rattle.segmodel.specs.Words.{Answer, DeleteAnswer, EvictAnswer, GetAnswer, GetsAnswer, Outcome}
+use Rattle.segmodel.specs.Words.{RefillAnswer, WriteAnswer}
 use Rattle.segmodel.specs.declared.answer.Answer.TheVariants as answer
-use Rattle.segmodel.specs.declared.answer.WriteAnswer.{WriteAnswer}
 use Rattle.segmodel.specs.declared.answer.WriteAnswer.TheVariants as write
-use Rattle.segmodel.specs.declared.answer.DeleteAnswer.{DeleteAnswer}
 use Rattle.segmodel.specs.declared.answer.DeleteAnswer.TheVariants as delete
-use Rattle.segmodel.specs.declared.answer.GetAnswer.{GetAnswer}
 use Rattle.segmodel.specs.declared.answer.GetAnswer.TheVariants as get
-use Rattle.segmodel.specs.declared.answer.GetsAnswer.{GetsAnswer}
 use Rattle.segmodel.specs.declared.answer.GetsAnswer.TheVariants as gets
-use Rattle.segmodel.specs.declared.answer.EvictAnswer.{EvictAnswer}
 use Rattle.segmodel.specs.declared.answer.EvictAnswer.TheVariants as evict
-use Rattle.segmodel.specs.declared.answer.RefillAnswer.{RefillAnswer}
 use Rattle.segmodel.specs.declared.answer.RefillAnswer.TheVariants as refill
-use Rattle.segmodel.specs.declared.answer.Outcome.{Outcome}
 use Rattle.segmodel.specs.declared.answer.Outcome.TheVariants as outcome
 use Rattle.segscript.specs.Spelling.{value_word}
 

@@ -2,11 +2,9 @@
 -- what one turn of it is.
 use Rattle.std.specs.Prelude.{◌⊎◌, ◌≡◌, ℕ, ◌+◌, ◌^◌, ◌≤◌, Bool, true, false, List, [], ◌∷◌, ◌++◌, length, Result, Ok, Err}
 use Rattle.std.specs.List.{flat_map, AllByRecursion}
-use Rattle.segword.specs.declared.shape.Shape.{Shape}
-use Rattle.segword.specs.Shape.{IsValid}
-use Rattle.segmodel.specs.declared.answer.Outcome.{Outcome}
-use Rattle.segmodel.specs.State.{fresh}
-use Rattle.segbase.specs.Made.{IsMakeFault}
+use Rattle.segword.specs.Words.{IsValid, Shape}
+use Rattle.segmodel.specs.Words.{fresh, Outcome}
+use Rattle.segbase.specs.Words.{IsMakeFault}
 use Rattle.segscript.specs.Spelling.{PassTurn}
 use Rattle.segscript.specs.Script.{IsLine, ended, Splits, IsBad, ServesLines, Steps, ServesScript}
 use Rattle.segscript.specs.Device.{IsBeginning, flushed}

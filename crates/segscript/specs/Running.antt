@@ -1,7 +1,7 @@
 -- What the parts of a run do, between its reads. Their turns are taken by whatever stands behind the script: it has this many
 -- passes, and step says what one turn of it is.
 use Rattle.std.specs.Prelude.{◌⊎◌, ◌≡◌, ℕ, ◌+◌, ◌≤◌, List, [], ◌∷◌, ◌++◌, length, Result, Ok, Err}
-use Rattle.segmodel.specs.declared.answer.Outcome.{Outcome}
+use Rattle.segmodel.specs.Words.{Outcome}
 use Rattle.segscript.specs.Spelling.{PassTurn}
 use Rattle.segscript.specs.Script.{Splits, IsBad, ServesLines, ServesScript}
 use Rattle.segscript.specs.Device.{IsBeginning, flushed}

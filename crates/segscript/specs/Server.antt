@@ -1,11 +1,8 @@
 -- An index and its passes as a script sees them.
 use Rattle.std.specs.Prelude.{◌≡◌, ◌≢◌, ℕ, List, length, Some, None, slice_get}
-use Rattle.segmodel.specs.declared.answer.Outcome.{Outcome}
-use Rattle.segmodel.specs.State.{State}
-use Rattle.segbase.specs.declared.pass.Pass.{Pass}
-use Rattle.segbase.specs.Passes.{holding}
-use Rattle.segbase.specs.Plain.{locked_of}
-use Rattle.segindex.specs.Index.{board_of, shape_of}
+use Rattle.segmodel.specs.Words.{Outcome, State}
+use Rattle.segbase.specs.Words.{holding, locked_of, Pass}
+use Rattle.segindex.specs.Words.{board_of, shape_of}
 use Rattle.segscript.specs.Spelling.{PassTurn}
 use Rattle.segscript.specs.Script.{Steps}
 use Rattle.segscript.specs.declared.server.Server.{Server}

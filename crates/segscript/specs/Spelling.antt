@@ -3,7 +3,7 @@ use Rattle.std.specs.Prelude.{◌≢◌, ℕ, ◌<◌, ◌≤◌, ◌^◌, List,
 use Rattle.std.specs.List.{join_with_byte, AllByRecursion}
 use Rattle.segmodel.specs.declared.request.Request.TheVariants.{Set, Add, Replace, Cas, Delete}
 use Rattle.segmodel.specs.declared.answer.Command.TheVariants.{Write, Get, Gets, Evict, Refill}
-use Rattle.segmodel.specs.declared.answer.Turn.{Turn}
+use Rattle.segmodel.specs.Words.{Turn}
 use Rattle.segmodel.specs.declared.answer.Turn.TheVariants.{Serve, Hold, Held, Release, Lock, Unlock}
 
 -- ---- words
@@ -29,37 +29,41 @@ value_word (byte ∷ bytes) = byte ∷ bytes
 abbrev pub IsValueWord : List ℕ → Type 0
 IsValueWord value = (length value ≤ 32) × AllByRecursion IsWordByte value × (value ≢ codes "-")
 
+-- the word of a moment: `@` and its number
+abbrev pub moment_word : ℕ → List ℕ
+moment_word now = codes "@" ++ decimal now
+
 -- ---- turns
 
 -- the words of a turn, the command word first
 abbrev pub turn_words : Turn → List (List ℕ)
-turn_words (Serve (Refill segment)) = codes "refill" ∷ decimal segment ∷ []
+turn_words (Serve (Refill segment deadline)) = codes "refill" ∷ decimal segment ∷ decimal deadline ∷ []
 turn_words (Serve (Evict segment)) = codes "evict" ∷ decimal segment ∷ []
-turn_words (Serve (Write (Set key value))) = codes "set" ∷ key ∷ value_word value ∷ []
-turn_words (Serve (Write (Add key value))) = codes "add" ∷ key ∷ value_word value ∷ []
-turn_words (Serve (Write (Replace key value))) = codes "replace" ∷ key ∷ value_word value ∷ []
-turn_words (Serve (Write (Cas key value expected))) = codes "cas" ∷ key ∷ value_word value ∷ decimal expected ∷ []
-turn_words (Serve (Write (Delete key))) = codes "delete" ∷ key ∷ []
-turn_words (Serve (Get key)) = codes "get" ∷ key ∷ []
-turn_words (Serve (Gets key)) = codes "gets" ∷ key ∷ []
-turn_words (Hold key) = codes "hold" ∷ key ∷ []
+turn_words (Serve (Write (Set key value now))) = codes "set" ∷ key ∷ value_word value ∷ moment_word now ∷ []
+turn_words (Serve (Write (Add key value now))) = codes "add" ∷ key ∷ value_word value ∷ moment_word now ∷ []
+turn_words (Serve (Write (Replace key value now))) = codes "replace" ∷ key ∷ value_word value ∷ moment_word now ∷ []
+turn_words (Serve (Write (Cas key value expected now))) = codes "cas" ∷ key ∷ value_word value ∷ decimal expected ∷ moment_word now ∷ []
+turn_words (Serve (Write (Delete key now))) = codes "delete" ∷ key ∷ moment_word now ∷ []
+turn_words (Serve (Get key now)) = codes "get" ∷ key ∷ moment_word now ∷ []
+turn_words (Serve (Gets key now)) = codes "gets" ∷ key ∷ moment_word now ∷ []
+turn_words (Hold key now) = codes "hold" ∷ key ∷ moment_word now ∷ []
 turn_words Held = codes "held" ∷ []
 turn_words Release = codes "release" ∷ []
 turn_words (Lock key) = codes "lock" ∷ key ∷ []
 turn_words Unlock = codes "unlock" ∷ []
 
--- its keys, values and numbers are those that a script can name
+-- its keys, values, numbers and moments are those that a script can name
 abbrev pub IsWritable : Turn → Type 0
-IsWritable (Serve (Refill segment)) = IsNumber segment
+IsWritable (Serve (Refill segment deadline)) = IsNumber segment × IsNumber deadline
 IsWritable (Serve (Evict segment)) = IsNumber segment
-IsWritable (Serve (Write (Set key value))) = IsKeyWord key × IsValueWord value
-IsWritable (Serve (Write (Add key value))) = IsKeyWord key × IsValueWord value
-IsWritable (Serve (Write (Replace key value))) = IsKeyWord key × IsValueWord value
-IsWritable (Serve (Write (Cas key value expected))) = IsKeyWord key × IsValueWord value × IsNumber expected
-IsWritable (Serve (Write (Delete key))) = IsKeyWord key
-IsWritable (Serve (Get key)) = IsKeyWord key
-IsWritable (Serve (Gets key)) = IsKeyWord key
-IsWritable (Hold key) = IsKeyWord key
+IsWritable (Serve (Write (Set key value now))) = IsKeyWord key × IsValueWord value × IsNumber now
+IsWritable (Serve (Write (Add key value now))) = IsKeyWord key × IsValueWord value × IsNumber now
+IsWritable (Serve (Write (Replace key value now))) = IsKeyWord key × IsValueWord value × IsNumber now
+IsWritable (Serve (Write (Cas key value expected now))) = IsKeyWord key × IsValueWord value × IsNumber expected × IsNumber now
+IsWritable (Serve (Write (Delete key now))) = IsKeyWord key × IsNumber now
+IsWritable (Serve (Get key now)) = IsKeyWord key × IsNumber now
+IsWritable (Serve (Gets key now)) = IsKeyWord key × IsNumber now
+IsWritable (Hold key now) = IsKeyWord key × IsNumber now
 IsWritable Held = Unit {0}
 IsWritable Release = Unit {0}
 IsWritable (Lock key) = IsKeyWord key

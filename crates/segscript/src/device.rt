@@ -1,5 +1,6 @@
 //! Readers and writers whose contracts tell the bytes that went through them.
-ghost use Rattle.std.specs.Prelude.{◌≡◌, ◌+◌, ◌%◌, ◌^◌, ◌<◌, ◌≤◌, ◌||◌, ◌++◌, [], Bool, false, ℕ, List, length, take, IfOk, OnOk, OnErr, is_err};
+ghost use Rattle.std.specs.Prelude.{◌≡◌, ◌+◌, ◌%◌, ◌^◌, ◌<◌, ◌≤◌, ◌||◌, ◌++◌, [], Bool, false, ℕ};
+ghost use Rattle.std.specs.Prelude.{List, length, take, IfOk, OnOk, OnErr, is_err};
 ghost use Rattle.segscript.specs.Device.{took_nothing, TakesPart};
 
 /// A call of a reader or of a writer failed.
@@ -29,7 +30,8 @@ pub trait Source {
 
     ghost hands_none: { (s : Self) → hands s [] s };
 
-    ghost hands_more: { (s t u : Self) (a b : List ℕ) → hands s a t → hands t b u → hands s (a ++ b) u };
+    ghost hands_more: { (s t u : Self) (a b : List ℕ) → hands s a t → hands t b u
+        → hands s (a ++ b) u };
 }
 
 /// Where the replies go.
@@ -37,8 +39,8 @@ pub trait Sink {
     /// From one state to the other it took these bytes.
     ghost takes: { Self → List ℕ → Self → Type 0 };
 
-    /// A call of it has failed, or a write took none of its bytes. Such a writer is not asked to write again; it may
-    /// still be flushed.
+    /// A call of it has failed, or a write took none of its bytes.
+    /// Such a writer is not asked to write again; it may still be flushed.
     ghost has_failed: { Self → Bool };
 
     /// How many flushes were asked of it, modulo 2^64.
@@ -62,7 +64,8 @@ pub trait Sink {
 
     ghost takes_none: { (s : Self) → takes s [] s };
 
-    ghost takes_more: { (s t u : Self) (a b : List ℕ) → takes s a t → takes t b u → takes s (a ++ b) u };
+    ghost takes_more: { (s t u : Self) (a b : List ℕ) → takes s a t → takes t b u
+        → takes s (a ++ b) u };
 }
 
 /// Writes all of the bytes, or a beginning of them and then fails.

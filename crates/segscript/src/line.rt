@@ -3,17 +3,20 @@ ghost use Rattle.std.specs.Prelude.{◌≡◌, ◌<◌, ◌==◌, ◌∷◌, [],
 ghost use Rattle.std.specs.List.{slice_split};
 ghost use Rattle.segscript.specs.Spelling.{IsNumber, IsKeyWord, IsSayable, spelling};
 ghost use Rattle.segscript.specs.Reading.{ReadsAs};
-ghost use Rattle.segscript.specs.Verb.{IsPair, pair_words, IsTriple, triple_words, IsTurnOf, arguments_of, line_words};
+ghost use Rattle.segscript.specs.Verb.{AreNumbers, number_words, IsPair, pair_words};
+ghost use Rattle.segscript.specs.Verb.{IsTriple, triple_words, AreFour, four_words};
+ghost use Rattle.segscript.specs.Verb.{IsTurnOf, arguments_of, line_words};
 
 use crate::verb::{Verb, verb_of};
-use crate::word::{key, number, pass, value};
+use crate::word::{key, moment, number, pass, value};
 use arrayvec::ArrayVec;
 use segmodel::{Command, Request, Turn};
 use segword::{Key, Value};
 
 // The parts of a line between its spaces, where it has no more than 7.
 fn parts_of(line: &[u8]) -> Option<ArrayVec<&[u8], 7>>
-    ensures some { IfSome result (λ parts. map (λ part. part.now) parts.items ≡ slice_split (λ byte. byte == 32) line.now) }
+    ensures some { IfSome result (λ parts.
+        map (λ part. part.now) parts.items ≡ slice_split (λ byte. byte == 32) line.now) }
     ensures none { IfNone result (7 < length (slice_split (λ byte. byte == 32) line.now)) }
 {
     let mut parts = ArrayVec::new();
@@ -43,6 +46,19 @@ fn one_number(words: &[&[u8]]) -> Option<u32>
     }
 }
 
+fn two_numbers(words: &[&[u8]]) -> Option<(u32, u32)>
+    ensures { ReadsAs AreNumbers number_words (map (λ word. word.now) words.now) result }
+{
+    match words {
+        [first, second] => {
+            let first = number(first)?;
+            let second = number(second)?;
+            Some((first, second))
+        }
+        _ => None,
+    }
+}
+
 fn one_key(words: &[&[u8]]) -> Option<Key>
     ensures { ReadsAs IsKeyWord (λ key. key ∷ []) (map (λ word. word.now) words.now) result }
 {
@@ -52,28 +68,43 @@ fn one_key(words: &[&[u8]]) -> Option<Key>
     }
 }
 
-fn key_and_value(words: &[&[u8]]) -> Option<(Key, Value)>
+fn key_and_moment(words: &[&[u8]]) -> Option<(Key, u32)>
     ensures { ReadsAs IsPair pair_words (map (λ word. word.now) words.now) result }
 {
     match words {
         [first, second] => {
             let key = key(first)?;
-            let value = value(second)?;
-            Some((key, value))
+            let now = moment(second)?;
+            Some((key, now))
         }
         _ => None,
     }
 }
 
-fn key_value_number(words: &[&[u8]]) -> Option<(Key, Value, u32)>
+fn key_value_moment(words: &[&[u8]]) -> Option<(Key, Value, u32)>
     ensures { ReadsAs IsTriple triple_words (map (λ word. word.now) words.now) result }
 {
     match words {
         [first, second, third] => {
             let key = key(first)?;
             let value = value(second)?;
+            let now = moment(third)?;
+            Some((key, value, now))
+        }
+        _ => None,
+    }
+}
+
+fn key_value_number_moment(words: &[&[u8]]) -> Option<(Key, Value, u32, u32)>
+    ensures { ReadsAs AreFour four_words (map (λ word. word.now) words.now) result }
+{
+    match words {
+        [first, second, third, fourth] => {
+            let key = key(first)?;
+            let value = value(second)?;
             let number = number(third)?;
-            Some((key, value, number))
+            let now = moment(fourth)?;
+            Some((key, value, number, now))
         }
         _ => None,
     }
@@ -84,28 +115,43 @@ fn turn_of(verb: Verb, words: &[&[u8]]) -> Option<Turn>
     ensures { ReadsAs (IsTurnOf verb) arguments_of (map (λ word. word.now) words.now) result }
 {
     match verb {
-        Verb::Refill => Some(Turn::Serve(Command::Refill(one_number(words)?))),
+        Verb::Refill => {
+            let (segment, deadline) = two_numbers(words)?;
+            Some(Turn::Serve(Command::Refill(segment, deadline)))
+        }
         Verb::Evict => Some(Turn::Serve(Command::Evict(one_number(words)?))),
         Verb::Set => {
-            let (key, value) = key_and_value(words)?;
-            Some(Turn::Serve(Command::Write(Request::Set(key, value))))
+            let (key, value, now) = key_value_moment(words)?;
+            Some(Turn::Serve(Command::Write(Request::Set(key, value, now))))
         }
         Verb::Add => {
-            let (key, value) = key_and_value(words)?;
-            Some(Turn::Serve(Command::Write(Request::Add(key, value))))
+            let (key, value, now) = key_value_moment(words)?;
+            Some(Turn::Serve(Command::Write(Request::Add(key, value, now))))
         }
         Verb::Replace => {
-            let (key, value) = key_and_value(words)?;
-            Some(Turn::Serve(Command::Write(Request::Replace(key, value))))
+            let (key, value, now) = key_value_moment(words)?;
+            Some(Turn::Serve(Command::Write(Request::Replace(key, value, now))))
         }
         Verb::Cas => {
-            let (key, value, expected) = key_value_number(words)?;
-            Some(Turn::Serve(Command::Write(Request::Cas(key, value, expected))))
+            let (key, value, expected, now) = key_value_number_moment(words)?;
+            Some(Turn::Serve(Command::Write(Request::Cas(key, value, expected, now))))
         }
-        Verb::Delete => Some(Turn::Serve(Command::Write(Request::Delete(one_key(words)?)))),
-        Verb::Get => Some(Turn::Serve(Command::Get(one_key(words)?))),
-        Verb::Gets => Some(Turn::Serve(Command::Gets(one_key(words)?))),
-        Verb::Hold => Some(Turn::Hold(one_key(words)?)),
+        Verb::Delete => {
+            let (key, now) = key_and_moment(words)?;
+            Some(Turn::Serve(Command::Write(Request::Delete(key, now))))
+        }
+        Verb::Get => {
+            let (key, now) = key_and_moment(words)?;
+            Some(Turn::Serve(Command::Get(key, now)))
+        }
+        Verb::Gets => {
+            let (key, now) = key_and_moment(words)?;
+            Some(Turn::Serve(Command::Gets(key, now)))
+        }
+        Verb::Hold => {
+            let (key, now) = key_and_moment(words)?;
+            Some(Turn::Hold(key, now))
+        }
         Verb::Held if words.is_empty() => Some(Turn::Held),
         Verb::Release if words.is_empty() => Some(Turn::Release),
         Verb::Lock => Some(Turn::Lock(one_key(words)?)),

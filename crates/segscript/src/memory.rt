@@ -1,8 +1,11 @@
 //! A reader and a writer over memory, which fail where they are told to.
-ghost use Rattle.std.specs.Prelude.{◌≡◌, ◌+◌, ◌-◌, ◌^◌, ◌%◌, ◌<◌, ◌≤◌, ◌||◌, ◌++◌, [], false, vec_len, length, take, min, None, IfOk, OnErr, is_err, refl};
+ghost use Rattle.std.specs.Prelude.{◌≡◌, ◌+◌, ◌-◌, ◌^◌, ◌%◌, ◌<◌, ◌≤◌, ◌||◌, ◌++◌, [], false};
+ghost use Rattle.std.specs.Prelude.{vec_len, length, take, drop, min, None, IfOk, OnErr};
+ghost use Rattle.std.specs.Prelude.{is_err, refl};
 ghost use Rattle.std.specs.Vec.{vec_capacity};
 ghost use Rattle.segscript.specs.Device.{took_nothing};
-ghost use Rattle.segscript.specs.Memory.{hands_more, takes_more, takes_none, is_spent, handed, good_after, when_full};
+ghost use Rattle.segscript.specs.Memory.{hands_more, takes_more, takes_none, is_spent, handed};
+ghost use Rattle.segscript.specs.Memory.{good_after, when_full};
 
 use crate::device::{Failed, Sink, Source};
 use std::alloc::{AllocError, Global};
@@ -21,7 +24,8 @@ pub struct MemSource<'a> {
 }
 
 impl<'a> MemSource<'a> {
-    /// A reader of these bytes, which hands out as many at a time as are asked for, and doesn't fail.
+    /// A reader of these bytes, which hands out as many at a time as are asked for,
+    /// and doesn't fail.
     pub fn new(bytes: &'a [u8]) -> MemSource<'a>
         ensures bytes { result.left.now ≡ bytes.now }
         ensures all { (result.step ≡ 2 ^ 64 - 1) × (result.good ≡ None) }
@@ -47,16 +51,23 @@ impl<'a> Source for MemSource<'a> {
         requires works { self.old.failed ≡ false }
         requires room { 0 < length buffer.old }
         ensures count { IfOk result (λ n. n ≤ length buffer.new) }
-        ensures bytes { IfOk result (λ n. self.old.left.now ≡ take n buffer.new ++ self.new.left.now) }
+        ensures bytes { IfOk result (λ n.
+            self.old.left.now ≡ take n buffer.new ++ self.new.left.now) }
         ensures end { IfOk result (λ n. n ≡ 0 → self.new.left.now ≡ []) }
         ensures err { OnErr result (self.old.left.now ≡ [] ++ self.new.left.now) }
         ensures failed { self.new.failed ≡ is_err result }
 
         // It fails where it was told to, and else hands out as many bytes as it may.
         ensures fails { is_err result ≡ is_spent self.old.good }
-        ensures handed { IfOk result (λ n. n ≡ handed self.old.good self.old.step (length self.old.left.now) (length buffer.old)) }
+        ensures handed { IfOk result (λ n. n
+            ≡ handed self.old.good self.old.step (length self.old.left.now) (length buffer.old)) }
         ensures good { IfOk result (λ n. self.new.good ≡ good_after self.old.good n) }
         ensures same { self.new.step ≡ self.old.step }
+
+        // A failure changes nothing else, and behind what was handed out the buffer is as it was.
+        ensures stays { OnErr result
+            ((self.new.good ≡ self.old.good) × (buffer.new ≡ buffer.old)) }
+        ensures rest { IfOk result (λ n. drop n buffer.new ≡ drop n buffer.old) }
     {
         let mut n = self.step.min(self.left.len()).min(buffer.len());
         if let Some(good) = self.good {
@@ -86,8 +97,8 @@ pub enum WhenFull {
     TakesNone,
 }
 
-/// Keeps up to `room` more bytes, at most `step` of a call. The memory for them is reserved when it is made, so that
-/// no byte that it takes is lost.
+/// Keeps up to `room` more bytes, at most `step` of a call.
+/// The memory for them is reserved when it is made, so that no byte that it takes is lost.
 #[derive(Drop)]
 pub struct MemSink {
     /// What it took.
@@ -106,11 +117,13 @@ pub struct MemSink {
 }
 
 impl MemSink {
-    /// A writer that takes this many bytes in all, as many of a call as are offered.
+    /// A writer that takes this many bytes in all, as many of a call as are offered,
+    /// and then fails.
     pub fn new(alloc: Global, room: usize) -> Result<MemSink, AllocError>
         ensures empty { IfOk result (λ sink. sink.taken.items ≡ []) }
         ensures room { IfOk result (λ sink. sink.room ≡ room) }
         ensures all { IfOk result (λ sink. sink.step ≡ 2 ^ 64 - 1) }
+        ensures full { IfOk result (λ sink. sink.when_full ≡ WhenFull.Fails) }
         ensures flushes { IfOk result (λ sink. (sink.flush_fails ≡ false) × (sink.flushes ≡ 0)) }
         ensures works { IfOk result (λ sink. sink.failed ≡ false) }
     {
@@ -137,16 +150,20 @@ impl Sink for MemSink {
         requires works { self.old.failed ≡ false }
         requires some { 0 < length bytes.now }
         ensures count { IfOk result (λ n. n ≤ length bytes.now) }
-        ensures bytes { IfOk result (λ n. self.new.taken.items ≡ self.old.taken.items ++ take n bytes.now) }
+        ensures bytes { IfOk result (λ n.
+            self.new.taken.items ≡ self.old.taken.items ++ take n bytes.now) }
         ensures err { OnErr result (self.new.taken.items ≡ self.old.taken.items ++ []) }
         ensures failed { self.new.failed ≡ took_nothing result }
         ensures flushes { self.new.flushes ≡ self.old.flushes }
 
         // It takes as many bytes as it may; where that is none, it does as it was told to.
         ensures full { self.old.room ≡ 0 → when_full self.old.when_full result }
-        ensures takes { 0 < self.old.room → result ≡ Ok (min (min self.old.step self.old.room) (length bytes.now)) }
+        ensures takes { 0 < self.old.room
+            → result ≡ Ok (min (min self.old.step self.old.room) (length bytes.now)) }
         ensures room { IfOk result (λ n. self.new.room + n ≡ self.old.room) }
-        ensures same { (self.new.step ≡ self.old.step) × (self.new.when_full ≡ self.old.when_full) × (self.new.flush_fails ≡ self.old.flush_fails) }
+        ensures none_left { OnErr result (self.new.room ≡ 0) }
+        ensures same { (self.new.step ≡ self.old.step) × (self.new.when_full ≡ self.old.when_full)
+            × (self.new.flush_fails ≡ self.old.flush_fails) }
     {
         let n = self.step.min(self.room).min(bytes.len());
         if n == 0 {
@@ -168,7 +185,9 @@ impl Sink for MemSink {
         ensures failed { self.new.failed ≡ (self.old.failed || is_err result) }
         ensures flushes { self.new.flushes ≡ (self.old.flushes + 1) % 2 ^ 64 }
         ensures fails { is_err result ≡ self.old.flush_fails }
-        ensures same { (self.new.room ≡ self.old.room) × (self.new.step ≡ self.old.step) × (self.new.when_full ≡ self.old.when_full) × (self.new.flush_fails ≡ self.old.flush_fails) }
+        ensures same { (self.new.room ≡ self.old.room) × (self.new.step ≡ self.old.step)
+            × (self.new.when_full ≡ self.old.when_full)
+            × (self.new.flush_fails ≡ self.old.flush_fails) }
     {
         self.flushes = self.flushes.wrapping_add(1);
         if self.flush_fails {

@@ -1,7 +1,9 @@
 //! The lines of replies.
 ghost use Rattle.std.specs.Prelude.{◌≡◌, ◌+◌, ◌≤◌, ◌++◌, length, codes, decimal};
 ghost use Rattle.arrayvec.specs.ArrayVec.{array_vec_len};
-ghost use Rattle.segscript.specs.Replies.{reply, answer_reply, write_reply, delete_reply, get_reply, gets_reply, evict_reply, refill_reply, value_reply};
+ghost use Rattle.segscript.specs.Replies.{reply, answer_reply, write_reply, delete_reply};
+ghost use Rattle.segscript.specs.Replies.{get_reply, gets_reply, evict_reply, refill_reply};
+ghost use Rattle.segscript.specs.Replies.{value_reply};
 ghost use Rattle.segscript.specs.Spelling.{value_word};
 
 use crate::text::{Line, line_of, put, put_number};

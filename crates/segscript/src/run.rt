@@ -1,5 +1,6 @@
 //! Runs a script from a reader to a writer, over an engine.
-ghost use Rattle.std.specs.Prelude.{◌≡◌, ◌+◌, ◌<◌, ◌≤◌, ◌^◌, ◌++◌, ◌∷◌, [], ◌⊎◌, ℕ, List, length, take, false, IsOk, IfOk, OnErr, is_err};
+ghost use Rattle.std.specs.Prelude.{◌≡◌, ◌+◌, ◌<◌, ◌≤◌, ◌^◌, ◌++◌, ◌∷◌, [], ◌⊎◌, ℕ, List, length};
+ghost use Rattle.std.specs.Prelude.{take, false, IsOk, IfOk, OnErr, is_err};
 ghost use Rattle.segscript.specs.Running.{AllReplied};
 ghost use Rattle.segscript.specs.Run.{EndOfRun, is_read_fault, is_write_fault, is_make_fault};
 
@@ -33,7 +34,8 @@ impl OpenLine {
         ensures shape { E.shape engine.new ≡ E.shape engine.old }
         ensures ready { E.is_ready engine.new }
         ensures outcome { LineOutcome (E.shape engine.old).passes E.turns engine.old engine.new
-            (λ text. W.takes writer.old text writer.new) self.now.bytes.items self.now.number result }
+            (λ text. W.takes writer.old text writer.new)
+            self.now.bytes.items self.now.number result }
         ensures failed { W.has_failed writer.new ≡ is_write_fault result }
         ensures flushes { W.flushes writer.new ≡ W.flushes writer.old }
         ensures no_read { is_read_fault result ≡ false }
@@ -66,8 +68,10 @@ impl OpenLine {
         ensures shape { E.shape engine.new ≡ E.shape engine.old }
         ensures ready { E.is_ready engine.new }
         ensures outcome { (start : E) (seen told : List ℕ) →
-            HasServed (E.shape engine.old).passes E.turns start engine.old seen told self.old.bytes.items self.old.number →
-            FeedOutcome (E.shape engine.old).passes E.turns start engine.new (λ text. W.takes writer.old text writer.new)
+            HasServed (E.shape engine.old).passes E.turns start engine.old seen told
+            self.old.bytes.items self.old.number →
+            FeedOutcome (E.shape engine.old).passes E.turns start engine.new
+            (λ text. W.takes writer.old text writer.new)
             (seen ++ byte ∷ []) told self.new.bytes.items self.new.number result }
         ensures failed { W.has_failed writer.new ≡ is_write_fault result }
         ensures flushes { W.flushes writer.new ≡ W.flushes writer.old }
@@ -105,8 +109,10 @@ impl OpenLine {
         ensures shape { E.shape engine.new ≡ E.shape engine.old }
         ensures ready { E.is_ready engine.new }
         ensures outcome { (start : E) (seen told : List ℕ) →
-            HasServed (E.shape engine.old).passes E.turns start engine.old seen told self.old.bytes.items self.old.number →
-            FeedOutcome (E.shape engine.old).passes E.turns start engine.new (λ text. W.takes writer.old text writer.new)
+            HasServed (E.shape engine.old).passes E.turns start engine.old seen told
+            self.old.bytes.items self.old.number →
+            FeedOutcome (E.shape engine.old).passes E.turns start engine.new
+            (λ text. W.takes writer.old text writer.new)
             (seen ++ bytes.now) told self.new.bytes.items self.new.number result }
         ensures failed { W.has_failed writer.new ≡ is_write_fault result }
         ensures flushes { W.flushes writer.new ≡ W.flushes writer.old }
@@ -127,8 +133,10 @@ impl OpenLine {
         requires ready { E.is_ready engine.old }
         ensures ready { E.is_ready engine.new }
         ensures outcome { (start : E) (seen told : List ℕ) →
-            HasServed (E.shape engine.old).passes E.turns start engine.old seen told self.now.bytes.items self.now.number →
-            FinishOutcome (E.shape engine.old).passes E.turns start (λ text. W.takes writer.old text writer.new)
+            HasServed (E.shape engine.old).passes E.turns start engine.old seen told
+            self.now.bytes.items self.now.number →
+            FinishOutcome (E.shape engine.old).passes E.turns start
+            (λ text. W.takes writer.old text writer.new)
             (W.flushes writer.old) (W.flushes writer.new) seen told result }
         ensures failed { W.has_failed writer.new ≡ is_write_fault result }
         ensures no_read { is_read_fault result ≡ false }
@@ -178,7 +186,8 @@ pub fn run<R: Source, W: Sink, E: Engine>(
     ensures ready { E.is_ready engine.new }
     ensures outcome { EndOfRun (E.shape engine.old).passes E.turns engine.old
         (λ seen. R.hands reader.old seen reader.new) (R.is_at_end reader.new)
-        (λ text. W.takes writer.old text writer.new) (W.flushes writer.old) (W.flushes writer.new) result }
+        (λ text. W.takes writer.old text writer.new)
+        (W.flushes writer.old) (W.flushes writer.new) result }
     ensures read { R.has_failed reader.new ≡ is_read_fault result }
     ensures write { W.has_failed writer.new ≡ is_write_fault result }
     ensures made { is_make_fault result ≡ false }

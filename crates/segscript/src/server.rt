@@ -1,8 +1,7 @@
 //! An index and its passes, which take turns on one thread.
 ghost use Rattle.std.specs.Prelude.{◌≡◌, ◌<◌, length, IfOk};
-ghost use Rattle.segmodel.specs.State.{fresh};
-ghost use Rattle.segindex.specs.Index.{shape_of};
-ghost use Rattle.segindex.specs.Index.{IsNew};
+ghost use Rattle.segmodel.specs.Words.{fresh};
+ghost use Rattle.segindex.specs.Words.{IsNew, shape_of};
 
 use crate::engine::Engine;
 use crate::turns::{leave, take_turn};
@@ -10,7 +9,8 @@ use segindex::{Hold, Index, Pass};
 use segmodel::{Outcome, Turn};
 use std::alloc::{AllocError, Global};
 
-/// An index and its passes, in the order of their numbers. At the place of each pass is the hold that it has.
+/// An index and its passes, in the order of their numbers.
+/// At the place of each pass is the hold that it has.
 pub struct Server<'i> {
     index: &'i Index,
     passes: Vec<Pass>,
@@ -23,7 +23,8 @@ impl<'i> Server<'i> {
     /// A server of an index in which nothing was done yet. Its turns take no more memory.
     pub fn new(alloc: Global, index: &'i Index, passes: Vec<Pass>) -> Result<Server<'i>, AllocError>
         requires new { IsNew (shape_of index.now) index.now passes.items }
-        ensures holds { IfOk result (λ server. (server.index.now ≡ index.now) × (server.passes.items ≡ passes.items)) }
+        ensures holds { IfOk result (λ server.
+            (server.index.now ≡ index.now) × (server.passes.items ≡ passes.items)) }
         ensures ready { IfOk result IsReady }
         ensures start { IfOk result (λ server. state server ≡ fresh (shape_of index.now)) }
     {

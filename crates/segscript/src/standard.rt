@@ -14,8 +14,10 @@ pub struct ReadSource<R: Read> {
 }
 
 impl<R: Read> ReadSource<R> {
+    /// A reader of this one, from which nothing was read yet.
     pub fn new(inner: R) -> ReadSource<R>
-        ensures { result.failed ≡ false }
+        ensures inner { result.inner ≡ inner }
+        ensures works { result.failed ≡ false }
     {
         ReadSource {
             inner,
@@ -25,7 +27,8 @@ impl<R: Read> ReadSource<R> {
 }
 
 impl<R: Read> Source for ReadSource<R> {
-    ghost hands = { λ old bytes new. Consumes (R.remaining old.inner) (R.remaining new.inner) bytes };
+    ghost hands = { λ old bytes new.
+        Consumes (R.remaining old.inner) (R.remaining new.inner) bytes };
 
     ghost is_at_end = { λ s. IsAtEnd (R.remaining s.inner) };
 
@@ -43,7 +46,8 @@ impl<R: Read> Source for ReadSource<R> {
 
     ghost hands_none = { λ s. Consumes-none (R.remaining s.inner) };
 
-    ghost hands_more = { λ s t u a b. Consumes-more (R.remaining s.inner) (R.remaining t.inner) (R.remaining u.inner) a b };
+    ghost hands_more = { λ s t u a b.
+        Consumes-more (R.remaining s.inner) (R.remaining t.inner) (R.remaining u.inner) a b };
 }
 
 /// A writer of std. Its bytes are told where std tells them.
@@ -56,8 +60,11 @@ pub struct WriteSink<W: Write> {
 }
 
 impl<W: Write> WriteSink<W> {
+    /// A writer of this one, to which nothing was written yet.
     pub fn new(inner: W) -> WriteSink<W>
-        ensures { result.failed ≡ false }
+        ensures inner { result.inner ≡ inner }
+        ensures works { result.failed ≡ false }
+        ensures flushes { result.flushes ≡ 0 }
     {
         WriteSink {
             inner,
@@ -100,5 +107,6 @@ impl<W: Write> Sink for WriteSink<W> {
 
     ghost takes_none = { λ s. Appends-none (W.contents s.inner) };
 
-    ghost takes_more = { λ s t u a b. Appends-more (W.contents s.inner) (W.contents t.inner) (W.contents u.inner) a b };
+    ghost takes_more = { λ s t u a b.
+        Appends-more (W.contents s.inner) (W.contents t.inner) (W.contents u.inner) a b };
 }

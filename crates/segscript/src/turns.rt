@@ -1,10 +1,9 @@
 //! The turns of a pass, each of which is one call of the index.
 ghost use Rattle.std.specs.Prelude.{◌≡◌, None};
 ghost use Rattle.segmodel.specs.declared.answer.Turn.TheVariants as turn;
-ghost use Rattle.segbase.specs.Passes.{holding};
-ghost use Rattle.segbase.specs.Plain.{locked_of};
-ghost use Rattle.segindex.specs.Index.{board_of, shape_of};
-ghost use Rattle.segpass.specs.Quiet.{IsQuiet};
+ghost use Rattle.segbase.specs.Words.{holding, locked_of};
+ghost use Rattle.segindex.specs.Words.{board_of, shape_of};
+ghost use Rattle.segpass.specs.Words.{IsQuiet};
 ghost use Rattle.segscript.specs.Passes.{IsHoldKept, TakesTurn};
 
 use segindex::{Hold, HoldAnswer, Index, LockAnswer, Pass};
@@ -28,7 +27,7 @@ pub fn take_turn<'i>(
 {
     match turn {
         Turn::Serve(command) => Outcome::Answered(index.serve(pass, command, DRAW)),
-        Turn::Hold(key) => hold(index, pass, held, key),
+        Turn::Hold(key, now) => hold(index, pass, held, key, *now),
         Turn::Held => read_held(index, pass, held),
         Turn::Release => release(index, pass, held),
         Turn::Lock(key) => lock(index, pass, key),
@@ -48,13 +47,19 @@ pub fn leave(index: &Index, pass: &mut Pass, held: Option<Hold<'_>>)
     index.unlock_bucket(pass);
 }
 
-fn hold<'i>(index: &'i Index, pass: &mut Pass, held: &mut Option<Hold<'i>>, key: &Key) -> Outcome
+fn hold<'i>(
+    index: &'i Index,
+    pass: &mut Pass,
+    held: &mut Option<Hold<'i>>,
+    key: &Key,
+    now: u32,
+) -> Outcome
     requires quiet { IsQuiet (board_of index.now) pass.old }
     requires hold { IsHoldKept (shape_of index.now) held.old pass.old }
-    ensures turn { TakesTurn (board_of index.now) (turn.Hold key.now) result pass.old pass.new }
+    ensures turn { TakesTurn (board_of index.now) (turn.Hold key.now now) result pass.old pass.new }
     ensures hold { IsHoldKept (shape_of index.now) held.new pass.new }
 {
-    match index.hold(pass, key) {
+    match index.hold(pass, key, now) {
         HoldAnswer::Holding(hold) => match held.replace(hold) {
             None => Outcome::Holding,
             Some(_other) => unreachable!(),

@@ -1,7 +1,8 @@
 //! Reads single words of a line.
 ghost use Rattle.std.specs.Prelude.{◌↔◌, decimal, IsTrue};
 ghost use Rattle.std.specs.List.{AllByRecursion};
-ghost use Rattle.segscript.specs.Spelling.{IsNumber, IsKeyWord, IsValueWord, value_word, IsWordByte, pass_word};
+ghost use Rattle.segscript.specs.Spelling.{IsNumber, IsKeyWord, IsValueWord, value_word, moment_word};
+ghost use Rattle.segscript.specs.Spelling.{IsWordByte, pass_word};
 ghost use Rattle.segscript.specs.Reading.{ReadsAs, BeginsPlainly};
 ghost use Rattle.segscript.specs.Verb.{IsPass};
 
@@ -52,6 +53,16 @@ pub fn value(word: &[u8]) -> Option<Value>
         return Value::new(b"");
     }
     Value::new(word)
+}
+
+/// The moment of a word: `@` and its number.
+pub fn moment(word: &[u8]) -> Option<u32>
+    ensures { ReadsAs IsNumber moment_word word.now result }
+{
+    if word.is_empty() || word[0] != b'@' {
+        return None;
+    }
+    number(&word[1..])
 }
 
 /// The pass of a word: `p` and its number, which is below the number of passes.

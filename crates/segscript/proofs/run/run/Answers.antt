@@ -1,6 +1,6 @@
 use Rattle.std.proofs.Common.{Err, ℕ, refl, arith, length-append, length-drop, length-take, take, ap, ◌∙◌}
 use Rattle.std.proofs.lemmas.List.{take-append-le}
-use Rattle.segword.specs.declared.shape.Shape.{Shape}
+use Rattle.segword.specs.Words.{Shape}
 use Rattle.segscript.proofs.Feeding.{at_passes}
 use Rattle.segscript.proofs.Going.{asked, going_start, going_on, ends_fed, ends_read, ends_finish}
 use Rattle.segscript.proofs.run.run.Goals as goal

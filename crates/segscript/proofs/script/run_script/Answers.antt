@@ -1,8 +1,7 @@
 use Rattle.std.proofs.Common.{◌≡◌, sym, ap, subst, ◌∙◌}
-use Rattle.segword.specs.declared.shape.Shape.{Shape}
-use Rattle.segmodel.specs.State.{fresh}
-use Rattle.segindex.specs.Index.{shape_of}
-use Rattle.segindex.specs.Index.{IsNew}
+use Rattle.segword.specs.Words.{Shape}
+use Rattle.segmodel.specs.Words.{fresh}
+use Rattle.segindex.specs.Words.{IsNew, shape_of}
 use Rattle.segscript.proofs.Endings.{at_shape, model_ends, passes_end}
 use Rattle.segscript.proofs.OneBadLine.{ends_at_bad, ends_well}
 use Rattle.segscript.proofs.script.run_script.Goals as goal
@@ -10,17 +9,17 @@ use Rattle.segscript.proofs.script.run_script.Goals as goal
 pub new-requires-2 : goal.new-requires-2
 new-requires-2 g c =
     let made = c.in-Ok.ensures.made in
-    record { new = subst (λ (shape : Shape). IsNew shape c.in-Ok.made.0 c.in-Ok.made.1.items) (sym made.of) made }
+    record { new = subst (λ (shape : Shape). IsNew shape c.in-Ok.made.0 c.in-Ok.made.1.items) (sym made.made.of) made }
 
 pub returns-clause-outcome : goal.returns-clause-outcome
 returns-clause-outcome g c =
-    let of : shape_of c.in-Ok-new.server.index.now ≡ c.args.shape = ap shape_of c.in-Ok-new.ensures.holds.0 ∙ c.in-Ok.ensures.made.of in
-    let start = c.in-Ok-new.ensures.start ∙ ap fresh c.in-Ok.ensures.made.of in
+    let of : shape_of c.in-Ok-new.server.index.now ≡ c.args.shape = ap shape_of c.in-Ok-new.ensures.holds.0 ∙ c.in-Ok.ensures.made.made.of in
+    let start = c.in-Ok-new.ensures.start ∙ ap fresh c.in-Ok.ensures.made.made.of in
     model_ends c.args.shape c.in-Ok-new.server of _ _ _ _ _ start c.run-result.result (at_shape c.args.shape c.in-Ok-new.server of _ _ _ _ _ c.run-result.result c.run-result.ensures.outcome)
 
 pub returns-clause-each_turn : goal.returns-clause-each_turn
 returns-clause-each_turn g c =
-    let of : shape_of c.in-Ok-new.server.index.now ≡ c.args.shape = ap shape_of c.in-Ok-new.ensures.holds.0 ∙ c.in-Ok.ensures.made.of in
+    let of : shape_of c.in-Ok-new.server.index.now ≡ c.args.shape = ap shape_of c.in-Ok-new.ensures.holds.0 ∙ c.in-Ok.ensures.made.made.of in
     let new : IsNew c.args.shape c.in-Ok-new.server.index.now c.in-Ok-new.server.passes.items = rw (c.in-Ok-new.ensures.holds.0, c.in-Ok-new.ensures.holds.1) c.in-Ok.ensures.made in
     passes_end c.args.shape c.in-Ok-new.server of _ _ _ _ _ new c.run-result.result (at_shape c.args.shape c.in-Ok-new.server of _ _ _ _ _ c.run-result.result c.run-result.ensures.outcome)
 

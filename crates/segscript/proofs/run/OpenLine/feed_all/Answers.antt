@@ -1,6 +1,6 @@
 use Rattle.std.proofs.Common.{Err, ◌+◌, ◌≤◌, arith, refl, ap, ◌∙◌}
 use Rattle.std.proofs.lemmas.List.{take_more, take_all}
-use Rattle.segword.specs.declared.shape.Shape.{Shape}
+use Rattle.segword.specs.Words.{Shape}
 use Rattle.segscript.proofs.Feeding.{fed_none, fed_more, fault_later, cut_at, at_passes}
 use Rattle.segscript.proofs.run.OpenLine.feed_all.Goals as goal
 

@@ -1,9 +1,8 @@
 use Rattle.std.proofs.Common.{◌≡◌, ◌∷◌, ◌++◌, ◌+◌, ◌≤◌, ℕ, [], length, set, slice_get, slice_index_or, Option, Vec, Global, refl, sym, ap, subst, ◌∙◌, arith}
 use Rattle.std.proofs.lemmas.List.{length-set, length_push}
 use Rattle.std.proofs.lemmas.Option.{slice_get_read, slice_get_within}
-use Rattle.segbase.specs.declared.board.Board.{Board}
-use Rattle.segbase.specs.declared.pass.Pass.{Pass}
-use Rattle.segread.specs.declared.held.Hold.{Hold}
+use Rattle.segbase.specs.Words.{Board, Pass}
+use Rattle.segread.specs.Words.{Hold}
 use Rattle.segscript.specs.Passes.{IsIdle, AreInOrder}
 use Rattle.segscript.proofs.Servers.{NoneKeepsFrom, last_idle, rest_in_order, one_more_left}
 use Rattle.segscript.proofs.server.Server.end.Goals as goal

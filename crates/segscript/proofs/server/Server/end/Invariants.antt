@@ -1,5 +1,5 @@
 use Rattle.std.proofs.Common.{◌≡◌, ◌≤◌, length}
-use Rattle.segindex.specs.Index.{board_of, shape_of}
+use Rattle.segindex.specs.Words.{board_of, shape_of}
 use Rattle.segscript.specs.Passes.{AreInOrder}
 use Rattle.segscript.proofs.Servers.{NoneKeepsFrom}
 use Rattle.segscript.proofs.server.Server.end.Given as goal

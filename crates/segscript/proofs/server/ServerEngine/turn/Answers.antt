@@ -1,8 +1,8 @@
 use Rattle.std.proofs.Common.{◌≡◌, set, slice_get, refl, sym, ap, subst₂, ◌∙◌, arith}
 use Rattle.std.proofs.lemmas.List.{length-set}
 use Rattle.std.proofs.lemmas.Option.{slice_get_read}
-use Rattle.segmodel.specs.Turns.{Turns}
-use Rattle.segindex.specs.Index.{shape_of}
+use Rattle.segmodel.specs.Words.{Turns}
+use Rattle.segindex.specs.Words.{shape_of}
 use Rattle.segscript.specs.Passes.{first_state}
 use Rattle.segmodel.proofs.ListPlaces.{elsewhere}
 use Rattle.segscript.proofs.Servers.{still_in_order, set_there, first_is, first_then}
