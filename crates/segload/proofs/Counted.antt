@@ -1,24 +1,19 @@
 -- What is counted of a command, by the entries that it added.
 use Rattle.std.proofs.Common.{◌≡◌, ℕ, zero, suc, List, [], ◌∷◌, ◌++◌, Option, Some, None, refl, sym, ap, ◌∙◌, subst, inl, inr, zero-add, arith}
 use Rattle.segmodel.proofs.Counts.{count_by-cons}
-use Rattle.segmodel.specs.declared.request.Request.{Request}
+use Rattle.segmodel.specs.Words.{Entry, Reply, Request}
 use Rattle.segmodel.specs.declared.request.Request.TheVariants as request
-use Rattle.segmodel.specs.declared.request.Reply.{Reply}
 use Rattle.segmodel.specs.declared.request.Reply.TheVariants as reply
-use Rattle.segmodel.specs.declared.entry.Entry.{Entry}
 use Rattle.segmodel.specs.declared.entry.Entry.TheVariants.{Wrote, Evicted, Refilled}
-use Rattle.segword.specs.declared.shape.Shape.{Shape}
-use Rattle.segevict.specs.Evicting.{AreEvictions}
-use Rattle.segpolicy.specs.declared.load.Kind.{Kind}
+use Rattle.segword.specs.Words.{Shape}
+use Rattle.segevict.specs.Words.{AreEvictions}
 use Rattle.segpolicy.specs.declared.load.Kind.TheVariants as kind
-use Rattle.segpolicy.specs.declared.load.Load.{Load}
-use Rattle.segpolicy.specs.Cycle.{next_of}
-use Rattle.segpolicy.specs.Draws.{Draws, next_load}
+use Rattle.segpolicy.specs.Words.{Draws, Kind, Load, next_load, next_of}
 use Rattle.segload.specs.declared.totals.Tally.{Tally}
 use Rattle.segload.specs.declared.totals.Tally.TheVariants as tally
 use Rattle.segload.specs.declared.totals.Tallies.{Tallies}
 use Rattle.segload.specs.Counting.{no_tallies, count_of_reply, with_one_more, tells, replies, CountsReplies}
-use Rattle.segload.specs.Making.{ClientState, IsReadAs, IsVersionReadAs, IsWrittenAs, Empties, IsStoredAs, CameTo, draws_after, Makes}
+use Rattle.segload.specs.Making.{ClientState, load_deadline, load_moment, IsReadAs, IsVersionReadAs, IsWrittenAs, Empties, IsStoredAs, CameTo, draws_after, Makes}
 
 -- tallies that counted the writes among the entries before count those among the entries now, with one command more
 abbrev Counts : Tally → List Entry → List Entry → Type 0
@@ -124,12 +119,12 @@ evicted_one reply.Exists pass segment key own = count_by-cons (tells reply.Exist
 evicted_one reply.NotFound pass segment key own = count_by-cons (tells reply.NotFound) (Evicted pass key segment) own ∙ zero-add (replies reply.NotFound own)
 evicted_one reply.Deleted pass segment key own = count_by-cons (tells reply.Deleted) (Evicted pass key segment) own ∙ zero-add (replies reply.Deleted own)
 
-refilled_one : (told : Reply) (pass segment : ℕ) (own : List Entry) → replies told (Refilled pass segment ∷ own) ≡ replies told own
-refilled_one reply.Stored pass segment own = count_by-cons (tells reply.Stored) (Refilled pass segment) own ∙ zero-add (replies reply.Stored own)
-refilled_one reply.NotStored pass segment own = count_by-cons (tells reply.NotStored) (Refilled pass segment) own ∙ zero-add (replies reply.NotStored own)
-refilled_one reply.Exists pass segment own = count_by-cons (tells reply.Exists) (Refilled pass segment) own ∙ zero-add (replies reply.Exists own)
-refilled_one reply.NotFound pass segment own = count_by-cons (tells reply.NotFound) (Refilled pass segment) own ∙ zero-add (replies reply.NotFound own)
-refilled_one reply.Deleted pass segment own = count_by-cons (tells reply.Deleted) (Refilled pass segment) own ∙ zero-add (replies reply.Deleted own)
+refilled_one : (told : Reply) (pass segment deadline : ℕ) (own : List Entry) → replies told (Refilled pass segment deadline ∷ own) ≡ replies told own
+refilled_one reply.Stored pass segment deadline own = count_by-cons (tells reply.Stored) (Refilled pass segment deadline) own ∙ zero-add (replies reply.Stored own)
+refilled_one reply.NotStored pass segment deadline own = count_by-cons (tells reply.NotStored) (Refilled pass segment deadline) own ∙ zero-add (replies reply.NotStored own)
+refilled_one reply.Exists pass segment deadline own = count_by-cons (tells reply.Exists) (Refilled pass segment deadline) own ∙ zero-add (replies reply.Exists own)
+refilled_one reply.NotFound pass segment deadline own = count_by-cons (tells reply.NotFound) (Refilled pass segment deadline) own ∙ zero-add (replies reply.NotFound own)
+refilled_one reply.Deleted pass segment deadline own = count_by-cons (tells reply.Deleted) (Refilled pass segment deadline) own ∙ zero-add (replies reply.Deleted own)
 
 evicted_more : (told : Reply) (pass segment : ℕ) (evictions own : List Entry) → AreEvictions pass segment evictions → replies told (evictions ++ own) ≡ replies told own
 evicted_more told pass segment [] own all = refl
@@ -143,19 +138,19 @@ emptied told pass segment before room (evictions, all, is) = ap (replies told) i
 counts_stored : (shape : Shape) (history : List Entry) (pass : ℕ) (asked : Request) (told : Tally) (from to : ClientState) (before now : List Entry) → IsStoredAs shape history pass asked told from to before now → Counts told before now
 counts_stored shape history pass asked told from to before now (inl (written, kept)) = counts_written shape history pass asked told before now written
 counts_stored shape history pass asked told from to before now (inr ((room, out, inl written), turned)) = λ t counts.
-    counts_written shape history pass asked told (Refilled pass (next_of from.segments) ∷ room) now written t
-    (λ said. counts said ∙ sym (refilled_one said pass (next_of from.segments) room ∙ emptied said pass (next_of from.segments) before room out))
+    counts_written shape history pass asked told (Refilled pass (next_of from.segments) load_deadline ∷ room) now written t
+    (λ said. counts said ∙ sym (refilled_one said pass (next_of from.segments) load_deadline room ∙ emptied said pass (next_of from.segments) before room out))
 counts_stored shape history pass asked told from to before now (inr ((room, out, inr (none, same, others)), turned)) = λ t counts.
     subst (λ x. Counts x room now) (sym none) (untold tally.NoRoom room now no_room same) t (λ said. counts said ∙ sym (emptied said pass (next_of from.segments) before room out))
 
 counts_one : (shape : Shape) (history : List Entry) (pass : ℕ) (of : Kind) (load : Load) (told : Tally) (from to : ClientState) (before now : List Entry) → CameTo shape history pass of load told from to before now → Counts told before now
 counts_one shape history pass kind.Get load told from to before now came = counts_read shape history pass before load.key told now came.0 came.1
 counts_one shape history pass kind.Gets load told from to before now came = counts_version shape history pass before load.key told from to now came.0 came.1
-counts_one shape history pass kind.Set load told from to before now came = counts_stored shape history pass (request.Set load.key load.value) told from to before now came
-counts_one shape history pass kind.Add load told from to before now came = counts_stored shape history pass (request.Add load.key load.value) told from to before now came
-counts_one shape history pass kind.Replace load told from to before now came = counts_stored shape history pass (request.Replace load.key load.value) told from to before now came
-counts_one shape history pass kind.Cas load told from to before now came = counts_stored shape history pass (request.Cas load.key load.value from.version) told from to before now came
-counts_one shape history pass kind.Delete load told from to before now came = counts_written shape history pass (request.Delete load.key) told before now came.0
+counts_one shape history pass kind.Set load told from to before now came = counts_stored shape history pass (request.Set load.key load.value load_moment) told from to before now came
+counts_one shape history pass kind.Add load told from to before now came = counts_stored shape history pass (request.Add load.key load.value load_moment) told from to before now came
+counts_one shape history pass kind.Replace load told from to before now came = counts_stored shape history pass (request.Replace load.key load.value load_moment) told from to before now came
+counts_one shape history pass kind.Cas load told from to before now came = counts_stored shape history pass (request.Cas load.key load.value from.version load_moment) told from to before now came
+counts_one shape history pass kind.Delete load told from to before now came = counts_written shape history pass (request.Delete load.key load_moment) told before now came.0
 
 counts_nothing : (told : Reply) → count_of_reply told no_tallies ≡ replies told []
 counts_nothing reply.Stored = refl

@@ -1,18 +1,16 @@
 -- How one pass meets others, one after the other, and what it knows of them after two rounds.
 use Rattle.std.proofs.Common.{◌≡◌, ℕ, zero, suc, List, [], ◌∷◌, length, drop, slice_get, Some, refl, sym, ap, subst, ◌∙◌, arith}
 use Rattle.std.proofs.lemmas.Option.{same_Some, none-some}
-use Rattle.segmodel.specs.History.{Begins}
+use Rattle.segmodel.specs.Words.{Begins}
 use Rattle.segmodel.specs.History as history
 use Rattle.segcore.proofs.Moments.{begins_on}
 use Rattle.segcore.proofs.Standing.{legal}
-use Rattle.segbase.specs.declared.board.Board.{Board}
-use Rattle.segbase.specs.declared.pass.Pass.{Pass}
-use Rattle.segbase.specs.Passes.{number, seen, mine, trace}
-use Rattle.segpass.specs.Calls.{GoesOn, ChangesNothing}
-use Rattle.segindex.specs.Meeting.{Meets}
+use Rattle.segbase.specs.Words.{Board, mine, number, Pass, seen, trace}
+use Rattle.segpass.specs.Words.{ChangesNothing, GoesOn}
+use Rattle.segindex.specs.Words.{Meets}
 use Rattle.segevict.proofs.RowsOut.{goes_then}
 use Rattle.segindex.proofs.OnePass.{all_mine}
-use Rattle.segload.specs.declared.worker.Worker.{Worker}
+use Rattle.segload.specs.Words.{Worker}
 use Rattle.segload.proofs.Lists.{both_begin}
 use Rattle.segload.specs.Gathering.{AddsNoEntry, HasMet, HasMetEach, AreAll, HasGathered}
 use Rattle.segindex.proofs.Meeting.{mine_begins}

@@ -1,43 +1,34 @@
 -- What holds of the commands that a pass made so far, as it goes on and as a history grows.
 use Rattle.std.proofs.Common.{◌≡◌, ℕ, zero, suc, ◌+◌, List, ◌∷◌, Some, None, refl, sym, ap, ◌∙◌, subst, inl, inr, arith}
-use Rattle.segword.specs.declared.shape.Shape.{Shape}
-use Rattle.segmodel.specs.declared.request.Request.{Request}
+use Rattle.segword.specs.Words.{Shape}
 use Rattle.segmodel.specs.declared.request.Request.TheVariants as request
-use Rattle.segmodel.specs.declared.entry.Entry.{Entry}
 use Rattle.segmodel.specs.declared.entry.Entry.TheVariants.{Refilled}
-use Rattle.segmodel.specs.Request.{key_of}
-use Rattle.segmodel.specs.Cache.{Cache, reads, reads_version}
-use Rattle.segmodel.specs.History.{after, Begins}
+use Rattle.segmodel.specs.Words.{after, Begins, Cache, Entry, key_of, reads, reads_version, Request}
 use Rattle.segcore.proofs.Moments.{begins_on}
-use Rattle.segbase.specs.declared.board.Board.{Board}
-use Rattle.segbase.specs.declared.pass.Pass.{Pass}
-use Rattle.segbase.specs.Passes.{number, seen, mine}
-use Rattle.segpass.specs.Calls.{GoesOn}
-use Rattle.segpolicy.specs.declared.load.Kind.{Kind}
+use Rattle.segbase.specs.Words.{Board, mine, number, Pass, seen}
+use Rattle.segpass.specs.Words.{GoesOn}
 use Rattle.segpolicy.specs.declared.load.Kind.TheVariants as kind
-use Rattle.segpolicy.specs.declared.load.Load.{Load}
-use Rattle.segpolicy.specs.Cycle.{next_of}
-use Rattle.segpolicy.specs.Draws.{Draws, next_load, after_load}
+use Rattle.segpolicy.specs.Words.{after_load, Draws, Kind, Load, next_load, next_of}
 use Rattle.segload.specs.declared.totals.Tally.{Tally}
 use Rattle.segload.specs.declared.totals.Tally.TheVariants as tally
 use Rattle.segload.specs.declared.totals.Tallies.{Tallies}
-use Rattle.segload.specs.declared.worker.Worker.{Worker}
+use Rattle.segload.specs.Words.{Worker}
 use Rattle.segload.specs.Counting.{with_one_more, all_of}
-use Rattle.segload.specs.Making.{ClientState, AtMoment, IsReadAs, IsVersionReadAs, IsFullFor, IsWrittenAs, IsStoredAs, CameTo, ComesTo, draws_after, Makes}
-use Rattle.segload.specs.Working.{course_of, HoldsNothing, IsOwnRing, IsAtWork}
+use Rattle.segload.specs.Making.{ClientState, load_deadline, load_moment, AtMoment, IsReadAs, IsVersionReadAs, IsFullFor, IsWrittenAs, IsStoredAs, CameTo, ComesTo, draws_after, Makes}
+use Rattle.segload.specs.Working.{course_of, HoldsNothing, IsOwnRing, IsAtWork, HandsInDraws, ReadsWithDraw}
 
 -- what holds of all commands so far holds of a longer history
 moment_later : (shape : Shape) (history later : List Entry) (pass : ℕ) (own : List Entry) (IsSo : Cache → Type 0) → Begins history later → AtMoment shape history pass own IsSo → AtMoment shape later pass own IsSo
 moment_later shape history later pass own IsSo more at = (at.0, begins_on at.0 history later at.1 more, at.2, at.3)
 
 read_later : (shape : Shape) (history later : List Entry) (pass : ℕ) (own : List Entry) (key : List ℕ) (told : Tally) → Begins history later → IsReadAs shape history pass own key told → IsReadAs shape later pass own key told
-read_later shape history later pass own key tally.Hit more read = (read.0, moment_later shape history later pass own (λ cache. reads cache key ≡ Some read.0) more read.1)
-read_later shape history later pass own key tally.Miss more read = moment_later shape history later pass own (λ cache. reads cache key ≡ None) more read
+read_later shape history later pass own key tally.Hit more read = (read.0, moment_later shape history later pass own (λ cache. reads cache load_moment key ≡ Some read.0) more read.1)
+read_later shape history later pass own key tally.Miss more read = moment_later shape history later pass own (λ cache. reads cache load_moment key ≡ None) more read
 read_later shape history later pass own key tally.Busy more read = read
 read_later shape history later pass own key _ more read = absurd read
 
 version_later : (shape : Shape) (history later : List Entry) (pass : ℕ) (own : List Entry) (key : List ℕ) (told : Tally) (from to : ClientState) → Begins history later → IsVersionReadAs shape history pass own key told from to → IsVersionReadAs shape later pass own key told from to
-version_later shape history later pass own key tally.Hit from to more read = (read.0, moment_later shape history later pass own (λ cache. reads_version shape cache key ≡ Some (read.0, to.version)) more read.1, read.2)
+version_later shape history later pass own key tally.Hit from to more read = (read.0, moment_later shape history later pass own (λ cache. reads_version shape cache load_moment key ≡ Some (read.0, to.version)) more read.1, read.2)
 version_later shape history later pass own key tally.Miss from to more read = (read_later shape history later pass own key tally.Miss more read.0, read.1)
 version_later shape history later pass own key tally.Busy from to more read = read
 version_later shape history later pass own key _ from to more read = absurd read.0
@@ -55,17 +46,17 @@ written_later shape history later pass asked _ before now more written = absurd 
 stored_later : (shape : Shape) (history later : List Entry) (pass : ℕ) (asked : Request) (told : Tally) (from to : ClientState) (before now : List Entry) → Begins history later → IsStoredAs shape history pass asked told from to before now → IsStoredAs shape later pass asked told from to before now
 stored_later shape history later pass asked told from to before now more (inl (written, kept)) = inl (written_later shape history later pass asked told before now more written, kept)
 stored_later shape history later pass asked told from to before now more (inr ((room, emptied, inl written), turned)) =
-    inr ((room, emptied, inl (written_later shape history later pass asked told (Refilled pass (next_of from.segments) ∷ room) now more written)), turned)
+    inr ((room, emptied, inl (written_later shape history later pass asked told (Refilled pass (next_of from.segments) load_deadline ∷ room) now more written)), turned)
 stored_later shape history later pass asked told from to before now more (inr ((room, emptied, inr none), turned)) = inr ((room, emptied, inr none), turned)
 
 came_later : (shape : Shape) (history later : List Entry) (pass : ℕ) (of : Kind) (load : Load) (told : Tally) (from to : ClientState) (before now : List Entry) → Begins history later → CameTo shape history pass of load told from to before now → CameTo shape later pass of load told from to before now
 came_later shape history later pass kind.Get load told from to before now more came = (read_later shape history later pass before load.key told more came.0, came.1, came.2)
 came_later shape history later pass kind.Gets load told from to before now more came = (version_later shape history later pass before load.key told from to more came.0, came.1)
-came_later shape history later pass kind.Set load told from to before now more came = stored_later shape history later pass (request.Set load.key load.value) told from to before now more came
-came_later shape history later pass kind.Add load told from to before now more came = stored_later shape history later pass (request.Add load.key load.value) told from to before now more came
-came_later shape history later pass kind.Replace load told from to before now more came = stored_later shape history later pass (request.Replace load.key load.value) told from to before now more came
-came_later shape history later pass kind.Cas load told from to before now more came = stored_later shape history later pass (request.Cas load.key load.value from.version) told from to before now more came
-came_later shape history later pass kind.Delete load told from to before now more came = (written_later shape history later pass (request.Delete load.key) told before now more came.0, came.1)
+came_later shape history later pass kind.Set load told from to before now more came = stored_later shape history later pass (request.Set load.key load.value load_moment) told from to before now more came
+came_later shape history later pass kind.Add load told from to before now more came = stored_later shape history later pass (request.Add load.key load.value load_moment) told from to before now more came
+came_later shape history later pass kind.Replace load told from to before now more came = stored_later shape history later pass (request.Replace load.key load.value load_moment) told from to before now more came
+came_later shape history later pass kind.Cas load told from to before now more came = stored_later shape history later pass (request.Cas load.key load.value from.version load_moment) told from to before now more came
+came_later shape history later pass kind.Delete load told from to before now more came = (written_later shape history later pass (request.Delete load.key load_moment) told before now more came.0, came.1)
 
 pub makes_later : (shape : Shape) (history later : List Entry) (pass : ℕ) (draws : Draws) (made : ℕ) (t : Tallies) (course : ClientState) (own : List Entry) → Begins history later → Makes shape history pass draws made t course own → Makes shape later pass draws made t course own
 makes_later shape history later pass draws zero t course own more makes = makes
@@ -87,10 +78,10 @@ version_own shape history pass own key _ from to read = absurd read.0
 came_own : (shape : Shape) (history : List Entry) (pass : ℕ) (of : Kind) (load : Load) (told : Tally) (from to : ClientState) (before now : List Entry) → CameTo shape history pass of load told from to before now → IsOwnRing shape pass from.segments → IsOwnRing shape pass to.segments
 came_own shape history pass kind.Get load told from to before now came own = subst (λ c. IsOwnRing shape pass c.segments) (sym came.2) own
 came_own shape history pass kind.Gets load told from to before now came own = subst (IsOwnRing shape pass) (sym (version_own shape history pass before load.key told from to came.0)) own
-came_own shape history pass kind.Set load told from to before now came own = stored_own shape history pass (request.Set load.key load.value) told from to before now came own
-came_own shape history pass kind.Add load told from to before now came own = stored_own shape history pass (request.Add load.key load.value) told from to before now came own
-came_own shape history pass kind.Replace load told from to before now came own = stored_own shape history pass (request.Replace load.key load.value) told from to before now came own
-came_own shape history pass kind.Cas load told from to before now came own = stored_own shape history pass (request.Cas load.key load.value from.version) told from to before now came own
+came_own shape history pass kind.Set load told from to before now came own = stored_own shape history pass (request.Set load.key load.value load_moment) told from to before now came own
+came_own shape history pass kind.Add load told from to before now came own = stored_own shape history pass (request.Add load.key load.value load_moment) told from to before now came own
+came_own shape history pass kind.Replace load told from to before now came own = stored_own shape history pass (request.Replace load.key load.value load_moment) told from to before now came own
+came_own shape history pass kind.Cas load told from to before now came own = stored_own shape history pass (request.Cas load.key load.value from.version load_moment) told from to before now came own
 came_own shape history pass kind.Delete load told from to before now came own = subst (λ c. IsOwnRing shape pass c.segments) (sym came.1) own
 
 pub makes_own : (shape : Shape) (history : List Entry) (pass : ℕ) (draws : Draws) (made : ℕ) (t : Tallies) (course : ClientState) (own : List Entry) → Makes shape history pass draws made t course own → IsOwnRing shape pass course.segments
@@ -114,12 +105,14 @@ all_counted tally.Busy t = omega arith
 -- a pass at its load that makes the next command of its workload, and counts what it came to
 pub works_on : (b : Board) (draws : Draws) (made : ℕ) (told : Tally) (worker later : Worker) → IsAtWork b draws made worker → GoesOn b worker.client.pass later.client.pass → HoldsNothing later.client.pass
     → ComesTo b.shape (seen later.client.pass) (number worker.client.pass) (next_load worker.workload) told (course_of worker.client) (course_of later.client) (mine worker.client.pass) (mine later.client.pass)
+    → ReadsWithDraw b (next_load worker.workload).kind (next_load worker.workload) told worker.client.pass later.client.pass
     → later.workload ≡ after_load worker.workload → later.tallies ≡ with_one_more told worker.tallies → IsAtWork b draws (made + 1) later
-works_on b draws made told worker later was on free came after counts = record {
+works_on b draws made told worker later was on free came reads after counts = record {
   quiet = on.quiet;
   free = free;
   workload = subst (λ n. later.workload ≡ draws_after draws n) one (after ∙ ap after_load was.workload);
   makes = subst (λ n. Makes b.shape (seen q) (number q) draws n later.tallies (course_of later.client) (mine q)) one (subst (λ n. Makes b.shape (seen q) n draws (suc made) later.tallies (course_of later.client) (mine q)) (sym on.same) more);
+  reads = subst (λ n. HandsInDraws b draws n q) one (p, told, was.reads, subst (λ d. ReadsWithDraw b (next_load d).kind (next_load d) told p q) was.workload reads);
   all = ap all_of counts ∙ (all_counted told worker.tallies ∙ ap (λ n. n + 1) was.all);
 }
   where

@@ -1,8 +1,7 @@
 -- How the commands of a pass are counted, and which entries of a history are counted so.
 use Rattle.std.specs.Prelude.{◌≡◌, ℕ, ◌+◌, Bool, true, false, List, count_by}
-use Rattle.segmodel.specs.declared.request.Reply.{Reply}
+use Rattle.segmodel.specs.Words.{Entry, Reply}
 use Rattle.segmodel.specs.declared.request.Reply.TheVariants as reply
-use Rattle.segmodel.specs.declared.entry.Entry.{Entry}
 use Rattle.segmodel.specs.declared.entry.Entry.TheVariants.{Wrote}
 use Rattle.segload.specs.declared.totals.Tally.{Tally}
 use Rattle.segload.specs.declared.totals.Tally.TheVariants as tally

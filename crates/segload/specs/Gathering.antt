@@ -1,14 +1,10 @@
 -- How one pass comes to know all that the others did.
 use Rattle.std.specs.Prelude.{◌≡◌, ℕ, List, length, slice_get, Some}
-use Rattle.segword.specs.Shape.{IsValid}
-use Rattle.segmodel.specs.declared.entry.Entry.{Entry}
-use Rattle.segmodel.specs.History.{Begins, IsLegal}
-use Rattle.segmodel.specs.History.{mine as entries_by}
-use Rattle.segbase.specs.declared.board.Board.{Board}
-use Rattle.segbase.specs.declared.pass.Pass.{Pass}
-use Rattle.segbase.specs.Passes.{number, seen, mine}
-use Rattle.segpass.specs.Quiet.{IsQuiet}
-use Rattle.segpass.specs.Calls.{GoesOn}
+use Rattle.segword.specs.Words.{IsValid}
+use Rattle.segmodel.specs.Words.{Begins, Entry, IsLegal, mine as entries_by}
+use Rattle.segbase.specs.Words.{Board, mine, number, Pass, seen}
+use Rattle.segpass.specs.Words.{GoesOn, IsQuiet}
+use Rattle.segload.specs.Lists.{AllAt}
 use Rattle.segload.specs.declared.worker.Worker.{Worker}
 
 -- the pass only looked: it goes on, and added no entry
@@ -28,7 +24,7 @@ HasMetEach b old new workers met = (n : ℕ) (worker after : Worker) → slice_g
 
 -- each of the passes is quiet
 abbrev pub AreQuiet : Board → List Worker → Type 0
-AreQuiet b workers = (n : ℕ) (worker : Worker) → slice_get workers n ≡ Some worker → IsQuiet b worker.client.pass
+AreQuiet b workers = AllAt (λ n worker. IsQuiet b worker.client.pass) workers
 
 -- The pass knows all that the passes did: a legal history that it has seen goes on from what each has seen, and has of each just the entries that it made. With one pass it is all that the pass has seen.
 pub record HasGathered (b : Board) (workers : List Worker) (pass : Pass) : Type 0 where

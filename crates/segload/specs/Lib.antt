@@ -1,6 +1,8 @@
 pub mod Counting
 pub mod Gates
+pub mod Lists
 pub mod Making
 pub mod Working
 pub mod Gathering
 pub mod Loads
+pub mod Words

@@ -1,21 +1,14 @@
--- Which commands a pass made in its load, and what each came to: how it is counted, which entries the pass added, and what it goes by from then on.
+-- What the commands of a pass come to in its load: how each is counted, which entries the pass adds, and what it goes by from then on. A read adds no entry, so that it was made isn't said.
 use Rattle.std.specs.Prelude.{◌≡◌, ◌≢◌, ◌⊎◌, ℕ, zero, suc, ◌*◌, ◌≤◌, true, false, List, [], ◌∷◌, ◌++◌, Option, Some, None}
-use Rattle.segword.specs.declared.shape.Shape.{Shape}
-use Rattle.segmodel.specs.declared.request.Request.{Request}
+use Rattle.segword.specs.Words.{Shape}
 use Rattle.segmodel.specs.declared.request.Request.TheVariants as request
 use Rattle.segmodel.specs.declared.request.Reply.TheVariants as reply
-use Rattle.segmodel.specs.declared.entry.Entry.{Entry}
 use Rattle.segmodel.specs.declared.entry.Entry.TheVariants.{Wrote, Refilled}
-use Rattle.segmodel.specs.Request.{adds_key, key_of}
-use Rattle.segmodel.specs.Places.{bucket_of}
-use Rattle.segmodel.specs.Cache.{Cache, reads, reads_version, keys_in}
-use Rattle.segmodel.specs.History.{after, Begins, mine}
-use Rattle.segevict.specs.Evicting.{AreEvictions}
-use Rattle.segpolicy.specs.declared.load.Kind.{Kind}
+use Rattle.segmodel.specs.Words.{adds_key, after, Begins, bucket_of, Cache, Entry, key_of, keys_in}
+use Rattle.segmodel.specs.Words.{mine, reads, reads_version, Request, standing}
+use Rattle.segevict.specs.Words.{AreEvictions}
 use Rattle.segpolicy.specs.declared.load.Kind.TheVariants as kind
-use Rattle.segpolicy.specs.declared.load.Load.{Load}
-use Rattle.segpolicy.specs.Cycle.{Cycle, next_of, turned}
-use Rattle.segpolicy.specs.Draws.{Draws, next_load, after_load}
+use Rattle.segpolicy.specs.Words.{after_load, Cycle, Draws, Kind, Load, next_load, next_of, turned}
 use Rattle.segload.specs.declared.totals.Tally.{Tally}
 use Rattle.segload.specs.declared.totals.Tally.TheVariants as tally
 use Rattle.segload.specs.declared.totals.Tallies.{Tallies}
@@ -41,13 +34,17 @@ turned_on course = record course { segments = turned course.segments }
 
 -- ---- reads
 
+-- the moment that each command of a load is made with
+abbrev pub load_moment : ℕ
+load_moment = 0
+
 -- at a moment of a history at which the entries of the pass were just these, this was so of the cache
 abbrev pub AtMoment : Shape → List Entry → ℕ → List Entry → (Cache → Type 0) → Type 0
 AtMoment shape history pass own IsSo = (moment : List Entry) × Begins moment history × (mine pass moment ≡ own) × IsSo (after shape moment)
 
--- then the key read so
+-- then the key read so, to a command with the moment of the load
 abbrev pub ReadsWhen : Shape → List Entry → ℕ → List Entry → List ℕ → Option (List ℕ) → Type 0
-ReadsWhen shape history pass own key read = AtMoment shape history pass own (λ cache. reads cache key ≡ read)
+ReadsWhen shape history pass own key read = AtMoment shape history pass own (λ cache. reads cache load_moment key ≡ read)
 
 -- a read is a hit where the key reads a value, a miss where it reads none, or busy, but only where there are other passes
 abbrev pub IsReadAs : Shape → List Entry → ℕ → List Entry → List ℕ → Tally → Type 0
@@ -59,14 +56,14 @@ IsReadAs shape history pass own key _ = ⊥
 -- a gets is read so too; where it is a hit, the version that the pass goes by from then on is that of the same moment
 abbrev pub IsVersionReadAs : Shape → List Entry → ℕ → List Entry → List ℕ → Tally → ClientState → ClientState → Type 0
 IsVersionReadAs shape history pass own key tally.Hit from to =
-    (value : List ℕ) × AtMoment shape history pass own (λ cache. reads_version shape cache key ≡ Some (value, to.version)) × (to.segments ≡ from.segments)
+    (value : List ℕ) × AtMoment shape history pass own (λ cache. reads_version shape cache load_moment key ≡ Some (value, to.version)) × (to.segments ≡ from.segments)
 IsVersionReadAs shape history pass own key told from to = IsReadAs shape history pass own key told × (to ≡ from)
 
 -- ---- writes
 
 -- the key doesn't stand, and seven others of its bucket or more do: as many as fill one whose chain hasn't grown
 abbrev pub IsFullFor : Shape → List ℕ → Cache → Type 0
-IsFullFor shape key cache = (reads cache key ≡ None) × (7 ≤ keys_in shape cache (bucket_of shape key))
+IsFullFor shape key cache = (standing cache key ≡ None) × (7 ≤ keys_in shape cache (bucket_of shape key))
 
 -- A write is counted by its reply, and adds one entry, of just this request with this reply; or it is refused, and adds none. Only one that may add a key is refused for want of a word, where at such a moment others filled its bucket, and one is busy only where there are other passes.
 abbrev pub IsWrittenAs : Shape → List Entry → ℕ → Request → Tally → List Entry → List Entry → Type 0
@@ -79,14 +76,18 @@ IsWrittenAs shape history pass asked tally.BucketFull old new = (new ≡ old) ×
 IsWrittenAs shape history pass asked tally.Busy old new = (new ≡ old) × (shape.passes ≢ 1)
 IsWrittenAs shape history pass asked _ old new = ⊥
 
+-- the deadline of each segment that a load refills: the last moment of all
+abbrev pub load_deadline : ℕ
+load_deadline = 4294967295
+
 -- the pass took keys out of a segment, each by one entry
 abbrev pub Empties : ℕ → ℕ → List Entry → List Entry → Type 0
 Empties pass segment old new = (evictions : List Entry) × AreEvictions pass segment evictions × (new ≡ evictions ++ old)
 
--- A segment was given up for a request: emptied and refilled, and then the request was written. Or it couldn't be refilled, but only where there are other passes: then there is no room.
+-- A segment was given up for a request: emptied and refilled up to the load's deadline, and then the request was written. Or it couldn't be refilled, but only where there are other passes: then there is no room.
 abbrev pub IsStoredAfter : Shape → List Entry → ℕ → ℕ → Request → Tally → List Entry → List Entry → Type 0
 IsStoredAfter shape history pass segment asked told old new = (room : List Entry) × Empties pass segment old room
-    × (IsWrittenAs shape history pass asked told (Refilled pass segment ∷ room) new ⊎ ((told ≡ tally.NoRoom) × (new ≡ room) × (shape.passes ≢ 1)))
+    × (IsWrittenAs shape history pass asked told (Refilled pass segment load_deadline ∷ room) new ⊎ ((told ≡ tally.NoRoom) × (new ≡ room) × (shape.passes ≢ 1)))
 
 -- a request to store is written at once, or after the next segment of the ring was given up for it
 abbrev pub IsStoredAs : Shape → List Entry → ℕ → Request → Tally → ClientState → ClientState → List Entry → List Entry → Type 0
@@ -96,15 +97,15 @@ IsStoredAs shape history pass asked told from to old new =
 
 -- ---- commands
 
--- what a command of this kind came to; a cas expects the version that the last gets found, whatever its key
+-- what a command of this kind, with the moment of the load, came to; a cas expects the version that the last gets found, whatever its key
 abbrev pub CameTo : Shape → List Entry → ℕ → Kind → Load → Tally → ClientState → ClientState → List Entry → List Entry → Type 0
 CameTo shape history pass kind.Get load told from to old new = IsReadAs shape history pass old load.key told × (new ≡ old) × (to ≡ from)
 CameTo shape history pass kind.Gets load told from to old new = IsVersionReadAs shape history pass old load.key told from to × (new ≡ old)
-CameTo shape history pass kind.Set load told from to old new = IsStoredAs shape history pass (request.Set load.key load.value) told from to old new
-CameTo shape history pass kind.Add load told from to old new = IsStoredAs shape history pass (request.Add load.key load.value) told from to old new
-CameTo shape history pass kind.Replace load told from to old new = IsStoredAs shape history pass (request.Replace load.key load.value) told from to old new
-CameTo shape history pass kind.Cas load told from to old new = IsStoredAs shape history pass (request.Cas load.key load.value from.version) told from to old new
-CameTo shape history pass kind.Delete load told from to old new = IsWrittenAs shape history pass (request.Delete load.key) told old new × (to ≡ from)
+CameTo shape history pass kind.Set load told from to old new = IsStoredAs shape history pass (request.Set load.key load.value load_moment) told from to old new
+CameTo shape history pass kind.Add load told from to old new = IsStoredAs shape history pass (request.Add load.key load.value load_moment) told from to old new
+CameTo shape history pass kind.Replace load told from to old new = IsStoredAs shape history pass (request.Replace load.key load.value load_moment) told from to old new
+CameTo shape history pass kind.Cas load told from to old new = IsStoredAs shape history pass (request.Cas load.key load.value from.version load_moment) told from to old new
+CameTo shape history pass kind.Delete load told from to old new = IsWrittenAs shape history pass (request.Delete load.key load_moment) told old new × (to ≡ from)
 
 -- what a command came to
 abbrev pub ComesTo : Shape → List Entry → ℕ → Load → Tally → ClientState → ClientState → List Entry → List Entry → Type 0
@@ -115,7 +116,7 @@ abbrev pub draws_after : Draws → ℕ → Draws
 draws_after draws zero = draws
 draws_after draws (suc made) = after_load (draws_after draws made)
 
--- The pass made the first so many commands of a workload, one after the other: these are its tallies then, this is what it goes by, and these are its entries.
+-- The first so many commands of a workload, one after the other, come to this: these are the tallies of the pass, this is what it goes by then, and these are its entries.
 abbrev pub Makes : Shape → List Entry → ℕ → Draws → ℕ → Tallies → ClientState → List Entry → Type 0
 Makes shape history pass draws zero tallies course own = (tallies ≡ no_tallies) × (course ≡ start_of shape pass) × (own ≡ [])
 Makes shape history pass draws (suc made) tallies course own =

@@ -10,6 +10,12 @@ use segmodel::{
 };
 use segpolicy::{Kind, Load, Ring};
 
+// The deadline of each segment that a load refills: the last moment of all.
+const DEADLINE: u32 = u32::MAX;
+
+// The moment that each command of a load is made with.
+const MOMENT: u32 = 0;
+
 /// A pass, and what it goes by from one command to the next.
 #[derive(Drop)]
 pub(crate) struct Client {
@@ -20,7 +26,7 @@ pub(crate) struct Client {
     version: u32,
 }
 
-// The command that a load's command is. A cas expects the version.
+// The command that a load's command is, with the moment of the load. A cas expects the version.
 fn command_of(load: Load, version: u32) -> Command
     ensures { result ≡ command_of version load }
 {
@@ -31,13 +37,13 @@ fn command_of(load: Load, version: u32) -> Command
         draw: _,
     } = load;
     match kind {
-        Kind::Get => Command::Get(key),
-        Kind::Gets => Command::Gets(key),
-        Kind::Set => Command::Write(Request::Set(key, value)),
-        Kind::Add => Command::Write(Request::Add(key, value)),
-        Kind::Replace => Command::Write(Request::Replace(key, value)),
-        Kind::Cas => Command::Write(Request::Cas(key, value, version)),
-        Kind::Delete => Command::Write(Request::Delete(key)),
+        Kind::Get => Command::Get(key, MOMENT),
+        Kind::Gets => Command::Gets(key, MOMENT),
+        Kind::Set => Command::Write(Request::Set(key, value, MOMENT)),
+        Kind::Add => Command::Write(Request::Add(key, value, MOMENT)),
+        Kind::Replace => Command::Write(Request::Replace(key, value, MOMENT)),
+        Kind::Cas => Command::Write(Request::Cas(key, value, version, MOMENT)),
+        Kind::Delete => Command::Write(Request::Delete(key, MOMENT)),
     }
 }
 
@@ -81,13 +87,12 @@ fn tally_of_delete(answer: DeleteAnswer) -> Tally
 }
 
 impl Client {
-    ghost use Rattle.segbase.specs.Passes.{number, seen, mine};
-    ghost use Rattle.segindex.specs.Index.{board_of, shape_of};
-    ghost use Rattle.segpass.specs.Quiet.{IsQuiet};
-    ghost use Rattle.segpass.specs.Calls.{GoesOn};
-    ghost use Rattle.segpolicy.specs.Cycle.{Cycle, next_of};
+    ghost use Rattle.segbase.specs.Words.{mine, number, seen};
+    ghost use Rattle.segindex.specs.Words.{board_of, shape_of};
+    ghost use Rattle.segpass.specs.Words.{GoesOn, IsQuiet};
+    ghost use Rattle.segpolicy.specs.Words.{Cycle, next_of};
     ghost use Rattle.segload.specs.Making.{turned_on, ComesTo};
-    ghost use Rattle.segload.specs.Working.{course_of, course_after, HoldsNothing, IsOwnRing, GivesUpSegment};
+    ghost use Rattle.segload.specs.Working.{course_of, course_after, HoldsNothing, IsOwnRing, GivesUpSegment, ReadsWithDraw};
 
     /// A pass that made no command yet.
     pub(crate) fn new(pass: Pass, segments: Ring) -> Client
@@ -120,7 +125,11 @@ impl Client {
         requires own { IsOwnRing (shape_of index.now) (number self.old.pass) self.old.segments }
         ensures free { HoldsNothing self.new.pass }
         ensures on { GoesOn (board_of index.now) self.old.pass self.new.pass }
-        ensures came { ComesTo (shape_of index.now) (seen self.new.pass) (number self.old.pass) load result (course_of self.old) (course_of self.new) (mine self.old.pass) (mine self.new.pass) }
+        ensures came { ComesTo (shape_of index.now) (seen self.new.pass) (number self.old.pass)
+            load result (course_of self.old) (course_of self.new)
+            (mine self.old.pass) (mine self.new.pass) }
+        ensures draws { ReadsWithDraw (board_of index.now) load.kind load result
+            self.old.pass self.new.pass }
     {
         let draw = load.draw;
         let command = command_of(load, self.version);
@@ -146,19 +155,21 @@ impl Client {
     }
 
     // Gives up the next of its segments for new keys, and says whether that came about.
+    // The segment then has the load's deadline.
     fn make_room(&mut self, index: &Index) -> bool
         requires quiet { IsQuiet (board_of index.now) self.old.pass }
         requires free { HoldsNothing self.old.pass }
         requires own { IsOwnRing (shape_of index.now) (number self.old.pass) self.old.segments }
         ensures free { HoldsNothing self.new.pass }
         ensures on { GoesOn (board_of index.now) self.old.pass self.new.pass }
-        ensures room { GivesUpSegment (shape_of index.now) (next_of self.old.segments) result self.old.pass self.new.pass }
+        ensures room { GivesUpSegment (shape_of index.now) (next_of self.old.segments) result
+            self.old.pass self.new.pass }
         ensures course { course_of self.new ≡ turned_on (course_of self.old) }
     {
         let segment = self.segments.next();
         let EvictAnswer::Evicted(_) = index.evict(&mut self.pass, segment) else {
             return false;
         };
-        index.refill(&mut self.pass, segment) == RefillAnswer::Refilled
+        index.refill(&mut self.pass, segment, DEADLINE) == RefillAnswer::Refilled
     }
 }

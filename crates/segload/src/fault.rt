@@ -8,10 +8,11 @@ pub enum LoadFault {
     /// The index was not made, so no command was made either.
     #[error("{0}")]
     Make(MakeFault),
-    /// The gate stopped this pass, and none below it. The others made all their commands.
+    /// The gate stopped this pass, and none below it. Each other pass made all its commands, or was
+    /// stopped too.
     #[error("stopped pass {0}")]
     Stopped(u32),
-    /// A list or a thread could not be had. The threads that could be had ran to their end.
+    /// A list or a thread could not be had.
     #[error("out of memory")]
     OutOfMemory,
 }

@@ -1,18 +1,25 @@
 //! What lets the commands of a load through.
-ghost use Rattle.std.specs.Prelude.{ℕ, Bool, ⊤};
+ghost use Rattle.std.specs.Prelude.{ℕ, Bool, true, ⊤};
 ghost use Rattle.segload.specs.Gates.{lets_all_through};
 
-/// It is asked before each command of each pass, from the pass's own thread, and told when the command was answered. The commands of a pass are numbered from 0.
+/// A load asks it once before each command of a pass, from the pass's own thread,
+/// and tells it when the command was answered. Tests show that; no contract says it.
+/// The commands of a pass are numbered from 0.
 pub trait Gate: Sync {
     /// What it may answer before a command of a pass.
     ghost may_answer: { Self → ℕ → ℕ → Bool → Type 0 } = { λ gate pass call answer. ⊤ };
+
+    /// What it knows once it was told of a command of a pass.
+    ghost told: { Self → ℕ → ℕ → Type 0 } = { λ gate pass call. ⊤ };
 
     /// Whether the pass may make the command. Where it may not, the pass stops.
     fn enter(&self, pass: u32, call: u32) -> bool
         ensures { may_answer self.now pass call result };
 
-    /// The command was answered.
-    fn answered(&self, pass: u32, call: u32);
+    /// The command was answered. It is one that the gate let through.
+    fn answered(&self, pass: u32, call: u32)
+        requires { may_answer self.now pass call true }
+        ensures { told self.now pass call };
 }
 
 /// It lets every command through.

@@ -1,7 +1,7 @@
 //! How one pass comes to know all that the others did.
 ghost use Rattle.std.specs.Prelude.{◌≡◌, vec_len};
-ghost use Rattle.segindex.specs.Index.{board_of};
-ghost use Rattle.segpass.specs.Quiet.{IsQuiet};
+ghost use Rattle.segindex.specs.Words.{board_of};
+ghost use Rattle.segpass.specs.Words.{IsQuiet};
 ghost use Rattle.segload.specs.Gathering.{AddsNoEntry, HasMetEach, AreQuiet, AreAll, HasGathered};
 
 use crate::worker::Worker;
@@ -13,7 +13,8 @@ pub(crate) fn meet_each(index: &Index, first: &mut Pass, others: &mut Vec<Worker
     requires others { AreQuiet (board_of index.now) others.old.items }
     ensures first { AddsNoEntry (board_of index.now) first.old first.new }
     ensures long { vec_len others.new ≡ vec_len others.old }
-    ensures each { HasMetEach (board_of index.now) first.old first.new others.old.items others.new.items }
+    ensures each { HasMetEach (board_of index.now) first.old first.new
+        others.old.items others.new.items }
     ensures quiet { AreQuiet (board_of index.now) others.new.items }
 {
     for place in 0..others.len() {

@@ -6,10 +6,11 @@ mod fault;
 mod gate;
 mod gather;
 mod load;
+mod plan;
 mod totals;
 mod worker;
 
 pub use fault::LoadFault;
 pub use gate::{Gate, OpenGate};
-pub use load::run_load;
+pub use load::{run_crowd, run_load};
 pub use totals::{PassTotals, Tallies, Tally, Totals};

@@ -1,9 +1,10 @@
 //! A pass at its load.
 ghost use Rattle.std.specs.Prelude.{◌≡◌, []};
-ghost use Rattle.segindex.specs.Index.{board_of};
+ghost use Rattle.segindex.specs.Words.{board_of};
 
 use crate::client::Client;
 use crate::gate::Gate;
+use crate::plan::Plan;
 use crate::totals::Tallies;
 use segindex::{Index, Pass};
 use segpolicy::{Ring, Workload};
@@ -18,24 +19,22 @@ pub(crate) struct Worker {
 }
 
 impl Worker {
-    ghost use Rattle.segbase.specs.Passes.{number, mine};
-    ghost use Rattle.segbase.specs.Plain.{number_of};
-    ghost use Rattle.segpass.specs.Quiet.{IsQuiet};
-    ghost use Rattle.segpolicy.specs.Draws.{draws_of};
-    ghost use Rattle.segload.specs.Working.{HoldsNothing, BeginsLoad, HasWorked};
+    ghost use Rattle.segbase.specs.Words.{mine, number, number_of};
+    ghost use Rattle.segpass.specs.Words.{IsQuiet};
+    ghost use Rattle.segload.specs.Working.{HoldsNothing, BeginsLoad, BeginsPlan, HasWorked};
 
     /// A pass that made no command yet.
-    pub(crate) fn new(index: &Index, seed: u64, pass: Pass) -> Worker
+    pub(crate) fn new(index: &Index, plan: Plan, pass: Pass) -> Worker
         requires quiet { IsQuiet (board_of index.now) pass }
         requires nothing { mine pass ≡ [] }
         requires free { HoldsNothing pass }
-        ensures { BeginsLoad (board_of index.now) (draws_of seed (number pass) 64) (number pass) result }
+        ensures { BeginsPlan (board_of index.now) plan (number pass) result }
     {
         let number = pass.number();
         let segments = index.shape().segments_each;
         Worker {
             client: Client::new(pass, Ring::new(number * segments, segments)),
-            workload: Workload::new(seed, number),
+            workload: plan.workload(number),
             tallies: Tallies::new(),
             is_stopped: false,
         }
@@ -50,8 +49,10 @@ impl Worker {
 
     /// Makes its commands, until the gate stops it.
     pub(crate) fn work<G: Gate>(mut self, index: &Index, gate: &G, commands: u32) -> Worker
-        requires begins { BeginsLoad (board_of index.now) self.workload (number self.client.pass) self }
-        ensures { HasWorked (board_of index.now) (G.may_answer gate.now) self.workload (number self.client.pass) commands result }
+        requires begins { BeginsLoad (board_of index.now)
+            self.workload (number self.client.pass) self }
+        ensures { HasWorked (board_of index.now) (G.may_answer gate.now) (G.told gate.now)
+            self.workload (number self.client.pass) commands result }
     {
         let pass = self.client.pass.number();
         for call in 0..commands {

@@ -1,4 +1,5 @@
-//! Times the index: nanoseconds for a set, for a get and for a command of a mixed load, on so many threads over so many keys.
+//! Times the index: nanoseconds for a set, for a get and for a command of a mixed load,
+//! on so many threads over so many keys.
 #![tactic(auto)]
 
 mod work;

@@ -1,22 +1,27 @@
 //! What a thread does: sets, gets or a mixed load of keys at random.
-ghost use Rattle.std.specs.Prelude.{◌≡◌, ℕ, slice_get, Some, IfSome};
+ghost use Rattle.std.specs.Prelude.{◌≡◌, All, IfSome};
 ghost use Rattle.std.specs.Thread.{IsSync};
-ghost use Rattle.segindex.specs.Index.{board_of};
-ghost use Rattle.segpass.specs.Quiet.{IsQuiet};
+ghost use Rattle.segindex.specs.Words.{board_of};
+ghost use Rattle.segpass.specs.Words.{IsQuiet};
 
 use segindex::{Index, Pass};
 use segmodel::{
-    DeleteAnswer, EvictAnswer, GetAnswer, GetsAnswer, RefillAnswer, SegState, WriteAnswer,
+    Answer, Command, DeleteAnswer, EvictAnswer, GetAnswer, GetsAnswer, RefillAnswer, Request,
+    SegState, WriteAnswer,
 };
 use segword::{Key, Value};
 use std::thread::{Threads, join};
+
+// The moment of each command.
+const MOMENT: u32 = 0;
 
 /// What is asked of the keys.
 #[derive(Clone, Copy, Debug, PartialEq, Eq)]
 pub enum Kind {
     Sets,
     Gets,
-    /// Of eight commands four are gets, and one each a gets, a set, a delete, and an add, a replace or a cas.
+    /// Of eight commands four are gets, and one each a gets, a set, a delete, and an add,
+    /// a replace or a cas.
     Mixed,
 }
 
@@ -63,83 +68,56 @@ impl Worker {
         self.state >> 8
     }
 
-    fn count(&mut self, is_busy: bool)
+    // What the answer to a command changes: the version that a cas expects, and how many were Busy.
+    fn note(&mut self, answer: &Answer)
         ensures { self.new.pass ≡ self.old.pass }
     {
-        if is_busy {
-            self.busy = self.busy.saturating_add(1);
+        match answer {
+            Answer::Gets(GetsAnswer::Found(_, version)) => self.version = *version,
+            Answer::Get(GetAnswer::Busy)
+            | Answer::Gets(GetsAnswer::Busy)
+            | Answer::Write(WriteAnswer::Busy)
+            | Answer::Delete(DeleteAnswer::Busy) => self.busy = self.busy.saturating_add(1),
+            _ => {}
         }
     }
 
-    // A set, or what the mixed load asks; it is tried once more where the current segment was used up.
-    fn store(&mut self, index: &Index, key: &Key, value: &Value, kind: Kind, draw: u32)
+    // Makes a command. It is made once more if the current segment was used up.
+    fn serve(&mut self, index: &Index, command: &Command, draw: u32)
         requires { IsQuiet (board_of index.now) self.old.pass }
         ensures { IsQuiet (board_of index.now) self.new.pass }
     {
-        let version = self.version;
-        let mut answer = write(index, &mut self.pass, key, value, version, kind, draw);
-        if answer == WriteAnswer::NoRoom {
+        let mut answer = index.serve(&mut self.pass, command, draw);
+        if answer == Answer::Write(WriteAnswer::NoRoom) {
             refill(index, &mut self.pass);
-            answer = write(index, &mut self.pass, key, value, version, kind, draw);
+            answer = index.serve(&mut self.pass, command, draw);
         }
-        self.count(answer == WriteAnswer::Busy);
-    }
-
-    // One command.
-    fn serve(&mut self, index: &Index, key: &Key, value: &Value, kind: Kind, draw: u32)
-        requires { IsQuiet (board_of index.now) self.old.pass }
-        ensures { IsQuiet (board_of index.now) self.new.pass }
-    {
-        match (kind, draw % 8) {
-            (Kind::Gets, _) | (Kind::Mixed, 0..=3) => {
-                let answer = index.get(&mut self.pass, key, draw);
-                self.count(answer == GetAnswer::Busy);
-            }
-            (Kind::Mixed, 4) => {
-                let answer = index.gets(&mut self.pass, key, draw);
-                if let GetsAnswer::Found(_, version) = answer {
-                    self.version = version;
-                }
-                self.count(answer == GetsAnswer::Busy);
-            }
-            (Kind::Mixed, 7) => {
-                let answer = index.delete(&mut self.pass, key);
-                self.count(answer == DeleteAnswer::Busy);
-            }
-            _ => self.store(index, key, value, kind, draw),
-        }
+        self.note(&answer);
     }
 }
 
-// A set, or of the mixed load by the draw a set, an add, a replace or a cas.
-fn write(
-    index: &Index,
-    pass: &mut Pass,
-    key: &Key,
-    value: &Value,
-    version: u32,
-    kind: Kind,
-    draw: u32,
-) -> WriteAnswer
-    requires { IsQuiet (board_of index.now) pass.old }
-    ensures { IsQuiet (board_of index.now) pass.new }
-{
-    match (kind, draw % 8, draw / 8 % 3) {
-        (Kind::Mixed, 6, 0) => index.add(pass, key, value),
-        (Kind::Mixed, 6, 1) => index.replace(pass, key, value),
-        (Kind::Mixed, 6, _) => index.cas(pass, key, value, version),
-        _ => index.set(pass, key, value),
+// The command that a draw asks. A cas expects the version.
+fn command_of(kind: Kind, draw: u32, key: Key, value: &Value, version: u32) -> Command {
+    match (kind, draw % 8) {
+        (Kind::Gets, _) | (Kind::Mixed, 0..=3) => Command::Get(key, MOMENT),
+        (Kind::Mixed, 4) => Command::Gets(key, MOMENT),
+        (Kind::Mixed, 6) => Command::Write(match draw / 8 % 3 {
+            0 => Request::Add(key, value.copy(), MOMENT),
+            1 => Request::Replace(key, value.copy(), MOMENT),
+            _ => Request::Cas(key, value.copy(), version, MOMENT),
+        }),
+        (Kind::Mixed, 7) => Command::Write(Request::Delete(key, MOMENT)),
+        _ => Command::Write(Request::Set(key, value.copy(), MOMENT)),
     }
 }
 
 /// The last of some quiet passes.
 pub fn pop(index: &Index, passes: &mut Vec<Pass>) -> Option<Pass>
-    requires { (n : ℕ) (pass : Pass) → slice_get passes.old.items n ≡ Some pass → IsQuiet (board_of index.now) pass }
+    requires { All (IsQuiet (board_of index.now)) passes.old.items }
     ensures last { IfSome result (IsQuiet (board_of index.now)) }
-    ensures others { (n : ℕ) (pass : Pass) → slice_get passes.new.items n ≡ Some pass → IsQuiet (board_of index.now) pass }
+    ensures others { All (IsQuiet (board_of index.now)) passes.new.items }
 {
-    let last = passes.pop()?;
-    Some(last)
+    passes.pop()
 }
 
 // Makes the next segment of the pass, in cyclic order, the one that it stores into.
@@ -157,7 +135,7 @@ fn refill(index: &Index, pass: &mut Pass)
     if pass.state(next) == Some(SegState::InUse) {
         let _gone: EvictAnswer = index.evict(pass, next);
     }
-    let _answer: RefillAnswer = index.refill(pass, next);
+    let _answer: RefillAnswer = index.refill(pass, next, u32::MAX);
 }
 
 /// Sets each key once.
@@ -166,7 +144,8 @@ pub fn fill(index: &Index, worker: &mut Worker, keys: &Vec<Key>, value: &Value)
     ensures { IsQuiet (board_of index.now) worker.new.pass }
 {
     for key in keys.iter() {
-        worker.store(index, key, value, Kind::Sets, 0);
+        let command = Command::Write(Request::Set(key.copy(), value.copy(), MOMENT));
+        worker.serve(index, &command, 0);
     }
 }
 
@@ -180,7 +159,8 @@ fn work(index: &Index, mut worker: Worker, keys: &Vec<Key>, value: &Value, task:
         let Some(key) = keys.get(place as usize % keys.len().max(1)) else {
             break;
         };
-        worker.serve(index, key, value, task.kind, draw);
+        let command = command_of(task.kind, draw, key.copy(), value, worker.version);
+        worker.serve(index, &command, draw);
     }
     worker
 }
@@ -195,7 +175,8 @@ fn two<R: Threads + Sync>(
     task: Task,
 ) -> (Worker, Worker)
     requires { IsQuiet (board_of index.now) first.pass × IsQuiet (board_of index.now) second.pass }
-    ensures { IsQuiet (board_of index.now) result.0.pass × IsQuiet (board_of index.now) result.1.pass }
+    ensures { IsQuiet (board_of index.now) result.0.pass
+        × IsQuiet (board_of index.now) result.1.pass }
 {
     join(
         rt,
@@ -223,8 +204,14 @@ pub fn work_at_once<R: Threads + Sync>(
     value: &Value,
     task: Task,
 ) -> Four
-    requires { IsQuiet (board_of index.now) four.0.pass × IsQuiet (board_of index.now) four.1.pass × IsQuiet (board_of index.now) four.2.pass × IsQuiet (board_of index.now) four.3.pass }
-    ensures { IsQuiet (board_of index.now) result.0.pass × IsQuiet (board_of index.now) result.1.pass × IsQuiet (board_of index.now) result.2.pass × IsQuiet (board_of index.now) result.3.pass }
+    requires { IsQuiet (board_of index.now) four.0.pass
+        × IsQuiet (board_of index.now) four.1.pass
+        × IsQuiet (board_of index.now) four.2.pass
+        × IsQuiet (board_of index.now) four.3.pass }
+    ensures { IsQuiet (board_of index.now) result.0.pass
+        × IsQuiet (board_of index.now) result.1.pass
+        × IsQuiet (board_of index.now) result.2.pass
+        × IsQuiet (board_of index.now) result.3.pass }
 {
     let (a, b, c, d) = four;
     if threads <= 1 {
@@ -237,12 +224,16 @@ pub fn work_at_once<R: Threads + Sync>(
     let ((a, b), (c, d)) = join(
         rt,
         || -> (Worker, Worker)
-            requires { IsSync R.row × IsQuiet (board_of index.now) a.pass × IsQuiet (board_of index.now) b.pass }
-            ensures { IsQuiet (board_of index.entry.now) result.0.pass × IsQuiet (board_of index.entry.now) result.1.pass }
+            requires { IsSync R.row × IsQuiet (board_of index.now) a.pass
+                × IsQuiet (board_of index.now) b.pass }
+            ensures { IsQuiet (board_of index.entry.now) result.0.pass
+                × IsQuiet (board_of index.entry.now) result.1.pass }
         { two(rt, index, a, b, keys, value, task) },
         || -> (Worker, Worker)
-            requires { IsSync R.row × IsQuiet (board_of index.now) c.pass × IsQuiet (board_of index.now) d.pass }
-            ensures { IsQuiet (board_of index.entry.now) result.0.pass × IsQuiet (board_of index.entry.now) result.1.pass }
+            requires { IsSync R.row × IsQuiet (board_of index.now) c.pass
+                × IsQuiet (board_of index.now) d.pass }
+            ensures { IsQuiet (board_of index.entry.now) result.0.pass
+                × IsQuiet (board_of index.entry.now) result.1.pass }
         { two(rt, index, c, d, keys, value, task) },
     );
     (a, b, c, d)

@@ -1,7 +1,7 @@
 use Rattle.std.proofs.Common.{◌≡◌, suc, ◌<◌, length, slice_get, drop, sym, ap, subst, ◌∙◌, arith}
 use Rattle.std.proofs.lemmas.Option.{slice_get_read}
 use Rattle.std.specs.Vec.{vec_len}
-use Rattle.segpass.specs.Quiet.{IsQuiet}
+use Rattle.segpass.specs.Words.{IsQuiet}
 use Rattle.segload.specs.Gathering.{AddsNoEntry, HasMetEach}
 use Rattle.segload.proofs.Gathered.{removed_later, gathered}
 use Rattle.segload.proofs.gather.gather.Goals as goal

@@ -1,7 +1,7 @@
 use Rattle.std.proofs.Common.{◌<◌, slice_get, sym, ap, subst, ◌∙◌, ⊎_elim, arith}
 use Rattle.std.proofs.lemmas.Option.{slice_get_read, slice_get_within, same_Some}
-use Rattle.segpass.specs.Quiet.{IsQuiet}
-use Rattle.segload.specs.declared.worker.Worker.{Worker}
+use Rattle.segpass.specs.Words.{IsQuiet}
+use Rattle.segload.specs.Words.{Worker}
 use Rattle.segmodel.proofs.ListPlaces.{found_set, elsewhere}
 use Rattle.segload.proofs.Gathered.{looked_then, met_then, met_now, met_there, with_pass}
 use Rattle.segload.proofs.gather.meet_each.Goals as goal

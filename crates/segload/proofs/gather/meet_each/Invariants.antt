@@ -1,7 +1,7 @@
 use Rattle.std.proofs.Common.{◌≡◌, ℕ, ◌≤◌, ◌<◌, slice_get, Some}
 use Rattle.std.specs.Vec.{vec_len}
-use Rattle.segindex.specs.Index.{board_of}
-use Rattle.segload.specs.declared.worker.Worker.{Worker}
+use Rattle.segindex.specs.Words.{board_of}
+use Rattle.segload.specs.Words.{Worker}
 use Rattle.segload.specs.Gathering.{AddsNoEntry, HasMet, AreQuiet}
 use Rattle.segload.proofs.gather.meet_each.Given as goal
 

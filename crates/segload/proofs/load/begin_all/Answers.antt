@@ -1,11 +1,12 @@
 use Rattle.std.proofs.Common.{◌≡◌, suc, length, slice_get, sym, ap, subst, ◌∙◌, arith}
-use Rattle.segbase.specs.Made.{IsNewPass}
-use Rattle.segbase.specs.Passes.{number}
-use Rattle.segcore.specs.Event.{seen}
-use Rattle.segmodel.specs.History.{mine}
-use Rattle.segpolicy.specs.Draws.{draws_of}
-use Rattle.segload.specs.Working.{BeginsLoad}
-use Rattle.segload.proofs.Lists.{AllAt, all_pushed, all_none}
+use Rattle.segbase.specs.Words.{IsNewPass, number}
+use Rattle.segindex.specs.Words.{shape_of}
+use Rattle.segindex.proofs.Made.{each_new}
+use Rattle.segcore.specs.Words.{seen}
+use Rattle.segmodel.specs.Words.{mine}
+use Rattle.segload.specs.Working.{BeginsPlan}
+use Rattle.segload.specs.Lists.{AllAt}
+use Rattle.segload.proofs.Lists.{all_pushed, all_none}
 use Rattle.segload.proofs.load.begin_all.Goals as goal
 
 pub loop-pass-init : goal.loop-pass-init
@@ -19,7 +20,7 @@ loop-pass-init c =
       room = let len = c.len.ensures in let capacity = made.capacity in omega (arith, into.1, made.len);
       all = omega (arith, into.1, made.len);
       rest = λ n pass at.
-          let is = new.each n pass (ap (λ l. slice_get l n) (sym into.0) ∙ at) in
+          let is = each_new (shape_of c.args.index.now) c.args.index.now c.args.passes.items new n pass (ap (λ l. slice_get l n) (sym into.0) ∙ at) in
           (subst (λ m. IsNewPass c.args.index.now.board m pass) (omega (arith, made.len)) is.0, is.1);
       begun = λ n worker at. all_none n worker (ap (λ l. slice_get l n) (sym made.items) ∙ at);
     }
@@ -56,6 +57,6 @@ loop-pass-preserved c =
       rest = λ n pass at.
           let is = was.rest (suc n) pass (ap (λ l. slice_get l (suc n)) steps.0 ∙ at) in
           (subst (λ m. IsNewPass b m pass) (omega (arith, pushed.len)) is.0, is.1);
-      begun = subst (AllAt (λ n worker. BeginsLoad b (draws_of c.args.seed n 64) n worker)) (sym pushed.items)
-          (all_pushed (λ n worker. BeginsLoad b (draws_of c.args.seed n 64) n worker) workers.items c.new.result was.begun (subst (λ m. BeginsLoad b (draws_of c.args.seed m 64) m c.new.result) here c.new.ensures));
+      begun = subst (AllAt (BeginsPlan b c.args.plan)) (sym pushed.items)
+          (all_pushed (BeginsPlan b c.args.plan) workers.items c.new.result was.begun (subst (λ m. BeginsPlan b c.args.plan m c.new.result) here c.new.ensures));
     }

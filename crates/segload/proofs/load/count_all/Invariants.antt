@@ -1,7 +1,6 @@
 use Rattle.std.proofs.Common.{◌≡◌, ◌≤◌, ℕ, slice_get, Some}
 use Rattle.std.specs.Vec.{vec_capacity, vec_len}
-use Rattle.segload.specs.declared.totals.PassTotals.{PassTotals}
-use Rattle.segload.specs.declared.worker.Worker.{Worker}
+use Rattle.segload.specs.Words.{PassTotals, Worker}
 use Rattle.segload.proofs.load.count_all.Given as goal
 
 abbrev pub invariant-loop-worker : goal.invariant-loop-worker

@@ -1,6 +1,6 @@
 use Rattle.std.proofs.Common.{◌≡◌, false, length, slice_get, Some, refl, sym, ap, subst, ◌∙◌, arith, below_more}
 use Rattle.std.proofs.lemmas.Option.{slice_get_read, slice_get_within, same_Some}
-use Rattle.segload.specs.declared.worker.Worker.{Worker}
+use Rattle.segload.specs.Words.{Worker}
 use Rattle.segload.proofs.load.first_stopped.Goals as goal
 
 pub returns-then-worker-clause-some : goal.returns-then-worker-clause-some

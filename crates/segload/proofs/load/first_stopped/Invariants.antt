@@ -1,5 +1,5 @@
 use Rattle.std.proofs.Common.{◌≡◌, ◌<◌, false}
-use Rattle.segload.proofs.Lists.{AllAt}
+use Rattle.segload.specs.Lists.{AllAt}
 use Rattle.segload.proofs.load.first_stopped.Given as goal
 
 abbrev pub invariant-loop-worker : goal.invariant-loop-worker

@@ -1,9 +1,8 @@
 use Rattle.std.proofs.Common.{◌≡◌, ℕ, false, refl, sym, ap, ◌∙◌, subst}
-use Rattle.segmodel.specs.declared.answer.RefillAnswer.{RefillAnswer}
+use Rattle.segmodel.specs.Words.{RefillAnswer}
 use Rattle.segmodel.specs.declared.answer.RefillAnswer.TheVariants as refill
-use Rattle.segbase.specs.declared.board.Board.{Board}
-use Rattle.segbase.specs.declared.pass.Pass.{Pass}
-use Rattle.segevict.specs.Evicting.{IsEvictAnswer}
+use Rattle.segbase.specs.Words.{Board, Pass}
+use Rattle.segevict.specs.Words.{IsEvictAnswer}
 use Rattle.segevict.proofs.RowsOut.{goes_then}
 use Rattle.segload.specs.Working.{GivesUpSegment}
 use Rattle.segload.specs.Making.{ClientState}
@@ -30,7 +29,7 @@ pub returns-clause-on : goal.returns-clause-on
 returns-clause-on c = goes_then c.args.index.now.board c.args.self.now.pass c.evict.new.pass c.refill.new.pass c.evict.ensures.evicts.on c.refill.ensures.refills.on
 
 pub returns-clause-free : goal.returns-clause-free
-returns-clause-free c = refill_free c.next-segment.result c.refill.result c.evict.new.pass c.refill.new.pass c.refill.ensures.refills.answer
+returns-clause-free c = refill_free c.next-segment.result _ c.refill.result c.evict.new.pass c.refill.new.pass c.refill.ensures.refills.answer
     (evict_free c.args.index.now.board.shape c.next-segment.result c.evict.result c.args.self.now.pass c.evict.new.pass c.evict.ensures.evicts.answer c.requires.free)
 
 pub returns-clause-room : goal.returns-clause-room

@@ -1,11 +1,11 @@
-use Rattle.std.proofs.Common.{◌≡◌, ◌≢◌, ℕ, refl, sym, ap, ◌∙◌, subst, rules}
-use Rattle.segmodel.specs.declared.answer.Answer.{Answer}
+use Rattle.std.proofs.Common.{◌≡◌, ◌≢◌, subst, rules}
 use Rattle.segmodel.specs.declared.answer.Answer.TheVariants.{Write}
 use Rattle.segmodel.specs.declared.answer.WriteAnswer.TheVariants.{NoRoom}
 use Rattle.segevict.proofs.RowsOut.{goes_then}
-use Rattle.segindex.specs.Commands.{AnswersCommand}
+use Rattle.segload.specs.declared.totals.Tally.TheVariants as tally
+use Rattle.segindex.specs.Words.{AnswersCommand}
 use Rattle.segload.specs.Working.{command_of, course_of}
-use Rattle.segload.proofs.Answered.{came, came_nowhere, came_again, command_free, of_load}
+use Rattle.segload.proofs.Answered.{came, came_nowhere, came_again, command_free, with_draw, no_read}
 use Rattle.segload.proofs.client.Client.serve.Goals as goal
 
 pub returns-then-ne-clause-came : goal.returns-then-ne-clause-came
@@ -44,3 +44,23 @@ returns-clause-came c =
     let full : told ≡ Write NoRoom = search rules in
     rw c.tally_of-2.ensures (came_again b load.kind load load.draw c.serve.result (course_of c.args.self.now) (course_of c.make_room.new.self) p q r s
     (subst (λ t. AnswersCommand b (command_of c.args.self.now.version load) load.draw t p q) full asked) room.on room.free room.room room.course again)
+
+pub returns-then-ne-clause-draws : goal.returns-then-ne-clause-draws
+returns-then-ne-clause-draws c =
+    let b = c.args.index.now.board in let p = c.args.self.now.pass in let q = c.serve-answer.new.pass in let load = c.args.load in let told = c.serve-answer.result in
+    let asked = subst (λ x. AnswersCommand b x load.draw told p q) c.command_of-command.ensures c.serve-answer.ensures.answers in
+    rw c.remember.ensures.pass (rw c.tally_of.ensures (with_draw b load.kind c.args.self.now.version load told p q asked))
+
+pub returns-then-not-make_room-clause-draws : goal.returns-then-not-make_room-clause-draws
+returns-then-not-make_room-clause-draws c =
+    let b = c.args.index.now.board in let p = c.args.self.now.pass in let q = c.serve-answer.new.pass in let load = c.args.load in let told = c.serve-answer.result in
+    let asked = subst (λ x. AnswersCommand b x load.draw told p q) c.command_of-command.ensures c.serve-answer.ensures.answers in
+    let full : told ≡ Write NoRoom = search rules in
+    no_read b load.kind c.args.self.now.version load tally.NoRoom p q p c.make_room.new.self.pass (subst (λ t. AnswersCommand b (command_of c.args.self.now.version load) load.draw t p q) full asked)
+
+pub returns-clause-draws : goal.returns-clause-draws
+returns-clause-draws c =
+    let b = c.args.index.now.board in let p = c.args.self.now.pass in let q = c.serve-answer.new.pass in let load = c.args.load in let told = c.serve-answer.result in
+    let asked = subst (λ x. AnswersCommand b x load.draw told p q) c.command_of-command.ensures c.serve-answer.ensures.answers in
+    let full : told ≡ Write NoRoom = search rules in
+    no_read b load.kind c.args.self.now.version load c.tally_of-2.result p q p c.serve.new.pass (subst (λ t. AnswersCommand b (command_of c.args.self.now.version load) load.draw t p q) full asked)

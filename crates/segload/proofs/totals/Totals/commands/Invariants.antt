@@ -1,6 +1,6 @@
 use Rattle.std.proofs.Common.{◌≡◌, ◌*◌, ◌^◌, ◌≤◌, take}
 use Rattle.std.specs.List.{sum_by}
-use Rattle.segload.specs.declared.totals.PassTotals.{PassTotals}
+use Rattle.segload.specs.Words.{PassTotals}
 use Rattle.segload.proofs.totals.Totals.commands.Given as goal
 
 abbrev pub invariant-loop-pass : goal.invariant-loop-pass

@@ -1,10 +1,10 @@
 use Rattle.std.proofs.Common.{◌≡◌, true, false, subst, ◌∙◌, below_more}
 use Rattle.std.proofs.lemmas.Bool.{true≢false}
-use Rattle.segbase.specs.Passes.{number, seen, mine}
-use Rattle.segload.specs.declared.worker.Worker.{Worker}
-use Rattle.segload.specs.Gates.{LetsThrough}
+use Rattle.segbase.specs.Words.{mine, number, seen}
+use Rattle.segload.specs.Words.{Worker}
+use Rattle.segload.specs.Gates.{IsToldOf, LetsThrough}
 use Rattle.segload.specs.Making.{ComesTo}
-use Rattle.segload.specs.Working.{course_of}
+use Rattle.segload.specs.Working.{course_of, ReadsWithDraw}
 use Rattle.segload.proofs.Made.{makes_own, works_on}
 use Rattle.segload.proofs.worker.Worker.work.Goals as goal
 
@@ -20,10 +20,12 @@ loop-call-preserved g c =
     record {
       at_work = works_on b c.args.self.workload c.loop-call.call c.serve-tally.result worker later was.at_work served.on served.free
           (subst (λ load. ComesTo b.shape (seen q) (number p) load c.serve-tally.result (course_of worker.client) (course_of later.client) (mine p) (mine q)) c.next-load.ensures.value served.came)
+          (subst (λ load. ReadsWithDraw b load.kind load c.serve-tally.result p q) c.next-load.ensures.value served.draws)
           c.next-load.ensures.after c.count.ensures.counted;
       same = served.on.same ∙ was.same;
       let_through = below_more (λ call. g.G.Gate.may_answer c.args.gate.now c.number-pass.result call true) c.loop-call.call was.let_through
           (subst (g.G.Gate.may_answer c.args.gate.now c.number-pass.result c.loop-call.call) c.if-not-enter.false c.enter.ensures);
+      told_of = below_more (λ call. g.G.Gate.told c.args.gate.now c.number-pass.result call) c.loop-call.call was.told_of c.answered.ensures;
       runs = was.runs;
     }
 
@@ -41,6 +43,7 @@ returns-then-not-enter g c =
       is = was.same;
       at_work = λ runs. absurd (true≢false runs);
       let_through = λ runs. absurd (true≢false runs);
+      told_of = λ runs. absurd (true≢false runs);
       stopped = λ is. (
         record {
           call = c.loop-call.call;
@@ -48,6 +51,10 @@ returns-then-not-enter g c =
           until = subst (LetsThrough (g.G.Gate.may_answer c.args.gate.now) c.loop-call.call) pass was.let_through;
           stopped = subst (λ n. g.G.Gate.may_answer c.args.gate.now n c.loop-call.call false) pass (subst (g.G.Gate.may_answer c.args.gate.now c.number-pass.result c.loop-call.call) c.if-not-enter.true c.enter.ensures);
         },
-        record { quiet = was.at_work.quiet; free = was.at_work.free; workload = was.at_work.workload; makes = was.at_work.makes; all = was.at_work.all },
+        record { quiet = was.at_work.quiet; free = was.at_work.free; workload = was.at_work.workload; makes = was.at_work.makes; reads = was.at_work.reads; all = was.at_work.all },
+        subst (IsToldOf (g.G.Gate.told c.args.gate.now) c.loop-call.call) pass was.told_of,
       );
     }
+
+pub answered-requires : goal.answered-requires
+answered-requires g c = subst (g.G.Gate.may_answer c.args.gate.now c.number-pass.result c.loop-call.call) c.if-not-enter.false c.enter.ensures

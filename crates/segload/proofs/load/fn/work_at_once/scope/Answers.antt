@@ -3,19 +3,18 @@ use Rattle.std.proofs.lemmas.Option.{slice_get_read, slice_get_within, get_or_fr
 use Rattle.std.specs.Vec.{vec_len}
 use Rattle.std.specs.Vec.Iter.{into_iter_len, into_iter_items}
 use Rattle.std.specs.declared.thread.PromisedHandle.{PromisedHandle}
-use Rattle.segbase.specs.declared.board.Board.{Board}
-use Rattle.segload.specs.declared.worker.Worker.{Worker}
+use Rattle.segload.specs.Words.{Plan, Worker}
 use Rattle.segload.specs.declared.load.Worked.{Worked}
-use Rattle.segbase.specs.Passes.{number}
-use Rattle.segpolicy.specs.Draws.{draws_of}
-use Rattle.segload.specs.Working.{BeginsLoad, HasWorked}
-use Rattle.segload.proofs.Lists.{AllAt, all_pushed, all_none}
+use Rattle.segbase.specs.Words.{Board, number}
+use Rattle.segload.specs.Working.{BeginsPlan, HasMadePlan, HasWorked}
+use Rattle.segload.specs.Lists.{AllAt}
+use Rattle.segload.proofs.Lists.{all_pushed, all_none}
 use Rattle.segload.proofs.Starting.{first_begins, first_numbered, rest_begin, worked_there}
 use Rattle.segload.proofs.load.fn.work_at_once.scope.Goals as goal
 
--- a thread's promise is of this index, this gate, this seed and these commands, and of the pass whose number is its place
-abbrev Ours : {G : Type 0} → Board → G → ℕ → ℕ → ℕ → PromisedHandle Worker (Worked G) → Type 0
-Ours b gate seed commands n thread = (thread.promise.index.now.board ≡ b) × (thread.promise.gate.now ≡ gate) × (thread.promise.seed ≡ seed) × (thread.promise.commands ≡ commands)
+-- a thread's promise is of this index, this gate and this plan, and of the pass whose number is its place
+abbrev Ours : {G : Type 0} → Board → G → Plan → ℕ → PromisedHandle Worker (Worked G) → Type 0
+Ours b gate plan n thread = (thread.promise.index.now.board ≡ b) × (thread.promise.gate.now ≡ gate) × (thread.promise.plan ≡ plan)
 
 abbrev InOrder : {G : Type 0} → ℕ → PromisedHandle Worker (Worked G) → Type 0
 InOrder n thread = thread.promise.pass ≡ n
@@ -31,26 +30,27 @@ loop-worker-init g c =
       finite = tt;
       room = made.capacity;
       few = let len = c.len-count.ensures in omega (arith, into.1, made.len);
-      rest = λ n worker at. subst (λ m. BeginsLoad b (draws_of c.captures.seed m 64) m worker) (omega (arith, count)) (c.requires.1 n worker (ap (λ l. slice_get l n) (sym into.0) ∙ at));
+      rest = λ n worker at. subst (λ m. BeginsPlan b c.captures.plan m worker) (omega (arith, count)) (c.requires.1 n worker (ap (λ l. slice_get l n) (sym into.0) ∙ at));
       ours = λ n thread at. all_none n thread (ap (λ l. slice_get l n) (sym made.items) ∙ at);
       in_order = λ e n thread at. all_none n thread (ap (λ l. slice_get l n) (sym made.items) ∙ at);
     }
 
 pub spawn_with-requires-clause-runs : goal.spawn_with-requires-clause-runs
 spawn_with-requires-clause-runs g c =
-    let begins = first_begins c.captures.index.now.board c.captures.seed (c.len-count.result - into_iter_len c.loop-worker.worker-iterator) c.in-Some.worker (into_iter_items c.next.new.self) (into_iter_items c.loop-worker.worker-iterator)
+    let begins = first_begins c.captures.index.now.board c.captures.plan (c.len-count.result - into_iter_len c.loop-worker.worker-iterator) c.in-Some.worker (into_iter_items c.next.new.self) (into_iter_items c.loop-worker.worker-iterator)
     c.in-Some.ensures.steps.0 c.loop-worker.invariant.rest in
     search rules
 
 pub spawn_with-requires-clause-keeps : goal.spawn_with-requires-clause-keeps
 spawn_with-requires-clause-keeps g c =
     let b = c.captures.index.now.board in
-    let begins = first_begins b c.captures.seed (c.len-count.result - into_iter_len c.loop-worker.worker-iterator) c.in-Some.worker (into_iter_items c.next.new.self) (into_iter_items c.loop-worker.worker-iterator)
+    let begins = first_begins b c.captures.plan (c.len-count.result - into_iter_len c.loop-worker.worker-iterator) c.in-Some.worker (into_iter_items c.next.new.self) (into_iter_items c.loop-worker.worker-iterator)
     c.in-Some.ensures.steps.0 c.loop-worker.invariant.rest in
     let is = c.number.ensures ∙ begins.0.at_work.quiet.pass.numbered in
     let may_answer = g.G.Gate.may_answer c.captures.gate.now in
-    λ κs h r worked. subst (λ n. HasWorked b may_answer (draws_of c.captures.seed n 64) n c.captures.commands r) (sym is)
-    (subst (λ d. HasWorked b may_answer d (number c.in-Some.worker.client.pass) c.captures.commands r) begins.1 worked)
+    let told = g.G.Gate.told c.captures.gate.now in
+    λ κs h r worked. subst (λ n. HasMadePlan b may_answer told c.captures.plan n r) (sym is)
+    (subst (λ d. HasWorked b may_answer told d (number c.in-Some.worker.client.pass) c.captures.plan.commands r) begins.1 worked)
 
 pub loop-worker-preserved-in-Ok : goal.loop-worker-preserved-in-Ok
 loop-worker-preserved-in-Ok g c =
@@ -63,16 +63,16 @@ loop-worker-preserved-in-Ok g c =
     let threads = c.loop-worker.threads in
     let here : vec_len threads ≡ length threads.items = threads.ok.0 in
     let of = c.in-Ok.ensures.ok in
-    let begins = first_begins b c.captures.seed gone c.in-Some.worker (into_iter_items c.next.new.self) (into_iter_items c.loop-worker.worker-iterator) steps.0 was.rest in
-    let numbered = first_numbered b c.captures.seed gone c.in-Some.worker (into_iter_items c.next.new.self) (into_iter_items c.loop-worker.worker-iterator) steps.0 was.rest in
+    let begins = first_begins b c.captures.plan gone c.in-Some.worker (into_iter_items c.next.new.self) (into_iter_items c.loop-worker.worker-iterator) steps.0 was.rest in
+    let numbered = first_numbered b c.captures.plan gone c.in-Some.worker (into_iter_items c.next.new.self) (into_iter_items c.loop-worker.worker-iterator) steps.0 was.rest in
     record {
       can = tt;
       finite = tt;
       room = let room = was.room in omega (arith, pushed.capacity);
       few = omega (arith, pushed.len, steps.1);
-      rest = rest_begin b c.captures.seed gone (c.len-count.result - into_iter_len c.next.new.self) c.in-Some.worker (into_iter_items c.next.new.self) (into_iter_items c.loop-worker.worker-iterator) steps.0 (omega (arith, steps.1)) was.rest;
-      ours = subst (AllAt (Ours b c.captures.gate.now c.captures.seed c.captures.commands)) (sym pushed.items)
-          (all_pushed (Ours b c.captures.gate.now c.captures.seed c.captures.commands) threads.items c.in-Ok.thread was.ours (ap (λ p. p.index.now.board) of, ap (λ p. p.gate.now) of, ap (λ p. p.seed) of, ap (λ p. p.commands) of));
+      rest = rest_begin b c.captures.plan gone (c.len-count.result - into_iter_len c.next.new.self) c.in-Some.worker (into_iter_items c.next.new.self) (into_iter_items c.loop-worker.worker-iterator) steps.0 (omega (arith, steps.1)) was.rest;
+      ours = subst (AllAt (Ours b c.captures.gate.now c.captures.plan)) (sym pushed.items)
+          (all_pushed (Ours b c.captures.gate.now c.captures.plan) threads.items c.in-Ok.thread was.ours (ap (λ p. p.index.now.board) of, ap (λ p. p.gate.now) of, ap (λ p. p.plan) of));
       in_order = λ all. subst (AllAt InOrder) (sym pushed.items)
           (all_pushed InOrder threads.items c.in-Ok.thread (was.in_order (omega (arith, pushed.len, steps.1)))
           (ap (λ p. p.pass) of ∙ (c.number.ensures ∙ (begins.0.at_work.quiet.pass.numbered ∙ (numbered ∙ omega (arith, pushed.len, steps.1))))));
@@ -90,7 +90,7 @@ loop-worker-preserved-in_default g c =
       finite = tt;
       room = was.room;
       few = omega (arith, steps.1);
-      rest = rest_begin b c.captures.seed gone (c.len-count.result - into_iter_len c.next.new.self) c.in-Some.worker (into_iter_items c.next.new.self) (into_iter_items c.loop-worker.worker-iterator) steps.0 (omega (arith, steps.1)) was.rest;
+      rest = rest_begin b c.captures.plan gone (c.len-count.result - into_iter_len c.next.new.self) c.in-Some.worker (into_iter_items c.next.new.self) (into_iter_items c.loop-worker.worker-iterator) steps.0 (omega (arith, steps.1)) was.rest;
       ours = was.ours;
       in_order = λ e. absurd (omega (arith, steps.1));
     }
@@ -112,6 +112,6 @@ returns g c =
           let kept = (joined.each n worker here).1 in
           let there = slice_get_read threads.items (vec_len threads) n kept.handle threads.ok.0 here kept.handle_is in
           let ours = was.ours n kept.handle there in
-          worked_there b kept.handle.promise.index.now.board (g.G.Gate.may_answer c.captures.gate.now) (g.G.Gate.may_answer kept.handle.promise.gate.now) c.captures.seed kept.handle.promise.seed n kept.handle.promise.pass c.captures.commands kept.handle.promise.commands worker (slice_index_or worked.items n worker)
-          ours.0 (ap (λ gate. g.G.Gate.may_answer gate) ours.1) ours.2 (was.in_order (omega (arith, all, over.0)) n kept.handle there) ours.3 (get_or_from_slice_get worked.items n worker worker at) kept.kept,
+          worked_there b c.captures.plan kept.handle.promise.index.now.board (g.G.Gate.may_answer c.captures.gate.now) (g.G.Gate.may_answer kept.handle.promise.gate.now) (g.G.Gate.told c.captures.gate.now) (g.G.Gate.told kept.handle.promise.gate.now) kept.handle.promise.plan n kept.handle.promise.pass worker (slice_index_or worked.items n worker)
+          ours.0 (ap (λ gate. g.G.Gate.may_answer gate) ours.1) (ap (λ gate. g.G.Gate.told gate) ours.1) ours.2 (was.in_order (omega (arith, all, over.0)) n kept.handle there) (get_or_from_slice_get worked.items n worker worker at) kept.kept,
     )

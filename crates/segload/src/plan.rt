@@ -1,0 +1,24 @@
+//! What the passes of a load are to do.
+ghost use Rattle.std.specs.Prelude.{◌≡◌};
+
+use segpolicy::Workload;
+use std::num::NonZeroU32;
+
+/// So many commands for each pass, over so many keys, drawn with this seed.
+#[derive(Clone, Copy, Debug)]
+pub(crate) struct Plan {
+    pub(crate) seed: u64,
+    pub(crate) commands: u32,
+    pub(crate) keys: NonZeroU32,
+}
+
+impl Plan {
+    ghost use Rattle.segload.specs.Working.{draws_for};
+
+    /// The commands of a pass.
+    pub(crate) fn workload(self, pass: u32) -> Workload
+        ensures { result ≡ draws_for self pass }
+    {
+        Workload::with_keys(self.seed, pass, self.keys.get())
+    }
+}
