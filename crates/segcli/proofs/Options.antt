@@ -1,18 +1,21 @@
 -- The number of an option, as a getter of matches reads it.
-use Rattle.std.proofs.Common.{◌≡◌, ◌∙◌, ◌^◌, ◌&&◌, ℕ, Bool, true, false, List, [], ◌∷◌, length, Option, Some, None, Result, ap, refl, nat_lt, lt-ltb, ltb-true}
+use Rattle.std.proofs.Common.{◌≡◌, ◌∙◌, ◌^◌, ◌&&◌, ℕ, Bool, true, false, List, [], ◌∷◌, length, Option, Some, None, Result, ap, refl, sym, nat_lt, lt-ltb, ltb-true}
 use Rattle.std.specs.List.{list_all}
 use Rattle.std.specs.Option.{unwrap_or, option_map, option_map_or}
 use Rattle.std.specs.declared.num.ParseIntError.{ParseIntError}
+use Rattle.std.specs.declared.str.ParseBoolError.{ParseBoolError}
 use Rattle.std.specs.Borrow.{Bor}
 use Rattle.std.specs.Char.{digit_value}
-use Rattle.std.specs.Str.Parse.{AllDigits, ExplainsUnsignedError, HasUnsignedDigitsIfOk, ParsesUnsigned, digits_value, without_leading_plus}
+use Rattle.std.specs.Str.{bytes_eq}
+use Rattle.std.specs.Str.Parse.{AllDigits, ExplainsUnsignedError, HasUnsignedDigitsIfOk, ParsesBool, ParsesUnsigned, digits_value, true_text, without_leading_plus}
+use Rattle.std.proofs.lemmas.Slice.Eq.{bytes_eq-Decides}
 use Rattle.clap.specs.Matches.{ReadsOne, first_value, one_text}
 use Rattle.clap.specs.Walk.{first_of, rows_of}
 use Rattle.clap.specs.declared.parser.matches.Found.{Found}
 use Rattle.clap.specs.ValueTests.{is_numeral}
 use Rattle.clap.proofs.WalkLemmas.{both, first_value-rows, one_text-rows}
 use Rattle.segcli.specs.CommandLine.{NumberOption}
-use Rattle.segcli.specs.Asked.{number_or, number_given}
+use Rattle.segcli.specs.Asked.{number_or, number_given, is_given}
 
 digits_pass : (ds : List ℕ) → AllDigits 10 ds → list_all (λ d. nat_lt (digit_value d) 10) ds ≡ true
 digits_pass [] h = refl
@@ -54,6 +57,24 @@ found_number other bits (Some text) r none some = read_number other bits text r 
 pub option_read : (option : NumberOption) (found : Found) {r : Option ℕ} {n : ℕ} → (one_text found option.name ≡ None → r ≡ None) → ((t : List ℕ) → one_text found option.name ≡ Some t → ReadsOne (Gives option.bits) t r) → n ≡ unwrap_or r option.default → n ≡ number_given option (rows_of found)
 option_read option found {r} none some is =
     is ∙ rw (← one_text-rows found option.name) (found_number option.default option.bits (one_text found option.name) r none some)
+
+-- a text that isn't `true`
+other_text : (text : List ℕ) (b : Bool) → bytes_eq text true_text ≡ b → (text ≡ true_text → ⊥) → false ≡ bytes_eq text true_text
+other_text text false is other = sym is
+other_text text true is other = absurd (other ((bytes_eq-Decides text true_text).0 is))
+
+read_flag : (text : List ℕ) (r : Option Bool) → ReadsOne (ParsesBool {E = ParseBoolError}) text r → unwrap_or r false ≡ bytes_eq text true_text
+read_flag text (Some true) read = sym ((bytes_eq-Decides text true_text).1 read)
+read_flag text (Some false) read = rw read refl
+read_flag text None read = other_text text (bytes_eq text true_text) refl read.1.0
+
+found_flag : (text : Option (List ℕ)) (r : Option Bool) → (text ≡ None → r ≡ None) → ((t : List ℕ) → text ≡ Some t → ReadsOne (ParsesBool {E = ParseBoolError}) t r) → unwrap_or r false ≡ option_map_or (λ t. bytes_eq t true_text) text false
+found_flag None r none some = rw (none refl) refl
+found_flag (Some text) r none some = read_flag text r (some text refl)
+
+pub flag_read : (flag : List ℕ) (found : Found) {r : Option Bool} {b : Bool} → (one_text found flag ≡ None → r ≡ None) → ((t : List ℕ) → one_text found flag ≡ Some t → ReadsOne (ParsesBool {E = ParseBoolError}) t r) → b ≡ unwrap_or r false → b ≡ is_given flag (rows_of found)
+flag_read flag found {r} none some is =
+    is ∙ rw (← one_text-rows found flag) (found_flag (one_text found flag) r none some)
 
 unwrapped : (r : Option (Bor (List ℕ))) (other : Bor (List ℕ)) → (unwrap_or r other).now ≡ unwrap_or (option_map (λ s. s.now) r) other.now
 unwrapped None other = refl

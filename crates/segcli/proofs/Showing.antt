@@ -1,9 +1,7 @@
 -- A text that was shown, as the end of the command that shows it.
 use Rattle.std.proofs.Common.{◌≡◌, ◌∙◌, ℕ, List, Result, Ok, Err, subst}
-use Rattle.segword.specs.declared.shape.Shape.{Shape}
-use Rattle.segword.specs.declared.reading.Reading.{Reading}
-use Rattle.segload.specs.Loads.{IsLoad}
-use Rattle.segload.specs.declared.totals.Totals.{Totals}
+use Rattle.segword.specs.Words.{Reading, Shape}
+use Rattle.segload.specs.Words.{IsLoad, Totals}
 use Rattle.segcli.specs.Explained.{SpellsWord, explanation}
 use Rattle.segcli.specs.Totals.{totals_text}
 use Rattle.segcli.specs.Commands.{ShowOutcome, WordOutcome, LoadOutcome}
@@ -20,11 +18,11 @@ word_shown text reading Wrote before flushes end says is shown =
     word_ends text reading Wrote before flushes end says (subst (λ l. ShowOutcome l Wrote before flushes end) is shown)
 
 -- the totals of a load
-load_ends : (shape : Shape) (seed commands : ℕ) (totals : Totals) (Wrote : List ℕ → Type 0) (before flushes : ℕ) (end : Result (Unit {0}) ProgramFault) → IsLoad shape seed commands totals → ShowOutcome (totals_text totals) Wrote before flushes end → LoadOutcome shape seed commands Wrote before flushes end
-load_ends shape seed commands totals Wrote before flushes (Ok v) is shown = (totals, is, shown)
-load_ends shape seed commands totals Wrote before flushes (Err fault.Write) is shown = (totals, is, shown)
-load_ends shape seed commands totals Wrote before flushes (Err f) is shown = absurd shown
+load_ends : (shape : Shape) (seed keys commands : ℕ) (totals : Totals) (Wrote : List ℕ → Type 0) (before flushes : ℕ) (end : Result (Unit {0}) ProgramFault) → IsLoad shape seed keys commands totals → ShowOutcome (totals_text totals) Wrote before flushes end → LoadOutcome shape seed keys commands Wrote before flushes end
+load_ends shape seed keys commands totals Wrote before flushes (Ok v) is shown = (totals, is, shown)
+load_ends shape seed keys commands totals Wrote before flushes (Err fault.Write) is shown = (totals, is, shown)
+load_ends shape seed keys commands totals Wrote before flushes (Err f) is shown = absurd shown
 
-pub load_shown : (shape : Shape) (seed commands : ℕ) (Wrote : List ℕ → Type 0) (before flushes : ℕ) (end : Result (Unit {0}) ProgramFault) {text lines : List ℕ} → (totals : Totals) × IsLoad shape seed commands totals × (text ≡ totals_text totals) → lines ≡ text → ShowOutcome lines Wrote before flushes end → LoadOutcome shape seed commands Wrote before flushes end
-load_shown shape seed commands Wrote before flushes end told same shown =
-    load_ends shape seed commands told.0 Wrote before flushes end told.1 (subst (λ l. ShowOutcome l Wrote before flushes end) (same ∙ told.2) shown)
+pub load_shown : (shape : Shape) (seed keys commands : ℕ) (Wrote : List ℕ → Type 0) (before flushes : ℕ) (end : Result (Unit {0}) ProgramFault) {text lines : List ℕ} → (totals : Totals) × IsLoad shape seed keys commands totals × (text ≡ totals_text totals) → lines ≡ text → ShowOutcome lines Wrote before flushes end → LoadOutcome shape seed keys commands Wrote before flushes end
+load_shown shape seed keys commands Wrote before flushes end told same shown =
+    load_ends shape seed keys commands told.0 Wrote before flushes end told.1 (subst (λ l. ShowOutcome l Wrote before flushes end) (same ∙ told.2) shown)

@@ -2,7 +2,7 @@
 use Rattle.std.proofs.Common.{◌≡◌, ℕ, ◌+◌, ◌<◌, List, ◌++◌, length, get_or, drop, drop-cons, append-nil, Result, Ok, Err, IfOk, refl, sym, ap, ◌∙◌, add-one}
 use Rattle.std.proofs.lemmas.List.{append_assoc}
 use Rattle.std.proofs.Math.Seq.{drop-length}
-use Rattle.segload.specs.declared.totals.PassTotals.{PassTotals}
+use Rattle.segload.specs.Words.{PassTotals}
 use Rattle.segcli.specs.Totals.{pass_line, pass_lines}
 
 -- a text is one that bytes were put behind

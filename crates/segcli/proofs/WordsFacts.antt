@@ -1,6 +1,8 @@
 -- What words that are written out are read as.
-use Rattle.std.proofs.Common.{◌≡◌, [], ◌∷◌, Ok, refl, codes}
+use Rattle.std.proofs.Common.{◌≡◌, [], ◌∷◌, Ok, true, false, refl, codes}
 use Rattle.std.specs.Fmt.{digits}
+use Rattle.std.specs.Int.NonZero.{non_zero_u32_get}
+use Rattle.std.specs.declared.num.NonZeroU32.{NonZeroU32}
 use Rattle.clap.specs.Faults.{fault_of}
 use Rattle.clap.specs.declared.error.kind.ErrorKind.TheVariants as kind
 use Rattle.clap.proofs.OnLiterals.{clap_on_literals}
@@ -12,9 +14,33 @@ script_alone : IsReadAsCommand (codes "script" ∷ []) (Ok (command.Script defau
 unfolding command_line clap_on_literals digits
 script_alone = (refl, (refl, refl))
 
-load_with_options : IsReadAsCommand (codes "load" ∷ codes "--seed" ∷ codes "7" ∷ codes "--rows=4" ∷ []) (Ok (command.Load (record default_shape { rows = 4 }) 7 1000))
+load_with_options : (keys : NonZeroU32) → non_zero_u32_get keys ≡ 64 → IsReadAsCommand (codes "load" ∷ codes "--seed" ∷ codes "7" ∷ codes "--rows=4" ∷ []) (Ok (command.Load (record default_shape { rows = 4 }) 7 1000 keys false))
 unfolding command_line clap_on_literals digits
-load_with_options = (refl, (refl, refl, refl, refl))
+load_with_options keys is = (refl, (refl, refl, refl, refl, is, refl))
+
+load_over_keys : (keys : NonZeroU32) → non_zero_u32_get keys ≡ 1000000 → IsReadAsCommand (codes "load" ∷ codes "--keys" ∷ codes "1000000" ∷ []) (Ok (command.Load default_shape 1 1000 keys false))
+unfolding command_line clap_on_literals digits
+load_over_keys keys is = (refl, (refl, refl, refl, refl, is, refl))
+
+load_with_progress : (keys : NonZeroU32) → non_zero_u32_get keys ≡ 64 → IsReadAsCommand (codes "load" ∷ codes "--progress" ∷ codes "--seed=7" ∷ []) (Ok (command.Load default_shape 7 1000 keys true))
+unfolding command_line clap_on_literals digits
+load_with_progress keys is = (refl, (refl, refl, refl, refl, is, refl))
+
+progress_twice : fault_of command_line (codes "load" ∷ codes "--progress" ∷ codes "--progress" ∷ []) ≡ kind.ArgumentConflict ∷ []
+unfolding command_line clap_on_literals digits
+progress_twice = refl
+
+progress_of_a_script : fault_of command_line (codes "script" ∷ codes "--progress" ∷ []) ≡ kind.UnknownArgument ∷ []
+unfolding command_line clap_on_literals digits
+progress_of_a_script = refl
+
+no_keys : fault_of command_line (codes "load" ∷ codes "--keys" ∷ codes "0" ∷ []) ≡ kind.ValueValidation ∷ []
+unfolding command_line clap_on_literals digits
+no_keys = refl
+
+too_many_keys : fault_of command_line (codes "load" ∷ codes "--keys" ∷ codes "1000001" ∷ []) ≡ kind.ValueValidation ∷ []
+unfolding command_line clap_on_literals digits
+too_many_keys = refl
 
 no_such_option : fault_of command_line (codes "load" ∷ codes "--row" ∷ codes "4" ∷ []) ≡ kind.UnknownArgument ∷ []
 unfolding command_line clap_on_literals digits

@@ -45,7 +45,7 @@ of_words (word ∷ words) read some is = is
 
 pub command_read : (words : List Text) (found : Text × List Row) (asked : Command) → fault_of command_line words ≡ [] → subcommand_of command_line words ≡ Some found → IsAsked found asked → IsReadByClap words (Ok asked)
 command_read words found (command.Script shape) none is asked = (none, subst (λ o. IsSomeAnd o (λ f. IsAsked f (command.Script shape))) (sym is) asked)
-command_read words found (command.Load shape seed commands) none is asked = (none, subst (λ o. IsSomeAnd o (λ f. IsAsked f (command.Load shape seed commands))) (sym is) asked)
+command_read words found (command.Load shape seed commands keys progress) none is asked = (none, subst (λ o. IsSomeAnd o (λ f. IsAsked f (command.Load shape seed commands keys progress))) (sym is) asked)
 command_read words found (command.Word text) none is asked = (none, subst (λ o. IsSomeAnd o (λ f. IsAsked f (command.Word text))) (sym is) asked)
 command_read words found (command.Show text) none is asked = absurd asked
 
@@ -121,7 +121,7 @@ pub fault_read : (words : List Text) (k : ErrorKind) (read : Result Command Refu
 fault_read words k (Ok (command.Show text)) (inl memory) refused = absurd (cc (ap is_request memory))
 fault_read words k (Ok (command.Show text)) (inr among) refused = among_any is_request k (fault_of command_line words) refused among
 fault_read words k (Ok (command.Script shape)) why refused = absurd refused
-fault_read words k (Ok (command.Load shape seed commands)) why refused = absurd refused
+fault_read words k (Ok (command.Load shape seed commands keys progress)) why refused = absurd refused
 fault_read words k (Ok (command.Word text)) why refused = absurd refused
 fault_read words k (Err (refusal.Usage text)) (inl memory) refused = absurd (refused.1 memory)
 fault_read words k (Err (refusal.Usage text)) (inr among) refused = among_any (λ x. not (is_request x)) k (fault_of command_line words) (ap not refused.0) among

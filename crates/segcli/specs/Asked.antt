@@ -1,9 +1,11 @@
 -- What the program is asked to do by its words.
-use Rattle.std.specs.Prelude.{◌≡◌, ◌≢◌, ◌⊎◌, ◌^◌, ◌&&◌, ⊤, ℕ, Bool, true, false, not, List, [], ◌∷◌, Result, Ok, Err, IsSomeAnd, if◌then◌else◌, nat_lt, unwrap_or, codes}
+use Rattle.std.specs.Prelude.{◌≡◌, ◌≢◌, ◌⊎◌, ◌^◌, ◌&&◌, ⊤, ℕ, max, Bool, true, false, not, List, [], ◌∷◌, Result, Ok, Err, IsSomeAnd, if◌then◌else◌, nat_lt, unwrap_or, codes}
 use Rattle.std.specs.List.{list_any}
 use Rattle.std.specs.Option.{option_map_or}
-use Rattle.std.specs.Str.Parse.{digits_value, without_leading_plus}
-use Rattle.segword.specs.declared.shape.Shape.{Shape}
+use Rattle.std.specs.Int.NonZero.{non_zero_u32_get}
+use Rattle.std.specs.Str.{bytes_eq}
+use Rattle.std.specs.Str.Parse.{digits_value, true_text, without_leading_plus}
+use Rattle.segword.specs.Words.{Shape}
 use Rattle.clap.specs.Walk.{Row, Text, first_of, one_of}
 use Rattle.clap.specs.Simple.{subcommand_of}
 use Rattle.clap.specs.ValueTests.{is_numeral}
@@ -11,7 +13,7 @@ use Rattle.clap.specs.Faults.{fault_of}
 use Rattle.clap.specs.declared.error.kind.ErrorKind.{ErrorKind}
 use Rattle.clap.specs.declared.error.kind.ErrorKind.TheVariants as kind
 use Rattle.segcli.specs.CommandLine.{NumberOption, command_line, default_shape, hex}
-use Rattle.segcli.specs.CommandLine.{buckets_option, overflow_option, passes_option, segments_option, rows_option, first_version_option, seed_option, commands_option}
+use Rattle.segcli.specs.CommandLine.{buckets_option, overflow_option, passes_option, segments_option, rows_option, first_version_option, seed_option, commands_option, keys_option, progress_flag}
 use Rattle.segcli.specs.declared.arguments.Refusal.{Refusal}
 use Rattle.segcli.specs.declared.arguments.Refusal.TheVariants as refusal
 use Rattle.segcli.specs.declared.command.Command.{Command}
@@ -29,6 +31,10 @@ number_or other bits text =
 abbrev pub number_given : NumberOption → List Row → ℕ
 number_given option rows = option_map_or (number_or option.default option.bits) (one_of option.name rows) option.default
 
+-- whether a flag is given: `clap` gives it the text `true` if the words have it, and else `false`
+abbrev pub is_given : Text → List Row → Bool
+is_given flag rows = option_map_or (λ text. bytes_eq text true_text) (one_of flag rows) false
+
 abbrev pub shape_given : List Row → Shape
 shape_given rows = record {
   buckets = number_given buckets_option rows;
@@ -42,12 +48,13 @@ shape_given rows = record {
 abbrev pub IsCommandName : Text → Type 0
 IsCommandName name = (name ≡ codes "script") ⊎ (name ≡ codes "load") ⊎ (name ≡ codes "word")
 
--- the command of this name with these matches
+-- the command of this name with these matches; a load has one key at least, and `clap` lets no 0 through
 abbrev pub IsAsked : Text × List Row → Command → Type 0
 IsAsked asked (command.Script shape) = (asked.0 ≡ codes "script") × (shape ≡ shape_given asked.1)
-IsAsked asked (command.Load shape seed commands) =
+IsAsked asked (command.Load shape seed commands keys progress) =
     (asked.0 ≡ codes "load") × (shape ≡ shape_given asked.1)
     × (seed ≡ number_given seed_option asked.1) × (commands ≡ number_given commands_option asked.1)
+    × (non_zero_u32_get keys ≡ max 1 (number_given keys_option asked.1)) × (progress ≡ is_given progress_flag asked.1)
 IsAsked asked (command.Word text) = (asked.0 ≡ codes "word") × (text.now ≡ unwrap_or (first_of hex asked.1) [])
 IsAsked asked (command.Show text) = ⊥
 

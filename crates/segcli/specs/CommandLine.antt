@@ -1,8 +1,9 @@
 -- The command line of the program as data: its commands, and what `clap` reads of each.
 use Rattle.std.specs.Prelude.{◌≡◌, ◌==◌, ◌++◌, ℕ, pos, true, false, List, [], ◌∷◌, fold, map, Some, if◌then◌else◌, codes, decimal}
-use Rattle.segword.specs.declared.shape.Shape.{Shape}
+use Rattle.segword.specs.Words.{Shape}
 use Rattle.clap.specs.Walk.{Rule, Text}
 use Rattle.clap.specs.Simple.{App, Shape as CommandRules, app_of, new_rule, new_shape, with_rule, with_subcommand}
+use Rattle.clap.specs.declared.builder.action.ArgAction.TheVariants.{SetTrue}
 use Rattle.clap.specs.declared.builder.command.Command.{Command}
 use Rattle.clap.specs.declared.builder.command.Command.TheViews.{out-Command as fields_of}
 use Rattle.clap.specs.declared.builder.value_parser.ValueParser.{ValueParser}
@@ -14,14 +15,17 @@ default_shape = record { buckets = 1; overflow = 0; passes = 1; segments_each = 
 
 -- ---- options
 
--- `--NAME N`, where N is a number of so many bits, and is this one where the words don't say it
+-- `--NAME N`, where N is a number of so many bits, and within these bounds; it is this one where the words don't say it
 pub record NumberOption : Type 0 where
   pub name : Text
   pub bits : ℕ
+  pub least : ℕ
+  pub most : ℕ
   pub default : ℕ
 
+-- any number of 32 bits
 abbrev pub of_32_bits : Text → ℕ → NumberOption
-of_32_bits name default = record { name = name; bits = 32; default = default }
+of_32_bits name default = record { name = name; bits = 32; least = 0; most = 4294967295; default = default }
 
 abbrev pub buckets_option : NumberOption
 buckets_option = of_32_bits (codes "buckets") default_shape.buckets
@@ -42,17 +46,20 @@ abbrev pub first_version_option : NumberOption
 first_version_option = of_32_bits (codes "first-version") default_shape.first_version
 
 abbrev pub seed_option : NumberOption
-seed_option = record { name = codes "seed"; bits = 64; default = 1 }
+seed_option = record { name = codes "seed"; bits = 64; least = 0; most = 18446744073709551615; default = 1 }
 
 abbrev pub commands_option : NumberOption
 commands_option = of_32_bits (codes "commands") 1000
 
+abbrev pub keys_option : NumberOption
+keys_option = record (of_32_bits (codes "keys") 64) { least = 1; most = 1000000 }
+
 abbrev pub shape_options : List NumberOption
 shape_options = buckets_option ∷ overflow_option ∷ passes_option ∷ segments_option ∷ rows_option ∷ first_version_option ∷ []
 
--- what takes numbers of so many bits
-abbrev pub number_parser : ℕ → ValueParser
-number_parser bits = if bits == 64 then parser.Unsigned 0 18446744073709551615 else parser.Signed (pos 0) (pos 4294967295)
+-- what takes the numbers of an option
+abbrev pub number_parser : NumberOption → ValueParser
+number_parser option = if option.bits == 64 then parser.Unsigned option.least option.most else parser.Signed (pos option.least) (pos option.most)
 
 -- an option of this name, whose values this parser takes, and which has this value where it isn't given
 abbrev pub option_rule : Text → ValueParser → Text → Rule
@@ -60,7 +67,15 @@ option_rule name takes default =
     record (new_rule name) { long = Some name; value_names = 1; parser = Some takes; defaults = default ∷ [] }
 
 abbrev pub rule_of_option : NumberOption → Rule
-rule_of_option option = option_rule option.name (number_parser option.bits) (decimal option.default)
+rule_of_option option = option_rule option.name (number_parser option) (decimal option.default)
+
+-- an option of this name that takes no value
+abbrev pub flag_rule : Text → Rule
+flag_rule name = record (new_rule name) { long = Some name; action = Some SetTrue }
+
+-- `--progress`, of a load
+abbrev pub progress_flag : Text
+progress_flag = codes "progress"
 
 -- the hexadecimal digits of `word`, which have to be given
 abbrev pub hex : Text
@@ -78,7 +93,8 @@ abbrev pub script_rules : CommandRules
 script_rules = command_rules (codes "script") (map rule_of_option shape_options)
 
 abbrev pub load_rules : CommandRules
-load_rules = command_rules (codes "load") (map rule_of_option (shape_options ++ seed_option ∷ commands_option ∷ []))
+load_rules =
+    command_rules (codes "load") (map rule_of_option (shape_options ++ seed_option ∷ commands_option ∷ keys_option ∷ []) ++ flag_rule progress_flag ∷ [])
 
 abbrev pub word_rules : CommandRules
 word_rules = command_rules (codes "word") (hex_rule ∷ [])

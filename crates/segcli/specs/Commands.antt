@@ -1,18 +1,15 @@
 -- How the commands of the program end, and what is reported then.
 use Rattle.std.specs.Prelude.{◌≡◌, ℕ, Bool, true, List, [], Result, Ok, Err, string_bytes}
-use Rattle.segword.specs.declared.shape.Shape.{Shape}
-use Rattle.segword.specs.declared.reading.Reading.{Reading}
+use Rattle.std.specs.Int.NonZero.{non_zero_u32_get}
+use Rattle.segword.specs.Words.{Reading, Shape}
 use Rattle.segcli.specs.Explained.{SpellsWord, explanation}
 use Rattle.segcli.specs.Faults.{end_of_run, fault_of_load, fault_line, fault_status, is_write_end}
 use Rattle.segcli.specs.Printing.{PrintOutcome, IsPrinted, IsFlushed}
 use Rattle.segcli.specs.Totals.{totals_text}
-use Rattle.segscript.specs.EachTurn.{EachTurn}
-use Rattle.segscript.specs.Run.{RunOutcome, ShapeIsAnswered, is_read_fault, is_write_fault, is_make_fault}
-use Rattle.segscript.specs.declared.fault.RunFault.{RunFault}
-use Rattle.segload.specs.Gates.{lets_all_through}
-use Rattle.segload.specs.Loads.{IsLoad, IsLoadFault}
+use Rattle.segscript.specs.Words.{EachTurn, is_make_fault, is_read_fault, is_write_fault, RunFault}
+use Rattle.segscript.specs.Words.{RunOutcome, ShapeIsAnswered}
+use Rattle.segload.specs.Words.{IsLoad, IsLoadFault, lets_all_through, Totals}
 use Rattle.segload.specs.declared.fault.LoadFault.{LoadFault}
-use Rattle.segload.specs.declared.totals.Totals.{Totals}
 use Rattle.segcli.specs.declared.fault.ProgramFault.{ProgramFault}
 use Rattle.segcli.specs.declared.fault.ProgramFault.TheVariants as fault
 use Rattle.segcli.specs.declared.command.Command.{Command}
@@ -55,14 +52,14 @@ WordOutcome text Wrote before flushes end = (reading : Reading) × SpellsWord te
 abbrev pub IsFaultOfLoad : Shape → ℕ → ProgramFault → Type 0
 IsFaultOfLoad shape commands f = (why : LoadFault) × IsLoadFault shape commands lets_all_through why × (f ≡ fault_of_load why)
 
--- The totals of a load of this shape, in which each pass made so many commands, drawn with this seed, were shown; or there are
--- none to show, and nothing was written.
-abbrev pub LoadOutcome : Shape → ℕ → ℕ → (List ℕ → Type 0) → ℕ → ℕ → Result (Unit {0}) ProgramFault → Type 0
-LoadOutcome shape seed commands Wrote before flushes (Ok _) =
-    (totals : Totals) × IsLoad shape seed commands totals × ShowOutcome (totals_text totals) Wrote before flushes (Ok tt)
-LoadOutcome shape seed commands Wrote before flushes (Err fault.Write) =
-    (totals : Totals) × IsLoad shape seed commands totals × ShowOutcome (totals_text totals) Wrote before flushes (Err fault.Write)
-LoadOutcome shape seed commands Wrote before flushes (Err f) =
+-- The totals of a load of this shape, in which each pass made so many commands over so many keys, drawn with this seed, were
+-- shown; or there are none to show, and nothing was written.
+abbrev pub LoadOutcome : Shape → ℕ → ℕ → ℕ → (List ℕ → Type 0) → ℕ → ℕ → Result (Unit {0}) ProgramFault → Type 0
+LoadOutcome shape seed keys commands Wrote before flushes (Ok _) =
+    (totals : Totals) × IsLoad shape seed keys commands totals × ShowOutcome (totals_text totals) Wrote before flushes (Ok tt)
+LoadOutcome shape seed keys commands Wrote before flushes (Err fault.Write) =
+    (totals : Totals) × IsLoad shape seed keys commands totals × ShowOutcome (totals_text totals) Wrote before flushes (Err fault.Write)
+LoadOutcome shape seed keys commands Wrote before flushes (Err f) =
     IsFaultOfLoad shape commands f × Wrote [] × (flushes ≡ before)
 
 -- ---- commands
@@ -70,9 +67,9 @@ LoadOutcome shape seed commands Wrote before flushes (Err f) =
 abbrev pub CommandOutcome : {R W : Type 0} → (R → List ℕ → R → Type 0) → (R → Type 0) → (R → Bool) → (W → List ℕ → W → Type 0) → (W → Bool) → (W → ℕ) → Command → R → R → W → W → Result (Unit {0}) ProgramFault → Type 0
 CommandOutcome hands is_at_end read_failed takes write_failed flushes (command.Script shape) reader reader' writer writer' end =
     ScriptOutcome hands is_at_end read_failed takes write_failed flushes shape reader reader' writer writer' end
-CommandOutcome hands is_at_end read_failed takes write_failed flushes (command.Load shape seed commands) reader reader' writer writer' end =
+CommandOutcome hands is_at_end read_failed takes write_failed flushes (command.Load shape seed commands keys progress) reader reader' writer writer' end =
     (reader' ≡ reader) × (write_failed writer' ≡ is_write_end end)
-    × LoadOutcome shape seed commands (λ part. takes writer part writer') (flushes writer) (flushes writer') end
+    × LoadOutcome shape seed (non_zero_u32_get keys) commands (λ part. takes writer part writer') (flushes writer) (flushes writer') end
 CommandOutcome hands is_at_end read_failed takes write_failed flushes (command.Word text) reader reader' writer writer' end =
     (reader' ≡ reader) × (write_failed writer' ≡ is_write_end end)
     × WordOutcome text.now (λ part. takes writer part writer') (flushes writer) (flushes writer') end

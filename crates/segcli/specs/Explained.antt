@@ -1,8 +1,7 @@
 -- What a word of the command line says of an item word, and the line that explains it.
 use Rattle.std.specs.Prelude.{◌≡◌, ℕ, ◌/◌, ◌%◌, List, [], ◌∷◌, ◌++◌, length, slice_index, codes, decimal}
 use Rattle.std.specs.Str.Parse.{AllDigits, digits_value}
-use Rattle.segword.specs.Reading.{reading_word, IsProperReading}
-use Rattle.segword.specs.declared.reading.Reading.{Reading}
+use Rattle.segword.specs.Words.{IsProperReading, Reading, reading_word}
 use Rattle.segword.specs.declared.reading.Reading.TheVariants as reading
 
 -- the text is exactly 16 hexadecimal digits, of either case

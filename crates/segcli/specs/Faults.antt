@@ -1,8 +1,8 @@
 -- The faults of the program: their lines and statuses.
 use Rattle.std.specs.Prelude.{ℕ, List, ◌++◌, codes, decimal, Result, Ok, Err, Bool, true, false}
-use Rattle.segword.specs.Shape.{fault_number}
+use Rattle.segword.specs.Words.{fault_number}
 use Rattle.segbase.specs.declared.fault.MakeFault.TheVariants as made
-use Rattle.segscript.specs.declared.fault.RunFault.{RunFault}
+use Rattle.segscript.specs.Words.{RunFault}
 use Rattle.segscript.specs.declared.fault.RunFault.TheVariants as run
 use Rattle.segload.specs.declared.fault.LoadFault.{LoadFault}
 use Rattle.segload.specs.declared.fault.LoadFault.TheVariants as load

@@ -5,4 +5,5 @@ pub mod Explained
 pub mod Faults
 pub mod Printing
 pub mod Program
+pub mod Progress
 pub mod Totals

@@ -1,6 +1,6 @@
 -- A text that is written and flushed.
 use Rattle.std.specs.Prelude.{◌⊎◌, ◌≡◌, ℕ, Bool, List, [], Result, Ok, Err, is_err}
-use Rattle.segscript.specs.Device.{IsBeginning, flushed}
+use Rattle.segscript.specs.Words.{flushed, IsBeginning}
 use Rattle.segscript.specs.declared.device.Failed.{Failed}
 
 -- How the printing of a text ends: Wrote is what is so of the bytes that were written, and before and flushes are how many

@@ -1,8 +1,7 @@
 -- What the program prints of a load.
 use Rattle.std.specs.Prelude.{ℕ, ◌+◌, List, [], ◌∷◌, ◌++◌, codes, decimal, sum_by}
 use Rattle.segload.specs.declared.totals.Tallies.{Tallies}
-use Rattle.segload.specs.declared.totals.PassTotals.{PassTotals}
-use Rattle.segload.specs.declared.totals.Totals.{Totals}
+use Rattle.segload.specs.Words.{PassTotals, Totals}
 
 -- the ten tallies of a pass, each with its name
 abbrev pub tallies_text : Tallies → List ℕ

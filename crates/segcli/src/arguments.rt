@@ -1,7 +1,9 @@
 //! Reads the words of the command line.
-ghost use Rattle.std.specs.Prelude.{◌≡◌, string_bytes, map};
+ghost use Rattle.std.specs.Prelude.{◌≡◌, string_bytes, map, max};
+ghost use Rattle.std.specs.Int.NonZero.{non_zero_u32_get};
 ghost use Rattle.clap.specs.Words.{found_of, kind_of, rows_of};
-ghost use Rattle.segcli.specs.Asked.{IsAsked, IsCommandName, IsReadAsCommand, IsRefused, shape_given};
+ghost use Rattle.segcli.specs.CommandLine.{keys_option};
+ghost use Rattle.segcli.specs.Asked.{IsAsked, IsCommandName, IsReadAsCommand, IsRefused, number_given, shape_given};
 
 use crate::command::Command;
 use crate::command_line::program;
@@ -9,6 +11,7 @@ use clap::ArgMatches;
 use clap::error::{Error, ErrorKind};
 use segword::Shape;
 use std::alloc::{AllocError, Global};
+use std::num::NonZeroU32;
 
 /// The shape of an index that no option changes: one bucket, one pass, and one segment of eight rows.
 pub const SHAPE: Shape = Shape {
@@ -20,10 +23,12 @@ pub const SHAPE: Shape = Shape {
     first_version: 0,
 };
 
-/// The seed of a load, and how many commands each of its passes makes, where no option says it.
+/// The seed of a load, how many commands each of its passes makes, and over how many keys, where no option says it.
 const SEED: u64 = 1;
 
 const COMMANDS: u32 = 1000;
+
+const KEYS: u32 = 64;
 
 /// Why no command was read.
 #[derive(Debug, Drop)]
@@ -82,10 +87,20 @@ fn command_of<'a>(name: &str, matches: &ArgMatches<'a>) -> Command<'a>
             shape: shape_of(matches),
             seed: matches.get_one("seed").unwrap_or(SEED),
             commands: matches.get_one("commands").unwrap_or(COMMANDS),
+            keys: keys_of(matches),
+            progress: matches.get_one("progress").unwrap_or(false),
         },
         "word" => Command::Word(matches.get_str("HEX").unwrap_or("")),
         _ => Command::Script(shape_of(matches)),
     }
+}
+
+// How many keys a load is over: `clap` lets no 0 through.
+fn keys_of(matches: &ArgMatches<'_>) -> NonZeroU32
+    ensures { non_zero_u32_get result
+        ≡ max 1 (number_given keys_option (rows_of (found_of matches.now))) }
+{
+    NonZeroU32::new(matches.get_one("keys").unwrap_or(KEYS)).unwrap_or(NonZeroU32::MIN)
 }
 
 fn shape_of(matches: &ArgMatches<'_>) -> Shape

@@ -1,7 +1,8 @@
 //! The commands of the program, and how each ends.
 ghost use Rattle.std.specs.Prelude.{◌≡◌, false, Result, IfOk, IfErr};
+ghost use Rattle.std.specs.Int.NonZero.{non_zero_u32_get};
 ghost use Rattle.segload.specs.declared.totals.Totals.{Totals};
-ghost use Rattle.segload.specs.Loads.{IsLoad};
+ghost use Rattle.segload.specs.Words.{IsLoad, IsLoadFault, lets_all_through};
 ghost use Rattle.segcli.specs.declared.fault.ProgramFault.{ProgramFault};
 ghost use Rattle.segcli.specs.Faults.{is_write_end};
 ghost use Rattle.segcli.specs.Totals.{totals_text};
@@ -9,11 +10,13 @@ ghost use Rattle.segcli.specs.Commands.{ScriptOutcome, IsFaultOfLoad, LoadOutcom
 
 use crate::explanation::{explain, reading_of};
 use crate::fault::{ProgramFault, print, report};
+use crate::progress::{Watch, Watched};
 use crate::totals::text_of;
-use segload::{OpenGate, run_load};
+use segload::{LoadFault, OpenGate, Totals, run_crowd};
 use segscript::{Failed, Sink, Source, run_script};
 use segword::Shape;
 use std::alloc::{AllocError, AllocGlobal, Global};
+use std::num::NonZeroU32;
 use std::sync::Wait;
 use std::thread::Threads;
 
@@ -22,11 +25,14 @@ use std::thread::Threads;
 pub enum Command<'a> {
     /// Runs the script of the reader over an index of this shape.
     Script(Shape),
-    /// Runs a load over an index of this shape: each pass makes so many commands, drawn with this seed.
+    /// Runs a load over an index of this shape: each pass makes so many commands over so many keys, drawn with this seed.
+    /// If it is to tell its progress, a watch looks on.
     Load {
         shape: Shape,
         seed: u64,
         commands: u32,
+        keys: NonZeroU32,
+        progress: bool,
     },
     /// Explains the item word of these hexadecimal digits.
     Word(&'a str),
@@ -34,15 +40,21 @@ pub enum Command<'a> {
     Show(String),
 }
 
-/// Carries out a command, and answers the exit status. Replies, totals and explanations go to the writer; a fault is one line
-/// to the error writer, after a flush of the writer.
-pub fn run_command<R: Threads + Wait + AllocGlobal + Sync, S: Source, W: Sink, E: Sink>(
+/// Carries out a command, and answers the exit status.
+/// Replies, totals and explanations go to the writer.
+/// For a fault the writer is asked to flush, and one line goes to the error writer;
+/// the contract doesn't order the two.
+/// The watch looks on at a load that is to tell its progress.
+///
+/// A load waits for its threads. What the contract says holds if this returns.
+pub fn run_command<R: Threads + Wait + AllocGlobal + Sync, S: Source, W: Sink, E: Sink, V: Watch>(
     rt: &R,
     alloc: Global,
     command: &Command<'_>,
     source: &mut S,
     writer: &mut W,
     errors: &mut E,
+    watch: &V,
 ) -> u8
     requires source_works { S.has_failed source.old ≡ false }
     requires writer_works { W.has_failed writer.old ≡ false }
@@ -52,23 +64,25 @@ pub fn run_command<R: Threads + Wait + AllocGlobal + Sync, S: Source, W: Sink, E
     ensures outcome { (there : W) × (end : Result (Unit {0}) ProgramFault)
         × CommandOutcome S.hands S.is_at_end S.has_failed W.takes W.has_failed W.flushes command.now
         source.old source.new writer.old there end
-        × Concludes W.takes W.flushes E.takes E.has_failed E.flushes end there writer.new errors.old errors.new result }
+        × Concludes W.takes W.flushes E.takes E.has_failed E.flushes end there writer.new
+        errors.old errors.new result }
 {
-    let end = perform(rt, alloc, command, source, writer);
+    let end = perform(rt, alloc, command, source, writer, watch);
     conclude(end, writer, errors)
 }
 
-fn perform<R: Threads + Wait + AllocGlobal + Sync, S: Source, W: Sink>(
+fn perform<R: Threads + Wait + AllocGlobal + Sync, S: Source, W: Sink, V: Watch>(
     rt: &R,
     alloc: Global,
     command: &Command<'_>,
     source: &mut S,
     writer: &mut W,
+    watch: &V,
 ) -> Result<(), ProgramFault>
     requires source_works { S.has_failed source.old ≡ false }
     requires writer_works { W.has_failed writer.old ≡ false }
-    ensures { CommandOutcome S.hands S.is_at_end S.has_failed W.takes W.has_failed W.flushes command.now
-        source.old source.new writer.old writer.new result }
+    ensures { CommandOutcome S.hands S.is_at_end S.has_failed W.takes W.has_failed W.flushes
+        command.now source.old source.new writer.old writer.new result }
 {
     match command {
         Command::Script(shape) => perform_script(alloc, *shape, source, writer),
@@ -76,7 +90,12 @@ fn perform<R: Threads + Wait + AllocGlobal + Sync, S: Source, W: Sink>(
             shape,
             seed,
             commands,
-        } => perform_load(rt, alloc, *shape, *seed, *commands, writer),
+            keys,
+            progress,
+        } => {
+            let watch = progress.then_some(watch);
+            perform_load(rt, alloc, *shape, *seed, *commands, *keys, watch, writer)
+        }
         Command::Word(text) => perform_word(text, writer),
         Command::Show(text) => show(text.as_bytes(), writer),
     }
@@ -99,43 +118,72 @@ fn perform_script<S: Source, W: Sink>(
     }
 }
 
-fn perform_load<R: Threads + Wait + AllocGlobal + Sync, W: Sink>(
+fn perform_load<R: Threads + Wait + AllocGlobal + Sync, W: Sink, V: Watch>(
     rt: &R,
     alloc: Global,
     shape: Shape,
     seed: u64,
     commands: u32,
+    keys: NonZeroU32,
+    watch: Option<&V>,
     writer: &mut W,
 ) -> Result<(), ProgramFault>
     requires writer_works { W.has_failed writer.old ≡ false }
-    ensures outcome { LoadOutcome shape seed commands (λ part. W.takes writer.old part writer.new)
+    ensures outcome { LoadOutcome shape seed (non_zero_u32_get keys) commands
+        (λ part. W.takes writer.old part writer.new)
         (W.flushes writer.old) (W.flushes writer.new) result }
     ensures failed { W.has_failed writer.new ≡ is_write_end result }
 {
-    match load_text(rt, alloc, shape, seed, commands) {
+    match load_text(rt, alloc, shape, seed, commands, keys, watch) {
         Ok(text) => show(text.as_slice(), writer),
         Err(fault) => Err(fault),
     }
 }
 
 // Runs a load, and gives the text of its totals.
-fn load_text<R: Threads + Wait + AllocGlobal + Sync>(
+fn load_text<R: Threads + Wait + AllocGlobal + Sync, V: Watch>(
     rt: &R,
     alloc: Global,
     shape: Shape,
     seed: u64,
     commands: u32,
+    keys: NonZeroU32,
+    watch: Option<&V>,
 ) -> Result<Vec<u8>, ProgramFault>
-    ensures text { IfOk result (λ text. (totals : Totals) × IsLoad shape seed commands totals × (text.items ≡ totals_text totals)) }
+    ensures text { IfOk result (λ text. (totals : Totals)
+        × IsLoad shape seed (non_zero_u32_get keys) commands totals
+        × (text.items ≡ totals_text totals)) }
     ensures fault { IfErr result (IsFaultOfLoad shape commands) }
 {
-    let totals = match run_load(rt, alloc, shape, seed, commands, &OpenGate) {
+    let totals = match totals_of(rt, alloc, shape, seed, commands, keys, watch) {
         Ok(totals) => totals,
         Err(fault) => return Err(ProgramFault::of_load(fault)),
     };
     match text_of(alloc, &totals) {
         Ok(text) => Ok(text),
         Err(AllocError) => Err(ProgramFault::OutOfMemory),
+    }
+}
+
+// Runs a load, at which the watch looks on if there is one.
+fn totals_of<R: Threads + Wait + AllocGlobal + Sync, V: Watch>(
+    rt: &R,
+    alloc: Global,
+    shape: Shape,
+    seed: u64,
+    commands: u32,
+    keys: NonZeroU32,
+    watch: Option<&V>,
+) -> Result<Totals, LoadFault>
+    ensures load { IfOk result (IsLoad shape seed (non_zero_u32_get keys) commands) }
+    ensures fault { IfErr result (IsLoadFault shape commands lets_all_through) }
+{
+    match watch {
+        Some(watch) => {
+            let gate = Watched::new(watch, shape.passes, commands);
+            run_crowd(rt, alloc, shape, seed, commands, keys, &gate)
+        }
+        None => run_crowd(rt, alloc, shape, seed, commands, keys, &OpenGate),
     }
 }
 
@@ -167,7 +215,8 @@ fn show<W: Sink>(text: &[u8], writer: &mut W) -> Result<(), ProgramFault>
 // The status of what ended so; a fault is reported.
 fn conclude<W: Sink, E: Sink>(end: Result<(), ProgramFault>, writer: &mut W, errors: &mut E) -> u8
     requires errors_work { E.has_failed errors.old ≡ false }
-    ensures { Concludes W.takes W.flushes E.takes E.has_failed E.flushes end writer.old writer.new errors.old errors.new result }
+    ensures { Concludes W.takes W.flushes E.takes E.has_failed E.flushes end
+        writer.old writer.new errors.old errors.new result }
 {
     match end {
         Ok(()) => 0,

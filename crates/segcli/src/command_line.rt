@@ -1,10 +1,10 @@
 //! The command line of the program: its commands and options with their texts, as `clap` takes them.
 ghost use Rattle.std.specs.Prelude.{◌≡◌, false, IfOk};
 ghost use Rattle.clap.specs.Words.{App, rule_of};
-ghost use Rattle.segcli.specs.CommandLine.{Builds, alone, with_options, shape_options, option_rule, program_rules, script_rules, load_rules, word_rules, command_line};
+ghost use Rattle.segcli.specs.CommandLine.{Builds, alone, with_options, shape_options, option_rule, flag_rule, number_parser, keys_option, program_rules, script_rules, load_rules, word_rules, command_line};
 
-use clap::builder::ValueParserFactory;
-use clap::{Arg, Command};
+use clap::builder::{ValueParser, ValueParserFactory};
+use clap::{Arg, ArgAction, Command, value_parser};
 use std::alloc::{AllocError, Global};
 
 const ABOUT: &str = "Runs scripts and loads over the object index of a segment-structured cache";
@@ -17,7 +17,7 @@ index finds an item by its key.";
 const AFTER: &str = "Without a command it does what `segrun script` does.
 
 Example:
-  printf 'p0 refill 0\\np0 set a 1\\np0 get a\\n' | segrun
+  printf 'p0 refill 0 4294967295\\np0 set a 1 @0\\np0 get a @0\\n' | segrun
 writes REFILLED, STORED and VALUE 1, a line each.
 
 Exit status:
@@ -30,28 +30,30 @@ const SCRIPT: &str = "Runs a script from standard input, and writes the reply of
 const LONG_SCRIPT: &str = "Runs a script from standard input, and writes the reply of each line
 
 The index is made first, of the shape that the options give. Each line names a pass, a command and
-what it is about. A pass refills a segment before it sets its first key. The first bad line ends the
-script. A key has 1 to 24 bytes, and a value 1 to 32 or is - for the empty one; each byte is printable
-and no space.";
+what it is about. A pass refills a segment before it sets its first key, and gives it a deadline. A
+line that reads or writes a key ends with the moment at which it does so, as @0. No reply depends on
+deadlines and moments yet. The first bad line ends the script. A key has 1 to 24 bytes, and a value
+1 to 32 or is - for the empty one; each byte is printable and no space. SEGMENT, DEADLINE, VERSION
+and MOMENT are numbers from 0 to 4294967295.";
 
 const AFTER_SCRIPT: &str = "Lines, here of pass 0, and their replies:
-  p0 refill SEGMENT         REFILLED, NOT_YOURS, NOT_EVICTED or HELD
-  p0 evict SEGMENT          EVICTED or BUSY with how many keys went, or NOT_YOURS
-  p0 get KEY                VALUE with the value, MISS or BUSY
-  p0 gets KEY               VALUE with the value and its version, MISS or BUSY
-  p0 set KEY VALUE          STORED, NOROOM, BUCKETFULL or BUSY
-  p0 add KEY VALUE          STORED, NOT_STORED, NOROOM, BUCKETFULL or BUSY
-  p0 replace KEY VALUE      STORED, NOT_STORED, NOROOM or BUSY
-  p0 cas KEY VALUE VERSION  STORED, EXISTS, NOT_FOUND, NOROOM or BUSY
-  p0 delete KEY             DELETED, NOT_FOUND or BUSY
-  p0 hold KEY               HOLDING, MISS, BUSY or ALREADY_HOLDING
-  p0 held                   VALUE with the value that is held, or NOT_HOLDING
-  p0 release                RELEASED or NOT_HOLDING
-  p0 lock KEY               LOCKED, BUSY or ALREADY_LOCKED
-  p0 unlock                 UNLOCKED or NOT_LOCKED
+  p0 refill SEGMENT DEADLINE        REFILLED, NOT_YOURS, NOT_EVICTED or HELD
+  p0 evict SEGMENT                  EVICTED or BUSY with how many keys went, or NOT_YOURS
+  p0 get KEY @MOMENT                VALUE with the value, MISS or BUSY
+  p0 gets KEY @MOMENT               VALUE with the value and its version, MISS or BUSY
+  p0 set KEY VALUE @MOMENT          STORED, NOROOM, BUCKETFULL or BUSY
+  p0 add KEY VALUE @MOMENT          STORED, NOT_STORED, NOROOM, BUCKETFULL or BUSY
+  p0 replace KEY VALUE @MOMENT      STORED, NOT_STORED, NOROOM or BUSY
+  p0 cas KEY VALUE VERSION @MOMENT  STORED, EXISTS, NOT_FOUND, NOROOM or BUSY
+  p0 delete KEY @MOMENT             DELETED, NOT_FOUND or BUSY
+  p0 hold KEY @MOMENT               HOLDING, MISS, BUSY or ALREADY_HOLDING
+  p0 held                           VALUE with the value that is held, or NOT_HOLDING
+  p0 release                        RELEASED or NOT_HOLDING
+  p0 lock KEY                       LOCKED, BUSY or ALREADY_LOCKED
+  p0 unlock                         UNLOCKED or NOT_LOCKED
 
 Example:
-  printf 'p0 refill 0\\np0 set a 1\\np0 get a\\n' | segrun script --rows 100
+  printf 'p0 refill 0 4294967295\\np0 set a 1 @0\\np0 get a @0\\n' | segrun script --rows 100
 writes REFILLED, STORED and VALUE 1, a line each.
 
 Exit status:
@@ -65,13 +67,18 @@ const LONG_LOAD: &str =
     "Runs a load, in which all passes make commands at once, and prints its totals
 
 The index is made first, of the shape that the options give. Then each pass makes its commands on a
-thread of its own: gets, writes and deletes of 64 keys, drawn with the seed. The totals are a line
-for each pass, with what its commands came to, and a line for all, with how many keys stand at the
-end.";
+thread of its own: gets, writes and deletes of keys that all passes share, drawn with the seed. The
+totals are a line for each pass, with what its commands came to, and a line for all, with how many
+keys stand at the end.";
 
-const AFTER_LOAD: &str = "Example:
+const AFTER_LOAD: &str = "Examples:
   segrun load --passes 4 --buckets 16 --commands 100000
 writes the lines of p0, p1, p2, p3 and total.
+  segrun load --keys 1000000 --buckets 65536 --segments 64 --rows 4096
+does the same for p0, whose commands are over a million keys.
+  segrun load --commands 100000000 --progress
+does it for more commands, and writes to standard error, about twice a second, a line as
+  41231360 of 100000000, 41 %, 17023488 a second
 
 Exit status:
   0  the load was run
@@ -132,10 +139,6 @@ fn script<'a>(alloc: Global) -> Result<Command<'a>, AllocError>
 fn load<'a>(alloc: Global) -> Result<Command<'a>, AllocError>
     ensures { IfOk result (Builds (alone load_rules)) }
 {
-    let command = Command::new(alloc, "load")
-        .about(LOAD)
-        .long_about(LONG_LOAD)
-        .after_help(AFTER_LOAD);
     let seed = number::<u64>(
         alloc,
         "seed",
@@ -148,7 +151,33 @@ fn load<'a>(alloc: Global) -> Result<Command<'a>, AllocError>
         "1000",
         "How many commands each pass makes",
     );
-    with_shape(alloc, command)?.arg(seed)?.arg(commands)
+    let keys = taking(
+        alloc,
+        "keys",
+        keys_parser(),
+        "64",
+        "Keys that the commands are over: 1 to 1000000",
+    );
+    let progress = flag(
+        alloc,
+        "progress",
+        "Tells on standard error, about twice a second, how far the load is",
+    );
+    let command = Command::new(alloc, "load")
+        .about(LOAD)
+        .long_about(LONG_LOAD)
+        .after_help(AFTER_LOAD);
+    with_shape(alloc, command)?
+        .arg(seed)?
+        .arg(commands)?
+        .arg(keys)?
+        .arg(progress)
+}
+
+fn keys_parser<'a>() -> ValueParser<'a>
+    ensures { result ≡ number_parser keys_option }
+{
+    value_parser!(u32).range(1..=1_000_000)
 }
 
 fn word<'a>(alloc: Global) -> Result<Command<'a>, AllocError>
@@ -166,7 +195,8 @@ fn word<'a>(alloc: Global) -> Result<Command<'a>, AllocError>
 
 // Gives a command the options of a shape.
 fn with_shape<'a>(alloc: Global, command: Command<'a>) -> Result<Command<'a>, AllocError>
-    ensures { (app : App) → Builds app command.entry → IfOk result (Builds (with_options app shape_options)) }
+    ensures { (app : App) → Builds app command.entry
+        → IfOk result (Builds (with_options app shape_options)) }
 {
     let buckets = number::<u32>(
         alloc,
@@ -203,7 +233,7 @@ fn with_shape<'a>(alloc: Global, command: Command<'a>) -> Result<Command<'a>, Al
         .arg(version)
 }
 
-// An option with a number.
+// An option with a number of any value of its type.
 fn number<'a, T: ValueParserFactory>(
     alloc: Global,
     name: &'a str,
@@ -213,10 +243,35 @@ fn number<'a, T: ValueParserFactory>(
     ensures rule { rule_of result ≡ option_rule name.entry.now T.parser default.entry.now }
     ensures local { result.global ≡ false }
 {
+    taking(alloc, name, T::value_parser(), default, help)
+}
+
+// An option with a number that the parser takes.
+fn taking<'a>(
+    alloc: Global,
+    name: &'a str,
+    parser: ValueParser<'a>,
+    default: &'a str,
+    help: &'a str,
+) -> Arg<'a>
+    ensures rule { rule_of result ≡ option_rule name.entry.now parser.entry default.entry.now }
+    ensures local { result.global ≡ false }
+{
     Arg::new(alloc, name)
         .long(name)
         .value_name("N")
-        .value_parser(T::value_parser())
+        .value_parser(parser)
         .default_value(default)
+        .help(help)
+}
+
+// An option that takes no value.
+fn flag<'a>(alloc: Global, option: &'a str, help: &'a str) -> Arg<'a>
+    ensures rule { rule_of result ≡ flag_rule option.entry.now }
+    ensures local { result.global ≡ false }
+{
+    Arg::new(alloc, option)
+        .long(option)
+        .action(ArgAction::SetTrue)
         .help(help)
 }

@@ -128,7 +128,8 @@ pub fn report<W: Sink, E: Sink>(fault: ProgramFault, writer: &mut W, errors: &mu
     requires errors_work { E.has_failed errors.old ≡ false }
     ensures status { result ≡ fault_status fault }
     ensures writer { IsFlushed W.takes W.flushes writer.old writer.new }
-    ensures errors { IsPrinted E.takes E.has_failed E.flushes (fault_line fault) errors.old errors.new }
+    ensures errors { IsPrinted E.takes E.has_failed E.flushes (fault_line fault)
+        errors.old errors.new }
 {
     let _ = writer.flush();
     let _ = print(errors, fault.line().as_slice());

@@ -7,6 +7,7 @@ mod command_line;
 mod explanation;
 mod fault;
 mod program;
+mod progress;
 mod totals;
 
 pub use arguments::{Refusal, read_command};
@@ -14,3 +15,4 @@ pub use command::{Command, run_command};
 pub use explanation::{explain, reading_of};
 pub use fault::{ProgramFault, print, report};
 pub use program::run_program;
+pub use progress::{Watch, progress_line};

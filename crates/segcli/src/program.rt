@@ -9,6 +9,7 @@ ghost use Rattle.segcli.specs.Program.{refusal_status, refusal_text, ProgramOutc
 use crate::arguments::{Refusal, read_command};
 use crate::command::run_command;
 use crate::fault::{ProgramFault, print, report};
+use crate::progress::Watch;
 use segscript::{Sink, Source};
 use std::alloc::{AllocGlobal, Global};
 use std::sync::Wait;
@@ -17,28 +18,35 @@ use std::thread::Threads;
 /// The status of a bad command line.
 const BAD_USAGE: u8 = 2;
 
-/// Does what the words after the program's name ask for, with a script from the source, and answers the exit status: 0
-/// where it was done, 2 for a bad line, a bad word or a bad command line, and else 3. Faults are printed to the error
-/// writer.
-pub fn run_program<R: Threads + Wait + AllocGlobal + Sync, S: Source, W: Sink, E: Sink>(
+/// Does what the words after the program's name ask for, with a script from the source.
+/// It answers the exit status: 0 if it was done,
+/// 2 for a bad line, a bad word or a bad command line, and else 3.
+/// Faults are printed to the error writer.
+/// The watch looks on at a load that is to tell its progress.
+///
+/// A load waits for its threads. What the contract says holds if this returns.
+pub fn run_program<R: Threads + Wait + AllocGlobal + Sync, S: Source, W: Sink, E: Sink, V: Watch>(
     rt: &R,
     alloc: Global,
     words: &[String],
     source: &mut S,
     writer: &mut W,
     errors: &mut E,
+    watch: &V,
 ) -> u8
     requires source_works { S.has_failed source.old ≡ false }
     requires writer_works { W.has_failed writer.old ≡ false }
     requires errors_work { E.has_failed errors.old ≡ false }
 
     // What is read of the words is carried out, or refused.
-    ensures outcome { (read : Result Asked Refusal) × IsReadAsCommand (map (λ word. string_bytes word) words.now) read
-        × ProgramOutcome S.hands S.is_at_end S.has_failed W.takes W.has_failed W.flushes E.takes E.has_failed E.flushes read
-        source.old source.new writer.old writer.new errors.old errors.new result }
+    ensures outcome { (read : Result Asked Refusal)
+        × IsReadAsCommand (map (λ word. string_bytes word) words.now) read
+        × ProgramOutcome S.hands S.is_at_end S.has_failed W.takes W.has_failed W.flushes
+        E.takes E.has_failed E.flushes read source.old source.new writer.old writer.new
+        errors.old errors.new result }
 {
     match read_command(alloc, words) {
-        Ok(command) => run_command(rt, alloc, &command, source, writer, errors),
+        Ok(command) => run_command(rt, alloc, &command, source, writer, errors, watch),
         Err(refusal) => refuse(&refusal, writer, errors),
     }
 }
@@ -48,7 +56,8 @@ fn refuse<W: Sink, E: Sink>(refusal: &Refusal, writer: &mut W, errors: &mut E) -
     requires errors_work { E.has_failed errors.old ≡ false }
     ensures status { result ≡ refusal_status refusal.now }
     ensures writer { IsFlushed W.takes W.flushes writer.old writer.new }
-    ensures errors { IsPrinted E.takes E.has_failed E.flushes (refusal_text refusal.now) errors.old errors.new }
+    ensures errors { IsPrinted E.takes E.has_failed E.flushes (refusal_text refusal.now)
+        errors.old errors.new }
 {
     match refusal {
         Refusal::Usage(text) => {

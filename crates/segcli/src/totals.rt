@@ -6,15 +6,19 @@ use itoa::{Buffer, Integer};
 use segload::{PassTotals, Tallies, Totals};
 use std::alloc::{AllocError, Global};
 
-// Puts bytes at the end of the text.
-fn put(text: &mut Vec<u8>, bytes: &[u8]) -> Result<(), AllocError>
+/// Puts bytes at the end of the text.
+pub(crate) fn put(text: &mut Vec<u8>, bytes: &[u8]) -> Result<(), AllocError>
     ensures text { IfOk result (λ _. text.new.items ≡ text.old.items ++ bytes.now) }
 {
     text.extend_from_slice(bytes)
 }
 
-// Puts a name and the decimal digits of a number at the end of the text.
-fn put_count<I: Integer>(text: &mut Vec<u8>, name: &[u8], count: I) -> Result<(), AllocError>
+/// Puts a name and the decimal digits of a number at the end of the text.
+pub(crate) fn put_count<I: Integer>(
+    text: &mut Vec<u8>,
+    name: &[u8],
+    count: I,
+) -> Result<(), AllocError>
     ensures text { IfOk result (λ _. text.new.items ≡ text.old.items ++ name.now ++ I.text count) }
 {
     put(text, name)?;

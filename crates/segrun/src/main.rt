@@ -1,6 +1,10 @@
-//! The object index of a segment-structured cache as a program, which runs scripts of cache commands.
+//! The object index of a segment-structured cache as a program,
+//! which runs scripts of cache commands.
 #![tactic(auto)]
 
+mod progress;
+
+use progress::Teller;
 use segcli::{ProgramFault, report, run_program};
 use segscript::{ReadSource, WriteSink};
 use std::process::ExitCode;
@@ -33,6 +37,7 @@ fn main(rt: HostRuntime) -> ExitCode {
             &mut reader,
             &mut writer,
             &mut errors,
+            &Teller::new(&rt),
         ),
         Err(fault) => report(fault, &mut writer, &mut errors),
     };

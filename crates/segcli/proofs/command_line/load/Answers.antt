@@ -1,8 +1,8 @@
-use Rattle.std.proofs.Common.{codes, rules}
+use Rattle.std.proofs.Common.{◌∙◌, ap, codes, rules}
 use Rattle.std.proofs.lemmas.Result.{IfOk-weaker}
 use Rattle.std.specs.Fmt.{digits}
 use Rattle.clap.specs.Words.{new_app}
-use Rattle.segcli.specs.CommandLine.{rule_of_option, seed_option, commands_option}
+use Rattle.segcli.specs.CommandLine.{option_rule, flag_rule, rule_of_option, seed_option, commands_option, keys_option, progress_flag}
 use Rattle.segcli.proofs.Building.{with_argument}
 use Rattle.segcli.proofs.command_line.load.Goals as goal
 
@@ -11,4 +11,7 @@ unfolding digits
 returns c =
     let plain = c.in_ok-with_shape.ensures (new_app (codes "load")) (search rules) in
     let one = with_argument _ _ _ _ (rule_of_option seed_option) plain c.in_ok-arg.ensures c.number-seed.ensures.local c.number-seed.ensures.rule in
-    IfOk-weaker c.arg-2.result _ _ (λ r added. with_argument _ _ _ r (rule_of_option commands_option) one added c.number-commands.ensures.local c.number-commands.ensures.rule) c.arg-2.ensures
+    let two = with_argument _ _ _ _ (rule_of_option commands_option) one c.in_ok-arg-2.ensures c.number-commands.ensures.local c.number-commands.ensures.rule in
+    let taken = c.taking-keys.ensures.rule ∙ ap (λ parser. option_rule (codes "keys") parser (codes "64")) c.keys_parser.ensures in
+    let three = with_argument _ _ _ _ (rule_of_option keys_option) two c.in_ok-arg-3.ensures c.taking-keys.ensures.local taken in
+    IfOk-weaker c.arg-4.result _ _ (λ r added. with_argument _ _ _ r (flag_rule progress_flag) three added c.flag-progress.ensures.local c.flag-progress.ensures.rule) c.arg-4.ensures

@@ -1,5 +1,5 @@
 use Rattle.std.proofs.Common.{◌∙◌, ap, inr}
-use Rattle.segscript.specs.Device.{flushed}
+use Rattle.segscript.specs.Words.{flushed}
 use Rattle.segscript.proofs.Devices.{nothing_more}
 use Rattle.segcli.proofs.fault.print.Goals as goal
 

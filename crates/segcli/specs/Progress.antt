@@ -1,0 +1,13 @@
+-- What the program prints while a load runs.
+use Rattle.std.specs.Prelude.{ℕ, ◌*◌, ◌/◌, max, List, [], ◌++◌, Option, Some, None, codes, decimal}
+
+-- how many commands are made in a second, where that is known
+abbrev pub rate_text : Option ℕ → List ℕ
+rate_text None = []
+rate_text (Some rate) = codes ", " ++ decimal rate ++ codes " a second"
+
+-- the line of a load that has made so many commands, of so many in all
+abbrev pub progress_text : ℕ → ℕ → Option ℕ → List ℕ
+progress_text made of rate =
+    decimal made ++ codes " of " ++ decimal of ++ codes ", " ++ decimal (made * 100 / max 1 of) ++ codes " %"
+    ++ rate_text rate ++ codes "\n"

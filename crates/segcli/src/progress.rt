@@ -1,0 +1,92 @@
+//! How far a load is: a gate that a watch looks at it through, and the line that tells it.
+ghost use Rattle.std.specs.Prelude.{◌≡◌, ◌*◌, ◌/◌, ◌++◌, max, IfOk};
+ghost use Rattle.segload.specs.Words.{lets_all_through};
+ghost use Rattle.segcli.specs.Progress.{rate_text, progress_text};
+
+use crate::totals::{put, put_count};
+use segload::Gate;
+use std::alloc::{AllocError, Global};
+use std::sync::atomic::{AtomicU64, Ordering};
+
+/// What looks on while a load runs.
+pub trait Watch: Sync {
+    /// So many commands of the load were made, of so many in all. The thread of pass 0 calls it.
+    fn saw(&self, made: u64, of: u64);
+}
+
+/// The watch hears of each of so many commands of pass 0.
+const BETWEEN: u32 = 1024;
+
+/// It lets every command through, counts them, and lets a watch look on.
+#[derive(Drop)]
+pub struct Watched<'w, V> {
+    watch: &'w V,
+    made: AtomicU64,
+    of: u64,
+}
+
+impl<'w, V: Watch> Watched<'w, V> {
+    /// A gate for a load in which so many passes make so many commands each.
+    pub fn new(watch: &'w V, passes: u32, commands: u32) -> Watched<'w, V>
+        ensures whole { result.of ≡ passes * commands }
+    {
+        Watched {
+            watch,
+            made: AtomicU64::new(0),
+            of: u64::from(passes) * u64::from(commands),
+        }
+    }
+}
+
+impl<V: Watch> Gate for Watched<'_, V> {
+    ghost may_answer = { λ gate. lets_all_through };
+
+    fn enter(&self, _pass: u32, _call: u32) -> bool {
+        true
+    }
+
+    fn answered(&self, pass: u32, call: u32) {
+        let made = self.made.fetch_add(1, Ordering::SeqCst).saturating_add(1);
+        if pass == 0 && call % BETWEEN == BETWEEN - 1 {
+            self.watch.saw(made, self.of);
+        }
+    }
+}
+
+// How many hundredths of the whole were made; where the whole is nothing it counts as one.
+fn percent(made: u64, of: u64) -> u128
+    ensures { result ≡ made * 100 / max 1 of }
+{
+    u128::from(made) * 100 / u128::from(of.max(1))
+}
+
+// Puts how many commands are made in a second at the end of the text, if that is known.
+fn put_rate(text: &mut Vec<u8>, each_second: Option<u128>) -> Result<(), AllocError>
+    ensures text { IfOk result (λ _. text.new.items ≡ text.old.items ++ rate_text each_second) }
+{
+    let Some(rate) = each_second else {
+        return Ok(());
+    };
+    put_count(text, b", ", rate)?;
+    put(text, b" a second")
+}
+
+/// The line of a load that has made so many commands, of so many in all, and so many a second if
+/// that is known.
+pub fn progress_line(
+    alloc: Global,
+    made: u64,
+    of: u64,
+    each_second: Option<u128>,
+) -> Result<Vec<u8>, AllocError>
+    ensures text { IfOk result (λ text. text.items ≡ progress_text made of each_second) }
+{
+    let mut text = Vec::new(alloc);
+    put_count(&mut text, b"", made)?;
+    put_count(&mut text, b" of ", of)?;
+    put_count(&mut text, b", ", percent(made, of))?;
+    put(&mut text, b" %")?;
+    put_rate(&mut text, each_second)?;
+    put(&mut text, b"\n")?;
+    Ok(text)
+}

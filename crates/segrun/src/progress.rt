@@ -1,0 +1,77 @@
+//! How far a load is, told on standard error, about twice a second.
+use segcli::{Watch, progress_line};
+use std::io::Write;
+use std::sync::atomic::{AtomicU64, Ordering};
+use std::time::Instant;
+
+/// The least time between two lines, in milliseconds.
+const INTERVAL: u64 = 500;
+
+/// The least number of commands between two lines, where there is no clock.
+const COMMANDS: u64 = 1 << 20;
+
+/// Writes the lines. Only pass 0 calls it, so it needs no lock.
+#[derive(Drop)]
+pub struct Teller<'r> {
+    rt: &'r HostRuntime,
+    // By its clock, if that can be had.
+    start: Option<Instant>,
+    // The commands that were made at the last line, or at the first call: 0 before it.
+    made: AtomicU64,
+    // When that was, in milliseconds since the start.
+    time: AtomicU64,
+}
+
+impl<'r> Teller<'r> {
+    pub fn new(rt: &'r HostRuntime) -> Teller<'r> {
+        Teller {
+            rt,
+            start: Instant::now(rt).ok(),
+            made: AtomicU64::new(0),
+            time: AtomicU64::new(0),
+        }
+    }
+
+    // Milliseconds since the start.
+    fn now(&self) -> Option<u64> {
+        let since = self.start?.elapsed(self.rt).ok()?;
+        u64::try_from(since.as_millis()).ok()
+    }
+
+    // Writes a line. One that can't be written is left out.
+    fn tell(&self, made: u64, of: u64, each_second: Option<u128>) {
+        if let Ok(line) = progress_line(self.rt.alloc(), made, of, each_second) {
+            let _ = self.rt.stderr().write_all(line.as_slice());
+        }
+    }
+}
+
+impl Watch for Teller<'_> {
+    fn saw(&self, made: u64, of: u64) {
+        let before = self.made.load(Ordering::SeqCst);
+        let new = made.saturating_sub(before);
+        let (time, each_second) = match self.now() {
+            Some(now) => {
+                let passed = now.saturating_sub(self.time.load(Ordering::SeqCst));
+                if before != 0 && passed < INTERVAL {
+                    return;
+                }
+                (
+                    now,
+                    Some(u128::from(new) * 1000 / u128::from(passed.max(1))),
+                )
+            }
+            None => {
+                if before != 0 && new < COMMANDS {
+                    return;
+                }
+                (0, None)
+            }
+        };
+        self.made.store(made, Ordering::SeqCst);
+        self.time.store(time, Ordering::SeqCst);
+        if before != 0 {
+            self.tell(made, of, each_second);
+        }
+    }
+}
