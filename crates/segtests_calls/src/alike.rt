@@ -1,4 +1,5 @@
-//! The index with its one pass beside the plain cache: over commands drawn at random both answer alike.
+//! The index with its one pass beside the plain cache:
+//! over commands drawn at random both answer alike.
 ghost use Rattle.std.specs.Prelude.{◌<◌, IfSome};
 
 use rand_core::utils::NextWord;
@@ -8,6 +9,7 @@ use segmodel::{
     Request, Shelf, WriteAnswer, run,
 };
 use segsolo::Solo;
+use segtests_helpers::calls::MOMENT;
 use segword::{Key, Shape, Value};
 use std::alloc::Global;
 use std::process::Abort;
@@ -15,7 +17,8 @@ use std::test::Fail;
 
 const COMMANDS: u32 = 10_000;
 
-// Few keys and few segments, so that each meets the others often. One number more stands for a segment that there isn't.
+// Few keys and few segments, so that each meets the others often.
+// One number more stands for a segment that there isn't.
 const KEYS: u32 = 26;
 
 const SEGMENTS: u32 = 3;
@@ -23,7 +26,8 @@ const SEGMENTS: u32 = 3;
 // A version before the last one, so that versions start again at 0.
 const FIRST_VERSION: u32 = 4_294_967_290;
 
-// What an index has, and how its commands are drawn: sixteen of the draws are spread over all kinds, and the others are sets.
+// What an index has, and how its commands are drawn:
+// sixteen of the draws are spread over all kinds, and the others are sets.
 #[derive(Clone, Copy)]
 struct Load {
     buckets: u32,
@@ -86,22 +90,23 @@ fn command(generator: &mut Lcg64Xsh32, draws: u32, version: u32) -> Result<Comma
     let value = value(generator)?;
     let segment = below(generator, SEGMENTS + 1);
     Ok(match kind {
-        0..=3 => Command::Write(Request::Set(key, value)),
-        4 => Command::Write(Request::Add(key, value)),
-        5 => Command::Write(Request::Replace(key, value)),
-        6 => Command::Write(Request::Cas(key, value, version)),
-        7 => Command::Write(Request::Delete(key)),
-        8..=9 => Command::Get(key),
-        10..=11 => Command::Gets(key),
+        0..=3 => Command::Write(Request::Set(key, value, MOMENT)),
+        4 => Command::Write(Request::Add(key, value, MOMENT)),
+        5 => Command::Write(Request::Replace(key, value, MOMENT)),
+        6 => Command::Write(Request::Cas(key, value, version, MOMENT)),
+        7 => Command::Write(Request::Delete(key, MOMENT)),
+        8..=9 => Command::Get(key, MOMENT),
+        10..=11 => Command::Gets(key, MOMENT),
         12..=13 => Command::Evict(segment),
-        14..=15 => Command::Refill(segment),
-        _ => Command::Write(Request::Set(key, value)),
+        14..=15 => Command::Refill(segment, u32::MAX),
+        _ => Command::Write(Request::Set(key, value, MOMENT)),
     })
 }
 
 const KINDS: usize = 17;
 
-// Which kind of answer it is. No bucket is locked and nothing is held, so that none is Busy or Held.
+// Which kind of answer it is.
+// No bucket is locked and nothing is held, so that none is Busy or Held.
 fn kind_of(answer: &Answer) -> Option<usize>
     ensures { IfSome result (λ kind. kind < KINDS) }
 {
@@ -127,7 +132,8 @@ fn kind_of(answer: &Answer) -> Option<usize>
     }
 }
 
-// Serves so many commands by both, each once the one before is answered. It gives which kinds of answer came.
+// Serves so many commands by both, each once the one before is answered.
+// It gives which kinds of answer came.
 fn serve_alike(rt: &impl Abort, alloc: Global, load: Load) -> Result<[bool; KINDS], Fail>
     requires { 0 < load.draws }
 {

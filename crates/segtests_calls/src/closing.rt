@@ -17,15 +17,15 @@ fn the_content_is_in_the_order_of_the_keys(rt: HostRuntime) -> Result<(), Fail> 
         ..SHAPE
     };
     let rows = [
-        ("p0 refill 0", "REFILLED"),
-        ("p0 set pear 1", "STORED"),
-        ("p0 set apple 2", "STORED"),
-        ("p0 set fig 3", "STORED"),
-        ("p0 set pe -", "STORED"),
-        ("p0 set apple 5", "STORED"),
-        ("p0 set plum 6", "STORED"),
-        ("p0 set quince 7", "STORED"),
-        ("p0 set grape 8", "STORED"),
+        ("p0 refill 0 4294967295", "REFILLED"),
+        ("p0 set pear 1 @0", "STORED"),
+        ("p0 set apple 2 @0", "STORED"),
+        ("p0 set fig 3 @0", "STORED"),
+        ("p0 set pe - @0", "STORED"),
+        ("p0 set apple 5 @0", "STORED"),
+        ("p0 set plum 6 @0", "STORED"),
+        ("p0 set quince 7 @0", "STORED"),
+        ("p0 set grape 8 @0", "STORED"),
     ];
     let pairs = [
         ("apple", "5"),
@@ -46,13 +46,13 @@ fn evicted_keys_are_not_listed(rt: HostRuntime) -> Result<(), Fail> {
         ..SHAPE
     };
     let rows = [
-        ("p0 refill 0", "REFILLED"),
-        ("p0 set pear 1", "STORED"),
-        ("p0 set fig 2", "STORED"),
-        ("p0 set apple 3", "STORED"),
-        ("p0 refill 1", "REFILLED"),
-        ("p0 set fig 4", "STORED"),
-        ("p0 set date 5", "STORED"),
+        ("p0 refill 0 4294967295", "REFILLED"),
+        ("p0 set pear 1 @0", "STORED"),
+        ("p0 set fig 2 @0", "STORED"),
+        ("p0 set apple 3 @0", "STORED"),
+        ("p0 refill 1 4294967295", "REFILLED"),
+        ("p0 set fig 4 @0", "STORED"),
+        ("p0 set date 5 @0", "STORED"),
         ("p0 evict 0", "EVICTED 2"),
     ];
     let pairs = [("date", "5"), ("fig", "4")];
@@ -62,8 +62,8 @@ fn evicted_keys_are_not_listed(rt: HostRuntime) -> Result<(), Fail> {
 #[test]
 fn a_bucket_that_stays_locked_is_listed(rt: HostRuntime) -> Result<(), Fail> {
     let rows = [
-        ("p0 refill 0", "REFILLED"),
-        ("p0 set a 1", "STORED"),
+        ("p0 refill 0 4294967295", "REFILLED"),
+        ("p0 set a 1 @0", "STORED"),
         ("p1 lock a", "LOCKED"),
     ];
     answers_and_lists(&rt, rt.alloc(), SHAPE, &rows, &[("a", "1")])

@@ -1,4 +1,5 @@
-//! Calls of one thread: what no clause says of an index's answers, or says only beside a plain cache. This crate has tests alone.
+//! Calls of one thread: what no clause says of an index's answers,
+//! or says only beside a plain cache. This crate has tests alone.
 #![tactic(auto)]
 
 #[cfg(test)]
@@ -11,6 +12,8 @@ mod eviction_answers;
 mod holding;
 #[cfg(test)]
 mod owner;
+#[cfg(test)]
+mod probing;
 #[cfg(test)]
 mod tables;
 #[cfg(test)]

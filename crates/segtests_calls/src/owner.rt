@@ -1,20 +1,19 @@
 //! A caller's own structs, which keep a pass or a hold with what is so of it between calls.
-ghost use Rattle.segindex.specs.Index.{board_of, shape_of};
-ghost use Rattle.segpass.specs.Quiet.{IsQuiet};
-ghost use Rattle.segread.specs.Holds.{IsHoldOf};
-ghost use Rattle.segpass.specs.Props.{IsQuiet-prop};
-ghost use Rattle.segread.specs.Props.{IsHoldOf-prop};
+ghost use Rattle.segindex.specs.Words.{board_of, shape_of};
+ghost use Rattle.segpass.specs.Words.{IsQuiet, IsQuiet-prop};
+ghost use Rattle.segread.specs.Words.{IsHoldOf, IsHoldOf-prop};
 
 use segindex::{Hold, Index, Pass};
 use segmodel::{GetAnswer, RefillAnswer, WriteAnswer};
-use segtests_helpers::calls;
+use segtests_helpers::calls::{self, MOMENT};
 use segtests_helpers::holds::{held_value, hold, release};
 use segtests_helpers::passes::{SHAPE, two_passes};
 use segtests_helpers::rows::first_wrong;
 use segword::{Key, Value};
 use std::test::Fail;
 
-/// An index with one of its passes. Its calls ask for nothing, since the pass is quiet between them.
+/// An index with one of its passes.
+/// Its calls ask for nothing, since the pass is quiet between them.
 #[derive(Drop)]
 pub struct Cache {
     pub index: Index,
@@ -23,20 +22,21 @@ pub struct Cache {
 }
 
 impl Cache {
-    pub fn refill(&mut self, segment: u32) -> RefillAnswer {
-        calls::refill(&self.index, &mut self.pass, segment)
+    pub fn refill(&mut self, segment: u32, deadline: u32) -> RefillAnswer {
+        calls::refill(&self.index, &mut self.pass, segment, deadline)
     }
 
-    pub fn set(&mut self, key: &Key, value: &Value) -> WriteAnswer {
-        calls::set(&self.index, &mut self.pass, key, value)
+    pub fn set(&mut self, key: &Key, value: &Value, now: u32) -> WriteAnswer {
+        calls::set(&self.index, &mut self.pass, key, value, now)
     }
 
-    pub fn get(&mut self, key: &Key) -> GetAnswer {
-        calls::get(&self.index, &mut self.pass, key, 0)
+    pub fn get(&mut self, key: &Key, now: u32) -> GetAnswer {
+        calls::get(&self.index, &mut self.pass, key, 0, now)
     }
 }
 
-/// What a pass holds of an index. Its value can be read as often as it is asked for, until it is released.
+/// What a pass holds of an index.
+/// Its value can be read as often as it is asked for, until it is released.
 pub struct Holder<'i> {
     pub index: &'i Index,
     pub pass: Pass,
@@ -66,10 +66,10 @@ fn a_cache_sets_and_gets(rt: HostRuntime) -> Result<(), Fail> {
     let mut cache = Cache { index, pass };
     let key = Key::new(b"a").expect(&rt, "a key");
     let value = Value::new(b"1").expect(&rt, "a value");
-    assert_eq!(rt; cache.get(&key), GetAnswer::Miss);
-    assert_eq!(rt; cache.refill(0), RefillAnswer::Refilled);
-    assert_eq!(rt; cache.set(&key, &value), WriteAnswer::Stored);
-    assert_eq!(rt; cache.get(&key), GetAnswer::Found(value));
+    assert_eq!(rt; cache.get(&key, MOMENT), GetAnswer::Miss);
+    assert_eq!(rt; cache.refill(0, u32::MAX), RefillAnswer::Refilled);
+    assert_eq!(rt; cache.set(&key, &value, MOMENT), WriteAnswer::Stored);
+    assert_eq!(rt; cache.get(&key, MOMENT), GetAnswer::Found(value));
     Ok(())
 }
 
@@ -77,7 +77,7 @@ fn a_cache_sets_and_gets(rt: HostRuntime) -> Result<(), Fail> {
 fn read_twice(index: &Index, mut pass: Pass, key: &Key) -> Option<(Value, Value)>
     requires { IsQuiet (board_of index.now) pass }
 {
-    let hold = hold(index, &mut pass, key)?;
+    let hold = hold(index, &mut pass, key, MOMENT)?;
     let mut holder = Holder { index, pass, hold };
     let twice = (holder.value(), holder.value());
     holder.release();
@@ -87,7 +87,10 @@ fn read_twice(index: &Index, mut pass: Pass, key: &Key) -> Option<(Value, Value)
 #[test]
 fn a_holder_reads_its_value(rt: HostRuntime) -> Result<(), Fail> {
     let (index, mut pass, mut other) = two_passes(rt.alloc(), SHAPE)?;
-    let rows = [("p0 refill 0", "REFILLED"), ("p0 set a 1", "STORED")];
+    let rows = [
+        ("p0 refill 0 4294967295", "REFILLED"),
+        ("p0 set a 1 @0", "STORED"),
+    ];
     assert_eq!(rt; first_wrong(&index, &mut pass, &mut other, &rows), None);
     let key = Key::new(b"a").expect(&rt, "a key");
     let value = Value::new(b"1").expect(&rt, "a value");

@@ -1,4 +1,5 @@
-//! The answers to one thread's writes, deletes and gets: the replies, the versions after them, and the rows that they use.
+//! The answers to one thread's writes, deletes and gets: the replies, the versions after them,
+//! and the rows that they use.
 use crate::tables::answers;
 use segtests_helpers::passes::SHAPE;
 use segword::Shape;
@@ -16,17 +17,17 @@ const NINE_ROWS: Shape = Shape { rows: 9, ..SHAPE };
 #[test]
 fn writes_of_an_absent_key(rt: HostRuntime) -> Result<(), Fail> {
     let rows = [
-        ("p0 refill 0", "REFILLED"),
-        ("p0 add b 1", "STORED"),
+        ("p0 refill 0 4294967295", "REFILLED"),
+        ("p0 add b 1 @0", "STORED"),
         // Each is refused, uses no row and counts no write.
-        ("p0 replace a 1", "NOT_STORED"),
-        ("p0 cas a 1 1", "NOT_FOUND"),
-        ("p0 delete a", "NOT_FOUND"),
-        ("p0 get a", "MISS"),
-        ("p0 gets b", "VALUE 1 1"),
+        ("p0 replace a 1 @0", "NOT_STORED"),
+        ("p0 cas a 1 1 @0", "NOT_FOUND"),
+        ("p0 delete a @0", "NOT_FOUND"),
+        ("p0 get a @0", "MISS"),
+        ("p0 gets b @0", "VALUE 1 1"),
         ("p0 used 0", "1"),
-        ("p0 add a 1", "STORED"),
-        ("p0 gets a", "VALUE 1 2"),
+        ("p0 add a 1 @0", "STORED"),
+        ("p0 gets a @0", "VALUE 1 2"),
         ("p0 used 0", "2"),
     ];
     answers(&rt, rt.alloc(), SHAPE, &rows)
@@ -35,12 +36,12 @@ fn writes_of_an_absent_key(rt: HostRuntime) -> Result<(), Fail> {
 #[test]
 fn refused_writes_of_a_present_key(rt: HostRuntime) -> Result<(), Fail> {
     let rows = [
-        ("p0 refill 0", "REFILLED"),
-        ("p0 set a 1", "STORED"),
-        ("p0 add a 2", "NOT_STORED"),
-        ("p0 cas a 2 0", "EXISTS"),
-        ("p0 get a", "VALUE 1"),
-        ("p0 gets a", "VALUE 1 1"),
+        ("p0 refill 0 4294967295", "REFILLED"),
+        ("p0 set a 1 @0", "STORED"),
+        ("p0 add a 2 @0", "NOT_STORED"),
+        ("p0 cas a 2 0 @0", "EXISTS"),
+        ("p0 get a @0", "VALUE 1"),
+        ("p0 gets a @0", "VALUE 1 1"),
         ("p0 used 0", "1"),
     ];
     answers(&rt, rt.alloc(), SHAPE, &rows)
@@ -49,13 +50,13 @@ fn refused_writes_of_a_present_key(rt: HostRuntime) -> Result<(), Fail> {
 #[test]
 fn writes_of_a_present_key(rt: HostRuntime) -> Result<(), Fail> {
     let rows = [
-        ("p0 refill 0", "REFILLED"),
-        ("p0 set a 1", "STORED"),
-        ("p0 cas a 2 1", "STORED"),
-        ("p0 get a", "VALUE 2"),
-        ("p0 replace a 1", "STORED"),
-        ("p0 get a", "VALUE 1"),
-        ("p0 gets a", "VALUE 1 3"),
+        ("p0 refill 0 4294967295", "REFILLED"),
+        ("p0 set a 1 @0", "STORED"),
+        ("p0 cas a 2 1 @0", "STORED"),
+        ("p0 get a @0", "VALUE 2"),
+        ("p0 replace a 1 @0", "STORED"),
+        ("p0 get a @0", "VALUE 1"),
+        ("p0 gets a @0", "VALUE 1 3"),
         ("p0 used 0", "3"),
     ];
     answers(&rt, rt.alloc(), SHAPE, &rows)
@@ -64,18 +65,18 @@ fn writes_of_a_present_key(rt: HostRuntime) -> Result<(), Fail> {
 #[test]
 fn a_delete_counts_and_uses_no_row(rt: HostRuntime) -> Result<(), Fail> {
     let rows = [
-        ("p0 delete a", "NOT_FOUND"),
-        ("p0 refill 0", "REFILLED"),
-        ("p0 set a 1", "STORED"),
+        ("p0 delete a @0", "NOT_FOUND"),
+        ("p0 refill 0 4294967295", "REFILLED"),
+        ("p0 set a 1 @0", "STORED"),
         // The hit raises the frequency in the word that is cleared.
-        ("p0 get a", "VALUE 1"),
-        ("p0 delete a", "DELETED"),
-        ("p0 get a", "MISS"),
-        ("p0 delete a", "NOT_FOUND"),
+        ("p0 get a @0", "VALUE 1"),
+        ("p0 delete a @0", "DELETED"),
+        ("p0 get a @0", "MISS"),
+        ("p0 delete a @0", "NOT_FOUND"),
         ("p0 used 0", "1"),
         // The set, the delete and this set.
-        ("p0 set a 1", "STORED"),
-        ("p0 gets a", "VALUE 1 3"),
+        ("p0 set a 1 @0", "STORED"),
+        ("p0 gets a @0", "VALUE 1 3"),
     ];
     answers(&rt, rt.alloc(), SHAPE, &rows)
 }
@@ -83,23 +84,23 @@ fn a_delete_counts_and_uses_no_row(rt: HostRuntime) -> Result<(), Fail> {
 #[test]
 fn a_locked_bucket_takes_no_write(rt: HostRuntime) -> Result<(), Fail> {
     let rows = [
-        ("p0 refill 0", "REFILLED"),
-        ("p0 set a 1", "STORED"),
+        ("p0 refill 0 4294967295", "REFILLED"),
+        ("p0 set a 1 @0", "STORED"),
         ("p1 lock a", "LOCKED"),
-        ("p0 set a 1", "BUSY"),
-        ("p0 add a 1", "BUSY"),
-        ("p0 replace a 1", "BUSY"),
-        ("p0 cas a 1 1", "BUSY"),
-        ("p0 delete a", "BUSY"),
+        ("p0 set a 1 @0", "BUSY"),
+        ("p0 add a 1 @0", "BUSY"),
+        ("p0 replace a 1 @0", "BUSY"),
+        ("p0 cas a 1 1 @0", "BUSY"),
+        ("p0 delete a @0", "BUSY"),
         // Nor by the pass that locked it, which has no row.
-        ("p1 set a 1", "NOROOM"),
-        ("p1 add a 1", "NOROOM"),
-        ("p1 replace a 1", "NOROOM"),
-        ("p1 cas a 1 1", "NOROOM"),
-        ("p1 delete a", "BUSY"),
+        ("p1 set a 1 @0", "NOROOM"),
+        ("p1 add a 1 @0", "NOROOM"),
+        ("p1 replace a 1 @0", "NOROOM"),
+        ("p1 cas a 1 1 @0", "NOROOM"),
+        ("p1 delete a @0", "BUSY"),
         ("p1 unlock", "UNLOCKED"),
-        ("p0 cas a 1 1", "STORED"),
-        ("p1 delete a", "DELETED"),
+        ("p0 cas a 1 1 @0", "STORED"),
+        ("p1 delete a @0", "DELETED"),
     ];
     answers(&rt, rt.alloc(), SHAPE, &rows)
 }
@@ -108,14 +109,14 @@ fn a_locked_bucket_takes_no_write(rt: HostRuntime) -> Result<(), Fail> {
 fn no_room_goes_before_the_reply(rt: HostRuntime) -> Result<(), Fail> {
     let shape = Shape { rows: 1, ..SHAPE };
     let rows = [
-        ("p0 refill 0", "REFILLED"),
-        ("p0 set a 1", "STORED"),
+        ("p0 refill 0 4294967295", "REFILLED"),
+        ("p0 set a 1 @0", "STORED"),
         // The cache would reply NotStored, NotStored, NotFound and Exists.
-        ("p0 add a 1", "NOROOM"),
-        ("p0 replace b 1", "NOROOM"),
-        ("p0 cas b 1 1", "NOROOM"),
-        ("p0 cas a 1 0", "NOROOM"),
-        ("p0 delete a", "DELETED"),
+        ("p0 add a 1 @0", "NOROOM"),
+        ("p0 replace b 1 @0", "NOROOM"),
+        ("p0 cas b 1 1 @0", "NOROOM"),
+        ("p0 cas a 1 0 @0", "NOROOM"),
+        ("p0 delete a @0", "DELETED"),
     ];
     answers(&rt, rt.alloc(), shape, &rows)
 }
@@ -123,11 +124,11 @@ fn no_room_goes_before_the_reply(rt: HostRuntime) -> Result<(), Fail> {
 #[test]
 fn the_expected_version_wraps(rt: HostRuntime) -> Result<(), Fail> {
     let rows = [
-        ("p0 refill 0", "REFILLED"),
-        ("p0 set a 1", "STORED"),
-        ("p0 cas a 1 4294967295", "EXISTS"),
-        ("p0 cas a 1 0", "STORED"),
-        ("p0 gets a", "VALUE 1 1"),
+        ("p0 refill 0 4294967295", "REFILLED"),
+        ("p0 set a 1 @0", "STORED"),
+        ("p0 cas a 1 4294967295 @0", "EXISTS"),
+        ("p0 cas a 1 0 @0", "STORED"),
+        ("p0 gets a @0", "VALUE 1 1"),
     ];
     answers(&rt, rt.alloc(), WRAPPING, &rows)
 }
@@ -136,15 +137,15 @@ fn the_expected_version_wraps(rt: HostRuntime) -> Result<(), Fail> {
 #[test]
 fn two_keys_with_one_tag(rt: HostRuntime) -> Result<(), Fail> {
     let rows = [
-        ("p0 refill 0", "REFILLED"),
-        ("p0 add t94880 1", "STORED"),
-        ("p0 replace t39290 1", "NOT_STORED"),
-        ("p0 add t39290 1", "STORED"),
-        ("p0 delete t94880", "DELETED"),
-        ("p0 get t94880", "MISS"),
-        ("p0 get t39290", "VALUE 1"),
-        ("p0 delete t94880", "NOT_FOUND"),
-        ("p0 delete t39290", "DELETED"),
+        ("p0 refill 0 4294967295", "REFILLED"),
+        ("p0 add t94880 1 @0", "STORED"),
+        ("p0 replace t39290 1 @0", "NOT_STORED"),
+        ("p0 add t39290 1 @0", "STORED"),
+        ("p0 delete t94880 @0", "DELETED"),
+        ("p0 get t94880 @0", "MISS"),
+        ("p0 get t39290 @0", "VALUE 1"),
+        ("p0 delete t94880 @0", "NOT_FOUND"),
+        ("p0 delete t39290 @0", "DELETED"),
     ];
     answers(&rt, rt.alloc(), SHAPE, &rows)
 }
@@ -152,10 +153,10 @@ fn two_keys_with_one_tag(rt: HostRuntime) -> Result<(), Fail> {
 #[test]
 fn a_segment_is_refilled_once_by_its_own_pass(rt: HostRuntime) -> Result<(), Fail> {
     let rows = [
-        ("p0 set a 1", "NOROOM"),
-        ("p0 refill 1", "NOT_YOURS"),
-        ("p0 refill 0", "REFILLED"),
-        ("p0 refill 0", "NOT_EVICTED"),
+        ("p0 set a 1 @0", "NOROOM"),
+        ("p0 refill 1 4294967295", "NOT_YOURS"),
+        ("p0 refill 0 4294967295", "REFILLED"),
+        ("p0 refill 0 4294967295", "NOT_EVICTED"),
     ];
     answers(&rt, rt.alloc(), NINE_ROWS, &rows)
 }
@@ -163,23 +164,24 @@ fn a_segment_is_refilled_once_by_its_own_pass(rt: HostRuntime) -> Result<(), Fai
 #[test]
 fn a_full_bucket_takes_no_new_key(rt: HostRuntime) -> Result<(), Fail> {
     let rows = [
-        ("p0 refill 0", "REFILLED"),
-        ("p0 set a 1", "STORED"),
-        ("p0 set b 1", "STORED"),
-        ("p0 set c 1", "STORED"),
-        ("p0 set d 1", "STORED"),
-        ("p0 set e 1", "STORED"),
-        ("p0 set f 1", "STORED"),
-        ("p0 set g 1", "STORED"),
-        // Seven words, seven keys: an eighth is refused and uses no row, and each of the seven may be set again.
-        ("p0 set h 1", "BUCKETFULL"),
-        ("p0 set a 2", "STORED"),
-        ("p0 set g 2", "STORED"),
+        ("p0 refill 0 4294967295", "REFILLED"),
+        ("p0 set a 1 @0", "STORED"),
+        ("p0 set b 1 @0", "STORED"),
+        ("p0 set c 1 @0", "STORED"),
+        ("p0 set d 1 @0", "STORED"),
+        ("p0 set e 1 @0", "STORED"),
+        ("p0 set f 1 @0", "STORED"),
+        ("p0 set g 1 @0", "STORED"),
+        // Seven words, seven keys: an eighth is refused and uses no row,
+        // and each of the seven may be set again.
+        ("p0 set h 1 @0", "BUCKETFULL"),
+        ("p0 set a 2 @0", "STORED"),
+        ("p0 set g 2 @0", "STORED"),
         // Nine rows, nine writes: no room goes before a full bucket.
-        ("p0 set h 1", "NOROOM"),
-        ("p0 set a 1", "NOROOM"),
+        ("p0 set h 1 @0", "NOROOM"),
+        ("p0 set a 1 @0", "NOROOM"),
         // They are counted, and no bit is left.
-        ("p0 gets a", "VALUE 2 9"),
+        ("p0 gets a @0", "VALUE 2 9"),
         ("p0 lock a", "LOCKED"),
     ];
     answers(&rt, rt.alloc(), NINE_ROWS, &rows)
@@ -188,15 +190,15 @@ fn a_full_bucket_takes_no_new_key(rt: HostRuntime) -> Result<(), Fail> {
 #[test]
 fn a_version_comes_with_its_value(rt: HostRuntime) -> Result<(), Fail> {
     let rows = [
-        ("p0 refill 0", "REFILLED"),
-        ("p0 gets a", "MISS"),
-        ("p0 set a 1", "STORED"),
-        ("p0 gets a", "VALUE 1 0"),
+        ("p0 refill 0 4294967295", "REFILLED"),
+        ("p0 gets a @0", "MISS"),
+        ("p0 set a 1 @0", "STORED"),
+        ("p0 gets a @0", "VALUE 1 0"),
         ("p0 lock a", "LOCKED"),
-        ("p0 gets a", "BUSY"),
-        ("p0 gets b", "MISS"),
+        ("p0 gets a @0", "BUSY"),
+        ("p0 gets b @0", "MISS"),
         ("p0 unlock", "UNLOCKED"),
-        ("p0 gets a", "VALUE 1 0"),
+        ("p0 gets a @0", "VALUE 1 0"),
     ];
     answers(&rt, rt.alloc(), WRAPPING, &rows)
 }

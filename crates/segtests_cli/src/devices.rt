@@ -1,5 +1,5 @@
 //! Readers and writers that fail under the program.
-use crate::runs::{NO_TOTALS, REPLIES, SCRIPT, reader_of, words_of};
+use crate::runs::{NO_TOTALS, Nobody, REPLIES, SCRIPT, reader_of, words_of};
 use segcli::run_program;
 use segscript::{MemSink, WhenFull};
 use std::alloc::AllocGlobal;
@@ -8,7 +8,8 @@ use std::sync::Wait;
 use std::test::Fail;
 use std::thread::Threads;
 
-/// Checks a run whose reader hands out so many bytes, and whose writers take so many, before they fail.
+/// Checks a run whose reader hands out so many bytes, and whose writers take so many,
+/// before they fail.
 fn check_failing<R: Threads + Wait + AllocGlobal + Abort + Sync>(
     rt: &R,
     words: &[&str],
@@ -32,6 +33,7 @@ fn check_failing<R: Threads + Wait + AllocGlobal + Abort + Sync>(
             &mut source,
             &mut writer,
             &mut errors,
+            &Nobody,
         );
         assert_eq!(rt; found, status, "{good:?} {rooms:?}");
         assert_eq!(rt; writer.taken.as_slice(), written, "{good:?} {rooms:?}");
@@ -42,11 +44,11 @@ fn check_failing<R: Threads + Wait + AllocGlobal + Abort + Sync>(
 
 #[test]
 fn a_reader_that_fails_is_told(rt: HostRuntime) -> Result<(), Fail> {
-    for good in 0..=32usize {
+    for good in 0..=49usize {
         let written = match good {
-            0..=11 => 0,
-            12..=22 => 9,
-            23..=31 => 16,
+            0..=22 => 0,
+            23..=36 => 9,
+            37..=48 => 16,
             _ => 24,
         };
         check_failing(
@@ -132,7 +134,7 @@ fn a_fault_that_can_not_be_printed_keeps_its_status(rt: HostRuntime) -> Result<(
         check_failing(
             &rt,
             &["script"],
-            Some(20),
+            Some(30),
             (100, room),
             3,
             &REPLIES[..9],
@@ -151,6 +153,7 @@ fn a_fault_that_can_not_be_printed_keeps_its_status(rt: HostRuntime) -> Result<(
             &mut source,
             &mut writer,
             &mut errors,
+            &Nobody,
         );
         assert_eq!(rt; status, 2);
         assert_eq!(rt; errors.taken.as_slice().len(), room);
@@ -181,6 +184,7 @@ fn a_flush_that_fails_is_a_fault_of_the_writer(rt: HostRuntime) -> Result<(), Fa
             &mut source,
             &mut writer,
             &mut errors,
+            &Nobody,
         );
         assert_eq!(rt; status, 3);
         assert_eq!(rt; writer.taken.as_slice(), written);
@@ -189,7 +193,7 @@ fn a_flush_that_fails_is_a_fault_of_the_writer(rt: HostRuntime) -> Result<(), Fa
     }
     // A fault keeps its line and its status where a flush before it fails.
     let words = words_of(rt.alloc(), &[])?;
-    let mut source = reader_of(b"p0 refill 0\nx\n", 5000, None);
+    let mut source = reader_of(b"p0 refill 0 4294967295\nx\n", 5000, None);
     let mut writer = MemSink::new(rt.alloc(), 100)?;
     writer.flush_fails = true;
     let mut errors = MemSink::new(rt.alloc(), 100)?;
@@ -201,6 +205,7 @@ fn a_flush_that_fails_is_a_fault_of_the_writer(rt: HostRuntime) -> Result<(), Fa
         &mut source,
         &mut writer,
         &mut errors,
+        &Nobody,
     );
     assert_eq!(rt; status, 2);
     assert_eq!(rt; writer.taken.as_slice(), b"REFILLED\n".as_slice());

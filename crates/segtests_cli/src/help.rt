@@ -35,7 +35,7 @@ fn help_tells_a_newcomer_what_to_do(rt: HostRuntime) -> Result<(), Fail> {
             "script",
             "load",
             "word",
-            "printf 'p0 refill 0\\np0 set a 1\\np0 get a\\n' | segrun",
+            "printf 'p0 refill 0 4294967295\\np0 set a 1 @0\\np0 get a @0\\n' | segrun",
             "Exit status",
         ];
         check_shown(&rt, words, &parts)?;
@@ -56,14 +56,19 @@ fn help_tells_a_newcomer_what_to_do(rt: HostRuntime) -> Result<(), Fail> {
             "--rows <N>",
             "[default: 8]",
             "--first-version <N>",
-            "p0 refill SEGMENT         REFILLED",
-            "p0 cas KEY VALUE VERSION",
-            "p0 unlock                 UNLOCKED or NOT_LOCKED",
-            "\\np0 get a\\n' | segrun script --rows 100",
+            "p0 refill SEGMENT DEADLINE        REFILLED",
+            "p0 cas KEY VALUE VERSION @MOMENT  STORED",
+            "p0 get KEY @MOMENT                VALUE",
+            "p0 lock KEY                       LOCKED",
+            "p0 unlock                         UNLOCKED or NOT_LOCKED",
+            "printf 'p0 refill 0 4294967295\\np0 set a 1 @0\\np0 get a @0\\n' | segrun script --rows 100",
             "Exit status",
         ];
         check_shown(&rt, words, &parts)?;
     }
+    // The short help has no text about what a line says.
+    let parts = ["SEGMENT, DEADLINE, VERSION\nand MOMENT are numbers from 0 to 4294967295."];
+    check_shown(&rt, &["script", "--help"], &parts)?;
     for words in [
         ["load", "--help"].as_slice(),
         ["load", "-h"].as_slice(),
@@ -77,7 +82,14 @@ fn help_tells_a_newcomer_what_to_do(rt: HostRuntime) -> Result<(), Fail> {
             "[default: 1]",
             "--commands <N>",
             "[default: 1000]",
+            "--keys <N>",
+            "[default: 64]",
             "segrun load --passes 4 --buckets 16 --commands 100000",
+            "segrun load --keys 1000000",
+            "\n      --progress",
+            "about twice a second",
+            "segrun load --commands 100000000 --progress",
+            "41231360 of 100000000, 41 %, 17023488 a second",
             "Exit status",
         ];
         check_shown(&rt, words, &parts)?;

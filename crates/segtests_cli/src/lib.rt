@@ -1,4 +1,5 @@
-//! The program by its one call, `run_program`, over memory: what no clause says, as the texts of help. This crate has tests alone.
+//! The program by its one call, `run_program`, over memory: what no clause says,
+//! as the texts of help. This crate has tests alone.
 #![tactic(auto)]
 
 #[cfg(test)]
@@ -11,6 +12,8 @@ mod loads;
 mod memory;
 #[cfg(test)]
 mod options;
+#[cfg(test)]
+mod progress;
 #[cfg(test)]
 mod runs;
 #[cfg(test)]

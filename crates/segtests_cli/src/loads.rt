@@ -2,7 +2,8 @@
 use crate::runs::{NO_TOTALS, SCRIPT, check_program, run};
 use std::test::Fail;
 
-// The numbers of a line's tallies, added up: each stands behind a `=`, and the tallies behind the commands.
+// The numbers of a line's tallies, added up: each stands behind a `=`,
+// and the tallies behind the commands.
 fn sum_of_tallies(line: &str) -> Option<u64> {
     let mut sum = 0u64;
     for word in line.split(' ').skip(2) {
@@ -18,7 +19,8 @@ fn a_load_without_commands_counts_nothing(rt: HostRuntime) -> Result<(), Fail> {
     check_program(&rt, &words, SCRIPT, 0, NO_TOTALS, b"")
 }
 
-// The totals are those of another program, which draws the same commands and serves them by a plain map.
+// The totals are those of another program,
+// which draws the same commands and serves them by a plain map.
 #[test]
 fn one_pass_counts_as_a_plain_map(rt: HostRuntime) -> Result<(), Fail> {
     for (words, totals) in [

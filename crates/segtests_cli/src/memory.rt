@@ -2,7 +2,8 @@
 use crate::runs::{SCRIPT, run};
 use std::test::Fail;
 
-// Run with each allocation refused in turn: a refusal anywhere is told as such, and nothing was written.
+// Run with each allocation refused in turn: a refusal anywhere is told as such,
+// and nothing was written.
 #[test]
 fn want_of_memory_is_told(rt: HostRuntime) -> Result<(), Fail> {
     for (words, status) in [
@@ -14,6 +15,7 @@ fn want_of_memory_is_told(rt: HostRuntime) -> Result<(), Fail> {
         (["word"].as_slice(), 2),
         (["load", "--commands", "9"].as_slice(), 0),
         (["load", "--passes=3", "--commands=3"].as_slice(), 0),
+        (["load", "--progress", "--commands=9"].as_slice(), 0),
         (["load", "--seed"].as_slice(), 2),
         (["--help"].as_slice(), 0),
         (["help", "script"].as_slice(), 0),

@@ -107,12 +107,57 @@ fn a_load_takes_a_seed_and_a_number_of_commands(rt: HostRuntime) -> Result<(), F
 }
 
 #[test]
+fn a_load_takes_1_to_1000000_keys(rt: HostRuntime) -> Result<(), Fail> {
+    for keys in ["1", "64", "+64", "1000000"] {
+        let words = ["load", "--commands", "0", "--keys", keys];
+        check_program(&rt, &words, b"", 0, NO_TOTALS, b"")?;
+    }
+    for keys in ["0", "1000001", "4294967296", "-1", "x", "", "1.5"] {
+        let ended = run(&rt, &["load", "--keys", keys], b"")?;
+        assert_eq!(rt; ended.status, 2, "{keys}");
+    }
+    for words in [
+        ["load", "--keys", "0"].as_slice(),
+        ["load", "--keys", "1000001"].as_slice(),
+        ["load", "--keys", "x"].as_slice(),
+        ["load", "--keys", "1", "--keys", "1"].as_slice(),
+        ["load", "--keys"].as_slice(),
+        ["script", "--keys", "1"].as_slice(),
+    ] {
+        check_refused(&rt, words, "--keys")?;
+    }
+    Ok(())
+}
+
+#[test]
+fn a_load_may_tell_its_progress(rt: HostRuntime) -> Result<(), Fail> {
+    for words in [
+        ["load", "--progress", "--commands", "0"].as_slice(),
+        ["load", "--commands", "0", "--progress"].as_slice(),
+    ] {
+        check_program(&rt, words, b"", 0, NO_TOTALS, b"")?;
+    }
+    for words in [
+        ["load", "--progress", "--progress"].as_slice(),
+        ["load", "--progress=1"].as_slice(),
+        ["load", "--progress=true"].as_slice(),
+        ["script", "--progress"].as_slice(),
+        ["word", "0000000000000000", "--progress"].as_slice(),
+        ["--progress"].as_slice(),
+    ] {
+        check_refused(&rt, words, "--progress")?;
+    }
+    // It takes no value, so the number is a word too many.
+    check_refused(&rt, &["load", "--progress", "1"], "'1'")
+}
+
+#[test]
 fn each_option_changes_its_own_part(rt: HostRuntime) -> Result<(), Fail> {
     // The second pass, and the second segment of the first.
     check_program(
         &rt,
         &["script", "--passes", "2", "--segments", "2"],
-        b"p0 refill 1\np1 refill 1\np1 refill 3\np1 refill 4\n",
+        b"p0 refill 1 4294967295\np1 refill 1 4294967295\np1 refill 3 4294967295\np1 refill 4 4294967295\n",
         0,
         b"REFILLED\nNOT_YOURS\nREFILLED\nNOT_YOURS\n",
         b"",
@@ -120,7 +165,7 @@ fn each_option_changes_its_own_part(rt: HostRuntime) -> Result<(), Fail> {
     check_program(
         &rt,
         &["script", "--rows", "1"],
-        b"p0 refill 0\np0 set a 1\np0 set a 2\n",
+        b"p0 refill 0 4294967295\np0 set a 1 @0\np0 set a 2 @0\n",
         0,
         b"REFILLED\nSTORED\nNOROOM\n",
         b"",
@@ -148,7 +193,7 @@ fn each_option_changes_its_own_part(rt: HostRuntime) -> Result<(), Fail> {
 #[test]
 fn a_full_bucket_takes_an_overflow_bucket(rt: HostRuntime) -> Result<(), Fail> {
     let script =
-        b"p0 refill 0\np0 set a 1\np0 set b 1\np0 set c 1\np0 set d 1\np0 set e 1\np0 set f 1\np0 set g 1\np0 set h 1\np0 get h\n";
+        b"p0 refill 0 4294967295\np0 set a 1 @0\np0 set b 1 @0\np0 set c 1 @0\np0 set d 1 @0\np0 set e 1 @0\np0 set f 1 @0\np0 set g 1 @0\np0 set h 1 @0\np0 get h @0\n";
     let words = ["script", "--overflow", "0", "--rows", "8"];
     let full =
         b"REFILLED\nSTORED\nSTORED\nSTORED\nSTORED\nSTORED\nSTORED\nSTORED\nBUCKETFULL\nMISS\n";

@@ -1,7 +1,7 @@
 //! Runs of the program over memory: its words, and what it writes, prints and answers.
 ghost use Rattle.std.specs.Prelude.{◌≡◌, false};
 
-use segcli::run_program;
+use segcli::{Watch, run_program};
 use segscript::{MemSink, MemSource};
 use std::alloc::{AllocError, AllocGlobal, Global};
 use std::process::Abort;
@@ -10,7 +10,7 @@ use std::test::Fail;
 use std::thread::Threads;
 
 /// A script of three lines, and its replies.
-pub const SCRIPT: &[u8] = b"p0 refill 0\np0 set a 1\np0 get a\n";
+pub const SCRIPT: &[u8] = b"p0 refill 0 4294967295\np0 set a 1 @0\np0 get a @0\n";
 
 pub const REPLIES: &[u8] = b"REFILLED\nSTORED\nVALUE 1\n";
 
@@ -26,6 +26,14 @@ pub fn reader_of(script: &[u8], step: usize, good: Option<usize>) -> MemSource<'
     reader.step = step.max(1);
     reader.good = good;
     reader
+}
+
+/// It looks away.
+#[derive(Drop)]
+pub struct Nobody;
+
+impl Watch for Nobody {
+    fn saw(&self, _made: u64, _of: u64) {}
 }
 
 /// What came of a run of the program.
@@ -53,6 +61,16 @@ pub fn run<R: Threads + Wait + AllocGlobal + Sync>(
     words: &[&str],
     script: &[u8],
 ) -> Result<Ended, AllocError> {
+    run_watched(rt, words, script, &Nobody)
+}
+
+/// Runs it while a watch looks on.
+pub fn run_watched<R: Threads + Wait + AllocGlobal + Sync, V: Watch>(
+    rt: &R,
+    words: &[&str],
+    script: &[u8],
+    watch: &V,
+) -> Result<Ended, AllocError> {
     let words = words_of(rt.alloc(), words)?;
     let mut source = MemSource::new(script);
     let mut writer = MemSink::new(rt.alloc(), 10_000)?;
@@ -64,6 +82,7 @@ pub fn run<R: Threads + Wait + AllocGlobal + Sync>(
         &mut source,
         &mut writer,
         &mut errors,
+        watch,
     );
     Ok(Ended {
         status,
@@ -73,7 +92,8 @@ pub fn run<R: Threads + Wait + AllocGlobal + Sync>(
     })
 }
 
-/// Checks what the program writes, prints and answers, and that it flushes once what it writes and prints.
+/// Checks what the program writes, prints and answers,
+/// and that it flushes once what it writes and prints.
 pub fn check_program<R: Threads + Wait + AllocGlobal + Abort + Sync>(
     rt: &R,
     words: &[&str],

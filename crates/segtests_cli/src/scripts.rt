@@ -15,7 +15,7 @@ fn a_bad_line_ends_the_script(rt: HostRuntime) -> Result<(), Fail> {
     check_program(
         &rt,
         &rows,
-        b"p0 refill 0\np0 set abcdefghijklmnopqrstuvwx 0123456789abcdef0123456789abcdef\np0 get abcdefghijklmnopqrstuvwx\n",
+        b"p0 refill 0 4294967295\np0 set abcdefghijklmnopqrstuvwx 0123456789abcdef0123456789abcdef @0\np0 get abcdefghijklmnopqrstuvwx @0\n",
         0,
         b"REFILLED\nSTORED\nVALUE 0123456789abcdef0123456789abcdef\n",
         b"",
@@ -23,7 +23,7 @@ fn a_bad_line_ends_the_script(rt: HostRuntime) -> Result<(), Fail> {
     check_program(
         &rt,
         &rows,
-        b"p0 refill 0\np0 set abcdefghijklmnopqrstuvwxy 1\n",
+        b"p0 refill 0 4294967295\np0 set abcdefghijklmnopqrstuvwxy 1 @0\n",
         2,
         b"REFILLED\n",
         b"bad line 2\n",
@@ -31,7 +31,7 @@ fn a_bad_line_ends_the_script(rt: HostRuntime) -> Result<(), Fail> {
     check_program(
         &rt,
         &rows,
-        b"p0 refill 0\np0 set a -\np0 get a\n",
+        b"p0 refill 0 4294967295\np0 set a - @0\np0 get a @0\n",
         0,
         b"REFILLED\nSTORED\nVALUE -\n",
         b"",
@@ -44,7 +44,7 @@ fn a_last_line_needs_no_newline(rt: HostRuntime) -> Result<(), Fail> {
     check_program(
         &rt,
         &rows,
-        b"p0 refill 0\np0 set a 1\np0 get",
+        b"p0 refill 0 4294967295\np0 set a 1 @0\np0 get",
         2,
         b"REFILLED\nSTORED\n",
         b"bad line 3\n",
@@ -52,7 +52,7 @@ fn a_last_line_needs_no_newline(rt: HostRuntime) -> Result<(), Fail> {
     check_program(
         &rt,
         &rows,
-        b"p0 refill 0\np0 set a 1\np0 get a",
+        b"p0 refill 0 4294967295\np0 set a 1 @0\np0 get a @0",
         0,
         REPLIES,
         b"",
@@ -63,17 +63,25 @@ fn a_last_line_needs_no_newline(rt: HostRuntime) -> Result<(), Fail> {
 fn lines_that_no_command_is_read_from_are_bad(rt: HostRuntime) -> Result<(), Fail> {
     for (script, fault) in [
         (b"\n\nx\n".as_slice(), b"bad line 3\n".as_slice()),
-        (b"p0 get a\r\n".as_slice(), b"bad line 1\n".as_slice()),
-        (b"p0 get a\t\n".as_slice(), b"bad line 1\n".as_slice()),
-        (b"p0 get a \n".as_slice(), b"bad line 1\n".as_slice()),
-        (b"p0  get a\n".as_slice(), b"bad line 1\n".as_slice()),
-        (b"P0 get a\n".as_slice(), b"bad line 1\n".as_slice()),
-        (b"p00 get a\n".as_slice(), b"bad line 1\n".as_slice()),
-        (b"p1 get a\n".as_slice(), b"bad line 1\n".as_slice()),
-        (b"p0 get a\xc3\n".as_slice(), b"bad line 1\n".as_slice()),
-        (b"p0 refill 01\n".as_slice(), b"bad line 1\n".as_slice()),
+        (b"p0 get a @0\r\n".as_slice(), b"bad line 1\n".as_slice()),
+        (b"p0 get a @0\t\n".as_slice(), b"bad line 1\n".as_slice()),
+        (b"p0 get a @0 \n".as_slice(), b"bad line 1\n".as_slice()),
+        (b"p0  get a @0\n".as_slice(), b"bad line 1\n".as_slice()),
+        (b"P0 get a @0\n".as_slice(), b"bad line 1\n".as_slice()),
+        (b"p00 get a @0\n".as_slice(), b"bad line 1\n".as_slice()),
+        (b"p1 get a @0\n".as_slice(), b"bad line 1\n".as_slice()),
+        (b"p0 get a\xc3 @0\n".as_slice(), b"bad line 1\n".as_slice()),
+        (b"p0 refill 0\n".as_slice(), b"bad line 1\n".as_slice()),
         (
-            b"p0 refill 4294967296\n".as_slice(),
+            b"p0 refill 01 4294967295\n".as_slice(),
+            b"bad line 1\n".as_slice(),
+        ),
+        (
+            b"p0 refill 0 4294967296\n".as_slice(),
+            b"bad line 1\n".as_slice(),
+        ),
+        (
+            b"p0 refill 4294967296 4294967295\n".as_slice(),
             b"bad line 1\n".as_slice(),
         ),
     ] {
@@ -82,7 +90,7 @@ fn lines_that_no_command_is_read_from_are_bad(rt: HostRuntime) -> Result<(), Fai
     check_program(
         &rt,
         &["script", "--rows=2"],
-        b"p0 refill 4294967295\n",
+        b"p0 refill 4294967295 4294967295\n",
         0,
         b"NOT_YOURS\n",
         b"",
@@ -109,12 +117,12 @@ fn a_shape_that_can_not_be_had_has_a_number(rt: HostRuntime) -> Result<(), Fail>
             b"bad shape 5\n".as_slice(),
         ),
     ] {
-        check_program(&rt, &words, b"p0 refill 0\n", 3, b"", fault)?;
+        check_program(&rt, &words, b"p0 refill 0 4294967295\n", 3, b"", fault)?;
     }
     check_program(
         &rt,
         &["script", "--passes=64", "--segments=1024", "--rows=128"],
-        b"p0 refill 0\n",
+        b"p0 refill 0 4294967295\n",
         3,
         b"",
         b"bad shape 6\n",

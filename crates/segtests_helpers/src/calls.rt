@@ -1,66 +1,92 @@
-//! The calls of the index with contracts that say only that the pass stays quiet: a test that calls the index itself reads the whole contract at each call.
-ghost use Rattle.segindex.specs.Index.{board_of};
-ghost use Rattle.segpass.specs.Quiet.{IsQuiet};
+//! The calls of the index with contracts that say only that the pass stays quiet:
+//! a test that calls the index itself reads the whole contract at each call.
+ghost use Rattle.segindex.specs.Words.{board_of};
+ghost use Rattle.segpass.specs.Words.{IsQuiet};
 
 use segindex::{Index, LockAnswer, OutOfMemory, Pass};
 use segmodel::{DeleteAnswer, EvictAnswer, GetAnswer, GetsAnswer, RefillAnswer, WriteAnswer};
 use segword::{Key, Value};
 use std::alloc::Global;
 
+/// The moment of each call of a test that isn't about moments.
+pub const MOMENT: u32 = 0;
+
 /// Stores the value.
-pub fn set(index: &Index, pass: &mut Pass, key: &Key, value: &Value) -> WriteAnswer
+pub fn set(index: &Index, pass: &mut Pass, key: &Key, value: &Value, now: u32) -> WriteAnswer
     requires { IsQuiet (board_of index.now) pass.old }
     ensures { IsQuiet (board_of index.now) pass.new }
 {
-    index.set(pass, key, value)
+    index.set(pass, key, value, now)
 }
 
 /// Stores the value if the key is absent.
-pub fn add(index: &Index, pass: &mut Pass, key: &Key, value: &Value) -> WriteAnswer
+pub fn add(index: &Index, pass: &mut Pass, key: &Key, value: &Value, now: u32) -> WriteAnswer
     requires { IsQuiet (board_of index.now) pass.old }
     ensures { IsQuiet (board_of index.now) pass.new }
 {
-    index.add(pass, key, value)
+    index.add(pass, key, value, now)
 }
 
 /// Stores the value if the key is present.
-pub fn replace(index: &Index, pass: &mut Pass, key: &Key, value: &Value) -> WriteAnswer
+pub fn replace(index: &Index, pass: &mut Pass, key: &Key, value: &Value, now: u32) -> WriteAnswer
     requires { IsQuiet (board_of index.now) pass.old }
     ensures { IsQuiet (board_of index.now) pass.new }
 {
-    index.replace(pass, key, value)
+    index.replace(pass, key, value, now)
 }
 
 /// Stores the value if the bucket has the expected version.
-pub fn cas(index: &Index, pass: &mut Pass, key: &Key, value: &Value, expected: u32) -> WriteAnswer
+pub fn cas(
+    index: &Index,
+    pass: &mut Pass,
+    key: &Key,
+    value: &Value,
+    expected: u32,
+    now: u32,
+) -> WriteAnswer
     requires { IsQuiet (board_of index.now) pass.old }
     ensures { IsQuiet (board_of index.now) pass.new }
 {
-    index.cas(pass, key, value, expected)
+    index.cas(pass, key, value, expected, now)
 }
 
 /// Takes the key out.
-pub fn delete(index: &Index, pass: &mut Pass, key: &Key) -> DeleteAnswer
+pub fn delete(index: &Index, pass: &mut Pass, key: &Key, now: u32) -> DeleteAnswer
     requires { IsQuiet (board_of index.now) pass.old }
     ensures { IsQuiet (board_of index.now) pass.new }
 {
-    index.delete(pass, key)
+    index.delete(pass, key, now)
 }
 
 /// Reads the value.
-pub fn get(index: &Index, pass: &mut Pass, key: &Key, draw: u32) -> GetAnswer
+pub fn get(index: &Index, pass: &mut Pass, key: &Key, draw: u32, now: u32) -> GetAnswer
     requires { IsQuiet (board_of index.now) pass.old }
     ensures { IsQuiet (board_of index.now) pass.new }
 {
-    index.get(pass, key, draw)
+    index.get(pass, key, draw, now)
 }
 
 /// Reads the value with its version.
-pub fn gets(index: &Index, pass: &mut Pass, key: &Key, draw: u32) -> GetsAnswer
+pub fn gets(index: &Index, pass: &mut Pass, key: &Key, draw: u32, now: u32) -> GetsAnswer
     requires { IsQuiet (board_of index.now) pass.old }
     ensures { IsQuiet (board_of index.now) pass.new }
 {
-    index.gets(pass, key, draw)
+    index.gets(pass, key, draw, now)
+}
+
+/// Stores the value and, if it was stored, reads the key.
+pub fn probe(
+    index: &Index,
+    pass: &mut Pass,
+    key: &Key,
+    value: &Value,
+    draw: u32,
+    now: u32,
+) -> (WriteAnswer, GetAnswer)
+    requires { IsQuiet (board_of index.now) pass.old }
+    ensures { IsQuiet (board_of index.now) pass.new }
+{
+    index.probe(pass, key, value, draw, now)
 }
 
 /// Empties a segment.
@@ -71,12 +97,12 @@ pub fn evict(index: &Index, pass: &mut Pass, segment: u32) -> EvictAnswer
     index.evict(pass, segment)
 }
 
-/// Makes a segment current.
-pub fn refill(index: &Index, pass: &mut Pass, segment: u32) -> RefillAnswer
+/// Makes a segment current, up to a deadline.
+pub fn refill(index: &Index, pass: &mut Pass, segment: u32, deadline: u32) -> RefillAnswer
     requires { IsQuiet (board_of index.now) pass.old }
     ensures { IsQuiet (board_of index.now) pass.new }
 {
-    index.refill(pass, segment)
+    index.refill(pass, segment, deadline)
 }
 
 /// Locks the bucket of the key.

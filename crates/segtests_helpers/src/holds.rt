@@ -1,20 +1,20 @@
 //! Holds, with contracts that say only that the pass stays quiet and that the hold is its own.
 ghost use Rattle.std.specs.Prelude.{IfSome};
-ghost use Rattle.segindex.specs.Index.{board_of, shape_of};
-ghost use Rattle.segpass.specs.Quiet.{IsQuiet};
-ghost use Rattle.segread.specs.Holds.{IsHoldOf};
+ghost use Rattle.segindex.specs.Words.{board_of, shape_of};
+ghost use Rattle.segpass.specs.Words.{IsQuiet};
+ghost use Rattle.segread.specs.Words.{IsHoldOf};
 
 use segindex::{Hold, HoldAnswer, Index, Pass, hold_stays};
 use segmodel::EvictAnswer;
 use segword::{Key, Value};
 
 /// Holds the item of a key, if it can.
-pub fn hold<'i>(index: &'i Index, pass: &mut Pass, key: &Key) -> Option<Hold<'i>>
+pub fn hold<'i>(index: &'i Index, pass: &mut Pass, key: &Key, now: u32) -> Option<Hold<'i>>
     requires { IsQuiet (board_of index.now) pass.old }
     ensures quiet { IsQuiet (board_of index.now) pass.new }
     ensures hold { IfSome result (λ hold. IsHoldOf (shape_of index.now) hold pass.new) }
 {
-    match index.hold(pass, key) {
+    match index.hold(pass, key, now) {
         HoldAnswer::Holding(hold) => Some(hold),
         HoldAnswer::Miss | HoldAnswer::Busy | HoldAnswer::AlreadyHolding => None,
     }
@@ -22,8 +22,10 @@ pub fn hold<'i>(index: &'i Index, pass: &mut Pass, key: &Key) -> Option<Hold<'i>
 
 /// Reads what is held.
 pub fn held_value(index: &Index, pass: &mut Pass, hold: &Hold<'_>) -> Value
-    requires { IsQuiet (board_of index.now) pass.old × IsHoldOf (shape_of index.now) hold.now pass.old }
-    ensures { IsQuiet (board_of index.now) pass.new × IsHoldOf (shape_of index.now) hold.now pass.new }
+    requires { IsQuiet (board_of index.now) pass.old
+        × IsHoldOf (shape_of index.now) hold.now pass.old }
+    ensures { IsQuiet (board_of index.now) pass.new
+        × IsHoldOf (shape_of index.now) hold.now pass.new }
 {
     index.held_value(pass, hold)
 }
@@ -37,29 +39,37 @@ pub fn release(index: &Index, pass: &mut Pass, hold: Hold<'_>)
 }
 
 /// Holds the key while it is set to another value. It gives the value that was held then.
-pub fn hold_over_a_set(index: &Index, pass: &mut Pass, key: &Key, value: &Value) -> Option<Value>
+pub fn hold_over_a_set(
+    index: &Index,
+    pass: &mut Pass,
+    key: &Key,
+    value: &Value,
+    now: u32,
+) -> Option<Value>
     requires { IsQuiet (board_of index.now) pass.old }
     ensures { IsQuiet (board_of index.now) pass.new }
 {
-    let hold = hold(index, pass, key)?;
+    let hold = hold(index, pass, key, now)?;
     hold_stays();
-    index.set(pass, key, value);
+    index.set(pass, key, value, now);
     let held = held_value(index, pass, &hold);
     release(index, pass, hold);
     Some(held)
 }
 
-/// Holds the key while its segment is evicted. It gives the value that was held then, and what the eviction answered.
+/// Holds the key while its segment is evicted.
+/// It gives the value that was held then, and what the eviction answered.
 pub fn hold_over_an_eviction(
     index: &Index,
     pass: &mut Pass,
     key: &Key,
     segment: u32,
+    now: u32,
 ) -> Option<(Value, EvictAnswer)>
     requires { IsQuiet (board_of index.now) pass.old }
     ensures { IsQuiet (board_of index.now) pass.new }
 {
-    let hold = hold(index, pass, key)?;
+    let hold = hold(index, pass, key, now)?;
     hold_stays();
     let answer = index.evict(pass, segment);
     let held = held_value(index, pass, &hold);

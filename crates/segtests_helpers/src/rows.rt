@@ -1,8 +1,9 @@
-//! Rows of calls in the words of a script, each with the answer that is wanted: a test of one thread is a table. They are texts, since a row of enums costs ten times the proof.
-ghost use Rattle.segindex.specs.Index.{board_of};
-ghost use Rattle.segpass.specs.Quiet.{IsQuiet};
+//! Rows of calls in the words of a script, each with the answer that is wanted:
+//! a test of one thread is a table. They are texts, since a row of enums costs ten times the proof.
+ghost use Rattle.segindex.specs.Words.{board_of};
+ghost use Rattle.segpass.specs.Words.{IsQuiet};
 
-use crate::calls::{add, cas, delete, evict, get, gets, lock, refill, replace, set, unlock};
+use crate::calls::{add, cas, delete, evict, get, gets, lock, probe, refill, replace, set, unlock};
 use crate::holds::{hold_over_a_set, hold_over_an_eviction};
 use segindex::{Index, LockAnswer, Pass};
 use segmodel::{
@@ -10,9 +11,13 @@ use segmodel::{
 };
 use segword::{Key, Value};
 
-/// A row: pass, call and arguments, as "p0 set a 1", and the answer, as "STORED".
+/// A row: pass, call and arguments, as "p0 set a 1 @0", and the answer, as "STORED".
 ///
-/// Beside those of a script there are the calls "used", "state", "current" and "holding", of what the pass keeps, and "set_held" and "evict_held": the key is held, this value is set or this segment evicted, and the answer has what the hold reads then.
+/// Beside those of a script there are the calls "used", "state", "deadline", "current" and
+/// "holding", of what the pass keeps, and "set_held" and "evict_held": the key is held, this value
+/// is set or this segment evicted, and the answer has what the hold reads then.
+/// A "probe" has both of its answers, as "STORED VALUE 1".
+/// A call that reads or writes a key ends with its moment, as "@0".
 pub type Row<'t> = (&'t str, &'t str);
 
 /// The call of the first row that is answered otherwise, or that is no call.
@@ -50,27 +55,30 @@ fn is_right(index: &Index, first: &mut Pass, second: &mut Pass, text: &str, want
 
 // The words of a call. One that isn't there is empty, and is then no key, no value and no number.
 #[derive(Clone, Copy)]
-struct Call<'t> {
-    pass: &'t str,
-    name: &'t str,
-    first: &'t str,
-    second: &'t str,
-    third: &'t str,
+pub(crate) struct Call<'t> {
+    pub(crate) pass: &'t str,
+    pub(crate) name: &'t str,
+    pub(crate) first: &'t str,
+    pub(crate) second: &'t str,
+    pub(crate) third: &'t str,
+    pub(crate) moment: &'t str,
 }
 
-fn call_of(text: &str) -> Call<'_> {
-    let mut words = text.split(' ');
+pub(crate) fn call_of(text: &str) -> Call<'_> {
+    let (front, moment) = text.split_once('@').unwrap_or((text, ""));
+    let mut words = front.split(' ');
     Call {
         pass: words.next().unwrap_or(""),
         name: words.next().unwrap_or(""),
         first: words.next().unwrap_or(""),
         second: words.next().unwrap_or(""),
         third: words.next().unwrap_or(""),
+        moment,
     }
 }
 
 // The value of a word. A dash is the empty value.
-fn value_of(word: &str) -> Option<Value> {
+pub(crate) fn value_of(word: &str) -> Option<Value> {
     match word {
         "" => None,
         "-" => Value::new(b""),
@@ -84,13 +92,16 @@ fn is_answered(index: &Index, pass: &mut Pass, call: Call<'_>, wanted: &str) -> 
     ensures { IsQuiet (board_of index.now) pass.new }
 {
     if let Some(key) = Key::new(call.first.as_bytes()) {
-        if let Some(value) = value_of(call.second) {
-            return is_stored(index, pass, call, &key, &value, wanted);
+        if let Ok(now) = call.moment.parse() {
+            return match value_of(call.second) {
+                Some(value) => is_stored(index, pass, call, &key, &value, now, wanted),
+                None => is_found(index, pass, call.name, &key, now, wanted),
+            };
         }
         if let Ok(segment) = call.first.parse() {
-            return is_done(index, pass, call.name, segment, wanted);
+            return is_done(index, pass, call, segment, wanted);
         }
-        return is_found(index, pass, call.name, &key, wanted);
+        return call.name == "lock" && locked(lock(index, pass, &key)) == wanted;
     }
     match call.name {
         "unlock" => unlocked(unlock(index, pass)) == wanted,
@@ -100,75 +111,78 @@ fn is_answered(index: &Index, pass: &mut Pass, call: Call<'_>, wanted: &str) -> 
     }
 }
 
-// Whether a call with a key and a value is answered so. An evict_held has a segment for a value.
+// Whether a call with a key, a value and a moment is answered so.
+// An evict_held has a segment for a value.
 fn is_stored(
     index: &Index,
     pass: &mut Pass,
     call: Call<'_>,
     key: &Key,
     value: &Value,
+    now: u32,
     wanted: &str,
 ) -> bool
     requires { IsQuiet (board_of index.now) pass.old }
     ensures { IsQuiet (board_of index.now) pass.new }
 {
     match call.name {
-        "set" => written(set(index, pass, key, value)) == wanted,
-        "add" => written(add(index, pass, key, value)) == wanted,
-        "replace" => written(replace(index, pass, key, value)) == wanted,
+        "set" => written(set(index, pass, key, value, now)) == wanted,
+        "add" => written(add(index, pass, key, value, now)) == wanted,
+        "replace" => written(replace(index, pass, key, value, now)) == wanted,
         "cas" => match call.third.parse() {
-            Ok(expected) => written(cas(index, pass, key, value, expected)) == wanted,
+            Ok(expected) => written(cas(index, pass, key, value, expected, now)) == wanted,
             Err(_) => false,
         },
-        "set_held" => match hold_over_a_set(index, pass, key, value) {
+        "probe" => is_probed(wanted, &probe(index, pass, key, value, 0, now)),
+        "set_held" => match hold_over_a_set(index, pass, key, value, now) {
             Some(held) => is_value(wanted, &held),
             None => wanted == "NOT_HOLDING",
         },
         "evict_held" => match call.second.parse() {
-            Ok(segment) => is_held_over(wanted, &hold_over_an_eviction(index, pass, key, segment)),
+            Ok(segment) => {
+                is_held_over(
+                    wanted,
+                    &hold_over_an_eviction(index, pass, key, segment, now),
+                )
+            }
             Err(_) => false,
         },
         _ => false,
     }
 }
 
-// Whether a call with a key alone is answered so.
-fn is_found(index: &Index, pass: &mut Pass, name: &str, key: &Key, wanted: &str) -> bool
+// Whether a call with a key and a moment alone is answered so.
+fn is_found(index: &Index, pass: &mut Pass, name: &str, key: &Key, now: u32, wanted: &str) -> bool
     requires { IsQuiet (board_of index.now) pass.old }
     ensures { IsQuiet (board_of index.now) pass.new }
 {
     match name {
-        "get" => match get(index, pass, key, 0) {
-            GetAnswer::Found(found) => is_value(wanted, &found),
-            GetAnswer::Miss => wanted == "MISS",
-            GetAnswer::Busy => wanted == "BUSY",
-        },
-        "gets" => match gets(index, pass, key, 0) {
-            GetsAnswer::Found(found, version) => is_value_with(wanted, &found, version),
-            GetsAnswer::Miss => wanted == "MISS",
-            GetsAnswer::Busy => wanted == "BUSY",
-        },
-        "delete" => deleted(delete(index, pass, key)) == wanted,
-        "lock" => locked(lock(index, pass, key)) == wanted,
+        "get" => is_read(wanted, &get(index, pass, key, 0, now)),
+        "gets" => is_read_with(wanted, &gets(index, pass, key, 0, now)),
+        "delete" => deleted(delete(index, pass, key, now)) == wanted,
         _ => false,
     }
 }
 
-// Whether a call with a segment is answered so.
-fn is_done(index: &Index, pass: &mut Pass, name: &str, segment: u32, wanted: &str) -> bool
+// Whether a call with a segment is answered so. A refill has a deadline too.
+fn is_done(index: &Index, pass: &mut Pass, call: Call<'_>, segment: u32, wanted: &str) -> bool
     requires { IsQuiet (board_of index.now) pass.old }
     ensures { IsQuiet (board_of index.now) pass.new }
 {
-    match name {
+    match call.name {
         "evict" => is_evicted(wanted, evict(index, pass, segment)),
-        "refill" => refilled(refill(index, pass, segment)) == wanted,
+        "refill" => match call.second.parse() {
+            Ok(deadline) => refilled(refill(index, pass, segment, deadline)) == wanted,
+            Err(_) => false,
+        },
+        "deadline" => is_number(wanted, pass.deadline(segment)),
         "used" => is_number(wanted, pass.used(segment)),
         "state" => in_state(pass.state(segment)) == wanted,
         _ => false,
     }
 }
 
-fn written(answer: WriteAnswer) -> &'static str {
+pub(crate) fn written(answer: WriteAnswer) -> &'static str {
     match answer {
         WriteAnswer::Stored => "STORED",
         WriteAnswer::NotStored => "NOT_STORED",
@@ -180,7 +194,7 @@ fn written(answer: WriteAnswer) -> &'static str {
     }
 }
 
-fn deleted(answer: DeleteAnswer) -> &'static str {
+pub(crate) fn deleted(answer: DeleteAnswer) -> &'static str {
     match answer {
         DeleteAnswer::Deleted => "DELETED",
         DeleteAnswer::NotFound => "NOT_FOUND",
@@ -188,7 +202,7 @@ fn deleted(answer: DeleteAnswer) -> &'static str {
     }
 }
 
-fn refilled(answer: RefillAnswer) -> &'static str {
+pub(crate) fn refilled(answer: RefillAnswer) -> &'static str {
     match answer {
         RefillAnswer::Refilled => "REFILLED",
         RefillAnswer::NotYours => "NOT_YOURS",
@@ -222,8 +236,34 @@ fn holds(is_holding: bool) -> &'static str {
     if is_holding { "HOLDING" } else { "NOT_HOLDING" }
 }
 
+// Whether "VALUE 1" is wanted, for the value 1, or "MISS", or "BUSY".
+pub(crate) fn is_read(wanted: &str, answer: &GetAnswer) -> bool {
+    match answer {
+        GetAnswer::Found(found) => is_value(wanted, found),
+        GetAnswer::Miss => wanted == "MISS",
+        GetAnswer::Busy => wanted == "BUSY",
+    }
+}
+
+// Whether "VALUE 1 7" is wanted, for the value 1 and the version 7, or "MISS", or "BUSY".
+pub(crate) fn is_read_with(wanted: &str, answer: &GetsAnswer) -> bool {
+    match answer {
+        GetsAnswer::Found(found, version) => is_value_with(wanted, found, *version),
+        GetsAnswer::Miss => wanted == "MISS",
+        GetsAnswer::Busy => wanted == "BUSY",
+    }
+}
+
+// Whether "STORED VALUE 1" is wanted, for a set that is answered Stored and a get that finds the value 1.
+fn is_probed(wanted: &str, answers: &(WriteAnswer, GetAnswer)) -> bool {
+    match wanted.split_once(' ') {
+        Some((told, read)) => written(answers.0) == told && is_read(read, &answers.1),
+        None => false,
+    }
+}
+
 // Whether "EVICTED 7" is wanted, for 7 keys, or "BUSY 7".
-fn is_evicted(wanted: &str, answer: EvictAnswer) -> bool {
+pub(crate) fn is_evicted(wanted: &str, answer: EvictAnswer) -> bool {
     match answer {
         EvictAnswer::Evicted(keys) => is_counted(wanted, "EVICTED", keys),
         EvictAnswer::NotYours => wanted == "NOT_YOURS",

@@ -1,7 +1,7 @@
 //! A load of one pass counts what a plain loop over the same commands counts.
 ghost use Rattle.std.specs.Prelude.{◌≡◌, ◌<◌, ◌≤◌, ◌^◌};
 
-use crate::runs::{SHAPE, run};
+use crate::runs::{SHAPE, run, run_over};
 use segload::{OpenGate, PassTotals, Tallies};
 use segmodel::{
     Answer, Command, DeleteAnswer, EvictAnswer, GetAnswer, GetsAnswer, RefillAnswer, Request,
@@ -9,16 +9,22 @@ use segmodel::{
 };
 use segpolicy::{Kind, Load, Ring, Workload};
 use segsolo::Solo;
-use segword::{Key, Shape};
+use segword::Shape;
 use std::alloc::{AllocGlobal, Global};
+use std::num::NonZeroU32;
 use std::process::Abort;
 use std::sync::Wait;
 use std::test::Fail;
 use std::thread::Threads;
 
-const SEED: u64 = 7;
+// The moment of each command.
+const MOMENT: u32 = 0;
 
-// Rows enough for a while in each segment, and segments that come in turn: an even number, so that one that skips each second one leaves some out.
+/// The seed of a load.
+pub const SEED: u64 = 7;
+
+// Rows enough for a while in each segment, and segments that come in turn: an even number,
+// so that one that skips each second one leaves some out.
 const WIDE: Shape = Shape {
     buckets: 8,
     segments_each: 4,
@@ -39,8 +45,8 @@ fn no_commands(rt: HostRuntime) -> Result<(), Fail> {
     Ok(())
 }
 
-// What a command comes to, in the order in which a load is printed.
-const PLACES: usize = 10;
+/// What a command comes to, in the order in which a load is printed.
+pub const PLACES: usize = 10;
 
 fn place_of(answer: &Answer) -> usize
     ensures { result < PLACES }
@@ -67,13 +73,13 @@ fn command_of(load: Load, version: u32) -> Command {
         draw: _,
     } = load;
     match kind {
-        Kind::Get => Command::Get(key),
-        Kind::Gets => Command::Gets(key),
-        Kind::Set => Command::Write(Request::Set(key, value)),
-        Kind::Add => Command::Write(Request::Add(key, value)),
-        Kind::Replace => Command::Write(Request::Replace(key, value)),
-        Kind::Cas => Command::Write(Request::Cas(key, value, version)),
-        Kind::Delete => Command::Write(Request::Delete(key)),
+        Kind::Get => Command::Get(key, MOMENT),
+        Kind::Gets => Command::Gets(key, MOMENT),
+        Kind::Set => Command::Write(Request::Set(key, value, MOMENT)),
+        Kind::Add => Command::Write(Request::Add(key, value, MOMENT)),
+        Kind::Replace => Command::Write(Request::Replace(key, value, MOMENT)),
+        Kind::Cas => Command::Write(Request::Cas(key, value, version, MOMENT)),
+        Kind::Delete => Command::Write(Request::Delete(key, MOMENT)),
     }
 }
 
@@ -83,7 +89,7 @@ fn renews(solo: &mut Solo, segment: u32) -> bool {
         solo.answer(&Command::Evict(segment)),
         Answer::Evict(EvictAnswer::Evicted(_))
     ) && matches!(
-        solo.answer(&Command::Refill(segment)),
+        solo.answer(&Command::Refill(segment, u32::MAX)),
         Answer::Refill(RefillAnswer::Refilled)
     )
 }
@@ -97,37 +103,37 @@ fn serve(solo: &mut Solo, segments: &mut Ring, command: &Command) -> Answer {
     answer
 }
 
-// How many of the keys of a load stand.
-fn keys_of(solo: &mut Solo) -> Result<u32, Fail> {
+// How many keys stand, all of which are of these commands. Each is taken out as it is counted.
+fn keys_of(solo: &mut Solo, mut workload: Workload, commands: u32) -> u32 {
     let mut keys = 0u32;
-    for number in 0..64u8 {
-        let (tens, ones) = (b'0' + number / 10, b'0' + number % 10);
-        let digits = [b'k', tens, ones];
-        let key = if number < 10 {
-            Key::new(&[b'k', ones])
-        } else {
-            Key::new(&digits)
-        };
-        let answer = solo.answer(&Command::Get(key.ok_or("a key")?));
-        if matches!(answer, Answer::Get(GetAnswer::Found(_))) {
+    for _ in 0..commands {
+        let Load {
+            key,
+            kind: _,
+            value: _,
+            draw: _,
+        } = workload.next();
+        let answer = solo.answer(&Command::Write(Request::Delete(key, MOMENT)));
+        if answer == Answer::Delete(DeleteAnswer::Deleted) {
             keys = keys.saturating_add(1);
         }
     }
-    Ok(keys)
+    keys
 }
 
-// What a plain loop counts over the commands of pass 0, and how many keys stand then.
+// What a plain loop counts over the commands of pass 0 of so many keys, and how many of these stand then.
 fn plain_loop(
     alloc: Global,
     shape: Shape,
     seed: u64,
     commands: u32,
+    keys: NonZeroU32,
 ) -> Result<([u32; PLACES], u32), Fail>
     requires one_pass { shape.passes ≡ 1 }
     requires some { (1 ≤ shape.segments_each) × (shape.segments_each < 2 ^ 32) }
 {
     let mut solo = Solo::new(alloc, shape).ok().ok_or("an index")?;
-    let mut workload = Workload::new(seed, 0);
+    let mut workload = Workload::with_keys(seed, 0, keys.get());
     let mut segments = Ring::new(0, shape.segments_each);
     let mut version = 0;
     let mut counts = [0u32; PLACES];
@@ -140,11 +146,12 @@ fn plain_loop(
         let place = place_of(&answer);
         counts[place] = counts[place].saturating_add(1);
     }
-    let keys = keys_of(&mut solo)?;
-    Ok((counts, keys))
+    let again = Workload::with_keys(seed, 0, keys.get());
+    Ok((counts, keys_of(&mut solo, again, commands)))
 }
 
-fn counts_of(tallies: &Tallies) -> [u32; PLACES] {
+/// The tallies, in the order in which a load is printed.
+pub fn counts_of(tallies: &Tallies) -> [u32; PLACES] {
     [
         tallies.hit,
         tallies.miss,
@@ -159,20 +166,22 @@ fn counts_of(tallies: &Tallies) -> [u32; PLACES] {
     ]
 }
 
-// Two loads are the same, nothing of them is busy, and a plain loop counts the same.
+// Two loads over so many keys are the same, nothing of them is busy, and a plain loop counts the same.
 fn counts_as_plain<R: Threads + Wait + AllocGlobal + Abort + Sync>(
     rt: &R,
     shape: Shape,
     commands: u32,
+    keys: u32,
 ) -> Result<(), Fail>
     requires one_pass { shape.passes ≡ 1 }
     requires some { (1 ≤ shape.segments_each) × (shape.segments_each < 2 ^ 32) }
 {
-    let first = run(rt, shape, SEED, commands, &OpenGate)?;
-    let second = run(rt, shape, SEED, commands, &OpenGate)?;
+    let keys = NonZeroU32::new(keys).ok_or("some keys")?;
+    let first = run_over(rt, shape, SEED, commands, keys, &OpenGate)?;
+    let second = run_over(rt, shape, SEED, commands, keys, &OpenGate)?;
     assert_eq!(rt; first, second);
-    let (counts, keys) = plain_loop(rt.alloc(), shape, SEED, commands)?;
-    assert_eq!(rt; first.keys, keys);
+    let (counts, standing) = plain_loop(rt.alloc(), shape, SEED, commands, keys)?;
+    assert_eq!(rt; first.keys, standing);
     let [totals] = first.passes.as_slice() else {
         return Err("one pass".into());
     };
@@ -189,10 +198,31 @@ fn counts_as_plain<R: Threads + Wait + AllocGlobal + Abort + Sync>(
 
 #[test]
 fn a_load_counts_as_a_plain_loop(rt: HostRuntime) -> Result<(), Fail> {
-    counts_as_plain(&rt, SHAPE, 500)
+    counts_as_plain(&rt, SHAPE, 500, 64)
 }
 
 #[test]
 fn segments_are_given_up_in_turn(rt: HostRuntime) -> Result<(), Fail> {
-    counts_as_plain(&rt, WIDE, 2000)
+    counts_as_plain(&rt, WIDE, 2000, 64)
+}
+
+#[test]
+fn a_load_is_over_any_number_of_keys(rt: HostRuntime) -> Result<(), Fail> {
+    for keys in [1, 2, 1_000_000, u32::MAX] {
+        counts_as_plain(&rt, WIDE, 2000, keys)?;
+    }
+    // Over one key each command finds what the one before it left.
+    let one = NonZeroU32::new(1).ok_or("one key")?;
+    let totals = run_over(&rt, WIDE, SEED, 2000, one, &OpenGate)?;
+    assert!(rt; totals.keys <= 1);
+    Ok(())
+}
+
+#[test]
+fn a_load_is_over_64_keys_where_nothing_is_said(rt: HostRuntime) -> Result<(), Fail> {
+    let keys = NonZeroU32::new(64).ok_or("some keys")?;
+    let said = run_over(&rt, WIDE, SEED, 500, keys, &OpenGate)?;
+    let unsaid = run(&rt, WIDE, SEED, 500, &OpenGate)?;
+    assert_eq!(rt; said, unsaid);
+    Ok(())
 }

@@ -21,7 +21,9 @@ fn is_set(flag: &AtomicU64) -> bool {
     false
 }
 
-// It lets through the first command of pass 0 only once that of pass 1 was answered, and that of pass 1 only once that of pass 0 was asked for. One thread can't pass it, in whatever order it takes the passes.
+// It lets through the first command of pass 0 only once that of pass 1 was answered,
+// and that of pass 1 only once that of pass 0 was asked for.
+// One thread can't pass it, in whatever order it takes the passes.
 #[derive(Drop)]
 struct Crossing {
     first_asked: AtomicU64,
@@ -64,7 +66,8 @@ fn passes_work_at_the_same_time(rt: HostRuntime) -> Result<(), Fail> {
     Ok(())
 }
 
-// It lets the commands of two passes through in turn, each only once the one before it was answered.
+// It lets the commands of two passes through in turn,
+// each only once the one before it was answered.
 #[derive(Drop)]
 struct InTurn {
     answered: AtomicU64,
@@ -94,7 +97,8 @@ impl Gate for InTurn {
     }
 }
 
-// A gate that heard of an answer before the command was made would let both run at once, and the two loads would differ.
+// A gate that heard of an answer before the command was made would let both run at once,
+// and the two loads would differ.
 #[test]
 fn passes_that_take_turns_count_the_same_each_time(rt: HostRuntime) -> Result<(), Fail> {
     let shape = Shape {

@@ -1,7 +1,9 @@
-//! Loads as the tests run them. The contract of a load isn't read by each test, since this one has none.
-use segload::{Gate, LoadFault, Totals, run_load};
+//! Loads as the tests run them.
+//! The contract of a load isn't read by each test, since this one has none.
+use segload::{Gate, LoadFault, Totals, run_crowd, run_load};
 use segword::Shape;
 use std::alloc::AllocGlobal;
+use std::num::NonZeroU32;
 use std::sync::Wait;
 use std::thread::Threads;
 
@@ -15,7 +17,7 @@ pub const SHAPE: Shape = Shape {
     first_version: 0,
 };
 
-/// Runs a load.
+/// Runs a load over 64 keys.
 pub fn run<R: Threads + Wait + AllocGlobal + Sync, G: Gate>(
     rt: &R,
     shape: Shape,
@@ -24,4 +26,16 @@ pub fn run<R: Threads + Wait + AllocGlobal + Sync, G: Gate>(
     gate: &G,
 ) -> Result<Totals, LoadFault> {
     run_load(rt, rt.alloc(), shape, seed, commands, gate)
+}
+
+/// Runs a load over so many keys.
+pub fn run_over<R: Threads + Wait + AllocGlobal + Sync, G: Gate>(
+    rt: &R,
+    shape: Shape,
+    seed: u64,
+    commands: u32,
+    keys: NonZeroU32,
+    gate: &G,
+) -> Result<Totals, LoadFault> {
+    run_crowd(rt, rt.alloc(), shape, seed, commands, keys, gate)
 }

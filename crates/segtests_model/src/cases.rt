@@ -1,5 +1,6 @@
-//! Cases: commands and their answers, none of them with a fault. A case is a command and its answer in the words of a
-//! script, as `set a 1 = STORED`. Several keys before it stand in turn for the key `*` in it, as in `a b c: set * 1 = STORED`.
+//! Cases: commands and their answers, none of them with a fault.
+//! A case is a command and its answer in the words of a script, as `set a 1 @0 = STORED`.
+//! Several keys before it stand in turn for the key `*` in it, as in `a b c: set * 1 @0 = STORED`.
 use segmodel::{
     Answer, Command, DeleteAnswer, EvictAnswer, GetAnswer, GetsAnswer, Plain, RefillAnswer,
     Request, Shelf, WriteAnswer,
@@ -45,6 +46,11 @@ fn number(word: &str) -> Result<u32, Fail> {
     Ok(word.parse::<u32>().ok().ok_or("no number")?)
 }
 
+// A moment, as `@0`.
+fn moment(word: &str) -> Result<u32, Fail> {
+    number(word.strip_prefix("@").ok_or("no moment")?)
+}
+
 // The word before the first space, and what follows it.
 fn cut(text: &str) -> (&str, &str) {
     text.split_once(' ').unwrap_or((text, ""))
@@ -54,20 +60,34 @@ fn cut(text: &str) -> (&str, &str) {
 pub fn command(text: &str, each: &str) -> Result<Command, Fail> {
     let (name, rest) = cut(text);
     let (first, rest) = cut(rest);
-    let (second, third) = cut(rest);
+    let (second, rest) = cut(rest);
+    let (third, fourth) = cut(rest);
     match name {
-        "refill" => Ok(Command::Refill(number(first)?)),
+        "refill" => Ok(Command::Refill(number(first)?, number(second)?)),
         "evict" => Ok(Command::Evict(number(first)?)),
-        "get" => Ok(Command::Get(key(first, each)?)),
-        "gets" => Ok(Command::Gets(key(first, each)?)),
-        "delete" => Ok(Command::Write(Request::Delete(key(first, each)?))),
-        "set" => Ok(Command::Write(Request::Set(key(first, each)?, value(second)?))),
-        "add" => Ok(Command::Write(Request::Add(key(first, each)?, value(second)?))),
-        "replace" => Ok(Command::Write(Request::Replace(key(first, each)?, value(second)?))),
+        "get" => Ok(Command::Get(key(first, each)?, moment(second)?)),
+        "gets" => Ok(Command::Gets(key(first, each)?, moment(second)?)),
+        "delete" => Ok(Command::Write(Request::Delete(key(first, each)?, moment(second)?))),
+        "set" => Ok(Command::Write(Request::Set(
+            key(first, each)?,
+            value(second)?,
+            moment(third)?,
+        ))),
+        "add" => Ok(Command::Write(Request::Add(
+            key(first, each)?,
+            value(second)?,
+            moment(third)?,
+        ))),
+        "replace" => Ok(Command::Write(Request::Replace(
+            key(first, each)?,
+            value(second)?,
+            moment(third)?,
+        ))),
         "cas" => Ok(Command::Write(Request::Cas(
             key(first, each)?,
             value(second)?,
             number(third)?,
+            moment(fourth)?,
         ))),
         _ => Err("no command".into()),
     }

@@ -1,12 +1,9 @@
-//! Scripts by the public calls of `segscript`: what no clause says, as the replies to worked scripts. This crate has tests alone.
+//! Scripts by the public calls of `segscript`: what no clause says,
+//! as the replies to worked scripts. This crate has tests alone.
 #![tactic(auto)]
 
 #[cfg(test)]
 mod bad_lines;
-#[cfg(test)]
-mod cut_short;
-#[cfg(test)]
-mod devices;
 #[cfg(test)]
 mod evicting;
 #[cfg(test)]
@@ -14,9 +11,13 @@ mod growing;
 #[cfg(test)]
 mod holding;
 #[cfg(test)]
+mod hostile;
+#[cfg(test)]
 mod locking;
 #[cfg(test)]
 mod making;
+#[cfg(test)]
+mod moments;
 #[cfg(test)]
 mod order;
 #[cfg(test)]

@@ -40,7 +40,8 @@ fn a_bad_shape_is_answered_by_its_first_fault(rt: HostRuntime) -> Result<(), Fai
     Ok(())
 }
 
-// Run with each allocation refused in turn: a refusal in the making is answered as such, before anything is read.
+// Run with each allocation refused in turn: a refusal in the making is answered as such,
+// before anything is read.
 #[test]
 fn want_of_memory_is_answered_before_anything_is_read(rt: HostRuntime) -> Result<(), Fail> {
     let mut reader = reader_of(SCRIPT, 5000, None);

@@ -1,6 +1,6 @@
 //! When the replies are written: a reader that knows what the writer took.
 ghost use Rattle.std.specs.Prelude.{◌≡◌, ◌++◌, [], refl};
-ghost use Rattle.segscript.specs.Memory.{hands_more, takes_more, takes_none};
+ghost use Rattle.segscript.specs.Words.{hands_more, takes_more, takes_none};
 
 use crate::runs::{REPLIES, SCRIPT, reader_of, shape_of};
 use segscript::{Failed, MemSink, MemSource, Sink, Source, run_script};
@@ -78,7 +78,11 @@ fn the_reply_of_each_whole_line_is_written_before_the_next_read(
     let found = run_script(rt.alloc(), &mut reader, &mut writer, shape_of(2));
     assert_eq!(rt; found, Ok(()));
     assert_eq!(rt; writer.inner.taken.as_slice(), REPLIES);
-    // The lines end at bytes 12, 23 and 32, and the reads begin at bytes 0, 7, 14, 21, 28 and 32.
-    assert_eq!(rt; reader.at_reads.as_slice(), [0, 0, 9, 9, 16, 24].as_slice());
+    // The lines end at bytes 23, 37 and 49.
+    // The reads begin at bytes 0, 7, 14, 21, 28, 35, 42 and 49.
+    assert_eq!(rt;
+        reader.at_reads.as_slice(),
+        [0, 0, 0, 0, 9, 9, 16, 24].as_slice()
+    );
     Ok(())
 }

@@ -1,7 +1,7 @@
 //! Whole runs over memory, in pieces of 1, 3 and 5000 bytes.
 ghost use Rattle.std.specs.Prelude.{◌≡◌, false};
 
-use segscript::{MemSink, MemSource, RunFault, run_script};
+use segscript::{MemSink, MemSource, RunFault, WhenFull, run_script};
 use segword::Shape;
 use std::alloc::Global;
 use std::process::Abort;
@@ -11,7 +11,7 @@ use std::test::Fail;
 pub const STEPS: [usize; 3] = [1, 3, 5000];
 
 /// A script of three lines, and its replies.
-pub const SCRIPT: &[u8] = b"p0 refill 0\np0 set a 1\np0 get a\n";
+pub const SCRIPT: &[u8] = b"p0 refill 0 4294967295\np0 set a 1 @0\np0 get a @0\n";
 
 pub const REPLIES: &[u8] = b"REFILLED\nSTORED\nVALUE 1\n";
 
@@ -37,24 +37,47 @@ pub fn reader_of(script: &[u8], step: usize, good: Option<usize>) -> MemSource<'
     reader
 }
 
-/// Runs a script, and checks how it ends, what it wrote, and that it flushed once where it ended well, else not at all.
+/// What the devices of a run do.
+#[derive(Clone, Copy)]
+pub struct Devices {
+    /// After how many bytes the reader fails.
+    pub good: Option<usize>,
+    /// How many bytes the writer takes.
+    pub room: usize,
+    pub when_full: WhenFull,
+    pub flush_fails: bool,
+}
+
+/// Devices that don't fail.
+pub const SOUND: Devices = Devices {
+    good: None,
+    room: 1000,
+    when_full: WhenFull::Fails,
+    flush_fails: false,
+};
+
+/// Runs a script, and checks how it ends, what it wrote,
+/// and that it flushed once where it ended well or the flush failed, else not at all.
 pub fn check(
     rt: &impl Abort,
     alloc: Global,
     shape: Shape,
     script: &[u8],
-    good: Option<usize>,
+    devices: Devices,
     end: Result<(), RunFault>,
     replies: &[u8],
 ) -> Result<(), Fail> {
+    let is_flushed = end.is_ok() || devices.flush_fails;
     for step in STEPS {
-        let mut reader = reader_of(script, step, good);
-        let mut writer = MemSink::new(alloc, 1000)?;
+        let mut reader = reader_of(script, step, devices.good);
+        let mut writer = MemSink::new(alloc, devices.room)?;
         writer.step = step.max(1);
+        writer.when_full = devices.when_full;
+        writer.flush_fails = devices.flush_fails;
         let found = run_script(alloc, &mut reader, &mut writer, shape);
         assert_eq!(rt; found, end, "in pieces of {step}");
         assert_eq!(rt; writer.taken.as_slice(), replies, "in pieces of {step}");
-        assert_eq!(rt; writer.flushes, if end.is_ok() { 1 } else { 0 });
+        assert_eq!(rt; writer.flushes, u64::from(is_flushed));
     }
     Ok(())
 }
@@ -68,11 +91,12 @@ pub fn check_script(
     end: Result<(), RunFault>,
     replies: &[u8],
 ) -> Result<(), Fail> {
-    check(rt, alloc, shape_of(rows), script, None, end, replies)
+    check(rt, alloc, shape_of(rows), script, SOUND, end, replies)
 }
 
-/// Checks a script without bad lines. The shape has no overflow bucket, and this many buckets, passes, segments of a pass
-/// and rows of a segment.
+/// Checks a script without bad lines.
+/// The shape has no overflow bucket, and this many buckets, passes,
+/// segments of a pass and rows of a segment.
 pub fn check_turns(
     rt: &impl Abort,
     alloc: Global,
@@ -89,5 +113,5 @@ pub fn check_turns(
         rows,
         first_version,
     };
-    check(rt, alloc, shape, script, None, Ok(()), replies)
+    check(rt, alloc, shape, script, SOUND, Ok(()), replies)
 }

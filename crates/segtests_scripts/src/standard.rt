@@ -1,4 +1,5 @@
-//! Readers and writers of std. What a flush does to a writer of std no contract tells, so a writer counts its own.
+//! Readers and writers of std.
+//! What a flush does to a writer of std no contract tells, so a writer counts its own.
 use crate::runs::{REPLIES, SCRIPT, shape_of};
 use segscript::{ReadSource, RunFault, WriteSink, run_script};
 use std::io;

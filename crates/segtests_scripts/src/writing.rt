@@ -10,7 +10,7 @@ fn an_add_stores_a_new_key_and_a_replace_one_that_is_there(rt: HostRuntime) -> R
         rt.alloc(),
         [4, 1, 1, 8],
         0,
-        b"p0 refill 0\np0 add a 1\np0 add a 2\np0 replace e 3\np0 get a\np0 replace a 4\np0 get a\np0 get e\n",
+        b"p0 refill 0 4294967295\np0 add a 1 @0\np0 add a 2 @0\np0 replace e 3 @0\np0 get a @0\np0 replace a 4 @0\np0 get a @0\np0 get e @0\n",
         b"REFILLED\nSTORED\nNOT_STORED\nNOT_STORED\nVALUE 1\nSTORED\nVALUE 4\nMISS\n",
     )
 }
@@ -23,7 +23,7 @@ fn a_version_is_that_of_the_bucket(rt: HostRuntime) -> Result<(), Fail> {
         rt.alloc(),
         [4, 1, 1, 8],
         0,
-        b"p0 refill 0\np0 add a 1\np0 gets a\np0 set e 9\np0 cas a 2 1\np0 cas a 2 2\np0 cas z 1 3\np0 gets a\np0 gets z\n",
+        b"p0 refill 0 4294967295\np0 add a 1 @0\np0 gets a @0\np0 set e 9 @0\np0 cas a 2 1 @0\np0 cas a 2 2 @0\np0 cas z 1 3 @0\np0 gets a @0\np0 gets z @0\n",
         b"REFILLED\nSTORED\nVALUE 1 1\nSTORED\nEXISTS\nSTORED\nNOT_FOUND\nVALUE 2 3\nMISS\n",
     )
 }
@@ -35,7 +35,7 @@ fn the_last_version_is_followed_by_0(rt: HostRuntime) -> Result<(), Fail> {
         rt.alloc(),
         [1, 1, 1, 8],
         4294967295,
-        b"p0 refill 0\np0 gets a\np0 set a 1\np0 gets a\np0 cas a 2 1\np0 cas a 2 0\np0 gets a\n",
+        b"p0 refill 0 4294967295\np0 gets a @0\np0 set a 1 @0\np0 gets a @0\np0 cas a 2 1 @0\np0 cas a 2 0 @0\np0 gets a @0\n",
         b"REFILLED\nMISS\nSTORED\nVALUE 1 0\nEXISTS\nSTORED\nVALUE 2 1\n",
     )
 }
@@ -47,7 +47,7 @@ fn a_cas_expects_the_version_on_either_side_of_0(rt: HostRuntime) -> Result<(), 
         rt.alloc(),
         [1, 1, 1, 8],
         4294967294,
-        b"p0 refill 0\np0 set a 1\np0 set a 2\np0 cas a 3 4294967295\np0 cas a 3 0\np0 gets a\n",
+        b"p0 refill 0 4294967295\np0 set a 1 @0\np0 set a 2 @0\np0 cas a 3 4294967295 @0\np0 cas a 3 0 @0\np0 gets a @0\n",
         b"REFILLED\nSTORED\nSTORED\nEXISTS\nSTORED\nVALUE 3 1\n",
     )
 }
@@ -59,7 +59,7 @@ fn a_delete_that_finds_its_key_is_counted(rt: HostRuntime) -> Result<(), Fail> {
         rt.alloc(),
         [1, 1, 1, 4],
         0,
-        b"p0 refill 0\np0 delete a\np0 set a 1\np0 delete a\np0 delete a\np0 cas a 5 2\np0 add a 2\np0 gets a\n",
+        b"p0 refill 0 4294967295\np0 delete a @0\np0 set a 1 @0\np0 delete a @0\np0 delete a @0\np0 cas a 5 2 @0\np0 add a 2 @0\np0 gets a @0\n",
         b"REFILLED\nNOT_FOUND\nSTORED\nDELETED\nNOT_FOUND\nNOT_FOUND\nSTORED\nVALUE 2 3\n",
     )
 }
@@ -71,7 +71,7 @@ fn an_empty_value_is_read_with_its_version(rt: HostRuntime) -> Result<(), Fail> 
         rt.alloc(),
         [1, 1, 1, 4],
         0,
-        b"p0 refill 0\np0 add a -\np0 gets a\np0 cas a - 1\np0 gets a\n",
+        b"p0 refill 0 4294967295\np0 add a - @0\np0 gets a @0\np0 cas a - 1 @0\np0 gets a @0\n",
         b"REFILLED\nSTORED\nVALUE - 1\nSTORED\nVALUE - 2\n",
     )
 }
@@ -83,7 +83,7 @@ fn the_longest_reply_is_written(rt: HostRuntime) -> Result<(), Fail> {
         rt.alloc(),
         [1, 1, 1, 4],
         4294967294,
-        b"p0 refill 0\np0 set a 0123456789abcdef0123456789abcdef\np0 gets a\n",
+        b"p0 refill 0 4294967295\np0 set a 0123456789abcdef0123456789abcdef @0\np0 gets a @0\n",
         b"REFILLED\nSTORED\nVALUE 0123456789abcdef0123456789abcdef 4294967295\n",
     )
 }
@@ -96,7 +96,7 @@ fn want_of_a_row_comes_before_what_the_key_says(rt: HostRuntime) -> Result<(), F
         rt.alloc(),
         [1, 1, 1, 1],
         0,
-        b"p0 add a 1\np0 refill 0\np0 set a 1\np0 add a 2\np0 replace e 3\np0 cas a 2 9\np0 cas z 2 9\np0 set a 2\np0 get a\np0 delete a\np0 get a\n",
+        b"p0 add a 1 @0\np0 refill 0 4294967295\np0 set a 1 @0\np0 add a 2 @0\np0 replace e 3 @0\np0 cas a 2 9 @0\np0 cas z 2 9 @0\np0 set a 2 @0\np0 get a @0\np0 delete a @0\np0 get a @0\n",
         b"NOROOM\nREFILLED\nSTORED\nNOROOM\nNOROOM\nNOROOM\nNOROOM\nNOROOM\nVALUE 1\nDELETED\nMISS\n",
     )
 }
@@ -109,7 +109,7 @@ fn a_refused_write_uses_no_row(rt: HostRuntime) -> Result<(), Fail> {
         rt.alloc(),
         [1, 1, 1, 2],
         0,
-        b"p0 refill 0\np0 set a 1\np0 add a 2\np0 replace e 1\np0 cas a 2 7\np0 cas z 1 0\np0 lock a\np0 set a 3\np0 unlock\np0 set b 2\np0 set c 3\np0 get b\n",
+        b"p0 refill 0 4294967295\np0 set a 1 @0\np0 add a 2 @0\np0 replace e 1 @0\np0 cas a 2 7 @0\np0 cas z 1 0 @0\np0 lock a\np0 set a 3 @0\np0 unlock\np0 set b 2 @0\np0 set c 3 @0\np0 get b @0\n",
         b"REFILLED\nSTORED\nNOT_STORED\nNOT_STORED\nEXISTS\nNOT_FOUND\nLOCKED\nBUSY\nUNLOCKED\nSTORED\nNOROOM\nVALUE 2\n",
     )
 }
@@ -122,7 +122,7 @@ fn a_full_bucket_refuses_a_new_key_alone(rt: HostRuntime) -> Result<(), Fail> {
         rt.alloc(),
         [1, 1, 1, 32],
         0,
-        b"p0 refill 0\np0 set a 1\np0 set b 1\np0 set c 1\np0 set d 1\np0 set e 1\np0 set f 1\np0 set g 1\np0 add h 1\np0 replace h 1\np0 cas h 1 0\np0 add a 2\np0 replace a 2\np0 cas b 3 8\np0 delete c\np0 add h 1\np0 get h\np0 get c\n",
+        b"p0 refill 0 4294967295\np0 set a 1 @0\np0 set b 1 @0\np0 set c 1 @0\np0 set d 1 @0\np0 set e 1 @0\np0 set f 1 @0\np0 set g 1 @0\np0 add h 1 @0\np0 replace h 1 @0\np0 cas h 1 0 @0\np0 add a 2 @0\np0 replace a 2 @0\np0 cas b 3 8 @0\np0 delete c @0\np0 add h 1 @0\np0 get h @0\np0 get c @0\n",
         b"REFILLED\nSTORED\nSTORED\nSTORED\nSTORED\nSTORED\nSTORED\nSTORED\nBUCKETFULL\nNOT_STORED\nNOT_FOUND\nNOT_STORED\nSTORED\nSTORED\nDELETED\nSTORED\nVALUE 1\nMISS\n",
     )
 }
@@ -135,7 +135,7 @@ fn a_locked_bucket_is_written_by_nobody(rt: HostRuntime) -> Result<(), Fail> {
         rt.alloc(),
         [1, 2, 1, 8],
         0,
-        b"p0 refill 0\np1 refill 1\np0 set a 1\np1 lock a\np0 add a 2\np1 add a 2\np0 replace a 2\np1 cas a 2 1\np0 delete a\np1 delete z\np1 unlock\np1 cas a 2 1\np0 delete a\n",
+        b"p0 refill 0 4294967295\np1 refill 1 4294967295\np0 set a 1 @0\np1 lock a\np0 add a 2 @0\np1 add a 2 @0\np0 replace a 2 @0\np1 cas a 2 1 @0\np0 delete a @0\np1 delete z @0\np1 unlock\np1 cas a 2 1 @0\np0 delete a @0\n",
         b"REFILLED\nREFILLED\nSTORED\nLOCKED\nBUSY\nBUSY\nBUSY\nBUSY\nBUSY\nBUSY\nUNLOCKED\nSTORED\nDELETED\n",
     )
 }

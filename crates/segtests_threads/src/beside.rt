@@ -1,8 +1,9 @@
-//! A reader beside a writer: each value that is read was stored as a whole, and none is older than one read before.
+//! A reader beside a writer: each value that is read was stored as a whole,
+//! and none is older than one read before.
 use crate::work::{Work, at_once};
 use segindex::{Index, Pass};
 use segmodel::{GetAnswer, RefillAnswer, WriteAnswer};
-use segtests_helpers::calls::{get, meet, refill, set};
+use segtests_helpers::calls::{MOMENT, get, meet, refill, set};
 use segtests_helpers::passes::{SHAPE, two_passes};
 use segword::{Key, Shape, Value};
 use std::test::Fail;
@@ -39,21 +40,24 @@ struct Writer<'a> {
 
 impl Work for Writer<'_> {
     fn turn(&mut self, index: &Index, pass: &mut Pass, turn: u32) -> bool {
-        if turn % ROWS == 0 && refill(index, pass, turn / ROWS) != RefillAnswer::Refilled {
+        if turn % ROWS == 0
+            && refill(index, pass, turn / ROWS, u32::MAX) != RefillAnswer::Refilled
+        {
             return false;
         }
         let number = turn.saturating_add(1);
         let Some(value) = value_of(number) else {
             return false;
         };
-        if set(index, pass, self.key, &value) == WriteAnswer::Stored {
+        if set(index, pass, self.key, &value, MOMENT) == WriteAnswer::Stored {
             self.last = number;
         }
         number < LAST
     }
 }
 
-// Reads the key until it reads the last number. It keeps the last one that it read, and whether each was a number, and none below an earlier one.
+// Reads the key until it reads the last number.
+// It keeps the last one that it read, and whether each was a number, and none below an earlier one.
 #[derive(Drop)]
 struct Reader<'a> {
     key: &'a Key,
@@ -63,7 +67,7 @@ struct Reader<'a> {
 
 impl Work for Reader<'_> {
     fn turn(&mut self, index: &Index, pass: &mut Pass, turn: u32) -> bool {
-        match get(index, pass, self.key, turn) {
+        match get(index, pass, self.key, turn, MOMENT) {
             GetAnswer::Found(value) => match number_of(&value) {
                 Some(number) => {
                     self.is_well = self.is_well && self.last <= number;
@@ -102,6 +106,9 @@ fn a_reader_beside_a_writer(rt: HostRuntime) -> Result<(), Fail> {
     assert_eq!(rt; (writer.last, reader.last), (LAST, LAST));
     meet(&index, &mut first, &mut second);
     let last = value_of(LAST).expect(&rt, "a value");
-    assert_eq!(rt; get(&index, &mut second, &key, 0), GetAnswer::Found(last));
+    assert_eq!(rt;
+        get(&index, &mut second, &key, 0, MOMENT),
+        GetAnswer::Found(last)
+    );
     Ok(())
 }

@@ -1,17 +1,18 @@
-//! A segment that is emptied and filled again and again beside passes that hold what is stored there: a held value stays whole.
-ghost use Rattle.segindex.specs.Index.{board_of};
-ghost use Rattle.segpass.specs.Quiet.{IsQuiet};
+//! A segment that is emptied and filled again and again beside passes that hold what is stored
+//! there: a held value stays whole.
+ghost use Rattle.segindex.specs.Words.{board_of};
+ghost use Rattle.segpass.specs.Words.{IsQuiet};
 
 use crate::digits::{number_of, value_of};
-use crate::work::{Work, at_once, take_turns};
+use crate::work::{Work, three_at_once};
 use segindex::{Index, Pass};
 use segmodel::{EvictAnswer, RefillAnswer, WriteAnswer};
-use segtests_helpers::calls::{evict, refill, set};
+use segtests_helpers::calls::{MOMENT, evict, refill, set};
 use segtests_helpers::holds::{held_value, hold, release};
 use segtests_helpers::passes::{SHAPE, three_passes};
 use segword::{Key, Shape, Value};
 use std::test::Fail;
-use std::thread::{join, yield_now};
+use std::thread::yield_now;
 
 const ROUNDS: u32 = 1_000;
 
@@ -20,7 +21,8 @@ fn is_of_round(value: &Value) -> bool {
     number_of(value).is_some_and(|round| (1..=ROUNDS).contains(&round))
 }
 
-// In each round its number is stored under the key, alone in segment 0, and taken out again. It counts the rounds that went well.
+// In each round its number is stored under the key, alone in segment 0, and taken out again.
+// It counts the rounds that went well.
 #[derive(Drop)]
 struct Writer<'a> {
     key: &'a Key,
@@ -30,7 +32,7 @@ struct Writer<'a> {
 
 impl Work for Writer<'_> {
     fn turn(&mut self, index: &Index, pass: &mut Pass, _turn: u32) -> bool {
-        if refill(index, pass, 0) == RefillAnswer::Held {
+        if refill(index, pass, 0, u32::MAX) == RefillAnswer::Held {
             yield_now();
             return true;
         }
@@ -50,7 +52,7 @@ fn store_once(index: &Index, pass: &mut Pass, key: &Key, round: u32) -> bool
     let Some(value) = value_of(round) else {
         return false;
     };
-    set(index, pass, key, &value) == WriteAnswer::Stored
+    set(index, pass, key, &value, MOMENT) == WriteAnswer::Stored
         && evict(index, pass, 0) == EvictAnswer::Evicted(1)
 }
 
@@ -70,12 +72,14 @@ impl Work for Holder<'_> {
     }
 }
 
-// Holds the key, and reads what it holds twice. It tells whether both were the same, and the value of a round. A pass that can't hold must hold nothing.
+// Holds the key, and reads what it holds twice.
+// It tells whether both were the same, and the value of a round.
+// A pass that can't hold must hold nothing.
 fn hold_once(index: &Index, pass: &mut Pass, key: &Key) -> bool
     requires { IsQuiet (board_of index.now) pass.old }
     ensures { IsQuiet (board_of index.now) pass.new }
 {
-    let Some(hold) = hold(index, pass, key) else {
+    let Some(hold) = hold(index, pass, key, MOMENT) else {
         return !pass.is_holding();
     };
     let first = held_value(index, pass, &hold);
@@ -98,21 +102,12 @@ fn held_values_outlive_evictions(rt: HostRuntime) -> Result<(), Fail> {
         round: 0,
         done: 0,
     };
-    let ((_, writer), ((_, holder), (_, other))) = join(
+    let ((_, writer), (_, holder), (_, other)) = three_at_once(
         &rt,
-        || -> (Pass, Writer<'_>)
-            requires { IsQuiet (board_of index) first }
-        { take_turns(&index, first, writer) },
-        || -> ((Pass, Holder<'_>), (Pass, Holder<'_>))
-            requires { IsQuiet (board_of index) second × IsQuiet (board_of index) third }
-        {
-            at_once(
-                &rt,
-                &index,
-                (second, Holder { key: &key, well: 0 }),
-                (third, Holder { key: &key, well: 0 }),
-            )
-        },
+        &index,
+        (first, writer),
+        (second, Holder { key: &key, well: 0 }),
+        (third, Holder { key: &key, well: 0 }),
     );
     assert_eq!(rt; writer.done, ROUNDS);
     assert_eq!(rt; (holder.well, other.well), (ROUNDS, ROUNDS));

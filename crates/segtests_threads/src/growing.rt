@@ -1,16 +1,18 @@
-//! Chains that grow on threads: two writers draw from one counter, and a reader finds a key whose item moves on.
-ghost use Rattle.segindex.specs.Index.{board_of};
-ghost use Rattle.segpass.specs.Quiet.{IsQuiet};
+//! Chains that grow on threads: two writers draw from one counter,
+//! and a reader finds a key whose item moves on.
+ghost use Rattle.segindex.specs.Words.{board_of};
+ghost use Rattle.segpass.specs.Words.{IsQuiet};
 
 use crate::work::{Work, at_once, take_turns};
 use segindex::{Index, Pass};
 use segmodel::{GetAnswer, WriteAnswer};
-use segtests_helpers::calls::{add, get, meet, set};
+use segtests_helpers::calls::{MOMENT, add, get, meet, set};
 use segtests_helpers::passes::{SHAPE, two_that_fill};
 use segword::{Key, Shape, Value};
 use std::test::Fail;
 
-// One more than the last byte of a key: a chain of four buckets has words for half of the keys, and those with bytes of one parity are in one bucket of two.
+// One more than the last byte of a key: a chain of four buckets has words for half of the keys,
+// and those with bytes of one parity are in one bucket of two.
 const BYTES: u8 = 50;
 
 const ROUNDS: u32 = 20;
@@ -30,7 +32,7 @@ fn is_found(index: &Index, pass: &mut Pass, byte: u8, draw: u32) -> bool
     let Some((key, value)) = pair(byte) else {
         return false;
     };
-    get(index, pass, &key, draw) == GetAnswer::Found(value)
+    get(index, pass, &key, draw, MOMENT) == GetAnswer::Found(value)
 }
 
 // Sets each second key from this byte on, and counts how many are stored.
@@ -45,7 +47,7 @@ impl Work for Setter {
         let Some((key, value)) = pair(self.byte) else {
             return false;
         };
-        if set(index, pass, &key, &value) == WriteAnswer::Stored {
+        if set(index, pass, &key, &value, MOMENT) == WriteAnswer::Stored {
             self.stored = self.stored.saturating_add(1);
         }
         self.byte = self.byte.saturating_add(2);
@@ -53,7 +55,8 @@ impl Work for Setter {
     }
 }
 
-// Adds each second key from this byte on, again while its bucket is busy, and counts how many are stored, and for how many the bucket is full.
+// Adds each second key from this byte on, again while its bucket is busy,
+// and counts how many are stored, and for how many the bucket is full.
 #[derive(Drop)]
 struct Adder {
     byte: u8,
@@ -66,7 +69,7 @@ impl Work for Adder {
         let Some((key, value)) = pair(self.byte) else {
             return false;
         };
-        match add(index, pass, &key, &value) {
+        match add(index, pass, &key, &value, MOMENT) {
             WriteAnswer::Busy => return true,
             WriteAnswer::Stored => self.stored = self.stored.saturating_add(1),
             WriteAnswer::BucketFull => self.full = self.full.saturating_add(1),
@@ -153,7 +156,8 @@ fn two_chains_share_the_overflow_buckets(rt: HostRuntime) -> Result<(), Fail> {
             (first, Setter { byte: 0, stored: 0 }),
             (second, Setter { byte: 1, stored: 0 }),
         );
-        // Seven words each, and six more for each of the four buckets, however the two shared these.
+        // Seven words each, and six more for each of the four buckets,
+        // however the two shared these.
         assert_eq!(rt; sets.stored.saturating_add(other_sets.stored), 38);
         assert_eq!(rt; sets.stored % 6, 1);
         meet(&index, &mut first, &mut second);
@@ -163,7 +167,8 @@ fn two_chains_share_the_overflow_buckets(rt: HostRuntime) -> Result<(), Fail> {
     Ok(())
 }
 
-// Reads a key again and again, and keeps whether it was found each time from the first time on. Each hit raises its frequency.
+// Reads a key again and again, and keeps whether it was found each time from the first time on.
+// Each hit raises its frequency.
 #[derive(Drop)]
 struct Reader {
     byte: u8,

@@ -1,4 +1,5 @@
-//! Passes on threads of their own: what no clause says, as that calls get on beside each other. This crate has tests alone.
+//! Passes on threads of their own: what no clause says, as that calls get on beside each other.
+//! This crate has tests alone.
 #![tactic(auto)]
 
 #[cfg(test)]
@@ -15,5 +16,7 @@ mod growing;
 mod locking;
 #[cfg(test)]
 mod setting;
+#[cfg(test)]
+mod standing;
 #[cfg(test)]
 mod work;

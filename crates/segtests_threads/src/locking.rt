@@ -1,4 +1,5 @@
-//! Two threads that lock one bucket: both get on, no lock is counted as a write, and no bit is left.
+//! Two threads that lock one bucket: both get on, no lock is counted as a write,
+//! and no bit is left.
 use crate::work::{Work, at_once};
 use segindex::{Index, LockAnswer, Pass};
 use segtests_helpers::calls::{lock, unlock};
@@ -33,7 +34,7 @@ impl Work for Locker<'_> {
 fn two_threads_lock_one_bucket(rt: HostRuntime) -> Result<(), Fail> {
     let (index, mut first, mut second) = two_that_fill(rt.alloc(), SHAPE)?;
     let key = Key::new(b"a").expect(&rt, "a key");
-    let rows = [("p0 set a 1", "STORED")];
+    let rows = [("p0 set a 1 @0", "STORED")];
     assert_eq!(rt; first_wrong(&index, &mut first, &mut second, &rows), None);
     let ((mut first, locks), (mut second, other_locks)) = at_once(
         &rt,
@@ -43,7 +44,7 @@ fn two_threads_lock_one_bucket(rt: HostRuntime) -> Result<(), Fail> {
     );
     assert_eq!(rt; (locks.done, other_locks.done), (LOCKS, LOCKS));
     // The set alone counts as a write, and no lock is left.
-    let rows = [("p0 gets a", "VALUE 1 1"), ("p0 lock a", "LOCKED")];
+    let rows = [("p0 gets a @0", "VALUE 1 1"), ("p0 lock a", "LOCKED")];
     assert_eq!(rt; first_wrong(&index, &mut first, &mut second, &rows), None);
     Ok(())
 }

@@ -1,15 +1,17 @@
-//! Two threads that set: each set is stored and counted, and a pass that met the other, or that ends the index, has both.
+//! Two threads that set: each set is stored and counted, and a pass that met the other,
+//! or that ends the index, has both.
 use crate::work::{Work, at_once};
 use segindex::{Index, Pass};
 use segmodel::WriteAnswer;
-use segtests_helpers::calls::{lists, meet, set};
+use segtests_helpers::calls::{MOMENT, lists, meet, set};
 use segtests_helpers::passes::{SHAPE, two_that_fill};
 use segtests_helpers::rows::first_wrong;
 use segword::{Key, Shape, Value};
 use std::test::Fail;
 use std::thread::yield_now;
 
-// Sets the key so often, each time again while the bucket is busy, and counts the sets that are stored.
+// Sets the key so often, each time again while the bucket is busy,
+// and counts the sets that are stored.
 #[derive(Drop)]
 struct Setter<'a> {
     key: &'a Key,
@@ -20,7 +22,7 @@ struct Setter<'a> {
 
 impl Work for Setter<'_> {
     fn turn(&mut self, index: &Index, pass: &mut Pass, _turn: u32) -> bool {
-        match set(index, pass, self.key, self.value) {
+        match set(index, pass, self.key, self.value, MOMENT) {
             WriteAnswer::Busy => {
                 yield_now();
                 return true;
@@ -61,7 +63,7 @@ fn the_version_counts_the_sets_of_two_threads(rt: HostRuntime) -> Result<(), Fai
         (second, Setter::new(&b, &one, 1_000)),
     );
     assert_eq!(rt; (sets.stored, other_sets.stored), (1_000, 1_000));
-    let rows = [("p0 gets a", "VALUE 1 2000"), ("p0 lock a", "LOCKED")];
+    let rows = [("p0 gets a @0", "VALUE 1 2000"), ("p0 lock a", "LOCKED")];
     assert_eq!(rt; first_wrong(&index, &mut first, &mut second, &rows), None);
     Ok(())
 }
@@ -82,10 +84,10 @@ fn two_threads_store_and_meet(rt: HostRuntime) -> Result<(), Fail> {
     assert_eq!(rt; (sets.stored, other_sets.stored), (1, 1));
     meet(&index, &mut first, &mut second);
     let rows = [
-        ("p0 get a", "VALUE 1"),
-        ("p0 get b", "VALUE 2"),
-        ("p1 get a", "VALUE 1"),
-        ("p1 get b", "VALUE 2"),
+        ("p0 get a @0", "VALUE 1"),
+        ("p0 get b @0", "VALUE 2"),
+        ("p1 get a @0", "VALUE 1"),
+        ("p1 get b @0", "VALUE 2"),
     ];
     assert_eq!(rt; first_wrong(&index, &mut first, &mut second, &rows), None);
     Ok(())
@@ -111,7 +113,7 @@ fn close_forgets_others(rt: HostRuntime) -> Result<(), Fail> {
     assert_eq!(rt; (sets.stored, other_sets.stored), (1, 1));
     meet(&index, &mut first, &mut second);
     // The first pass doesn't see this one.
-    let rows = [("p1 set a 1", "STORED")];
+    let rows = [("p1 set a 1 @0", "STORED")];
     assert_eq!(rt; first_wrong(&index, &mut first, &mut second, &rows), None);
     let pairs = [("a", "1"), ("b", "2"), ("c", "3")];
     assert_eq!(rt; lists(rt.alloc(), index, first, &pairs), Ok(true));

@@ -1,6 +1,7 @@
-//! What a thread does with its pass, turn after turn. Each test gives the turns alone: that the pass stays quiet over them is proved once.
-ghost use Rattle.segindex.specs.Index.{board_of};
-ghost use Rattle.segpass.specs.Quiet.{IsQuiet};
+//! What a thread does with its pass, turn after turn.
+//! Each test gives the turns alone: that the pass stays quiet over them is proved once.
+ghost use Rattle.segindex.specs.Words.{board_of};
+ghost use Rattle.segpass.specs.Words.{IsQuiet};
 
 use segindex::{Index, Pass};
 use std::thread::{Threads, join};
@@ -52,4 +53,34 @@ pub fn at_once<R: Threads + Sync, A: Work, B: Work>(
             ensures { IsQuiet (board_of index.entry.now) result.0 }
         { take_turns(index, second, other) },
     )
+}
+
+/// Three passes do their works on threads of their own.
+pub fn three_at_once<R: Threads + Sync, A: Work, B: Work, C: Work>(
+    rt: &R,
+    index: &Index,
+    first: (Pass, A),
+    second: (Pass, B),
+    third: (Pass, C),
+) -> ((Pass, A), (Pass, B), (Pass, C))
+    requires { IsQuiet (board_of index.now) first.0 × IsQuiet (board_of index.now) second.0
+        × IsQuiet (board_of index.now) third.0 }
+    ensures { IsQuiet (board_of index.now) result.0.0 × IsQuiet (board_of index.now) result.1.0
+        × IsQuiet (board_of index.now) result.2.0 }
+{
+    let (first, task) = first;
+    let (first, (second, third)) = join(
+        rt,
+        || -> (Pass, A)
+            requires { IsQuiet (board_of index.now) first }
+            ensures { IsQuiet (board_of index.entry.now) result.0 }
+        { take_turns(index, first, task) },
+        || -> ((Pass, B), (Pass, C))
+            requires { IsQuiet (board_of index.now) second.0
+                × IsQuiet (board_of index.now) third.0 }
+            ensures { IsQuiet (board_of index.entry.now) result.0.0
+                × IsQuiet (board_of index.entry.now) result.1.0 }
+        { at_once(rt, index, second, third) },
+    );
+    (first, second, third)
 }

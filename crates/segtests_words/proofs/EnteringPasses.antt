@@ -3,33 +3,18 @@ use Rattle.std.proofs.Common.{◌≡◌, ℕ, zero, suc, ◌+◌, ◌*◌, ◌<�
 use Rattle.std.proofs.lemmas.Bool.{cases_lt}
 use Rattle.std.specs.Prelude.{option_to_list}
 use Rattle.segmodel.proofs.ListPlaces.{last_of, front_of}
-use Rattle.segword.specs.declared.shape.Shape.{Shape}
-use Rattle.segword.specs.Bytes.{IsKey, IsValue}
-use Rattle.segword.specs.Shape.{IsValid}
-use Rattle.segmodel.specs.Places.{bucket_of, owner}
-use Rattle.segmodel.specs.Cache.{standing}
-use Rattle.segmodel.specs.History.{after, Begins}
-use Rattle.segcore.specs.declared.event.Event.{Event}
+use Rattle.segword.specs.Words.{IsKey, IsValid, IsValue, Shape}
+use Rattle.segmodel.specs.Words.{after, Begins, bucket_of, owner, standing}
 use Rattle.segcore.specs.declared.event.Event.TheVariants.{Took, Freed, Filled, Linked, Entered, Left}
-use Rattle.segcore.specs.declared.cell.Cell.{Cell}
 use Rattle.segcore.specs.declared.cell.Cell.TheVariants.{OfBucket, OfOverflow}
-use Rattle.segcore.specs.Event.{seen, NoneBy}
-use Rattle.segcore.specs.Bucket.{Content, nothing, item, next, copy, acts, bucket_after}
-use Rattle.segcore.specs.ItemWord.{packed}
-use Rattle.segcore.specs.Row.{Row, row_after, writes_row, Holds}
-use Rattle.segcore.specs.Segment.{inside, was_used}
-use Rattle.segcore.specs.Lawful.{IsLawful}
-use Rattle.segcore.specs.Word.{IsCell, IsItemAt, word, content_word}
-use Rattle.segcore.specs.Kind.{May, HasBit, link, release, enter}
+use Rattle.segcore.specs.Words.{acts, bucket_after, Cell, Content, content_word, copy, enter, Event}
+use Rattle.segcore.specs.Words.{HasBit, Holds, inside, IsCell, IsItemAt, IsLawful, item, link, May}
+use Rattle.segcore.specs.Words.{next, NoneBy, nothing, packed, release, Row, row_after, seen}
+use Rattle.segcore.specs.Words.{was_used, word, writes_row}
 use Rattle.segcore.proofs.Exact.{content_at, says_of_keys}
 use Rattle.segcore.proofs.Quiet.{quiet_row, quiet, used_stays}
-use Rattle.segbase.specs.declared.board.Board.{Board}
-use Rattle.segbase.specs.declared.pass.Pass.{Pass}
-use Rattle.segbase.specs.declared.place.Place.{Place}
-use Rattle.segbase.specs.Passes.{number, trace, AddsEvents, AddsAtOnce}
-use Rattle.segbase.specs.Steps.{IsWordOfContent, IsFree, Takes}
-use Rattle.segbase.specs.Spots.{cell_at, position}
-use Rattle.segbase.specs.Made.{IsNewPass, IsMade}
+use Rattle.segbase.specs.Words.{AddsAtOnce, AddsEvents, Board, cell_at, IsFree, IsMade, IsNewPass}
+use Rattle.segbase.specs.Words.{IsWordOfContent, number, Pass, Place, position, Takes, trace}
 use Rattle.segtests_words.specs.Entering.{shape, key, set, IsOutside, IsNew, KnowsUse}
 use Rattle.segbase.proofs.Moves.{moved_inside, did_quiet, did_has, reads_enter, leave_then}
 

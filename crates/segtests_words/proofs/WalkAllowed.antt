@@ -1,14 +1,12 @@
 -- Each step of the walk may be taken where it comes.
-use Rattle.std.proofs.Common.{◌≡◌, ℕ, zero, suc, ◌<◌, [], ◌∷◌, Some, None, true, false, refl, ◌∙◌, inl, inr, arith, length, get_or}
-use Rattle.segword.specs.Bytes.{IsKey, IsValue}
+use Rattle.std.proofs.Common.{◌≡◌, ℕ, zero, suc, ◌<◌, [], ◌∷◌, None, true, false, refl, ◌∙◌, inl, inr, arith, length, get_or}
+use Rattle.segword.specs.Words.{IsKey, IsValue}
 use Rattle.segcore.specs.declared.event.Event.TheVariants.{Filled, Left}
+use Rattle.segcore.specs.declared.event.Leaving.TheVariants.{Evicts}
 use Rattle.segcore.specs.declared.cell.Cell.TheVariants.{OfBucket, OfOverflow}
-use Rattle.segcore.specs.Bucket.{slot}
-use Rattle.segcore.specs.Row.{Row, Holds, row_after}
-use Rattle.segcore.specs.Word.{IsItemAt}
-use Rattle.segcore.specs.Lawful.{HasItemOf}
-use Rattle.segcore.specs.Kind.{May, release, link, clear, draw, fill, chain, row_store, enter, leave, none_reading}
-use Rattle.segtests_words.specs.Walk.{shape, key, value, set, replace, took, written, linked, stored, inside, twice_inside, raised, bumped, drawn, filled, chained, moved, relinked, replaced, unlinked, evicted}
+use Rattle.segcore.specs.Words.{chain, clear, draw, enter, fill, HasItemOf, Holds, IsItemAt, leave}
+use Rattle.segcore.specs.Words.{link, May, none_reading, release, Row, row_after, row_store, slot}
+use Rattle.segtests_words.specs.Walk.{shape, key, value, set, replace, took, written, linked, stored, inside, twice_inside, raised, bumped, drawn, filled, chained, moved, relinked, replaced, unlinked, evicted, refilled, visited, unread}
 
 -- ---- the pair
 
@@ -145,7 +143,7 @@ free_replaced = ((omega arith, refl), refl, refl, tt)
 
 -- ---- it is evicted
 
-pub may_clear : May shape (took replaced) 0 (clear key 9 (OfOverflow 0 1) 0x0890_1000_0000_0001 (Some 0))
+pub may_clear : May shape (took replaced) 0 (clear key 9 (OfOverflow 0 1) 0x0890_1000_0000_0001 (Evicts 0))
 may_clear = (
   record { guarded = (omega arith, refl); follows = (refl, refl); suits = (slot key 0 1, refl, refl, refl) },
   ((omega arith, omega arith), (1, refl, omega arith, omega arith)),
@@ -154,5 +152,16 @@ may_clear = (
 pub free_evicted : May shape unlinked 0 (release 0 false None)
 free_evicted = ((omega arith, refl), refl, refl, tt)
 
-pub may_refill : May shape evicted 0 (none_reading 0)
-may_refill = (omega arith, ((λ k i. i), refl))
+pub may_refill : May shape evicted 0 (none_reading 0 0 9)
+may_refill = (omega arith, ((λ k i. i), refl), omega arith)
+
+-- ---- a reader comes and leaves, and then it is refilled again
+
+pub third_enter : May shape refilled 0 (enter 0)
+third_enter = record { guarded = tt; follows = tt; suits = (omega arith, omega arith, omega arith, refl) }
+
+pub third_leave : May shape visited 0 (leave 0)
+third_leave = record { guarded = tt; follows = tt; suits = (omega arith, omega arith, omega arith) }
+
+pub may_refill_again : May shape unread 0 (none_reading 0 9 4294967295)
+may_refill_again = (omega arith, ((λ k i. i), refl), omega arith)

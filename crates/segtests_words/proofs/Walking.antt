@@ -2,13 +2,10 @@
 use Rattle.std.proofs.Common.{◌≡◌, ℕ, Bool, true, cond, List, ◌∷◌, [], ◌++◌, sym, ap, ◌∙◌, subst, Result, Ok, Err}
 use Rattle.std.proofs.lemmas.Bool.{false≢true}
 use Rattle.std.specs.Prelude.{is_ok, OnOk}
-use Rattle.segword.specs.declared.shape.Shape.{Shape}
-use Rattle.segcore.specs.declared.event.Event.{Event}
+use Rattle.segword.specs.Words.{Shape}
+use Rattle.segcore.specs.Words.{Event}
 use Rattle.segcore.specs.declared.event.Event.TheVariants.{Took}
-use Rattle.segbase.specs.declared.board.Board.{Board}
-use Rattle.segbase.specs.declared.pass.Pass.{Pass}
-use Rattle.segbase.specs.Passes.{number, trace, AddsAtOnce}
-use Rattle.segbase.specs.Steps.{Takes}
+use Rattle.segbase.specs.Words.{AddsAtOnce, Board, number, Pass, Takes, trace}
 use Rattle.segtests_words.specs.Walk.{shape, took, HasDone}
 use Rattle.segbase.proofs.Alone.{moved_alone}
 

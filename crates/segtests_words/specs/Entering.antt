@@ -1,12 +1,10 @@
 -- A board of two passes that both enter one segment: what a pass has to know for that.
 use Rattle.std.specs.Prelude.{◌≡◌, ℕ, true, List, [], ◌∷◌}
-use Rattle.segword.specs.declared.shape.Shape.{Shape}
-use Rattle.segmodel.specs.declared.request.Request.{Request}
+use Rattle.segword.specs.Words.{Shape}
+use Rattle.segmodel.specs.Words.{Request}
 use Rattle.segmodel.specs.declared.request.Request.TheVariants.{Set}
-use Rattle.segcore.specs.Segment.{inside, was_used}
-use Rattle.segbase.specs.declared.pass.Pass.{Pass}
-use Rattle.segbase.specs.declared.board.Board.{Board}
-use Rattle.segbase.specs.Passes.{number, trace, IsPassOf}
+use Rattle.segcore.specs.Words.{inside, was_used}
+use Rattle.segbase.specs.Words.{Board, IsPassOf, number, Pass, trace}
 
 abbrev pub shape : Shape
 shape = record { buckets = 1; overflow = 0; passes = 2; segments_each = 1; rows = 1; first_version = 0 }
@@ -16,7 +14,7 @@ abbrev pub key : List ℕ
 key = 0 ∷ []
 
 abbrev pub set : Request
-set = Set key []
+set = Set key [] 0
 
 -- a pass of a board of this shape, which isn't in segment 0
 pub record IsOutside (b : Board) (p : Pass) : Type 0 where

@@ -1,13 +1,12 @@
 -- The walk of an only pass through each kind of step, whose words the tests read back: the board's shape, and what the pass has done at each stage, the newest event first.
-use Rattle.std.specs.Prelude.{◌≡◌, ℕ, true, false, List, [], ◌∷◌, Some}
-use Rattle.segword.specs.declared.shape.Shape.{Shape}
-use Rattle.segmodel.specs.declared.request.Request.{Request}
+use Rattle.std.specs.Prelude.{◌≡◌, ℕ, true, false, List, [], ◌∷◌}
+use Rattle.segword.specs.Words.{Shape}
+use Rattle.segmodel.specs.Words.{Request}
 use Rattle.segmodel.specs.declared.request.Request.TheVariants.{Set, Replace}
-use Rattle.segcore.specs.declared.event.Event.{Event}
+use Rattle.segcore.specs.Words.{Event}
 use Rattle.segcore.specs.declared.event.Event.TheVariants.{Took, Freed, Filled, Linked, Unlinked, Drew, Put, Chained, Bumped, Entered, Left, Refilled}
-use Rattle.segbase.specs.declared.pass.Pass.{Pass}
-use Rattle.segbase.specs.declared.board.Board.{Board}
-use Rattle.segbase.specs.Passes.{number, trace, IsPassOf}
+use Rattle.segcore.specs.declared.event.Leaving.TheVariants.{Evicts}
+use Rattle.segbase.specs.Words.{Board, IsPassOf, number, Pass, trace}
 
 abbrev pub shape : Shape
 shape = record { buckets = 1; overflow = 1; passes = 1; segments_each = 2; rows = 2; first_version = 5 }
@@ -20,10 +19,10 @@ abbrev pub value : List ℕ
 value = 120 ∷ 121 ∷ 122 ∷ []
 
 abbrev pub set : Request
-set = Set key value
+set = Set key value 0
 
 abbrev pub replace : Request
-replace = Replace key value
+replace = Replace key value 0
 
 -- the bit is taken
 abbrev pub took : List Event → List Event
@@ -75,14 +74,21 @@ replaced = Freed 0 0 true ∷ relinked
 
 -- it is evicted
 abbrev pub unlinked : List Event
-unlinked = Unlinked 0 key 9 (Some 0) ∷ took replaced
+unlinked = Unlinked 0 key 9 (Evicts 0) ∷ took replaced
 
 abbrev pub evicted : List Event
 evicted = Freed 0 0 false ∷ unlinked
 
--- and its segment refilled
+-- and its segment refilled, up to moment 9
 abbrev pub refilled : List Event
-refilled = Refilled 0 0 ∷ evicted
+refilled = Refilled 0 0 9 ∷ evicted
+
+-- a reader comes and leaves
+abbrev pub visited : List Event
+visited = Entered 0 0 ∷ refilled
+
+abbrev pub unread : List Event
+unread = Left 0 0 ∷ visited
 
 -- the pass is the only one of a board of this shape, and these are all events
 pub record HasDone (b : Board) (p : Pass) (events : List Event) : Type 0 where

@@ -1,7 +1,7 @@
 //! The words of a board and the plain parts of its passes, by the format.
 ghost use Rattle.std.specs.Prelude.{IfOk};
-ghost use Rattle.segword.specs.Shape.{IsValid};
-ghost use Rattle.segbase.specs.Closing.{shape_of};
+ghost use Rattle.segword.specs.Words.{IsValid};
+ghost use Rattle.segbase.specs.Words.{shape_of};
 
 use crate::boards::{check, made};
 use segbase::{Board, MakeFault, Words};
@@ -85,7 +85,8 @@ fn a_bad_shape_is_refused(rt: HostRuntime) -> Result<(), Fail> {
     Ok(())
 }
 
-// Takes the bit of bucket 1, and gives it back where that is asked for. It gives the board's words then.
+// Takes the bit of bucket 1, and gives it back where that is asked for.
+// It gives the board's words then.
 fn bit_of_bucket_1(rt: &impl Abort, alloc: Global, is_given_back: bool) -> Result<Words, Fail>
     ensures { IfOk result (λ words. IsValid (shape_of words)) }
 {

@@ -1,8 +1,7 @@
 //! Boards that were just made, and all words of a board at its end.
 ghost use Rattle.std.specs.Prelude.{◌≡◌, ◌-◌, IfOk};
-ghost use Rattle.segword.specs.Shape.{IsValid};
-ghost use Rattle.segbase.specs.Made.{IsNewPass};
-ghost use Rattle.segbase.specs.Closing.{shape_of};
+ghost use Rattle.segword.specs.Words.{IsValid};
+ghost use Rattle.segbase.specs.Words.{IsNewPass, shape_of};
 
 use segbase::{Board, Pass, Words};
 use segword::Shape;
@@ -12,7 +11,8 @@ use std::test::Fail;
 
 /// A board of this shape, with the last of its passes.
 pub fn made(alloc: Global, shape: Shape) -> Result<(Board, Pass), Fail>
-    ensures { IfOk result (λ made. (made.0.shape ≡ shape) × IsNewPass made.0 (shape.passes - 1) made.1) }
+    ensures { IfOk result (λ made.
+        (made.0.shape ≡ shape) × IsNewPass made.0 (shape.passes - 1) made.1) }
 {
     let (board, mut passes) = Board::new(alloc, shape)?;
     let Some(pass) = passes.pop() else {

@@ -1,6 +1,6 @@
 //! Two threads enter and leave one segment, whose word then counts nobody.
 ghost use Rattle.std.specs.Prelude.{◌≡◌};
-ghost use Rattle.segbase.specs.Passes.{number};
+ghost use Rattle.segbase.specs.Words.{number};
 ghost use Rattle.segtests_words.specs.Entering.{IsNew, KnowsUse};
 
 use segbase::{Board, Pass, Place};
@@ -22,7 +22,8 @@ const ITEM: Item = Item {
     row: 0,
 };
 
-/// The key is set with the empty value, where its bucket is empty. Its row has one word that isn't 0.
+/// The key is set with the empty value, where its bucket is empty.
+/// Its row has one word that isn't 0.
 fn set(rt: &impl Abort, board: &Board, pass: &mut Pass)
     requires new { IsNew board.now pass.old }
     requires first { number pass.old ≡ 0 }

@@ -1,4 +1,5 @@
-//! What no contract says of words, frequencies, workloads and the table: values that are known from outside. This crate has tests alone.
+//! What no contract says of words, frequencies, workloads and the table:
+//! values that are known from outside. This crate has tests alone.
 #![tactic(auto)]
 
 #[cfg(test)]

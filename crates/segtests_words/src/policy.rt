@@ -1,4 +1,5 @@
-//! Tables that no contract says: frequencies by draws, and commands of published words of the generator.
+//! Tables that no contract says: frequencies by draws,
+//! and commands of published words of the generator.
 use segpolicy::{Kind, Load, Ring, Workload, each_number_comes_once, next_frequency};
 use segword::{Key, Value};
 use std::test::Fail;

@@ -1,9 +1,12 @@
-//! The steps of the walk, a function each: what the only pass of a board has done by then, newest first.
-ghost use Rattle.std.specs.Prelude.{List, [], ◌∷◌, None};
+//! The steps of the walk, a function each: what the only pass of a board has done by then,
+//! newest first.
+ghost use Rattle.std.specs.Prelude.{List, [], ◌∷◌, None, IsTrue};
 ghost use Rattle.segcore.specs.declared.event.Event.{Event};
-ghost use Rattle.segcore.specs.declared.event.Event.TheVariants.{Freed, Filled};
-ghost use Rattle.segcore.specs.Kind.{May, release, row_store};
-ghost use Rattle.segtests_words.specs.Walk.{shape, took, written, linked, twice_inside, raised, bumped, drawn, filled, chained, moved, relinked, replaced, unlinked, evicted, refilled, HasDone};
+ghost use Rattle.segcore.specs.declared.event.Event.TheVariants.{Freed, Filled, Refilled};
+ghost use Rattle.segcore.specs.Words.{May, none_reading, release, row_store};
+ghost use Rattle.segtests_words.specs.Walk.{shape, took, written, linked, twice_inside, raised};
+ghost use Rattle.segtests_words.specs.Walk.{bumped, drawn, filled, chained, moved, relinked};
+ghost use Rattle.segtests_words.specs.Walk.{replaced, unlinked, HasDone};
 
 use segbase::{Board, Pass, Place};
 use segword::{Item, Shape};
@@ -138,10 +141,12 @@ pub fn clear(rt: &impl Abort, board: &Board, pass: &mut Pass)
     assert!(rt; board.clear(pass, MOVED, 0x0890_1000_0000_0001).is_ok());
 }
 
-/// Segment 0 is refilled.
-pub fn refill(rt: &impl Abort, board: &Board, pass: &mut Pass)
-    requires { HasDone board.now pass.old evicted }
-    ensures { HasDone board.now pass.new refilled }
+/// Whether segment 0, which has the old deadline, is refilled up to another one.
+pub fn refill(board: &Board, pass: &mut Pass, old: u32, deadline: u32) -> bool
+    ghost done: { List Event }
+    requires done { HasDone board.now pass.old done }
+    requires may { May shape done 0 (none_reading 0 old deadline) }
+    ensures { IsTrue result → HasDone board.now pass.new (Refilled 0 0 deadline ∷ done) }
 {
-    assert!(rt; board.none_reading(pass, 0));
+    board.none_reading(pass, 0, old, deadline)
 }

@@ -1,6 +1,6 @@
 //! The words of a table after each kind of step, written out by the format.
 ghost use Rattle.std.specs.Prelude.{[], IfSome};
-ghost use Rattle.segbase.specs.Passes.{IsPassOf};
+ghost use Rattle.segbase.specs.Words.{IsPassOf};
 ghost use Rattle.segtests_words.specs.Walk.{stored, bumped, moved, replaced, refilled, HasDone};
 
 use crate::boards::{check, made};
@@ -15,10 +15,11 @@ use std::test::Fail;
 const COUNT: usize = 1 + 8 + 8 + 2 * 17;
 
 /// How many steps the walk has.
-const STEPS: u32 = 26;
+const STEPS: u32 = 29;
 
-/// The word at the start that isn't 0, and the word that each step changes: the step, the place and the word.
-const CHANGES: [(u32, usize, u64); 26] = [
+/// The word at the start that isn't 0, and the word that each step changes: the step,
+/// the place and the word.
+const CHANGES: [(u32, usize, u64); 30] = [
     (0, 1, 0x0000_0005_0000_0000),
     // The pair `ab` and `xyz` is stored in row 1 of segment 1, and named by word 7.
     (1, 1, 0x0000_0005_0000_0001),
@@ -46,10 +47,15 @@ const CHANGES: [(u32, usize, u64); 26] = [
     (20, 30, 0x0000_0000_007a_7978),
     (21, 10, 0x0890_1000_0000_0001),
     (22, 1, 0x0000_0007_0000_0000),
-    // It is evicted. That its segment is refilled then, step 26, changes no word.
+    // It is evicted, and its segment refilled up to moment 9.
     (23, 1, 0x0000_0007_0000_0001),
     (24, 10, 0),
     (25, 1, 0x0000_0007_0000_0000),
+    (26, 17, 0x0000_0009_0000_0000),
+    // The pass comes into that segment and leaves it, and it is refilled up to the last moment.
+    (27, 17, 0x0000_0009_0000_0001),
+    (28, 17, 0x0000_0009_0000_0000),
+    (29, 17, 0xffff_ffff_0000_0000),
 ];
 
 // The first steps of those that are left: the pair is set.
@@ -147,7 +153,8 @@ fn set_again(rt: &impl Abort, board: &Board, pass: &mut Pass, left: u32) -> Opti
 // It is evicted, and its segment refilled.
 fn evict(rt: &impl Abort, board: &Board, pass: &mut Pass, left: u32) -> Option<u32>
     requires { HasDone board.now pass.old replaced }
-    ensures { IsPassOf board.now pass.new }
+    ensures done { IfSome result (λ left. HasDone board.now pass.new refilled) }
+    ensures pass { IsPassOf board.now pass.new }
 {
     let left = left.checked_sub(1)?;
     take(rt, board, pass);
@@ -156,7 +163,21 @@ fn evict(rt: &impl Abort, board: &Board, pass: &mut Pass, left: u32) -> Option<u
     let left = left.checked_sub(1)?;
     give_back(board, pass, false);
     let left = left.checked_sub(1)?;
-    refill(rt, board, pass);
+    assert!(rt; refill(board, pass, 0, 9));
+    Some(left)
+}
+
+// A reader of that segment finds its deadline. Once it has left, the segment is refilled again.
+fn refill_again(rt: &impl Abort, board: &Board, pass: &mut Pass, left: u32) -> Option<u32>
+    requires { HasDone board.now pass.old refilled }
+    ensures { IsPassOf board.now pass.new }
+{
+    let left = left.checked_sub(1)?;
+    assert_eq!(rt; board.enter(pass, 0), 9);
+    let left = left.checked_sub(1)?;
+    board.leave(pass, 0);
+    let left = left.checked_sub(1)?;
+    assert!(rt; refill(board, pass, 9, u32::MAX));
     Some(left)
 }
 
@@ -170,7 +191,8 @@ fn walk(rt: &impl Abort, board: &Board, pass: &mut Pass, steps: u32) -> Option<u
     let left = read(rt, board, pass, left)?;
     let left = grow(rt, board, pass, left)?;
     let left = set_again(rt, board, pass, left)?;
-    evict(rt, board, pass, left)
+    let left = evict(rt, board, pass, left)?;
+    refill_again(rt, board, pass, left)
 }
 
 // All words after so many steps.

@@ -1,5 +1,5 @@
-use Rattle.segindex.specs.Index.{board_of}
-use Rattle.segpass.specs.Quiet.{IsQuiet}
+use Rattle.segindex.specs.Words.{board_of}
+use Rattle.segpass.specs.Words.{IsQuiet}
 use Rattle.segtests_helpers.proofs.rows.first_wrong.Given as goal
 
 abbrev pub invariant-loop-text : goal.invariant-loop-text

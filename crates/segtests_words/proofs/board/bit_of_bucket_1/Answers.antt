@@ -1,5 +1,5 @@
 use Rattle.std.proofs.Common.{◌≡◌, Bool, true, rules, subst}
-use Rattle.segbase.specs.Steps.{Takes}
+use Rattle.segbase.specs.Words.{Takes}
 use Rattle.segbase.proofs.Moves.{may_release}
 use Rattle.segtests_words.proofs.board.bit_of_bucket_1.Goals as goal
 

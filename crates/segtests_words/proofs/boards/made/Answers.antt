@@ -1,7 +1,7 @@
 use Rattle.std.proofs.Common.{◌≡◌, ◌-◌, [], ◌∷◌, ◌++◌, length, slice_get, ap, ◌∙◌, sym, subst, arith}
 use Rattle.std.proofs.lemmas.List.{length-append}
 use Rattle.segmodel.proofs.ListPlaces.{last_of}
-use Rattle.segbase.specs.Made.{IsNewPass}
+use Rattle.segbase.specs.Words.{IsNewPass}
 use Rattle.segtests_words.proofs.boards.made.Goals as goal
 
 pub returns : goal.returns

@@ -1,8 +1,7 @@
 use Rattle.std.proofs.Common.{rules, [], ◌∷◌, true, ◌≡◌}
 use Rattle.segcore.specs.declared.event.Event.TheVariants.{Bumped}
-use Rattle.segcore.specs.Word.{IsItemAt}
-use Rattle.segbase.specs.Spots.{home_bucket, position, cell_at}
-use Rattle.segbase.specs.declared.place.Place.{Place}
+use Rattle.segcore.specs.Words.{IsItemAt}
+use Rattle.segbase.specs.Words.{cell_at, home_bucket, Place, position}
 use Rattle.segtests_words.specs.Walk.{twice_inside}
 use Rattle.segtests_words.proofs.WalkAllowed.{in_chain}
 use Rattle.segtests_words.proofs.Walking.{here, then_if}

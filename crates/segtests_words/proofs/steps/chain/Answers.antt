@@ -1,8 +1,7 @@
 use Rattle.std.proofs.Common.{rules, [], ◌∷◌, true, ◌≡◌}
 use Rattle.segcore.specs.declared.event.Event.TheVariants.{Chained}
-use Rattle.segcore.specs.Kind.{May, chain}
-use Rattle.segbase.specs.Spots.{home_bucket, cell_at}
-use Rattle.segbase.specs.declared.place.Place.{Place}
+use Rattle.segcore.specs.Words.{chain, May}
+use Rattle.segbase.specs.Words.{cell_at, home_bucket, Place}
 use Rattle.segtests_words.specs.Walk.{filled}
 use Rattle.segtests_words.proofs.WalkAllowed.{may_chain}
 use Rattle.segtests_words.proofs.Walking.{here, then_ok}

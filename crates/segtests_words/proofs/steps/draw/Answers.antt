@@ -1,7 +1,6 @@
 use Rattle.std.proofs.Common.{rules, [], ◌∷◌, ◌+◌, true, ◌≡◌}
 use Rattle.segcore.specs.declared.event.Event.TheVariants.{Drew}
-use Rattle.segcore.specs.Bucket.{bucket_after}
-use Rattle.segcore.specs.Kind.{May, draw}
+use Rattle.segcore.specs.Words.{bucket_after, draw, May}
 use Rattle.segtests_words.specs.Walk.{took, bumped}
 use Rattle.segtests_words.proofs.WalkAllowed.{may_draw}
 use Rattle.segtests_words.proofs.Walking.{here, then_ok}

@@ -1,7 +1,7 @@
 use Rattle.std.proofs.Common.{[], ◌∷◌}
 use Rattle.segcore.specs.declared.event.Event.TheVariants.{Put}
-use Rattle.segcore.specs.Kind.{May, fill}
-use Rattle.segbase.specs.Spots.{home_bucket_of}
+use Rattle.segcore.specs.Words.{fill, May}
+use Rattle.segbase.specs.Words.{home_bucket_of}
 use Rattle.segtests_words.specs.Walk.{drawn}
 use Rattle.segtests_words.proofs.WalkAllowed.{may_fill}
 use Rattle.segtests_words.proofs.Walking.{here, then}

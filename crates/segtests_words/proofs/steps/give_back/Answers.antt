@@ -1,6 +1,6 @@
 use Rattle.std.proofs.Common.{[], ◌∷◌, None}
 use Rattle.segcore.specs.declared.event.Event.TheVariants.{Freed}
-use Rattle.segcore.specs.Kind.{May, release}
+use Rattle.segcore.specs.Words.{May, release}
 use Rattle.segtests_words.proofs.Walking.{here, then}
 use Rattle.segtests_words.proofs.steps.give_back.Goals as goal
 

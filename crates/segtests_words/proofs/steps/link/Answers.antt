@@ -1,10 +1,8 @@
 use Rattle.std.proofs.Common.{[], ◌∷◌, refl, ◌≡◌}
 use Rattle.segcore.specs.declared.event.Event.TheVariants.{Linked}
-use Rattle.segcore.specs.Bucket.{nothing, bucket_after}
-use Rattle.segcore.specs.Kind.{May, link}
-use Rattle.segmodel.specs.Places.{bucket_of}
-use Rattle.segbase.specs.Spots.{position, cell_at}
-use Rattle.segbase.specs.declared.place.Place.{Place}
+use Rattle.segcore.specs.Words.{bucket_after, link, May, nothing}
+use Rattle.segmodel.specs.Words.{bucket_of}
+use Rattle.segbase.specs.Words.{cell_at, Place, position}
 use Rattle.segtests_words.specs.Walk as walk
 use Rattle.segtests_words.specs.Walk.{took, written}
 use Rattle.segtests_words.proofs.WalkAllowed.{may_set}

@@ -1,9 +1,7 @@
 use Rattle.std.proofs.Common.{rules, [], ◌∷◌, refl, true, ◌≡◌}
 use Rattle.segcore.specs.declared.event.Event.TheVariants.{Linked}
-use Rattle.segcore.specs.Lawful.{HasItemOf}
-use Rattle.segcore.specs.Kind.{May, link}
-use Rattle.segbase.specs.Spots.{position, cell_at}
-use Rattle.segbase.specs.declared.place.Place.{Place}
+use Rattle.segcore.specs.Words.{HasItemOf, link, May}
+use Rattle.segbase.specs.Words.{cell_at, Place, position}
 use Rattle.segtests_words.specs.Walk as walk
 use Rattle.segtests_words.specs.Walk.{took, written, moved}
 use Rattle.segtests_words.proofs.WalkAllowed.{present, may_replace}

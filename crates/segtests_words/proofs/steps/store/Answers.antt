@@ -1,6 +1,6 @@
 use Rattle.std.proofs.Common.{[], ◌∷◌}
 use Rattle.segcore.specs.declared.event.Event.TheVariants.{Filled}
-use Rattle.segcore.specs.Kind.{May, row_store}
+use Rattle.segcore.specs.Words.{May, row_store}
 use Rattle.segtests_words.proofs.Walking.{here, then}
 use Rattle.segtests_words.proofs.steps.store.Goals as goal
 

@@ -1,6 +1,6 @@
 use Rattle.std.proofs.Common.{[], ◌∷◌}
 use Rattle.segcore.specs.declared.event.Event.TheVariants.{Entered, Left}
-use Rattle.segcore.specs.Kind.{May, enter, leave}
+use Rattle.segcore.specs.Words.{enter, leave, May}
 use Rattle.segtests_words.specs.Walk.{stored, inside, raised}
 use Rattle.segtests_words.proofs.WalkAllowed.{first_enter, second_enter, first_leave, second_leave}
 use Rattle.segtests_words.proofs.Walking.{here, then}

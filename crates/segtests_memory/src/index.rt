@@ -1,0 +1,129 @@
+//! The index where memory runs out: each request of its making and of its closing refused in turn, and calls that ask for none.
+use crate::hoard::{RUNS, STEP, hoard, is_none_left, leave};
+use crate::tables::{LONGEST_CHAIN, TWO_SEGMENTS};
+use segbase::Board;
+use segindex::{Index, MakeFault, OutOfMemory};
+use segtests_helpers::calls::lists;
+use segtests_helpers::passes::{SHAPE, two_passes};
+use segtests_helpers::rows::{Row, first_wrong};
+use segword::Shape;
+use std::alloc::Global;
+use std::process::Abort;
+use std::test::Fail;
+
+#[test]
+fn a_board_is_made_or_memory_is_wanted(rt: HostRuntime) -> Result<(), Fail> {
+    let all = hoard(rt.alloc())?;
+    let mut refused = 0;
+    for run in 0..RUNS {
+        let taken = leave(rt.alloc(), STEP * run)?;
+        let made = Board::new(rt.alloc(), SHAPE);
+        drop(taken);
+        let Err(fault) = made else {
+            break;
+        };
+        assert_eq!(rt; fault, MakeFault::OutOfMemory);
+        refused = run + 1;
+    }
+    drop(all);
+    assert!(rt; 0 < refused && refused < RUNS, "{refused} refusals");
+    Ok(())
+}
+
+#[test]
+fn an_index_is_made_or_memory_is_wanted(rt: HostRuntime) -> Result<(), Fail> {
+    let all = hoard(rt.alloc())?;
+    let mut refused = 0;
+    for run in 0..RUNS {
+        let taken = leave(rt.alloc(), STEP * run)?;
+        let made = Index::new(rt.alloc(), SHAPE);
+        drop(taken);
+        let Err(fault) = made else {
+            break;
+        };
+        assert_eq!(rt; fault, MakeFault::OutOfMemory);
+        refused = run + 1;
+    }
+    drop(all);
+    assert!(rt; 0 < refused && refused < RUNS, "{refused} refusals");
+    Ok(())
+}
+
+#[test]
+fn the_content_is_listed_or_memory_is_wanted(rt: HostRuntime) -> Result<(), Fail> {
+    let rows = [
+        ("p0 refill 0 4294967295", "REFILLED"),
+        ("p0 set b 2 @0", "STORED"),
+        ("p0 set a 1 @0", "STORED"),
+    ];
+    let all = hoard(rt.alloc())?;
+    let mut refused = 0;
+    for run in 0..RUNS {
+        let (index, mut first, mut second) = two_passes(rt.alloc(), SHAPE)?;
+        assert_eq!(rt; first_wrong(&index, &mut first, &mut second, &rows), None);
+        let taken = leave(rt.alloc(), STEP * run)?;
+        let listed = lists(rt.alloc(), index, first, &[("a", "1"), ("b", "2")]);
+        drop(taken);
+        if listed == Ok(true) {
+            break;
+        }
+        assert_eq!(rt; listed, Err(OutOfMemory));
+        refused = run + 1;
+    }
+    drop(all);
+    assert!(rt; 0 < refused && refused < RUNS, "{refused} refusals");
+    Ok(())
+}
+
+// Each row is answered as it wants where no memory is left once the index is made.
+// The shape has two passes.
+fn answers_without_memory(
+    rt: &impl Abort,
+    alloc: Global,
+    shape: Shape,
+    rows: &[Row<'_>],
+) -> Result<(), Fail> {
+    let (index, mut first, mut second) = two_passes(alloc, shape)?;
+    let all = hoard(alloc)?;
+    let taken = leave(alloc, 0)?;
+    let is_none_left = is_none_left(alloc);
+    let wrong = first_wrong(&index, &mut first, &mut second, rows);
+    drop(taken);
+    drop(all);
+    assert!(rt; is_none_left);
+    assert_eq!(rt; wrong, None);
+    Ok(())
+}
+
+#[test]
+fn calls_need_no_memory(rt: HostRuntime) -> Result<(), Fail> {
+    let (shape, rows) = LONGEST_CHAIN;
+    answers_without_memory(&rt, rt.alloc(), Shape { passes: 2, ..shape }, rows)?;
+    let (shape, rows) = TWO_SEGMENTS;
+    answers_without_memory(&rt, rt.alloc(), Shape { passes: 2, ..shape }, rows)
+}
+
+// A replace, a cas, a delete, a probe, a lock and a hold beside the calls of the tables.
+#[test]
+fn other_calls_need_no_memory(rt: HostRuntime) -> Result<(), Fail> {
+    let rows = [
+        ("p0 refill 0 4294967295", "REFILLED"),
+        ("p0 add a 1 @0", "STORED"),
+        ("p1 lock a", "LOCKED"),
+        ("p1 lock a", "ALREADY_LOCKED"),
+        ("p0 gets a @0", "BUSY"),
+        ("p0 gets b @0", "MISS"),
+        ("p0 evict 0", "BUSY 0"),
+        ("p1 unlock", "UNLOCKED"),
+        ("p1 refill 1 4294967295", "REFILLED"),
+        ("p1 replace a 2 @0", "STORED"),
+        ("p1 cas a 3 2 @0", "STORED"),
+        ("p1 probe b 4 @0", "STORED VALUE 4"),
+        ("p1 delete b @0", "DELETED"),
+        ("p0 set_held c 5 @0", "NOT_HOLDING"),
+        ("p0 gets a @0", "VALUE 3 5"),
+        ("p1 set_held a 5 @0", "VALUE 3"),
+        ("p1 evict_held a 1 @0", "VALUE 5 1"),
+    ];
+    answers_without_memory(&rt, rt.alloc(), SHAPE, &rows)
+}

@@ -1,0 +1,182 @@
+//! Loads where memory runs out: each request refused in turn, first those of lists and then those of threads.
+use crate::hoard::{RUNS, STEP, hoard, leave};
+use segindex::MakeFault;
+use segload::{Gate, LoadFault, Totals, run_crowd, run_load};
+use segword::Shape;
+use std::alloc::AllocGlobal;
+use std::num::NonZeroU32;
+use std::process::Abort;
+use std::sync::Wait;
+use std::sync::atomic::AtomicU64;
+use std::sync::atomic::Ordering::SeqCst;
+use std::test::Fail;
+use std::thread::Threads;
+
+const PASSES: usize = 3;
+
+const SHAPE: Shape = Shape {
+    buckets: 1,
+    overflow: 0,
+    passes: 3,
+    segments_each: 1,
+    rows: 1,
+    first_version: 0,
+};
+
+const COMMANDS: u32 = 50;
+
+// The command before which a pass is stopped.
+const STOP: u32 = 3;
+
+// So many blocks of so many bytes are given up one by one, so that there is room for the stack of one thread, of two, and of three.
+const BLOCKS: usize = 60;
+
+const BLOCK: usize = 1 << 20;
+
+// It counts the commands of each pass, and may stop pass 0.
+#[derive(Drop)]
+struct Counter {
+    stops: bool,
+    answered: [AtomicU64; PASSES],
+}
+
+impl Counter {
+    fn new(stops: bool) -> Counter {
+        Counter {
+            stops,
+            answered: [AtomicU64::new(0), AtomicU64::new(0), AtomicU64::new(0)],
+        }
+    }
+
+    // How many passes ran to their end. None may have come to only a part of its commands.
+    fn ran(&self) -> Option<usize> {
+        let mut ran = 0usize;
+        let mut end = if self.stops { STOP } else { COMMANDS };
+        for count in &self.answered {
+            let commands = count.load(SeqCst);
+            if commands == u64::from(end) {
+                ran = ran.saturating_add(1);
+            } else if commands != 0 {
+                return None;
+            }
+            end = COMMANDS;
+        }
+        Some(ran)
+    }
+}
+
+impl Gate for Counter {
+    fn enter(&self, pass: u32, call: u32) -> bool {
+        !(self.stops && pass == 0 && call == STOP)
+    }
+
+    fn answered(&self, pass: u32, _call: u32) {
+        if let Some(count) = self.answered.get(pass as usize) {
+            count.fetch_add(1, SeqCst);
+        }
+    }
+}
+
+// A load, over 64 keys where nothing is said of them.
+// The contract of a load isn't read by each test, since this has none.
+fn load<R: Threads + Wait + AllocGlobal + Sync>(
+    rt: &R,
+    keys: Option<NonZeroU32>,
+    gate: &Counter,
+) -> Result<Totals, LoadFault> {
+    match keys {
+        Some(keys) => run_crowd(rt, rt.alloc(), SHAPE, 7, COMMANDS, keys, gate),
+        None => run_load(rt, rt.alloc(), SHAPE, 7, COMMANDS, gate),
+    }
+}
+
+// How many runs were refused, by how many of their passes ran to their end.
+type Refused = [usize; PASSES + 1];
+
+// Counts a run that was refused memory. It tells whether the run was.
+fn is_counted(
+    rt: &impl Abort,
+    refused: &mut Refused,
+    gate: &Counter,
+    ended: &Result<Totals, LoadFault>,
+) -> Result<bool, Fail> {
+    let ran = gate.ran().ok_or("a pass didn't run to its end")?;
+    match ended {
+        Err(LoadFault::OutOfMemory) => {}
+        Err(LoadFault::Make(MakeFault::OutOfMemory)) => assert_eq!(rt; ran, 0),
+        _ => return Ok(false),
+    }
+    if let Some(count) = refused.get_mut(ran) {
+        *count = count.saturating_add(1);
+    }
+    Ok(true)
+}
+
+// Makes loads, each with a little more memory than the one before, until one is refused none.
+// Their threads are had by the stacks that the C library keeps of a first load.
+fn refuse_in_turn<R: Threads + Wait + AllocGlobal + Abort + Sync>(
+    rt: &R,
+    keys: Option<NonZeroU32>,
+    stops: bool,
+) -> Result<Result<Totals, LoadFault>, Fail> {
+    let mut ended = load(rt, keys, &Counter::new(stops));
+    let all = hoard(rt.alloc())?;
+    let mut refused = [0; PASSES + 1];
+    for run in 0..RUNS {
+        let gate = Counter::new(stops);
+        let taken = leave(rt.alloc(), STEP * run)?;
+        ended = load(rt, keys, &gate);
+        drop(taken);
+        if !is_counted(rt, &mut refused, &gate, &ended)? {
+            break;
+        }
+    }
+    drop(all);
+    let [none, one, two, _] = refused;
+    assert!(rt; 0 < none && 0 < one && 0 < two, "{refused:?}");
+    Ok(ended)
+}
+
+#[test]
+fn a_load_has_its_lists_or_memory_is_wanted(rt: HostRuntime) -> Result<(), Fail> {
+    for keys in [None, NonZeroU32::new(1)] {
+        let totals = refuse_in_turn(&rt, keys, false)??;
+        assert_eq!(rt; totals.passes.len(), PASSES);
+        assert_eq!(rt; totals.commands(), 150);
+    }
+    Ok(())
+}
+
+// In the runs where one or two passes ran, the gate stopped pass 0 and another had no thread.
+#[test]
+fn want_of_memory_is_told_before_a_stop(rt: HostRuntime) -> Result<(), Fail> {
+    let ended = refuse_in_turn(&rt, None, true)?;
+    assert_eq!(rt; ended.err(), Some(LoadFault::Stopped(0)));
+    Ok(())
+}
+
+#[test]
+fn a_pass_without_a_thread_does_not_stop_the_others(rt: HostRuntime) -> Result<(), Fail> {
+    let mut room = Vec::with_capacity(rt.alloc(), BLOCKS)?;
+    for _ in 0..BLOCKS {
+        let block: Vec<u8> = Vec::with_capacity(rt.alloc(), BLOCK)?;
+        room.push(block)?;
+    }
+    let all = hoard(rt.alloc())?;
+    let mut refused = [0; PASSES + 1];
+    let mut commands = 0;
+    for block in room {
+        let gate = Counter::new(false);
+        let ended = load(&rt, None, &gate);
+        if !is_counted(&rt, &mut refused, &gate, &ended)? {
+            commands = ended?.commands();
+            break;
+        }
+        drop(block);
+    }
+    drop(all);
+    let [none, one, two, three] = refused;
+    assert!(rt; 0 < none && 0 < one && 0 < two && three == 0, "{refused:?}");
+    assert_eq!(rt; commands, 150);
+    Ok(())
+}

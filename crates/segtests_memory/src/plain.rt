@@ -1,0 +1,147 @@
+//! The plain cache where memory runs out: a command that is refused changes nothing, and the answers before it are kept.
+use crate::hoard::{RUNS, STEP, hoard, leave};
+use crate::tables::{LONGEST_CHAIN, TWO_SEGMENTS, Table};
+use segmodel::{Answer, Command, Plain, PlainFault, Shelf, run};
+use segtests_helpers::calls::MOMENT;
+use segtests_helpers::commands::{command_of, is_answer};
+use segtests_helpers::rows::Row;
+use segword::{Key, Shape};
+use std::alloc::Global;
+use std::process::Abort;
+use std::test::Fail;
+
+// The keys of the tables.
+const KEYS: &[u8] = b"abcdefghijklmnopqrstuvwxyz";
+
+fn plain(alloc: Global, shape: &Shape) -> Result<Plain, Fail> {
+    shape.check().ok().ok_or("no shape")?;
+    (shape.passes == 1).then_some(()).ok_or("several passes")?;
+    Ok(Plain::new(alloc, shape).ok().ok_or("out of memory")?)
+}
+
+// What each key of the tables reads, with its version.
+fn content(alloc: Global, plain: &mut Plain) -> Result<Vec<Answer>, Fail> {
+    let mut content = Vec::new(alloc);
+    for byte in KEYS {
+        let key = Key::new(&[*byte]).ok_or("no key")?;
+        let read = plain
+            .serve(&Command::Gets(key, MOMENT))
+            .ok()
+            .ok_or("out of memory")?;
+        content.push(read)?;
+    }
+    Ok(content)
+}
+
+// Serves the rows with so many bytes left at each command, and tells how many commands were refused.
+// One that was changed no key and no version, and is answered as its row says where memory is left:
+// so rows and states of segments are as before too.
+fn refused_commands(
+    rt: &impl Abort,
+    alloc: Global,
+    table: Table<'_>,
+    bytes: usize,
+) -> Result<usize, Fail> {
+    let (shape, rows) = table;
+    let mut plain = plain(alloc, &shape)?;
+    let mut refused = 0usize;
+    for (text, wanted) in rows.iter().copied() {
+        let command = command_of(text).ok_or("no command")?;
+        let before = content(alloc, &mut plain)?;
+        let taken = leave(alloc, bytes)?;
+        let mut served = plain.serve(&command);
+        drop(taken);
+        if served == Err(PlainFault::OutOfMemory) {
+            refused = refused.saturating_add(1);
+            assert_eq!(rt; content(alloc, &mut plain)?, before, "{text}");
+            served = plain.serve(&command);
+        }
+        let answer = served.ok().ok_or("out of memory")?;
+        assert!(rt; is_answer(wanted, &answer), "{text}");
+    }
+    Ok(refused)
+}
+
+#[test]
+fn a_refused_command_changes_nothing(rt: HostRuntime) -> Result<(), Fail> {
+    for table in [LONGEST_CHAIN, TWO_SEGMENTS] {
+        let all = hoard(rt.alloc())?;
+        let mut refused = 0;
+        for run in 0..RUNS {
+            if refused_commands(&rt, rt.alloc(), table, STEP * run)? == 0 {
+                break;
+            }
+            refused = run + 1;
+        }
+        drop(all);
+        assert!(rt; 0 < refused && refused < RUNS, "{refused} refusals");
+    }
+    Ok(())
+}
+
+// Whether the answers are those of the first rows.
+fn are_answers(rows: &[Row<'_>], answers: &[Answer]) -> bool {
+    rows.iter()
+        .zip(answers)
+        .all(|((_, wanted), answer)| is_answer(wanted, answer))
+}
+
+// Runs the commands of the rows with so many bytes left, and tells whether the run was refused.
+// One that was has the answers of the commands before, and changed nothing else.
+fn is_run_refused(
+    rt: &impl Abort,
+    alloc: Global,
+    table: Table<'_>,
+    bytes: usize,
+) -> Result<bool, Fail> {
+    let (shape, rows) = table;
+    let mut commands = Vec::new(alloc);
+    for (text, _) in rows.iter().copied() {
+        commands.push(command_of(text).ok_or("no command")?)?;
+    }
+    let mut refused = plain(alloc, &shape)?;
+    let mut answers = Vec::new(alloc);
+    let taken = leave(alloc, bytes)?;
+    let ended = run(&mut refused, commands.as_slice(), &mut answers);
+    drop(taken);
+    let done = answers.len();
+    assert!(rt; are_answers(rows, answers.as_slice()), "{done} answers");
+    if ended.is_ok() {
+        assert_eq!(rt; done, rows.len());
+        return Ok(false);
+    }
+    let (before, after) = commands
+        .as_slice()
+        .split_at_checked(done)
+        .ok_or("too many answers")?;
+    assert!(rt; !after.is_empty());
+    let mut other = plain(alloc, &shape)?;
+    let mut again = Vec::new(alloc);
+    run(&mut other, before, &mut again)
+        .ok()
+        .ok_or("out of memory")?;
+    assert_eq!(rt; content(alloc, &mut refused)?, content(alloc, &mut other)?);
+    run(&mut refused, after, &mut answers)
+        .ok()
+        .ok_or("out of memory")?;
+    assert_eq!(rt; answers.len(), rows.len());
+    assert!(rt; are_answers(rows, answers.as_slice()));
+    Ok(true)
+}
+
+#[test]
+fn a_refused_run_has_the_answers_before(rt: HostRuntime) -> Result<(), Fail> {
+    for table in [LONGEST_CHAIN, TWO_SEGMENTS] {
+        let all = hoard(rt.alloc())?;
+        let mut refused = 0;
+        for run in 0..RUNS {
+            if !is_run_refused(&rt, rt.alloc(), table, STEP * run)? {
+                break;
+            }
+            refused = run + 1;
+        }
+        drop(all);
+        assert!(rt; 0 < refused && refused < RUNS, "{refused} refusals");
+    }
+    Ok(())
+}

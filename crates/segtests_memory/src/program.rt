@@ -1,0 +1,127 @@
+//! The program where memory runs out: each request refused in turn, those of its command line among them.
+use crate::hoard::{RUNS, STEP, hoard, leave};
+use segcli::{Watch, run_program};
+use segscript::{MemSink, MemSource};
+use std::alloc::{AllocError, AllocGlobal, Global};
+use std::process::Abort;
+use std::sync::Wait;
+use std::test::Fail;
+use std::thread::Threads;
+
+const SCRIPT: &[u8] = b"p0 refill 0 4294967295\np0 set a 1 @0\np0 get a @0\n";
+
+// It looks away.
+#[derive(Drop)]
+struct Nobody;
+
+impl Watch for Nobody {
+    fn saw(&self, _made: u64, _of: u64) {}
+}
+
+// The words as the program gets them.
+fn words_of(alloc: Global, words: &[&str]) -> Result<Vec<String>, AllocError> {
+    let mut list = Vec::new(alloc);
+    for word in words {
+        list.push(String::from_str(alloc, word)?)?;
+    }
+    Ok(list)
+}
+
+// Runs the program with all memory but that of a list, and tells whether it was refused any.
+// Then it wrote nothing, and told so.
+fn is_refused<R: Threads + Wait + AllocGlobal + Abort + Sync>(
+    rt: &R,
+    words: &[&str],
+    status: u8,
+    bytes: Option<usize>,
+) -> Result<bool, Fail> {
+    let list = words_of(rt.alloc(), words)?;
+    let mut source = MemSource::new(SCRIPT);
+    let mut writer = MemSink::new(rt.alloc(), 10_000)?;
+    let mut errors = MemSink::new(rt.alloc(), 10_000)?;
+    let taken = match bytes {
+        Some(bytes) => Some(leave(rt.alloc(), bytes)?),
+        None => None,
+    };
+    let ended = run_program(
+        rt,
+        rt.alloc(),
+        list.as_slice(),
+        &mut source,
+        &mut writer,
+        &mut errors,
+        &Nobody,
+    );
+    drop(taken);
+    if ended == status {
+        return Ok(false);
+    }
+    assert_eq!(rt; ended, 3, "{words:?}");
+    assert_eq!(rt;
+        errors.taken.as_slice(),
+        b"out of memory\n".as_slice(),
+        "{words:?}"
+    );
+    assert_eq!(rt; writer.taken.as_slice(), b"".as_slice(), "{words:?}");
+    Ok(true)
+}
+
+// Each request of the program is refused in turn for each of these words, which end with their status.
+fn refuse_in_turn<R: Threads + Wait + AllocGlobal + Abort + Sync>(
+    rt: &R,
+    table: &[(&[&str], u8)],
+) -> Result<(), Fail> {
+    for (words, status) in table.iter().copied() {
+        // The C library keeps the stacks of a load's threads for those of the next.
+        assert!(rt; !is_refused(rt, words, status, None)?, "{words:?}");
+        let all = hoard(rt.alloc())?;
+        let mut refused = 0;
+        for run in 0..RUNS {
+            if !is_refused(rt, words, status, Some(STEP * run))? {
+                break;
+            }
+            refused = run + 1;
+        }
+        drop(all);
+        assert!(rt;
+            0 < refused && refused < RUNS,
+            "{words:?}: {refused} refusals"
+        );
+    }
+    Ok(())
+}
+
+#[test]
+fn a_command_is_carried_out_or_memory_is_wanted(rt: HostRuntime) -> Result<(), Fail> {
+    let table = [
+        ([].as_slice(), 0),
+        (["script", "--rows", "2", "--first-version=7"].as_slice(), 0),
+        (["word", "af60100000200003"].as_slice(), 0),
+        (["load", "--commands", "9"].as_slice(), 0),
+        (["load", "--passes=3", "--commands=3"].as_slice(), 0),
+        (["load", "--progress", "--commands=9"].as_slice(), 0),
+    ];
+    refuse_in_turn(&rt, &table)
+}
+
+#[test]
+fn a_bad_command_line_is_told_or_memory_is_wanted(rt: HostRuntime) -> Result<(), Fail> {
+    let table = [
+        (["script", "--rows"].as_slice(), 2),
+        (["scrpt"].as_slice(), 2),
+        (["word"].as_slice(), 2),
+        (["load", "--seed"].as_slice(), 2),
+    ];
+    refuse_in_turn(&rt, &table)
+}
+
+#[test]
+fn help_is_given_or_memory_is_wanted(rt: HostRuntime) -> Result<(), Fail> {
+    let table = [
+        (["--help"].as_slice(), 0),
+        (["help", "script"].as_slice(), 0),
+        (["word", "--help"].as_slice(), 0),
+        (["--version"].as_slice(), 0),
+    ];
+    refuse_in_turn(&rt, &table)
+}

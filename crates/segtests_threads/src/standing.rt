@@ -1,0 +1,116 @@
+//! A bucket that stays locked beside three threads that read and write its key: each get finds it, and each set and gets is refused.
+use crate::work::{Work, three_at_once};
+use segindex::{Index, Pass};
+use segmodel::{GetAnswer, GetsAnswer, WriteAnswer};
+use segtests_helpers::calls::{MOMENT, get, gets, set};
+use segtests_helpers::passes::{SHAPE, four_passes};
+use segtests_helpers::rows::first_wrong;
+use segword::{Key, Shape, Value};
+use std::test::Fail;
+
+// How often each thread makes each call.
+const ROUNDS: u32 = 1_000;
+
+// In each round it gets the key, sets it to another value, and gets it with its version. It counts the answers that are wanted.
+#[derive(Drop)]
+struct Caller<'a> {
+    key: &'a Key,
+    stands: &'a Value,
+    other: &'a Value,
+    found: u32,
+    refused_sets: u32,
+    refused_gets: u32,
+}
+
+impl Work for Caller<'_> {
+    fn turn(&mut self, index: &Index, pass: &mut Pass, turn: u32) -> bool {
+        if is_found(&get(index, pass, self.key, turn, MOMENT), self.stands) {
+            self.found = self.found.saturating_add(1);
+        }
+        if set(index, pass, self.key, self.other, MOMENT) == WriteAnswer::Busy {
+            self.refused_sets = self.refused_sets.saturating_add(1);
+        }
+        if gets(index, pass, self.key, turn, MOMENT) == GetsAnswer::Busy {
+            self.refused_gets = self.refused_gets.saturating_add(1);
+        }
+        turn < ROUNDS - 1
+    }
+}
+
+// Whether this value was found.
+fn is_found(answer: &GetAnswer, value: &Value) -> bool {
+    match answer {
+        GetAnswer::Found(found) => found == value,
+        GetAnswer::Miss | GetAnswer::Busy => false,
+    }
+}
+
+impl<'a> Caller<'a> {
+    fn new(key: &'a Key, stands: &'a Value, other: &'a Value) -> Caller<'a> {
+        Caller {
+            key,
+            stands,
+            other,
+            found: 0,
+            refused_sets: 0,
+            refused_gets: 0,
+        }
+    }
+
+    // How many of each call were answered as wanted.
+    fn counts(&self) -> [u32; 3] {
+        [self.found, self.refused_sets, self.refused_gets]
+    }
+}
+
+#[test]
+fn a_standing_lock_lets_each_get_through_and_no_set_and_no_gets(
+    rt: HostRuntime,
+) -> Result<(), Fail> {
+    let shape = Shape {
+        passes: 4,
+        rows: 8,
+        ..SHAPE
+    };
+    let (index, mut p0, mut p1, mut p2, mut p3) = four_passes(rt.alloc(), shape)?;
+    let rows = [
+        ("p0 refill 0 4294967295", "REFILLED"),
+        ("p1 refill 1 4294967295", "REFILLED"),
+        ("p0 set a 1 @0", "STORED"),
+    ];
+    assert_eq!(rt; first_wrong(&index, &mut p0, &mut p1, &rows), None);
+    // The table calls them pass 0 and pass 1.
+    let rows = [
+        ("p0 refill 2 4294967295", "REFILLED"),
+        ("p1 refill 3 4294967295", "REFILLED"),
+        ("p1 lock a", "LOCKED"),
+    ];
+    assert_eq!(rt; first_wrong(&index, &mut p2, &mut p3, &rows), None);
+    let key = Key::new(b"a").expect(&rt, "a key");
+    let stands = Value::new(b"1").expect(&rt, "a value");
+    let other = Value::new(b"2").expect(&rt, "a value");
+    let ((mut p0, first), (mut p1, second), (mut p2, third)) = three_at_once(
+        &rt,
+        &index,
+        (p0, Caller::new(&key, &stands, &other)),
+        (p1, Caller::new(&key, &stands, &other)),
+        (p2, Caller::new(&key, &stands, &other)),
+    );
+    for counts in [first.counts(), second.counts(), third.counts()] {
+        assert_eq!(rt; counts, [ROUNDS; 3]);
+    }
+    // Five sets are stored in all.
+    let rows = [
+        ("p1 unlock", "UNLOCKED"),
+        ("p0 set a 4 @0", "STORED"),
+        ("p1 set a 5 @0", "STORED"),
+    ];
+    assert_eq!(rt; first_wrong(&index, &mut p2, &mut p3, &rows), None);
+    let rows = [
+        ("p0 set a 6 @0", "STORED"),
+        ("p1 set a 7 @0", "STORED"),
+        ("p1 gets a @0", "VALUE 7 5"),
+    ];
+    assert_eq!(rt; first_wrong(&index, &mut p0, &mut p1, &rows), None);
+    Ok(())
+}
