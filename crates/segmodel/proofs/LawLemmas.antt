@@ -10,7 +10,7 @@ use Rattle.segmodel.specs.declared.request.Reply.TheVariants.{Stored, NotStored,
 use Rattle.segmodel.specs.declared.entry.Entry.TheVariants.{Wrote, Evicted, Refilled}
 use Rattle.segmodel.specs.Places.{bucket_of}
 use Rattle.segmodel.specs.Request.{key_of, value_of, reply_to}
-use Rattle.segmodel.specs.Cache.{Cache, key_cmp, standing, present}
+use Rattle.segmodel.specs.Cache.{Cache, key_cmp, standing, unless_expired, present}
 use Rattle.segmodel.specs.History.{Follows, next, after, IsLegal, is_of, entries_of, stirred, IsSameAt, writes}
 use Rattle.segmodel.specs.Laws.{is_change_of, left_by, last_left, is_refill_of, deadline_set_by, EarlierIsLegal, StandsAsLeft, ReadsAsLeft, DeadlineAsSet, CasFailsWhereWritten, StirredCountsAdded, UnstirredReadsTheSame}
 use Rattle.segmodel.proofs.Counts.{count_by-cons}
@@ -67,7 +67,7 @@ stands_as_left shape (entry ∷ history) key legal =
     by (Refilled pass s d) follows rest = rest
 
 pub reads_as_left : ReadsAsLeft
-reads_as_left shape history now key legal = ap (λ o. option_map (λ item. item.value) o) (stands_as_left shape history key legal)
+reads_as_left shape history now key legal = ap (λ o. option_map (λ item. item.value) (unless_expired (after shape history).deadline now o)) (stands_as_left shape history key legal)
 
 pub deadline_as_set : DeadlineAsSet
 deadline_as_set shape [] segment = refl
@@ -138,10 +138,10 @@ none_counted shape b (entry ∷ more) none = by (is_of shape b entry) refl (coun
     by false is sum rest = (is, rest (omega arith))
 
 pub unstirred : UnstirredReadsTheSame
-unstirred shape old new now key begins still =
+unstirred shape old new now key legal begins still =
     let counts : entries_of shape (bucket_of shape key) begins.0 ≡ 0 = sym (stirred_counts shape old begins.0 key) ∙ ap (stirred shape key old) (sym begins.1) ∙ still in
-    let same : IsSameAt shape (after shape old) (after shape (begins.0 ++ old)) key = after_others shape begins.0 old key (none_counted shape _ begins.0 counts) in
+    let same : IsSameAt shape (after shape old) (after shape (begins.0 ++ old)) key = after_others shape begins.0 old key (subst (IsLegal shape) begins.1 legal) (none_counted shape _ begins.0 counts) in
     let here : IsSameAt shape (after shape old) (after shape new) key = subst (λ h. IsSameAt shape (after shape old) (after shape h) key) (sym begins.1) same in (
-      ap (λ o. option_map (λ (item : Cached). item.value) o) here.stands,
-      (λ i. option_map {U = List ℕ × ℕ} (λ item. (item.value, here.version i)) (here.stands i)),
+      ap (λ o. option_map (λ (item : Cached). item.value) o) (here.finds now),
+      (λ i. option_map {U = List ℕ × ℕ} (λ item. (item.value, here.version i)) (here.finds now i)),
     )

@@ -26,6 +26,7 @@ use Rattle.segmodel.specs.Turns.{Turns, held_after}
 use Rattle.segmodel.specs.Laws.{ServingKeeps, CommandsKeep, TurnsKeep, RefilledWhereNoneStands, HeldIsNotRefilled}
 use Rattle.segmodel.proofs.Counts.{both}
 use Rattle.segmodel.proofs.Keys.{same_key}
+use Rattle.segmodel.proofs.HistoryLemmas.{present_stands}
 use Rattle.segmodel.proofs.Words.{stored_fits}
 use Rattle.segmodel.proofs.Sound.{IsKept-same, IsKept-stored, IsKept-deleted, IsKept-taken, IsKept-evicted, IsKept-refilled}
 
@@ -148,7 +149,7 @@ found_passes p key item (e ∷ es) all found =
 -- what stands is in a segment that was filled
 filled : (shape : Shape) (state : State) (now : ℕ) (key : List ℕ) (item : Cached) → IsSound shape state → present state.cache now key ≡ Some item → (state.filling item.segment).state ≢ Empty
 filled shape state now key item kept found empty =
-    let stored = found_passes (is_stored state.filling) key item state.cache.items kept.items found in
+    let stored = found_passes (is_stored state.filling) key item state.cache.items kept.items (present_stands state.cache now key item found) in
     false≢true (sym (ap is_in_use empty) ∙ (both _ _ stored).0)
 
 -- what is held then is in a segment that was filled

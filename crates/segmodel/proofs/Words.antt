@@ -12,8 +12,9 @@ use Rattle.segmodel.specs.Words.{Cached, Request}
 use Rattle.segmodel.specs.declared.request.Request.TheVariants.{Set, Add, Replace, Cas, Delete}
 use Rattle.segmodel.specs.declared.request.Reply.TheVariants.{Stored}
 use Rattle.segmodel.specs.Places.{bucket_of}
-use Rattle.segmodel.specs.Request.{key_of, value_of, adds_key, reply_to}
+use Rattle.segmodel.specs.Request.{key_of, value_of, moment_of, adds_key, reply_to}
 use Rattle.segmodel.specs.Cache.{key_cmp, standing, keys_in, put, reply_in}
+use Rattle.segmodel.proofs.HistoryLemmas.{absent_unless_stands}
 use Rattle.segmodel.specs.State.{State, IsSound}
 use Rattle.segmodel.specs.Serving.{is_full, lacks_word, chained}
 use Rattle.segmodel.proofs.Counts.{count_by-cons}
@@ -85,7 +86,7 @@ longer shape state b = rw (eq-eqb b b refl) refl
 pub stored_fits : (shape : Shape) (request : Request) (segment : ℕ) (state : State) → IsSound shape state → reply_in shape state.cache request ≡ Stored
     → keys_in shape (put shape (key_of request) (value_of request) segment state.cache) (bucket_of shape (key_of request))
     ≤ 6 * (chained (bucket_of shape (key_of request)) (lacks_word shape state request) state).width (bucket_of shape (key_of request)) + 1
-stored_fits shape request segment state kept replied = by (is_some (standing state.cache (key_of request))) refl replied
+stored_fits shape request segment state kept replied = by (is_some (standing state.cache (key_of request))) refl
   where
     b : ℕ
     b = bucket_of shape (key_of request)
@@ -111,11 +112,13 @@ stored_fits shape request segment state kept replied = by (is_some (standing sta
         let most' = most in
         omega arith
 
-    by : (stands : Bool) → is_some (standing state.cache (key_of request)) ≡ stands → reply_to request stands (state.cache.version b) ≡ Stored
-        → after ≤ 6 * (chained b (adds_key request stands && is_full shape state b) state).width b + 1
-    by true stands is =
+    by : (stands : Bool) → is_some (standing state.cache (key_of request)) ≡ stands → after ≤ 6 * (chained b (adds_key request stands && is_full shape state b) state).width b + 1
+    by true stands =
         let same : after ≡ keys_in shape state.cache b =
         ap (count_by (λ key. bucket_of shape key == b)) (keys-put_standing (key_of request) (record { value = value_of request; segment = segment }) state.cache.items kept.ordered stands) in
         let had' = had in
         rw (adds_none request) (omega arith)
-    by false stands is = rw (adds_new request (state.cache.version b) is) (full (is_full shape state b) refl)
+    by false stands =
+        let is : reply_to request false (state.cache.version b) ≡ Stored =
+        ap (λ found. reply_to request found (state.cache.version b)) (sym (absent_unless_stands state.cache (moment_of request) (key_of request) stands)) ∙ replied in
+        rw (adds_new request (state.cache.version b) is) (full (is_full shape state b) refl)

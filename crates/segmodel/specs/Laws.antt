@@ -1,5 +1,5 @@
 -- Laws: what the definitions come to. Each is proved as the contract of a function in src/laws.rt.
-use Rattle.std.specs.Prelude.{◌≡◌, ◌⊎◌, ℕ, ◌+◌, ◌%◌, ◌^◌, ◌==◌, ◌<◌, Bool, true, false, is_some, IsSome, IsSomeAnd, List, [], ◌∷◌, ◌++◌, length, find, Option, Some, None, option_map, option_and_then, unwrap_or, if◌then◌else◌}
+use Rattle.std.specs.Prelude.{◌≡◌, ◌⊎◌, ℕ, ◌+◌, ◌%◌, ◌^◌, ◌==◌, ◌<◌, ◌≤◌, Bool, true, false, is_some, IsSome, IsSomeAnd, List, [], ◌∷◌, ◌++◌, length, find, Option, Some, None, option_map, option_and_then, unwrap_or, if◌then◌else◌}
 use Rattle.std.specs.BTreeMap.{is_at}
 use Rattle.std.specs.List.{AllByRecursion}
 use Rattle.std.specs.List.Sorted.{IsStrictlySortedBy}
@@ -26,7 +26,7 @@ use Rattle.segmodel.specs.declared.answer.Turn.TheVariants.{Serve}
 use Rattle.segmodel.specs.declared.answer.Outcome.{Outcome}
 use Rattle.segmodel.specs.Places.{bucket_of}
 use Rattle.segmodel.specs.Request.{key_of, value_of}
-use Rattle.segmodel.specs.Cache.{Cache, key_cmp, standing, present, reads, reads_version, reply_in}
+use Rattle.segmodel.specs.Cache.{Cache, key_cmp, standing, unless_expired, present, IsExpired, value_under, reads, reads_version, reply_in}
 use Rattle.segmodel.specs.History.{NoneStandsIn, Follows, next, after, IsLegal, Begins, CameBetween, is_of, entries_of, stirred, is_write_to, writes, IsSameAt}
 use Rattle.segmodel.specs.State.{State, IsSound, fresh}
 use Rattle.segmodel.specs.Serving.{Serves, ServesStore, ServesDelete, reply_of_write, reply_of_delete}
@@ -68,10 +68,10 @@ last_left key history = option_and_then left_by (find (is_change_of key) history
 abbrev pub StandsAsLeft : Type 0
 StandsAsLeft = (shape : Shape) (history : List Entry) (key : List ℕ) → IsLegal shape history → standing (after shape history) key ≡ last_left key history
 
--- and a key reads the value of that, at each moment
+-- and a key reads the value of that at each moment before the deadline of its segment
 abbrev pub ReadsAsLeft : Type 0
 ReadsAsLeft = (shape : Shape) (history : List Entry) (now : ℕ) (key : List ℕ) → IsLegal shape history
-    → reads (after shape history) now key ≡ option_map (λ item. item.value) (last_left key history)
+    → reads (after shape history) now key ≡ option_map (λ item. item.value) (unless_expired (after shape history).deadline now (last_left key history))
 
 -- whether an entry refills the segment
 abbrev pub is_refill_of : ℕ → Entry → Bool
@@ -101,16 +101,32 @@ abbrev pub StoresValue : List ℕ → List ℕ → Entry → Type 0
 StoresValue key value (Wrote pass request Stored segment) = (key_of request ≡ key) × (value_of request ≡ value)
 StoresValue key value _ = ⊥
 
--- if a key that read a value reads none later, it was taken out in between
+-- if a key under which a value stood reads none later, it was taken out in between, or its deadline has come
 abbrev pub GoneIsTakenOut : Type 0
-GoneIsTakenOut = (shape : Shape) (old new : List Entry) (now later : ℕ) (key value : List ℕ) → IsLegal shape new → Begins old new
-    → reads (after shape old) now key ≡ Some value → reads (after shape new) later key ≡ None → CameBetween (TakesKeyOut key) old new
+GoneIsTakenOut = (shape : Shape) (old new : List Entry) (later : ℕ) (key value : List ℕ) → IsLegal shape new → Begins old new
+    → value_under (after shape old) key ≡ Some value → reads (after shape new) later key ≡ None
+    → CameBetween (TakesKeyOut key) old new ⊎ IsExpired (after shape new) later key
 
 -- if it reads another value later, that one was stored under it in between
 abbrev pub ChangedIsStored : Type 0
-ChangedIsStored = (shape : Shape) (old new : List Entry) (now later : ℕ) (key value other : List ℕ) → IsLegal shape new → Begins old new
-    → reads (after shape old) now key ≡ Some value → reads (after shape new) later key ≡ Some other
+ChangedIsStored = (shape : Shape) (old new : List Entry) (later : ℕ) (key value other : List ℕ) → IsLegal shape new → Begins old new
+    → value_under (after shape old) key ≡ Some value → reads (after shape new) later key ≡ Some other
     → (other ≡ value) ⊎ CameBetween (StoresValue key other) old new
+
+-- a key whose deadline has come reads nothing
+abbrev pub ExpiredReadsNothing : Type 0
+ExpiredReadsNothing = (cache : Cache) (now : ℕ) (key : List ℕ) → IsExpired cache now key → reads cache now key ≡ None
+
+-- the entry stores a value under the key
+abbrev pub StoresKey : List ℕ → Entry → Type 0
+StoresKey key (Wrote pass request Stored segment) = key_of request ≡ key
+StoresKey key _ = ⊥
+
+-- what reads nothing at a moment reads nothing at it or at a later one until it is stored anew: what expired or was taken out never comes back by itself
+abbrev pub NothingUntilStored : Type 0
+NothingUntilStored = (shape : Shape) (old new : List Entry) (now later : ℕ) (key : List ℕ) → IsLegal shape new → Begins old new
+    → now ≤ later → reads (after shape old) now key ≡ None
+    → (reads (after shape new) later key ≡ None) ⊎ CameBetween (StoresKey key) old new
 
 -- ---- versions
 
@@ -170,7 +186,7 @@ CasNeedsVersion = (shape : Shape) (cache : Cache) (pass : ℕ) (key value : List
 
 -- an entry of another bucket leaves a key, and its bucket's version, as they are
 abbrev pub OtherBucketsAreKept : Type 0
-OtherBucketsAreKept = (shape : Shape) (cache : Cache) (entry : Entry) (key : List ℕ)
+OtherBucketsAreKept = (shape : Shape) (cache : Cache) (entry : Entry) (key : List ℕ) → Follows shape cache entry
     → is_of shape (bucket_of shape key) entry ≡ false → IsSameAt shape cache (next shape cache entry) key
 
 -- stirred counts the entries of the key's bucket that were added
@@ -179,7 +195,7 @@ StirredCountsAdded = (shape : Shape) (before more : List Entry) (key : List ℕ)
 
 -- where nothing was stirred between two moments, a key reads the same at both, and with the same version
 abbrev pub UnstirredReadsTheSame : Type 0
-UnstirredReadsTheSame = (shape : Shape) (old new : List Entry) (now : ℕ) (key : List ℕ) → Begins old new → stirred shape key old new ≡ 0
+UnstirredReadsTheSame = (shape : Shape) (old new : List Entry) (now : ℕ) (key : List ℕ) → IsLegal shape new → Begins old new → stirred shape key old new ≡ 0
     → (reads (after shape new) now key ≡ reads (after shape old) now key) × (reads_version shape (after shape new) now key ≡ reads_version shape (after shape old) now key)
 
 -- ---- serving

@@ -1,13 +1,13 @@
 -- The words of this crate that others use, from one place.
 pub use Rattle.segmodel.specs.Cache.{Cache, key_cmp, keys_in, present, put, reads, reads_version}
-pub use Rattle.segmodel.specs.Cache.{value_under}
+pub use Rattle.segmodel.specs.Cache.{IsExpired, unless_expired, value_under}
 pub use Rattle.segmodel.specs.Cache.{reply_in, standing, with_at, without}
 pub use Rattle.segmodel.specs.History.{after, AreOne, Begins, CameBetween, entries_of, Follows}
 pub use Rattle.segmodel.specs.History.{is_of, is_write_to, IsBetween, IsLegal, IsSameAt, IsStanding}
 pub use Rattle.segmodel.specs.History.{mine, NoneStandsIn, pass_of, StandsIn, stirred, writes}
 pub use Rattle.segmodel.specs.History.{written}
 pub use Rattle.segmodel.specs.Laws.{ChangedIsStored, EarlierIsLegal, GoneIsTakenOut, StoresValue}
-pub use Rattle.segmodel.specs.Laws.{TakesKeyOut}
+pub use Rattle.segmodel.specs.Laws.{StoresKey, TakesKeyOut}
 pub use Rattle.segmodel.specs.Places.{bucket_of, owner, tag_of}
 pub use Rattle.segmodel.specs.Props.{Begins-prop, Cached-set, Follows-prop, IsStanding-prop}
 pub use Rattle.segmodel.specs.Props.{Reply-set, Request-set}

@@ -3,7 +3,7 @@ ghost use Rattle.std.specs.Prelude.{◌≡◌, Some, None};
 ghost use Rattle.segmodel.specs.declared.answer.Command.TheVariants.{Refill};
 ghost use Rattle.segmodel.specs.declared.answer.RefillAnswer.TheVariants.{Refilled};
 ghost use Rattle.segmodel.specs.declared.answer.Answer.TheVariants as answer;
-ghost use Rattle.segmodel.specs.Cache.{reads_version};
+ghost use Rattle.segmodel.specs.Cache.{reads_version, value_under};
 ghost use Rattle.segmodel.specs.History.{after, Begins, IsLegal, stirred};
 ghost use Rattle.segmodel.specs.State.{fresh};
 ghost use Rattle.segmodel.specs.Serving.{after_refill, Serves};
@@ -11,6 +11,7 @@ ghost use Rattle.segmodel.specs.Example.{shape, a, one, two, added, deleted, who
 ghost use Rattle.segmodel.specs.Laws.{LongerIsLegal, EarlierIsLegal, ItemsAreInOrder, StandsAsLeft};
 ghost use Rattle.segmodel.specs.Laws.{ReadsAsLeft, DeadlineAsSet};
 ghost use Rattle.segmodel.specs.Laws.{GoneIsTakenOut, ChangedIsStored};
+ghost use Rattle.segmodel.specs.Laws.{ExpiredReadsNothing, NothingUntilStored};
 ghost use Rattle.segmodel.specs.Laws.{VersionCountsWrites, OthersKeepVersion};
 ghost use Rattle.segmodel.specs.Laws.{EvictionKeepsVersions, UnwrittenKeepsCache};
 ghost use Rattle.segmodel.specs.Laws.{CasFailsWhereWritten, AddNeedsAbsent, ReplaceNeedsPresent};
@@ -28,7 +29,7 @@ pub fn legal_histories()
     ensures ordered { ItemsAreInOrder }
 {}
 
-/// What a key reads is what its last write, deletion or eviction left,
+/// Before its deadline a key reads what its last write, deletion or eviction left,
 /// and a segment's deadline is the one that its last refilling set.
 pub fn last_change_decides()
     ensures stands { StandsAsLeft }
@@ -36,11 +37,17 @@ pub fn last_change_decides()
     ensures deadline { DeadlineAsSet }
 {}
 
-/// A key that read a value reads none later only if it was deleted or evicted in between,
-/// and another value only if that one was stored under it.
+/// A key under which a value stood reads none later only if it was deleted or evicted in between,
+/// or its deadline has come; and another value only if that one was stored under it.
 pub fn reads_change_by_entries()
     ensures gone { GoneIsTakenOut }
     ensures changed { ChangedIsStored }
+{}
+
+/// From the deadline of its segment on, a key reads nothing until it is stored anew.
+pub fn expired_keys_read_nothing()
+    ensures expired { ExpiredReadsNothing }
+    ensures until { NothingUntilStored }
 {}
 
 /// The version of a bucket counts the keys stored and deleted in it, modulo 2^32, and nothing else.
@@ -109,6 +116,8 @@ pub fn example()
     ensures earlier { Begins added whole }
     ensures read { reads_version shape (after shape added) 1 a ≡ Some (one, 1) }
     ensures later { reads_version shape (after shape deleted) 7 a ≡ Some (two, 5) }
+    ensures expired { reads_version shape (after shape deleted) 10 a ≡ None }
+    ensures stands { value_under (after shape deleted) a ≡ Some two }
     ensures gone { reads_version shape (after shape whole) 7 a ≡ None }
     ensures stirred { stirred shape a added whole ≡ 7 }
     ensures refilled { Serves shape (fresh shape) (Refill 0 10) (answer.Refill Refilled)
