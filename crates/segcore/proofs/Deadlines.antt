@@ -1,6 +1,6 @@
 -- The deadline of a segment: the trace and the cache agree on it, and the segment's word has it in its upper half.
-use Rattle.std.proofs.Common.{◌≡◌, ℕ, ◌+◌, ◌*◌, ◌/◌, ◌%◌, ◌^◌, ◌<◌, cond, eqb, List, [], ◌∷◌, None, refl, ap, ◌∙◌, ⊎_elim, arith}
-use Rattle.std.proofs.lemmas.Bool.{cases_Bool}
+use Rattle.std.proofs.Common.{◌≡◌, ℕ, ◌+◌, ◌*◌, ◌/◌, ◌%◌, ◌^◌, ◌<◌, cond, eqb, List, [], ◌∷◌, ◌++◌, None, refl, sym, ap, ◌∙◌, ⊎_elim, arith}
+use Rattle.std.proofs.lemmas.Bool.{cases_Bool, cond-false, ne_eqb}
 use Rattle.segword.specs.Words.{IsValid, Shape}
 use Rattle.segmodel.specs.Words.{after}
 use Rattle.segmodel.proofs.HistoryLemmas.{kept-deadlines}
@@ -8,7 +8,7 @@ use Rattle.segcore.specs.Words.{Event}
 use Rattle.segcore.specs.declared.event.Event.TheVariants.{Replied, Linked, Unlinked, Refilled}
 use Rattle.segcore.specs.declared.event.Leaving.TheVariants.{Deletes, Evicts}
 use Rattle.segcore.specs.Event.{seen}
-use Rattle.segcore.specs.Segment.{readers, deadline_of}
+use Rattle.segcore.specs.Segment.{readers, deadline_of, NoneRefills}
 use Rattle.segcore.specs.Lawful.{IsLawful}
 use Rattle.segcore.specs.Word.{segment_word}
 use Rattle.segcore.proofs.Readers.{counted}
@@ -23,6 +23,16 @@ deadline_seen z (Unlinked p k n (Deletes m) ∷ h) s = deadline_seen z h s
 deadline_seen z (Unlinked p k n (Evicts t) ∷ h) s = deadline_seen z h s
 deadline_seen z (Refilled p t d ∷ h) s = ap (cond (eqb t s) d) (deadline_seen z h s)
 deadline_seen z (e ∷ h) s = deadline_seen z h s
+
+-- a segment that isn't refilled keeps its deadline
+kept_deadline : (more h : List Event) (s : ℕ) → NoneRefills s more → deadline_of (more ++ h) s ≡ deadline_of h s
+kept_deadline [] h s none = refl
+kept_deadline (Refilled p t d ∷ more) h s none =
+    cond-false (eqb t s) d (deadline_of (more ++ h) s) (ne_eqb t s (λ e. none.0 p d (ap (λ x. Refilled p x d) e))) ∙ kept_deadline more h s none.1
+kept_deadline (e ∷ more) h s none = kept_deadline more h s none.1
+
+pub same_deadline : (z : Shape) (more h : List Event) (s : ℕ) → NoneRefills s more → (after z (seen (more ++ h))).deadline s ≡ (after z (seen h)).deadline s
+same_deadline z more h s none = deadline_seen z (more ++ h) s ∙ (kept_deadline more h s none ∙ sym (deadline_seen z h s))
 
 -- it fits half a word
 pub low_deadline : (z : Shape) (h : List Event) → IsLawful z h → (s : ℕ) → deadline_of h s < 2 ^ 32

@@ -6,7 +6,7 @@ use Rattle.segword.specs.Words.{Shape}
 use Rattle.segmodel.specs.declared.request.Request.TheVariants.{Delete}
 use Rattle.segmodel.specs.declared.request.Reply.TheVariants.{Stored, Deleted}
 use Rattle.segmodel.specs.declared.entry.Entry.TheVariants as entry
-use Rattle.segmodel.specs.Words.{after, bucket_of, Follows, IsSameAt, key_of, owner, Reply}
+use Rattle.segmodel.specs.Words.{after, bucket_of, Follows, IsSameAt, key_of, moment_of, owner, Reply}
 use Rattle.segmodel.specs.Words.{reply_to, Request}
 use Rattle.segcore.proofs.Caches.{stands}
 use Rattle.segcore.specs.Bucket.{bucket_at, is, acts, bucket_after, IsPosition, Bucket}
@@ -41,25 +41,28 @@ quiet z (e ∷ more) h p b l n held =
     let off = away z (more ++ h) e b p l.1 n.0 (ap (λ u. u.holder) ih ∙ held) in
     rw off ih
 
-removed_at : (z : Shape) (p : ℕ) (k' : List ℕ) (why : Leaving) (h : List Event) (k : List ℕ) → eqb (bucket_of z k') (bucket_of z k) ≡ false → IsSameAt z (after z (seen h)) (after z (removal p k' why ∷ seen h)) k
-removed_at z p k' (Deletes m) h k f = next_other z (after z (seen h)) (removal p k' (Deletes m)) k f
-removed_at z p k' (Evicts s) h k f = next_other z (after z (seen h)) (removal p k' (Evicts s)) k f
+removed_at : (z : Shape) (p : ℕ) (k' : List ℕ) (why : Leaving) (h : List Event) (k : List ℕ) → Follows z (after z (seen h)) (removal p k' why) → eqb (bucket_of z k') (bucket_of z k) ≡ false
+    → IsSameAt z (after z (seen h)) (after z (removal p k' why ∷ seen h)) k
+removed_at z p k' (Deletes m) h k follows f = next_other z (after z (seen h)) (removal p k' (Deletes m)) k follows f
+removed_at z p k' (Evicts s) h k follows f = next_other z (after z (seen h)) (removal p k' (Evicts s)) k follows f
 
 -- an event of another bucket leaves what stands under a key, and the version of its bucket
-pub same_at : (z : Shape) (e : Event) (h : List Event) (k : List ℕ) → is (bucket_at z e) (bucket_of z k) ≡ false → IsSameAt z (after z (seen h)) (after z (seen (e ∷ h))) k
-same_at z (Replied p q y) h k f = next_other z (after z (seen h)) (entry.Wrote p q y None) k f
-same_at z (Linked p q s r n) h k f = next_other z (after z (seen h)) (entry.Wrote p q Stored (Some s)) k f
-same_at z (Unlinked p k' n why) h k f = removed_at z p k' why h k f
-same_at z e h k f = record { stands = refl; version = refl }
+pub same_at : (z : Shape) (e : Event) (h : List Event) (k : List ℕ) → Fits z h e → is (bucket_at z e) (bucket_of z k) ≡ false
+    → IsSameAt z (after z (seen h)) (after z (seen (e ∷ h))) k
+same_at z (Replied p q y) h k fits f = next_other z (after z (seen h)) (entry.Wrote p q y None) k fits.follows f
+same_at z (Linked p q s r n) h k fits f = next_other z (after z (seen h)) (entry.Wrote p q Stored (Some s)) k fits.follows f
+same_at z (Unlinked p k' n why) h k fits f = removed_at z p k' why h k fits.follows f
+same_at z (Refilled p s d) h k fits f = next_other z (after z (seen h)) (entry.Refilled p s d) k fits.follows refl
+same_at z e h k fits f = record { stands = refl; finds = λ now. refl; version = refl }
 
 -- while a pass has the bit, others leave what stands under a key of its bucket, and the version
 pub quiet_at : (z : Shape) (more h : List Event) (p : ℕ) (k : List ℕ) → IsLawful z (more ++ h) → NoneBy p more → (bucket_after z h (bucket_of z k)).holder ≡ Some p → IsSameAt z (after z (seen h)) (after z (seen (more ++ h))) k
-quiet_at z [] h p k l n held = record { stands = refl; version = refl }
+quiet_at z [] h p k l n held = record { stands = refl; finds = λ now. refl; version = refl }
 quiet_at z (e ∷ more) h p k l n held =
     let b = bucket_of z k in
-    let now = same_at z e (more ++ h) k (away z (more ++ h) e b p l.1 n.0 (ap (λ u. u.holder) (quiet z more h p b l.0 n.1 held) ∙ held)) in
-    let old = quiet_at z more h p k l.0 n.1 held in
-    record { stands = now.stands ∙ old.stands; version = now.version ∙ old.version }
+    let last = same_at z e (more ++ h) k l.1 (away z (more ++ h) e b p l.1 n.0 (ap (λ u. u.holder) (quiet z more h p b l.0 n.1 held) ∙ held)) in
+    let rest = quiet_at z more h p k l.0 n.1 held in
+    record { stands = last.stands ∙ rest.stands; finds = λ now. last.finds now ∙ rest.finds now; version = last.version ∙ rest.version }
 
 pub quiet_stands : (z : Shape) (more h : List Event) (p : ℕ) (k : List ℕ) → IsLawful z (more ++ h) → NoneBy p more → (bucket_after z h (bucket_of z k)).holder ≡ Some p → stands z (seen (more ++ h)) k ≡ stands z (seen h) k
 quiet_stands z more h p k l n held = (quiet_at z more h p k l n held).stands
@@ -159,7 +162,7 @@ position_stays z more h b n i = let a = chained_grows z more h b in let lt = i.0
 later_follows : (z : Shape) (more h : List Event) (p : ℕ) (q : Request) (y : Reply) (s : Option ℕ) → IsLawful z (more ++ h) → NoneBy p more → (bucket_after z h (bucket_of z (key_of q))).holder ≡ Some p → Follows z (after z (seen h)) (entry.Wrote p q y s) → Follows z (after z (seen (more ++ h))) (entry.Wrote p q y s)
 later_follows z more h p q y s l n held f =
     let same = quiet_at z more h p (key_of q) l n held in
-    (f.0 ∙ (λ i. reply_to q (is_some ((sym same.stands) i)) ((sym same.version) i)), f.1)
+    (f.0 ∙ (λ i. reply_to q (is_some ((sym (same.finds (moment_of q))) i)) ((sym same.version) i)), f.1)
 
 later_left : (z : Shape) (more h : List Event) (p : ℕ) (k : List ℕ) (why : Leaving) → IsLawful z (more ++ h) → NoneBy p more → (bucket_after z h (bucket_of z k)).holder ≡ Some p → Follows z (after z (seen h)) (removal p k why) → Follows z (after z (seen (more ++ h))) (removal p k why)
 later_left z more h p k (Deletes m) l n held f = later_follows z more h p (Delete k m) Deleted None l n held f

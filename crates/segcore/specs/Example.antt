@@ -31,9 +31,13 @@ two = 50 ∷ []
 
 -- ---- a trace
 
+-- each pass refills a segment of its own, up to moment 9
+abbrev pub opened : List Event
+opened = Refilled 1 2 9 ∷ Refilled 0 0 9 ∷ []
+
 -- pass 0 writes a row of segment 0, and sets a in word 7
 abbrev pub stored : List Event
-stored = Freed 0 0 true ∷ Linked 0 (Set a one 0) 0 0 7 ∷ Filled 0 0 0 4 49 ∷ Filled 0 0 0 1 97 ∷ Filled 0 0 0 0 257 ∷ Took 0 0 ∷ []
+stored = Freed 0 0 true ∷ Linked 0 (Set a one 0) 0 0 7 ∷ Filled 0 0 0 4 49 ∷ Filled 0 0 0 1 97 ∷ Filled 0 0 0 0 257 ∷ Took 0 0 ∷ opened
 
 -- pass 1 reads it, and raises its frequency
 abbrev pub bumped : List Event
@@ -67,9 +71,9 @@ read = Entered 1 0 ∷ evicted
 abbrev pub elsewhere : List Event
 elsewhere = Entered 1 2 ∷ Left 1 0 ∷ read
 
--- and pass 0's segment is refilled, up to moment 9
+-- and pass 0's segment is refilled, up to moment 20
 abbrev pub refilled : List Event
-refilled = Refilled 0 0 9 ∷ elsewhere
+refilled = Refilled 0 0 20 ∷ elsewhere
 
 -- ---- a scan
 
@@ -100,9 +104,12 @@ after_steps [] = opening
 after_steps (taken ∷ steps) = stepped taken (after_steps steps)
 
 -- the steps that come to each trace; an item word has the tag 0xaf6, for a and for b
+abbrev pub to_opened : List (ℕ × Step)
+to_opened = (1, none_reading 2 0 9) ∷ (0, none_reading 0 0 9) ∷ []
+
 abbrev pub to_stored : List (ℕ × Step)
 to_stored = (0, release 0 true None) ∷ (0, link (Set a one 0) 0 0 7 (OfBucket 0 7) 0)
-    ∷ (0, row_store 0 0 4 49) ∷ (0, row_store 0 0 1 97) ∷ (0, row_store 0 0 0 257) ∷ (0, take 0 false) ∷ []
+    ∷ (0, row_store 0 0 4 49) ∷ (0, row_store 0 0 1 97) ∷ (0, row_store 0 0 0 257) ∷ (0, take 0 false) ∷ to_opened
 
 -- a reader looks again once it is in the segment; its second bump expects a word that is gone
 abbrev pub to_bumped : List (ℕ × Step)
@@ -130,4 +137,4 @@ to_evicted = (0, release 0 false None) ∷ (0, clear a 9 (OfOverflow 0 1) 0xaf60
 
 abbrev pub to_refilled : List (ℕ × Step)
 -- a first try to refill the segment finds a reader
-to_refilled = (0, none_reading 0 0 9) ∷ (1, enter 2) ∷ (1, leave 0) ∷ (0, none_reading 0 0 9) ∷ (1, enter 0) ∷ to_evicted
+to_refilled = (0, none_reading 0 9 20) ∷ (1, enter 2) ∷ (1, leave 0) ∷ (0, none_reading 0 9 20) ∷ (1, enter 0) ∷ to_evicted

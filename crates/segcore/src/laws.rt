@@ -1,6 +1,6 @@
 //! The theorems of the core. Each function does nothing: its contract is the law.
 ghost use Rattle.std.specs.Prelude.{◌≡◌, ◌∷◌, ◌++◌, ℕ, List, [], Option, Some, None};
-ghost use Rattle.segmodel.specs.Words.{after, standing};
+ghost use Rattle.segmodel.specs.Words.{after, present, standing};
 ghost use Rattle.segcore.specs.declared.cell.Cell.TheVariants.{OfCounter, OfBucket, OfOverflow};
 ghost use Rattle.segcore.specs.declared.cell.Cell.TheVariants.{OfSegment};
 ghost use Rattle.segcore.specs.declared.event.Event.TheVariants.{Took};
@@ -147,16 +147,18 @@ pub fn example()
         × (word shape replaced (OfBucket 0 0) ≡ 0x3_0000_0000) }
     ensures held { word shape (Took 1 0 ∷ moved) (OfBucket 0 0) ≡ 0x1_0000_0001 }
     ensures emptied { (word shape refilled (OfOverflow 0 1) ≡ 0)
-        × (word shape refilled (OfBucket 0 1) ≡ 0) × (word shape refilled (OfSegment 2) ≡ 1) }
+        × (word shape refilled (OfBucket 0 1) ≡ 0) × (word shape refilled (OfSegment 2) ≡ 0x9_0000_0001) }
     ensures versions { (standing (after shape (seen replaced)) a ≡ Some (cached two 0))
         × (standing (after shape (seen refilled)) a ≡ None)
         × ((after shape (seen refilled)).version 0 ≡ 4) }
+    ensures expires { (present (after shape (seen replaced)) 8 a ≡ Some (cached two 0))
+        × (present (after shape (seen replaced)) 9 a ≡ None) }
     ensures scanned { (row : Option (ℕ × ℕ))
         → IsScanOf shape a row (marked stored) looks (marked evicted) }
     ensures reached { Reaches shape to_refilled (after_steps to_refilled) }
     ensures traced { (after_steps to_refilled).trace ≡ refilled }
-    ensures waited { (word shape read (OfSegment 0) ≡ 1)
-        × (word shape elsewhere (OfSegment 0) ≡ 0) }
+    ensures waited { (word shape read (OfSegment 0) ≡ 0x9_0000_0001)
+        × (word shape elsewhere (OfSegment 0) ≡ 0x9_0000_0000) }
     ensures different { (after_steps to_refilled).views
         ≡ view_of 0 refilled ∷ view_of 1 elsewhere ∷ [] }
 {}

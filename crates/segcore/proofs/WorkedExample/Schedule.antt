@@ -10,7 +10,7 @@ use Rattle.segcore.specs.declared.cell.Cell.TheVariants.{OfCounter, OfBucket, Of
 use Rattle.segcore.specs.Kind.{Step, May}
 use Rattle.segcore.specs.Word.{address, word}
 use Rattle.segcore.specs.World.{IsFresh, IsOpening, Reaches}
-use Rattle.segcore.specs.Example.{shape, a, b, moved, view_of, opening, view_in, after_steps, to_stored, to_bumped, to_moved, to_added, to_refused, to_replaced, to_evicted, to_refilled}
+use Rattle.segcore.specs.Example.{shape, a, b, moved, view_of, opening, view_in, after_steps, to_opened, to_stored, to_bumped, to_moved, to_added, to_refused, to_replaced, to_evicted, to_refilled}
 use Rattle.segcore.proofs.Addresses.{in_count}
 use Rattle.segcore.proofs.WorkedExample.Trace.{filled, stored_first, bumped_next, moved_next, added_next, refused_next, replaced_next, evicted_next, elsewhere_next}
 
@@ -54,13 +54,16 @@ reaches : (steps : List (ℕ × Step)) → AreAllowed steps → Reaches shape st
 reaches [] allowed = opens
 reaches (taken ∷ steps) allowed = (after_steps steps, view_in (after_steps steps) taken.0, reaches steps allowed.0, allowed.1, allowed.2, refl)
 
+opened_so : AreAllowed to_opened
+opened_so = ((tt, refl, (omega arith, ((λ k i. i), refl), omega arith)), refl, (omega arith, ((λ k i. i), refl), omega arith))
+
 stored_so : AreAllowed to_stored
 stored_so = (
   (
     (
       (
         (
-          (tt, refl, (omega arith, refl)),
+          (opened_so, refl, (omega arith, refl)),
           refl,
           stored_first.0.0.0.0.1,
         ),

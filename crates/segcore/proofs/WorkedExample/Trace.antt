@@ -6,7 +6,7 @@ use Rattle.segcore.specs.declared.event.Event.TheVariants.{Took, Bounced, Glance
 use Rattle.segcore.specs.Bucket.{slot, bucket_after}
 use Rattle.segcore.specs.Row.{Row, Holds, row_after}
 use Rattle.segcore.specs.Lawful.{IsOwnRow, Fits, IsLawful}
-use Rattle.segcore.specs.Example.{shape, a, b, stored, bumped, moved, added, refused, replaced, evicted, elsewhere, refilled}
+use Rattle.segcore.specs.Example.{shape, a, b, opened, stored, bumped, moved, added, refused, replaced, evicted, elsewhere, refilled}
 
 -- ---- keys, values and rows
 
@@ -45,12 +45,18 @@ filled h p s r j w own lt = record { guarded = tt; follows = tt; suits = (own, l
 
 -- ---- the trace
 
+pub opened_first : IsLawful shape opened
+opened_first = (
+  (tt, record { guarded = tt; follows = ((λ k i. i), refl); suits = (omega arith, refl, refl, omega arith) }),
+  record { guarded = tt; follows = ((λ k i. i), refl); suits = (omega arith, refl, refl, omega arith) },
+)
+
 pub stored_first : IsLawful shape stored
 stored_first = (
   (
     (
       (
-        ((tt, took _ 0 refl), filled _ 0 0 0 0 257 (omega arith, omega arith, refl, refl) (omega arith)),
+        ((opened_first, took _ 0 refl), filled _ 0 0 0 0 257 (omega arith, omega arith, refl, refl) (omega arith)),
         filled _ 0 0 0 1 97 (omega arith, omega arith, refl, refl) (omega arith),
       ),
       filled _ 0 0 0 4 49 (omega arith, omega arith, refl, refl) (omega arith),
@@ -60,7 +66,7 @@ stored_first = (
       follows = (refl, refl);
       suits = (
         (omega arith, omega arith, refl, refl),
-        holds (row_after (Filled 0 0 0 4 49 ∷ Filled 0 0 0 1 97 ∷ Filled 0 0 0 0 257 ∷ Took 0 0 ∷ []) 0 0) 97 49 refl refl refl refl refl refl refl refl,
+        holds (row_after (Filled 0 0 0 4 49 ∷ Filled 0 0 0 1 97 ∷ Filled 0 0 0 0 257 ∷ Took 0 0 ∷ opened) 0 0) 97 49 refl refl refl refl refl refl refl refl,
         refl,
         (omega arith, omega arith),
         inl (refl, refl),

@@ -13,6 +13,7 @@ returns c = record {
   held = refl;
   emptied = (refl, refl, refl);
   versions = (refl, refl, refl);
+  expires = (refl, refl);
   scanned = scanned;
   reached = reached;
   traced = refl;
