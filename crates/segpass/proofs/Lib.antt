@@ -1,6 +1,7 @@
 pub mod UnderBit
 pub mod Bits
 pub mod Taking
+pub mod Peeking
 pub mod Quiet
 pub mod Still
 pub mod Bounces

@@ -39,7 +39,7 @@ one_raised : (p : ℕ) (e : Event) (h : List Event) → IsStill e → raised p (
 one_raised p (Bumped q s r f) h still = absurd still
 one_raised p e h still = refl
 
-still_raised : (p : ℕ) (own h : List Event) → AreStill own → raised p (own ++ h) ≡ raised p h
+pub still_raised : (p : ℕ) (own h : List Event) → AreStill own → raised p (own ++ h) ≡ raised p h
 still_raised p [] h still = refl
 still_raised p (e ∷ own) h still = one_raised p e (own ++ h) still.0 ∙ still_raised p own h still.1
 
@@ -47,7 +47,7 @@ one_entered : (p : ℕ) (e : Event) (h : List Event) → IsStill e → entered p
 one_entered p (Entered q s) h still = absurd still
 one_entered p e h still = refl
 
-still_entered : (p : ℕ) (own h : List Event) → AreStill own → entered p (own ++ h) ≡ entered p h
+pub still_entered : (p : ℕ) (own h : List Event) → AreStill own → entered p (own ++ h) ≡ entered p h
 still_entered p [] h still = refl
 still_entered p (e ∷ own) h still = one_entered p e (own ++ h) still.0 ∙ still_entered p own h still.1
 
@@ -55,7 +55,7 @@ one_glanced : (p b : ℕ) (e : Event) (h : List Event) → IsStill e → glanced
 one_glanced p b (Glanced q c) h still = absurd still
 one_glanced p b e h still = refl
 
-still_glanced : (p b : ℕ) (own h : List Event) → AreStill own → glanced p b (own ++ h) ≡ glanced p b h
+pub still_glanced : (p b : ℕ) (own h : List Event) → AreStill own → glanced p b (own ++ h) ≡ glanced p b h
 still_glanced p b [] h still = refl
 still_glanced p b (e ∷ own) h still = one_glanced p b e (own ++ h) still.0 ∙ still_glanced p b own h still.1
 

@@ -16,12 +16,13 @@ unchanged z (e ∷ more) h b none =
     cond-false (is (bucket_at z e) b) (acts e (bucket_after z (more ++ h) b)) (bucket_after z (more ++ h) b) none.0 ∙ unchanged z more h b none.1
 
 -- and they leave what stands under its keys, and its version
-pub unchanged_at : (z : Shape) (more h : List Event) (key : List ℕ) → NoneAt z (bucket_of z key) more → IsSameAt z (after z (event.seen h)) (after z (event.seen (more ++ h))) key
-unchanged_at z [] h key none = record { stands = refl; version = refl }
-unchanged_at z (e ∷ more) h key none =
-    let now = same_at z e (more ++ h) key none.0 in
-    let old = unchanged_at z more h key none.1 in
-    record { stands = now.stands ∙ old.stands; version = now.version ∙ old.version }
+pub unchanged_at : (z : Shape) (more h : List Event) (key : List ℕ) → IsLawful z (more ++ h) → NoneAt z (bucket_of z key) more
+    → IsSameAt z (after z (event.seen h)) (after z (event.seen (more ++ h))) key
+unchanged_at z [] h key lawful none = record { stands = refl; finds = λ now. refl; version = refl }
+unchanged_at z (e ∷ more) h key lawful none =
+    let last = same_at z e (more ++ h) key lawful.1 none.0 in
+    let rest = unchanged_at z more h key lawful.0 none.1 in
+    record { stands = last.stands ∙ rest.stands; finds = λ now. last.finds now ∙ rest.finds now; version = last.version ∙ rest.version }
 
 -- others do nothing in the bucket of a bit that the pass has
 none_but_own : (z : Shape) (more h : List Event) (p b : ℕ) → IsLawful z (more ++ h) → NoneAt z b (own_of p more) → (bucket_after z h b).holder ≡ Some p → NoneAt z b more
@@ -50,7 +51,7 @@ moved_bit b own p q bucket m bit none = (bit.0, ap (λ u. u.holder) (moved_bucke
 -- what stands under a key of the bucket, and the bucket's version
 pub moved_at : (b : Board) (own : List Event) (p q : Pass) (key : List ℕ) → AddsEvents b own p q → HasBit b.shape (trace p) (number p) (bucket_of b.shape key) → NoneAt b.shape (bucket_of b.shape key) own → IsSameAt b.shape (after b.shape (seen p)) (after b.shape (seen q)) key
 moved_at b own p q key m bit none =
-    subst (λ h. IsSameAt b.shape (after b.shape (seen p)) (after b.shape (event.seen h)) key) (sym m.goes_on) (unchanged_at b.shape m.more (trace p) key (moved_none b own p q (bucket_of b.shape key) m bit none))
+    subst (λ h. IsSameAt b.shape (after b.shape (seen p)) (after b.shape (event.seen h)) key) (sym m.goes_on) (unchanged_at b.shape m.more (trace p) key (subst (IsLawful b.shape) m.goes_on m.pass.lawful) (moved_none b own p q (bucket_of b.shape key) m bit none))
 
 -- a step of the pass's own in the bucket acts on what it was before
 pub did_acts : (b : Board) (e : Event) (q r : Pass) (bucket : ℕ) → AddsAtOnce b (e ∷ []) q r → is (bucket_at b.shape e) bucket ≡ true → HasBit b.shape (trace q) (number q) bucket → bucket_after b.shape (trace r) bucket ≡ acts e (bucket_after b.shape (trace q) bucket)

@@ -1,5 +1,5 @@
 -- What is so of a pass between calls: it has no bit but that of its lock, is in no segment but that of its hold, and its plain part says what is so.
-use Rattle.std.specs.Prelude.{◌≡◌, ℕ, ◌==◌, Bool, false, is_some, List, ◌++◌, Option, Some, None, option_map, if◌then◌else◌}
+use Rattle.std.specs.Prelude.{◌≡◌, ℕ, ◌<◌, ◌==◌, Bool, false, is_some, List, ◌++◌, Option, Some, None, option_map, if◌then◌else◌}
 use Rattle.segword.specs.Words.{Shape}
 use Rattle.segmodel.specs.Words.{IsStanding}
 use Rattle.segcore.specs.Event as event
@@ -40,3 +40,7 @@ pub record IsQuiet (b : Board) (p : Pass) : Type 0 where
   pub holds : is_holding_of p ≡ is_some (holding p)
   pub inside : (segment : ℕ) → inside (trace p) (number p) segment ≡ (if is_held_in (holding p) segment then 1 else 0)
   pub hold : (hold : Held) → holding p ≡ Some hold → IsHold b.shape (trace p) hold
+
+-- the pass is in no segment twice
+abbrev pub MayEnterAny : Pass → Type 0
+MayEnterAny p = (segment : ℕ) → inside (trace p) (number p) segment < 2

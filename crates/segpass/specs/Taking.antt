@@ -1,6 +1,6 @@
 -- How a call takes the writer bit of a bucket: by at most 64 tries, until one finds it clear.
-use Rattle.std.specs.Prelude.{◌≡◌, ◌⊎◌, ℕ, ◌<◌, Bool, true, false, List, ◌∷◌, [], replicate, None, ◌≢◌, Some}
-use Rattle.segcore.specs.declared.event.Event.TheVariants.{Took, Bounced}
+use Rattle.std.specs.Prelude.{◌≡◌, ◌⊎◌, ℕ, ◌<◌, Bool, true, false, List, ◌∷◌, [], replicate, Option, None, ◌≢◌, Some}
+use Rattle.segcore.specs.declared.event.Event.TheVariants.{Took, Bounced, Entered, Left}
 use Rattle.segcore.specs.Words.{bucket_after, Event, HasBit}
 use Rattle.segbase.specs.Words.{AddsEvents, Board, has_bit, locked_of, number, Pass, trace}
 use Rattle.segpass.specs.Calls.{memo, GoesOn, ChangesNothing, DrawsNothing, ReadsNothing, IsBusy}
@@ -34,3 +34,8 @@ pub record TookToWrite (b : Board) (bucket : ℕ) (p q : Pass) : Type 0 where
 abbrev pub TakesToWrite : Board → ℕ → Bool → Pass → Pass → Type 0
 TakesToWrite b bucket true p q = TookToWrite b bucket p q
 TakesToWrite b bucket false p q = GoesOn b p q × ChangesNothing p q × IsBusy bucket p q × DrawsNothing p q × ReadsNothing p q
+
+-- what a look at the deadline of a segment adds: the pass comes into the segment, and leaves it at once
+abbrev pub peek : ℕ → Option ℕ → List Event
+peek pass None = []
+peek pass (Some segment) = Left pass segment ∷ Entered pass segment ∷ []

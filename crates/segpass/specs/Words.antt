@@ -5,8 +5,8 @@ pub use Rattle.segpass.specs.Calls.{TakesOneBit}
 pub use Rattle.segpass.specs.Locks.{IsLockAnswer, IsUnlockAnswer, LocksBucket, NoneSince}
 pub use Rattle.segpass.specs.Locks.{SetsLock, UnlocksBucket}
 pub use Rattle.segpass.specs.Props.{IsQuiet-prop}
-pub use Rattle.segpass.specs.Quiet.{is_held_in, IsHold, IsLock, IsQuiet}
-pub use Rattle.segpass.specs.Taking.{HasCleanBit, TakesToWrite, TookToWrite}
+pub use Rattle.segpass.specs.Quiet.{is_held_in, IsHold, IsLock, IsQuiet, MayEnterAny}
+pub use Rattle.segpass.specs.Taking.{HasCleanBit, peek, TakesToWrite, TookToWrite}
 use Rattle.segpass.specs.declared.bucket.LockAnswer as declared_lock_answer
 
 -- The types of this crate that others name.

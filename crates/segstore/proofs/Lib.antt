@@ -6,3 +6,4 @@ pub mod Refills
 pub mod Rows
 pub mod Seconds
 pub mod Words
+pub mod Used

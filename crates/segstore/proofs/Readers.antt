@@ -11,7 +11,7 @@ pub looks : (b : Board) (p q : Pass) → OnlyLooks b p q → IsReader b p q
 looks b p q l = record { reads = moves.reads_nothing b p q l.did.moved; plain = l.plain; memo = l.memo }
 
 pub enters : (b : Board) (p q : Pass) (segment : ℕ) → Enters b p q segment → IsReaderIn b p q segment
-enters b p q segment i = record { reads = moves.reads_enter b p q segment i.moved; plain = i.plain; memo = i.memo }
+enters b p q segment i = record { reads = moves.reads_enter b p q segment i.did.moved; plain = i.plain; memo = i.memo }
 
 pub reader_then : (b : Board) (p q r : Pass) → IsReader b p q → IsReader b q r → IsReader b p r
 reader_then b p q r i j = record { reads = moves.reads_then b p q r i.reads j.reads; plain = j.plain ∙ i.plain; memo = j.memo ∙ i.memo }

@@ -41,7 +41,7 @@ pub record IsReaderIn (b : Board) (p q : Pass) (segment : ℕ) : Type 0 where
 
 -- it came into a segment, and did nothing else
 pub record Enters (b : Board) (p q : Pass) (segment : ℕ) : Type 0 where
-  pub moved : AddsEvents b (Entered (number p) segment ∷ []) p q
+  pub did : AddsAtOnce b (Entered (number p) segment ∷ []) p q
   pub plain : q.plain ≡ p.plain
   pub memo : (sight q).memo ≡ (sight p).memo
 

@@ -1,4 +1,4 @@
 use Rattle.segstore.proofs.enter.enter_segment.Goals as goal
 
 pub returns-clause-enters : goal.returns-clause-enters
-returns-clause-enters c = let e = c.enter.ensures in record { moved = e.did.moved; plain = e.step.1.plain; memo = e.step.1.memo }
+returns-clause-enters c = let e = c.enter.ensures in record { did = e.did; plain = e.step.1.plain; memo = e.step.1.memo }
