@@ -2,12 +2,12 @@
 use Rattle.std.proofs.Common.{◌≡◌, ℕ, Bool, true, false, cond, List, [], ◌∷◌, ◌++◌, ◌≢◌, Some, None, option_map, refl, ap, ◌∙◌}
 use Rattle.segword.specs.Words.{Shape}
 use Rattle.segmodel.specs.declared.answer.GetsAnswer.TheVariants as gets
-use Rattle.segmodel.specs.Words.{Begins, bucket_of, Cached, GetAnswer, GetsAnswer}
+use Rattle.segmodel.specs.Words.{after, unless_expired, bucket_of, Cached, GetAnswer, GetsAnswer}
 use Rattle.segcore.specs.declared.event.Event.TheVariants.{Glanced, Bumped, Entered, Left}
 use Rattle.segcore.specs.Event as event
 use Rattle.segcore.specs.Count as count
 use Rattle.segcore.specs.Words.{Event, IsLawful, KeyGone, WasGone}
-use Rattle.segcore.proofs.Moments.{begins_on, seen_begins}
+use Rattle.segcore.proofs.Moments.{seen_begins}
 use Rattle.segbase.specs.Words.{AddsAtOnce, AddsEvents, Board, locked_of, number, OnlyReads, Pass}
 use Rattle.segbase.specs.Words.{Place, seen, sight, taken, trace}
 use Rattle.segbase.proofs.Moves.{moved_inside, moved_taken, moved_bounced}
@@ -23,12 +23,8 @@ use Rattle.segread.proofs.Reading.{read_on}
 
 -- ---- the answer
 
-pub found_reads : (z : Shape) (place : Place) (w : ℕ) (key value : List ℕ) (now : ℕ) (h g f : List Event) → Begins g f → FoundItem z place w key value h g → ReadsBetween z key now (event.seen h) (event.seen f) (Some value)
-found_reads z place w key value now h g f on found = let s = found.saw in
-    (event.seen s.at, (seen_begins h s.at s.between.0, seen_begins s.at f (begins_on s.at g f s.between.1 on)), ap (option_map (λ (item : Cached). item.value)) s.was.stands)
-
 pub gone_reads : (z : Shape) (key : List ℕ) (now : ℕ) (h g : List Event) → WasGone (KeyGone z key) h g → ReadsBetween z key now (event.seen h) (event.seen g) None
-gone_reads z key now h g gone = (event.seen gone.0, (seen_begins h gone.0 gone.1, seen_begins gone.0 g gone.2), ap (option_map (λ (item : Cached). item.value)) gone.3)
+gone_reads z key now h g gone = (event.seen gone.0, (seen_begins h gone.0 gone.1, seen_begins gone.0 g gone.2), ap (λ o. option_map (λ (item : Cached). item.value) (unless_expired (after z (event.seen gone.0)).deadline now o)) gone.3)
 
 -- ---- hits
 

@@ -13,7 +13,6 @@ use Rattle.segread.specs.declared.version.Attempt.TheVariants.{Told}
 use Rattle.segread.specs.Hits.{TriesFew, GetsRaises}
 use Rattle.segread.specs.Scanning.{place_of, words_below, IsPlaceOf, Tries}
 use Rattle.segread.specs.Gets.{IsGetsAnswer, Disturbs, MovesOn, IsAttempt}
-use Rattle.segread.proofs.Answered.{gone_reads}
 use Rattle.segread.proofs.ComingIn.{tries_none, tries_then, words_few}
 use Rattle.segread.proofs.Disturbing.{disturbs_none, disturbs_then, is_disturbed}
 use Rattle.segread.proofs.Raising.{raises_later}
@@ -75,7 +74,7 @@ module _ (b : Board) (key : List ℕ) (now : ℕ) (next : Place) (tries : ℕ) (
   told_by draw gets.Miss x = (
     few_times 1 32 63 p r refl (omega arith) (tries_then 1 at 32 0 tries 63 p q r t.tried x.tried),
     x.tried.raises_nothing ∙ t.tried.raises_nothing,
-    gone_reads b.shape key now (trace p) (trace r) (x.gone (trace p) up t.ahead),
+    x.missed (trace p) up t.ahead,
   )
   told_by draw gets.Busy x = (
     few_times 1 32 63 p r refl (omega arith) (tries_then 1 at 32 0 tries 63 p q r t.tried x.1),

@@ -36,10 +36,12 @@ use Rattle.segpass.proofs.Bits.{none_at_both, bit_before}
 use Rattle.segpass.proofs.Draws.{moved_undrawn, reads_undrawn, reader_draws_none}
 use Rattle.segread.proofs.Answered.{reads_set_none, reads_try_none, reads_no_bit}
 use Rattle.segpass.proofs.Idling.{took_none}
-use Rattle.segread.proofs.Holding.{held_at, held_from, held_past, held_stood, has_held, is_hold, held_row, row_of_hold}
+use Rattle.segread.proofs.Holding.{held_at, held_from, held_past, held_deadline, held_stood, has_held, is_hold, held_row, row_of_hold}
 use Rattle.segpass.proofs.Quiet.{has_lock, goes_on, reads_none}
 use Rattle.segread.proofs.Reading.{reads_calm, reads_unseen, read_on}
 use Rattle.segpass.proofs.UnderBit.{moved_none}
+use Rattle.segread.specs.Scanning.{HasDeadline}
+use Rattle.segmodel.proofs.HistoryLemmas.{stands_present}
 
 -- ---- what the pass may keep in mind
 
@@ -187,15 +189,16 @@ module _ (b : Board) (p r q : Pass) (place : Place) (item : Item) (key value : L
   readings : (s : ℕ) → inside (trace q) (number p) s ≡ (let n : ℕ = cond (eqb item.seg s) 1 0 in n)
   readings s = ap (λ (v : View). inside v.trace (number p) s) view_is ∙ (reads.reads.inside s ∙ ap (λ n. cond (eqb item.seg s) (n + 1) n) (in_no_segment s))
 
-  pub takes_hold : (now : ℕ) → GoesOn b p q × TakesHold z key now hold p q
-  takes_hold now = (
+  pub takes_hold : (now deadline : ℕ) → HasDeadline z item.seg deadline (trace r) → now < deadline → GoesOn b p q × TakesHold z key now hold p q
+  takes_hold now deadline had before = (
     goes_on_holding b reads.reads.own (Some held) p r q quiet reads.reads.moved reads.reads.only reads.plain reads.memo is view_is sets readings
         (λ x here. subst (IsHold z (trace r)) (same_Some held x here) (is_hold z key value item.seg item.row at (trace r) lawful kept stands)),
     record {
       is = is_hold_of;
       of = refl;
       stood = held_stood z key value item.seg item.row at (trace r) lawful kept stands;
-      finds = (held_stood z key value item.seg item.row at (trace r) lawful kept stands).stands;
+      finds = stands_present (after z (event.seen held.trace)) key value item.seg deadline now (held_stood z key value item.seg item.row at (trace r) lawful kept stands).stands
+          (held_deadline z key value item.seg item.row at (trace r) lawful kept stands deadline had) before;
       between = (
         seen_begins (trace p) held.trace (begins_on (trace p) at held.trace found.saw.between.0 (held_from z key value item.seg item.row at (trace r) lawful kept stands)),
         seen_begins held.trace (trace q) (subst (λ (v : View). Begins held.trace v.trace) (sym view_is) (held_past z key value item.seg item.row at (trace r) lawful kept stands)),

@@ -10,6 +10,8 @@ use Rattle.segcore.proofs.Segments.{row_since}
 use Rattle.segcore.proofs.Standing.{legal}
 use Rattle.segbase.specs.Words.{HasHeld, Held}
 use Rattle.segpass.specs.Words.{IsHold}
+use Rattle.segread.specs.Scanning.{HasDeadline}
+use Rattle.segcore.proofs.Deadlines.{same_deadline}
 
 -- ---- the last moment at which it stood
 
@@ -83,6 +85,9 @@ module _ (z : Shape) (key value : List ℕ) (segment row : ℕ) (at h : List Eve
 
   pub held_stood : IsStanding z (seen last) key value segment
   held_stood = record { legal = legal z last last_lawful; stands = cached_is (standing (after z (seen last)) key) value segment the_last.stands }
+
+  pub held_deadline : (deadline : ℕ) → HasDeadline z segment deadline h → HasDeadline z segment deadline last
+  held_deadline deadline had = sym (same_deadline z the_last.then last segment the_last.kept.1) ∙ subst (HasDeadline z segment deadline) the_last.now had
 
   pub has_held : HasHeld z h (held_at z h key value segment)
   has_held = record { past = held_past; stood = held_stood }

@@ -4,6 +4,7 @@ pub mod Tries
 pub mod Raising
 pub mod Scans
 pub mod Answered
+pub mod Deadlines
 pub mod Disturbing
 pub mod OneMoment
 pub mod Versions

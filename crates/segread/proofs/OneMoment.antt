@@ -18,6 +18,9 @@ use Rattle.segstore.specs.Words.{FoundItem, IsChained, IsReader, row_part, segme
 use Rattle.segstore.specs.Words.{word_of_place}
 use Rattle.segstore.proofs.Words.{same_segment, names_in}
 use Rattle.segpass.proofs.Before.{stood_before}
+use Rattle.segread.specs.Scanning.{HasDeadline}
+use Rattle.segmodel.proofs.HistoryLemmas.{stands_present}
+use Rattle.segread.proofs.Deadlines.{deadline_since}
 
 same_row_part : (v w : ℕ) → IsSameItem v w → row_part v ≡ row_part w
 same_row_part v w e = low v ∙ (ap (λ n. n % 2 ^ 20) e.2 ∙ sym (low w))
@@ -73,20 +76,21 @@ module _ (z : Shape) (place : Place) (w w' : ℕ) (key value : List ℕ) (h g : 
       let ev = one_value (row_after r s n) i.slot.key then'.value key value then'.valid.0 was.valid.0 then'.valid.1 was.valid.1 held held' in
       ap (standing (after z (event.seen r))) (sym ek) ∙ (then'.stands ∙ (λ j. Some (cached (ev j) (es j))))
 
-  pub reads_then : (now version : ℕ) → z.first_version < 2 ^ 32 → (bucket_after z r (bucket_of z key)).holder ≡ None → version ≡ (z.first_version + (bucket_after z r (bucket_of z key)).version) % 2 ^ 32
+  pub reads_then : (now version deadline : ℕ) → HasDeadline z s deadline g → now < deadline → z.first_version < 2 ^ 32 → (bucket_after z r (bucket_of z key)).holder ≡ None → version ≡ (z.first_version + (bucket_after z r (bucket_of z key)).version) % 2 ^ 32
       → reads_version z (after z (event.seen r)) now key ≡ Some (value, version)
-  reads_then now version few none is =
+  reads_then now version deadline had before few none is =
       let b = bucket_of z key in
       let cache = after z (event.seen r) in
       let e : version ≡ cache.version b = is ∙ clear_version z r b few lr none in
-      ap (option_map (λ (item : Cached). (item.value, cache.version b))) stands_then ∙ ap (λ (m : ℕ). Some (value, m)) (sym e)
+      ap (option_map (λ (item : Cached). (item.value, cache.version b))) (stands_present cache key value s deadline now stands_then (deadline_since z early g s deadline none_early had) before) ∙ ap (λ (m : ℕ). Some (value, m)) (sym e)
 
 -- of passes: p before the try, q in the segment, r after the look at the information, and t after the third look
-pub one_moment : (b : Board) (p q r t : Pass) (place : Place) (w w' : ℕ) (key value : List ℕ) (now version : ℕ) → b.shape.first_version < 2 ^ 32 → IsValid b.shape → FoundItem b.shape place w key value (trace p) (trace q)
+pub one_moment : (b : Board) (p q r t : Pass) (place : Place) (w w' : ℕ) (key value : List ℕ) (now version deadline : ℕ) → HasDeadline b.shape (segment_part w) deadline (trace q) → now < deadline
+    → b.shape.first_version < 2 ^ 32 → IsValid b.shape → FoundItem b.shape place w key value (trace p) (trace q)
     → 0 < inside (trace q) (number q) (segment_part w) → IsReader b q r → IsReader b r t → IsChained b.shape (trace t) place → word_of_place b.shape (trace t) place ≡ w' → IsSameItem w w'
     → (bucket_after b.shape (trace r) (bucket_of b.shape key)).holder ≡ None → version ≡ (b.shape.first_version + (bucket_after b.shape (trace r) (bucket_of b.shape key)).version) % 2 ^ 32
     → reads_version b.shape (after b.shape (seen r)) now key ≡ Some (value, version)
-one_moment b p q r t place w w' key value now version few v found there i j c stood same none is =
+one_moment b p q r t place w w' key value now version deadline had before few v found there i j c stood same none is =
     let z = b.shape in let s = segment_part w in
     let m = i.reads.moved in let k = j.reads.moved in
     let there' : 0 < inside (trace r) (number r) s = subst (λ n. 0 < inside (trace r) n s) (sym m.same) (subst (λ n. 0 < n) (sym (i.reads.inside s)) there) in
@@ -96,6 +100,6 @@ one_moment b p q r t place w w' key value now version few v found there i j c st
     (subst (IsLawful z) to_t k.pass.lawful) (subst (IsLawful z) m.goes_on m.pass.lawful)
     (k.kept s (j.reads.stays s there')) (m.kept s (i.reads.stays s there))
     (subst (λ h. IsChained z h place) to_t c) (subst (λ h. word_of_place z h place ≡ w') to_t stood) same
-    now version few
+    now version deadline had before few
     (subst (λ h. (bucket_after z h (bucket_of z key)).holder ≡ None) m.goes_on none)
     (subst (λ h. version ≡ (z.first_version + (bucket_after z h (bucket_of z key)).version) % 2 ^ 32) m.goes_on is))

@@ -22,7 +22,7 @@ use Rattle.segread.specs.declared.scan.Scan.{Scan}
 use Rattle.segread.specs.declared.scan.Scan.TheVariants as scan
 use Rattle.segread.specs.declared.scan.Way.{Way}
 use Rattle.segread.specs.declared.scan.Way.TheVariants.{Found, Passed, Busy}
-use Rattle.segread.specs.Scanning.{place_of, words_below, IsPlaceOf, IsPlaceAfter, IsOnWay, IsScanner, IsTry, ComesIn, Tries, CountsTries, AdvancesSearch, HasPassed, IsHit, IsPast, GivesUp, IsEnded, IsWay, IsScanFrom, IsScanAnswer}
+use Rattle.segread.specs.Scanning.{HasDeadline, place_of, words_below, IsPlaceOf, IsPlaceAfter, IsOnWay, IsScanner, IsTry, ComesIn, Tries, CountsTries, AdvancesSearch, HasPassed, IsHit, IsPast, GivesUp, IsEnded, IsWay, IsScanFrom, IsScanAnswer}
 use Rattle.segread.specs.Hits.{TriesFew}
 use Rattle.segpass.specs.Words.{RaisesNothing}
 use Rattle.segread.proofs.ComingIn.{tries_none, tries_once, tries_then, at_most, word_more, words_few, words_most}
@@ -121,13 +121,15 @@ pub word_given_up : (at some count : ℕ) (p q : Pass) → at < 32 → count ≤
 word_given_up at some count p q in' few i = at_most at at 32 some count 63 p q (let e = words_few at in' in omega (arith, e, few)) i
 
 -- with p the pass before the looks at a word, q before the last try, and r in the item's segment
-pub hit_here : (b : Board) (key : List ℕ) (place : Place) (seen item : Item) (header tries count : ℕ) (p q r : Pass) → IsPlaceOf b.shape (trace p) key place → IsReader b p q → IsReaderIn b p r item.seg → count < 64
+pub hit_here : (b : Board) (key : List ℕ) (place : Place) (seen item : Item) (header deadline tries count : ℕ) (p q r : Pass) → IsPlaceOf b.shape (trace p) key place → IsReader b p q → IsReaderIn b p r item.seg → count < 64
     → Tries (position b.shape (trace p) place) (position b.shape (trace p) place) tries count p q → Trying b.shape key place tries seen count (trace p) (trace q) → IsTry q r → FoundKey b.shape place item header key (trace q) (trace r)
-    → IsHit b.shape key (position b.shape (trace p) place) tries (record { place = place; item = item; header = header; tries = count }) p r
-hit_here b key place seen item header tries count p q r of i j few tried y once found =
+    → HasDeadline b.shape item.seg deadline (trace r)
+    → IsHit b.shape key (position b.shape (trace p) place) tries (record { place = place; item = item; header = header; deadline = deadline; tries = count }) p r
+hit_here b key place seen item header deadline tries count p q r of i j few tried y once found told =
     let z = b.shape in let m = moved_on b j.reads.own p r j.reads.moved in let up = moved_on b i.reads.own p q i.reads.moved in
     let e : position z (trace p) place ≡ position z (trace r) place = sym (same_place z (trace p) (trace r) place j.reads.moved.pass.lawful m of.0).1 in record {
       found = hit_from z place item header key (trace q) (trace r) (trace p) up found;
+      deadline = told;
       few = few;
       counted = counts_later z key tries count (trace p) y.saw.at found.found.saw.at (begins_on y.saw.at (trace q) found.found.saw.at y.saw.between.1 found.found.saw.between.0) y.counted;
       onward = let on = tried.onward in omega (arith, on, e);
@@ -182,6 +184,7 @@ module _ (b : Board) (key : List ℕ) (from mid some tries : ℕ) (p q r : Pass)
   pub hit_then : (hit : Hit) → IsHit b.shape key mid tries hit q r → IsHit b.shape key from some hit p r
   hit_then hit x = record {
     found = hit_from b.shape hit.place hit.item hit.header key (trace q) (trace r) (trace p) up x.found;
+    deadline = x.deadline;
     few = x.few;
     counted = counts_then b.shape key some tries hit.tries (trace p) (trace q) x.found.found.saw.at s.counted x.counted;
     tried = tries_then from mid (position b.shape (trace r) hit.place) some tries (hit.tries + 1) p q r s.tried x.tried;
@@ -318,7 +321,7 @@ few_times from to tries p q first most i = let few = subst (λ n. ComesIn n to 0
 pub whole_scan : (b : Board) (key : List ℕ) (from : ℕ) (w : Scan) (p q : Pass) → from ≡ 1 → IsPassOf b p → IsScanner b w p q → IsScanFrom b.shape key from 0 w p q → IsScanAnswer b.shape key w (trace p) (trace q) × TriesFew p q × RaisesNothing p q
 whole_scan b key from (scan.Found hit) p q first is i x =
     let l = i.reads.moved.pass.lawful in let in' = (in_chain b.shape (trace q) hit.place l (hit_place b.shape key from 0 hit p q l x).0).1 in
-    (x.found, few_times from (position b.shape (trace q) hit.place) (hit.tries + 1) p q first (let few = x.few in let most = words_few (position b.shape (trace q) hit.place) in' in omega (arith, few, most)) x.tried, x.tried.raises_nothing)
+    ((x.found, x.deadline), few_times from (position b.shape (trace q) hit.place) (hit.tries + 1) p q first (let few = x.few in let most = words_few (position b.shape (trace q) hit.place) in' in omega (arith, few, most)) x.tried, x.tried.raises_nothing)
 whole_scan b key from scan.Absent p q first is i x =
     (x.gone (trace p) ([], refl) (subst (λ n. KeyAhead b.shape key n (trace p) (trace p)) (sym first) (key_first b.shape key (trace p) is.lawful)), few_times from 32 63 p q first (omega arith) x.tried, x.tried.raises_nothing)
 whole_scan b key from scan.Busy p q first is i x = (x.counts, few_times from 32 63 p q first (omega arith) x.tried, x.tried.raises_nothing)

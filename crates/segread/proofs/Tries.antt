@@ -1,12 +1,9 @@
 -- What a reader's looks at a word of the key's chain come to, and what its tries add up to.
-use Rattle.std.proofs.Common.{◌≡◌, ◌≢◌, ℕ, ◌+◌, ◌/◌, ◌^◌, ◌<◌, ◌≤◌, Bool, true, false, cond, eqb, ◌&&◌, ◌||◌, List, [], ◌∷◌, Some, None, refl, sym, ap, ◌∙◌, subst, arith}
-use Rattle.std.proofs.lemmas.Bool.{cond-false}
-use Rattle.std.proofs.lemmas.Option.{none-some}
+use Rattle.std.proofs.Common.{◌≡◌, ◌≢◌, ℕ, ◌+◌, ◌/◌, ◌^◌, ◌<◌, ◌≤◌, true, List, [], refl, sym, ap, ◌∙◌, subst, arith}
 use Rattle.segword.specs.Words.{IsSameItem, IsValid, Item, item_word, Shape}
 use Rattle.segmodel.specs.Words.{Begins, bucket_of, entries_of, tag_of}
-use Rattle.segcore.specs.declared.event.Event.TheVariants.{Filled, Linked, Refilled}
 use Rattle.segcore.specs.Words.{bucket_after, enter, Event, inside, IsAt, IsLawful, KeyAt, May}
-use Rattle.segcore.specs.Words.{Names, Row, row_after, seen, was_used, writes_row}
+use Rattle.segcore.specs.Words.{Names, seen, was_used}
 use Rattle.segcore.specs.Bucket as buckets
 use Rattle.segcore.proofs.Quiet.{used_stays}
 use Rattle.segcore.proofs.Moments.{begins_on}
@@ -17,14 +14,19 @@ use Rattle.segcore.proofs.Searches.{key_later, key_passed}
 use Rattle.segbase.specs.Words.{AddsAtOnce, Board, cell_at, home_bucket, IsPassOf, number, Pass}
 use Rattle.segbase.specs.Words.{Place, position, trace}
 use Rattle.segbase.proofs.Standing.{tag_of_word}
+use Rattle.segstore.proofs.Readers.{looks, enters, then_reader, leave_then}
+use Rattle.segread.proofs.ComingIn.{looked, leaves, came_in, try_out}
 use Rattle.segbase.proofs.Moves.{moved_on}
-use Rattle.segstore.specs.Words.{FoundItem, FoundKey, IsChained, IsKeyed, IsReader, SawItem}
+use Rattle.segstore.specs.Reading.{LeavesSegment, Enters}
+use Rattle.segstore.specs.Words.{OnlyLooks, FoundItem, FoundKey, IsChained, IsKeyed, IsReader, SawItem}
 use Rattle.segstore.specs.Words.{SawWord, segment_part, word_of_place}
 use Rattle.segstore.specs.declared.read.Keyed.{Keyed}
 use Rattle.segstore.specs.declared.read.Keyed.TheVariants.{Same, Other, Changed}
 use Rattle.segstore.proofs.Words.{same_place, chained_later, names_in, stood_item, same_parts}
 use Rattle.segstore.proofs.Seconds.{segment_of_item}
-use Rattle.segread.specs.Scanning.{IsPlaceOf, MayEnterAny, IsTrial, CountsTries, HasPassed}
+use Rattle.segpass.specs.Words.{MayEnterAny}
+use Rattle.segstore.proofs.Used.{linked_used}
+use Rattle.segread.specs.Scanning.{IsTry, IsPlaceOf, CountsTries, HasPassed}
 
 -- ---- seen between wider moments
 
@@ -53,10 +55,22 @@ keyed_left z place w key (Same item header) h g g' ne c x = absurd (ne item head
 keyed_left z place w key (Other same) h g g' ne c x = (x.0, (x.1.0, x.1.1, x.1.2, saw_wider z place (item_word same) x.1.0 x.1.1 h g h g' ([], refl) c x.1.3))
 keyed_left z place w key (Changed other) h g g' ne c x = (word_wider z place other h g h g' ([], refl) c x.0, x.1)
 
-pub trial_left : (b : Board) (k : Keyed) (p q : Pass) → ((item : Item) (header : ℕ) → k ≢ Same item header) → IsReader b p q → IsTrial b k p q
-trial_left b (Same item header) p q ne r = absurd (ne item header refl)
-trial_left b (Other word) p q ne r = r
-trial_left b (Changed word) p q ne r = r
+pub is_other : (other item : Item) (header : ℕ) → Other other ≢ Same item header
+is_other other item header same = cc
+
+pub is_changed : (word : ℕ) (item : Item) (header : ℕ) → Changed word ≢ Same item header
+is_changed word item header same = cc
+
+-- of passes: p before the try, e in the segment, r after the second look, and l after it left
+pub trial_gone : (b : Board) (place : Place) (item : Item) (key : List ℕ) (k : Keyed) (p e r l : Pass) → Enters b p e item.seg → OnlyLooks b e r → IsKeyed b.shape place (item_word item) key k (trace e) (trace r)
+    → ((item : Item) (header : ℕ) → k ≢ Same item header) → LeavesSegment b r l item.seg → IsTry p l × IsReader b p l × IsKeyed b.shape place (item_word item) key k (trace p) (trace l)
+trial_gone b place item key k p e r l comes look saw other gone =
+    let in_r = then_reader b p e r item.seg (enters b p e item.seg comes) (looks b e r look) in (
+      try_out p r l (try_out p e r (came_in b item.seg p e comes.did.moved) (looked b e r look.did.moved)) (leaves b item.seg r l gone.moved),
+      leave_then b p r l item.seg in_r gone,
+      keyed_left b.shape place (item_word item) key k (trace p) (trace r) (trace l) other (moved_on b _ r l gone.moved)
+          (keyed_from b.shape place (item_word item) key k (trace e) (trace r) (trace p) (moved_on b _ p e comes.did.moved) saw),
+    )
 
 -- ---- a word that wasn't the key's
 
@@ -159,27 +173,6 @@ passed_other z key other value place w h g f of up ne s =
     let s' = saw_wider z place w other value g f h f up ([], refl) s in passed_at z key place w h f of (item_word_seen z place w other value h f s') (of_other z key other value place w h f of ne s')
 
 -- ---- entering
-
-linked_in : (o : Bool) (row other : Row) (k : List ℕ) → other.linked ≡ None → (cond o other row).linked ≡ Some k → row.linked ≡ Some k
-linked_in true row other k none on = absurd (none-some k (sym none ∙ on))
-linked_in false row other k none on = on
-
-same_linked : (o : Bool) (row other : Row) (k : List ℕ) → other.linked ≡ row.linked → (cond o other row).linked ≡ Some k → row.linked ≡ Some k
-same_linked true row other k same on = sym same ∙ on
-same_linked false row other k same on = on
-
-used_or : (a : Bool) (u : Bool) → (a ≡ false → u ≡ true) → (a || u) ≡ true
-used_or true u f = refl
-used_or false u f = f refl
-
--- a segment one of whose rows is linked was used
-linked_used : (h : List Event) (s r : ℕ) (k : List ℕ) → (row_after h s r).linked ≡ Some k → was_used h s ≡ true
-linked_used [] s r k on = absurd (none-some k on)
-linked_used (Linked p q t i n ∷ h) s r k on =
-    used_or (eqb t s) (was_used h s) (λ f. linked_used h s r k (ap (λ (u : Row). u.linked) (sym (cond-false (eqb t s && eqb i r) (writes_row (Linked p q t i n) (row_after h s r)) (row_after h s r) (ap (λ a. a && eqb i r) f))) ∙ on))
-linked_used (Filled p t i j w ∷ h) s r k on = linked_used h s r k (same_linked (eqb t s && eqb i r) (row_after h s r) (writes_row (Filled p t i j w) (row_after h s r)) k refl on)
-linked_used (Refilled p t d ∷ h) s r k on = linked_used h s r k (linked_in (eqb t s) (row_after h s r) (writes_row (Refilled p t d) (row_after h s r)) k refl on)
-linked_used (e ∷ h) s r k on = linked_used h s r k on
 
 -- the pass may enter the segment of an item that was seen
 pub may_enter : (b : Board) (p q : Pass) (place : Place) (item : Item) (h : List Event) → IsPassOf b q → MayEnterAny p → IsReader b p q → IsChained b.shape h place → SawWord b.shape place (item_word item) h (trace q)

@@ -10,16 +10,17 @@ use Rattle.segcore.proofs.Searches.{key_later}
 use Rattle.segbase.specs.Words.{Board, entered, Glances, number, Pass, Place, position, seen, sight}
 use Rattle.segbase.specs.Words.{trace}
 use Rattle.segbase.proofs.Moves.{moved_on, is_inside}
-use Rattle.segstore.specs.Words.{FoundItem, IsReader, IsReaderIn, LeavesSegment, OnlyLooks}
+use Rattle.segstore.specs.Words.{segment_part, FoundItem, IsReader, IsReaderIn, LeavesSegment, OnlyLooks}
 use Rattle.segstore.specs.Words.{ReadsRow, word_of_place}
 use Rattle.segstore.proofs.Words.{same_place, chained_later}
 use Rattle.segstore.proofs.Seconds.{segment_of_item}
 use Rattle.segstore.proofs.Readers.{looks, reader_then, then_reader, leave_then}
 use Rattle.segread.specs.declared.scan.Hit.{Hit}
 use Rattle.segread.specs.Hits.{RaisesFrom, RaisesOne}
-use Rattle.segread.specs.Scanning.{words_below, IsPlaceOf, IsPlaceAfter, ComesIn, Tries, CountsTries, AdvancesSearch, HasPassed, IsHit, IsEnded}
-use Rattle.segread.specs.Gets.{ReadsVersionBetween, HasNoBit, Disturbs, IsSeen, MovesOn}
-use Rattle.segread.proofs.Answered.{found_reads}
+use Rattle.segread.specs.Scanning.{HasDeadline, words_below, IsPlaceOf, IsPlaceAfter, ComesIn, Tries, CountsTries, AdvancesSearch, HasPassed, IsHit, IsEnded}
+use Rattle.segread.specs.Gets.{ReadsVersionBetween, HasNoBit, Disturbs, IsMissed, IsSeen, MovesOn}
+use Rattle.segread.proofs.Answered.{gone_reads}
+use Rattle.segread.proofs.Deadlines.{by_word, read_deadline, found_reads, found_expired}
 use Rattle.segread.proofs.ComingIn as coming
 use Rattle.segread.proofs.ComingIn.{StaysOut, looked, leaves, out_then, tries_out, at_most, word_more, words_few}
 use Rattle.segread.proofs.Disturbing.{still_no_bit, glances_grow, set_reads, clear_reads, by_entries, by_bit}
@@ -33,7 +34,7 @@ module _ (b : Board) (key : List ℕ) (now from tries : ℕ) (hit : Hit) (value 
     (scan : IsReaderIn b p q hit.item.seg) (x : IsHit b.shape key from tries hit p q) (row : ReadsRow b q v hit.item.seg hit.item.row)
     (is_value : (k w : List ℕ) → IsKey k → IsValue w → Holds (row_after (trace v) hit.item.seg hit.item.row) k w → value ≡ w)
     (glance : Glances b (bucket_of b.shape key) info v g) (plain : g.plain ≡ v.plain) (memo : (sight g).memo ≡ (sight v).memo)
-    (version : info.version ≡ (b.shape.first_version + (bucket_after b.shape (trace g) (bucket_of b.shape key)).version) % 2 ^ 32) (look : OnlyLooks b g l) (stands : third ≡ word_of_place b.shape (trace l) hit.place) where
+    (version : info.version ≡ (b.shape.first_version + (bucket_after b.shape (trace g) (bucket_of b.shape key)).version) % 2 ^ 32) (look : OnlyLooks b g l) (stands : third ≡ word_of_place b.shape (trace l) hit.place) (before : now < hit.deadline) where
   abbrev z : Shape
   z = b.shape
 
@@ -45,6 +46,9 @@ module _ (b : Board) (key : List ℕ) (now from tries : ℕ) (hit : Hit) (value 
 
   found_v : FoundItem z hit.place (item_word hit.item) key value (trace p) (trace v)
   found_v = read_value b p q v hit.place hit.item hit.header key value scan x.found row is_value
+
+  deadline_v : HasDeadline z (segment_part (item_word hit.item)) hit.deadline (trace v)
+  deadline_v = read_deadline b p q v hit.item hit.deadline scan row x.deadline
 
   still_free : HasNoBit z key v
   still_free = still_no_bit b key in_v.reads.own p v in_v.reads.moved in_v.reads.only free
@@ -102,7 +106,7 @@ module _ (b : Board) (key : List ℕ) (now from tries : ℕ) (hit : Hit) (value 
   one_version clear same = let i = clear_reads b c v g info glance clear plain memo in (
     seen g,
     (seen_begins (trace p) (trace g) (begins_on (trace p) (trace v) (trace g) (moved_on b in_v.reads.own p v in_v.reads.moved) (moved_on b at_g.reads.own v g at_g.reads.moved)), seen_begins (trace g) (trace l) (moved_on b at_l.reads.own g l at_l.reads.moved)),
-    one_moment b p v g l hit.place (item_word hit.item) third key value now info.version few valid found_v
+    one_moment b p v g l hit.place (item_word hit.item) third key value now info.version hit.deadline deadline_v before few valid found_v
         (subst (λ s. 0 < inside (trace v) (number v) s) (segment_of_item hit.item) (is_inside b p v hit.item.seg in_v.reads)) at_g at_l (chained_later z (trace q) (trace l) hit.place lawful on at_q.0) (sym stands) same i.1 version,
   )
 
@@ -116,7 +120,7 @@ module _ (b : Board) (key : List ℕ) (now from tries : ℕ) (hit : Hit) (value 
     onward = subst (λ n. words_below from + tries ≤ words_below n + hit.tries) same_at x.onward;
     brings = subst (λ n. AdvancesSearch z key from n (trace p) (trace l)) same_at (λ start here ahead. key_later z key (position z (trace q) hit.place) start (trace q) (trace l) lawful (begins_on start (trace p) (trace q) here up) on (x.brings start here ahead));
     counted = counts_later z key tries hit.tries (trace p) x.found.found.saw.at (trace l) (begins_on x.found.found.saw.at (trace q) (trace l) x.found.found.saw.between.1 on) x.counted;
-    stood = (value, found_reads z hit.place (item_word hit.item) key value now (trace p) (trace v) (trace l) (moved_on b from_v.reads.own v l from_v.reads.moved) found_v);
+    stood = (value, found_reads z hit.place (item_word hit.item) key value (trace p) (trace v) found_v hit.deadline deadline_v (trace l) (moved_on b from_v.reads.own v l from_v.reads.moved) now before);
     stands = stands;
     glanced = λ held. let one = (set_reads b key v g info valid still_free glance held plain memo).1 in let before = glances_grow b in_v.reads.own p v c in_v.reads.moved in let after = glances_grow b at_l.reads.own g l c at_l.reads.moved in
         omega (arith, one, before, after);
@@ -124,6 +128,25 @@ module _ (b : Board) (key : List ℕ) (now from tries : ℕ) (hit : Hit) (value 
     version = one_version;
     found = found_l;
   }
+
+-- the chain ended
+pub ends_missed : (b : Board) (key : List ℕ) (now from tries : ℕ) (p q : Pass) → IsEnded b.shape key from tries p q → IsMissed b.shape key now from tries p q
+ends_missed b key now from tries p q x = record { missed = λ start here ahead. gone_reads b.shape key now start (trace q) (x.gone start here ahead); tried = x.tried }
+
+-- the deadline of what was found had come, and the pass left the segment
+pub expires_missed : (b : Board) (key : List ℕ) (now from tries : ℕ) (hit : Hit) (p q r : Pass) → IsReaderIn b p q hit.item.seg → IsHit b.shape key from tries hit p q → LeavesSegment b q r hit.item.seg → hit.deadline ≤ now
+    → IsReader b p r × IsMissed b.shape key now from tries p r
+expires_missed b key now from tries hit p q r i x gone past =
+    let z = b.shape in
+    let at = position z (trace q) hit.place in
+    let chained = (in_chain z (trace q) hit.place i.reads.moved.pass.lawful (hit_place z key from tries hit p q i.reads.moved.pass.lawful x).0).1 in
+    let read = found_expired z hit.place (item_word hit.item) key x.found.value (trace p) (trace q) x.found.found hit.deadline (by_word z hit.item hit.deadline (trace q) x.deadline) (trace r) (moved_on b _ q r gone.moved) now past in (
+      leave_then b p q r hit.item.seg i gone,
+      record {
+        missed = λ start here ahead. (read.0, (begins_on (event.seen start) (seen p) read.0 (seen_begins start (trace p) here) read.1.0, read.1.1), read.2);
+        tried = at_most from at 32 tries (hit.tries + 1) 63 p r (let few = x.few in let most = words_few at chained in omega (arith, few, most)) (tries_out from at tries (hit.tries + 1) p q r x.tried (leaves b hit.item.seg q r gone.moved));
+      },
+    )
 
 -- with l after the third look, and r after it left the segment
 module _ (b : Board) (key : List ℕ) (now from tries : ℕ) (hit : Hit) (value : List ℕ) (info : Info) (third : ℕ) (p l r : Pass) (s : IsSeen b key now from tries hit value info third p l) (gone : LeavesSegment b l r hit.item.seg) where
@@ -187,9 +210,10 @@ module _ (b : Board) (key : List ℕ) (now from tries : ℕ) (hit : Hit) (value 
           onward = let on = s.onward in omega (arith, on, words);
         }
 
-    pub ends_past : IsPlaceAfter b.shape hit.place third None → IsEnded b.shape key from tries p r
+    pub ends_past : IsPlaceAfter b.shape hit.place third None → IsMissed b.shape key now from tries p r
     ends_past after = record {
-      gone = λ start here ahead. end_of b.shape key hit.place at third (trace l) (trace r) valid lawful_r s.place passed after start (begins_on start (trace p) (trace l) here to_l) (s.brings start here ahead);
+      missed = λ start here ahead. gone_reads b.shape key now start (trace r)
+          (end_of b.shape key hit.place at third (trace l) (trace r) valid lawful_r s.place passed after start (begins_on start (trace p) (trace l) here to_l) (s.brings start here ahead));
       tried = at_most from at 32 tries (hit.tries + 1) 63 p r (let few = s.few in let most = words_few at in'.1 in omega (arith, few, most)) (tries_out from at tries (hit.tries + 1) p l r s.tried out_r);
     }
 

@@ -4,7 +4,8 @@ use Rattle.segword.specs.Words.{Info, IsSameItem, item_word, Shape, tag_part}
 use Rattle.segmodel.specs.declared.answer.GetsAnswer.TheVariants as gets
 use Rattle.segmodel.specs.Words.{after, Begins, bucket_of, entries_of, Entry, GetsAnswer, IsBetween}
 use Rattle.segmodel.specs.Words.{reads_version, stirred}
-use Rattle.segcore.specs.Words.{HasBit, IsSegment}
+use Rattle.segcore.specs.Event as event
+use Rattle.segcore.specs.Words.{Event, HasBit, IsSegment, KeyAhead}
 use Rattle.segbase.specs.Words.{Board, glanced, locked_of, number, Pass, Place, position, seen}
 use Rattle.segbase.specs.Words.{trace}
 use Rattle.segstore.specs.Words.{FoundItem, IsReader, IsReaderIn, word_of_place}
@@ -16,7 +17,7 @@ use Rattle.segread.specs.declared.version.Attempt.TheVariants as attempt
 use Rattle.segpass.specs.Words.{ChangesNothing, DrawsNothing, GoesOn, TakesNoBit}
 use Rattle.segread.specs.Reads.{ReadsBetween}
 use Rattle.segread.specs.Hits.{TriesFew, RaisesOne, GetsRaises}
-use Rattle.segread.specs.Scanning.{IsPlaceOf, words_below, ComesIn, Tries, CountsTries, AdvancesSearch, IsEnded, GivesUp}
+use Rattle.segread.specs.Scanning.{IsPlaceOf, words_below, ComesIn, Tries, CountsTries, AdvancesSearch, GivesUp}
 
 -- ---- the answer
 
@@ -71,6 +72,12 @@ Disturbs shape key now some more p q =
     Begins (seen p) (seen q) × (entries_of shape bucket (seen p) + glanced p bucket + more ≤ entries_of shape bucket (seen q) + glanced q bucket + some)
     × (CountsTries shape key some more (trace p) (trace q) ⊎ StoodBetween shape key now p q)
 
+-- The key read nothing at a moment: a search that had it still ahead came to the chain's end, or its deadline had come.
+pub record IsMissed (shape : Shape) (key : List ℕ) (now from tries : ℕ) (p q : Pass) : Type 0 where
+  pub missed : (start : List Event) → Begins start (trace p) → KeyAhead shape key from start (trace p)
+      → ReadsBetween shape key now (event.seen start) (seen q) None
+  pub tried : Tries from 32 tries 63 p q
+
 -- ---- one scan for the key and its version, from a position on, with so many tries counted before
 
 -- The key's item was found, and the pass is still in its segment. The bucket's information was looked at, and after that the word in the item's place.
@@ -97,7 +104,7 @@ pub record IsSeen (b : Board) (key : List ℕ) (now from tries : ℕ) (hit : Hit
 
 abbrev pub IsVersionSight : Board → List ℕ → ℕ → ℕ → ℕ → Sight → Pass → Pass → Type 0
 IsVersionSight b key now from tries (sight.Found hit value info word) p q = IsSeen b key now from tries hit value info word p q
-IsVersionSight b key now from tries sight.Absent p q = IsReader b p q × IsEnded b.shape key from tries p q
+IsVersionSight b key now from tries sight.Absent p q = IsReader b p q × IsMissed b.shape key now from tries p q
 IsVersionSight b key now from tries sight.Busy p q = IsReader b p q × GivesUp b.shape key from tries p q
 
 -- The next scan goes on from this place, with so many tries counted. It has a try less or a word less before it.
@@ -114,6 +121,6 @@ abbrev pub IsAttempt : Shape → List ℕ → ℕ → ℕ → ℕ → ℕ → At
 IsAttempt shape key now draw from tries (attempt.Told (gets.Found value version)) p q =
     ReadsVersionBetween shape key now (seen p) (seen q) (Some (value, version))
     × RaisesOne shape key value draw p q × ComesIn from 32 tries 63 p q
-IsAttempt shape key now draw from tries (attempt.Told gets.Miss) p q = IsEnded shape key from tries p q
+IsAttempt shape key now draw from tries (attempt.Told gets.Miss) p q = IsMissed shape key now from tries p q
 IsAttempt shape key now draw from tries (attempt.Told gets.Busy) p q = Disturbs shape key now tries 64 p q × Tries from 32 tries 63 p q
 IsAttempt shape key now draw from tries (attempt.GoesOn place counted) p q = MovesOn shape key now from tries place counted p q

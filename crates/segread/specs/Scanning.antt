@@ -1,13 +1,15 @@
 -- A reader's way along the chain of a key, without the bucket's bit: what its looks found, how many tries it counted, and how often it came into segments.
 use Rattle.std.specs.Prelude.{◌≡◌, ◌⊎◌, ℕ, ◌+◌, ◌-◌, ◌/◌, ◌<◌, ◌≤◌, List, Option, Some, None}
 use Rattle.segword.specs.Words.{chain_word, IsChainWord, Shape}
-use Rattle.segmodel.specs.Words.{Begins, bucket_of, entries_of}
-use Rattle.segcore.specs.Words.{Event, inside, KeyAhead, KeyGone, seen, WasGone}
-use Rattle.segbase.specs.Words.{Board, entered, home_bucket, number, Pass, Place, position, trace}
+use Rattle.segmodel.specs.Words.{after, Begins, bucket_of, entries_of}
+use Rattle.segcore.specs.Words.{Event, KeyAhead, KeyGone, seen, WasGone}
+use Rattle.segbase.specs.Words.{Board, entered, home_bucket, Pass, Place, position, trace}
 use Rattle.segstore.specs.Words.{FoundKey, IsChained, IsReader, IsReaderIn, SawWord}
 use Rattle.segstore.specs.declared.read.Keyed.{Keyed}
 use Rattle.segstore.specs.declared.read.Keyed.TheVariants as keyed
 use Rattle.segread.specs.declared.scan.Hit.{Hit}
+use Rattle.segread.specs.declared.scan.Trial.{Trial}
+use Rattle.segread.specs.declared.scan.Trial.TheVariants as trial
 use Rattle.segread.specs.declared.scan.Way.{Way}
 use Rattle.segread.specs.declared.scan.Way.TheVariants as way
 use Rattle.segread.specs.declared.scan.Scan.{Scan}
@@ -36,15 +38,17 @@ words_below at = at - 1 - (at - 1) / 8
 
 -- ---- readers
 
--- the pass is in no segment twice
-abbrev pub MayEnterAny : Pass → Type 0
-MayEnterAny p = (segment : ℕ) → inside (trace p) (number p) segment < 2
-
 -- after a try it is in the item's segment where that was the key's
-abbrev pub IsTrial : Board → Keyed → Pass → Pass → Type 0
-IsTrial b (keyed.Same item header) p q = IsReaderIn b p q item.seg
-IsTrial b (keyed.Other word) p q = IsReader b p q
-IsTrial b (keyed.Changed word) p q = IsReader b p q
+abbrev pub IsTrial : Board → Trial → Pass → Pass → Type 0
+IsTrial b (trial.Same item header deadline) p q = IsReaderIn b p q item.seg
+IsTrial b (trial.Other item) p q = IsReader b p q
+IsTrial b (trial.Changed word) p q = IsReader b p q
+
+-- what the second look found
+abbrev pub keyed_of : Trial → Keyed
+keyed_of (trial.Same item header deadline) = keyed.Same item header
+keyed_of (trial.Other item) = keyed.Other item
+keyed_of (trial.Changed word) = keyed.Changed word
 
 abbrev pub IsOnWay : Board → Way → Pass → Pass → Type 0
 IsOnWay b (way.Found hit) p q = IsReaderIn b p q hit.item.seg
@@ -55,6 +59,18 @@ abbrev pub IsScanner : Board → Scan → Pass → Pass → Type 0
 IsScanner b (scan.Found hit) p q = IsReaderIn b p q hit.item.seg
 IsScanner b scan.Absent p q = IsReader b p q
 IsScanner b scan.Busy p q = IsReader b p q
+
+-- ---- deadlines
+
+-- at the end of this trace the segment has this deadline
+abbrev pub HasDeadline : Shape → ℕ → ℕ → List Event → Type 0
+HasDeadline shape segment deadline trace = (after shape (seen trace)).deadline segment ≡ deadline
+
+-- if the item is the key's, the deadline is that of its segment
+abbrev pub TellsDeadline : Shape → Trial → List Event → Type 0
+TellsDeadline shape (trial.Same item header deadline) trace = HasDeadline shape item.seg deadline trace
+TellsDeadline shape (trial.Other item) trace = Unit {0}
+TellsDeadline shape (trial.Changed word) trace = Unit {0}
 
 -- ---- tries
 
@@ -89,9 +105,10 @@ pub record HasPassed (shape : Shape) (key : List ℕ) (from to : ℕ) (place : P
 
 -- ---- what looks along the key's chain came to, from a position on, with so many tries counted before
 
--- The key's item was found. So many tries were counted up to the moment at which it stood, and a search for the key may go on from its place.
+-- The key's item was found, and the deadline of its segment. So many tries were counted up to the moment at which it stood, and a search for the key may go on from its place.
 pub record IsHit (shape : Shape) (key : List ℕ) (from tries : ℕ) (hit : Hit) (p q : Pass) : Type 0 where
   pub found : FoundKey shape hit.place hit.item hit.header key (trace p) (trace q)
+  pub deadline : HasDeadline shape hit.item.seg hit.deadline (trace q)
   pub few : hit.tries < 64
   pub counted : CountsTries shape key tries hit.tries (trace p) found.found.saw.at
   pub tried : Tries from (position shape (trace q) hit.place) tries (hit.tries + 1) p q
@@ -130,6 +147,6 @@ IsScanFrom shape key from tries scan.Busy p q = GivesUp shape key from tries p q
 
 -- a scan of the whole chain
 abbrev pub IsScanAnswer : Shape → List ℕ → Scan → List Event → List Event → Type 0
-IsScanAnswer shape key (scan.Found hit) old new = FoundKey shape hit.place hit.item hit.header key old new
+IsScanAnswer shape key (scan.Found hit) old new = FoundKey shape hit.place hit.item hit.header key old new × HasDeadline shape hit.item.seg hit.deadline new
 IsScanAnswer shape key scan.Absent old new = WasGone (KeyGone shape key) old new
 IsScanAnswer shape key scan.Busy old new = CountsTries shape key 0 64 old new

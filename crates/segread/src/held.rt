@@ -13,7 +13,7 @@ ghost use Rattle.segread.specs.Holds.{SetsHold};
 
 use crate::scan::{Scan, scan_for};
 use segbase::{Board, Pass};
-use segstore::value_of_row;
+use segstore::{leave_segment, value_of_row};
 use segword::{Key, Value};
 
 /// An item that a pass holds. It has to be released, with the pass that holds it.
@@ -46,6 +46,10 @@ pub fn hold_item<'i>(board: &'i Board, pass: &mut Pass, key: &Key, now: u32) -> 
     }
     match scan_for(board, pass, key) {
         Scan::Found(hit) => {
+            if hit.deadline <= now {
+                leave_segment(board, pass, hit.item.seg);
+                return HoldAnswer::Miss;
+            }
             let item = hit.item;
             let value = value_of_row(board, pass, item.seg, item.row, hit.header);
             set_hold(board, pass, Some((key, &value, item.seg)));

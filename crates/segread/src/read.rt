@@ -13,7 +13,7 @@ use segpolicy::next_frequency;
 use segstore::{leave_segment, value_of_row};
 use segword::{Item, Key};
 
-/// The value under a key at a moment.
+/// The value under a key at a moment: past the deadline of its segment the answer is Miss.
 /// A hit raises the frequency of the key's item where the draw, a number at random, says so.
 pub fn get(board: &Board, pass: &mut Pass, key: &Key, draw: u32, now: u32) -> GetAnswer
     requires pass { IsQuiet board.now pass.old }
@@ -21,6 +21,10 @@ pub fn get(board: &Board, pass: &mut Pass, key: &Key, draw: u32, now: u32) -> Ge
 {
     match scan_for(board, pass, key) {
         Scan::Found(hit) => {
+            if hit.deadline <= now {
+                leave_segment(board, pass, hit.item.seg);
+                return GetAnswer::Miss;
+            }
             let value = value_of_row(board, pass, hit.item.seg, hit.item.row, hit.header);
             count_hit(board, pass, hit.place, hit.item, draw);
             leave_segment(board, pass, hit.item.seg);

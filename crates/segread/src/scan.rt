@@ -7,24 +7,36 @@ ghost use Rattle.segmodel.specs.Words.{tag_of};
 ghost use Rattle.segcore.specs.Words.{enter, May};
 ghost use Rattle.segbase.specs.Words.{IsPassOf, number, position, trace};
 ghost use Rattle.segstore.specs.Words.{IsChained, IsKeyed};
-ghost use Rattle.segpass.specs.Words.{IsQuiet, RaisesNothing};
+ghost use Rattle.segpass.specs.Words.{IsQuiet, MayEnterAny, RaisesNothing};
 ghost use Rattle.segread.specs.Hits.{TriesFew};
-ghost use Rattle.segread.specs.Scanning.{place_of, IsPlaceOf, IsPlaceAfter, MayEnterAny, IsTrial};
+ghost use Rattle.segread.specs.Scanning.{place_of, IsPlaceOf, IsPlaceAfter, IsTrial};
 ghost use Rattle.segread.specs.Scanning.{IsOnWay, IsScanner, IsTry, IsWay, IsScanFrom};
-ghost use Rattle.segread.specs.Scanning.{IsScanAnswer};
+ghost use Rattle.segread.specs.Scanning.{IsScanAnswer, keyed_of, TellsDeadline};
 
 use segbase::{Board, CHAIN_BUCKETS, Pass, Place};
 use segstore::{Keyed, enter_segment, leave_segment, read_keyed};
 use segword::{Chain, Item, Key, KeyWords, bucket_of, hash, tag_of};
 
-// An item of the key, in whose segment the pass is: where it stands, and word 0 of its row.
-// So many tries were counted before it.
+// An item of the key, in whose segment the pass is: where it stands, word 0 of its row,
+// and the deadline of the segment. So many tries were counted before it.
 #[derive(Clone, Copy, Drop)]
 pub(crate) struct Hit {
     pub(crate) place: Place,
     pub(crate) item: Item,
     pub(crate) header: u64,
+    pub(crate) deadline: u32,
     pub(crate) tries: u32,
+}
+
+// What a second look from within the segment of an item came to.
+#[derive(Drop)]
+pub(crate) enum Trial {
+    // The key's item as it stands now, word 0 of its row, and the deadline of its segment.
+    Same(Item, u64, u32),
+    // Another key's item as it stands now.
+    Other(Item),
+    // Another word.
+    Changed(u64),
 }
 
 // How far looks at words of a chain came.
@@ -67,21 +79,26 @@ pub(crate) fn try_item(
     place: Place,
     item: Item,
     key: &KeyWords,
-) -> Keyed
+) -> Trial
     requires pass { IsPassOf board.now pass.old }
     requires place { IsChained board.now.shape (trace pass.old) place }
     requires may { May board.now.shape (trace pass.old) (number pass.old) (enter item.seg) }
     ensures reads { IsTrial board.now result pass.old pass.new }
     ensures once { IsTry pass.old pass.new }
-    ensures keyed { IsKeyed board.now.shape place (item_word item) key.now result
+    ensures keyed { IsKeyed board.now.shape place (item_word item) key.now (keyed_of result)
         (trace pass.old) (trace pass.new) }
+    ensures deadline { TellsDeadline board.now.shape result (trace pass.new) }
 {
-    enter_segment(board, pass, item.seg);
+    let deadline = enter_segment(board, pass, item.seg);
     match read_keyed(board, pass, place, item.pack(), key) {
-        Keyed::Same(item, header) => Keyed::Same(item, header),
-        other => {
+        Keyed::Same(item, header) => Trial::Same(item, header, deadline),
+        Keyed::Other(other) => {
             leave_segment(board, pass, item.seg);
-            other
+            Trial::Other(other)
+        }
+        Keyed::Changed(word) => {
+            leave_segment(board, pass, item.seg);
+            Trial::Changed(word)
         }
     }
 }
@@ -111,16 +128,17 @@ fn visit_word(
     };
     for count in tries..TRIES {
         match try_item(board, pass, place, item, key) {
-            Keyed::Same(item, header) => {
+            Trial::Same(item, header, deadline) => {
                 return Way::Found(Hit {
                     place,
                     item,
                     header,
+                    deadline,
                     tries: count,
                 });
             }
-            Keyed::Other(now) => return Way::Passed(now.pack(), count),
-            Keyed::Changed(now) => match item_of_tag(now, tag) {
+            Trial::Other(now) => return Way::Passed(now.pack(), count),
+            Trial::Changed(now) => match item_of_tag(now, tag) {
                 Some(other) => item = other,
                 None => return Way::Passed(now, count),
             },

@@ -4,8 +4,8 @@ ghost use Rattle.segmodel.specs.declared.answer.GetsAnswer.TheVariants as gets;
 ghost use Rattle.segmodel.specs.Words.{bucket_of, tag_of};
 ghost use Rattle.segbase.specs.Words.{IsPassOf, locked_of, position, trace};
 ghost use Rattle.segstore.specs.Words.{IsReader};
-ghost use Rattle.segpass.specs.Words.{IsQuiet, RaisesNothing};
-ghost use Rattle.segread.specs.Scanning.{IsPlaceOf, MayEnterAny};
+ghost use Rattle.segpass.specs.Words.{IsQuiet, MayEnterAny, RaisesNothing};
+ghost use Rattle.segread.specs.Scanning.{IsPlaceOf};
 ghost use Rattle.segread.specs.Hits.{TriesFew, GetsRaises};
 ghost use Rattle.segread.specs.Gets.{ReadsVersion, IsGetsAnswer, HasNoBit, IsVersionSight};
 ghost use Rattle.segread.specs.Gets.{IsAttempt};
@@ -23,6 +23,7 @@ enum Sight {
     // The key's item and its value, the information of its bucket,
     // and the word that stood in the item's place after that.
     Found(Hit, Value, Info, u64),
+    // The key was absent at a moment: it didn't stand, or its deadline had come.
     Absent,
     // The words changed at each try.
     Busy,
@@ -39,7 +40,7 @@ enum Attempt {
 
 /// The value under a key at a moment with the version of the key's bucket,
 /// for a later compare-and-swap.
-/// It is Busy where the pass has the bucket locked by itself and the key stands.
+/// It is Busy where the pass has the bucket locked by itself and the key is present.
 /// A hit raises the frequency of the key's item where the draw, a number at random, says so.
 pub fn gets(board: &Board, pass: &mut Pass, key: &Key, draw: u32, now: u32) -> GetsAnswer
     requires pass { IsQuiet board.now pass.old }
@@ -61,7 +62,7 @@ pub fn gets(board: &Board, pass: &mut Pass, key: &Key, draw: u32, now: u32) -> G
     )
 }
 
-// Whether a key stands whose bucket the pass itself has locked:
+// Whether a key is present whose bucket the pass itself has locked:
 // its version is another one once the bucket is unlocked.
 fn find_locked(board: &Board, pass: &mut Pass, key: &Key, now: u32) -> GetsAnswer
     requires pass { IsQuiet board.now pass.old }
@@ -75,7 +76,11 @@ fn find_locked(board: &Board, pass: &mut Pass, key: &Key, now: u32) -> GetsAnswe
     match scan_for(board, pass, key) {
         Scan::Found(hit) => {
             leave_segment(board, pass, hit.item.seg);
-            GetsAnswer::Busy
+            if hit.deadline <= now {
+                GetsAnswer::Miss
+            } else {
+                GetsAnswer::Busy
+            }
         }
         Scan::Absent => GetsAnswer::Miss,
         Scan::Busy => GetsAnswer::Busy,
@@ -197,6 +202,10 @@ fn see_version(
 {
     match scan_from(board, pass, place, key, tag, tries) {
         Scan::Found(hit) => {
+            if hit.deadline <= now {
+                leave_segment(board, pass, hit.item.seg);
+                return Sight::Absent;
+            }
             let value = value_of_row(board, pass, hit.item.seg, hit.item.row, hit.header);
             let info = board.glance(pass, home);
             let word = board.look(pass, hit.place);

@@ -56,7 +56,7 @@ returns-in_default-clause-way c = let b = c.args.board.now in let p = c.args.pas
 
 pub returns-in-Same-clause-way : goal.returns-in-Same-clause-way
 returns-in-Same-clause-way c = let b = c.args.board.now in let i = c.loop-count.invariant in let p = c.args.pass.now in let q = c.loop-count.pass in let r = c.try_item.new.pass in let x = c.in-Same.ensures in
-    hit_here b c.args.key.now c.args.place c.loop-count.item c.in-Same.item c.in-Same.header c.args.tries c.loop-count.count p q r c.requires.place i.reads (enter_then b p q r c.in-Same.item.seg i.reads x.reads) c.loop-count-test.true i.tried i.trying x.once x.keyed.1
+    hit_here b c.args.key.now c.args.place c.loop-count.item c.in-Same.item c.in-Same.header c.in-Same.deadline c.args.tries c.loop-count.count p q r c.requires.place i.reads (enter_then b p q r c.in-Same.item.seg i.reads x.reads) c.loop-count-test.true i.tried i.trying x.once x.keyed.1 x.deadline
 
 pub returns-in-Other-clause-way : goal.returns-in-Other-clause-way
 returns-in-Other-clause-way c = let b = c.args.board.now in let i = c.loop-count.invariant in let k = c.in-Other.ensures in let key = c.args.key.now in
