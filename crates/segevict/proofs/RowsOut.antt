@@ -29,7 +29,8 @@ use Rattle.segevict.proofs.KeyTries.{no_tries, one_try, tries_after}
 use Rattle.segevict.proofs.Seeking.{stored_over}
 use Rattle.segpass.proofs.Still.{AreStill, no_reader}
 use Rattle.segpass.proofs.TakenBits.{AreNoTries}
-use Rattle.segpass.proofs.UnderWrite.{tries, took_moved, took_keeps, write_goes_on, write_adds, write_undrawn, write_unread, write_takes}
+use Rattle.segpass.proofs.Peeking.{unread}
+use Rattle.segpass.proofs.UnderWrite.{HasBegun, begun, tries, took_moved, took_keeps, write_goes_on, write_adds, write_undrawn, write_peeking, write_takes}
 use Rattle.segevict.proofs.Unlinking.{named_stands}
 use Rattle.segevict.proofs.Unnamed.{gone_over}
 
@@ -118,17 +119,20 @@ module _ (b : Board) (bucket : ℕ) (sought : Item) (p f : Pass) (quiet : IsQuie
   -- ---- under the bit
 
   module _ (q : Pass) (took : TookToWrite b bucket f q) where
+    begins : HasBegun b bucket None f q
+    begins = begun b bucket f q took
+
     abbrev took_by : List Event
-    took_by = tries b bucket f q quiet_looking took
+    took_by = tries b bucket f q quiet_looking begins
 
     took_calm : AreCalm took_by
-    took_calm = (tt, bounces_calm (number f) bucket took.takes.0)
+    took_calm = (tt, bounces_calm (number f) bucket begins.tries)
 
     pub stored_taken : IsStoredIn b bucket sought q
-    stored_taken = stored_over b bucket sought took_by f q (took_moved b bucket f q quiet_looking took) took_calm stored
+    stored_taken = stored_over b bucket sought took_by f q (took_moved b bucket f q quiet_looking begins) took_calm stored
 
     gone_taken : KeepsGone b sought.seg p q
-    gone_taken = keeps_gone_then b sought.seg p f q gone_looking (keeps_gone b sought.seg took_by f q (took_moved b bucket f q quiet_looking took) took_calm stored.own)
+    gone_taken = keeps_gone_then b sought.seg p f q gone_looking (keeps_gone b sought.seg took_by f q (took_moved b bucket f q quiet_looking begins) took_calm stored.own)
 
     -- what was done under it, and the release
     module _ (r s : Pass) (own : List Event) (added : List Entry) (m : AddsEvents b own q r) (calm : AreCalm own) (elsewhere : (other : ℕ) → bucket ≢ other → NoneAt b.shape other own) (still : AreStill own)
@@ -141,24 +145,24 @@ module _ (b : Board) (bucket : ℕ) (sought : Item) (p f : Pass) (quiet : IsQuie
       memo_all = same' ∙ (same ∙ (took.memo ∙ i.memo))
 
       keeps_all : KeepsSegments b s
-      keeps_all = keeps_plain b (Freed (number r) bucket false ∷ []) r s freed.moved (tt, tt) plain' (keeps_plain b own q r m calm plain (took_keeps b bucket f q quiet_looking took))
+      keeps_all = keeps_plain b (Freed (number r) bucket false ∷ []) r s freed.moved (tt, tt) plain' (keeps_plain b own q r m calm plain (took_keeps b bucket f q quiet_looking begins))
 
       goes_all : GoesOn b p s
-      goes_all = goes_then b p f s goes_looking (write_goes_on b bucket f q quiet_looking took r s own added false m elsewhere still adds freed free
+      goes_all = goes_then b p f s goes_looking (write_goes_on b bucket f q quiet_looking begins r s own added false m elsewhere still adds freed free
           (same' ∙ (same ∙ took.memo)) (ap (λ (x : Plain). x.locked) (plain' ∙ (plain ∙ took.plain))) (ap (λ (x : Plain). x.is_holding) (plain' ∙ (plain ∙ took.plain))) keeps_all)
 
       undrawn_all : AreUndrawn own → DrawsNothing p s
-      undrawn_all none = draws_none_then p f s undrawn_looking (write_undrawn b bucket f q quiet_looking took r s own added false m elsewhere still adds freed free none)
+      undrawn_all none = draws_none_then p f s undrawn_looking (write_undrawn b bucket f q quiet_looking begins r s own added false m elsewhere still adds freed free none)
 
       tries_all : AreNoTries own → (target : Target) → IsNamedAt b bucket sought target f → TriesForKeys b.shape sought.seg 1 p s
       tries_all none target n =
-          let on : GoesOn b f s = write_goes_on b bucket f q quiet_looking took r s own added false m elsewhere still adds freed free
+          let on : GoesOn b f s = write_goes_on b bucket f q quiet_looking begins r s own added false m elsewhere still adds freed free
           (same' ∙ (same ∙ took.memo)) (ap (λ (x : Plain). x.locked) (plain' ∙ (plain ∙ took.plain))) (ap (λ (x : Plain). x.is_holding) (plain' ∙ (plain ∙ took.plain))) keeps_all in
-          let takes = write_takes b bucket f q quiet_looking took r s own added false m elsewhere still adds freed free none in
+          let takes = write_takes b bucket f q quiet_looking begins r s own added false m elsewhere still adds freed free none in
           let one = takes.taken in let met = takes.tries in tries_one target s n on.seen (omega arith) (omega arith) takes.others
 
       unread_all : ReadsNothing p s
-      unread_all = write_unread b bucket f q quiet_looking took r s own added false m elsewhere still adds freed free ∙ unread_looking
+      unread_all = unread f s (write_peeking b bucket f q quiet_looking begins r s own added false m elsewhere still adds freed free) ∙ unread_looking
 
       gone_all : KeepsGone b sought.seg p s
       gone_all = keeps_gone_then b sought.seg p q s gone_taken (keeps_gone_then b sought.seg q r s (keeps_gone b sought.seg own q r m calm stored_taken.own)
@@ -170,7 +174,7 @@ module _ (b : Board) (bucket : ℕ) (sought : Item) (p f : Pass) (quiet : IsQuie
     row_is_evicted target n r s t freed free plain same plain' same' =
         let key = t.takes.0 in let own : List Event = Unlinked (number q) key t.takes.1 (Evicts sought.seg) ∷ [] in let added : List Entry = Evicted (number q) key sought.seg ∷ [] in
         let elsewhere : (other : ℕ) → bucket ≢ other → NoneAt b.shape other own = λ other apart. (ne_eqb (bucket_of b.shape key) other (λ e. apart (t.takes.2 ∙ e)), tt) in
-        let at_take = (took_moved b bucket f q quiet_looking took).same in
+        let at_take = (took_moved b bucket f q quiet_looking begins).same in
         let old = (does_nothing b p f quiet i.moved i.plain i.memo).entries in record {
           on = goes_all r s own added t.takes.3 (tt, tt) elsewhere (tt, tt) (λ h. refl) freed free plain same plain' same';
           plain = plain_all r s own added t.takes.3 (tt, tt) elsewhere (tt, tt) (λ h. refl) freed free plain same plain' same';
@@ -183,7 +187,7 @@ module _ (b : Board) (bucket : ℕ) (sought : Item) (p f : Pass) (quiet : IsQuie
             gone_over b (Freed (number r) bucket false ∷ []) r s sought.seg sought.row freed.moved (tt, tt) (stored_taken.own ∙ sym t.takes.3.same) t.gone,
             (
               key,
-              write_adds b bucket f q quiet_looking took r s own added false t.takes.3 elsewhere (tt, tt) (λ h. refl) freed free
+              write_adds b bucket f q quiet_looking begins r s own added false t.takes.3 elsewhere (tt, tt) (λ h. refl) freed free
                   ∙ (cond-true (eqb (number q) (number f)) (Evicted (number q) key sought.seg ∷ mine f) (mine f) (eq-eqb (number q) (number f) at_take)
                   ∙ (λ u. Evicted ((at_take ∙ i.moved.same) u) key sought.seg ∷ old u)),
             ),
@@ -203,7 +207,7 @@ module _ (b : Board) (bucket : ℕ) (sought : Item) (p f : Pass) (quiet : IsQuie
       answer = (
         gone_all r s [] [] t.takes tt (λ other apart. tt) tt (λ h. refl) freed free plain same plain' same',
         gone_over b (Freed (number r) bucket false ∷ []) r s sought.seg sought.row freed.moved (tt, tt) (stored_taken.own ∙ sym t.takes.same) t.gone,
-        write_adds b bucket f q quiet_looking took r s [] [] false t.takes (λ other apart. tt) tt (λ h. refl) freed free ∙ (does_nothing b p f quiet i.moved i.plain i.memo).entries,
+        write_adds b bucket f q quiet_looking begins r s [] [] false t.takes (λ other apart. tt) tt (λ h. refl) freed free ∙ (does_nothing b p f quiet i.moved i.plain i.memo).entries,
       );
     }
 

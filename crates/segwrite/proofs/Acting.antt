@@ -48,5 +48,5 @@ prepares_then b first second bucket p q r i j = record {
   moved = moved_then b first second p q r i.moved j.moved;
   plain = j.plain ∙ i.plain;
   memo = j.memo ∙ i.memo;
-  keys = λ key of. let old = i.keys key of in let new = j.keys key of in record { stands = new.stands ∙ old.stands; version = new.version ∙ old.version };
+  keys = λ key of. let old = i.keys key of in let new = j.keys key of in record { stands = new.stands ∙ old.stands; finds = λ now. new.finds now ∙ old.finds now; version = new.version ∙ old.version };
 }

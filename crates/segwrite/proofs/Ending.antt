@@ -1,5 +1,5 @@
 -- A write or delete whose bit is given back after one event that added an entry: its answer is that entry, and the pass is quiet again.
-use Rattle.std.proofs.Common.{◌≡◌, ◌≢◌, ℕ, Bool, eqb, List, [], ◌∷◌, Some, ap, ◌∙◌, subst}
+use Rattle.std.proofs.Common.{◌≡◌, ◌≢◌, ℕ, Bool, eqb, List, [], ◌∷◌, Option, Some, ap, ◌∙◌, subst}
 use Rattle.std.proofs.lemmas.Bool.{cond-true, eq-eqb, ne_eqb}
 use Rattle.segword.specs.Words.{Shape}
 use Rattle.segmodel.specs.Words.{Entry, pass_of}
@@ -11,14 +11,15 @@ use Rattle.segbase.specs.Words.{AddsEvents, Board, mine, number, Pass}
 use Rattle.segbase.proofs.Moves.{moved_then}
 use Rattle.segstore.specs.Words.{Idles}
 use Rattle.segstore.proofs.Keeping.{IsCalm, keeps_plain}
-use Rattle.segpass.specs.Words.{AddsEntry, DrawsNothing, GoesOn, IsQuiet, memo, ReadsNothing}
-use Rattle.segpass.specs.Words.{TakesOneBit, TookToWrite}
+use Rattle.segpass.specs.Words.{AddsEntry, DrawsNothing, GoesOn, IsQuiet, memo}
+use Rattle.segpass.specs.Words.{TakesOneBit}
 use Rattle.segwrite.specs.Refusing.{GivesBack}
+use Rattle.segpass.proofs.Peeking.{PeeksInto}
 use Rattle.segpass.proofs.Draws.{IsUndrawn}
 use Rattle.segwrite.proofs.Sets.{found_plain, found_keeps}
 use Rattle.segpass.proofs.Still.{IsStill}
 use Rattle.segpass.proofs.TakenBits.{IsNoTry}
-use Rattle.segpass.proofs.UnderWrite.{took_moved, ends_on, ends_adding, ends_undrawn, ends_unread, ends_taking}
+use Rattle.segpass.proofs.UnderWrite.{HasBegun, took_moved, ends_on, ends_adding, ends_undrawn, ends_peeking, ends_taking}
 
 -- an event in the bucket, by its pass, adds an entry and stores nothing
 pub record IsEntry (shape : Shape) (bucket : ℕ) (act : ℕ → Event) (entry : ℕ → Entry) : Type 0 where
@@ -30,7 +31,7 @@ pub record IsEntry (shape : Shape) (bucket : ℕ) (act : ℕ → Event) (entry :
   pub undrawn : (pass : ℕ) → IsUndrawn (act pass)
   pub untried : (pass : ℕ) → IsNoTry (act pass)
 
-module _ (b : Board) (bucket : ℕ) (counted : Bool) (act : ℕ → Event) (entry : ℕ → Entry) (is_entry : IsEntry b.shape bucket act entry) (p q f s : Pass) (quiet : IsQuiet b p) (took : TookToWrite b bucket p q) (idles : Idles b q f)
+module _ (b : Board) (bucket : ℕ) (counted : Bool) (act : ℕ → Event) (entry : ℕ → Entry) (is_entry : IsEntry b.shape bucket act entry) (p q f s : Pass) (quiet : IsQuiet b p) {into : Option ℕ} (took : HasBegun b bucket into p q) (idles : Idles b q f)
     (gives : GivesBack b bucket counted (act (number f) ∷ []) f s) where
   abbrev n : ℕ
   n = number p
@@ -63,8 +64,8 @@ module _ (b : Board) (bucket : ℕ) (counted : Bool) (act : ℕ → Event) (entr
   pub entered_undrawn : DrawsNothing p s
   entered_undrawn = ends_undrawn b bucket p q quiet took s (act n ∷ []) (entry n ∷ []) counted moved elsewhere (is_entry.still n, tt) adds gives.free (is_entry.undrawn n, tt)
 
-  pub entered_unread : ReadsNothing p s
-  entered_unread = ends_unread b bucket p q quiet took s (act n ∷ []) (entry n ∷ []) counted moved elsewhere (is_entry.still n, tt) adds gives.free
+  pub entered_peeking : PeeksInto into p s
+  entered_peeking = ends_peeking b bucket p q quiet took s (act n ∷ []) (entry n ∷ []) counted moved elsewhere (is_entry.still n, tt) adds gives.free
 
   pub entered_taking : TakesOneBit bucket p s
   entered_taking = ends_taking b bucket p q quiet took s (act n ∷ []) (entry n ∷ []) counted moved elsewhere (is_entry.still n, tt) adds gives.free (is_entry.untried n, tt)

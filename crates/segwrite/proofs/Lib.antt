@@ -14,6 +14,7 @@ pub mod Growing
 pub mod Filling
 pub mod Storing
 pub mod Rooms
+pub mod Presence
 pub mod Sets
 pub mod Ending
 pub mod Refused

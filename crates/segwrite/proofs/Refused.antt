@@ -8,25 +8,26 @@ use Rattle.segmodel.specs.declared.entry.Entry.TheVariants.{Wrote}
 use Rattle.segmodel.specs.declared.request.Request.TheVariants.{Set, Add, Replace, Cas, Delete}
 use Rattle.segmodel.specs.declared.request.Reply.TheVariants as reply
 use Rattle.segmodel.specs.declared.answer.WriteAnswer.TheVariants as write
-use Rattle.segmodel.specs.Words.{adds_key, after, bucket_of, key_of, present, Reply, reply_of_write}
-use Rattle.segmodel.specs.Words.{reply_to, Request, standing, value_of, WriteAnswer}
+use Rattle.segmodel.specs.Words.{adds_key, after, bucket_of, key_of, moment_of, present, Reply, reply_of_write}
+use Rattle.segmodel.specs.Words.{reply_to, Request, value_of, WriteAnswer}
 use Rattle.segcore.specs.declared.event.Event.TheVariants.{Replied}
 use Rattle.segcore.specs.Event as event
 use Rattle.segcore.specs.declared.cell.Cell.TheVariants.{OfBucket}
 use Rattle.segcore.specs.Words.{bucket_after, Event, HasBit, IsLawful, IsRefusal, word}
 use Rattle.segcore.proofs.Buckets.{bit_small, unwritten_version}
-use Rattle.segcore.proofs.Standing.{coherent}
 use Rattle.segbase.specs.Words.{Board, IsPassOf, number, Pass, seen, trace}
 use Rattle.segstore.specs.Words.{Idles}
 use Rattle.segwrite.specs.Words.{Target}
 use Rattle.segwrite.specs.declared.write.When.{When}
 use Rattle.segwrite.specs.declared.write.When.TheVariants as when
-use Rattle.segpass.specs.Words.{DrawsNothing, GoesOn, HasCleanBit, IsQuiet, ReadsNothing}
-use Rattle.segpass.specs.Words.{TakesOneBit, TookToWrite}
+use Rattle.segpass.specs.Words.{DrawsNothing, GoesOn, HasCleanBit, IsQuiet}
+use Rattle.segpass.specs.Words.{TakesOneBit}
 use Rattle.segwrite.specs.Writes.{AddsReply, IsWriteAnswer}
 use Rattle.segwrite.specs.Writing.{IsTarget, IsAbsent, own_word, Finds}
 use Rattle.segwrite.specs.Refusing.{request_of, IsToldBy, reply_now, RefusesUnderBit}
-use Rattle.segwrite.proofs.Ending.{IsEntry, plain_back, memo_back, entered_on, entered, entered_undrawn, entered_unread, entered_taking}
+use Rattle.segwrite.proofs.Ending.{IsEntry, plain_back, memo_back, entered_on, entered, entered_undrawn, entered_peeking, entered_taking}
+use Rattle.segpass.proofs.Peeking.{PeeksInto}
+use Rattle.segpass.proofs.UnderWrite.{HasBegun}
 use Rattle.segpass.proofs.UnderBit.{moved_at}
 
 -- ---- which request it is, and which reply
@@ -56,24 +57,6 @@ own_none b key (Some found) p finds is = ⊎_elim
     (λ has. let some = has.1.0.0 in
     absurd (none-some found (sym is ∙ cond-false (eqb found.word 0) None (Some found) (ne_eqb found.word 0 (λ none. absurd (omega (arith, some, none)))))))
     finds.is
-
--- an item of the key's own word stands
-pub own_stands : (b : Board) (key : List ℕ) (now : ℕ) (target : Target) (p : Pass) → IsPassOf b p → IsTarget b key target p → target.word ≢ 0 → is_some (present (after b.shape (seen p)) now key) ≡ true
-own_stands b key now target p is found some = ⊎_elim
-    (λ free. absurd (some free.0))
-    (λ has.
-    let z = b.shape in let named = has.0 in
-    let stands = ((coherent z (trace p) is.lawful).items (bucket_of z key) _ named.0 named.1).stands in
-    ap is_some (ap (standing (after z (seen p))) (sym named.2) ∙ stands))
-    found.is
-
--- so there is one exactly where the key is present
-pub own_where : (b : Board) (key : List ℕ) (now : ℕ) (found : Option Target) (p : Pass) → IsPassOf b p → Finds b key found p → is_some (own_word found) ≡ is_some (present (after b.shape (seen p)) now key)
-own_where b key now found p is finds = by (own_word found) refl
-  where
-    by : (own : Option Target) → own_word found ≡ own → is_some own ≡ is_some (present (after b.shape (seen p)) now key)
-    by None same = sym (ap is_some (own_none b key found p finds same))
-    by (Some target) same = let own = own_target b key found target p finds same in sym (own_stands b key now target p is own.0 own.1)
 
 -- only a set or an add is stored under an absent key
 pub adds_absent : (request : Request) (version : ℕ) → reply_to request false version ≡ reply.Stored → adds_key request false ≡ true
@@ -110,14 +93,15 @@ told_by_look b request expected now version bucket p q few is clean home there a
     let same = moved_at b [] p q (key_of request) idles.moved (subst (λ n. HasBit z (trace p) (number p) n) home clean.bit) tt in
     let read_now : (after z (seen q)).version k ≡ version = same.version ∙ (ap (after z (seen p)).version (sym home) ∙ (sym (unwritten_is z (trace p) bucket few is.lawful clean.unwritten) ∙ sym read)) in
     subst (λ n. IsToldBy (reply_now b q request) (then_some (not (eqb n expected)) write.Exists)) read_now
-    (told_by_version request expected now ((after z (seen q)).version k) (is_some (present (after z (seen q)) now (key_of request))) asked (ap is_some same.stands ∙ there))
+    (told_by_version request expected now ((after z (seen q)).version k) (is_some (present (after z (seen q)) (moment_of request) (key_of request))) asked
+    (ap is_some (same.finds (moment_of request)) ∙ (ap (λ m. is_some (present (after z (seen p)) m (key_of request))) (ap moment_of asked) ∙ there)))
 
 -- ---- the answer
 
 refusal_entry : (z : Shape) (request : Request) (said : Reply) → IsEntry z (bucket_of z (key_of request)) (λ pass. Replied pass request said) (λ pass. Wrote pass request said None)
 refusal_entry z request said = record { at = λ pass. refl; adds = λ pass. refl; of = λ pass. refl; still = λ pass. tt; calm = λ pass. tt; undrawn = λ pass. tt; untried = λ pass. tt }
 
-module _ (b : Board) (request : Request) (said : Reply) (p q f s : Pass) (quiet : IsQuiet b p) (took : TookToWrite b (bucket_of b.shape (key_of request)) p q) (idles : Idles b q f) (refuses : RefusesUnderBit b request said f s) where
+module _ (b : Board) (request : Request) (said : Reply) (p q f s : Pass) (quiet : IsQuiet b p) {into : Option ℕ} (took : HasBegun b (bucket_of b.shape (key_of request)) into p q) (idles : Idles b q f) (refuses : RefusesUnderBit b request said f s) where
   abbrev home : ℕ
   home = bucket_of b.shape (key_of request)
 
@@ -134,8 +118,8 @@ module _ (b : Board) (request : Request) (said : Reply) (p q f s : Pass) (quiet 
   pub refused_undrawn : DrawsNothing p s
   refused_undrawn = entered_undrawn b home false (λ pass. Replied pass request said) (λ pass. Wrote pass request said None) (refusal_entry b.shape request said) p q f s quiet took idles refuses
 
-  pub refused_unread : ReadsNothing p s
-  refused_unread = entered_unread b home false (λ pass. Replied pass request said) (λ pass. Wrote pass request said None) (refusal_entry b.shape request said) p q f s quiet took idles refuses
+  pub refused_peeking : PeeksInto into p s
+  refused_peeking = entered_peeking b home false (λ pass. Replied pass request said) (λ pass. Wrote pass request said None) (refusal_entry b.shape request said) p q f s quiet took idles refuses
 
   pub refused_takes : TakesOneBit home p s
   refused_takes = entered_taking b home false (λ pass. Replied pass request said) (λ pass. Wrote pass request said None) (refusal_entry b.shape request said) p q f s quiet took idles refuses

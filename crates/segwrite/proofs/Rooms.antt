@@ -19,7 +19,7 @@ use Rattle.segwrite.specs.Full.{DrewInNeed}
 use Rattle.segwrite.specs.Writing.{IsTarget, HasFullChain, Finds}
 use Rattle.segwrite.specs.Growing.{bucket_seen, IsLast, Searches, target_of, puts, lengthens, CannotGrow, Lengthens, IsAsFound, MakesRoom}
 use Rattle.segwrite.proofs.Lengthening.{in_need_wider, longer_own, longer_other}
-use Rattle.segwrite.proofs.Places.{idle_bucket, same_position, chain_later}
+use Rattle.segwrite.proofs.Places.{same_position, chain_later}
 use Rattle.segwrite.proofs.Rising.{earlier_yet, word_rose}
 use Rattle.segpass.proofs.Still.{AreStill}
 use Rattle.segpass.proofs.TakenBits.{AreNoTries}
@@ -28,26 +28,28 @@ use Rattle.segpass.proofs.UnderBit.{moved_bucket, moved_at}
 
 -- ---- what a search came to is so after more looks
 
-last_idle : (b : Board) (bucket : ℕ) (place : Place) (word : ℕ) (p q : Pass) → IsPassOf b p → HasBit b.shape (trace p) (number p) bucket → Idles b p q → IsLast b bucket place word p → IsLast b bucket place word q
-last_idle b bucket place word p q is bit i l =
-    let same = moved_bucket b [] p q bucket i.moved bit tt in
+last_still : (b : Board) (own : List Event) (bucket : ℕ) (place : Place) (word : ℕ) (p q : Pass) → IsPassOf b p → HasBit b.shape (trace p) (number p) bucket → AddsEvents b own p q → NoneAt b.shape bucket own → IsLast b bucket place word p → IsLast b bucket place word q
+last_still b own bucket place word p q is bit m none l =
+    let same = moved_bucket b own p q bucket m bit none in
     let end : last (bucket_seen b bucket q) ≡ last (bucket_seen b bucket p) = ap (λ (u : Bucket). last u) same in
-    let rose = word_rose b [] p q bucket place i.moved bit tt l.chain l.named is.valid is.lawful (ap (bucket_seen b bucket p).items l.ends ∙ l.here) in record {
-      chain = chain_later b [] p q bucket place i.moved l.chain;
-      ends = same_position b [] p q bucket place i.moved l.chain ∙ (l.ends ∙ sym end);
+    let rose = word_rose b own p q bucket place m bit none l.chain l.named is.valid is.lawful (ap (bucket_seen b bucket p).items l.ends ∙ l.here) in record {
+      chain = chain_later b own p q bucket place m l.chain;
+      ends = same_position b own p q bucket place m l.chain ∙ (l.ends ∙ sym end);
       named = l.named;
       here = ap (λ (u : Bucket). u.items (last u)) same ∙ l.here;
       is = l.is;
       earlier = earlier_yet word _ _ l.earlier.0 l.earlier.1 rose;
     }
 
-pub searches_later : (b : Board) (key : List ℕ) (found : Found) (p q : Pass) → IsPassOf b p → HasBit b.shape (trace p) (number p) (bucket_of b.shape key) → Idles b p q → Searches b key found p → Searches b key found q
-searches_later b key (Word target) p q is bit i found = target_later b [] p q key i.moved is bit tt target found
-searches_later b key (Full end) p q is bit i found =
-    let same = idle_bucket b p q (bucket_of b.shape key) i bit in (
-      record { absent = (moved_at b [] p q key i.moved bit tt).stands ∙ found.0.absent; taken = subst HasNoEmptyWord (sym same) found.0.taken },
+-- the pass may have done something, none of it in the bucket
+pub searches_still : (b : Board) (own : List Event) (key : List ℕ) (found : Found) (p q : Pass) → IsPassOf b p → HasBit b.shape (trace p) (number p) (bucket_of b.shape key) → AddsEvents b own p q → NoneAt b.shape (bucket_of b.shape key) own
+    → Searches b key found p → Searches b key found q
+searches_still b own key (Word target) p q is bit m none found = target_later b own p q key m is bit none target found
+searches_still b own key (Full end) p q is bit m none found =
+    let same = moved_bucket b own p q (bucket_of b.shape key) m bit none in (
+      record { absent = (moved_at b own p q key m bit none).stands ∙ found.0.absent; taken = subst HasNoEmptyWord (sym same) found.0.taken },
       record {
-        last = last_idle b (bucket_of b.shape key) end.place end.word p q is bit i found.1.last;
+        last = last_still b own (bucket_of b.shape key) end.place end.word p q is bit m none found.1.last;
         buckets = found.1.buckets ∙ ap (λ (u : Bucket). u.chained + 1) (sym same);
       },
     )
@@ -147,4 +149,4 @@ module _ (b : Board) (key : List ℕ) (p q r : Pass) (i : Idles b p q) (is : IsP
   no_room (Full end) room none found makes = full (subst (λ o. MakesRoom b k (Full end) o q r) none makes)
     where
       full : Idles b q r × CannotGrow b k r → Idles b q r × CannotGrow b k r × HasFullChain b key r
-      full m = (m.0, m.1, (searches_later b key (Full end) q r is clean.bit m.0 found).0)
+      full m = (m.0, m.1, (searches_still b [] key (Full end) q r is clean.bit m.0.moved tt found).0)

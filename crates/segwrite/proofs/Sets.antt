@@ -1,5 +1,5 @@
 -- The answers of a write that stored, and of one that found its bucket full.
-use Rattle.std.proofs.Common.{◌≡◌, ◌≢◌, ℕ, true, false, eqb, List, [], ◌∷◌, ◌++◌, ◌+◌, Some, None, refl, sym, ap, ◌∙◌, inl, inr, ⊎_elim, append_assoc, arith}
+use Rattle.std.proofs.Common.{◌≡◌, ◌≢◌, ℕ, true, false, eqb, List, [], ◌∷◌, ◌++◌, ◌+◌, Option, Some, None, refl, sym, ap, ◌∙◌, inl, inr, ⊎_elim, append_assoc, arith}
 use Rattle.std.proofs.lemmas.Bool.{cond-true, eq-eqb, ne_eqb}
 use Rattle.segword.specs.Words.{row_of}
 use Rattle.segmodel.specs.declared.entry.Entry.TheVariants.{Wrote}
@@ -20,13 +20,14 @@ use Rattle.segbase.proofs.Moves.{moved_on, moved_then}
 use Rattle.segstore.specs.Words.{fills, Idles, KeepsSegments}
 use Rattle.segstore.proofs.Keeping.{keeps_plain}
 use Rattle.segpass.specs.Words.{AddsEntry, ChangesNothing, DrawsNothing, GoesOn, HasCleanBit}
-use Rattle.segpass.specs.Words.{IsQuiet, memo, ReadsNothing, TakesOneBit, TookToWrite}
+use Rattle.segpass.specs.Words.{IsQuiet, memo, TakesOneBit}
 use Rattle.segwrite.specs.Full.{IsFull, WasFull, GrowsFor}
 use Rattle.segwrite.specs.Writes.{one_more, UsesRow}
 use Rattle.segwrite.specs.FirstEmpty.{TookFirstEmpty}
 use Rattle.segwrite.specs.Writing.{HasFullChain}
 use Rattle.segwrite.specs.Storing.{StoresUnderBit, stores}
 use Rattle.segwrite.specs.Growing.{CannotGrow}
+use Rattle.segpass.proofs.Peeking.{PeeksInto}
 use Rattle.segpass.proofs.Bits.{none_at_both}
 use Rattle.segwrite.proofs.Growing.{no_word}
 use Rattle.segpass.proofs.Draws.{undrawn}
@@ -37,11 +38,11 @@ use Rattle.segpass.proofs.TakenBits.{both_no_tries}
 use Rattle.segwrite.proofs.FirstEmpty.{first_wider}
 use Rattle.segwrite.proofs.Filling.{fills_nowhere, fills_still, fills_undrawn, fills_untried, fills_seen}
 use Rattle.segpass.proofs.UnderBit.{moved_bucket, moved_bit}
-use Rattle.segpass.proofs.UnderWrite.{took_moved, took_clean, took_keeps, tries, tries_undrawn, write_goes_on, write_adds, write_drew, write_undrawn, write_unread, write_takes, still_both}
+use Rattle.segpass.proofs.UnderWrite.{HasBegun, took_moved, took_clean, took_keeps, tries, tries_undrawn, write_goes_on, write_adds, write_drew, write_undrawn, write_peeking, write_takes, still_both}
 
 -- ---- after the search
 
-module _ (b : Board) (bucket : ℕ) (p q f : Pass) (quiet : IsQuiet b p) (took : TookToWrite b bucket p q) (idles : Idles b q f) where
+module _ (b : Board) (bucket : ℕ) (p q f : Pass) (quiet : IsQuiet b p) {into : Option ℕ} (took : HasBegun b bucket into p q) (idles : Idles b q f) where
   pub found_clean : HasCleanBit b f bucket
   found_clean =
       let clean = took_clean b bucket p q quiet took in let same = moved_bucket b [] q f bucket idles.moved clean.bit tt in
@@ -65,7 +66,7 @@ is_full b key f is clean none why =
       last = ⊎_elim (λ longest. inl (omega (arith, long, longest))) (λ all. inr (count ∙ all)) why;
     }
 
-module _ (b : Board) (key : List ℕ) (p q f s : Pass) (quiet : IsQuiet b p) (took : TookToWrite b (bucket_of b.shape key) p q) (idles : Idles b q f) (none : HasFullChain b key f) (why : CannotGrow b (bucket_of b.shape key) f)
+module _ (b : Board) (key : List ℕ) (p q f s : Pass) (quiet : IsQuiet b p) {into : Option ℕ} (took : HasBegun b (bucket_of b.shape key) into p q) (idles : Idles b q f) (none : HasFullChain b key f) (why : CannotGrow b (bucket_of b.shape key) f)
     (freed : AddsAtOnce b (Freed (number f) (bucket_of b.shape key) false ∷ []) f s) (free : (bucket_after b.shape (trace s) (bucket_of b.shape key)).holder ≡ None) (plain : s.plain ≡ f.plain) (same : memo s ≡ memo f) where
   abbrev k : ℕ
   k = bucket_of b.shape key
@@ -84,8 +85,8 @@ module _ (b : Board) (key : List ℕ) (p q f s : Pass) (quiet : IsQuiet b p) (to
   pub full_undrawn : DrawsNothing p s
   full_undrawn = write_undrawn b k p q quiet took f s [] [] false idles.moved (λ other apart. tt) tt (λ h. refl) freed free tt
 
-  pub full_unread : ReadsNothing p s
-  full_unread = write_unread b k p q quiet took f s [] [] false idles.moved (λ other apart. tt) tt (λ h. refl) freed free
+  pub full_peeking : PeeksInto into p s
+  full_peeking = write_peeking b k p q quiet took f s [] [] false idles.moved (λ other apart. tt) tt (λ h. refl) freed free
 
   pub full_takes : TakesOneBit k p s
   full_takes = write_takes b k p q quiet took f s [] [] false idles.moved (λ other apart. tt) tt (λ h. refl) freed free tt
@@ -112,7 +113,7 @@ uses_around segment p f r s u before behind m n = record {
   memo = n ∙ (u.memo ∙ m);
 }
 
-module _ (b : Board) (request : Request) (segment row : ℕ) (p q f r s : Pass) (quiet : IsQuiet b p) (took : TookToWrite b (bucket_of b.shape (key_of request)) p q) (before : List Event) (ready : IsReady b (bucket_of b.shape (key_of request)) before q f)
+module _ (b : Board) (request : Request) (segment row : ℕ) (p q f r s : Pass) (quiet : IsQuiet b p) {into : Option ℕ} (took : HasBegun b (bucket_of b.shape (key_of request)) into p q) (before : List Event) (ready : IsReady b (bucket_of b.shape (key_of request)) before q f)
     (done : StoresUnderBit b request segment row f r) (keeps : KeepsSegments b r) (uses : UsesRow segment f r)
     (freed : AddsAtOnce b (Freed (number r) (bucket_of b.shape (key_of request)) true ∷ []) r s) (free : (bucket_after b.shape (trace s) (bucket_of b.shape (key_of request))).holder ≡ None) (plain : s.plain ≡ r.plain) (same : memo s ≡ memo r) where
   abbrev home : ℕ
@@ -158,8 +159,8 @@ module _ (b : Board) (request : Request) (segment row : ℕ) (p q f r s : Pass) 
   stored_first = first_wider b.shape request (number f) (number p) (trace f) (trace r) (trace p) (trace s) (ready.moved.same ∙ (took_moved b home p q quiet took).same)
       (begins_on (trace p) (trace q) (trace f) (moved_on b (tries b home p q quiet took) p q (took_moved b home p q quiet took)) (moved_on b before q f ready.moved)) (moved_on b (Freed (number r) home true ∷ []) r s freed.moved) done.2
 
-  pub stored_unread : ReadsNothing p s
-  stored_unread = write_unread b home p q quiet took r s own (entry ∷ []) true moved elsewhere still adds freed free
+  pub stored_peeking : PeeksInto into p s
+  stored_peeking = write_peeking b home p q quiet took r s own (entry ∷ []) true moved elsewhere still adds freed free
 
   pub stored_takes : TakesOneBit home p s
   stored_takes = write_takes b home p q quiet took r s own (entry ∷ []) true moved elsewhere still adds freed free

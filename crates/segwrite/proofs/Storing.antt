@@ -5,7 +5,7 @@ use Rattle.std.proofs.lemmas.Option.{same_Some}
 use Rattle.std.specs.Prelude.{is_some}
 use Rattle.segword.specs.Words.{IsKey, IsValue, row_of}
 use Rattle.segmodel.specs.declared.request.Reply.TheVariants.{Stored}
-use Rattle.segmodel.specs.Words.{after, bucket_of, IsSameAt, key_of, reply_in, reply_to, Request}
+use Rattle.segmodel.specs.Words.{after, bucket_of, IsSameAt, key_of, moment_of, reply_in, reply_to, Request}
 use Rattle.segmodel.specs.Words.{value_of}
 use Rattle.segcore.specs.declared.event.Event.TheVariants.{Linked}
 use Rattle.segcore.specs.Words.{acts, bucket_after, Event, Fits, HasBit, Holds, IsOwnRow, NoneAt}
@@ -62,7 +62,7 @@ module _ (b : Board) (own : List Event) (p q : Pass) (key : List ℕ) (m : AddsE
   pub reply_later : (request : Request) → key_of request ≡ key → Stored ≡ reply_in b.shape (after b.shape (seen p)) request → Stored ≡ reply_in b.shape (after b.shape (seen q)) request
   reply_later request of stored =
       let same = subst (IsSameAt b.shape (after b.shape (seen p)) (after b.shape (seen q))) (sym of) (moved_at b own p q key m bit none) in
-      stored ∙ (λ i. reply_to request (is_some ((sym same.stands) i)) ((sym same.version) i))
+      stored ∙ (λ i. reply_to request (is_some ((sym (same.finds (moment_of request))) i)) ((sym same.version) i))
 
 -- ---- the link of the row that was written
 

@@ -1,6 +1,7 @@
 pub mod FirstEmpty
 pub mod Full
 pub mod Growing
+pub mod Presence
 pub mod Refusing
 pub mod Storing
 pub mod Telling

@@ -10,6 +10,7 @@ use Rattle.segcore.specs.declared.event.Leaving.TheVariants.{Deletes}
 use Rattle.segcore.specs.Words.{bucket_after, Event, IsRefusal}
 use Rattle.segbase.specs.Words.{AddsEvents, Board, number, Pass, seen, trace}
 use Rattle.segpass.specs.Words.{memo}
+use Rattle.segwrite.specs.Presence.{Peeks}
 use Rattle.segwrite.specs.declared.write.When.{When}
 use Rattle.segwrite.specs.declared.write.When.TheVariants as when
 
@@ -39,8 +40,11 @@ pub record GivesBack (b : Board) (bucket : ℕ) (counted : Bool) (own : List Eve
 abbrev pub RefusesUnderBit : Board → Request → Reply → Pass → Pass → Type 0
 RefusesUnderBit b request reply p q = GivesBack b (bucket_of b.shape (key_of request)) false (Replied (number p) request reply ∷ []) p q
 
--- the key left its word, or was absent, and the bit was given back
+-- once the pass knew whether the key is present, the key left its word, or was absent, and the bit was given back
+abbrev pub RemovesPresent : Board → Request → DeleteAnswer → Pass → Pass → Type 0
+RemovesPresent b request delete.Deleted p q = (position : ℕ) × GivesBack b (bucket_of b.shape (key_of request)) true (Unlinked (number p) (key_of request) position (Deletes (moment_of request)) ∷ []) p q
+RemovesPresent b request delete.NotFound p q = RefusesUnderBit b request NotFound p q
+RemovesPresent b request delete.Busy p q = ⊥
+
 abbrev pub Removes : Board → Request → DeleteAnswer → Pass → Pass → Type 0
-Removes b request delete.Deleted p q = (position : ℕ) × GivesBack b (bucket_of b.shape (key_of request)) true (Unlinked (number p) (key_of request) position (Deletes (moment_of request)) ∷ []) p q
-Removes b request delete.NotFound p q = RefusesUnderBit b request NotFound p q
-Removes b request delete.Busy p q = ⊥
+Removes b request told p q = (between : Pass) × Peeks b (key_of request) p between × RemovesPresent b request told between q

@@ -1,5 +1,5 @@
 -- What a write or a delete answers, in the terms of the model, and what it changes and costs.
-use Rattle.std.specs.Prelude.{◌≡◌, ◌≢◌, ◌↔◌, ℕ, ◌+◌, true, false, List, Some, None}
+use Rattle.std.specs.Prelude.{◌≡◌, ◌≢◌, ◌⊎◌, ◌↔◌, ℕ, ◌+◌, true, false, List, Some, None}
 use Rattle.segword.specs.Words.{Shape}
 use Rattle.segmodel.specs.declared.entry.Entry.TheVariants.{Wrote}
 use Rattle.segmodel.specs.declared.request.Request.TheVariants.{Delete}
@@ -8,11 +8,12 @@ use Rattle.segmodel.specs.declared.answer.WriteAnswer.TheVariants as write
 use Rattle.segmodel.specs.declared.answer.DeleteAnswer.TheVariants as delete
 use Rattle.segmodel.specs.Words.{adds_key, bucket_of, DeleteAnswer, key_of, Reply, Request}
 use Rattle.segmodel.specs.Words.{WriteAnswer}
-use Rattle.segbase.specs.Words.{Board, current_of, locked_of, marked, number, OwnSegment, Pass}
+use Rattle.segbase.specs.Words.{Board, current_of, entered, glanced, locked_of, marked, number, OwnSegment, Pass}
 use Rattle.segbase.specs.Words.{trace, with_own}
 use Rattle.segstore.specs.Words.{has_room}
 use Rattle.segpass.specs.Words.{AddsEntry, ChangesNothing, DrawsNothing, GoesOn, IsBusy, memo}
-use Rattle.segpass.specs.Words.{ReadsNothing, TakesOneBit}
+use Rattle.segpass.specs.Words.{RaisesNothing, ReadsNothing, TakesOneBit}
+use Rattle.segwrite.specs.Presence.{CameIn, depends_on_key}
 use Rattle.segwrite.specs.FirstEmpty.{TookFirstEmpty}
 use Rattle.segwrite.specs.Full.{WasFull, GrowsFor}
 
@@ -55,7 +56,13 @@ IsDeleteAnswer shape key now delete.Deleted p q = AddsReply (Delete key now) rep
 IsDeleteAnswer shape key now delete.NotFound p q = AddsReply (Delete key now) reply.NotFound p q
 IsDeleteAnswer shape key now delete.Busy p q = ChangesNothing p q × IsBusy (bucket_of shape key) p q
 
--- A set, an add, a replace or a cas is answered so. NoRoom comes first, exactly where the pass has no row left; then Busy, always where the pass itself has the bucket locked. For any other answer it took one bit. A new key is stored in the first empty word of its bucket's chain.
+-- It raised no frequency, and found no bit by a look without it. It came into a segment once at most, and the key stood there at that moment.
+pub record EntersForKey (shape : Shape) (key : List ℕ) (p q : Pass) : Type 0 where
+  pub raises_nothing : RaisesNothing p q
+  pub glanced : (bucket : ℕ) → glanced q bucket ≡ glanced p bucket
+  pub entered : (entered q ≡ entered p) ⊎ ((entered q ≡ entered p + 1) × ((segment : ℕ) × CameIn shape key (number p) segment (trace p) (trace q)))
+
+-- A set, an add, a replace or a cas is answered so. NoRoom comes first, exactly where the pass has no row left; then Busy, always where the pass itself has the bucket locked. For any other answer it took one bit. A new key is stored in the first empty word of its bucket's chain. A set comes into no segment, nor does what is Busy.
 pub record Writes (b : Board) (request : Request) (told : WriteAnswer) (p q : Pass) : Type 0 where
   pub on : GoesOn b p q
   pub answer : IsWriteAnswer b.shape request told p q
@@ -66,7 +73,8 @@ pub record Writes (b : Board) (request : Request) (told : WriteAnswer) (p q : Pa
   pub grows : GrowsFor b.shape request p q
   pub draws_nothing : told ≢ write.Stored → DrawsNothing p q
   pub first_empty : told ≡ write.Stored → TookFirstEmpty b.shape request (number p) (trace p) (trace q)
-  pub reads_nothing : ReadsNothing p q
+  pub enters : EntersForKey b.shape (key_of request) p q
+  pub reads_nothing : (depends_on_key request ≡ false) ⊎ (told ≡ write.Busy) → ReadsNothing p q
 
 -- a delete is answered so; it needs no row
 pub record Deletes (b : Board) (key : List ℕ) (now : ℕ) (told : DeleteAnswer) (p q : Pass) : Type 0 where
@@ -75,4 +83,5 @@ pub record Deletes (b : Board) (key : List ℕ) (now : ℕ) (told : DeleteAnswer
   pub locked : locked_of p ≡ Some (bucket_of b.shape key) → told ≡ delete.Busy
   pub takes : told ≢ delete.Busy → TakesOneBit (bucket_of b.shape key) p q
   pub draws_nothing : DrawsNothing p q
-  pub reads_nothing : ReadsNothing p q
+  pub enters : EntersForKey b.shape key p q
+  pub reads_nothing : told ≡ delete.Busy → ReadsNothing p q

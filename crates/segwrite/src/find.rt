@@ -1,6 +1,6 @@
 //! The word of a key's chain that a write changes, found under the bucket's bit by one pass over
 //! the chain, or the end of the chain where there is none.
-ghost use Rattle.std.specs.Prelude.{◌≡◌, ◌≤◌, ◌↔◌, IsTrue};
+ghost use Rattle.std.specs.Prelude.{◌≡◌, ◌≤◌, ◌↔◌, IsTrue, List, ℕ};
 ghost use Rattle.segmodel.specs.Words.{bucket_of, tag_of};
 ghost use Rattle.segcore.specs.Words.{HasBit};
 ghost use Rattle.segwrite.specs.Writing.{own_word, IsInChain, IsNext, Finds};
@@ -8,9 +8,12 @@ ghost use Rattle.segword.specs.Words.{IsValid};
 ghost use Rattle.segbase.specs.Words.{content_for, HasItemOf, IsPassOf, IsWordOfContent};
 ghost use Rattle.segbase.specs.Words.{number, trace};
 ghost use Rattle.segstore.specs.Words.{Idles};
+ghost use Rattle.segpass.specs.Words.{MayEnterAny};
+ghost use Rattle.segwrite.specs.Presence.{IsPresentWord, Peeks};
 ghost use Rattle.segwrite.specs.Growing.{Searches};
 
 use segbase::{Board, Pass, Place};
+use segstore::{enter_segment, leave_segment};
 use segword::{Chain, Item, KeyWords};
 
 /// A word of a chain, and what stood there: the item of a key,
@@ -185,4 +188,28 @@ pub fn next_place(board: &Board, place: Place, word: u64) -> Option<Place>
         bucket: board.shape().buckets + number,
         word: 1,
     })
+}
+
+// The key's own word, where the key is present at a moment, under the bit of its bucket.
+// The pass comes into the segment of the key's item to see its deadline, and leaves it at once.
+pub(crate) fn present_word(
+    board: &Board,
+    pass: &mut Pass,
+    found: Option<Target>,
+    now: u32,
+) -> Option<Target>
+    ghost key: { List ℕ }
+    requires pass { IsPassOf board.now pass.old }
+    requires enter { MayEnterAny pass.old }
+    requires bit { HasBit board.now.shape (trace pass.old) (number pass.old)
+        (bucket_of board.now.shape key) }
+    requires found { Finds board.now key found pass.old }
+    ensures peeks { Peeks board.now key pass.old pass.new }
+    ensures presents { IsPresentWord board.now key now found result pass.new }
+{
+    let target = own_word(found)?;
+    let item = Item::unpack(target.word).unwrap();
+    let deadline = enter_segment(board, pass, item.seg);
+    leave_segment(board, pass, item.seg);
+    (now < deadline).then_some(target)
 }

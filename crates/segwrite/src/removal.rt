@@ -6,12 +6,12 @@ ghost use Rattle.segmodel.specs.Words.{bucket_of, tag_of};
 ghost use Rattle.segcore.specs.declared.event.Event.TheVariants.{Unlinked};
 ghost use Rattle.segcore.specs.Words.{Fits, Leaving};
 ghost use Rattle.segbase.specs.Words.{AddsUnlink, HasItemOf, IsPassOf, number, position_at, trace};
-ghost use Rattle.segpass.specs.Words.{HasCleanBit, IsQuiet, memo};
+ghost use Rattle.segpass.specs.Words.{HasCleanBit, IsQuiet, MayEnterAny, memo};
 ghost use Rattle.segwrite.specs.Writing.{IsInChain, IsEarlier};
 ghost use Rattle.segwrite.specs.Writes.{Deletes};
 ghost use Rattle.segwrite.specs.Refusing.{Removes};
 
-use crate::find::{Target, find, own_word};
+use crate::find::{Target, find, present_word};
 use crate::write::refuse;
 use segbase::{Board, Pass};
 use segmodel::DeleteAnswer;
@@ -31,7 +31,8 @@ pub fn delete(board: &Board, pass: &mut Pass, key: &Key, now: u32) -> DeleteAnsw
     remove(board, pass, bucket, &KeyWords::new(key), tag_of(hash), now)
 }
 
-// Takes the key out of its bucket, whose bit the pass has, and gives the bit back.
+// Takes the key out of its bucket, if the key is present, under the bit that the pass has,
+// and gives the bit back.
 fn remove(
     board: &Board,
     pass: &mut Pass,
@@ -45,10 +46,12 @@ fn remove(
     requires clean { HasCleanBit board.now pass.old bucket }
     requires bucket { bucket ≡ bucket_of board.now.shape key.now }
     requires tag { tag ≡ tag_of key.now }
+    requires enter { MayEnterAny pass.old }
     requires request { request ≡ Delete key.now now }
     ensures removes { Removes board.now request result pass.old pass.new }
 {
-    let Some(target) = own_word(find(board, pass, bucket, key, tag)) else {
+    let found = find(board, pass, bucket, key, tag);
+    let Some(target) = present_word(board, pass, found, now) else {
         refuse(board, pass, bucket);
         return DeleteAnswer::NotFound;
     };

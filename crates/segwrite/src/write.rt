@@ -8,13 +8,14 @@ ghost use Rattle.segcore.specs.declared.event.Event.TheVariants.{Linked};
 ghost use Rattle.segcore.specs.Words.{Fits, IsRefusal};
 ghost use Rattle.segstore.specs.Words.{Idles, KeepsSegments};
 ghost use Rattle.segbase.specs.Words.{AddsLink, IsPassOf, number, position_at, seen, trace};
-ghost use Rattle.segpass.specs.Words.{HasCleanBit, IsQuiet, memo};
+ghost use Rattle.segpass.specs.Words.{HasCleanBit, IsQuiet, MayEnterAny, memo};
+ghost use Rattle.segwrite.specs.Presence.{PeeksFor};
 ghost use Rattle.segwrite.specs.Writes.{UsesRow, IsSetAnswer, Writes};
-ghost use Rattle.segwrite.specs.Writing.{IsTarget};
+ghost use Rattle.segwrite.specs.Writing.{Finds, IsTarget};
 ghost use Rattle.segwrite.specs.Storing.{IsNextRow, Requests, StoresUnderBit, HasWritten};
 ghost use Rattle.segwrite.specs.Refusing.{request_of, IsToldBy, reply_now, RefusesUnderBit};
 
-use crate::find::{Target, own_word, search};
+use crate::find::{Target, present_word, search};
 use crate::grow::make_room;
 use segbase::{Board, Pass};
 use segmodel::WriteAnswer;
@@ -99,8 +100,8 @@ fn write(
         return WriteAnswer::Busy;
     }
     let found = search(board, pass, bucket, &words, tag);
-    let is_present = own_word(found.target()).is_some();
-    if let Some(refusal) = refusal(board, pass, bucket, is_present, when, now) {
+    let refusal = refusal(board, pass, bucket, found.target(), when, now);
+    if let Some(refusal) = refusal {
         refuse(board, pass, bucket);
         return refusal;
     }
@@ -114,8 +115,36 @@ fn write(
 }
 
 // What the cache answers in place of storing.
-// The version is looked at only where the write depends on it.
+// A set is stored in any case; else it depends on whether the key is present.
 fn refusal(
+    board: &Board,
+    pass: &mut Pass,
+    bucket: u32,
+    found: Option<Target>,
+    when: When,
+    now: u32,
+) -> Option<WriteAnswer>
+    ghost request: { Request }
+    requires pass { IsPassOf board.now pass.old }
+    requires versions { board.now.shape.first_version < 2 ^ 32 }
+    requires clean { HasCleanBit board.now pass.old bucket }
+    requires bucket { bucket ≡ bucket_of board.now.shape (key_of request) }
+    requires enter { MayEnterAny pass.old }
+    requires found { Finds board.now (key_of request) found pass.old }
+    requires request { request ≡ request_of when (key_of request) (value_of request) now }
+    ensures peeks { PeeksFor board.now request pass.old pass.new }
+    ensures told { IsToldBy (reply_now board.now pass.new request) result }
+{
+    if let When::Always = when {
+        return None;
+    }
+    let is_present = present_word(board, pass, found, now).is_some();
+    refusal_where(board, pass, bucket, is_present, when, now)
+}
+
+// The same where the key is present or not.
+// The version is looked at only where the write depends on it.
+fn refusal_where(
     board: &Board,
     pass: &mut Pass,
     bucket: u32,

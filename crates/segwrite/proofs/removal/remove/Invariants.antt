@@ -3,6 +3,9 @@ use Rattle.segcore.specs.declared.event.Leaving.TheVariants.{Deletes}
 use Rattle.segmodel.specs.Words.{key_of, moment_of}
 use Rattle.segwrite.proofs.removal.remove.Given as goal
 
+abbrev pub ghost-present_word : goal.ghost-present_word
+ghost-present_word g a = key_of g.request
+
 abbrev pub ghost-refuse : goal.ghost-refuse
 ghost-refuse g a = g.request
 

@@ -1,25 +1,30 @@
-use Rattle.std.proofs.Common.{sym, ap, ◌∙◌, subst}
+use Rattle.std.proofs.Common.{◌∙◌}
 use Rattle.segmodel.specs.Words.{key_of, value_of}
-use Rattle.segstore.proofs.Refills.{idles}
-use Rattle.segstore.specs.Words.{Idles}
-use Rattle.segwrite.specs.Refusing.{request_of, IsToldBy, reply_now}
-use Rattle.segwrite.proofs.Refused.{told_by_look}
+use Rattle.segbase.specs.Words.{number}
+use Rattle.segpass.specs.Words.{peek}
+use Rattle.segwrite.proofs.Presence.{clean_still, depends, peek_nowhere, peeks_for_none, peeks_then, word_tells}
 use Rattle.segwrite.proofs.write.refusal.Goals as goal
 
-pub returns-in-Always-clause-idles : goal.returns-in-Always-clause-idles
-returns-in-Always-clause-idles g c = idles _ _ c.requires.0
+pub returns-in-Always-clause-peeks : goal.returns-in-Always-clause-peeks
+returns-in-Always-clause-peeks g c = peeks_for_none c.args.board.now g.request c.args.pass.now c.requires.0
 
-pub returns-in-Absent-clause-idles : goal.returns-in-Absent-clause-idles
-returns-in-Absent-clause-idles g c = idles _ _ c.requires.0
+pub refusal_where-requires : goal.refusal_where-requires
+refusal_where-requires g c = let b = c.args.board.now in let p = c.args.pass.now in let q = c.present_word.new.pass in let r = c.requires in let x = c.present_word.ensures.peeks in (
+  x.moved.pass,
+  (
+    r.1.0,
+    (
+      clean_still b (peek (number p) x.into) c.args.bucket p q r.1.1.0 x.moved (peek_nowhere b.shape c.args.bucket (number p) x.into),
+      (r.1.1.1.0, (c.is_some-is_present.ensures ∙ word_tells b (key_of g.request) c.args.now c.args.found c.present_word.result q c.present_word.ensures.presents, r.1.1.1.1.1.1)),
+    ),
+  ),
+)
 
-pub returns-in-Present-clause-idles : goal.returns-in-Present-clause-idles
-returns-in-Present-clause-idles g c = idles _ _ c.requires.0
-
-pub returns-in-Unchanged-clause-idles : goal.returns-in-Unchanged-clause-idles
-returns-in-Unchanged-clause-idles g c = idles _ _ c.requires.0
-
-pub returns-in-Unchanged-2-clause-told : goal.returns-in-Unchanged-2-clause-told
-returns-in-Unchanged-2-clause-told g c = let b = c.args.board.now in let r = c.requires in let look = c.info_look-info in let step = look.ensures.step in
-    let idles : Idles b c.args.pass.now look.new.pass = record { moved = look.ensures.did.moved; plain = step.plain; memo = step.memo } in
-    subst (IsToldBy (reply_now b look.new.pass g.request)) (sym c.then_some-in-Unchanged-2.ensures)
-    (told_by_look b g.request c.in-Unchanged-2.version c.args.now look.result.version c.args.bucket c.args.pass.now look.new.pass r.1.0 r.0 r.1.1.0 r.1.1.1.0 (sym r.1.1.1.1.0 ∙ c.if-not-is_present.false) (r.1.1.1.1.1 ∙ ap (λ w. request_of w (key_of g.request) (value_of g.request) c.args.now) c.in-Unchanged-2.is) idles look.ensures.version)
+pub returns : goal.returns
+returns g c = let b = c.args.board.now in let p = c.args.pass.now in let q = c.present_word.new.pass in let r = c.refusal_where.new.pass in record {
+  peeks = record {
+    peeks = peeks_then b (key_of g.request) p q r c.present_word.ensures.peeks c.refusal_where.ensures.idles;
+    none = λ set. absurd (depends c.args.when g.request (key_of g.request) (value_of g.request) c.args.now c.in_default.not-Always c.requires.1.1.1.1.1.1 set);
+  };
+  told = c.refusal_where.ensures.told;
+}
