@@ -6,25 +6,29 @@ use Rattle.segmodel.specs.declared.request.Request.TheVariants.{Set}
 use Rattle.segmodel.specs.declared.request.Reply.TheVariants.{Stored}
 use Rattle.segmodel.specs.declared.answer.GetAnswer.TheVariants as get
 use Rattle.segmodel.specs.declared.answer.WriteAnswer.TheVariants as write
-use Rattle.segmodel.specs.Words.{CameBetween, Entry, GetAnswer, stirred, StoresValue, TakesKeyOut}
+use Rattle.segmodel.specs.Words.{after, CameBetween, Entry, GetAnswer, IsBetween, IsExpired, stirred, StoresValue, TakesKeyOut}
 use Rattle.segmodel.specs.Words.{WriteAnswer}
 use Rattle.segbase.specs.Words.{Board, number, Pass, seen}
 use Rattle.segread.specs.Words.{ReadsKey}
 use Rattle.segwrite.specs.Words.{IsSetAnswer, IsTold, Writes}
 
--- Since a moment at which a value was stored under the key, a get answers so: another value only if that one was stored
--- since, a miss only if the key was deleted or evicted since, and Busy only if 64 entries of its bucket came in during the get.
-abbrev pub IsReadSince : Shape → List ℕ → List ℕ → GetAnswer → List Entry → List Entry → List Entry → Type 0
-IsReadSince shape key value (get.Found other) stored old new = (other ≡ value) ⊎ CameBetween (StoresValue key other) stored new
-IsReadSince shape key value get.Miss stored old new = CameBetween (TakesKeyOut key) stored new
-IsReadSince shape key value get.Busy stored old new = 64 ≤ stirred shape key old new
+-- at a moment from one history to a longer one the key stood, and its deadline had come
+abbrev pub ExpiredBetween : Shape → List ℕ → ℕ → List Entry → List Entry → Type 0
+ExpiredBetween shape key now old new = (history : List Entry) × IsBetween old new history × IsExpired (after shape history) now key
+
+-- Since a moment at which a value was stored under the key, a get answers so: another value only if that one was stored since; a miss only if the key
+-- was deleted or evicted since, or its deadline had come; and Busy only if 64 entries of its bucket came in during the get.
+abbrev pub IsReadSince : Shape → List ℕ → List ℕ → ℕ → GetAnswer → List Entry → List Entry → List Entry → Type 0
+IsReadSince shape key value now (get.Found other) stored old new = (other ≡ value) ⊎ CameBetween (StoresValue key other) stored new
+IsReadSince shape key value now get.Miss stored old new = CameBetween (TakesKeyOut key) stored new ⊎ ExpiredBetween shape key now stored new
+IsReadSince shape key value now get.Busy stored old new = 64 ≤ stirred shape key old new
 
 -- what was stored was read since, after its entry
 pub record ReadsStored (shape : Shape) (pass : ℕ) (key value : List ℕ) (now : ℕ) (told : GetAnswer) (old between new : List Entry) : Type 0 where
   pub segment : Option ℕ
   pub history : List Entry
   pub stored : IsTold shape pass (Set key value now) Stored segment old between history
-  pub read : IsReadSince shape key value told (Wrote pass (Set key value now) Stored segment ∷ history) between new
+  pub read : IsReadSince shape key value now told (Wrote pass (Set key value now) Stored segment ∷ history) between new
 
 -- The set and the get are of one moment. The set comes first, with this pass after it. If it was refused, the key isn't read and the get's answer is Busy.
 pub record Probes (b : Board) (key value : List ℕ) (draw now : ℕ) (told : WriteAnswer × GetAnswer) (p q : Pass) : Type 0 where

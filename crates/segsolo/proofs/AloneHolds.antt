@@ -5,7 +5,7 @@ use Rattle.std.proofs.lemmas.Bool.{false≢true, cases_Bool}
 use Rattle.std.proofs.lemmas.Option.{none-some}
 use Rattle.segmodel.specs.declared.answer.Turn.TheVariants as turn
 use Rattle.segmodel.specs.declared.answer.Outcome.TheVariants as outcome
-use Rattle.segmodel.specs.Words.{after, Cached, present, reads, standing}
+use Rattle.segmodel.specs.Words.{after, Cached, present, reads}
 use Rattle.segmodel.specs.Turns as turns
 use Rattle.segcore.specs.Event as event
 use Rattle.segbase.specs.Words.{Board, Held, holding, is_holding_of, mine, Pass, seen}
@@ -59,7 +59,7 @@ module _ (b : Board) (p q : Pass) (was : IsAlone b p) (on : GoesOn b p q) (undra
       let held = takes.is.held in
       let free : option_map item_of (holding p) ≡ None = ap (option_map item_of) (free_hold (answer.Holding hold) already (λ e. cc)) in
       let found : present (after b.shape (seen p)) now key ≡ Some (item_of held) =
-      (λ i. standing (after b.shape (sym (same_moment (seen p) (seen q) (event.seen held.trace) same takes.between) i)) (sym takes.of i)) ∙ takes.stood.stands in
+      (λ i. present (after b.shape (sym (same_moment (seen p) (seen q) (event.seen held.trace) same takes.between) i)) now (sym takes.of i)) ∙ takes.finds in
       turned b (turn.Hold key now) outcome.Holding p q was on.quiet (counts_still p q was.used same (ap stored_in takes.sets.plain)) (
         (λ i. turns.hold_outcome (sym free i) (sym found i)),
         holds_alone (Some held) takes.entries takes.sets

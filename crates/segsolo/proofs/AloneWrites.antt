@@ -1,6 +1,6 @@
 -- With one pass, a set, an add, a replace and a cas are served as the model says.
 use Rattle.std.proofs.Common.{◌≡◌, ◌≢◌, ℕ, ◌+◌, ◌&&◌, not, Bool, true, false, cond, List, [], ◌∷◌, ◌++◌, length, is_some, Option, Some, None, option_map, refl, sym, ap, subst, ◌∙◌, ⊎_elim, eqb, eq-eqb}
-use Rattle.std.proofs.lemmas.Bool.{cases_Bool, cond-true, cond-false, ne_eqb, eqb-true, and_left}
+use Rattle.std.proofs.lemmas.Bool.{cases_Bool, cond-true, cond-false, ne_eqb, eqb-true, and_left, false≢true}
 use Rattle.std.proofs.lemmas.List.{length_push}
 use Rattle.std.proofs.lemmas.Option.{none-some, same_Some}
 use Rattle.segmodel.specs.declared.entry.Entry.TheVariants.{Wrote}
@@ -11,9 +11,10 @@ use Rattle.segmodel.specs.declared.answer.Answer.TheVariants as answer
 use Rattle.segmodel.specs.declared.answer.Command.TheVariants as command
 use Rattle.segmodel.specs.Words.{adds_key, after, after_reply, bucket_of, chained, Filling, moment_of}
 use Rattle.segmodel.specs.Words.{is_locked, is_out_of_rows, is_store, key_of, lacks_word, may_chain}
-use Rattle.segmodel.specs.Words.{placed, present, put, Reply, reply_in, reply_of_write, reply_to}
+use Rattle.segmodel.specs.Words.{placed, present, put, Reply, reply_in, reply_of_write, reply_to, standing}
 use Rattle.segmodel.specs.Words.{Request, ServesStore, State, stored, value_of, with_at, with_key}
 use Rattle.segmodel.specs.Words.{WriteAnswer}
+use Rattle.segmodel.proofs.HistoryLemmas.{absent_unless_stands}
 use Rattle.segmodel.proofs.Stores.{serves_replied}
 use Rattle.segmodel.proofs.Stores as stores
 use Rattle.segbase.specs.declared.pass.Plain.{Plain}
@@ -31,13 +32,14 @@ use Rattle.segsolo.proofs.AloneRefusals.{rows_of, out_of_rows, none_left}
 use Rattle.segsolo.proofs.AloneWidths.{same_widths, Grows, grown}
 
 -- a request that is answered otherwise than Stored would put no new key
-adds_nothing : (request : Request) (here : Bool) (version : ℕ) → is_store request ≡ true → reply_to request here version ≢ reply.Stored → adds_key request here ≡ false
-adds_nothing (Set key value now) here version store other = absurd (other refl)
-adds_nothing (Add key value now) true version store other = refl
-adds_nothing (Add key value now) false version store other = absurd (other refl)
-adds_nothing (Replace key value now) here version store other = refl
-adds_nothing (Cas key value expected now) here version store other = refl
-adds_nothing (Delete key now) here version store other = refl
+adds_nothing : (request : Request) (here stands : Bool) (version : ℕ) → (stands ≡ false → here ≡ false) → is_store request ≡ true → reply_to request here version ≢ reply.Stored → adds_key request stands ≡ false
+adds_nothing (Set key value now) here stands version there store other = absurd (other refl)
+adds_nothing (Add key value now) true true version there store other = refl
+adds_nothing (Add key value now) true false version there store other = absurd (false≢true (sym (there refl)))
+adds_nothing (Add key value now) false stands version there store other = absurd (other refl)
+adds_nothing (Replace key value now) here stands version there store other = refl
+adds_nothing (Cas key value expected now) here stands version there store other = refl
+adds_nothing (Delete key now) here stands version there store other = refl
 
 -- ---- a request that is stored
 
@@ -154,8 +156,9 @@ module _ (b : Board) (p q : Pass) (request : Request) (store : is_store request 
         (stores.serves_write b.shape (state_at b.shape p) (state_at b.shape q) request told store
         (serves_replied b.shape (state_at b.shape p) request told (state_at b.shape q) (has_rows rows) (unlocked rows other)
         (and_left (lacks_word b.shape (state_at b.shape p) request) (not (may_chain b.shape (state_at b.shape p) (bucket_of b.shape (key_of request))))
-        (and_left (adds_key request (is_some (present (after b.shape (seen p)) (moment_of request) (key_of request)))) _
-        (adds_nothing request (is_some (present (after b.shape (seen p)) (moment_of request) (key_of request))) ((after b.shape (seen p)).version (bucket_of b.shape (key_of request))) store (λ e. unstored (was_replied ∙ e)))))
+        (and_left (adds_key request (is_some (standing (after b.shape (seen p)) (key_of request)))) _
+        (adds_nothing request (is_some (present (after b.shape (seen p)) (moment_of request) (key_of request))) (is_some (standing (after b.shape (seen p)) (key_of request)))
+        ((after b.shape (seen p)).version (bucket_of b.shape (key_of request))) (absent_unless_stands (after b.shape (seen p)) (moment_of request) (key_of request)) store (λ e. unstored (was_replied ∙ e)))))
         r was_replied is_reply (same_state ∙ sym stays)))
       where
         was_replied : r ≡ reply_in b.shape (after b.shape (seen p)) request
