@@ -1,6 +1,7 @@
 //! The index with its one pass beside the plain cache:
 //! over commands drawn at random both answer alike.
-ghost use Rattle.std.specs.Prelude.{◌<◌, IfSome};
+//! Their moments and deadlines are small numbers, so that many keys are expired.
+ghost use Rattle.std.specs.Prelude.{◌<◌, ◌≤◌, IfSome};
 
 use rand_core::utils::NextWord;
 use rand_pcg::Lcg64Xsh32;
@@ -9,7 +10,6 @@ use segmodel::{
     Request, Shelf, WriteAnswer, run,
 };
 use segsolo::Solo;
-use segtests_helpers::calls::MOMENT;
 use segword::{Key, Shape, Value};
 use std::alloc::Global;
 use std::process::Abort;
@@ -17,10 +17,8 @@ use std::test::Fail;
 
 const COMMANDS: u32 = 10_000;
 
-// Few keys and few segments, so that each meets the others often.
+// Few segments, so that each meets the others often.
 // One number more stands for a segment that there isn't.
-const KEYS: u32 = 26;
-
 const SEGMENTS: u32 = 3;
 
 // A version before the last one, so that versions start again at 0.
@@ -28,20 +26,37 @@ const FIRST_VERSION: u32 = 4_294_967_290;
 
 // What an index has, and how its commands are drawn:
 // sixteen of the draws are spread over all kinds, and the others are sets.
+// Moments and deadlines are each below a limit.
 #[derive(Clone, Copy)]
 struct Load {
     buckets: u32,
     overflow: u32,
     rows: u32,
+    keys: u32,
     draws: u32,
+    moments: u32,
+    deadlines: u32,
 }
 
-// One bucket of seven words.
+// One bucket of seven words. About half of the commands find that a deadline has come.
 const ONE_BUCKET: Load = Load {
     buckets: 1,
     overflow: 0,
     rows: 8,
+    keys: 26,
     draws: 16,
+    moments: 16,
+    deadlines: 16,
+};
+
+// One bucket that is full most of the time.
+// Of four commands three find that all deadlines have come.
+const FULL_OF_EXPIRED: Load = Load {
+    rows: 40,
+    draws: 32,
+    moments: 32,
+    deadlines: 8,
+    ..ONE_BUCKET
 };
 
 // A plain cache and an index, both of this shape.
@@ -68,9 +83,12 @@ fn below(generator: &mut Lcg64Xsh32, limit: u32) -> u32
     generator.next_word() % limit
 }
 
-fn key(generator: &mut Lcg64Xsh32) -> Result<Key, Fail> {
-    let number = below(generator, KEYS) as u8;
-    Ok(Key::new(&[b'k', b'a' + number]).ok_or("no key")?)
+// One of so many keys.
+fn key(generator: &mut Lcg64Xsh32, keys: u32) -> Result<Key, Fail>
+    requires { (0 < keys) × (keys ≤ 60) }
+{
+    let number = below(generator, keys) as u8;
+    Ok(Key::new(&[b'k', b'A' + number]).ok_or("no key")?)
 }
 
 // The empty value, or one of a letter.
@@ -82,24 +100,27 @@ fn value(generator: &mut Lcg64Xsh32) -> Result<Value, Fail> {
 }
 
 // A command; a cas expects the version that a gets found last.
-fn command(generator: &mut Lcg64Xsh32, draws: u32, version: u32) -> Result<Command, Fail>
-    requires { 0 < draws }
+fn command(generator: &mut Lcg64Xsh32, load: Load, version: u32) -> Result<Command, Fail>
+    requires keys { (0 < load.keys) × (load.keys ≤ 60) }
+    requires limits { (0 < load.draws) × (0 < load.moments) × (0 < load.deadlines) }
 {
-    let kind = below(generator, draws);
-    let key = key(generator)?;
+    let kind = below(generator, load.draws);
+    let key = key(generator, load.keys)?;
     let value = value(generator)?;
     let segment = below(generator, SEGMENTS + 1);
+    let deadline = below(generator, load.deadlines);
+    let now = below(generator, load.moments);
     Ok(match kind {
-        0..=3 => Command::Write(Request::Set(key, value, MOMENT)),
-        4 => Command::Write(Request::Add(key, value, MOMENT)),
-        5 => Command::Write(Request::Replace(key, value, MOMENT)),
-        6 => Command::Write(Request::Cas(key, value, version, MOMENT)),
-        7 => Command::Write(Request::Delete(key, MOMENT)),
-        8..=9 => Command::Get(key, MOMENT),
-        10..=11 => Command::Gets(key, MOMENT),
+        0..=3 => Command::Write(Request::Set(key, value, now)),
+        4 => Command::Write(Request::Add(key, value, now)),
+        5 => Command::Write(Request::Replace(key, value, now)),
+        6 => Command::Write(Request::Cas(key, value, version, now)),
+        7 => Command::Write(Request::Delete(key, now)),
+        8..=9 => Command::Get(key, now),
+        10..=11 => Command::Gets(key, now),
         12..=13 => Command::Evict(segment),
-        14..=15 => Command::Refill(segment, u32::MAX),
-        _ => Command::Write(Request::Set(key, value, MOMENT)),
+        14..=15 => Command::Refill(segment, deadline),
+        _ => Command::Write(Request::Set(key, value, now)),
     })
 }
 
@@ -132,17 +153,40 @@ fn kind_of(answer: &Answer) -> Option<usize>
     }
 }
 
+// Whether a command finds its bucket full, at a moment at which all keys are expired.
+fn is_full_of_expired(load: Load, command: &Command, answer: &Answer) -> bool {
+    match (command, answer) {
+        (Command::Write(request), Answer::Write(WriteAnswer::BucketFull)) => {
+            request.moment() >= load.deadlines
+        }
+        _ => false,
+    }
+}
+
+// What came of a load: which kinds of answer,
+// and how often a bucket was full of expired keys.
+#[derive(Clone, Copy)]
+struct Came {
+    kinds: [bool; KINDS],
+    full: u32,
+}
+
 // Serves so many commands by both, each once the one before is answered.
-// It gives which kinds of answer came.
-fn serve_alike(rt: &impl Abort, alloc: Global, load: Load) -> Result<[bool; KINDS], Fail>
-    requires { 0 < load.draws }
+fn serve_alike(rt: &impl Abort, alloc: Global, load: Load) -> Result<Came, Fail>
+    requires keys { (0 < load.keys) × (load.keys ≤ 60) }
+    requires limits { (0 < load.draws) × (0 < load.moments) × (0 < load.deadlines) }
 {
     let (mut plain, mut solo) = both(alloc, load)?;
-    let mut generator = Lcg64Xsh32::new(u64::from(load.buckets), u64::from(load.rows));
-    let mut came = [false; KINDS];
+    let seed = load.buckets.wrapping_add(load.overflow.wrapping_mul(8));
+    let stream = load.rows ^ load.deadlines;
+    let mut generator = Lcg64Xsh32::new(u64::from(seed), u64::from(stream));
+    let mut came = Came {
+        kinds: [false; KINDS],
+        full: 0,
+    };
     let mut version = FIRST_VERSION;
     for number in 0..COMMANDS {
-        let command = command(&mut generator, load.draws, version)?;
+        let command = command(&mut generator, load, version)?;
         let expected = plain.serve(&command).ok().ok_or("out of memory")?;
         let given = solo.serve(&command).ok().ok_or("out of memory")?;
         assert_eq!(rt; given, expected, "command {number}: {command:?}");
@@ -150,7 +194,10 @@ fn serve_alike(rt: &impl Abort, alloc: Global, load: Load) -> Result<[bool; KIND
             version = found;
         }
         let kind = kind_of(&expected).ok_or("Busy or Held")?;
-        came[kind] = true;
+        came.kinds[kind] = true;
+        if is_full_of_expired(load, &command, &expected) {
+            came.full = came.full.saturating_add(1);
+        }
     }
     Ok(came)
 }
@@ -158,7 +205,7 @@ fn serve_alike(rt: &impl Abort, alloc: Global, load: Load) -> Result<[bool; KIND
 #[test]
 fn one_bucket_that_fills(rt: HostRuntime) -> Result<(), Fail> {
     let came = serve_alike(&rt, rt.alloc(), ONE_BUCKET)?;
-    assert_eq!(rt; came, [true; KINDS]);
+    assert_eq!(rt; came.kinds, [true; KINDS]);
     Ok(())
 }
 
@@ -169,7 +216,7 @@ fn segments_that_run_out_of_rows(rt: HostRuntime) -> Result<(), Fail> {
         ..ONE_BUCKET
     };
     let came = serve_alike(&rt, rt.alloc(), load)?;
-    assert!(rt; came[4]);
+    assert!(rt; came.kinds[4]);
     Ok(())
 }
 
@@ -181,7 +228,7 @@ fn more_buckets_than_keys(rt: HostRuntime) -> Result<(), Fail> {
         ..ONE_BUCKET
     };
     let came = serve_alike(&rt, rt.alloc(), load)?;
-    assert!(rt; !came[5]);
+    assert!(rt; !came.kinds[5]);
     Ok(())
 }
 
@@ -195,7 +242,7 @@ fn a_chain_that_takes_all_overflow_buckets(rt: HostRuntime) -> Result<(), Fail> 
         ..ONE_BUCKET
     };
     let came = serve_alike(&rt, rt.alloc(), load)?;
-    assert_eq!(rt; came, [true; KINDS]);
+    assert_eq!(rt; came.kinds, [true; KINDS]);
     Ok(())
 }
 
@@ -209,7 +256,7 @@ fn a_chain_of_four_buckets(rt: HostRuntime) -> Result<(), Fail> {
         ..ONE_BUCKET
     };
     let came = serve_alike(&rt, rt.alloc(), load)?;
-    assert!(rt; came[5]);
+    assert!(rt; came.kinds[5]);
     Ok(())
 }
 
@@ -221,9 +268,93 @@ fn two_chains_and_one_overflow_bucket(rt: HostRuntime) -> Result<(), Fail> {
         overflow: 1,
         rows: 40,
         draws: 128,
+        ..ONE_BUCKET
     };
     let came = serve_alike(&rt, rt.alloc(), load)?;
-    assert!(rt; came[5]);
+    assert!(rt; came.kinds[5]);
+    Ok(())
+}
+
+// Serves a load whose buckets have to be full of expired keys again and again.
+// It gives which kinds of answer came.
+fn serve_expired(rt: &impl Abort, alloc: Global, load: Load) -> Result<[bool; KINDS], Fail>
+    requires keys { (0 < load.keys) × (load.keys ≤ 60) }
+    requires limits { (0 < load.draws) × (0 < load.moments) × (0 < load.deadlines) }
+{
+    let came = serve_alike(rt, alloc, load)?;
+    assert!(rt;
+        came.full > COMMANDS / 10,
+        "full of expired keys {} times",
+        came.full
+    );
+    Ok(came.kinds)
+}
+
+#[test]
+fn one_bucket_of_expired_keys(rt: HostRuntime) -> Result<(), Fail> {
+    let kinds = serve_expired(&rt, rt.alloc(), FULL_OF_EXPIRED)?;
+    assert_eq!(rt; kinds, [true; KINDS]);
+    Ok(())
+}
+
+#[test]
+fn two_buckets_of_expired_keys(rt: HostRuntime) -> Result<(), Fail> {
+    let load = Load {
+        buckets: 2,
+        keys: 60,
+        ..FULL_OF_EXPIRED
+    };
+    serve_expired(&rt, rt.alloc(), load)?;
+    Ok(())
+}
+
+#[test]
+fn a_chain_of_expired_keys(rt: HostRuntime) -> Result<(), Fail> {
+    let load = Load {
+        overflow: 2,
+        keys: 60,
+        draws: 64,
+        ..FULL_OF_EXPIRED
+    };
+    serve_expired(&rt, rt.alloc(), load)?;
+    Ok(())
+}
+
+// It has words for 25 of the 60 keys.
+#[test]
+fn a_chain_of_four_buckets_of_expired_keys(rt: HostRuntime) -> Result<(), Fail> {
+    let load = Load {
+        overflow: 9,
+        rows: 60,
+        keys: 60,
+        draws: 128,
+        ..FULL_OF_EXPIRED
+    };
+    serve_expired(&rt, rt.alloc(), load)?;
+    Ok(())
+}
+
+#[test]
+fn two_chains_of_expired_keys(rt: HostRuntime) -> Result<(), Fail> {
+    let load = Load {
+        buckets: 2,
+        overflow: 1,
+        keys: 60,
+        draws: 64,
+        ..FULL_OF_EXPIRED
+    };
+    serve_expired(&rt, rt.alloc(), load)?;
+    Ok(())
+}
+
+// The deadlines are 0 and 1: of 32 commands one may find a key.
+#[test]
+fn one_bucket_that_is_always_expired(rt: HostRuntime) -> Result<(), Fail> {
+    let load = Load {
+        deadlines: 2,
+        ..FULL_OF_EXPIRED
+    };
+    serve_expired(&rt, rt.alloc(), load)?;
     Ok(())
 }
 
@@ -245,7 +376,7 @@ fn commands(alloc: Global, number: u32) -> Result<Vec<Command>, Fail> {
     let mut generator = Lcg64Xsh32::new(1, 2);
     let mut commands = Vec::new(alloc);
     for _ in 0..number {
-        commands.push(command(&mut generator, ONE_BUCKET.draws, FIRST_VERSION)?)?;
+        commands.push(command(&mut generator, ONE_BUCKET, FIRST_VERSION)?)?;
     }
     Ok(commands)
 }

@@ -9,6 +9,8 @@ mod closing;
 #[cfg(test)]
 mod eviction_answers;
 #[cfg(test)]
+mod expiring;
+#[cfg(test)]
 mod holding;
 #[cfg(test)]
 mod owner;

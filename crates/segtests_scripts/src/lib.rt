@@ -7,6 +7,8 @@ mod bad_lines;
 #[cfg(test)]
 mod evicting;
 #[cfg(test)]
+mod expiring;
+#[cfg(test)]
 mod growing;
 #[cfg(test)]
 mod holding;

@@ -1,5 +1,6 @@
 //! A segment that is emptied and filled again and again beside passes that hold what is stored
 //! there: a held value stays whole.
+//! Each round's deadline is one past its number, and its moments are its number.
 ghost use Rattle.segindex.specs.Words.{board_of};
 ghost use Rattle.segpass.specs.Words.{IsQuiet};
 
@@ -7,7 +8,7 @@ use crate::digits::{number_of, value_of};
 use crate::work::{Work, three_at_once};
 use segindex::{Index, Pass};
 use segmodel::{EvictAnswer, RefillAnswer, WriteAnswer};
-use segtests_helpers::calls::{MOMENT, evict, refill, set};
+use segtests_helpers::calls::{evict, refill, set};
 use segtests_helpers::holds::{held_value, hold, release};
 use segtests_helpers::passes::{SHAPE, three_passes};
 use segword::{Key, Shape, Value};
@@ -16,9 +17,9 @@ use std::thread::yield_now;
 
 const ROUNDS: u32 = 1_000;
 
-// Whether a value is that of one of the rounds.
-fn is_of_round(value: &Value) -> bool {
-    number_of(value).is_some_and(|round| (1..=ROUNDS).contains(&round))
+// The round of a value that is that of one of the rounds.
+fn round_of(value: &Value) -> Option<u32> {
+    number_of(value).filter(|round| (1..=ROUNDS).contains(round))
 }
 
 // In each round its number is stored under the key, alone in segment 0, and taken out again.
@@ -32,19 +33,20 @@ struct Writer<'a> {
 
 impl Work for Writer<'_> {
     fn turn(&mut self, index: &Index, pass: &mut Pass, _turn: u32) -> bool {
-        if refill(index, pass, 0, u32::MAX) == RefillAnswer::Held {
+        let round = self.round.saturating_add(1);
+        if refill(index, pass, 0, round.saturating_add(1)) == RefillAnswer::Held {
             yield_now();
             return true;
         }
-        self.round = self.round.saturating_add(1);
-        if store_once(index, pass, self.key, self.round) {
+        self.round = round;
+        if store_once(index, pass, self.key, round) {
             self.done = self.done.saturating_add(1);
         }
         self.round < ROUNDS
     }
 }
 
-// One round in segment 0.
+// One round in segment 0, at the moment of its number.
 fn store_once(index: &Index, pass: &mut Pass, key: &Key, round: u32) -> bool
     requires { IsQuiet (board_of index.now) pass.old }
     ensures { IsQuiet (board_of index.now) pass.new }
@@ -52,40 +54,55 @@ fn store_once(index: &Index, pass: &mut Pass, key: &Key, round: u32) -> bool
     let Some(value) = value_of(round) else {
         return false;
     };
-    set(index, pass, key, &value, MOMENT) == WriteAnswer::Stored
+    set(index, pass, key, &value, round) == WriteAnswer::Stored
         && evict(index, pass, 0) == EvictAnswer::Evicted(1)
 }
 
 // Holds the key as often as there are rounds, and counts how often that went well.
+// Its moments are the last round that it held and, each second time, the one after it.
 #[derive(Drop)]
 struct Holder<'a> {
     key: &'a Key,
+    round: u32,
     well: u32,
 }
 
 impl Work for Holder<'_> {
     fn turn(&mut self, index: &Index, pass: &mut Pass, turn: u32) -> bool {
-        if hold_once(index, pass, self.key) {
+        let now = self.round.saturating_add(turn % 2);
+        if let Some(round) = hold_once(index, pass, self.key, now) {
             self.well = self.well.saturating_add(1);
+            self.round = self.round.max(round);
         }
         turn < ROUNDS - 1
     }
 }
 
-// Holds the key, and reads what it holds twice.
-// It tells whether both were the same, and the value of a round.
-// A pass that can't hold must hold nothing.
-fn hold_once(index: &Index, pass: &mut Pass, key: &Key) -> bool
+impl<'a> Holder<'a> {
+    fn new(key: &'a Key) -> Holder<'a> {
+        Holder {
+            key,
+            round: 0,
+            well: 0,
+        }
+    }
+}
+
+// Holds the key at a moment, and reads what it holds twice.
+// It tells the round of the value, if both were the same, of a round not before the moment.
+// A pass that can't hold must hold nothing, and the round is then 0.
+fn hold_once(index: &Index, pass: &mut Pass, key: &Key, now: u32) -> Option<u32>
     requires { IsQuiet (board_of index.now) pass.old }
     ensures { IsQuiet (board_of index.now) pass.new }
 {
-    let Some(hold) = hold(index, pass, key, MOMENT) else {
-        return !pass.is_holding();
+    let Some(hold) = hold(index, pass, key, now) else {
+        return (!pass.is_holding()).then_some(0);
     };
     let first = held_value(index, pass, &hold);
     let second = held_value(index, pass, &hold);
     release(index, pass, hold);
-    first == second && is_of_round(&first)
+    let round = round_of(&first)?;
+    (first == second && now <= round).then_some(round)
 }
 
 #[test]
@@ -106,8 +123,8 @@ fn held_values_outlive_evictions(rt: HostRuntime) -> Result<(), Fail> {
         &rt,
         &index,
         (first, writer),
-        (second, Holder { key: &key, well: 0 }),
-        (third, Holder { key: &key, well: 0 }),
+        (second, Holder::new(&key)),
+        (third, Holder::new(&key)),
     );
     assert_eq!(rt; writer.done, ROUNDS);
     assert_eq!(rt; (holder.well, other.well), (ROUNDS, ROUNDS));

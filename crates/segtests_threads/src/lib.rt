@@ -11,6 +11,8 @@ mod digits;
 #[cfg(test)]
 mod evicting;
 #[cfg(test)]
+mod expiring;
+#[cfg(test)]
 mod growing;
 #[cfg(test)]
 mod locking;

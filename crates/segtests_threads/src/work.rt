@@ -84,3 +84,36 @@ pub fn three_at_once<R: Threads + Sync, A: Work, B: Work, C: Work>(
     );
     (first, second, third)
 }
+
+/// Four passes do their works on threads of their own.
+pub fn four_at_once<R: Threads + Sync, A: Work, B: Work, C: Work, D: Work>(
+    rt: &R,
+    index: &Index,
+    first: (Pass, A),
+    second: (Pass, B),
+    third: (Pass, C),
+    fourth: (Pass, D),
+) -> ((Pass, A), (Pass, B), (Pass, C), (Pass, D))
+    requires { IsQuiet (board_of index.now) first.0 × IsQuiet (board_of index.now) second.0
+        × IsQuiet (board_of index.now) third.0 × IsQuiet (board_of index.now) fourth.0 }
+    ensures { IsQuiet (board_of index.now) result.0.0 × IsQuiet (board_of index.now) result.1.0
+        × IsQuiet (board_of index.now) result.2.0 × IsQuiet (board_of index.now) result.3.0 }
+{
+    let (first, task) = first;
+    let (first, (second, third, fourth)) = join(
+        rt,
+        || -> (Pass, A)
+            requires { IsQuiet (board_of index.now) first }
+            ensures { IsQuiet (board_of index.entry.now) result.0 }
+        { take_turns(index, first, task) },
+        || -> ((Pass, B), (Pass, C), (Pass, D))
+            requires { IsQuiet (board_of index.now) second.0
+                × IsQuiet (board_of index.now) third.0
+                × IsQuiet (board_of index.now) fourth.0 }
+            ensures { IsQuiet (board_of index.entry.now) result.0.0
+                × IsQuiet (board_of index.entry.now) result.1.0
+                × IsQuiet (board_of index.entry.now) result.2.0 }
+        { three_at_once(rt, index, second, third, fourth) },
+    );
+    (first, second, third, fourth)
+}
