@@ -1,5 +1,6 @@
-//! Times the index: nanoseconds for a set, for a get and for a command of a mixed load,
-//! on so many threads over so many keys.
+//! Times the index: nanoseconds for a set, a replace, a get and a command of a mixed load,
+//! on so many threads over so many keys. With the word `expiry` it tells for several deadlines
+//! how many gets hit.
 #![tactic(auto)]
 
 mod work;
@@ -19,6 +20,18 @@ const SEGMENTS: u32 = 256;
 
 /// Overflow buckets for those that have more keys than words.
 const OVERFLOW: u32 = 4096;
+
+/// What is timed, in this order.
+const USUAL: [Kind; 4] = [Kind::Sets, Kind::Replaces, Kind::Gets, Kind::Mixed];
+
+/// And what is timed where keys expire.
+const EXPIRY: [Kind; 5] = [
+    Kind::Expiring(1_000),
+    Kind::Expiring(4_000),
+    Kind::Expiring(16_000),
+    Kind::Expiring(64_000),
+    Kind::Expiring(u32::MAX),
+];
 
 // Up to 65,536 buckets, with two keys for each where there are fewer.
 fn shape_of(keys: u32) -> Shape {
@@ -56,11 +69,16 @@ fn median(times: &mut [u128; ROUNDS]) -> u128 {
 
 fn main(rt: HostRuntime) -> io::Result<()> {
     let mut numbers = Vec::new(rt.alloc());
+    let mut kinds = USUAL.as_slice();
     for word in env::args(&rt)?.skip(1) {
-        numbers.push(word.parse::<u32>().unwrap_or(0))?;
+        if word.as_str() == "expiry" {
+            kinds = EXPIRY.as_slice();
+        } else {
+            numbers.push(word.parse::<u32>().unwrap_or(0))?;
+        }
     }
     let &[threads, keys, times] = numbers.as_slice() else {
-        println!(rt; "segtime THREADS KEYS TIMES")?;
+        println!(rt; "segtime THREADS KEYS TIMES [expiry]")?;
         return Ok(());
     };
     let Ok((index, mut passes)) = Index::new(rt.alloc(), shape_of(keys)) else {
@@ -84,7 +102,11 @@ fn main(rt: HostRuntime) -> io::Result<()> {
         Worker::new(d),
     );
     fill(&index, &mut four.0, &keys, &value);
-    for kind in [Kind::Sets, Kind::Gets, Kind::Mixed] {
+    for kind in kinds.iter().copied() {
+        four.0.prepare(&index, kind);
+        four.1.prepare(&index, kind);
+        four.2.prepare(&index, kind);
+        four.3.prepare(&index, kind);
         let before = busy_of(&four);
         let mut nanoseconds = [0u128; ROUNDS];
         for round in 0..ROUNDS {
@@ -102,7 +124,13 @@ fn main(rt: HostRuntime) -> io::Result<()> {
         }
         let each = median(&mut nanoseconds) / u128::from(times.max(1));
         let busy = busy_of(&four).saturating_sub(before);
-        println!(rt; "{kind:?}: {each} ns, {busy} busy")?;
+        match kind {
+            Kind::Expiring(_) => {
+                let hits = hits_in_thousand(&four);
+                println!(rt; "{kind:?}: {each} ns, {busy} busy, {hits} of 1000 gets hit")?;
+            }
+            _ => println!(rt; "{kind:?}: {each} ns, {busy} busy")?,
+        }
     }
     Ok(())
 }
@@ -114,4 +142,17 @@ fn busy_of(four: &Four) -> u32 {
         .saturating_add(four.1.busy)
         .saturating_add(four.2.busy)
         .saturating_add(four.3.busy)
+}
+
+// How many of a thousand gets of the last round were answered Found.
+fn hits_in_thousand(four: &Four) -> u64 {
+    let mut hits = 0u64;
+    let mut gets = 0u64;
+    for worker in [&four.0, &four.1, &four.2, &four.3] {
+        hits = hits.saturating_add(u64::from(worker.hits));
+        gets = gets
+            .saturating_add(u64::from(worker.hits))
+            .saturating_add(u64::from(worker.misses));
+    }
+    hits.saturating_mul(1000) / gets.max(1)
 }

@@ -1,4 +1,5 @@
-//! What a thread does: sets, gets or a mixed load of keys at random.
+//! What a thread does: sets, gets or a mixed load of keys at random,
+//! or gets of keys that expire. The moment of a command is its number among those of its worker.
 ghost use Rattle.std.specs.Prelude.{◌≡◌, All, IfSome};
 ghost use Rattle.std.specs.Thread.{IsSync};
 ghost use Rattle.segindex.specs.Words.{board_of};
@@ -12,17 +13,18 @@ use segmodel::{
 use segword::{Key, Value};
 use std::thread::{Threads, join};
 
-// The moment of each command.
-const MOMENT: u32 = 0;
-
 /// What is asked of the keys.
 #[derive(Clone, Copy, Debug, PartialEq, Eq)]
 pub enum Kind {
     Sets,
+    Replaces,
     Gets,
     /// Of eight commands four are gets, and one each a gets, a set, a delete, and an add,
     /// a replace or a cas.
     Mixed,
+    /// Gets, and where one is a Miss a set of its key.
+    /// A refilling sets the deadline of its segment so many commands ahead.
+    Expiring(u32),
 }
 
 /// What is asked, and how often.
@@ -42,6 +44,14 @@ pub struct Worker {
     version: u32,
     /// How many answers were Busy.
     pub busy: u32,
+    /// How many commands were made: the moment of the next one.
+    now: u32,
+    /// How many commands ahead a refilling sets the deadline of its segment.
+    ahead: u32,
+    /// How many gets of its last task were answered Found.
+    pub hits: u32,
+    /// How many gets of its last task were answered Miss.
+    pub misses: u32,
 }
 
 impl Worker {
@@ -54,6 +64,21 @@ impl Worker {
             state,
             version: 0,
             busy: 0,
+            now: 0,
+            ahead: u32::MAX,
+            hits: 0,
+            misses: 0,
+        }
+    }
+
+    /// Gets ready for a kind of work. If its keys expire, no key is left in a segment of the pass.
+    pub fn prepare(&mut self, index: &Index, kind: Kind)
+        requires { IsQuiet (board_of index.now) self.old.pass }
+        ensures { IsQuiet (board_of index.now) self.new.pass }
+    {
+        if let Kind::Expiring(ahead) = kind {
+            self.ahead = ahead;
+            empty(index, &mut self.pass);
         }
     }
 
@@ -68,7 +93,7 @@ impl Worker {
         self.state >> 8
     }
 
-    // What the answer to a command changes: the version that a cas expects, and how many were Busy.
+    // What the answer to a command changes: the version that a cas expects, and what is counted.
     fn note(&mut self, answer: &Answer)
         ensures { self.new.pass ≡ self.old.pass }
     {
@@ -78,36 +103,67 @@ impl Worker {
             | Answer::Gets(GetsAnswer::Busy)
             | Answer::Write(WriteAnswer::Busy)
             | Answer::Delete(DeleteAnswer::Busy) => self.busy = self.busy.saturating_add(1),
+            Answer::Get(GetAnswer::Found(_)) => self.hits = self.hits.saturating_add(1),
+            Answer::Get(GetAnswer::Miss) => self.misses = self.misses.saturating_add(1),
             _ => {}
         }
     }
 
     // Makes a command. It is made once more if the current segment was used up.
-    fn serve(&mut self, index: &Index, command: &Command, draw: u32)
+    fn serve(&mut self, index: &Index, command: &Command, draw: u32) -> Answer
         requires { IsQuiet (board_of index.now) self.old.pass }
         ensures { IsQuiet (board_of index.now) self.new.pass }
     {
         let mut answer = index.serve(&mut self.pass, command, draw);
         if answer == Answer::Write(WriteAnswer::NoRoom) {
-            refill(index, &mut self.pass);
+            refill(index, &mut self.pass, self.now.saturating_add(self.ahead));
             answer = index.serve(&mut self.pass, command, draw);
         }
+        self.now = self.now.saturating_add(1);
         self.note(&answer);
+        answer
+    }
+
+    // Sets a key that was missed, into a segment whose deadline is ahead.
+    fn set_missed(&mut self, index: &Index, key: &Key, value: &Value)
+        requires { IsQuiet (board_of index.now) self.old.pass }
+        ensures { IsQuiet (board_of index.now) self.new.pass }
+    {
+        if let Some(segment) = self.pass.current() {
+            if self.pass.deadline(segment) <= Some(self.now) {
+                refill(index, &mut self.pass, self.now.saturating_add(self.ahead));
+            }
+        }
+        let command = Command::Write(Request::Set(key.copy(), value.copy(), self.now));
+        self.serve(index, &command, 0);
+    }
+
+    // Makes the command that a draw asks, of this key.
+    fn work_once(&mut self, index: &Index, kind: Kind, key: &Key, value: &Value, draw: u32)
+        requires { IsQuiet (board_of index.now) self.old.pass }
+        ensures { IsQuiet (board_of index.now) self.new.pass }
+    {
+        let command = command_of(kind, draw, key.copy(), value, self.version, self.now);
+        let answer = self.serve(index, &command, draw);
+        if let (Kind::Expiring(_), Answer::Get(GetAnswer::Miss)) = (kind, answer) {
+            self.set_missed(index, key, value);
+        }
     }
 }
 
-// The command that a draw asks. A cas expects the version.
-fn command_of(kind: Kind, draw: u32, key: Key, value: &Value, version: u32) -> Command {
+// The command of a moment that a draw asks. A cas expects the version.
+fn command_of(kind: Kind, draw: u32, key: Key, value: &Value, version: u32, now: u32) -> Command {
     match (kind, draw % 8) {
-        (Kind::Gets, _) | (Kind::Mixed, 0..=3) => Command::Get(key, MOMENT),
-        (Kind::Mixed, 4) => Command::Gets(key, MOMENT),
+        (Kind::Gets | Kind::Expiring(_), _) | (Kind::Mixed, 0..=3) => Command::Get(key, now),
+        (Kind::Replaces, _) => Command::Write(Request::Replace(key, value.copy(), now)),
+        (Kind::Mixed, 4) => Command::Gets(key, now),
         (Kind::Mixed, 6) => Command::Write(match draw / 8 % 3 {
-            0 => Request::Add(key, value.copy(), MOMENT),
-            1 => Request::Replace(key, value.copy(), MOMENT),
-            _ => Request::Cas(key, value.copy(), version, MOMENT),
+            0 => Request::Add(key, value.copy(), now),
+            1 => Request::Replace(key, value.copy(), now),
+            _ => Request::Cas(key, value.copy(), version, now),
         }),
-        (Kind::Mixed, 7) => Command::Write(Request::Delete(key, MOMENT)),
-        _ => Command::Write(Request::Set(key, value.copy(), MOMENT)),
+        (Kind::Mixed, 7) => Command::Write(Request::Delete(key, now)),
+        _ => Command::Write(Request::Set(key, value.copy(), now)),
     }
 }
 
@@ -120,8 +176,20 @@ pub fn pop(index: &Index, passes: &mut Vec<Pass>) -> Option<Pass>
     passes.pop()
 }
 
-// Makes the next segment of the pass, in cyclic order, the one that it stores into.
-fn refill(index: &Index, pass: &mut Pass)
+// Takes all keys out of the segments of the pass.
+fn empty(index: &Index, pass: &mut Pass)
+    requires { IsQuiet (board_of index.now) pass.old }
+    ensures { IsQuiet (board_of index.now) pass.new }
+{
+    let first = pass.number().saturating_mul(crate::SEGMENTS);
+    for number in 0..crate::SEGMENTS {
+        let _gone: EvictAnswer = index.evict(pass, first.saturating_add(number));
+    }
+}
+
+// Makes the next segment of the pass, in cyclic order, the one that it stores into,
+// up to a deadline.
+fn refill(index: &Index, pass: &mut Pass, deadline: u32)
     requires { IsQuiet (board_of index.now) pass.old }
     ensures { IsQuiet (board_of index.now) pass.new }
 {
@@ -135,7 +203,7 @@ fn refill(index: &Index, pass: &mut Pass)
     if pass.state(next) == Some(SegState::InUse) {
         let _gone: EvictAnswer = index.evict(pass, next);
     }
-    let _answer: RefillAnswer = index.refill(pass, next, u32::MAX);
+    let _answer: RefillAnswer = index.refill(pass, next, deadline);
 }
 
 /// Sets each key once.
@@ -144,8 +212,7 @@ pub fn fill(index: &Index, worker: &mut Worker, keys: &Vec<Key>, value: &Value)
     ensures { IsQuiet (board_of index.now) worker.new.pass }
 {
     for key in keys.iter() {
-        let command = Command::Write(Request::Set(key.copy(), value.copy(), MOMENT));
-        worker.serve(index, &command, 0);
+        worker.set_missed(index, key, value);
     }
 }
 
@@ -153,14 +220,15 @@ fn work(index: &Index, mut worker: Worker, keys: &Vec<Key>, value: &Value, task:
     requires { IsQuiet (board_of index.now) worker.pass }
     ensures { IsQuiet (board_of index.now) result.pass }
 {
+    worker.hits = 0;
+    worker.misses = 0;
     for _ in 0..task.times {
         let place = worker.draw();
         let draw = worker.draw();
         let Some(key) = keys.get(place as usize % keys.len().max(1)) else {
             break;
         };
-        let command = command_of(task.kind, draw, key.copy(), value, worker.version);
-        worker.serve(index, &command, draw);
+        worker.work_once(index, task.kind, key, value, draw);
     }
     worker
 }
