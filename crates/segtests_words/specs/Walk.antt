@@ -2,7 +2,7 @@
 use Rattle.std.specs.Prelude.{◌≡◌, ℕ, true, false, List, [], ◌∷◌}
 use Rattle.segword.specs.Words.{Shape}
 use Rattle.segmodel.specs.Words.{Request}
-use Rattle.segmodel.specs.declared.request.Request.TheVariants.{Set, Replace}
+use Rattle.segmodel.specs.declared.request.Request.TheVariants.{Set}
 use Rattle.segcore.specs.Words.{Event}
 use Rattle.segcore.specs.declared.event.Event.TheVariants.{Took, Freed, Filled, Linked, Unlinked, Drew, Put, Chained, Bumped, Entered, Left, Refilled}
 use Rattle.segcore.specs.declared.event.Leaving.TheVariants.{Evicts}
@@ -21,8 +21,9 @@ value = 120 ∷ 121 ∷ 122 ∷ []
 abbrev pub set : Request
 set = Set key value 0
 
+-- the key is set again, over its word; a segment that was never refilled has the deadline 0, so for a replace the key would be absent
 abbrev pub replace : Request
-replace = Replace key value 0
+replace = Set key value 1
 
 -- the bit is taken
 abbrev pub took : List Event → List Event
