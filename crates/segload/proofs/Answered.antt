@@ -28,7 +28,7 @@ use Rattle.segbase.proofs.Alone.{bounced_alone, glanced_alone}
 use Rattle.segstore.specs.Words.{has_room, is_below}
 use Rattle.segpass.specs.Words.{ChangesNothing, GoesOn, is_held_in, IsBusy, IsQuiet, memo}
 use Rattle.segwrite.specs.Words.{Deletes, HasNoWord, WasFull, Writes}
-use Rattle.segread.specs.Words.{IsDisturbed, IsGetAnswer, IsGetsAnswer, ReadsBetween, StandsLocked}
+use Rattle.segread.specs.Words.{IsDisturbed, IsGetAnswer, IsGetsAnswer, ReadsBetween, PresentLocked}
 use Rattle.segindex.specs.Words.{AnswersCommand, IsBeingRead, IsRefillAnswer, Refills}
 use Rattle.segevict.specs.Words.{IsEvictAnswer}
 use Rattle.segevict.proofs.Evictions.{emptied_state}
@@ -55,7 +55,7 @@ never_busy b p q bucket quiet on unlocked busy = λ one. none-some bucket (sym u
 never_stirred : (b : Board) (key : List ℕ) (p q : Pass) → IsQuiet b p → GoesOn b p q → mine q ≡ mine p → 64 ≤ stirred b.shape key (seen p) (seen q) → b.shape.passes ≢ 1
 never_stirred b key p q quiet on same many = λ one. let none = none_stirred b p q key quiet on.quiet one same in absurd (omega (arith, many, none))
 
-never_disturbed : (b : Board) (key : List ℕ) (p q : Pass) → IsQuiet b p → HoldsNothing p → GoesOn b p q → mine q ≡ mine p → IsDisturbed b.shape key load_moment p q ⊎ StandsLocked b.shape key load_moment p q → b.shape.passes ≢ 1
+never_disturbed : (b : Board) (key : List ℕ) (p q : Pass) → IsQuiet b p → HoldsNothing p → GoesOn b p q → mine q ≡ mine p → IsDisturbed b.shape key load_moment p q ⊎ PresentLocked b.shape key load_moment p q → b.shape.passes ≢ 1
 never_disturbed b key p q quiet free on same busy = λ one. ⊎_elim
     (λ many.
     let none = none_stirred b p q key quiet on.quiet one same in

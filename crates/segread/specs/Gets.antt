@@ -29,23 +29,23 @@ ReadsVersionBetween shape key now old new read = (history : List Entry) × IsBet
 abbrev pub disturbed : Shape → List ℕ → Pass → Pass → ℕ
 disturbed shape key p q = stirred shape key (seen p) (seen q) + (glanced q (bucket_of shape key) - glanced p (bucket_of shape key))
 
--- the key stood at some moment from the one pass to the other
-abbrev pub StoodBetween : Shape → List ℕ → ℕ → Pass → Pass → Type 0
-StoodBetween shape key now p q = (value : List ℕ) × ReadsBetween shape key now (seen p) (seen q) (Some value)
+-- the key was present at some moment from the one pass to the other
+abbrev pub PresentBetween : Shape → List ℕ → ℕ → Pass → Pass → Type 0
+PresentBetween shape key now p q = (value : List ℕ) × ReadsBetween shape key now (seen p) (seen q) (Some value)
 
--- 64 entries of the key's bucket came in; or, where the key stood, as many with the looks that found the bit set
+-- 64 entries of the key's bucket came in; or, where the key was present, as many with the looks that found the bit set
 abbrev pub IsDisturbed : Shape → List ℕ → ℕ → Pass → Pass → Type 0
-IsDisturbed shape key now p q = (64 ≤ stirred shape key (seen p) (seen q)) ⊎ ((64 ≤ disturbed shape key p q) × StoodBetween shape key now p q)
+IsDisturbed shape key now p q = (64 ≤ stirred shape key (seen p) (seen q)) ⊎ ((64 ≤ disturbed shape key p q) × PresentBetween shape key now p q)
 
--- the key stands, and its bucket is locked by the pass itself
-abbrev pub StandsLocked : Shape → List ℕ → ℕ → Pass → Pass → Type 0
-StandsLocked shape key now p q = (locked_of p ≡ Some (bucket_of shape key)) × StoodBetween shape key now p q
+-- the key was present, and its bucket is locked by the pass itself
+abbrev pub PresentLocked : Shape → List ℕ → ℕ → Pass → Pass → Type 0
+PresentLocked shape key now p q = (locked_of p ≡ Some (bucket_of shape key)) × PresentBetween shape key now p q
 
--- a gets answers as a cache of one thread does at some moment of the call; it is Busy only where the pass was disturbed 64 times, or has the bucket of a key that stands locked by itself
+-- a gets answers as a cache of one thread does at some moment of the call; it is Busy only where the pass was disturbed 64 times, or has the bucket of a key that was present locked by itself
 abbrev pub IsGetsAnswer : Shape → List ℕ → ℕ → GetsAnswer → Pass → Pass → Type 0
 IsGetsAnswer shape key now (gets.Found value version) p q = ReadsVersionBetween shape key now (seen p) (seen q) (Some (value, version))
 IsGetsAnswer shape key now gets.Miss p q = ReadsBetween shape key now (seen p) (seen q) None
-IsGetsAnswer shape key now gets.Busy p q = IsDisturbed shape key now p q ⊎ StandsLocked shape key now p q
+IsGetsAnswer shape key now gets.Busy p q = IsDisturbed shape key now p q ⊎ PresentLocked shape key now p q
 
 -- A gets of a key is answered so. It changes nothing, takes no bit, draws no overflow bucket, and only a hit raises a frequency. It finds nothing in a bucket that the pass itself has locked.
 pub record ReadsVersion (b : Board) (key : List ℕ) (draw now : ℕ) (told : GetsAnswer) (p q : Pass) : Type 0 where
@@ -70,7 +70,7 @@ abbrev pub Disturbs : Shape → List ℕ → ℕ → ℕ → ℕ → Pass → Pa
 Disturbs shape key now some more p q =
     let bucket = bucket_of shape key in
     Begins (seen p) (seen q) × (entries_of shape bucket (seen p) + glanced p bucket + more ≤ entries_of shape bucket (seen q) + glanced q bucket + some)
-    × (CountsTries shape key some more (trace p) (trace q) ⊎ StoodBetween shape key now p q)
+    × (CountsTries shape key some more (trace p) (trace q) ⊎ PresentBetween shape key now p q)
 
 -- The key read nothing at a moment: a search that had it still ahead came to the chain's end, or its deadline had come.
 pub record IsMissed (shape : Shape) (key : List ℕ) (now from tries : ℕ) (p q : Pass) : Type 0 where
@@ -90,7 +90,7 @@ pub record IsSeen (b : Board) (key : List ℕ) (now from tries : ℕ) (hit : Hit
   pub onward : words_below from + tries ≤ words_below (position b.shape (trace q) hit.place) + hit.tries
   pub brings : AdvancesSearch b.shape key from (position b.shape (trace q) hit.place) (trace p) (trace q)
   pub counted : CountsTries b.shape key tries hit.tries (trace p) (trace q)
-  pub stood : StoodBetween b.shape key now p q
+  pub stood : PresentBetween b.shape key now p q
   pub stands : word ≡ word_of_place b.shape (trace q) hit.place
   -- the bit was set
   pub glanced : info.held ≡ true → glanced p (bucket_of b.shape key) + 1 ≤ glanced q (bucket_of b.shape key)

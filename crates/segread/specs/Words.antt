@@ -1,6 +1,6 @@
 -- The words of this crate that others use, from one place.
 pub use Rattle.segread.specs.Gets.{disturbed, IsDisturbed, IsGetsAnswer, ReadsVersion}
-pub use Rattle.segread.specs.Gets.{ReadsVersionBetween, StandsLocked}
+pub use Rattle.segread.specs.Gets.{ReadsVersionBetween, PresentLocked}
 pub use Rattle.segread.specs.Holds.{HoldsItem, IsHoldAnswer, IsHoldOf, ReadsHeld, Releases}
 pub use Rattle.segread.specs.Holds.{ReleasesHold, SetsHold}
 pub use Rattle.segread.specs.Props.{IsHoldOf-prop}

@@ -13,7 +13,7 @@ use segpolicy::next_frequency;
 use segstore::{leave_segment, value_of_row};
 use segword::{Item, Key};
 
-/// The value under a key at a moment: past the deadline of its segment the answer is Miss.
+/// The value under a key at a moment: from the deadline of its segment on the answer is Miss.
 /// A hit raises the frequency of the key's item where the draw, a number at random, says so.
 pub fn get(board: &Board, pass: &mut Pass, key: &Key, draw: u32, now: u32) -> GetAnswer
     requires pass { IsQuiet board.now pass.old }

@@ -12,12 +12,12 @@ use Rattle.segbase.specs.Words.{seen, trace}
 use Rattle.segbase.proofs.Moves.{moved_on}
 use Rattle.segwrite.specs.Words.{Target}
 use Rattle.segwrite.specs.FirstEmpty.{IsFirstEmpty, TookFirstEmpty}
-use Rattle.segwrite.specs.Writing.{IsAbsent, IsTarget}
+use Rattle.segwrite.specs.Writing.{IsNewKey, IsTarget}
 use Rattle.segwrite.proofs.Acting.{as_seen, keys_as_seen}
 use Rattle.segwrite.proofs.Linking.{linked_by}
 
 -- the word that a search found for an absent key is the first empty one
-first_of : (b : Board) (key : List ℕ) (target : Target) (p : Pass) → IsPassOf b p → IsTarget b key target p → IsAbsent b key p → IsFirstEmpty (bucket_after b.shape (trace p) (bucket_of b.shape key)) (position b.shape (trace p) target.place)
+first_of : (b : Board) (key : List ℕ) (target : Target) (p : Pass) → IsPassOf b p → IsTarget b key target p → IsNewKey b key p → IsFirstEmpty (bucket_after b.shape (trace p) (bucket_of b.shape key)) (position b.shape (trace p) target.place)
 first_of b key target p is found absent = ⊎_elim
     (λ free. record { here = found.chain.at.0; empty = free.1; before = free.3 })
     (λ has.

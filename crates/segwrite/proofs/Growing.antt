@@ -17,7 +17,7 @@ use Rattle.segbase.specs.Words.{number, Pass, Place, position, trace}
 use Rattle.segpass.specs.Words.{HasCleanBit, memo}
 use Rattle.segwrite.specs.Full.{HasNoWord, CanGrow, DrewInNeed}
 use Rattle.segwrite.specs.FirstEmpty.{AreTakenBefore}
-use Rattle.segwrite.specs.Writing.{IsInChain, IsAbsent}
+use Rattle.segwrite.specs.Writing.{IsInChain, IsNewKey}
 use Rattle.segwrite.specs.Growing.{bucket_seen, IsLast, HasSpare, Prepares, joins, Joins, Lengthens}
 use Rattle.segwrite.proofs.Acting.{as_seen, keys_as_seen, acted, prepares, prepares_then}
 use Rattle.segwrite.proofs.Joining.{last_later, home_is}
@@ -67,7 +67,7 @@ module _ (b : Board) (bucket overflow : ℕ) (place : Place) (word : ℕ) (p r :
   lawful_drawn : IsLawful z (draws ∷ then)
   lawful_drawn = subst (IsLawful z) drew.now drew.moved.pass.lawful
 
-  can_grow : (key : List ℕ) → bucket_of z key ≡ bucket → IsAbsent b key p → CanGrow z (mark.marked then) key
+  can_grow : (key : List ℕ) → bucket_of z key ≡ bucket → IsNewKey b key p → CanGrow z (mark.marked then) key
   can_grow key of absent =
       let seen_so = as_seen b draws p r bucket drew clean.bit in
       let all_then : HasNoEmptyWord (bucket_after z then bucket) = subst HasNoEmptyWord (sym seen_so) all in
@@ -90,7 +90,7 @@ module _ (b : Board) (bucket overflow : ℕ) (place : Place) (word : ℕ) (p r :
     lawful_now : IsLawful z (trace q)
     lawful_now = joined.1.moved.pass.lawful
 
-    in_need : (key : List ℕ) → bucket_of z key ≡ bucket → IsAbsent b key p → DrewInNeed z key (number p) (trace p) (trace q)
+    in_need : (key : List ℕ) → bucket_of z key ≡ bucket → IsNewKey b key p → DrewInNeed z key (number p) (trace p) (trace q)
     in_need key of absent =
         let on = joined.1.moved in let deep = depth_to_draw b bucket p in record {
           at = then;

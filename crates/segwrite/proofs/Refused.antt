@@ -23,7 +23,7 @@ use Rattle.segwrite.specs.declared.write.When.TheVariants as when
 use Rattle.segpass.specs.Words.{DrawsNothing, GoesOn, HasCleanBit, IsQuiet}
 use Rattle.segpass.specs.Words.{TakesOneBit}
 use Rattle.segwrite.specs.Writes.{AddsReply, IsWriteAnswer}
-use Rattle.segwrite.specs.Writing.{IsTarget, IsAbsent, own_word, Finds}
+use Rattle.segwrite.specs.Writing.{IsTarget, IsNewKey, own_word, Finds}
 use Rattle.segwrite.specs.Refusing.{request_of, IsToldBy, reply_now, RefusesUnderBit}
 use Rattle.segwrite.proofs.Ending.{IsEntry, plain_back, memo_back, entered_on, entered, entered_undrawn, entered_peeking, entered_taking}
 use Rattle.segpass.proofs.Peeking.{PeeksInto}
@@ -50,7 +50,7 @@ own_target b key (Some found) target p finds is = ⊎_elim
     (cases_Bool (eqb found.word 0))
 
 -- where there is none, the key is absent
-pub own_none : (b : Board) (key : List ℕ) (found : Option Target) (p : Pass) → Finds b key found p → own_word found ≡ None → IsAbsent b key p
+pub own_none : (b : Board) (key : List ℕ) (found : Option Target) (p : Pass) → Finds b key found p → own_word found ≡ None → IsNewKey b key p
 own_none b key None p none is = none.absent
 own_none b key (Some found) p finds is = ⊎_elim
     (λ free. free.2)

@@ -14,7 +14,7 @@ use Rattle.segwrite.specs.declared.find.Found.TheVariants.{Word, Full}
 use Rattle.segpass.specs.Words.{HasCleanBit, memo}
 use Rattle.segwrite.specs.Full.{DrewInNeed}
 use Rattle.segwrite.specs.FirstEmpty.{AreTakenBefore}
-use Rattle.segwrite.specs.Writing.{IsInChain, IsEarlier, IsAbsent, IsTarget, HasFullChain}
+use Rattle.segwrite.specs.Writing.{IsInChain, IsEarlier, IsNewKey, IsTarget, HasFullChain}
 
 -- ---- the end of a chain
 
@@ -36,7 +36,7 @@ pub record IsChainEnd (b : Board) (bucket : ℕ) (end : ChainEnd) (p : Pass) : T
   pub last : IsLast b bucket end.place end.word p
   pub buckets : end.buckets ≡ (bucket_seen b bucket p).chained + 1
 
--- what a search comes to: a word for the key; or the end of the chain, where the key is absent and no word is empty
+-- what a search comes to: a word for the key; or the end of the chain, where the key doesn't stand and no word is empty
 abbrev pub Searches : Board → List ℕ → Found → Pass → Type 0
 Searches b key (Word target) p = IsTarget b key target p
 Searches b key (Full end) p = HasFullChain b key p × IsChainEnd b (bucket_of b.shape key) end p
@@ -106,7 +106,7 @@ CannotGrow b bucket p = ((bucket_seen b bucket p).chained ≡ 3) ⊎ (drawn_in (
 abbrev pub lengthens : ℕ → ℕ → ℕ → ℕ → List ℕ → List Event
 lengthens pass bucket depth overflow words = joins pass bucket overflow words ++ Drew pass bucket depth overflow ∷ []
 
--- an overflow bucket was drawn and joined the chain: its word 2 is free for a key that is absent, which had no word before
+-- an overflow bucket was drawn and joined the chain: its word 2 is free for a key that doesn't stand, which had no word before
 pub record Lengthens (b : Board) (bucket : ℕ) (target : Target) (p q : Pass) : Type 0 where
   pub depth : ℕ
   pub overflow : ℕ
@@ -114,8 +114,8 @@ pub record Lengthens (b : Board) (bucket : ℕ) (target : Target) (p q : Pass) :
   pub prepares : Prepares b (lengthens (number p) bucket depth overflow words) bucket p q
   pub clean : HasCleanBit b q bucket
   pub second : target.place ≡ record { bucket = b.shape.buckets + overflow; word = 2 }
-  pub free : (key : List ℕ) → bucket_of b.shape key ≡ bucket → IsAbsent b key p → IsTarget b key target q
-  pub could : (key : List ℕ) → bucket_of b.shape key ≡ bucket → IsAbsent b key p → DrewInNeed b.shape key (number p) (trace p) (trace q)
+  pub free : (key : List ℕ) → bucket_of b.shape key ≡ bucket → IsNewKey b key p → IsTarget b key target q
+  pub could : (key : List ℕ) → bucket_of b.shape key ≡ bucket → IsNewKey b key p → DrewInNeed b.shape key (number p) (trace p) (trace q)
 
 abbrev pub Grows : Board → ℕ → Option Target → Pass → Pass → Type 0
 Grows b bucket None p q = Idles b p q × CannotGrow b bucket q

@@ -18,17 +18,17 @@ abbrev pub IsEarlier : Board → Place → ℕ → Pass → Type 0
 IsEarlier b place old p = IsSameItem old (word b.shape (trace p) (cell_at b.shape place)) × (old ≤ word b.shape (trace p) (cell_at b.shape place))
 
 -- the key doesn't stand
-abbrev pub IsAbsent : Board → List ℕ → Pass → Type 0
-IsAbsent b key p = standing (after b.shape (seen p)) key ≡ None
+abbrev pub IsNewKey : Board → List ℕ → Pass → Type 0
+IsNewKey b key p = standing (after b.shape (seen p)) key ≡ None
 
 -- the words of a key's chain before this place are taken
 abbrev pub IsFirst : Board → List ℕ → Place → Pass → Type 0
 IsFirst b key place p = AreTakenBefore (bucket_after b.shape (trace p) (bucket_of b.shape key)) (position b.shape (trace p) place)
 
--- the first empty word, of a key that is absent; or the word of the key's item
+-- the first empty word, of a key that doesn't stand; or the word of the key's item
 abbrev pub IsEmptyOrKeys : Board → List ℕ → Target → Pass → Type 0
 IsEmptyOrKeys b key target p =
-    ((target.word ≡ 0) × IsFree b key target.place p × IsAbsent b key p × IsFirst b key target.place p)
+    ((target.word ≡ 0) × IsFree b key target.place p × IsNewKey b key p × IsFirst b key target.place p)
     ⊎ (HasItemOf b key target.place p × IsEarlier b target.place target.word p)
 
 -- the word that a write of the key changes
@@ -36,9 +36,9 @@ pub record IsTarget (b : Board) (key : List ℕ) (target : Target) (p : Pass) : 
   pub chain : IsInChain b (bucket_of b.shape key) target.place p
   pub is : IsEmptyOrKeys b key target p
 
--- the key is absent, and no word of its chain is empty
+-- the key doesn't stand, and no word of its chain is empty
 pub record HasFullChain (b : Board) (key : List ℕ) (p : Pass) : Type 0 where
-  pub absent : IsAbsent b key p
+  pub absent : IsNewKey b key p
   pub taken : HasNoEmptyWord (bucket_after b.shape (trace p) (bucket_of b.shape key))
 
 abbrev pub Finds : Board → List ℕ → Option Target → Pass → Type 0

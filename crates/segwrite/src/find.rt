@@ -17,7 +17,7 @@ use segstore::{enter_segment, leave_segment};
 use segword::{Chain, Item, KeyWords};
 
 /// A word of a chain, and what stood there: the item of a key,
-/// or 0 where the key is absent and the word is free for it.
+/// or 0 where the key doesn't stand and the word is free for it.
 #[derive(Clone, Copy, Drop)]
 pub struct Target {
     pub place: Place,
@@ -90,7 +90,7 @@ pub(crate) fn own_word(found: Option<Target>) -> Option<Target>
     }
 }
 
-// The key's word; or the first empty one, where the key is absent; or neither.
+// The key's word; or the first empty one, where the key doesn't stand; or neither.
 pub(crate) fn find(
     board: &Board,
     pass: &mut Pass,
