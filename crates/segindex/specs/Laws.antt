@@ -7,7 +7,7 @@ use Rattle.segmodel.specs.Words.{after, Begins, DeleteAnswer, Entry, IsLegal, ke
 use Rattle.segmodel.specs.Words.{owner, Reply, reply_of_delete, reply_of_write, Request, SegState}
 use Rattle.segmodel.specs.Words.{stirred, WriteAnswer}
 use Rattle.segcore.specs.Words.{chained_to, entries, inside, IsSegment, linked_in, width}
-use Rattle.segbase.specs.Words.{Board, bounced, current_of, glanced, Locked, locked, locked_of}
+use Rattle.segbase.specs.Words.{Board, bounced, current_of, deadline_of, glanced, Locked, locked, locked_of}
 use Rattle.segbase.specs.Words.{marked, mine, number, Pass, seen, state_of, trace, used_of}
 use Rattle.segpass.specs.Words.{IsBusy, IsQuiet, NoneSince}
 use Rattle.segwrite.specs.Words.{cas_reply, Deletes, WasTold, Writes}
@@ -43,6 +43,11 @@ UsedAreLinked = OfQuiet (λ b p. (segment used row : ℕ) → used_of p segment 
 -- the segment that it stores into is in use
 abbrev pub CurrentIsInUse : Type 0
 CurrentIsInUse = OfQuiet (λ b p. (segment : ℕ) → current_of p ≡ Some segment → state_of p segment ≡ Some InUse)
+
+-- what it tells of the deadline of a segment of its own is the deadline that the cache has
+abbrev pub DeadlinesAreKnown : Type 0
+DeadlinesAreKnown = OfQuiet (λ b p. (segment deadline : ℕ) → deadline_of p segment ≡ Some deadline
+    → (after b.shape (seen p)).deadline segment ≡ deadline)
 
 -- no key stands in a segment of its own that isn't in use
 abbrev pub UnusedIsEmpty : Type 0

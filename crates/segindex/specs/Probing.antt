@@ -30,7 +30,7 @@ pub record ReadsStored (shape : Shape) (pass : ℕ) (key value : List ℕ) (now 
   pub stored : IsTold shape pass (Set key value now) Stored segment old between history
   pub read : IsReadSince shape key value now told (Wrote pass (Set key value now) Stored segment ∷ history) between new
 
--- The set and the get are of one moment. The set comes first, with this pass after it. If it was refused, the key isn't read and the get's answer is Busy.
+-- The set and the get are handed the same `now`. The set comes first, with this pass after it. If it was refused, the key isn't read and the get's answer is Busy.
 pub record Probes (b : Board) (key value : List ℕ) (draw now : ℕ) (told : WriteAnswer × GetAnswer) (p q : Pass) : Type 0 where
   pub between : Pass
   pub writes : Writes b (Set key value now) told.0 p between

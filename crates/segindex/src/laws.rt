@@ -2,6 +2,7 @@
 //! These functions do nothing: their contracts are the theorems.
 ghost use Rattle.segindex.specs.Laws.{SeenIsLegal, MarksAreBeside, KnowsItsOwn, OwnAreInTable};
 ghost use Rattle.segindex.specs.Laws.{UsedAreLinked, CurrentIsInUse, UnusedIsEmpty, LockedIsStill};
+ghost use Rattle.segindex.specs.Laws.{DeadlinesAreKnown};
 ghost use Rattle.segindex.specs.Laws.{KeysAreFew, ChainsAreShort, AllAreOwn, NoTakeBounced};
 ghost use Rattle.segindex.specs.Laws.{NoLookGlanced, NobodyIsInside, BusyIsLocked, DrawnHaveJoined};
 ghost use Rattle.segindex.specs.Laws.{NothingIsStirred, WritesAtAMoment, DeletesAtAMoment};
@@ -11,6 +12,7 @@ ghost use Rattle.segindex.specs.Laws.{CasFailsWhereWrittenSince, CasCalledLaterF
 /// The pass knows just its own segments,
 /// and of their rows those are used that an item was linked to.
 /// The segment that it stores into is in use, and no key stands in one that isn't.
+/// It knows the deadlines of its segments.
 /// No entry came into the bucket that it has locked.
 /// At most seven keys of a bucket stand,
 /// and six more for each overflow bucket that joined its chain.
@@ -22,6 +24,7 @@ pub fn quiet_pass()
     ensures in_table { OwnAreInTable }
     ensures rows { UsedAreLinked }
     ensures current { CurrentIsInUse }
+    ensures deadlines { DeadlinesAreKnown }
     ensures unused { UnusedIsEmpty }
     ensures locked { LockedIsStill }
     ensures few_keys { KeysAreFew }

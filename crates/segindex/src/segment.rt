@@ -20,7 +20,7 @@ impl Index {
     }
 
     /// Makes a segment of the pass's own, in which no key stands and no item is read or held,
-    /// the one that it stores into.
+    /// the one that it stores into, up to a deadline.
     pub fn refill(&self, pass: &mut Pass, segment: u32, deadline: u32) -> RefillAnswer
         requires pass { IsQuiet (board_of self.now) pass.old }
         ensures refills { RefillsSegment (board_of self.now) segment deadline result

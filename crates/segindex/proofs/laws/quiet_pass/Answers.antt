@@ -13,6 +13,7 @@ returns c = record {
   in_table = λ b p quiet segment is. in_table b p segment quiet.pass ((owned b p segment quiet).0 is);
   rows = λ b p quiet segment used row. rows b p segment used row quiet;
   current = λ b p quiet. quiet.segments.in_use;
+  deadlines = λ b p quiet. quiet.segments.deadlines;
   unused = λ b p quiet. quiet.segments.unused;
   locked = λ b p quiet lock. none_since b p lock quiet;
   few_keys = λ b p quiet bucket. keys_few b.shape bucket (trace p) quiet.pass.lawful;
