@@ -31,10 +31,10 @@ const LONG_SCRIPT: &str = "Runs a script from standard input, and writes the rep
 
 The index is made first, of the shape that the options give. Each line names a pass, a command and
 what it is about. A pass refills a segment before it sets its first key, and gives it a deadline. A
-line that reads or writes a key ends with the moment at which it does so, as @0. No reply depends on
-deadlines and moments yet. The first bad line ends the script. A key has 1 to 24 bytes, and a value
-1 to 32 or is - for the empty one; each byte is printable and no space. SEGMENT, DEADLINE, VERSION
-and MOMENT are numbers from 0 to 4294967295.";
+line that reads or writes a key ends with the moment at which it does so, as @0. A key is absent from
+the deadline of its segment on. The first bad line ends the script. A key has 1 to 24 bytes, and a
+value 1 to 32 or is - for the empty one; each byte is printable and no space. SEGMENT, DEADLINE,
+VERSION and MOMENT are numbers from 0 to 4294967295.";
 
 const AFTER_SCRIPT: &str = "Lines, here of pass 0, and their replies:
   p0 refill SEGMENT DEADLINE        REFILLED, NOT_YOURS, NOT_EVICTED or HELD
