@@ -67,7 +67,10 @@ fn help_tells_a_newcomer_what_to_do(rt: HostRuntime) -> Result<(), Fail> {
         check_shown(&rt, words, &parts)?;
     }
     // The short help has no text about what a line says.
-    let parts = ["SEGMENT, DEADLINE, VERSION\nand MOMENT are numbers from 0 to 4294967295."];
+    let parts = [
+        "A key is absent from\nthe deadline of its segment on.",
+        "SEGMENT, DEADLINE,\nVERSION and MOMENT are numbers from 0 to 4294967295.",
+    ];
     check_shown(&rt, &["script", "--help"], &parts)?;
     for words in [
         ["load", "--help"].as_slice(),
