@@ -10,7 +10,7 @@ use Rattle.segmodel.specs.Words.{SegState, WriteAnswer}
 use Rattle.segmodel.specs.declared.request.Request.TheVariants.{Set, Add, Replace, Cas, Delete}
 use Rattle.segmodel.specs.declared.request.Reply.TheVariants as reply
 use Rattle.segmodel.specs.declared.answer.Command.{Command}
-use Rattle.segmodel.specs.declared.answer.Command.TheVariants.{Write, Get, Gets, Evict, Refill}
+use Rattle.segmodel.specs.declared.answer.Command.TheVariants.{Write, Get, Gets, Keep, Evict, Refill}
 use Rattle.segmodel.specs.declared.answer.Answer.TheVariants as answer
 use Rattle.segmodel.specs.declared.answer.WriteAnswer.TheVariants as write
 use Rattle.segmodel.specs.declared.answer.DeleteAnswer.TheVariants as delete
@@ -119,6 +119,7 @@ command_is_answered shape old (Write (Cas key value expected now)) kept = stored
 command_is_answered shape old (Write (Delete key now)) kept = let a = delete_is_answered shape old key now in (answer.Delete a.0, a.1, (a.0, refl, a.2))
 command_is_answered shape old (Get key now) kept = (_, _, (refl, refl))
 command_is_answered shape old (Gets key now) kept = (_, _, (refl, refl))
+command_is_answered shape old (Keep segment cutoff) kept = (_, _, (refl, refl))
 command_is_answered shape old (Evict segment) kept =
     let a = evict_or_not shape old segment kept (is_own shape segment) (old.filling segment).state in (answer.Evict a.0, a.1, (a.0, refl, a.2))
 command_is_answered shape old (Refill segment deadline) kept = (_, _, (refl, refl))
@@ -201,6 +202,7 @@ same_command shape old new other (Write (Delete key now)) given told still one t
     (two.1 ∙ ap answer.Delete same.0 ∙ sym one.1, same.1)
 same_command shape old new other (Get key now) given told still one two = same_given one two
 same_command shape old new other (Gets key now) given told still one two = same_given one two
+same_command shape old new other (Keep segment cutoff) given told still one two = same_given one two
 same_command shape old new other (Evict segment) given told still one two = absurd (false≢true (sym still))
 same_command shape old new other (Refill segment deadline) given told still one two = same_given one two
 

@@ -7,13 +7,14 @@ use Rattle.std.specs.BTreeMap.{is_at}
 use Rattle.segword.specs.Words.{Shape}
 use Rattle.segmodel.specs.Words.{Cached, Entry}
 use Rattle.segmodel.specs.declared.request.Reply.TheVariants.{Stored, NotStored, Exists, NotFound, Deleted}
-use Rattle.segmodel.specs.declared.entry.Entry.TheVariants.{Wrote, Evicted, Refilled}
+use Rattle.segmodel.specs.declared.entry.Entry.TheVariants.{Wrote, Evicted, Refilled, Moved}
 use Rattle.segmodel.specs.Request.{key_of, value_of}
-use Rattle.segmodel.specs.Cache.{Cache, key_cmp, standing, unless_expired, present, reads, without}
+use Rattle.segmodel.specs.Cache.{Cache, key_cmp, standing, unless_expired, present, reads, without, with_segment}
 use Rattle.segmodel.specs.History.{Follows, next, after, IsLegal, CameBetween}
 use Rattle.segmodel.specs.Laws.{ExpiredReadsNothing, StoresKey, NothingUntilStored}
 use Rattle.segmodel.proofs.Keys.{same_key}
 use Rattle.segmodel.proofs.HistoryLemmas.{standing-put, standing-without, refilled_others}
+use Rattle.segmodel.proofs.Moves.{present-moved}
 use Rattle.segmodel.proofs.ReadChanges.{later}
 
 pub expired_reads_nothing : ExpiredReadsNothing
@@ -69,6 +70,9 @@ still_absent shape cache entry now key = by entry
     by (Wrote pass request NotFound s) follows none = inl none
     by (Evicted pass k s) follows none = inl (gone k none)
     by (Refilled pass s d) follows none = inl (refilled_others shape cache pass s d key follows now ∙ none)
+    by (Moved pass k from to) follows none = inl (present-moved shape cache pass from to now k key follows
+        ∙ elim (is_at (key_cmp k) key) as (λ b. cond b (option_map (with_segment to) (present cache now key)) (present cache now key) ≡ None)
+        [ true ↦ ap (option_map (with_segment to)) none | false ↦ none ])
 
 absent_since : (shape : Shape) (old more : List Entry) (now : ℕ) (key : List ℕ) → IsLegal shape (more ++ old) → present (after shape old) now key ≡ None
     → (present (after shape (more ++ old)) now key ≡ None) ⊎ CameBetween (StoresKey key) old (more ++ old)

@@ -1,20 +1,21 @@
 -- The proofs of the laws about histories.
 use Rattle.std.proofs.Common.{◌≡◌, ℕ, ◌+◌, ◌==◌, ◌%◌, ◌^◌, Bool, true, false, cond, not, List, [], ◌∷◌, ◌++◌, Option, Some, None, is_some, refl, sym, ap, ◌∙◌, subst, arith, eq-eqb, inl, inr, count_by}
-use Rattle.std.specs.Prelude.{find, option_map, option_and_then, unwrap_or}
+use Rattle.std.specs.Prelude.{find, option_map, option_and_then, unwrap_or, nat_lt, IsSomeAnd}
 use Rattle.std.proofs.lemmas.Bool.{ne_eqb, cases_eq}
 use Rattle.std.specs.BTreeMap.{is_at}
 use Rattle.segword.specs.Words.{Shape}
 use Rattle.segmodel.specs.Words.{Cached, Entry}
 use Rattle.segmodel.specs.declared.request.Request.TheVariants.{Cas}
 use Rattle.segmodel.specs.declared.request.Reply.TheVariants.{Stored, NotStored, Exists, NotFound, Deleted}
-use Rattle.segmodel.specs.declared.entry.Entry.TheVariants.{Wrote, Evicted, Refilled}
+use Rattle.segmodel.specs.declared.entry.Entry.TheVariants.{Wrote, Evicted, Refilled, Moved}
 use Rattle.segmodel.specs.Places.{bucket_of}
 use Rattle.segmodel.specs.Request.{key_of, value_of, reply_to}
-use Rattle.segmodel.specs.Cache.{Cache, key_cmp, standing, unless_expired, present}
-use Rattle.segmodel.specs.History.{Follows, next, after, IsLegal, is_of, entries_of, stirred, IsSameAt, writes}
-use Rattle.segmodel.specs.Laws.{is_change_of, left_by, last_left, is_refill_of, deadline_set_by, EarlierIsLegal, StandsAsLeft, ReadsAsLeft, DeadlineAsSet, CasFailsWhereWritten, StirredCountsAdded, UnstirredReadsTheSame}
+use Rattle.segmodel.specs.Cache.{Cache, key_cmp, standing, unless_expired, present, value_under, put, without, with_segment}
+use Rattle.segmodel.specs.History.{StandsIn, Follows, next, after, IsLegal, is_of, entries_of, stirred, IsSameAt, writes}
+use Rattle.segmodel.specs.Laws.{is_change_of, value_left_by, changes_segment, segment_left_by, is_before, is_refill_of, deadline_set_by, EarlierIsLegal, StandsAsLeft, ReadsAsLeft, DeadlineAsSet, CasFailsWhereWritten, StirredCountsAdded, UnstirredReadsTheSame}
 use Rattle.segmodel.proofs.Counts.{count_by-cons}
 use Rattle.segmodel.proofs.Keys.{same_key, at_self}
+use Rattle.segmodel.proofs.Moves.{standing-moved, value-moved}
 use Rattle.segmodel.proofs.HistoryLemmas.{standing-put, standing-without, NoneOf, after_others, IsLegal-older, version-after, kept-deadlines}
 
 pub earlier_legal : EarlierIsLegal
@@ -36,38 +37,92 @@ found-cons Is part entry history =
     elim (Is entry) as (λ b. option_and_then part (cond b (Some entry) (find Is history)) ≡ cond b (part entry) (option_and_then part (find Is history)))
     [ true ↦ refl | false ↦ refl ]
 
--- one more entry, of the key or not
-pub last_left-cons : (key : List ℕ) (entry : Entry) (history : List Entry) → last_left key (entry ∷ history) ≡ cond (is_change_of key entry) (left_by entry) (last_left key history)
-last_left-cons key entry history = found-cons (is_change_of key) left_by entry history
+-- a part of what stands under a key is what the last entry that changes it left
+part_as_left : {U : Type 0} (shape : Shape) (key : List ℕ) (part : Cached → U) (Is : Entry → Bool) (left : Entry → Option U)
+    → ((cache : Cache) (entry : Entry) → Follows shape cache entry → (old : Option U) → option_map part (standing cache key) ≡ old
+    → option_map part (standing (next shape cache entry) key) ≡ cond (Is entry) (left entry) old)
+    → (history : List Entry) → IsLegal shape history → option_map part (standing (after shape history) key) ≡ option_and_then left (find Is history)
+part_as_left shape key part Is left step [] legal = refl
+part_as_left shape key part Is left step (entry ∷ history) legal =
+    step (after shape history) entry legal.1 _ (part_as_left shape key part Is left step history legal.0) ∙ sym (found-cons Is left entry history)
+
+module _ {U : Type 0} (shape : Shape) (key : List ℕ) (part : Cached → U) (cache : Cache) (old : Option U) (rest : option_map part (standing cache key) ≡ old) where
+  part_put : (k value : List ℕ) (s : ℕ) → option_map part (standing (put shape k value s cache) key) ≡ cond (is_at (key_cmp key) k) (Some (part (record { value = value; segment = s }))) old
+  part_put k value s = ap (option_map part) (standing-put shape k value s cache key)
+      ∙ elim (is_at (key_cmp key) k) as (λ b. option_map part (cond b (Some (record { value = value; segment = s })) (standing cache key))
+      ≡ cond b (Some (part (record { value = value; segment = s }))) old) [ true ↦ refl | false ↦ rest ]
+
+  part_gone : (k : List ℕ) → option_map part (standing (without k cache) key) ≡ cond (is_at (key_cmp key) k) None old
+  part_gone k = ap (option_map part) (standing-without k cache key)
+      ∙ ap (λ b. option_map part (cond (not b) (standing cache key) None)) (at_sym key k)
+      ∙ elim (is_at (key_cmp key) k) as (λ b. option_map part (cond (not b) (standing cache key) None) ≡ cond b None old) [ true ↦ refl | false ↦ rest ]
+
+abbrev value_of_item : Cached → List ℕ
+value_of_item item = item.value
+
+abbrev segment_of_item : Cached → ℕ
+segment_of_item item = item.segment
+
+value_step : (shape : Shape) (key : List ℕ) (cache : Cache) (entry : Entry) → Follows shape cache entry → (old : Option (List ℕ))
+    → option_map value_of_item (standing cache key) ≡ old
+    → option_map value_of_item (standing (next shape cache entry) key) ≡ cond (is_change_of key entry) (value_left_by entry) old
+value_step shape key cache (Wrote pass request Stored (Some s)) follows old rest = part_put shape key value_of_item cache old rest (key_of request) (value_of request) s
+value_step shape key cache (Wrote pass request Stored None) follows old rest = absurd follows.1
+value_step shape key cache (Wrote pass request Deleted s) follows old rest = part_gone shape key value_of_item cache old rest (key_of request)
+value_step shape key cache (Wrote pass request NotStored s) follows old rest = rest
+value_step shape key cache (Wrote pass request Exists s) follows old rest = rest
+value_step shape key cache (Wrote pass request NotFound s) follows old rest = rest
+value_step shape key cache (Evicted pass k s) follows old rest = part_gone shape key value_of_item cache old rest k
+value_step shape key cache (Refilled pass s d) follows old rest = rest
+value_step shape key cache (Moved pass k from to) follows old rest = value-moved k to cache key ∙ rest
+
+segment_step : (shape : Shape) (key : List ℕ) (cache : Cache) (entry : Entry) → Follows shape cache entry → (old : Option ℕ)
+    → option_map segment_of_item (standing cache key) ≡ old
+    → option_map segment_of_item (standing (next shape cache entry) key) ≡ cond (changes_segment key entry) (segment_left_by entry) old
+segment_step shape key cache (Wrote pass request Stored (Some s)) follows old rest = part_put shape key segment_of_item cache old rest (key_of request) (value_of request) s
+segment_step shape key cache (Wrote pass request Stored None) follows old rest = absurd follows.1
+segment_step shape key cache (Wrote pass request Deleted s) follows old rest = part_gone shape key segment_of_item cache old rest (key_of request)
+segment_step shape key cache (Wrote pass request NotStored s) follows old rest = rest
+segment_step shape key cache (Wrote pass request Exists s) follows old rest = rest
+segment_step shape key cache (Wrote pass request NotFound s) follows old rest = rest
+segment_step shape key cache (Evicted pass k s) follows old rest = part_gone shape key segment_of_item cache old rest k
+segment_step shape key cache (Refilled pass s d) follows old rest = rest
+segment_step shape key cache (Moved pass k from to) follows old rest =
+    ap (option_map segment_of_item) (standing-moved k to cache key ∙ ap (λ b. cond b (option_map (with_segment to) (standing cache key)) (standing cache key)) (at_sym key k))
+    ∙ by (is_at (key_cmp key) k) refl
+  where
+    there : (o : Option Cached) → IsSomeAnd o (λ item. item.segment ≡ from) → option_map segment_of_item (option_map (with_segment to) o) ≡ Some to
+    there None is = absurd is
+    there (Some x) is = refl
+
+    by : (b : Bool) → is_at (key_cmp key) k ≡ b
+        → option_map segment_of_item (cond b (option_map (with_segment to) (standing cache key)) (standing cache key)) ≡ cond b (Some to) old
+    by true is = there (standing cache key) (subst (λ q. StandsIn cache q from) (sym (same_key key k is)) follows.0)
+    by false is = rest
 
 pub stands_as_left : StandsAsLeft
-stands_as_left shape [] key legal = refl
-stands_as_left shape (entry ∷ history) key legal =
-    let rest = stands_as_left shape history key legal.0 in
-    by entry legal.1 rest ∙ sym (last_left-cons key entry history)
-  where
-    cache : Cache
-    cache = after shape history
+stands_as_left shape history key legal = (
+  part_as_left shape key value_of_item (is_change_of key) value_left_by (value_step shape key) history legal,
+  part_as_left shape key segment_of_item (changes_segment key) segment_left_by (segment_step shape key) history legal,
+)
 
-    gone : (k : List ℕ) → standing cache key ≡ last_left key history
-        → cond (not (is_at (key_cmp k) key)) (standing cache key) None ≡ cond (is_at (key_cmp key) k) None (last_left key history)
-    gone k rest = ap (λ b. cond (not b) (standing cache key) None) (at_sym key k)
-        ∙ elim (is_at (key_cmp key) k) as (λ b. cond (not b) (standing cache key) None ≡ cond b None (last_left key history)) [ true ↦ refl | false ↦ rest ]
+-- the value under a key after one more entry
+pub value-cons : (shape : Shape) (history : List Entry) (key : List ℕ) (entry : Entry) → IsLegal shape (entry ∷ history)
+    → value_under (after shape (entry ∷ history)) key ≡ cond (is_change_of key entry) (value_left_by entry) (value_under (after shape history) key)
+value-cons shape history key entry legal = value_step shape key (after shape history) entry legal.1 _ refl
 
-    by : (entry : Entry) → Follows shape cache entry → standing cache key ≡ last_left key history
-        → standing (next shape cache entry) key ≡ cond (is_change_of key entry) (left_by entry) (last_left key history)
-    by (Wrote pass request Stored (Some s)) follows rest = standing-put shape (key_of request) (value_of request) s cache key
-        ∙ ap (λ o. cond (is_at (key_cmp key) (key_of request)) (Some (record { value = value_of request; segment = s })) o) rest
-    by (Wrote pass request Stored None) follows rest = absurd follows.1
-    by (Wrote pass request Deleted s) follows rest = standing-without (key_of request) cache key ∙ gone (key_of request) rest
-    by (Wrote pass request NotStored s) follows rest = rest
-    by (Wrote pass request Exists s) follows rest = rest
-    by (Wrote pass request NotFound s) follows rest = rest
-    by (Evicted pass k s) follows rest = standing-without k cache key ∙ gone k rest
-    by (Refilled pass s d) follows rest = rest
+-- what is read, by the value and the segment of what stands
+reads_parts : (deadline : ℕ → ℕ) (now : ℕ) (o : Option Cached)
+    → option_map value_of_item (unless_expired deadline now o) ≡ cond (is_before deadline now (option_map segment_of_item o)) (option_map value_of_item o) None
+reads_parts deadline now None = refl
+reads_parts deadline now (Some x) =
+    elim (nat_lt now (deadline x.segment)) as (λ b. option_map value_of_item (cond b (Some x) None) ≡ cond b (Some x.value) None) [ true ↦ refl | false ↦ refl ]
 
 pub reads_as_left : ReadsAsLeft
-reads_as_left shape history now key legal = ap (λ o. option_map (λ item. item.value) (unless_expired (after shape history).deadline now o)) (stands_as_left shape history key legal)
+reads_as_left shape history now key legal =
+    let parts = stands_as_left shape history key legal in
+    reads_parts (after shape history).deadline now (standing (after shape history) key)
+    ∙ (λ i. cond (is_before (after shape history).deadline now (parts.1 i)) (parts.0 i) None)
 
 pub deadline_as_set : DeadlineAsSet
 deadline_as_set shape [] segment = refl
@@ -81,6 +136,7 @@ deadline_as_set shape (entry ∷ history) segment =
         → (next shape (after shape history) entry).deadline segment ≡ unwrap_or (cond (is_refill_of segment entry) (deadline_set_by entry) rest) 0
     by (Wrote pass request reply s) set = ap (λ d. d segment) (kept-deadlines shape request reply s (after shape history)) ∙ set
     by (Evicted pass k s) set = set
+    by (Moved pass k from to) set = set
     by (Refilled pass s d) set =
         elim (s == segment) as (λ b. cond b d ((after shape history).deadline segment) ≡ unwrap_or (cond b (Some d) rest) 0) [ true ↦ refl | false ↦ set ]
 

@@ -6,20 +6,20 @@ use Rattle.std.proofs.lemmas.Option.{none-some, same_Some}
 use Rattle.segword.specs.Words.{Shape}
 use Rattle.segmodel.specs.Words.{Cached, Entry}
 use Rattle.segmodel.specs.declared.request.Reply.TheVariants.{Stored, NotStored, Exists, NotFound, Deleted}
-use Rattle.segmodel.specs.declared.entry.Entry.TheVariants.{Wrote, Evicted, Refilled}
+use Rattle.segmodel.specs.declared.entry.Entry.TheVariants.{Wrote, Evicted, Refilled, Moved}
 use Rattle.segmodel.specs.Request.{key_of, value_of}
 use Rattle.segmodel.specs.Cache.{Cache, standing, unless_expired, IsExpired, value_under, reads}
 use Rattle.segmodel.specs.History.{Follows, after, IsLegal, CameBetween}
-use Rattle.segmodel.specs.Laws.{is_change_of, left_by, last_left, TakesKeyOut, StoresValue, GoneIsTakenOut, ChangedIsStored}
+use Rattle.segmodel.specs.Laws.{is_change_of, value_left_by, TakesKeyOut, StoresValue, GoneIsTakenOut, ChangedIsStored}
 use Rattle.segmodel.proofs.Keys.{same_key}
-use Rattle.segmodel.proofs.LawLemmas.{last_left-cons, stands_as_left}
+use Rattle.segmodel.proofs.LawLemmas.{value-cons}
 
 -- an entry takes the key out, and it reads nothing; or stores a value under it, and it reads that
 abbrev Changes : List ℕ → Entry → Option (List ℕ) → Type 0
 Changes key entry read = (TakesKeyOut key entry × (read ≡ None)) ⊎ ((value : List ℕ) × StoresValue key value entry × (read ≡ Some value))
 
 changes : (shape : Shape) (history : List Entry) (key : List ℕ) (entry : Entry) (read : Option (List ℕ)) → Follows shape (after shape history) entry
-    → is_change_of key entry ≡ true → read ≡ option_map (λ item. item.value) (left_by entry) → Changes key entry read
+    → is_change_of key entry ≡ true → read ≡ value_left_by entry → Changes key entry read
 changes shape history key (Wrote pass request Stored (Some s)) read follows is e = inr (value_of request, (sym (same_key key (key_of request) is), refl), e)
 changes shape history key (Wrote pass request Stored None) read follows is e = absurd follows.1
 changes shape history key (Wrote pass request Deleted s) read follows is e = inl (sym (same_key key (key_of request) is), e)
@@ -28,22 +28,20 @@ changes shape history key (Wrote pass request Exists s) read follows is e = absu
 changes shape history key (Wrote pass request NotFound s) read follows is e = absurd (false≢true is)
 changes shape history key (Evicted pass k s) read follows is e = inl (sym (same_key key k is), e)
 changes shape history key (Refilled pass s d) read follows is e = absurd (false≢true is)
+changes shape history key (Moved pass k from to) read follows is e = absurd (false≢true is)
 
 -- one more entry leaves the value under the key, or changes it
 one_more : (shape : Shape) (history : List Entry) (key : List ℕ) (entry : Entry) → IsLegal shape (entry ∷ history)
     → (value_under (after shape (entry ∷ history)) key ≡ value_under (after shape history) key) ⊎ Changes key entry (value_under (after shape (entry ∷ history)) key)
 one_more shape history key entry legal = by (is_change_of key entry) refl
   where
-    value_in : Option Cached → Option (List ℕ)
-    value_in o = option_map (λ item. item.value) o
-
-    read : (b : Bool) → is_change_of key entry ≡ b → value_under (after shape (entry ∷ history)) key ≡ value_in (cond b (left_by entry) (last_left key history))
-    read b is = ap value_in (stands_as_left shape (entry ∷ history) key legal ∙ last_left-cons key entry history ∙ ap (λ c. cond c (left_by entry) (last_left key history)) is)
+    read : (b : Bool) → is_change_of key entry ≡ b → value_under (after shape (entry ∷ history)) key ≡ cond b (value_left_by entry) (value_under (after shape history) key)
+    read b is = value-cons shape history key entry legal ∙ ap (λ c. cond c (value_left_by entry) (value_under (after shape history) key)) is
 
     by : (b : Bool) → is_change_of key entry ≡ b
         → (value_under (after shape (entry ∷ history)) key ≡ value_under (after shape history) key) ⊎ Changes key entry (value_under (after shape (entry ∷ history)) key)
     by true is = inr (changes shape history key entry _ legal.1 is (read true is))
-    by false is = inl (read false is ∙ sym (ap value_in (stands_as_left shape history key legal.0)))
+    by false is = inl (read false is)
 
 -- what came in between came in between still, with one entry more
 pub later : (Is : Entry → Type 0) (entry : Entry) (old new : List Entry) → CameBetween Is old new → CameBetween Is old (entry ∷ new)

@@ -14,7 +14,7 @@ use Rattle.segmodel.specs.declared.answer.DeleteAnswer.TheVariants as delete
 use Rattle.segmodel.specs.declared.answer.EvictAnswer.TheVariants as evict
 use Rattle.segmodel.specs.declared.answer.RefillAnswer.TheVariants as refill
 use Rattle.segmodel.specs.declared.answer.SegState.TheVariants.{Empty, InUse, Evicted}
-use Rattle.segmodel.specs.declared.answer.Command.TheVariants.{Write, Get, Gets, Evict, Refill}
+use Rattle.segmodel.specs.declared.answer.Command.TheVariants.{Write, Get, Gets, Keep, Evict, Refill}
 use Rattle.segmodel.specs.declared.answer.Turn.TheVariants.{Serve, Hold, Held, Release, Lock, Unlock}
 use Rattle.segmodel.specs.Places.{bucket_of}
 use Rattle.segmodel.specs.Request.{key_of, value_of, reply_to}
@@ -28,6 +28,8 @@ use Rattle.segmodel.proofs.Counts.{both}
 use Rattle.segmodel.proofs.Keys.{same_key}
 use Rattle.segmodel.proofs.HistoryLemmas.{present_stands}
 use Rattle.segmodel.proofs.Words.{stored_fits}
+use Rattle.segmodel.proofs.Hits.{IsKept-hit, IsKept-hit_unless}
+use Rattle.segmodel.proofs.Keeping.{IsKept-keeps}
 use Rattle.segmodel.proofs.Sound.{IsKept-same, IsKept-stored, IsKept-deleted, IsKept-taken, IsKept-evicted, IsKept-refilled}
 
 -- ---- replies
@@ -126,8 +128,10 @@ serving_keeps shape old new (Write (Set key value now)) given kept served = stor
 serving_keeps shape old new (Write (Add key value now)) given kept served = store_kept shape old new (Add key value now) served.0 kept served.2
 serving_keeps shape old new (Write (Replace key value now)) given kept served = store_kept shape old new (Replace key value now) served.0 kept served.2
 serving_keeps shape old new (Write (Cas key value expected now)) given kept served = store_kept shape old new (Cas key value expected now) served.0 kept served.2
-serving_keeps shape old new (Get key now) given kept served = IsKept-same served.1 kept
-serving_keeps shape old new (Gets key now) given kept served = IsKept-same served.1 kept
+serving_keeps shape old new (Get key now) given kept served = IsKept-same served.1 (IsKept-hit shape key (present old.cache now key) old kept)
+serving_keeps shape old new (Gets key now) given kept served =
+    IsKept-same served.1 (IsKept-hit_unless shape key (is_locked shape old key) (present old.cache now key) old kept)
+serving_keeps shape old new (Keep segment cutoff) given kept served = IsKept-same served.1 (IsKept-keeps shape old segment cutoff kept)
 serving_keeps shape old new (Evict segment) given kept served = evict_or shape old new segment served.0 (is_own shape segment) kept served.2
 serving_keeps shape old new (Refill segment deadline) given kept served = IsKept-same served.1 (refill_kept shape old segment deadline kept _ refl)
 
@@ -165,6 +169,7 @@ aside shape old new held locked kept filled is = IsKept-same is (record {
   items = kept.items;
   ordered = kept.ordered;
   count = kept.count;
+  frequencies = kept.frequencies;
   rows = kept.rows;
   own = kept.own;
   in_use = kept.in_use;

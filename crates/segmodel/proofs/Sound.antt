@@ -27,6 +27,7 @@ pub IsKept-fresh : (shape : Shape) → IsSound shape (fresh shape)
 IsKept-fresh shape = record {
   items = refl;
   count = λ s. omega arith;
+  frequencies = λ s. refl;
   rows = λ s. omega arith;
   own = λ s used. absurd (false≢true used);
   in_use = λ s is. cc;
@@ -37,10 +38,10 @@ IsKept-fresh shape = record {
   held = λ item is. cc;
 }
 
-changed : (f : ℕ → Filling) (t s : ℕ) (x : Filling) → t ≡ s → with_at f t x s ≡ x
+pub changed : (f : ℕ → Filling) (t s : ℕ) (x : Filling) → t ≡ s → with_at f t x s ≡ x
 changed f t s x e = rw (eq-eqb t s e) refl
 
-unchanged : (f : ℕ → Filling) (t s : ℕ) (x : Filling) → (t ≡ s → ⊥) → with_at f t x s ≡ f s
+pub unchanged : (f : ℕ → Filling) (t s : ℕ) (x : Filling) → (t ≡ s → ⊥) → with_at f t x s ≡ f s
 unchanged f t s x apart = rw (ne_eqb t s apart) refl
 
 -- a segment that was filled stays filled, where another or the same is changed to one that was filled too
@@ -66,14 +67,23 @@ among_last keys k = list_any-append (is_at (key_cmp k)) keys (k ∷ [])
     or_true true = refl
     or_true false = refl
 
--- a key is put into the current segment, which has a row left
-IsKept-placed : (shape : Shape) (key value : List ℕ) (t : ℕ) (state : State)
+-- as many frequencies as keys, where another segment or the same is changed to one that has as many
+lengths : (f : ℕ → Filling) (t s : ℕ) (x : Filling) → length x.frequencies ≡ length x.keys → length (f s).frequencies ≡ length (f s).keys
+    → length (with_at f t x s).frequencies ≡ length (with_at f t x s).keys
+lengths f t s x long had = elim (cases_eq t s) [
+  | inl e ↦ rw (changed f t s x e) long
+  | inr apart ↦ rw (unchanged f t s x apart) had
+]
+
+-- a key is put into the current segment, which has a row left, with some frequency
+pub IsKept-put : (shape : Shape) (key value : List ℕ) (frequency t : ℕ) (state : State)
     → IsSound shape state → state.current ≡ Some t → length (state.filling t).keys < shape.rows
     → keys_in shape (put shape key value t state.cache) (bucket_of shape key) ≤ 6 * state.width (bucket_of shape key) + 1
-    → IsSound shape (placed shape key value t state)
-IsKept-placed shape key value t state kept is left fits = record {
+    → IsSound shape (record state { cache = put shape key value t state.cache; filling = with_at state.filling t (with_key key frequency (state.filling t)) })
+IsKept-put shape key value frequency t state kept is left fits = record {
   items = all-insert_entry (is_stored new) key (item value t) state.cache.items here (all_also (is_stored state.filling) (is_stored new) still state.cache.items kept.items);
   count = λ s. count s (cases_eq t s) (count-insert_entry s t key value state.cache.items);
+  frequencies = λ s. lengths state.filling t s more long (kept.frequencies s);
   rows = λ s. rows s (cases_eq t s);
   own = λ s. own s (cases_eq t s);
   in_use = λ s e. in_use s (cases_eq t s) e;
@@ -93,7 +103,10 @@ IsKept-placed shape key value t state kept is left fits = record {
         omega arith
 
     more : Filling
-    more = with_key key (state.filling t)
+    more = with_key key frequency (state.filling t)
+
+    long : length more.frequencies ≡ length more.keys
+    long = length_push (state.filling t).frequencies frequency ∙ (ap (λ n. n + 1) (kept.frequencies t) ∙ sym (length_push (state.filling t).keys key))
 
     new : ℕ → Filling
     new = with_at state.filling t more
@@ -146,6 +159,7 @@ IsKept-chained shape b false state kept may = kept
 IsKept-chained shape b true state kept may = record {
   items = kept.items;
   count = kept.count;
+  frequencies = kept.frequencies;
   rows = kept.rows;
   own = kept.own;
   in_use = kept.in_use;
@@ -175,15 +189,16 @@ pub IsKept-stored : (shape : Shape) (key value : List ℕ) (t : ℕ) (chains : B
     → IsSound shape state → state.current ≡ Some t → length (state.filling t).keys < shape.rows → (chains ≡ true → may_chain shape state (bucket_of shape key) ≡ true)
     → keys_in shape (put shape key value t state.cache) (bucket_of shape key) ≤ 6 * (chained (bucket_of shape key) chains state).width (bucket_of shape key) + 1
     → IsSound shape (chained (bucket_of shape key) chains (placed shape key value t state))
-IsKept-stored shape key value t false state kept is left may fits = IsKept-placed shape key value t state kept is left fits
+IsKept-stored shape key value t false state kept is left may fits = IsKept-put shape key value 1 t state kept is left fits
 IsKept-stored shape key value t true state kept is left may fits =
-    IsKept-placed shape key value t (chained (bucket_of shape key) true state) (IsKept-chained shape (bucket_of shape key) true state kept may) is left fits
+    IsKept-put shape key value 1 t (chained (bucket_of shape key) true state) (IsKept-chained shape (bucket_of shape key) true state kept may) is left fits
 
 -- a key that is deleted
 pub IsKept-deleted : (shape : Shape) (key : List ℕ) (state : State) → IsSound shape state → IsSound shape (record state { cache = deleted shape key state.cache })
 IsKept-deleted shape key state kept = record {
   items = all_filter (is_stored state.filling) (is_stored state.filling) (λ e. not (is_at (key_cmp key) e.0)) (λ e stored stays. stored) state.cache.items kept.items;
   count = λ s. let had = kept.count s in let less = count-filter (is_in s) (λ e. not (is_at (key_cmp key) e.0)) state.cache.items in omega arith;
+  frequencies = kept.frequencies;
   rows = kept.rows;
   own = kept.own;
   in_use = kept.in_use;
@@ -207,6 +222,7 @@ pub IsKept-taken : (shape : Shape) (t : ℕ) (goes : List ℕ × Cached → Bool
 IsKept-taken shape t goes state kept = record {
   items = all_filter (is_stored state.filling) (is_stored state.filling) (λ e. not (goes e)) (λ e stored stays. stored) state.cache.items kept.items;
   count = λ s. let had = kept.count s in let less = count-filter (is_in s) (λ e. not (goes e)) state.cache.items in omega arith;
+  frequencies = kept.frequencies;
   rows = kept.rows;
   own = kept.own;
   in_use = λ s e. kept.in_use s (current_but t state.current s e).0;
@@ -219,10 +235,11 @@ IsKept-taken shape t goes state kept = record {
 
 -- all items of a segment are taken out, and it is evicted
 pub IsKept-evicted : (shape : Shape) (t : ℕ) (state : State) → IsSound shape state
-    → IsSound shape (with_filling t Evicted (state.filling t).keys (taken_out t (is_in t) state))
+    → IsSound shape (with_filling t Evicted (state.filling t).keys (state.filling t).frequencies (taken_out t (is_in t) state))
 IsKept-evicted shape t state kept = record {
   items = all_filter (is_stored state.filling) (is_stored (with_at state.filling t gone)) (λ e. not (is_in t e)) still state.cache.items kept.items;
   count = λ s. count s (cases_eq t s);
+  frequencies = λ s. lengths state.filling t s gone (kept.frequencies t) (kept.frequencies s);
   rows = λ s. rows s (cases_eq t s);
   own = λ s. own s (cases_eq t s);
   in_use = λ s e. in_use s (current_but t state.current s e);
@@ -234,7 +251,7 @@ IsKept-evicted shape t state kept = record {
 }
   where
     gone : Filling
-    gone = record { state = Evicted; keys = (state.filling t).keys }
+    gone = record { state = Evicted; keys = (state.filling t).keys; frequencies = (state.filling t).frequencies }
 
     still : (e : List ℕ × Cached) → is_stored state.filling e ≡ true → not (is_in t e) ≡ true → is_stored (with_at state.filling t gone) e ≡ true
     still e stored stays = stored_still state.filling t gone e (λ same. false≢true (sym (ap not (eq-eqb e.1.segment t (sym same))) ∙ stays)) stored
@@ -276,6 +293,7 @@ pub IsKept-refilled : (shape : Shape) (t d : ℕ) (state : State) → IsSound sh
 IsKept-refilled shape t d state kept unused mine = record {
   items = all_also (is_stored state.filling) (is_stored (with_at state.filling t anew)) (λ e stored. stored_still state.filling t anew e (elsewhere state t unused e stored) stored) state.cache.items kept.items;
   count = λ s. count s (cases_eq t s);
+  frequencies = λ s. lengths state.filling t s anew refl (kept.frequencies s);
   rows = λ s. rows s (cases_eq t s);
   own = λ s. own s (cases_eq t s);
   in_use = λ s e. in_use s e;
@@ -287,7 +305,7 @@ IsKept-refilled shape t d state kept unused mine = record {
 }
   where
     anew : Filling
-    anew = record { state = InUse; keys = [] }
+    anew = record { state = InUse; keys = []; frequencies = [] }
 
     count : (s : ℕ) → (t ≡ s) ⊎ (t ≡ s → ⊥) → count_by (is_in s) state.cache.items ≤ length (with_at state.filling t anew s).keys
     count s (inl e) = let none : count_by (is_in s) state.cache.items ≡ 0 = rw (← e) (none_in_unused shape state t kept unused) in rw (changed state.filling t s anew e) (omega arith)

@@ -39,7 +39,7 @@ above_absent k [] above = refl
 above_absent k (e ∷ es) above = ap (λ r. cond (is_eq r) (Some e.1) (lookup (is_at (key_cmp k)) es)) above.0 ∙ above_absent k es above.1
 
 -- where the key stands already the keys stay the same
-keys-put_standing : (k : List ℕ) (x : Cached) (es : List (List ℕ × Cached)) → IsStrictlySortedBy key_cmp (keys_of es)
+pub keys-put_standing : (k : List ℕ) (x : Cached) (es : List (List ℕ × Cached)) → IsStrictlySortedBy key_cmp (keys_of es)
     → is_some (lookup (is_at (key_cmp k)) es) ≡ true → keys_of (insert_entry key_cmp es k x) ≡ keys_of es
 unfolding IsStrictlySortedBy
 keys-put_standing k x [] sorted here = absurd (false≢true here)

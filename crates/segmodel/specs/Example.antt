@@ -1,14 +1,14 @@
--- A history in which each kind of entry comes, so that the laws are seen to speak of something: one pass, one segment of eight rows, one bucket,
+-- A history in which each kind of entry comes, so that the laws are seen to speak of something: one pass, two segments of eight rows, one bucket,
 -- so that the keys a and e share it. Each write comes a moment after the one before. An entry is named after what it does.
 use Rattle.std.specs.Prelude.{ℕ, List, [], ◌∷◌, Some, None}
 use Rattle.segword.specs.Words.{Shape}
 use Rattle.segmodel.specs.declared.request.Request.TheVariants.{Set, Add, Replace, Cas, Delete}
 use Rattle.segmodel.specs.declared.request.Reply.TheVariants.{Stored, NotStored, Exists, Deleted}
 use Rattle.segmodel.specs.declared.entry.Entry.{Entry}
-use Rattle.segmodel.specs.declared.entry.Entry.TheVariants.{Wrote, Evicted, Refilled}
+use Rattle.segmodel.specs.declared.entry.Entry.TheVariants.{Wrote, Evicted, Refilled, Moved}
 
 abbrev pub shape : Shape
-shape = record { buckets = 1; overflow = 0; passes = 1; segments_each = 1; rows = 8; first_version = 0 }
+shape = record { buckets = 1; overflow = 0; passes = 1; segments_each = 2; rows = 8; first_version = 0 }
 
 -- the keys a and e, the values 1 and 2
 abbrev pub a : List ℕ
@@ -36,6 +36,10 @@ abbrev pub deleted : List Entry
 deleted = Wrote 0 (Delete e 7) Deleted None ∷ Wrote 0 (Add a one 6) NotStored None ∷ Wrote 0 (Replace a two 5) Stored (Some 0)
     ∷ Wrote 0 (Cas a two 2 4) Stored (Some 0) ∷ refused
 
--- a is evicted, and the segment is refilled up to moment 20
+-- another segment is refilled up to the same moment, and a is moved there: the version stays 5
+abbrev pub relocated : List Entry
+relocated = Moved 0 a 0 1 ∷ Refilled 0 1 10 ∷ deleted
+
+-- nothing stands in the first segment now, so it is refilled up to moment 20; then a is evicted from the other one
 abbrev pub whole : List Entry
-whole = Refilled 0 0 20 ∷ Evicted 0 a 0 ∷ deleted
+whole = Evicted 0 a 1 ∷ Refilled 0 0 20 ∷ relocated

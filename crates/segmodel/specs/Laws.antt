@@ -1,5 +1,5 @@
 -- Laws: what the definitions come to. Each is proved as the contract of a function in src/laws.rt.
-use Rattle.std.specs.Prelude.{◌≡◌, ◌⊎◌, ℕ, ◌+◌, ◌%◌, ◌^◌, ◌==◌, ◌<◌, ◌≤◌, Bool, true, false, is_some, IsSome, IsSomeAnd, List, [], ◌∷◌, ◌++◌, length, find, Option, Some, None, option_map, option_and_then, unwrap_or, if◌then◌else◌}
+use Rattle.std.specs.Prelude.{◌≡◌, ◌⊎◌, ℕ, ◌+◌, ◌%◌, ◌^◌, ◌==◌, ◌<◌, ◌≤◌, nat_lt, Bool, true, false, is_some, IsSome, IsSomeAnd, MatchOption, List, [], ◌∷◌, ◌++◌, length, find, Option, Some, None, option_and_then, unwrap_or, if◌then◌else◌}
 use Rattle.std.specs.BTreeMap.{is_at}
 use Rattle.std.specs.List.{AllByRecursion}
 use Rattle.std.specs.List.Sorted.{IsStrictlySortedBy}
@@ -11,12 +11,14 @@ use Rattle.segmodel.specs.declared.request.Reply.{Reply}
 use Rattle.segmodel.specs.declared.request.Reply.TheVariants.{Stored, Exists, NotFound, Deleted}
 use Rattle.segmodel.specs.declared.entry.Cached.{Cached}
 use Rattle.segmodel.specs.declared.entry.Entry.{Entry}
-use Rattle.segmodel.specs.declared.entry.Entry.TheVariants.{Wrote, Evicted, Refilled}
+use Rattle.segmodel.specs.declared.entry.Entry.TheVariants.{Wrote, Evicted, Refilled, Moved}
 use Rattle.segmodel.specs.declared.answer.Command.{Command}
-use Rattle.segmodel.specs.declared.answer.Command.TheVariants.{Write, Evict, Refill}
+use Rattle.segmodel.specs.declared.answer.Command.TheVariants.{Write, Keep, Evict, Refill}
 use Rattle.segmodel.specs.declared.answer.Answer.{Answer}
 use Rattle.segmodel.specs.declared.answer.Answer.TheVariants as answer
 use Rattle.segmodel.specs.declared.answer.RefillAnswer.TheVariants as refill
+use Rattle.segmodel.specs.declared.answer.KeepAnswer.{KeepAnswer}
+use Rattle.segmodel.specs.declared.answer.KeepAnswer.TheVariants as keep
 use Rattle.segmodel.specs.declared.answer.EvictAnswer.{EvictAnswer}
 use Rattle.segmodel.specs.declared.answer.EvictAnswer.TheVariants as evict
 use Rattle.segmodel.specs.declared.answer.WriteAnswer.{WriteAnswer}
@@ -26,7 +28,7 @@ use Rattle.segmodel.specs.declared.answer.Turn.TheVariants.{Serve}
 use Rattle.segmodel.specs.declared.answer.Outcome.{Outcome}
 use Rattle.segmodel.specs.Places.{bucket_of}
 use Rattle.segmodel.specs.Request.{key_of, value_of}
-use Rattle.segmodel.specs.Cache.{Cache, key_cmp, standing, unless_expired, present, IsExpired, value_under, reads, reads_version, reply_in}
+use Rattle.segmodel.specs.Cache.{Cache, key_cmp, present, IsExpired, value_under, segment_under, reads, reads_version, reply_in}
 use Rattle.segmodel.specs.History.{NoneStandsIn, Follows, next, after, IsLegal, Begins, CameBetween, is_of, entries_of, stirred, is_write_to, writes, IsSameAt}
 use Rattle.segmodel.specs.State.{State, IsSound, fresh}
 use Rattle.segmodel.specs.Serving.{Serves, ServesStore, ServesDelete, reply_of_write, reply_of_delete}
@@ -48,30 +50,52 @@ ItemsAreInOrder = (shape : Shape) (history : List Entry) → IsStrictlySortedBy 
 
 -- ---- what a key reads
 
--- whether an entry changes what stands under the key: it was stored, deleted or evicted
+-- whether an entry changes the value that stands under the key: it was stored, deleted or evicted
 abbrev pub is_change_of : List ℕ → Entry → Bool
 is_change_of key (Wrote pass request Stored segment) = is_at (key_cmp key) (key_of request)
 is_change_of key (Wrote pass request Deleted segment) = is_at (key_cmp key) (key_of request)
 is_change_of key (Evicted pass other segment) = is_at (key_cmp key) other
 is_change_of key _ = false
 
--- what an entry leaves under the key that it changes: the item, where it was stored
-abbrev pub left_by : Entry → Option Cached
-left_by (Wrote pass request Stored (Some segment)) = Some (record { value = value_of request; segment = segment })
-left_by _ = None
+-- the value that an entry leaves under the key that it changes, where it was stored
+abbrev pub value_left_by : Entry → Option (List ℕ)
+value_left_by (Wrote pass request Stored segment) = Some (value_of request)
+value_left_by _ = None
 
--- what the last change of the key left: the history has its newest entry first, so the last change is the first one found
-abbrev pub last_left : List ℕ → List Entry → Option Cached
-last_left key history = option_and_then left_by (find (is_change_of key) history)
+-- the value that the last change of the key left: the history has its newest entry first, so the last change is the first one found
+abbrev pub last_value : List ℕ → List Entry → Option (List ℕ)
+last_value key history = option_and_then value_left_by (find (is_change_of key) history)
 
--- what stands under a key is what its last change left
+-- whether an entry changes the segment in which the key stands: its value changed, or it was moved
+abbrev pub changes_segment : List ℕ → Entry → Bool
+changes_segment key (Moved pass other from to) = is_at (key_cmp key) other
+changes_segment key entry = is_change_of key entry
+
+-- the segment in which an entry leaves the key: the one in which it was stored, or to which it was moved
+abbrev pub segment_left_by : Entry → Option ℕ
+segment_left_by (Wrote pass request Stored segment) = segment
+segment_left_by (Moved pass key from to) = Some to
+segment_left_by _ = None
+
+-- the segment in which the last such entry left the key
+abbrev pub last_segment : List ℕ → List Entry → Option ℕ
+last_segment key history = option_and_then segment_left_by (find (changes_segment key) history)
+
+-- under a key stands the value that its last change left, in the segment in which it was stored or to which it was moved last
 abbrev pub StandsAsLeft : Type 0
-StandsAsLeft = (shape : Shape) (history : List Entry) (key : List ℕ) → IsLegal shape history → standing (after shape history) key ≡ last_left key history
+StandsAsLeft = (shape : Shape) (history : List Entry) (key : List ℕ) → IsLegal shape history
+    → (value_under (after shape history) key ≡ last_value key history) × (segment_under (after shape history) key ≡ last_segment key history)
 
--- and a key reads the value of that at each moment before the deadline of its segment
+-- whether the deadline of the segment comes after the moment
+abbrev pub is_before : (ℕ → ℕ) → ℕ → Option ℕ → Bool
+is_before deadline now None = false
+is_before deadline now (Some segment) = nat_lt now (deadline segment)
+
+-- and a key reads that value at each moment before the deadline of that segment
 abbrev pub ReadsAsLeft : Type 0
 ReadsAsLeft = (shape : Shape) (history : List Entry) (now : ℕ) (key : List ℕ) → IsLegal shape history
-    → reads (after shape history) now key ≡ option_map (λ item. item.value) (unless_expired (after shape history).deadline now (last_left key history))
+    → reads (after shape history) now key
+    ≡ (if is_before (after shape history).deadline now (last_segment key history) then last_value key history else None)
 
 -- whether an entry refills the segment
 abbrev pub is_refill_of : ℕ → Entry → Bool
@@ -87,6 +111,13 @@ deadline_set_by _ = None
 abbrev pub DeadlineAsSet : Type 0
 DeadlineAsSet = (shape : Shape) (history : List Entry) (segment : ℕ)
     → (after shape history).deadline segment ≡ unwrap_or (option_and_then deadline_set_by (find (is_refill_of segment) history)) 0
+
+-- a move leaves what every key reads at every moment, what every gets reads, and every version
+abbrev pub MovesAreUnread : Type 0
+MovesAreUnread = (shape : Shape) (cache : Cache) (pass from to now : ℕ) (key other : List ℕ) → Follows shape cache (Moved pass key from to)
+    → (reads (next shape cache (Moved pass key from to)) now other ≡ reads cache now other)
+    × (reads_version shape (next shape cache (Moved pass key from to)) now other ≡ reads_version shape cache now other)
+    × ((next shape cache (Moved pass key from to)).version ≡ cache.version)
 
 -- ---- why a key reads otherwise later
 
@@ -278,11 +309,25 @@ keys_evicted (evict.Evicted count) = count
 keys_evicted (evict.Busy count) = count
 keys_evicted evict.NotYours = 0
 
--- The entries that serving a command adds, by its answer: one for a request that is replied, one for each key that is evicted,
--- one for a segment that is refilled; none for anything else. The segment that was current is the one stored in.
+-- an entry says that a key was moved from the one segment to the other
+abbrev pub IsMoveBetween : ℕ → ℕ → Entry → Type 0
+IsMoveBetween from to entry = (key : List ℕ) × (entry ≡ Moved 0 key from to)
+
+-- how many items the answer to a keep says were moved
+abbrev pub kept : KeepAnswer → ℕ
+kept (keep.Kept count) = count
+kept (keep.NoRoom count) = count
+kept (keep.Busy count) = count
+kept keep.NotYours = 0
+
+-- The entries that serving a command adds, by its answer: one for a request that is replied, one for each item that is moved,
+-- one for each key that is evicted, one for a segment that is refilled; none for anything else. The segment that was current is the one stored in
+-- and moved to.
 abbrev pub Adds : Option ℕ → Command → Answer → List Entry → Type 0
 Adds current (Write request) (answer.Write told) more = more ≡ entry_of_reply current request (reply_of_write told)
 Adds current (Write request) (answer.Delete told) more = more ≡ entry_of_reply current request (reply_of_delete told)
+Adds current (Keep segment cutoff) (answer.Keep told) more =
+    MatchOption current ((more ≡ []) × (kept told ≡ 0)) (λ to. AllByRecursion (IsMoveBetween segment to) more × (length more ≡ kept told))
 Adds current (Evict segment) (answer.Evict told) more = AllByRecursion (IsEvictionFrom segment) more × (length more ≡ keys_evicted told)
 Adds current (Refill segment deadline) (answer.Refill refill.Refilled) more = more ≡ Refilled 0 segment deadline ∷ []
 Adds current _ _ more = more ≡ []

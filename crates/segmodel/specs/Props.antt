@@ -9,7 +9,7 @@ use Rattle.segmodel.specs.declared.request.Request.{Request}
 use Rattle.segmodel.specs.declared.request.Reply.{Reply}
 use Rattle.segmodel.specs.declared.request.Reply.TheVariants.{Stored}
 use Rattle.segmodel.specs.declared.entry.Entry.{Entry}
-use Rattle.segmodel.specs.declared.entry.Entry.TheVariants.{Wrote, Evicted, Refilled}
+use Rattle.segmodel.specs.declared.entry.Entry.TheVariants.{Wrote, Evicted, Refilled, Moved}
 use Rattle.segmodel.specs.declared.entry.Cached.{Cached}
 use Rattle.segmodel.specs.Cache.{Cache}
 use Rattle.segmodel.specs.History.{IsPlaced, Follows, after, IsLegal, Begins, IsStanding}
@@ -35,6 +35,7 @@ pub Follows-prop : (shape : Shape) (cache : Cache) (entry : Entry) → IsProp (F
 Follows-prop shape cache (Wrote pass request reply segment) = ×_prop (Reply-set reply _) (IsPlaced-prop shape pass reply segment)
 Follows-prop shape cache (Evicted pass key segment) = hlevel props
 Follows-prop shape cache (Refilled pass segment deadline) = hlevel props
+Follows-prop shape cache (Moved pass key from to) = hlevel props
 
 pub IsLegal-prop : (shape : Shape) (history : List Entry) → IsProp (IsLegal shape history)
 IsLegal-prop shape [] = Unit-prop

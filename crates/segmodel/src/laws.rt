@@ -3,13 +3,13 @@ ghost use Rattle.std.specs.Prelude.{◌≡◌, Some, None};
 ghost use Rattle.segmodel.specs.declared.answer.Command.TheVariants.{Refill};
 ghost use Rattle.segmodel.specs.declared.answer.RefillAnswer.TheVariants.{Refilled};
 ghost use Rattle.segmodel.specs.declared.answer.Answer.TheVariants as answer;
-ghost use Rattle.segmodel.specs.Cache.{reads_version, value_under};
+ghost use Rattle.segmodel.specs.Cache.{reads_version, segment_under, value_under};
 ghost use Rattle.segmodel.specs.History.{after, Begins, IsLegal, stirred};
 ghost use Rattle.segmodel.specs.State.{fresh};
 ghost use Rattle.segmodel.specs.Serving.{after_refill, Serves};
-ghost use Rattle.segmodel.specs.Example.{shape, a, one, two, added, deleted, whole};
+ghost use Rattle.segmodel.specs.Example.{shape, a, one, two, added, deleted, relocated, whole};
 ghost use Rattle.segmodel.specs.Laws.{LongerIsLegal, EarlierIsLegal, ItemsAreInOrder, StandsAsLeft};
-ghost use Rattle.segmodel.specs.Laws.{ReadsAsLeft, DeadlineAsSet};
+ghost use Rattle.segmodel.specs.Laws.{ReadsAsLeft, DeadlineAsSet, MovesAreUnread};
 ghost use Rattle.segmodel.specs.Laws.{GoneIsTakenOut, ChangedIsStored};
 ghost use Rattle.segmodel.specs.Laws.{ExpiredReadsNothing, NothingUntilStored};
 ghost use Rattle.segmodel.specs.Laws.{VersionCountsWrites, OthersKeepVersion};
@@ -30,11 +30,17 @@ pub fn legal_histories()
 {}
 
 /// Before its deadline a key reads what its last write, deletion or eviction left,
+/// in the segment in which it was stored or to which it was moved last;
 /// and a segment's deadline is the one that its last refilling set.
 pub fn last_change_decides()
     ensures stands { StandsAsLeft }
     ensures reads { ReadsAsLeft }
     ensures deadline { DeadlineAsSet }
+{}
+
+/// A move leaves what every key reads at every moment, and every version.
+pub fn moves_are_unread()
+    ensures { MovesAreUnread }
 {}
 
 /// A key under which a value stood reads none later only if it was deleted or evicted in between,
@@ -118,8 +124,10 @@ pub fn example()
     ensures later { reads_version shape (after shape deleted) 7 a ≡ Some (two, 5) }
     ensures expired { reads_version shape (after shape deleted) 10 a ≡ None }
     ensures stands { value_under (after shape deleted) a ≡ Some two }
+    ensures same { reads_version shape (after shape relocated) 9 a ≡ Some (two, 5) }
+    ensures moved { segment_under (after shape relocated) a ≡ Some 1 }
     ensures gone { reads_version shape (after shape whole) 7 a ≡ None }
-    ensures stirred { stirred shape a added whole ≡ 7 }
+    ensures stirred { stirred shape a added whole ≡ 8 }
     ensures refilled { Serves shape (fresh shape) (Refill 0 10) (answer.Refill Refilled)
         (after_refill 0 10 Refilled (fresh shape)) }
 {}

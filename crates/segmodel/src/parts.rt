@@ -1,17 +1,20 @@
 //! Changes of the plain cache's parts: its segments, its map, its numbers for each bucket.
 ghost use Rattle.std.specs.Prelude.{◌≡◌, [], ◌<◌, ◌+◌, ◌-◌, ◌^◌, true, if◌then◌else◌, ℕ, length};
-ghost use Rattle.std.specs.Prelude.{count_by, filter, not, OnOk, IfOk, vec_len};
+ghost use Rattle.std.specs.Prelude.{count_by, filter, map, not, IfOk, IsSome, vec_len};
+ghost use Rattle.std.specs.Map.{lookup};
 ghost use Rattle.std.specs.BTreeMap.{is_at};
-ghost use Rattle.segmodel.specs.Cache.{key_cmp, with_at, counted};
-ghost use Rattle.segmodel.specs.State.{but_for, is_in};
-ghost use Rattle.segmodel.specs.Serving.{with_key};
+ghost use Rattle.segmodel.specs.Cache.{key_cmp, with_at, in_segment, counted};
+ghost use Rattle.segmodel.specs.State.{but_for, is_among, is_in};
+ghost use Rattle.segmodel.specs.Serving.{with_key, higher, raised, raised_in};
 ghost use Rattle.segmodel.specs.declared.answer.SegState.TheVariants.{InUse, Evicted};
-ghost use Rattle.segmodel.specs.Segments.{HasRow, AllEmpty, fillings, deadlines, by_bucket};
+ghost use Rattle.segmodel.specs.Segments.{HasRow, AreRoomy, KeepsRoom, AllEmpty, fillings};
+ghost use Rattle.segmodel.specs.Segments.{deadlines, by_bucket};
 
 use crate::segment::Segment;
 use crate::{Cached, PlainFault, SegState};
 use segword::Key;
 use std::alloc::Global;
+use std::cmp::Ordering;
 use std::collections::BTreeMap;
 
 // How many rows of a segment are used.
@@ -22,30 +25,68 @@ pub fn used_rows(segments: &Vec<Segment>, segment: usize) -> usize
     segments[segment].keys.len()
 }
 
-// Makes room for a key in a segment.
-pub fn reserve_row(segments: &mut Vec<Segment>, segment: usize) -> Result<(), PlainFault>
-    requires { segment < vec_len segments.old }
-    ensures len { vec_len segments.new ≡ vec_len segments.old }
-    ensures same { fillings segments.new.items ≡ fillings segments.old.items }
-    ensures deadlines { deadlines segments.new.items ≡ deadlines segments.old.items }
-    ensures ok { OnOk result (HasRow segments.new.items segment) }
+// Whether the two keys are one.
+fn is_same(key: &Key, other: &Key) -> bool
+    ensures { result ≡ is_at (key_cmp key.now) other.now }
 {
-    if segments[segment].keys.reserve(1).is_err() {
-        return Err(PlainFault::OutOfMemory);
-    }
-    Ok(())
+    key.cmp(other) == Ordering::Equal
 }
 
-// Adds a key to a segment.
-pub fn add_row(segments: &mut Vec<Segment>, segment: usize, key: Key)
+// Whether the key is among these.
+pub fn is_among(keys: &[Key], key: &Key) -> bool
+    ensures { result ≡ is_among keys.now key.now }
+{
+    keys.iter().any(|other| is_same(key, other))
+}
+
+// The frequency after one hit more.
+pub fn higher(frequency: u8) -> u8
+    ensures { result ≡ higher frequency }
+{
+    frequency.saturating_add(1)
+}
+
+// Raises the frequency of the last row that has the key, if one has it.
+pub fn raise(keys: &[Key], frequencies: &mut [u8], key: &Key)
+    requires { length frequencies.old ≡ length keys.now }
+    ensures { frequencies.new ≡ raised key.now keys.now frequencies.old }
+{
+    for row in 0..keys.len() {
+        if is_same(key, &keys[row]) && !is_among(&keys[row + 1..], key) {
+            frequencies[row] = higher(frequencies[row]);
+            return;
+        }
+    }
+}
+
+// Raises the frequency of a key's item in a segment.
+pub fn raise_in(segments: &mut Vec<Segment>, segment: usize, key: &Key)
+    requires in_range { segment < vec_len segments.old }
+    requires each { length (fillings segments.old.items segment).frequencies
+        ≡ length (fillings segments.old.items segment).keys }
+    ensures len { vec_len segments.new ≡ vec_len segments.old }
+    ensures raised { fillings segments.new.items
+        ≡ with_at (fillings segments.old.items) segment
+        (raised_in key.now (fillings segments.old.items segment)) }
+    ensures deadlines { deadlines segments.new.items ≡ deadlines segments.old.items }
+    ensures room { KeepsRoom segments.old.items segments.new.items }
+{
+    let found = &mut segments[segment];
+    raise(&found.keys, &mut found.frequencies, key);
+}
+
+// Adds a key to a segment, with the frequency of its item.
+pub fn add_row(segments: &mut Vec<Segment>, segment: usize, key: Key, frequency: u8)
     requires { HasRow segments.old.items segment }
     ensures len { vec_len segments.new ≡ vec_len segments.old }
     ensures added { fillings segments.new.items
         ≡ with_at (fillings segments.old.items) segment
-        (with_key key (fillings segments.old.items segment)) }
+        (with_key key frequency (fillings segments.old.items segment)) }
     ensures deadlines { deadlines segments.new.items ≡ deadlines segments.old.items }
+    ensures room { KeepsRoom segments.old.items segments.new.items }
 {
     segments[segment].keys.push_reserved(key);
+    segments[segment].frequencies.push_reserved(frequency);
 }
 
 // Counts one more write to a bucket.
@@ -80,8 +121,9 @@ pub fn mark_evicted(segments: &mut Vec<Segment>, segment: usize)
     requires { segment < vec_len segments.old }
     ensures len { vec_len segments.new ≡ vec_len segments.old }
     ensures marked { fillings segments.new.items ≡ with_at (fillings segments.old.items) segment
-        (record { state = Evicted; keys = (fillings segments.old.items segment).keys }) }
+        (record (fillings segments.old.items segment) { state = Evicted }) }
     ensures deadlines { deadlines segments.new.items ≡ deadlines segments.old.items }
+    ensures room { KeepsRoom segments.old.items segments.new.items }
 {
     segments[segment].state = SegState::Evicted;
 }
@@ -91,11 +133,13 @@ pub fn renew(segments: &mut Vec<Segment>, segment: usize, deadline: u32)
     requires { segment < vec_len segments.old }
     ensures len { vec_len segments.new ≡ vec_len segments.old }
     ensures renewed { fillings segments.new.items ≡ with_at (fillings segments.old.items) segment
-        (record { state = InUse; keys = [] }) }
+        (record { state = InUse; keys = []; frequencies = [] }) }
     ensures deadline { deadlines segments.new.items
         ≡ with_at (deadlines segments.old.items) segment deadline }
+    ensures room { KeepsRoom segments.old.items segments.new.items }
 {
     segments[segment].keys.clear();
+    segments[segment].frequencies.clear();
     segments[segment].state = SegState::InUse;
     segments[segment].deadline = deadline;
 }
@@ -122,16 +166,24 @@ pub fn but_for(segment: u32, current: Option<u32>) -> Option<u32>
     }
 }
 
-// So many segments that were never filled.
-pub fn empty_segments(alloc: Global, count: u32) -> Result<Vec<Segment>, PlainFault>
+// So many segments that were never filled, with memory for so many rows each.
+pub fn empty_segments(alloc: Global, count: u32, rows: u32) -> Result<Vec<Segment>, PlainFault>
     ensures len { IfOk result (λ segments. vec_len segments ≡ count) }
     ensures empty { IfOk result (λ segments. AllEmpty segments.items) }
+    ensures room { IfOk result (λ segments. AreRoomy rows segments.items) }
 {
     let mut segments = Vec::new(alloc);
     for _i in 0..count {
+        let Ok(keys) = Vec::with_capacity(alloc, rows as usize) else {
+            return Err(PlainFault::OutOfMemory);
+        };
+        let Ok(frequencies) = Vec::with_capacity(alloc, rows as usize) else {
+            return Err(PlainFault::OutOfMemory);
+        };
         let segment = Segment {
             state: SegState::Empty,
-            keys: Vec::new(alloc),
+            keys,
+            frequencies,
             deadline: 0,
         };
         if segments.push(segment).is_err() {
@@ -148,4 +200,21 @@ pub fn remove_item(items: &mut BTreeMap<Key, Cached>, key: &Key)
 {
     let _count = items.len();
     items.remove(key);
+}
+
+// Moves the item of a key to a segment. The key stands, so the map needs no memory for it.
+pub fn move_item(items: &mut BTreeMap<Key, Cached>, key: &Key, segment: u32)
+    requires { IsSome (lookup (is_at (key_cmp key.now)) items.old.entries) }
+    ensures { items.new.entries ≡ map (in_segment key.now segment) items.old.entries }
+{
+    let Some(item) = items.get(key) else {
+        unreachable!();
+    };
+    let moved = Cached {
+        value: item.value.copy(),
+        segment,
+    };
+    let Ok(_before) = items.insert(key.copy(), moved) else {
+        unreachable!();
+    };
 }

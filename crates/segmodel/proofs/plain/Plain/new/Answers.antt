@@ -29,5 +29,6 @@ invariant_of-result c =
       each_version = search rules;
       each_width = search rules;
       each_segment = search rules;
+      each_row = search rules;
       kept = IsKept-same state (IsKept-fresh shape);
     }

@@ -1,0 +1,100 @@
+-- A shape that is made for so many keys is valid, and has room for them.
+use Rattle.std.proofs.Common.{◌≡◌, ℕ, ◌+◌, ◌*◌, ◌/◌, ◌^◌, ◌<◌, ◌≤◌, ◌⊎◌, min, max, arith, refl, inl, inr}
+use Rattle.std.specs.Int.{IsInRange, IsPowerOfTwo, div_ceil}
+use Rattle.std.proofs.lemmas.Bool.{cases_lt}
+use Rattle.std.proofs.lemmas.Grind.{div_ceil_times}
+use Rattle.std.proofs.Math.Nat.{mul-le-mul_left, mul-le-mul_right}
+use Rattle.std.proofs.lemmas.Nat.{mul-le}
+use Rattle.segword.specs.Shape.{HasRoomFor, IsValid, word_count}
+use Rattle.segword.specs.declared.shape.Shape.{Shape}
+
+-- the lower one of a power of two and 65,536
+power_min : (n : ℕ) → IsPowerOfTwo n → IsPowerOfTwo (min n 65536)
+power_min n power = elim (cases_lt n 65536) [
+  | inl low ↦ (power.0, omega (arith, power.1))
+  | inr high ↦ (16, omega arith)
+]
+
+module _ (keys passes near each segments rows : ℕ) (few : keys ≤ 425984) (in_range : IsInRange 1 64 passes)
+    (power : IsPowerOfTwo near) (over : div_ceil keys 4 ≤ near)
+    (is_each : each ≡ max (div_ceil (2 * keys) passes) 1) (is_segments : segments ≡ max (div_ceil each 4096) 8) (is_rows : rows ≡ div_ceil each segments) where
+  abbrev pub made : Shape
+  made = record { buckets = min near 65536; overflow = min near 65536; passes = passes; segments_each = segments; rows = rows; first_version = 0 }
+
+  abbrev share : ℕ
+  share = div_ceil (2 * keys) passes
+
+  share_times : (2 * keys ≤ share * passes) × (share * passes < 2 * keys + passes)
+  share_times = div_ceil_times (2 * keys) passes (omega (arith, in_range.0))
+
+  -- the rows of a pass are its share, rounded up, or one
+  each_fits : (2 * keys ≤ each * passes) × (each * passes ≤ 852096) × (1 ≤ each) × (each ≤ 852096)
+  each_fits = by (cases_lt share 1)
+    where
+      by : (share < 1) ⊎ (1 ≤ share) → (2 * keys ≤ each * passes) × (each * passes ≤ 852096) × (1 ≤ each) × (each ≤ 852096)
+      by (inl none) =
+          let one : each ≡ 1 = omega (arith, is_each) in
+          let zero : share ≡ 0 = omega arith in
+          let nothing : 2 * keys ≤ 0 * passes = rw zero at share_times.0 in
+          let times : each * passes ≡ passes = rw one (omega arith) in
+          (omega (arith, in_range.0), omega (arith, in_range.1), omega arith, omega arith)
+      by (inr some) =
+          let same : each ≡ share = omega (arith, is_each) in
+          let times : each * passes ≡ share * passes = rw same refl in
+          let more : each * 1 ≤ each * passes = mul-le-mul_left each in_range.0 in
+          (omega (arith, share_times.0), omega (arith, share_times.1, in_range.1), omega arith, omega (arith, share_times.1, in_range.1))
+
+  segments_fit : (8 ≤ segments) × (segments ≤ 209) × (each ≤ segments * 4096)
+  segments_fit =
+      let times = div_ceil_times each 4096 (omega arith) in
+      let few = each_fits.3 in
+      (omega (arith, is_segments), omega (arith, is_segments, times.1), omega (arith, is_segments, times.0))
+
+  rows_fit : (each ≤ rows * segments) × (rows * segments < each + segments) × (1 ≤ rows) × (rows ≤ 4096)
+  rows_fit =
+      let times = div_ceil_times each segments (omega (arith, segments_fit.0)) in
+      let over : each ≤ rows * segments = rw is_rows times.0 in
+      let under : rows * segments < each + segments = rw is_rows times.1 in
+      (over, under, positive (cases_lt rows 1) over, small (cases_lt 4096 rows) under)
+    where
+      positive : (rows < 1) ⊎ (1 ≤ rows) → each ≤ rows * segments → 1 ≤ rows
+      positive (inl none) over =
+          let zero : rows ≡ 0 = omega arith in
+          let nothing : each ≤ 0 * segments = rw zero at over in
+          absurd (omega (arith, each_fits.2))
+      positive (inr some) over = some
+
+      small : (4096 < rows) ⊎ (rows ≤ 4096) → rows * segments < each + segments → rows ≤ 4096
+      small (inl many) under =
+          let more : 4097 * segments ≤ rows * segments = mul-le-mul_right segments (omega arith) in
+          absurd (omega (arith, segments_fit.2))
+      small (inr fits) under = fits
+
+  -- each pass has a bounded part of the table
+  part_fits : passes * segments * (1 + 8 * rows) ≤ 8000000
+  part_fits =
+      let counts : passes * segments ≤ 64 * 209 = mul-le passes segments 64 209 in_range.1 segments_fit.1 in
+      let table : passes * (rows * segments) ≤ passes * (each + segments) = mul-le-mul_left passes (omega (arith, rows_fit.1)) in
+      let spread : passes * segments * (1 + 8 * rows) ≡ passes * segments + 8 * (passes * (rows * segments)) = omega arith in
+      let apart : passes * (each + segments) ≡ each * passes + passes * segments = omega arith in
+      omega (arith, each_fits.1)
+
+  pub is_valid : IsValid made
+  is_valid = (
+    (((((power_min near power, omega arith), omega arith), in_range), (omega (arith, segments_fit.0), omega (arith, segments_fit.1))), (rows_fit.2, rows_fit.3)),
+    omega (arith, part_fits),
+  )
+
+  pub has_room : HasRoomFor keys made
+  has_room = record {
+    words = words (cases_lt near 65536);
+    rows =
+        let table : passes * each ≤ passes * (rows * segments) = mul-le-mul_left passes rows_fit.0 in
+        let one : passes * segments * rows ≡ passes * (rows * segments) = omega arith in
+        let other : passes * each ≡ each * passes = omega arith in
+        omega (arith, each_fits.0);
+  }
+    where
+      words : (near < 65536) ⊎ (65536 ≤ near) → 2 * keys ≤ 7 * min near 65536 + 6 * min near 65536
+      words (inl low) = let times = div_ceil_times keys 4 (omega arith) in omega (arith, over, times.0)
+      words (inr high) = omega arith

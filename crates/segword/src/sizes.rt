@@ -1,0 +1,49 @@
+//! Shapes by how much they hold.
+ghost use Rattle.std.specs.Prelude.{◌≡◌, ◌*◌, IfErr, IfOk};
+
+use crate::{Shape, ShapeFault};
+
+// The most keys that a table has two words for each.
+const MOST_KEYS: u32 = 425_984;
+
+// How many segments each pass has at least, so that a pass gives up few keys with one.
+const LEAST_SEGMENTS: u32 = 8;
+
+impl Shape {
+    ghost use Rattle.segword.specs.Shape.{HasRoomFor, IsFaultOfKeys, IsValid, word_count};
+
+    /// A shape for so many passes, in which so many keys have room to spare:
+    /// for each key its chains have two item words, and the segments of all passes two rows.
+    /// There is one for up to 425,984 keys and 64 passes.
+    pub fn for_keys(keys: u32, passes: u32) -> Result<Shape, ShapeFault>
+        ensures ok { IfOk result (λ shape.
+            IsValid shape × (shape.passes ≡ passes) × HasRoomFor keys shape) }
+        ensures err { IfErr result (IsFaultOfKeys keys passes) }
+    {
+        if !(1..=64).contains(&passes) {
+            return Err(ShapeFault::BadPasses);
+        }
+        if keys > MOST_KEYS {
+            return Err(ShapeFault::TooLarge);
+        }
+        let buckets = keys.div_ceil(4).next_power_of_two().min(65_536);
+        let rows_each = (2 * keys).div_ceil(passes).max(1);
+        let segments_each = rows_each.div_ceil(4096).max(LEAST_SEGMENTS);
+        Ok(Shape {
+            buckets,
+            overflow: buckets,
+            passes,
+            segments_each,
+            rows: rows_each.div_ceil(segments_each),
+            first_version: 0,
+        })
+    }
+
+    /// How many bytes the table of this shape has: 8 for each of its words.
+    pub fn bytes(&self) -> u64
+        requires { IsValid self.now }
+        ensures { result ≡ 8 * word_count self.now }
+    {
+        8 * self.words()
+    }
+}
