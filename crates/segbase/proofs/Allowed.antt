@@ -16,6 +16,7 @@ use Rattle.segbase.specs.Ruled.{IsSight, Rule, Learns}
 use Rattle.segbase.specs.Spots.{cell_of}
 use Rattle.segbase.specs.Passes.{CanStep}
 use Rattle.segbase.proofs.Begun.{begins_on}
+use Rattle.segbase.proofs.Ended.{views_kept, apart_moved}
 
 -- a seat that keeps its number, and stays a pass if it is one, keeps the passes' numbers apart
 pub apart_kept : (views : List Sight) (id : ℕ) (x u : Sight) → ((i j : ℕ) (a b : Sight) → get_elem? views i ≡ some a → get_elem? views j ≡ some b → a.is_pass ≡ true → b.is_pass ≡ true → a.view.number ≡ b.view.number → i ≡ j)
@@ -42,11 +43,13 @@ module _ {S : Type 0} where
         seen = ([], sym all);
         met = begins_on es x.met rule.trace old.met;
         own = λ _. subst (λ n. get_elem? (set rule.views x.view.number w) n ≡ some w) (sym same) (set_here rule.views x.view.number w (inside_list rule.views x.view.number x.view (old.own pass)));
+        ended = views_kept rule.views x.view.number w x.ended (rule.apart id id x x at at pass) old.ended;
       }))
       (λ t. let o = rule.sights j y t.1 in record {
         seen = begins_on es y.view.trace rule.trace o.seen;
         met = begins_on es y.met rule.trace o.met;
         own = λ yes. set_else rule.views x.view.number y.view.number w (λ e. t.0 (rule.one j id y x t.1 at yes pass e)) ∙ o.own yes;
+        ended = views_kept rule.views x.view.number w y.ended (rule.apart j id y x t.1 at pass) o.ended;
       })
       (at_set s.views id j (record x { view = w }) y is)
 
@@ -74,6 +77,7 @@ module _ {S : Type 0} where
         few = subst (λ n. n ≤ z.passes) (sym (length-set rule.views p w)) rule.few;
         sights = sights_kept z s rule id me.0 w es at pass refl refl;
         one = apart_kept s.views id me.0 x rule.one at pass refl;
+        apart = apart_moved s.views id me.0 x rule.apart at pass refl refl;
       } in
       let told : Told z st found v w = record {
         more = k.more;

@@ -15,14 +15,15 @@ use Rattle.segbase.specs.declared.law.Sight.{Sight}
 use Rattle.segbase.specs.declared.pass.Plain.{Plain}
 use Rattle.segbase.specs.Minding.{Minds}
 use Rattle.segbase.specs.Passes.{sight, view, number, trace, IsPassOf, IsMemo}
-use Rattle.segbase.specs.Ruled.{Rule, IsSight, witness, spent, meets, minding}
+use Rattle.segbase.specs.Ruled.{AreViews, Rule, IsSight, witness, spent, meets, minding}
 use Rattle.segbase.proofs.Allowed.{apart_kept}
+use Rattle.segbase.proofs.Ended.{apart_longer, apart_moved, apart_spent}
 
-abbrev IsOne : List Sight → Type 0
+abbrev pub IsOne : List Sight → Type 0
 IsOne views = (i j : ℕ) (a b : Sight) → get_elem? views i ≡ some a → get_elem? views j ≡ some b → a.is_pass ≡ true → b.is_pass ≡ true → a.view.number ≡ b.view.number → i ≡ j
 
 -- a seat of no pass is added, or put in the place of another
-one_longer : (views : List Sight) (u : Sight) → IsOne views → u.is_pass ≡ false → IsOne (views ++ u ∷ [])
+pub one_longer : (views : List Sight) (u : Sight) → IsOne views → u.is_pass ≡ false → IsOne (views ++ u ∷ [])
 one_longer views u one off i j a b ai bj pa pb e = ⊎_elim
     (λ t. ⊎_elim
     (λ o. one i j a b t o pa pb e)
@@ -31,7 +32,7 @@ one_longer views u one off i j a b ai bj pa pb e = ⊎_elim
     (λ t. absurd (false≢true (sym off ∙ (ap (λ (y : Sight). y.is_pass) t ∙ pa))))
     (at_snoc views u a i ai)
 
-one_spent : (views : List Sight) (id : ℕ) (u : Sight) → IsOne views → u.is_pass ≡ false → IsOne (set views id u)
+pub one_spent : (views : List Sight) (id : ℕ) (u : Sight) → IsOne views → u.is_pass ≡ false → IsOne (set views id u)
 one_spent views id u one off i j a b ai bj pa pb e = ⊎_elim
     (λ t. absurd (false≢true (sym off ∙ (ap (λ (y : Sight). y.is_pass) t.1 ∙ pa))))
     (λ t. ⊎_elim
@@ -40,12 +41,12 @@ one_spent views id u one off i j a b ai bj pa pb e = ⊎_elim
     (at_set views id j u b bj))
     (at_set views id i u a ai)
 
-begins_all : (h : List Event) → Begins [] h
+pub begins_all : (h : List Event) → Begins [] h
 begins_all h = (h, sym (append-nil h))
 
 -- a seat is split off that carries what a pass has seen; the pass may keep another thing in mind
-pub carries : (S : Type 0) (z : Shape) (id : ℕ) (x u : Sight) → x.is_pass ≡ true → u.view ≡ x.view → u.met ≡ x.met → u.is_pass ≡ true → Splits {S = S} (Rule z) id x u (witness x)
-carries S z id x u pass view met is_pass s rule at =
+pub carries : (S : Type 0) (z : Shape) (id : ℕ) (x u : Sight) → x.is_pass ≡ true → u.view ≡ x.view → u.met ≡ x.met → u.is_pass ≡ true → u.ended ≡ x.ended → Splits {S = S} (Rule z) id x u (witness x)
+carries S z id x u pass view met is_pass ended s rule at =
     let old = rule.sights id x at in
     let one = apart_kept s.views id x u rule.one at pass (ap (λ v. v.number) view) in
     record {
@@ -55,12 +56,13 @@ carries S z id x u pass view met is_pass s rule at =
       few = rule.few;
       sights = λ j y is. ⊎_elim
           (λ t. ⊎_elim
-          (λ o. subst (IsSight rule.views rule.trace) o.1 (record { seen = subst (λ v. Begins v.trace rule.trace) (sym view) old.seen; met = subst (λ m. Begins m rule.trace) (sym met) old.met; own = λ _. subst (λ v. get_elem? rule.views v.number ≡ some v) (sym view) (old.own pass) }))
+          (λ o. subst (IsSight rule.views rule.trace) o.1 (record { seen = subst (λ v. Begins v.trace rule.trace) (sym view) old.seen; met = subst (λ m. Begins m rule.trace) (sym met) old.met; own = λ _. subst (λ v. get_elem? rule.views v.number ≡ some v) (sym view) (old.own pass); ended = subst (AreViews rule.views) (sym ended) old.ended }))
           (λ o. rule.sights j y o.1)
           (at_set s.views id j u y t))
-          (λ t. subst (IsSight rule.views rule.trace) t (record { seen = old.seen; met = begins_all rule.trace; own = λ yes. absurd (false≢true yes) }))
+          (λ t. subst (IsSight rule.views rule.trace) t (record { seen = old.seen; met = begins_all rule.trace; own = λ yes. absurd (false≢true yes); ended = tt }))
           (at_snoc (set s.views id u) (witness x) y j is);
       one = one_longer (set s.views id u) (witness x) one refl;
+      apart = apart_longer (set s.views id u) (witness x) (apart_moved s.views id x u rule.apart at pass (ap (λ v. v.number) view) ended) refl refl;
     }
 
 pub tells : (S : Type 0) (z : Shape) (id other : ℕ) (x w : Sight) → x.is_pass ≡ true → Joins {S = S} (Rule z) id x other w (meets x w) spent
@@ -76,13 +78,14 @@ tells S z id other x w pass s rule at apart at' =
       lawful = rule.lawful;
       few = rule.few;
       sights = λ j y is. ⊎_elim
-          (λ t. subst (IsSight rule.views rule.trace) t.1 (record { seen = begins_all rule.trace; met = begins_all rule.trace; own = λ yes. absurd (false≢true yes) }))
+          (λ t. subst (IsSight rule.views rule.trace) t.1 (record { seen = begins_all rule.trace; met = begins_all rule.trace; own = λ yes. absurd (false≢true yes); ended = tt }))
           (λ t. ⊎_elim
-          (λ o. subst (IsSight rule.views rule.trace) o.1 (record { seen = old.seen; met = (rule.sights other w carried).seen; own = old.own }))
+          (λ o. subst (IsSight rule.views rule.trace) o.1 (record { seen = old.seen; met = (rule.sights other w carried).seen; own = old.own; ended = old.ended }))
           (λ o. rule.sights j y o.1)
           (at_set s.views id j u y t.1))
           (at_set views other j spent y is);
       one = one_spent views other spent one refl;
+      apart = apart_spent views other spent (apart_moved s.views id x u rule.apart at pass refl refl) refl refl;
     }
 
 abbrev rest : List Event → List Event

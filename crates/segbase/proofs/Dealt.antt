@@ -8,8 +8,9 @@ use Rattle.segword.specs.Words.{IsValid, Shape}
 use Rattle.segcore.specs.Words.{Event, Knows, Lawful, NoneBy, View}
 use Rattle.segbase.specs.declared.law.Sight.{Sight}
 use Rattle.segbase.specs.Opening.{IsOpened}
-use Rattle.segbase.specs.Ruled.{Rule, IsSight, first_sight, dealer, newcomer}
+use Rattle.segbase.specs.Ruled.{AreViews, NoneNumbered, Rule, IsSight, first_sight, dealer, newcomer}
 use Rattle.segbase.proofs.Allowed.{apart_kept}
+use Rattle.segbase.proofs.Ended.{apart_moved, none_new, stood, views_kept, views_longer}
 use Rattle.segcore.proofs.KeepsLaw.{inside_list}
 
 only : (p : ℕ) (v : View) → get_elem? (first_sight.view ∷ []) p ≡ some v → Knows p v []
@@ -17,12 +18,16 @@ only zero v at = subst (λ (u : View). Knows 0 u []) (some-injective first_sight
 only (suc p) v at = absurd (some-ne-none v (sym at))
 
 one_sight : (id : ℕ) (x : Sight) → get_elem? (first_sight ∷ []) id ≡ some x → IsSight (first_sight.view ∷ []) [] x
-one_sight zero x at = subst (IsSight (first_sight.view ∷ []) []) (some-injective first_sight x at) (record { seen = ([], refl); met = ([], refl); own = λ _. refl })
+one_sight zero x at = subst (IsSight (first_sight.view ∷ []) []) (some-injective first_sight x at) (record { seen = ([], refl); met = ([], refl); own = λ _. refl; ended = tt })
 one_sight (suc id) x at = absurd (some-ne-none x (sym at))
 
 one_id : (i : ℕ) (x : Sight) → get_elem? (first_sight ∷ []) i ≡ some x → i ≡ 0
 one_id zero x at = refl
 one_id (suc i) x at = absurd (some-ne-none x (sym at))
+
+none_ended : (i : ℕ) (x : Sight) → get_elem? (first_sight ∷ []) i ≡ some x → (n : ℕ) → NoneNumbered n x.ended
+none_ended zero x at n = subst (λ (s : Sight). NoneNumbered n s.ended) (some-injective first_sight x at) tt
+none_ended (suc i) x at n = absurd (some-ne-none x (sym at))
 
 pub rule_opens : (S : Type 0) (z : Shape) (words : List ℕ) → IsValid z → IsOpened z words → Rule {S = S} z (opening words [] first_sight)
 rule_opens S z words valid opened = record {
@@ -40,6 +45,7 @@ rule_opens S z words valid opened = record {
   few = valid.0.0.0.1.0;
   sights = one_sight;
   one = λ i j x y at at' _ _ _. one_id i x at ∙ sym (one_id j y at');
+  apart = λ i j x y at at' _. none_ended i x at y.view.number;
 }
 
 snoc_at : {A : Type 0} (l : List A) (a b : A) (j : ℕ) → get_elem? (l ++ a ∷ []) j ≡ some b → (get_elem? l j ≡ some b) ⊎ ((j ≡ length l) × (a ≡ b))
@@ -103,6 +109,12 @@ deals S z id x pass first fewer s rule at =
     (λ t. old_number y j t.1 yes)
     (at_set s.views id j (dealer x) y e) in
     let one = apart_kept s.views id x (dealer x) rule.one at pass refl in
+    let apart = apart_moved s.views id x (dealer x) rule.apart at pass refl refl in
+    let still : (y : Sight) (j : ℕ) → get_elem? s.views j ≡ some y → AreViews views y.ended = λ y j e.
+    views_longer there new y.ended (views_kept rule.views 0 w y.ended (subst (λ n. NoneNumbered n y.ended) first (rule.apart j id y x e at pass)) (rule.sights j y e).ended) in
+    let none_of : (y : Sight) (j : ℕ) → get_elem? (set s.views id (dealer x)) j ≡ some y → NoneNumbered v.dealt y.ended = λ y j e.
+    let was = stood s.views id x (dealer x) at pass refl refl j y e in
+    subst (NoneNumbered v.dealt) was.3 (none_new rule.views v.dealt was.0.ended (omega (arith, all)) (rule.sights j was.0 was.1).ended) in
     record {
       trace = h;
       views = views;
@@ -110,10 +122,10 @@ deals S z id x pass first fewer s rule at =
       few = let more : length views ≡ length rule.views + 1 = length-append there (new ∷ []) ∙ ap (λ n. n + 1) long in omega arith;
       sights = λ j y is. ⊎_elim
           (λ t. ⊎_elim
-          (λ o. subst (IsSight views h) o.1 (record { seen = old.seen; met = old.met; own = λ _. subst (λ n. get_elem? views n ≡ some w) (sym first) (known 0 w (set_here rule.views 0 w (inside_list rule.views 0 v here))) }))
-          (λ o. let a = rule.sights j y o.1 in record { seen = a.seen; met = a.met; own = λ yes. known y.view.number y.view (set_else rule.views 0 y.view.number w (λ e. o.0 (rule.one j id y x o.1 at yes pass (e ∙ sym first))) ∙ a.own yes) })
+          (λ o. subst (IsSight views h) o.1 (record { seen = old.seen; met = old.met; own = λ _. subst (λ n. get_elem? views n ≡ some w) (sym first) (known 0 w (set_here rule.views 0 w (inside_list rule.views 0 v here))); ended = still x id at }))
+          (λ o. let a = rule.sights j y o.1 in record { seen = a.seen; met = a.met; own = λ yes. known y.view.number y.view (set_else rule.views 0 y.view.number w (λ e. o.0 (rule.one j id y x o.1 at yes pass (e ∙ sym first))) ∙ a.own yes); ended = still y j o.1 })
           (at_set s.views id j (dealer x) y t))
-          (λ t. subst (IsSight views h) t.1 (record { seen = old.seen; met = (h, sym (append-nil h)); own = λ _. at_last there new v.dealt (long ∙ sym all) }))
+          (λ t. subst (IsSight views h) t.1 (record { seen = old.seen; met = (h, sym (append-nil h)); own = λ _. at_last there new v.dealt (long ∙ sym all); ended = tt }))
           (snoc_at (set s.views id (dealer x)) (newcomer x) y j is);
       one = λ i j a b ai bj pa pb e. ⊎_elim
           (λ t. ⊎_elim
@@ -124,5 +136,12 @@ deals S z id x pass first fewer s rule at =
           (λ o. let lt = set_number b j o pb in let f = ap (λ (u : Sight). u.view.number) t.1 in absurd (omega arith))
           (λ o. t.0 ∙ sym o.0)
           (snoc_at (set s.views id (dealer x)) (newcomer x) b j bj))
+          (snoc_at (set s.views id (dealer x)) (newcomer x) a i ai);
+      apart = λ i j a b ai bj pb. ⊎_elim
+          (λ t. ⊎_elim
+          (λ o. apart i j a b t o pb)
+          (λ o. subst (λ (u : Sight). NoneNumbered u.view.number a.ended) o.1 (none_of a i t))
+          (snoc_at (set s.views id (dealer x)) (newcomer x) b j bj))
+          (λ t. subst (λ (u : Sight). NoneNumbered b.view.number u.ended) t.1 tt)
           (snoc_at (set s.views id (dealer x)) (newcomer x) a i ai);
     }

@@ -4,7 +4,9 @@ pub mod Begun
 pub mod Carried
 pub mod Closed
 pub mod Dealt
+pub mod Ended
 pub mod Exchanging
+pub mod GivenUp
 pub mod Known
 pub mod Minded
 pub mod Moves

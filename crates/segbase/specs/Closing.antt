@@ -1,12 +1,12 @@
 -- The words of a board that was closed, and what had happened by then.
-use Rattle.std.specs.Prelude.{◌≡◌, ℕ, List, ◌++◌, slice_index}
+use Rattle.std.specs.Prelude.{◌≡◌, ℕ, ◌<◌, ◌≤◌, List, ◌++◌, Some, slice_get, slice_index}
 use Rattle.std.specs.Slots.{slots_items}
 use Rattle.segword.specs.Words.{IsValid, Shape}
-use Rattle.segcore.specs.Words.{address, Cell, Event, IsCell, IsLawful, NoneBy, word}
+use Rattle.segcore.specs.Words.{address, Cell, Event, IsCell, IsLawful, Knows, NoneBy, word}
 use Rattle.segbase.specs.declared.closing.Words.{Words}
 use Rattle.segbase.specs.declared.board.Board.{Board}
 use Rattle.segbase.specs.declared.pass.Pass.{Pass}
-use Rattle.segbase.specs.Passes.{number, trace}
+use Rattle.segbase.specs.Passes.{IsPassOf, number, trace, view}
 
 abbrev pub shape_of : Words → Shape
 shape_of words = words.shape
@@ -29,3 +29,22 @@ pub record Closes (b : Board) (p : Pass) (words : Words) (last : List Event) : T
   pub goes_on : last ≡ more ++ trace p
   pub others : NoneBy (number p) more
   pub alone : b.shape.passes ≡ 1 → last ≡ trace p
+
+-- each number below this one has its pass among these
+abbrev pub HasEach : ℕ → List Pass → Type 0
+HasEach count passes = (n : ℕ) → n < count → (place : ℕ) × (p : Pass) × (slice_get passes place ≡ Some p) × (number p ≡ n)
+
+-- these are passes of the board, and all of them are there
+pub record AreAll (b : Board) (passes : List Pass) : Type 0 where
+  pub each : (place : ℕ) (p : Pass) → slice_get passes place ≡ Some p → IsPassOf b p
+  pub all : HasEach b.shape.passes passes
+
+-- one of the passes has seen all that had happened when the board was closed with all of them: it goes on from what each has seen, by events of others alone, and is of nobody else
+pub record ClosesAll (b : Board) (passes : List Pass) (words : Words) : Type 0 where
+  pub of : shape_of words ≡ b.shape
+  pub place : ℕ
+  pub last : Pass
+  pub there : slice_get passes place ≡ Some last
+  pub rest : IsAtRest words (trace last)
+  pub each : (at : ℕ) (p : Pass) → slice_get passes at ≡ Some p → Knows (number p) (view p) (trace last)
+  pub among : (n : ℕ) → b.shape.passes ≤ n → NoneBy n (trace last)

@@ -1,5 +1,5 @@
 -- The rule of the table: some trace makes its words what they are, and goes on from what each seat knows.
-use Rattle.std.specs.Prelude.{◌≡◌, ℕ, ◌+◌, ◌≤◌, true, false, List, [], length, None}
+use Rattle.std.specs.Prelude.{◌≡◌, ◌≢◌, ℕ, ◌+◌, ◌≤◌, true, false, List, [], ◌∷◌, length, None}
 use mathlib.Core.Option.{some}
 use lib.ListN.{get_elem?}
 use Rattle.atomic_table.specs.Table.{State, Me, Step as TableStep}
@@ -9,11 +9,26 @@ use Rattle.segbase.specs.declared.law.Memo.{Memo}
 use Rattle.segbase.specs.declared.law.Sight.{Sight}
 use Rattle.segmodel.specs.Words.{Begins}
 
--- what a seat knows has happened; and of the passes, the view is the one of its number
+-- each of these views is the one of its number
+abbrev pub AreViews : List View → List View → Type 0
+AreViews views [] = Unit {0}
+AreViews views (view ∷ more) = (get_elem? views view.number ≡ some view) × AreViews views more
+
+-- none of these views has the number
+abbrev pub NoneNumbered : ℕ → List View → Type 0
+NoneNumbered number [] = Unit {0}
+NoneNumbered number (view ∷ more) = (view.number ≢ number) × NoneNumbered number more
+
+-- what a seat knows has happened; and of the passes, the view is the one of its number, as is that of each pass that was given up to it
 pub record IsSight (views : List View) (trace : List Event) (sight : Sight) : Type 0 where
   pub seen : Begins sight.view.trace trace
   pub met : Begins sight.met trace
   pub own : sight.is_pass ≡ true → get_elem? views sight.view.number ≡ some sight.view
+  pub ended : AreViews views sight.ended
+
+-- no pass that was given up has the number of one that takes steps
+abbrev pub AreApart : List Sight → Type 0
+AreApart sights = (i j : ℕ) (x y : Sight) → get_elem? sights i ≡ some x → get_elem? sights j ≡ some y → y.is_pass ≡ true → NoneNumbered y.view.number x.ended
 
 -- the views are those of the passes, by their numbers
 pub record Rule {S : Type 0} (shape : Shape) (state : State S Sight) : Type 0 where
@@ -25,12 +40,13 @@ pub record Rule {S : Type 0} (shape : Shape) (state : State S Sight) : Type 0 wh
   pub sights : (id : ℕ) (sight : Sight) → get_elem? state.views id ≡ some sight → IsSight views trace sight
   -- no two passes have one number
   pub one : (i j : ℕ) (x y : Sight) → get_elem? state.views i ≡ some x → get_elem? state.views j ≡ some y → x.is_pass ≡ true → y.is_pass ≡ true → x.view.number ≡ y.view.number → i ≡ j
+  pub apart : AreApart state.views
 
 abbrev pub no_memo : Memo
 no_memo = record { holding = None; locked = None }
 
 abbrev pub pass_sight : View → Sight
-pass_sight view = record { view = view; met = []; is_pass = true; memo = no_memo }
+pass_sight view = record { view = view; met = []; is_pass = true; memo = no_memo; ended = [] }
 
 -- the first pass
 abbrev pub first_sight : Sight
@@ -49,14 +65,18 @@ same_sight sight = sight
 
 -- a seat that carries what a pass has seen, and one that carries nothing
 abbrev pub witness : Sight → Sight
-witness sight = record { view = sight.view; met = []; is_pass = false; memo = no_memo }
+witness sight = record { view = sight.view; met = []; is_pass = false; memo = no_memo; ended = [] }
 
 abbrev pub spent : Sight
-spent = record { view = record { number = 0; trace = []; dealt = 0 }; met = []; is_pass = false; memo = no_memo }
+spent = record { view = record { number = 0; trace = []; dealt = 0 }; met = []; is_pass = false; memo = no_memo; ended = [] }
 
 -- a pass is told of what another had seen
 abbrev pub meets : Sight → Sight → Sight
 meets sight other = record sight { met = other.view.trace }
+
+-- a pass is given up to a seat
+abbrev pub ends : Sight → Sight → Sight
+ends sight pass = record sight { ended = pass.view ∷ sight.ended }
 
 -- a pass keeps something in mind
 abbrev pub minding : Memo → Sight → Sight

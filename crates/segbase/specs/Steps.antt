@@ -2,10 +2,10 @@
 use Rattle.std.specs.Prelude.{◌≡◌, ◌≢◌, ℕ, ◌+◌, ◌/◌, ◌%◌, ◌^◌, ◌<◌, ◌≤◌, ◌==◌, Bool, true, false, List, [], ◌∷◌, None}
 use prog.Atomic.{either}
 use Rattle.segword.specs.Words.{chain_word, Info, IsSameItem, Item, item_word, tag_part}
-use Rattle.segcore.specs.declared.event.Event.TheVariants.{Took, Bounced, Glanced, Linked, Unlinked}
+use Rattle.segcore.specs.declared.event.Event.TheVariants.{Took, Bounced, Glanced, Linked, Relinked, Unlinked}
 use Rattle.segcore.specs.Words.{bucket_after, bump, chain, clear, Content, copy, draw, drawn_in, Leaving}
 use Rattle.segcore.specs.Words.{Event, fill, glance, HasBit, is, IsItemAt, IsWordOf, item, link}
-use Rattle.segcore.specs.Words.{look, May, next, nothing, Step, take, unless_own, word}
+use Rattle.segcore.specs.Words.{look, May, next, nothing, relink, Slot, Step, take, unless_own, word}
 use Rattle.segcore.specs.Lawful as lawful
 use Rattle.segmodel.specs.Words.{bucket_of, Request}
 use Rattle.segbase.specs.declared.place.Place.{Place}
@@ -123,6 +123,14 @@ linking b p place request new old = link request new.seg new.row (position_at b 
 
 abbrev pub AddsLink : Board → Place → Request → Item → Pass → Pass → Type 0
 AddsLink b place request new p q = AddsOne b (λ n. Linked n request new.seg new.row (position_at b place p)) p q
+
+-- the item of a key, which names this row, comes to name another one, with the frequency that it has
+abbrev pub relinking : Board → Pass → Place → Slot → Item → Step
+relinking b p place named new = relink named.key named.segment named.row new.freq new.seg new.row (position_at b place p) (cell_at b.shape place)
+
+abbrev pub AddsRelink : Board → Place → Slot → Item → Pass → Pass → Type 0
+AddsRelink b place named new p q =
+    AddsOne b (λ n. Relinked n named.key named.segment named.row new.seg new.row (position_at b place p)) p q
 
 -- the item of a key leaves, by a delete or by the eviction of a segment
 abbrev pub unlinking : Board → Pass → Place → List ℕ × Leaving → ℕ → Step

@@ -1,5 +1,6 @@
 -- The words of this crate that others use, from one place.
-pub use Rattle.segbase.specs.Closing.{Closes, IsAtRest, shape_of, word_of_cell}
+pub use Rattle.segbase.specs.Closing.{AreAll, Closes, ClosesAll, HasEach, IsAtRest, shape_of}
+pub use Rattle.segbase.specs.Closing.{word_of_cell}
 pub use Rattle.segbase.specs.Made.{IsMade, IsMakeFault, IsNewPass, IsNewPlain, unfilled}
 pub use Rattle.segbase.specs.Minding.{HasHeld, HasLocked, Minds}
 pub use Rattle.segbase.specs.Passes.{AddsAtOnce, AddsEvents, bounced, drew, entered, glanced}
@@ -14,7 +15,7 @@ pub use Rattle.segbase.specs.Plain.{with_state, with_used}
 pub use Rattle.segbase.specs.Props.{Held-set, IsPassOf-prop, traces-prop}
 pub use Rattle.segbase.specs.Spots.{cell_at, depth_of, home_bucket, home_bucket_of, home_in}
 pub use Rattle.segbase.specs.Spots.{IsPlace, position}
-pub use Rattle.segbase.specs.Steps.{AddsLink, AddsUnlink, content_for, CounterMissed}
+pub use Rattle.segbase.specs.Steps.{AddsLink, AddsRelink, AddsUnlink, content_for, CounterMissed}
 pub use Rattle.segbase.specs.Steps.{depth_to_draw, Glances, has_bit, HasItemOf, home_at, IsFree}
 pub use Rattle.segbase.specs.Steps.{IsItemPlace, IsWordOfContent, Missed, position_at, Takes, word_at}
 pub use Rattle.segbase.specs.Traces.{IsReaderEvent, OnlyReads, own_of, StaysIn}

@@ -9,10 +9,11 @@ ghost use Rattle.segcore.specs.Words.{IsSegment};
 ghost use Rattle.segbase.specs.Spots.{IsLayoutOf};
 
 use crate::board::Board;
+use crate::law::{GiveUp, Nobody, Sight};
 use crate::layout::Layout;
 use crate::pass::Pass;
 use crate::place::{Place, Spot};
-use atomic_table::Closed;
+use atomic_table::{Closed, Seat};
 use segword::Shape;
 use std::alloc::Global;
 
@@ -40,8 +41,9 @@ impl Drop for Words {
 }
 
 impl Board {
-    ghost use Rattle.segbase.specs.Passes.{IsPassOf};
-    ghost use Rattle.segbase.specs.Closing.{Closes};
+    ghost use Rattle.std.specs.Prelude.{map};
+    ghost use Rattle.segbase.specs.Passes.{IsPassOf, view};
+    ghost use Rattle.segbase.specs.Closing.{AreAll, Closes, ClosesAll};
 
     /// Ends the board with one of its passes. What is left of the others takes no more steps.
     pub fn close(self, pass: Pass) -> Words
@@ -58,6 +60,37 @@ impl Board {
             shape,
             layout,
         }
+    }
+
+    /// Ends the board with all its passes. What one of them has seen is then all that has happened.
+    pub fn close_all(self, passes: Vec<Pass>) -> Words
+        requires { AreAll self passes.items }
+        ensures { ClosesAll self passes.items result }
+    {
+        let ended = self.give_up(passes);
+        let Board {
+            table,
+            shape,
+            layout,
+        } = self;
+        Words {
+            closed: table.close_with(ended),
+            shape,
+            layout,
+        }
+    }
+
+    // A seat to which the passes were given up, so that none of them takes one more step.
+    fn give_up(&self, mut passes: Vec<Pass>) -> Seat<(), Sight>
+        requires { AreAll self.now passes.items }
+        ensures table { result.table_id ≡ self.now.table.shared.table_id }
+        ensures views { result.me.0.ended ≡ map view passes.items }
+    {
+        let (_, mut ended) = self.table.shared.load_new_seat::<Nobody>(0);
+        while let Some(pass) = passes.pop() {
+            self.table.shared.join_seat::<GiveUp>(&mut ended, pass.seat);
+        }
+        ended
     }
 }
 

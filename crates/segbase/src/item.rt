@@ -5,7 +5,7 @@ ghost use Rattle.segword.specs.Words.{item_word};
 ghost use Rattle.segmodel.specs.Words.{key_of, tag_of};
 ghost use Rattle.segmodel.specs.declared.request.Request.{Request};
 ghost use Rattle.segcore.specs.declared.event.Event.TheVariants.{Bumped};
-ghost use Rattle.segcore.specs.Words.{Leaving, Step};
+ghost use Rattle.segcore.specs.Words.{Leaving, packed, Slot, Step};
 
 use crate::board::Board;
 use crate::pass::Pass;
@@ -16,7 +16,8 @@ impl Board {
     ghost use Rattle.segbase.specs.Passes.{number, raised, IsPassOf, CanStep, AddsAtOnce, Stepped};
     ghost use Rattle.segbase.specs.Spots.{item_spot, IsPlace};
     ghost use Rattle.segbase.specs.Steps.{MayTake, TakesStep, linking, unlinking, bumping, looking};
-    ghost use Rattle.segbase.specs.Steps.{exchanging, AddsLink, AddsUnlink, IsWordAt, word_at};
+    ghost use Rattle.segbase.specs.Steps.{exchanging, relinking, AddsLink, AddsRelink, AddsUnlink};
+    ghost use Rattle.segbase.specs.Steps.{IsWordAt, word_at};
     ghost use Rattle.segbase.specs.Steps.{IsItemPlace, IsFree, HasItemOf, Missed};
 
     /// The item word, under its bucket's bit or without it.
@@ -72,6 +73,24 @@ impl Board {
     {
         let found = self.put(pass, place, old, item);
         if found == old { Ok(()) } else { Err(found) }
+    }
+
+    /// The item of a key comes to name a row of another segment of the pass's own, in its word
+    /// and under the bucket's bit. That row has its pair, and the frequency stays.
+    /// `Err` is as for `replace`.
+    pub fn move_item(&self, pass: &mut Pass, place: Place, old: u64, item: Item) -> Result<(), u64>
+        ghost named: { Slot }
+        requires pass { IsPassOf self.now pass.old }
+        requires item { (item.tag ≡ tag_of named.key)
+            × (old ≡ packed item.tag item.freq named.segment named.row) }
+        requires may { MayTake self.now pass.old (relinking self.now pass.old place named item) }
+        ensures step { TakesStep self.now (relinking self.now pass.old place named item)
+            pass.old pass.new }
+        ensures moved { OnOk result (AddsRelink self.now place named item pass.old pass.new) }
+        ensures missed { IfErr result (λ found. Missed self.now place old found pass.old pass.new) }
+    {
+        let there = self.put(pass, place, old, item);
+        if there == old { Ok(()) } else { Err(there) }
     }
 
     /// The item of a key leaves its word, under the bucket's bit: deleted,

@@ -37,6 +37,8 @@ pub struct Sight {
     /// Whether it is the seat of a pass. The others only carry to a pass what another one has seen.
     pub is_pass: bool,
     pub memo: Memo,
+    /// What the passes knew that were given up to this seat. They take no more steps.
+    pub ended: LinkedList<View>,
 }
 
 /// The rule of the table.
@@ -84,6 +86,27 @@ impl Join<Sight> for Tell {
     ghost use Rattle.segbase.specs.Ruled.{meets, spent};
 
     ghost both = { meets };
+
+    ghost spent = { spent };
+}
+
+// A seat of no pass, which knows nothing yet.
+pub(crate) struct Nobody;
+
+impl Play<(), Sight> for Nobody {
+    ghost use Rattle.std.specs.Prelude.{◌≡◌, []};
+    ghost use Rattle.segbase.specs.Ruled.{spent};
+
+    ghost then = { λ _ _ _ me. me ≡ (spent, []) };
+}
+
+// A pass is given up to such a seat.
+pub(crate) struct GiveUp;
+
+impl Join<Sight> for GiveUp {
+    ghost use Rattle.segbase.specs.Ruled.{ends, spent};
+
+    ghost both = { ends };
 
     ghost spent = { spent };
 }

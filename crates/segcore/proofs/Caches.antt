@@ -1,13 +1,15 @@
 -- What stands in the cache of one thread after one entry more, as a choice by the key.
-use Rattle.std.proofs.Common.{◌≡◌, ℕ, ◌+◌, Bool, true, false, cond, eqb, not, zero-add, List, ◌∷◌, Option, Some, None, sym, refl, ap, ◌∙◌, arith}
+use Rattle.std.proofs.Common.{◌≡◌, ℕ, ◌+◌, Bool, true, false, cond, eqb, not, zero-add, List, ◌∷◌, Option, Some, None, sym, refl, ap, ◌∙◌, option_map, arith}
 use Rattle.std.specs.Prelude.{IsSomeAnd}
 use Rattle.std.specs.BTreeMap.{is_at}
 use Rattle.segword.specs.Words.{Shape}
 use Rattle.segmodel.specs.declared.request.Reply.TheVariants.{Stored, NotStored, Exists, NotFound, Deleted}
-use Rattle.segmodel.specs.declared.entry.Entry.TheVariants.{Wrote, Evicted, Refilled}
+use Rattle.segmodel.specs.declared.entry.Entry.TheVariants.{Wrote, Evicted, Refilled, Moved}
 use Rattle.segmodel.specs.Words.{after, bucket_of, Cached, Entry, is_write_to, key_cmp, key_of}
 use Rattle.segmodel.specs.Words.{Reply, Request, standing, StandsIn, value_of, writes}
+use Rattle.segmodel.specs.Cache.{with_segment}
 use Rattle.segmodel.proofs.HistoryLemmas as model
+use Rattle.segmodel.proofs.Moves as moves
 use Rattle.segmodel.proofs.Keys as model_keys
 use Rattle.segmodel.proofs.Counts.{count_by-cons}
 use Rattle.segcore.specs.Mark.{same_key}
@@ -61,6 +63,11 @@ stands_wrote z p q NotFound s h k = sym (same_either (same_key (key_of q) k) (st
 pub stands_evicted : (z : Shape) (p : ℕ) (k' : List ℕ) (s : ℕ) (h : List Entry) (k : List ℕ) → stands z (Evicted p k' s ∷ h) k ≡ cond (same_key k' k) None (stands z h k)
 stands_evicted z p k' s h k = model.standing-without k' (after z h) k ∙ (unless (is_at (key_cmp k') k) (stands z h k) None ∙ ap (λ t. cond t None (stands z h k)) (at_key_back k' k))
 
+-- what a move leaves under its key: the item, in another segment
+pub stands_moved : (z : Shape) (p : ℕ) (k' : List ℕ) (f s : ℕ) (h : List Entry) (k : List ℕ)
+    → stands z (Moved p k' f s ∷ h) k ≡ cond (same_key k' k) (option_map (with_segment s) (stands z h k)) (stands z h k)
+stands_moved z p k' f s h k = moves.standing-moved k' s (after z h) k ∙ ap (λ t. cond t (option_map (with_segment s) (stands z h k)) (stands z h k)) (at_key_back k' k)
+
 -- a key that stands in a segment stands there with some value
 abbrev pub HasValueIn : Shape → List Entry → List ℕ → ℕ → Type 0
 HasValueIn z h k s = (v : List ℕ) × (stands z h k ≡ Some (cached v s))
@@ -102,3 +109,6 @@ writes_evicted z p k s h b = count_by-cons (is_write_to z b) (Evicted p k s) h �
 
 pub writes_refilled : (z : Shape) (p s d : ℕ) (h : List Entry) (b : ℕ) → writes z (Refilled p s d ∷ h) b ≡ writes z h b
 writes_refilled z p s d h b = count_by-cons (is_write_to z b) (Refilled p s d) h ∙ zero-add (writes z h b)
+
+pub writes_moved : (z : Shape) (p : ℕ) (k : List ℕ) (f s : ℕ) (h : List Entry) (b : ℕ) → writes z (Moved p k f s ∷ h) b ≡ writes z h b
+writes_moved z p k f s h b = count_by-cons (is_write_to z b) (Moved p k f s) h ∙ zero-add (writes z h b)

@@ -5,11 +5,11 @@ use Rattle.std.proofs.lemmas.Option.{same_Some, none-some}
 use Rattle.segword.specs.Words.{Shape}
 use Rattle.segmodel.specs.Words.{bucket_of, key_of}
 use Rattle.segcore.proofs.Coherent.{IsContent, IsChain}
-use Rattle.segcore.specs.Bucket.{Slot, slot, Content, nothing, item, next, copy, Bucket, last, fresh_position, bucket_at, is, acts, bucket_after}
+use Rattle.segcore.specs.Bucket.{Slot, slot, Content, nothing, item, next, copy, Bucket, last, fresh_position, bucket_at, is, acts, bucket_after, IsPosition}
 use Rattle.segcore.specs.Lawful.{Suits, IsLawful}
 use Rattle.segcore.specs.Overflow.{Home, home_of}
 use Rattle.segcore.specs.Words.{Event}
-use Rattle.segcore.specs.declared.event.Event.TheVariants.{Took, Freed, Replied, Linked, Unlinked, Drew, Put, Chained}
+use Rattle.segcore.specs.declared.event.Event.TheVariants.{Took, Freed, Replied, Linked, Relinked, Unlinked, Drew, Put, Chained}
 use Rattle.segcore.proofs.Quiet.{home_stays}
 
 -- ---- contents are told apart
@@ -127,6 +127,10 @@ chained z h p b m s l c = let u = bucket_after z h b in let v = acts (Chained p 
 like : (u : Bucket) → Like u u
 like u = record { chained = refl; spare = refl }
 
+-- where an item is, is a position of an item
+moved_position : (z : Shape) (h : List Event) (b : ℕ) (k : List ℕ) (n : ℕ) (a : Slot) → bucket_of z k ≡ b → (bucket_after z h (bucket_of z k)).items n ≡ item a → IsChain h b (bucket_after z h b) → IsPosition (bucket_after z h b) n
+moved_position z h b k n a e is' c = subst (IsContent h b (bucket_after z h b) n) (subst (λ x. (bucket_after z h x).items n ≡ item a) e is') (c.contents n)
+
 -- an event of the bucket
 chain_acts : (z : Shape) (e : Event) (h : List Event) (b : ℕ) → is (bucket_at z e) b ≡ true → IsLawful z (e ∷ h) → IsChain h b (bucket_after z h b) → IsChain (e ∷ h) b (acts e (bucket_after z h b))
 chain_acts z (Took p a) h b t l c = chain_like z (Took p a) h b _ _ l (λ m. refl) (record { chained = refl; spare = refl }) c.contents c
@@ -134,6 +138,8 @@ chain_acts z (Freed p a x) h b t l c = chain_like z (Freed p a x) h b _ _ l (λ 
 chain_acts z (Replied p q y) h b t l c = chain_like z (Replied p q y) h b _ _ l (λ m. refl) (like (bucket_after z h b)) c.contents c
 chain_acts z (Linked p q s r n) h b t l c = chain_like z (Linked p q s r n) h b _ _ l (λ m. refl) (record { chained = refl; spare = refl })
     (content_at h b n (item (slot (key_of q) s r)) (bucket_after z h b) (rw (← eqb-true (bucket_of z (key_of q)) b t) l.1.suits.3) c.contents) c
+chain_acts z (Relinked p k f i s r n) h b t l c = chain_like z (Relinked p k f i s r n) h b _ _ l (λ m. refl) (record { chained = refl; spare = refl })
+    (content_at h b n (item (slot k s r)) (bucket_after z h b) (moved_position z h b k n (slot k f i) (eqb-true (bucket_of z k) b t) l.1.suits.2 c) c.contents) c
 chain_acts z (Unlinked p k n why) h b t l c = chain_like z (Unlinked p k n why) h b _ _ l (λ m. refl) (record { chained = refl; spare = refl })
     (content_at h b n nothing (bucket_after z h b) tt c.contents) c
 chain_acts z (Drew p a d m) h b t l c = subst (λ x. IsChain (Drew p x d m ∷ h) b (acts (Drew p x d m) (bucket_after z h b))) (sym (eqb-true a b t))

@@ -8,7 +8,7 @@ use Rattle.segmodel.specs.Words.{Begins, bucket_of, entries_of, Entry, is_of, ke
 use Rattle.segmodel.specs.Words.{tag_of}
 use Rattle.segmodel.proofs.Counts.{count_by-cons}
 use Rattle.segcore.specs.Words.{Cell, Event, Leaving}
-use Rattle.segcore.specs.declared.event.Event.TheVariants.{Linked, Unlinked, Chained}
+use Rattle.segcore.specs.declared.event.Event.TheVariants.{Linked, Relinked, Unlinked, Chained}
 use Rattle.segcore.specs.Event.{removal, entry_of, with_entry, seen}
 use Rattle.segcore.specs.Bucket.{Slot, item, last, acts, bucket_after}
 use Rattle.segcore.specs.Lawful.{IsLawful}
@@ -56,6 +56,10 @@ one_event z (Linked p q s r m) h b n a l is' = ⊎_elim
     (λ t. inr (inl (one_entry z b (entry.Wrote p q Stored (Some s)) (seen h) t)))
     (λ f. inl (ap (λ u. u.items n) (cond-false (eqb (bucket_of z (key_of q)) b) (acts (Linked p q s r m) (bucket_after z h b)) (bucket_after z h b) f) ∙ is'))
     (cases_Bool (eqb (bucket_of z (key_of q)) b))
+one_event z (Relinked p k f i s r m) h b n a l is' = ⊎_elim
+    (λ t. inr (inl (one_entry z b (entry.Moved p k f s) (seen h) t)))
+    (λ g. inl (ap (λ u. u.items n) (cond-false (eqb (bucket_of z k) b) (acts (Relinked p k f i s r m) (bucket_after z h b)) (bucket_after z h b) g) ∙ is'))
+    (cases_Bool (eqb (bucket_of z k) b))
 one_event z (Unlinked p k m why) h b n a l is' = ⊎_elim
     (λ t. inr (inl (one_entry z b (removal p k why) (seen h) (removal_of z b p k why t))))
     (λ f. inl (ap (λ u. u.items n) (cond-false (eqb (bucket_of z k) b) (acts (Unlinked p k m why) (bucket_after z h b)) (bucket_after z h b) f) ∙ is'))

@@ -3,7 +3,7 @@ use Rattle.std.specs.Prelude.{◌≡◌, ℕ, ◌+◌, ◌*◌, ◌<◌, ◌≤�
 use Rattle.segword.specs.Words.{IsKey, IsValue, Shape}
 use Rattle.segmodel.specs.Words.{after, bucket_of, Cached, key_of, standing}
 use Rattle.segcore.specs.Words.{Event}
-use Rattle.segcore.specs.declared.event.Event.TheVariants.{Linked, Chained}
+use Rattle.segcore.specs.declared.event.Event.TheVariants.{Linked, Relinked, Chained}
 use Rattle.segcore.specs.Event.{seen}
 use Rattle.segcore.specs.Bucket.{Slot, slot, Content, nothing, item, next, copy, Bucket, last, fresh_position, IsPosition, bucket_after}
 use Rattle.segcore.specs.Overflow.{home_of}
@@ -49,6 +49,7 @@ moved u (Some n) = Some (if last u == n then fresh_position u else n)
 abbrev pub place : Shape → List Event → List ℕ → Option ℕ
 place z [] k = None
 place z (Linked p q s r n ∷ h) k = if same_key (key_of q) k then Some n else place z h k
+place z (Relinked p k' f i s r n ∷ h) k = if same_key k' k then Some n else place z h k
 place z (Chained p b m ∷ h) k = if b == bucket_of z k then moved (bucket_after z h b) (place z h k) else place z h k
 place z (_ ∷ h) k = place z h k
 

@@ -3,12 +3,12 @@ use Rattle.std.proofs.Common.{◌≡◌, ◌≢◌, ℕ, ◌+◌, ◌%◌, Bool,
 use Rattle.std.proofs.lemmas.Bool.{cond-true, cond-false, eq-eqb, ne_eqb}
 use Rattle.segmodel.specs.declared.request.Reply.TheVariants.{Stored}
 use Rattle.segmodel.specs.declared.entry.Entry.TheVariants as entry
-use Rattle.segmodel.specs.Words.{Entry, mine, pass_of, Reply, Request}
+use Rattle.segmodel.specs.Words.{Entry, mine, pass_of, Reply, Request, tag_of}
 use Rattle.segcore.specs.Words.{Event, Leaving}
-use Rattle.segcore.specs.declared.event.Event.TheVariants.{Took, Bounced, Glanced, Freed, Replied, Filled, Linked, Unlinked, Drew, Put, Chained, Bumped, Entered, Left, Refilled}
+use Rattle.segcore.specs.declared.event.Event.TheVariants.{Took, Bounced, Glanced, Freed, Replied, Filled, Linked, Relinked, Unlinked, Drew, Put, Chained, Bumped, Entered, Left, Refilled}
 use Rattle.segcore.specs.Event.{by, removal, entry_of, with_entry, seen, NoneBy, AllBy}
 use Rattle.segcore.specs.ItemWord.{packed}
-use Rattle.segcore.specs.Kind.{Step, take, release, info_look, glance, look, link, clear, draw, fill, chain, bump, row_store, row_load, enter, leave, none_reading, told, unless_own, adds}
+use Rattle.segcore.specs.Kind.{Step, take, release, info_look, glance, look, link, relink, clear, draw, fill, chain, bump, row_store, row_load, enter, leave, none_reading, told, unless_own, adds}
 use Rattle.segcore.proofs.Quiet.{off}
 use Rattle.segcore.specs.Count.{taken, bounced, glanced, drew, raised, entered, taken_by, bounced_by, glanced_by, drew_by, raised_by, entered_by, CountsStep}
 use Rattle.segcore.specs.declared.event.Leaving.TheVariants.{Deletes, Evicts}
@@ -30,6 +30,7 @@ other_entry : (p : ℕ) (e : Event) (h : List Event) → by e ≢ p → mine p (
 other_entry p (Replied q r y) h ne = mine_not p (entry.Wrote q r y None) (seen h) ne
 other_entry p (Linked q r s i n) h ne = mine_not p (entry.Wrote q r Stored (Some s)) (seen h) ne
 other_entry p (Unlinked q k n why) h ne = mine_not p (removal q k why) (seen h) (λ e. ne (sym (removal_by q k why) ∙ e))
+other_entry p (Relinked q k a i s r n) h ne = mine_not p (entry.Moved q k a s) (seen h) ne
 other_entry p (Refilled q s d) h ne = mine_not p (entry.Refilled q s d) (seen h) ne
 other_entry p e h ne = refl
 
@@ -37,6 +38,7 @@ own_entry : (p : ℕ) (e : Event) (h : List Event) → by e ≡ p → mine p (se
 own_entry p (Replied q r y) h is = mine_of p (entry.Wrote q r y None) (seen h) is
 own_entry p (Linked q r s i n) h is = mine_of p (entry.Wrote q r Stored (Some s)) (seen h) is
 own_entry p (Unlinked q k n why) h is = mine_of p (removal q k why) (seen h) (removal_by q k why ∙ is)
+own_entry p (Relinked q k a i s r n) h is = mine_of p (entry.Moved q k a s) (seen h) is
 own_entry p (Refilled q s d) h is = mine_of p (entry.Refilled q s d) (seen h) is
 own_entry p e h is = refl
 
@@ -124,6 +126,7 @@ module _ (F : List Event → ℕ) (p : ℕ) (h : List Event) (skips : (e : Event
   plain (look c) found i = refl
   plain (row_load s r j) found i = refl
   plain (link q s r n c old) found i = of_cond (eqb found old) (Linked p q s r n) tt
+  plain (relink k a i' f s r n c) found i = of_cond (eqb found (packed (tag_of k) f a i')) (Relinked p k a i' s r n) tt
   plain (clear k n c old why) found i = of_cond (eqb found old) (Unlinked p k n why) tt
   plain (fill b m w) found i = skips (Put p b w) h tt
   plain (chain b c old m) found i = of_cond (eqb found old) (Chained p b m) tt
@@ -306,6 +309,7 @@ own_adds p (info_look b) found = tt
 own_adds p (look c) found = tt
 own_adds p (row_load s r j) found = tt
 own_adds p (link q s r n c old) found = all_of_cond p (eqb found old) _ [] (refl, tt) tt
+own_adds p (relink k a i f s r n c) found = all_of_cond p (eqb found (packed (tag_of k) f a i)) _ [] (refl, tt) tt
 own_adds p (clear k n c old why) found = all_of_cond p (eqb found old) _ [] (refl, tt) tt
 own_adds p (draw b d from) found = all_of_cond p (eqb found from) _ [] (refl, tt) tt
 own_adds p (fill b m w) found = (refl, tt)

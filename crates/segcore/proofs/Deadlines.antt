@@ -1,28 +1,17 @@
 -- The deadline of a segment: the trace and the cache agree on it, and the segment's word has it in its upper half.
-use Rattle.std.proofs.Common.{◌≡◌, ℕ, ◌+◌, ◌*◌, ◌/◌, ◌%◌, ◌^◌, ◌<◌, cond, eqb, List, [], ◌∷◌, ◌++◌, None, refl, sym, ap, ◌∙◌, ⊎_elim, arith}
+use Rattle.std.proofs.Common.{◌≡◌, ℕ, ◌+◌, ◌*◌, ◌/◌, ◌%◌, ◌^◌, ◌<◌, eqb, List, [], ◌∷◌, ◌++◌, refl, sym, ap, ◌∙◌, ⊎_elim, arith}
 use Rattle.std.proofs.lemmas.Bool.{cases_Bool, cond-false, ne_eqb}
 use Rattle.segword.specs.Words.{IsValid, Shape}
 use Rattle.segmodel.specs.Words.{after}
-use Rattle.segmodel.proofs.HistoryLemmas.{kept-deadlines}
 use Rattle.segcore.specs.Words.{Event}
-use Rattle.segcore.specs.declared.event.Event.TheVariants.{Replied, Linked, Unlinked, Refilled}
-use Rattle.segcore.specs.declared.event.Leaving.TheVariants.{Deletes, Evicts}
+use Rattle.segcore.specs.declared.event.Event.TheVariants.{Refilled}
 use Rattle.segcore.specs.Event.{seen}
 use Rattle.segcore.specs.Segment.{readers, deadline_of, NoneRefills}
 use Rattle.segcore.specs.Lawful.{IsLawful}
 use Rattle.segcore.specs.Word.{segment_word}
+pub use Rattle.segcore.proofs.Quiet.{deadline_seen}
 use Rattle.segcore.proofs.Readers.{counted}
 use Rattle.segcore.proofs.Limits.{few_passes}
-
--- the cache's deadline of a segment is the one that its last refilling set
-pub deadline_seen : (z : Shape) (h : List Event) (s : ℕ) → (after z (seen h)).deadline s ≡ deadline_of h s
-deadline_seen z [] s = refl
-deadline_seen z (Replied p q y ∷ h) s = ap (λ d. d s) (kept-deadlines z q y None (after z (seen h))) ∙ deadline_seen z h s
-deadline_seen z (Linked p q t r n ∷ h) s = deadline_seen z h s
-deadline_seen z (Unlinked p k n (Deletes m) ∷ h) s = deadline_seen z h s
-deadline_seen z (Unlinked p k n (Evicts t) ∷ h) s = deadline_seen z h s
-deadline_seen z (Refilled p t d ∷ h) s = ap (cond (eqb t s) d) (deadline_seen z h s)
-deadline_seen z (e ∷ h) s = deadline_seen z h s
 
 -- a segment that isn't refilled keeps its deadline
 kept_deadline : (more h : List Event) (s : ℕ) → NoneRefills s more → deadline_of (more ++ h) s ≡ deadline_of h s

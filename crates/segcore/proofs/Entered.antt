@@ -4,7 +4,7 @@ use Rattle.std.proofs.lemmas.Bool.{cond-false, ne_eqb, false_from_ne_true}
 use Rattle.std.proofs.lemmas.Option.{none-some}
 use Rattle.segword.specs.Words.{Shape}
 use Rattle.segcore.specs.Words.{Event}
-use Rattle.segcore.specs.declared.event.Event.TheVariants.{Filled, Linked, Refilled}
+use Rattle.segcore.specs.declared.event.Event.TheVariants.{Filled, Linked, Relinked, Refilled}
 use Rattle.segcore.specs.Event.{NoneBy}
 use Rattle.segcore.specs.Lawful.{IsLawful}
 use Rattle.segcore.specs.Row.{row_at, writes_row, row_after}
@@ -17,6 +17,7 @@ pub row_stays : (z : Shape) (e : Event) (h : List Event) (s r : ℕ) (k : List �
 row_stays z (Refilled p t d) h s r k l ne on = cond-false (eqb t s) (writes_row (Refilled p t d) (row_after h s r)) (row_after h s r) (ne_eqb t s (λ e. ne p d (ap (λ x. Refilled p x d) e)))
 row_stays z (Filled p t i j w) h s r k l ne on = cond-false (row_at (Filled p t i j w) s r) (writes_row (Filled p t i j w) (row_after h s r)) (row_after h s r) (false_from_ne_true (row_at (Filled p t i j w) s r) (λ y. none-some k (sym (at_unlinked z h (Filled p t i j w) s r l.1.suits (λ p' t' d' same. cc) y) ∙ on)))
 row_stays z (Linked p q t i n) h s r k l ne on = cond-false (row_at (Linked p q t i n) s r) (writes_row (Linked p q t i n) (row_after h s r)) (row_after h s r) (false_from_ne_true (row_at (Linked p q t i n) s r) (λ y. none-some k (sym (at_unlinked z h (Linked p q t i n) s r l.1.suits (λ p' t' d' same. cc) y) ∙ on)))
+row_stays z (Relinked p q a b t i n) h s r k l ne on = cond-false (row_at (Relinked p q a b t i n) s r) (writes_row (Relinked p q a b t i n) (row_after h s r)) (row_after h s r) (false_from_ne_true (row_at (Relinked p q a b t i n) s r) (λ y. none-some k (sym (at_unlinked z h (Relinked p q a b t i n) s r l.1.suits (λ p' t' d' same. cc) y) ∙ on)))
 row_stays z e h s r k l ne on = refl
 
 pub not_refilled : (z : Shape) (e : Event) (h : List Event) (p s : ℕ) → p < z.passes → IsLawful z (e ∷ h) → 0 < inside h p s → (q d : ℕ) → e ≢ Refilled q s d

@@ -5,7 +5,7 @@ use Rattle.std.proofs.lemmas.Option.{none-some}
 use Rattle.segword.specs.Words.{Shape}
 use Rattle.segmodel.specs.Words.{bucket_of, key_of}
 use Rattle.segcore.specs.Words.{Cell, Event}
-use Rattle.segcore.specs.declared.event.Event.TheVariants.{Took, Freed, Replied, Linked, Unlinked, Drew, Put, Chained}
+use Rattle.segcore.specs.declared.event.Event.TheVariants.{Took, Freed, Replied, Linked, Relinked, Unlinked, Drew, Put, Chained}
 use Rattle.segcore.specs.declared.cell.Cell.TheVariants.{OfBucket, OfOverflow}
 use Rattle.segcore.specs.Bucket.{Slot, slot, Content, nothing, item, next, copy, Bucket, last, fresh_position, IsPosition, bucket_at, is, acts, bucket_after}
 use Rattle.segcore.specs.Overflow.{home, home_of}
@@ -62,6 +62,9 @@ act_joins : (z : Shape) (e : Event) (h : List Event) (b d : ℕ) → is (bucket_
 act_joins z (Linked p q s r n) h b d t l lt ih = let j = ih lt in
     put_off (bucket_after z h b) n d (item (slot (key_of q) s r)) j
     (λ e. not_room z h (key_of q) n j.0 l.1.suits.4 (subst (λ x. (bucket_after z h x).items n ≡ next j.0) (sym (eqb-true (bucket_of z (key_of q)) b t)) (ap (bucket_after z h b).items e ∙ j.1)))
+act_joins z (Relinked p k f i s r n) h b d t l lt ih = let j = ih lt in
+    put_off (bucket_after z h b) n d (item (slot k s r)) j
+    (λ e. next_no_item j.0 (slot k f i) (sym l.1.suits.2 ∙ subst (λ x. (bucket_after z h x).items n ≡ next j.0) (sym (eqb-true (bucket_of z k) b t)) (ap (bucket_after z h b).items e ∙ j.1)))
 act_joins z (Unlinked p k n why) h b d t l lt ih = let j = ih lt in
     put_off (bucket_after z h b) n d nothing j
     (λ e. next_no_item j.0 l.1.suits.0 (sym l.1.suits.1 ∙ subst (λ x. (bucket_after z h x).items n ≡ next j.0) (sym (eqb-true (bucket_of z k) b t)) (ap (bucket_after z h b).items e ∙ j.1)))
@@ -90,6 +93,7 @@ act_held z (Took p a) h b m t l sp = (p, refl)
 act_held z (Freed p a c) h b m t l sp = absurd (none-some m (sym (subst (λ x. (bucket_after z h x).spare ≡ None) (eqb-true a b t) l.1.suits.1) ∙ sp))
 act_held z (Replied p q y) h b m t l sp = (p, guard_at z h (Replied p q y) b (bucket_at z (Replied p q y)) l.1.guarded t)
 act_held z (Linked p q s r n) h b m t l sp = (p, guard_at z h (Linked p q s r n) b (bucket_at z (Linked p q s r n)) l.1.guarded t)
+act_held z (Relinked p k f i s r n) h b m t l sp = (p, guard_at z h (Relinked p k f i s r n) b (bucket_at z (Relinked p k f i s r n)) l.1.guarded t)
 act_held z (Unlinked p k n why) h b m t l sp = (p, guard_at z h (Unlinked p k n why) b (bucket_at z (Unlinked p k n why)) l.1.guarded t)
 act_held z (Drew p a d n) h b m t l sp = (p, guard_at z h (Drew p a d n) b (bucket_at z (Drew p a d n)) l.1.guarded t)
 act_held z (Put p a w) h b m t l sp = (p, guard_at z h (Put p a w) b (bucket_at z (Put p a w)) l.1.guarded t)

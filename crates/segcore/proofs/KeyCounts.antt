@@ -14,9 +14,10 @@ use Rattle.segmodel.specs.declared.request.Reply.TheVariants.{Stored, Deleted, N
 use Rattle.segmodel.specs.Words.{after, bucket_of, Cache, Cached, key_cmp, key_of, keys_in, Reply}
 use Rattle.segmodel.specs.Words.{Request, standing, value_of, with_at, written}
 use Rattle.segmodel.proofs.Counts.{count_by-cons}
+use Rattle.segmodel.proofs.Moves.{keys-moved}
 use Rattle.segmodel.proofs.Ordered.{Above, above_lower, sorted-after}
 use Rattle.segcore.specs.Words.{Cell, Event, Leaving}
-use Rattle.segcore.specs.declared.event.Event.TheVariants.{Replied, Linked, Unlinked, Chained}
+use Rattle.segcore.specs.declared.event.Event.TheVariants.{Replied, Linked, Relinked, Unlinked, Chained}
 use Rattle.segcore.specs.Event.{removal, seen}
 use Rattle.segcore.specs.Bucket.{Slot, slot, Content, nothing, item, next, copy, Bucket, last, fresh_position, bucket_at, is, acts, bucket_after, empty_bucket}
 use Rattle.segcore.specs.Lawful.{IsRefusal, HasRoomFor, HasItemOf, Suits, IsLawful}
@@ -26,7 +27,7 @@ use Rattle.segcore.specs.Mark.{marked, width}
 use Rattle.segcore.specs.Filled.{item_count, items_below, HasNoEmptyWord}
 use Rattle.segcore.specs.declared.event.Leaving.TheVariants.{Deletes, Evicts}
 use Rattle.segcore.proofs.Coherent.{Coherent}
-use Rattle.segcore.proofs.Standing.{Puts, links, unlinks, Turning, Calm, is_calm, coherent}
+use Rattle.segcore.proofs.Standing.{Puts, links, unlinks, relinks, Turning, Calm, is_calm, coherent}
 use Rattle.segcore.proofs.Chains.{chain_of}
 use Rattle.segcore.proofs.Marked.{one_if, drawn_marked}
 use Rattle.segcore.proofs.Exact.{content_at}
@@ -137,6 +138,7 @@ same_cache z q Deleted cache i = absurd i
 
 same_keys : (z : Shape) (e : Event) (h : List Event) → Turning e ≡ false → Suits z h e → (after z (seen (e ∷ h))).items ≡ (after z (seen h)).items
 same_keys z (Linked p q s r n) h t u = absurd (false≢true (sym t))
+same_keys z (Relinked p k a i s r n) h t u = absurd (false≢true (sym t))
 same_keys z (Unlinked p k n why) h t u = absurd (false≢true (sym t))
 same_keys z (Replied p q y) h t u = ap (λ cache. cache.items) (same_cache z q y (after z (seen h)) u)
 same_keys z e h t u = refl
@@ -166,6 +168,17 @@ counts z (Linked p q s r n ∷ h) b m le l =
     (count_put (λ key. bucket_of z key == b) k (cached (value_of q) s) (after z (seen h)).items (sorted-after z (seen h)))
     (put_count z h e k n (item (slot k s r)) (Some (cached (value_of q) s)) (links z h p q s r n l.1.suits) b m (omega arith))
     (in_bucket z h l.0 k n b _ (has_room z h l.0 k n l.1.suits.4))
+counts z (Relinked p k f i s r n ∷ h) b m le l =
+    let e = Relinked p k f i s r n in
+    let u = l.1.suits in
+    let c = coherent z h l.0 in
+    let has : HasItemOf z h k n = (slot k f i, u.2, refl) in
+    let short = (chain_of z h l.0 (bucket_of z k)).short in
+    let within = (c.items (bucket_of z k) n has.0 has.1).position.0 in
+    agree (eqb (bucket_of z k) b) (is_some (standing (after z (seen h)) k)) 1 (item_count ((bucket_after z h b).items n)) _ _ _ _ (counts z h b m le l.0)
+    (λ j. count_by (λ key. bucket_of z key == b) (keys-moved k s (after z (seen h)).items j) + if_there (is_some (u.1.1 j)) (cond (eqb (bucket_of z k) b) 1 0))
+    (put_count z h e k n (item (slot k s r)) (Some (cached u.1.0 s)) (relinks z h p k f i s r n u c) b m (omega arith))
+    (in_bucket z h l.0 k n b _ (has_item z h l.0 k n has))
 counts z (Unlinked p k n why ∷ h) b m le l =
     let e = Unlinked p k n why in
     let has : HasItemOf z h k n = (l.1.suits.0, l.1.suits.1, l.1.suits.2) in

@@ -6,7 +6,7 @@ use Rattle.std.proofs.lemmas.Nat.{pow_pos}
 use Rattle.segword.specs.Words.{IsValid, Shape}
 use Rattle.segmodel.specs.Words.{bucket_of}
 use Rattle.segcore.specs.Words.{Event}
-use Rattle.segcore.specs.declared.event.Event.TheVariants.{Linked, Drew, Bumped}
+use Rattle.segcore.specs.declared.event.Event.TheVariants.{Linked, Relinked, Drew, Bumped}
 use Rattle.segcore.specs.Lawful.{IsLawful}
 use Rattle.segcore.specs.Overflow.{Home, drawn_in, home_of}
 use Rattle.segcore.specs.Row.{frequency_of}
@@ -30,6 +30,7 @@ low_segment z s v lt = let a = v.0.0.1.1 in let b = mul-le-mul_right z.segments_
 pub low_frequency : (z : Shape) (h : List Event) (s r : ℕ) → IsLawful z h → frequency_of h s r < 256
 low_frequency z [] s r l = omega arith
 low_frequency z (Linked p q t i n ∷ h) s r l = let a = low_frequency z h s r l.0 in ⊎_elim (λ y. rw y (omega arith)) (λ f. rw f a) (cases_Bool (eqb t s && eqb i r))
+low_frequency z (Relinked p k a b t i n ∷ h) s r l = let c = low_frequency z h a b l.0 in let d = low_frequency z h s r l.0 in ⊎_elim (λ y. rw y c) (λ f. rw f d) (cases_Bool (eqb t s && eqb i r))
 low_frequency z (Bumped p t i f ∷ h) s r l = let a = low_frequency z h s r l.0 in ⊎_elim (λ y. rw y l.1.suits.1) (λ f. rw f a) (cases_Bool (eqb t s && eqb i r))
 low_frequency z (e ∷ h) s r l = low_frequency z h s r l.0
 

@@ -1,17 +1,17 @@
 -- What a lawful history's marks come to is what its events do, and they hold together.
-use Rattle.std.proofs.Common.{◌≡◌, ◌≢◌, ℕ, ◌+◌, Bool, true, false, cond, eqb, List, [], ◌∷◌, Option, Some, None, sym, refl, ap, ◌∙◌, subst, ⊎_elim, arith}
+use Rattle.std.proofs.Common.{◌≡◌, ◌≢◌, ℕ, ◌+◌, Bool, true, false, cond, eqb, List, [], ◌∷◌, Option, Some, None, sym, refl, ap, ◌∙◌, subst, inr, ⊎_elim, arith}
 use Rattle.std.proofs.lemmas.Bool.{cases_Bool, cond-true, cond-false, eqb-true}
 use Rattle.segword.specs.Words.{Shape}
 use Rattle.segmodel.specs.declared.request.Reply.TheVariants.{Stored, NotStored, Exists, NotFound, Deleted}
 use Rattle.segmodel.specs.Words.{bucket_of, key_of, Reply}
 use Rattle.segcore.proofs.Caches.{stands}
 use Rattle.segcore.proofs.Coherent.{moved, Coherent}
-use Rattle.segcore.specs.Bucket.{Bucket, bucket_at, is, acts, bucket_after}
+use Rattle.segcore.specs.Bucket.{Bucket, slot, bucket_at, is, acts, bucket_after}
 use Rattle.segcore.specs.Event.{seen}
-use Rattle.segcore.specs.Lawful.{IsRefusal, HasRoomFor, IsLawful}
+use Rattle.segcore.specs.Lawful.{IsRefusal, HasRoomFor, HasItemOf, IsLawful}
 use Rattle.segcore.specs.Mark.{same_key, marked, entries, drawn_for, chained_to, onward, place, IsAfterAt, IsWellMarked}
 use Rattle.segcore.specs.Words.{Event}
-use Rattle.segcore.specs.declared.event.Event.TheVariants.{Replied, Linked, Unlinked, Drew, Chained, Bumped, Entered, Left, Refilled}
+use Rattle.segcore.specs.declared.event.Event.TheVariants.{Replied, Linked, Relinked, Unlinked, Drew, Chained, Bumped, Entered, Left, Refilled}
 use Rattle.segcore.specs.declared.event.Leaving.TheVariants.{Deletes, Evicts}
 use Rattle.segcore.proofs.Coherent as trace
 use Rattle.segcore.proofs.Standing.{coherent}
@@ -20,6 +20,7 @@ pub entries_marked : (h : List Event) → entries (marked h) ≡ seen h
 entries_marked [] = refl
 entries_marked (Replied p q y ∷ h) = rw (entries_marked h) refl
 entries_marked (Linked p q s r n ∷ h) = rw (entries_marked h) refl
+entries_marked (Relinked p k f i s r n ∷ h) = rw (entries_marked h) refl
 entries_marked (Unlinked p k n why ∷ h) = rw (entries_marked h) refl
 entries_marked (Refilled p s d ∷ h) = rw (entries_marked h) refl
 entries_marked (e ∷ h) = entries_marked h
@@ -71,6 +72,7 @@ moved_on u (Some n) = refl
 pub place_marked : (z : Shape) (h : List Event) (k : List ℕ) → place z (marked h) k ≡ trace.place z h k
 place_marked z [] k = refl
 place_marked z (Linked p q s r n ∷ h) k = ap (cond (same_key (key_of q) k) (Some n)) (place_marked z h k)
+place_marked z (Relinked p k' f i s r n ∷ h) k = ap (cond (same_key k' k) (Some n)) (place_marked z h k)
 place_marked z (Chained p b m ∷ h) k = let e : onward (chained_to (marked h) b) (place z (marked h) k) ≡ moved (bucket_after z h b) (trace.place z h k) = (λ j. onward (chained_marked z h b j) (place_marked z h k j)) ∙ moved_on (bucket_after z h b) (trace.place z h k) in
     (λ j. cond (eqb b (bucket_of z k)) (e j) (place_marked z h k j))
 place_marked z (e ∷ h) k = place_marked z h k
@@ -93,6 +95,9 @@ placed z [] l = tt
 placed z (Replied p q y ∷ h) l = (placed z h l.0, refusal_after y (key_of q) (marked h) l.1.suits)
 placed z (Linked p q s r n ∷ h) l = let at_n = l.1.suits.3 in let same = chained_marked z h (bucket_of z (key_of q)) in let lt = at_n.0 in
     ((placed z h l.0, ((omega arith, at_n.1), own_place z h (key_of q) n (coherent z h l.0) l.1.suits.4)), refl)
+placed z (Relinked p k f i s r n ∷ h) l = let has : HasItemOf z h k n = (slot k f i, l.1.suits.2, refl) in
+    let at_n = ((coherent z h l.0).items (bucket_of z k) n has.0 has.1).position in let same = chained_marked z h (bucket_of z k) in let lt = at_n.0 in
+    ((placed z h l.0, ((omega arith, at_n.1), own_place z h k n (coherent z h l.0) (inr has))), tt)
 placed z (Unlinked p k n (Deletes m) ∷ h) l = (placed z h l.0, tt)
 placed z (Unlinked p k n (Evicts s) ∷ h) l = (placed z h l.0, tt)
 placed z (Chained p b m ∷ h) l = (placed z h l.0, drawn_marked z h b l.0 ∙ (ap (λ o. (bucket_after z h b).chained + one_if o) l.1.suits.0 ∙ ap (λ n. n + 1) (sym (chained_marked z h b))))

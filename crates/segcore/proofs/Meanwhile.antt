@@ -7,19 +7,19 @@ use Rattle.segcore.specs.Row.{row_after, frequency_of}
 use Rattle.segcore.proofs.Standing.{coherent}
 use Rattle.segword.specs.Words.{Shape}
 use Rattle.segcore.specs.Words.{Event, View}
-use Rattle.segcore.specs.declared.event.Event.TheVariants.{Linked, Bumped, Refilled}
-use Rattle.segcore.specs.Event.{by, seen, NoneBy}
+use Rattle.segcore.specs.declared.event.Event.TheVariants.{Linked, Relinked, Bumped, Refilled}
+use Rattle.segcore.specs.Event.{seen, NoneBy}
 use Rattle.segcore.specs.Segment.{refills, NoneRefills, deadline_of}
-use Rattle.segcore.specs.Lawful.{Fits, IsLawful}
+use Rattle.segcore.specs.Lawful.{IsLawful}
 use Rattle.segcore.specs.Word.{bucket_info_word, word}
 use Rattle.segcore.specs.Kind.{Step, info_look, row_load, cell, adds, May}
-use Rattle.segmodel.specs.Words.{Begins, owner}
+use Rattle.segmodel.specs.Words.{Begins}
 use Rattle.segcore.specs.Mark.{marked}
 use Rattle.segcore.specs.World.{Told}
 use Rattle.segcore.specs.Count.{CountsStep}
 use Rattle.segcore.specs.Meanwhile.{FindsKnown, Meanwhile}
 use Rattle.segcore.proofs.Moments.{lawful_before, seen_begins, marked_begins}
-use Rattle.segcore.proofs.Quiet.{quiet, quiet_none, quiet_at, quiet_inside, not_mine, later}
+use Rattle.segcore.proofs.Quiet.{own_deadline, quiet, quiet_none, quiet_at, quiet_inside, not_mine, later}
 use Rattle.segcore.proofs.Entered.{no_refill}
 use Rattle.segcore.proofs.Readers.{empty_stays}
 use Rattle.segcore.proofs.Segments.{is_pass}
@@ -42,18 +42,14 @@ pub same_deadline : (more h : List Event) (s : ℕ) → NoneRefills s more → d
 same_deadline [] h s n = refl
 same_deadline (e ∷ more) h s n = deadline_event e (more ++ h) s n.0 ∙ same_deadline more h s n.1
 
--- only its owner sets the deadline of a segment
-own_event : (z : Shape) (e : Event) (h : List Event) (s : ℕ) → Fits z h e → by e ≢ owner z s → deadline_of (e ∷ h) s ≡ deadline_of h s
-own_event z (Refilled q t d) h s f ne = cond-false (eqb t s) d (deadline_of h s) (ne_eqb t s (λ e. ne (sym f.suits.1 ∙ ap (owner z) e)))
-own_event z e h s f ne = refl
-
-pub own_deadline : (z : Shape) (more h : List Event) (s : ℕ) → IsLawful z (more ++ h) → NoneBy (owner z s) more → deadline_of (more ++ h) s ≡ deadline_of h s
-own_deadline z [] h s l n = refl
-own_deadline z (e ∷ more) h s l n = own_event z e (more ++ h) s l.1 n.0 ∙ own_deadline z more h s l.0 n.1
-
 -- an event leaves the frequency of a linked row, or raises it
 pub one_rise : (z : Shape) (e : Event) (h : List Event) (s r : ℕ) (k : List ℕ) → IsLawful z (e ∷ h) → (row_after h s r).linked ≡ Some k → frequency_of h s r ≤ frequency_of (e ∷ h) s r
 one_rise z (Linked p q t i n) h s r k l on = ⊎_elim
+    (λ y. let w = and_parts (eqb t s) (eqb i r) y in
+    absurd (none-some k (sym l.1.suits.0.3 ∙ ((λ j. (row_after h (eqb-true t s w.0 j) (eqb-true i r w.1 j)).linked) ∙ on))))
+    (λ f. rw f (omega arith))
+    (cases_Bool (eqb t s && eqb i r))
+one_rise z (Relinked p q a b t i n) h s r k l on = ⊎_elim
     (λ y. let w = and_parts (eqb t s) (eqb i r) y in
     absurd (none-some k (sym l.1.suits.0.3 ∙ ((λ j. (row_after h (eqb-true t s w.0 j) (eqb-true i r w.1 j)).linked) ∙ on))))
     (λ f. rw f (omega arith))

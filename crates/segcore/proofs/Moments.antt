@@ -3,7 +3,7 @@ use Rattle.std.proofs.Common.{◌≡◌, ℕ, List, [], ◌∷◌, ◌++◌, Opt
 use Rattle.segword.specs.Words.{Shape}
 use Rattle.segmodel.specs.Words.{AreOne, Begins, Entry}
 use Rattle.segcore.specs.Words.{Event}
-use Rattle.segcore.specs.declared.event.Event.TheVariants.{Replied, Linked, Unlinked, Drew, Chained, Bumped, Entered, Left, Refilled}
+use Rattle.segcore.specs.declared.event.Event.TheVariants.{Replied, Linked, Relinked, Unlinked, Drew, Chained, Bumped, Entered, Left, Refilled}
 use Rattle.segcore.specs.Event.{entry_of, with_entry, seen, NoneBy}
 use Rattle.segcore.specs.Lawful.{IsLawful}
 use Rattle.segcore.specs.Mark.{Mark, marks_of, marked}
@@ -33,6 +33,7 @@ none_both p (e ∷ xs) ys a b = (a.0, none_both p xs ys a.1 b)
 marks_begin : (e : Event) (m : List Mark) → Begins m (marks_of e m)
 marks_begin (Replied p q y) m = (_ ∷ [], refl)
 marks_begin (Linked p q s r n) m = (_ ∷ _ ∷ [], refl)
+marks_begin (Relinked p k a i s r n) m = (_ ∷ _ ∷ [], refl)
 marks_begin (Unlinked p k n why) m = (_ ∷ [], refl)
 marks_begin (Refilled p s d) m = (_ ∷ [], refl)
 marks_begin (Drew p b d n) m = (_ ∷ [], refl)

@@ -4,7 +4,7 @@ use Rattle.std.proofs.lemmas.Bool.{cases_Bool, eqb-true, and_parts}
 use Rattle.segword.specs.Words.{Shape}
 use Rattle.segmodel.specs.Words.{key_of}
 use Rattle.segcore.specs.Words.{Event, Leaving}
-use Rattle.segcore.specs.declared.event.Event.TheVariants.{Replied, Filled, Linked, Unlinked, Drew, Chained, Bumped, Entered, Left, Refilled}
+use Rattle.segcore.specs.declared.event.Event.TheVariants.{Replied, Filled, Linked, Relinked, Unlinked, Drew, Chained, Bumped, Entered, Left, Refilled}
 use Rattle.segcore.specs.Event.{removal}
 use Rattle.segcore.specs.Overflow.{drawn_in}
 use Rattle.segcore.specs.Row.{Row, writes_row, row_after, frequency_of}
@@ -22,12 +22,14 @@ all_drawn_marked (e ∷ h) = all_drawn_marked h
 pub frequency_marked : (h : List Event) (s r : ℕ) → frequency_in (marked h) s r ≡ frequency_of h s r
 frequency_marked [] s r = refl
 frequency_marked (Linked p q t i n ∷ h) s r = ap (cond (eqb t s && eqb i r) 1) (frequency_marked h s r)
+frequency_marked (Relinked p k a b t i n ∷ h) s r = (λ j. cond (eqb t s && eqb i r) (frequency_marked h a b j) (frequency_marked h s r j))
 frequency_marked (Bumped p t i f ∷ h) s r = ap (cond (eqb t s && eqb i r) f) (frequency_marked h s r)
 frequency_marked (e ∷ h) s r = frequency_marked h s r
 
 pub named_marked : (h : List Event) (s : ℕ) → is_segment_named (marked h) s ≡ was_used h s
 named_marked [] s = refl
 named_marked (Linked p q t i n ∷ h) s = ap (λ b. eqb t s || b) (named_marked h s)
+named_marked (Relinked p k a b t i n ∷ h) s = ap (λ b. eqb t s || b) (named_marked h s)
 named_marked (e ∷ h) s = named_marked h s
 
 -- ---- rows
@@ -51,6 +53,7 @@ removed_rows p k (Evicts t) h s r = refl
 pub linked_marked : (h : List Event) (s r : ℕ) → linked_in (marked h) s r ≡ (row_after h s r).linked
 linked_marked [] s r = refl
 linked_marked (Linked p q t i n ∷ h) s r = ap (cond (eqb t s && eqb i r) (Some (key_of q))) (linked_marked h s r) ∙ linked_cond (eqb t s && eqb i r) (row_after h s r) (key_of q)
+linked_marked (Relinked p k a b t i n ∷ h) s r = ap (cond (eqb t s && eqb i r) (Some k)) (linked_marked h s r) ∙ linked_cond (eqb t s && eqb i r) (row_after h s r) k
 linked_marked (Refilled p t d ∷ h) s r = ap (cond (eqb t s) None) (linked_marked h s r) ∙ unlinked_cond (eqb t s) (row_after h s r)
 linked_marked (Filled p t i j w ∷ h) s r = linked_marked h s r ∙ filled_cond (eqb t s && eqb i r) (row_after h s r) (writes_row (Filled p t i j w) (row_after h s r)) refl
 linked_marked (Unlinked p k n why ∷ h) s r = removed_rows p k why (marked h) s r ∙ linked_marked h s r
@@ -85,6 +88,7 @@ pub orderly : (z : Shape) (h : List Event) → IsLawful z h → IsOrderly (marke
 orderly z [] l = tt
 orderly z (Replied p q y ∷ h) l = (orderly z h l.0, tt)
 orderly z (Linked p q s r n ∷ h) l = ((orderly z h l.0, linked_marked h s r ∙ l.1.suits.0.3), tt)
+orderly z (Relinked p k a b s r n ∷ h) l = ((orderly z h l.0, linked_marked h s r ∙ l.1.suits.0.3), tt)
 orderly z (Unlinked p k n why ∷ h) l = removed_order p k why (marked h) (orderly z h l.0)
 orderly z (Refilled p s d ∷ h) l = (orderly z h l.0, (let a = readers_marked z h s l.0 in let b = l.1.suits.2 in omega arith))
 orderly z (Drew p b d m ∷ h) l = (orderly z h l.0, tt)

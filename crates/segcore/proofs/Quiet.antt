@@ -14,11 +14,11 @@ use Rattle.segcore.specs.Event.{by, removal, seen, NoneBy}
 use Rattle.segcore.specs.Lawful.{NoneAt, needs, Suits, Fits, IsLawful, is_of_now}
 use Rattle.segcore.specs.Overflow.{drawn_in, Home, home_of}
 use Rattle.segcore.specs.Row.{row_at, row_after}
-use Rattle.segcore.specs.Segment.{inside, was_used}
-use Rattle.segmodel.proofs.HistoryLemmas.{next_other}
+use Rattle.segcore.specs.Segment.{inside, was_used, deadline_of}
+use Rattle.segmodel.proofs.HistoryLemmas.{next_other, kept-deadlines}
 use Rattle.std.specs.Prelude.{is_some, IsSomeAnd}
 use Rattle.segcore.specs.Words.{Event, Leaving}
-use Rattle.segcore.specs.declared.event.Event.TheVariants.{Took, Freed, Replied, Filled, Linked, Unlinked, Drew, Put, Chained, Entered, Left, Refilled}
+use Rattle.segcore.specs.declared.event.Event.TheVariants.{Took, Freed, Replied, Filled, Linked, Relinked, Unlinked, Drew, Put, Chained, Entered, Left, Refilled}
 use Rattle.segcore.specs.declared.event.Leaving.TheVariants.{Deletes, Evicts}
 
 -- an event at a bucket whose bit the pass q has is one of q
@@ -51,6 +51,7 @@ pub same_at : (z : Shape) (e : Event) (h : List Event) (k : List ℕ) → Fits z
     → IsSameAt z (after z (seen h)) (after z (seen (e ∷ h))) k
 same_at z (Replied p q y) h k fits f = next_other z (after z (seen h)) (entry.Wrote p q y None) k fits.follows f
 same_at z (Linked p q s r n) h k fits f = next_other z (after z (seen h)) (entry.Wrote p q Stored (Some s)) k fits.follows f
+same_at z (Relinked p k' a i s r n) h k fits f = next_other z (after z (seen h)) (entry.Moved p k' a s) k fits.follows f
 same_at z (Unlinked p k' n why) h k fits f = removed_at z p k' why h k fits.follows f
 same_at z (Refilled p s d) h k fits f = next_other z (after z (seen h)) (entry.Refilled p s d) k fits.follows refl
 same_at z e h k fits f = record { stands = refl; finds = λ now. refl; version = refl }
@@ -72,6 +73,7 @@ quiet_stands z more h p k l n held = (quiet_at z more h p k l n held).stands
 at_row : (z : Shape) (h : List Event) (e : Event) (s r : ℕ) → Suits z h e → row_at e s r ≡ true → owner z s ≡ by e
 at_row z h (Filled p s' r' j w) s r u t = let q = and_parts (eqb s' s) (eqb r' r) t in rw (← eqb-true s' s q.0) u.0.2
 at_row z h (Linked p q' s' r' n) s r u t = let q = and_parts (eqb s' s) (eqb r' r) t in rw (← eqb-true s' s q.0) u.0.2
+at_row z h (Relinked p k a i s' r' n) s r u t = let q = and_parts (eqb s' s) (eqb r' r) t in rw (← eqb-true s' s q.0) u.0.2
 at_row z h (Refilled p s' d) s r u t = rw (← eqb-true s' s t) u.1
 at_row z h e s r u t = absurd (false≢true t)
 
@@ -79,6 +81,7 @@ at_row z h e s r u t = absurd (false≢true t)
 pub at_unlinked : (z : Shape) (h : List Event) (e : Event) (s r : ℕ) → Suits z h e → ((p t d : ℕ) → e ≢ Refilled p t d) → row_at e s r ≡ true → (row_after h s r).linked ≡ None
 at_unlinked z h (Filled p s' r' j w) s r u other t = let q = and_parts (eqb s' s) (eqb r' r) t in rw (← eqb-true s' s q.0, ← eqb-true r' r q.1) u.0.3
 at_unlinked z h (Linked p q' s' r' n) s r u other t = let q = and_parts (eqb s' s) (eqb r' r) t in rw (← eqb-true s' s q.0, ← eqb-true r' r q.1) u.0.3
+at_unlinked z h (Relinked p k a i s' r' n) s r u other t = let q = and_parts (eqb s' s) (eqb r' r) t in rw (← eqb-true s' s q.0, ← eqb-true r' r q.1) u.0.3
 at_unlinked z h (Refilled p s' d) s r u other t = absurd (other p s' d refl)
 at_unlinked z h e s r u other t = absurd (false≢true t)
 
@@ -108,6 +111,7 @@ or_right false b t = t
 
 still_used : (e : Event) (h : List Event) (s : ℕ) → was_used h s ≡ true → was_used (e ∷ h) s ≡ true
 still_used (Linked p q t r n) h s u = or_right (eqb t s) (was_used h s) u
+still_used (Relinked p k a i t r n) h s u = or_right (eqb t s) (was_used h s) u
 still_used e h s u = u
 
 pub used_stays : (more h : List Event) (s : ℕ) → was_used h s ≡ true → was_used (more ++ h) s ≡ true
@@ -157,6 +161,32 @@ chained_grows z (e ∷ more) h b = let a = chained_grows z more h b in ⊎_elim
 pub position_stays : (z : Shape) (more h : List Event) (b n : ℕ) → IsPosition (bucket_after z h b) n → IsPosition (bucket_after z (more ++ h) b) n
 position_stays z more h b n i = let a = chained_grows z more h b in let lt = i.0 in (omega arith, i.1)
 
+-- ---- deadlines
+
+-- the cache's deadline of a segment is the one that its last refilling set
+pub deadline_seen : (z : Shape) (h : List Event) (s : ℕ) → (after z (seen h)).deadline s ≡ deadline_of h s
+deadline_seen z [] s = refl
+deadline_seen z (Replied p q y ∷ h) s = ap (λ d. d s) (kept-deadlines z q y None (after z (seen h))) ∙ deadline_seen z h s
+deadline_seen z (Linked p q t r n ∷ h) s = deadline_seen z h s
+deadline_seen z (Relinked p k a i t r n ∷ h) s = deadline_seen z h s
+deadline_seen z (Unlinked p k n (Deletes m) ∷ h) s = deadline_seen z h s
+deadline_seen z (Unlinked p k n (Evicts t) ∷ h) s = deadline_seen z h s
+deadline_seen z (Refilled p t d ∷ h) s = ap (cond (eqb t s) d) (deadline_seen z h s)
+deadline_seen z (e ∷ h) s = deadline_seen z h s
+
+-- only its owner sets the deadline of a segment
+own_event : (z : Shape) (e : Event) (h : List Event) (s : ℕ) → Fits z h e → by e ≢ owner z s → deadline_of (e ∷ h) s ≡ deadline_of h s
+own_event z (Refilled q t d) h s f ne = cond-false (eqb t s) d (deadline_of h s) (ne_eqb t s (λ e. ne (sym f.suits.1 ∙ ap (owner z) e)))
+own_event z e h s f ne = refl
+
+pub own_deadline : (z : Shape) (more h : List Event) (s : ℕ) → IsLawful z (more ++ h) → NoneBy (owner z s) more → deadline_of (more ++ h) s ≡ deadline_of h s
+own_deadline z [] h s l n = refl
+own_deadline z (e ∷ more) h s l n = own_event z e (more ++ h) s l.1 n.0 ∙ own_deadline z more h s l.0 n.1
+
+-- so it stays in the cache too, whatever others do
+same_own_deadline : (z : Shape) (more h : List Event) (s : ℕ) → IsLawful z (more ++ h) → NoneBy (owner z s) more → (after z (seen (more ++ h))).deadline s ≡ (after z (seen h)).deadline s
+same_own_deadline z more h s l n = deadline_seen z (more ++ h) s ∙ (own_deadline z more h s l n ∙ sym (deadline_seen z h s))
+
 -- ---- an event that fits after what a pass has seen fits also after what others did since
 
 later_follows : (z : Shape) (more h : List Event) (p : ℕ) (q : Request) (y : Reply) (s : Option ℕ) → IsLawful z (more ++ h) → NoneBy p more → (bucket_after z h (bucket_of z (key_of q))).holder ≡ Some p → Follows z (after z (seen h)) (entry.Wrote p q y s) → Follows z (after z (seen (more ++ h))) (entry.Wrote p q y s)
@@ -185,6 +215,21 @@ later z more h (Linked p q s r m) l n t f =
       guarded = (f.guarded.0, rw same f.guarded.1);
       follows = later_follows z more h p q Stored (Some s) l n f.guarded.1 f.follows;
       suits = rw (same, quiet_stands z more h p (key_of q) l n f.guarded.1, quiet_row z more h s r l (rw f.suits.0.2 n)) f.suits;
+    }
+later z more h (Relinked p k a i s r m) l n t f =
+    let same = quiet z more h p (bucket_of z k) l n f.guarded.1 in
+    let same_stands = quiet_stands z more h p k l n f.guarded.1 in
+    let x = f.follows in
+    record {
+      guarded = (f.guarded.0, rw same f.guarded.1);
+      follows = (
+        subst (λ o. IsSomeAnd o (λ item. item.segment ≡ a)) (sym same_stands) x.0,
+        x.1,
+        x.2,
+        x.3,
+        same_own_deadline z more h a l (rw x.1 n) ∙ (x.4 ∙ sym (same_own_deadline z more h s l (rw x.2 n))),
+      );
+      suits = rw (same, same_stands, quiet_row z more h s r l (rw x.2 n)) f.suits;
     }
 later z more h (Unlinked p k m why) l n t f =
     let same = quiet z more h p (bucket_of z k) l n f.guarded.1 in

@@ -1,10 +1,11 @@
 -- The readers of a segment are those of all passes together.
-use Rattle.std.proofs.Common.{◌≡◌, ◌≢◌, ℕ, zero, suc, ◌+◌, ◌-◌, ◌*◌, ◌<◌, ◌≤◌, Bool, true, false, cond, eqb, ◌&&◌, List, [], ◌∷◌, ◌++◌, Some, None, sym, refl, ap, ◌∙◌, subst, ⊎_elim, arith}
+use Rattle.std.proofs.Common.{◌≡◌, ◌≢◌, ℕ, zero, suc, ◌+◌, ◌-◌, ◌*◌, ◌<◌, ◌≤◌, Bool, true, false, cond, eqb, ◌&&◌, List, [], ◌∷◌, ◌++◌, Some, None, sym, refl, ap, ◌∙◌, subst, ⊎_elim, Option, option_map, arith}
 use Rattle.std.proofs.lemmas.Bool.{cases_Bool, cases_eq, cases_lt, eqb-true, eq-eqb, ne_eqb, and_parts, and_from, cond-true, cond-false}
 use Rattle.std.proofs.lemmas.Option.{same_Some, none-some}
 use Rattle.segword.specs.Words.{Shape}
 use Rattle.segmodel.specs.Words.{after, Cached, key_of, NoneStandsIn, owner, Request, value_of}
-use Rattle.segcore.proofs.Caches.{put, stands, stands_wrote, HasValueIn, has_value, stands_in}
+use Rattle.segmodel.specs.Cache.{with_segment}
+use Rattle.segcore.proofs.Caches.{put, stands, stands_wrote, stands_moved, HasValueIn, has_value, stands_in}
 use Rattle.segmodel.specs.declared.request.Reply.TheVariants.{Stored}
 use Rattle.segcore.specs.Event.{by, seen, NoneBy}
 use Rattle.segcore.specs.Lawful.{Fits, IsLawful}
@@ -12,7 +13,7 @@ use Rattle.segcore.specs.Mark.{same_key}
 use Rattle.segcore.specs.Standing.{cached}
 use Rattle.segcore.specs.Segment.{inside, readers}
 use Rattle.segcore.specs.Words.{Event}
-use Rattle.segcore.specs.declared.event.Event.TheVariants.{Replied, Linked, Unlinked, Entered, Left}
+use Rattle.segcore.specs.declared.event.Event.TheVariants.{Replied, Linked, Relinked, Unlinked, Entered, Left}
 use Rattle.segcore.proofs.Standing.{same_cond, refused, gone}
 
 abbrev total : (ℕ → ℕ) → ℕ → ℕ
@@ -98,25 +99,40 @@ some_reader z h l s lt = some_part (λ q. inside h q s) z.passes (let a = all_re
 
 -- ---- a segment of one's own in which nothing stands
 
--- an event that links nothing into a segment brings no key there
-pub still_empty : (z : Shape) (h : List Event) (e : Event) (s : ℕ) (k : List ℕ) → Fits z h e → ((p : ℕ) (q : Request) (row n : ℕ) → e ≢ Linked p q s row n) → HasValueIn z (seen (e ∷ h)) k s → HasValueIn z (seen h) k s
-still_empty z h (Replied q r y) s k f ne is' = (is'.0, sym (stands_wrote z q r y None (seen h) k ∙ same_cond (same_key (key_of r) k) (put r y None (stands z (seen h) k)) (stands z (seen h) k) (refused r y None (stands z (seen h) k) f.suits)) ∙ is'.1)
-still_empty z h (Linked q r t row n) s k f ne is' = ⊎_elim
+-- what stands in a segment after a move was moved there
+in_moved : (o : Option Cached) (t : ℕ) (v : List ℕ) (s : ℕ) → option_map (with_segment t) o ≡ Some (cached v s) → t ≡ s
+in_moved None t v s e = absurd (none-some (cached v s) e)
+in_moved (Some x) t v s e = ap (λ (y : Cached). y.segment) (same_Some (with_segment t x) (cached v s) e)
+
+-- an event that links nothing into a segment, and moves nothing there, brings no key there
+pub still_empty : (z : Shape) (h : List Event) (e : Event) (s : ℕ) (k : List ℕ) → Fits z h e → ((p : ℕ) (q : Request) (row n : ℕ) → e ≢ Linked p q s row n)
+    → ((p : ℕ) (k : List ℕ) (a i row n : ℕ) → e ≢ Relinked p k a i s row n) → HasValueIn z (seen (e ∷ h)) k s → HasValueIn z (seen h) k s
+still_empty z h (Replied q r y) s k f ne ne' is' = (is'.0, sym (stands_wrote z q r y None (seen h) k ∙ same_cond (same_key (key_of r) k) (put r y None (stands z (seen h) k)) (stands z (seen h) k) (refused r y None (stands z (seen h) k) f.suits)) ∙ is'.1)
+still_empty z h (Linked q r t row n) s k f ne ne' is' = ⊎_elim
     (λ y. let e : Some (cached (value_of r) t) ≡ Some (cached is'.0 s) = sym (stands_wrote z q r Stored (Some t) (seen h) k ∙ cond-true (same_key (key_of r) k) (Some (cached (value_of r) t)) (stands z (seen h) k) y) ∙ is'.1 in
     let st : t ≡ s = ap (λ (x : Cached). x.segment) (same_Some (cached (value_of r) t) (cached is'.0 s) e) in absurd (ne q r row n (ap (λ x. Linked q r x row n) st)))
     (λ n'. (is'.0, sym (stands_wrote z q r Stored (Some t) (seen h) k ∙ cond-false (same_key (key_of r) k) (Some (cached (value_of r) t)) (stands z (seen h) k) n') ∙ is'.1))
     (cases_Bool (same_key (key_of r) k))
-still_empty z h (Unlinked q k0 n why) s k f ne is' = let g = sym (gone z q k0 why h k) ∙ is'.1 in ⊎_elim
+still_empty z h (Relinked q k0 a i t row n) s k f ne ne' is' = let m = stands_moved z q k0 a t (seen h) k in ⊎_elim
+    (λ y. let x = in_moved (stands z (seen h) k) t is'.0 s (sym (m ∙ cond-true (same_key k0 k) (option_map (with_segment t) (stands z (seen h) k)) (stands z (seen h) k) y) ∙ is'.1) in
+    absurd (ne' q k0 a i row n (ap (λ x. Relinked q k0 a i x row n) x)))
+    (λ n'. (is'.0, sym (m ∙ cond-false (same_key k0 k) (option_map (with_segment t) (stands z (seen h) k)) (stands z (seen h) k) n') ∙ is'.1))
+    (cases_Bool (same_key k0 k))
+still_empty z h (Unlinked q k0 n why) s k f ne ne' is' = let g = sym (gone z q k0 why h k) ∙ is'.1 in ⊎_elim
     (λ y. absurd (none-some (cached is'.0 s) (sym (cond-true (same_key k0 k) None (stands z (seen h) k) y) ∙ g)))
     (λ n'. (is'.0, sym (cond-false (same_key k0 k) None (stands z (seen h) k) n') ∙ g))
     (cases_Bool (same_key k0 k))
-still_empty z h e s k f ne is' = is'
+still_empty z h e s k f ne ne' is' = is'
 
--- others link nothing into a segment of one's own
+-- others link nothing into a segment of one's own, and move nothing there
 linked_by_owner : (z : Shape) (h : List Event) (e : Event) (s : ℕ) → Fits z h e → owner z s ≢ by e → (p : ℕ) (q : Request) (row n : ℕ) → e ≢ Linked p q s row n
 linked_by_owner z h e s f ne p q row n is' = ne ((subst (Fits z h) is' f).suits.0.2 ∙ sym (ap by is'))
+
+moved_by_owner : (z : Shape) (h : List Event) (e : Event) (s : ℕ) → Fits z h e → owner z s ≢ by e → (p : ℕ) (k : List ℕ) (a i row n : ℕ) → e ≢ Relinked p k a i s row n
+moved_by_owner z h e s f ne p k a i row n is' = ne ((subst (Fits z h) is' f).suits.0.2 ∙ sym (ap by is'))
 
 pub empty_stays : (z : Shape) (more h : List Event) (s : ℕ) → IsLawful z (more ++ h) → NoneBy (owner z s) more → NoneStandsIn (after z (seen h)) s → NoneStandsIn (after z (seen (more ++ h))) s
 empty_stays z [] h s l n none k is' = none k is'
 empty_stays z (e ∷ more) h s l n none k is' =
-    empty_stays z more h s l.0 n.1 none k (stands_in z (seen (more ++ h)) k s (still_empty z (more ++ h) e s k l.1 (linked_by_owner z (more ++ h) e s l.1 (λ q. n.0 (sym q))) (has_value z (seen (e ∷ (more ++ h))) k s is')))
+    empty_stays z more h s l.0 n.1 none k (stands_in z (seen (more ++ h)) k s (still_empty z (more ++ h) e s k l.1
+    (linked_by_owner z (more ++ h) e s l.1 (λ q. n.0 (sym q))) (moved_by_owner z (more ++ h) e s l.1 (λ q. n.0 (sym q))) (has_value z (seen (e ∷ (more ++ h))) k s is')))

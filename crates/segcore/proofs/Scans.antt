@@ -1,12 +1,13 @@
 -- A scan that finds what it seeks at none of its looks passed a point at which that was nowhere.
-use Rattle.std.proofs.Common.{◌≡◌, ◌≢◌, ℕ, ◌+◌, ◌*◌, ◌%◌, ◌≤◌, cond, eqb, ◌⊎◌, List, [], ◌∷◌, ◌++◌, Option, Some, None, sym, refl, ap, ◌∙◌, subst, inl, inr, ⊎_elim, arith}
+use Rattle.std.proofs.Common.{◌≡◌, ◌≢◌, ℕ, ◌+◌, ◌*◌, ◌%◌, ◌≤◌, cond, eqb, ◌⊎◌, List, [], ◌∷◌, ◌++◌, Option, Some, None, sym, refl, ap, ◌∙◌, subst, inl, inr, ⊎_elim, option_map, arith}
 use Rattle.std.proofs.lemmas.Bool.{cases_Bool, cases_eq, cond-true, cond-false, eqb-true}
 use Rattle.std.proofs.lemmas.Option.{same_Some, none-some}
 use Rattle.segword.specs.Words.{Shape}
 use Rattle.segmodel.specs.declared.request.Reply.TheVariants.{Stored, NotStored, Exists, NotFound, Deleted}
 use Rattle.segmodel.specs.declared.entry.Entry.TheVariants as entry
 use Rattle.segmodel.specs.Words.{Begins, bucket_of, Cached, Entry, key_of, Reply, Request}
-use Rattle.segcore.proofs.Caches.{put, stands, stands_wrote, stands_evicted}
+use Rattle.segmodel.specs.Cache.{with_segment}
+use Rattle.segcore.proofs.Caches.{put, stands, stands_wrote, stands_evicted, stands_moved}
 use Rattle.segcore.specs.Mark.{same_key, Mark, enters, drawn, chained, at, bumped, entered, left, entries, chained_to, onward, place, last_at, IsAbsent, IsIn, IsAfterAt, IsWellMarked}
 use Rattle.segcore.specs.Ahead.{WasGone, Ahead}
 use Rattle.segcore.specs.Bucket.{Slot, slot}
@@ -98,6 +99,11 @@ wrote z k q NotStored s h x e p a t = inr t
 wrote z k q Exists s h x e p a t = inr t
 wrote z k q NotFound s h x e p a t = inr t
 
+-- what stands after a move stood before it
+was_moved : (o : Option Cached) (s : ℕ) (x : Cached) → option_map (with_segment s) o ≡ Some x → (y : Cached) × (o ≡ Some y)
+was_moved None s x e = absurd (none-some x e)
+was_moved (Some y) s x e = (y, refl)
+
 pub has_place : (z : Shape) (k : List ℕ) (h : List Mark) (x : Cached) → IsWellMarked z h → stands z (entries h) k ≡ Some x → HasPlace z k h
 has_place z k [] x p t = absurd (none-some x t)
 has_place z k (enters (entry.Wrote q w y s) ∷ h) x p t = ⊎_elim
@@ -108,6 +114,11 @@ has_place z k (enters (entry.Wrote q w y s) ∷ h) x p t = ⊎_elim
 has_place z k (enters (entry.Evicted q k' s) ∷ h) x p t = ⊎_elim
     (λ e. absurd (none-some x (sym (stands_evicted z q k' s (entries h) k ∙ cond-true (same_key k' k) None (stands z (entries h) k) e) ∙ t)))
     (λ f. let i = has_place z k h x p.0 (sym (stands_evicted z q k' s (entries h) k ∙ cond-false (same_key k' k) None (stands z (entries h) k) f) ∙ t) in record { at = i.at; place = i.place; within = i.within })
+    (cases_Bool (same_key k' k))
+has_place z k (enters (entry.Moved q k' f s) ∷ h) x p t = let m = stands_moved z q k' f s (entries h) k in ⊎_elim
+    (λ e. let y = was_moved (stands z (entries h) k) s x (sym (m ∙ cond-true (same_key k' k) (option_map (with_segment s) (stands z (entries h) k)) (stands z (entries h) k) e) ∙ t) in
+    let i = has_place z k h y.0 p.0 y.1 in record { at = i.at; place = i.place; within = i.within })
+    (λ g. let i = has_place z k h x p.0 (sym (m ∙ cond-false (same_key k' k) (option_map (with_segment s) (stands z (entries h) k)) (stands z (entries h) k) g) ∙ t) in record { at = i.at; place = i.place; within = i.within })
     (cases_Bool (same_key k' k))
 has_place z k (enters (entry.Refilled q s d) ∷ h) x p t = let i = has_place z k h x p.0 t in record { at = i.at; place = i.place; within = i.within }
 has_place z k (at k' u r n f ∷ h) x p t = let i = has_place z k h x p.0 t in ⊎_elim

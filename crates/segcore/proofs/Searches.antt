@@ -4,7 +4,7 @@ use Rattle.std.proofs.lemmas.Bool.{cases_Bool, cases_eq, cond-true, cond-false, 
 use Rattle.std.proofs.lemmas.Option.{same_Some, none-some}
 use Rattle.segmodel.specs.Words.{Begins, bucket_of, Cached, key_of, Request, tag_of, value_of}
 use Rattle.segcore.specs.Words.{Cell, Event, Leaving}
-use Rattle.segcore.specs.declared.event.Event.TheVariants.{Linked, Unlinked, Chained}
+use Rattle.segcore.specs.declared.event.Event.TheVariants.{Linked, Relinked, Unlinked, Chained}
 use Rattle.segcore.specs.Event.{seen}
 use Rattle.segcore.specs.Bucket.{Slot, slot, item, nothing, last, fresh_position, IsPosition, acts, bucket_after}
 use Rattle.segcore.specs.Row.{row_after}
@@ -16,7 +16,7 @@ use Rattle.segcore.specs.Search.{KeyGone, KeyAt, KeyAhead, RowGone, RowAt, Sough
 use Rattle.segcore.proofs.Keys.{same_true}
 use Rattle.segcore.proofs.Caches.{stands}
 use Rattle.segcore.proofs.Chains.{same_item, copy_item}
-use Rattle.segcore.proofs.Standing.{coherent, links, unlinks, here, there, gone, rows_stay, is_calm, grown, at_fresh, elsewhere, others_same}
+use Rattle.segcore.proofs.Standing.{coherent, links, unlinks, relinks, here, there, gone, rows_stay, is_calm, grown, at_fresh, elsewhere, others_same}
 use Rattle.segword.specs.Words.{IsValid, Shape}
 use Rattle.segcore.specs.Word.{IsAt}
 use Rattle.segcore.specs.Mark as marks
@@ -79,6 +79,31 @@ linked_fate z h p q s r n' b n a l is' =
     nothing_item : (a : Slot) → nothing ≡ item a → None ≡ Some a
     nothing_item a e = cc
 
+relinked_fate : (z : Shape) (h : List Event) (p : ℕ) (k : List ℕ) (f i s r n' b n : ℕ) (a : Slot) → IsLawful z (Relinked p k f i s r n' ∷ h) → (bucket_after z h b).items n ≡ item a → Fate z h (Relinked p k f i s r n') b n a
+relinked_fate z h p k f i s r n' b n a l is' =
+    let e = Relinked p k f i s r n' in let b0 = bucket_of z k in let o = item (slot k s r) in
+    let u = l.1.suits in
+    let c = coherent z h l.0 in
+    let x = Some (cached u.1.0 s) in
+    let w = relinks z h p k f i s r n' u c in ⊎_elim
+    (λ y. let eb = eqb-true b0 b y in
+    let old : (bucket_after z h b0).items n ≡ item a = subst (λ t. (bucket_after z h t).items n ≡ item a) (sym eb) is' in
+    ⊎_elim
+    (λ hit. let en = eqb-true n' n hit in
+    let own : a.key ≡ k = sym (ap (λ t. t.key) (same_item (slot k f i) a (sym u.2 ∙ (ap (bucket_after z h b0).items en ∙ old)))) in
+    inr (inl (record {
+      segment = s;
+      row = r;
+      here = subst (λ t. (bucket_after z (e ∷ h) t).items n ≡ item (slot a.key s r)) eb (here z h e k n' o x w n ∙ (cond-true (eqb n' n) o ((bucket_after z h b0).items n) hit ∙ ap (λ t. item (slot t s r)) (sym own)));
+      last = cond-true (same_key k a.key) (Some (slot a.key s r)) (last_at (marked h) a.key) (same_true k a.key (sym own));
+      fresh = u.0.3;
+      rows = rows_stay z h e u (λ p' t' d' same. cc) a.segment a.row a.key ((c.items b n a is').value) (c.items b n a is').linked (c.items b n a is').stands;
+    })))
+    (λ miss. inl (n, omega arith, subst (λ t. (bucket_after z (e ∷ h) t).items n ≡ item a) eb (here z h e k n' o x w n ∙ (cond-false (eqb n' n) o ((bucket_after z h b0).items n) miss ∙ old))))
+    (cases_Bool (eqb n' n)))
+    (λ no. inl (n, omega arith, there z h e k n' o x w b n no ∙ is'))
+    (cases_Bool (eqb b0 b))
+
 unlinked_fate : (z : Shape) (h : List Event) (p : ℕ) (k : List ℕ) (n' : ℕ) (why : Leaving) (b n : ℕ) (a : Slot) → IsLawful z (Unlinked p k n' why ∷ h) → (bucket_after z h b).items n ≡ item a → Fate z h (Unlinked p k n' why) b n a
 unlinked_fate z h p k n' why b n a l is' =
     let e = Unlinked p k n' why in let b0 = bucket_of z k in let w = unlinks z h p k n' why in ⊎_elim
@@ -109,6 +134,7 @@ chained_fate z h p b' m b n a l is' =
 
 fate : (z : Shape) (e : Event) (h : List Event) (b n : ℕ) (a : Slot) → IsLawful z (e ∷ h) → (bucket_after z h b).items n ≡ item a → Fate z h e b n a
 fate z (Linked p q s r n') h b n a l is' = linked_fate z h p q s r n' b n a l is'
+fate z (Relinked p k f i s r n') h b n a l is' = relinked_fate z h p k f i s r n' b n a l is'
 fate z (Unlinked p k n' why) h b n a l is' = unlinked_fate z h p k n' why b n a l is'
 fate z (Chained p b' m) h b n a l is' = inl (chained_fate z h p b' m b n a l is')
 fate z e h b n a l is' = inl (n, omega arith, (is_calm z e h refl l (coherent z h l.0)).on b n a is')

@@ -6,7 +6,7 @@ use Rattle.segword.specs.Words.{IsValid, Shape}
 use Rattle.segmodel.specs.declared.request.Reply.TheVariants.{Stored}
 use Rattle.segmodel.specs.Words.{key_of, Request, value_of}
 use Rattle.segcore.specs.Words.{Event}
-use Rattle.segcore.specs.declared.event.Event.TheVariants.{Linked, Entered, Left, Refilled}
+use Rattle.segcore.specs.declared.event.Event.TheVariants.{Linked, Relinked, Entered, Left, Refilled}
 use Rattle.segcore.specs.Event.{seen}
 use Rattle.segcore.specs.Row.{Row, writes_row, row_after}
 use Rattle.segcore.specs.Segment.{inside, NoneRefills}
@@ -21,6 +21,7 @@ use Rattle.segcore.proofs.Moments.{lawful_before}
 use Rattle.segcore.proofs.Orderly.{readers_marked, inside_marked}
 use Rattle.segcore.proofs.Readers.{at_most, counted, some_reader}
 use Rattle.segcore.proofs.Entered.{row_stays, none_in}
+use Rattle.segcore.proofs.Standing.{relinks, coherent}
 
 -- a pass that isn't there is in no segment
 pub strangers : (z : Shape) (h : List Event) (p s : ℕ) → IsLawful z h → z.passes ≤ p → inside h p s ≡ 0
@@ -45,13 +46,16 @@ row_since z (e ∷ more) h s r k l n on = let i = row_since z more h s r k l.0 n
 
 none_links : (z : Shape) (more h : List Event) (s r : ℕ) (k : List ℕ) → IsLawful z (more ++ h) → NoneRefills s more → (row_after h s r).linked ≡ Some k → NoneLinks s r more
 none_links z [] h s r k l n on = tt
-none_links z (e ∷ more) h s r k l n on =
-    ((λ p pos q is'. none-some k (sym (subst (λ x. IsLawful z (x ∷ (more ++ h))) is' l).1.suits.0.3 ∙ (ap (λ u. u.linked) (row_since z more h s r k l.0 n.1 on) ∙ on))), none_links z more h s r k l.0 n.1 on)
+none_links z (e ∷ more) h s r k l n on = (
+  (λ p pos q is'. none-some k (sym (subst (λ x. IsLawful z (x ∷ (more ++ h))) is' l).1.suits.0.3 ∙ (ap (λ u. u.linked) (row_since z more h s r k l.0 n.1 on) ∙ on))),
+  (λ p a b pos q is'. none-some k (sym (subst (λ x. IsLawful z (x ∷ (more ++ h))) is' l).1.suits.0.3 ∙ (ap (λ u. u.linked) (row_since z more h s r k l.0 n.1 on) ∙ on))),
+  none_links z more h s r k l.0 n.1 on,
+)
 
 at_link : (h : List Event) (p : ℕ) (q : Request) (s r n : ℕ) → row_after (Linked p q s r n ∷ h) s r ≡ writes_row (Linked p q s r n) (row_after h s r)
 at_link h p q s r n = cond-true (eqb s s && eqb r r) (writes_row (Linked p q s r n) (row_after h s r)) (row_after h s r) (and_from (eqb s s) (eqb r r) (eq-eqb s s refl) (eq-eqb r r refl))
 
-kept_row : (z : Shape) (more h : List Event) (p : ℕ) (q : Request) (s r n : ℕ) → IsLawful z (more ++ (Linked p q s r n ∷ h)) → NoneRefills s more → IsKeptRow z (more ++ (Linked p q s r n ∷ h)) more h p q s r n
+kept_row : (z : Shape) (more h : List Event) (p : ℕ) (q : Request) (s r n : ℕ) → IsLawful z (more ++ (Linked p q s r n ∷ h)) → NoneRefills s more → IsKeptRow z (more ++ (Linked p q s r n ∷ h)) more (Linked p q s r n ∷ h) (key_of q) (value_of q) s r
 kept_row z more h p q s r n l none =
     let e = Linked p q s r n in let k = key_of q in
     let on : (row_after (e ∷ h) s r).linked ≡ Some k = ap (λ u. u.linked) (at_link h p q s r n) in
@@ -60,6 +64,25 @@ kept_row z more h p q s r n l none =
       holds = λ j lt. ap (λ (u : Row). u.words j) (row_since z more (e ∷ h) s r k l none on ∙ at_link h p q s r n) ∙ (lawful_before z more (e ∷ h) l).1.suits.1 j lt;
       stood = stands_wrote z p q Stored (Some s) (seen h) k ∙ cond-true (same_key k k) (Some (cached (value_of q) s)) (stands z (seen h) k) (same_true k k refl);
     }
+
+at_move : (h : List Event) (p : ℕ) (k : List ℕ) (a i s r n : ℕ) → row_after (Relinked p k a i s r n ∷ h) s r ≡ writes_row (Relinked p k a i s r n) (row_after h s r)
+at_move h p k a i s r n = cond-true (eqb s s && eqb r r) (writes_row (Relinked p k a i s r n) (row_after h s r)) (row_after h s r) (and_from (eqb s s) (eqb r r) (eq-eqb s s refl) (eq-eqb r r refl))
+
+moved_row : (z : Shape) (more h : List Event) (p : ℕ) (k : List ℕ) (a i s r n : ℕ) → IsLawful z (more ++ (Relinked p k a i s r n ∷ h)) → NoneRefills s more
+    → (value : List ℕ) × IsKeptRow z (more ++ (Relinked p k a i s r n ∷ h)) more (Relinked p k a i s r n ∷ h) k value s r
+moved_row z more h p k a i s r n l none =
+    let e = Relinked p k a i s r n in
+    let early = lawful_before z more (e ∷ h) l in
+    let u = early.1.suits in
+    let on : (row_after (e ∷ h) s r).linked ≡ Some k = ap (λ u. u.linked) (at_move h p k a i s r n) in
+    let put = relinks z h p k a i s r n u (coherent z h early.0) in (
+      u.1.0,
+      record {
+        once = none_links z more (e ∷ h) s r k l none on;
+        holds = λ j lt. ap (λ (u : Row). u.words j) (row_since z more (e ∷ h) s r k l none on ∙ at_move h p k a i s r n) ∙ u.1.2 j lt;
+        stood = put.keys k ∙ cond-true (same_key k k) (Some (cached u.1.0 s)) (stands z (seen h) k) (same_true k k refl);
+      },
+    )
 
 pub says_of_segments : (z : Shape) (h : List Event) → IsValid z → IsLawful z h → SegmentFacts z h
 says_of_segments z h v l = record {
@@ -70,5 +93,7 @@ says_of_segments z h v l = record {
   low = λ s. let c = counted z h l s in let w = (word_parts z h s v l).1 in omega arith;
   reader = λ s there. some_reader z h l s (subst (λ x. 0 < x) (word_parts z h s v l).1 there);
   refilled = λ more g q p s d is'. none_inside z more g q p s d (subst (IsLawful z) is' l);
-  rows = λ more g p q s r n is' none. subst (λ x. IsKeptRow z x more g p q s r n) (sym is') (kept_row z more g p q s r n (subst (IsLawful z) is' l) none);
+  rows = λ more g p q s r n is' none. subst (λ x. IsKeptRow z x more (Linked p q s r n ∷ g) (key_of q) (value_of q) s r) (sym is') (kept_row z more g p q s r n (subst (IsLawful z) is' l) none);
+  moved = λ more g p k a i s r n is' none. let w = moved_row z more g p k a i s r n (subst (IsLawful z) is' l) none in
+      (w.0, subst (λ x. IsKeptRow z x more (Relinked p k a i s r n ∷ g) k w.0 s r) (sym is') w.1);
 }

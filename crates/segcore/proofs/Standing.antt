@@ -1,11 +1,12 @@
 -- In a lawful history the chains and the map agree, by induction on its events.
-use Rattle.std.proofs.Common.{◌≡◌, ◌≢◌, ℕ, Bool, true, false, cond, eqb, ◌⊎◌, List, [], ◌∷◌, Option, Some, None, sym, refl, ap, ◌∙◌, subst, inl, inr, ⊎_elim, arith}
+use Rattle.std.proofs.Common.{◌≡◌, ◌≢◌, ℕ, Bool, true, false, cond, eqb, ◌⊎◌, List, [], ◌∷◌, Option, Some, None, sym, refl, ap, ◌∙◌, subst, inl, inr, ⊎_elim, option_map, arith}
 use Rattle.std.proofs.lemmas.Bool.{cases_Bool, cond-true, cond-false, eqb-true, eqb-false, eq-eqb, ne_eqb, false≢true, false_from_ne_true}
 use Rattle.std.proofs.lemmas.Option.{same_Some, none-some}
-use Rattle.segword.specs.Words.{Shape}
+use Rattle.segword.specs.Words.{IsValue, Shape}
 use Rattle.segmodel.specs.declared.request.Reply.TheVariants.{Stored, NotStored, Exists, NotFound, Deleted}
 use Rattle.segmodel.specs.Words.{bucket_of, Cached, IsLegal, key_of, Reply, Request, value_of}
-use Rattle.segcore.proofs.Caches.{put, stands, stands_wrote, stands_evicted, stands_in}
+use Rattle.segmodel.specs.Cache.{with_segment}
+use Rattle.segcore.proofs.Caches.{put, stands, stands_wrote, stands_evicted, stands_moved, stands_in}
 use Rattle.segmodel.specs.declared.request.Request.TheVariants.{Delete}
 use Rattle.segcore.proofs.Coherent.{IsContent, IsChain, IsStanding, moved, place, Coherent}
 use Rattle.segcore.specs.Bucket.{Slot, slot, Content, nothing, item, next, copy, Bucket, last, fresh_position, bucket_at, is, acts, bucket_after, IsPosition}
@@ -15,7 +16,7 @@ use Rattle.segcore.specs.Mark.{same_key, marked, last_at}
 use Rattle.segcore.specs.Row.{Row, row_at, writes_row, row_after}
 use Rattle.segcore.specs.Standing.{cached}
 use Rattle.segcore.specs.Words.{Event, Leaving}
-use Rattle.segcore.specs.declared.event.Event.TheVariants.{Replied, Filled, Linked, Unlinked, Put, Chained, Refilled}
+use Rattle.segcore.specs.declared.event.Event.TheVariants.{Replied, Filled, Linked, Relinked, Unlinked, Put, Chained, Refilled}
 use Rattle.segcore.specs.declared.event.Leaving.TheVariants.{Deletes, Evicts}
 use Rattle.segcore.proofs.Keys.{key_true, same_true, key_false, same_false}
 use Rattle.segcore.proofs.Quiet.{at_unlinked}
@@ -186,6 +187,44 @@ links z h p q s r n u = let e = Linked p q s r n in let k = key_of q in
       has = λ y is'. (slot k s r, refl);
     }
 
+-- what a move puts under its key: its value, in the other segment
+pub relinks : (z : Shape) (h : List Event) (p : ℕ) (k : List ℕ) (f i s r n : ℕ) → (u : Suits z h (Relinked p k f i s r n)) → Coherent z h → Puts z h (Relinked p k f i s r n) k n (item (slot k s r)) (Some (cached u.1.0 s))
+relinks z h p k f i s r n u c = let e = Relinked p k f i s r n in
+    let old = c.items (bucket_of z k) n (slot k f i) u.2 in
+    let same_row : row_after (e ∷ h) s r ≡ record (row_after h s r) { linked = Some k } = rw (eq-eqb s s refl, eq-eqb r r refl) refl in
+    let b0 = bucket_of z k in
+    let same_bucket : bucket_after z (e ∷ h) b0 ≡ acts e (bucket_after z h b0) = cond-true (eqb b0 b0) (acts e (bucket_after z h b0)) (bucket_after z h b0) (eq-eqb b0 b0 refl) in
+    let on : (k' : List ℕ) → stands z (seen (e ∷ h)) k' ≡ cond (same_key k k') (Some (cached u.1.0 s)) (stands z (seen h) k') =
+    (λ k'. stands_moved z p k f s (seen h) k' ∙ ⊎_elim
+    (λ t. rw t (ap (option_map (with_segment s)) (ap (stands z (seen h)) (sym (key_true k k' t)) ∙ u.1.1)))
+    (λ g. rw g refl)
+    (cases_Bool (same_key k k'))) in
+    let same_value : Some (cached u.1.0 f) ≡ Some (cached old.value f) = sym u.1.1 ∙ old.stands in
+    let new : IsStanding z (e ∷ h) b0 n (slot k s r) = record {
+      here = refl;
+      position = subst (λ w. IsPosition w n) (sym same_bucket) old.position;
+      within = (u.0.0, u.0.1);
+      linked = ap (λ w. w.linked) same_row;
+      value = u.1.0;
+      valid = (old.valid.0, subst IsValue (sym (ap (λ (x : Cached). x.value) (same_Some (cached u.1.0 f) (cached old.value f) same_value))) old.valid.1);
+      holds = λ j lt. ap (λ (w : Row). w.words j) same_row ∙ u.1.2 j lt;
+      stands = on k ∙ cond-true (same_key k k) (Some (cached u.1.0 s)) (stands z (seen h) k) (same_true k k refl);
+      last = cond-true (same_key k k) (Some (slot k s r)) (last_at (marked h) k) (same_true k k refl);
+    } in
+    record {
+      at = λ b. refl;
+      items = λ w. refl;
+      chained = λ w. refl;
+      keys = on;
+      rows = rows_stay z h e u (λ p' t' d' same. cc);
+      places = λ k' g. cond-false (same_key k k') (Some n) (place z h k') g;
+      lasts = λ k' g. cond-false (same_key k k') (Some (slot k' s r)) (last_at (marked h) k') g;
+      new_place = λ a is'. cond-true (same_key k a.key) (Some n) (place z h a.key) (same_true k a.key (ap (λ o. o.key) (same_item (slot k s r) a is')));
+      new = λ a is'. subst (IsStanding z (e ∷ h) b0 n) (same_item (slot k s r) a is') new;
+      own = λ a is'. ap (λ o. o.key) (sym (same_item (slot k s r) a is'));
+      has = λ y is'. (slot k s r, refl);
+    }
+
 pub gone : (z : Shape) (p : ℕ) (k : List ℕ) (why : Leaving) (h : List Event) (k' : List ℕ) → stands z (removal p k why ∷ seen h) k' ≡ cond (same_key k k') None (stands z (seen h) k')
 gone z p k (Deletes m) h k' = stands_wrote z p (Delete k m) Deleted None (seen h) k'
 gone z p k (Evicts s) h k' = stands_evicted z p k s (seen h) k'
@@ -291,12 +330,14 @@ same_cond false x y e = refl
 -- the events that link, unlink or chain
 abbrev pub Turning : Event → Bool
 Turning (Linked p q s r n) = true
+Turning (Relinked p k f i s r n) = true
 Turning (Unlinked p k n why) = true
 Turning (Chained p b m) = true
 Turning _ = false
 
 same_chain : (e : Event) (u : Bucket) → Turning e ≡ false → (acts e u).chained ≡ u.chained
 same_chain (Linked p q s r n) u t = absurd (false≢true (sym t))
+same_chain (Relinked p k f i s r n) u t = absurd (false≢true (sym t))
 same_chain (Unlinked p k n why) u t = absurd (false≢true (sym t))
 same_chain (Chained p b m) u t = absurd (false≢true (sym t))
 same_chain e u t = refl
@@ -307,6 +348,7 @@ not_fresh h b u n a c is' e = let i : IsContent h b u n (item a) = subst (IsCont
 
 act_back : (e : Event) (u : Bucket) (n : ℕ) (a : Slot) → Turning e ≡ false → (acts e u).items n ≡ item a → u.items n ≡ item a
 act_back (Linked p q s r m) u n a t is' = absurd (false≢true (sym t))
+act_back (Relinked p k f i s r m) u n a t is' = absurd (false≢true (sym t))
 act_back (Unlinked p k m why) u n a t is' = absurd (false≢true (sym t))
 act_back (Chained p b m) u n a t is' = absurd (false≢true (sym t))
 act_back (Put p b w) u n a t is' = ⊎_elim
@@ -317,6 +359,7 @@ act_back e u n a t is' = is'
 
 act_on : (e : Event) (h : List Event) (b : ℕ) (u : Bucket) (n : ℕ) (a : Slot) → Turning e ≡ false → IsChain h b u → u.items n ≡ item a → (acts e u).items n ≡ item a
 act_on (Linked p q s r m) h b u n a t c is' = absurd (false≢true (sym t))
+act_on (Relinked p k f i s r m) h b u n a t c is' = absurd (false≢true (sym t))
 act_on (Unlinked p k m why) h b u n a t c is' = absurd (false≢true (sym t))
 act_on (Chained p d m) h b u n a t c is' = absurd (false≢true (sym t))
 act_on (Put p d w) h b u n a t c is' = cond-false (eqb (fresh_position u) n) (copy w) (u.items n) (ne_eqb (fresh_position u) n (not_fresh h b u n a c is')) ∙ is'
@@ -324,23 +367,27 @@ act_on e h b u n a t c is' = is'
 
 same_map : (z : Shape) (e : Event) (h : List Event) (k : List ℕ) → Turning e ≡ false → Suits z h e → stands z (seen (e ∷ h)) k ≡ stands z (seen h) k
 same_map z (Linked p q s r n) h k t u = absurd (false≢true (sym t))
+same_map z (Relinked p k' f i s r n) h k t u = absurd (false≢true (sym t))
 same_map z (Unlinked p k' n why) h k t u = absurd (false≢true (sym t))
 same_map z (Replied p q y) h k t u = stands_wrote z p q y None (seen h) k ∙ same_cond (same_key (key_of q) k) (put q y None (stands z (seen h) k)) (stands z (seen h) k) (refused q y None (stands z (seen h) k) u)
 same_map z e h k t u = refl
 
 same_places : (z : Shape) (e : Event) (h : List Event) (k : List ℕ) → Turning e ≡ false → place z (e ∷ h) k ≡ place z h k
 same_places z (Linked p q s r n) h k t = absurd (false≢true (sym t))
+same_places z (Relinked p k' f i s r n) h k t = absurd (false≢true (sym t))
 same_places z (Chained p b m) h k t = absurd (false≢true (sym t))
 same_places z e h k t = refl
 
 same_lasts : (e : Event) (h : List Event) (k : List ℕ) → Turning e ≡ false → last_at (marked (e ∷ h)) k ≡ last_at (marked h) k
 same_lasts (Linked p q s r n) h k t = absurd (false≢true (sym t))
+same_lasts (Relinked p k' f i s r n) h k t = absurd (false≢true (sym t))
 same_lasts e h k t = refl
 
 calm_rows : (z : Shape) (e : Event) (h : List Event) → IsLawful z (e ∷ h) → LinkedRowsStay z h e
 calm_rows z (Refilled p s d) h l t r k v on is' = cond-false (eqb s t) (writes_row (Refilled p s d) (row_after h t r)) (row_after h t r) (ne_eqb s t (λ e. l.1.follows.0 k (stands_in z (seen h) k s (v, is' ∙ ap (λ q. Some (cached v q)) (sym e)))))
 calm_rows z (Filled p s r j w) h l t i k v on is' = rows_stay z h (Filled p s r j w) l.1.suits (λ p' t' d' same. cc) t i k v on is'
 calm_rows z (Linked p q s r n) h l t i k v on is' = rows_stay z h (Linked p q s r n) l.1.suits (λ p' t' d' same. cc) t i k v on is'
+calm_rows z (Relinked p k' f j s r n) h l t i k v on is' = rows_stay z h (Relinked p k' f j s r n) l.1.suits (λ p' t' d' same. cc) t i k v on is'
 calm_rows z e h l s r k v on is' = refl
 
 pub is_calm : (z : Shape) (e : Event) (h : List Event) → Turning e ≡ false → IsLawful z (e ∷ h) → Coherent z h → Calm z h e
@@ -362,6 +409,8 @@ pub coherent : (z : Shape) (h : List Event) → IsLawful z h → Coherent z h
 coherent z [] l = record { chains = chain_of z [] l; items = λ b n a is'. absurd (no_item a is'); placed = λ b n a is'. absurd (no_item a is'); all = λ k x is'. absurd (none-some x is') }
 coherent z (Linked p q s r n ∷ h) l = let c = coherent z h l.0 in
     puts z h (Linked p q s r n) (key_of q) n (item (slot (key_of q) s r)) (Some (cached (value_of q) s)) (links z h p q s r n l.1.suits) l c (has_room z h (key_of q) n c l.1.suits.4)
+coherent z (Relinked p k f i s r n ∷ h) l = let c = coherent z h l.0 in let u = l.1.suits in
+    puts z h (Relinked p k f i s r n) k n (item (slot k s r)) (Some (cached u.1.0 s)) (relinks z h p k f i s r n u c) l c (has_room z h k n c (inr (slot k f i, u.2, refl)))
 coherent z (Unlinked p k n why ∷ h) l = let c = coherent z h l.0 in let u = l.1.suits in
     puts z h (Unlinked p k n why) k n nothing None (unlinks z h p k n why) l c (has_room z h k n c (inr (u.0, u.1, u.2)))
 coherent z (Chained p b m ∷ h) l = chains_on z h p b m l (coherent z h l.0)
@@ -372,6 +421,7 @@ left_legal z [] l = tt
 left_legal z (Replied p q y ∷ h) l = (left_legal z h l.0, l.1.follows)
 left_legal z (Refilled p s d ∷ h) l = (left_legal z h l.0, l.1.follows)
 left_legal z (Linked p q s r n ∷ h) l = (left_legal z h l.0, l.1.follows)
+left_legal z (Relinked p k f i s r n ∷ h) l = (left_legal z h l.0, l.1.follows)
 left_legal z (Unlinked p k n why ∷ h) l = (left_legal z h l.0, l.1.follows)
 left_legal z (e ∷ h) l = left_legal z h l.0
 

@@ -11,18 +11,18 @@ use Rattle.segword.specs.Words.{IsValid, Shape}
 use Rattle.segmodel.specs.Words.{bucket_of, key_of}
 use Rattle.segcore.specs.Bucket.{last, fresh_position, bucket_after}
 use Rattle.segcore.specs.Event.{NoneBy}
-use Rattle.segcore.specs.Kind.{Step, take, release, info_look, glance, look, link, clear, draw, fill, chain, bump, row_store, row_load, enter, leave, none_reading, May, KeepsLaw}
+use Rattle.segcore.specs.Kind.{Step, take, release, info_look, glance, look, link, relink, clear, draw, fill, chain, bump, row_store, row_load, enter, leave, none_reading, May, KeepsLaw}
 use Rattle.segcore.specs.Lawful.{IsLawful}
 use Rattle.segcore.specs.Word.{IsAt}
 use Rattle.segcore.specs.Words.{Event}
-use Rattle.segcore.specs.declared.event.Event.TheVariants.{Filled, Linked, Unlinked, Put, Chained, Entered, Left}
+use Rattle.segcore.specs.declared.event.Event.TheVariants.{Filled, Linked, Relinked, Unlinked, Put, Chained, Entered, Left}
 use Rattle.segcore.proofs.Quiet.{quiet, later, position_stays}
 use Rattle.segcore.proofs.Cells.{at_stays}
 use Rattle.segcore.proofs.Readers.{empty_stays}
 use Rattle.segcore.proofs.StepKinds.Words.{nothing_new}
 pub use Rattle.segcore.proofs.StepKinds.Words.{word_content, cell_in}
 use Rattle.segcore.proofs.StepKinds.Information.{take_at, glance_at, bit_known, release_at, later_told}
-use Rattle.segcore.proofs.StepKinds.Items.{link_at, clear_at}
+use Rattle.segcore.proofs.StepKinds.Items.{link_at, relink_at, clear_at}
 pub use Rattle.segcore.proofs.StepKinds.Items.{above}
 use Rattle.segcore.proofs.StepKinds.Overflow.{fill_at, chain_at, draw_at}
 use Rattle.segcore.proofs.StepKinds.Frequencies.{bump_at}
@@ -41,6 +41,7 @@ keeps z (look c) p more h v l n may = nothing_new z (look c) p (more ++ h) refl 
 keeps z (row_load s r j) p more h v l n may = nothing_new z (row_load s r j) p (more ++ h) refl refl (may.0, may.1, may.2) l
 keeps z (row_store s r j w) p more h v l n may = store_at z p s r j w (more ++ h) (later z more h (Filled p s r j w) l n refl may) l
 keeps z (link q s r m c old) p more h v l n may = link_at z p q s r m c old (more ++ h) (later z more h (Linked p q s r m) l n refl may.0) (at_stays z more h (bucket_of z (key_of q)) m c l may.1.1) l
+keeps z (relink k a i f s r m c) p more h v l n may = relink_at z p k a i f s r m c (more ++ h) (later z more h (Relinked p k a i s r m) l n refl may.0) (at_stays z more h (bucket_of z k) m c l may.1.1) l
 keeps z (clear k m c old why) p more h v l n may = clear_at z p k m c old why (more ++ h) (later z more h (Unlinked p k m why) l n refl may.0) (above (bucket_after z h (bucket_of z k)) m may.1.0) (at_stays z more h (bucket_of z k) m c l may.1.1) l
 keeps z (draw b d from) p more h v l n may = let same_b = quiet z more h p b l n may.0.1 in
     draw_at z p b d from (more ++ h) (may.0.0, ap (λ u. u.holder) same_b ∙ may.0.1) (ap (λ u. u.spare) same_b ∙ may.1) (may.2 ∙ ap (λ u. u.chained + 1) (sym same_b)) may.3 may.4 l

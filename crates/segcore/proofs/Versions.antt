@@ -4,13 +4,13 @@ use Rattle.std.proofs.lemmas.Bool.{cases_Bool, cond-true, cond-false, eqb-true, 
 use Rattle.segword.specs.Words.{Shape}
 use Rattle.segmodel.specs.declared.request.Reply.TheVariants.{Stored, NotStored, Exists, NotFound, Deleted}
 use Rattle.segmodel.specs.Words.{bucket_of, key_of, Reply, writes}
-use Rattle.segcore.proofs.Caches.{one_more, writes_wrote, writes_evicted, writes_refilled}
+use Rattle.segcore.proofs.Caches.{one_more, writes_wrote, writes_evicted, writes_refilled, writes_moved}
 use Rattle.segmodel.specs.declared.request.Request.TheVariants.{Delete}
 use Rattle.segcore.specs.Bucket.{Bucket, bucket_at, is, acts, bucket_after, written_by}
 use Rattle.segcore.specs.Event.{seen, removal, by}
 use Rattle.segcore.specs.Lawful.{MayLeave, IsRefusal, IsLawful, needs}
 use Rattle.segcore.specs.Words.{Event, Leaving}
-use Rattle.segcore.specs.declared.event.Event.TheVariants.{Took, Freed, Replied, Linked, Unlinked, Refilled}
+use Rattle.segcore.specs.declared.event.Event.TheVariants.{Took, Freed, Replied, Linked, Relinked, Unlinked, Refilled}
 use Rattle.segcore.specs.declared.event.Leaving.TheVariants.{Deletes, Evicts}
 use Rattle.std.proofs.Common.{MatchOption, ◌<◌}
 use Rattle.std.proofs.lemmas.Option.{none-some}
@@ -41,6 +41,7 @@ at_event z (Refilled p s d) h b t l i = absurd (false≢true t)
 at_event z (Replied p q y) h b t l i = writes_wrote z p q y None (seen h) b ∙ cond-true (eqb (bucket_of z (key_of q)) b) (one_more y (writes z (seen h) b)) (writes z (seen h) b) t ∙ (same_more y (writes z (seen h) b) l.1.suits ∙ i)
 at_event z (Linked p q s r n) h b t l i = let w : (bucket_after z h b).written ≡ false = rw (← eqb-true (bucket_of z (key_of q)) b t) l.1.suits.2 in
     writes_wrote z p q Stored (Some s) (seen h) b ∙ cond-true (eqb (bucket_of z (key_of q)) b) (writes z (seen h) b + 1) (writes z (seen h) b) t ∙ (ap (λ n. n + 1) (i ∙ ap (λ c. (bucket_after z h b).version + one_if c) w) ∙ omega arith)
+at_event z (Relinked p k f r s i n) h b t l e = writes_moved z p k f s (seen h) b ∙ e
 at_event z (Unlinked p k n why) h b t l i = deleted z p k why h (bucket_after z h b) l.1.suits.0.segment b t (rw (← eqb-true (bucket_of z k) b t) l.1.suits.3) i
 at_event z e h b t l i = i
 
@@ -51,6 +52,7 @@ removed_writes z p k (Evicts s) h b f = writes_evicted z p k s (seen h) b
 same_writes : (z : Shape) (e : Event) (h : List Event) (b : ℕ) → is (bucket_at z e) b ≡ false → writes z (seen (e ∷ h)) b ≡ writes z (seen h) b
 same_writes z (Replied p q y) h b f = writes_wrote z p q y None (seen h) b ∙ cond-false (eqb (bucket_of z (key_of q)) b) (one_more y (writes z (seen h) b)) (writes z (seen h) b) f
 same_writes z (Linked p q s r n) h b f = writes_wrote z p q Stored (Some s) (seen h) b ∙ cond-false (eqb (bucket_of z (key_of q)) b) (writes z (seen h) b + 1) (writes z (seen h) b) f
+same_writes z (Relinked p k a r s i n) h b f = writes_moved z p k a s (seen h) b
 same_writes z (Unlinked p k n why) h b f = removed_writes z p k why h b f
 same_writes z (Refilled p s d) h b f = writes_refilled z p s d (seen h) b
 same_writes z e h b f = refl

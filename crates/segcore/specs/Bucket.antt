@@ -3,7 +3,7 @@ use Rattle.std.specs.Prelude.{ℕ, ◌+◌, ◌*◌, ◌%◌, ◌<◌, ◌==◌,
 use Rattle.segword.specs.Words.{Shape}
 use Rattle.segmodel.specs.Words.{bucket_of, key_of, with_at}
 use Rattle.segcore.specs.declared.event.Event.{Event}
-use Rattle.segcore.specs.declared.event.Event.TheVariants.{Took, Freed, Replied, Linked, Unlinked, Drew, Put, Chained}
+use Rattle.segcore.specs.declared.event.Event.TheVariants.{Took, Freed, Replied, Linked, Relinked, Unlinked, Drew, Put, Chained}
 use Rattle.segcore.specs.declared.event.Leaving.TheVariants.{Deletes, Evicts}
 use Rattle.segcore.specs.declared.event.Leaving.{Leaving}
 
@@ -55,6 +55,7 @@ bucket_at shape (Took pass bucket) = Some bucket
 bucket_at shape (Freed pass bucket counted) = Some bucket
 bucket_at shape (Replied pass request reply) = Some (bucket_of shape (key_of request))
 bucket_at shape (Linked pass request segment row position) = Some (bucket_of shape (key_of request))
+bucket_at shape (Relinked pass key from from_row segment row position) = Some (bucket_of shape key)
 bucket_at shape (Unlinked pass key position why) = Some (bucket_of shape key)
 bucket_at shape (Drew pass bucket depth number) = Some bucket
 bucket_at shape (Put pass bucket word) = Some bucket
@@ -76,6 +77,8 @@ abbrev pub acts : Event → Bucket → Bucket
 acts (Took pass b) bucket = record bucket { holder = Some pass }
 acts (Freed pass b counted) bucket = record bucket { holder = None; written = false; version = if counted then bucket.version + 1 else bucket.version }
 acts (Linked pass request segment row position) bucket = record bucket { written = true; items = with_at bucket.items position (item (slot (key_of request) segment row)) }
+-- an item that is moved keeps its word, and is no write to the bucket
+acts (Relinked pass key from from_row segment row position) bucket = record bucket { items = with_at bucket.items position (item (slot key segment row)) }
 acts (Unlinked pass key position why) bucket = record bucket { written = written_by why bucket.written; items = with_at bucket.items position nothing }
 acts (Drew pass b depth number) bucket = record bucket { spare = Some number }
 acts (Put pass b word) bucket = record bucket { items = with_at bucket.items (fresh_position bucket) (copy word) }

@@ -5,7 +5,7 @@ use Rattle.segmodel.specs.declared.request.Reply.TheVariants.{Stored, Deleted}
 use Rattle.segmodel.specs.Words.{Entry}
 use Rattle.segmodel.specs.declared.entry.Entry.TheVariants as entry
 use Rattle.segcore.specs.declared.event.Event.{Event}
-use Rattle.segcore.specs.declared.event.Event.TheVariants.{Took, Bounced, Glanced, Freed, Replied, Filled, Linked, Unlinked, Drew, Put, Chained, Bumped, Entered, Left, Refilled}
+use Rattle.segcore.specs.declared.event.Event.TheVariants.{Took, Bounced, Glanced, Freed, Replied, Filled, Linked, Relinked, Unlinked, Drew, Put, Chained, Bumped, Entered, Left, Refilled}
 use Rattle.segcore.specs.declared.event.Leaving.TheVariants.{Deletes, Evicts}
 use Rattle.segcore.specs.declared.event.Leaving.{Leaving}
 
@@ -18,6 +18,7 @@ by (Freed pass bucket counted) = pass
 by (Replied pass request reply) = pass
 by (Filled pass segment row place word) = pass
 by (Linked pass request segment row position) = pass
+by (Relinked pass key from from_row segment row position) = pass
 by (Unlinked pass key position why) = pass
 by (Drew pass bucket depth number) = pass
 by (Put pass bucket word) = pass
@@ -46,6 +47,7 @@ removal pass key (Evicts segment) = entry.Evicted pass key segment
 abbrev pub entry_of : Event → Option Entry
 entry_of (Replied pass request reply) = Some (entry.Wrote pass request reply None)
 entry_of (Linked pass request segment row position) = Some (entry.Wrote pass request Stored (Some segment))
+entry_of (Relinked pass key from from_row segment row position) = Some (entry.Moved pass key from segment)
 entry_of (Unlinked pass key position why) = Some (removal pass key why)
 entry_of (Refilled pass segment deadline) = Some (entry.Refilled pass segment deadline)
 entry_of _ = None

@@ -5,10 +5,10 @@ use Rattle.segword.specs.Words.{Shape}
 use Rattle.segmodel.specs.declared.request.Request.TheVariants.{Set, Add, Replace}
 use Rattle.segmodel.specs.declared.request.Reply.TheVariants.{NotStored}
 use Rattle.segcore.specs.declared.event.Event.{Event}
-use Rattle.segcore.specs.declared.event.Event.TheVariants.{Took, Bounced, Glanced, Freed, Replied, Filled, Linked, Unlinked, Drew, Put, Chained, Bumped, Entered, Left, Refilled}
+use Rattle.segcore.specs.declared.event.Event.TheVariants.{Took, Bounced, Glanced, Freed, Replied, Filled, Linked, Relinked, Unlinked, Drew, Put, Chained, Bumped, Entered, Left, Refilled}
 use Rattle.segcore.specs.declared.view.View.{View}
 use Rattle.segcore.specs.declared.cell.Cell.TheVariants.{OfBucket, OfOverflow}
-use Rattle.segcore.specs.Kind.{Step, take, release, info_look, glance, look, link, clear, draw, fill, chain, bump, row_store, row_load, enter, leave, none_reading}
+use Rattle.segcore.specs.Kind.{Step, take, release, info_look, glance, look, link, relink, clear, draw, fill, chain, bump, row_store, row_load, enter, leave, none_reading}
 use Rattle.segcore.specs.Mark.{Mark, marked}
 use Rattle.segcore.specs.World.{World, after_step}
 use Rattle.segcore.specs.declared.event.Leaving.TheVariants.{Deletes, Evicts}
@@ -31,9 +31,9 @@ two = 50 ∷ []
 
 -- ---- a trace
 
--- each pass refills a segment of its own, up to moment 9
+-- the passes refill segments of their own, all up to moment 9
 abbrev pub opened : List Event
-opened = Refilled 1 2 9 ∷ Refilled 0 0 9 ∷ []
+opened = Refilled 0 1 9 ∷ Refilled 1 2 9 ∷ Refilled 0 0 9 ∷ []
 
 -- pass 0 writes a row of segment 0, and sets a in word 7
 abbrev pub stored : List Event
@@ -59,11 +59,16 @@ refused = Freed 1 0 false ∷ Replied 1 (Add a two 3) NotStored ∷ Took 1 0 ∷
 abbrev pub replaced : List Event
 replaced = Freed 0 0 true ∷ Linked 0 (Replace a two 4) 0 1 9 ∷ Filled 0 0 1 4 50 ∷ Filled 0 0 1 1 97 ∷ Filled 0 0 1 0 257 ∷ Took 0 0 ∷ refused
 
--- pass 0 deletes b, and evicts a from its segment
-abbrev pub evicted : List Event
-evicted = Freed 0 0 false ∷ Unlinked 0 a 9 (Evicts 0) ∷ Took 0 0 ∷ Freed 0 0 true ∷ Unlinked 0 b 1 (Deletes 5) ∷ Took 0 0 ∷ replaced
+-- pass 1 reads it, and raises its frequency; and pass 0 moves it to its other segment
+abbrev pub relinked : List Event
+relinked = Freed 0 0 false ∷ Relinked 0 a 0 1 1 0 9 ∷ Left 1 0 ∷ Bumped 1 0 1 2 ∷ Entered 1 0
+    ∷ Filled 0 1 0 4 50 ∷ Filled 0 1 0 1 97 ∷ Filled 0 1 0 0 257 ∷ Took 0 0 ∷ replaced
 
--- pass 1 comes into that segment, and pass 0 finds it read
+-- pass 0 deletes b, and evicts a from the segment to which it was moved
+abbrev pub evicted : List Event
+evicted = Freed 0 0 false ∷ Unlinked 0 a 9 (Evicts 1) ∷ Took 0 0 ∷ Freed 0 0 true ∷ Unlinked 0 b 1 (Deletes 5) ∷ Took 0 0 ∷ relinked
+
+-- pass 1 comes into the segment that it left, and pass 0 finds it read
 abbrev pub read : List Event
 read = Entered 1 0 ∷ evicted
 
@@ -105,7 +110,7 @@ after_steps (taken ∷ steps) = stepped taken (after_steps steps)
 
 -- the steps that come to each trace; an item word has the tag 0xaf6, for a and for b
 abbrev pub to_opened : List (ℕ × Step)
-to_opened = (1, none_reading 2 0 9) ∷ (0, none_reading 0 0 9) ∷ []
+to_opened = (0, none_reading 1 0 9) ∷ (1, none_reading 2 0 9) ∷ (0, none_reading 0 0 9) ∷ []
 
 abbrev pub to_stored : List (ℕ × Step)
 to_stored = (0, release 0 true None) ∷ (0, link (Set a one 0) 0 0 7 (OfBucket 0 7) 0)
@@ -131,9 +136,15 @@ abbrev pub to_replaced : List (ℕ × Step)
 to_replaced = (0, release 0 true None) ∷ (0, link (Replace a two 4) 0 1 9 (OfOverflow 0 1) 0xaf60_2000_0000_0000)
     ∷ (0, row_store 0 1 4 50) ∷ (0, row_store 0 1 1 97) ∷ (0, row_store 0 1 0 257) ∷ (0, info_look 0) ∷ (0, take 0 false) ∷ to_refused
 
+-- the first exchange of the move expects the frequency that a hit has raised
+abbrev pub to_relinked : List (ℕ × Step)
+to_relinked = (0, release 0 false None) ∷ (0, relink a 0 1 2 1 0 9 (OfOverflow 0 1)) ∷ (0, relink a 0 1 1 1 0 9 (OfOverflow 0 1))
+    ∷ (1, leave 0) ∷ (1, bump 0 9 (OfOverflow 0 1) 0xaf6 0 1 1 2) ∷ (1, enter 0)
+    ∷ (0, row_store 1 0 4 50) ∷ (0, row_store 1 0 1 97) ∷ (0, row_store 1 0 0 257) ∷ (0, take 0 false) ∷ to_replaced
+
 abbrev pub to_evicted : List (ℕ × Step)
-to_evicted = (0, release 0 false None) ∷ (0, clear a 9 (OfOverflow 0 1) 0xaf60_1000_0000_0001 (Evicts 0)) ∷ (0, take 0 false)
-    ∷ (0, release 0 true None) ∷ (0, clear b 1 (OfBucket 0 1) 0xaf60_1000_0020_0000 (Deletes 5)) ∷ (0, take 0 false) ∷ to_replaced
+to_evicted = (0, release 0 false None) ∷ (0, clear a 9 (OfOverflow 0 1) 0xaf60_2000_0010_0000 (Evicts 1)) ∷ (0, take 0 false)
+    ∷ (0, release 0 true None) ∷ (0, clear b 1 (OfBucket 0 1) 0xaf60_1000_0020_0000 (Deletes 5)) ∷ (0, take 0 false) ∷ to_relinked
 
 abbrev pub to_refilled : List (ℕ × Step)
 -- a first try to refill the segment finds a reader

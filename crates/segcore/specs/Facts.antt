@@ -5,7 +5,7 @@ use lib.ListN.{get_elem?}
 use Rattle.segword.specs.Words.{Shape}
 use Rattle.segmodel.specs.Words.{after, AreOne, IsLegal, key_of, owner, Request, standing, value_of}
 use Rattle.segcore.specs.declared.event.Event.{Event}
-use Rattle.segcore.specs.declared.event.Event.TheVariants.{Linked, Refilled}
+use Rattle.segcore.specs.declared.event.Event.TheVariants.{Linked, Relinked, Refilled}
 use Rattle.segcore.specs.declared.cell.Cell.TheVariants.{OfBucket, OfOverflow, OfSegment, OfRow}
 use Rattle.segcore.specs.declared.view.View.{View}
 use Rattle.segcore.specs.Event.{NoneBy, seen}
@@ -22,17 +22,19 @@ use Rattle.segcore.specs.Chains.{BucketFacts}
 
 -- ---- segments and rows
 
--- no event links the row
+-- no event links the row, or moves an item to it
 abbrev pub NoneLinks : ℕ → ℕ → List Event → Type 0
 NoneLinks segment row [] = Unit {0}
 NoneLinks segment row (event ∷ trace) =
-    ((pass position : ℕ) (request : Request) → event ≢ Linked pass request segment row position) × NoneLinks segment row trace
+    ((pass position : ℕ) (request : Request) → event ≢ Linked pass request segment row position)
+    × ((pass from from_row position : ℕ) (key : List ℕ) → event ≢ Relinked pass key from from_row segment row position)
+    × NoneLinks segment row trace
 
--- a row whose link is past the last refilling of its segment: no other link is, and it holds the pair that the key stood with then
-pub record IsKeptRow (shape : Shape) (trace more before : List Event) (pass : ℕ) (request : Request) (segment row position : ℕ) : Type 0 where
+-- a row whose link, or the move to it, is past the last refilling of its segment: no other is, and it holds the pair that the key stood with right after it
+pub record IsKeptRow (shape : Shape) (trace more since : List Event) (key value : List ℕ) (segment row : ℕ) : Type 0 where
   pub once : NoneLinks segment row more
-  pub holds : Holds (row_after trace segment row) (key_of request) (value_of request)
-  pub stood : standing (after shape (seen (Linked pass request segment row position ∷ before))) (key_of request) ≡ Some (cached (value_of request) segment)
+  pub holds : Holds (row_after trace segment row) key value
+  pub stood : standing (after shape (seen since)) key ≡ Some (cached value segment)
 
 pub record SegmentFacts (shape : Shape) (trace : List Event) : Type 0 where
   -- the segment word's upper half is the segment's deadline
@@ -49,7 +51,10 @@ pub record SegmentFacts (shape : Shape) (trace : List Event) : Type 0 where
   pub refilled : (more before : List Event) (filler pass segment deadline : ℕ) → trace ≡ more ++ (Refilled filler segment deadline ∷ before) → inside before pass segment ≡ 0
   pub rows : (more before : List Event) (pass : ℕ) (request : Request) (segment row position : ℕ)
       → trace ≡ more ++ (Linked pass request segment row position ∷ before) → NoneRefills segment more
-      → IsKeptRow shape trace more before pass request segment row position
+      → IsKeptRow shape trace more (Linked pass request segment row position ∷ before) (key_of request) (value_of request) segment row
+  pub moved : (more before : List Event) (pass : ℕ) (key : List ℕ) (from from_row segment row position : ℕ)
+      → trace ≡ more ++ (Relinked pass key from from_row segment row position ∷ before) → NoneRefills segment more
+      → (value : List ℕ) × IsKeptRow shape trace more (Relinked pass key from from_row segment row position ∷ before) key value segment row
 
 -- ---- passes
 

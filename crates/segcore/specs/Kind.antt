@@ -5,7 +5,7 @@ use Rattle.segword.specs.Words.{chain_word, Shape}
 use Rattle.segmodel.specs.declared.entry.Entry.TheVariants as entry
 use Rattle.segmodel.specs.Words.{after, bucket_of, Follows, key_of, owner, Reply, Request, tag_of}
 use Rattle.segcore.specs.declared.event.Event.{Event}
-use Rattle.segcore.specs.declared.event.Event.TheVariants.{Took, Bounced, Glanced, Freed, Replied, Filled, Linked, Unlinked, Drew, Put, Chained, Bumped, Entered, Left, Refilled}
+use Rattle.segcore.specs.declared.event.Event.TheVariants.{Took, Bounced, Glanced, Freed, Replied, Filled, Linked, Relinked, Unlinked, Drew, Put, Chained, Bumped, Entered, Left, Refilled}
 use Rattle.segcore.specs.declared.cell.Cell.{Cell}
 use Rattle.segcore.specs.declared.cell.Cell.TheVariants.{OfCounter, OfBucket, OfOverflow, OfSegment, OfRow}
 use Rattle.segcore.specs.Event.{AllBy, seen}
@@ -32,6 +32,8 @@ pub data Step : Type 0 where
   look : Cell → Step
   -- for a request: segment, row, position and its cell, and the word that is to be there (a link finds 0, a replace an item)
   link : Request → ℕ → ℕ → ℕ → Cell → ℕ → Step
+  -- a key, the segment and the row that its item names, its frequency, the segment and the row that it comes to name, its position and cell
+  relink : List ℕ → ℕ → ℕ → ℕ → ℕ → ℕ → ℕ → Cell → Step
   -- a key, its position and cell, the word that is to be there, and why it leaves
   clear : List ℕ → ℕ → Cell → ℕ → Leaving → Step
   -- for a bucket, at a depth of its chain: from this number of drawn ones
@@ -58,6 +60,7 @@ cell (info_look bucket) = OfBucket bucket 0
 cell (glance bucket own) = OfBucket bucket 0
 cell (look of) = of
 cell (link request segment row position of old) = of
+cell (relink key from from_row frequency segment row position of) = of
 cell (clear key position of old why) = of
 cell (draw bucket depth from) = OfCounter
 cell (fill bucket number w) = OfOverflow number 1
@@ -75,6 +78,8 @@ becomes (take bucket own) = λ found. bit_or found 1
 becomes (release bucket true said) = λ found. (found + 4294967295) % 2 ^ 64
 becomes (release bucket false said) = λ found. (found + 18446744073709551615) % 2 ^ 64
 becomes (link request segment row position of old) = λ found. either (found == old) (packed (tag_of (key_of request)) 1 segment row) found
+becomes (relink key from from_row frequency segment row position of) =
+    λ found. either (found == packed (tag_of key) frequency from from_row) (packed (tag_of key) frequency segment row) found
 becomes (clear key position of old why) = λ found. either (found == old) 0 found
 becomes (draw bucket depth from) = λ found. either (found == from) (from + 1) found
 becomes (fill bucket number w) = λ found. w
@@ -102,6 +107,8 @@ adds (take bucket own) pass found = if found % 2 == 0 then Took pass bucket ∷ 
 adds (release bucket counted said) pass found = Freed pass bucket counted ∷ told pass said
 adds (glance bucket own) pass found = if found % 2 == 0 then [] else unless_own own (Glanced pass bucket)
 adds (link request segment row position of old) pass found = if found == old then Linked pass request segment row position ∷ [] else []
+adds (relink key from from_row frequency segment row position of) pass found =
+    if found == packed (tag_of key) frequency from from_row then Relinked pass key from from_row segment row position ∷ [] else []
 adds (clear key position of old why) pass found = if found == old then Unlinked pass key position why ∷ [] else []
 adds (draw bucket depth from) pass found = if found == from then Drew pass bucket depth from ∷ [] else []
 adds (fill bucket number w) pass found = Put pass bucket w ∷ []
@@ -155,6 +162,8 @@ May shape trace pass (glance bucket own) = KnowsBit shape trace pass bucket own
 May shape trace pass (look of) = IsCell shape of × IsItemCell of
 May shape trace pass (link request segment row position of old) =
     Fits shape trace (Linked pass request segment row position) × IsItemAt shape trace (bucket_of shape (key_of request)) position of
+May shape trace pass (relink key from from_row frequency segment row position of) =
+    Fits shape trace (Relinked pass key from from_row segment row position) × IsItemAt shape trace (bucket_of shape key) position of
 May shape trace pass (clear key position of old why) =
     Fits shape trace (Unlinked pass key position why) × IsItemAt shape trace (bucket_of shape key) position of
 May shape trace pass (draw bucket depth from) =

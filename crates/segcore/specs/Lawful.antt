@@ -5,11 +5,11 @@ use Rattle.segmodel.specs.declared.request.Reply.TheVariants.{NotStored, Exists,
 use Rattle.segmodel.specs.Words.{after, bucket_of, Follows, key_of, owner, Reply, standing}
 use Rattle.segmodel.specs.Words.{value_of}
 use Rattle.segcore.specs.declared.event.Event.{Event}
-use Rattle.segcore.specs.declared.event.Event.TheVariants.{Took, Bounced, Glanced, Freed, Replied, Filled, Linked, Unlinked, Drew, Put, Chained, Bumped, Entered, Left, Refilled}
+use Rattle.segcore.specs.declared.event.Event.TheVariants.{Took, Bounced, Glanced, Freed, Replied, Filled, Linked, Relinked, Unlinked, Drew, Put, Chained, Bumped, Entered, Left, Refilled}
 use Rattle.segcore.specs.Event.{by, entry_of, seen}
-use Rattle.segcore.specs.Bucket.{Slot, nothing, item, copy, last, fresh_position, IsPosition, bucket_at, is, bucket_after}
+use Rattle.segcore.specs.Bucket.{Slot, slot, nothing, item, copy, last, fresh_position, IsPosition, bucket_at, is, bucket_after}
 use Rattle.segcore.specs.Overflow.{drawn_in}
-use Rattle.segcore.specs.Row.{Holds, row_after, frequency_of}
+use Rattle.segcore.specs.Row.{Row, Holds, row_after, frequency_of}
 use Rattle.segcore.specs.Segment.{inside, readers, was_used}
 use Rattle.segcore.specs.ItemWord.{IsWordOf}
 use Rattle.segcore.specs.declared.event.Leaving.TheVariants.{Deletes, Evicts}
@@ -59,6 +59,11 @@ abbrev pub MayLeave : Leaving → Bool → ℕ → Type 0
 MayLeave (Deletes now) written segment = written ≡ false
 MayLeave (Evicts evicted) written segment = evicted ≡ segment
 
+-- the key stands in the segment, and the row holds it with its value
+abbrev pub HoldsWhatStands : Shape → List Event → List ℕ → ℕ → Row → Type 0
+HoldsWhatStands shape trace key segment row =
+    (value : List ℕ) × (standing (after shape (seen trace)) key ≡ Some (record { value = value; segment = segment })) × Holds row key value
+
 abbrev pub IsOther : ℕ → Option ℕ → Type 0
 IsOther pass holder = (other : ℕ) × (holder ≡ Some other) × (other ≢ pass)
 
@@ -81,6 +86,11 @@ Suits shape trace (Linked pass request segment row position) =
     × HasRoomFor shape trace (key_of request) position
     × IsKey (key_of request)
     × IsValue (value_of request)
+Suits shape trace (Relinked pass key from from_row segment row position) =
+    let state = bucket_after shape trace (bucket_of shape key) in
+    IsOwnRow shape trace pass segment row
+    × HoldsWhatStands shape trace key from (row_after trace segment row)
+    × (state.items position ≡ item (slot key from from_row))
 Suits shape trace (Unlinked pass key position why) =
     let state = bucket_after shape trace (bucket_of shape key) in
     (named : Slot) × (state.items position ≡ item named) × (named.key ≡ key) × MayLeave why state.written named.segment

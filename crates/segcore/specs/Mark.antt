@@ -6,7 +6,7 @@ use Rattle.segmodel.specs.declared.request.Reply.TheVariants.{Stored}
 use Rattle.segmodel.specs.declared.entry.Entry.TheVariants as entry
 use Rattle.segmodel.specs.Words.{after, bucket_of, Entry, key_of, Reply, standing}
 use Rattle.segcore.specs.declared.event.Event.{Event}
-use Rattle.segcore.specs.declared.event.Event.TheVariants.{Replied, Linked, Unlinked, Drew, Chained, Bumped, Entered, Left, Refilled}
+use Rattle.segcore.specs.declared.event.Event.TheVariants.{Replied, Linked, Relinked, Unlinked, Drew, Chained, Bumped, Entered, Left, Refilled}
 use Rattle.segcore.specs.Event.{removal}
 use Rattle.segcore.specs.Bucket.{Slot, slot}
 
@@ -24,11 +24,20 @@ pub data Mark : Type 0 where
   entered : ℕ → ℕ → Mark
   left : ℕ → ℕ → Mark
 
--- what an event adds; a link is the mark of its item and then its entry
+-- the frequency that the last `at` or `bumped` of a row says
+abbrev pub frequency_in : List Mark → ℕ → ℕ → ℕ
+frequency_in [] segment row = 0
+frequency_in (at key s r position frequency ∷ marks) segment row = if (s == segment) && (r == row) then frequency else frequency_in marks segment row
+frequency_in (bumped s r frequency ∷ marks) segment row = if (s == segment) && (r == row) then frequency else frequency_in marks segment row
+frequency_in (_ ∷ marks) segment row = frequency_in marks segment row
+
+-- what an event adds; a link is the mark of its item and then its entry, and so is a move, whose item keeps its frequency
 abbrev pub marks_of : Event → List Mark → List Mark
 marks_of (Replied pass request reply) marks = enters (entry.Wrote pass request reply None) ∷ marks
 marks_of (Linked pass request segment row position) marks =
     enters (entry.Wrote pass request Stored (Some segment)) ∷ at (key_of request) segment row position 1 ∷ marks
+marks_of (Relinked pass key from from_row segment row position) marks =
+    enters (entry.Moved pass key from segment) ∷ at key segment row position (frequency_in marks from from_row) ∷ marks
 marks_of (Unlinked pass key position why) marks = enters (removal pass key why) ∷ marks
 marks_of (Refilled pass segment deadline) marks = enters (entry.Refilled pass segment deadline) ∷ marks
 marks_of (Drew pass bucket depth number) marks = drawn bucket ∷ marks
@@ -85,13 +94,6 @@ abbrev pub last_at : List Mark → List ℕ → Option Slot
 last_at [] key = None
 last_at (at other segment row position frequency ∷ marks) key = if same_key other key then Some (slot key segment row) else last_at marks key
 last_at (_ ∷ marks) key = last_at marks key
-
--- the frequency that the last `at` or `bumped` of a row says
-abbrev pub frequency_in : List Mark → ℕ → ℕ → ℕ
-frequency_in [] segment row = 0
-frequency_in (at key s r position frequency ∷ marks) segment row = if (s == segment) && (r == row) then frequency else frequency_in marks segment row
-frequency_in (bumped s r frequency ∷ marks) segment row = if (s == segment) && (r == row) then frequency else frequency_in marks segment row
-frequency_in (_ ∷ marks) segment row = frequency_in marks segment row
 
 -- ---- which marked histories hold together along the words of chains
 

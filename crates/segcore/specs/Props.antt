@@ -7,14 +7,15 @@ use Rattle.std.proofs.lemmas.Option.{same_Some}
 use Rattle.segword.specs.Words.{either-prop, IsKey-prop, IsValue-prop, pair-prop, quadruple-prop}
 use Rattle.segword.specs.Words.{Shape, triple-prop}
 use Rattle.segmodel.specs.declared.request.Reply.TheVariants.{Stored, NotStored, Exists, NotFound, Deleted}
-use Rattle.segmodel.specs.Words.{Cached-set, Follows-prop, Reply, Reply-set, Request-set}
+use Rattle.segmodel.specs.Words.{Cached, Cached-set, Follows-prop, Reply, Reply-set, Request-set}
 use Rattle.segcore.specs.declared.event.Event.{Event}
-use Rattle.segcore.specs.declared.event.Event.TheVariants.{Took, Bounced, Glanced, Freed, Replied, Filled, Linked, Unlinked, Drew, Put, Chained, Bumped, Entered, Left, Refilled}
+use Rattle.segcore.specs.declared.event.Event.TheVariants.{Took, Bounced, Glanced, Freed, Replied, Filled, Linked, Relinked, Unlinked, Drew, Put, Chained, Bumped, Entered, Left, Refilled}
 use Rattle.segcore.specs.Event.{AllBy}
 use Rattle.segcore.specs.Bucket.{Slot, slot, Content, nothing, item, copy}
 use Rattle.segcore.specs.ItemWord.{IsWordOf}
+use Rattle.segcore.specs.Row.{Row}
 use Rattle.segcore.specs.Segment.{NoneRefills}
-use Rattle.segcore.specs.Lawful.{HasItemOf, HasRoomFor, IsRefusal, MayLeave, IsOther, Suits, Fits, IsLawful, NoneAt}
+use Rattle.segcore.specs.Lawful.{HasItemOf, HasRoomFor, HoldsWhatStands, IsRefusal, MayLeave, IsOther, Suits, Fits, IsLawful, NoneAt}
 use Rattle.segcore.specs.declared.event.Leaving.TheVariants.{Deletes, Evicts}
 use Rattle.segcore.specs.declared.event.Leaving.{Leaving}
 
@@ -80,6 +81,11 @@ Leaves-prop : (why : Leaving) (written : Bool) (segment : ℕ) → IsProp (MayLe
 Leaves-prop (Deletes now) written segment = hlevel props
 Leaves-prop (Evicts evicted) written segment = hlevel props
 
+HoldsWhatStands-prop : (shape : Shape) (trace : List Event) (key : List ℕ) (segment : ℕ) (row : Row) → IsProp (HoldsWhatStands shape trace key segment row)
+HoldsWhatStands-prop shape trace key segment row =
+    triple-prop (λ value. hlevel (props, Cached-set))
+    (λ x y at on. ap (λ (c : Cached). c.value) (same_Some (record { value = x; segment = segment }) (record { value = y; segment = segment }) (sym at.0 ∙ on.0)))
+
 IsOther-prop : (pass : ℕ) (holder : Option ℕ) → IsProp (IsOther pass holder)
 IsOther-prop pass holder = triple-prop (λ other. hlevel props) (λ x y at on. same_some holder x y at.0 on.0)
 
@@ -91,6 +97,7 @@ Suits-prop shape trace (Freed pass bucket counted) = hlevel props
 Suits-prop shape trace (Replied pass request reply) = IsRefusal-prop reply
 Suits-prop shape trace (Filled pass segment row place word) = hlevel props
 Suits-prop shape trace (Linked pass request segment row position) = hlevel (props, HasRoomFor-prop, IsKey-prop, IsValue-prop)
+Suits-prop shape trace (Relinked pass key from from_row segment row position) = hlevel (props, HoldsWhatStands-prop, Content-set)
 Suits-prop shape trace (Unlinked pass key position why) =
     quadruple-prop (λ named. hlevel (props, Content-set, Leaves-prop)) (λ x y at on. same_item _ x y at.0 on.0)
 Suits-prop shape trace (Drew pass bucket depth number) = hlevel props

@@ -1,7 +1,7 @@
 -- The segments after a trace: who reads in them, the deadline of each, and how often each was refilled.
 use Rattle.std.specs.Prelude.{◌≢◌, ℕ, ◌+◌, ◌-◌, ◌==◌, ◌&&◌, ◌||◌, Bool, false, List, [], ◌∷◌, if◌then◌else◌}
 use Rattle.segcore.specs.declared.event.Event.{Event}
-use Rattle.segcore.specs.declared.event.Event.TheVariants.{Linked, Entered, Left, Refilled}
+use Rattle.segcore.specs.declared.event.Event.TheVariants.{Linked, Relinked, Entered, Left, Refilled}
 
 -- how often a pass is in a segment
 abbrev pub inside : List Event → ℕ → ℕ → ℕ
@@ -23,10 +23,11 @@ deadline_of [] segment = 0
 deadline_of (Refilled pass s deadline ∷ trace) segment = if s == segment then deadline else deadline_of trace segment
 deadline_of (_ ∷ trace) segment = deadline_of trace segment
 
--- whether an item was ever linked in it
+-- whether an item was ever linked in it, or moved there
 abbrev pub was_used : List Event → ℕ → Bool
 was_used [] segment = false
 was_used (Linked pass request s row position ∷ trace) segment = (s == segment) || was_used trace segment
+was_used (Relinked pass key from from_row s row position ∷ trace) segment = (s == segment) || was_used trace segment
 was_used (_ ∷ trace) segment = was_used trace segment
 
 -- how often it was filled anew

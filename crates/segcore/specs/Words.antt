@@ -9,10 +9,10 @@ pub use Rattle.segcore.specs.Filled.{HasNoEmptyWord}
 pub use Rattle.segcore.specs.ItemWord.{IsWordOf, packed}
 pub use Rattle.segcore.specs.Kind.{adds, becomes, bump, cell, chain, clear, draw, enter, fill}
 pub use Rattle.segcore.specs.Kind.{glance, HasBit, info_look, leave, link, look, May, MayRead}
-pub use Rattle.segcore.specs.Kind.{none_reading, release, row_load, row_store, Step, take, told}
-pub use Rattle.segcore.specs.Kind.{unless_own}
-pub use Rattle.segcore.specs.Lawful.{Fits, HasItemOf, is_of_now, IsLawful, IsOther, IsOwnRow}
-pub use Rattle.segcore.specs.Lawful.{IsRefusal, IsSegment, needs, NoneAt}
+pub use Rattle.segcore.specs.Kind.{none_reading, release, relink, row_load, row_store, Step, take}
+pub use Rattle.segcore.specs.Kind.{told, unless_own}
+pub use Rattle.segcore.specs.Lawful.{Fits, HasItemOf, HoldsWhatStands, is_of_now, IsLawful, IsOther}
+pub use Rattle.segcore.specs.Lawful.{IsOwnRow, IsRefusal, IsSegment, needs, NoneAt}
 pub use Rattle.segcore.specs.Mark.{all_drawn, chained_to, drawn, drawn_for, enters, entries}
 pub use Rattle.segcore.specs.Mark.{frequency_in, last_at, linked_in, Mark, marked, width}
 unfoldable pub use Rattle.segcore.specs.Mark.{same_key}

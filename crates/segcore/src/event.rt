@@ -20,6 +20,9 @@ pub enum Event {
     Filled(u32, u32, u32, u32, u64),
     /// The item of a stored write came into a word: request, segment, row, position.
     Linked(u32, Request, u32, u32, u32),
+    /// The item of a key was moved, in its word, to a row of another segment:
+    /// key, segment and row that it left, segment and row that it came to, position.
+    Relinked(u32, Key, u32, u32, u32, u32, u32),
     /// The item of a key left its position.
     Unlinked(u32, Key, u32, Leaving),
     /// An overflow bucket was drawn for a bucket: its depth in the chain, its number.

@@ -11,7 +11,8 @@ ghost use Rattle.segcore.specs.Mark.{marked};
 ghost use Rattle.segcore.specs.Scan.{IsScanOf};
 ghost use Rattle.segcore.specs.Standing.{cached};
 ghost use Rattle.segcore.specs.World.{Reaches};
-ghost use Rattle.segcore.specs.Example.{shape, a, two, stored, bumped, moved, replaced, read};
+ghost use Rattle.segcore.specs.Example.{shape, a, two, stored, bumped, moved, replaced};
+ghost use Rattle.segcore.specs.Example.{relinked, read};
 ghost use Rattle.segcore.specs.Example.{evicted, refilled, elsewhere, looks, view_of, after_steps};
 ghost use Rattle.segcore.specs.Example.{to_refilled};
 ghost use Rattle.segcore.specs.Laws.{EveryScheduleIsLawful, SightOnlyGrows, EveryScheduleSaysAll};
@@ -145,6 +146,9 @@ pub fn example()
     ensures replaced { (word shape replaced (OfOverflow 0 1) ≡ 0xaf60_1000_0000_0001)
         × (word shape replaced (OfBucket 0 1) ≡ 0xaf60_1000_0020_0000)
         × (word shape replaced (OfBucket 0 0) ≡ 0x3_0000_0000) }
+    ensures relinked { (word shape relinked (OfOverflow 0 1) ≡ 0xaf60_2000_0010_0000)
+        × (word shape relinked (OfBucket 0 0) ≡ 0x3_0000_0000)
+        × (standing (after shape (seen relinked)) a ≡ Some (cached two 1)) }
     ensures held { word shape (Took 1 0 ∷ moved) (OfBucket 0 0) ≡ 0x1_0000_0001 }
     ensures emptied { (word shape refilled (OfOverflow 0 1) ≡ 0)
         × (word shape refilled (OfBucket 0 1) ≡ 0) × (word shape refilled (OfSegment 2) ≡ 0x9_0000_0001) }

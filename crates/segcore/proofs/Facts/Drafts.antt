@@ -4,7 +4,7 @@ use Rattle.std.proofs.lemmas.Bool.{cases_Bool, false≢true}
 use Rattle.segword.specs.Words.{IsValid, Shape}
 use Rattle.segmodel.specs.Words.{key_of, tag_of}
 use Rattle.segcore.specs.Words.{Event}
-use Rattle.segcore.specs.declared.event.Event.TheVariants.{Took, Freed, Replied, Linked, Unlinked, Drew, Put, Chained}
+use Rattle.segcore.specs.declared.event.Event.TheVariants.{Took, Freed, Replied, Linked, Relinked, Unlinked, Drew, Put, Chained}
 use Rattle.segcore.specs.declared.cell.Cell.TheVariants.{OfOverflow}
 use Rattle.segcore.specs.Bucket.{Slot, slot, Content, nothing, item, next, copy, Bucket, last, fresh_position, bucket_at, is, acts, bucket_after}
 use Rattle.segcore.specs.Overflow.{home, home_of}
@@ -35,6 +35,7 @@ draft_acts z (Took p a) h b t l old = old b
 draft_acts z (Freed p a x) h b t l old = old b
 draft_acts z (Replied p q y) h b t l old = old b
 draft_acts z (Linked p q s r n) h b t l old = draft_at z n (item (slot (key_of q) s r)) (bucket_after z h b).items tt (old b)
+draft_acts z (Relinked p k f i s r n) h b t l old = draft_at z n (item (slot k s r)) (bucket_after z h b).items tt (old b)
 draft_acts z (Unlinked p k n why) h b t l old = draft_at z n nothing (bucket_after z h b).items tt (old b)
 draft_acts z (Drew p a d m) h b t l old = old b
 draft_acts z (Put p a w) h b t l old = let s = l.1.suits.2 in let x = (coherent z h l.0).items a (last (bucket_after z h a)) s.0 s.1 in

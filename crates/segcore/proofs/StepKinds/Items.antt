@@ -1,4 +1,4 @@
--- The steps that put an item into a word of a chain, or take it out: link, clear.
+-- The steps that put an item into a word of a chain, or take it out: link, relink, clear.
 use Rattle.std.proofs.Common.{◌≡◌, ℕ, zero, suc, ◌<◌, Bool, true, false, cond, eqb, ◌&&◌, List, [], ◌∷◌, Some, None, sym, refl, ap, ◌∙◌, subst, ⊎_elim, arith}
 use Rattle.std.proofs.lemmas.Bool.{cases_Bool, cond-true, cond-false, eqb-true, eq-eqb, ne_eqb, and_parts, and_from, false_from_ne_true}
 use Rattle.std.proofs.lemmas.Option.{none-some}
@@ -7,15 +7,15 @@ use Rattle.segword.specs.Words.{Shape}
 use Rattle.segmodel.specs.Words.{bucket_of, key_of, Request, tag_of}
 use Rattle.segcore.specs.Bucket.{Bucket, Slot, Content, nothing, item, next, copy, slot, acts, bucket_after, IsPosition}
 use Rattle.segcore.specs.ItemWord.{packed}
-use Rattle.segcore.specs.Kind.{link, clear, KeepsLaw}
+use Rattle.segcore.specs.Kind.{link, relink, clear, KeepsLaw}
 use Rattle.segcore.specs.Lawful.{Fits, IsLawful}
 use Rattle.segcore.specs.Row.{Row, row_at, row_after, frequency_of}
 use Rattle.segcore.specs.Word.{content_word, bucket_info_word, word_in, word, IsAt}
 use Rattle.segcore.specs.Words.{Cell, Event, Leaving}
-use Rattle.segcore.specs.declared.event.Event.TheVariants.{Linked, Unlinked, Bumped}
+use Rattle.segcore.specs.declared.event.Event.TheVariants.{Linked, Relinked, Unlinked, Bumped}
 use Rattle.segcore.proofs.Standing.{coherent}
-use Rattle.segcore.proofs.Cells.{touch, change_at}
-use Rattle.segcore.proofs.StepKinds.Words.{made, nothing_new, cell_in}
+use Rattle.segcore.proofs.Cells.{touch, change_at, at_word}
+use Rattle.segcore.proofs.StepKinds.Words.{made, nothing_new, word_content, cell_in}
 
 -- an event that puts o at a position of its bucket, and keeps what the other words say
 pub put_content : (z : Shape) (h : List Event) (e : Event) (u v : Bucket) (n : ℕ) (o : Content) → 0 < n
@@ -44,6 +44,14 @@ linked_kept h p q s r n nothing f = refl
 linked_kept h p q s r n (item a) f = ap (λ x. packed (tag_of a.key) x a.segment a.row) (cond-false (eqb s a.segment && eqb r a.row) 1 (frequency_of h a.segment a.row) (f a refl))
 linked_kept h p q s r n (next m) f = refl
 linked_kept h p q s r n (copy w) f = refl
+
+moved_kept : (h : List Event) (p : ℕ) (k : List ℕ) (x i s r n : ℕ) (c : Content)
+    → ((a : Slot) → c ≡ item a → (eqb s a.segment && eqb r a.row) ≡ false)
+    → content_word (Relinked p k x i s r n ∷ h) c ≡ content_word h c
+moved_kept h p k x i s r n nothing f = refl
+moved_kept h p k x i s r n (item a) f = ap (λ y. packed (tag_of a.key) y a.segment a.row) (cond-false (eqb s a.segment && eqb r a.row) (frequency_of h x i) (frequency_of h a.segment a.row) (f a refl))
+moved_kept h p k x i s r n (next m) f = refl
+moved_kept h p k x i s r n (copy w) f = refl
 
 pub bumped_kept : (h : List Event) (p s r g : ℕ) (c : Content)
     → ((a : Slot) → c ≡ item a → (eqb s a.segment && eqb r a.row) ≡ false)
@@ -86,6 +94,39 @@ link_at z p q s r n c old h f i l =
     others : (a m : ℕ) → word_in z (Linked p q s r n ∷ h) (bucket_after z h a) m ≡ word_in z h (bucket_after z h a) m
     others a zero = refl
     others a (suc m) = linked_kept h p q s r n ((bucket_after z h a).items (suc m)) (unnamed z h s r a (suc m) l f.suits.0.3)
+
+-- two item words that differ in the frequency alone
+same_frequency : (t f g s r : ℕ) → packed t f s r ≡ packed t g s r → f ≡ g
+same_frequency t f g s r e = omega arith
+
+pub relink_at : (z : Shape) (p : ℕ) (k : List ℕ) (x i f s r n : ℕ) (c : Cell) (h : List Event)
+    → Fits z h (Relinked p k x i s r n) → IsAt h (bucket_of z k) n c → IsLawful z h
+    → KeepsLaw z (relink k x i f s r n c) p h
+relink_at z p k x i f s r n c h g at l =
+    let b = bucket_of z k in
+    let u = bucket_after z h b in
+    let e = Relinked p k x i s r n in
+    let found = word z h c in
+    let old = packed (tag_of k) f x i in
+    let y = packed (tag_of k) f s r in
+    let lt = above u n ((coherent z h l).items b n (slot k x i) g.suits.2).position in
+    let inside' = cell_in z h b n c l g.guarded.0 at in
+    let kept : (a m : ℕ) → content_word (e ∷ h) ((bucket_after z h a).items m) ≡ content_word h ((bucket_after z h a).items m) = (λ a m. moved_kept h p k x i s r n ((bucket_after z h a).items m) (unnamed z h s r a m l g.suits.0.3)) in
+    let was : found ≡ packed (tag_of k) (frequency_of h x i) x i = at_word z h b n c at ∙ (word_content z h u n lt ∙ ap (content_word h) g.suits.2) in
+    ⊎_elim
+    (λ t. let ef : frequency_of h x i ≡ f = same_frequency (tag_of k) (frequency_of h x i) f x i (sym was ∙ eqb-true found old t) in
+    let new : content_word (e ∷ h) (item (slot k s r)) ≡ y = ap (λ q. packed (tag_of k) q s r) (cond-true (eqb s s && eqb r r) (frequency_of h x i) (frequency_of h s r) (and_from (eqb s s) (eqb r r) (eq-eqb s s refl) (eq-eqb r r refl)) ∙ ef) in
+    made z (relink k x i f s r n c) p h (e ∷ []) y (cond-true (eqb found old) (e ∷ []) [] t) (either_hit found old y t) inside' (refl, tt) (l, g)
+    (λ d i'. touch z h e b n y c l at (record { homes = λ m. refl; drawn = refl; rows = λ s' r' j. linked_words (row_at e s' r') (row_after h s' r') k j; segments = λ s'. refl })
+    (change_at z h e b n y (λ k. refl)
+    (λ m. put_content z h e u (acts e u) n (item (slot k s r)) lt refl refl (kept b) m ∙ ap (λ y. cond (eqb n m) y (word_in z h u m)) new)
+    (λ a m g. others a m)) d i'))
+    (λ t. nothing_new z (relink k x i f s r n c) p h (cond-false (eqb found old) (e ∷ []) [] t) (either_miss found old y t) inside' l)
+    (cases_Bool (eqb found old))
+  where
+    others : (a m : ℕ) → word_in z (Relinked p k x i s r n ∷ h) (bucket_after z h a) m ≡ word_in z h (bucket_after z h a) m
+    others a zero = refl
+    others a (suc m) = moved_kept h p k x i s r n ((bucket_after z h a).items (suc m)) (unnamed z h s r a (suc m) l g.suits.0.3)
 
 pub clear_at : (z : Shape) (p : ℕ) (k : List ℕ) (n : ℕ) (c : Cell) (old : ℕ) (why : Leaving) (h : List Event)
     → Fits z h (Unlinked p k n why) → 0 < n → IsAt h (bucket_of z k) n c → IsLawful z h

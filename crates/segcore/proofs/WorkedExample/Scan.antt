@@ -37,7 +37,7 @@ module _ (row : Option (ℕ × ℕ)) where
   -- the looks at the overflow bucket
   rest : IsScan shape a row 9 (marked moved) (replicate 7 (marked evicted)) (marked evicted)
   rest = (
-    (take 7 (marked evicted), refl),
+    (take 12 (marked evicted), refl),
     gone 9,
     (
       ([], refl),

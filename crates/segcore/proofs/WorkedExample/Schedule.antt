@@ -10,9 +10,9 @@ use Rattle.segcore.specs.declared.cell.Cell.TheVariants.{OfCounter, OfBucket, Of
 use Rattle.segcore.specs.Kind.{Step, May}
 use Rattle.segcore.specs.Word.{address, word}
 use Rattle.segcore.specs.World.{IsFresh, IsOpening, Reaches}
-use Rattle.segcore.specs.Example.{shape, a, b, moved, view_of, opening, view_in, after_steps, to_opened, to_stored, to_bumped, to_moved, to_added, to_refused, to_replaced, to_evicted, to_refilled}
+use Rattle.segcore.specs.Example.{shape, a, b, moved, view_of, opening, view_in, after_steps, to_opened, to_stored, to_bumped, to_moved, to_added, to_refused, to_replaced, to_relinked, to_evicted, to_refilled}
 use Rattle.segcore.proofs.Addresses.{in_count}
-use Rattle.segcore.proofs.WorkedExample.Trace.{filled, stored_first, bumped_next, moved_next, added_next, refused_next, replaced_next, evicted_next, elsewhere_next}
+use Rattle.segcore.proofs.WorkedExample.Trace.{filled, stored_first, bumped_next, moved_next, added_next, refused_next, replaced_next, move_fits, relinked_next, evicted_next, elsewhere_next}
 
 -- ---- the start
 
@@ -55,7 +55,11 @@ reaches [] allowed = opens
 reaches (taken ∷ steps) allowed = (after_steps steps, view_in (after_steps steps) taken.0, reaches steps allowed.0, allowed.1, allowed.2, refl)
 
 opened_so : AreAllowed to_opened
-opened_so = ((tt, refl, (omega arith, ((λ k i. i), refl), omega arith)), refl, (omega arith, ((λ k i. i), refl), omega arith))
+opened_so = (
+  ((tt, refl, (omega arith, ((λ k i. i), refl), omega arith)), refl, (omega arith, ((λ k i. i), refl), omega arith)),
+  refl,
+  (omega arith, ((λ k i. i), refl), omega arith),
+)
 
 stored_so : AreAllowed to_stored
 stored_so = (
@@ -195,13 +199,52 @@ replaced_so = (
   ((omega arith, refl), refl, refl, tt),
 )
 
+relinked_so : AreAllowed to_relinked
+relinked_so = (
+  (
+    (
+      (
+        (
+          (
+            (
+              (
+                (
+                  (replaced_so, refl, (omega arith, refl)),
+                  refl,
+                  relinked_next.0.0.0.0.0.0.0.1,
+                ),
+                refl,
+                relinked_next.0.0.0.0.0.0.1,
+              ),
+              refl,
+              relinked_next.0.0.0.0.0.1,
+            ),
+            refl,
+            record { guarded = tt; follows = tt; suits = (omega arith, omega arith, omega arith, refl) },
+          ),
+          refl,
+          (omega arith, ((omega arith, omega arith), (1, refl, omega arith, omega arith)), (omega arith, omega arith, omega arith, omega arith), omega arith, omega arith),
+        ),
+        refl,
+        relinked_next.0.0.1,
+      ),
+      refl,
+      (move_fits, ((omega arith, omega arith), (1, refl, omega arith, omega arith))),
+    ),
+    refl,
+    (relinked_next.0.1, ((omega arith, omega arith), (1, refl, omega arith, omega arith))),
+  ),
+  refl,
+  ((omega arith, refl), refl, refl, tt),
+)
+
 evicted_so : AreAllowed to_evicted
 evicted_so = (
   (
     (
       (
         (
-          (replaced_so, refl, (omega arith, refl)),
+          (relinked_so, refl, (omega arith, refl)),
           refl,
           (evicted_next.0.0.0.0.1, ((omega arith, omega arith), (refl, refl, omega arith))),
         ),

@@ -2,11 +2,11 @@
 use Rattle.std.proofs.Common.{◌≡◌, ℕ, zero, suc, ◌<◌, Bool, true, false, List, [], ◌∷◌, Some, None, refl, ◌∙◌, inl, inr, arith, length, get_or}
 use Rattle.segword.specs.Words.{IsKey, IsValue}
 use Rattle.segcore.specs.Words.{Event}
-use Rattle.segcore.specs.declared.event.Event.TheVariants.{Took, Bounced, Glanced, Freed, Filled}
+use Rattle.segcore.specs.declared.event.Event.TheVariants.{Took, Bounced, Glanced, Freed, Filled, Relinked}
 use Rattle.segcore.specs.Bucket.{slot, bucket_after}
 use Rattle.segcore.specs.Row.{Row, Holds, row_after}
 use Rattle.segcore.specs.Lawful.{IsOwnRow, Fits, IsLawful}
-use Rattle.segcore.specs.Example.{shape, a, b, opened, stored, bumped, moved, added, refused, replaced, evicted, elsewhere, refilled}
+use Rattle.segcore.specs.Example.{shape, a, b, opened, stored, bumped, moved, added, refused, replaced, relinked, evicted, elsewhere, refilled, two}
 
 -- ---- keys, values and rows
 
@@ -47,7 +47,10 @@ filled h p s r j w own lt = record { guarded = tt; follows = tt; suits = (own, l
 
 pub opened_first : IsLawful shape opened
 opened_first = (
-  (tt, record { guarded = tt; follows = ((λ k i. i), refl); suits = (omega arith, refl, refl, omega arith) }),
+  (
+    (tt, record { guarded = tt; follows = ((λ k i. i), refl); suits = (omega arith, refl, refl, omega arith) }),
+    record { guarded = tt; follows = ((λ k i. i), refl); suits = (omega arith, refl, refl, omega arith) },
+  ),
   record { guarded = tt; follows = ((λ k i. i), refl); suits = (omega arith, refl, refl, omega arith) },
 )
 
@@ -174,20 +177,64 @@ replaced_next = (
   freed _ 0 true refl refl refl,
 )
 
+-- the move fits already where its pass hasn't seen the hit
+pub move_fits : Fits shape (Filled 0 1 0 4 50 ∷ Filled 0 1 0 1 97 ∷ Filled 0 1 0 0 257 ∷ Took 0 0 ∷ replaced) (Relinked 0 a 0 1 1 0 9)
+move_fits = record {
+  guarded = (omega arith, refl);
+  follows = (refl, refl, refl, (λ e. absurd (omega arith)), refl);
+  suits = (
+    (omega arith, omega arith, refl, refl),
+    (two, refl, holds (row_after (Filled 0 1 0 4 50 ∷ Filled 0 1 0 1 97 ∷ Filled 0 1 0 0 257 ∷ Took 0 0 ∷ replaced) 1 0) 97 50 refl refl refl refl refl refl refl refl),
+    refl,
+  );
+}
+
+pub relinked_next : IsLawful shape relinked
+relinked_next = (
+  (
+    (
+      (
+        (
+          (
+            (
+              ((replaced_next, took _ 0 refl), filled _ 0 1 0 0 257 (omega arith, omega arith, refl, refl) (omega arith)),
+              filled _ 0 1 0 1 97 (omega arith, omega arith, refl, refl) (omega arith),
+            ),
+            filled _ 0 1 0 4 50 (omega arith, omega arith, refl, refl) (omega arith),
+          ),
+          record { guarded = tt; follows = tt; suits = (omega arith, omega arith, omega arith, refl) },
+        ),
+        record { guarded = tt; follows = tt; suits = (omega arith, omega arith) },
+      ),
+      record { guarded = tt; follows = tt; suits = (omega arith, omega arith, omega arith) },
+    ),
+    record {
+      guarded = (omega arith, refl);
+      follows = (refl, refl, refl, (λ e. absurd (omega arith)), refl);
+      suits = (
+        (omega arith, omega arith, refl, refl),
+        (two, refl, holds (row_after (Filled 0 1 0 4 50 ∷ Filled 0 1 0 1 97 ∷ Filled 0 1 0 0 257 ∷ Took 0 0 ∷ replaced) 1 0) 97 50 refl refl refl refl refl refl refl refl),
+        refl,
+      );
+    },
+  ),
+  freed _ 0 false refl refl refl,
+)
+
 pub evicted_next : IsLawful shape evicted
 evicted_next = (
   (
     (
       (
         (
-          (replaced_next, took _ 0 refl),
+          (relinked_next, took _ 0 refl),
           record { guarded = (omega arith, refl); follows = (refl, refl); suits = (slot b 2 0, refl, refl, refl) },
         ),
         freed _ 0 true refl refl refl,
       ),
       took _ 0 refl,
     ),
-    record { guarded = (omega arith, refl); follows = (refl, refl); suits = (slot a 0 1, refl, refl, refl) },
+    record { guarded = (omega arith, refl); follows = (refl, refl); suits = (slot a 1 0, refl, refl, refl) },
   ),
   freed _ 0 false refl refl refl,
 )

@@ -10,6 +10,7 @@ returns c = record {
   item = (refl, refl);
   chained = (refl, refl, refl);
   replaced = (refl, refl, refl);
+  relinked = (refl, refl, refl);
   held = refl;
   emptied = (refl, refl, refl);
   versions = (refl, refl, refl);

@@ -7,7 +7,7 @@ use Rattle.segbase.proofs.board.Board.tell.Goals as goal
 pub split_seat-carried-requires : goal.split_seat-carried-requires
 split_seat-carried-requires c =
     let b = c.args.self.now in let x = c.args.other.now.seat in let words : 0 < b.table.shared.table_id.words = let l = b.long in omega arith in
-    (c.requires.other.table, words, carries (Unit {0}) b.table.shared.key x.id x.me.0 x.me.0 c.requires.other.is_pass refl refl c.requires.other.is_pass)
+    (c.requires.other.table, words, carries (Unit {0}) b.table.shared.key x.id x.me.0 x.me.0 c.requires.other.is_pass refl refl c.requires.other.is_pass refl)
 
 pub join_seat-requires : goal.join_seat-requires
 join_seat-requires c =
