@@ -4,7 +4,7 @@ use Rattle.std.proofs.lemmas.Bool.{cases_Bool, cond-true, cond-false}
 use Rattle.std.proofs.lemmas.Option.{none-some}
 use Rattle.segword.specs.Words.{Shape}
 use Rattle.segmodel.specs.Words.{bucket_of, key_of}
-use Rattle.segcore.specs.declared.event.Event.TheVariants.{Linked, Unlinked, Chained}
+use Rattle.segcore.specs.declared.event.Event.TheVariants.{Linked, Relinked, Unlinked, Chained}
 use Rattle.segcore.specs.Words.{acts, bucket_after, Event, fresh_position, IsLawful, item, last}
 use Rattle.segcore.specs.Words.{next, NoneRefills, nothing, Row, row_after, Slot, slot}
 use Rattle.segcore.proofs.Chains.{same_item, no_item, next_item}
@@ -24,6 +24,13 @@ one_before z (Linked p q s r m) h b n a l is' = let e = Linked p q s r m in let 
     (cases_Bool (eqb m n)))
     (λ f. inl (n, ap (λ v. v.items n) (sym (cond-false (eqb (bucket_of z (key_of q)) b) (acts e u) u f)) ∙ is'))
     (cases_Bool (eqb (bucket_of z (key_of q)) b))
+one_before z (Relinked p k f i s r m) h b n a l is' = let e = Relinked p k f i s r m in let u = bucket_after z h b in let new = slot k s r in ⊎_elim
+    (λ t. let now : cond (eqb m n) (item new) (u.items n) ≡ item a = ap (λ v. v.items n) (sym (cond-true (eqb (bucket_of z k) b) (acts e u) u t)) ∙ is' in ⊎_elim
+    (λ hit. let same : new ≡ a = same_item new a (sym (cond-true (eqb m n) (item new) (u.items n) hit) ∙ now) in inr (subst (λ (x : Slot). (row_after h x.segment x.row).linked ≡ None) same l.1.suits.0.3))
+    (λ miss. inl (n, sym (cond-false (eqb m n) (item new) (u.items n) miss) ∙ now))
+    (cases_Bool (eqb m n)))
+    (λ off. inl (n, ap (λ v. v.items n) (sym (cond-false (eqb (bucket_of z k) b) (acts e u) u off)) ∙ is'))
+    (cases_Bool (eqb (bucket_of z k) b))
 one_before z (Unlinked p k m why) h b n a l is' = let e = Unlinked p k m why in let u = bucket_after z h b in ⊎_elim
     (λ t. let now : cond (eqb m n) nothing (u.items n) ≡ item a = ap (λ v. v.items n) (sym (cond-true (eqb (bucket_of z k) b) (acts e u) u t)) ∙ is' in ⊎_elim
     (λ hit. absurd (no_item a (sym (cond-true (eqb m n) nothing (u.items n) hit) ∙ now)))

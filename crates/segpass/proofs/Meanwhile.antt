@@ -6,7 +6,7 @@ use Rattle.segmodel.specs.declared.request.Request.TheVariants.{Delete}
 use Rattle.segmodel.specs.declared.request.Reply.TheVariants.{Stored, Deleted}
 use Rattle.segmodel.specs.Words.{bucket_of, entries_of, Entry, is_of}
 use Rattle.segmodel.proofs.Counts.{count_by-cons}
-use Rattle.segcore.specs.declared.event.Event.TheVariants.{Replied, Linked, Unlinked, Refilled}
+use Rattle.segcore.specs.declared.event.Event.TheVariants.{Replied, Linked, Relinked, Unlinked, Refilled}
 use Rattle.segcore.specs.declared.event.Leaving.TheVariants.{Deletes, Evicts}
 use Rattle.segcore.specs.Words.{bucket_at, Event, is, Leaving, NoneAt, removal, seen}
 
@@ -20,6 +20,7 @@ removed z b p key (Evicts s) h f = one_other z b (entry.Evicted p key s) h f
 one_event : (z : Shape) (b : ℕ) (e : Event) (h : List Event) → is (bucket_at z e) b ≡ false → entries_of z b (seen (e ∷ h)) ≡ entries_of z b (seen h)
 one_event z b (Replied p q y) h f = one_other z b (entry.Wrote p q y None) (seen h) f
 one_event z b (Linked p q s r n) h f = one_other z b (entry.Wrote p q Stored (Some s)) (seen h) f
+one_event z b (Relinked p key a i s r n) h f = one_other z b (entry.Moved p key a s) (seen h) f
 one_event z b (Unlinked p key n why) h f = removed z b p key why (seen h) f
 one_event z b (Refilled p s d) h f = one_other z b (entry.Refilled p s d) (seen h) refl
 one_event z b e h f = refl

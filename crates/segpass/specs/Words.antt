@@ -6,6 +6,7 @@ pub use Rattle.segpass.specs.Locks.{IsLockAnswer, IsUnlockAnswer, LocksBucket, N
 pub use Rattle.segpass.specs.Locks.{SetsLock, UnlocksBucket}
 pub use Rattle.segpass.specs.Props.{IsQuiet-prop}
 pub use Rattle.segpass.specs.Quiet.{is_held_in, IsHold, IsLock, IsQuiet, MayEnterAny}
+unfoldable pub use Rattle.segpass.specs.Taking.{bounces}
 pub use Rattle.segpass.specs.Taking.{HasCleanBit, peek, TakesToWrite, TookToWrite}
 use Rattle.segpass.specs.declared.bucket.LockAnswer as declared_lock_answer
 

@@ -6,14 +6,14 @@ use Rattle.std.proofs.lemmas.Option.{same_Some, none-some}
 use Rattle.segword.specs.Words.{Shape}
 use Rattle.segmodel.specs.declared.answer.SegState.TheVariants.{InUse}
 use Rattle.segmodel.specs.Words.{after, NoneStandsIn, owner, Request, SegState}
-use Rattle.segcore.specs.declared.event.Event.TheVariants.{Filled, Linked, Refilled}
+use Rattle.segcore.specs.declared.event.Event.TheVariants.{Filled, Linked, Relinked, Refilled}
 use Rattle.segcore.specs.Words.{by, Event, IsLawful, IsOwnRow, IsSegment, NoneBy, Row, row_after}
-use Rattle.segcore.specs.Words.{writes_row}
+use Rattle.segcore.specs.Words.{row_at, writes_row}
 use Rattle.segcore.specs.Event as event
 use Rattle.segcore.specs.Segment as segment_of
 use Rattle.segcore.proofs.Caches.{stands_in, has_value}
 use Rattle.segcore.proofs.Quiet.{quiet_row}
-use Rattle.segcore.proofs.Meanwhile.{own_deadline}
+use Rattle.segcore.proofs.Quiet.{own_deadline}
 use Rattle.segcore.proofs.Deadlines.{deadline_seen}
 use Rattle.segcore.proofs.Readers.{still_empty, empty_stays}
 use Rattle.segbase.specs.declared.pass.Plain.{Plain}
@@ -82,10 +82,22 @@ next_is_own b p s row is k used lt =
     let own = owns_used b p s row is used in
     (in_table b p s is own, lt, own, unlinked (row_after (trace p) s row).linked (k.rows s row row used lt ∙ (let f : nat_lt row row ≡ false = search arith in f)))
 
--- ---- calls that link and refill nothing
+-- ---- events that link, move and refill nothing: in a segment, and anywhere
+
+abbrev pub IsCalmIn : ℕ → Event → Type 0
+IsCalmIn segment (Linked p q s r n) = s ≢ segment
+IsCalmIn segment (Relinked p k f i s r n) = s ≢ segment
+IsCalmIn segment (Refilled p s d) = s ≢ segment
+IsCalmIn segment e = Unit {0}
+
+-- nothing is linked in the segment or moved there, and it isn't refilled
+abbrev pub AreCalmIn : ℕ → List Event → Type 0
+AreCalmIn segment [] = Unit {0}
+AreCalmIn segment (e ∷ es) = IsCalmIn segment e × AreCalmIn segment es
 
 abbrev pub IsCalm : Event → Type 0
 IsCalm (Linked p q s r n) = ⊥
+IsCalm (Relinked p k f i s r n) = ⊥
 IsCalm (Refilled p s d) = ⊥
 IsCalm e = Unit {0}
 
@@ -93,38 +105,60 @@ abbrev pub AreCalm : List Event → Type 0
 AreCalm [] = Unit {0}
 AreCalm (e ∷ es) = IsCalm e × AreCalm es
 
-not_linked : (e : Event) → IsCalm e → (p : ℕ) (q : Request) (s row n : ℕ) → e ≢ Linked p q s row n
-not_linked e calm p q s row n is' = subst IsCalm is' calm
+one_calm : (s : ℕ) (e : Event) → IsCalm e → IsCalmIn s e
+one_calm s (Linked p q t r n) calm = absurd calm
+one_calm s (Relinked p k f i t r n) calm = absurd calm
+one_calm s (Refilled p t d) calm = absurd calm
+one_calm s e calm = calm
+
+-- what is calm is so in each segment
+pub calm_in : (s : ℕ) (es : List Event) → AreCalm es → AreCalmIn s es
+calm_in s [] calm = tt
+calm_in s (e ∷ es) calm = (one_calm s e calm.0, calm_in s es calm.1)
+
+not_linked : (e : Event) (s : ℕ) → IsCalmIn s e → (p : ℕ) (q : Request) (row n : ℕ) → e ≢ Linked p q s row n
+not_linked e s calm p q row n is' = (subst (IsCalmIn s) is' calm) refl
+
+not_moved : (e : Event) (s : ℕ) → IsCalmIn s e → (p : ℕ) (k : List ℕ) (f i row n : ℕ) → e ≢ Relinked p k f i s row n
+not_moved e s calm p k f i row n is' = (subst (IsCalmIn s) is' calm) refl
 
 same_linked : (t : Bool) (u v : Row) → v.linked ≡ u.linked → (cond t v u).linked ≡ u.linked
 same_linked true u v same = same
 same_linked false u v same = refl
 
-calm_linked : (e : Event) (h : List Event) (s r : ℕ) → IsCalm e → (row_after (e ∷ h) s r).linked ≡ (row_after h s r).linked
-calm_linked (Linked p q t i n) h s r calm = absurd calm
-calm_linked (Refilled p t d) h s r calm = absurd calm
+calm_linked : (e : Event) (h : List Event) (s r : ℕ) → IsCalmIn s e → (row_after (e ∷ h) s r).linked ≡ (row_after h s r).linked
+calm_linked (Linked p q t i n) h s r calm = ap (λ a. (cond (a && eqb i r) (writes_row (Linked p q t i n) (row_after h s r)) (row_after h s r)).linked) (ne_eqb t s calm)
+calm_linked (Relinked p k f j t i n) h s r calm = ap (λ a. (cond (a && eqb i r) (writes_row (Relinked p k f j t i n) (row_after h s r)) (row_after h s r)).linked) (ne_eqb t s calm)
+calm_linked (Refilled p t d) h s r calm = ap (λ a. (cond a (writes_row (Refilled p t d) (row_after h s r)) (row_after h s r)).linked) (ne_eqb t s calm)
 calm_linked (Filled p t i place w) h s r calm = same_linked (eqb t s && eqb i r) (row_after h s r) (writes_row (Filled p t i place w) (row_after h s r)) refl
 calm_linked e h s r calm = refl
 
-calm_deadline : (e : Event) (h : List Event) (s : ℕ) → IsCalm e → segment_of.deadline_of (e ∷ h) s ≡ segment_of.deadline_of h s
-calm_deadline (Refilled p t d) h s calm = absurd calm
+calm_deadline : (e : Event) (h : List Event) (s : ℕ) → IsCalmIn s e → segment_of.deadline_of (e ∷ h) s ≡ segment_of.deadline_of h s
+calm_deadline (Refilled p t d) h s calm = cond-false (eqb t s) d (segment_of.deadline_of h s) (ne_eqb t s calm)
 calm_deadline e h s calm = refl
 
-pub own_linked : (z : Shape) (more h : List Event) (p s r : ℕ) → IsLawful z (more ++ h) → AreCalm (own_of p more) → owner z s ≡ p → (row_after (more ++ h) s r).linked ≡ (row_after h s r).linked
+-- the first of the pass's own events, and the others
+pub calm_parts : (s p : ℕ) (e : Event) (more : List Event) → eqb (by e) p ≡ true → AreCalmIn s (own_of p (e ∷ more)) → IsCalmIn s e × AreCalmIn s (own_of p more)
+calm_parts s p e more t calm = subst (AreCalmIn s) (cond-true (eqb (by e) p) (e ∷ own_of p more) (own_of p more) t) calm
+
+pub calm_rest : (s p : ℕ) (e : Event) (more : List Event) → eqb (by e) p ≡ false → AreCalmIn s (own_of p (e ∷ more)) → AreCalmIn s (own_of p more)
+calm_rest s p e more f calm = subst (AreCalmIn s) (cond-false (eqb (by e) p) (e ∷ own_of p more) (own_of p more) f) calm
+
+pub own_linked : (z : Shape) (more h : List Event) (p s r : ℕ) → IsLawful z (more ++ h) → AreCalmIn s (own_of p more) → owner z s ≡ p → (row_after (more ++ h) s r).linked ≡ (row_after h s r).linked
 own_linked z [] h p s r l calm own = refl
 own_linked z (e ∷ more) h p s r l calm own = ⊎_elim
-    (λ t. let c : AreCalm (e ∷ own_of p more) = subst AreCalm (cond-true (eqb (by e) p) (e ∷ own_of p more) (own_of p more) t) calm in
+    (λ t. let c = calm_parts s p e more t calm in
     calm_linked e (more ++ h) s r c.0 ∙ own_linked z more h p s r l.0 c.1 own)
-    (λ f. let c : AreCalm (own_of p more) = subst AreCalm (cond-false (eqb (by e) p) (e ∷ own_of p more) (own_of p more) f) calm in
+    (λ f. let c = calm_rest s p e more f calm in
     ap (λ (u : Row). u.linked) (quiet_row z (e ∷ []) (more ++ h) s r l ((λ same. false≢true (sym f ∙ eq-eqb (by e) p (same ∙ own))), tt)) ∙ own_linked z more h p s r l.0 c own)
     (cases_Bool (eqb (by e) p))
 
-deadline_lasts : (z : Shape) (more h : List Event) (p s : ℕ) → IsLawful z (more ++ h) → AreCalm (own_of p more) → owner z s ≡ p → segment_of.deadline_of (more ++ h) s ≡ segment_of.deadline_of h s
+deadline_lasts : (z : Shape) (more h : List Event) (p s : ℕ) → IsLawful z (more ++ h) → AreCalmIn s (own_of p more) → owner z s ≡ p → segment_of.deadline_of (more ++ h) s ≡ segment_of.deadline_of h s
 deadline_lasts z [] h p s l calm own = refl
 deadline_lasts z (e ∷ more) h p s l calm own = ⊎_elim
-    (λ t. let c : AreCalm (e ∷ own_of p more) = subst AreCalm (cond-true (eqb (by e) p) (e ∷ own_of p more) (own_of p more) t) calm in
+    (λ t. let c = calm_parts s p e more t calm in
     calm_deadline e (more ++ h) s c.0 ∙ deadline_lasts z more h p s l.0 c.1 own)
-    (λ f. let c : AreCalm (own_of p more) = subst AreCalm (cond-false (eqb (by e) p) (e ∷ own_of p more) (own_of p more) f) calm in
+    (λ f. let c = calm_rest s p e more f calm in
     own_deadline z (e ∷ []) (more ++ h) s l ((λ same. false≢true (sym f ∙ eq-eqb (by e) p (same ∙ own))), tt) ∙ deadline_lasts z more h p s l.0 c own)
     (cases_Bool (eqb (by e) p))
 
@@ -137,57 +171,58 @@ others_deadline : (b : Board) (own : List Event) (p q : Pass) (s : ℕ) → (d :
     → segment_of.deadline_of (d.others ++ trace p) s ≡ segment_of.deadline_of (trace p) s
 others_deadline b own p q s d of = own_deadline b.shape d.others (trace p) s d.before (subst (λ x. NoneBy x d.others) (sym of) d.none)
 
-none_by_link : (z : Shape) (e : Event) (h : List Event) (s : ℕ) → IsLawful z (e ∷ h) → ((p : ℕ) (q : Request) (row n : ℕ) → e ≢ Linked p q s row n) → NoneStandsIn (after z (event.seen h)) s → NoneStandsIn (after z (event.seen (e ∷ h))) s
-none_by_link z e h s l other none k is' = none k (stands_in z (event.seen h) k s (still_empty z h e s k l.1 other (has_value z (event.seen (e ∷ h)) k s is')))
+none_by_link : (z : Shape) (e : Event) (h : List Event) (s : ℕ) → IsLawful z (e ∷ h) → IsCalmIn s e → NoneStandsIn (after z (event.seen h)) s → NoneStandsIn (after z (event.seen (e ∷ h))) s
+none_by_link z e h s l calm none k is' = none k (stands_in z (event.seen h) k s (still_empty z h e s k l.1 (not_linked e s calm) (not_moved e s calm) (has_value z (event.seen (e ∷ h)) k s is')))
 
-own_empty : (z : Shape) (more h : List Event) (p s : ℕ) → IsLawful z (more ++ h) → AreCalm (own_of p more) → owner z s ≡ p → NoneStandsIn (after z (event.seen h)) s → NoneStandsIn (after z (event.seen (more ++ h))) s
+own_empty : (z : Shape) (more h : List Event) (p s : ℕ) → IsLawful z (more ++ h) → AreCalmIn s (own_of p more) → owner z s ≡ p → NoneStandsIn (after z (event.seen h)) s → NoneStandsIn (after z (event.seen (more ++ h))) s
 own_empty z [] h p s l calm own none = none
 own_empty z (e ∷ more) h p s l calm own none = ⊎_elim
-    (λ t. let c : AreCalm (e ∷ own_of p more) = subst AreCalm (cond-true (eqb (by e) p) (e ∷ own_of p more) (own_of p more) t) calm in
-    none_by_link z e (more ++ h) s l (λ x q row n. not_linked e c.0 x q s row n) (own_empty z more h p s l.0 c.1 own none))
-    (λ f. let c : AreCalm (own_of p more) = subst AreCalm (cond-false (eqb (by e) p) (e ∷ own_of p more) (own_of p more) f) calm in
+    (λ t. let c = calm_parts s p e more t calm in
+    none_by_link z e (more ++ h) s l c.0 (own_empty z more h p s l.0 c.1 own none))
+    (λ f. let c = calm_rest s p e more f calm in
     empty_stays z (e ∷ []) (more ++ h) s l ((λ same. false≢true (sym f ∙ eq-eqb (by e) p (same ∙ own))), tt) (own_empty z more h p s l.0 c own none))
     (cases_Bool (eqb (by e) p))
 
 pub keeps : (b : Board) (own : List Event) (p q : Pass) → AddsEvents b own p q → AreCalm own → stored_in q.plain ≡ stored_in p.plain → KeepsSegments b p → KeepsSegments b q
 keeps b own p q m calm same k =
     let lawful : IsLawful b.shape (m.more ++ trace p) = subst (IsLawful b.shape) m.goes_on m.pass.lawful in
-    let calmly : AreCalm (own_of (number p) m.more) = subst AreCalm (sym m.adds) calm in
+    let calmly : (s : ℕ) → AreCalmIn s (own_of (number p) m.more) = λ s. calm_in s (own_of (number p) m.more) (subst AreCalm (sym m.adds) calm) in
     let states : (s : ℕ) → state_of q s ≡ state_of p s = λ s i. state_in ((same i).0 s) in
     let used : (s : ℕ) → used_of q s ≡ used_of p s = λ s i. used_in ((same i).0 s) in
     let lasts : (s : ℕ) → deadline_of q s ≡ deadline_of p s = λ s i. deadline_in ((same i).0 s) in record {
       few = λ s n there. k.few s n (sym (used s) ∙ there);
-      rows = λ s n r there lt. ap is_some (ap (λ h. (row_after h s r).linked) m.goes_on ∙ own_linked b.shape m.more (trace p) (number p) s r lawful calmly (owns_used b q s n m.pass there ∙ m.same)) ∙ k.rows s n r (sym (used s) ∙ there) lt;
+      rows = λ s n r there lt. ap is_some (ap (λ h. (row_after h s r).linked) m.goes_on ∙ own_linked b.shape m.more (trace p) (number p) s r lawful (calmly s) (owns_used b q s n m.pass there ∙ m.same)) ∙ k.rows s n r (sym (used s) ∙ there) lt;
       deadlines = λ s n there. ap (λ h. (after b.shape (event.seen h)).deadline s) m.goes_on
           ∙ (same_cached b.shape (trace p) (m.more ++ trace p) s
-          (deadline_lasts b.shape m.more (trace p) (number p) s lawful calmly (owns_lasting b q s n m.pass there ∙ m.same))
+          (deadline_lasts b.shape m.more (trace p) (number p) s lawful (calmly s) (owns_lasting b q s n m.pass there ∙ m.same))
           ∙ k.deadlines s n (sym (lasts s) ∙ there));
       in_use = λ s is'. states s ∙ k.in_use s (sym (ap (λ x. x.1) same) ∙ is');
       unused = λ s state is' other. subst (λ h. NoneStandsIn (after b.shape (event.seen h)) s) (sym m.goes_on)
-          (own_empty b.shape m.more (trace p) (number p) s lawful calmly (owns_stated b q s state m.pass is' ∙ m.same) (k.unused s state (sym (states s) ∙ is') other));
+          (own_empty b.shape m.more (trace p) (number p) s lawful (calmly s) (owns_stated b q s state m.pass is' ∙ m.same) (k.unused s state (sym (states s) ∙ is') other));
     }
 
 -- a call with an equal plain part
 pub keeps_plain : (b : Board) (own : List Event) (p q : Pass) → AddsEvents b own p q → AreCalm own → q.plain ≡ p.plain → KeepsSegments b p → KeepsSegments b q
 keeps_plain b own p q m calm same = keeps b own p q m calm (ap stored_in same)
 
--- ---- a link of the next row, and a refilling
+-- ---- an item that comes to name the next row, and a refilling
 
 -- what one step leaves in the pass's own segments
-empty_then : (b : Board) (e : Event) (p q : Pass) (s : ℕ) → AddsAtOnce b (e ∷ []) p q → owner b.shape s ≡ number p → ((x : ℕ) (r : Request) (row n : ℕ) → e ≢ Linked x r s row n) → NoneStandsIn (after b.shape (seen p)) s → NoneStandsIn (after b.shape (seen q)) s
-empty_then b e p q s d own other none =
+empty_then : (b : Board) (e : Event) (p q : Pass) (s : ℕ) → AddsAtOnce b (e ∷ []) p q → owner b.shape s ≡ number p → IsCalmIn s e → NoneStandsIn (after b.shape (seen p)) s → NoneStandsIn (after b.shape (seen q)) s
+empty_then b e p q s d own calm none =
     let old : List Event = d.others ++ trace p in
     subst (λ h. NoneStandsIn (after b.shape (event.seen h)) s) (sym d.now)
-    (none_by_link b.shape e old s (subst (IsLawful b.shape) d.now d.moved.pass.lawful) other (empty_stays b.shape d.others (trace p) s d.before (subst (λ n. NoneBy n d.others) (sym own) d.none) none))
+    (none_by_link b.shape e old s (subst (IsLawful b.shape) d.now d.moved.pass.lawful) calm (empty_stays b.shape d.others (trace p) s d.before (subst (λ n. NoneBy n d.others) (sym own) d.none) none))
 
--- the segment of a link
-abbrev linked_at : Event → Option ℕ
-linked_at (Linked p q s row n) = Some s
-linked_at e = None
+-- the item of the event comes to name the row: it is linked, or moved there
+abbrev pub ComesToName : ℕ → ℕ → Event → Type 0
+ComesToName segment row (Linked p q s r n) = (s ≡ segment) × (r ≡ row)
+ComesToName segment row (Relinked p k f i s r n) = (s ≡ segment) × (r ≡ row)
+ComesToName segment row e = ⊥
 
-linked_there : (t : Bool) (p : ℕ) (q : Request) (s row n : ℕ) (u : Row) → is_some (cond t (writes_row (Linked p q s row n) u) u).linked ≡ cond t true (is_some u.linked)
-linked_there true p q s row n u = refl
-linked_there false p q s row n u = refl
+same_there : (t : Bool) (u v : Row) → is_some v.linked ≡ true → is_some (cond t v u).linked ≡ cond t true (is_some u.linked)
+same_there true u v there = there
+same_there false u v there = refl
 
 one_more_row : (r row : ℕ) → cond (eqb row r) true (nat_lt r row) ≡ nat_lt r (row + 1)
 one_more_row r row = ⊎_elim
@@ -198,24 +233,32 @@ one_more_row r row = ⊎_elim
     (cases_lt r row)))
     (cases_eq row r)
 
--- the rows of the current segment after the link of its next row
-row_linked : (b : Board) (request : Request) (p q : Pass) (segment row position r : ℕ) → AddsAtOnce b (Linked (number p) request segment row position ∷ []) p q → owner b.shape segment ≡ number p
-    → is_some (row_after (trace q) segment r).linked ≡ cond (eqb row r) true (is_some (row_after (trace p) segment r).linked)
-row_linked b request p q segment row position r d own =
-    let e = Linked (number p) request segment row position in let u = row_after (trace p) segment r in
-    ap (λ (x : Row). is_some x.linked) (stepped_row b e p q segment r d own) ∙ (ap (λ t. is_some (cond (t && eqb row r) (writes_row e u) u).linked) (eq-eqb segment segment refl) ∙ linked_there (eqb row r) (number p) request segment row position u)
+-- the rows of its segment after that
+named_row : (e : Event) (s row r : ℕ) (u : Row) → ComesToName s row e → is_some (cond (row_at e s r) (writes_row e u) u).linked ≡ cond (eqb row r) true (is_some u.linked)
+named_row (Linked p q t i n) s row r u at =
+    ap (λ a. is_some (cond (a && eqb i r) (writes_row (Linked p q t i n) u) u).linked) (eq-eqb t s at.0)
+    ∙ (same_there (eqb i r) u (writes_row (Linked p q t i n) u) refl ∙ ap (λ x. cond (eqb x r) true (is_some u.linked)) at.1)
+named_row (Relinked p k f j t i n) s row r u at =
+    ap (λ a. is_some (cond (a && eqb i r) (writes_row (Relinked p k f j t i n) u) u).linked) (eq-eqb t s at.0)
+    ∙ (same_there (eqb i r) u (writes_row (Relinked p k f j t i n) u) refl ∙ ap (λ x. cond (eqb x r) true (is_some u.linked)) at.1)
+named_row e s row r u at = absurd at
 
-row_elsewhere : (b : Board) (request : Request) (p q : Pass) (segment row position s r : ℕ) → AddsAtOnce b (Linked (number p) request segment row position ∷ []) p q → owner b.shape s ≡ number p → segment ≢ s
-    → row_after (trace q) s r ≡ row_after (trace p) s r
-row_elsewhere b request p q segment row position s r d own other =
-    let e = Linked (number p) request segment row position in let u = row_after (trace p) s r in
-    stepped_row b e p q s r d own ∙ ap (λ t. cond (t && eqb row r) (writes_row e u) u) (ne_eqb segment s other)
+-- elsewhere it is calm, and it leaves each deadline
+named_calm : (e : Event) (segment row s : ℕ) → ComesToName segment row e → segment ≢ s → IsCalmIn s e
+named_calm (Linked p q t i n) segment row s at other = λ same. other (sym at.0 ∙ same)
+named_calm (Relinked p k f j t i n) segment row s at other = λ same. other (sym at.0 ∙ same)
+named_calm e segment row s at other = absurd at
 
--- the next row was linked, and then counted as used
-pub keeps_linked : (b : Board) (request : Request) (p r : Pass) (segment row position : ℕ) → AddsAtOnce b (Linked (number p) request segment row position ∷ []) p r → r.plain ≡ p.plain
+named_deadline : (e : Event) (h : List Event) (segment row s : ℕ) → ComesToName segment row e → segment_of.deadline_of (e ∷ h) s ≡ segment_of.deadline_of h s
+named_deadline (Linked p q t i n) h segment row s at = refl
+named_deadline (Relinked p k f j t i n) h segment row s at = refl
+named_deadline e h segment row s at = absurd at
+
+-- the next row was linked, or an item moved there, and it was then counted as used
+pub keeps_named : (b : Board) (e : Event) (p r : Pass) (segment row : ℕ) → ComesToName segment row e → AddsAtOnce b (e ∷ []) p r → r.plain ≡ p.plain
     → current_of p ≡ Some segment → used_of p segment ≡ Some row → row < b.shape.rows
     → IsPassOf b p → KeepsSegments b p → KeepsSegments b (record r { plain = with_used segment (row + 1) r.plain })
-keeps_linked b request p r segment row position d same current used lt is k =
+keeps_named b e p r segment row at d same current used lt is k =
     let q : Pass = record r { plain = with_used segment (row + 1) r.plain } in
     let own = owns_used b p segment row is used in
     let now : used_of q segment ≡ Some (row + 1) = used_set r.plain segment (row + 1) (known r segment row (same_used p r segment same ∙ used)) in
@@ -227,20 +270,24 @@ keeps_linked b request p r segment row position d same current used lt is k =
           (λ other. k.few s u (old_used s u other there))
           (cases_eq segment s);
       rows = λ s u i there below. ⊎_elim
-          (λ e. let x : row + 1 ≡ u = same_Some (row + 1) u (sym now ∙ (ap (used_of q) e ∙ there)) in
-          subst (λ y. is_some (row_after (trace r) y i).linked ≡ nat_lt i u) e
-          (row_linked b request p r segment row position i d own ∙ (ap (cond (eqb row i) true) (k.rows segment row i used below) ∙ (one_more_row i row ∙ ap (nat_lt i) x))))
-          (λ other. let before = old_used s u other there in
-          ap (λ (x : Row). is_some x.linked) (row_elsewhere b request p r segment row position s i d (owns_used b p s u is before) other) ∙ k.rows s u i before below)
+          (λ same_segment. let x : row + 1 ≡ u = same_Some (row + 1) u (sym now ∙ (ap (used_of q) same_segment ∙ there)) in
+          subst (λ y. is_some (row_after (trace r) y i).linked ≡ nat_lt i u) same_segment
+          (ap (λ (x : Row). is_some x.linked) (stepped_row b e p r segment i d own) ∙ (named_row e segment row i (row_after (trace p) segment i) at
+          ∙ (ap (cond (eqb row i) true) (k.rows segment row i used below) ∙ (one_more_row i row ∙ ap (nat_lt i) x)))))
+          (λ other. let before = old_used s u other there in let of = owns_used b p s u is before in
+          ap (λ h. is_some (row_after h s i).linked) d.now
+          ∙ (ap is_some (calm_linked e (d.others ++ trace p) s i (named_calm e segment row s at other))
+          ∙ (ap (λ (x : Row). is_some x.linked) (quiet_row b.shape d.others (trace p) s i d.before (subst (λ n. NoneBy n d.others) (sym of) d.none)) ∙ k.rows s u i before below)))
           (cases_eq segment s);
       deadlines = λ s n there. let before = sym (lasts s) ∙ there in
-          same_cached b.shape (trace p) (trace r) s (ap (λ h. segment_of.deadline_of h s) d.now ∙ others_deadline b _ p r s d (owns_lasting b p s n is before))
+          same_cached b.shape (trace p) (trace r) s (ap (λ h. segment_of.deadline_of h s) d.now
+          ∙ (named_deadline e (d.others ++ trace p) segment row s at ∙ others_deadline b _ p r s d (owns_lasting b p s n is before)))
           ∙ k.deadlines s n before;
       in_use = λ s is'. states s ∙ k.in_use s (sym (ap (λ (x : Plain). x.current) same) ∙ is');
       unused = λ s state is' not.
           let before : state_of p s ≡ Some state = sym (states s) ∙ is' in
           let other : segment ≢ s = λ e. not (same_Some state InUse (sym before ∙ (ap (state_of p) (sym e) ∙ k.in_use segment current))) in
-          empty_then b (Linked (number p) request segment row position) p r s d (owns_stated b p s state is before) (λ x q' i n e. other (same_Some segment s (ap linked_at e))) (k.unused s state before not);
+          empty_then b e p r s d (owns_stated b p s state is before) (named_calm e segment row s at other) (k.unused s state before not);
     }
 
 -- what is known of the segments after a refilling
@@ -307,5 +354,5 @@ keeps_refilled b p r segment deadline state d same was is k =
       unused = λ s n is' not.
           let other : segment ≢ s = λ x. not (same_Some n InUse (sym is' ∙ (ap (state_of q) (sym x) ∙ now))) in
           let before : state_of p s ≡ Some n = sym (others_state r.plain segment deadline s (λ x. other (sym x)) ∙ same_states p r s same) ∙ is' in
-          empty_then b e p r s d (owns_stated b p s n is before) (λ x q' i n same. none-some s (ap linked_at same)) (k.unused s n before not);
+          empty_then b e p r s d (owns_stated b p s n is before) other (k.unused s n before not);
     }

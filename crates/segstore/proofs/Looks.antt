@@ -1,5 +1,5 @@
 -- A pass that only looks: looks add up, and what it may read stays as it is.
-use Rattle.std.proofs.Common.{◌≡◌, ℕ, ◌<◌, List, [], ◌++◌, refl, sym, ap, ◌∙◌, subst, append_assoc, arith}
+use Rattle.std.proofs.Common.{◌≡◌, ℕ, ◌<◌, List, [], ◌∷◌, ◌++◌, get_or, refl, sym, ap, ◌∙◌, subst, append_assoc, arith}
 use Rattle.std.specs.Prelude.{slice_index}
 use Rattle.segcore.specs.Words.{IsLawful, May, MayRead, NoneBy, Row, row_after, row_load}
 use Rattle.segword.specs.Words.{row_of}
@@ -79,3 +79,12 @@ whole_row words key value holds = rw (
   holds 6 (omega arith),
   holds 7 (omega arith),
 ) refl
+
+-- the words of two halves, where these are a row's, are those of its pair
+pub copied : (first last : List ℕ) (words : ℕ → ℕ) (key value : List ℕ) → first ≡ four_words words 0 → last ≡ four_words words 4
+    → ((place : ℕ) → place < 8 → words place ≡ slice_index (row_of key value) place) → (place : ℕ)
+    → slice_index (get_or first 0 0 ∷ get_or first 1 0 ∷ get_or first 2 0 ∷ get_or first 3 0 ∷ get_or last 0 0 ∷ get_or last 1 0 ∷ get_or last 2 0 ∷ get_or last 3 0 ∷ []) place
+    ≡ slice_index (row_of key value) place
+copied first last words key value begins ends holds place =
+    (λ i. slice_index (get_or (begins i) 0 0 ∷ get_or (begins i) 1 0 ∷ get_or (begins i) 2 0 ∷ get_or (begins i) 3 0 ∷ get_or (ends i) 0 0 ∷ get_or (ends i) 1 0 ∷ get_or (ends i) 2 0 ∷ get_or (ends i) 3 0 ∷ []) place)
+    ∙ ap (λ (row : List ℕ). slice_index row place) (sym (whole_row words key value holds))

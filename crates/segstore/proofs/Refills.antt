@@ -7,7 +7,7 @@ use Rattle.segcore.specs.declared.event.Event.TheVariants.{Refilled}
 use Rattle.segcore.specs.Words.{Event, inside, May, NoneBy, none_reading, readers, View}
 use Rattle.segcore.specs.Segment.{deadline_of as deadline_of_trace}
 use Rattle.segcore.proofs.Readers.{some_reader}
-use Rattle.segcore.proofs.Meanwhile.{own_deadline}
+use Rattle.segcore.proofs.Quiet.{own_deadline}
 use Rattle.segcore.proofs.Deadlines.{deadline_seen}
 use Rattle.segbase.specs.Words.{AddsAtOnce, AddsEvents, Board, IsPassOf, deadline_of, number, Pass, state_of}
 use Rattle.segbase.specs.Words.{Stepped, trace, with_current, with_deadline, with_state, with_used}

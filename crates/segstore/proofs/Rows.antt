@@ -1,5 +1,5 @@
 -- Rows of a pass's own: what others leave of them, and what its own stores make of them.
-use Rattle.std.proofs.Common.{◌≡◌, ℕ, ◌+◌, ◌<◌, eqb, List, [], ◌∷◌, refl, sym, ap, ◌∙◌, subst, ⊎_elim, arith, cond, add-one}
+use Rattle.std.proofs.Common.{◌≡◌, ℕ, ◌+◌, ◌<◌, eqb, List, [], ◌∷◌, refl, sym, ap, ◌∙◌, subst, ⊎_elim, arith, cond, add-one, append-nil}
 use Rattle.std.proofs.lemmas.Bool.{cases_eq, cond-true, cond-false, eq-eqb, ne_eqb, and_from}
 use Rattle.std.specs.Prelude.{slice_index}
 use Rattle.segmodel.specs.Words.{owner, with_at}
@@ -44,3 +44,19 @@ fills_then b p q r segment row place words m d =
     subst (λ n. AddsEvents b (fills (number p) segment row words n) p r) (sym (add-one place))
     (moved_then b (fills (number p) segment row words place) (Filled (number p) segment row place (slice_index words place) ∷ []) p q r m
     (subst (λ n. AddsEvents b (Filled n segment row place (slice_index words place) ∷ []) q r) m.same d.moved))
+
+-- a row of the pass's own is still one where the pass only looked
+pub own_looked : (b : Board) (p q : Pass) (s r : ℕ) → AddsAtOnce b [] p q → IsOwnRow b.shape (trace p) (number p) s r → IsOwnRow b.shape (trace q) (number q) s r
+own_looked b p q s r d own = (
+  own.0,
+  own.1,
+  own.2 ∙ sym d.moved.same,
+  ap (λ h. (row_after h s r).linked) d.now ∙ (ap (λ (u : Row). u.linked) (quiet_row b.shape d.others (trace p) s r d.before (subst (λ n. NoneBy n d.others) (sym own.2) d.none)) ∙ own.3),
+)
+
+-- where it looked first, it only filled the row
+pub looks_then_fills : (b : Board) (p q r : Pass) (segment row : ℕ) (words : List ℕ) → AddsAtOnce b [] p q → AddsEvents b (fills (number q) segment row words 8) q r
+    → AddsEvents b (fills (number p) segment row words 8) p r
+looks_then_fills b p q r segment row words d m =
+    subst (λ es. AddsEvents b es p r) (append-nil (fills (number p) segment row words 8))
+    (moved_then b [] (fills (number p) segment row words 8) p q r d.moved (subst (λ n. AddsEvents b (fills n segment row words 8) q r) d.moved.same m))

@@ -6,4 +6,5 @@ pub use Rattle.segstore.specs.Reading.{IsReadable, IsReader, IsReaderIn, LeavesS
 pub use Rattle.segstore.specs.Reading.{ReadsRow}
 pub use Rattle.segstore.specs.Refilling.{FillsAnew, Idles, IsOutcome, refilled}
 unfoldable pub use Rattle.segstore.specs.Rows.{fills}
+pub use Rattle.segstore.specs.Rows.{StoresRow}
 pub use Rattle.segstore.specs.Segments.{has_room, is_below, KeepsSegments}

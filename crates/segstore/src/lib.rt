@@ -13,4 +13,4 @@ pub use read::{Keyed, Linked, read_keyed, read_linked};
 pub use refilling::refill;
 pub use room::{NoRoom, has_room, next_row};
 pub use row::{key_of_row, pair_of_row, row_of_key, value_of_row};
-pub use write::{fill_row, write_row};
+pub use write::{copy_row, fill_row, write_row};

@@ -9,7 +9,13 @@ use segbase::{Board, Pass};
 use segword::{Key, KeyWords, Value, read_key, read_row, read_value};
 
 // Four words of a row.
-fn load_words(board: &Board, pass: &mut Pass, segment: u32, row: u32, from: u8) -> [u64; 4]
+pub(crate) fn load_words(
+    board: &Board,
+    pass: &mut Pass,
+    segment: u32,
+    row: u32,
+    from: u8,
+) -> [u64; 4]
     requires pass { IsPassOf board.now pass.old }
     requires readable { IsReadable board.now pass.old segment row }
     requires from { from ≤ 4 }

@@ -1,12 +1,14 @@
 //! Rows written before an item names them.
-ghost use Rattle.std.specs.Prelude.{◌≡◌, ◌↔◌, Some, false, IfOk, IsErr};
+ghost use Rattle.std.specs.Prelude.{◌≡◌, ◌<◌, ◌↔◌, ℕ, List, slice_index, Some, false, IfOk, IsErr};
 ghost use Rattle.segword.specs.Words.{IsValue};
 ghost use Rattle.segcore.specs.Words.{Holds, IsOwnRow, row_after};
 ghost use Rattle.segbase.specs.Words.{current_of, IsPassOf, number, sight, trace, used_of};
-ghost use Rattle.segstore.specs.Rows.{FillsRow};
+ghost use Rattle.segstore.specs.Reading.{IsReadable};
+ghost use Rattle.segstore.specs.Rows.{FillsRow, StoresRow};
 ghost use Rattle.segstore.specs.Segments.{KeepsSegments, has_room};
 
 use crate::room::{NoRoom, next_row};
+use crate::row::load_words;
 use segbase::{Board, Pass};
 use segword::{Key, KeyWords, Value};
 
@@ -57,7 +59,39 @@ pub fn fill_row(
     ensures plain { pass.new.plain ≡ pass.old.plain }
     ensures memo { (sight pass.new).memo ≡ (sight pass.old).memo }
 {
-    let words = key.row(value);
+    store_words(board, pass, segment, row, &key.row(value));
+}
+
+/// Writes into a row of the pass's own, that no item named in this filling, the pair that another
+/// row has. The row isn't counted as used by it.
+pub fn copy_row(board: &Board, pass: &mut Pass, from: u32, from_row: u32, segment: u32, row: u32)
+    requires pass { IsPassOf board.now pass.old }
+    requires readable { IsReadable board.now pass.old from from_row }
+    requires own { IsOwnRow board.now.shape (trace pass.old) (number pass.old) segment row }
+    ensures moved { (words : List ℕ) × StoresRow board.now segment row words pass.old pass.new }
+    ensures own { IsOwnRow board.now.shape (trace pass.new) (number pass.new) segment row }
+    ensures holds { (key value : List ℕ) → Holds (row_after (trace pass.old) from from_row) key value
+        → Holds (row_after (trace pass.new) segment row) key value }
+    ensures plain { pass.new.plain ≡ pass.old.plain }
+    ensures memo { (sight pass.new).memo ≡ (sight pass.old).memo }
+{
+    let [header, first, second, third] = load_words(board, pass, from, from_row, 0);
+    let [fourth, fifth, sixth, seventh] = load_words(board, pass, from, from_row, 4);
+    let words = [header, first, second, third, fourth, fifth, sixth, seventh];
+    store_words(board, pass, segment, row, &words);
+}
+
+// Eight words into a row of the pass's own that no item named in this filling.
+fn store_words(board: &Board, pass: &mut Pass, segment: u32, row: u32, words: &[u64; 8])
+    requires pass { IsPassOf board.now pass.old }
+    requires own { IsOwnRow board.now.shape (trace pass.old) (number pass.old) segment row }
+    ensures moved { StoresRow board.now segment row words.now pass.old pass.new }
+    ensures own { IsOwnRow board.now.shape (trace pass.new) (number pass.new) segment row }
+    ensures words { (place : ℕ) → place < 8
+        → (row_after (trace pass.new) segment row).words place ≡ slice_index words.now place }
+    ensures plain { pass.new.plain ≡ pass.old.plain }
+    ensures memo { (sight pass.new).memo ≡ (sight pass.old).memo }
+{
     for place in 0..8u8 {
         board.row_store(pass, segment, row, place, words[place as usize]);
     }

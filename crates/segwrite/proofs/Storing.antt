@@ -18,7 +18,7 @@ use Rattle.segbase.proofs.Moves.{moved_then}
 use Rattle.segbase.proofs.Known.{counted, own_alike, owner_counted}
 use Rattle.segbase.proofs.Owned.{moved_still}
 use Rattle.segstore.specs.Words.{fills, KeepsSegments}
-use Rattle.segstore.proofs.Keeping.{same_used, keeps_plain, keeps_linked}
+use Rattle.segstore.proofs.Keeping.{same_used, keeps_plain, keeps_named}
 use Rattle.segwrite.specs.Words.{Target}
 use Rattle.segwrite.specs.FirstEmpty.{AreTakenBefore}
 use Rattle.segpass.specs.Words.{HasCleanBit, memo}
@@ -122,7 +122,7 @@ module _ (b : Board) (request : Request) (target : Target) (segment row : ℕ) (
     pub keeps_all : KeepsSegments b p → KeepsSegments b after_all
     keeps_all k =
         let kq = keeps_plain b (fills (number p) segment row (row_of (key_of request) (value_of request)) 8) p q m (fills_calm (number p) segment row (row_of (key_of request) (value_of request)) 8) first k in
-        keeps_linked b request q r segment row at d second (ap (λ (x : Plain). x.current) first ∙ next.current) (same_used p q segment first ∙ next.used) next.fits m.pass kq
+        keeps_named b _ q r segment row (refl, refl) d second (ap (λ (x : Plain). x.current) first ∙ next.current) (same_used p q segment first ∙ next.used) next.fits m.pass kq
 
     pub uses_all : memo q ≡ memo p → memo r ≡ memo q → UsesRow segment p after_all
     uses_all minds same = record {

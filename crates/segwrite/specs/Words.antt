@@ -1,5 +1,6 @@
 -- The words of this crate that others use, from one place.
 pub use Rattle.segwrite.specs.Full.{CanGrow, GrowsFor, HasNoWord, WasFull}
+pub use Rattle.segwrite.specs.Storing.{IsNextRow}
 pub use Rattle.segwrite.specs.Telling.{cas_reply, IsTold, WasTold}
 pub use Rattle.segwrite.specs.Writes.{AddsReply, Deletes, IsDeleteAnswer, IsSetAnswer}
 pub use Rattle.segwrite.specs.Writes.{IsWriteAnswer, one_more, UsesRow, Writes}

@@ -3,7 +3,7 @@ use Rattle.std.specs.Prelude.{slice_index}
 use Rattle.segcore.specs.Words.{IsOwnRow, row_after}
 use Rattle.segbase.specs.Words.{AddsEvents, number, sight, trace}
 use Rattle.segstore.specs.Rows.{fills}
-use Rattle.segstore.proofs.write.fill_row.Given as goal
+use Rattle.segstore.proofs.write.store_words.Given as goal
 
 abbrev pub invariant-loop-place : goal.invariant-loop-place
 invariant-loop-place l = record {
