@@ -23,10 +23,11 @@ use Rattle.segstore.specs.Words.{KeepsSegments}
 use Rattle.segstore.proofs.Keeping.{same_used}
 use Rattle.segevict.specs.declared.eviction.RowAnswer.TheVariants as row_answer
 use Rattle.segpass.specs.Words.{DrawsNothing, GoesOn, IsQuiet, memo, ReadsNothing}
-use Rattle.segevict.specs.Evicting.{AreEvictions, ended, TriesForKeys, TakesOut, IsBarred, IsEvictAnswer}
-use Rattle.segevict.specs.Unlinking.{KeepsGone, EvictsRow}
+use Rattle.segevict.specs.Evicting.{AreEvictions, ended, StoodIn, TriesForKeys, TakesOut, IsBarred, IsEvictAnswer}
+use Rattle.segevict.specs.Rows.{KeepsGone}
+use Rattle.segevict.specs.Unlinking.{EvictsRow}
 use Rattle.segpass.proofs.Draws.{draws_none_then}
-use Rattle.segevict.proofs.KeyTries.{no_tries, tries_then}
+use Rattle.segevict.proofs.KeyTries.{no_tries, rows_tried_then}
 use Rattle.segevict.proofs.RowsOut.{goes_then, keeps_gone_then}
 
 -- ---- a change of the plain part alone
@@ -60,7 +61,7 @@ more_bounced p b [] h = omega arith
 more_bounced p b (Bounced q a ∷ more) h = let old = more_bounced p b more h in let one = one_more (eqb q p && eqb a b) (count.bounced p b (more ++ h)) in omega arith
 more_bounced p b (e ∷ more) h = more_bounced p b more h
 
-bounced_grows : (p q : Pass) (k : ℕ) → number q ≡ number p → Begins (trace p) (trace q) → bounced p k ≤ bounced q k
+pub bounced_grows : (p q : Pass) (k : ℕ) → number q ≡ number p → Begins (trace p) (trace q) → bounced p k ≤ bounced q k
 bounced_grows p q k same grew =
     subst (λ n. bounced p k ≤ count.bounced n k (trace q)) (sym same) (subst (λ h. bounced p k ≤ count.bounced (number p) k h) (sym grew.1) (more_bounced (number p) k grew.0 (trace p)))
 
@@ -85,7 +86,7 @@ pub record Evicting (b : Board) (segment row taken : ℕ) (p q : Pass) : Type 0 
 pub evicting_first : (b : Board) (segment : ℕ) (p : Pass) → IsQuiet b p → Evicting b segment 0 0 p p
 evicting_first b segment p quiet = record {
   on = record { quiet = quiet; same = refl; marked = ([], refl); seen = ([], refl) };
-  keeps = record { grew = ([], refl); lasts = λ row gone. gone };
+  keeps = record { grew = ([], refl); linked = λ row. refl; lasts = λ row gone. gone };
   plain = refl;
   memo = refl;
   draws_nothing = λ bucket. refl;
@@ -96,7 +97,7 @@ evicting_first b segment p quiet = record {
   entries = refl;
   below = λ r lt. absurd (omega (arith, lt));
   few = omega arith;
-  tries = no_tries b segment 0 p p (stays b p quiet.pass);
+  tries = no_tries b (λ key. StoodIn b.shape segment key (seen p) (seen p)) 0 p p (stays b p quiet.pass);
 }
 
 module _ (b : Board) (segment row taken : ℕ) (p q r : Pass) (e : Evicting b segment row taken p q) where
@@ -122,7 +123,7 @@ module _ (b : Board) (segment row taken : ℕ) (p q r : Pass) (e : Evicting b se
         entries = one.answer.2.1 ∙ (λ t. entry.Evicted (e.on.same t) key segment ∷ e.entries t);
         below = gone_below one.answer.0 one.answer.1;
         few = omega arith;
-        tries = tries_then b.shape segment row 1 (row + 1) p q r e.on.seen one.on.seen (omega arith) e.tries one.tries;
+        tries = rows_tried_then b.shape segment row 1 (row + 1) p q r e.on.seen one.on.seen (omega arith) e.tries one.tries;
       }
 
   -- or was gone
@@ -140,7 +141,7 @@ module _ (b : Board) (segment row taken : ℕ) (p q r : Pass) (e : Evicting b se
     entries = one.answer.2 ∙ e.entries;
     below = gone_below one.answer.0 one.answer.1;
     few = omega arith;
-    tries = tries_then b.shape segment row 1 (row + 1) p q r e.on.seen one.on.seen (omega arith) e.tries one.tries;
+    tries = rows_tried_then b.shape segment row 1 (row + 1) p q r e.on.seen one.on.seen (omega arith) e.tries one.tries;
   }
 
 -- ---- the current segment
@@ -194,7 +195,7 @@ module _ (b : Board) (segment row taken : ℕ) (p q : Pass) (in_use : state_of p
         all = e.all;
         entries = busy.answer.0 ∙ e.entries;
         memo = busy.memo ∙ e.memo;
-        tries = λ rows is. tries_then b.shape segment row 1 rows p q r e.on.seen busy.on.seen (let lt = left rows is in omega arith) e.tries busy.tries;
+        tries = λ rows is. rows_tried_then b.shape segment row 1 rows p q r e.on.seen busy.on.seen (let lt = left rows is in omega arith) e.tries busy.tries;
       },
       busy.plain ∙ plain_then,
       barred_by,

@@ -1,21 +1,22 @@
--- For which keys an eviction tried for bits, one row after another.
+-- For which keys a walk over rows tried for bits, one row after another.
 use Rattle.std.proofs.Common.{◌≡◌, ◌≢◌, ℕ, ◌+◌, ◌*◌, ◌≤◌, ◌==◌, List, [], ◌∷◌, ◌++◌, Bool, true, cond, count_by, ap, ◌∙◌, refl, sym, subst, ⊎_elim, length-append, arith}
 use Rattle.std.proofs.lemmas.Bool.{cases_eq, eq-eqb}
 use Rattle.std.proofs.lemmas.List.Elements.{All-nil, All-cons, All-append, All-weaker}
 use Rattle.segword.specs.Words.{Shape}
-use Rattle.segmodel.specs.Words.{Begins, bucket_of}
+use Rattle.segmodel.specs.Words.{Begins, bucket_of, Entry}
 use Rattle.segmodel.proofs.Counts.{count_by-cons}
 use Rattle.segmodel.proofs.LawLemmas.{count_by-append}
 use Rattle.segcore.proofs.Moments.{begins_on}
 use Rattle.segbase.specs.Words.{AddsEvents, Board, bounced, Pass, seen, taken}
 use Rattle.segbase.proofs.Moves.{moved_taken, moved_bounced}
 use Rattle.segevict.specs.Evicting.{StoodIn, TriesForKeys}
+use Rattle.segevict.specs.Tries.{TriesFor}
 
-pub no_tries : (b : Board) (segment most : ℕ) (p q : Pass) → AddsEvents b [] p q → TriesForKeys b.shape segment most p q
-no_tries b segment most p q m = record {
+pub no_tries : (b : Board) (IsSo : List ℕ → Type 0) (most : ℕ) (p q : Pass) → AddsEvents b [] p q → TriesFor b.shape IsSo most p q
+no_tries b IsSo most p q m = record {
   keys = [];
   few = omega arith;
-  stood = All-nil (λ key. StoodIn b.shape segment key (seen p) (seen q));
+  stood = All-nil IsSo;
   taken = (let same : taken q ≡ taken p = moved_taken b [] p q m in omega arith);
   bounced = λ bucket. let same : bounced q bucket ≡ bounced p bucket = moved_bounced b [] p q bucket m in omega arith;
 }
@@ -24,13 +25,13 @@ counted_once : (p : List ℕ → Bool) (key : List ℕ) → p key ≡ true → c
 counted_once p key is = count_by-cons p key [] ∙ ap (λ t. cond t 1 0 + 0) is
 
 -- it tried for one key
-pub one_try : (shape : Shape) (segment : ℕ) (key : List ℕ) (p q : Pass) → StoodIn shape segment key (seen p) (seen q) → taken q ≤ taken p + 1 → bounced q (bucket_of shape key) ≤ bounced p (bucket_of shape key) + 64
-    → ((other : ℕ) → other ≢ bucket_of shape key → bounced q other ≡ bounced p other) → TriesForKeys shape segment 1 p q
-one_try shape segment key p q stood took met others =
+pub one_try : (shape : Shape) (IsSo : List ℕ → Type 0) (key : List ℕ) (p q : Pass) → IsSo key → taken q ≤ taken p + 1 → bounced q (bucket_of shape key) ≤ bounced p (bucket_of shape key) + 64
+    → ((other : ℕ) → other ≢ bucket_of shape key → bounced q other ≡ bounced p other) → TriesFor shape IsSo 1 p q
+one_try shape IsSo key p q stood took met others =
     let home = bucket_of shape key in record {
       keys = key ∷ [];
       few = omega arith;
-      stood = All-cons (λ key. StoodIn shape segment key (seen p) (seen q)) key [] stood (All-nil (λ key. StoodIn shape segment key (seen p) (seen q)));
+      stood = All-cons IsSo key [] stood (All-nil IsSo);
       taken = took;
       bounced = λ bucket. ⊎_elim
           (λ same. subst (λ k. bounced q k ≤ bounced p k + 64 * count_by (λ key. bucket_of shape key == k) (key ∷ [])) (sym same) (let one = counted_once (λ key. bucket_of shape key == home) key (eq-eqb home home refl) in omega arith))
@@ -39,23 +40,37 @@ one_try shape segment key p q stood took met others =
     }
 
 -- the tries of two calls, one after the other
-pub tries_then : (shape : Shape) (segment m n most : ℕ) (p q r : Pass) → Begins (seen p) (seen q) → Begins (seen q) (seen r) → m + n ≤ most → TriesForKeys shape segment m p q → TriesForKeys shape segment n q r → TriesForKeys shape segment most p r
-tries_then shape segment m n most p q r first second within i j = record {
+pub tries_then : (shape : Shape) (First Second Both : List ℕ → Type 0) (m n most : ℕ) (p q r : Pass) → ((key : List ℕ) → First key → Both key) → ((key : List ℕ) → Second key → Both key) → m + n ≤ most
+    → TriesFor shape First m p q → TriesFor shape Second n q r → TriesFor shape Both most p r
+tries_then shape First Second Both m n most p q r first second within i j = record {
   keys = i.keys ++ j.keys;
   few = (let all = length-append i.keys j.keys in let x = i.few in let y = j.few in omega arith);
-  stood = All-append (λ key. StoodIn shape segment key (seen p) (seen r)) i.keys j.keys
-      (All-weaker (λ key. StoodIn shape segment key (seen p) (seen q)) (λ key. StoodIn shape segment key (seen p) (seen r)) (λ key s. (s.0, (s.1.0, begins_on s.0 (seen q) (seen r) s.1.1 second), s.2)) i.keys i.stood)
-      (All-weaker (λ key. StoodIn shape segment key (seen q) (seen r)) (λ key. StoodIn shape segment key (seen p) (seen r)) (λ key s. (s.0, (begins_on (seen p) (seen q) s.0 first s.1.0, s.1.1), s.2)) j.keys j.stood);
+  stood = All-append Both i.keys j.keys (All-weaker First Both first i.keys i.stood) (All-weaker Second Both second j.keys j.stood);
   taken = (let all = length-append i.keys j.keys in let x = i.taken in let y = j.taken in omega arith);
   bounced = λ bucket. let all = count_by-append (λ key. bucket_of shape key == bucket) i.keys j.keys in let x = i.bounced bucket in let y = j.bounced bucket in omega arith;
 }
 
 -- nothing was tried before
-pub tries_after : (b : Board) (segment most : ℕ) (p q r : Pass) → AddsEvents b [] p q → Begins (seen p) (seen q) → TriesForKeys b.shape segment most q r → TriesForKeys b.shape segment most p r
-tries_after b segment most p q r m first t = record {
+pub tries_after : (b : Board) (Second Both : List ℕ → Type 0) (most : ℕ) (p q r : Pass) → AddsEvents b [] p q → ((key : List ℕ) → Second key → Both key) → TriesFor b.shape Second most q r → TriesFor b.shape Both most p r
+tries_after b Second Both most p q r m second t = record {
   keys = t.keys;
   few = t.few;
-  stood = All-weaker (λ key. StoodIn b.shape segment key (seen q) (seen r)) (λ key. StoodIn b.shape segment key (seen p) (seen r)) (λ key s. (s.0, (begins_on (seen p) (seen q) s.0 first s.1.0, s.1.1), s.2)) t.keys t.stood;
+  stood = All-weaker Second Both second t.keys t.stood;
   taken = (let same : taken q ≡ taken p = moved_taken b [] p q m in let x = t.taken in omega arith);
   bounced = λ bucket. let same : bounced q bucket ≡ bounced p bucket = moved_bounced b [] p q bucket m in let x = t.bounced bucket in omega arith;
 }
+
+-- ---- of an eviction
+
+-- what stood between two moments did so between an earlier one and the second, and between the first and a later one
+pub stood_before : (shape : Shape) (segment : ℕ) (key : List ℕ) (old middle new : List Entry) → Begins old middle → StoodIn shape segment key middle new → StoodIn shape segment key old new
+stood_before shape segment key old middle new first s = (s.0, (begins_on old middle s.0 first s.1.0, s.1.1), s.2)
+
+pub stood_after : (shape : Shape) (segment : ℕ) (key : List ℕ) (old middle new : List Entry) → Begins middle new → StoodIn shape segment key old middle → StoodIn shape segment key old new
+stood_after shape segment key old middle new second s = (s.0, (s.1.0, begins_on s.0 middle new s.1.1 second), s.2)
+
+pub rows_tried_then : (shape : Shape) (segment m n most : ℕ) (p q r : Pass) → Begins (seen p) (seen q) → Begins (seen q) (seen r) → m + n ≤ most
+    → TriesForKeys shape segment m p q → TriesForKeys shape segment n q r → TriesForKeys shape segment most p r
+rows_tried_then shape segment m n most p q r first second within i j =
+    let stood : List Entry → List Entry → List ℕ → Type 0 = λ old new key. StoodIn shape segment key old new in
+    tries_then shape (stood (seen p) (seen q)) (stood (seen q) (seen r)) (stood (seen p) (seen r)) m n most p q r (λ key. stood_after shape segment key (seen p) (seen q) (seen r) second) (λ key. stood_before shape segment key (seen p) (seen q) (seen r) first) within i j

@@ -5,3 +5,8 @@ pub mod StoredRows
 pub mod KeyTries
 pub mod RowsOut
 pub mod Evictions
+pub mod Frequencies
+pub mod Relinking
+pub mod Moving
+pub mod KeptRows
+pub mod Keeping

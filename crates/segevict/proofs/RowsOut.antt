@@ -6,7 +6,7 @@ use Rattle.segmodel.specs.declared.entry.Entry.TheVariants.{Evicted}
 use Rattle.segmodel.specs.Words.{Begins, bucket_of, Entry, owner}
 use Rattle.segcore.specs.declared.event.Event.TheVariants.{Freed, Unlinked}
 use Rattle.segcore.specs.Event as event
-use Rattle.segcore.specs.Words.{bucket_after, Event, NoneAt, RowGone}
+use Rattle.segcore.specs.Words.{bucket_after, Event, IsLawful, NoneAt, row_after, RowGone}
 use Rattle.segcore.specs.declared.event.Leaving.TheVariants.{Evicts}
 use Rattle.segcore.proofs.Moments.{begins_on}
 use Rattle.segbase.specs.declared.pass.Plain.{Plain}
@@ -14,18 +14,19 @@ use Rattle.segbase.specs.Words.{AddsAtOnce, AddsEvents, Board, bounced, mine, nu
 use Rattle.segbase.specs.Words.{taken, trace}
 use Rattle.segbase.proofs.Moves.{moved_on, moved_bounced}
 use Rattle.segstore.specs.Words.{Idles, KeepsSegments}
-use Rattle.segstore.proofs.Keeping.{AreCalm, keeps_plain}
+use Rattle.segstore.proofs.Keeping.{AreCalm, AreCalmIn, calm_in, keeps_plain, own_linked}
 use Rattle.segwrite.specs.Words.{Target}
 use Rattle.segevict.specs.declared.eviction.RowAnswer.{RowAnswer}
 use Rattle.segevict.specs.declared.eviction.RowAnswer.TheVariants as row_answer
 use Rattle.segpass.specs.Words.{ChangesNothing, DrawsNothing, GoesOn, IsBusy, IsQuiet, memo}
 use Rattle.segpass.specs.Words.{ReadsNothing, TookToWrite}
-use Rattle.segevict.specs.Evicting.{TriesForKeys}
-use Rattle.segevict.specs.Unlinking.{IsStoredIn, IsNamedAt, FindsRow, TakesRow, KeepsGone, EvictsRow}
+use Rattle.segevict.specs.Evicting.{StoodIn, TriesForKeys}
+use Rattle.segevict.specs.Rows.{IsStoredIn, IsNamedAt, FindsRow, KeepsGone}
+use Rattle.segevict.specs.Unlinking.{TakesRow, EvictsRow}
 use Rattle.segpass.proofs.Bounces.{bounces_calm}
 use Rattle.segpass.proofs.Draws.{AreUndrawn, moved_undrawn, draws_none_then}
 use Rattle.segpass.proofs.Idling.{goes_nowhere, does_nothing}
-use Rattle.segevict.proofs.KeyTries.{no_tries, one_try, tries_after}
+use Rattle.segevict.proofs.KeyTries.{no_tries, one_try, stood_before, tries_after}
 use Rattle.segevict.proofs.Seeking.{stored_over}
 use Rattle.segpass.proofs.Still.{AreStill, no_reader}
 use Rattle.segpass.proofs.TakenBits.{AreNoTries}
@@ -44,11 +45,24 @@ goes_then b p q r i j = record {
   seen = begins_on (seen p) (seen q) (seen r) i.seen j.seen;
 }
 
+-- nothing is linked in the segment, or moved there
+pub calm_keeps_gone : (b : Board) (s : ℕ) (own : List Event) (p q : Pass) → AddsEvents b own p q → AreCalmIn s own → owner b.shape s ≡ number p → KeepsGone b s p q
+calm_keeps_gone b s own p q m calm mine = record {
+  grew = moved_on b own p q m;
+  linked = λ row. ap (λ h. (row_after h s row).linked) m.goes_on
+      ∙ own_linked b.shape m.more (trace p) (number p) s row (subst (IsLawful b.shape) m.goes_on m.pass.lawful) (subst (AreCalmIn s) (sym m.adds) calm) mine;
+  lasts = λ row. gone_over b own p q s row m calm mine;
+}
+
 keeps_gone : (b : Board) (s : ℕ) (own : List Event) (p q : Pass) → AddsEvents b own p q → AreCalm own → owner b.shape s ≡ number p → KeepsGone b s p q
-keeps_gone b s own p q m calm mine = record { grew = moved_on b own p q m; lasts = λ row. gone_over b own p q s row m calm mine }
+keeps_gone b s own p q m calm mine = calm_keeps_gone b s own p q m (calm_in s own calm) mine
 
 pub keeps_gone_then : (b : Board) (s : ℕ) (p q r : Pass) → KeepsGone b s p q → KeepsGone b s q r → KeepsGone b s p r
-keeps_gone_then b s p q r i j = record { grew = begins_on (trace p) (trace q) (trace r) i.grew j.grew; lasts = λ row gone. j.lasts row (i.lasts row gone) }
+keeps_gone_then b s p q r i j = record {
+  grew = begins_on (trace p) (trace q) (trace r) i.grew j.grew;
+  linked = λ row. j.linked row ∙ i.linked row;
+  lasts = λ row gone. j.lasts row (i.lasts row gone);
+}
 
 -- ---- before the bit is taken
 
@@ -70,7 +84,7 @@ module _ (b : Board) (bucket : ℕ) (sought : Item) (p f : Pass) (quiet : IsQuie
 
   -- the bit was tried for, since the key stood then
   tries_one : (target : Target) (q : Pass) → IsNamedAt b bucket sought target f → Begins (seen f) (seen q) → taken q ≤ taken f + 1 → bounced q bucket ≤ bounced f bucket + 64 → ((other : ℕ) → other ≢ bucket → bounced q other ≡ bounced f other) → TriesForKeys b.shape sought.seg 1 p q
-  tries_one target q n later took met others = tries_after b sought.seg 1 p f q i.moved goes_looking.seen (one_try b.shape sought.seg stored.key f q
+  tries_one target q n later took met others = tries_after b (λ key. StoodIn b.shape sought.seg key (seen f) (seen q)) (λ key. StoodIn b.shape sought.seg key (seen p) (seen q)) 1 p f q i.moved (λ key s. stood_before b.shape sought.seg key (seen p) (seen f) (seen q) goes_looking.seen s) (one_try b.shape (λ key. StoodIn b.shape sought.seg key (seen f) (seen q)) stored.key f q
       (seen f, (([], refl), later), named_stands b bucket sought f i.moved.pass stored target n) took
       (subst (λ k. bounced q k ≤ bounced f k + 64) stored.home met) (λ other apart. others other (λ same. apart (same ∙ stored.home))))
 
@@ -85,7 +99,7 @@ module _ (b : Board) (bucket : ℕ) (sought : Item) (p f : Pass) (quiet : IsQuie
     memo = i.memo;
     draws_nothing = undrawn_looking;
     reads_nothing = unread_looking;
-    tries = no_tries b sought.seg 1 p f i.moved;
+    tries = no_tries b (λ key. StoodIn b.shape sought.seg key (seen p) (seen f)) 1 p f i.moved;
     answer = (gone_looking, gone, (does_nothing b p f quiet i.moved i.plain i.memo).entries);
   }
 
@@ -129,7 +143,7 @@ module _ (b : Board) (bucket : ℕ) (sought : Item) (p f : Pass) (quiet : IsQuie
     took_calm = (tt, bounces_calm (number f) bucket begins.tries)
 
     pub stored_taken : IsStoredIn b bucket sought q
-    stored_taken = stored_over b bucket sought took_by f q (took_moved b bucket f q quiet_looking begins) took_calm stored
+    stored_taken = stored_over b bucket sought took_by f q (took_moved b bucket f q quiet_looking begins) (calm_in sought.seg took_by took_calm) stored
 
     gone_taken : KeepsGone b sought.seg p q
     gone_taken = keeps_gone_then b sought.seg p f q gone_looking (keeps_gone b sought.seg took_by f q (took_moved b bucket f q quiet_looking begins) took_calm stored.own)

@@ -14,10 +14,10 @@ use Rattle.segbase.specs.Words.{AddsEvents, Board, cell_at, IsPassOf, IsPlace, I
 use Rattle.segbase.specs.Words.{number, own_of, Pass, Place, position, trace}
 use Rattle.segbase.proofs.Standing.{tag_of_word, place_of_word}
 use Rattle.segstore.specs.Words.{Idles}
-use Rattle.segstore.proofs.Keeping.{AreCalm, own_linked}
+use Rattle.segstore.proofs.Keeping.{AreCalmIn, own_linked}
 use Rattle.segstore.proofs.Refills.{idles}
 use Rattle.segwrite.specs.Words.{first_word, IsInChain, IsNext, LeadsNowhere, LeadsTo, next_word}
-use Rattle.segevict.specs.Unlinking.{IsStoredIn}
+use Rattle.segevict.specs.Rows.{IsStoredIn}
 use Rattle.segwrite.proofs.Items.{item_here}
 use Rattle.segwrite.proofs.Onward.{depth_of_place, next_at, leads_to, first_at, chain_ends}
 use Rattle.segwrite.proofs.Places.{idles_then, position_at, same_position, chain_later}
@@ -72,10 +72,10 @@ seeking_first b bucket sought p is stored =
           (subst (λ k. IsAhead z k sought.seg sought.row 1 (trace p)) (sym stored.home) (ahead_first z stored.key sought.seg sought.row (trace p) is.lawful stored.linked));
     }
 
-pub stored_over : (b : Board) (bucket : ℕ) (sought : Item) (own : List Event) (p q : Pass) → AddsEvents b own p q → AreCalm own → IsStoredIn b bucket sought p → IsStoredIn b bucket sought q
+pub stored_over : (b : Board) (bucket : ℕ) (sought : Item) (own : List Event) (p q : Pass) → AddsEvents b own p q → AreCalmIn sought.seg own → IsStoredIn b bucket sought p → IsStoredIn b bucket sought q
 stored_over b bucket sought own p q m calm stored =
     let l : IsLawful b.shape (m.more ++ trace p) = subst (IsLawful b.shape) m.goes_on m.pass.lawful in
-    let c : AreCalm (own_of (number p) m.more) = subst AreCalm (sym m.adds) calm in record {
+    let c : AreCalmIn sought.seg (own_of (number p) m.more) = subst (AreCalmIn sought.seg) (sym m.adds) calm in record {
       key = stored.key;
       own = stored.own ∙ sym m.same;
       linked = ap (λ h. (row_after h sought.seg sought.row).linked) m.goes_on ∙ (own_linked b.shape m.more (trace p) (number p) sought.seg sought.row l c stored.own ∙ stored.linked);

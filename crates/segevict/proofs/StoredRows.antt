@@ -8,7 +8,7 @@ use Rattle.segstore.specs.Words.{IsReadable, ReadsRow}
 use Rattle.segstore.proofs.Held.{IsPairOf, linked_pair}
 use Rattle.segstore.proofs.Keeping.{in_table, owns_used}
 use Rattle.segpass.specs.Words.{IsQuiet}
-use Rattle.segevict.specs.Unlinking.{IsUsedRow}
+use Rattle.segevict.specs.Rows.{IsUsedRow}
 
 pub record OfRow (b : Board) (segment row : ℕ) (p : Pass) : Type 0 where
   pub own : owner b.shape segment ≡ number p

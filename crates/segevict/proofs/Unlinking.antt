@@ -21,7 +21,8 @@ use Rattle.segstore.specs.Words.{Idles}
 use Rattle.segstore.proofs.Words.{at_place}
 use Rattle.segpass.specs.Words.{HasCleanBit}
 use Rattle.segwrite.specs.Words.{IsEarlier, IsInChain, Target}
-use Rattle.segevict.specs.Unlinking.{IsStoredIn, IsNamedAt, TakesRow}
+use Rattle.segevict.specs.Rows.{IsStoredIn, IsNamedAt}
+use Rattle.segevict.specs.Unlinking.{TakesRow}
 use Rattle.segevict.proofs.Seeking.{stored_over}
 use Rattle.segpass.proofs.UnderBit.{moved_bucket, moved_bit}
 

@@ -9,7 +9,7 @@ use Rattle.segcore.specs.Words.{bucket_after, by, Event, IsLawful, row_after, Ro
 use Rattle.segcore.proofs.Searches.{row_first, row_moves}
 use Rattle.segcore.proofs.Standing.{coherent}
 use Rattle.segbase.specs.Words.{AddsEvents, Board, number, own_of, Pass, trace}
-use Rattle.segstore.proofs.Keeping.{AreCalm, own_linked}
+use Rattle.segstore.proofs.Keeping.{AreCalmIn, calm_parts, calm_rest, own_linked}
 use Rattle.segpass.proofs.Before.{one_before}
 
 -- ---- none names it
@@ -24,22 +24,21 @@ one_gone z e h s r l same gone b n a is es er = ⊎_elim
     (one_before z e h b n a l is)
 
 -- calm as a whole is calm at its first event and after it
-calm_parts : (p : ℕ) (e : Event) (more : List Event) → AreCalm (own_of p (e ∷ more)) → AreCalm (own_of p (e ∷ [])) × AreCalm (own_of p more)
-calm_parts p e more calm = ⊎_elim
-    (λ t. let c : AreCalm (e ∷ own_of p more) = subst AreCalm (cond-true (eqb (by e) p) (e ∷ own_of p more) (own_of p more) t) calm in
-    (subst AreCalm (sym (cond-true (eqb (by e) p) (e ∷ []) [] t)) (c.0, tt), c.1))
-    (λ f. (subst AreCalm (sym (cond-false (eqb (by e) p) (e ∷ []) [] f)) tt, subst AreCalm (cond-false (eqb (by e) p) (e ∷ own_of p more) (own_of p more) f) calm))
+calm_first : (s p : ℕ) (e : Event) (more : List Event) → AreCalmIn s (own_of p (e ∷ more)) → AreCalmIn s (own_of p (e ∷ [])) × AreCalmIn s (own_of p more)
+calm_first s p e more calm = ⊎_elim
+    (λ t. let c = calm_parts s p e more t calm in (subst (AreCalmIn s) (sym (cond-true (eqb (by e) p) (e ∷ []) [] t)) (c.0, tt), c.1))
+    (λ f. (subst (AreCalmIn s) (sym (cond-false (eqb (by e) p) (e ∷ []) [] f)) tt, calm_rest s p e more f calm))
     (cases_Bool (eqb (by e) p))
 
-gone_lasts : (z : Shape) (more h : List Event) (p s r : ℕ) → IsLawful z (more ++ h) → AreCalm (own_of p more) → owner z s ≡ p → RowGone z s r h → RowGone z s r (more ++ h)
+gone_lasts : (z : Shape) (more h : List Event) (p s r : ℕ) → IsLawful z (more ++ h) → AreCalmIn s (own_of p more) → owner z s ≡ p → RowGone z s r h → RowGone z s r (more ++ h)
 gone_lasts z [] h p s r l calm own gone = gone
 gone_lasts z (e ∷ more) h p s r l calm own gone =
-    let c = calm_parts p e more calm in
+    let c = calm_first s p e more calm in
     one_gone z e (more ++ h) s r l (own_linked z (e ∷ []) (more ++ h) p s r l c.0 own) (gone_lasts z more h p s r l.0 c.1 own gone)
 
-pub gone_over : (b : Board) (own : List Event) (p q : Pass) (s r : ℕ) → AddsEvents b own p q → AreCalm own → owner b.shape s ≡ number p → RowGone b.shape s r (trace p) → RowGone b.shape s r (trace q)
+pub gone_over : (b : Board) (own : List Event) (p q : Pass) (s r : ℕ) → AddsEvents b own p q → AreCalmIn s own → owner b.shape s ≡ number p → RowGone b.shape s r (trace p) → RowGone b.shape s r (trace q)
 gone_over b own p q s r m calm mine gone =
-    subst (RowGone b.shape s r) (sym m.goes_on) (gone_lasts b.shape m.more (trace p) (number p) s r (subst (IsLawful b.shape) m.goes_on m.pass.lawful) (subst AreCalm (sym m.adds) calm) mine gone)
+    subst (RowGone b.shape s r) (sym m.goes_on) (gone_lasts b.shape m.more (trace p) (number p) s r (subst (IsLawful b.shape) m.goes_on m.pass.lawful) (subst (AreCalmIn s) (sym m.adds) calm) mine gone)
 
 -- ---- one may name it
 
@@ -60,10 +59,10 @@ ahead_first z k s r h l on = ⊎_elim
     (λ there. inr there)
     (row_first z k s r h l on)
 
-ahead_on : (z : Shape) (more h : List Event) (p b s r n : ℕ) → IsLawful z (more ++ h) → AreCalm (own_of p more) → owner z s ≡ p → IsAhead z b s r n h → IsAhead z b s r n (more ++ h)
+ahead_on : (z : Shape) (more h : List Event) (p b s r n : ℕ) → IsLawful z (more ++ h) → AreCalmIn s (own_of p more) → owner z s ≡ p → IsAhead z b s r n h → IsAhead z b s r n (more ++ h)
 ahead_on z [] h p b s r n l calm own a = a
 ahead_on z (e ∷ more) h p b s r n l calm own a =
-    let c = calm_parts p e more calm in ⊎_elim
+    let c = calm_first s p e more calm in ⊎_elim
     (λ gone. inl (one_gone z e (more ++ h) s r l (own_linked z (e ∷ []) (more ++ h) p s r l c.0 own) gone))
     (λ there. ⊎_elim
     (λ on. let low = there.1 in let up = on.1 in inr (on.0, omega arith, on.2))
@@ -71,9 +70,9 @@ ahead_on z (e ∷ more) h p b s r n l calm own a =
     (row_moves z b s r e (more ++ h) there.0 l there.2))
     (ahead_on z more h p b s r n l.0 c.1 own a)
 
-pub ahead_over : (b : Board) (own : List Event) (p q : Pass) (k s r n : ℕ) → AddsEvents b own p q → AreCalm own → owner b.shape s ≡ number p → IsAhead b.shape k s r n (trace p) → IsAhead b.shape k s r n (trace q)
+pub ahead_over : (b : Board) (own : List Event) (p q : Pass) (k s r n : ℕ) → AddsEvents b own p q → AreCalmIn s own → owner b.shape s ≡ number p → IsAhead b.shape k s r n (trace p) → IsAhead b.shape k s r n (trace q)
 ahead_over b own p q k s r n m calm mine a =
-    subst (IsAhead b.shape k s r n) (sym m.goes_on) (ahead_on b.shape m.more (trace p) (number p) k s r n (subst (IsLawful b.shape) m.goes_on m.pass.lawful) (subst AreCalm (sym m.adds) calm) mine a)
+    subst (IsAhead b.shape k s r n) (sym m.goes_on) (ahead_on b.shape m.more (trace p) (number p) k s r n (subst (IsLawful b.shape) m.goes_on m.pass.lawful) (subst (AreCalmIn s) (sym m.adds) calm) mine a)
 
 pub ahead_passed : (z : Shape) (b s r n : ℕ) (h : List Event) → ¬ (RowAt z b s r h n) → IsAhead z b s r n h → IsAhead z b s r (n + 1) h
 ahead_passed z b s r n h none a = ⊎_elim

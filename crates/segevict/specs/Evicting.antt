@@ -1,15 +1,16 @@
 -- What an evict answers: how many keys it took out of the segment, each by one entry, and that none stands there then, or whose bucket was in the way.
-use Rattle.std.specs.Prelude.{◌≡◌, ◌≢◌, ◌↔◌, ◌⊎◌, ℕ, ◌+◌, ◌*◌, ◌≤◌, ◌==◌, List, [], ◌∷◌, ◌++◌, length, Some, None, All, count_by}
+use Rattle.std.specs.Prelude.{◌≡◌, ◌≢◌, ◌↔◌, ◌⊎◌, ℕ, List, [], ◌∷◌, ◌++◌, length, Some, None}
 use Rattle.segword.specs.Words.{Shape}
 use Rattle.segmodel.specs.declared.entry.Entry.TheVariants as entry
 use Rattle.segmodel.specs.declared.answer.EvictAnswer.TheVariants as evict
 use Rattle.segmodel.specs.declared.answer.SegState.TheVariants.{InUse, Evicted}
-use Rattle.segmodel.specs.Words.{after, bucket_of, but_for, Entry, EvictAnswer, IsBetween}
+use Rattle.segmodel.specs.Words.{after, but_for, Entry, EvictAnswer, IsBetween}
 use Rattle.segmodel.specs.Words.{NoneStandsIn, StandsIn}
 use Rattle.segbase.specs.declared.pass.Plain.{Plain}
-use Rattle.segbase.specs.Words.{Board, bounced, locked_of, mine, number, Pass, seen, state_of}
-use Rattle.segbase.specs.Words.{taken, used_of, with_current, with_state}
+use Rattle.segbase.specs.Words.{Board, mine, number, Pass, seen, state_of}
+use Rattle.segbase.specs.Words.{used_of, with_current, with_state}
 use Rattle.segpass.specs.Words.{DrawsNothing, GoesOn, memo, ReadsNothing}
+use Rattle.segevict.specs.Tries.{IsInTheWay, TriesFor}
 
 -- each of the entries is an eviction by the pass of a key out of the segment
 abbrev pub AreEvictions : ℕ → ℕ → List Entry → Type 0
@@ -20,13 +21,9 @@ AreEvictions pass segment (added ∷ more) = ((key : List ℕ) × (added ≡ ent
 abbrev pub StoodIn : Shape → ℕ → List ℕ → List Entry → List Entry → Type 0
 StoodIn shape segment key old new = (history : List Entry) × IsBetween old new history × StandsIn (after shape history) key segment
 
--- It tried for bits for at most so many keys, each of which stood in the segment at some moment of the call: for each it took at most one, and found that of the key's bucket set at most 64 times.
-pub record TriesForKeys (shape : Shape) (segment most : ℕ) (p q : Pass) : Type 0 where
-  pub keys : List (List ℕ)
-  pub few : length keys ≤ most
-  pub stood : All (λ key. StoodIn shape segment key (seen p) (seen q)) keys
-  pub taken : taken q ≤ taken p + length keys
-  pub bounced : (bucket : ℕ) → bounced q bucket ≤ bounced p bucket + 64 * count_by (λ key. bucket_of shape key == bucket) keys
+-- it tried for bits for at most so many keys, each of which stood in the segment at some moment of the call
+abbrev pub TriesForKeys : Shape → ℕ → ℕ → Pass → Pass → Type 0
+TriesForKeys shape segment most p q = TriesFor shape (λ key. StoodIn shape segment key (seen p) (seen q)) most p q
 
 -- So many keys were taken out of the segment. It tried for bits for no more keys than the segment has used rows.
 pub record TakesOut (shape : Shape) (segment count : ℕ) (p q : Pass) : Type 0 where
@@ -43,8 +40,7 @@ ended segment plain = with_current (but_for segment plain.current) plain
 
 -- the bucket of a key that stood in the segment is one that the pass itself has locked, or whose bit it found set by another 64 times or more
 abbrev pub IsBarred : Shape → ℕ → Pass → Pass → Type 0
-IsBarred shape segment p q = (key : List ℕ) × StoodIn shape segment key (seen p) (seen q)
-    × ((locked_of p ≡ Some (bucket_of shape key)) ⊎ (bounced p (bucket_of shape key) + 64 ≤ bounced q (bucket_of shape key)))
+IsBarred shape segment p q = IsInTheWay shape (λ key. StoodIn shape segment key (seen p) (seen q)) p q
 
 -- An own segment in use is emptied, or stays in use with what couldn't be taken out; calling again goes on. One that isn't in use has nothing to take out.
 abbrev pub IsEvictAnswer : Shape → ℕ → EvictAnswer → Pass → Pass → Type 0

@@ -1,3 +1,10 @@
 pub mod Evicting
+pub mod Frequencies
+pub mod Keeping
+pub mod KeptRows
+pub mod Moving
+pub mod Relinking
+pub mod Rows
+pub mod Tries
 pub mod Unlinking
 pub mod Words

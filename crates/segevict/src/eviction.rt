@@ -1,21 +1,21 @@
 //! Evictions: the keys that stand in a segment of the pass's own are taken out of it,
 //! one after the other.
-ghost use Rattle.std.specs.Prelude.{◌≡◌, ◌≢◌, ◌<◌, Option, Some};
+ghost use Rattle.std.specs.Prelude.{◌≡◌, ◌≢◌, Some};
 ghost use Rattle.segmodel.specs.declared.answer.SegState.TheVariants.{InUse};
 ghost use Rattle.segmodel.specs.declared.answer.EvictAnswer.TheVariants.{NotYours};
-ghost use Rattle.segmodel.specs.Words.{bucket_of};
 ghost use Rattle.segbase.specs.Words.{current_of, IsPassOf, state_of};
-ghost use Rattle.segstore.specs.Words.{Idles};
 ghost use Rattle.segpass.specs.Words.{DrawsNothing, GoesOn, HasCleanBit, IsQuiet, memo};
 ghost use Rattle.segpass.specs.Words.{ReadsNothing};
 ghost use Rattle.segevict.specs.Evicting.{ended, IsEvictAnswer, EvictsSegment};
-ghost use Rattle.segevict.specs.Unlinking.{IsUsedRow, IsStoredIn, FindsRow, TakesRow, EvictsRow};
+ghost use Rattle.segevict.specs.Rows.{IsUsedRow, IsStoredIn};
+ghost use Rattle.segevict.specs.Unlinking.{TakesRow, EvictsRow};
 
-use segbase::{Board, Pass, Place};
+use crate::row::{find_row, item_of_row};
+use segbase::{Board, Pass};
 use segmodel::{EvictAnswer, SegState};
 use segpass::take_to_write;
-use segword::{Item, bucket_of, hash, same_item, tag_of};
-use segwrite::{Target, clear, next_place};
+use segword::Item;
+use segwrite::clear;
 
 // What became of the key of a row.
 pub(crate) enum RowAnswer {
@@ -96,47 +96,6 @@ fn evict_row(board: &Board, pass: &mut Pass, segment: u32, row: u32) -> RowAnswe
         RowAnswer::Evicted
     } else {
         RowAnswer::Gone
-    }
-}
-
-// The bucket and the item of the key that was stored in a row. The frequency is left open.
-fn item_of_row(board: &Board, pass: &mut Pass, segment: u32, row: u32) -> (u32, Item)
-    requires quiet { IsQuiet board.now pass.old }
-    requires used { IsUsedRow segment row pass.old }
-    ensures idles { Idles board.now pass.old pass.new }
-    ensures place { (result.1.seg ≡ segment) × (result.1.row ≡ row) }
-    ensures bucket { result.0 < board.now.shape.buckets }
-    ensures stored { IsStoredIn board.now result.0 result.1 pass.new }
-{
-    let key = segstore::key_of_row(board, pass, segment, row).unwrap();
-    let hash = hash(&key);
-    let item = Item {
-        tag: tag_of(hash),
-        freq: 0,
-        seg: segment,
-        row,
-    };
-    (bucket_of(hash, board.shape().buckets), item)
-}
-
-// The word of a bucket's chain that names the row of an item, under the bucket's bit or without it.
-fn find_row(board: &Board, pass: &mut Pass, bucket: u32, item: Item) -> Option<Target>
-    requires pass { IsPassOf board.now pass.old }
-    requires stored { IsStoredIn board.now bucket item pass.old }
-    ensures idles { Idles board.now pass.old pass.new }
-    ensures finds { FindsRow board.now bucket item result pass.new }
-{
-    let sought = item.pack();
-    let mut place = Place { bucket, word: 1 };
-    loop {
-        let word = board.look(pass, place);
-        if same_item(word, sought) {
-            return Some(Target { place, word });
-        }
-        match next_place(board, place, word) {
-            Some(next) => place = next,
-            None => return None,
-        }
     }
 }
 

@@ -1,7 +1,10 @@
-//! Evictions: every key that stands in a segment is taken out of it,
-//! each under the bit of its bucket.
+//! What empties a segment: an eviction takes every key out of it, and a keep before it moves
+//! what is read often into another segment, each key under the bit of its bucket.
 #![tactic(auto)]
 
 mod eviction;
+mod retention;
+mod row;
 
 pub use eviction::evict;
+pub use retention::keep;

@@ -4,7 +4,7 @@ use Rattle.std.proofs.lemmas.Option.{same_Some}
 use Rattle.segword.specs.Words.{tag_from_hash}
 use Rattle.segmodel.specs.Words.{bucket_of, tag_of}
 use Rattle.segevict.proofs.StoredRows.{of_row, still_linked, still_own, pair_held}
-use Rattle.segevict.proofs.eviction.item_of_row.Goals as goal
+use Rattle.segevict.proofs.row.item_of_row.Goals as goal
 
 pub key_of_row-requires-clause-readable : goal.key_of_row-requires-clause-readable
 key_of_row-requires-clause-readable c = (of_row c.args.board.now c.args.segment c.args.row c.args.pass.now c.requires.quiet c.requires.used).readable

@@ -3,7 +3,7 @@ use Rattle.std.proofs.lemmas.Bool.{both_ways}
 use Rattle.segword.specs.Words.{IsSameItem}
 use Rattle.segwrite.proofs.Places.{step_idles}
 use Rattle.segevict.proofs.Seeking.{seeking_first, idles_looked, chain_looked, named_here, seeking_on, less_left, gone_at_end}
-use Rattle.segevict.proofs.eviction.find_row.Goals as goal
+use Rattle.segevict.proofs.row.find_row.Goals as goal
 
 pub loop-place-init : goal.loop-place-init
 loop-place-init c = seeking_first c.args.board.now c.args.bucket c.args.item c.args.pass.now c.requires.pass c.requires.stored

@@ -1,7 +1,7 @@
 use Rattle.std.proofs.Common.{◌-◌}
 use Rattle.segbase.specs.Words.{position, trace}
 use Rattle.segevict.proofs.Seeking.{Seeking}
-use Rattle.segevict.proofs.eviction.find_row.Given as goal
+use Rattle.segevict.proofs.row.find_row.Given as goal
 
 abbrev pub decreases-loop-place : goal.decreases-loop-place
 decreases-loop-place l = 32 - position l.board.shape (trace l.pass) l.place

@@ -1,0 +1,244 @@
+-- The item of a row is moved under the bit: it may be, into the pair's copy, and after that no word names the row that it left.
+use Rattle.std.proofs.Common.{◌≡◌, ℕ, ◌+◌, ◌<◌, ◌≤◌, true, false, List, [], ◌∷◌, ◌++◌, Option, Some, None, option_map, refl, sym, ap, ◌∙◌, subst, inl, arith}
+use Rattle.std.proofs.lemmas.Bool.{eq-eqb}
+use Rattle.std.proofs.lemmas.Option.{none-some, same_Some}
+use Rattle.segword.specs.Words.{IsSameItem, Item}
+use Rattle.segmodel.specs.Words.{after, bucket_of, IsSameAt}
+use Rattle.segcore.specs.declared.event.Event.TheVariants.{Relinked}
+use Rattle.segcore.specs.Event as event
+use Rattle.segcore.specs.Words.{acts, bucket_after, cached, Content, Event, Fits, Holds, IsLawful, IsOwnRow, item}
+use Rattle.segcore.specs.Words.{HasBit, NoneAt, NoneBy, row_after, RowGone, Slot, slot}
+use Rattle.segcore.proofs.Caches.{stands, stands_in}
+use Rattle.segcore.proofs.Coherent.{IsStanding}
+use Rattle.segcore.proofs.Quiet.{quiet_row}
+use Rattle.segcore.proofs.Standing.{coherent}
+use Rattle.segbase.specs.declared.pass.Plain.{Plain}
+use Rattle.segbase.specs.Words.{AddsEvents, Board, deadline_of, home_bucket, number, own_segment, OwnSegment}
+use Rattle.segbase.specs.Words.{Pass, Place, position, trace, used_in, used_of, deadline_in, with_own, with_used}
+use Rattle.segbase.proofs.Known.{counted, own_alike, owner_counted}
+use Rattle.segbase.proofs.Moves.{moved_then}
+use Rattle.segbase.proofs.Owned.{moved_still}
+use Rattle.segstore.specs.Words.{fills, Idles, IsReadable, KeepsSegments, StoresRow}
+use Rattle.segstore.proofs.Keeping.{AreCalmIn, calm_in, in_table, keeps_named, keeps_plain, next_is_own}
+use Rattle.segstore.proofs.Keeping.{own_linked, same_used}
+use Rattle.segstore.proofs.Words.{at_place}
+use Rattle.segpass.specs.Words.{HasCleanBit, memo}
+use Rattle.segpass.proofs.UnderBit.{did_acts, moved_at, moved_bucket}
+use Rattle.segwrite.specs.Words.{IsEarlier, IsInChain, IsNextRow, one_more, Target}
+use Rattle.segwrite.proofs.Filling.{fills_calm, fills_nowhere}
+use Rattle.segwrite.proofs.Places.{chain_later, same_position}
+use Rattle.segwrite.proofs.Rising.{earlier_later}
+use Rattle.segevict.specs.Keeping.{IsKeepTarget}
+use Rattle.segevict.specs.Moving.{moves, MovesRow}
+use Rattle.segevict.specs.Relinking.{HasRelinked, relinked, Relinks}
+use Rattle.segevict.specs.Rows.{IsNamedAt, IsStoredIn}
+use Rattle.segevict.proofs.Relinking.{relinked_gone}
+use Rattle.segevict.proofs.Seeking.{stored_over}
+use Rattle.segevict.proofs.Unlinking.{clean_over, named_key}
+
+-- the key, the segment and the row of the item at a place
+abbrev pub slot_of : Content → Slot
+slot_of (item a) = a
+slot_of _ = slot [] 0 0
+
+abbrev pub slot_at : Board → Place → Pass → Slot
+slot_at b place p = slot_of ((bucket_after b.shape (trace p) (home_bucket b.shape (trace p) place)).items (position b.shape (trace p) place))
+
+-- one row more is used where so many were
+one_used : (segment row : ℕ) (x : Plain) → used_in (own_segment x segment) ≡ Some row → with_used segment (row + 1) x ≡ with_own segment one_more x
+one_used segment row x used = own_alike x segment (counted (row + 1)) one_more (same (own_segment x segment) used)
+  where
+    same : (o : Option OwnSegment) → used_in o ≡ Some row → option_map (counted (row + 1)) o ≡ option_map one_more o
+    same None is = refl
+    same (Some own) is = ap (λ n. Some (counted (n + 1) own)) (sym (same_Some own.used row is))
+
+known_deadline : (o : Option OwnSegment) (used : ℕ) → used_in o ≡ Some used → (deadline : ℕ) × (deadline_in o ≡ Some deadline)
+known_deadline None used is = absurd (none-some used is)
+known_deadline (Some own) used is = (own.deadline, refl)
+
+-- two own segments whose deadlines the pass knows as equal have equal ones
+same_deadlines : (b : Board) (p : Pass) (s t used : ℕ) → KeepsSegments b p → used_of p t ≡ Some used → deadline_of p s ≡ deadline_of p t
+    → (after b.shape (event.seen (trace p))).deadline s ≡ (after b.shape (event.seen (trace p))).deadline t
+same_deadlines b p s t used k is same =
+    let d = known_deadline (own_segment p.plain t) used is in
+    k.deadlines s d.0 (same ∙ d.1) ∙ sym (k.deadlines t d.0 d.1)
+
+-- with f the pass after the search under the bit
+module _ (b : Board) (bucket : ℕ) (sought : Item) (into to : ℕ) (p f : Pass) (segments : KeepsSegments b p) (stored : IsStoredIn b bucket sought p) (clean : HasCleanBit b p bucket)
+    (target : IsKeepTarget sought.seg into p) (next : IsNextRow b into to p) (i : Idles b p f) where
+  pub stored_f : IsStoredIn b bucket sought f
+  stored_f = stored_over b bucket sought [] p f i.moved tt stored
+
+  clean_f : HasCleanBit b f bucket
+  clean_f = clean_over b [] p f bucket i.moved tt clean
+
+  segments_f : KeepsSegments b f
+  segments_f = keeps_plain b [] p f i.moved tt i.plain segments
+
+  used_f : used_of f into ≡ Some to
+  used_f = same_used p f into i.plain ∙ next.used
+
+  pub moves_none : RowGone b.shape sought.seg sought.row (trace f) → MovesRow b bucket sought into to false p f
+  moves_none gone = record { moves = (i.moved, i.plain); gone = gone; bit = clean_f; segments = segments_f; memo = i.memo }
+
+  pub own_row : IsOwnRow b.shape (trace f) (number f) into to
+  own_row = next_is_own b f into to i.moved.pass segments_f used_f next.fits
+
+  module _ (t : Target) (n : IsNamedAt b bucket sought t f) where
+    abbrev a : Slot
+    a = n.named.0
+
+    abbrev at : ℕ
+    at = position b.shape (trace f) t.place
+
+    st : IsStanding b.shape (trace f) bucket at a
+    st = (coherent b.shape (trace f) i.moved.pass.lawful).items bucket at a n.named.1
+
+    pub readable : IsReadable b f sought.seg sought.row
+    readable = (in_table b f sought.seg i.moved.pass stored_f.own, subst (λ r. r < b.shape.rows) n.named.2.1 st.within.1, inl stored_f.own)
+
+    -- with c the pass after the copy
+    module _ (c : Pass) (words : List ℕ) (m : StoresRow b into to words f c) (own : IsOwnRow b.shape (trace c) (number c) into to)
+        (holds : (key value : List ℕ) → Holds (row_after (trace f) sought.seg sought.row) key value → Holds (row_after (trace c) into to) key value) (plain : c.plain ≡ f.plain) (same : memo c ≡ memo f) where
+      abbrev written : List Event
+      written = fills (number f) into to words 8
+
+      nowhere : NoneAt b.shape bucket written
+      nowhere = fills_nowhere b.shape bucket (number f) into to words 8
+
+      stored_c : IsStoredIn b bucket sought c
+      stored_c = stored_over b bucket sought written f c m (calm_in sought.seg written (fills_calm (number f) into to words 8)) stored_f
+
+      clean_c : HasCleanBit b c bucket
+      clean_c = clean_over b written f c bucket m nowhere clean_f
+
+      segments_c : KeepsSegments b c
+      segments_c = keeps_plain b written f c m (fills_calm (number f) into to words 8) plain segments_f
+
+      used_c : used_of c into ≡ Some to
+      used_c = same_used f c into plain ∙ used_f
+
+      abbrev pub key : List ℕ
+      key = stored_f.key
+
+      abbrev pub named : Slot
+      named = slot key sought.seg sought.row
+
+      -- the copy leaves the key in its row
+      linked_c : (row_after (trace c) sought.seg sought.row).linked ≡ Some key
+      linked_c = ap (λ h. (row_after h sought.seg sought.row).linked) m.goes_on ∙ (stays ∙ stored_f.linked)
+        where
+          stays : (row_after (m.more ++ trace f) sought.seg sought.row).linked ≡ (row_after (trace f) sought.seg sought.row).linked
+          stays = own_linked b.shape m.more (trace f) (number f) sought.seg sought.row (subst (IsLawful b.shape) m.goes_on m.pass.lawful)
+              (subst (AreCalmIn sought.seg) (sym m.adds) (calm_in sought.seg written (fills_calm (number f) into to words 8))) stored_f.own
+
+      abbrev at_c : ℕ
+      at_c = position b.shape (trace c) t.place
+
+      of_key : a.key ≡ key
+      of_key = named_key b bucket sought f i.moved.pass stored_f t n
+
+      is_named : a ≡ named
+      is_named = λ u. slot (of_key u) (n.named.2.0 u) (n.named.2.1 u)
+
+      here : (bucket_after b.shape (trace c) bucket).items at_c ≡ item named
+      here = (λ u. (moved_bucket b written f c bucket m clean_f.bit nowhere u).items (same_position b written f c bucket t.place m n.chain u)) ∙ (n.named.1 ∙ ap item is_named)
+
+      chain_c : IsInChain b bucket t.place c
+      chain_c = chain_later b written f c bucket t.place m n.chain
+
+      pub slot_is : slot_at b t.place c ≡ named
+      slot_is = ap (λ k. slot_of ((bucket_after b.shape (trace c) k).items at_c)) (at_place b.shape (trace c) bucket at_c t.place chain_c.at.1).0 ∙ ap slot_of here
+
+      earlier_f : IsEarlier b t.place t.word f
+      earlier_f = subst (λ w. IsSameItem t.word w × (t.word ≤ w)) n.reads ((n.same.0, refl, refl), omega arith)
+
+      earlier_c : IsEarlier b t.place t.word c
+      earlier_c = earlier_later b written f c bucket t.place m clean_f.bit nowhere n.chain t.word a i.moved.pass.valid i.moved.pass.lawful n.named.1 earlier_f
+
+      -- what stands under the key
+      standing_f : stands b.shape (event.seen (trace f)) key ≡ Some (cached st.value sought.seg)
+      standing_f = (λ u. stands b.shape (event.seen (trace f)) (sym of_key u)) ∙ (st.stands ∙ ap (λ s. Some (cached st.value s)) n.named.2.0)
+
+      still : IsSameAt b.shape (after b.shape (event.seen (trace f))) (after b.shape (event.seen (trace c))) key
+      still = moved_at b written f c key m (subst (λ k. HasBit b.shape (trace f) (number f) k) stored_f.home clean_f.bit) (subst (λ k. NoneAt b.shape k written) stored_f.home nowhere)
+
+      standing_c : stands b.shape (event.seen (trace c)) key ≡ Some (cached st.value sought.seg)
+      standing_c = still.stands ∙ standing_f
+
+      copied : Holds (row_after (trace c) into to) key st.value
+      copied = holds key st.value (subst (λ s. Holds (row_after (trace f) s sought.row) key st.value) n.named.2.0
+          (subst (λ r. Holds (row_after (trace f) a.segment r) key st.value) n.named.2.1 (subst (λ k. Holds (row_after (trace f) a.segment a.row) k st.value) of_key st.holds)))
+
+      fits : Fits b.shape (trace c) (relinked named into to at_c (number c))
+      fits = record {
+        guarded = subst (HasBit b.shape (trace c) (number c)) stored_f.home clean_c.bit;
+        follows = (
+          stands_in b.shape (event.seen (trace c)) key sought.seg (st.value, standing_c),
+          stored_c.own,
+          own.2,
+          target.other,
+          same_deadlines b c sought.seg into to segments_c used_c
+              (ap (λ (x : Plain). deadline_in (own_segment x sought.seg)) (plain ∙ i.plain) ∙ (target.deadlines ∙ sym (ap (λ (x : Plain). deadline_in (own_segment x into)) (plain ∙ i.plain)))),
+        );
+        suits = (own, (st.value, standing_c, copied), subst (λ k. (bucket_after b.shape (trace c) k).items at_c ≡ item named) stored_f.home here);
+      }
+
+      pub may_move : Relinks b named into to t.place t.word c
+      may_move = record {
+        bit = subst (HasBit b.shape (trace c) (number c)) stored_f.home clean_c.bit;
+        fits = fits;
+        chain = subst (λ k. IsInChain b k t.place c) stored_f.home chain_c;
+        earlier = earlier_c;
+      }
+
+      -- with r the pass after the exchange, and its new row counted as used
+      module _ (r : Pass) (done : HasRelinked b named into to t.place c r) where
+        abbrev e : Event
+        e = relinked named into to at_c (number c)
+
+        abbrev final : Pass
+        final = record r { plain = with_used into (to + 1) r.plain }
+
+        abbrev old : List Event
+        old = done.did.others ++ trace c
+
+        lawful : IsLawful b.shape (e ∷ old)
+        lawful = subst (IsLawful b.shape) done.did.now done.did.moved.pass.lawful
+
+        linked_old : (row_after old sought.seg sought.row).linked ≡ Some key
+        linked_old = ap (λ u. u.linked) (quiet_row b.shape done.did.others (trace c) sought.seg sought.row done.did.before (subst (λ k. NoneBy k done.did.others) (sym stored_c.own) done.did.none)) ∙ linked_c
+
+        gone_now : RowGone b.shape sought.seg sought.row (trace r)
+        gone_now = subst (RowGone b.shape sought.seg sought.row) (sym done.did.now) (relinked_gone b.shape old (number c) named into to at_c lawful linked_old)
+
+        bucket_now : bucket_after b.shape (trace r) bucket ≡ acts e (bucket_after b.shape (trace c) bucket)
+        bucket_now = did_acts b e c r bucket done.did (eq-eqb (bucket_of b.shape key) bucket (sym stored_f.home)) clean_c.bit
+
+        events : AddsEvents b (moves (number p) key sought.seg sought.row into to at_c words) p r
+        unfolding fills
+        events = subst (λ k. AddsEvents b (moves k key sought.seg sought.row into to at_c words) p r) i.moved.same
+            (subst (λ k. AddsEvents b (Relinked k key sought.seg sought.row into to at_c ∷ written) p r) m.same
+            (moved_then b [] (e ∷ written) p f r i.moved (moved_then b written (e ∷ []) f c r m done.did.moved)))
+
+        pub moves_one : MovesRow b bucket sought into to true p final
+        moves_one = record {
+          moves = (
+            key,
+            at_c,
+            words,
+            stored_f.home,
+            sym (ap (λ h. (row_after h sought.seg sought.row).linked) i.moved.goes_on ∙ own_linked b.shape i.moved.more (trace p) (number p) sought.seg sought.row
+                (subst (IsLawful b.shape) i.moved.goes_on i.moved.pass.lawful) (subst (AreCalmIn sought.seg) (sym i.moved.adds) tt) stored.own) ∙ stored_f.linked,
+            moved_still b (moves (number p) key sought.seg sought.row into to at_c words) p r final.plain events (owner_counted r.plain into (to + 1)),
+            one_used into to r.plain (same_used c r into done.plain ∙ used_c) ∙ ap (with_own into one_more) (done.plain ∙ (plain ∙ i.plain)),
+          );
+          gone = gone_now;
+          bit = record {
+            bit = (clean_c.bit.0, ap (λ u. u.holder) bucket_now ∙ (clean_c.bit.1 ∙ ap Some (sym done.did.moved.same)));
+            unwritten = ap (λ u. u.written) bucket_now ∙ clean_c.unwritten;
+            undrawn = ap (λ u. u.spare) bucket_now ∙ clean_c.undrawn;
+          };
+          segments = keeps_named b e c r into to (refl, refl) done.did done.plain (ap (λ (x : Plain). x.current) (plain ∙ i.plain) ∙ next.current) used_c next.fits m.pass segments_c;
+          memo = done.memo ∙ (same ∙ i.memo);
+        }

@@ -1,0 +1,27 @@
+-- The frequency of a key's item in a segment, at a moment of a call.
+use Rattle.std.specs.Prelude.{◌≡◌, ℕ, ◌<◌, ◌≤◌, List, Some}
+use Rattle.segword.specs.Words.{Shape}
+use Rattle.segmodel.specs.Words.{after, Begins, StandsIn}
+use Rattle.segcore.specs.Words.{entries, frequency_in, last_at, Mark, slot}
+use Rattle.segbase.specs.Words.{marked, Pass}
+
+-- at a moment between these two the key stood in the segment, and its item, which named this row, had a frequency of which this is so
+pub record HadFrequency (shape : Shape) (segment : ℕ) (IsSo : ℕ → Type 0) (old new : List Mark) (key : List ℕ) : Type 0 where
+  pub moment : List Mark
+  pub from : Begins old moment
+  pub to : Begins moment new
+  pub row : ℕ
+  pub stood : StandsIn (after shape (entries moment)) key segment
+  pub last : last_at moment key ≡ Some (slot key segment row)
+  pub is : IsSo (frequency_in moment segment row)
+
+-- at a moment of the call the key's item was in the segment, and its frequency was the cutoff or over it, or below the cutoff
+abbrev pub WasOften : Shape → ℕ → ℕ → Pass → Pass → List ℕ → Type 0
+WasOften shape segment cutoff p q = HadFrequency shape segment (λ frequency. cutoff ≤ frequency) (marked p) (marked q)
+
+abbrev pub WasSeldom : Shape → ℕ → ℕ → Pass → Pass → List ℕ → Type 0
+WasSeldom shape segment cutoff p q = HadFrequency shape segment (λ frequency. frequency < cutoff) (marked p) (marked q)
+
+-- so it is at the return: the key's item is in the segment, and its frequency is the cutoff or over it
+abbrev pub IsOften : Shape → ℕ → ℕ → Pass → List ℕ → Type 0
+IsOften shape segment cutoff q = HadFrequency shape segment (λ frequency. cutoff ≤ frequency) (marked q) (marked q)

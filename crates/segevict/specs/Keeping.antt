@@ -1,0 +1,82 @@
+-- What a keep answers: how many items it moved into the current segment, each by one entry; that what is left was below the cutoff; and what was in the way.
+use Rattle.std.specs.Prelude.{◌≡◌, ◌≢◌, ◌↔◌, ◌⊎◌, ℕ, ◌+◌, List, [], ◌∷◌, ◌++◌, length, true, false, Some, None}
+use Rattle.segword.specs.Words.{Shape}
+use Rattle.segmodel.specs.declared.entry.Entry.TheVariants as entry
+use Rattle.segmodel.specs.declared.answer.KeepAnswer.{KeepAnswer}
+use Rattle.segmodel.specs.declared.answer.KeepAnswer.TheVariants as keep
+use Rattle.segmodel.specs.declared.answer.SegState.TheVariants.{InUse}
+use Rattle.segmodel.specs.Words.{after, Entry, StandsIn}
+use Rattle.segbase.specs.Words.{Board, current_of, deadline_of, is_holding_of, locked_of, mine, number}
+use Rattle.segbase.specs.Words.{Pass, seen, state_of, used_of}
+use Rattle.segstore.specs.Words.{has_room}
+use Rattle.segpass.specs.Words.{DrawsNothing, GoesOn, memo, ReadsNothing}
+use Rattle.segevict.specs.Frequencies.{IsOften, WasOften, WasSeldom}
+use Rattle.segevict.specs.Moving.{GoesInOrder}
+use Rattle.segevict.specs.Tries.{IsInTheWay, TriesFor}
+
+-- ---- where it goes
+
+-- items of the segment can be moved into this one: it is current, another one than the first, and has the same deadline
+pub record IsKeepTarget (segment into : ℕ) (p : Pass) : Type 0 where
+  pub current : current_of p ≡ Some into
+  pub other : segment ≢ into
+  pub deadlines : deadline_of p segment ≡ deadline_of p into
+
+-- ---- what is moved
+
+-- each of the entries is a move by the pass from the segment into the other one, of a key of which this is so
+abbrev pub AreMoves : ℕ → ℕ → ℕ → (List ℕ → Type 0) → List Entry → Type 0
+AreMoves pass segment into IsSo [] = Unit {0}
+AreMoves pass segment into IsSo (added ∷ more) = ((key : List ℕ) × (added ≡ entry.Moved pass key segment into) × IsSo key) × AreMoves pass segment into IsSo more
+
+-- so many more rows of the segment are used, and nothing else of what the pass keeps of its segments, its lock and its hold is changed
+pub record UsesRows (into count : ℕ) (p q : Pass) : Type 0 where
+  pub used : (used : ℕ) → used_of p into ≡ Some used → used_of q into ≡ Some (used + count)
+  pub others : (other : ℕ) → other ≢ into → used_of q other ≡ used_of p other
+  pub states : (segment : ℕ) → state_of q segment ≡ state_of p segment
+  pub deadlines : (segment : ℕ) → deadline_of q segment ≡ deadline_of p segment
+  pub current : current_of q ≡ current_of p
+  pub locked : locked_of q ≡ locked_of p
+  pub holds : is_holding_of q ≡ is_holding_of p
+  pub memo : memo q ≡ memo p
+
+-- So many items were moved, each by one entry and into a row of its own, and each of a frequency that was the cutoff or over it at a moment of the call. The call tried for the bits of such keys alone, and for no more than the segment has used rows.
+pub record MovesItems (shape : Shape) (segment into cutoff count : ℕ) (p q : Pass) : Type 0 where
+  pub moves : List Entry
+  pub counted : length moves ≡ count
+  pub all : AreMoves (number p) segment into (WasOften shape segment cutoff p q) moves
+  pub entries : mine q ≡ moves ++ mine p
+  pub uses : UsesRows into count p q
+  pub tries : (rows : ℕ) → used_of p segment ≡ Some rows → TriesFor shape (WasOften shape segment cutoff p q) rows p q
+
+-- each key that stands in the segment then was below the cutoff at a moment of the call
+abbrev pub AreSeldom : Shape → ℕ → ℕ → Pass → Pass → Type 0
+AreSeldom shape segment cutoff p q = (key : List ℕ) → StandsIn (after shape (seen q)) key segment → WasSeldom shape segment cutoff p q key
+
+-- ---- the answer
+
+-- so many were moved from a segment in use into the current one
+abbrev pub MovesAway : Shape → ℕ → ℕ → ℕ → Pass → Pass → Type 0
+MovesAway shape segment cutoff count p q =
+    (state_of p segment ≡ Some InUse) × ((into : ℕ) × IsKeepTarget segment into p × MovesItems shape segment into cutoff count p q)
+
+-- Each key that still stands in the segment was below the cutoff at a moment of the call; a segment that isn't in use has nothing to move. Or there is no segment to move into; or no row of it is left, and an item of the cutoff's frequency or a higher one is still in the old one; or a bucket was in the way of one that had a row. What was moved stays so, and calling again goes on.
+abbrev pub IsKeepAnswer : Shape → ℕ → ℕ → KeepAnswer → Pass → Pass → Type 0
+IsKeepAnswer shape segment cutoff (keep.Kept count) p q =
+    (MovesAway shape segment cutoff count p q × AreSeldom shape segment cutoff p q)
+    ⊎ ((state_of p segment ≢ Some InUse) × (count ≡ 0) × (q ≡ p))
+IsKeepAnswer shape segment cutoff keep.NotYours p q = q ≡ p
+IsKeepAnswer shape segment cutoff (keep.NoRoom count) p q =
+    ((state_of p segment ≡ Some InUse) × ((into : ℕ) → ¬ (IsKeepTarget segment into p)) × (count ≡ 0) × (q ≡ p))
+    ⊎ (MovesAway shape segment cutoff count p q × (has_room shape q ≡ false) × ((key : List ℕ) × IsOften shape segment cutoff q key))
+IsKeepAnswer shape segment cutoff (keep.Busy count) p q =
+    MovesAway shape segment cutoff count p q × (has_room shape q ≡ true) × IsInTheWay shape (WasOften shape segment cutoff p q) p q
+
+-- A keep is answered so: NotYours exactly if the segment isn't one of the pass's own. The segment's rows are gone over in their order. The pass draws no overflow bucket, and does nothing of what readers do.
+pub record KeepsItems (b : Board) (segment cutoff : ℕ) (told : KeepAnswer) (p q : Pass) : Type 0 where
+  pub on : GoesOn b p q
+  pub answer : IsKeepAnswer b.shape segment cutoff told p q
+  pub not_yours : (told ≡ keep.NotYours) ↔ (state_of p segment ≡ None)
+  pub order : (into : ℕ) → state_of p segment ≡ Some InUse → IsKeepTarget segment into p → GoesInOrder b segment into cutoff told p q
+  pub draws_nothing : DrawsNothing p q
+  pub reads_nothing : ReadsNothing p q

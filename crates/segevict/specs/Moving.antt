@@ -1,0 +1,103 @@
+-- How the items of a segment's rows move into another one, row after row.
+use Rattle.std.specs.Prelude.{◌≡◌, ◌⊎◌, ℕ, zero, suc, ◌+◌, ◌<◌, ◌≤◌, false, List, [], ◌∷◌, ◌++◌, Some, Bool, true}
+use Rattle.segmodel.specs.declared.answer.KeepAnswer.{KeepAnswer}
+use Rattle.segmodel.specs.declared.answer.KeepAnswer.TheVariants as keep
+use Rattle.segmodel.specs.declared.entry.Entry.TheVariants as entry
+use Rattle.segmodel.specs.Words.{bucket_of}
+use Rattle.segcore.specs.declared.event.Event.TheVariants.{Freed, Relinked, Took}
+use Rattle.segcore.specs.Words.{bucket_after, Event, frequency_of, item, row_after, RowGone, slot}
+use Rattle.segword.specs.Words.{Item}
+use Rattle.segbase.specs.Words.{AddsEvents, Board, number, Pass, trace, used_of, with_own}
+use Rattle.segstore.specs.Words.{fills, has_room, Idles, KeepsSegments}
+use Rattle.segpass.specs.Words.{AddsEntry, bounces, ChangesNothing, DrawsNothing, GoesOn, HasCleanBit}
+use Rattle.segpass.specs.Words.{IsBusy, memo, ReadsNothing}
+use Rattle.segwrite.specs.Words.{one_more}
+use Rattle.segevict.specs.declared.retention.KeptRow.{KeptRow}
+use Rattle.segevict.specs.declared.retention.KeptRow.TheVariants as kept
+use Rattle.segevict.specs.Frequencies.{WasOften}
+use Rattle.segevict.specs.Tries.{TriesFor}
+
+-- ---- what is seen of a row without the bit
+
+-- By looks alone the pass saw that a word names the row, for the key that was stored or moved there, and that its item has a frequency of which this is so.
+pub record SeesRow (b : Board) (segment row : ℕ) (IsSo : ℕ → Type 0) (p q : Pass) : Type 0 where
+  pub idles : Idles b p q
+  pub key : List ℕ
+  pub linked : (row_after (trace q) segment row).linked ≡ Some key
+  pub position : ℕ
+  pub named : (bucket_after b.shape (trace q) (bucket_of b.shape key)).items position ≡ item (slot key segment row)
+  pub is : IsSo (frequency_of (trace q) segment row)
+
+-- ---- what is done under it
+
+-- the bit of the bucket was taken after so many tries that found it set, this was done under it, and it was given back
+abbrev pub under_bit : ℕ → ℕ → ℕ → List Event → List Event
+under_bit pass bucket times own = Freed pass bucket false ∷ (own ++ (Took pass bucket ∷ bounces pass bucket times))
+
+-- the row of the other segment was written, and the item of the key came to name it
+abbrev pub moves : ℕ → List ℕ → ℕ → ℕ → ℕ → ℕ → ℕ → List ℕ → List Event
+moves pass key segment row into to position words = Relinked pass key segment row into to position ∷ fills pass into to words 8
+
+-- under the bit: the item was moved into this row, which is counted as used; or nothing was done
+abbrev pub MovesItem : Board → ℕ → Item → ℕ → ℕ → Bool → Pass → Pass → Type 0
+MovesItem b bucket sought into to true p q = (key : List ℕ) × (position : ℕ) × (words : List ℕ) × (bucket ≡ bucket_of b.shape key)
+    × ((row_after (trace p) sought.seg sought.row).linked ≡ Some key)
+    × AddsEvents b (moves (number p) key sought.seg sought.row into to position words) p q × (q.plain ≡ with_own into one_more p.plain)
+MovesItem b bucket sought into to false p q = AddsEvents b [] p q × (q.plain ≡ p.plain)
+
+-- So it was. Then no word names the row, and the pass still has the bit.
+pub record MovesRow (b : Board) (bucket : ℕ) (sought : Item) (into to : ℕ) (told : Bool) (p q : Pass) : Type 0 where
+  pub moves : MovesItem b bucket sought into to told p q
+  pub gone : RowGone b.shape sought.seg sought.row (trace q)
+  pub bit : HasCleanBit b q bucket
+  pub segments : KeepsSegments b q
+  pub memo : memo q ≡ memo p
+
+-- ---- a row
+
+-- The row's item is moved. Or the row is passed over: no word names it, its item is below the cutoff, or under the bit no word names it any more. Or there is no row left for the item, or its bucket's bit can't be had.
+abbrev pub IsKeptRow : Board → ℕ → ℕ → ℕ → ℕ → KeptRow → Pass → Pass → Type 0
+IsKeptRow b segment row into cutoff kept.Moved p q = (f : Pass) × (s : SeesRow b segment row (λ frequency. cutoff ≤ frequency) p f)
+    × GoesOn b f q × (to : ℕ) × (times : ℕ) × (position : ℕ) × (words : List ℕ) × (used_of p into ≡ Some to) × (to < b.shape.rows)
+    × AddsEvents b (under_bit (number f) (bucket_of b.shape s.key) times (moves (number f) s.key segment row into to position words)) f q
+    × AddsEntry (entry.Moved (number p) s.key segment into) p q × (q.plain ≡ with_own into one_more p.plain) × RowGone b.shape segment row (trace q)
+    × (times < 64)
+IsKeptRow b segment row into cutoff kept.Left p q =
+    (Idles b p q × RowGone b.shape segment row (trace q))
+    ⊎ SeesRow b segment row (λ frequency. frequency < cutoff) p q
+    ⊎ ((f : Pass) × (s : SeesRow b segment row (λ frequency. cutoff ≤ frequency) p f) × (times : ℕ)
+    × AddsEvents b (under_bit (number f) (bucket_of b.shape s.key) times []) f q × ChangesNothing p q × RowGone b.shape segment row (trace q)
+    × (times < 64) × (has_room b.shape p ≡ true))
+IsKeptRow b segment row into cutoff kept.NoRoom p q = SeesRow b segment row (λ frequency. cutoff ≤ frequency) p q × (has_room b.shape p ≡ false)
+IsKeptRow b segment row into cutoff kept.Busy p q = (f : Pass) × (s : SeesRow b segment row (λ frequency. cutoff ≤ frequency) p f)
+    × GoesOn b f q × (has_room b.shape p ≡ true) × ChangesNothing f q × IsBusy (bucket_of b.shape s.key) f q
+
+-- The row of a segment is gone over. The pass tries for the bit only if the row's item had the cutoff's frequency or a higher one.
+pub record KeepsRow (b : Board) (segment row into cutoff : ℕ) (told : KeptRow) (p q : Pass) : Type 0 where
+  pub on : GoesOn b p q
+  pub memo : memo q ≡ memo p
+  pub draws_nothing : DrawsNothing p q
+  pub reads_nothing : ReadsNothing p q
+  pub tries : TriesFor b.shape (WasOften b.shape segment cutoff p q) 1 p q
+  pub answer : IsKeptRow b segment row into cutoff told p q
+
+-- ---- rows in their order
+
+-- the first rows were gone over, and so many of their items moved
+abbrev pub GoesOver : Board → ℕ → ℕ → ℕ → ℕ → ℕ → Pass → Pass → Type 0
+GoesOver b segment into cutoff zero count p q = (count ≡ 0) × (q ≡ p)
+GoesOver b segment into cutoff (suc row) count p q = (middle : Pass) × (
+    ((before : ℕ) × (count ≡ before + 1) × GoesOver b segment into cutoff row before p middle × KeepsRow b segment row into cutoff kept.Moved middle q)
+    ⊎ (GoesOver b segment into cutoff row count p middle × KeepsRow b segment row into cutoff kept.Left middle q))
+
+-- the rows before one were gone over, and that one was answered so
+abbrev pub StopsAt : Board → ℕ → ℕ → ℕ → KeptRow → ℕ → Pass → Pass → Type 0
+StopsAt b segment into cutoff told count p q = (row : ℕ) × (used : ℕ) × (used_of p segment ≡ Some used) × (row < used)
+    × (middle : Pass) × GoesOver b segment into cutoff row count p middle × KeepsRow b segment row into cutoff told middle q
+
+-- all used rows of the segment are gone over, or those up to one that stops it
+abbrev pub GoesInOrder : Board → ℕ → ℕ → ℕ → KeepAnswer → Pass → Pass → Type 0
+GoesInOrder b segment into cutoff (keep.Kept count) p q = (used : ℕ) × (used_of p segment ≡ Some used) × GoesOver b segment into cutoff used count p q
+GoesInOrder b segment into cutoff (keep.NoRoom count) p q = StopsAt b segment into cutoff kept.NoRoom count p q
+GoesInOrder b segment into cutoff (keep.Busy count) p q = StopsAt b segment into cutoff kept.Busy count p q
+GoesInOrder b segment into cutoff keep.NotYours p q = ⊥

@@ -1,0 +1,43 @@
+-- The rows of a segment of the pass's own, each with the word of a chain that names it.
+use Rattle.std.specs.Prelude.{◌≡◌, ℕ, ◌<◌, List, Option, Some, MatchOption}
+use Rattle.segword.specs.Words.{IsSameItem, Item, item_word}
+use Rattle.segmodel.specs.Words.{Begins, bucket_of, owner, tag_of}
+use Rattle.segcore.specs.Words.{row_after, RowAt, RowGone, word}
+use Rattle.segbase.specs.Words.{Board, cell_at, number, Pass, position, trace}
+use Rattle.segbase.specs.Words.{used_of}
+use Rattle.segwrite.specs.Words.{IsInChain, Target}
+
+-- ---- rows
+
+-- the row is one of those of the pass's segment that are used
+abbrev pub IsUsedRow : ℕ → ℕ → Pass → Type 0
+IsUsedRow segment row p = (used : ℕ) × (used_of p segment ≡ Some used) × (row < used)
+
+-- the item, its frequency aside, is that of a key that was stored in a row of the pass's own in this filling; the bucket is that of the key
+pub record IsStoredIn (b : Board) (bucket : ℕ) (item : Item) (p : Pass) : Type 0 where
+  pub key : List ℕ
+  pub own : owner b.shape item.seg ≡ number p
+  pub linked : (row_after (trace p) item.seg item.row).linked ≡ Some key
+  pub home : bucket ≡ bucket_of b.shape key
+  pub tag : item.tag ≡ tag_of key
+
+-- ---- the word that names a row
+
+-- the place has a word of the bucket's chain, which names the row of the item now
+pub record IsNamedAt (b : Board) (bucket : ℕ) (item : Item) (target : Target) (p : Pass) : Type 0 where
+  pub chain : IsInChain b bucket target.place p
+  pub named : RowAt b.shape bucket item.seg item.row (trace p) (position b.shape (trace p) target.place)
+  pub reads : target.word ≡ word b.shape (trace p) (cell_at b.shape target.place)
+  pub same : IsSameItem target.word (item_word item)
+
+-- it is found, or no word names the row
+abbrev pub FindsRow : Board → ℕ → Item → Option Target → Pass → Type 0
+FindsRow b bucket item found p = MatchOption found (RowGone b.shape item.seg item.row (trace p)) (λ target. IsNamedAt b bucket item target p)
+
+-- ---- a walk
+
+-- what the pass has seen only grew, the rows of the segment have the keys that were stored in them, and those that were gone stay gone
+pub record KeepsGone (b : Board) (segment : ℕ) (p q : Pass) : Type 0 where
+  pub grew : Begins (trace p) (trace q)
+  pub linked : (row : ℕ) → (row_after (trace q) segment row).linked ≡ (row_after (trace p) segment row).linked
+  pub lasts : (row : ℕ) → RowGone b.shape segment row (trace p) → RowGone b.shape segment row (trace q)

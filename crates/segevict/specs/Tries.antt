@@ -1,0 +1,18 @@
+-- For which keys a walk over the rows of a segment tried for bits, and which bucket was in its way.
+use Rattle.std.specs.Prelude.{◌≡◌, ◌⊎◌, ℕ, ◌+◌, ◌*◌, ◌≤◌, ◌==◌, List, length, Some, All, count_by}
+use Rattle.segword.specs.Words.{Shape}
+use Rattle.segmodel.specs.Words.{bucket_of}
+use Rattle.segbase.specs.Words.{bounced, locked_of, Pass, taken}
+
+-- It tried for bits for at most so many keys, of each of which this is so: for each it took at most one, and found that of the key's bucket set at most 64 times.
+pub record TriesFor (shape : Shape) (IsSo : List ℕ → Type 0) (most : ℕ) (p q : Pass) : Type 0 where
+  pub keys : List (List ℕ)
+  pub few : length keys ≤ most
+  pub stood : All IsSo keys
+  pub taken : taken q ≤ taken p + length keys
+  pub bounced : (bucket : ℕ) → bounced q bucket ≤ bounced p bucket + 64 * count_by (λ key. bucket_of shape key == bucket) keys
+
+-- the bucket of a key of which this is so is one that the pass itself has locked, or whose bit it found set by another 64 times or more
+abbrev pub IsInTheWay : Shape → (List ℕ → Type 0) → Pass → Pass → Type 0
+IsInTheWay shape IsSo p q = (key : List ℕ) × IsSo key
+    × ((locked_of p ≡ Some (bucket_of shape key)) ⊎ (bounced p (bucket_of shape key) + 64 ≤ bounced q (bucket_of shape key)))

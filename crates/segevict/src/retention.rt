@@ -1,0 +1,178 @@
+//! Items kept over an eviction to come: those of a segment that were read often
+//! are moved into the segment that the pass stores into.
+ghost use Rattle.std.specs.Prelude.{◌≡◌, ℕ, MatchOption, Some};
+ghost use Rattle.segmodel.specs.declared.answer.SegState.TheVariants.{InUse};
+ghost use Rattle.segcore.specs.Words.{Slot};
+ghost use Rattle.segbase.specs.Words.{IsPassOf, state_of};
+ghost use Rattle.segstore.specs.Words.{KeepsSegments};
+ghost use Rattle.segpass.specs.Words.{HasCleanBit, IsQuiet};
+ghost use Rattle.segwrite.specs.Words.{IsNextRow};
+ghost use Rattle.segevict.specs.Keeping.{IsKeepTarget, KeepsItems};
+ghost use Rattle.segevict.specs.Moving.{KeepsRow, MovesRow};
+ghost use Rattle.segevict.specs.Relinking.{HasRelinked, Relinks, TriesToRelink};
+ghost use Rattle.segevict.specs.Rows.{IsUsedRow, IsStoredIn};
+
+use crate::row::{find_row, item_of_row};
+use segbase::{Board, Pass, Place};
+use segmodel::{KeepAnswer, SegState};
+use segpass::take_to_write;
+use segstore::{copy_row, next_row};
+use segword::Item;
+use segwrite::Target;
+
+// What became of the item of a row.
+pub(crate) enum KeptRow {
+    // It was moved.
+    Moved,
+    // It was read too seldom, or doesn't stand there any more.
+    Left,
+    // The segment to move into has no row left.
+    NoRoom,
+    // The bit of its bucket was found set at each try, or the pass itself has the bucket locked.
+    Busy,
+}
+
+/// Moves the items of a segment of the pass's own whose frequency is the cutoff or over it
+/// into its current segment. If no other segment with the same deadline is current,
+/// the answer is NoRoom(0). If the answer is NoRoom or Busy, what was moved stays moved,
+/// and another keep goes on.
+pub fn keep(board: &Board, pass: &mut Pass, segment: u32, cutoff: u8) -> KeepAnswer
+    requires quiet { IsQuiet board.now pass.old }
+    ensures keeps { KeepsItems board.now segment cutoff result pass.old pass.new }
+{
+    let Some(state) = pass.state(segment) else {
+        return KeepAnswer::NotYours;
+    };
+    if state != SegState::InUse {
+        return KeepAnswer::Kept(0);
+    }
+    match keep_target(pass, segment) {
+        Some(into) => keep_rows(board, pass, segment, into, cutoff),
+        None => KeepAnswer::NoRoom(0),
+    }
+}
+
+// The current segment, if items of this one can be moved into it.
+fn keep_target(pass: &Pass, segment: u32) -> Option<u32>
+    ensures target { MatchOption result ((into : ℕ) → ¬ (IsKeepTarget segment into pass.now))
+        (λ into. IsKeepTarget segment into pass.now) }
+{
+    let into = pass.current()?;
+    let is_target = into != segment && pass.deadline(into) == pass.deadline(segment);
+    is_target.then_some(into)
+}
+
+// Moves the items of the rows of a segment, row after row.
+fn keep_rows(board: &Board, pass: &mut Pass, segment: u32, into: u32, cutoff: u8) -> KeepAnswer
+    requires quiet { IsQuiet board.now pass.old }
+    requires in_use { state_of pass.old segment ≡ Some InUse }
+    requires target { IsKeepTarget segment into pass.old }
+    ensures keeps { KeepsItems board.now segment cutoff result pass.old pass.new }
+{
+    let used = pass.used(segment).unwrap();
+    let mut kept = 0;
+    for row in 0..used {
+        match keep_row(board, pass, segment, row, into, cutoff) {
+            KeptRow::Moved => kept += 1,
+            KeptRow::Left => {}
+            KeptRow::NoRoom => return KeepAnswer::NoRoom(kept),
+            KeptRow::Busy => return KeepAnswer::Busy(kept),
+        }
+    }
+    KeepAnswer::Kept(kept)
+}
+
+// Moves the item of a row, if it was read often enough. Its bucket's bit is taken only then.
+fn keep_row(
+    board: &Board,
+    pass: &mut Pass,
+    segment: u32,
+    row: u32,
+    into: u32,
+    cutoff: u8,
+) -> KeptRow
+    requires quiet { IsQuiet board.now pass.old }
+    requires used { IsUsedRow segment row pass.old }
+    requires target { IsKeepTarget segment into pass.old }
+    ensures keeps { KeepsRow board.now segment row into cutoff result pass.old pass.new }
+{
+    let (bucket, item) = item_of_row(board, pass, segment, row);
+    let Some(seen) = find_row(board, pass, bucket, item) else {
+        return KeptRow::Left;
+    };
+    if Item::unpack(seen.word).unwrap().freq < cutoff {
+        return KeptRow::Left;
+    }
+    let Ok((_, to)) = next_row(board, pass) else {
+        return KeptRow::NoRoom;
+    };
+    if !take_to_write(board, pass, bucket) {
+        return KeptRow::Busy;
+    }
+    let is_moved = move_row(board, pass, bucket, item, into, to);
+    board.release(pass, bucket, false);
+    if is_moved {
+        KeptRow::Moved
+    } else {
+        KeptRow::Left
+    }
+}
+
+// Moves the item of a row into this row of another segment, under the bit of its bucket.
+// It is false where no word names the row any more.
+fn move_row(board: &Board, pass: &mut Pass, bucket: u32, item: Item, into: u32, to: u32) -> bool
+    requires pass { IsPassOf board.now pass.old }
+    requires segments { KeepsSegments board.now pass.old }
+    requires stored { IsStoredIn board.now bucket item pass.old }
+    requires bit { HasCleanBit board.now pass.old bucket }
+    requires target { IsKeepTarget item.seg into pass.old }
+    requires next { IsNextRow board.now into to pass.old }
+    ensures moves { MovesRow board.now bucket item into to result pass.old pass.new }
+{
+    let Some(target) = find_row(board, pass, bucket, item) else {
+        return false;
+    };
+    copy_row(board, pass, item.seg, item.row, into, to);
+    relink(board, pass, target, into, to);
+    pass.set_used(into, to + 1);
+    true
+}
+
+// Lets the item of a word name another row, under the bit of its bucket.
+// Its frequency may rise, and the exchange is tried again with the higher one.
+fn relink(board: &Board, pass: &mut Pass, target: Target, into: u32, to: u32)
+    ghost named: { Slot }
+    requires pass { IsPassOf board.now pass.old }
+    requires relinks { Relinks board.now named into to target.place target.word pass.old }
+    ensures relinks { HasRelinked board.now named into to target.place pass.old pass.new }
+{
+    let mut old = target.word;
+    while let Err(found) = try_to_relink(board, pass, target.place, old, into, to) {
+        old = found;
+    }
+}
+
+// Lets the item of a place name another row where this word still stands.
+// `Err` has the word that does.
+fn try_to_relink(
+    board: &Board,
+    pass: &mut Pass,
+    place: Place,
+    word: u64,
+    into: u32,
+    to: u32,
+) -> Result<(), u64>
+    ghost named: { Slot }
+    requires pass { IsPassOf board.now pass.old }
+    requires relinks { Relinks board.now named into to place word pass.old }
+    ensures tries { TriesToRelink board.now named into to place word result pass.old pass.new }
+{
+    let seen = Item::unpack(word).unwrap();
+    let item = Item {
+        tag: seen.tag,
+        freq: seen.freq,
+        seg: into,
+        row: to,
+    };
+    board.move_item(pass, place, word, item)
+}

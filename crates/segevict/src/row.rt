@@ -1,0 +1,51 @@
+//! Rows of a segment of the pass's own: whose key was stored there, and which word names them.
+ghost use Rattle.std.specs.Prelude.{◌≡◌, ◌<◌, Option};
+ghost use Rattle.segbase.specs.Words.{IsPassOf};
+ghost use Rattle.segstore.specs.Words.{Idles};
+ghost use Rattle.segpass.specs.Words.{IsQuiet};
+ghost use Rattle.segevict.specs.Rows.{IsUsedRow, IsStoredIn, FindsRow};
+
+use segbase::{Board, Pass, Place};
+use segword::{Item, bucket_of, hash, same_item, tag_of};
+use segwrite::{Target, next_place};
+
+// The bucket and the item of the key that was stored in a row. The frequency is left open.
+pub(crate) fn item_of_row(board: &Board, pass: &mut Pass, segment: u32, row: u32) -> (u32, Item)
+    requires quiet { IsQuiet board.now pass.old }
+    requires used { IsUsedRow segment row pass.old }
+    ensures idles { Idles board.now pass.old pass.new }
+    ensures place { (result.1.seg ≡ segment) × (result.1.row ≡ row) }
+    ensures bucket { result.0 < board.now.shape.buckets }
+    ensures stored { IsStoredIn board.now result.0 result.1 pass.new }
+{
+    let key = segstore::key_of_row(board, pass, segment, row).unwrap();
+    let hash = hash(&key);
+    let item = Item {
+        tag: tag_of(hash),
+        freq: 0,
+        seg: segment,
+        row,
+    };
+    (bucket_of(hash, board.shape().buckets), item)
+}
+
+// The word of a bucket's chain that names the row of an item, under the bucket's bit or without it.
+pub(crate) fn find_row(board: &Board, pass: &mut Pass, bucket: u32, item: Item) -> Option<Target>
+    requires pass { IsPassOf board.now pass.old }
+    requires stored { IsStoredIn board.now bucket item pass.old }
+    ensures idles { Idles board.now pass.old pass.new }
+    ensures finds { FindsRow board.now bucket item result pass.new }
+{
+    let sought = item.pack();
+    let mut place = Place { bucket, word: 1 };
+    loop {
+        let word = board.look(pass, place);
+        if same_item(word, sought) {
+            return Some(Target { place, word });
+        }
+        match next_place(board, place, word) {
+            Some(next) => place = next,
+            None => return None,
+        }
+    }
+}
