@@ -1,7 +1,7 @@
 -- What no command changes: a pass holds after it what it held before.
 use Rattle.std.proofs.Common.{◌≡◌, ℕ, List, ap, inl, inr}
 use Rattle.segword.specs.Words.{Shape}
-use Rattle.segmodel.specs.Words.{Answer, DeleteAnswer, EvictAnswer, RefillAnswer, Request}
+use Rattle.segmodel.specs.Words.{Answer, DeleteAnswer, EvictAnswer, KeepAnswer, RefillAnswer, Request}
 use Rattle.segmodel.specs.Words.{WriteAnswer}
 use Rattle.segmodel.specs.declared.answer.Answer.TheVariants as answer
 use Rattle.segmodel.specs.declared.answer.Command.{Command}
@@ -9,12 +9,13 @@ use Rattle.segmodel.specs.declared.answer.Command.TheVariants as command
 use Rattle.segmodel.specs.declared.answer.WriteAnswer.TheVariants as write
 use Rattle.segmodel.specs.declared.answer.DeleteAnswer.TheVariants as delete
 use Rattle.segmodel.specs.declared.answer.EvictAnswer.TheVariants as evict
+use Rattle.segmodel.specs.declared.answer.KeepAnswer.TheVariants as keep
 use Rattle.segmodel.specs.declared.answer.RefillAnswer.TheVariants as refill
 use Rattle.segmodel.specs.declared.request.Request.TheVariants as request
 use Rattle.segbase.specs.Words.{Board, holding, Memo, Pass}
 use Rattle.segpass.specs.Words.{memo}
 use Rattle.segwrite.specs.Words.{IsDeleteAnswer, IsWriteAnswer}
-use Rattle.segevict.specs.Words.{IsEvictAnswer}
+use Rattle.segevict.specs.Words.{IsEvictAnswer, IsKeepAnswer}
 use Rattle.segindex.specs.Commands.{AnswersCommand}
 use Rattle.segindex.specs.Refilling.{IsRefillAnswer}
 
@@ -34,6 +35,18 @@ delete_holds : (shape : Shape) (key : List ℕ) (now : ℕ) (told : DeleteAnswer
 delete_holds shape key now delete.Deleted p q is = held_then p q is.2
 delete_holds shape key now delete.NotFound p q is = held_then p q is.2
 delete_holds shape key now delete.Busy p q is = held_then p q is.0.memo
+
+keep_holds : (shape : Shape) (segment cutoff : ℕ) (told : KeepAnswer) (p q : Pass) → IsKeepAnswer shape segment cutoff told p q → holding q ≡ holding p
+keep_holds shape segment cutoff (keep.Kept count) p q is = elim is [
+  | inl moves ↦ held_then p q moves.0.1.2.uses.memo
+  | inr idle ↦ ap holding idle.2
+]
+keep_holds shape segment cutoff keep.NotYours p q is = ap holding is
+keep_holds shape segment cutoff (keep.NoRoom count) p q is = elim is [
+  | inl idle ↦ ap holding idle.3
+  | inr moves ↦ held_then p q moves.0.1.2.uses.memo
+]
+keep_holds shape segment cutoff (keep.Busy count) p q is = held_then p q is.0.1.2.uses.memo
 
 evict_holds : (shape : Shape) (segment : ℕ) (told : EvictAnswer) (p q : Pass) → IsEvictAnswer shape segment told p q → holding q ≡ holding p
 evict_holds shape segment (evict.Evicted count) p q is = elim is [
@@ -57,6 +70,7 @@ command_holds b p q (command.Write (request.Cas key value version now)) draw (an
 command_holds b p q (command.Write (request.Delete key now)) draw (answer.Delete told) is = delete_holds b.shape key now told p q is.answer
 command_holds b p q (command.Get key now) draw (answer.Get told) is = held_then p q is.keeps.memo
 command_holds b p q (command.Gets key now) draw (answer.Gets told) is = held_then p q is.keeps.memo
+command_holds b p q (command.Keep segment cutoff) draw (answer.Keep told) is = keep_holds b.shape segment cutoff told p q is.answer
 command_holds b p q (command.Evict segment) draw (answer.Evict told) is = evict_holds b.shape segment told p q is.answer
 command_holds b p q (command.Refill segment deadline) draw (answer.Refill told) is = refill_holds segment deadline told p q is.answer
 command_holds b p q command draw told is = absurd is

@@ -1,5 +1,5 @@
--- The content of an index at its end: the pairs of the cache after some history that goes on from what the closing pass has seen.
-use Rattle.std.specs.Prelude.{◌≡◌, ℕ, ◌+◌, ◌*◌, ◌<◌, ◌⊎◌, List, map, Option, None, Some}
+-- The content of an index at its end: the pairs of the cache after some history that goes on from what the closing pass has seen; or, where all passes close it, after the one that one of them has seen.
+use Rattle.std.specs.Prelude.{◌≡◌, ℕ, ◌+◌, ◌*◌, ◌<◌, ◌≤◌, ◌⊎◌, List, [], map, Option, None, Some, slice_get}
 use Rattle.std.specs.List.{IsDistinct}
 use Rattle.std.specs.Ordering.{eq_by_cmp}
 use Rattle.std.specs.Map.{lookup, keys_of}
@@ -11,8 +11,9 @@ use Rattle.segmodel.specs.History as history
 use Rattle.segcore.specs.Event as event
 use Rattle.segcore.specs.Words.{Event, IsItemAt, KeyAt}
 use Rattle.segbase.specs.declared.closing.Words.{Words}
-use Rattle.segbase.specs.Words.{cell_at, IsPlace, mine, number, Pass, Place, seen}
+use Rattle.segbase.specs.Words.{Board, cell_at, HasEach, IsPlace, mine, number, Pass, Place, seen}
 use Rattle.segbase.specs.Closing as closing
+use Rattle.segpass.specs.Words.{IsQuiet}
 use Rattle.segread.specs.Words.{place_of}
 
 -- ---- the content
@@ -52,7 +53,35 @@ pub record WantsMemory (shape : Shape) (p : Pass) : Type 0 where
   pub alone : shape.passes ≡ 1 → end ≡ seen p
   pub content : HasContent shape end
 
+-- ---- with all passes
+
+-- these are the passes of the board, all of them, between calls
+pub record AreAllQuiet (b : Board) (passes : List Pass) : Type 0 where
+  pub quiet : (place : ℕ) (p : Pass) → slice_get passes place ≡ Some p → IsQuiet b p
+  pub all : HasEach b.shape.passes passes
+
+-- The history is what one of the passes has seen. What each has seen begins it, and it has no entry of a pass that this hasn't seen, and none of anyone else.
+pub record IsEndOfAll (shape : Shape) (passes : List Pass) (last : List Entry) : Type 0 where
+  pub place : ℕ
+  pub pass : Pass
+  pub there : slice_get passes place ≡ Some pass
+  pub has_seen : seen pass ≡ last
+  pub each : (at : ℕ) (p : Pass) → slice_get passes at ≡ Some p → IsEnd shape p last
+  pub among : (n : ℕ) → shape.passes ≤ n → history.mine n last ≡ []
+
+-- these are the pairs of the cache after it
+abbrev pub IsContentOfAll : Shape → List Pass → Pairs → Type 0
+IsContentOfAll shape passes content = (last : List Entry) × IsEndOfAll shape passes last × (content ≡ pairs_of (after shape last))
+
+-- there was content to be listed after it
+abbrev pub WantsMemoryOfAll : Shape → List Pass → Type 0
+WantsMemoryOfAll shape passes = (last : List Entry) × IsEndOfAll shape passes last × HasContent shape last
+
 -- ---- on the way
+
+-- these are the pairs that stand, whatever made the words what they are
+abbrev pub IsPairsAtRest : Words → Pairs → Type 0
+IsPairsAtRest words pairs = (trace : List Event) → closing.IsAtRest words trace → pairs ≡ pairs_of (after (closing.shape_of words) (event.seen trace))
 
 -- some key stands whatever made the words what they are
 abbrev pub HasPairs : Words → Type 0

@@ -1,9 +1,11 @@
 -- The words of this crate that others use, from one place.
-pub use Rattle.segindex.specs.Closing.{IsEnd}
+pub use Rattle.segindex.specs.Closing.{AreAllQuiet, IsContentOfAll, IsEnd, IsEndOfAll, pairs_of}
 pub use Rattle.segindex.specs.Commands.{AnswersCommand}
 pub use Rattle.segindex.specs.Index.{board_of, IsNew, shape_of}
 pub use Rattle.segindex.specs.Meeting.{Meets}
 pub use Rattle.segindex.specs.Refilling.{IsBeingRead, IsRefillAnswer, Refills}
+pub use Rattle.segpass.specs.Words.{IsQuiet, IsQuiet-prop}
+pub use Rattle.segread.specs.Words.{IsHoldOf, IsHoldOf-prop}
 use Rattle.segindex.specs.declared.index.Index as declared_index
 
 -- The types of this crate that others name.

@@ -5,7 +5,7 @@ ghost use Rattle.segcore.specs.declared.event.Event.{Event};
 ghost use Rattle.segcore.specs.Words.{seen};
 ghost use Rattle.segbase.specs.Words.{IsAtRest, shape_of};
 ghost use Rattle.segindex.specs.Closing.{HasContent, HasPairs, IsListed, IsWordIn, IsBucketIn};
-ghost use Rattle.segindex.specs.Closing.{IsPairAt};
+ghost use Rattle.segindex.specs.Closing.{IsPairAt, IsPairsAtRest};
 
 use crate::index::Index;
 use segbase::{CHAIN_BUCKETS, Pass, Place, Words};
@@ -22,13 +22,15 @@ impl Index {
     ghost use Rattle.segindex.specs.Index as index;
     ghost use Rattle.segpass.specs.Words.{IsQuiet};
     ghost use Rattle.segindex.specs.Closing.{IsContent, WantsMemory, IsContentSeen};
+    ghost use Rattle.segindex.specs.Closing.{AreAllQuiet, IsContentOfAll, WantsMemoryOfAll};
 
-    /// Ends the index, and lists its content: each key with its value,
+    /// Ends the index with one of its passes, and lists its content: each key with its value,
     /// in the order of the keys.
     /// It is the content after some legal history
     /// that goes on from what this pass has seen by entries of others,
     /// and with one pass after just what that has seen.
-    /// With several passes the contract leaves open which entries of others these are.
+    /// With several passes the contract leaves open which entries of others these are:
+    /// `close_all` is the close that leaves nothing open.
     /// It can't be called while an item is held.
     ///
     /// Each bucket has four times seven words at most, so no more pairs are listed.
@@ -45,13 +47,43 @@ impl Index {
             → IfOk result (λ content. IsContentSeen (index.shape_of self) pass content.items) }
     {
         let Index { board } = self;
-        let words = board.close(pass);
-        let Ok(mut content) = list_pairs(alloc, &words) else {
-            return Err(OutOfMemory);
-        };
-        content.sort_unstable_by(|left, right| left.0.cmp(&right.0));
-        Ok(content)
+        list_content(alloc, board.close(pass))
     }
+
+    /// Ends the index with all its passes, in any order, and lists its content as `close` does.
+    /// It is the content after what one of the passes has seen.
+    /// What each of them has seen begins that, and it has every entry of each.
+    /// It takes memory for the list, if a key stands at all.
+    /// If that is refused, index and passes are gone all the same.
+    pub fn close_all(
+        self,
+        alloc: Global,
+        passes: Vec<Pass>,
+    ) -> Result<Vec<(Key, Value)>, OutOfMemory>
+        requires { AreAllQuiet (index.board_of self) passes.items }
+        ensures content { IfOk result (λ content.
+            IsContentOfAll (index.shape_of self) passes.items content.items) }
+        ensures few { IfOk result (λ content.
+            vec_len content ≤ 28 * (index.shape_of self).buckets) }
+        ensures wanted { IfErr result (λ _. WantsMemoryOfAll (index.shape_of self) passes.items) }
+    {
+        let Index { board } = self;
+        list_content(alloc, board.close_all(passes))
+    }
+}
+
+// The pairs of all buckets, in the order of their keys.
+fn list_content(alloc: Global, words: Words) -> Result<Vec<(Key, Value)>, OutOfMemory>
+    requires rest { (trace : List Event) × IsAtRest words trace }
+    ensures lists { IfOk result (λ content. IsPairsAtRest words content.items) }
+    ensures few { IfOk result (λ content. vec_len content ≤ 28 * (shape_of words).buckets) }
+    ensures wanted { IfErr result (λ _. HasPairs words) }
+{
+    let Ok(mut content) = list_pairs(alloc, &words) else {
+        return Err(OutOfMemory);
+    };
+    content.sort_unstable_by(|left, right| left.0.cmp(&right.0));
+    Ok(content)
 }
 
 // The pairs of all buckets.

@@ -22,8 +22,8 @@ pub use index::Index;
 pub use laws::{cas_fails_where_written, one_pass, quiet_pass, replies_at_a_moment};
 pub use segbase::{MakeFault, Pass};
 pub use segmodel::{
-    Answer, Command, DeleteAnswer, EvictAnswer, GetAnswer, GetsAnswer, RefillAnswer, Request,
-    WriteAnswer,
+    Answer, Command, DeleteAnswer, EvictAnswer, GetAnswer, GetsAnswer, KeepAnswer, RefillAnswer,
+    Request, WriteAnswer,
 };
 pub use segpass::LockAnswer;
 pub use segread::{Hold, HoldAnswer, hold_stays};

@@ -1,11 +1,11 @@
-//! Segments emptied, and given out again.
+//! Segments whose items are kept elsewhere or taken out, and that are given out again.
 use crate::index::Index;
 use segbase::Pass;
-use segmodel::{EvictAnswer, RefillAnswer};
+use segmodel::{EvictAnswer, KeepAnswer, RefillAnswer};
 
 impl Index {
     ghost use Rattle.segpass.specs.Words.{IsQuiet};
-    ghost use Rattle.segevict.specs.Words.{EvictsSegment};
+    ghost use Rattle.segevict.specs.Words.{EvictsSegment, KeepsItems};
     ghost use Rattle.segindex.specs.Index.{board_of};
     ghost use Rattle.segindex.specs.Refilling.{RefillsSegment};
 
@@ -17,6 +17,18 @@ impl Index {
         ensures evicts { EvictsSegment (board_of self.now) segment result pass.old pass.new }
     {
         segevict::evict(&self.board, pass, segment)
+    }
+
+    /// Moves the items of a segment of the pass's own that were read often
+    /// into its current segment, if both have the same deadline:
+    /// those whose frequency is the cutoff or over it.
+    /// If the answer is NoRoom or Busy, what was moved stays moved,
+    /// and another keep goes on.
+    pub fn keep(&self, pass: &mut Pass, segment: u32, cutoff: u8) -> KeepAnswer
+        requires quiet { IsQuiet (board_of self.now) pass.old }
+        ensures keeps { KeepsItems (board_of self.now) segment cutoff result pass.old pass.new }
+    {
+        segevict::keep(&self.board, pass, segment, cutoff)
     }
 
     /// Makes a segment of the pass's own, in which no key stands and no item is read or held,

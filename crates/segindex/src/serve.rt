@@ -23,6 +23,7 @@ impl Index {
             Command::Write(request) => self.write(pass, request),
             Command::Get(key, now) => Answer::Get(self.get(pass, key, draw, *now)),
             Command::Gets(key, now) => Answer::Gets(self.gets(pass, key, draw, *now)),
+            Command::Keep(segment, cutoff) => Answer::Keep(self.keep(pass, *segment, *cutoff)),
             Command::Evict(segment) => Answer::Evict(self.evict(pass, *segment)),
             Command::Refill(segment, deadline) => {
                 Answer::Refill(self.refill(pass, *segment, *deadline))

@@ -14,7 +14,8 @@ use Rattle.segbase.specs.Words.{Board, number, Pass, seen}
 use Rattle.segwrite.specs.Words.{AddsReply, Deletes}
 use Rattle.segsolo.specs.Alone.{keys_stored_in, state_at, IsAlone, ServesAlone}
 use Rattle.segindex.proofs.OnePass.{busy_by_lock}
-use Rattle.segsolo.proofs.AlonePass.{more_seen, as_replied, counts_replied, reply_then, left, locked_here, free_here, served, served_still}
+use Rattle.segsolo.proofs.AlonePass.{more_seen, as_replied, counts_replied, reply_then, left, locked_here, free_here}
+use Rattle.segsolo.proofs.AloneRows.{frequencies_replied, frequencies_still, served, served_still, still_named, reply_unstored}
 use Rattle.segsolo.proofs.AloneWidths.{same_widths}
 
 module _ (b : Board) (p q : Pass) (key : List ℕ) (now : ℕ) (was : IsAlone b p) (told : DeleteAnswer) (is : Deletes b key now told p q) where
@@ -29,12 +30,14 @@ module _ (b : Board) (p q : Pass) (key : List ℕ) (now : ℕ) (was : IsAlone b 
       → after_reply b.shape (Delete key now) r (state_at b.shape p) ≡ record (state_at b.shape p) { cache = after b.shape (Wrote (number p) (Delete key now) r None ∷ seen p) }
       → ServesAlone b (command.Write (Delete key now)) (answer.Delete told) p q
   replied r other is_reply answered keeps leaves = served b (command.Write (Delete key now)) (answer.Delete told) p q was is.on.quiet
-      (counts_replied b p q (Wrote (number p) (Delete key now) r None) was is.on.quiet answered.0 answered.1 keeps) (
+      (counts_replied b p q (Wrote (number p) (Delete key now) r None) was is.on.quiet answered.0 answered.1 keeps)
+      (still_named b p q (Wrote (number p) (Delete key now) r None ∷ []) was is.on answered.0 (reply_unstored (number p) (Delete key now) r, tt)) (
         told,
         refl,
         serves_so false (free_here b.shape p key (λ locked. other (is.locked locked))) (
           is_reply ∙ ap Some was_replied,
           as_replied b p q (Wrote (number p) (Delete key now) r None) was is.on.quiet answered.0 answered.1 answered.2 keeps (same_widths b p q was is.on is.draws_nothing)
+              (frequencies_replied b p q was is.on (Wrote (number p) (Delete key now) r None) answered.0 (reply_unstored (number p) (Delete key now) r).0 is.enters.raises_nothing)
               ∙ (sym leaves ∙ ap (λ r. after_reply b.shape (Delete key now) r (state_at b.shape p)) was_replied),
         ),
       )
@@ -47,9 +50,9 @@ pub serves_delete : (b : Board) (p q : Pass) (key : List ℕ) (now : ℕ) (told 
 serves_delete b p q key now delete.Deleted was is = replied b p q key now was delete.Deleted is reply.Deleted (λ e. cc) refl is.answer (λ s. refl) refl
 serves_delete b p q key now delete.NotFound was is = replied b p q key now was delete.NotFound is reply.NotFound (λ e. cc) refl is.answer (λ s. refl) refl
 serves_delete b p q key now delete.Busy was is =
-    served_still b (command.Write (Delete key now)) (answer.Delete delete.Busy) p q was is.on.quiet is.answer.0 (
+    served_still b (command.Write (Delete key now)) (answer.Delete delete.Busy) p q was is.on is.answer.0 (
       delete.Busy,
       refl,
       serves_so b p q key now was delete.Busy is true (locked_here b.shape p key (busy_by_lock b p q (bucket_of b.shape key) was.quiet is.on.quiet was.one is.answer.1))
-          (refl, left b p q was is.on.quiet is.answer.0 (same_widths b p q was is.on is.draws_nothing)),
+          (refl, left b p q was is.on is.answer.0 (same_widths b p q was is.on is.draws_nothing) (frequencies_still b p q was is.on is.answer.0.entries is.enters.raises_nothing)),
     )

@@ -19,6 +19,7 @@ use Rattle.segcore.proofs.KeyCounts.{count_without, if_there}
 use Rattle.segsolo.specs.Alone.{keys_stored_in}
 use Rattle.segevict.specs.Words.{AreEvictions}
 use Rattle.segmodel.proofs.Words.{above_absent}
+use Rattle.segsolo.proofs.AloneRows.{AreUnstored}
 
 -- ---- lists
 
@@ -157,6 +158,10 @@ module _ (shape : Shape) (pass segment : ℕ) (history : List Entry) where
   -- what was stored in segments stays told
   pub stored_still : (s : ℕ) (evictions : List Entry) → AreEvictions pass segment evictions → keys_stored_in (evictions ++ history) s ≡ keys_stored_in history s
   stored_still s = by_eviction (λ evictions. keys_stored_in (evictions ++ history) s ≡ keys_stored_in history s) pass segment refl (λ key more all rest. rest)
+
+-- they store nothing
+pub evictions_unstored : (pass segment : ℕ) (evictions : List Entry) → AreEvictions pass segment evictions → AreUnstored evictions
+evictions_unstored pass segment = by_eviction AreUnstored pass segment tt (λ key more all rest. ((refl, λ history s. refl), rest))
 
 -- where no entry is of a bucket, no key of it is evicted
 pub evicts_none : (shape : Shape) (pass segment bucket : ℕ) (key : List ℕ) (evictions : List Entry) → AreEvictions pass segment evictions → entries_of shape bucket evictions ≡ 0

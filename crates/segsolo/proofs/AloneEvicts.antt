@@ -24,14 +24,15 @@ use Rattle.segbase.specs.Words.{seen, state_in, state_of, trace, used_in, with_s
 use Rattle.segbase.proofs.Alone.{bounced_alone}
 use Rattle.segbase.proofs.Known.{state_apart, used_kept}
 use Rattle.segevict.proofs.Evictions.{emptied_state}
-use Rattle.segpass.specs.Words.{DrawsNothing, GoesOn}
+use Rattle.segpass.specs.Words.{DrawsNothing, GoesOn, RaisesNothing}
 use Rattle.segevict.specs.Words.{ended, IsBarred, IsEvictAnswer, TakesOut}
-use Rattle.segsolo.specs.Alone.{keys_stored_in, or_empty, item_of, state_at, CountsRows, IsAlone, ServesAlone}
+use Rattle.segsolo.specs.Alone.{frequencies_in, keys_stored_in, or_empty, item_of, state_at, CountsRows, IsAlone, ServesAlone, NamesLastRows}
 use Rattle.segindex.proofs.QuietPass.{none_since}
-use Rattle.segsolo.proofs.AlonePass.{more_seen, at_state, not_own, own_is, locked_here, served}
+use Rattle.segsolo.proofs.AlonePass.{frequencies_as, more_seen, at_state, not_own, own_is, locked_here}
+use Rattle.segsolo.proofs.AloneRows.{bring_nothing, frequencies_kept, served, still_named}
 use Rattle.segsolo.proofs.AloneRefills.{with_at-same, with_at-other, by_segment}
 use Rattle.segsolo.proofs.AloneWidths.{same_widths}
-use Rattle.segsolo.proofs.AloneEvictions.{is_evicted, filter_alike, any_of, each_item, items_left, stood_before, stands_still, stood_in, length_left, stored_still, evicts_none, on_the_way}
+use Rattle.segsolo.proofs.AloneEvictions.{is_evicted, filter_alike, any_of, each_item, items_left, stood_before, stands_still, evictions_unstored, stood_in, length_left, stored_still, evicts_none, on_the_way}
 use Rattle.segcore.proofs.Caches.{one_test}
 use Rattle.segmodel.proofs.LawLemmas.{count_by-append}
 
@@ -54,7 +55,7 @@ rest_of x = ((λ s. used_in (own_segment x s)), x.current, x.locked)
 rest_emptied : (p q : Pass) (segment : ℕ) → q.plain ≡ with_state segment Evicted (ended segment p.plain) → rest_of q.plain ≡ rest_of (ended segment p.plain)
 rest_emptied p q segment now = ap rest_of now ∙ (λ i. ((λ s. used_kept (ended segment p.plain) segment Evicted s i), but_for segment p.plain.current, p.plain.locked))
 
-module _ (b : Board) (p q : Pass) (segment count : ℕ) (was : IsAlone b p) (on : GoesOn b p q) (undrawn : DrawsNothing p q) (takes : TakesOut b.shape segment count p q) (rest : rest_of q.plain ≡ rest_of (ended segment p.plain)) where
+module _ (b : Board) (p q : Pass) (segment count : ℕ) (was : IsAlone b p) (on : GoesOn b p q) (undrawn : DrawsNothing p q) (unraised : RaisesNothing p q) (takes : TakesOut b.shape segment count p q) (rest : rest_of q.plain ≡ rest_of (ended segment p.plain)) where
   more : seen q ≡ takes.evictions ++ seen p
   more = more_seen b p q takes.evictions was on.quiet takes.entries
 
@@ -110,11 +111,12 @@ module _ (b : Board) (p q : Pass) (segment count : ℕ) (was : IsAlone b p) (on 
   -- the state with a segment told anew, and some items taken out
   at_taken : (goes : List ℕ × Cached → Bool) (filling : ℕ → Filling) → ((key : List ℕ) (item : Cached) → standing (after b.shape (seen p)) key ≡ Some item → is_evicted takes.evictions key ≡ goes (key, item))
       → ((s : ℕ) → or_empty (state_of q s) ≡ (filling s).state) → ((s : ℕ) → keys_stored_in (seen p) s ≡ (filling s).keys)
-      → state_at b.shape q ≡ record (taken_out segment goes (state_at b.shape p)) { filling = filling }
-  at_taken goes filling same states keys =
+      → ((s : ℕ) → frequencies_in p s ≡ (filling s).frequencies) → state_at b.shape q ≡ record (taken_out segment goes (state_at b.shape p)) { filling = filling }
+  at_taken goes filling same states keys frequencies =
       let widths = same_widths b p q was on undrawn in
       at_state b.shape q (record (taken_out segment goes (state_at b.shape p)) { filling = filling })
-      (cache_left goes same) states (λ s. keys_then s ∙ keys s) (ap (λ r. r.1) rest) widths.wide widths.drawn (ap (λ (m : Memo). option_map item_of m.holding) takes.memo) (ap (λ r. r.2) rest)
+      (cache_left goes same) states (λ s. keys_then s ∙ keys s) (λ s. frequencies_as p q s (frequencies_kept b p q was on takes.evictions takes.entries (bring_nothing takes.evictions (evictions_unstored (number p) segment takes.evictions takes.all)) unraised) (keys_then s) ∙ frequencies s)
+      (ap (λ r. r.1) rest) widths.wide widths.drawn (ap (λ (m : Memo). option_map item_of m.holding) takes.memo) (ap (λ r. r.2) rest)
 
   -- ---- Evicted
 
@@ -131,7 +133,7 @@ module _ (b : Board) (p q : Pass) (segment count : ℕ) (was : IsAlone b p) (on 
         (λ there. all_evicted key (stands_there (standing (after b.shape (seen p)) key) segment key item is there))
 
     abbrev emptied : Filling
-    emptied = record { state = Evicted; keys = keys_stored_in (seen p) segment }
+    emptied = record { state = Evicted; keys = keys_stored_in (seen p) segment; frequencies = frequencies_in p segment }
 
     state_then : (s : ℕ) → or_empty (state_of q s) ≡ (with_at (state_at b.shape p).filling segment emptied s).state
     state_then = by_segment (λ s. or_empty (state_of q s) ≡ (with_at (state_at b.shape p).filling segment emptied s).state) segment
@@ -145,11 +147,18 @@ module _ (b : Board) (p q : Pass) (segment count : ℕ) (was : IsAlone b p) (on 
         by true same = ap (keys_stored_in (seen p)) (sym (same refl))
         by false same = refl
 
+    same_frequencies : (s : ℕ) → frequencies_in p s ≡ (with_at (state_at b.shape p).filling segment emptied s).frequencies
+    same_frequencies s = by (eqb segment s) (eqb-true segment s)
+      where
+        by : (here : Bool) → (here ≡ true → segment ≡ s) → frequencies_in p s ≡ (cond here emptied ((state_at b.shape p).filling s)).frequencies
+        by true same = ap (frequencies_in p) (sym (same refl))
+        by false same = refl
+
     pub evicts_all : Evicts b.shape (state_at b.shape p) segment (evict.Evicted count) (state_at b.shape q)
     evicts_all = (
       (λ key stands. unlocked key (all_evicted key stands)),
       count_left (is_in segment) same_items,
-      at_taken (is_in segment) (with_at (state_at b.shape p).filling segment emptied) same_items state_then same_keys,
+      at_taken (is_in segment) (with_at (state_at b.shape p).filling segment emptied) same_items state_then same_keys same_frequencies,
     )
 
   -- ---- Busy
@@ -191,16 +200,16 @@ module _ (b : Board) (p q : Pass) (segment count : ℕ) (was : IsAlone b p) (on 
     evicts_some = (
       Any-from_list_any (is_locked b.shape (state_at b.shape p)) (keys_stored_in (seen p) segment)
           (any_of (is_locked b.shape (state_at b.shape p)) barred.0 (keys_stored_in (seen p) segment) was_stored (locked_here b.shape p barred.0 has_locked)),
-      (is_evicted takes.evictions, count_left goes same_some, at_taken goes (state_at b.shape p).filling same_some state_still (λ s. refl)),
+      (is_evicted takes.evictions, count_left goes same_some, at_taken goes (state_at b.shape p).filling same_some state_still (λ s. refl) (λ s. refl)),
     )
 
 -- ---- served
 
-module _ (b : Board) (p q : Pass) (segment : ℕ) (was : IsAlone b p) (on : GoesOn b p q) (undrawn : DrawsNothing p q) where
+module _ (b : Board) (p q : Pass) (segment : ℕ) (was : IsAlone b p) (on : GoesOn b p q) (undrawn : DrawsNothing p q) (unraised : RaisesNothing p q) where
   -- a command on an own segment
-  own_serves : (told : EvictAnswer) (state : SegState) → CountsRows q → state_of p segment ≡ Some state → ServesEvict b.shape (state_at b.shape p) segment state told (state_at b.shape q)
+  own_serves : (told : EvictAnswer) (state : SegState) → CountsRows q → NamesLastRows b.shape q → state_of p segment ≡ Some state → ServesEvict b.shape (state_at b.shape p) segment state told (state_at b.shape q)
       → ServesAlone b (command.Evict segment) (answer.Evict told) p q
-  own_serves told state counts is serves = served b (command.Evict segment) (answer.Evict told) p q was on.quiet counts (
+  own_serves told state counts names is serves = served b (command.Evict segment) (answer.Evict told) p q was on.quiet counts names (
     told,
     refl,
     subst (λ (own : Bool). MatchBool own (ServesEvict b.shape (state_at b.shape p) segment (or_empty (state_of p segment)) told (state_at b.shape q)) (IsGiven evict.NotYours (state_at b.shape p) told (state_at b.shape q)))
@@ -211,6 +220,12 @@ module _ (b : Board) (p q : Pass) (segment : ℕ) (was : IsAlone b p) (on : Goes
   still : q ≡ p → CountsRows q
   still same = subst CountsRows (sym same) was.used
 
+  still_names : q ≡ p → NamesLastRows b.shape q
+  still_names same = subst (NamesLastRows b.shape) (sym same) was.rows
+
+  names : (count : ℕ) → TakesOut b.shape segment count p q → NamesLastRows b.shape q
+  names count takes = still_named b p q takes.evictions was on takes.entries (evictions_unstored (number p) segment takes.evictions takes.all)
+
   -- a segment that isn't in use has nothing to take out
   idle_serves : (count : ℕ) (state : SegState) → state ≢ InUse → count ≡ 0 → q ≡ p → ServesEvict b.shape (state_at b.shape p) segment state (evict.Evicted count) (state_at b.shape q)
   idle_serves count Empty other zero same = (ap evict.Evicted zero, ap (state_at b.shape) same)
@@ -219,21 +234,21 @@ module _ (b : Board) (p q : Pass) (segment : ℕ) (was : IsAlone b p) (on : Goes
 
   evict_serves : (told : EvictAnswer) → IsEvictAnswer b.shape segment told p q → ((told ≡ evict.NotYours) ↔ (state_of p segment ≡ None)) → ServesAlone b (command.Evict segment) (answer.Evict told) p q
   evict_serves (evict.Evicted count) (inl (before, takes, now, empty)) not_yours =
-      own_serves (evict.Evicted count) InUse (counts b p q segment count was on undrawn takes (rest_emptied p q segment now)) before (evicts_all b p q segment count was on undrawn takes (rest_emptied p q segment now) before now empty)
+      own_serves (evict.Evicted count) InUse (counts b p q segment count was on undrawn unraised takes (rest_emptied p q segment now)) (names count takes) before (evicts_all b p q segment count was on undrawn unraised takes (rest_emptied p q segment now) before now empty)
   evict_serves (evict.Evicted count) (inr (other, zero, same)) not_yours = by (state_of p segment) refl
     where
       by : (kept : Option SegState) → state_of p segment ≡ kept → ServesAlone b (command.Evict segment) (answer.Evict (evict.Evicted count)) p q
       by None is = let no : evict.Evicted count ≡ evict.NotYours = not_yours.1 is in cc
-      by (Some state) is = own_serves (evict.Evicted count) state (still same) is (idle_serves count state (λ used. other (is ∙ ap Some used)) zero same)
-  evict_serves evict.NotYours same not_yours = served b (command.Evict segment) (answer.Evict evict.NotYours) p q was on.quiet (still same) (
+      by (Some state) is = own_serves (evict.Evicted count) state (still same) (still_names same) is (idle_serves count state (λ used. other (is ∙ ap Some used)) zero same)
+  evict_serves evict.NotYours same not_yours = served b (command.Evict segment) (answer.Evict evict.NotYours) p q was on.quiet (still same) (still_names same) (
     evict.NotYours,
     refl,
     subst (λ (own : Bool). MatchBool own (ServesEvict b.shape (state_at b.shape p) segment (or_empty (state_of p segment)) evict.NotYours (state_at b.shape q)) (IsGiven evict.NotYours (state_at b.shape p) evict.NotYours (state_at b.shape q)))
         (sym (not_own b p segment was (not_yours.0 refl))) (refl, ap (state_at b.shape) same),
   )
   evict_serves (evict.Busy count) (before, takes, now, barred) not_yours =
-      own_serves (evict.Busy count) InUse (counts b p q segment count was on undrawn takes (ap rest_of now)) before (evicts_some b p q segment count was on undrawn takes (ap rest_of now) now barred)
+      own_serves (evict.Busy count) InUse (counts b p q segment count was on undrawn unraised takes (ap rest_of now)) (names count takes) before (evicts_some b p q segment count was on undrawn unraised takes (ap rest_of now) now barred)
 
-pub serves_evict : (b : Board) (p q : Pass) (segment : ℕ) (told : EvictAnswer) → IsAlone b p → GoesOn b p q → DrawsNothing p q
+pub serves_evict : (b : Board) (p q : Pass) (segment : ℕ) (told : EvictAnswer) → IsAlone b p → GoesOn b p q → DrawsNothing p q → RaisesNothing p q
     → IsEvictAnswer b.shape segment told p q → ((told ≡ evict.NotYours) ↔ (state_of p segment ≡ None)) → ServesAlone b (command.Evict segment) (answer.Evict told) p q
-serves_evict b p q segment told was on undrawn is not_yours = evict_serves b p q segment was on undrawn told is not_yours
+serves_evict b p q segment told was on undrawn unraised is not_yours = evict_serves b p q segment was on undrawn unraised told is not_yours

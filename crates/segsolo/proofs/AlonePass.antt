@@ -3,22 +3,18 @@ use Rattle.std.proofs.Common.{◌≡◌, ◌≢◌, ℕ, ◌/◌, ◌<◌, nat_l
 use Rattle.std.proofs.lemmas.Bool.{false≢true, cases_Bool, lt-ltb, ne_eqb}
 use Rattle.segword.specs.Words.{Shape}
 use Rattle.segmodel.specs.declared.entry.Entry.TheVariants.{Wrote}
-use Rattle.segmodel.specs.declared.answer.Command.{Command}
-use Rattle.segmodel.specs.declared.answer.Turn.TheVariants.{Serve}
-use Rattle.segmodel.specs.declared.answer.Outcome.TheVariants.{Answered}
-use Rattle.segmodel.specs.Words.{after, Answer, bucket_of, Entry, is_locked, is_named, is_own}
-use Rattle.segmodel.specs.Words.{IsBetween, IsLegal, Outcome, owner, Reply, reply_in, Request}
-use Rattle.segmodel.specs.Words.{SegState, Serves, State, Turn, Turns}
-use Rattle.segmodel.proofs.ServingKeeps.{turns_keep}
+use Rattle.segmodel.specs.Words.{after, bucket_of, Entry, is_locked, is_named, is_own}
+use Rattle.segmodel.specs.Words.{IsBetween, IsLegal, owner, Reply, reply_in, Request}
+use Rattle.segmodel.specs.Words.{SegState, State}
 use Rattle.segmodel.proofs.Written.{first_owner}
-use Rattle.segcore.specs.Words.{all_drawn, width}
+use Rattle.segcore.specs.Words.{all_drawn, frequency_in, width}
 use Rattle.segcore.proofs.Standing.{legal}
 use Rattle.segbase.specs.Words.{Board, current_of, holding, locked_of, marked, Memo, mine, number}
 use Rattle.segbase.specs.Words.{Pass, seen, state_in, state_of, trace, used_in}
 use Rattle.segbase.proofs.Alone.{mine_alone}
 use Rattle.segstore.proofs.Keeping.{same_states, same_used, stored_in}
-use Rattle.segpass.specs.Words.{AddsEntry, ChangesNothing, IsQuiet, memo}
-use Rattle.segsolo.specs.Alone.{keys_stored_in, or_empty, item_of, state_at, CountsRows, IsAlone, ServesAlone, TurnsAlone}
+use Rattle.segpass.specs.Words.{AddsEntry, ChangesNothing, GoesOn, IsQuiet, memo}
+use Rattle.segsolo.specs.Alone.{frequencies_in, keys_stored_in, of_rows, or_empty, item_of, state_at, CountsRows, IsAlone}
 use Rattle.segindex.proofs.QuietPass.{owned}
 
 -- ---- one history
@@ -85,11 +81,12 @@ pub record SameWidths (p q : Pass) : Type 0 where
 
 -- a state is told part by part
 pub at_state : (shape : Shape) (q : Pass) (state : State) → after shape (seen q) ≡ state.cache → ((segment : ℕ) → or_empty (state_of q segment) ≡ (state.filling segment).state)
-    → ((segment : ℕ) → keys_stored_in (seen q) segment ≡ (state.filling segment).keys) → current_of q ≡ state.current → ((bucket : ℕ) → width (marked q) bucket ≡ state.width bucket)
+    → ((segment : ℕ) → keys_stored_in (seen q) segment ≡ (state.filling segment).keys) → ((segment : ℕ) → frequencies_in q segment ≡ (state.filling segment).frequencies)
+    → current_of q ≡ state.current → ((bucket : ℕ) → width (marked q) bucket ≡ state.width bucket)
     → all_drawn (marked q) ≡ state.drawn → option_map item_of (holding q) ≡ state.held → locked_of q ≡ state.locked → state_at shape q ≡ state
-at_state shape q state cache states keys current wide drawn held locked = λ i. record {
+at_state shape q state cache states keys frequencies current wide drawn held locked = λ i. record {
   cache = cache i;
-  filling = λ segment. record { state = states segment i; keys = keys segment i };
+  filling = λ segment. record { state = states segment i; keys = keys segment i; frequencies = frequencies segment i };
   current = current i;
   width = λ bucket. wide bucket i;
   drawn = drawn i;
@@ -97,14 +94,23 @@ at_state shape q state cache states keys current wide drawn held locked = λ i. 
   locked = locked i;
 }
 
--- a pass that saw nothing new, whose segments are as they were, is at the same state but for its hold and its lock
-pub as_was : (shape : Shape) (p q : Pass) → seen q ≡ seen p → stored_in q.plain ≡ stored_in p.plain → SameWidths p q
-    → state_at shape q ≡ record (state_at shape p) { held = option_map item_of (holding q); locked = locked_of q }
-as_was shape p q same kept widths = at_state shape q (record (state_at shape p) { held = option_map item_of (holding q); locked = locked_of q })
-    (ap (after shape) same) (λ segment. ap (λ k. or_empty (state_in (k.0 segment))) kept) (λ segment. ap (λ h. keys_stored_in h segment) same) (ap (λ k. k.1) kept) widths.wide widths.drawn refl refl
+-- items have the frequencies that they had
+abbrev pub SameFrequencies : Pass → Pass → Type 0
+SameFrequencies p q = (segment row : ℕ) → frequency_in (marked q) segment row ≡ frequency_in (marked p) segment row
 
-pub left : (b : Board) (p q : Pass) → IsAlone b p → IsQuiet b q → ChangesNothing p q → SameWidths p q → state_at b.shape q ≡ state_at b.shape p
-left b p q was quiet nothing widths = as_was b.shape p q (same_seen b p q was quiet nothing.entries) (ap stored_in nothing.plain) widths
+-- so the rows of a segment in which the same keys were stored have theirs
+pub frequencies_as : (p q : Pass) (segment : ℕ) → SameFrequencies p q → keys_stored_in (seen q) segment ≡ keys_stored_in (seen p) segment → frequencies_in q segment ≡ frequencies_in p segment
+frequencies_as p q segment same keys = λ i. of_rows (λ row. same segment row i) 0 (length (keys i))
+
+-- a pass that saw nothing new, whose segments are as they were, is at the same state but for its hold and its lock
+pub as_was : (shape : Shape) (p q : Pass) → seen q ≡ seen p → stored_in q.plain ≡ stored_in p.plain → SameWidths p q → SameFrequencies p q
+    → state_at shape q ≡ record (state_at shape p) { held = option_map item_of (holding q); locked = locked_of q }
+as_was shape p q same kept widths frequencies = at_state shape q (record (state_at shape p) { held = option_map item_of (holding q); locked = locked_of q })
+    (ap (after shape) same) (λ segment. ap (λ k. or_empty (state_in (k.0 segment))) kept) (λ segment. ap (λ h. keys_stored_in h segment) same)
+    (λ segment. frequencies_as p q segment frequencies (ap (λ h. keys_stored_in h segment) same)) (ap (λ k. k.1) kept) widths.wide widths.drawn refl refl
+
+pub left : (b : Board) (p q : Pass) → IsAlone b p → GoesOn b p q → ChangesNothing p q → SameWidths p q → SameFrequencies p q → state_at b.shape q ≡ state_at b.shape p
+left b p q was on nothing widths frequencies = as_was b.shape p q (same_seen b p q was on.quiet nothing.entries) (ap stored_in nothing.plain) widths frequencies
     ∙ (λ i. record (state_at b.shape p) { held = option_map item_of ((nothing.memo i).holding); locked = (nothing.plain i).locked })
 
 -- ---- rows
@@ -116,11 +122,12 @@ counts_still p q counts same kept segment count is = counts segment count (sym (
 
 -- it changes the cache alone
 pub as_replied : (b : Board) (p q : Pass) (added : Entry) → IsAlone b p → IsQuiet b q → AddsEntry added p q → q.plain ≡ p.plain → memo q ≡ memo p
-    → ((segment : ℕ) → keys_stored_in (added ∷ seen p) segment ≡ keys_stored_in (seen p) segment) → SameWidths p q → state_at b.shape q ≡ record (state_at b.shape p) { cache = after b.shape (added ∷ seen p) }
-as_replied b p q added was quiet adds plain same keeps widths =
+    → ((segment : ℕ) → keys_stored_in (added ∷ seen p) segment ≡ keys_stored_in (seen p) segment) → SameWidths p q → SameFrequencies p q → state_at b.shape q ≡ record (state_at b.shape p) { cache = after b.shape (added ∷ seen p) }
+as_replied b p q added was quiet adds plain same keeps widths frequencies =
     let more = more_seen b p q (added ∷ []) was quiet adds in
     at_state b.shape q (record (state_at b.shape p) { cache = after b.shape (added ∷ seen p) })
     (ap (after b.shape) more) (λ segment. ap or_empty (same_states p q segment plain)) (λ segment. ap (λ h. keys_stored_in h segment) more ∙ keeps segment)
+    (λ segment. frequencies_as p q segment frequencies (ap (λ h. keys_stored_in h segment) more ∙ keeps segment))
     (ap (λ plain. plain.current) plain) widths.wide widths.drawn (ap (λ (m : Memo). option_map item_of m.holding) same) (ap (λ plain. plain.locked) plain)
 
 pub counts_replied : (b : Board) (p q : Pass) (added : Entry) → IsAlone b p → IsQuiet b q → AddsEntry added p q → q.plain ≡ p.plain
@@ -146,33 +153,3 @@ free_here shape p key other = by (locked_of p) other
     by : (locked : Option ℕ) → locked ≢ Some (bucket_of shape key) → is_named locked (bucket_of shape key) ≡ false
     by None ne = refl
     by (Some bucket) ne = ne_eqb bucket (bucket_of shape key) (λ e. ne (ap Some e))
-
--- ---- calls
-
--- a turn that is served leaves the pass alone
-pub turned : (b : Board) (turn : Turn) (given : Outcome) (p q : Pass) → IsAlone b p → IsQuiet b q → CountsRows q
-    → Turns b.shape (state_at b.shape p) turn given (state_at b.shape q) → TurnsAlone b turn given p q
-turned b turn given p q was quiet counts served = (
-  record {
-    one = was.one;
-    quiet = quiet;
-    used = counts;
-    kept = turns_keep b.shape (state_at b.shape p) (state_at b.shape q) (turn ∷ []) (given ∷ []) was.kept (state_at b.shape q, served, refl);
-  },
-  served,
-)
-
--- where it changed nothing
-pub turned_still : (b : Board) (turn : Turn) (given : Outcome) (p q : Pass) → IsAlone b p → IsQuiet b q → ChangesNothing p q
-    → Turns b.shape (state_at b.shape p) turn given (state_at b.shape q) → TurnsAlone b turn given p q
-turned_still b turn given p q was quiet nothing served =
-    turned b turn given p q was quiet (counts_still p q was.used (same_seen b p q was quiet nothing.entries) (ap stored_in nothing.plain)) served
-
--- and so does a command
-pub served : (b : Board) (command : Command) (given : Answer) (p q : Pass) → IsAlone b p → IsQuiet b q → CountsRows q
-    → Serves b.shape (state_at b.shape p) command given (state_at b.shape q) → ServesAlone b command given p q
-served b command given p q was quiet counts serves = ((turned b (Serve command) (Answered given) p q was quiet counts (given, refl, serves)).0, serves)
-
-pub served_still : (b : Board) (command : Command) (given : Answer) (p q : Pass) → IsAlone b p → IsQuiet b q → ChangesNothing p q
-    → Serves b.shape (state_at b.shape p) command given (state_at b.shape q) → ServesAlone b command given p q
-served_still b command given p q was quiet nothing serves = ((turned_still b (Serve command) (Answered given) p q was quiet nothing (given, refl, serves)).0, serves)

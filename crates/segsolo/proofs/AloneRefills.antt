@@ -11,15 +11,17 @@ use Rattle.segmodel.specs.declared.answer.Command.TheVariants as command
 use Rattle.segmodel.specs.Words.{after, after_refill, Filling, is_held, is_own, refill_answer}
 use Rattle.segmodel.specs.Words.{RefillAnswer, SegState, with_at}
 use Rattle.segbase.specs.declared.pass.Plain.{Plain}
-use Rattle.segbase.specs.Words.{Board, Held, holding, Memo, number, Pass, seen, state_of, trace}
+use Rattle.segcore.specs.Words.{frequency_in}
+use Rattle.segbase.specs.Words.{Board, Held, holding, marked, Memo, number, Pass, seen, state_of, trace}
 use Rattle.segbase.specs.Words.{used_of}
 use Rattle.segpass.proofs.Idling.{unchanged}
-use Rattle.segpass.specs.Words.{ChangesNothing, DrawsNothing, GoesOn, is_held_in}
+use Rattle.segpass.specs.Words.{ChangesNothing, DrawsNothing, GoesOn, is_held_in, RaisesNothing}
 use Rattle.segindex.specs.Words.{IsBeingRead, IsRefillAnswer, Refills}
-use Rattle.segsolo.specs.Alone.{keys_stored_in, or_empty, item_of, state_at, CountsRows, IsAlone, ServesAlone}
+use Rattle.segsolo.specs.Alone.{frequencies_in, keys_stored_in, of_rows, or_empty, item_of, state_at, CountsRows, IsAlone, ServesAlone}
 use Rattle.segindex.proofs.OnePass.{nobody_inside}
 use Rattle.segindex.proofs.Refills.{refills_state, refills_used, other_states, other_used}
-use Rattle.segsolo.proofs.AlonePass.{more_seen, at_state, left, not_own, own_is, served, served_still}
+use Rattle.segsolo.proofs.AlonePass.{more_seen, at_state, left, not_own, own_is}
+use Rattle.segsolo.proofs.AloneRows.{frequencies_kept, frequencies_still, refilled_named, served, served_still}
 use Rattle.segsolo.proofs.AloneWidths.{same_widths}
 
 pub with_at-same : {A : Type 0} (f : ℕ → A) (place n : ℕ) (value : A) → place ≡ n → with_at f place value n ≡ value
@@ -32,7 +34,7 @@ with_at-other f place n value ne = rw (ne_eqb place n ne) refl
 pub by_segment : (P : ℕ → Type 0) (segment : ℕ) → P segment → ((other : ℕ) → segment ≢ other → P other) → (other : ℕ) → P other
 by_segment P segment here rest other = elim (cases_eq segment other) [ inl e ↦ subst P e here | inr ne ↦ rest other ne ]
 
-module _ (b : Board) (p q : Pass) (segment deadline : ℕ) (was : IsAlone b p) (on : GoesOn b p q) (undrawn : DrawsNothing p q) where
+module _ (b : Board) (p q : Pass) (segment deadline : ℕ) (was : IsAlone b p) (on : GoesOn b p q) (undrawn : DrawsNothing p q) (unraised : RaisesNothing p q) where
   -- what the model answers
   abbrev told : RefillAnswer
   told = cond (is_own b.shape segment) (refill_answer (state_at b.shape p) segment (or_empty (state_of p segment))) refill.NotYours
@@ -56,9 +58,9 @@ module _ (b : Board) (p q : Pass) (segment deadline : ℕ) (was : IsAlone b p) (
 
   still_serves : (given : RefillAnswer) → told ≡ given → ChangesNothing p q → after_refill segment deadline given (state_at b.shape p) ≡ state_at b.shape p
       → ServesAlone b (command.Refill segment deadline) (answer.Refill given) p q
-  still_serves given e nothing stays = served_still b (command.Refill segment deadline) (answer.Refill given) p q was on.quiet nothing (
+  still_serves given e nothing stays = served_still b (command.Refill segment deadline) (answer.Refill given) p q was on nothing (
     sym (ap answer.Refill e),
-    left b p q was on.quiet nothing (same_widths b p q was on undrawn) ∙ (sym stays ∙ sym (ap (λ g. after_refill segment deadline g (state_at b.shape p)) e)),
+    left b p q was on nothing (same_widths b p q was on undrawn) (frequencies_still b p q was on nothing.entries unraised) ∙ (sym stays ∙ sym (ap (λ g. after_refill segment deadline g (state_at b.shape p)) e)),
   )
 
   -- ---- Held
@@ -85,7 +87,7 @@ module _ (b : Board) (p q : Pass) (segment deadline : ℕ) (was : IsAlone b p) (
     more = more_seen b p q (entry.Refilled (number p) segment deadline ∷ []) was on.quiet refills.entry
 
     abbrev begun : Filling
-    begun = record { state = InUse; keys = [] }
+    begun = record { state = InUse; keys = []; frequencies = [] }
 
     state_then : (s : ℕ) → or_empty (state_of q s) ≡ (with_at (state_at b.shape p).filling segment begun s).state
     state_then = by_segment (λ s. or_empty (state_of q s) ≡ (with_at (state_at b.shape p).filling segment begun s).state) segment
@@ -99,11 +101,19 @@ module _ (b : Board) (p q : Pass) (segment deadline : ℕ) (was : IsAlone b p) (
         by true = refl
         by false = refl
 
+    frequencies_then : (s : ℕ) → frequencies_in q s ≡ (with_at (state_at b.shape p).filling segment begun s).frequencies
+    frequencies_then s =
+        (λ i. of_rows (λ row. frequencies_kept b p q was on (entry.Refilled (number p) segment deadline ∷ []) refills.entry (refl, tt) unraised s row i) 0 (length (keys_then s i))) ∙ by (eqb segment s)
+      where
+        by : (here : Bool) → of_rows (frequency_in (marked p) s) 0 (length (cond here begun ((state_at b.shape p).filling s)).keys) ≡ (cond here begun ((state_at b.shape p).filling s)).frequencies
+        by true = refl
+        by false = refl
+
     at_refilled : state_at b.shape q ≡ after_refill segment deadline refill.Refilled (state_at b.shape p)
     at_refilled =
         let widths = same_widths b p q was on undrawn in
         at_state b.shape q (after_refill segment deadline refill.Refilled (state_at b.shape p))
-        (ap (after b.shape) more) state_then keys_then (ap (λ (x : Plain). x.current) refills.plain) widths.wide widths.drawn (ap (λ (m : Memo). option_map item_of m.holding) refills.memo) (ap (λ (x : Plain). x.locked) refills.plain)
+        (ap (after b.shape) more) state_then keys_then frequencies_then (ap (λ (x : Plain). x.current) refills.plain) widths.wide widths.drawn (ap (λ (m : Memo). option_map item_of m.holding) refills.memo) (ap (λ (x : Plain). x.locked) refills.plain)
 
     counts : CountsRows q
     counts s count is = by_segment (λ s. used_of q s ≡ Some count → count ≡ length (with_at (state_at b.shape p).filling segment begun s).keys) segment
@@ -132,12 +142,12 @@ module _ (b : Board) (p q : Pass) (segment deadline : ℕ) (was : IsAlone b p) (
           (λ here. let no : refill.Refilled ≡ refill.Held = held (e ∙ ap Some evicted) here in cc)
           (λ free. free)
           (cases_Bool (is_held_in (holding p) segment))) in
-          served b (command.Refill segment deadline) (answer.Refill refill.Refilled) p q was on.quiet (counts refills)
+          served b (command.Refill segment deadline) (answer.Refill refill.Refilled) p q was on.quiet (counts refills) (refilled_named b p q segment deadline was on refills.entry)
           (sym (ap answer.Refill is_told), at_refilled refills ∙ sym (ap (λ g. after_refill segment deadline g (state_at b.shape p)) is_told))
 
 -- ---- served
 
-pub serves_refill : (b : Board) (p q : Pass) (segment deadline : ℕ) (told : RefillAnswer) → IsAlone b p → GoesOn b p q → DrawsNothing p q → IsRefillAnswer segment deadline told p q
+pub serves_refill : (b : Board) (p q : Pass) (segment deadline : ℕ) (told : RefillAnswer) → IsAlone b p → GoesOn b p q → DrawsNothing p q → RaisesNothing p q → IsRefillAnswer segment deadline told p q
     → ((told ≡ refill.NotYours) ↔ (state_of p segment ≡ None)) → ((told ≡ refill.NotEvicted) ↔ (state_of p segment ≡ Some InUse))
     → (state_of p segment ≡ Some Evicted → is_held_in (holding p) segment ≡ true → told ≡ refill.Held) → ServesAlone b (command.Refill segment deadline) (answer.Refill told) p q
-serves_refill b p q segment deadline told was on undrawn is not_yours in_use held = refill_serves b p q segment deadline was on undrawn told is not_yours in_use held
+serves_refill b p q segment deadline told was on undrawn unraised is not_yours in_use held = refill_serves b p q segment deadline was on undrawn unraised told is not_yours in_use held

@@ -1,16 +1,17 @@
 -- A new index with one pass is at the state at the start.
 use Rattle.std.proofs.Common.{◌≡◌, ℕ, zero, suc, ◌-◌, nat_le, cond, Bool, true, false, length, replicate, slice_get, List, [], ◌∷◌, ◌++◌, Some, None, option_map, refl, sym, ap, subst, ◌∙◌, arith}
 use Rattle.std.proofs.lemmas.List.{length_push}
+use Rattle.std.proofs.lemmas.Option.{none-some}
 use Rattle.segword.specs.Words.{Shape}
 use Rattle.segmodel.specs.declared.answer.SegState.TheVariants.{Empty}
 use Rattle.segmodel.specs.Words.{after, fresh}
 use Rattle.segmodel.proofs.Sound.{IsKept-fresh, IsKept-same}
 use Rattle.segcore.specs.Event as event
-use Rattle.segcore.specs.Words.{all_drawn, width}
+use Rattle.segcore.specs.Words.{all_drawn, frequency_in, last_at, slot, width}
 use Rattle.segcore.specs.Mark as mark
 use Rattle.segbase.specs.Words.{Board, IsNewPass, Pass, state_in, state_of, unfilled}
 use Rattle.segindex.specs.Words.{board_of, Index, IsNew}
-use Rattle.segsolo.specs.Alone.{keys_stored_in, or_empty, item_of, state_at, IsAlone}
+use Rattle.segsolo.specs.Alone.{keys_stored_in, of_rows, or_empty, item_of, state_at, IsAlone}
 use Rattle.segsolo.proofs.AlonePass.{at_state}
 use Rattle.segindex.proofs.Made.{new_quiet, none_used}
 
@@ -34,6 +35,7 @@ module _ (b : Board) (p : Pass) (new : IsNewPass b 0 p) where
       (ap (λ t. after b.shape (event.seen t)) new.nothing)
       empty
       (λ segment. ap (λ t. keys_stored_in (event.seen t) segment) new.nothing)
+      (λ segment. ap (λ t. of_rows (frequency_in (mark.marked t) segment) 0 (length (keys_stored_in (event.seen t) segment))) new.nothing)
       new.plain.current
       (λ bucket. ap (λ t. width (mark.marked t) bucket) new.nothing)
       (ap (λ t. all_drawn (mark.marked t)) new.nothing)
@@ -46,6 +48,7 @@ module _ (b : Board) (p : Pass) (new : IsNewPass b 0 p) where
       one = one;
       quiet = new_quiet b 0 p new;
       used = λ segment count is. none_used b 0 p segment count new.plain is ∙ sym (ap (λ t. length (keys_stored_in (event.seen t) segment)) new.nothing);
+      rows = λ key value segment row stands last. absurd (none-some (slot key segment row) (sym (ap (λ t. last_at (mark.marked t) key) new.nothing) ∙ last));
       kept = IsKept-same starts_fresh (IsKept-fresh b.shape);
     },
     starts_fresh,

@@ -1,6 +1,7 @@
 -- With one pass, a set, an add, a replace and a cas are served as the model says.
-use Rattle.std.proofs.Common.{◌≡◌, ◌≢◌, ℕ, ◌+◌, ◌&&◌, not, Bool, true, false, cond, List, [], ◌∷◌, ◌++◌, length, is_some, Option, Some, None, option_map, refl, sym, ap, subst, ◌∙◌, ⊎_elim, eqb, eq-eqb}
-use Rattle.std.proofs.lemmas.Bool.{cases_Bool, cond-true, cond-false, ne_eqb, eqb-true, and_left, false≢true}
+use Rattle.std.proofs.Common.{◌≡◌, ◌≢◌, ℕ, ◌+◌, ◌&&◌, not, Bool, true, false, cond, List, [], ◌∷◌, ◌++◌, length, is_some, Option, Some, None, option_map, refl, sym, ap, subst, ◌∙◌, ⊎_elim, arith, eqb, eq-eqb}
+use Rattle.std.specs.BTreeMap.{is_at}
+use Rattle.std.proofs.lemmas.Bool.{cases_Bool, cond-true, cond-false, ne_eqb, eqb-true, and_from, and_left, and_right, false≢true}
 use Rattle.std.proofs.lemmas.List.{length_push}
 use Rattle.std.proofs.lemmas.Option.{none-some, same_Some}
 use Rattle.segmodel.specs.declared.entry.Entry.TheVariants.{Wrote}
@@ -10,25 +11,32 @@ use Rattle.segmodel.specs.declared.answer.WriteAnswer.TheVariants as write
 use Rattle.segmodel.specs.declared.answer.Answer.TheVariants as answer
 use Rattle.segmodel.specs.declared.answer.Command.TheVariants as command
 use Rattle.segmodel.specs.Words.{adds_key, after, after_reply, bucket_of, chained, Filling, moment_of}
-use Rattle.segmodel.specs.Words.{is_locked, is_out_of_rows, is_store, key_of, lacks_word, may_chain}
+use Rattle.segmodel.specs.Words.{is_locked, is_out_of_rows, is_store, key_cmp, key_of, lacks_word, may_chain}
 use Rattle.segmodel.specs.Words.{placed, present, put, Reply, reply_in, reply_of_write, reply_to, standing}
 use Rattle.segmodel.specs.Words.{Request, ServesStore, State, stored, value_of, with_at, with_key}
 use Rattle.segmodel.specs.Words.{WriteAnswer}
-use Rattle.segmodel.proofs.HistoryLemmas.{absent_unless_stands}
+use Rattle.segmodel.proofs.HistoryLemmas.{absent_unless_stands, standing-put}
+use Rattle.segmodel.proofs.Keys.{at_self}
 use Rattle.segmodel.proofs.Stores.{serves_replied}
 use Rattle.segmodel.proofs.Stores as stores
+use Rattle.segcore.specs.Mark.{last_at, same_key}
+use Rattle.segcore.specs.Words.{cached, frequency_in, slot}
+use Rattle.segcore.proofs.Keys.{same_true}
 use Rattle.segbase.specs.declared.pass.Plain.{Plain}
-use Rattle.segbase.specs.Words.{Board, Memo, number, own_segment, OwnSegment, Pass, seen, state_in}
+use Rattle.segbase.specs.Words.{Board, marked, Memo, number, own_segment, OwnSegment, Pass, seen, state_in}
 use Rattle.segbase.specs.Words.{state_of, used_in, used_of}
 use Rattle.segbase.proofs.Known.{own_here, own_apart, own_kept}
 use Rattle.segstore.specs.Words.{has_room}
-use Rattle.segpass.specs.Words.{ChangesNothing}
+use Rattle.segpass.specs.Words.{AddsEntry, ChangesNothing, GoesOn, RaisesNothing}
 use Rattle.segwrite.specs.Words.{AddsReply, one_more, UsesRow, Writes}
-use Rattle.segsolo.specs.Alone.{keys_stored_in, or_empty, item_of, state_at, CountsRows, IsAlone, ServesAlone}
+use Rattle.segsolo.specs.Alone.{frequencies_in, keys_stored_in, of_rows, or_empty, item_of, state_at, CountsRows, IsAlone, NamesLastRows, ServesAlone}
 use Rattle.segindex.proofs.OnePass.{busy_by_lock}
-use Rattle.segsolo.proofs.AlonePass.{same_seen, more_seen, at_state, as_replied, counts_replied, reply_then, left, locked_here, free_here, served, served_still}
-use Rattle.segsolo.proofs.AloneRefills.{with_at-same, with_at-other, by_segment}
+use Rattle.segsolo.proofs.AloneBrought.{counts as brought_counts, frequencies_then, keys_then, named, state_then, used_more}
+use Rattle.segsolo.proofs.AlonePass.{same_seen, more_seen, at_state, as_replied, counts_replied, reply_then, left, locked_here, free_here}
+use Rattle.segsolo.proofs.AloneRows.{frequencies_replied, frequencies_still, brought_named, item_brought, next_row, row_in, served, served_still, still_named, reply_unstored}
 use Rattle.segsolo.proofs.AloneRefusals.{rows_of, out_of_rows, none_left}
+use Rattle.segsolo.proofs.Marks.{BringsItem}
+use Rattle.segsolo.proofs.Rows.{at_other, pushed}
 use Rattle.segsolo.proofs.AloneWidths.{same_widths, Grows, grown}
 
 -- a request that is answered otherwise than Stored would put no new key
@@ -44,49 +52,39 @@ adds_nothing (Delete key now) here stands version there store other = refl
 -- ---- a request that is stored
 
 module _ (b : Board) (p q : Pass) (request : Request) (segment : ℕ) (was : IsAlone b p) (more : seen q ≡ Wrote (number p) request reply.Stored (Some segment) ∷ seen p) (uses : UsesRow segment p q) where
+  stored_so : (s : ℕ) → keys_stored_in (seen q) s ≡ cond (eqb segment s) (keys_stored_in (seen p) s ++ key_of request ∷ []) (keys_stored_in (seen p) s)
+  stored_so s = ap (λ h. keys_stored_in h s) more
+
+  used : used_of p segment ≡ Some (length (keys_stored_in (seen p) segment))
+  used = rows_of b p segment was uses.current
+
   abbrev filling : ℕ → Filling
-  filling = with_at (state_at b.shape p).filling segment (with_key (key_of request) ((state_at b.shape p).filling segment))
-
-  keys_then : (s : ℕ) → keys_stored_in (seen q) s ≡ (filling s).keys
-  keys_then s = ap (λ h. keys_stored_in h s) more ∙ by_segment (λ s. cond (eqb segment s) (keys_stored_in (seen p) s ++ key_of request ∷ []) (keys_stored_in (seen p) s) ≡ (filling s).keys) segment
-      (cond-true (eqb segment segment) (keys_stored_in (seen p) segment ++ key_of request ∷ []) (keys_stored_in (seen p) segment) (eq-eqb segment segment refl)
-      ∙ sym (ap (λ (f : Filling). f.keys) (with_at-same (state_at b.shape p).filling segment segment (with_key (key_of request) ((state_at b.shape p).filling segment)) refl)))
-      (λ s ne. cond-false (eqb segment s) (keys_stored_in (seen p) s ++ key_of request ∷ []) (keys_stored_in (seen p) s) (ne_eqb segment s ne)
-      ∙ sym (ap (λ (f : Filling). f.keys) (with_at-other (state_at b.shape p).filling segment s (with_key (key_of request) ((state_at b.shape p).filling segment)) ne)))
-      s
-
-  states_kept : (s : ℕ) → state_of q s ≡ state_of p s
-  states_kept s = ap (λ (x : Plain). state_in (own_segment x s)) uses.plain ∙ own_kept p.plain segment one_more state_in same s
-    where
-      same : (o : Option OwnSegment) → state_in (option_map one_more o) ≡ state_in o
-      same None = refl
-      same (Some own) = refl
-
-  used_more : (used : ℕ) → used_of p segment ≡ Some used → used_of q segment ≡ Some (used + 1)
-  used_more used is = ap (λ (x : Plain). used_in (own_segment x segment)) uses.plain ∙ (ap used_in (own_here p.plain segment one_more) ∙ more_in (own_segment p.plain segment) is)
-    where
-      more_in : (o : Option OwnSegment) → used_in o ≡ Some used → used_in (option_map one_more o) ≡ Some (used + 1)
-      more_in None is = absurd (none-some used is)
-      more_in (Some own) is = ap (λ n. Some (n + 1)) (same_Some own.used used is)
-
-  used_elsewhere : (s : ℕ) → s ≢ segment → used_of q s ≡ used_of p s
-  used_elsewhere s ne = ap (λ (x : Plain). used_in (own_segment x s)) uses.plain ∙ ap used_in (own_apart p.plain segment one_more s ne)
-
-  state_then : (s : ℕ) → or_empty (state_of q s) ≡ (filling s).state
-  state_then s = ap or_empty (states_kept s) ∙ by (eqb segment s) (eqb-true segment s)
-    where
-      by : (here : Bool) → (here ≡ true → segment ≡ s) → or_empty (state_of p s) ≡ (cond here (with_key (key_of request) ((state_at b.shape p).filling segment)) ((state_at b.shape p).filling s)).state
-      by true same = ap (λ s. or_empty (state_of p s)) (sym (same refl))
-      by false same = refl
+  filling = with_at (state_at b.shape p).filling segment (with_key (key_of request) 1 ((state_at b.shape p).filling segment))
 
   counts : CountsRows q
-  counts s count is = by_segment (λ s. used_of q s ≡ Some count → count ≡ length (filling s).keys) segment
-      (λ is. same_Some count (length (keys_stored_in (seen p) segment) + 1) (sym is ∙ used_more (length (keys_stored_in (seen p) segment)) (rows_of b p segment was uses.current))
-      ∙ (sym (length_push (keys_stored_in (seen p) segment) (key_of request))
-      ∙ sym (ap (λ (f : Filling). length f.keys) (with_at-same (state_at b.shape p).filling segment segment (with_key (key_of request) ((state_at b.shape p).filling segment)) refl))))
-      (λ s ne is. was.used s count (sym (used_elsewhere s (λ e. ne (sym e))) ∙ is)
-      ∙ sym (ap (λ (f : Filling). length f.keys) (with_at-other (state_at b.shape p).filling segment s (with_key (key_of request) ((state_at b.shape p).filling segment)) ne)))
-      s is ∙ ap (λ (keys : List (List ℕ)). length keys) (sym (keys_then s))
+  counts = brought_counts b p q (key_of request) 1 segment was stored_so used uses.plain
+
+  -- the item names the row that was used
+  module _ (on : GoesOn b p q) (adds : AddsEntry (Wrote (number p) request reply.Stored (Some segment)) p q) (unraised : RaisesNothing p q) where
+    brought : BringsItem (key_of request) segment 1 (marked p) (marked q)
+    brought = item_brought b p q was on (Wrote (number p) request reply.Stored (Some segment)) (key_of request) segment adds refl unraised
+
+    stands_now : (key : List ℕ) → standing (after b.shape (seen q)) key ≡ cond (is_at (key_cmp key) (key_of request)) (Some (cached (value_of request) segment)) (standing (after b.shape (seen p)) key)
+    stands_now key = ap (λ h. standing (after b.shape h) key) more ∙ standing-put b.shape (key_of request) (value_of request) segment (after b.shape (seen p)) key
+
+    row_is : brought.row ≡ length (keys_stored_in (seen p) segment)
+    row_is = next_row b p q (key_of request) segment brought.row (length (keys_stored_in (seen p) segment)) was.quiet on.quiet
+        (row_in b q (key_of request) (value_of request) segment brought.row on.quiet
+        (stands_now (key_of request) ∙ cond-true (is_at (key_cmp (key_of request)) (key_of request)) (Some (cached (value_of request) segment)) (standing (after b.shape (seen p)) (key_of request)) (at_self (key_of request)))
+        (brought.lasts (key_of request) ∙ cond-true (same_key (key_of request) (key_of request)) (Some (slot (key_of request) segment brought.row)) (last_at (marked p) (key_of request)) (same_true (key_of request) (key_of request) refl)))
+        used (used_more b p q (key_of request) 1 segment was stored_so used uses.plain) brought.unlinked brought.linked
+
+    frequencies_as_model : (s : ℕ) → frequencies_in q s ≡ (filling s).frequencies
+    frequencies_as_model = frequencies_then b p q (key_of request) 1 segment was stored_so used uses.plain on.quiet brought row_is
+
+    stored_named : NamesLastRows b.shape q
+    stored_named = named b p q (key_of request) 1 segment was stored_so used uses.plain on.quiet brought row_is
+        (λ other ne. stands_now other ∙ cond-false (is_at (key_cmp other) (key_of request)) (Some (cached (value_of request) segment)) (standing (after b.shape (seen p)) other) (at_other other (key_of request) (λ e. ne (sym e))))
 
   -- the state with one bucket more in the chain, where a word lacks
   longer : Bool → State
@@ -102,16 +100,16 @@ module _ (b : Board) (p q : Pass) (request : Request) (segment : ℕ) (was : IsA
   placed_alike true = refl
   placed_alike false = refl
 
-  at_stored : Grows b.shape p q request → state_at b.shape q ≡ after_reply b.shape request reply.Stored (state_at b.shape p)
+  at_stored : ((s : ℕ) → frequencies_in q s ≡ (filling s).frequencies) → Grows b.shape p q request → state_at b.shape q ≡ after_reply b.shape request reply.Stored (state_at b.shape p)
   unfolding longer
-  at_stored grows =
+  at_stored frequencies grows =
       at_state b.shape q (record (state_at b.shape p) {
         cache = put b.shape (key_of request) (value_of request) segment (after b.shape (seen p));
         filling = filling;
         width = (longer (lacks_word b.shape (state_at b.shape p) request)).width;
         drawn = (longer (lacks_word b.shape (state_at b.shape p) request)).drawn;
       })
-      (ap (after b.shape) more) state_then keys_then (ap (λ (x : Plain). x.current) uses.plain) grows.wide grows.drawn
+      (ap (after b.shape) more) (state_then b p q (key_of request) 1 segment was stored_so used uses.plain) (keys_then b p q (key_of request) 1 segment was stored_so used uses.plain) frequencies (ap (λ (x : Plain). x.current) uses.plain) grows.wide grows.drawn
       (ap (λ (m : Memo). option_map item_of m.holding) uses.memo) (ap (λ (x : Plain). x.locked) uses.plain)
       ∙ (placed_alike (lacks_word b.shape (state_at b.shape p) request) ∙ sym (ap (λ current. stored b.shape request current (state_at b.shape p)) uses.current))
 
@@ -142,9 +140,9 @@ module _ (b : Board) (p q : Pass) (request : Request) (store : is_store request 
     unlocked rows other = free_here b.shape p (key_of request) (λ locked. other (is.locked (rows_left rows) locked))
 
     refused : told ≢ write.Stored → ChangesNothing p q → ServesStore b.shape (state_at b.shape p) request told (state_at b.shape p) → ServesAlone b (command.Write request) (answer.Write told) p q
-    refused unstored nothing serves = served_still b (command.Write request) (answer.Write told) p q was is.on.quiet nothing
+    refused unstored nothing serves = served_still b (command.Write request) (answer.Write told) p q was is.on nothing
         (stores.serves_write b.shape (state_at b.shape p) (state_at b.shape q) request told store
-        (subst (ServesStore b.shape (state_at b.shape p) request told) (sym (left b p q was is.on.quiet nothing (same_widths b p q was is.on (is.draws_nothing unstored)))) serves))
+        (subst (ServesStore b.shape (state_at b.shape p) request told) (sym (left b p q was is.on nothing (same_widths b p q was is.on (is.draws_nothing unstored)) (frequencies_still b p q was is.on nothing.entries is.enters.raises_nothing))) serves))
 
     -- replied by an entry that stores nothing
     replied : (r : Reply) → told ≢ write.NoRoom → told ≢ write.Busy → r ≢ reply.Stored → reply_of_write told ≡ Some r → AddsReply request r p q
@@ -153,6 +151,7 @@ module _ (b : Board) (p q : Pass) (request : Request) (store : is_store request 
     replied r rows other unstored is_reply answered keeps leaves stays =
         served b (command.Write request) (answer.Write told) p q was is.on.quiet
         (counts_replied b p q (Wrote (number p) request r None) was is.on.quiet answered.0 answered.1 keeps)
+        (still_named b p q (Wrote (number p) request r None ∷ []) was is.on answered.0 (reply_unstored (number p) request r, tt))
         (stores.serves_write b.shape (state_at b.shape p) (state_at b.shape q) request told store
         (serves_replied b.shape (state_at b.shape p) request told (state_at b.shape q) (has_rows rows) (unlocked rows other)
         (and_left (lacks_word b.shape (state_at b.shape p) request) (not (may_chain b.shape (state_at b.shape p) (bucket_of b.shape (key_of request))))
@@ -167,6 +166,7 @@ module _ (b : Board) (p q : Pass) (request : Request) (store : is_store request 
         same_state : state_at b.shape q ≡ state_at b.shape p
         same_state = as_replied b p q (Wrote (number p) request r None) was is.on.quiet answered.0 answered.1 answered.2 keeps
             (same_widths b p q was is.on (is.draws_nothing (λ e. unstored (same_Some r reply.Stored (sym is_reply ∙ ap reply_of_write e)))))
+            (frequencies_replied b p q was is.on (Wrote (number p) request r None) answered.0 (reply_unstored (number p) request r).0 is.enters.raises_nothing)
             ∙ ap (λ cache. record (state_at b.shape p) { cache = cache }) leaves
 
   write_serves : (told : WriteAnswer) → Writes b request told p q → ServesAlone b (command.Write request) (answer.Write told) p q
@@ -175,9 +175,10 @@ module _ (b : Board) (p q : Pass) (request : Request) (store : is_store request 
       let more : seen q ≡ Wrote (number p) request reply.Stored (Some segment) ∷ seen p = more_seen b p q (Wrote (number p) request reply.Stored (Some segment) ∷ []) was is.on.quiet is.answer.1 in
       let grows = grown b p q request segment was is.on more is.grows in
       served b (command.Write request) (answer.Write write.Stored) p q was is.on.quiet (counts b p q request segment was more uses)
+      (stored_named b p q request segment was more uses is.on is.answer.1 is.enters.raises_nothing)
       (stores.serves_write b.shape (state_at b.shape p) (state_at b.shape q) request write.Stored store
       (serves_replied b.shape (state_at b.shape p) request write.Stored (state_at b.shape q) (has_rows write.Stored is (λ e. cc)) (unlocked write.Stored is (λ e. cc) (λ e. cc)) grows.fits
-      reply.Stored (reply_then b p q request reply.Stored (Some segment) is.on.quiet more) refl (at_stored b p q request segment was more uses grows)))
+      reply.Stored (reply_then b p q request reply.Stored (Some segment) is.on.quiet more) refl (at_stored b p q request segment was more uses (frequencies_as_model b p q request segment was more uses is.on is.answer.1 is.enters.raises_nothing) grows)))
   write_serves write.NotStored is = replied write.NotStored is reply.NotStored (λ e. cc) (λ e. cc) (λ e. cc) refl is.answer (λ s. refl) refl refl
   write_serves write.Exists is = replied write.Exists is reply.Exists (λ e. cc) (λ e. cc) (λ e. cc) refl is.answer (λ s. refl) refl refl
   write_serves write.NotFound is = replied write.NotFound is reply.NotFound (λ e. cc) (λ e. cc) (λ e. cc) refl is.answer (λ s. refl) refl refl

@@ -17,7 +17,7 @@ all_joined [] old = omega arith
 all_joined (drawn other ∷ more) old = let rest = all_joined more old in omega arith
 all_joined (mark ∷ more) old = all_joined more old
 
-entries_joined : (more old : List Mark) → entries (more ++ old) ≡ entries more ++ entries old
+pub entries_joined : (more old : List Mark) → entries (more ++ old) ≡ entries more ++ entries old
 entries_joined [] old = refl
 entries_joined (enters added ∷ more) old = ap (λ l. added ∷ l) (entries_joined more old)
 entries_joined (_ ∷ more) old = entries_joined more old

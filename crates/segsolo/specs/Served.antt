@@ -18,10 +18,10 @@ StartsAlone = (shape : Shape) (index : Index) (passes : List Pass) (p : Pass) �
 
 -- ---- commands
 
--- a command
+-- a command, whose hit raises a frequency wherever it may: the draw is 0
 abbrev pub CommandIsServed : Type 0
-CommandIsServed = (b : Board) (p q : Pass) (command : Command) (draw : ℕ) (told : Answer) → IsAlone b p
-    → AnswersCommand b command draw told p q → ServesAlone b command told p q
+CommandIsServed = (b : Board) (p q : Pass) (command : Command) (told : Answer) → IsAlone b p
+    → AnswersCommand b command 0 told p q → ServesAlone b command told p q
 
 -- ---- locks
 

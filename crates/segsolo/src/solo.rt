@@ -12,7 +12,7 @@ use segmodel::{Answer, Command, PlainFault, Shelf};
 use segword::Shape;
 use std::alloc::Global;
 
-// The draw of each hit: no answer shows a frequency.
+// The draw of each hit: it raises the frequency wherever it may, as in the model.
 const DRAW: u32 = 0;
 
 /// An index with its one pass.

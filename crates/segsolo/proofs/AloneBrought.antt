@@ -1,0 +1,107 @@
+-- With one pass, an item that an entry brings into a segment takes the next row there: the keys, the frequencies and the used rows are then those of the model.
+use Rattle.std.proofs.Common.{◌≡◌, ◌≢◌, ℕ, ◌+◌, ◌&&◌, Bool, true, false, cond, List, [], ◌∷◌, ◌++◌, length, Option, Some, None, option_map, refl, sym, ap, ◌∙◌, arith, eqb, eq-eqb}
+use Rattle.std.proofs.lemmas.Bool.{cond-true, cond-false, ne_eqb, eqb-true, and_from, and_right}
+use Rattle.std.proofs.lemmas.List.{length_push}
+use Rattle.std.proofs.lemmas.Option.{none-some, same_Some}
+use Rattle.segmodel.specs.Words.{after, Filling, standing, with_at, with_key}
+use Rattle.segcore.specs.Words.{frequency_in}
+use Rattle.segbase.specs.declared.pass.Plain.{Plain}
+use Rattle.segbase.specs.Words.{Board, marked, own_segment, OwnSegment, Pass, seen, state_in}
+use Rattle.segbase.specs.Words.{state_of, used_in, used_of, with_own}
+use Rattle.segbase.proofs.Known.{own_here, own_apart, own_kept}
+use Rattle.segpass.specs.Words.{IsQuiet}
+use Rattle.segwrite.specs.Words.{one_more}
+use Rattle.segsolo.specs.Alone.{frequencies_in, keys_stored_in, of_rows, or_empty, state_at, CountsRows, IsAlone, NamesLastRows}
+use Rattle.segsolo.proofs.AloneRefills.{with_at-same, with_at-other, by_segment}
+use Rattle.segsolo.proofs.AloneRows.{brought_named}
+use Rattle.segsolo.proofs.Marks.{BringsItem}
+use Rattle.segsolo.proofs.Rows.{pushed}
+
+module _ (b : Board) (p q : Pass) (key : List ℕ) (frequency segment : ℕ) (was : IsAlone b p)
+    (stored : (s : ℕ) → keys_stored_in (seen q) s ≡ cond (eqb segment s) (keys_stored_in (seen p) s ++ key ∷ []) (keys_stored_in (seen p) s))
+    (used : used_of p segment ≡ Some (length (keys_stored_in (seen p) segment)))
+    (plain : q.plain ≡ with_own segment one_more p.plain) where
+  abbrev old : ℕ → Filling
+  old = (state_at b.shape p).filling
+
+  abbrev longer : Filling
+  longer = with_key key frequency ((state_at b.shape p).filling segment)
+
+  abbrev filling : ℕ → Filling
+  filling = with_at (state_at b.shape p).filling segment longer
+
+  -- ---- keys
+
+  stored_here : keys_stored_in (seen q) segment ≡ keys_stored_in (seen p) segment ++ key ∷ []
+  stored_here = stored segment ∙ cond-true (eqb segment segment) (keys_stored_in (seen p) segment ++ key ∷ []) (keys_stored_in (seen p) segment) (eq-eqb segment segment refl)
+
+  stored_elsewhere : (s : ℕ) → segment ≢ s → keys_stored_in (seen q) s ≡ keys_stored_in (seen p) s
+  stored_elsewhere s ne = stored s ∙ cond-false (eqb segment s) (keys_stored_in (seen p) s ++ key ∷ []) (keys_stored_in (seen p) s) (ne_eqb segment s ne)
+
+  pub keys_then : (s : ℕ) → keys_stored_in (seen q) s ≡ (filling s).keys
+  keys_then = by_segment (λ s. keys_stored_in (seen q) s ≡ (filling s).keys) segment
+      (stored_here ∙ sym (ap (λ (f : Filling). f.keys) (with_at-same old segment segment longer refl)))
+      (λ s ne. stored_elsewhere s ne ∙ sym (ap (λ (f : Filling). f.keys) (with_at-other old segment s longer ne)))
+
+  -- ---- the plain part
+
+  states_kept : (s : ℕ) → state_of q s ≡ state_of p s
+  states_kept s = ap (λ (x : Plain). state_in (own_segment x s)) plain ∙ own_kept p.plain segment one_more state_in same s
+    where
+      same : (o : Option OwnSegment) → state_in (option_map one_more o) ≡ state_in o
+      same None = refl
+      same (Some own) = refl
+
+  pub used_more : used_of q segment ≡ Some (length (keys_stored_in (seen p) segment) + 1)
+  used_more = ap (λ (x : Plain). used_in (own_segment x segment)) plain ∙ (ap used_in (own_here p.plain segment one_more) ∙ more_in (own_segment p.plain segment) used)
+    where
+      more_in : (o : Option OwnSegment) → used_in o ≡ Some (length (keys_stored_in (seen p) segment)) → used_in (option_map one_more o) ≡ Some (length (keys_stored_in (seen p) segment) + 1)
+      more_in None is = absurd (none-some (length (keys_stored_in (seen p) segment)) is)
+      more_in (Some own) is = ap (λ n. Some (n + 1)) (same_Some own.used (length (keys_stored_in (seen p) segment)) is)
+
+  used_elsewhere : (s : ℕ) → s ≢ segment → used_of q s ≡ used_of p s
+  used_elsewhere s ne = ap (λ (x : Plain). used_in (own_segment x s)) plain ∙ ap used_in (own_apart p.plain segment one_more s ne)
+
+  pub state_then : (s : ℕ) → or_empty (state_of q s) ≡ (filling s).state
+  state_then s = ap or_empty (states_kept s) ∙ by (eqb segment s) (eqb-true segment s)
+    where
+      by : (here : Bool) → (here ≡ true → segment ≡ s) → or_empty (state_of p s) ≡ (cond here longer (old s)).state
+      by true same = ap (λ s. or_empty (state_of p s)) (sym (same refl))
+      by false same = refl
+
+  pub counts : CountsRows q
+  counts s count is = by_segment (λ s. used_of q s ≡ Some count → count ≡ length (filling s).keys) segment
+      (λ is. same_Some count (length (keys_stored_in (seen p) segment) + 1) (sym is ∙ used_more)
+      ∙ (sym (length_push (keys_stored_in (seen p) segment) key) ∙ sym (ap (λ (f : Filling). length f.keys) (with_at-same old segment segment longer refl))))
+      (λ s ne is. was.used s count (sym (used_elsewhere s (λ e. ne (sym e))) ∙ is) ∙ sym (ap (λ (f : Filling). length f.keys) (with_at-other old segment s longer ne)))
+      s is ∙ ap (λ (keys : List (List ℕ)). length keys) (sym (keys_then s))
+
+  -- ---- the item names the row that was used
+
+  module _ (quiet : IsQuiet b q) (brought : BringsItem key segment frequency (marked p) (marked q)) (row_is : brought.row ≡ length (keys_stored_in (seen p) segment)) where
+    abbrev next : ℕ
+    next = length (keys_stored_in (seen p) segment)
+
+    -- the new row has its frequency, and the others what they had
+    frequency_then : (s row : ℕ) → frequency_in (marked q) s row ≡ cond (eqb segment s && eqb next row) frequency (frequency_in (marked p) s row)
+    frequency_then s row = brought.frequencies s row ∙ ap (λ n. cond (eqb segment s && eqb n row) frequency (frequency_in (marked p) s row)) row_is
+
+    pub frequencies_then : (s : ℕ) → frequencies_in q s ≡ (filling s).frequencies
+    frequencies_then s = by_segment (λ s. frequencies_in q s ≡ (filling s).frequencies) segment here elsewhere s
+      where
+        here : frequencies_in q segment ≡ (filling segment).frequencies
+        here =
+            (λ i. of_rows (frequency_in (marked q) segment) 0 (length (stored_here i)))
+            ∙ (pushed (frequency_in (marked q) segment) (frequency_in (marked p) segment) frequency (keys_stored_in (seen p) segment) key
+            (λ row low. frequency_then segment row ∙ ap (λ t. cond t frequency (frequency_in (marked p) segment row)) (ap (λ t. eqb segment segment && t) (ne_eqb next row (λ e. omega (arith, low))) ∙ and_right (eqb segment segment) false refl))
+            (frequency_then segment next ∙ ap (λ t. cond t frequency (frequency_in (marked p) segment next)) (and_from (eqb segment segment) (eqb next next) (eq-eqb segment segment refl) (eq-eqb next next refl)))
+            ∙ sym (ap (λ (f : Filling). f.frequencies) (with_at-same old segment segment longer refl)))
+
+        elsewhere : (other : ℕ) → segment ≢ other → frequencies_in q other ≡ (filling other).frequencies
+        elsewhere other apart =
+            (λ i. of_rows (λ row. (frequency_then other row ∙ ap (λ t. cond (t && eqb next row) frequency (frequency_in (marked p) other row)) (ne_eqb segment other apart)) i) 0 (length (stored_elsewhere other apart i)))
+            ∙ sym (ap (λ (f : Filling). f.frequencies) (with_at-other old segment other longer apart))
+
+    -- what stands under other keys stood there before
+    pub named : ((other : List ℕ) → key ≢ other → standing (after b.shape (seen q)) other ≡ standing (after b.shape (seen p)) other) → NamesLastRows b.shape q
+    named others = brought_named b p q key frequency segment was quiet brought row_is stored_here (λ s ne. stored_elsewhere s (λ e. ne (sym e))) others

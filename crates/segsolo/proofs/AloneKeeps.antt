@@ -1,0 +1,193 @@
+-- With one pass, a keep is served as the model says.
+use Rattle.std.proofs.Common.{◌≡◌, ◌≢◌, ℕ, zero, suc, ◌+◌, ◌<◌, ◌≤◌, ◌==◌, ◌&&◌, Bool, true, false, cond, eqb, not, drop, length, Option, Some, None, refl, sym, ap, ◌∙◌, subst, inl, inr, ⊎_elim, arith, eq-eqb, unwrap_or}
+use Rattle.std.proofs.Math.ListN.{drop_of_length-le}
+use Rattle.std.proofs.lemmas.Bool.{cases_eq, eqb-true, ne_eqb}
+use Rattle.std.proofs.lemmas.Option.{none-some, same_Some}
+use Rattle.segmodel.specs.declared.answer.SegState.TheVariants.{Empty, InUse, Evicted}
+use Rattle.segmodel.specs.declared.answer.KeepAnswer.TheVariants as keep
+use Rattle.segmodel.specs.declared.answer.Answer.TheVariants as answer
+use Rattle.segmodel.specs.declared.answer.Command.TheVariants as command
+use Rattle.segmodel.specs.Words.{after, is_in_use, is_own, keep_into, keep_rows, KeepAnswer, keeps}
+use Rattle.segmodel.specs.Words.{SegState, State}
+use Rattle.segbase.specs.Words.{Board, current_of, deadline_of, Pass, seen, state_of, used_of}
+use Rattle.segstore.proofs.Keeping.{knows_deadline}
+use Rattle.segevict.specs.Words.{GoesInOrder, GoesOver, IsKeepAnswer, IsKeepTarget, KeepsItems}
+use Rattle.segsolo.specs.Alone.{frequencies_in, keys_stored_in, or_empty, state_at, IsAlone, ServesAlone}
+use Rattle.segsolo.proofs.AlonePass.{not_own, own_is}
+use Rattle.segsolo.proofs.AloneMoves.{EndsAt, GoesOnTo, is_blocked, leaves, moves_item, rows_left, runs_out}
+
+-- ---- row after row
+
+-- the first rows were gone over: the rows after them come to what all rows came to at the start
+record HasGoneOver (b : Board) (segment into cutoff row count : ℕ) (p q : Pass) : Type 0 where
+  alone : IsAlone b q
+  current : current_of q ≡ Some into
+  used : length (keys_stored_in (seen q) segment) ≡ length (keys_stored_in (seen p) segment)
+  rest : rows_left b segment into cutoff 0 0 (state_at b.shape p) ≡ rows_left b segment into cutoff row count (state_at b.shape q)
+
+module _ (b : Board) (segment into cutoff : ℕ) (p : Pass) (was : IsAlone b p) (current : current_of p ≡ Some into) (apart : segment ≢ into) where
+  one_more : (row count more : ℕ) (middle q : Pass) → HasGoneOver b segment into cutoff row count p middle → GoesOnTo b segment into cutoff row count more middle q
+      → HasGoneOver b segment into cutoff (suc row) more p q
+  one_more row count more middle q far step = record { alone = step.alone; current = step.current ∙ far.current; used = step.used ∙ far.used; rest = far.rest ∙ step.rest }
+
+  within : (row : ℕ) (middle : Pass) → row < length (keys_stored_in (seen p) segment) → length (keys_stored_in (seen middle) segment) ≡ length (keys_stored_in (seen p) segment)
+      → row < length (keys_stored_in (seen middle) segment)
+  within row middle few same = subst (λ n. row < n) (sym same) few
+
+  goes_over : (row count : ℕ) (q : Pass) → row ≤ length (keys_stored_in (seen p) segment) → GoesOver b segment into cutoff row count p q → HasGoneOver b segment into cutoff row count p q
+  goes_over zero count q few (none, same) = subst (λ n. HasGoneOver b segment into cutoff 0 n p q) (sym none)
+      (subst (λ r. HasGoneOver b segment into cutoff 0 0 p r) (sym same) (record { alone = was; current = current; used = refl; rest = refl }))
+  goes_over (suc row) count q few (middle, inl (before, counted, earlier, moved)) =
+      let far = goes_over row before middle (omega (arith, few)) earlier in
+      subst (λ n. HasGoneOver b segment into cutoff (suc row) n p q) (sym counted) (one_more row before (before + 1) middle q far
+      (moves_item b segment into cutoff row before middle q far.alone far.current (within row middle (omega (arith, few)) far.used) apart moved))
+  goes_over (suc row) count q few (middle, inr (earlier, left)) =
+      let far = goes_over row count middle (omega (arith, few)) earlier in
+      one_more row count count middle q far (leaves b segment into cutoff row count middle q far.alone far.current (within row middle (omega (arith, few)) far.used) left)
+
+  -- the pass is alone at the end, and all rows came to the answer
+  abbrev ComesTo : KeepAnswer → Pass → Type 0
+  ComesTo told q = IsAlone b q × (rows_left b segment into cutoff 0 0 (state_at b.shape p) ≡ (told, state_at b.shape q))
+
+  ended : (row count : ℕ) (told : KeepAnswer) (middle q : Pass) → HasGoneOver b segment into cutoff row count p middle → EndsAt b segment into cutoff row count told middle q → ComesTo told q
+  ended row count told middle q far step = (step.alone, far.rest ∙ step.end)
+
+  -- after the last row nothing is left
+  at_end : (row count : ℕ) (q : Pass) → row ≡ length (keys_stored_in (seen p) segment) → HasGoneOver b segment into cutoff row count p q → ComesTo (keep.Kept count) q
+  at_end row count q all far = (
+    far.alone,
+    far.rest ∙ ap (λ keys. keep_rows b.shape segment into cutoff keys (drop row (frequencies_in q segment)) count (state_at b.shape q))
+        (drop_of_length-le (keys_stored_in (seen q) segment) (let same = far.used in omega arith)),
+  )
+
+  in_order : (told : KeepAnswer) (q : Pass) → GoesInOrder b segment into cutoff told p q → ComesTo told q
+  in_order (keep.Kept count) q (used, is, over) =
+      let all : used ≡ length (keys_stored_in (seen p) segment) = was.used segment used is in
+      at_end used count q all (goes_over used count q (omega arith) over)
+  in_order keep.NotYours q none = absurd none
+  in_order (keep.NoRoom count) q (row, used, is, few, middle, over, out) =
+      let all : used ≡ length (keys_stored_in (seen p) segment) = was.used segment used is in
+      let far = goes_over row count middle (omega arith) over in
+      ended row count (keep.NoRoom count) middle q far (runs_out b segment into cutoff row count middle q far.alone far.current (within row middle (omega arith) far.used) out)
+  in_order (keep.Busy count) q (row, used, is, few, middle, over, busy) =
+      let all : used ≡ length (keys_stored_in (seen p) segment) = was.used segment used is in
+      let far = goes_over row count middle (omega arith) over in
+      ended row count (keep.Busy count) middle q far (is_blocked b segment into cutoff row count middle q far.alone far.current (within row middle (omega arith) far.used) busy)
+
+-- ---- the answer
+
+module _ (b : Board) (p q : Pass) (segment cutoff : ℕ) (told : KeepAnswer) (was : IsAlone b p) (is : KeepsItems b segment cutoff told p q) where
+  abbrev old : State
+  old = state_at b.shape p
+
+  -- the model answers so, and leaves this state
+  abbrev AnswersSo : Type 0
+  AnswersSo = IsAlone b q × (keeps b.shape old segment cutoff ≡ (told, state_at b.shape q))
+
+  -- nothing was done
+  unchanged : (answered : KeepAnswer) → (told ≡ answered) × (q ≡ p) → keeps b.shape old segment cutoff ≡ (answered, old) → AnswersSo
+  unchanged answered so model = (subst (IsAlone b) (sym so.1) was, model ∙ (λ i. (sym so.0 i, state_at b.shape (sym so.1 i))))
+
+  of_state : (in_use : Bool) → is_own b.shape segment ≡ true → is_in_use (old.filling segment).state ≡ in_use
+      → keeps b.shape old segment cutoff ≡ cond in_use (keep_into b.shape old segment cutoff (current_of p)) (keep.Kept 0, old)
+  of_state in_use own used = λ i. cond (not (own i)) (keep.NotYours, old) (cond (used i) (keep_into b.shape old segment cutoff (current_of p)) (keep.Kept 0, old))
+
+  -- ---- one that isn't in use
+
+  idle : state_of p segment ≢ Some InUse → state_of p segment ≢ None → (told ≡ keep.Kept 0) × (q ≡ p)
+  idle unused own = by told is.answer is.not_yours.0
+    where
+      by : (given : KeepAnswer) → IsKeepAnswer b.shape segment cutoff given p q → (given ≡ keep.NotYours → state_of p segment ≡ None) → (given ≡ keep.Kept 0) × (q ≡ p)
+      by (keep.Kept count) (inl moves) yours = absurd (unused moves.0.0)
+      by (keep.Kept count) (inr none) yours = (ap keep.Kept none.1, none.2)
+      by keep.NotYours same yours = absurd (own (yours refl))
+      by (keep.NoRoom count) (inl none) yours = absurd (unused none.0)
+      by (keep.NoRoom count) (inr moves) yours = absurd (unused moves.0.0)
+      by (keep.Busy count) busy yours = absurd (unused busy.0.0)
+
+  -- ---- one that is
+
+  module _ (in_use : state_of p segment ≡ Some InUse) where
+    own : is_own b.shape segment ≡ true
+    own = own_is b p segment InUse was in_use
+
+    into_is : keeps b.shape old segment cutoff ≡ keep_into b.shape old segment cutoff (current_of p)
+    into_is = of_state true own (ap (λ o. is_in_use (or_empty o)) in_use)
+
+    untargeted : ((into : ℕ) → ¬ (IsKeepTarget segment into p)) → (told ≡ keep.NoRoom 0) × (q ≡ p)
+    untargeted none = by told is.answer is.not_yours.0
+      where
+        by : (given : KeepAnswer) → IsKeepAnswer b.shape segment cutoff given p q → (given ≡ keep.NotYours → state_of p segment ≡ None) → (given ≡ keep.NoRoom 0) × (q ≡ p)
+        by (keep.Kept count) (inl moves) yours = absurd (none moves.0.1.0 moves.0.1.1)
+        by (keep.Kept count) (inr unused) yours = absurd (unused.0 in_use)
+        by keep.NotYours same yours = absurd (none-some InUse (sym (yours refl) ∙ in_use))
+        by (keep.NoRoom count) (inl nothing) yours = (ap keep.NoRoom nothing.2, nothing.3)
+        by (keep.NoRoom count) (inr moves) yours = absurd (none moves.0.1.0 moves.0.1.1)
+        by (keep.Busy count) busy yours = absurd (none busy.0.1.0 busy.0.1.1)
+
+    -- both deadlines are those that the cache has
+    deadline_is : (other : ℕ) → state_of p other ≡ Some InUse → deadline_of p other ≡ Some (old.cache.deadline other)
+    deadline_is other known =
+        let here = knows_deadline p other InUse known in here ∙ ap Some (sym (was.quiet.segments.deadlines other (unwrap_or (deadline_of p other) 0) here))
+
+    module _ (into : ℕ) (current : current_of p ≡ Some into) where
+      deadline_into : deadline_of p into ≡ Some (old.cache.deadline into)
+      deadline_into = deadline_is into (was.quiet.segments.in_use into current)
+
+      only : (other : ℕ) → current_of p ≡ Some other → into ≡ other
+      only other also = same_Some into other (sym current ∙ also)
+
+      -- it is the segment itself
+      itself : segment ≡ into → AnswersSo
+      itself same = unchanged (keep.NoRoom 0) (untargeted (λ other target. target.other (same ∙ only other target.current)))
+          (into_is ∙ (ap (keep_into b.shape old segment cutoff) current
+          ∙ (λ i. cond (not (eq-eqb segment into same i) && (old.cache.deadline segment == old.cache.deadline into)) (rows_left b segment into cutoff 0 0 old) (keep.NoRoom 0, old))))
+
+      -- its deadline is another one
+      elsewhen : segment ≢ into → old.cache.deadline segment ≢ old.cache.deadline into → AnswersSo
+      elsewhen apart other = unchanged (keep.NoRoom 0)
+          (untargeted (λ to target. other (same_Some (old.cache.deadline segment) (old.cache.deadline into)
+          (sym (deadline_is segment in_use) ∙ (target.deadlines ∙ (ap (deadline_of p) (sym (only to target.current)) ∙ deadline_into))))))
+          (into_is ∙ (ap (keep_into b.shape old segment cutoff) current
+          ∙ (λ i. cond (not (ne_eqb segment into apart i) && ne_eqb (old.cache.deadline segment) (old.cache.deadline into) other i) (rows_left b segment into cutoff 0 0 old) (keep.NoRoom 0, old))))
+
+      -- items can be moved there
+      there : segment ≢ into → old.cache.deadline segment ≡ old.cache.deadline into → AnswersSo
+      there apart same =
+          let target : IsKeepTarget segment into p = record { current = current; other = apart; deadlines = deadline_is segment in_use ∙ (ap Some same ∙ sym deadline_into) } in
+          let came = in_order b segment into cutoff p was current apart told q (is.order into in_use target) in (
+            came.0,
+            into_is ∙ (ap (keep_into b.shape old segment cutoff) current
+                ∙ ((λ i. cond (not (ne_eqb segment into apart i) && eq-eqb (old.cache.deadline segment) (old.cache.deadline into) same i) (rows_left b segment into cutoff 0 0 old) (keep.NoRoom 0, old)) ∙ came.1)),
+          )
+
+      by_target : AnswersSo
+      by_target = ⊎_elim itself
+          (λ apart. ⊎_elim (there apart) (elsewhen apart) (cases_eq (old.cache.deadline segment) (old.cache.deadline into)))
+          (cases_eq segment into)
+
+    by_current : (current : Option ℕ) → current_of p ≡ current → AnswersSo
+    by_current None none = unchanged (keep.NoRoom 0) (untargeted (λ into target. none-some into (sym none ∙ target.current)))
+        (into_is ∙ ap (keep_into b.shape old segment cutoff) none)
+    by_current (Some into) current = by_target into current
+
+  unused : (state : SegState) → state_of p segment ≡ Some state → state ≢ InUse → is_in_use state ≡ false → AnswersSo
+  unused state known other not_in_use = unchanged (keep.Kept 0)
+      (idle (λ used. other (same_Some state InUse (sym known ∙ used))) (λ none. none-some state (sym none ∙ known)))
+      (of_state false (own_is b p segment state was known) (ap (λ o. is_in_use (or_empty o)) known ∙ not_in_use))
+
+  answered : (state : Option SegState) → state_of p segment ≡ state → AnswersSo
+  answered None none = unchanged keep.NotYours
+      (is.not_yours.1 none, subst (λ given. IsKeepAnswer b.shape segment cutoff given p q) (is.not_yours.1 none) is.answer)
+      (λ i. cond (not (not_own b p segment was none i)) (keep.NotYours, old) (cond (is_in_use (old.filling segment).state) (keep_into b.shape old segment cutoff (current_of p)) (keep.Kept 0, old)))
+  answered (Some InUse) known = by_current known (current_of p) refl
+  answered (Some Empty) known = unused Empty known (λ e. cc) refl
+  answered (Some Evicted) known = unused Evicted known (λ e. cc) refl
+
+-- ---- served
+
+pub serves_keep : (b : Board) (p q : Pass) (segment cutoff : ℕ) (told : KeepAnswer) → IsAlone b p → KeepsItems b segment cutoff told p q
+    → ServesAlone b (command.Keep segment cutoff) (answer.Keep told) p q
+serves_keep b p q segment cutoff told was is =
+    let so = answered b p q segment cutoff told was is (state_of p segment) refl in
+    (so.0, (sym (ap (λ (given : KeepAnswer × State). answer.Keep given.0) so.1), sym (ap (λ (given : KeepAnswer × State). given.1) so.1)))
