@@ -1,8 +1,9 @@
 -- How a run over a server ends: as the turns of the model say, and as the turns of its passes say.
-use Rattle.std.proofs.Common.{Ok, Err, Result, ◌≡◌, ℕ, List, [], ◌∷◌, ◌++◌, inl, inr, refl, ◌∙◌, ap, subst}
+use Rattle.std.proofs.Common.{Ok, Err, Result, ◌≡◌, ℕ, List, [], ◌∷◌, ◌++◌, inl, inr, refl, ◌∙◌, ap, subst, subst₂}
 use Rattle.segword.specs.Words.{Shape}
-use Rattle.segmodel.specs.Words.{fresh, Outcome, Runs}
-use Rattle.segindex.specs.Words.{board_of, IsNew, shape_of}
+use Rattle.segmodel.specs.Words.{fresh, Outcome, Runs, State}
+use Rattle.segbase.specs.Words.{Pass}
+use Rattle.segindex.specs.Words.{board_of, Index, IsNew, shape_of}
 use Rattle.segscript.specs.Spelling.{PassTurn}
 use Rattle.segscript.specs.Script.{ServesLines, Steps, ServesScript}
 use Rattle.segscript.specs.Passes.{OneTakes}
@@ -93,32 +94,37 @@ module _ (passes : ℕ) {S T : Type 0} (step : S → PassTurn → Outcome → S 
 
 -- ---- of a server
 
--- a run over a server, where the number of its passes is known under another name
-pub at_shape : (shape : Shape) (old : Server) → shape_of old.index.now ≡ shape → (Read : List ℕ → Type 0) (Ends : Type 0) (Wrote : List ℕ → Type 0) (before flushes : ℕ) (result : Result (Unit {0}) RunFault)
-    → EndOfRun (shape_of old.index.now).passes TurnsOne old Read Ends Wrote before flushes result → EndOfRun shape.passes TurnsOne old Read Ends Wrote before flushes result
-at_shape shape old of Read Ends Wrote before flushes result out =
-    let passes : (shape_of old.index.now).passes ≡ shape.passes = ap (λ (s : Shape). s.passes) of in
-    subst (λ n. EndOfRun n TurnsOne old Read Ends Wrote before flushes result) passes out
+module _ (old : Server) (Read : List ℕ → Type 0) (Ends : Type 0) (Wrote : List ℕ → Type 0) (before flushes : ℕ) (result : Result (Unit {0}) RunFault)
+    (out : EndOfRun (shape_of old.index.now).passes TurnsOne old Read Ends Wrote before flushes result)
+  where
+    -- as the model says
+    pub model_took : EndOfRun (shape_of old.index.now).passes (Steps (shape_of old.index.now)) (state old) Read Ends Wrote before flushes result
+    model_took =
+        let shape = shape_of old.index.now in
+        ends_as shape.passes TurnsOne (Steps shape) state (λ (s : Server). shape_of s.index.now ≡ shape)
+        (λ (a b : Server) t r same one. (ap shape_of one.index ∙ same, subst (λ s. Steps s (state a) t r (state b)) same one.served)) old refl Read Ends Wrote before flushes result out
 
-module _ (shape : Shape) (old : Server) (of : shape_of old.index.now ≡ shape) (Read : List ℕ → Type 0) (Ends : Type 0) (Wrote : List ℕ → Type 0) (before flushes : ℕ) where
-  -- as the model says
-  pub model_ends : state old ≡ fresh shape → (result : Result (Unit {0}) RunFault) → EndOfRun shape.passes TurnsOne old Read Ends Wrote before flushes result → RunOutcome shape Read Ends Wrote before flushes result
-  model_ends start result out =
-      subst (λ s. EndOfRun shape.passes (Steps shape) s Read Ends Wrote before flushes result) start
-      (ends_as shape.passes TurnsOne (Steps shape) state (λ (s : Server). shape_of s.index.now ≡ shape)
-      (λ (a b : Server) t r same one. (ap shape_of one.index ∙ same, subst (λ s. Steps s (state a) t r (state b)) same one.served)) old of Read Ends Wrote before flushes result out)
+    -- as its passes say
+    pub passes_took : EndOfRun (shape_of old.index.now).passes (OneTakes (board_of old.index.now)) old.passes.items Read Ends Wrote before flushes result
+    passes_took =
+        ends_as (shape_of old.index.now).passes TurnsOne (OneTakes (board_of old.index.now)) (λ (s : Server). s.passes.items) (λ (s : Server). board_of s.index.now ≡ board_of old.index.now)
+        (λ (a b : Server) t r same one. (ap board_of one.index ∙ same, subst (λ c. OneTakes c a.passes.items t r b.passes.items) same one.one)) old refl Read Ends Wrote before flushes result out
 
-  -- as its passes say
-  passes_took : (result : Result (Unit {0}) RunFault) → EndOfRun shape.passes TurnsOne old Read Ends Wrote before flushes result
-      → EndOfRun shape.passes (OneTakes (board_of old.index.now)) old.passes.items Read Ends Wrote before flushes result
-  passes_took result out =
-      ends_as shape.passes TurnsOne (OneTakes (board_of old.index.now)) (λ (s : Server). s.passes.items) (λ (s : Server). board_of s.index.now ≡ board_of old.index.now)
-      (λ (a b : Server) t r same one. (ap board_of one.index ∙ same, subst (λ c. OneTakes c a.passes.items t r b.passes.items) same one.one)) old refl Read Ends Wrote before flushes result out
+-- ---- of an index that was just made, whose shape is known under another name
 
-  pub passes_end : IsNew shape old.index.now old.passes.items → (result : Result (Unit {0}) RunFault) → EndOfRun shape.passes TurnsOne old Read Ends Wrote before flushes result → EachTurn shape Read Ends Wrote before flushes result
-  passes_end new (Ok u) out = (old.index.now, old.passes.items, new, passes_took (Ok u) out)
-  passes_end new (Err fault.Read) out = (old.index.now, old.passes.items, new, passes_took (Err fault.Read) out)
-  passes_end new (Err fault.Write) out = (old.index.now, old.passes.items, new, passes_took (Err fault.Write) out)
-  passes_end new (Err fault.TooLong) out = (old.index.now, old.passes.items, new, passes_took (Err fault.TooLong) out)
-  passes_end new (Err (fault.Line n)) out = (old.index.now, old.passes.items, new, passes_took (Err (fault.Line n)) out)
-  passes_end new (Err (fault.Make f)) out = tt
+module _ (shape : Shape) (Read : List ℕ → Type 0) (Ends : Type 0) (Wrote : List ℕ → Type 0) (before flushes : ℕ) where
+  pub model_ends : (found : Shape) (start : State) → found ≡ shape → start ≡ fresh shape → (result : Result (Unit {0}) RunFault)
+      → EndOfRun found.passes (Steps found) start Read Ends Wrote before flushes result → RunOutcome shape Read Ends Wrote before flushes result
+  model_ends found start of new result out = subst₂ (λ (s : Shape) (from : State). EndOfRun s.passes (Steps s) from Read Ends Wrote before flushes result) of new out
+
+  pub passes_end : (index : Index) (start : List Pass) → IsNew shape index start → (result : Result (Unit {0}) RunFault)
+      → EndOfRun (shape_of index).passes (OneTakes (board_of index)) start Read Ends Wrote before flushes result → EachTurn shape Read Ends Wrote before flushes result
+  passes_end index start new result out = by result (subst (λ n. EndOfRun n (OneTakes (board_of index)) start Read Ends Wrote before flushes result) (ap (λ (s : Shape). s.passes) new.made.of) out)
+    where
+      by : (result : Result (Unit {0}) RunFault) → EndOfRun shape.passes (OneTakes (board_of index)) start Read Ends Wrote before flushes result → EachTurn shape Read Ends Wrote before flushes result
+      by (Ok u) out = (index, start, new, out)
+      by (Err fault.Read) out = (index, start, new, out)
+      by (Err fault.Write) out = (index, start, new, out)
+      by (Err fault.TooLong) out = (index, start, new, out)
+      by (Err (fault.Line n)) out = (index, start, new, out)
+      by (Err (fault.Make f)) out = tt

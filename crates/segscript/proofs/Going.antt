@@ -2,7 +2,7 @@
 use Rattle.std.proofs.Common.{Ok, Err, Result, ◌≡◌, ℕ, ◌+◌, ◌≤◌, ◌-◌, ◌^◌, min, length-take, List, [], ◌++◌, length, take, inl, inr, refl, ◌∙◌, ap, arith, append-nil, length-append}
 use Rattle.segmodel.specs.Words.{Outcome}
 use Rattle.segscript.specs.Spelling.{PassTurn}
-use Rattle.segscript.specs.Device.{flushed}
+use Rattle.segscript.specs.Device.{one_more}
 use Rattle.segscript.specs.Running.{HasServed, FeedOutcome, FinishOutcome}
 use Rattle.segscript.specs.Run.{EndOfRun}
 use Rattle.segscript.specs.Words.{RunFault}
@@ -107,7 +107,7 @@ module _ (passes : ℕ) {S : Type 0} (step : S → PassTurn → Outcome → S �
       hands_more from reader reader' going.seen bytes going.came came,
       ends,
       takes_more to writer writer' going.told out.0 going.went out.1,
-      out.2 ∙ ap flushed none,
+      out.2 ∙ ap one_more none,
       rw (empty, append-nil) out.3,
     )
     ends_finish state from reader reader' to writer writer' total line number bytes Ends (Err (fault.Line n)) going none came empty ends out = (
@@ -125,7 +125,7 @@ module _ (passes : ℕ) {S : Type 0} (step : S → PassTurn → Outcome → S �
       takes_more to writer writer' going.told out.0 going.went out.1,
       elim out.2 [
         | inl part ↦ inl (part.0 ∙ none, rw (empty, append-nil) part.1)
-        | inr all ↦ inr (all.0 ∙ ap flushed none, ends, rw (empty, append-nil) all.1)
+        | inr all ↦ inr (all.0 ∙ ap one_more none, ends, rw (empty, append-nil) all.1)
       ],
     )
     ends_finish state from reader reader' to writer writer' total line number bytes Ends (Err fault.Read) going none came empty ends out = absurd out

@@ -1,3 +1,4 @@
+pub mod Catching
 pub mod Devices
 pub mod Endings
 pub mod Feeding
@@ -5,6 +6,7 @@ pub mod Going
 pub mod LineLemmas
 pub mod LineReadings
 pub mod Lines
+pub mod Meetings
 pub mod Numbers
 pub mod OneBadLine
 pub mod OneTurn

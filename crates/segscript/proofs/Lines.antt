@@ -3,7 +3,7 @@ use Rattle.std.proofs.Common.{ℕ, ◌+◌, ◌<◌, ◌≤◌, ◌^◌, List, [
 use Rattle.std.specs.List.{join_with_byte}
 use Rattle.std.proofs.lemmas.Fmt.{length-decimal-le}
 use Rattle.segmodel.specs.declared.request.Request.TheVariants.{Set, Add, Replace, Cas, Delete}
-use Rattle.segmodel.specs.declared.answer.Command.TheVariants.{Write, Get, Gets, Evict, Refill}
+use Rattle.segmodel.specs.declared.answer.Command.TheVariants.{Write, Get, Gets, Evict, Keep, Refill}
 use Rattle.segmodel.specs.Words.{Turn}
 use Rattle.segmodel.specs.declared.answer.Turn.TheVariants.{Serve, Hold, Held, Release, Lock, Unlock}
 use Rattle.segscript.specs.Laws.{LinesFit}
@@ -38,6 +38,7 @@ stored_fits key value is = let k = is.0.1 in let v = value_fits value is.1 in om
 turn_fits : (turn : Turn) → IsWritable turn → bytes_of (turn_words turn) ≤ 85
 turn_fits (Serve (Refill segment deadline)) is = let n = number_fits segment is.0 in let d = number_fits deadline is.1 in omega arith
 turn_fits (Serve (Evict segment)) is = let n = number_fits segment is in omega arith
+turn_fits (Serve (Keep segment cutoff)) is = let n = number_fits segment is.0 in let c = number_fits cutoff (omega (arith, is.1)) in omega arith
 turn_fits (Serve (Write (Set key value now))) is = let s = stored_fits key value (is.0, is.1) in let m = moment_fits now is.2 in omega arith
 turn_fits (Serve (Write (Add key value now))) is = let s = stored_fits key value (is.0, is.1) in let m = moment_fits now is.2 in omega arith
 turn_fits (Serve (Write (Replace key value now))) is = let s = stored_fits key value (is.0, is.1) in let m = moment_fits now is.2 in omega arith

@@ -1,13 +1,13 @@
 -- Numbers in decimal digits, read by std's `parse`.
-use Rattle.std.proofs.Common.{◌≡◌, ℕ, ◌+◌, ◌*◌, ◌-◌, ◌<◌, ◌^◌, List, [], ◌∷◌, true, Result, Ok, Err, refl, sym, ◌∙◌, ap, arith, rules, zero, suc}
+use Rattle.std.proofs.Common.{◌≡◌, ℕ, ◌+◌, ◌*◌, ◌-◌, ◌<◌, ◌^◌, List, [], ◌∷◌, true, Result, Ok, Err, refl, sym, ◌∙◌, ap, subst, arith, rules, zero, suc}
 use Rattle.std.specs.Fmt.{decimal}
 use Rattle.std.specs.Str.{all_ascii_digits, IsUtf8}
 use Rattle.std.specs.Str.Parse.{ParsesUnsigned}
-use Rattle.std.specs.Result.{result_ok}
+use Rattle.std.specs.Result.{OkIff, result_ok}
 use Rattle.std.proofs.lemmas.Str.Parse.{IsNumeralModel, numerals_by_fold, parse_plain}
-use Rattle.std.proofs.lemmas.Fmt.{decimal_digit, first_decimal, IsAscii-decimal, parse-decimal, decimal-digits_value}
+use Rattle.std.proofs.lemmas.Fmt.{decimal_digit, decimal_injective, first_decimal, IsAscii-decimal, parse-decimal, decimal-digits_value}
 use Rattle.std.proofs.lemmas.Str.{IsUtf8-from_ascii}
-use Rattle.segscript.specs.Spelling.{IsNumber}
+use Rattle.segscript.specs.Spelling.{IsFrequency, IsNumber}
 use Rattle.segscript.specs.Reading.{ReadsAs, BeginsPlainly}
 
 abbrev read_on : ℕ → List ℕ → ℕ
@@ -38,3 +38,8 @@ none-not_plain bs h a small same = h (rw same (BeginsPlainly-decimal a small))
 
 pub none-not_utf8 : (bs : List ℕ) → (IsUtf8 bs → ⊥) → (a : ℕ) → IsNumber a → bs ≡ decimal a → ⊥
 none-not_utf8 bs h a small same = h (rw same (IsUtf8-decimal a small))
+
+-- a number that fits a byte is a frequency, and no other number is
+pub ReadsAs-byte : {E : Type 0} (bs : List ℕ) (n : ℕ) (r : Result ℕ E) → n < 2 ^ 32 → bs ≡ decimal n → OkIff r (n < 256) n → ReadsAs IsFrequency decimal bs (result_ok r)
+ReadsAs-byte bs n (Ok byte) small same is = (subst (λ m. m < 256) (sym is.1) is.0, same ∙ ap decimal (sym is.1))
+ReadsAs-byte bs n (Err e) small same high = λ a low spelled. high (subst (λ m. m < 256) (decimal_injective a n (omega (arith, low)) (omega (arith, small)) (sym spelled ∙ same)) low)

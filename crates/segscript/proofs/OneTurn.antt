@@ -6,7 +6,7 @@ use Rattle.std.specs.Str.{bytes_eq}
 use Rattle.std.proofs.lemmas.Slice.Eq.{bytes_eq-Decides}
 use Rattle.std.proofs.lemmas.Bool.{true≢false}
 use Rattle.segmodel.specs.declared.request.Request.TheVariants.{Set, Add, Replace, Cas, Delete}
-use Rattle.segmodel.specs.declared.answer.Command.TheVariants.{Write, Get, Gets, Evict, Refill}
+use Rattle.segmodel.specs.declared.answer.Command.TheVariants.{Write, Get, Gets, Evict, Keep, Refill}
 use Rattle.segmodel.specs.Words.{Turn}
 use Rattle.segmodel.specs.declared.answer.Turn.TheVariants.{Serve, Hold, Held, Release, Lock, Unlock}
 use Rattle.segscript.specs.Spelling.{PassTurn, IsValueWord, IsWritable, IsSayable, value_word, moment_word, pass_word, spelling}
@@ -41,6 +41,8 @@ verb-one verbs.Refill verbs.Refill same = refl
 verb-one verbs.Refill w same = absurd (differ (verb_word verbs.Refill) (verb_word w) refl same)
 verb-one verbs.Evict verbs.Evict same = refl
 verb-one verbs.Evict w same = absurd (differ (verb_word verbs.Evict) (verb_word w) refl same)
+verb-one verbs.Keep verbs.Keep same = refl
+verb-one verbs.Keep w same = absurd (differ (verb_word verbs.Keep) (verb_word w) refl same)
 verb-one verbs.Set verbs.Set same = refl
 verb-one verbs.Set w same = absurd (differ (verb_word verbs.Set) (verb_word w) refl same)
 verb-one verbs.Add verbs.Add same = refl
@@ -77,6 +79,13 @@ arguments-one (Serve (Refill _ _)) _ ft fu same args = absurd (cc)
 arguments-one (Serve (Evict m)) (Serve (Evict n)) ft fu same args = ap (λ n. Serve (Evict n)) (number-one m n ft fu (first (decimal m) (decimal n) [] [] args))
 arguments-one (Serve (Evict _)) (Serve (Write (Set _ _ _))) ft fu same args = absurd (cc)
 arguments-one (Serve (Evict _)) _ ft fu same args = absurd (cc)
+arguments-one (Serve (Keep m c)) (Serve (Keep n d)) ft fu same args =
+    let digits : decimal m ≡ decimal n = cc in
+    let segment = number-one m n ft.0 fu.0 digits in
+    let more : decimal c ≡ decimal d = cc in
+    let cutoff = number-one c d (omega (arith, ft.1)) (omega (arith, fu.1)) more in cc
+arguments-one (Serve (Keep _ _)) (Serve (Write (Set _ _ _))) ft fu same args = absurd (cc)
+arguments-one (Serve (Keep _ _)) _ ft fu same args = absurd (cc)
 arguments-one (Serve (Write (Set k v m))) (Serve (Write (Set l w n))) ft fu same args =
     let key : k ≡ l = cc in
     let word : value_word v ≡ value_word w = cc in

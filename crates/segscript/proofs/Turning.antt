@@ -28,7 +28,7 @@ pub serve_turn : (b : Board) (p q : Pass) (command : Command) (told : Answer) �
 serve_turn b p q command told on is = record {
   goes_on = on;
   tells = is;
-  alone = λ was. let served = serves_command b p q command draw told was is in (served.0, (told, refl, served.1));
+  alone = λ was. let served = serves_command b p q command told was is in (served.0, (told, refl, served.1));
 }
 
 pub hold_turn : (b : Board) (p q : Pass) (key : List ℕ) (now : ℕ) (given : HoldAnswer) → HoldsItem b key now given p q → TakesTurn b (turn.Hold key now) (outcome_of_hold given) p q

@@ -10,10 +10,10 @@ use Rattle.std.proofs.lemmas.Fmt.{decimal_is_IsNumeral, decimal_injective}
 use Rattle.segscript.specs.Spelling.{PassTurn, IsWordByte, IsNumber, IsWritable, IsSayable, value_word, moment_word, pass_word, turn_words, spelling}
 use Rattle.segscript.specs.Reading.{ReadsAs}
 use Rattle.segmodel.specs.declared.request.Request.TheVariants.{Set, Add, Replace, Cas, Delete}
-use Rattle.segmodel.specs.declared.answer.Command.TheVariants.{Write, Get, Gets, Evict, Refill}
+use Rattle.segmodel.specs.declared.answer.Command.TheVariants.{Write, Get, Gets, Evict, Keep, Refill}
 use Rattle.segmodel.specs.Words.{Turn}
 use Rattle.segmodel.specs.declared.answer.Turn.TheVariants.{Serve, Hold, Held, Release, Lock, Unlock}
-use Rattle.segscript.specs.Verb.{verb, verb_word, arguments_of, IsTurnOf, IsPass, AreNumbers, number_words, IsPair, pair_words, IsTriple, triple_words, AreFour, four_words, line_words}
+use Rattle.segscript.specs.Verb.{verb, verb_word, arguments_of, IsTurnOf, IsPass, AreNumbers, IsCutoff, number_words, IsPair, pair_words, IsTriple, triple_words, AreFour, four_words, line_words}
 use Rattle.segscript.specs.declared.verb.Verb.{Verb}
 use Rattle.segscript.specs.declared.verb.Verb.TheVariants as verbs
 use Rattle.std.proofs.lemmas.Grind.{common_steps}
@@ -111,6 +111,7 @@ spaces-join w (v ∷ ws) first more =
 verb_words : (v : Verb) → IsSpaceless (verb_word v)
 verb_words verbs.Refill = plain_word (verb_word verbs.Refill) (search rules)
 verb_words verbs.Evict = plain_word (verb_word verbs.Evict) (search rules)
+verb_words verbs.Keep = plain_word (verb_word verbs.Keep) (search rules)
 verb_words verbs.Set = plain_word (verb_word verbs.Set) (search rules)
 verb_words verbs.Add = plain_word (verb_word verbs.Add) (search rules)
 verb_words verbs.Replace = plain_word (verb_word verbs.Replace) (search rules)
@@ -130,6 +131,7 @@ moment_plain m small k d within = elim k as (λ k. k < length (moment_word m) �
 spaceless_arguments : (t : Turn) → IsWritable t → AllByRecursion IsSpaceless (arguments_of t)
 spaceless_arguments (Serve (Refill n d)) fits = (decimal_word n fits.0, (decimal_word d fits.1, tt))
 spaceless_arguments (Serve (Evict n)) fits = (decimal_word n fits, tt)
+spaceless_arguments (Serve (Keep n c)) fits = (decimal_word n fits.0, (decimal_word c (omega (arith, fits.1)), tt))
 spaceless_arguments (Serve (Write (Set k v m))) fits = (plain_word k fits.0.2, (value_words v fits.1.1, (moment_plain m fits.2, tt)))
 spaceless_arguments (Serve (Write (Add k v m))) fits = (plain_word k fits.0.2, (value_words v fits.1.1, (moment_plain m fits.2, tt)))
 spaceless_arguments (Serve (Write (Replace k v m))) fits = (plain_word k fits.0.2, (value_words v fits.1.1, (moment_plain m fits.2, tt)))
@@ -147,6 +149,7 @@ spaceless_arguments Unlock fits = tt
 words_of : (t : Turn) → turn_words t ≡ verb_word (verb t) ∷ arguments_of t
 words_of (Serve (Refill n d)) = refl
 words_of (Serve (Evict n)) = refl
+words_of (Serve (Keep n c)) = refl
 words_of (Serve (Write (Set k v m))) = refl
 words_of (Serve (Write (Add k v m))) = refl
 words_of (Serve (Write (Replace k v m))) = refl
@@ -163,6 +166,7 @@ words_of Unlock = refl
 few_words : (t : Turn) → length (arguments_of t) ≤ 4
 few_words (Serve (Refill n d)) = omega arith
 few_words (Serve (Evict n)) = omega arith
+few_words (Serve (Keep n c)) = omega arith
 few_words (Serve (Write (Set k v m))) = omega arith
 few_words (Serve (Write (Add k v m))) = omega arith
 few_words (Serve (Write (Replace k v m))) = omega arith
@@ -200,6 +204,11 @@ pub none-refill : (parts : List (List ℕ)) → ((p : ℕ × ℕ) → AreNumbers
 none-refill parts none (Serve (Refill n d)) fits same = none (n, d) fits.0 same
 none-refill parts none (Serve (Write (Set _ _ _))) fits same = let e = fits.1 in cc
 none-refill parts none _ fits same = let e = fits.1 in cc
+
+pub none-keep : (parts : List (List ℕ)) → ((p : ℕ × ℕ) → IsCutoff p → parts ≡ number_words p → ⊥) → (t : Turn) → IsTurnOf verbs.Keep t → parts ≡ arguments_of t → ⊥
+none-keep parts none (Serve (Keep n c)) fits same = none (n, c) fits.0 same
+none-keep parts none (Serve (Write (Set _ _ _))) fits same = let e = fits.1 in cc
+none-keep parts none _ fits same = let e = fits.1 in cc
 
 pub none-set : (parts : List (List ℕ)) → ((p : List ℕ × List ℕ × ℕ) → IsTriple p → parts ≡ triple_words p → ⊥) → (t : Turn) → IsTurnOf verbs.Set t → parts ≡ arguments_of t → ⊥
 none-set parts none (Serve (Write (Set k v m))) fits same = none (k, v, m) fits.0 same

@@ -1,5 +1,5 @@
 -- What goes through a reader or a writer.
-use Rattle.std.specs.Prelude.{◌≡◌, ℕ, ◌+◌, ◌<◌, ◌%◌, ◌^◌, ◌==◌, Bool, true, List, ◌++◌, length, Result, Ok, Err}
+use Rattle.std.specs.Prelude.{◌≡◌, ℕ, ◌+◌, ◌<◌, ◌%◌, ◌^◌, ◌==◌, if◌then◌else◌, Bool, true, List, ◌++◌, length, Result, Ok, Err}
 
 -- a write failed, or took none of its bytes
 abbrev pub took_nothing : {E : Type 0} → Result ℕ E → Bool
@@ -14,9 +14,13 @@ IsBeginning front all = (rest : List ℕ) × (all ≡ front ++ rest) × (0 < len
 abbrev pub TakesPart : {W : Type 0} → (W → List ℕ → W → Type 0) → W → List ℕ → W → Type 0
 TakesPart takes old bytes new = (part : List ℕ) × IsBeginning part bytes × takes old part new
 
--- the count of flushes after one more
-abbrev pub flushed : ℕ → ℕ
-flushed count = (count + 1) % 2 ^ 64
+-- a count of calls, after one more
+abbrev pub one_more : ℕ → ℕ
+one_more count = (count + 1) % 2 ^ 64
+
+-- the count of reads that handed out nothing, after one that handed out so many bytes
+abbrev pub ends_after : ℕ → ℕ → ℕ
+ends_after count handed = if handed == 0 then one_more count else count
 
 -- whatever the reader handed out is a beginning of the script, and all of it where the reader is at its end
 abbrev pub HandsOut : {R : Type 0} → (R → List ℕ → R → Type 0) → (R → Type 0) → R → R → List ℕ → Type 0

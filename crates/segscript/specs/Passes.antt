@@ -1,10 +1,11 @@
 -- The passes of an index between turns, each with the hold that is kept beside it, and the turns that they take.
-use Rattle.std.specs.Prelude.{◌≡◌, ◌≢◌, ℕ, List, [], ◌∷◌, Option, Some, None, slice_get}
+use Rattle.std.specs.Prelude.{◌≡◌, ◌≢◌, ℕ, List, [], ◌∷◌, Option, Some, None, length, slice_get}
 use Rattle.segword.specs.Words.{Shape}
-use Rattle.segmodel.specs.Words.{fresh, Outcome, State, Turn}
-use Rattle.segbase.specs.Words.{Board, holding, number, Pass}
+use Rattle.segmodel.specs.Words.{Begins, fresh, Outcome, State, Turn}
+use Rattle.segbase.specs.Words.{Board, holding, marked, number, Pass, seen}
 use Rattle.segpass.specs.Words.{GoesOn, IsQuiet}
 use Rattle.segread.specs.Words.{Hold, IsHoldOf}
+use Rattle.segindex.specs.Meeting.{MeetsPass, OnlyLearns}
 use Rattle.segsolo.specs.Words.{IsAlone, state_at, TurnsAlone}
 use Rattle.segscript.specs.Spelling.{PassTurn}
 use Rattle.segscript.specs.Told.{IsOutcomeOfCall}
@@ -35,11 +36,47 @@ pub record TakesTurn (b : Board) (turn : Turn) (outcome : Outcome) (p q : Pass) 
   pub tells : IsOutcomeOfCall b turn outcome p q
   pub alone : IsAlone b p → TurnsAlone b turn outcome p q
 
--- the pass of this number took the turn, and the others are as they were
+-- all that the one pass has seen, the other has seen too
+abbrev pub IsSeenBy : Pass → Pass → Type 0
+IsSeenBy p q = Begins (marked p) (marked q) × Begins (seen p) (seen q)
+
+-- all that any of the passes has seen, this one has seen too
+abbrev pub SeesAllOf : List Pass → Pass → Type 0
+SeesAllOf passes q = (n : ℕ) (p : Pass) → slice_get passes n ≡ Some p → IsSeenBy p q
+
+-- the one list has the passes of the other, each at its place; they did nothing, but may have seen more
+abbrev pub OnlyLearn : Board → List Pass → List Pass → Type 0
+OnlyLearn b old new = (n : ℕ) (p : Pass) → slice_get old n ≡ Some p → (q : Pass) × (slice_get new n ≡ Some q) × OnlyLearns b p q
+
+-- the passes at two places met, and the others were left alone
+pub record HaveMet (b : Board) (first second : ℕ) (old new : List Pass) : Type 0 where
+  pub one : Pass
+  pub other : Pass
+  pub one' : Pass
+  pub other' : Pass
+  pub long : length new ≡ length old
+  pub was_first : slice_get old first ≡ Some one
+  pub was_second : slice_get old second ≡ Some other
+  pub is_first : slice_get new first ≡ Some one'
+  pub is_second : slice_get new second ≡ Some other'
+  pub meets : MeetsPass b one other one' other'
+  pub others : (n : ℕ) → n ≢ first → n ≢ second → slice_get new n ≡ slice_get old n
+
+-- The passes only learned something. Where the pass at the last place had seen all, so has the one at this place now.
+pub record CatchesUp (b : Board) (last place : ℕ) (old new : List Pass) : Type 0 where
+  pub long : length new ≡ length old
+  pub learn : OnlyLearn b old new
+  pub sees : (p q : Pass) → slice_get old last ≡ Some p → slice_get new place ≡ Some q → SeesAllOf old p → SeesAllOf new q
+  pub stays : last ≡ place → new ≡ old
+
+-- The pass of this number took the turn, and the others did nothing. When it began it had seen all that any of them had seen.
 pub record OneTakes (b : Board) (old : List Pass) (said : PassTurn) (outcome : Outcome) (new : List Pass) : Type 0 where
+  pub met : List Pass
   pub before : Pass
   pub after : Pass
-  pub was : slice_get old said.0 ≡ Some before
-  pub is : slice_get new said.0 ≡ Some after
+  pub learn : OnlyLearn b old met
+  pub was : slice_get met said.0 ≡ Some before
+  pub sees : SeesAllOf old before
   pub takes : TakesTurn b said.1 outcome before after
-  pub others : (other : ℕ) → other ≢ said.0 → slice_get new other ≡ slice_get old other
+  pub is : slice_get new said.0 ≡ Some after
+  pub others : (other : ℕ) → other ≢ said.0 → slice_get new other ≡ slice_get met other

@@ -1,6 +1,6 @@
 -- The line of an outcome.
 use Rattle.std.specs.Prelude.{ℕ, List, ◌++◌, codes, decimal}
-use Rattle.segmodel.specs.Words.{Answer, DeleteAnswer, EvictAnswer, GetAnswer, GetsAnswer, Outcome}
+use Rattle.segmodel.specs.Words.{Answer, DeleteAnswer, EvictAnswer, GetAnswer, GetsAnswer, KeepAnswer, Outcome}
 use Rattle.segmodel.specs.Words.{RefillAnswer, WriteAnswer}
 use Rattle.segmodel.specs.declared.answer.Answer.TheVariants as answer
 use Rattle.segmodel.specs.declared.answer.WriteAnswer.TheVariants as write
@@ -8,6 +8,7 @@ use Rattle.segmodel.specs.declared.answer.DeleteAnswer.TheVariants as delete
 use Rattle.segmodel.specs.declared.answer.GetAnswer.TheVariants as get
 use Rattle.segmodel.specs.declared.answer.GetsAnswer.TheVariants as gets
 use Rattle.segmodel.specs.declared.answer.EvictAnswer.TheVariants as evict
+use Rattle.segmodel.specs.declared.answer.KeepAnswer.TheVariants as keep
 use Rattle.segmodel.specs.declared.answer.RefillAnswer.TheVariants as refill
 use Rattle.segmodel.specs.declared.answer.Outcome.TheVariants as outcome
 use Rattle.segscript.specs.Spelling.{value_word}
@@ -52,6 +53,13 @@ evict_reply (evict.Evicted count) = codes "EVICTED " ++ decimal count ++ codes "
 evict_reply evict.NotYours = codes "NOT_YOURS\n"
 evict_reply (evict.Busy count) = codes "BUSY " ++ decimal count ++ codes "\n"
 
+-- the line of the answer to a keep, with the number of items moved
+abbrev pub keep_reply : KeepAnswer → List ℕ
+keep_reply (keep.Kept count) = codes "KEPT " ++ decimal count ++ codes "\n"
+keep_reply keep.NotYours = codes "NOT_YOURS\n"
+keep_reply (keep.NoRoom count) = codes "NOROOM " ++ decimal count ++ codes "\n"
+keep_reply (keep.Busy count) = codes "BUSY " ++ decimal count ++ codes "\n"
+
 -- the line of the answer to a refill
 abbrev pub refill_reply : RefillAnswer → List ℕ
 refill_reply refill.Refilled = codes "REFILLED\n"
@@ -66,6 +74,7 @@ answer_reply (answer.Delete given) = delete_reply given
 answer_reply (answer.Get given) = get_reply given
 answer_reply (answer.Gets given) = gets_reply given
 answer_reply (answer.Evict given) = evict_reply given
+answer_reply (answer.Keep given) = keep_reply given
 answer_reply (answer.Refill given) = refill_reply given
 
 -- ---- outcomes of turns

@@ -7,7 +7,7 @@ use Rattle.segmodel.specs.Words.{fresh, Outcome}
 use Rattle.segbase.specs.Words.{IsMakeFault}
 use Rattle.segscript.specs.Spelling.{PassTurn}
 use Rattle.segscript.specs.Script.{IsLine, ended, Splits, IsBad, ServesLines, Steps, ServesScript}
-use Rattle.segscript.specs.Device.{IsBeginning, flushed}
+use Rattle.segscript.specs.Device.{IsBeginning, one_more}
 use Rattle.segscript.specs.declared.fault.RunFault.{RunFault}
 use Rattle.segscript.specs.declared.fault.RunFault.TheVariants as fault
 
@@ -66,10 +66,10 @@ pub record IsSeenBad (passes : ℕ) {S : Type 0} (step : S → PassTurn → Outc
 
 -- Read is what is so of all bytes that were read, Wrote of all that were written, Flushes of how many flushes were asked
 -- for before and how many then, and Ends that the reader is at its end.
--- A fault in the making is none of a run.
+-- A fault of creating the index is none of a run.
 abbrev pub EndOfRun : (passes : ℕ) {S : Type 0} (step : S → PassTurn → Outcome → S → Type 0) → S → (List ℕ → Type 0) → Type 0 → (List ℕ → Type 0) → ℕ → ℕ → Result (Unit {0}) RunFault → Type 0
 EndOfRun passes step start Read Ends Wrote before flushes (Ok _) =
-    (script : List ℕ) × (text : List ℕ) × Read script × Ends × Wrote text × (flushes ≡ flushed before) × ServesScript passes step start script text
+    (script : List ℕ) × (text : List ℕ) × Read script × Ends × Wrote text × (flushes ≡ one_more before) × ServesScript passes step start script text
 EndOfRun passes step start Read Ends Wrote before flushes (Err fault.Read) =
     (seen : List ℕ) × (text : List ℕ) × Read seen × Wrote text × (flushes ≡ before) × ServesWholeLines passes step start seen text
 EndOfRun passes step start Read Ends Wrote before flushes (Err fault.TooLong) =
@@ -78,8 +78,18 @@ EndOfRun passes step start Read Ends Wrote before flushes (Err (fault.Line n)) =
     (seen : List ℕ) × (text : List ℕ) × Read seen × Wrote text × (flushes ≡ before) × IsSeenBad passes step start Ends seen text n
 EndOfRun passes step start Read Ends Wrote before flushes (Err fault.Write) =
     (seen : List ℕ) × (part : List ℕ) × Read seen × Wrote part
-    × (((flushes ≡ before) × StopsWriting passes step start seen part) ⊎ ((flushes ≡ flushed before) × Ends × ServesScript passes step start seen part))
+    × (((flushes ≡ before) × StopsWriting passes step start seen part) ⊎ ((flushes ≡ one_more before) × Ends × ServesScript passes step start seen part))
 EndOfRun passes step start Read Ends Wrote before flushes (Err (fault.Make f)) = Unit {0}
+
+-- The reader handed out nothing once where all ended well, and once at most where it did not; so it is not asked again then.
+-- Before and ends are how often it had handed out nothing before, and then.
+abbrev pub EndsOnce : ℕ → ℕ → Result (Unit {0}) RunFault → Type 0
+EndsOnce before ends (Ok _) = ends ≡ one_more before
+EndsOnce before ends (Err fault.Read) = ends ≡ before
+EndsOnce before ends (Err fault.Write) = (ends ≡ before) ⊎ (ends ≡ one_more before)
+EndsOnce before ends (Err (fault.Line n)) = (ends ≡ before) ⊎ (ends ≡ one_more before)
+EndsOnce before ends (Err (fault.Make f)) = ends ≡ before
+EndsOnce before ends (Err fault.TooLong) = ends ≡ before
 
 -- so the model says, of a cache in which nothing was done before
 abbrev pub RunOutcome : Shape → (List ℕ → Type 0) → Type 0 → (List ℕ → Type 0) → ℕ → ℕ → Result (Unit {0}) RunFault → Type 0

@@ -4,7 +4,7 @@ use Rattle.std.specs.Prelude.{◌⊎◌, ◌≡◌, ℕ, ◌+◌, ◌≤◌, Lis
 use Rattle.segmodel.specs.Words.{Outcome}
 use Rattle.segscript.specs.Spelling.{PassTurn}
 use Rattle.segscript.specs.Script.{Splits, IsBad, ServesLines, ServesScript}
-use Rattle.segscript.specs.Device.{IsBeginning, flushed}
+use Rattle.segscript.specs.Device.{IsBeginning, one_more}
 use Rattle.segscript.specs.Run.{ServesWholeLines, StopsWriting, IsSeenBad}
 use Rattle.segscript.specs.declared.fault.RunFault.{RunFault}
 use Rattle.segscript.specs.declared.fault.RunFault.TheVariants as fault
@@ -45,10 +45,10 @@ module _ (passes : ℕ) {S : Type 0} (step : S → PassTurn → Outcome → S �
   -- what became of the last line, at the end of the script
   abbrev pub FinishOutcome : S → (List ℕ → Type 0) → ℕ → ℕ → List ℕ → List ℕ → Result (Unit {0}) RunFault → Type 0
   FinishOutcome start Wrote before flushes seen told (Ok _) =
-      (text : List ℕ) × Wrote text × (flushes ≡ flushed before) × ServesScript passes step start seen (told ++ text)
+      (text : List ℕ) × Wrote text × (flushes ≡ one_more before) × ServesScript passes step start seen (told ++ text)
   FinishOutcome start Wrote before flushes seen told (Err (fault.Line n)) =
       (text : List ℕ) × Wrote text × (flushes ≡ before) × IsSeenBad passes step start (Unit {0}) seen (told ++ text) n
   FinishOutcome start Wrote before flushes seen told (Err fault.Write) =
       (part : List ℕ) × Wrote part
-      × (((flushes ≡ before) × StopsWriting passes step start seen (told ++ part)) ⊎ ((flushes ≡ flushed before) × ServesScript passes step start seen (told ++ part)))
+      × (((flushes ≡ before) × StopsWriting passes step start seen (told ++ part)) ⊎ ((flushes ≡ one_more before) × ServesScript passes step start seen (told ++ part)))
   FinishOutcome start Wrote before flushes seen told (Err _) = ⊥

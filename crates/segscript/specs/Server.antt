@@ -1,24 +1,26 @@
 -- An index and its passes as a script sees them.
-use Rattle.std.specs.Prelude.{◌≡◌, ◌≢◌, ℕ, List, length, Some, None, slice_get}
+use Rattle.std.specs.Prelude.{◌≡◌, ◌≢◌, ◌<◌, ℕ, List, length, Some, None, slice_get}
 use Rattle.segmodel.specs.Words.{Outcome, State}
 use Rattle.segbase.specs.Words.{holding, locked_of, Pass}
 use Rattle.segindex.specs.Words.{board_of, shape_of}
 use Rattle.segscript.specs.Spelling.{PassTurn}
 use Rattle.segscript.specs.Script.{Steps}
 use Rattle.segscript.specs.declared.server.Server.{Server}
-use Rattle.segscript.specs.Passes.{AreInOrder, first_state, OneTakes}
+use Rattle.segscript.specs.Passes.{AreInOrder, first_state, OneTakes, SeesAllOf}
 
--- between turns it has all its passes, each idle and at its place
+-- Between turns it has all its passes, each idle and at its place. The one that took the last turn has seen all that any of them has.
 pub record IsReady (server : Server) : Type 0 where
   pub all : length server.passes.items ≡ (shape_of server.index.now).passes
   pub holds : length server.holds.items ≡ (shape_of server.index.now).passes
   pub in_order : AreInOrder (board_of server.index.now) server.passes.items server.holds.items
+  pub within : server.last < (shape_of server.index.now).passes
+  pub ahead : (first : Pass) → slice_get server.passes.items server.last ≡ Some first → SeesAllOf server.passes.items first
 
 -- the state that its first pass is at
 abbrev pub state : Server → State
 state server = first_state (shape_of server.index.now) server.passes.items
 
--- one pass took the turn, and the others and their holds are as they were; the turns of the only pass are served one after the other
+-- one pass took the turn, and the others and their holds were left alone; the turns of the only pass are served one after the other
 pub record TurnsOne (old : Server) (said : PassTurn) (outcome : Outcome) (new : Server) : Type 0 where
   pub index : new.index.now ≡ old.index.now
   pub one : OneTakes (board_of old.index.now) old.passes.items said outcome new.passes.items

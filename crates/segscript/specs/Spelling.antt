@@ -2,7 +2,7 @@
 use Rattle.std.specs.Prelude.{◌≢◌, ℕ, ◌<◌, ◌≤◌, ◌^◌, List, [], ◌∷◌, ◌++◌, length, codes, decimal}
 use Rattle.std.specs.List.{join_with_byte, AllByRecursion}
 use Rattle.segmodel.specs.declared.request.Request.TheVariants.{Set, Add, Replace, Cas, Delete}
-use Rattle.segmodel.specs.declared.answer.Command.TheVariants.{Write, Get, Gets, Evict, Refill}
+use Rattle.segmodel.specs.declared.answer.Command.TheVariants.{Write, Get, Gets, Evict, Keep, Refill}
 use Rattle.segmodel.specs.Words.{Turn}
 use Rattle.segmodel.specs.declared.answer.Turn.TheVariants.{Serve, Hold, Held, Release, Lock, Unlock}
 
@@ -15,6 +15,10 @@ IsWordByte byte = (33 ≤ byte) × (byte ≤ 126)
 -- a number that a script can name; it is spelled in decimal digits
 abbrev pub IsNumber : ℕ → Type 0
 IsNumber number = number < 2 ^ 32
+
+-- a cutoff that a script can name: a frequency, which has eight bits
+abbrev pub IsFrequency : ℕ → Type 0
+IsFrequency number = number < 256
 
 -- a key that a script can name; it is spelled by its bytes
 abbrev pub IsKeyWord : List ℕ → Type 0
@@ -39,6 +43,7 @@ moment_word now = codes "@" ++ decimal now
 abbrev pub turn_words : Turn → List (List ℕ)
 turn_words (Serve (Refill segment deadline)) = codes "refill" ∷ decimal segment ∷ decimal deadline ∷ []
 turn_words (Serve (Evict segment)) = codes "evict" ∷ decimal segment ∷ []
+turn_words (Serve (Keep segment cutoff)) = codes "keep" ∷ decimal segment ∷ decimal cutoff ∷ []
 turn_words (Serve (Write (Set key value now))) = codes "set" ∷ key ∷ value_word value ∷ moment_word now ∷ []
 turn_words (Serve (Write (Add key value now))) = codes "add" ∷ key ∷ value_word value ∷ moment_word now ∷ []
 turn_words (Serve (Write (Replace key value now))) = codes "replace" ∷ key ∷ value_word value ∷ moment_word now ∷ []
@@ -56,6 +61,7 @@ turn_words Unlock = codes "unlock" ∷ []
 abbrev pub IsWritable : Turn → Type 0
 IsWritable (Serve (Refill segment deadline)) = IsNumber segment × IsNumber deadline
 IsWritable (Serve (Evict segment)) = IsNumber segment
+IsWritable (Serve (Keep segment cutoff)) = IsNumber segment × IsFrequency cutoff
 IsWritable (Serve (Write (Set key value now))) = IsKeyWord key × IsValueWord value × IsNumber now
 IsWritable (Serve (Write (Add key value now))) = IsKeyWord key × IsValueWord value × IsNumber now
 IsWritable (Serve (Write (Replace key value now))) = IsKeyWord key × IsValueWord value × IsNumber now

@@ -1,10 +1,10 @@
 -- The words of a line as they are read: the pass, the command, and the words behind it.
 use Rattle.std.specs.Prelude.{◌≡◌, ℕ, ◌<◌, List, [], ◌∷◌, codes, decimal}
 use Rattle.segmodel.specs.declared.request.Request.TheVariants.{Set, Add, Replace, Cas, Delete}
-use Rattle.segmodel.specs.declared.answer.Command.TheVariants.{Write, Get, Gets, Evict, Refill}
+use Rattle.segmodel.specs.declared.answer.Command.TheVariants.{Write, Get, Gets, Evict, Keep, Refill}
 use Rattle.segmodel.specs.Words.{Turn}
 use Rattle.segmodel.specs.declared.answer.Turn.TheVariants.{Serve, Hold, Held, Release, Lock, Unlock}
-use Rattle.segscript.specs.Spelling.{PassTurn, IsNumber, IsKeyWord, IsValueWord, IsWritable, value_word, moment_word, pass_word}
+use Rattle.segscript.specs.Spelling.{PassTurn, IsNumber, IsFrequency, IsKeyWord, IsValueWord, IsWritable, value_word, moment_word, pass_word}
 use Rattle.segscript.specs.declared.verb.Verb.{Verb}
 use Rattle.segscript.specs.declared.verb.Verb.TheVariants as verbs
 
@@ -12,6 +12,7 @@ use Rattle.segscript.specs.declared.verb.Verb.TheVariants as verbs
 abbrev pub verb : Turn → Verb
 verb (Serve (Refill segment deadline)) = verbs.Refill
 verb (Serve (Evict segment)) = verbs.Evict
+verb (Serve (Keep segment cutoff)) = verbs.Keep
 verb (Serve (Write (Set key value now))) = verbs.Set
 verb (Serve (Write (Add key value now))) = verbs.Add
 verb (Serve (Write (Replace key value now))) = verbs.Replace
@@ -32,6 +33,7 @@ IsVerb v = Unit {0}
 abbrev pub verb_word : Verb → List ℕ
 verb_word verbs.Refill = codes "refill"
 verb_word verbs.Evict = codes "evict"
+verb_word verbs.Keep = codes "keep"
 verb_word verbs.Set = codes "set"
 verb_word verbs.Add = codes "add"
 verb_word verbs.Replace = codes "replace"
@@ -51,6 +53,10 @@ AreNumbers p = IsNumber p.0 × IsNumber p.1
 
 abbrev pub number_words : ℕ × ℕ → List (List ℕ)
 number_words p = decimal p.0 ∷ decimal p.1 ∷ []
+
+-- a segment and a cutoff
+abbrev pub IsCutoff : ℕ × ℕ → Type 0
+IsCutoff p = IsNumber p.0 × IsFrequency p.1
 
 -- a key and a moment, and their words
 abbrev pub IsPair : List ℕ × ℕ → Type 0
@@ -77,6 +83,7 @@ four_words p = p.0 ∷ value_word p.1 ∷ decimal p.2 ∷ moment_word p.3 ∷ []
 abbrev pub arguments_of : Turn → List (List ℕ)
 arguments_of (Serve (Refill segment deadline)) = number_words (segment, deadline)
 arguments_of (Serve (Evict segment)) = decimal segment ∷ []
+arguments_of (Serve (Keep segment cutoff)) = number_words (segment, cutoff)
 arguments_of (Serve (Write (Set key value now))) = triple_words (key, value, now)
 arguments_of (Serve (Write (Add key value now))) = triple_words (key, value, now)
 arguments_of (Serve (Write (Replace key value now))) = triple_words (key, value, now)

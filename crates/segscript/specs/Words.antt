@@ -1,8 +1,8 @@
 -- The words of this crate that others use, from one place.
-pub use Rattle.segscript.specs.Device.{flushed, IsBeginning}
+pub use Rattle.segscript.specs.Device.{ends_after, IsBeginning, one_more}
 pub use Rattle.segscript.specs.EachTurn.{EachTurn}
 pub use Rattle.segscript.specs.Memory.{hands_more, takes_more, takes_none}
-pub use Rattle.segscript.specs.Run.{is_make_fault, is_read_fault, is_write_fault, RunOutcome}
+pub use Rattle.segscript.specs.Run.{EndsOnce, is_make_fault, is_read_fault, is_write_fault, RunOutcome}
 pub use Rattle.segscript.specs.Run.{ShapeIsAnswered}
 use Rattle.segscript.specs.declared.fault.RunFault as declared_run_fault
 

@@ -1,7 +1,7 @@
 //! Readers and writers whose contracts tell the bytes that went through them.
 ghost use Rattle.std.specs.Prelude.{◌≡◌, ◌+◌, ◌%◌, ◌^◌, ◌<◌, ◌≤◌, ◌||◌, ◌++◌, [], Bool, false, ℕ};
 ghost use Rattle.std.specs.Prelude.{List, length, take, IfOk, OnOk, OnErr, is_err};
-ghost use Rattle.segscript.specs.Device.{took_nothing, TakesPart};
+ghost use Rattle.segscript.specs.Device.{ends_after, took_nothing, TakesPart};
 
 /// A call of a reader or of a writer failed.
 #[derive(Clone, Copy, Debug, PartialEq, Eq)]
@@ -18,6 +18,9 @@ pub trait Source {
     /// A call of it has failed. Such a reader is not asked again.
     ghost has_failed: { Self → Bool };
 
+    /// How many of its reads handed out nothing, modulo 2^64.
+    ghost ends: { Self → ℕ };
+
     /// Puts some bytes at the front of the buffer, and says how many: none only at the end.
     fn read(&mut self, buffer: &mut [u8]) -> Result<usize, Failed>
         requires works { has_failed self.old ≡ false }
@@ -26,7 +29,9 @@ pub trait Source {
         ensures bytes { IfOk result (λ n. hands self.old (take n buffer.new) self.new) }
         ensures end { IfOk result (λ n. n ≡ 0 → is_at_end self.new) }
         ensures err { OnErr result (hands self.old [] self.new) }
-        ensures failed { has_failed self.new ≡ is_err result };
+        ensures failed { has_failed self.new ≡ is_err result }
+        ensures ends { IfOk result (λ n. ends self.new ≡ ends_after (ends self.old) n) }
+        ensures unended { OnErr result (ends self.new ≡ ends self.old) };
 
     ghost hands_none: { (s : Self) → hands s [] s };
 
@@ -66,6 +71,17 @@ pub trait Sink {
 
     ghost takes_more: { (s t u : Self) (a b : List ℕ) → takes s a t → takes t b u
         → takes s (a ++ b) u };
+}
+
+/// The count of reads that handed out nothing, after one that handed out so many bytes.
+pub(crate) fn count_end(count: u64, handed: usize) -> u64
+    ensures { result ≡ ends_after count handed }
+{
+    if handed == 0 {
+        count.wrapping_add(1)
+    } else {
+        count
+    }
 }
 
 /// Writes all of the bytes, or a beginning of them and then fails.

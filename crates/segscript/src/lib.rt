@@ -21,6 +21,7 @@ mod word;
 pub use device::{Failed, Sink, Source, write_all};
 pub use fault::RunFault;
 pub use memory::{MemSink, MemSource, WhenFull};
-pub use script::run_script;
+pub use script::{run_script, serve_script};
+pub use server::Server;
 pub use standard::{ReadSource, WriteSink};
 pub use text::{Line, line_of, put, put_number};

@@ -3,17 +3,17 @@ ghost use Rattle.std.specs.Prelude.{◌≡◌, ◌<◌, ◌==◌, ◌∷◌, [],
 ghost use Rattle.std.specs.List.{slice_split};
 ghost use Rattle.segscript.specs.Spelling.{IsNumber, IsKeyWord, IsSayable, spelling};
 ghost use Rattle.segscript.specs.Reading.{ReadsAs};
-ghost use Rattle.segscript.specs.Verb.{AreNumbers, number_words, IsPair, pair_words};
+ghost use Rattle.segscript.specs.Verb.{AreNumbers, IsCutoff, number_words, IsPair, pair_words};
 ghost use Rattle.segscript.specs.Verb.{IsTriple, triple_words, AreFour, four_words};
 ghost use Rattle.segscript.specs.Verb.{IsTurnOf, arguments_of, line_words};
 
 use crate::verb::{Verb, verb_of};
-use crate::word::{key, moment, number, pass, value};
+use crate::word::{frequency, key, moment, number, pass, value};
 use arrayvec::ArrayVec;
 use segmodel::{Command, Request, Turn};
 use segword::{Key, Value};
 
-// The parts of a line between its spaces, where it has no more than 7.
+// The parts of a line between its spaces, if it has no more than 7.
 fn parts_of(line: &[u8]) -> Option<ArrayVec<&[u8], 7>>
     ensures some { IfSome result (λ parts.
         map (λ part. part.now) parts.items ≡ slice_split (λ byte. byte == 32) line.now) }
@@ -54,6 +54,19 @@ fn two_numbers(words: &[&[u8]]) -> Option<(u32, u32)>
             let first = number(first)?;
             let second = number(second)?;
             Some((first, second))
+        }
+        _ => None,
+    }
+}
+
+fn segment_and_cutoff(words: &[&[u8]]) -> Option<(u32, u8)>
+    ensures { ReadsAs IsCutoff number_words (map (λ word. word.now) words.now) result }
+{
+    match words {
+        [segment, cutoff] => {
+            let segment = number(segment)?;
+            let cutoff = frequency(cutoff)?;
+            Some((segment, cutoff))
         }
         _ => None,
     }
@@ -120,6 +133,10 @@ fn turn_of(verb: Verb, words: &[&[u8]]) -> Option<Turn>
             Some(Turn::Serve(Command::Refill(segment, deadline)))
         }
         Verb::Evict => Some(Turn::Serve(Command::Evict(one_number(words)?))),
+        Verb::Keep => {
+            let (segment, cutoff) = segment_and_cutoff(words)?;
+            Some(Turn::Serve(Command::Keep(segment, cutoff)))
+        }
         Verb::Set => {
             let (key, value, now) = key_value_moment(words)?;
             Some(Turn::Serve(Command::Write(Request::Set(key, value, now))))
@@ -173,7 +190,7 @@ fn said_by(words: &[&[u8]], passes: u32) -> Option<(u32, Turn)>
     Some((pass, turn))
 }
 
-/// The pass and the turn that a line spells, where it spells them.
+/// The pass and the turn that a line spells, if it spells them.
 pub fn read_line(line: &[u8], passes: u32) -> Option<(u32, Turn)>
     ensures { ReadsAs (IsSayable passes) spelling line.now result }
 {

@@ -3,11 +3,11 @@ ghost use Rattle.std.specs.Prelude.{◌≡◌, ◌+◌, ◌-◌, ◌^◌, ◌%�
 ghost use Rattle.std.specs.Prelude.{vec_len, length, take, drop, min, None, IfOk, OnErr};
 ghost use Rattle.std.specs.Prelude.{is_err, refl};
 ghost use Rattle.std.specs.Vec.{vec_capacity};
-ghost use Rattle.segscript.specs.Device.{took_nothing};
+ghost use Rattle.segscript.specs.Device.{ends_after, took_nothing};
 ghost use Rattle.segscript.specs.Memory.{hands_more, takes_more, takes_none, is_spent, handed};
 ghost use Rattle.segscript.specs.Memory.{good_after, when_full};
 
-use crate::device::{Failed, Sink, Source};
+use crate::device::{Failed, Sink, Source, count_end};
 use std::alloc::{AllocError, Global};
 
 /// Hands out a slice, in pieces of at most `step` bytes.
@@ -20,6 +20,8 @@ pub struct MemSource<'a> {
     pub good: Option<usize>,
     /// A call of it has failed.
     pub failed: bool,
+    /// How many reads handed out nothing, modulo 2^64.
+    pub ends: u64,
     ghost moves: { 0 < step },
 }
 
@@ -30,12 +32,14 @@ impl<'a> MemSource<'a> {
         ensures bytes { result.left.now ≡ bytes.now }
         ensures all { (result.step ≡ 2 ^ 64 - 1) × (result.good ≡ None) }
         ensures works { result.failed ≡ false }
+        ensures ends { result.ends ≡ 0 }
     {
         MemSource {
             left: bytes,
             step: usize::MAX,
             good: None,
             failed: false,
+            ends: 0,
         }
     }
 }
@@ -47,6 +51,8 @@ impl<'a> Source for MemSource<'a> {
 
     ghost has_failed = { λ s. s.failed };
 
+    ghost ends = { λ s. s.ends };
+
     fn read(&mut self, buffer: &mut [u8]) -> Result<usize, Failed>
         requires works { self.old.failed ≡ false }
         requires room { 0 < length buffer.old }
@@ -56,6 +62,8 @@ impl<'a> Source for MemSource<'a> {
         ensures end { IfOk result (λ n. n ≡ 0 → self.new.left.now ≡ []) }
         ensures err { OnErr result (self.old.left.now ≡ [] ++ self.new.left.now) }
         ensures failed { self.new.failed ≡ is_err result }
+        ensures ends { IfOk result (λ n. self.new.ends ≡ ends_after self.old.ends n) }
+        ensures unended { OnErr result (self.new.ends ≡ self.old.ends) }
 
         // It fails where it was told to, and else hands out as many bytes as it may.
         ensures fails { is_err result ≡ is_spent self.old.good }
@@ -81,6 +89,7 @@ impl<'a> Source for MemSource<'a> {
         let (front, back) = self.left.split_at(n);
         buffer[..n].copy_from_slice(front);
         self.left = back;
+        self.ends = count_end(self.ends, n);
         Ok(n)
     }
 
@@ -156,7 +165,7 @@ impl Sink for MemSink {
         ensures failed { self.new.failed ≡ took_nothing result }
         ensures flushes { self.new.flushes ≡ self.old.flushes }
 
-        // It takes as many bytes as it may; where that is none, it does as it was told to.
+        // It takes as many bytes as it may. If that is none, it does as it was told to.
         ensures full { self.old.room ≡ 0 → when_full self.old.when_full result }
         ensures takes { 0 < self.old.room
             → result ≡ Ok (min (min self.old.step self.old.room) (length bytes.now)) }

@@ -2,13 +2,14 @@
 ghost use Rattle.std.specs.Prelude.{◌≡◌, ◌+◌, ◌≤◌, ◌++◌, length, codes, decimal};
 ghost use Rattle.arrayvec.specs.ArrayVec.{array_vec_len};
 ghost use Rattle.segscript.specs.Replies.{reply, answer_reply, write_reply, delete_reply};
-ghost use Rattle.segscript.specs.Replies.{get_reply, gets_reply, evict_reply, refill_reply};
-ghost use Rattle.segscript.specs.Replies.{value_reply};
+ghost use Rattle.segscript.specs.Replies.{get_reply, gets_reply, evict_reply, keep_reply};
+ghost use Rattle.segscript.specs.Replies.{refill_reply, value_reply};
 ghost use Rattle.segscript.specs.Spelling.{value_word};
 
 use crate::text::{Line, line_of, put, put_number};
 use segmodel::{
-    Answer, DeleteAnswer, EvictAnswer, GetAnswer, GetsAnswer, Outcome, RefillAnswer, WriteAnswer,
+    Answer, DeleteAnswer, EvictAnswer, GetAnswer, GetsAnswer, KeepAnswer, Outcome, RefillAnswer,
+    WriteAnswer,
 };
 use segword::Value;
 
@@ -44,6 +45,7 @@ fn answer_reply(answer: &Answer) -> Reply
         Answer::Get(answer) => get_reply(answer),
         Answer::Gets(answer) => gets_reply(answer),
         Answer::Evict(answer) => evict_reply(*answer),
+        Answer::Keep(answer) => keep_reply(*answer),
         Answer::Refill(answer) => line_of(refill_line(*answer)),
     }
 }
@@ -120,6 +122,17 @@ fn evict_reply(answer: EvictAnswer) -> Reply
         EvictAnswer::Evicted(count) => counted(b"EVICTED ", count),
         EvictAnswer::NotYours => line_of(b"NOT_YOURS\n"),
         EvictAnswer::Busy(count) => counted(b"BUSY ", count),
+    }
+}
+
+fn keep_reply(answer: KeepAnswer) -> Reply
+    ensures { result.items ≡ keep_reply answer }
+{
+    match answer {
+        KeepAnswer::Kept(count) => counted(b"KEPT ", count),
+        KeepAnswer::NotYours => line_of(b"NOT_YOURS\n"),
+        KeepAnswer::NoRoom(count) => counted(b"NOROOM ", count),
+        KeepAnswer::Busy(count) => counted(b"BUSY ", count),
     }
 }
 

@@ -2,7 +2,9 @@
 ghost use Rattle.std.specs.Prelude.{◌≡◌, ◌+◌, ◌<◌, ◌≤◌, ◌^◌, ◌++◌, ◌∷◌, [], ◌⊎◌, ℕ, List, length};
 ghost use Rattle.std.specs.Prelude.{take, false, IsOk, IfOk, OnErr, is_err};
 ghost use Rattle.segscript.specs.Running.{AllReplied};
-ghost use Rattle.segscript.specs.Run.{EndOfRun, is_read_fault, is_write_fault, is_make_fault};
+ghost use Rattle.segscript.specs.Device.{ends_after};
+ghost use Rattle.segscript.specs.Run.{EndOfRun, EndsOnce, is_read_fault, is_write_fault};
+ghost use Rattle.segscript.specs.Run.{is_make_fault};
 
 use crate::device::{Failed, Sink, Source, write_all};
 use crate::engine::Engine;
@@ -152,7 +154,7 @@ impl OpenLine {
     }
 }
 
-// Reads once, and it is asked for only where the replies to all whole lines so far are written.
+// Reads once. It is called only once the replies to all whole lines so far are written.
 fn read_piece<R: Source, W: Sink, E: Engine>(
     reader: &mut R,
     _writer: &W,
@@ -169,6 +171,8 @@ fn read_piece<R: Source, W: Sink, E: Engine>(
     ensures end { IfOk result (λ n. n ≡ 0 → R.is_at_end reader.new) }
     ensures err { OnErr result (R.hands reader.old [] reader.new) }
     ensures failed { R.has_failed reader.new ≡ is_err result }
+    ensures ends { IfOk result (λ n. R.ends reader.new ≡ ends_after (R.ends reader.old) n) }
+    ensures unended { OnErr result (R.ends reader.new ≡ R.ends reader.old) }
 {
     reader.read(piece)
 }
@@ -191,6 +195,9 @@ pub fn run<R: Source, W: Sink, E: Engine>(
     ensures read { R.has_failed reader.new ≡ is_read_fault result }
     ensures write { W.has_failed writer.new ≡ is_write_fault result }
     ensures made { is_make_fault result ≡ false }
+
+    // Once the reader has handed out nothing, it is not asked again.
+    ensures ends { EndsOnce (R.ends reader.old) (R.ends reader.new) result }
 {
     let mut line = OpenLine {
         bytes: ArrayVec::new(),

@@ -1,10 +1,13 @@
-//! Runs a script over an index that is made for it.
+//! Runs a script over an index and its passes, or over an index that is made for it.
 ghost use Rattle.std.specs.Prelude.{◌≡◌, ◌⊎◌, ℕ, List, true, false, IsOk};
-ghost use Rattle.segscript.specs.Script.{IsTextOf, IsFirstBad};
+ghost use Rattle.segindex.specs.Words.{board_of, shape_of};
+ghost use Rattle.segscript.specs.Passes.{OneTakes};
+ghost use Rattle.segscript.specs.Script.{IsTextOf, IsFirstBad, Steps};
+ghost use Rattle.segscript.specs.Server.{IsReady, state};
 ghost use Rattle.segscript.specs.Device.{HandsOut};
 ghost use Rattle.segscript.specs.EachTurn.{EachTurn};
-ghost use Rattle.segscript.specs.Run.{RunOutcome, ShapeIsAnswered, is_read_fault, is_write_fault};
-ghost use Rattle.segscript.specs.Run.{is_make_fault};
+ghost use Rattle.segscript.specs.Run.{EndOfRun, EndsOnce, RunOutcome, ShapeIsAnswered};
+ghost use Rattle.segscript.specs.Run.{is_make_fault, is_read_fault, is_write_fault};
 
 use crate::device::{Sink, Source};
 use crate::fault::RunFault;
@@ -14,11 +17,50 @@ use segindex::{Index, MakeFault};
 use segword::Shape;
 use std::alloc::Global;
 
+/// Runs the script that the reader hands out over an index and its passes, and writes the replies.
+/// It is given no allocator.
+///
+/// If the index has one pass, the text is the one that the cache of one thread gives, from where
+/// that pass is. If it has several, they take turns on this thread, and each turn has a reply.
+pub fn serve_script<R: Source, W: Sink>(
+    reader: &mut R,
+    writer: &mut W,
+    server: &mut Server<'_>,
+) -> Result<(), RunFault>
+    requires reader_works { R.has_failed reader.old ≡ false }
+    requires writer_works { W.has_failed writer.old ≡ false }
+    requires ready { IsReady server.old }
+    ensures ready { IsReady server.new }
+
+    // How it ends, what it read and wrote, and which text belongs to that.
+    ensures outcome { EndOfRun (shape_of server.old.index.now).passes
+        (Steps (shape_of server.old.index.now)) (state server.old)
+        (λ seen. R.hands reader.old seen reader.new) (R.is_at_end reader.new)
+        (λ text. W.takes writer.old text writer.new)
+        (W.flushes writer.old) (W.flushes writer.new) result }
+
+    // Each turn was that of the pass that its line names, and the reply is its answer. When it
+    // began, the pass had seen all that any of the passes had seen. The others did nothing.
+    ensures each_turn { EndOfRun (shape_of server.old.index.now).passes
+        (OneTakes (board_of server.old.index.now)) server.old.passes.items
+        (λ seen. R.hands reader.old seen reader.new) (R.is_at_end reader.new)
+        (λ text. W.takes writer.old text writer.new)
+        (W.flushes writer.old) (W.flushes writer.new) result }
+    ensures read { R.has_failed reader.new ≡ is_read_fault result }
+    ensures write { W.has_failed writer.new ≡ is_write_fault result }
+    ensures made { is_make_fault result ≡ false }
+
+    // Once the reader has handed out nothing, it is not asked again.
+    ensures ends { EndsOnce (R.ends reader.old) (R.ends reader.new) result }
+{
+    run(reader, writer, server)
+}
+
 /// Makes an index of this shape, runs the script that the reader hands out, and writes the replies.
 ///
 /// If the shape has one pass, the text is the one that the cache of one thread gives.
 /// If it has several, they take turns on this thread, and each turn has a reply.
-/// Once the index and the list of its holds are made, no call is given an allocator.
+/// Once the index and the list of its holds are made, `serve_script` does the rest.
 pub fn run_script<R: Source, W: Sink>(
     alloc: Global,
     reader: &mut R,
@@ -34,8 +76,8 @@ pub fn run_script<R: Source, W: Sink>(
         (λ text. W.takes writer.old text writer.new)
         (W.flushes writer.old) (W.flushes writer.new) result }
 
-    // Each turn was that of the pass that its line names, whose answer the reply tells;
-    // the other passes were left alone.
+    // Each turn was that of the pass that its line names, and the reply is its answer. When it
+    // began, the pass had seen all that any of the passes had seen. The others did nothing.
     ensures each_turn { EachTurn shape
         (λ seen. R.hands reader.old seen reader.new) (R.is_at_end reader.new)
         (λ text. W.takes writer.old text writer.new)
@@ -43,7 +85,10 @@ pub fn run_script<R: Source, W: Sink>(
     ensures read { R.has_failed reader.new ≡ is_read_fault result }
     ensures write { W.has_failed writer.new ≡ is_write_fault result }
 
-    // A fault in the making comes before anything is read or written.
+    // Once the reader has handed out nothing, it is not asked again.
+    ensures ends { EndsOnce (R.ends reader.old) (R.ends reader.new) result }
+
+    // A fault of creating the index comes before anything is read or written.
     ensures shape { ShapeIsAnswered shape result }
     ensures made { is_make_fault result ≡ true
         → (reader.new ≡ reader.old) × (writer.new ≡ writer.old) }
@@ -68,7 +113,7 @@ pub fn run_script<R: Source, W: Sink>(
     let Ok(mut server) = Server::new(alloc, &index, passes) else {
         return Err(RunFault::Make(MakeFault::OutOfMemory));
     };
-    let result = run(reader, writer, &mut server);
+    let result = serve_script(reader, writer, &mut server);
     server.end();
     result
 }

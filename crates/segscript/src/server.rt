@@ -1,7 +1,9 @@
 //! An index and its passes, which take turns on one thread.
-ghost use Rattle.std.specs.Prelude.{◌≡◌, ◌<◌, length, IfOk};
+ghost use Rattle.std.specs.Prelude.{◌≡◌, ◌≢◌, ◌<◌, All, length, vec_len, IfOk};
 ghost use Rattle.segmodel.specs.Words.{fresh};
-ghost use Rattle.segindex.specs.Words.{IsNew, shape_of};
+ghost use Rattle.segpass.specs.Words.{IsQuiet};
+ghost use Rattle.segindex.specs.Words.{board_of, IsNew, shape_of};
+ghost use Rattle.segscript.specs.Passes.{CatchesUp, HaveMet};
 
 use crate::engine::Engine;
 use crate::turns::{leave, take_turn};
@@ -15,6 +17,38 @@ pub struct Server<'i> {
     index: &'i Index,
     passes: Vec<Pass>,
     holds: Vec<Option<Hold<'i>>>,
+    // The pass that took the last turn. It has seen all that was done.
+    last: usize,
+}
+
+// The passes at two places meet. The second has then seen all that the first has.
+fn meet_at(index: &Index, passes: &mut [Pass], first: usize, second: usize)
+    requires quiet { All (IsQuiet (board_of index.now)) passes.old }
+    requires first { first < length passes.old }
+    requires second { second < length passes.old }
+    requires apart { first ≢ second }
+    ensures { HaveMet (board_of index.now) first second passes.old passes.new }
+{
+    if first < second {
+        let (front, back) = passes.split_at_mut(second);
+        index.meet(&mut front[first], &mut back[0]);
+    } else {
+        let (front, back) = passes.split_at_mut(first);
+        index.meet(&mut back[0], &mut front[second]);
+    }
+}
+
+// The pass at the one place has then seen all that the one at the other place has, if it is another.
+fn catch_up(index: &Index, passes: &mut Vec<Pass>, last: usize, place: usize)
+    requires quiet { All (IsQuiet (board_of index.now)) passes.old.items }
+    requires last { last < vec_len passes.old }
+    requires place { place < vec_len passes.old }
+    ensures { CatchesUp (board_of index.now) last place passes.old.items passes.new.items }
+{
+    if last == place {
+        return;
+    }
+    meet_at(index, passes, last, place);
 }
 
 impl<'i> Server<'i> {
@@ -36,6 +70,7 @@ impl<'i> Server<'i> {
             index,
             passes,
             holds,
+            last: 0,
         })
     }
 
@@ -49,6 +84,7 @@ impl<'i> Server<'i> {
             index,
             mut passes,
             mut holds,
+            last: _,
         } = self;
         while let Some(hold) = holds.pop() {
             leave(index, &mut passes[holds.len()], hold);
@@ -77,10 +113,12 @@ impl Engine for Server<'_> {
         ensures ready { IsReady self.new }
         ensures shape { shape_of self.new.index.now ≡ shape_of self.old.index.now }
 
-        // The turn was that pass's, and the others are as they were.
+        // The turn was that pass's, after it had seen all that was done, and the others did nothing.
         ensures turns { TurnsOne self.old (pass, turn.now) result self.new }
     {
         let place = pass as usize;
+        catch_up(self.index, &mut self.passes, self.last, place);
+        self.last = place;
         take_turn(
             self.index,
             &mut self.passes[place],

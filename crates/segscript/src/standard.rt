@@ -3,14 +3,16 @@ ghost use Rattle.std.specs.Prelude.{◌≡◌, false};
 ghost use Rattle.std.specs.Io.KnownBytes.{Consumes, Appends, IsAtEnd};
 ghost use Rattle.segscript.specs.Known.{Consumes-none, Consumes-more, Appends-none, Appends-more};
 
-use crate::device::{Failed, Sink, Source};
+use crate::device::{Failed, Sink, Source, count_end};
 use std::io::{Read, Write};
 
-/// A reader of std. Its bytes are told where std tells them.
+/// A reader of std. Contracts know its bytes if they know those of the std reader.
 #[derive(Drop)]
 pub struct ReadSource<R: Read> {
     inner: R,
     failed: bool,
+    // How many reads handed out nothing, modulo 2^64.
+    ends: u64,
 }
 
 impl<R: Read> ReadSource<R> {
@@ -18,10 +20,12 @@ impl<R: Read> ReadSource<R> {
     pub fn new(inner: R) -> ReadSource<R>
         ensures inner { result.inner ≡ inner }
         ensures works { result.failed ≡ false }
+        ensures ends { result.ends ≡ 0 }
     {
         ReadSource {
             inner,
             failed: false,
+            ends: 0,
         }
     }
 }
@@ -34,9 +38,14 @@ impl<R: Read> Source for ReadSource<R> {
 
     ghost has_failed = { λ s. s.failed };
 
+    ghost ends = { λ s. s.ends };
+
     fn read(&mut self, buffer: &mut [u8]) -> Result<usize, Failed> {
         match self.inner.read(buffer) {
-            Ok(n) => Ok(n),
+            Ok(n) => {
+                self.ends = count_end(self.ends, n);
+                Ok(n)
+            }
             Err(_) => {
                 self.failed = true;
                 Err(Failed)
@@ -50,7 +59,7 @@ impl<R: Read> Source for ReadSource<R> {
         Consumes-more (R.remaining s.inner) (R.remaining t.inner) (R.remaining u.inner) a b };
 }
 
-/// A writer of std. Its bytes are told where std tells them.
+/// A writer of std. Contracts know its bytes if they know those of the std writer.
 #[derive(Drop)]
 pub struct WriteSink<W: Write> {
     inner: W,

@@ -7,6 +7,7 @@ ghost use Rattle.segscript.specs.Verb.{IsVerb, verb_word};
 pub enum Verb {
     Refill,
     Evict,
+    Keep,
     Set,
     Add,
     Replace,
@@ -29,6 +30,8 @@ pub fn verb_of(word: &[u8]) -> Option<Verb>
         Some(Verb::Refill)
     } else if word == b"evict".as_slice() {
         Some(Verb::Evict)
+    } else if word == b"keep".as_slice() {
+        Some(Verb::Keep)
     } else if word == b"set".as_slice() {
         Some(Verb::Set)
     } else if word == b"add".as_slice() {

@@ -1,8 +1,8 @@
 //! Reads single words of a line.
 ghost use Rattle.std.specs.Prelude.{◌↔◌, decimal, IsTrue};
 ghost use Rattle.std.specs.List.{AllByRecursion};
-ghost use Rattle.segscript.specs.Spelling.{IsNumber, IsKeyWord, IsValueWord, value_word, moment_word};
-ghost use Rattle.segscript.specs.Spelling.{IsWordByte, pass_word};
+ghost use Rattle.segscript.specs.Spelling.{IsNumber, IsFrequency, IsKeyWord, IsValueWord};
+ghost use Rattle.segscript.specs.Spelling.{IsWordByte, moment_word, pass_word, value_word};
 ghost use Rattle.segscript.specs.Reading.{ReadsAs, BeginsPlainly};
 ghost use Rattle.segscript.specs.Verb.{IsPass};
 
@@ -26,6 +26,14 @@ pub fn number(word: &[u8]) -> Option<u32>
         Ok(text) => text.parse::<u32>().ok(),
         Err(_) => None,
     }
+}
+
+/// A frequency: a number below 256.
+pub fn frequency(word: &[u8]) -> Option<u8>
+    ensures { ReadsAs IsFrequency decimal word.now result }
+{
+    let number = number(word)?;
+    u8::try_from(number).ok()
 }
 
 // Whether each byte may stand in a word.

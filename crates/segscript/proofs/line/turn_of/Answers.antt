@@ -1,8 +1,11 @@
-use Rattle.segscript.proofs.WordLemmas.{none-refill, none-set, none-add, none-replace, none-cas, none-delete, none-get, none-gets, none-hold}
+use Rattle.segscript.proofs.WordLemmas.{none-refill, none-keep, none-set, none-add, none-replace, none-cas, none-delete, none-get, none-gets, none-hold}
 use Rattle.segscript.proofs.line.turn_of.Goals as goal
 
 pub returns-in_err-segment-in-Refill : goal.returns-in_err-segment-in-Refill
 returns-in_err-segment-in-Refill c = rw (c.from_residual.ensures, c.in-Refill.is) (none-refill _ c.in_err-segment-in-Refill.ensures)
+
+pub returns-in_err-segment-in-Keep : goal.returns-in_err-segment-in-Keep
+returns-in_err-segment-in-Keep c = rw (c.from_residual-in_err-segment-in-Keep.ensures, c.in-Keep.is) (none-keep _ c.in_err-segment-in-Keep.ensures)
 
 pub returns-in_err-key-in-Set : goal.returns-in_err-key-in-Set
 returns-in_err-key-in-Set c = rw (c.from_residual-in_err-key-in-Set.ensures, c.in-Set.is) (none-set _ c.in_err-key-in-Set.ensures)

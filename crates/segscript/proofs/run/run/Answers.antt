@@ -1,6 +1,8 @@
 use Rattle.std.proofs.Common.{Err, ℕ, refl, arith, length-append, length-drop, length-take, take, ap, ◌∙◌}
 use Rattle.std.proofs.lemmas.List.{take-append-le}
 use Rattle.segword.specs.Words.{Shape}
+use Rattle.segscript.specs.Device.{one_more}
+use Rattle.segscript.proofs.Devices.{end_read, ended_once, more_read, unended_still}
 use Rattle.segscript.proofs.Feeding.{at_passes}
 use Rattle.segscript.proofs.Going.{asked, going_start, going_on, ends_fed, ends_read, ends_finish}
 use Rattle.segscript.proofs.run.run.Goals as goal
@@ -9,6 +11,7 @@ pub loop-total-init : goal.loop-total-init
 loop-total-init g c = record {
   reads = c.requires.reader_works;
   writes = c.requires.writer_works;
+  unended = refl;
   unflushed = refl;
   shape = refl;
   ready = c.requires.ready;
@@ -37,10 +40,24 @@ returns-in-Err-clause-outcome g c =
     (c.in-Err.ensures.flushes ∙ c.loop-total.invariant.unflushed)
     c.in-Ok.ensures.bytes (take-append-le c.in-Ok.n _ _ c.in-Ok.ensures.count) (outcome _ _ going.here)
 
+pub returns-in_default-clause-ends : goal.returns-in_default-clause-ends
+returns-in_default-clause-ends g c = c.in_default.ensures.unended ∙ c.loop-total.invariant.unended
+
+pub returns-then-n-eq0-clause-ends : goal.returns-then-n-eq0-clause-ends
+returns-then-n-eq0-clause-ends g c =
+    ended_once _ _ _ _ _ _ _ _ _ _ c.finish.result (c.in-Ok.ensures.ends ∙ end_read _ _ c.if-n-eq0.true ∙ ap one_more c.loop-total.invariant.unended) ((rw c.loop-total.invariant.shape at c.finish.ensures.outcome _) _ _ c.loop-total.invariant.going.here)
+
+pub returns-in-Err-clause-ends : goal.returns-in-Err-clause-ends
+returns-in-Err-clause-ends g c = unended_still _ _ c.in-Err.fault (c.in-Ok.ensures.ends ∙ more_read _ _ c.if-n-eq0.false ∙ c.loop-total.invariant.unended)
+
+pub returns-clause-ends : goal.returns-clause-ends
+returns-clause-ends g c = c.loop-total.invariant.unended
+
 pub loop-total-preserved : goal.loop-total-preserved
 loop-total-preserved g c = record {
   reads = c.in-Ok.ensures.failed;
   writes = c.in_default-feed_all.ensures.failed;
+  unended = c.in-Ok.ensures.ends ∙ more_read _ _ c.if-n-eq0.false ∙ c.loop-total.invariant.unended;
   unflushed = c.in_default-feed_all.ensures.flushes ∙ c.loop-total.invariant.unflushed;
   shape = c.in_default-feed_all.ensures.shape ∙ c.loop-total.invariant.shape;
   ready = c.in_default-feed_all.ensures.ready;

@@ -6,6 +6,7 @@ abbrev pub invariant-loop-total : goal.invariant-loop-total
 invariant-loop-total g l = record {
   reads : g.R.Source.has_failed l.reader ≡ false;
   writes : g.W.Sink.has_failed l.writer ≡ false;
+  unended : g.R.Source.ends l.reader ≡ g.R.Source.ends l.fn.reader;
   unflushed : g.W.Sink.flushes l.writer ≡ g.W.Sink.flushes l.fn.writer;
   shape : g.E.Engine.shape l.engine ≡ g.E.Engine.shape l.fn.engine;
   ready : g.E.Engine.is_ready l.engine;

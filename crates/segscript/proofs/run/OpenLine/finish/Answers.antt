@@ -1,5 +1,5 @@
 use Rattle.std.proofs.Common.{[], ◌++◌, append-nil, ap, inr, ◌∙◌}
-use Rattle.segscript.specs.Device.{flushed}
+use Rattle.segscript.specs.Device.{one_more}
 use Rattle.segscript.proofs.LineLemmas.{finish_text, finish-fault}
 use Rattle.segscript.proofs.run.OpenLine.finish.Goals as goal
 
@@ -12,7 +12,7 @@ returns-in-Ok-clause-outcome g c = λ start seen told here.
     let out = c.in_default.ensures.outcome in (
       out.0 ++ [],
       g.met.W.Sink.takes_more _ _ _ _ _ out.1 c.in-Ok.ensures.bytes,
-      c.in-Ok.ensures.flushes ∙ ap flushed c.in_default.ensures.flushes,
+      c.in-Ok.ensures.flushes ∙ ap one_more c.in_default.ensures.flushes,
       rw append-nil (finish_text _ _ start _ seen told out.0 _ _ _ here out.2),
     )
 
@@ -21,5 +21,5 @@ returns-in-Err-flush-clause-outcome g c = λ start seen told here.
     let out = c.in_default.ensures.outcome in (
       out.0 ++ [],
       g.met.W.Sink.takes_more _ _ _ _ _ out.1 c.in-Err-flush.ensures.bytes,
-      inr (c.in-Err-flush.ensures.flushes ∙ ap flushed c.in_default.ensures.flushes, rw append-nil (finish_text _ _ start _ seen told out.0 _ _ _ here out.2)),
+      inr (c.in-Err-flush.ensures.flushes ∙ ap one_more c.in_default.ensures.flushes, rw append-nil (finish_text _ _ start _ seen told out.0 _ _ _ here out.2)),
     )

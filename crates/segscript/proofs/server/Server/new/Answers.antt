@@ -3,6 +3,7 @@ use Rattle.std.proofs.lemmas.List.{replicate_more, length-replicate}
 use Rattle.std.proofs.lemmas.Option.{slice_get_within}
 use Rattle.segindex.specs.Words.{shape_of}
 use Rattle.segindex.proofs.Made.{each_new}
+use Rattle.segscript.proofs.Meetings.{new_seen}
 use Rattle.segscript.proofs.Servers.{all_none, new_idle, new_first}
 use Rattle.segscript.proofs.server.Server.new.Goals as goal
 
@@ -38,6 +39,8 @@ returns-clause-ready c =
             (all_none c.loop.counter n hold (ap (λ l. slice_get l n) (sym c.loop.invariant.holds) ∙ held)),
         (each n p at).0.number,
       );
+      within = (let least = new.made.valid.0.0.0.1.0 in omega arith);
+      ahead = λ first at n p is. new_seen p first (each n p is).0.nothing;
     }
 
 pub returns-clause-start : goal.returns-clause-start

@@ -1,0 +1,8 @@
+use Rattle.segscript.proofs.Endings.{model_took, passes_took}
+use Rattle.segscript.proofs.script.serve_script.Goals as goal
+
+pub returns-clause-outcome : goal.returns-clause-outcome
+returns-clause-outcome g c = model_took c.args.server.now _ _ _ _ _ c.run.result c.run.ensures.outcome
+
+pub returns-clause-each_turn : goal.returns-clause-each_turn
+returns-clause-each_turn g c = passes_took c.args.server.now _ _ _ _ _ c.run.result c.run.ensures.outcome
