@@ -3,5 +3,4 @@ pub mod Counted
 pub mod Answered
 pub mod Made
 pub mod Starting
-pub mod Gathered
 pub mod Loaded

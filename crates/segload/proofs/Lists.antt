@@ -1,6 +1,6 @@
--- Lists of which each element has a property at its place, as they grow by one; and lists that begin each other.
-use Rattle.std.proofs.Common.{◌≡◌, ℕ, List, [], ◌∷◌, ◌++◌, length, slice_get, Some, sym, ap, subst, ⊎_elim, arith, length-append}
-use Rattle.std.proofs.lemmas.Option.{none-some}
+-- Lists of which each element has a property at its place, as they grow by one; lists of one length, or of which one is made of the other; and lists that begin each other.
+use Rattle.std.proofs.Common.{◌≡◌, ℕ, zero, suc, List, [], ◌∷◌, ◌++◌, length, map, slice_get, Some, refl, sym, ap, subst, ⊎_elim, arith, length-append}
+use Rattle.std.proofs.lemmas.Option.{none-some, same_Some}
 use Rattle.segmodel.specs.Words.{Begins}
 use Rattle.segload.specs.Lists.{AllAt}
 use Rattle.segmodel.proofs.ListPlaces.{front_or_last}
@@ -10,6 +10,24 @@ all_pushed P xs x all here n y at = ⊎_elim (λ was. all n y was) (λ e. subst 
 
 pub all_none : {A : Type 0} {P : Type 0} (n : ℕ) (x : A) → slice_get [] n ≡ Some x → P
 all_none n x at = absurd (none-some x at)
+
+-- what has an element at a place has one in each list as long
+pub is_there : {A B : Type 0} (xs : List A) (ys : List B) (n : ℕ) (x : A) → length ys ≡ length xs → slice_get xs n ≡ Some x → (y : B) × (slice_get ys n ≡ Some y)
+is_there [] ys n x same at = absurd (none-some x at)
+is_there (x ∷ xs) [] n y same at = absurd (omega (arith, same))
+is_there (x ∷ xs) (z ∷ zs) zero y same at = (z, refl)
+is_there (x ∷ xs) (z ∷ zs) (suc n) y same at = is_there xs zs n y (omega (arith, same)) at
+
+-- what a list is made of stands at the same place, and so does what is made of it
+pub made_of : {A B : Type 0} (f : A → B) (xs : List A) (n : ℕ) (y : B) → slice_get (map f xs) n ≡ Some y → (x : A) × (slice_get xs n ≡ Some x) × (f x ≡ y)
+made_of f [] n y at = absurd (none-some y at)
+made_of f (x ∷ xs) zero y at = (x, refl, same_Some (f x) y at)
+made_of f (x ∷ xs) (suc n) y at = made_of f xs n y at
+
+pub made_there : {A B : Type 0} (f : A → B) (xs : List A) (n : ℕ) (x : A) → slice_get xs n ≡ Some x → slice_get (map f xs) n ≡ Some (f x)
+made_there f [] n x at = absurd (none-some x at)
+made_there f (y ∷ xs) zero x at = ap (λ a. Some (f a)) (same_Some y x at)
+made_there f (y ∷ xs) (suc n) x at = made_there f xs n x at
 
 -- two lists that begin each other are one
 pub both_begin : {A : Type 0} (xs ys : List A) → Begins xs ys → Begins ys xs → xs ≡ ys

@@ -1,22 +1,20 @@
 -- What a whole load comes to, put together.
-use Rattle.std.proofs.Common.{◌≡◌, ℕ, ◌==◌, ◌<◌, Bool, true, false, List, [], ◌∷◌, length, slice_get, Some, refl, sym, ap, subst, ◌∙◌, arith, inl, inr}
+use Rattle.std.proofs.Common.{◌≡◌, ℕ, ◌<◌, Bool, true, false, List, [], ◌∷◌, get_or, length, map, slice_get, Some, refl, sym, ap, subst, ◌∙◌, arith, inl, inr}
 use Rattle.std.proofs.lemmas.Option.{slice_get_within, slice_get-get_or}
-use Rattle.std.proofs.lemmas.Bool.{eqb-true, eqb-false}
 use Rattle.std.specs.Int.NonZero.{non_zero_u32_get}
 use Rattle.segword.specs.Words.{IsValid}
-use Rattle.segmodel.specs.Words.{after, Begins, Entry, IsLegal}
-use Rattle.segmodel.specs.History as history
-use Rattle.segcore.proofs.Moments.{begins_on}
-use Rattle.segbase.specs.Words.{Board, mine, number, number_of, Pass, seen}
-use Rattle.segindex.specs.Words.{IsEnd}
+use Rattle.segmodel.specs.Words.{after, Entry}
+use Rattle.segmodel.specs.History as histories
+use Rattle.segbase.specs.Words.{Board, HasEach, mine, number, number_of, seen}
+use Rattle.segpass.specs.Words.{IsQuiet}
+use Rattle.segindex.specs.Words.{AreAllQuiet, IsEndOfAll}
 use Rattle.segload.specs.Words.{PassTotals, Plan, Totals, Worker}
 use Rattle.segload.specs.Counting.{all_of}
 use Rattle.segload.specs.Gates.{RanToEnd, Stops}
 use Rattle.segload.specs.Making.{Makes}
-use Rattle.segload.specs.Working.{course_of, draws_for, HasMadePlan, NoneStopped, IsFirstStopped}
-use Rattle.segload.specs.Gathering.{AreAll, HasGathered}
+use Rattle.segload.specs.Working.{course_of, draws_for, HasMadePlan, NoneStopped, IsFirstStopped, pass_of}
 use Rattle.segload.specs.Loads.{CountsCommands, keys_of, IsLoad, IsLetThrough, IsToldOfAll, IsStopped}
-use Rattle.segload.proofs.Gathered.{is_there}
+use Rattle.segload.proofs.Lists.{is_there, made_of, made_there}
 use Rattle.segload.specs.Lists.{AllAt}
 use Rattle.segload.proofs.Counted.{counts_made}
 use Rattle.segload.proofs.Made.{makes_later}
@@ -30,13 +28,18 @@ module _ (b : Board) (may_answer : ℕ → ℕ → Bool → Type 0) (told : ℕ 
   abbrev pub AllWorked : List Worker → Type 0
   AllWorked workers = AllAt (HasMadePlan b may_answer told plan) workers
 
-  pub are_all : (workers : List Worker) → IsValid b.shape → length workers ≡ b.shape.passes → AllWorked workers → AreAll b workers
-  are_all workers valid long worked = record {
-    valid = valid;
-    long = long;
-    quiet = λ n worker at. (worked n worker at).quiet;
-    in_order = λ n worker at. (worked n worker at).is;
+  -- their passes are those of the index, all of them
+  pub are_all : (workers : List Worker) → length workers ≡ b.shape.passes → AllWorked workers → AreAllQuiet b (map pass_of workers)
+  are_all workers long worked = record {
+    quiet = λ n p at. let one = made_of pass_of workers n p at in subst (IsQuiet b) one.2 (worked n one.0 one.1).quiet;
+    all = of_number workers long worked;
   }
+    where
+      of_number : (those : List Worker) → length those ≡ b.shape.passes → AllWorked those → HasEach b.shape.passes (map pass_of those)
+      of_number [] all did n below = absurd (omega (arith, all, below))
+      of_number (worker ∷ more) all did n below =
+          let there = slice_get-get_or (worker ∷ more) n worker (omega (arith, all, below)) in
+          (n, pass_of (get_or (worker ∷ more) n worker), made_there pass_of (worker ∷ more) n (get_or (worker ∷ more) n worker) there, (did n _ there).is)
 
   -- a pass of the index has one of its numbers
   pub numbered : (n : ℕ) (worker : Worker) (pass : ℕ) → HasMadePlan b may_answer told plan n worker → pass ≡ number_of worker.client.pass → pass < b.shape.passes
@@ -78,49 +81,36 @@ module _ (b : Board) (may_answer : ℕ → ℕ → Bool → Type 0) (told : ℕ 
             ran_to_end other _ _ refl (worked other _ there);
       }
 
-  counted : (workers : List Worker) (totals : List PassTotals) (first : Pass) → AllWorked workers → NoneStopped workers → length workers ≡ length totals → AreTotals plan.commands workers totals
-      → (all : HasGathered b workers first) → (n : ℕ) (of : PassTotals) → slice_get totals n ≡ Some of → CountsCommands b.shape plan.seed (non_zero_u32_get plan.keys) plan.commands n all.history of
-  counted workers totals first worked none long are all n of at =
-      let one = is_there totals workers n of long at in
-      let here = are n of one.0 at one.1 in
-      let done = (worked n one.0 one.1).at_work (none n one.0 one.1) in
-      let pass = one.0.client.pass in
-      let draws = draws_for plan n in
-      let course = course_of one.0.client in
-      let later = makes_later b.shape (seen pass) all.history (number pass) draws plan.commands one.0.tallies course (mine pass) (all.told n one.0 one.1) done.makes in
-      let made = subst (λ t. Makes b.shape all.history n draws plan.commands t course (history.mine n all.history)) (sym here.1)
-      (subst (λ own. Makes b.shape all.history n draws plan.commands one.0.tallies course own) (sym (all.each n one.0 one.1))
-      (subst (λ m. Makes b.shape all.history m draws plan.commands one.0.tallies course (mine pass)) (worked n one.0 one.1).is later)) in
-      record {
-        commands = here.0;
-        all = ap all_of here.1 ∙ done.all;
-        replies = counts_made b.shape all.history n draws plan.commands of.tallies course (history.mine n all.history) made;
-        course = course;
-        made = made;
-      }
+  module _ (workers : List Worker) (totals : Totals) (worked : AllWorked workers) (none : NoneStopped workers)
+      (long : length workers ≡ length totals.passes.items) (are : AreTotals plan.commands workers totals.passes.items) (history : List Entry) (end : IsEndOfAll b.shape (map pass_of workers) history) where
+    counted : (n : ℕ) (of : PassTotals) → slice_get totals.passes.items n ≡ Some of → CountsCommands b.shape plan.seed (non_zero_u32_get plan.keys) plan.commands n history of
+    counted n of at =
+        let one = is_there totals.passes.items workers n of long at in
+        let here = are n of one.0 at one.1 in
+        let done = (worked n one.0 one.1).at_work (none n one.0 one.1) in
+        let pass = pass_of one.0 in
+        let its_end = end.each n pass (made_there pass_of workers n one.0 one.1) in
+        let draws = draws_for plan n in
+        let course = course_of one.0.client in
+        let later = makes_later b.shape (seen pass) history (number pass) draws plan.commands one.0.tallies course (mine pass) its_end.goes_on done.makes in
+        let made = subst (λ t. Makes b.shape history n draws plan.commands t course (histories.mine n history)) (sym here.1)
+        (subst (λ m. Makes b.shape history m draws plan.commands one.0.tallies course (histories.mine m history)) (worked n one.0 one.1).is
+        (subst (λ own. Makes b.shape history (number pass) draws plan.commands one.0.tallies course own) (sym its_end.mine) later)) in
+        record {
+          commands = here.0;
+          all = ap all_of here.1 ∙ done.all;
+          replies = counts_made b.shape history n draws plan.commands of.tallies course (histories.mine n history) made;
+          course = course;
+          made = made;
+        }
 
-  pub loaded : (workers : List Worker) (totals : Totals) (first : Pass) → length workers ≡ b.shape.passes → AllWorked workers → NoneStopped workers
-      → length workers ≡ length totals.passes.items → AreTotals plan.commands workers totals.passes.items → HasGathered b workers first
-      → (end : List Entry) × IsEnd b.shape first end × (totals.keys ≡ keys_of (after b.shape end)) → (b.shape.passes ≡ 1 → totals.keys ≡ keys_of (after b.shape (seen first)))
-      → IsLoad b.shape plan.seed (non_zero_u32_get plan.keys) plan.commands totals
-  loaded workers totals first all_there worked none long are all content alone = by (b.shape.passes == 1) refl
-    where
-      ending : (end : List Entry) → IsLegal b.shape end → Begins all.history end → (b.shape.passes ≡ 1 → end ≡ all.history) → totals.keys ≡ keys_of (after b.shape end) → IsLoad b.shape plan.seed (non_zero_u32_get plan.keys) plan.commands totals
-      ending end legal goes_on one keys = record {
-        valid = all.quiet.pass.valid;
-        long = sym long ∙ all_there;
-        history = all.history;
-        legal = all.legal;
-        each = counted workers totals.passes.items first worked none long are all;
-        end = end;
-        legal_end = legal;
-        goes_on = goes_on;
-        alone = one;
-        stand = keys;
-      }
-
-      by : (is_one : Bool) → (b.shape.passes == 1) ≡ is_one → IsLoad b.shape plan.seed (non_zero_u32_get plan.keys) plan.commands totals
-      by true is =
-          let one = eqb-true b.shape.passes 1 is in
-          ending all.history all.legal ([], refl) (λ _. refl) (alone one ∙ ap (λ h. keys_of (after b.shape h)) (all.alone one))
-      by false is = ending content.0 content.1.legal (begins_on all.history (seen first) content.0 all.goes_on content.1.goes_on) (λ one. absurd (eqb-false b.shape.passes 1 is one)) content.2
+    pub loaded : IsValid b.shape → length workers ≡ b.shape.passes → totals.keys ≡ keys_of (after b.shape history) → IsLoad b.shape plan.seed (non_zero_u32_get plan.keys) plan.commands totals
+    loaded valid all stand = record {
+      valid = valid;
+      long = sym long ∙ all;
+      history = history;
+      legal = (end.each end.place end.pass end.there).legal;
+      each = counted;
+      among = end.among;
+      stand = stand;
+    }

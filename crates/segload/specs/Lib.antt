@@ -3,6 +3,5 @@ pub mod Gates
 pub mod Lists
 pub mod Making
 pub mod Working
-pub mod Gathering
 pub mod Loads
 pub mod Words

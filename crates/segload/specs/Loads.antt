@@ -1,7 +1,7 @@
 -- What a load comes to.
-use Rattle.std.specs.Prelude.{◌≡◌, ℕ, ◌<◌, Bool, List, length, slice_get, Some}
+use Rattle.std.specs.Prelude.{◌≡◌, ℕ, ◌<◌, ◌≤◌, Bool, List, [], length, slice_get, Some}
 use Rattle.segword.specs.Words.{IsValid, Shape}
-use Rattle.segmodel.specs.Words.{after, Begins, Cache, Entry, IsLegal, mine}
+use Rattle.segmodel.specs.Words.{after, Cache, Entry, IsLegal, mine}
 use Rattle.segbase.specs.Words.{IsMakeFault}
 use Rattle.segpolicy.specs.Words.{draws_of}
 use Rattle.segload.specs.declared.fault.LoadFault.{LoadFault}
@@ -25,19 +25,15 @@ pub record CountsCommands (shape : Shape) (seed keys asked pass : ℕ) (history 
 abbrev pub keys_of : Cache → ℕ
 keys_of cache = length cache.items
 
--- One legal history has the entries of all passes. Those of each are what so many commands over so many keys, drawn with this seed, come to, as they are counted.
--- So many keys stand after a legal history that goes on from that one in some way, and is that one if there is one pass.
+-- One legal history has the entries of all passes, and none of anyone else. Those of each are what so many commands over so many keys, drawn with this seed, come to, as they are counted. So many keys stand after it.
 pub record IsLoad (shape : Shape) (seed keys commands : ℕ) (totals : Totals) : Type 0 where
   pub valid : IsValid shape
   pub long : length totals.passes.items ≡ shape.passes
   pub history : List Entry
   pub legal : IsLegal shape history
   pub each : (pass : ℕ) (of : PassTotals) → slice_get totals.passes.items pass ≡ Some of → CountsCommands shape seed keys commands pass history of
-  pub end : List Entry
-  pub legal_end : IsLegal shape end
-  pub goes_on : Begins history end
-  pub alone : shape.passes ≡ 1 → end ≡ history
-  pub stand : totals.keys ≡ keys_of (after shape end)
+  pub among : (pass : ℕ) → shape.passes ≤ pass → mine pass history ≡ []
+  pub stand : totals.keys ≡ keys_of (after shape history)
 
 -- the gate may let each command of each pass through; when it was asked isn't said
 abbrev pub IsLetThrough : Shape → ℕ → (ℕ → ℕ → Bool → Type 0) → Type 0
@@ -56,7 +52,7 @@ pub record IsStopped (shape : Shape) (commands : ℕ) (may_answer : ℕ → ℕ 
   pub lowest : (lower : ℕ) → lower < pass → LetsThrough may_answer commands lower
   pub each : (other : ℕ) → other < shape.passes → RanToEnd may_answer commands other
 
--- the index couldn't be made; or a pass of it may have been stopped, and none below it; or want of memory is told, of a shape that an index may have
+-- the index couldn't be created; or a pass of it may have been stopped, and none below it; or it is out of memory, over a shape that an index may have
 abbrev pub IsLoadFault : Shape → ℕ → (ℕ → ℕ → Bool → Type 0) → LoadFault → Type 0
 IsLoadFault shape commands may_answer (Make fault) = IsMakeFault shape fault
 IsLoadFault shape commands may_answer (Stopped pass) = IsStopped shape commands may_answer pass

@@ -77,6 +77,7 @@ command_of version load = asked_by load.kind version load
 -- no command of a load is answered as an evict or a refill
 abbrev pub IsOfLoad : Answer → Type 0
 IsOfLoad (answer.Evict told) = ⊥
+IsOfLoad (answer.Keep told) = ⊥
 IsOfLoad (answer.Refill told) = ⊥
 IsOfLoad told = Unit {0}
 
@@ -141,6 +142,10 @@ BeginsPlan b plan pass worker = BeginsLoad b (draws_for plan pass) pass worker
 -- the pass of this number did what the plan says, as far as the gate let it
 abbrev pub HasMadePlan : Board → (ℕ → ℕ → Bool → Type 0) → (ℕ → ℕ → Type 0) → Plan → ℕ → Worker → Type 0
 HasMadePlan b may_answer told plan pass worker = HasWorked b may_answer told (draws_for plan pass) pass plan.commands worker
+
+-- the pass of a worker
+abbrev pub pass_of : Worker → Pass
+pass_of worker = worker.client.pass
 
 -- the gate stopped none of them
 abbrev pub NoneStopped : List Worker → Type 0

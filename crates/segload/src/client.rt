@@ -58,7 +58,7 @@ fn tally_of(answer: &Answer) -> Tally
         Answer::Get(GetAnswer::Busy) | Answer::Gets(GetsAnswer::Busy) => Tally::Busy,
         Answer::Write(told) => tally_of_write(*told),
         Answer::Delete(told) => tally_of_delete(*told),
-        Answer::Evict(_) | Answer::Refill(_) => unreachable!(),
+        Answer::Evict(_) | Answer::Keep(_) | Answer::Refill(_) => unreachable!(),
     }
 }
 

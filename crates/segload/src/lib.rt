@@ -4,7 +4,6 @@
 mod client;
 mod fault;
 mod gate;
-mod gather;
 mod load;
 mod plan;
 mod totals;

@@ -1,19 +1,18 @@
 //! How a load is run: a thread for each pass.
-ghost use Rattle.std.specs.Prelude.{◌≡◌, ℕ, List, slice_get, Some, None, IfOk, IfErr, IfSome, vec_len};
+ghost use Rattle.std.specs.Prelude.{◌≡◌, ℕ, List, slice_get, Some, None, IfOk, IfErr, IfSome, map, vec_len};
 ghost use Rattle.std.specs.Int.NonZero.{non_zero_u32_get};
 ghost use Rattle.std.specs.Thread.{IsSync};
 ghost use Rattle.segmodel.specs.declared.entry.Entry.{Entry};
 ghost use Rattle.segmodel.specs.Words.{after};
-ghost use Rattle.segbase.specs.Words.{number, seen};
-ghost use Rattle.segindex.specs.Words.{board_of, IsEnd, IsNew, shape_of};
-ghost use Rattle.segpass.specs.Words.{IsQuiet};
-ghost use Rattle.segload.specs.Working.{BeginsLoad, BeginsPlan, HasMadePlan, HasWorked, NoneStopped, IsFirstStopped};
+ghost use Rattle.segbase.specs.Words.{number};
+ghost use Rattle.segindex.specs.Words.{AreAllQuiet, board_of, IsEndOfAll, IsNew, shape_of};
+ghost use Rattle.segload.specs.Working.{BeginsLoad, BeginsPlan, HasMadePlan, HasWorked};
+ghost use Rattle.segload.specs.Working.{IsFirstStopped, NoneStopped, pass_of};
 ghost use Rattle.segload.specs.Lists.{AllAt};
 ghost use Rattle.segload.specs.Loads.{keys_of, IsLoad, IsLetThrough, IsToldOfAll, IsLoadFault};
 
 use crate::fault::LoadFault;
 use crate::gate::Gate;
-use crate::gather::gather;
 use crate::plan::Plan;
 use crate::totals::{PassTotals, Totals};
 use crate::worker::Worker;
@@ -150,15 +149,25 @@ fn count_all(
     Ok(totals)
 }
 
-// How many keys the index has at its end.
-fn count_keys(alloc: Global, index: Index, pass: Pass) -> Option<u32>
-    requires { IsQuiet (board_of index) pass }
-    ensures keys { IfSome result (λ keys. (end : List Entry) × IsEnd (shape_of index) pass end
-        × (keys ≡ keys_of (after (shape_of index) end))) }
-    ensures alone { (shape_of index).passes ≡ 1 → IfSome result (λ keys.
-        keys ≡ keys_of (after (shape_of index) (seen pass))) }
+// The passes of the workers, in the same order.
+fn all_passes(alloc: Global, workers: Vec<Worker>) -> Result<Vec<Pass>, AllocError>
+    ensures { IfOk result (λ passes. passes.items ≡ map pass_of workers.items) }
 {
-    let content = index.close(alloc, pass).ok()?;
+    let mut passes = Vec::with_capacity(alloc, workers.len())?;
+    for worker in workers {
+        passes.push_reserved(worker.client.into_pass());
+    }
+    Ok(passes)
+}
+
+// How many keys the index has at its end.
+fn count_keys(alloc: Global, index: Index, passes: Vec<Pass>) -> Option<u32>
+    requires { AreAllQuiet (board_of index) passes.items }
+    ensures { IfSome result (λ keys. (history : List Entry)
+        × IsEndOfAll (shape_of index) passes.items history
+        × (keys ≡ keys_of (after (shape_of index) history))) }
+{
+    let content = index.close_all(alloc, passes).ok()?;
     Some(content.len() as u32)
 }
 
@@ -168,7 +177,6 @@ fn count_keys(alloc: Global, index: Index, pass: Pass) -> Option<u32>
 /// It waits for its threads, one for each pass. What its contract says holds if it returns.
 /// The contract says nothing of threads, of when the gate is asked,
 /// or of what the other passes do if the gate stops one. Tests do.
-/// With several passes it leaves open how many keys the totals tell.
 pub fn run_crowd<R: Threads + Wait + AllocGlobal + Sync, G: Gate>(
     rt: &R,
     alloc: Global,
@@ -201,15 +209,17 @@ pub fn run_crowd<R: Threads + Wait + AllocGlobal + Sync, G: Gate>(
     if let Some(pass) = first_stopped(&workers) {
         return Err(LoadFault::Stopped(pass));
     }
-    let Ok(passes) = count_all(alloc, commands, &workers) else {
+    let Ok(counted) = count_all(alloc, commands, &workers) else {
         return Err(LoadFault::OutOfMemory);
     };
-    let first = gather(&index, workers);
-    let Some(standing) = count_keys(alloc, index, first) else {
+    let Ok(passes) = all_passes(alloc, workers) else {
+        return Err(LoadFault::OutOfMemory);
+    };
+    let Some(standing) = count_keys(alloc, index, passes) else {
         return Err(LoadFault::OutOfMemory);
     };
     Ok(Totals {
-        passes,
+        passes: counted,
         keys: standing,
     })
 }
