@@ -12,7 +12,7 @@ use Rattle.clap.specs.ValueTests.{is_numeral}
 use Rattle.clap.specs.Faults.{fault_of}
 use Rattle.clap.specs.declared.error.kind.ErrorKind.{ErrorKind}
 use Rattle.clap.specs.declared.error.kind.ErrorKind.TheVariants as kind
-use Rattle.segcli.specs.CommandLine.{NumberOption, command_line, default_shape, hex}
+use Rattle.segcli.specs.CommandLine.{NumberOption, command_line, default_shape, load_shape, hex}
 use Rattle.segcli.specs.CommandLine.{buckets_option, overflow_option, passes_option, segments_option, rows_option, first_version_option, seed_option, commands_option, keys_option, progress_flag}
 use Rattle.segcli.specs.declared.arguments.Refusal.{Refusal}
 use Rattle.segcli.specs.declared.arguments.Refusal.TheVariants as refusal
@@ -35,14 +35,15 @@ number_given option rows = option_map_or (number_or option.default option.bits) 
 abbrev pub is_given : Text → List Row → Bool
 is_given flag rows = option_map_or (λ text. bytes_eq text true_text) (one_of flag rows) false
 
-abbrev pub shape_given : List Row → Shape
-shape_given rows = record {
-  buckets = number_given buckets_option rows;
-  overflow = number_given overflow_option rows;
-  passes = number_given passes_option rows;
-  segments_each = number_given segments_option rows;
-  rows = number_given rows_option rows;
-  first_version = number_given first_version_option rows;
+-- the shape that the options give, with the numbers of the default one where the words say none
+abbrev pub shape_given : Shape → List Row → Shape
+shape_given default rows = record {
+  buckets = number_given (buckets_option default) rows;
+  overflow = number_given (overflow_option default) rows;
+  passes = number_given (passes_option default) rows;
+  segments_each = number_given (segments_option default) rows;
+  rows = number_given (rows_option default) rows;
+  first_version = number_given (first_version_option default) rows;
 }
 
 abbrev pub IsCommandName : Text → Type 0
@@ -50,9 +51,9 @@ IsCommandName name = (name ≡ codes "script") ⊎ (name ≡ codes "load") ⊎ (
 
 -- the command of this name with these matches; a load has one key at least, and `clap` lets no 0 through
 abbrev pub IsAsked : Text × List Row → Command → Type 0
-IsAsked asked (command.Script shape) = (asked.0 ≡ codes "script") × (shape ≡ shape_given asked.1)
+IsAsked asked (command.Script shape) = (asked.0 ≡ codes "script") × (shape ≡ shape_given default_shape asked.1)
 IsAsked asked (command.Load shape seed commands keys progress) =
-    (asked.0 ≡ codes "load") × (shape ≡ shape_given asked.1)
+    (asked.0 ≡ codes "load") × (shape ≡ shape_given load_shape asked.1)
     × (seed ≡ number_given seed_option asked.1) × (commands ≡ number_given commands_option asked.1)
     × (non_zero_u32_get keys ≡ max 1 (number_given keys_option asked.1)) × (progress ≡ is_given progress_flag asked.1)
 IsAsked asked (command.Word text) = (asked.0 ≡ codes "word") × (text.now ≡ unwrap_or (first_of hex asked.1) [])

@@ -6,7 +6,7 @@ use Rattle.segcli.specs.Explained.{SpellsWord, explanation}
 use Rattle.segcli.specs.Faults.{end_of_run, fault_of_load, fault_line, fault_status, is_write_end}
 use Rattle.segcli.specs.Printing.{PrintOutcome, IsPrinted, IsFlushed}
 use Rattle.segcli.specs.Totals.{totals_text}
-use Rattle.segscript.specs.Words.{EachTurn, is_make_fault, is_read_fault, is_write_fault, RunFault}
+use Rattle.segscript.specs.Words.{EachTurn, EndsOnce, is_make_fault, is_read_fault, is_write_fault, RunFault}
 use Rattle.segscript.specs.Words.{RunOutcome, ShapeIsAnswered}
 use Rattle.segload.specs.Words.{IsLoad, IsLoadFault, lets_all_through, Totals}
 use Rattle.segload.specs.declared.fault.LoadFault.{LoadFault}
@@ -18,19 +18,20 @@ use Rattle.segcli.specs.declared.command.Command.TheVariants as command
 -- ---- a script
 
 -- The script of the reader was run, and that ended so: what was read and written belongs to it, each of its turns was one of the
--- pass that its line names, and a fault in the making comes before anything is read or written.
-pub record RanScript {R W : Type 0} (hands : R → List ℕ → R → Type 0) (is_at_end : R → Type 0) (read_failed : R → Bool) (takes : W → List ℕ → W → Type 0) (write_failed : W → Bool) (flushes : W → ℕ) (shape : Shape) (reader reader' : R) (writer writer' : W) (end : Result (Unit {0}) RunFault) : Type 0 where
+-- pass that its line names, and a fault of creating the index comes before anything is read or written.
+pub record RanScript {R W : Type 0} (hands : R → List ℕ → R → Type 0) (is_at_end : R → Type 0) (read_failed : R → Bool) (ends : R → ℕ) (takes : W → List ℕ → W → Type 0) (write_failed : W → Bool) (flushes : W → ℕ) (shape : Shape) (reader reader' : R) (writer writer' : W) (end : Result (Unit {0}) RunFault) : Type 0 where
   pub outcome : RunOutcome shape (λ seen. hands reader seen reader') (is_at_end reader') (λ text. takes writer text writer') (flushes writer) (flushes writer') end
   pub each_turn : EachTurn shape (λ seen. hands reader seen reader') (is_at_end reader') (λ text. takes writer text writer') (flushes writer) (flushes writer') end
   pub read : read_failed reader' ≡ is_read_fault end
   pub write : write_failed writer' ≡ is_write_fault end
+  pub ended : EndsOnce (ends reader) (ends reader') end
   pub answered : ShapeIsAnswered shape end
   pub made : is_make_fault end ≡ true → (reader' ≡ reader) × (writer' ≡ writer)
 
-abbrev pub ScriptOutcome : {R W : Type 0} → (R → List ℕ → R → Type 0) → (R → Type 0) → (R → Bool) → (W → List ℕ → W → Type 0) → (W → Bool) → (W → ℕ) → Shape → R → R → W → W → Result (Unit {0}) ProgramFault → Type 0
-ScriptOutcome hands is_at_end read_failed takes write_failed flushes shape reader reader' writer writer' end =
+abbrev pub ScriptOutcome : {R W : Type 0} → (R → List ℕ → R → Type 0) → (R → Type 0) → (R → Bool) → (R → ℕ) → (W → List ℕ → W → Type 0) → (W → Bool) → (W → ℕ) → Shape → R → R → W → W → Result (Unit {0}) ProgramFault → Type 0
+ScriptOutcome hands is_at_end read_failed ends takes write_failed flushes shape reader reader' writer writer' end =
     (ended : Result (Unit {0}) RunFault)
-    × RanScript hands is_at_end read_failed takes write_failed flushes shape reader reader' writer writer' ended
+    × RanScript hands is_at_end read_failed ends takes write_failed flushes shape reader reader' writer writer' ended
     × (end ≡ end_of_run ended)
 
 -- ---- a word, and other texts
@@ -64,16 +65,16 @@ LoadOutcome shape seed keys commands Wrote before flushes (Err f) =
 
 -- ---- commands
 
-abbrev pub CommandOutcome : {R W : Type 0} → (R → List ℕ → R → Type 0) → (R → Type 0) → (R → Bool) → (W → List ℕ → W → Type 0) → (W → Bool) → (W → ℕ) → Command → R → R → W → W → Result (Unit {0}) ProgramFault → Type 0
-CommandOutcome hands is_at_end read_failed takes write_failed flushes (command.Script shape) reader reader' writer writer' end =
-    ScriptOutcome hands is_at_end read_failed takes write_failed flushes shape reader reader' writer writer' end
-CommandOutcome hands is_at_end read_failed takes write_failed flushes (command.Load shape seed commands keys progress) reader reader' writer writer' end =
+abbrev pub CommandOutcome : {R W : Type 0} → (R → List ℕ → R → Type 0) → (R → Type 0) → (R → Bool) → (R → ℕ) → (W → List ℕ → W → Type 0) → (W → Bool) → (W → ℕ) → Command → R → R → W → W → Result (Unit {0}) ProgramFault → Type 0
+CommandOutcome hands is_at_end read_failed ends takes write_failed flushes (command.Script shape) reader reader' writer writer' end =
+    ScriptOutcome hands is_at_end read_failed ends takes write_failed flushes shape reader reader' writer writer' end
+CommandOutcome hands is_at_end read_failed ends takes write_failed flushes (command.Load shape seed commands keys progress) reader reader' writer writer' end =
     (reader' ≡ reader) × (write_failed writer' ≡ is_write_end end)
     × LoadOutcome shape seed (non_zero_u32_get keys) commands (λ part. takes writer part writer') (flushes writer) (flushes writer') end
-CommandOutcome hands is_at_end read_failed takes write_failed flushes (command.Word text) reader reader' writer writer' end =
+CommandOutcome hands is_at_end read_failed ends takes write_failed flushes (command.Word text) reader reader' writer writer' end =
     (reader' ≡ reader) × (write_failed writer' ≡ is_write_end end)
     × WordOutcome text.now (λ part. takes writer part writer') (flushes writer) (flushes writer') end
-CommandOutcome hands is_at_end read_failed takes write_failed flushes (command.Show text) reader reader' writer writer' end =
+CommandOutcome hands is_at_end read_failed ends takes write_failed flushes (command.Show text) reader reader' writer writer' end =
     (reader' ≡ reader) × (write_failed writer' ≡ is_write_end end)
     × ShowOutcome (string_bytes text) (λ part. takes writer part writer') (flushes writer) (flushes writer') end
 

@@ -3,6 +3,7 @@ pub mod CommandLine
 pub mod Commands
 pub mod Explained
 pub mod Faults
+pub mod Given
 pub mod Printing
 pub mod Program
 pub mod Progress

@@ -1,14 +1,14 @@
 -- A text that is written and flushed.
 use Rattle.std.specs.Prelude.{◌⊎◌, ◌≡◌, ℕ, Bool, List, [], Result, Ok, Err, is_err}
-use Rattle.segscript.specs.Words.{flushed, IsBeginning}
+use Rattle.segscript.specs.Words.{one_more, IsBeginning}
 use Rattle.segscript.specs.declared.device.Failed.{Failed}
 
 -- How the printing of a text ends: Wrote is what is so of the bytes that were written, and before and flushes are how many
 -- flushes were asked for before and then. Where it fails, it was cut short, or the flush failed.
 abbrev pub PrintOutcome : {E : Type 0} → List ℕ → (List ℕ → Type 0) → ℕ → ℕ → Result (Unit {0}) E → Type 0
-PrintOutcome text Wrote before flushes (Ok _) = Wrote text × (flushes ≡ flushed before)
+PrintOutcome text Wrote before flushes (Ok _) = Wrote text × (flushes ≡ one_more before)
 PrintOutcome text Wrote before flushes (Err _) =
-    ((part : List ℕ) × Wrote part × IsBeginning part text × (flushes ≡ before)) ⊎ (Wrote text × (flushes ≡ flushed before))
+    ((part : List ℕ) × Wrote part × IsBeginning part text × (flushes ≡ before)) ⊎ (Wrote text × (flushes ≡ one_more before))
 
 -- the text was printed to the writer, whatever came of that
 abbrev pub IsPrinted : {W : Type 0} → (W → List ℕ → W → Type 0) → (W → Bool) → (W → ℕ) → List ℕ → W → W → Type 0
@@ -17,4 +17,8 @@ IsPrinted takes has_failed flushes text old new =
 
 -- the writer was asked to flush, whatever came of that
 abbrev pub IsFlushed : {W : Type 0} → (W → List ℕ → W → Type 0) → (W → ℕ) → W → W → Type 0
-IsFlushed takes flushes old new = takes old [] new × (flushes new ≡ flushed (flushes old))
+IsFlushed takes flushes old new = takes old [] new × (flushes new ≡ one_more (flushes old))
+
+-- a flush led to where the writer is
+abbrev pub WasFlushed : {W : Type 0} → (W → List ℕ → W → Type 0) → (W → ℕ) → W → Type 0
+WasFlushed {W} takes flushes writer = (before : W) × IsFlushed takes flushes before writer

@@ -13,7 +13,7 @@ use segword::Shape;
 use std::alloc::{AllocError, Global};
 use std::num::NonZeroU32;
 
-/// The shape of an index that no option changes: one bucket, one pass, and one segment of eight rows.
+/// The shape of a script's index that no option changes: one bucket, one pass, and one segment of eight rows.
 pub const SHAPE: Shape = Shape {
     buckets: 1,
     overflow: 0,
@@ -23,7 +23,17 @@ pub const SHAPE: Shape = Shape {
     first_version: 0,
 };
 
-/// The seed of a load, how many commands each of its passes makes, and over how many keys, where no option says it.
+/// The shape of a load's index that no option changes. It has room for the 64 keys of the load.
+const LOAD_SHAPE: Shape = Shape {
+    buckets: 16,
+    overflow: 0,
+    passes: 1,
+    segments_each: 2,
+    rows: 128,
+    first_version: 0,
+};
+
+/// The seed of a load, how many commands each of its passes makes, and over how many keys, if no option says it.
 const SEED: u64 = 1;
 
 const COMMANDS: u32 = 1000;
@@ -84,14 +94,14 @@ fn command_of<'a>(name: &str, matches: &ArgMatches<'a>) -> Command<'a>
 {
     match name {
         "load" => Command::Load {
-            shape: shape_of(matches),
+            shape: shape_of(matches, LOAD_SHAPE),
             seed: matches.get_one("seed").unwrap_or(SEED),
             commands: matches.get_one("commands").unwrap_or(COMMANDS),
             keys: keys_of(matches),
             progress: matches.get_one("progress").unwrap_or(false),
         },
         "word" => Command::Word(matches.get_str("HEX").unwrap_or("")),
-        _ => Command::Script(shape_of(matches)),
+        _ => Command::Script(shape_of(matches, SHAPE)),
     }
 }
 
@@ -103,17 +113,18 @@ fn keys_of(matches: &ArgMatches<'_>) -> NonZeroU32
     NonZeroU32::new(matches.get_one("keys").unwrap_or(KEYS)).unwrap_or(NonZeroU32::MIN)
 }
 
-fn shape_of(matches: &ArgMatches<'_>) -> Shape
-    ensures { result ≡ shape_given (rows_of (found_of matches.now)) }
+// The shape that the options give. An option that isn't there leaves the default.
+fn shape_of(matches: &ArgMatches<'_>, default: Shape) -> Shape
+    ensures { result ≡ shape_given default (rows_of (found_of matches.now)) }
 {
     Shape {
-        buckets: matches.get_one("buckets").unwrap_or(SHAPE.buckets),
-        overflow: matches.get_one("overflow").unwrap_or(SHAPE.overflow),
-        passes: matches.get_one("passes").unwrap_or(SHAPE.passes),
-        segments_each: matches.get_one("segments").unwrap_or(SHAPE.segments_each),
-        rows: matches.get_one("rows").unwrap_or(SHAPE.rows),
+        buckets: matches.get_one("buckets").unwrap_or(default.buckets),
+        overflow: matches.get_one("overflow").unwrap_or(default.overflow),
+        passes: matches.get_one("passes").unwrap_or(default.passes),
+        segments_each: matches.get_one("segments").unwrap_or(default.segments_each),
+        rows: matches.get_one("rows").unwrap_or(default.rows),
         first_version: matches
             .get_one("first-version")
-            .unwrap_or(SHAPE.first_version),
+            .unwrap_or(default.first_version),
     }
 }

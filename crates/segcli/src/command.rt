@@ -42,8 +42,8 @@ pub enum Command<'a> {
 
 /// Carries out a command, and answers the exit status.
 /// Replies, totals and explanations go to the writer.
-/// For a fault the writer is asked to flush, and one line goes to the error writer;
-/// the contract doesn't order the two.
+/// For a fault the writer is asked to flush, and then one line goes to the error writer.
+/// (That order is a condition of `print_after`.)
 /// The watch looks on at a load that is to tell its progress.
 ///
 /// A load waits for its threads. What the contract says holds if this returns.
@@ -62,8 +62,8 @@ pub fn run_command<R: Threads + Wait + AllocGlobal + Sync, S: Source, W: Sink, E
 
     // The command ends somehow with the writer there, and then its fault, if it has one, is reported.
     ensures outcome { (there : W) × (end : Result (Unit {0}) ProgramFault)
-        × CommandOutcome S.hands S.is_at_end S.has_failed W.takes W.has_failed W.flushes command.now
-        source.old source.new writer.old there end
+        × CommandOutcome S.hands S.is_at_end S.has_failed S.ends W.takes W.has_failed W.flushes
+        command.now source.old source.new writer.old there end
         × Concludes W.takes W.flushes E.takes E.has_failed E.flushes end there writer.new
         errors.old errors.new result }
 {
@@ -81,7 +81,7 @@ fn perform<R: Threads + Wait + AllocGlobal + Sync, S: Source, W: Sink, V: Watch>
 ) -> Result<(), ProgramFault>
     requires source_works { S.has_failed source.old ≡ false }
     requires writer_works { W.has_failed writer.old ≡ false }
-    ensures { CommandOutcome S.hands S.is_at_end S.has_failed W.takes W.has_failed W.flushes
+    ensures { CommandOutcome S.hands S.is_at_end S.has_failed S.ends W.takes W.has_failed W.flushes
         command.now source.old source.new writer.old writer.new result }
 {
     match command {
@@ -109,7 +109,7 @@ fn perform_script<S: Source, W: Sink>(
 ) -> Result<(), ProgramFault>
     requires source_works { S.has_failed source.old ≡ false }
     requires writer_works { W.has_failed writer.old ≡ false }
-    ensures { ScriptOutcome S.hands S.is_at_end S.has_failed W.takes W.has_failed W.flushes shape
+    ensures { ScriptOutcome S.hands S.is_at_end S.has_failed S.ends W.takes W.has_failed W.flushes shape
         source.old source.new writer.old writer.new result }
 {
     match run_script(alloc, source, writer, shape) {

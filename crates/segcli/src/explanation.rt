@@ -20,7 +20,7 @@ fn word_of(text: &str) -> Option<u64>
     u64::from_str_radix(text, 16).ok()
 }
 
-/// The reading of the word that 16 hexadecimal digits write, or `None` where the text is anything else, or no item word
+/// The reading of the word that 16 hexadecimal digits write, or `None` if the text is anything else, or no item word
 /// of a table reads so.
 pub fn reading_of(text: &str) -> Option<Reading>
     ensures some { IfSome result (SpellsWord text.now) }

@@ -1,7 +1,7 @@
 //! The faults of the program, with their statuses and lines, and the printing of lines and of other texts.
 ghost use Rattle.std.specs.Prelude.{◌≡◌, false, is_err};
 ghost use Rattle.segcli.specs.Faults.{fault_of_run, fault_of_load, fault_line, fault_status};
-ghost use Rattle.segcli.specs.Printing.{PrintOutcome, IsPrinted, IsFlushed};
+ghost use Rattle.segcli.specs.Printing.{PrintOutcome, IsPrinted, IsFlushed, WasFlushed};
 
 use segindex::MakeFault;
 use segload::LoadFault;
@@ -59,7 +59,7 @@ impl ProgramFault {
         }
     }
 
-    /// The exit status: 2 where what the program was given is wrong, else 3.
+    /// The exit status: 2 if what the program was given is wrong, else 3.
     pub fn status(self) -> u8
         ensures { result ≡ fault_status self }
     {
@@ -123,7 +123,16 @@ pub fn print<W: Sink>(writer: &mut W, text: &[u8]) -> Result<(), Failed>
     }
 }
 
-/// Flushes the writer, prints the line of a fault, and answers the status, whatever comes of the flush and the line.
+// Prints the line of a fault. It is called only once the writer was flushed.
+pub(crate) fn print_after<W: Sink, E: Sink>(_writer: &W, errors: &mut E, text: &[u8])
+    requires flushed { WasFlushed W.takes W.flushes _writer.now }
+    requires errors_work { E.has_failed errors.old ≡ false }
+    ensures { IsPrinted E.takes E.has_failed E.flushes text.now errors.old errors.new }
+{
+    let _ = print(errors, text);
+}
+
+/// Flushes the writer, then prints the line of a fault, and answers the status, whatever comes of the flush and the line.
 pub fn report<W: Sink, E: Sink>(fault: ProgramFault, writer: &mut W, errors: &mut E) -> u8
     requires errors_work { E.has_failed errors.old ≡ false }
     ensures status { result ≡ fault_status fault }
@@ -132,6 +141,6 @@ pub fn report<W: Sink, E: Sink>(fault: ProgramFault, writer: &mut W, errors: &mu
         errors.old errors.new }
 {
     let _ = writer.flush();
-    let _ = print(errors, fault.line().as_slice());
+    print_after(writer, errors, fault.line().as_slice());
     fault.status()
 }

@@ -8,7 +8,7 @@ ghost use Rattle.segcli.specs.Program.{refusal_status, refusal_text, ProgramOutc
 
 use crate::arguments::{Refusal, read_command};
 use crate::command::run_command;
-use crate::fault::{ProgramFault, print, report};
+use crate::fault::{ProgramFault, print_after, report};
 use crate::progress::Watch;
 use segscript::{Sink, Source};
 use std::alloc::{AllocGlobal, Global};
@@ -41,7 +41,7 @@ pub fn run_program<R: Threads + Wait + AllocGlobal + Sync, S: Source, W: Sink, E
     // What is read of the words is carried out, or refused.
     ensures outcome { (read : Result Asked Refusal)
         × IsReadAsCommand (map (λ word. string_bytes word) words.now) read
-        × ProgramOutcome S.hands S.is_at_end S.has_failed W.takes W.has_failed W.flushes
+        × ProgramOutcome S.hands S.is_at_end S.has_failed S.ends W.takes W.has_failed W.flushes
         E.takes E.has_failed E.flushes read source.old source.new writer.old writer.new
         errors.old errors.new result }
 {
@@ -62,7 +62,7 @@ fn refuse<W: Sink, E: Sink>(refusal: &Refusal, writer: &mut W, errors: &mut E) -
     match refusal {
         Refusal::Usage(text) => {
             let _ = writer.flush();
-            let _ = print(errors, text.as_str().as_bytes());
+            print_after(writer, errors, text.as_str().as_bytes());
             BAD_USAGE
         }
         Refusal::OutOfMemory => report(ProgramFault::OutOfMemory, writer, errors),

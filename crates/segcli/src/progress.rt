@@ -53,7 +53,7 @@ impl<V: Watch> Gate for Watched<'_, V> {
     }
 }
 
-// How many hundredths of the whole were made; where the whole is nothing it counts as one.
+// How many hundredths of the whole were made. If the whole is nothing it counts as one.
 fn percent(made: u64, of: u64) -> u128
     ensures { result ≡ made * 100 / max 1 of }
 {

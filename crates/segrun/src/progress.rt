@@ -1,4 +1,4 @@
-//! How far a load is, told on standard error, about twice a second.
+//! How far a load is: a line on standard error, about twice a second.
 use segcli::{Watch, progress_line};
 use std::io::Write;
 use std::sync::atomic::{AtomicU64, Ordering};
@@ -7,7 +7,7 @@ use std::time::Instant;
 /// The least time between two lines, in milliseconds.
 const INTERVAL: u64 = 500;
 
-/// The least number of commands between two lines, where there is no clock.
+/// The least number of commands between two lines, if there is no clock.
 const COMMANDS: u64 = 1 << 20;
 
 /// Writes the lines. Only pass 0 calls it, so it needs no lock.

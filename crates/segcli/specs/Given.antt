@@ -1,0 +1,40 @@
+-- What the program does with the words that std gives it.
+use Rattle.std.specs.Prelude.{◌≡◌, ◌⊎◌, ℕ, Bool, List, drop, map, Result, Ok, Err, string_bytes}
+use Rattle.std.specs.IoError.{error_kind}
+use Rattle.std.specs.Vec.Iter.{into_iter_items}
+use Rattle.std.specs.declared.alloc.Global.{Global}
+use Rattle.std.specs.declared.io.Error.{Error}
+use Rattle.std.specs.declared.io.ErrorKind.{ErrorKind}
+use Rattle.std.specs.declared.io.ErrorKind.TheVariants as kind
+use Rattle.std.specs.declared.string.String.{String}
+use Rattle.std.specs.declared.vec.IntoIter.{IntoIter}
+use Rattle.clap.specs.Walk.{Text}
+use Rattle.segcli.specs.Asked.{IsReadAsCommand}
+use Rattle.segcli.specs.Faults.{fault_line, fault_status}
+use Rattle.segcli.specs.Printing.{IsPrinted, IsFlushed}
+use Rattle.segcli.specs.Program.{ProgramOutcome}
+use Rattle.segcli.specs.declared.arguments.Refusal.{Refusal}
+use Rattle.segcli.specs.declared.arguments.Refusal.TheVariants as refusal
+use Rattle.segcli.specs.declared.command.Command.{Command}
+use Rattle.segcli.specs.declared.fault.ProgramFault.{ProgramFault}
+use Rattle.segcli.specs.declared.fault.ProgramFault.TheVariants as fault
+
+-- what it is to the program that std gives no words: it is out of memory, or they are not UTF-8
+abbrev pub fault_of_words : ErrorKind → ProgramFault
+fault_of_words kind.OutOfMemory = fault.OutOfMemory
+fault_of_words _ = fault.BadArguments
+
+-- what is read of the words; memory may be wanted for their list
+abbrev pub IsReadOfWords : List Text → Result Command Refusal → Type 0
+IsReadOfWords words read = IsReadAsCommand words read ⊎ (read ≡ Err refusal.OutOfMemory)
+
+-- The program is run over the words behind the first, which is its name. Where std gives none, that is told, and the reader is
+-- left alone.
+abbrev pub GivenOutcome : {R W E : Type 0} → (R → List ℕ → R → Type 0) → (R → Type 0) → (R → Bool) → (R → ℕ) → (W → List ℕ → W → Type 0) → (W → Bool) → (W → ℕ) → (E → List ℕ → E → Type 0) → (E → Bool) → (E → ℕ) → Result (IntoIter (String Global) Global) Error → R → R → W → W → E → E → ℕ → Type 0
+GivenOutcome hands is_at_end read_failed ends takes write_failed flushes error_takes error_failed error_flushes (Ok given) reader reader' writer writer' errors errors' status =
+    (read : Result Command Refusal) × IsReadOfWords (map (λ word. string_bytes word) (drop 1 (into_iter_items given))) read
+    × ProgramOutcome hands is_at_end read_failed ends takes write_failed flushes error_takes error_failed error_flushes read reader reader' writer writer' errors errors' status
+GivenOutcome hands is_at_end read_failed ends takes write_failed flushes error_takes error_failed error_flushes (Err error) reader reader' writer writer' errors errors' status =
+    let why = fault_of_words (error_kind error) in
+    (status ≡ fault_status why) × (reader' ≡ reader) × IsFlushed takes flushes writer writer'
+    × IsPrinted error_takes error_failed error_flushes (fault_line why) errors errors'
