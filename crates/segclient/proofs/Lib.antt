@@ -1,0 +1,4 @@
+pub mod Places
+pub mod Room
+pub mod Together
+pub mod Ways

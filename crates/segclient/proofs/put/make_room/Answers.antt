@@ -1,0 +1,10 @@
+use Rattle.std.proofs.Common.{inr}
+use Rattle.segindex.specs.Words.{board_of}
+use Rattle.segevict.proofs.RowsOut.{goes_then}
+use Rattle.segclient.proofs.put.make_room.Goals as goal
+
+pub returns-clause-on : goal.returns-clause-on
+returns-clause-on c = goes_then (board_of c.args.index.now) c.args.pass.now c.refill_unused.new.pass c.give_up_some.new.pass c.refill_unused.ensures.on c.give_up_some.ensures.on
+
+pub returns-clause-room : goal.returns-clause-room
+returns-clause-room c = inr (c.refill_unused.new.pass, c.if-refill_unused.ensures.refills, c.give_up_some.ensures.gives_up)

@@ -1,0 +1,62 @@
+//! Clients for all passes of an index.
+ghost use Rattle.std.specs.Prelude.{◌≡◌, ◌++◌, [], ◌∷◌, All, IfOk, IfSome, MatchOption};
+ghost use Rattle.std.specs.List.{AllZip};
+ghost use Rattle.segword.specs.Words.{Shape};
+ghost use Rattle.segindex.specs.Words.{AreAllQuiet, board_of, IsNew};
+ghost use Rattle.segpass.specs.Words.{IsQuiet};
+ghost use Rattle.segclient.specs.Client.{Starts};
+ghost use Rattle.segclient.specs.Clients.{AreAllClients};
+
+use crate::client::Client;
+use segindex::{Index, Pass};
+use std::alloc::{AllocError, Global};
+
+/// A client for each of these passes, in their order. No later call of a client is given
+/// an allocator.
+///
+/// Once they are done, `into_passes` has the passes back for a close with all of them.
+/// A pass that was kept back can close the index alone.
+pub fn clients<'i>(
+    alloc: Global,
+    index: &'i Index,
+    passes: Vec<Pass>,
+) -> Result<Vec<Client<'i>>, AllocError>
+    requires quiet { All (IsQuiet (board_of index.now)) passes.items }
+    ensures each { IfOk result (λ clients. AllZip (Starts index.now) passes.items clients.items) }
+    ensures all { (shape : Shape) → IsNew shape index.now passes.items
+        → IfOk result (λ clients. AreAllClients index.now clients.items) }
+{
+    let mut clients = Vec::with_capacity(alloc, passes.len())?;
+    for pass in passes {
+        clients.push_reserved(Client::new(index, pass));
+    }
+    Ok(clients)
+}
+
+/// Takes the last pass out of the list, so that it can close the index
+/// once the clients of the others are gone.
+pub fn keep_back(index: &Index, passes: &mut Vec<Pass>) -> Option<Pass>
+    requires quiet { All (IsQuiet (board_of index.now)) passes.old.items }
+    ensures taken { MatchOption result (passes.old.items ≡ [])
+        (λ pass. passes.old.items ≡ passes.new.items ++ pass ∷ []) }
+    ensures last { IfSome result (IsQuiet (board_of index.now)) }
+    ensures others { All (IsQuiet (board_of index.now)) passes.new.items }
+{
+    passes.pop()
+}
+
+/// The passes of the clients, which are of all passes of the index, so that they can close it.
+pub fn into_passes(
+    alloc: Global,
+    index: &Index,
+    clients: Vec<Client<'_>>,
+) -> Result<Vec<Pass>, AllocError>
+    requires all { AreAllClients index.now clients.items }
+    ensures all { IfOk result (λ passes. AreAllQuiet (board_of index.now) passes.items) }
+{
+    let mut passes = Vec::with_capacity(alloc, clients.len())?;
+    for client in clients {
+        passes.push_reserved(client.into_pass());
+    }
+    Ok(passes)
+}

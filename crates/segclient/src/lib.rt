@@ -1,0 +1,18 @@
+//! A cache for those who want one and not its parts: a client is one pass of an index,
+//! with its segments, a source of draws and a clock that the caller sets.
+#![tactic(auto)]
+
+mod all;
+mod client;
+mod hold;
+mod put;
+mod stats;
+
+pub use all::{clients, into_passes, keep_back};
+pub use client::Client;
+pub use put::PutAnswer;
+pub use segindex::{
+    DeleteAnswer, GetAnswer, GetsAnswer, Hold, HoldAnswer, Index, Key, MakeFault, OutOfMemory,
+    Pass, Shape, ShapeFault, Value, WriteAnswer,
+};
+pub use stats::Stats;

@@ -1,0 +1,160 @@
+//! What the calls of a client came to, in numbers.
+ghost use Rattle.std.specs.Prelude.{◌≡◌};
+ghost use Rattle.segclient.specs.Counting.{no_stats, with_more, counted, given_up_too};
+ghost use Rattle.segclient.specs.Counting.{get_tally, gets_tally, write_tally, delete_tally, put_tally};
+
+use crate::put::PutAnswer;
+use segmodel::{DeleteAnswer, GetAnswer, GetsAnswer, WriteAnswer};
+
+/// What a call came to.
+#[derive(Clone, Copy, Debug, PartialEq, Eq)]
+pub(crate) enum Tally {
+    Hit,
+    Miss,
+    Stored,
+    NotStored,
+    Exists,
+    NotFound,
+    Deleted,
+    NoRoom,
+    BucketFull,
+    Busy,
+}
+
+/// How many calls of a client came to what, and what its puts gave up.
+/// Each number stays at its largest once it is there.
+#[derive(Clone, Copy, Debug, PartialEq, Eq)]
+pub struct Stats {
+    /// Gets and gets with a version that found their key.
+    pub hits: u64,
+    /// Those that didn't.
+    pub misses: u64,
+    pub stored: u64,
+    pub not_stored: u64,
+    pub exists: u64,
+    /// A cas or a delete that didn't find its key.
+    pub not_found: u64,
+    pub deleted: u64,
+    pub no_room: u64,
+    pub bucket_full: u64,
+    pub busy: u64,
+    /// Segments that puts refilled.
+    pub segments_refilled: u64,
+    /// Keys that puts evicted.
+    pub keys_evicted: u64,
+}
+
+impl Stats {
+    // Nothing is counted yet.
+    pub(crate) fn new() -> Stats
+        ensures { result ≡ no_stats }
+    {
+        Stats {
+            hits: 0,
+            misses: 0,
+            stored: 0,
+            not_stored: 0,
+            exists: 0,
+            not_found: 0,
+            deleted: 0,
+            no_room: 0,
+            bucket_full: 0,
+            busy: 0,
+            segments_refilled: 0,
+            keys_evicted: 0,
+        }
+    }
+
+    // Counts one call more.
+    pub(crate) fn count(&mut self, tally: Tally)
+        ensures { self.new ≡ counted tally self.old }
+    {
+        match tally {
+            Tally::Hit => self.hits = one_more(self.hits),
+            Tally::Miss => self.misses = one_more(self.misses),
+            Tally::Stored => self.stored = one_more(self.stored),
+            Tally::NotStored => self.not_stored = one_more(self.not_stored),
+            Tally::Exists => self.exists = one_more(self.exists),
+            Tally::NotFound => self.not_found = one_more(self.not_found),
+            Tally::Deleted => self.deleted = one_more(self.deleted),
+            Tally::NoRoom => self.no_room = one_more(self.no_room),
+            Tally::BucketFull => self.bucket_full = one_more(self.bucket_full),
+            Tally::Busy => self.busy = one_more(self.busy),
+        }
+    }
+
+    // Counts what the puts gave up: segments that were refilled, and keys that were evicted.
+    pub(crate) fn count_given_up(&mut self, refilled: u32, keys: u64)
+        ensures { self.new ≡ given_up_too refilled keys self.old }
+    {
+        self.segments_refilled = self.segments_refilled.saturating_add(u64::from(refilled));
+        self.keys_evicted = self.keys_evicted.saturating_add(keys);
+    }
+}
+
+// One more, but for the largest number.
+fn one_more(number: u64) -> u64
+    ensures { result ≡ with_more number 1 }
+{
+    number.saturating_add(1)
+}
+
+// How an answer to a get is counted.
+pub(crate) fn tally_of_get(told: &GetAnswer) -> Tally
+    ensures { result ≡ get_tally told.now }
+{
+    match told {
+        GetAnswer::Found(_) => Tally::Hit,
+        GetAnswer::Miss => Tally::Miss,
+        GetAnswer::Busy => Tally::Busy,
+    }
+}
+
+// How an answer to a gets is counted.
+pub(crate) fn tally_of_gets(told: &GetsAnswer) -> Tally
+    ensures { result ≡ gets_tally told.now }
+{
+    match told {
+        GetsAnswer::Found(_, _) => Tally::Hit,
+        GetsAnswer::Miss => Tally::Miss,
+        GetsAnswer::Busy => Tally::Busy,
+    }
+}
+
+// How an answer to a write is counted.
+pub(crate) fn tally_of_write(told: WriteAnswer) -> Tally
+    ensures { result ≡ write_tally told }
+{
+    match told {
+        WriteAnswer::Stored => Tally::Stored,
+        WriteAnswer::NotStored => Tally::NotStored,
+        WriteAnswer::Exists => Tally::Exists,
+        WriteAnswer::NotFound => Tally::NotFound,
+        WriteAnswer::NoRoom => Tally::NoRoom,
+        WriteAnswer::BucketFull => Tally::BucketFull,
+        WriteAnswer::Busy => Tally::Busy,
+    }
+}
+
+// How an answer to a delete is counted.
+pub(crate) fn tally_of_delete(told: DeleteAnswer) -> Tally
+    ensures { result ≡ delete_tally told }
+{
+    match told {
+        DeleteAnswer::Deleted => Tally::Deleted,
+        DeleteAnswer::NotFound => Tally::NotFound,
+        DeleteAnswer::Busy => Tally::Busy,
+    }
+}
+
+// How an answer to a put is counted.
+pub(crate) fn tally_of_put(told: PutAnswer) -> Tally
+    ensures { result ≡ put_tally told }
+{
+    match told {
+        PutAnswer::Stored => Tally::Stored,
+        PutAnswer::NoRoom => Tally::NoRoom,
+        PutAnswer::BucketFull => Tally::BucketFull,
+        PutAnswer::Busy => Tally::Busy,
+    }
+}
