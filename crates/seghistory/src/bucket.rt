@@ -1,0 +1,128 @@
+//! All the states in which a bucket may be, by what was answered so far.
+//! A call is taken at the latest when it returns, and only where its answer is allowed.
+use crate::call::Operation;
+use crate::replay::Fault;
+use crate::state::{KEYS, State, THREADS};
+use crate::sums::bit;
+use std::alloc::{AllocError, Global};
+use std::mem;
+
+/// In how many states a bucket is looked at for one answer.
+const LIMIT: usize = 1 << 14;
+
+/// The operations that were called and didn't return, by their threads.
+pub type Pending = [Option<Operation>; THREADS];
+
+#[derive(Drop)]
+pub struct Bucket {
+    number: usize,
+    states: Vec<State>,
+    /// The states that the search for an answer came to. It is kept for its memory alone.
+    seen: Vec<State>,
+}
+
+impl Bucket {
+    /// A bucket in which no key stands.
+    pub fn new(alloc: Global, number: usize, version: u32) -> Result<Bucket, AllocError> {
+        let mut states = Vec::new(alloc);
+        states.push(State::new(version))?;
+        Ok(Bucket {
+            number,
+            states,
+            seen: Vec::new(alloc),
+        })
+    }
+
+    /// Which numbers of keys the thread's evict may have taken out: bit n for n.
+    pub fn counts(&self, thread: usize) -> u64 {
+        self.states
+            .iter()
+            .fold(0, |counts, state| counts | bit(state.taken(thread)))
+    }
+
+    /// Keeps those states in which the thread's evict took out one of these numbers of keys.
+    /// Whether there is any is told.
+    pub fn keep(&mut self, thread: usize, counts: u64) -> bool {
+        self.states
+            .retain(|state| counts & bit(state.taken(thread)) != 0);
+        !self.states.is_empty()
+    }
+
+    /// Forgets how many keys the thread's evict took out.
+    pub fn forget(&mut self, thread: usize) -> Result<(), AllocError> {
+        self.seen.clear();
+        for state in self.states.iter() {
+            add(&mut self.seen, state.counted(thread))?;
+        }
+        mem::swap(&mut self.states, &mut self.seen);
+        Ok(())
+    }
+
+    /// The thread's operation returns. Then the bucket may be in those states that calls
+    /// which are under way lead to, the thread's among them, each taken where it is allowed.
+    /// Whether there is any is told.
+    pub fn answer(&mut self, thread: usize, pending: &Pending) -> Result<bool, Fault> {
+        let is_cut_off = matches!(pending.get(thread), Some(Some(it)) if it.is_cut_off());
+        self.seen.clear();
+        for state in self.states.iter() {
+            add(&mut self.seen, settled(*state, self.number, pending))?;
+        }
+        self.states.clear();
+        for place in 0..LIMIT {
+            let Some(state) = self.seen.get(place).copied() else {
+                return Ok(!self.states.is_empty());
+            };
+            if state.is_done(thread) || is_cut_off {
+                add(&mut self.states, state.returned(thread))?;
+            }
+            if !state.is_done(thread) {
+                self.go_on(&state, pending)?;
+            }
+        }
+        Err(Fault::TooMany)
+    }
+
+    // Adds what one more call leads to from a state.
+    fn go_on(&mut self, state: &State, pending: &Pending) -> Result<(), AllocError> {
+        for (thread, operation) in pending.iter().enumerate() {
+            let Some(operation) = operation else {
+                continue;
+            };
+            if state.is_done(thread) || !operation.is_of(self.number) {
+                continue;
+            }
+            if let Some(segment) = operation.evicts() {
+                for key in 0..KEYS {
+                    if let Some(next) = state.without(thread, key, segment) {
+                        add(&mut self.seen, settled(next, self.number, pending))?;
+                    }
+                }
+            } else if let Some(next) = state.after(thread, operation) {
+                add(&mut self.seen, settled(next, self.number, pending))?;
+            }
+        }
+        Ok(())
+    }
+}
+
+// Takes each operation that may be taken for nothing. A release or an unlock can allow others: so it is done twice.
+fn settled(mut state: State, bucket: usize, pending: &Pending) -> State {
+    for _ in 0..2 {
+        for (thread, operation) in pending.iter().enumerate() {
+            if let Some(operation) = operation {
+                if operation.is_free() && operation.is_of(bucket) && !state.is_done(thread) {
+                    state = state.after(thread, operation).unwrap_or(state);
+                }
+            }
+        }
+    }
+    state
+}
+
+// Adds a state that isn't there.
+fn add(states: &mut Vec<State>, state: State) -> Result<(), AllocError> {
+    if !states.contains(&state) {
+        states.push(state)?;
+    }
+    Ok(())
+}

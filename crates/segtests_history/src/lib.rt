@@ -1,0 +1,10 @@
+//! The checker of what threads were told, by histories that were worked out by hand.
+//! This crate has tests alone.
+#![tactic(auto)]
+
+#[cfg(test)]
+mod alterations;
+#[cfg(test)]
+mod histories;
+#[cfg(test)]
+mod keeping;

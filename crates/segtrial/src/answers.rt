@@ -1,0 +1,106 @@
+//! What an answer says of the cache, as the checker takes it.
+use crate::keys::Place;
+use crate::values::number_of;
+use seghistory::{Access, CasReply, Item, Operation};
+use segmodel::{
+    Answer, Command, DeleteAnswer, EvictAnswer, GetAnswer, GetsAnswer, RefillAnswer, Request,
+    WriteAnswer,
+};
+
+/// What an answer says.
+#[derive(Drop)]
+pub enum Said {
+    Operation(Operation),
+    /// It was refused, which says nothing of the cache.
+    Nothing,
+    /// No such call is answered so.
+    Wrong,
+}
+
+/// What the answer to a command on a key says. The item is what the command would store.
+pub fn said_by(command: &Command, answer: &Answer, place: Place, item: Item) -> Said {
+    if is_refusal(answer) {
+        return Said::Nothing;
+    }
+    match access_of(command, answer, item) {
+        Some((now, access)) => place.says(now, access),
+        None => Said::Wrong,
+    }
+}
+
+/// What the answer to an evict says.
+pub fn said_by_evict(segment: u32, answer: EvictAnswer) -> Said {
+    let (taken, is_whole) = match answer {
+        EvictAnswer::Evicted(taken) => (taken, true),
+        EvictAnswer::Busy(taken) => (taken, false),
+        EvictAnswer::NotYours => return Said::Wrong,
+    };
+    Said::Operation(Operation::Evict {
+        segment,
+        taken,
+        is_whole,
+    })
+}
+
+/// What the answer to a refill of an own segment says.
+pub fn said_by_refill(segment: u32, answer: RefillAnswer) -> Said {
+    match answer {
+        RefillAnswer::Refilled => Said::Operation(Operation::Refill { segment }),
+        RefillAnswer::Held | RefillAnswer::NotEvicted => Said::Nothing,
+        RefillAnswer::NotYours => Said::Wrong,
+    }
+}
+
+fn is_refusal(answer: &Answer) -> bool {
+    matches!(
+        answer,
+        Answer::Get(GetAnswer::Busy)
+            | Answer::Gets(GetsAnswer::Busy)
+            | Answer::Write(WriteAnswer::Busy | WriteAnswer::NoRoom | WriteAnswer::BucketFull)
+            | Answer::Delete(DeleteAnswer::Busy)
+    )
+}
+
+// What the answer says of the key, with the moment of the command.
+fn access_of(command: &Command, answer: &Answer, item: Item) -> Option<(u32, Access)> {
+    match (command, answer) {
+        (Command::Get(_, now), Answer::Get(GetAnswer::Found(value))) => {
+            Some((*now, Access::Get(Some(number_of(value)))))
+        }
+        (Command::Get(_, now), Answer::Get(GetAnswer::Miss)) => Some((*now, Access::Get(None))),
+        (Command::Gets(_, now), Answer::Gets(GetsAnswer::Found(value, version))) => {
+            Some((*now, Access::Gets(Some((number_of(value), *version)))))
+        }
+        (Command::Gets(_, now), Answer::Gets(GetsAnswer::Miss)) => Some((*now, Access::Gets(None))),
+        (Command::Write(Request::Delete(_, now)), Answer::Delete(answer)) => {
+            Some((*now, Access::Delete(*answer == DeleteAnswer::Deleted)))
+        }
+        (Command::Write(request), Answer::Write(answer)) => {
+            Some((request.moment(), write_of(request, *answer, item)?))
+        }
+        _ => None,
+    }
+}
+
+fn write_of(request: &Request, answer: WriteAnswer, item: Item) -> Option<Access> {
+    match (request, answer) {
+        (Request::Set(_, _, _), WriteAnswer::Stored) => Some(Access::Set(item)),
+        (Request::Add(_, _, _), WriteAnswer::Stored) => Some(Access::Add(Some(item))),
+        (Request::Add(_, _, _), WriteAnswer::NotStored) => Some(Access::Add(None)),
+        (Request::Replace(_, _, _), WriteAnswer::Stored) => Some(Access::Replace(Some(item))),
+        (Request::Replace(_, _, _), WriteAnswer::NotStored) => Some(Access::Replace(None)),
+        (Request::Cas(_, _, expected, _), answer) => {
+            Some(Access::Cas(*expected, cas_reply(answer, item)?))
+        }
+        _ => None,
+    }
+}
+
+fn cas_reply(answer: WriteAnswer, item: Item) -> Option<CasReply> {
+    match answer {
+        WriteAnswer::Stored => Some(CasReply::Stored(item)),
+        WriteAnswer::Exists => Some(CasReply::Exists),
+        WriteAnswer::NotFound => Some(CasReply::NotFound),
+        _ => None,
+    }
+}

@@ -1,0 +1,264 @@
+//! A pass that makes calls at random, and notes what each was answered.
+ghost use Rattle.std.specs.Prelude.{◌≡◌};
+ghost use Rattle.segbase.specs.Words.{holding};
+ghost use Rattle.segindex.specs.Words.{board_of, shape_of};
+ghost use Rattle.segpass.specs.Words.{IsQuiet, IsQuiet-prop};
+ghost use Rattle.segread.specs.Words.{IsHoldOf};
+
+use crate::answers::{Said, said_by, said_by_evict, said_by_refill};
+use crate::draws::{Draws, Turn};
+use crate::keys::{BUCKETS, Place};
+use crate::log::Log;
+use crate::start::Start;
+use crate::values::{number_of, value_of};
+use seghistory::{Access, Item, Operation};
+use segindex::{Hold, HoldAnswer, Index, LockAnswer, Pass, hold_stays};
+use segmodel::{Answer, Command, EvictAnswer, GetsAnswer, RefillAnswer, WriteAnswer};
+use segword::Key;
+use std::alloc::Global;
+use std::sync::atomic::AtomicU64;
+
+/// How many segments a pass has.
+pub const SEGMENTS: u32 = 3;
+
+/// How many commands are made while an item is held, or a bucket is locked.
+const MEANWHILE: u32 = 2;
+
+/// A pass, and what it goes by.
+#[derive(Drop)]
+pub struct Client<'a> {
+    index: &'a Index,
+    keys: &'a [Key],
+    pass: Pass,
+    draws: Draws,
+    log: Log<'a>,
+    start: &'a Start,
+    /// How many segments it began to fill.
+    fillings: u32,
+    /// The segment that it stores into, and its deadline.
+    segment: u32,
+    deadline: u32,
+    /// The version that its last gets of each bucket read.
+    versions: [u32; BUCKETS as usize],
+    ghost quiet: { IsQuiet (board_of index.now) pass } by { IsQuiet-prop (board_of index.now) pass },
+}
+
+impl<'a> Client<'a> {
+    /// A pass that made no call.
+    pub fn new(
+        alloc: Global,
+        index: &'a Index,
+        keys: &'a [Key],
+        clock: &'a AtomicU64,
+        start: &'a Start,
+        pass: Pass,
+        seed: u64,
+    ) -> Client<'a>
+        requires { IsQuiet (board_of index.now) pass }
+    {
+        let draws = Draws::new(seed, pass.number());
+        Client {
+            index,
+            keys,
+            pass,
+            draws,
+            log: Log::new(alloc, clock),
+            start,
+            fillings: 0,
+            segment: 0,
+            deadline: 0,
+            versions: [0; BUCKETS as usize],
+        }
+    }
+
+    /// Makes so many turns, once as many passes as these are there.
+    pub fn work(mut self, passes: u32, turns: u32) -> Client<'a> {
+        self.start.wait_for(passes);
+        self.refill();
+        for _ in 0..turns {
+            match self.draws.turn() {
+                Turn::Command => self.command(),
+                Turn::Hold => self.hold(),
+                Turn::Lock => self.lock(),
+                Turn::Refill => self.refill(),
+            }
+        }
+        self
+    }
+
+    /// What it was told.
+    pub fn into_log(self) -> Log<'a> {
+        let Client { log, .. } = self;
+        log
+    }
+
+    // A command on a key.
+    fn command(&mut self)
+        ensures index { self.new.index.now ≡ self.old.index.now }
+        ensures held { holding self.new.pass ≡ holding self.old.pass }
+    {
+        let place = self.draws.place();
+        let item = Item {
+            value: self.draws.value(),
+            segment: self.segment,
+            deadline: self.deadline,
+        };
+        let (Some(key), Some(value)) = (self.key(place), value_of(item.value)) else {
+            return;
+        };
+        let version = self.versions.get(place.bucket).copied().unwrap_or(0);
+        let command = self.draws.command(key.copy(), value, version);
+        let draw = self.draws.below(u32::MAX);
+        let called = self.log.stamp();
+        let answer = serve(self.index, &mut self.pass, &command, draw);
+        let returned = self.log.stamp();
+        self.log
+            .note(called, returned, said_by(&command, &answer, place, item));
+        if let Answer::Gets(GetsAnswer::Found(_, version)) = &answer {
+            if let Some(last) = self.versions.get_mut(place.bucket) {
+                *last = *version;
+            }
+        }
+        if answer == Answer::Write(WriteAnswer::NoRoom) {
+            self.refill();
+        }
+    }
+
+    // Empties the next segment, and stores there from then on.
+    fn refill(&mut self)
+        ensures index { self.new.index.now ≡ self.old.index.now }
+        ensures held { holding self.new.pass ≡ holding self.old.pass }
+    {
+        let first = self.pass.number().saturating_mul(SEGMENTS);
+        let segment = first.saturating_add(self.fillings % SEGMENTS);
+        self.fillings = self.fillings.wrapping_add(1);
+        let called = self.log.stamp();
+        let answer = evict(self.index, &mut self.pass, segment);
+        let returned = self.log.stamp();
+        self.log
+            .note(called, returned, said_by_evict(segment, answer));
+        let deadline = self.draws.deadline();
+        let called = self.log.stamp();
+        let answer = refill(self.index, &mut self.pass, segment, deadline);
+        let returned = self.log.stamp();
+        self.log
+            .note(called, returned, said_by_refill(segment, answer));
+        if answer == RefillAnswer::Refilled {
+            self.segment = segment;
+            self.deadline = deadline;
+        }
+    }
+
+    // Holds an item while other commands are made.
+    fn hold(&mut self) {
+        let place = self.draws.place();
+        let now = self.draws.moment();
+        let Some(key) = self.key(place) else {
+            return;
+        };
+        let index = self.index;
+        let called = self.log.stamp();
+        let answer = index.hold(&mut self.pass, key, now);
+        let returned = self.log.stamp();
+        match answer {
+            HoldAnswer::Holding(hold) => {
+                hold_stays();
+                let value = index.held_value(&mut self.pass, &hold);
+                let read = Access::Hold(Some(number_of(&value)));
+                self.log.note(called, returned, place.says(now, read));
+                for _ in 0..MEANWHILE {
+                    self.command();
+                }
+                self.end_hold(place.bucket, hold);
+            }
+            HoldAnswer::Miss => {
+                let said = place.says(now, Access::Hold(None));
+                self.log.note(called, returned, said);
+            }
+            HoldAnswer::Busy => self.log.note(called, returned, Said::Nothing),
+            HoldAnswer::AlreadyHolding => self.log.note(called, returned, Said::Wrong),
+        }
+    }
+
+    // Reads what is held once more, and releases it.
+    fn end_hold(&mut self, bucket: usize, hold: Hold<'_>)
+        requires { IsHoldOf (shape_of self.old.index.now) hold self.old.pass }
+    {
+        let called = self.log.stamp();
+        let value = self.index.held_value(&mut self.pass, &hold);
+        let returned = self.log.stamp();
+        let value = number_of(&value);
+        let held = Operation::Held { bucket, value };
+        self.log.note(called, returned, Said::Operation(held));
+        let called = self.log.stamp();
+        self.index.release(&mut self.pass, hold);
+        let returned = self.log.stamp();
+        let release = Operation::Release { bucket };
+        self.log.note(called, returned, Said::Operation(release));
+    }
+
+    // Locks a bucket while commands are made.
+    fn lock(&mut self) {
+        let place = self.draws.place();
+        let bucket = place.bucket;
+        let Some(key) = self.key(place) else {
+            return;
+        };
+        let called = self.log.stamp();
+        let answer = self.index.lock_bucket(&mut self.pass, key);
+        let returned = self.log.stamp();
+        let said = match answer {
+            LockAnswer::Locked => Said::Operation(Operation::Lock { bucket }),
+            LockAnswer::Busy => Said::Nothing,
+            LockAnswer::AlreadyLocked => Said::Wrong,
+        };
+        self.log.note(called, returned, said);
+        if answer != LockAnswer::Locked {
+            return;
+        }
+        for _ in 0..MEANWHILE {
+            self.command();
+        }
+        let called = self.log.stamp();
+        let is_unlocked = self.index.unlock_bucket(&mut self.pass);
+        let returned = self.log.stamp();
+        let unlock = Said::Operation(Operation::Unlock { bucket });
+        self.log.note(
+            called,
+            returned,
+            if is_unlocked { unlock } else { Said::Wrong },
+        );
+    }
+
+    fn key(&self, place: Place) -> Option<&'a Key> {
+        let keys = self.keys;
+        keys.get(place.number())
+    }
+}
+
+// A command. What is held stays so.
+fn serve(index: &Index, pass: &mut Pass, command: &Command, draw: u32) -> Answer
+    requires { IsQuiet (board_of index.now) pass.old }
+    ensures quiet { IsQuiet (board_of index.now) pass.new }
+    ensures held { holding pass.new ≡ holding pass.old }
+{
+    index.serve(pass, command, draw)
+}
+
+// An evict. What is held stays so.
+fn evict(index: &Index, pass: &mut Pass, segment: u32) -> EvictAnswer
+    requires { IsQuiet (board_of index.now) pass.old }
+    ensures quiet { IsQuiet (board_of index.now) pass.new }
+    ensures held { holding pass.new ≡ holding pass.old }
+{
+    index.evict(pass, segment)
+}
+
+// A refill. What is held stays so.
+fn refill(index: &Index, pass: &mut Pass, segment: u32, deadline: u32) -> RefillAnswer
+    requires { IsQuiet (board_of index.now) pass.old }
+    ensures quiet { IsQuiet (board_of index.now) pass.new }
+    ensures held { holding pass.new ≡ holding pass.old }
+{
+    index.refill(pass, segment, deadline)
+}

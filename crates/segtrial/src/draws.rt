@@ -1,0 +1,86 @@
+//! What a pass does next, drawn at random so that the same seed gives the same draws.
+use crate::keys::{BUCKETS, EACH, Place};
+use rand_core::utils::NextWord;
+use rand_pcg::Lcg64Xsh32;
+use segmodel::{Command, Request};
+use segword::{Key, Value};
+
+/// Moments are below this number, and so are the deadlines that are not for long.
+const MOMENTS: u32 = 16;
+
+/// The draws of a pass.
+#[derive(Drop)]
+pub struct Draws {
+    generator: Lcg64Xsh32,
+    pass: u32,
+    /// How many values there were.
+    values: u32,
+}
+
+/// What a pass does next.
+#[derive(Clone, Copy)]
+pub enum Turn {
+    Command,
+    Hold,
+    Lock,
+    /// It empties its next segment, and stores there from then on.
+    Refill,
+}
+
+impl Draws {
+    pub fn new(seed: u64, pass: u32) -> Draws {
+        Draws {
+            generator: Lcg64Xsh32::new(seed, u64::from(pass)),
+            pass,
+            values: 0,
+        }
+    }
+
+    /// A number below a bound.
+    pub fn below(&mut self, bound: u32) -> u32 {
+        self.generator.next_word() % bound.max(1)
+    }
+
+    pub fn turn(&mut self) -> Turn {
+        match self.below(64) {
+            0 | 1 => Turn::Hold,
+            2 | 3 => Turn::Lock,
+            4 => Turn::Refill,
+            _ => Turn::Command,
+        }
+    }
+
+    /// A key.
+    pub fn place(&mut self) -> Place {
+        Place::of_number(self.below(BUCKETS * EACH as u32) as usize)
+    }
+
+    pub fn moment(&mut self) -> u32 {
+        self.below(MOMENTS)
+    }
+
+    /// Half of the deadlines come after every moment.
+    pub fn deadline(&mut self) -> u32 {
+        self.below(2 * MOMENTS)
+    }
+
+    /// The number of a value that no other store has.
+    pub fn value(&mut self) -> u32 {
+        self.values = self.values.wrapping_add(1);
+        self.pass << 24 | self.values & 0xff_ffff
+    }
+
+    /// A command on a key. A cas expects the version.
+    pub fn command(&mut self, key: Key, value: Value, version: u32) -> Command {
+        let now = self.moment();
+        Command::Write(match self.below(32) {
+            0..=5 => Request::Set(key, value, now),
+            6..=8 => Request::Add(key, value, now),
+            9..=11 => Request::Replace(key, value, now),
+            12..=14 => Request::Cas(key, value, version, now),
+            15..=17 => Request::Delete(key, now),
+            18..=23 => return Command::Gets(key, now),
+            _ => return Command::Get(key, now),
+        })
+    }
+}

@@ -1,0 +1,52 @@
+//! What a pass was told: each call with its stamps.
+use crate::answers::Said;
+use seghistory::{Call, Operation};
+use std::alloc::Global;
+use std::sync::atomic::{AtomicU64, Ordering};
+
+/// The calls of one pass, in their order.
+#[derive(Drop)]
+pub struct Log<'a> {
+    /// The counter of which all passes draw their stamps.
+    clock: &'a AtomicU64,
+    pub calls: Vec<Call>,
+    /// How many answers say nothing.
+    pub refusals: u32,
+    /// Whether an answer was one that no such call gives.
+    pub is_wrong: bool,
+    /// Whether memory was wanted for a call.
+    pub is_short: bool,
+}
+
+impl<'a> Log<'a> {
+    pub fn new(alloc: Global, clock: &'a AtomicU64) -> Log<'a> {
+        Log {
+            clock,
+            calls: Vec::new(alloc),
+            refusals: 0,
+            is_wrong: false,
+            is_short: false,
+        }
+    }
+
+    /// The next stamp: one is drawn before a call, and one after its return.
+    pub fn stamp(&self) -> u64 {
+        self.clock.fetch_add(1, Ordering::SeqCst)
+    }
+
+    /// Notes a call by its stamps.
+    pub fn note(&mut self, called: u64, returned: u64, said: Said) {
+        match said {
+            Said::Operation(operation) => {
+                let call = Call {
+                    called,
+                    returned,
+                    operation,
+                };
+                self.is_short = self.calls.push(call).is_err() || self.is_short;
+            }
+            Said::Nothing => self.refusals = self.refusals.saturating_add(1),
+            Said::Wrong => self.is_wrong = true,
+        }
+    }
+}

@@ -1,0 +1,90 @@
+//! Lets passes make calls at random, each on a thread of its own, and looks for an order that explains what
+//! they were told.
+#![tactic(auto)]
+
+mod answers;
+mod arguments;
+mod client;
+mod draws;
+mod keys;
+mod log;
+mod round;
+mod start;
+mod values;
+
+use arguments::{Options, read_options};
+use clap::error::{Error, ErrorKind};
+use round::{Counts, Failure, RoundFault, run_rounds};
+use seghistory::Fault;
+use std::process::ExitCode;
+use std::{env, io};
+
+const UNEXPLAINED: u8 = 1;
+
+const BAD_USAGE: u8 = 2;
+
+const FAILED: u8 = 3;
+
+fn main(rt: HostRuntime) -> io::Result<ExitCode> {
+    let mut words = Vec::new(rt.alloc());
+    for word in env::args(&rt)?.skip(1) {
+        words.push(word)?;
+    }
+    match read_options(rt.alloc(), &words) {
+        Ok(options) => tell(&rt, &options, run_rounds(&rt, rt.alloc(), &options)),
+        Err(error) => refuse(&rt, &error),
+    }
+}
+
+// Tells why there are no options. Help and the version are asked for.
+fn refuse(rt: &HostRuntime, error: &Error) -> io::Result<ExitCode> {
+    match error.kind() {
+        ErrorKind::DisplayHelp | ErrorKind::DisplayVersion => {
+            print!(rt; "{error}")?;
+            Ok(ExitCode::SUCCESS)
+        }
+        ErrorKind::OutOfMemory => {
+            eprintln!(rt; "error: out of memory")?;
+            Ok(ExitCode::from(FAILED))
+        }
+        _ => {
+            eprint!(rt; "{error}")?;
+            Ok(ExitCode::from(BAD_USAGE))
+        }
+    }
+}
+
+// Tells how the rounds ended.
+fn tell(
+    rt: &HostRuntime,
+    options: &Options,
+    ended: Result<Counts, Failure>,
+) -> io::Result<ExitCode> {
+    match ended {
+        Ok(counts) => {
+            eprintln!(rt;
+                "{} answers, {} beside other calls",
+                counts.answers, counts.beside
+            )?;
+            eprintln!(rt; "{} answers that say nothing", counts.refusals)?;
+            println!(rt;
+                "{} rounds of {} passes: every answer is explained",
+                options.rounds, options.passes
+            )?;
+            Ok(ExitCode::SUCCESS)
+        }
+        Err(Failure { seed, fault }) => {
+            eprintln!(rt; "seed {seed}: {fault}")?;
+            Ok(ExitCode::from(status_of(fault)))
+        }
+    }
+}
+
+fn status_of(fault: RoundFault) -> u8 {
+    match fault {
+        RoundFault::WrongAnswer | RoundFault::History(Fault::NoOrder(_) | Fault::BadCall) =>
+            UNEXPLAINED,
+        RoundFault::OutOfMemory | RoundFault::History(Fault::TooMany | Fault::OutOfMemory) =>
+            FAILED,
+    }
+}

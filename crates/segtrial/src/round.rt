@@ -1,0 +1,166 @@
+//! Rounds: each has a new index, a thread for each pass, and a check of what they were told.
+ghost use Rattle.std.specs.Prelude.{All};
+ghost use Rattle.segindex.specs.Words.{board_of};
+ghost use Rattle.segpass.specs.Words.{IsQuiet};
+
+use crate::arguments::Options;
+use crate::client::{Client, SEGMENTS};
+use crate::keys::{BUCKETS, colliding_keys};
+use crate::log::Log;
+use crate::start::Start;
+use seghistory::{Fault, check};
+use segindex::{Index, Pass};
+use segword::{Key, Shape};
+use std::alloc::{AllocError, Global};
+use std::sync::atomic::AtomicU64;
+use std::thread;
+use std::thread::Threads;
+use thiserror::Error;
+
+/// How many rows a segment has.
+const ROWS: u32 = 16;
+
+/// The version with which each bucket begins. From the highest number the next is 0.
+const FIRST_VERSION: u32 = u32::MAX - 100;
+
+/// How many answers there were.
+#[derive(Clone, Copy, Debug, Default)]
+pub struct Counts {
+    /// Those that are explained.
+    pub answers: u64,
+    /// Those of them between whose stamps another pass drew one.
+    pub beside: u64,
+    /// Those that say nothing.
+    pub refusals: u64,
+}
+
+/// Why a round was no success.
+#[derive(Clone, Copy, Debug, PartialEq, Eq, Error)]
+pub enum RoundFault {
+    #[error("an answer is one that no such call gives")]
+    WrongAnswer,
+    #[error("{0}")]
+    History(Fault),
+    #[error("out of memory")]
+    OutOfMemory,
+}
+
+impl From<AllocError> for RoundFault {
+    fn from(_error: AllocError) -> RoundFault {
+        RoundFault::OutOfMemory
+    }
+}
+
+/// The seed of the round that was no success, and why it wasn't.
+#[derive(Clone, Copy, Debug, PartialEq, Eq)]
+pub struct Failure {
+    pub seed: u64,
+    pub fault: RoundFault,
+}
+
+/// Runs all rounds, up to the first that is no success.
+pub fn run_rounds<R: Threads + Sync>(
+    rt: &R,
+    alloc: Global,
+    options: &Options,
+) -> Result<Counts, Failure> {
+    let mut counts = Counts::default();
+    for round in 0..options.rounds {
+        let seed = options.seed.wrapping_add(u64::from(round));
+        match run_round(rt, alloc, options, seed) {
+            Ok(more) => counts = counts.plus(more),
+            Err(fault) => return Err(Failure { seed, fault }),
+        }
+    }
+    Ok(counts)
+}
+
+fn shape_of(passes: u32) -> Shape {
+    Shape {
+        buckets: BUCKETS,
+        overflow: BUCKETS,
+        passes,
+        segments_each: SEGMENTS,
+        rows: ROWS,
+        first_version: FIRST_VERSION,
+    }
+}
+
+// Runs the round of a seed.
+fn run_round<R: Threads + Sync>(
+    rt: &R,
+    alloc: Global,
+    options: &Options,
+    seed: u64,
+) -> Result<Counts, RoundFault> {
+    let keys = colliding_keys(alloc)?;
+    let Ok((index, passes)) = Index::new(alloc, shape_of(options.passes)) else {
+        return Err(RoundFault::OutOfMemory);
+    };
+    let clock = AtomicU64::new(0);
+    let start = Start::new();
+    let clients = clients_of(alloc, &index, &keys, &clock, &start, passes, seed)?;
+    let (passes, turns) = (options.passes, options.turns);
+    let clients = thread::map_vec(rt, clients, &|client: Client| client.work(passes, turns))?;
+    let mut counts = Counts::default();
+    let mut told = Vec::new(alloc);
+    for client in clients {
+        let log = client.into_log();
+        counts.add(&log)?;
+        if told.push(log.calls).is_err() {
+            return Err(RoundFault::OutOfMemory);
+        }
+    }
+    match check(alloc, BUCKETS as usize, FIRST_VERSION, &told) {
+        Ok(()) => Ok(counts),
+        Err(fault) => Err(RoundFault::History(fault)),
+    }
+}
+
+// A client for each pass.
+fn clients_of<'a>(
+    alloc: Global,
+    index: &'a Index,
+    keys: &'a [Key],
+    clock: &'a AtomicU64,
+    start: &'a Start,
+    passes: Vec<Pass>,
+    seed: u64,
+) -> Result<Vec<Client<'a>>, AllocError>
+    requires { All (IsQuiet (board_of index.now)) passes.items }
+{
+    let mut clients = Vec::new(alloc);
+    for pass in passes {
+        clients.push(Client::new(alloc, index, keys, clock, start, pass, seed))?;
+    }
+    Ok(clients)
+}
+
+impl Counts {
+    /// Both together.
+    pub fn plus(self, other: Counts) -> Counts {
+        Counts {
+            answers: self.answers.saturating_add(other.answers),
+            beside: self.beside.saturating_add(other.beside),
+            refusals: self.refusals.saturating_add(other.refusals),
+        }
+    }
+
+    // Counts what a pass was told, if that is all that it was told.
+    fn add(&mut self, log: &Log<'_>) -> Result<(), RoundFault> {
+        if log.is_wrong {
+            return Err(RoundFault::WrongAnswer);
+        }
+        if log.is_short {
+            return Err(RoundFault::OutOfMemory);
+        }
+        for call in log.calls.iter() {
+            self.answers = self.answers.saturating_add(1);
+            if call.called.saturating_add(1) < call.returned {
+                self.beside = self.beside.saturating_add(1);
+            }
+        }
+        self.refusals = self.refusals.saturating_add(u64::from(log.refusals));
+        Ok(())
+    }
+}
