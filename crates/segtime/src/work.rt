@@ -5,12 +5,14 @@ ghost use Rattle.std.specs.Thread.{IsSync};
 ghost use Rattle.segindex.specs.Words.{board_of};
 ghost use Rattle.segpass.specs.Words.{IsQuiet};
 
+use crate::draws::Draws;
 use segindex::{Index, Pass};
 use segmodel::{
     Answer, Command, DeleteAnswer, EvictAnswer, GetAnswer, GetsAnswer, RefillAnswer, Request,
     SegState, WriteAnswer,
 };
 use segword::{Key, Value};
+use std::alloc::{AllocError, Global};
 use std::thread::{Threads, join};
 
 /// What is asked of the keys.
@@ -22,6 +24,10 @@ pub enum Kind {
     /// Of eight commands four are gets, and one each a gets, a set, a delete, and an add,
     /// a replace or a cas.
     Mixed,
+    /// So many of a hundred commands are gets, and the others sets.
+    Shared(u32),
+    /// Half are gets, and half a gets and, if it found its key, a cas with the version that it found.
+    Modify,
     /// Gets, and where one is a Miss a set of its key.
     /// A refilling sets the deadline of its segment so many commands ahead.
     Expiring(u32),
@@ -42,8 +48,14 @@ pub struct Worker {
     state: u32,
     /// The version that its last gets found.
     version: u32,
-    /// How many answers were Busy.
+    /// The numbers of the keys of its next task.
+    numbers: Vec<u32>,
+    /// How many commands of its last task found their key or were done.
+    pub done: u32,
+    /// How many answers of its last task were Busy.
     pub busy: u32,
+    /// How many were NoRoom or BucketFull.
+    pub full: u32,
     /// How many commands were made: the moment of the next one.
     now: u32,
     /// How many commands ahead a refilling sets the deadline of its segment.
@@ -55,7 +67,7 @@ pub struct Worker {
 }
 
 impl Worker {
-    pub fn new(pass: Pass) -> Worker
+    pub fn new(alloc: Global, pass: Pass) -> Worker
         ensures { result.pass ≡ pass }
     {
         let state = pass.number();
@@ -63,7 +75,10 @@ impl Worker {
             pass,
             state,
             version: 0,
+            numbers: Vec::new(alloc),
+            done: 0,
             busy: 0,
+            full: 0,
             now: 0,
             ahead: u32::MAX,
             hits: 0,
@@ -82,6 +97,12 @@ impl Worker {
         }
     }
 
+    // The key of so many that it has drawn for a command.
+    fn key<'k>(&self, keys: &'k Vec<Key>, command: u32) -> Option<&'k Key> {
+        let number = self.numbers.get(command as usize)?;
+        keys.get(*number as usize)
+    }
+
     // A number at random, of 24 bits.
     fn draw(&mut self) -> u32
         ensures { self.new.pass ≡ self.old.pass }
@@ -93,18 +114,50 @@ impl Worker {
         self.state >> 8
     }
 
-    // What the answer to a command changes: the version that a cas expects, and what is counted.
+    /// Draws the keys of its next task.
+    pub fn draw_keys(&mut self, draws: &Draws, times: u32) -> Result<(), AllocError>
+        ensures { self.new.pass ≡ self.old.pass }
+    {
+        self.numbers.clear();
+        for _ in 0..times {
+            let first = self.draw();
+            let second = if draws.is_uniform() { 0 } else { self.draw() };
+            self.numbers.push(draws.key_of(first, second))?;
+        }
+        Ok(())
+    }
+
+    // Counts nothing so far.
+    fn begin(&mut self)
+        ensures { self.new.pass ≡ self.old.pass }
+    {
+        self.done = 0;
+        self.busy = 0;
+        self.full = 0;
+        self.hits = 0;
+        self.misses = 0;
+    }
+
+    // Counts the answer to a command.
     fn note(&mut self, answer: &Answer)
         ensures { self.new.pass ≡ self.old.pass }
     {
         match answer {
-            Answer::Gets(GetsAnswer::Found(_, version)) => self.version = *version,
             Answer::Get(GetAnswer::Busy)
             | Answer::Gets(GetsAnswer::Busy)
             | Answer::Write(WriteAnswer::Busy)
             | Answer::Delete(DeleteAnswer::Busy) => self.busy = self.busy.saturating_add(1),
-            Answer::Get(GetAnswer::Found(_)) => self.hits = self.hits.saturating_add(1),
+            Answer::Write(WriteAnswer::NoRoom | WriteAnswer::BucketFull) => {
+                self.full = self.full.saturating_add(1);
+            }
+            Answer::Get(GetAnswer::Found(_)) => {
+                self.hits = self.hits.saturating_add(1);
+                self.done = self.done.saturating_add(1);
+            }
             Answer::Get(GetAnswer::Miss) => self.misses = self.misses.saturating_add(1),
+            Answer::Gets(GetsAnswer::Found(_, _))
+            | Answer::Write(WriteAnswer::Stored)
+            | Answer::Delete(DeleteAnswer::Deleted) => self.done = self.done.saturating_add(1),
             _ => {}
         }
     }
@@ -120,7 +173,6 @@ impl Worker {
             answer = index.serve(&mut self.pass, command, draw);
         }
         self.now = self.now.saturating_add(1);
-        self.note(&answer);
         answer
     }
 
@@ -135,7 +187,8 @@ impl Worker {
             }
         }
         let command = Command::Write(Request::Set(key.copy(), value.copy(), self.now));
-        self.serve(index, &command, 0);
+        let answer = self.serve(index, &command, 0);
+        self.note(&answer);
     }
 
     // Makes the command that a draw asks, of this key.
@@ -144,7 +197,15 @@ impl Worker {
         ensures { IsQuiet (board_of index.now) self.new.pass }
     {
         let command = command_of(kind, draw, key.copy(), value, self.version, self.now);
-        let answer = self.serve(index, &command, draw);
+        let mut answer = self.serve(index, &command, draw);
+        if let Answer::Gets(GetsAnswer::Found(_, version)) = answer {
+            self.version = version;
+            if kind == Kind::Modify {
+                let request = Request::Cas(key.copy(), value.copy(), version, self.now);
+                answer = self.serve(index, &Command::Write(request), draw);
+            }
+        }
+        self.note(&answer);
         if let (Kind::Expiring(_), Answer::Get(GetAnswer::Miss)) = (kind, answer) {
             self.set_missed(index, key, value);
         }
@@ -155,6 +216,9 @@ impl Worker {
 fn command_of(kind: Kind, draw: u32, key: Key, value: &Value, version: u32, now: u32) -> Command {
     match (kind, draw % 8) {
         (Kind::Gets | Kind::Expiring(_), _) | (Kind::Mixed, 0..=3) => Command::Get(key, now),
+        (Kind::Shared(gets), _) if draw % 100 < gets => Command::Get(key, now),
+        (Kind::Modify, _) if draw % 100 < 50 => Command::Get(key, now),
+        (Kind::Modify, _) => Command::Gets(key, now),
         (Kind::Replaces, _) => Command::Write(Request::Replace(key, value.copy(), now)),
         (Kind::Mixed, 4) => Command::Gets(key, now),
         (Kind::Mixed, 6) => Command::Write(match draw / 8 % 3 {
@@ -206,13 +270,17 @@ fn refill(index: &Index, pass: &mut Pass, deadline: u32)
     let _answer: RefillAnswer = index.refill(pass, next, deadline);
 }
 
-/// Sets each key once.
-pub fn fill(index: &Index, worker: &mut Worker, keys: &Vec<Key>, value: &Value)
+// Sets each key once whose place, divided by a step, leaves this rest.
+fn fill(index: &Index, worker: &mut Worker, keys: &Vec<Key>, value: &Value, rest: u32, step: u32)
     requires { IsQuiet (board_of index.now) worker.old.pass }
     ensures { IsQuiet (board_of index.now) worker.new.pass }
 {
+    let mut place = 0u32;
     for key in keys.iter() {
-        worker.set_missed(index, key, value);
+        if place % step.max(1) == rest {
+            worker.set_missed(index, key, value);
+        }
+        place = place.wrapping_add(1);
     }
 }
 
@@ -220,14 +288,12 @@ fn work(index: &Index, mut worker: Worker, keys: &Vec<Key>, value: &Value, task:
     requires { IsQuiet (board_of index.now) worker.pass }
     ensures { IsQuiet (board_of index.now) result.pass }
 {
-    worker.hits = 0;
-    worker.misses = 0;
-    for _ in 0..task.times {
-        let place = worker.draw();
-        let draw = worker.draw();
-        let Some(key) = keys.get(place as usize % keys.len().max(1)) else {
+    worker.begin();
+    for count in 0..task.times {
+        let Some(key) = worker.key(keys, count) else {
             break;
         };
+        let draw = worker.draw();
         worker.work_once(index, task.kind, key, value, draw);
     }
     worker
@@ -261,6 +327,25 @@ fn two<R: Threads + Sync>(
 
 /// Four workers, whose passes are quiet.
 pub type Four = (Worker, Worker, Worker, Worker);
+
+/// Sets each key once, by so many workers in turn.
+pub fn fill_all(index: &Index, threads: u32, four: Four, keys: &Vec<Key>, value: &Value) -> Four
+    requires { IsQuiet (board_of index.now) four.0.pass
+        × IsQuiet (board_of index.now) four.1.pass
+        × IsQuiet (board_of index.now) four.2.pass
+        × IsQuiet (board_of index.now) four.3.pass }
+    ensures { IsQuiet (board_of index.now) result.0.pass
+        × IsQuiet (board_of index.now) result.1.pass
+        × IsQuiet (board_of index.now) result.2.pass
+        × IsQuiet (board_of index.now) result.3.pass }
+{
+    let (mut a, mut b, mut c, mut d) = four;
+    fill(index, &mut a, keys, value, 0, threads);
+    fill(index, &mut b, keys, value, 1, threads);
+    fill(index, &mut c, keys, value, 2, threads);
+    fill(index, &mut d, keys, value, 3, threads);
+    (a, b, c, d)
+}
 
 /// The task, by the first of the workers, by two at once, or by all four.
 pub fn work_at_once<R: Threads + Sync>(
