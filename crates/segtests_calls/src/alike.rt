@@ -6,8 +6,8 @@ ghost use Rattle.std.specs.Prelude.{◌<◌, ◌≤◌, IfSome};
 use rand_core::utils::NextWord;
 use rand_pcg::Lcg64Xsh32;
 use segmodel::{
-    Answer, Command, DeleteAnswer, EvictAnswer, GetAnswer, GetsAnswer, Plain, RefillAnswer,
-    Request, Shelf, WriteAnswer, run,
+    Answer, Command, DeleteAnswer, EvictAnswer, GetAnswer, GetsAnswer, KeepAnswer, Plain,
+    RefillAnswer, Request, Shelf, WriteAnswer, run,
 };
 use segsolo::Solo;
 use segword::{Key, Shape, Value};
@@ -21,11 +21,14 @@ const COMMANDS: u32 = 10_000;
 // One number more stands for a segment that there isn't.
 const SEGMENTS: u32 = 3;
 
+// Few cutoffs, so that some items are read often enough for one and others aren't.
+const CUTOFFS: u32 = 4;
+
 // A version before the last one, so that versions start again at 0.
 const FIRST_VERSION: u32 = 4_294_967_290;
 
 // What an index has, and how its commands are drawn:
-// sixteen of the draws are spread over all kinds, and the others are sets.
+// eighteen of the draws are spread over all kinds, and the others are sets.
 // Moments and deadlines are each below a limit.
 #[derive(Clone, Copy)]
 struct Load {
@@ -44,7 +47,7 @@ const ONE_BUCKET: Load = Load {
     overflow: 0,
     rows: 8,
     keys: 26,
-    draws: 16,
+    draws: 18,
     moments: 16,
     deadlines: 16,
 };
@@ -110,6 +113,7 @@ fn command(generator: &mut Lcg64Xsh32, load: Load, version: u32) -> Result<Comma
     let segment = below(generator, SEGMENTS + 1);
     let deadline = below(generator, load.deadlines);
     let now = below(generator, load.moments);
+    let cutoff = below(generator, CUTOFFS) as u8;
     Ok(match kind {
         0..=3 => Command::Write(Request::Set(key, value, now)),
         4 => Command::Write(Request::Add(key, value, now)),
@@ -120,11 +124,12 @@ fn command(generator: &mut Lcg64Xsh32, load: Load, version: u32) -> Result<Comma
         10..=11 => Command::Gets(key, now),
         12..=13 => Command::Evict(segment),
         14..=15 => Command::Refill(segment, deadline),
+        16..=17 => Command::Keep(segment, cutoff),
         _ => Command::Write(Request::Set(key, value, now)),
     })
 }
 
-const KINDS: usize = 17;
+const KINDS: usize = 20;
 
 // Which kind of answer it is.
 // No bucket is locked and nothing is held, so that none is Busy or Held.
@@ -149,6 +154,9 @@ fn kind_of(answer: &Answer) -> Option<usize>
         Answer::Refill(RefillAnswer::Refilled) => Some(14),
         Answer::Refill(RefillAnswer::NotYours) => Some(15),
         Answer::Refill(RefillAnswer::NotEvicted) => Some(16),
+        Answer::Keep(KeepAnswer::Kept(_)) => Some(17),
+        Answer::Keep(KeepAnswer::NotYours) => Some(18),
+        Answer::Keep(KeepAnswer::NoRoom(_)) => Some(19),
         _ => None,
     }
 }
@@ -163,12 +171,21 @@ fn is_full_of_expired(load: Load, command: &Command, answer: &Answer) -> bool {
     }
 }
 
-// What came of a load: which kinds of answer,
-// and how often a bucket was full of expired keys.
+// How many items an answer says were moved.
+fn moved_by(answer: &Answer) -> u32 {
+    match answer {
+        Answer::Keep(KeepAnswer::Kept(items) | KeepAnswer::NoRoom(items)) => *items,
+        _ => 0,
+    }
+}
+
+// What came of a load: which kinds of answer, how often a bucket was full of expired keys,
+// and how many items were moved.
 #[derive(Clone, Copy)]
 struct Came {
     kinds: [bool; KINDS],
     full: u32,
+    moved: u32,
 }
 
 // Serves so many commands by both, each once the one before is answered.
@@ -183,6 +200,7 @@ fn serve_alike(rt: &impl Abort, alloc: Global, load: Load) -> Result<Came, Fail>
     let mut came = Came {
         kinds: [false; KINDS],
         full: 0,
+        moved: 0,
     };
     let mut version = FIRST_VERSION;
     for number in 0..COMMANDS {
@@ -198,6 +216,7 @@ fn serve_alike(rt: &impl Abort, alloc: Global, load: Load) -> Result<Came, Fail>
         if is_full_of_expired(load, &command, &expected) {
             came.full = came.full.saturating_add(1);
         }
+        came.moved = came.moved.saturating_add(moved_by(&expected));
     }
     Ok(came)
 }
@@ -206,6 +225,21 @@ fn serve_alike(rt: &impl Abort, alloc: Global, load: Load) -> Result<Came, Fail>
 fn one_bucket_that_fills(rt: HostRuntime) -> Result<(), Fail> {
     let came = serve_alike(&rt, rt.alloc(), ONE_BUCKET)?;
     assert_eq!(rt; came.kinds, [true; KINDS]);
+    Ok(())
+}
+
+// Each second deadline is past all moments, and two segments often have the same one.
+#[test]
+fn items_that_move(rt: HostRuntime) -> Result<(), Fail> {
+    let load = Load {
+        buckets: 4,
+        keys: 40,
+        deadlines: 2,
+        moments: 1,
+        ..ONE_BUCKET
+    };
+    let came = serve_alike(&rt, rt.alloc(), load)?;
+    assert!(rt; came.moved > 50, "{} items moved", came.moved);
     Ok(())
 }
 

@@ -1,6 +1,8 @@
 //! What an index has at its end.
 use crate::tables::answers_and_lists;
-use segtests_helpers::passes::SHAPE;
+use segtests_helpers::calls::lists_all;
+use segtests_helpers::passes::{SHAPE, two_passes};
+use segtests_helpers::rows::first_wrong;
 use segword::Shape;
 use std::test::Fail;
 
@@ -67,4 +69,31 @@ fn a_bucket_that_stays_locked_is_listed(rt: HostRuntime) -> Result<(), Fail> {
         ("p1 lock a", "LOCKED"),
     ];
     answers_and_lists(&rt, rt.alloc(), SHAPE, &rows, &[("a", "1")])
+}
+
+// The last write of each pass is one that the other hasn't seen.
+#[test]
+fn all_passes_list_what_each_of_them_wrote(rt: HostRuntime) -> Result<(), Fail> {
+    let shape = Shape {
+        buckets: 4,
+        ..SHAPE
+    };
+    let (index, mut first, mut second) = two_passes(rt.alloc(), shape)?;
+    let rows = [
+        ("p0 refill 0 4294967295", "REFILLED"),
+        ("p1 refill 1 4294967295", "REFILLED"),
+        ("p0 set b 2 @0", "STORED"),
+        ("p1 set b 3 @0", "STORED"),
+        ("p0 set d 4 @0", "STORED"),
+        ("p1 delete d @0", "DELETED"),
+        ("p0 set c 5 @0", "STORED"),
+        ("p1 set a 1 @0", "STORED"),
+    ];
+    assert_eq!(rt; first_wrong(&index, &mut first, &mut second, &rows), None);
+    let pairs = [("a", "1"), ("b", "3"), ("c", "5")];
+    assert_eq!(rt;
+        lists_all(rt.alloc(), index, first, second, &pairs),
+        Ok(true)
+    );
+    Ok(())
 }

@@ -37,6 +37,12 @@ fn help_tells_a_newcomer_what_to_do(rt: HostRuntime) -> Result<(), Fail> {
             "word",
             "printf 'p0 refill 0 4294967295\\np0 set a 1 @0\\np0 get a @0\\n' | segrun",
             "Exit status",
+            "\n  1  the number of buckets is not a power of two, or is over 65536\n",
+            "\n  2  the number of overflow buckets is over 65536\n",
+            "\n  3  the number of passes is not 1 to 64\n",
+            "\n  4  the number of segments of a pass is not 1 to 1024\n",
+            "\n  5  the number of rows of a segment is not 1 to 4096\n",
+            "\n  6  the table would have over 67108864 words",
         ];
         check_shown(&rt, words, &parts)?;
     }
@@ -57,11 +63,13 @@ fn help_tells_a_newcomer_what_to_do(rt: HostRuntime) -> Result<(), Fail> {
             "[default: 8]",
             "--first-version <N>",
             "p0 refill SEGMENT DEADLINE        REFILLED",
+            "p0 keep SEGMENT CUTOFF            KEPT, NOROOM",
             "p0 cas KEY VALUE VERSION @MOMENT  STORED",
             "p0 get KEY @MOMENT                VALUE",
             "p0 lock KEY                       LOCKED",
             "p0 unlock                         UNLOCKED or NOT_LOCKED",
             "printf 'p0 refill 0 4294967295\\np0 set a 1 @0\\np0 get a @0\\n' | segrun script --rows 100",
+            "A line is bad if it has\n",
             "Exit status",
         ];
         check_shown(&rt, words, &parts)?;
@@ -69,7 +77,8 @@ fn help_tells_a_newcomer_what_to_do(rt: HostRuntime) -> Result<(), Fail> {
     // The short help has no text about what a line says.
     let parts = [
         "A key is absent from\nthe deadline of its segment on.",
-        "SEGMENT, DEADLINE,\nVERSION and MOMENT are numbers from 0 to 4294967295.",
+        "SEGMENT, DEADLINE,\nVERSION and MOMENT are numbers from 0 to 4294967295, and CUTOFF is one from 0 to 255.",
+        "there are no comments",
     ];
     check_shown(&rt, &["script", "--help"], &parts)?;
     for words in [
@@ -81,6 +90,9 @@ fn help_tells_a_newcomer_what_to_do(rt: HostRuntime) -> Result<(), Fail> {
             "Usage: segrun load",
             "--passes <N>",
             "--first-version <N>",
+            "[default: 16]",
+            "[default: 2]",
+            "[default: 128]",
             "--seed <N>",
             "[default: 1]",
             "--commands <N>",
@@ -93,6 +105,11 @@ fn help_tells_a_newcomer_what_to_do(rt: HostRuntime) -> Result<(), Fail> {
             "about twice a second",
             "segrun load --commands 100000000 --progress",
             "41231360 of 100000000, 41 %, 17023488 a second",
+            "\n  hit, miss    ",
+            "\n  stored, not_stored, exists, not_found, deleted\n",
+            "\n  noroom       ",
+            "\n  bucketfull   ",
+            "\n  busy         ",
             "Exit status",
         ];
         check_shown(&rt, words, &parts)?;

@@ -5,13 +5,15 @@
 #[cfg(test)]
 mod devices;
 #[cfg(test)]
+mod given;
+#[cfg(test)]
 mod help;
 #[cfg(test)]
 mod loads;
 #[cfg(test)]
-mod memory;
-#[cfg(test)]
 mod options;
+#[cfg(test)]
+mod order;
 #[cfg(test)]
 mod progress;
 #[cfg(test)]

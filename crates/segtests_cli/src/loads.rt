@@ -26,11 +26,23 @@ fn one_pass_counts_as_a_plain_map(rt: HostRuntime) -> Result<(), Fail> {
     for (words, totals) in [
         (
             ["load", "--commands", "500", "--seed", "7"].as_slice(),
-            "p0 commands=500 hit=24 miss=293 stored=63 not_stored=24 exists=0 not_found=72 deleted=3 noroom=0 bucketfull=21 busy=0\ntotal commands=500 keys=6\n",
+            "p0 commands=500 hit=113 miss=204 stored=85 not_stored=25 exists=6 not_found=45 deleted=22 noroom=0 bucketfull=0 busy=0\ntotal commands=500 keys=36\n",
         ),
         (
             ["load"].as_slice(),
-            "p0 commands=1000 hit=54 miss=560 stored=132 not_stored=42 exists=0 not_found=159 deleted=9 noroom=0 bucketfull=44 busy=0\ntotal commands=1000 keys=4\n",
+            "p0 commands=1000 hit=303 miss=311 stored=165 not_stored=53 exists=18 not_found=95 deleted=55 noroom=0 bucketfull=0 busy=0\ntotal commands=1000 keys=37\n",
+        ),
+        (
+            [
+                "load",
+                "--buckets=1",
+                "--segments=1",
+                "--rows=8",
+                "--seed=7",
+                "--commands=500",
+            ]
+            .as_slice(),
+            "p0 commands=500 hit=24 miss=293 stored=63 not_stored=24 exists=0 not_found=72 deleted=3 noroom=0 bucketfull=21 busy=0\ntotal commands=500 keys=6\n",
         ),
         (
             [
@@ -47,6 +59,7 @@ fn one_pass_counts_as_a_plain_map(rt: HostRuntime) -> Result<(), Fail> {
         (
             [
                 "load",
+                "--buckets=1",
                 "--overflow=2",
                 "--segments=2",
                 "--rows=32",

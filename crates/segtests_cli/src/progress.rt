@@ -147,7 +147,7 @@ fn check_totals<R: Threads + Wait + AllocGlobal + Abort + Sync>(
 #[test]
 fn a_watch_changes_no_totals(rt: HostRuntime) -> Result<(), Fail> {
     let short =
-        "p0 commands=500 hit=24 miss=293 stored=63 not_stored=24 exists=0 not_found=72 deleted=3 noroom=0 bucketfull=21 busy=0\ntotal commands=500 keys=6\n";
+        "p0 commands=500 hit=113 miss=204 stored=85 not_stored=25 exists=6 not_found=45 deleted=22 noroom=0 bucketfull=0 busy=0\ntotal commands=500 keys=36\n";
     check_totals(&rt, &["load", "--commands", "500", "--seed", "7"], short)?;
     check_totals(
         &rt,
@@ -155,7 +155,7 @@ fn a_watch_changes_no_totals(rt: HostRuntime) -> Result<(), Fail> {
         short,
     )?;
     let usual =
-        "p0 commands=1000 hit=54 miss=560 stored=132 not_stored=42 exists=0 not_found=159 deleted=9 noroom=0 bucketfull=44 busy=0\ntotal commands=1000 keys=4\n";
+        "p0 commands=1000 hit=303 miss=311 stored=165 not_stored=53 exists=18 not_found=95 deleted=55 noroom=0 bucketfull=0 busy=0\ntotal commands=1000 keys=37\n";
     check_totals(&rt, &["load"], usual)?;
     check_totals(&rt, &["load", "--progress"], usual)
 }

@@ -1,12 +1,15 @@
 //! The calls of the index with contracts that say only that the pass stays quiet:
 //! a test that calls the index itself reads the whole contract at each call.
+ghost use Rattle.std.specs.Prelude.{◌≡◌, ◌∷◌, [], IfOk};
 ghost use Rattle.segindex.specs.Words.{board_of};
 ghost use Rattle.segpass.specs.Words.{IsQuiet};
 
 use segindex::{Index, LockAnswer, OutOfMemory, Pass};
-use segmodel::{DeleteAnswer, EvictAnswer, GetAnswer, GetsAnswer, RefillAnswer, WriteAnswer};
+use segmodel::{
+    DeleteAnswer, EvictAnswer, GetAnswer, GetsAnswer, KeepAnswer, RefillAnswer, WriteAnswer,
+};
 use segword::{Key, Value};
-use std::alloc::Global;
+use std::alloc::{AllocError, Global};
 
 /// The moment of each call of a test that isn't about moments.
 pub const MOMENT: u32 = 0;
@@ -97,6 +100,14 @@ pub fn evict(index: &Index, pass: &mut Pass, segment: u32) -> EvictAnswer
     index.evict(pass, segment)
 }
 
+/// Moves the items of a segment whose frequency is at least the cutoff into the current one.
+pub fn keep(index: &Index, pass: &mut Pass, segment: u32, cutoff: u8) -> KeepAnswer
+    requires { IsQuiet (board_of index.now) pass.old }
+    ensures { IsQuiet (board_of index.now) pass.new }
+{
+    index.keep(pass, segment, cutoff)
+}
+
 /// Makes a segment current, up to a deadline.
 pub fn refill(index: &Index, pass: &mut Pass, segment: u32, deadline: u32) -> RefillAnswer
     requires { IsQuiet (board_of index.now) pass.old }
@@ -140,6 +151,36 @@ pub fn lists(
 {
     let content = index.close(alloc, pass)?;
     Ok(is_just(&content, pairs))
+}
+
+/// The same with both passes of an index that has two.
+pub fn lists_all(
+    alloc: Global,
+    index: Index,
+    first: Pass,
+    second: Pass,
+    pairs: &[(&str, &str)],
+) -> Result<bool, OutOfMemory>
+    requires { IsQuiet (board_of index) first × IsQuiet (board_of index) second }
+{
+    if index.shape().passes != 2 || first.number() != 0 || second.number() != 1 {
+        return Ok(false);
+    }
+    let Ok(passes) = vec_of(alloc, first, second) else {
+        return Err(OutOfMemory);
+    };
+    let content = index.close_all(alloc, passes)?;
+    Ok(is_just(&content, pairs))
+}
+
+// The two passes in a list, the second first.
+fn vec_of(alloc: Global, first: Pass, second: Pass) -> Result<Vec<Pass>, AllocError>
+    ensures { IfOk result (λ passes. passes.items ≡ second ∷ first ∷ []) }
+{
+    let mut passes = Vec::with_capacity(alloc, 2)?;
+    passes.push_reserved(second);
+    passes.push_reserved(first);
+    Ok(passes)
 }
 
 // Whether the content is just these keys and values, in this order.

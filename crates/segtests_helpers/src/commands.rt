@@ -1,7 +1,7 @@
 //! Commands as values, and their answers, in the words of a script:
 //! a table of them is served by any cache of one thread.
 use crate::rows::{
-    Call, call_of, deleted, is_evicted, is_read, is_read_with, refilled, value_of, written,
+    Call, call_of, deleted, is_evicted, is_kept, is_read, is_read_with, refilled, value_of, written,
 };
 use segmodel::{Answer, Command, Request};
 use segword::{Key, Value};
@@ -12,6 +12,7 @@ pub fn command_of(text: &str) -> Option<Command> {
     match call.name {
         "refill" => Some(Command::Refill(call.first.parse().ok()?, call.second.parse().ok()?)),
         "evict" => Some(Command::Evict(call.first.parse().ok()?)),
+        "keep" => Some(Command::Keep(call.first.parse().ok()?, call.second.parse().ok()?)),
         _ => command_on(call, Key::new(call.first.as_bytes())?),
     }
 }
@@ -49,6 +50,7 @@ pub fn is_answer(wanted: &str, answer: &Answer) -> bool {
         Answer::Get(read) => is_read(wanted, read),
         Answer::Gets(read) => is_read_with(wanted, read),
         Answer::Evict(told) => is_evicted(wanted, *told),
+        Answer::Keep(told) => is_kept(wanted, *told),
         Answer::Refill(told) => refilled(*told) == wanted,
     }
 }

@@ -3,11 +3,14 @@
 ghost use Rattle.segindex.specs.Words.{board_of};
 ghost use Rattle.segpass.specs.Words.{IsQuiet};
 
-use crate::calls::{add, cas, delete, evict, get, gets, lock, probe, refill, replace, set, unlock};
+use crate::calls::{
+    add, cas, delete, evict, get, gets, keep, lock, probe, refill, replace, set, unlock,
+};
 use crate::holds::{hold_over_a_set, hold_over_an_eviction};
 use segindex::{Index, LockAnswer, Pass};
 use segmodel::{
-    DeleteAnswer, EvictAnswer, GetAnswer, GetsAnswer, RefillAnswer, SegState, WriteAnswer,
+    DeleteAnswer, EvictAnswer, GetAnswer, GetsAnswer, KeepAnswer, RefillAnswer, SegState,
+    WriteAnswer,
 };
 use segword::{Key, Value};
 
@@ -164,13 +167,17 @@ fn is_found(index: &Index, pass: &mut Pass, name: &str, key: &Key, now: u32, wan
     }
 }
 
-// Whether a call with a segment is answered so. A refill has a deadline too.
+// Whether a call with a segment is answered so. A refill has a deadline too, and a keep a cutoff.
 fn is_done(index: &Index, pass: &mut Pass, call: Call<'_>, segment: u32, wanted: &str) -> bool
     requires { IsQuiet (board_of index.now) pass.old }
     ensures { IsQuiet (board_of index.now) pass.new }
 {
     match call.name {
         "evict" => is_evicted(wanted, evict(index, pass, segment)),
+        "keep" => match call.second.parse() {
+            Ok(cutoff) => is_kept(wanted, keep(index, pass, segment, cutoff)),
+            Err(_) => false,
+        },
         "refill" => match call.second.parse() {
             Ok(deadline) => refilled(refill(index, pass, segment, deadline)) == wanted,
             Err(_) => false,
@@ -268,6 +275,16 @@ pub(crate) fn is_evicted(wanted: &str, answer: EvictAnswer) -> bool {
         EvictAnswer::Evicted(keys) => is_counted(wanted, "EVICTED", keys),
         EvictAnswer::NotYours => wanted == "NOT_YOURS",
         EvictAnswer::Busy(keys) => is_counted(wanted, "BUSY", keys),
+    }
+}
+
+// Whether "KEPT 7" is wanted, for 7 items, or "NOROOM 7", or "BUSY 7".
+pub(crate) fn is_kept(wanted: &str, answer: KeepAnswer) -> bool {
+    match answer {
+        KeepAnswer::Kept(items) => is_counted(wanted, "KEPT", items),
+        KeepAnswer::NotYours => wanted == "NOT_YOURS",
+        KeepAnswer::NoRoom(items) => is_counted(wanted, "NOROOM", items),
+        KeepAnswer::Busy(items) => is_counted(wanted, "BUSY", items),
     }
 }
 

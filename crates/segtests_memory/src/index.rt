@@ -1,9 +1,9 @@
 //! The index where memory runs out: each request of its making and of its closing refused in turn, and calls that ask for none.
 use crate::hoard::{RUNS, STEP, hoard, is_none_left, leave};
-use crate::tables::{LONGEST_CHAIN, TWO_SEGMENTS};
+use crate::tables::{LONGEST_CHAIN, MOVED_ITEMS, TWO_SEGMENTS};
 use segbase::Board;
 use segindex::{Index, MakeFault, OutOfMemory};
-use segtests_helpers::calls::lists;
+use segtests_helpers::calls::{lists, lists_all};
 use segtests_helpers::passes::{SHAPE, two_passes};
 use segtests_helpers::rows::{Row, first_wrong};
 use segword::Shape;
@@ -49,20 +49,25 @@ fn an_index_is_made_or_memory_is_wanted(rt: HostRuntime) -> Result<(), Fail> {
     Ok(())
 }
 
-#[test]
-fn the_content_is_listed_or_memory_is_wanted(rt: HostRuntime) -> Result<(), Fail> {
+// Closes an index with one of its passes, or with both, where each request for memory is refused in turn.
+fn close_in_turn(rt: &impl Abort, alloc: Global, both: bool) -> Result<(), Fail> {
     let rows = [
         ("p0 refill 0 4294967295", "REFILLED"),
         ("p0 set b 2 @0", "STORED"),
         ("p0 set a 1 @0", "STORED"),
     ];
-    let all = hoard(rt.alloc())?;
+    let pairs = [("a", "1"), ("b", "2")];
+    let all = hoard(alloc)?;
     let mut refused = 0;
     for run in 0..RUNS {
-        let (index, mut first, mut second) = two_passes(rt.alloc(), SHAPE)?;
+        let (index, mut first, mut second) = two_passes(alloc, SHAPE)?;
         assert_eq!(rt; first_wrong(&index, &mut first, &mut second, &rows), None);
-        let taken = leave(rt.alloc(), STEP * run)?;
-        let listed = lists(rt.alloc(), index, first, &[("a", "1"), ("b", "2")]);
+        let taken = leave(alloc, STEP * run)?;
+        let listed = if both {
+            lists_all(alloc, index, first, second, &pairs)
+        } else {
+            lists(alloc, index, first, &pairs)
+        };
         drop(taken);
         if listed == Ok(true) {
             break;
@@ -73,6 +78,12 @@ fn the_content_is_listed_or_memory_is_wanted(rt: HostRuntime) -> Result<(), Fail
     drop(all);
     assert!(rt; 0 < refused && refused < RUNS, "{refused} refusals");
     Ok(())
+}
+
+#[test]
+fn the_content_is_listed_or_memory_is_wanted(rt: HostRuntime) -> Result<(), Fail> {
+    close_in_turn(&rt, rt.alloc(), false)?;
+    close_in_turn(&rt, rt.alloc(), true)
 }
 
 // Each row is answered as it wants where no memory is left once the index is made.
@@ -97,10 +108,10 @@ fn answers_without_memory(
 
 #[test]
 fn calls_need_no_memory(rt: HostRuntime) -> Result<(), Fail> {
-    let (shape, rows) = LONGEST_CHAIN;
-    answers_without_memory(&rt, rt.alloc(), Shape { passes: 2, ..shape }, rows)?;
-    let (shape, rows) = TWO_SEGMENTS;
-    answers_without_memory(&rt, rt.alloc(), Shape { passes: 2, ..shape }, rows)
+    for (shape, rows) in [LONGEST_CHAIN, TWO_SEGMENTS, MOVED_ITEMS] {
+        answers_without_memory(&rt, rt.alloc(), Shape { passes: 2, ..shape }, rows)?;
+    }
+    Ok(())
 }
 
 // A replace, a cas, a delete, a probe, a lock and a hold beside the calls of the tables.

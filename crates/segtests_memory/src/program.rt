@@ -97,9 +97,16 @@ fn a_command_is_carried_out_or_memory_is_wanted(rt: HostRuntime) -> Result<(), F
         ([].as_slice(), 0),
         (["script", "--rows", "2", "--first-version=7"].as_slice(), 0),
         (["word", "af60100000200003"].as_slice(), 0),
-        (["load", "--commands", "9"].as_slice(), 0),
-        (["load", "--passes=3", "--commands=3"].as_slice(), 0),
-        (["load", "--progress", "--commands=9"].as_slice(), 0),
+        // Small shapes, since the runs grow with the table.
+        (["load", "--rows=8", "--commands", "9"].as_slice(), 0),
+        (
+            ["load", "--rows=1", "--passes=3", "--commands=3"].as_slice(),
+            0,
+        ),
+        (
+            ["load", "--rows=8", "--progress", "--commands=9"].as_slice(),
+            0,
+        ),
     ];
     refuse_in_turn(&rt, &table)
 }

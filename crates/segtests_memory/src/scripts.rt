@@ -102,6 +102,8 @@ impl<'a> Source for TakingSource<'a> {
 
     ghost has_failed = { λ s. s.inner.failed };
 
+    ghost ends = { λ s. s.inner.ends };
+
     fn read(&mut self, buffer: &mut [u8]) -> Result<usize, Failed> {
         self.take();
         self.inner.read(buffer)

@@ -1,6 +1,6 @@
 //! The lone pass asks for no memory once it is made.
 use crate::hoard::{hoard, is_none_left, leave};
-use crate::tables::{LONGEST_CHAIN, TWO_SEGMENTS, Table};
+use crate::tables::{LONGEST_CHAIN, MOVED_ITEMS, TWO_SEGMENTS, Table};
 use segsolo::Solo;
 use segtests_helpers::commands::{command_of, is_answer};
 use segtests_helpers::rows::Row;
@@ -39,7 +39,7 @@ fn answers_without_memory(rt: &impl Abort, alloc: Global, table: Table<'_>) -> R
 
 #[test]
 fn commands_of_a_lone_pass_need_no_memory(rt: HostRuntime) -> Result<(), Fail> {
-    for table in [LONGEST_CHAIN, TWO_SEGMENTS] {
+    for table in [LONGEST_CHAIN, TWO_SEGMENTS, MOVED_ITEMS] {
         answers_without_memory(&rt, rt.alloc(), table)?;
     }
     Ok(())

@@ -112,6 +112,31 @@ pub const TWO_SEGMENTS: Table<'static> = (
     ],
 );
 
+/// Items that move from one segment to another until its rows are used up.
+pub const MOVED_ITEMS: Table<'static> = (
+    Shape {
+        passes: 1,
+        segments_each: 2,
+        rows: 3,
+        ..SHAPE
+    },
+    &[
+        ("p0 refill 0 9", "REFILLED"),
+        ("p0 set a 1 @0", "STORED"),
+        ("p0 set b 2 @0", "STORED"),
+        ("p0 set c 3 @0", "STORED"),
+        ("p0 get b @0", "VALUE 2"),
+        ("p0 refill 1 9", "REFILLED"),
+        ("p0 keep 0 2", "KEPT 1"),
+        ("p0 set d 4 @0", "STORED"),
+        ("p0 keep 0 0", "NOROOM 1"),
+        ("p0 evict 0", "EVICTED 1"),
+        ("p0 get a @0", "VALUE 1"),
+        ("p0 get b @0", "VALUE 2"),
+        ("p0 get c @0", "MISS"),
+    ],
+);
+
 /// A bucket that another pass has locked, and an item of it that is held over the eviction.
 pub const LOCKED_AND_HELD: Table<'static> = (
     SHAPE,

@@ -2,8 +2,8 @@
 //! A case is a command and its answer in the words of a script, as `set a 1 @0 = STORED`.
 //! Several keys before it stand in turn for the key `*` in it, as in `a b c: set * 1 @0 = STORED`.
 use segmodel::{
-    Answer, Command, DeleteAnswer, EvictAnswer, GetAnswer, GetsAnswer, Plain, RefillAnswer,
-    Request, Shelf, WriteAnswer,
+    Answer, Command, DeleteAnswer, EvictAnswer, GetAnswer, GetsAnswer, KeepAnswer, Plain,
+    RefillAnswer, Request, Shelf, WriteAnswer,
 };
 use segword::{Key, Shape, Value};
 use std::alloc::Global;
@@ -46,6 +46,10 @@ fn number(word: &str) -> Result<u32, Fail> {
     Ok(word.parse::<u32>().ok().ok_or("no number")?)
 }
 
+fn cutoff(word: &str) -> Result<u8, Fail> {
+    Ok(word.parse::<u8>().ok().ok_or("no cutoff")?)
+}
+
 // A moment, as `@0`.
 fn moment(word: &str) -> Result<u32, Fail> {
     number(word.strip_prefix("@").ok_or("no moment")?)
@@ -65,6 +69,7 @@ pub fn command(text: &str, each: &str) -> Result<Command, Fail> {
     match name {
         "refill" => Ok(Command::Refill(number(first)?, number(second)?)),
         "evict" => Ok(Command::Evict(number(first)?)),
+        "keep" => Ok(Command::Keep(number(first)?, cutoff(second)?)),
         "get" => Ok(Command::Get(key(first, each)?, moment(second)?)),
         "gets" => Ok(Command::Gets(key(first, each)?, moment(second)?)),
         "delete" => Ok(Command::Write(Request::Delete(key(first, each)?, moment(second)?))),
@@ -98,6 +103,7 @@ pub fn answer(name: &str, text: &str) -> Result<Answer, Fail> {
     match name {
         "refill" => Ok(Answer::Refill(refill_answer(text)?)),
         "evict" => Ok(Answer::Evict(evict_answer(text)?)),
+        "keep" => Ok(Answer::Keep(keep_answer(text)?)),
         "get" => Ok(Answer::Get(get_answer(text)?)),
         "gets" => Ok(Answer::Gets(gets_answer(text)?)),
         "delete" => Ok(Answer::Delete(delete_answer(text)?)),
@@ -119,6 +125,16 @@ fn evict_answer(text: &str) -> Result<EvictAnswer, Fail> {
     match told {
         "EVICTED" => Ok(EvictAnswer::Evicted(number(rest)?)),
         "NOT_YOURS" => Ok(EvictAnswer::NotYours),
+        _ => Err("no answer".into()),
+    }
+}
+
+fn keep_answer(text: &str) -> Result<KeepAnswer, Fail> {
+    let (told, rest) = cut(text);
+    match told {
+        "KEPT" => Ok(KeepAnswer::Kept(number(rest)?)),
+        "NOT_YOURS" => Ok(KeepAnswer::NotYours),
+        "NOROOM" => Ok(KeepAnswer::NoRoom(number(rest)?)),
         _ => Err("no answer".into()),
     }
 }
@@ -162,8 +178,8 @@ fn write_answer(text: &str) -> Result<WriteAnswer, Fail> {
     }
 }
 
-// The cache answers each command of the case as it says.
-fn check_case(rt: &impl Abort, plain: &mut Plain, case: &str) -> Result<(), Fail> {
+/// The cache answers each command of the case as it says.
+pub fn check_case(rt: &impl Abort, plain: &mut Plain, case: &str) -> Result<(), Fail> {
     let (keys, case) = case.split_once(": ").unwrap_or(("*", case));
     let (asked, told) = case.split_once(" = ").ok_or("no case")?;
     let (name, _) = cut(asked);

@@ -6,3 +6,5 @@
 mod answers;
 #[cfg(test)]
 mod cases;
+#[cfg(test)]
+mod keeps;

@@ -49,6 +49,15 @@ fn each_of_these_lines_is_bad(rt: HostRuntime) -> Result<(), Fail> {
         b"p0 refill 0 +1\n".as_slice(),
         b"p0 refill 0 -1\n".as_slice(),
         b"p0 refill 0 1 2\n".as_slice(),
+        b"p0 keep\n".as_slice(),
+        b"p0 keep 0\n".as_slice(),
+        b"p0 keep 0 \n".as_slice(),
+        b"p0 keep 0 256\n".as_slice(),
+        b"p0 keep 0 01\n".as_slice(),
+        b"p0 keep 0 +1\n".as_slice(),
+        b"p0 keep 0 @1\n".as_slice(),
+        b"p0 keep a 1\n".as_slice(),
+        b"p0 keep 0 1 2\n".as_slice(),
         b"p0 set abcdefghijklmnopqrstuvwxy 1 @0\n".as_slice(),
     ] {
         check_script(&rt, rt.alloc(), 2, line, Err(RunFault::Line(1)), b"")?;

@@ -1,13 +1,8 @@
 //! What scripts with moments and deadlines are answered: each line stands beside its reply.
-use crate::runs::{SOUND, check, check_script, shape_of};
+use crate::lines::{Line, check_lines};
+use crate::runs::check_script;
 use segscript::RunFault;
-use segword::Shape;
-use std::alloc::{AllocError, Global};
-use std::process::Abort;
 use std::test::Fail;
-
-/// A line of a script and its reply, both without their ends.
-type Line<'t> = (&'t str, &'t str);
 
 // Two segments of two rows.
 // An add at the deadline of the first is stored, since its key is absent by then.
@@ -92,43 +87,6 @@ const BAD: [&str; 4] = [
     "p0 set a @5\n",
     "p0 refill 0\n",
 ];
-
-// The lines, and their replies, as the bytes of a run.
-fn texts(alloc: Global, lines: &[Line<'_>]) -> Result<(String, String), AllocError> {
-    let mut script = String::new(alloc);
-    let mut replies = String::new(alloc);
-    for (line, reply) in lines.iter().copied() {
-        script.push_str(line)?;
-        script.push('\n')?;
-        replies.push_str(reply)?;
-        replies.push('\n')?;
-    }
-    Ok((script, replies))
-}
-
-// Each line is replied as it wants, by an index with one bucket.
-fn check_lines(
-    rt: &impl Abort,
-    alloc: Global,
-    [passes, segments_each, rows]: [u32; 3],
-    lines: &[Line<'_>],
-) -> Result<(), Fail> {
-    let shape = Shape {
-        passes,
-        segments_each,
-        ..shape_of(rows)
-    };
-    let (script, replies) = texts(alloc, lines)?;
-    check(
-        rt,
-        alloc,
-        shape,
-        script.as_bytes(),
-        SOUND,
-        Ok(()),
-        replies.as_bytes(),
-    )
-}
 
 #[test]
 fn a_key_is_absent_at_its_deadline(rt: HostRuntime) -> Result<(), Fail> {

@@ -15,6 +15,10 @@ mod holding;
 #[cfg(test)]
 mod hostile;
 #[cfg(test)]
+mod keeping;
+#[cfg(test)]
+mod lines;
+#[cfg(test)]
 mod locking;
 #[cfg(test)]
 mod making;

@@ -1,5 +1,5 @@
-//! Shapes that can't be had, and want of memory.
-use crate::runs::{REPLIES, SCRIPT, reader_of, shape_of};
+//! Shapes that can't be had, and the texts of faults.
+use crate::runs::{SCRIPT, reader_of};
 use segindex::MakeFault;
 use segscript::{MemSink, RunFault, run_script};
 use segword::{Shape, ShapeFault};
@@ -36,26 +36,6 @@ fn a_bad_shape_is_answered_by_its_first_fault(rt: HostRuntime) -> Result<(), Fai
         assert_eq!(rt; reader.left, SCRIPT);
         assert_eq!(rt; writer.taken.as_slice(), b"".as_slice());
         assert_eq!(rt; writer.flushes, 0);
-    }
-    Ok(())
-}
-
-// Run with each allocation refused in turn: a refusal in the making is answered as such,
-// before anything is read.
-#[test]
-fn want_of_memory_is_answered_before_anything_is_read(rt: HostRuntime) -> Result<(), Fail> {
-    let mut reader = reader_of(SCRIPT, 5000, None);
-    let Ok(mut writer) = MemSink::new(rt.alloc(), 1000) else {
-        return Ok(());
-    };
-    match run_script(rt.alloc(), &mut reader, &mut writer, shape_of(2)) {
-        Ok(()) => assert_eq!(rt; writer.taken.as_slice(), REPLIES),
-        found => {
-            assert_eq!(rt; found, Err(RunFault::Make(MakeFault::OutOfMemory)));
-            assert_eq!(rt; reader.left, SCRIPT);
-            assert_eq!(rt; writer.taken.as_slice(), b"".as_slice());
-            assert_eq!(rt; writer.flushes, 0);
-        }
     }
     Ok(())
 }

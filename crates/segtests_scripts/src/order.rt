@@ -22,6 +22,8 @@ impl<'a> Source for WatchingSource<'a> {
 
     ghost has_failed = { λ s. s.inner.failed };
 
+    ghost ends = { λ s. s.inner.ends };
+
     fn read(&mut self, buffer: &mut [u8]) -> Result<usize, Failed> {
         let _ = self.at_reads.push(self.written.get());
         self.inner.read(buffer)

@@ -57,7 +57,8 @@ pub const SOUND: Devices = Devices {
 };
 
 /// Runs a script, and checks how it ends, what it wrote,
-/// and that it flushed once where it ended well or the flush failed, else not at all.
+/// that it flushed once where it ended well or the flush failed, else not at all,
+/// and that it met the end of the script once at most.
 pub fn check(
     rt: &impl Abort,
     alloc: Global,
@@ -78,6 +79,11 @@ pub fn check(
         assert_eq!(rt; found, end, "in pieces of {step}");
         assert_eq!(rt; writer.taken.as_slice(), replies, "in pieces of {step}");
         assert_eq!(rt; writer.flushes, u64::from(is_flushed));
+        assert!(rt;
+            reader.ends <= 1,
+            "{} ends in pieces of {step}",
+            reader.ends
+        );
     }
     Ok(())
 }

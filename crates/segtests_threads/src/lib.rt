@@ -15,6 +15,8 @@ mod expiring;
 #[cfg(test)]
 mod growing;
 #[cfg(test)]
+mod keeping;
+#[cfg(test)]
 mod locking;
 #[cfg(test)]
 mod setting;

@@ -5,8 +5,8 @@ use Rattle.segcore.specs.declared.event.Event.TheVariants.{Filled, Left}
 use Rattle.segcore.specs.declared.event.Leaving.TheVariants.{Evicts}
 use Rattle.segcore.specs.declared.cell.Cell.TheVariants.{OfBucket, OfOverflow}
 use Rattle.segcore.specs.Words.{chain, clear, draw, enter, fill, HasItemOf, Holds, IsItemAt, leave}
-use Rattle.segcore.specs.Words.{link, May, none_reading, release, Row, row_after, row_store, slot}
-use Rattle.segtests_words.specs.Walk.{shape, key, value, set, replace, took, written, linked, stored, inside, twice_inside, raised, bumped, drawn, filled, chained, moved, relinked, replaced, unlinked, evicted, refilled, visited, unread}
+use Rattle.segcore.specs.Words.{link, May, none_reading, release, relink, Row, row_after, row_store, slot}
+use Rattle.segtests_words.specs.Walk.{shape, key, value, set, replace, took, written, linked, stored, inside, twice_inside, raised, bumped, drawn, filled, chained, moved, carried, settled, relinked, replaced, unlinked, evicted, refilled, visited, unread}
 
 -- ---- the pair
 
@@ -106,28 +106,56 @@ may_chain = (
 pub free_moved : May shape chained 0 (release 0 false None)
 free_moved = ((omega arith, refl), refl, refl, tt)
 
--- ---- the item is replaced
+-- ---- the item is moved to another segment
 
-pub fourth_store : May shape (took moved) 0 (row_store 0 1 0 0x302)
+pub fourth_store : May shape (took moved) 0 (row_store 0 0 0 0x302)
 fourth_store = record { guarded = tt; follows = tt; suits = ((omega arith, omega arith, refl, refl), omega arith) }
 
-pub fifth_store : May shape (Filled 0 0 1 0 0x302 ∷ took moved) 0 (row_store 0 1 1 0x6261)
+pub fifth_store : May shape (Filled 0 0 0 0 0x302 ∷ took moved) 0 (row_store 0 0 1 0x6261)
 fifth_store = record { guarded = tt; follows = tt; suits = ((omega arith, omega arith, refl, refl), omega arith) }
 
-pub sixth_store : May shape (Filled 0 0 1 1 0x6261 ∷ Filled 0 0 1 0 0x302 ∷ took moved) 0 (row_store 0 1 4 0x7a7978)
+pub sixth_store : May shape (Filled 0 0 0 1 0x6261 ∷ Filled 0 0 0 0 0x302 ∷ took moved) 0 (row_store 0 0 4 0x7a7978)
 sixth_store = record { guarded = tt; follows = tt; suits = ((omega arith, omega arith, refl, refl), omega arith) }
 
-pub present : HasItemOf shape (written 0 1 (took moved)) key 9
-present = (slot key 1 1, refl, refl)
+pub may_move : May shape (written 0 0 (took moved)) 0 (relink key 1 1 2 0 0 9 (OfOverflow 0 1))
+may_move = (
+  record {
+    guarded = (omega arith, refl);
+    follows = (refl, refl, refl, (λ e. absurd (omega arith)), refl);
+    suits = (
+      (omega arith, omega arith, refl, refl),
+      (value, refl, holds (row_after (written 0 0 (took moved)) 0 0) refl refl refl refl refl refl refl refl),
+      refl,
+    );
+  },
+  ((omega arith, omega arith), (1, refl, omega arith, omega arith)),
+)
 
-pub may_replace : May shape (written 0 1 (took moved)) 0 (link replace 0 1 9 (OfOverflow 0 1) 0x0890_2000_0010_0001)
+pub free_carried : May shape carried 0 (release 0 false None)
+free_carried = ((omega arith, refl), refl, refl, tt)
+
+-- ---- the item is replaced
+
+pub seventh_store : May shape (took settled) 0 (row_store 0 1 0 0x302)
+seventh_store = record { guarded = tt; follows = tt; suits = ((omega arith, omega arith, refl, refl), omega arith) }
+
+pub eighth_store : May shape (Filled 0 0 1 0 0x302 ∷ took settled) 0 (row_store 0 1 1 0x6261)
+eighth_store = record { guarded = tt; follows = tt; suits = ((omega arith, omega arith, refl, refl), omega arith) }
+
+pub ninth_store : May shape (Filled 0 0 1 1 0x6261 ∷ Filled 0 0 1 0 0x302 ∷ took settled) 0 (row_store 0 1 4 0x7a7978)
+ninth_store = record { guarded = tt; follows = tt; suits = ((omega arith, omega arith, refl, refl), omega arith) }
+
+pub present : HasItemOf shape (written 0 1 (took settled)) key 9
+present = (slot key 0 0, refl, refl)
+
+pub may_replace : May shape (written 0 1 (took settled)) 0 (link replace 0 1 9 (OfOverflow 0 1) 0x0890_2000_0000_0000)
 may_replace = (
   record {
     guarded = (omega arith, refl);
     follows = (refl, refl);
     suits = (
       (omega arith, omega arith, refl, refl),
-      holds (row_after (written 0 1 (took moved)) 0 1) refl refl refl refl refl refl refl refl,
+      holds (row_after (written 0 1 (took settled)) 0 1) refl refl refl refl refl refl refl refl,
       refl,
       (omega arith, omega arith),
       inr present,

@@ -4,7 +4,7 @@ use Rattle.segword.specs.Words.{Shape}
 use Rattle.segmodel.specs.Words.{Request}
 use Rattle.segmodel.specs.declared.request.Request.TheVariants.{Set}
 use Rattle.segcore.specs.Words.{Event}
-use Rattle.segcore.specs.declared.event.Event.TheVariants.{Took, Freed, Filled, Linked, Unlinked, Drew, Put, Chained, Bumped, Entered, Left, Refilled}
+use Rattle.segcore.specs.declared.event.Event.TheVariants.{Took, Freed, Filled, Linked, Relinked, Unlinked, Drew, Put, Chained, Bumped, Entered, Left, Refilled}
 use Rattle.segcore.specs.declared.event.Leaving.TheVariants.{Evicts}
 use Rattle.segbase.specs.Words.{Board, IsPassOf, number, Pass, trace}
 
@@ -66,9 +66,16 @@ chained = Chained 0 0 0 ∷ filled
 abbrev pub moved : List Event
 moved = Freed 0 0 false ∷ chained
 
--- there the item is replaced by one in a row of segment 0
+-- there the item is moved to a row of segment 0; two segments that were never refilled have one deadline
+abbrev pub carried : List Event
+carried = Relinked 0 key 1 1 0 0 9 ∷ written 0 0 (took moved)
+
+abbrev pub settled : List Event
+settled = Freed 0 0 false ∷ carried
+
+-- and replaced by one in the next row
 abbrev pub relinked : List Event
-relinked = Linked 0 replace 0 1 9 ∷ written 0 1 (took moved)
+relinked = Linked 0 replace 0 1 9 ∷ written 0 1 (took settled)
 
 abbrev pub replaced : List Event
 replaced = Freed 0 0 true ∷ relinked

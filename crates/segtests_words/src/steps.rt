@@ -5,8 +5,8 @@ ghost use Rattle.segcore.specs.declared.event.Event.{Event};
 ghost use Rattle.segcore.specs.declared.event.Event.TheVariants.{Freed, Filled, Refilled};
 ghost use Rattle.segcore.specs.Words.{May, none_reading, release, row_store};
 ghost use Rattle.segtests_words.specs.Walk.{shape, took, written, linked, twice_inside, raised};
-ghost use Rattle.segtests_words.specs.Walk.{bumped, drawn, filled, chained, moved, relinked};
-ghost use Rattle.segtests_words.specs.Walk.{replaced, unlinked, HasDone};
+ghost use Rattle.segtests_words.specs.Walk.{bumped, drawn, filled, chained, moved, carried};
+ghost use Rattle.segtests_words.specs.Walk.{settled, relinked, replaced, unlinked, HasDone};
 
 use segbase::{Board, Pass, Place};
 use segword::{Item, Shape};
@@ -44,6 +44,14 @@ const RAISED: Item = Item {
 /// Word 1 of the overflow bucket.
 const MOVED: Place = Place { bucket: 1, word: 1 };
 
+/// The item in row 0 of segment 0, with the frequency that it has.
+const CARRIED: Item = Item {
+    tag: 0x089,
+    freq: 2,
+    seg: 0,
+    row: 0,
+};
+
 /// The item of `ab` in row 1 of segment 0.
 const REPLACEMENT: Item = Item {
     tag: 0x089,
@@ -71,14 +79,14 @@ pub fn give_back(board: &Board, pass: &mut Pass, counted: bool)
     board.release(pass, 0, counted);
 }
 
-/// A word of row 1 of a segment is stored.
-pub fn store(board: &Board, pass: &mut Pass, segment: u32, word: u8, value: u64)
+/// A word of a row is stored.
+pub fn store(board: &Board, pass: &mut Pass, segment: u32, row: u32, word: u8, value: u64)
     ghost done: { List Event }
     requires done { HasDone board.now pass.old done }
-    requires may { May shape done 0 (row_store segment 1 word value) }
-    ensures { HasDone board.now pass.new (Filled 0 segment 1 word value ∷ done) }
+    requires may { May shape done 0 (row_store segment row word value) }
+    ensures { HasDone board.now pass.new (Filled 0 segment row word value ∷ done) }
 {
-    board.row_store(pass, segment, 1, word, value);
+    board.row_store(pass, segment, row, word, value);
 }
 
 /// Word 7 of the bucket names the row.
@@ -121,14 +129,26 @@ pub fn chain(rt: &impl Abort, board: &Board, pass: &mut Pass)
     assert!(rt; board.chain(pass, LAST, 0x0890_2000_0010_0001, 0).is_ok());
 }
 
-/// The item is replaced where it has moved to, by one in row 1 of segment 0.
+/// The item is moved to row 0 of segment 0.
+pub fn carry(rt: &impl Abort, board: &Board, pass: &mut Pass)
+    requires { HasDone board.now pass.old (written 0 0 (took moved)) }
+    ensures { HasDone board.now pass.new carried }
+{
+    assert!(rt;
+        board
+            .move_item(pass, MOVED, 0x0890_2000_0010_0001, CARRIED)
+            .is_ok()
+    );
+}
+
+/// The item is replaced by one in row 1 of segment 0.
 pub fn replace(rt: &impl Abort, board: &Board, pass: &mut Pass)
-    requires { HasDone board.now pass.old (written 0 1 (took moved)) }
+    requires { HasDone board.now pass.old (written 0 1 (took settled)) }
     ensures { HasDone board.now pass.new relinked }
 {
     assert!(rt;
         board
-            .replace(pass, MOVED, 0x0890_2000_0010_0001, REPLACEMENT)
+            .replace(pass, MOVED, 0x0890_2000_0000_0000, REPLACEMENT)
             .is_ok()
     );
 }

@@ -1,11 +1,13 @@
 //! The words of a table after each kind of step, written out by the format.
 ghost use Rattle.std.specs.Prelude.{[], IfSome};
 ghost use Rattle.segbase.specs.Words.{IsPassOf};
-ghost use Rattle.segtests_words.specs.Walk.{stored, bumped, moved, replaced, refilled, HasDone};
+ghost use Rattle.segtests_words.specs.Walk.{stored, bumped, moved, settled, replaced, refilled};
+ghost use Rattle.segtests_words.specs.Walk.{HasDone};
 
 use crate::boards::{check, made};
 use crate::steps::{
-    LAST, SHAPE, bump, chain, clear, draw, fill, give_back, link, refill, replace, store, take,
+    LAST, SHAPE, bump, carry, chain, clear, draw, fill, give_back, link, refill, replace, store,
+    take,
 };
 use segbase::{Board, Pass};
 use std::process::Abort;
@@ -15,11 +17,11 @@ use std::test::Fail;
 const COUNT: usize = 1 + 8 + 8 + 2 * 17;
 
 /// How many steps the walk has.
-const STEPS: u32 = 29;
+const STEPS: u32 = 35;
 
 /// The word at the start that isn't 0, and the word that each step changes: the step,
 /// the place and the word.
-const CHANGES: [(u32, usize, u64); 30] = [
+const CHANGES: [(u32, usize, u64); 36] = [
     (0, 1, 0x0000_0005_0000_0000),
     // The pair `ab` and `xyz` is stored in row 1 of segment 1, and named by word 7.
     (1, 1, 0x0000_0005_0000_0001),
@@ -40,22 +42,29 @@ const CHANGES: [(u32, usize, u64); 30] = [
     (14, 10, 0x0890_2000_0010_0001),
     (15, 8, 0x0000_0000_0000_0001),
     (16, 1, 0x0000_0006_0000_0000),
-    // The item is replaced where it has moved to, by one in row 1 of segment 0.
+    // There it is moved to row 0 of segment 0, with the frequency that it has.
     (17, 1, 0x0000_0006_0000_0001),
-    (18, 26, 0x0000_0000_0000_0302),
-    (19, 27, 0x0000_0000_0000_6261),
-    (20, 30, 0x0000_0000_007a_7978),
-    (21, 10, 0x0890_1000_0000_0001),
-    (22, 1, 0x0000_0007_0000_0000),
+    (18, 18, 0x0000_0000_0000_0302),
+    (19, 19, 0x0000_0000_0000_6261),
+    (20, 22, 0x0000_0000_007a_7978),
+    (21, 10, 0x0890_2000_0000_0000),
+    (22, 1, 0x0000_0006_0000_0000),
+    // It is replaced by one in row 1 of segment 0.
+    (23, 1, 0x0000_0006_0000_0001),
+    (24, 26, 0x0000_0000_0000_0302),
+    (25, 27, 0x0000_0000_0000_6261),
+    (26, 30, 0x0000_0000_007a_7978),
+    (27, 10, 0x0890_1000_0000_0001),
+    (28, 1, 0x0000_0007_0000_0000),
     // It is evicted, and its segment refilled up to moment 9.
-    (23, 1, 0x0000_0007_0000_0001),
-    (24, 10, 0),
-    (25, 1, 0x0000_0007_0000_0000),
-    (26, 17, 0x0000_0009_0000_0000),
+    (29, 1, 0x0000_0007_0000_0001),
+    (30, 10, 0),
+    (31, 1, 0x0000_0007_0000_0000),
+    (32, 17, 0x0000_0009_0000_0000),
     // The pass comes into that segment and leaves it, and it is refilled up to the last moment.
-    (27, 17, 0x0000_0009_0000_0001),
-    (28, 17, 0x0000_0009_0000_0000),
-    (29, 17, 0xffff_ffff_0000_0000),
+    (33, 17, 0x0000_0009_0000_0001),
+    (34, 17, 0x0000_0009_0000_0000),
+    (35, 17, 0xffff_ffff_0000_0000),
 ];
 
 // The first steps of those that are left: the pair is set.
@@ -67,11 +76,11 @@ fn set(rt: &impl Abort, board: &Board, pass: &mut Pass, left: u32) -> Option<u32
     let left = left.checked_sub(1)?;
     take(rt, board, pass);
     let left = left.checked_sub(1)?;
-    store(board, pass, 1, 0, 0x0302);
+    store(board, pass, 1, 1, 0, 0x0302);
     let left = left.checked_sub(1)?;
-    store(board, pass, 1, 1, 0x6261);
+    store(board, pass, 1, 1, 1, 0x6261);
     let left = left.checked_sub(1)?;
-    store(board, pass, 1, 4, 0x007a_7978);
+    store(board, pass, 1, 1, 4, 0x007a_7978);
     let left = left.checked_sub(1)?;
     link(board, pass);
     let left = left.checked_sub(1)?;
@@ -129,20 +138,41 @@ fn grow(rt: &impl Abort, board: &Board, pass: &mut Pass, left: u32) -> Option<u3
     Some(left)
 }
 
+// The item is moved to a row of another segment.
+fn move_over(rt: &impl Abort, board: &Board, pass: &mut Pass, left: u32) -> Option<u32>
+    requires { HasDone board.now pass.old moved }
+    ensures done { IfSome result (λ left. HasDone board.now pass.new settled) }
+    ensures pass { IsPassOf board.now pass.new }
+{
+    let left = left.checked_sub(1)?;
+    take(rt, board, pass);
+    let left = left.checked_sub(1)?;
+    store(board, pass, 0, 0, 0, 0x0302);
+    let left = left.checked_sub(1)?;
+    store(board, pass, 0, 0, 1, 0x6261);
+    let left = left.checked_sub(1)?;
+    store(board, pass, 0, 0, 4, 0x007a_7978);
+    let left = left.checked_sub(1)?;
+    carry(rt, board, pass);
+    let left = left.checked_sub(1)?;
+    give_back(board, pass, false);
+    Some(left)
+}
+
 // The pair is stored again.
 fn set_again(rt: &impl Abort, board: &Board, pass: &mut Pass, left: u32) -> Option<u32>
-    requires { HasDone board.now pass.old moved }
+    requires { HasDone board.now pass.old settled }
     ensures done { IfSome result (λ left. HasDone board.now pass.new replaced) }
     ensures pass { IsPassOf board.now pass.new }
 {
     let left = left.checked_sub(1)?;
     take(rt, board, pass);
     let left = left.checked_sub(1)?;
-    store(board, pass, 0, 0, 0x0302);
+    store(board, pass, 0, 1, 0, 0x0302);
     let left = left.checked_sub(1)?;
-    store(board, pass, 0, 1, 0x6261);
+    store(board, pass, 0, 1, 1, 0x6261);
     let left = left.checked_sub(1)?;
-    store(board, pass, 0, 4, 0x007a_7978);
+    store(board, pass, 0, 1, 4, 0x007a_7978);
     let left = left.checked_sub(1)?;
     replace(rt, board, pass);
     let left = left.checked_sub(1)?;
@@ -190,6 +220,7 @@ fn walk(rt: &impl Abort, board: &Board, pass: &mut Pass, steps: u32) -> Option<u
     look(rt, board, pass);
     let left = read(rt, board, pass, left)?;
     let left = grow(rt, board, pass, left)?;
+    let left = move_over(rt, board, pass, left)?;
     let left = set_again(rt, board, pass, left)?;
     let left = evict(rt, board, pass, left)?;
     refill_again(rt, board, pass, left)

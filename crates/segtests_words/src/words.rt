@@ -288,3 +288,29 @@ fn faults_have_texts_and_numbers(rt: HostRuntime) -> Result<(), Fail> {
     }
     Ok(())
 }
+
+#[test]
+fn a_shape_for_so_many_keys_has_room_to_spare(rt: HostRuntime) -> Result<(), Fail> {
+    for (keys, passes, buckets, segments_each, rows) in [
+        (0, 1, 1, 8, 1),
+        (64, 4, 16, 8, 4),
+        (65, 1, 32, 8, 17),
+        (100_000, 3, 32_768, 17, 3922),
+        (425_984, 1, 65_536, 208, 4096),
+        (425_984, 64, 65_536, 8, 1664),
+    ] {
+        let shape = Shape {
+            buckets,
+            overflow: buckets,
+            passes,
+            segments_each,
+            rows,
+            first_version: 0,
+        };
+        assert_eq!(rt; Shape::for_keys(keys, passes), Ok(shape));
+    }
+    assert_eq!(rt; Shape::for_keys(64, 0), Err(ShapeFault::BadPasses));
+    assert_eq!(rt; Shape::for_keys(64, 65), Err(ShapeFault::BadPasses));
+    assert_eq!(rt; Shape::for_keys(425_985, 64), Err(ShapeFault::TooLarge));
+    Ok(())
+}

@@ -5,7 +5,7 @@ use Rattle.segtests_words.proofs.Walking.{here, then}
 use Rattle.segtests_words.proofs.steps.store.Goals as goal
 
 pub row_store-requires-clause-may : goal.row_store-requires-clause-may
-row_store-requires-clause-may g c = here c.args.board.now c.args.pass.now g.done (λ z t n. May z t n (row_store c.args.segment 1 c.args.word c.args.value)) c.requires.0 c.requires.1
+row_store-requires-clause-may g c = here c.args.board.now c.args.pass.now g.done (λ z t n. May z t n (row_store c.args.segment c.args.row c.args.word c.args.value)) c.requires.0 c.requires.1
 
 pub returns : goal.returns
-returns g c = then c.args.board.now c.args.pass.now c.row_store.new.pass g.done (λ z t n. Filled n c.args.segment 1 c.args.word c.args.value ∷ []) c.requires.0 c.row_store.ensures.did
+returns g c = then c.args.board.now c.args.pass.now c.row_store.new.pass g.done (λ z t n. Filled n c.args.segment c.args.row c.args.word c.args.value ∷ []) c.requires.0 c.row_store.ensures.did

@@ -1,0 +1,198 @@
+//! Items that move beside passes that read and write their keys:
+//! no key is ever missed, and no version counts a move.
+ghost use Rattle.segindex.specs.Words.{board_of};
+ghost use Rattle.segpass.specs.Words.{IsQuiet};
+
+use crate::digits::value_of;
+use crate::work::{Work, four_at_once};
+use segindex::{Index, Pass};
+use segmodel::{EvictAnswer, GetAnswer, GetsAnswer, KeepAnswer, RefillAnswer, WriteAnswer};
+use segtests_helpers::calls::{MOMENT, evict, get, gets, keep, refill, set};
+use segtests_helpers::passes::{SHAPE, four_passes};
+use segtests_helpers::rows::first_wrong;
+use segword::{Key, Shape};
+use std::test::Fail;
+use std::thread::yield_now;
+
+const ROUNDS: u32 = 1_000;
+
+// How often each reader reads.
+const READS: u32 = 20_000;
+
+const SEGMENTS: u32 = 2;
+
+const KEYS: u32 = 4;
+
+// The keys a, b, c and d, again and again.
+fn key_of(number: u32) -> Option<Key> {
+    Key::new(&[b'a' + (number % KEYS) as u8])
+}
+
+// In each round it sets a key, and then fills its other segment:
+// it moves all items there, and evicts what is left of the first one, which is nothing.
+#[derive(Drop)]
+struct Mover {
+    rounds: u32,
+    // How many sets were Stored.
+    stored: u32,
+    // How many items were moved.
+    moved: u32,
+    // How many keys were evicted.
+    lost: u32,
+}
+
+impl Work for Mover {
+    fn turn(&mut self, index: &Index, pass: &mut Pass, turn: u32) -> bool {
+        if is_stored(index, pass, turn) {
+            self.stored = self.stored.saturating_add(1);
+        }
+        self.change_segments(index, pass);
+        self.rounds < ROUNDS
+    }
+}
+
+impl Mover {
+    const NEW: Mover = Mover {
+        rounds: 0,
+        stored: 0,
+        moved: 0,
+        lost: 0,
+    };
+
+    // Fills the other segment, if no reader is left in it.
+    fn change_segments(&mut self, index: &Index, pass: &mut Pass)
+        requires { IsQuiet (board_of index.now) pass.old }
+        ensures { IsQuiet (board_of index.now) pass.new }
+    {
+        let Some(segment) = pass.current() else {
+            return;
+        };
+        let other = segment ^ 1;
+        if refill(index, pass, other, u32::MAX) != RefillAnswer::Refilled {
+            yield_now();
+            return;
+        }
+        self.rounds = self.rounds.saturating_add(1);
+        self.moved = self.moved.saturating_add(keep_all(index, pass, segment));
+        let lost = match evict(index, pass, segment) {
+            EvictAnswer::Evicted(keys) | EvictAnswer::Busy(keys) => keys,
+            EvictAnswer::NotYours => KEYS,
+        };
+        self.lost = self.lost.saturating_add(lost);
+    }
+}
+
+// Moves all items of a segment into the current one, and counts them.
+fn keep_all(index: &Index, pass: &mut Pass, segment: u32) -> u32
+    requires { IsQuiet (board_of index.now) pass.old }
+    ensures { IsQuiet (board_of index.now) pass.new }
+{
+    let mut moved = 0u32;
+    for _ in 0..ROUNDS {
+        match keep(index, pass, segment, 0) {
+            KeepAnswer::Busy(items) => moved = moved.saturating_add(items),
+            KeepAnswer::Kept(items) | KeepAnswer::NoRoom(items) => {
+                return moved.saturating_add(items);
+            }
+            KeepAnswer::NotYours => return moved,
+        }
+        yield_now();
+    }
+    moved
+}
+
+// Sets a key to a number.
+fn is_stored(index: &Index, pass: &mut Pass, number: u32) -> bool
+    requires { IsQuiet (board_of index.now) pass.old }
+    ensures { IsQuiet (board_of index.now) pass.new }
+{
+    let (Some(key), Some(value)) = (key_of(number), value_of(number)) else {
+        return false;
+    };
+    set(index, pass, &key, &value, MOMENT) == WriteAnswer::Stored
+}
+
+// Reads the keys in turn, by get and by gets.
+#[derive(Drop)]
+struct Reader {
+    found: u32,
+    missed: u32,
+    // The last version that it read, and whether none was lower than the one before.
+    version: u32,
+    is_rising: bool,
+}
+
+impl Work for Reader {
+    fn turn(&mut self, index: &Index, pass: &mut Pass, turn: u32) -> bool {
+        let Some(key) = key_of(turn) else {
+            return false;
+        };
+        match get(index, pass, &key, turn, MOMENT) {
+            GetAnswer::Found(_value) => self.found = self.found.saturating_add(1),
+            GetAnswer::Miss => self.missed = self.missed.saturating_add(1),
+            GetAnswer::Busy => yield_now(),
+        }
+        match gets(index, pass, &key, turn, MOMENT) {
+            GetsAnswer::Found(_value, version) => {
+                self.is_rising = self.is_rising && self.version <= version;
+                self.version = version;
+            }
+            GetsAnswer::Miss => self.missed = self.missed.saturating_add(1),
+            GetsAnswer::Busy => yield_now(),
+        }
+        turn < READS
+    }
+}
+
+impl Reader {
+    const NEW: Reader = Reader {
+        found: 0,
+        missed: 0,
+        version: 0,
+        is_rising: true,
+    };
+}
+
+#[test]
+fn no_key_is_missed_while_items_move(rt: HostRuntime) -> Result<(), Fail> {
+    let shape = Shape {
+        passes: 4,
+        segments_each: SEGMENTS,
+        rows: 8,
+        ..SHAPE
+    };
+    let (index, mut p0, mut p1, p2, p3) = four_passes(rt.alloc(), shape)?;
+    let rows = [
+        ("p0 refill 0 4294967295", "REFILLED"),
+        ("p1 refill 2 4294967295", "REFILLED"),
+        ("p0 set a 0 @0", "STORED"),
+        ("p0 set b 0 @0", "STORED"),
+        ("p0 set c 0 @0", "STORED"),
+        ("p0 set d 0 @0", "STORED"),
+    ];
+    assert_eq!(rt; first_wrong(&index, &mut p0, &mut p1, &rows), None);
+    let ((mut p0, first), (_, second), (_, reader), (_, other)) = four_at_once(
+        &rt,
+        &index,
+        (p0, Mover::NEW),
+        (p1, Mover::NEW),
+        (p2, Reader::NEW),
+        (p3, Reader::NEW),
+    );
+    assert_eq!(rt; (reader.missed, other.missed), (0, 0));
+    assert!(rt; reader.found > 0 && other.found > 0);
+    assert!(rt; reader.is_rising && other.is_rising);
+    assert_eq!(rt; (first.lost, second.lost), (0, 0));
+    assert!(rt; first.moved > 0 && second.moved > 0);
+    // Four sets came before, and each Stored counts once; no move does.
+    let version = first
+        .stored
+        .saturating_add(second.stored)
+        .saturating_add(KEYS);
+    let key = key_of(0).ok_or("no key")?;
+    let GetsAnswer::Found(_value, found) = gets(&index, &mut p0, &key, 0, MOMENT) else {
+        return Err("no value".into());
+    };
+    assert_eq!(rt; found, version);
+    Ok(())
+}
