@@ -1,0 +1,53 @@
+// What every store of the measure answers, and how a map decides a write as the index does.
+#pragma once
+
+#include "bytes.hpp"
+
+#include <cstdint>
+
+namespace bench {
+
+enum class Answer {
+    Hit,     // a get that found its key, or a write that was done
+    Miss,    // a get or a write that was answered otherwise
+    Busy,    // refused, since others were at work on the same bucket
+    NoRoom,  // refused, since the segment that is stored into is used up
+    Full,    // refused, since the key's bucket has no place for a new key
+};
+
+enum class Write : int { Set, Add, Replace, Cas };
+
+// How large a store has to be.
+struct Plan {
+    std::uint32_t keys;
+    unsigned threads;
+};
+
+// What a thread has while it works on a store to which it needn't be made known.
+struct NoMembership {
+    NoMembership() {}
+};
+
+// What a map keeps under a key. A cas compares the version.
+struct Entry {
+    Value value;
+    std::uint32_t version = 0;
+};
+
+// Whether a write is to be done, by the entry that stands under its key, or null.
+inline bool is_allowed(Write write, const Entry* present, std::uint32_t expected) {
+    switch (write) {
+        case Write::Set: return true;
+        case Write::Add: return present == nullptr;
+        case Write::Replace: return present != nullptr;
+        case Write::Cas: return present != nullptr && present->version == expected;
+    }
+    return false;
+}
+
+// The entry that a write leaves where one stands, or null.
+inline Entry entry_after(const Entry* present, const Value& value) {
+    return {value, present == nullptr ? 1 : present->version + 1};
+}
+
+}  // namespace bench

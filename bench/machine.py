@@ -1,0 +1,66 @@
+"""What the figures depend on: the machine, and the versions of all that is measured."""
+
+import os
+import platform
+import subprocess
+from datetime import datetime, timezone
+from pathlib import Path
+
+from programs import BENCH, PROGRAMS, output
+
+
+def try_output(*words):
+    try:
+        return output(*words)
+    except (OSError, subprocess.CalledProcessError):
+        return None
+
+
+def first_line(text):
+    return text.splitlines()[0] if text else None
+
+
+def processor():
+    for line in Path("/proc/cpuinfo").read_text().splitlines():
+        if line.startswith("model name"):
+            return line.split(":", 1)[1].strip()
+    return platform.processor()
+
+
+def caches():
+    """The sizes of the caches of the first processor, by level and type."""
+    found = {}
+    for folder in sorted(Path("/sys/devices/system/cpu/cpu0/cache").glob("index*")):
+        level, kind, size = ((folder / name).read_text().strip() for name in ("level", "type", "size"))
+        found[f"L{level} {kind.lower()}"] = size
+    return found
+
+
+def memory():
+    first = Path("/proc/meminfo").read_text().splitlines()[0]
+    return first.split(":", 1)[1].strip()
+
+
+def packages():
+    names = sorted({program.package for program in PROGRAMS if program.package})
+    return {name: version for name in names if (version := try_output("dpkg-query", "-W", "-f", "${Version}", name))}
+
+
+def describe(options):
+    """The first line of the results."""
+    return {
+        "kind": "machine",
+        "time": datetime.now(timezone.utc).isoformat(timespec="seconds"),
+        "processor": processor(),
+        "processors": os.cpu_count(),
+        "caches": caches(),
+        "memory": memory(),
+        "kernel": platform.release(),
+        "load": os.getloadavg(),
+        "commit": try_output("git", "-C", str(BENCH), "describe", "--always", "--dirty"),
+        "compiler": first_line(try_output("g++", "--version")),
+        "rust": first_line(try_output("rustc", "--version")),
+        "rattle": first_line(try_output("rt", "version")),
+        "packages": packages(),
+        "options": options,
+    }

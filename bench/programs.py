@@ -1,0 +1,153 @@
+"""The programs of the measure: how each is built, and what one run of it came to."""
+
+import json
+import shlex
+import subprocess
+import time
+from dataclasses import dataclass
+from pathlib import Path
+
+BENCH = Path(__file__).resolve().parent
+OUT = BENCH / "out"
+COMPILER = ["g++", "-std=c++20", "-O3", "-Wall", "-Wextra", "-pthread"]
+
+
+@dataclass(frozen=True)
+class Cell:
+    """What is asked in one measurement."""
+
+    mix: str
+    draw: str
+    keys: int
+    threads: int
+
+
+@dataclass(frozen=True)
+class Sample:
+    """What one run came to, in nanoseconds for each command, and shares of the commands."""
+
+    process_ns: float
+    wall_ns: float
+    thread_ns: float | None
+    hits: float
+    busy: float
+    full: float
+
+
+@dataclass(frozen=True)
+class Program:
+    """A store with the driver of `common`. Programs that can't be built are left out."""
+
+    name: str
+    source: str
+    package: str | None = None
+    libraries: tuple[str, ...] = ()
+    pkg_config: str | None = None
+
+    def path(self):
+        return OUT / self.name
+
+    def build(self):
+        """None, or why it couldn't be built."""
+        try:
+            libraries = list(self.libraries)
+            if self.pkg_config:
+                libraries += shlex.split(output("pkg-config", "--libs", self.pkg_config))
+            if self.name == "dashmap":
+                build_dashmap()
+            run_quietly([*COMPILER, BENCH / self.source, "-o", self.path(), *libraries])
+        except (OSError, subprocess.CalledProcessError) as fault:
+            needs = f"; it needs the package {self.package}" if self.package else ""
+            return f"{first_line(fault)}{needs}"
+        return None
+
+
+def check_reference():
+    """Stops where the reference answers wrongly; what is wrong has no speed."""
+    run_quietly([*COMPILER, BENCH / "reference/check.cpp", "-o", OUT / "check"])
+    run_quietly([OUT / "check"])
+
+
+def build_dashmap():
+    target = OUT / "dashmap_library"
+    run_quietly(["cargo", "build", "--release", "--offline", "--jobs", "2", "--target-dir", target],
+                folder=BENCH / "peers/dashmap")
+
+
+PROGRAMS = [
+    Program("reference", "reference/reference.cpp"),
+    Program("absl_spin", "peers/absl_spin.cpp", "libabsl-dev", pkg_config="absl_flat_hash_map"),
+    Program("absl_mutex", "peers/absl_mutex.cpp", "libabsl-dev", pkg_config="absl_flat_hash_map"),
+    Program("std_mutexes", "peers/std_mutexes.cpp"),
+    Program("tbb", "peers/tbb.cpp", "libtbb-dev", ("-ltbb",)),
+    Program("libcuckoo", "peers/libcuckoo.cpp", "libcuckoo-dev"),
+    Program("urcu", "peers/urcu.cpp", "liburcu-dev", ("-lurcu", "-lurcu-cds", "-lurcu-common")),
+    Program("dashmap", "peers/dashmap.cpp", "librust-dashmap-dev",
+            (str(OUT / "dashmap_library/release/libdashmap_peer.a"), "-ldl")),
+]
+
+
+def output(*words):
+    return subprocess.run(words, check=True, capture_output=True, text=True).stdout.strip()
+
+
+def run_quietly(words, folder=None):
+    subprocess.run(words, check=True, capture_output=True, text=True, cwd=folder)
+
+
+def first_line(fault):
+    """What the compiler complained of first."""
+    text = getattr(fault, "stderr", None) or str(fault)
+    faults = [line for line in text.splitlines() if "error" in line]
+    return (faults or text.splitlines() or [""])[0].strip()
+
+
+def median(numbers):
+    numbers = sorted(numbers)
+    return numbers[len(numbers) // 2]
+
+
+def processor_clock(process):
+    """The nanoseconds of processor time that all threads of a process have had."""
+    return time.clock_gettime_ns((~process.pid << 3) | 2)
+
+
+def ask(process):
+    """Gives the program a line of input, and is the line that it answers."""
+    process.stdin.write("\n")
+    process.stdin.flush()
+    line = process.stdout.readline()
+    if not line:
+        raise RuntimeError(f"{shlex.join(process.args)} ended with {process.wait()}")
+    return line
+
+
+def rounds_of(words, rounds):
+    """What a program writes of each round, with the nanoseconds of processor time that the round took."""
+    told = []
+    with subprocess.Popen(words, stdin=subprocess.PIPE, stdout=subprocess.PIPE, text=True) as process:
+        for _ in range(rounds):
+            ask(process)
+            before = processor_clock(process)
+            line = json.loads(ask(process))
+            told.append({**line, "process_ns": (processor_clock(process) - before) / line["commands"]})
+    return told
+
+
+def sample(path, cell, times, rounds):
+    """One run of a program: medians of its rounds, and shares of all their commands."""
+    words = [path, cell.mix, cell.draw, cell.keys, cell.threads, times]
+    lines = rounds_of([str(word) for word in words], rounds)
+    commands = sum(line["commands"] for line in lines)
+
+    def share(name):
+        return sum(line[name] for line in lines) / commands
+
+    return Sample(
+        process_ns=median(line["process_ns"] for line in lines),
+        wall_ns=median(line["wall_ns"] for line in lines),
+        thread_ns=median(line["thread_ns"] for line in lines) if "thread_ns" in lines[0] else None,
+        hits=share("hits"),
+        busy=share("busy"),
+        full=share("full"),
+    )

@@ -1,0 +1,88 @@
+// Measures the reference: the same layout and the same steps as the index, written by hand.
+
+#include "../common/measure.hpp"
+#include "eviction.hpp"
+
+#include <algorithm>
+#include <cstdint>
+#include <memory>
+
+namespace {
+
+using bench::Answer;
+
+// No key of the measure expires.
+constexpr std::uint32_t never = UINT32_MAX;
+constexpr std::uint32_t now = 0;
+
+class Store {
+public:
+    using Membership = bench::NoMembership;
+
+    class Client {
+    public:
+        Client(reference::Table& table, std::uint32_t number) : table_(&table), pass_(table.shape(), number) {}
+
+        Answer get(const bench::Key& key, std::uint32_t draw, bench::Value& value) {
+            return answer_of(reference::Reader(*table_, key, now).get(draw, value));
+        }
+
+        Answer gets(const bench::Key& key, std::uint32_t draw, bench::Value& value, std::uint32_t& version) {
+            return answer_of(reference::Reader(*table_, key, now).gets(draw, value, version));
+        }
+
+        // The write is made once more if the current segment was used up.
+        Answer write(bench::Write write, const bench::Key& key, const bench::Value& value, std::uint32_t expected) {
+            const Answer answer = reference::Writer(*table_, pass_, key, now).write(write, value, expected);
+            if (answer != Answer::NoRoom) {
+                return answer;
+            }
+            refill();
+            return reference::Writer(*table_, pass_, key, now).write(write, value, expected);
+        }
+
+        Answer remove(const bench::Key& key) { return reference::Writer(*table_, pass_, key, now).remove(); }
+
+    private:
+        static Answer answer_of(reference::Read read) {
+            switch (read) {
+                case reference::Read::Found: return Answer::Hit;
+                case reference::Read::Miss: return Answer::Miss;
+                case reference::Read::Busy: break;
+            }
+            return Answer::Busy;
+        }
+
+        void refill() {
+            const std::uint32_t next = pass_.next_segment();
+            reference::Eviction eviction(*table_, pass_);
+            eviction.evict(next);
+            eviction.refill(next, never);
+        }
+
+        reference::Table* table_;
+        reference::Pass pass_;
+    };
+
+    explicit Store(const bench::Plan& plan) : table_(std::make_unique<reference::Table>(shape_of(plan))) {}
+
+    Client client(std::uint32_t number) { return {*table_, number}; }
+
+private:
+    // Up to 65,536 buckets, with two keys for each where there are fewer, and as many overflow buckets;
+    // 1,024 segments of 4,096 rows.
+    static reference::Shape shape_of(const bench::Plan& plan) {
+        std::uint32_t buckets = 1;
+        while (buckets < 65'536 && buckets < plan.keys / 2) {
+            buckets *= 2;
+        }
+        const std::uint32_t passes = std::max(4u, plan.threads);
+        return {buckets, buckets, passes, 1024 / passes, 4096};
+    }
+
+    std::unique_ptr<reference::Table> table_;
+};
+
+}  // namespace
+
+int main(int count, char** words) { return bench::measure<Store>(count, words); }
