@@ -1,5 +1,6 @@
--- A history in which each kind of entry comes, so that the laws are seen to speak of something: one pass, two segments of eight rows, one bucket,
--- so that the keys a and e share it. Each write comes a moment after the one before. An entry is named after what it does.
+-- A history in which each kind of entry comes: it shows that the conditions of the laws can be met.
+-- There are one pass, two segments of eight rows, and one bucket, which the keys a and e share.
+-- Each write comes a moment after the one before. A history is named after its newest entry; `whole` is the last.
 use Rattle.std.specs.Prelude.{ℕ, List, [], ◌∷◌, Some, None}
 use Rattle.segword.specs.Words.{Shape}
 use Rattle.segmodel.specs.declared.request.Request.TheVariants.{Set, Add, Replace, Cas, Delete}

@@ -1,4 +1,4 @@
--- Laws: what the definitions come to. Each is proved as the contract of a function in src/laws.rt.
+-- Laws: what follows from the definitions. Each is proved as the contract of a function in src/laws.rt.
 use Rattle.std.specs.Prelude.{◌≡◌, ◌⊎◌, ℕ, ◌+◌, ◌%◌, ◌^◌, ◌==◌, ◌<◌, ◌≤◌, nat_lt, Bool, true, false, is_some, IsSome, IsSomeAnd, MatchOption, List, [], ◌∷◌, ◌++◌, length, find, Option, Some, None, option_and_then, unwrap_or, if◌then◌else◌}
 use Rattle.std.specs.BTreeMap.{is_at}
 use Rattle.std.specs.List.{AllByRecursion}
@@ -50,23 +50,24 @@ ItemsAreInOrder = (shape : Shape) (history : List Entry) → IsStrictlySortedBy 
 
 -- ---- what a key reads
 
--- whether an entry changes the value that stands under the key: it was stored, deleted or evicted
+-- whether an entry changes the value that stands under the key: the key was stored, deleted or evicted
 abbrev pub is_change_of : List ℕ → Entry → Bool
 is_change_of key (Wrote pass request Stored segment) = is_at (key_cmp key) (key_of request)
 is_change_of key (Wrote pass request Deleted segment) = is_at (key_cmp key) (key_of request)
 is_change_of key (Evicted pass other segment) = is_at (key_cmp key) other
 is_change_of key _ = false
 
--- the value that an entry leaves under the key that it changes, where it was stored
+-- the value that an entry stores, if it stores one
 abbrev pub value_left_by : Entry → Option (List ℕ)
 value_left_by (Wrote pass request Stored segment) = Some (value_of request)
 value_left_by _ = None
 
--- the value that the last change of the key left: the history has its newest entry first, so the last change is the first one found
+-- The value that the last change of the key left, if that stored one.
+-- The history has its newest entry first, so the last change is the first one found.
 abbrev pub last_value : List ℕ → List Entry → Option (List ℕ)
 last_value key history = option_and_then value_left_by (find (is_change_of key) history)
 
--- whether an entry changes the segment in which the key stands: its value changed, or it was moved
+-- whether an entry changes the segment in which the key stands: the key's value changed, or the key was moved
 abbrev pub changes_segment : List ℕ → Entry → Bool
 changes_segment key (Moved pass other from to) = is_at (key_cmp key) other
 changes_segment key entry = is_change_of key entry
@@ -81,17 +82,18 @@ segment_left_by _ = None
 abbrev pub last_segment : List ℕ → List Entry → Option ℕ
 last_segment key history = option_and_then segment_left_by (find (changes_segment key) history)
 
--- under a key stands the value that its last change left, in the segment in which it was stored or to which it was moved last
+-- Under a key stands the value that its last change left.
+-- The key stands in the segment in which it was stored, or to which it was moved last.
 abbrev pub StandsAsLeft : Type 0
 StandsAsLeft = (shape : Shape) (history : List Entry) (key : List ℕ) → IsLegal shape history
     → (value_under (after shape history) key ≡ last_value key history) × (segment_under (after shape history) key ≡ last_segment key history)
 
--- whether the deadline of the segment comes after the moment
+-- whether a segment is named, and its deadline comes after the moment
 abbrev pub is_before : (ℕ → ℕ) → ℕ → Option ℕ → Bool
 is_before deadline now None = false
 is_before deadline now (Some segment) = nat_lt now (deadline segment)
 
--- and a key reads that value at each moment before the deadline of that segment
+-- a key reads the value that its last change left before the deadline of its last segment, and none from then on
 abbrev pub ReadsAsLeft : Type 0
 ReadsAsLeft = (shape : Shape) (history : List Entry) (now : ℕ) (key : List ℕ) → IsLegal shape history
     → reads (after shape history) now key
@@ -138,7 +140,7 @@ GoneIsTakenOut = (shape : Shape) (old new : List Entry) (later : ℕ) (key value
     → value_under (after shape old) key ≡ Some value → reads (after shape new) later key ≡ None
     → CameBetween (TakesKeyOut key) old new ⊎ IsExpired (after shape new) later key
 
--- if it reads another value later, that one was stored under it in between
+-- if a key under which a value stood reads another value later, that one was stored under it in between
 abbrev pub ChangedIsStored : Type 0
 ChangedIsStored = (shape : Shape) (old new : List Entry) (later : ℕ) (key value other : List ℕ) → IsLegal shape new → Begins old new
     → value_under (after shape old) key ≡ Some value → reads (after shape new) later key ≡ Some other
@@ -153,7 +155,8 @@ abbrev pub StoresKey : List ℕ → Entry → Type 0
 StoresKey key (Wrote pass request Stored segment) = key_of request ≡ key
 StoresKey key _ = ⊥
 
--- what reads nothing at a moment reads nothing at it or at a later one until it is stored anew: what expired or was taken out never comes back by itself
+-- A key that reads nothing at a moment reads nothing at that or a later one, until it is stored anew.
+-- What expired or was taken out never comes back by itself.
 abbrev pub NothingUntilStored : Type 0
 NothingUntilStored = (shape : Shape) (old new : List Entry) (now later : ℕ) (key : List ℕ) → IsLegal shape new → Begins old new
     → now ≤ later → reads (after shape old) now key ≡ None
@@ -180,13 +183,14 @@ changes_nothing Stored = false
 changes_nothing Deleted = false
 changes_nothing _ = true
 
--- a request so replied leaves the cache as it is, versions included
+-- a request with such a reply leaves the cache as it is, versions included
 abbrev pub UnwrittenKeepsCache : Type 0
 UnwrittenKeepsCache = (shape : Shape) (cache : Cache) (pass : ℕ) (request : Request) (reply : Reply) (segment : Option ℕ)
     → changes_nothing reply ≡ true → next shape cache (Wrote pass request reply segment) ≡ cache
 
--- The version law. A cas brings the version that a gets gave at an earlier moment of the same history. Where its key is present it fails exactly
--- where its bucket was written in between, counted modulo 2^32.
+-- The version law. A cas brings the version that a gets gave at an earlier moment of the same history.
+-- If its key is absent, the reply is NotFound. Otherwise it is Exists exactly if the numbers of its bucket's writes
+-- at the two moments differ modulo 2^32, else Stored.
 abbrev pub CasFailsWhereWritten : Type 0
 CasFailsWhereWritten = (shape : Shape) (old new : List Entry) (now later : ℕ) (key seen value : List ℕ) (version : ℕ)
     → shape.first_version < 2 ^ 32 → IsLegal shape new → Begins old new
@@ -203,12 +207,12 @@ abbrev pub AddNeedsAbsent : Type 0
 AddNeedsAbsent = (shape : Shape) (cache : Cache) (pass now : ℕ) (key value : List ℕ) (segment : Option ℕ)
     → Follows shape cache (Wrote pass (Add key value now) Stored segment) → reads cache now key ≡ None
 
--- a replace stores only under a present one
+-- a replace stores only under a present key
 abbrev pub ReplaceNeedsPresent : Type 0
 ReplaceNeedsPresent = (shape : Shape) (cache : Cache) (pass now : ℕ) (key value : List ℕ) (segment : Option ℕ)
     → Follows shape cache (Wrote pass (Replace key value now) Stored segment) → IsSome (reads cache now key)
 
--- a cas stores only under a present one, whose bucket has the expected version
+-- a cas stores only under a present key whose bucket has the expected version
 abbrev pub CasNeedsVersion : Type 0
 CasNeedsVersion = (shape : Shape) (cache : Cache) (pass : ℕ) (key value : List ℕ) (expected now : ℕ) (segment : Option ℕ)
     → Follows shape cache (Wrote pass (Cas key value expected now) Stored segment) → IsSomeAnd (reads_version shape cache now key) (λ read. read.1 ≡ expected)
@@ -220,44 +224,44 @@ abbrev pub OtherBucketsAreKept : Type 0
 OtherBucketsAreKept = (shape : Shape) (cache : Cache) (entry : Entry) (key : List ℕ) → Follows shape cache entry
     → is_of shape (bucket_of shape key) entry ≡ false → IsSameAt shape cache (next shape cache entry) key
 
--- stirred counts the entries of the key's bucket that were added
+-- `stirred` counts the entries of the key's bucket that were added
 abbrev pub StirredCountsAdded : Type 0
 StirredCountsAdded = (shape : Shape) (before more : List Entry) (key : List ℕ) → stirred shape key before (more ++ before) ≡ entries_of shape (bucket_of shape key) more
 
--- where nothing was stirred between two moments, a key reads the same at both, and with the same version
+-- if no entry of its bucket came in between two moments, a key reads the same at both, with the same version
 abbrev pub UnstirredReadsTheSame : Type 0
 UnstirredReadsTheSame = (shape : Shape) (old new : List Entry) (now : ℕ) (key : List ℕ) → IsLegal shape new → Begins old new → stirred shape key old new ≡ 0
     → (reads (after shape new) now key ≡ reads (after shape old) now key) × (reads_version shape (after shape new) now key ≡ reads_version shape (after shape old) now key)
 
 -- ---- serving
 
--- at the start it holds what always holds of a state
+-- what always holds of a state holds at the start
 abbrev pub IsKeptAtTheStart : Type 0
 IsKeptAtTheStart = (shape : Shape) → IsSound shape (fresh shape)
 
--- and serving a command keeps it
+-- serving a command keeps what always holds of a state
 abbrev pub ServingKeeps : Type 0
 ServingKeeps = (shape : Shape) (old new : State) (command : Command) (given : Answer) → IsSound shape old → Serves shape old command given new → IsSound shape new
 
--- as does a whole run of commands
+-- a whole run of commands keeps that
 abbrev pub CommandsKeep : Type 0
 CommandsKeep = (shape : Shape) (old new : State) (commands : List Command) (given : List Answer) → IsSound shape old → Runs (Serves shape) old commands given new → IsSound shape new
 
--- and of turns
+-- a whole run of turns keeps that
 abbrev pub TurnsKeep : Type 0
 TurnsKeep = (shape : Shape) (old new : State) (turns : List Turn) (given : List Outcome) → IsSound shape old → Runs (Turns shape) old turns given new → IsSound shape new
 
--- a segment is refilled only where no key stands in it
+-- a segment is refilled only if no key stands in it
 abbrev pub RefilledWhereNoneStands : Type 0
 RefilledWhereNoneStands = (shape : Shape) (old new : State) (segment deadline : ℕ)
     → IsSound shape old → Serves shape old (Refill segment deadline) (answer.Refill refill.Refilled) new → NoneStandsIn old.cache segment
 
--- and not while an item of it is held
+-- a segment is not refilled while an item of it is held
 abbrev pub HeldIsNotRefilled : Type 0
 HeldIsNotRefilled = (shape : Shape) (old new : State) (item : Cached) (deadline : ℕ)
     → IsSound shape old → old.held ≡ Some item → Serves shape old (Refill item.segment deadline) (answer.Refill refill.Refilled) new → ⊥
 
--- the segment that an entry of this reply names: the current one where something was stored
+-- the segment that an entry with this reply names: the current one for Stored, and none for any other reply
 abbrev pub stored_in : Reply → Option ℕ → Option ℕ
 stored_in Stored current = current
 stored_in _ current = None
@@ -269,7 +273,7 @@ StoreIsAnEntry = (shape : Shape) (old new : State) (request : Request) (given : 
     → Follows shape old.cache (Wrote 0 request reply (stored_in reply old.current))
     × (new.cache ≡ next shape old.cache (Wrote 0 request reply (stored_in reply old.current)))
 
--- and so is a delete
+-- a delete that is served with a reply is an entry that follows, and leaves the cache so too
 abbrev pub DeleteIsAnEntry : Type 0
 DeleteIsAnEntry = (shape : Shape) (old new : State) (key : List ℕ) (now : ℕ) (given : DeleteAnswer) (reply : Reply)
     → ServesDelete shape old key now given new → reply_of_delete given ≡ Some reply
@@ -287,14 +291,14 @@ is_evict _ = false
 abbrev pub EveryTurnIsAnswered : Type 0
 EveryTurnIsAnswered = (shape : Shape) (old : State) (turn : Turn) → IsSound shape old → (given : Outcome) × (new : State) × Turns shape old turn given new
 
--- but for an eviction it has only one, with one state after it
+-- every turn but an eviction has only one outcome, with one state after it
 abbrev pub OnlyEvictChooses : Type 0
 OnlyEvictChooses = (shape : Shape) (old new other : State) (turn : Turn) (given told : Outcome) → is_evict turn ≡ false
     → Turns shape old turn given new → Turns shape old turn told other → (told ≡ given) × (other ≡ new)
 
 -- ---- serving is history
 
--- the entry of a request that is replied; a refusal is none
+-- the entry of a request that is replied; a refusal adds none
 abbrev pub entry_of_reply : Option ℕ → Request → Option Reply → List Entry
 entry_of_reply current request None = []
 entry_of_reply current request (Some reply) = Wrote 0 request reply (stored_in reply current) ∷ []
@@ -332,7 +336,9 @@ Adds current (Evict segment) (answer.Evict told) more = AllByRecursion (IsEvicti
 Adds current (Refill segment deadline) (answer.Refill refill.Refilled) more = more ≡ Refilled 0 segment deadline ∷ []
 Adds current _ _ more = more ≡ []
 
--- where the cache is that of a legal history, it is that of a longer one after a command was served
+-- If the cache is that of a legal history, then serving a command adds the entries that its answer tells.
+-- The longer history is legal, and the new cache is the one after it.
+-- The longer history is legal, and the cache is that of it.
 abbrev pub ServingIsHistory : Type 0
 ServingIsHistory = (shape : Shape) (old new : State) (command : Command) (given : Answer) (history : List Entry)
     → IsSound shape old → IsLegal shape history → old.cache ≡ after shape history → Serves shape old command given new

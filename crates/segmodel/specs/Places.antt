@@ -6,7 +6,7 @@ use Rattle.segword.specs.Words.{hash_of, Shape, tag_from_hash}
 abbrev pub bucket_of : Shape → List ℕ → ℕ
 bucket_of shape key = hash_of key % shape.buckets
 
--- the tag of a key: the highest twelve bits of its hash. No tag is 0: where those bits are all 0 the tag is 1.
+-- the tag of a key: the highest twelve bits of its hash. No tag is 0: if those bits are all 0, the tag is 1.
 abbrev pub tag_of : List ℕ → ℕ
 tag_of key = tag_from_hash (hash_of key)
 

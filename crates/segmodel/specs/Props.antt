@@ -23,7 +23,7 @@ Reply-set = hlevel props
 pub Cached-set : IsSet Cached
 Cached-set = hlevel props
 
--- what a list has before another one is told by both
+-- the two lists determine what the newer one has before the older one
 pub Begins-prop : {A : Type 0} → IsSet (List A) → (old new : List A) → IsProp (Begins old new)
 Begins-prop set old new = pair-prop (λ more. set new _) (λ more other at on. append_cancel_right more other old (sym at ∙ on))
 

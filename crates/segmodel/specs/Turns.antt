@@ -1,4 +1,4 @@
--- The turns of a pass: commands, and what it does with its one hold and its one lock. Whole runs of turns or commands.
+-- The turns of a pass: commands, and what the pass does with its one hold and its one lock. Runs of turns or commands.
 use Rattle.std.specs.Prelude.{◌≡◌, List, [], ◌∷◌, ℕ, Option, Some, None}
 use Rattle.segword.specs.Words.{Shape}
 use Rattle.segmodel.specs.declared.entry.Cached.{Cached}
@@ -12,18 +12,18 @@ use Rattle.segmodel.specs.Cache.{present}
 use Rattle.segmodel.specs.State.{State}
 use Rattle.segmodel.specs.Serving.{IsGiven, Serves}
 
--- hold, by the item that is held already and by what is found under the key; it never meets a lock
+-- hold, by the item that is held already and by what is found under the key; a hold never meets a lock
 abbrev pub hold_outcome : Option Cached → Option Cached → Outcome
 hold_outcome (Some item) found = outcome.AlreadyHolding
 hold_outcome None None = outcome.Miss
 hold_outcome None (Some item) = outcome.Holding
 
--- what is held then
+-- what is held after a hold
 abbrev pub held_after : Option Cached → Option Cached → Option Cached
 held_after (Some item) found = Some item
 held_after None found = found
 
--- held: the value of the item that is held, whatever became of its key
+-- held: the value of the item that is held, whatever became of the item's key
 abbrev pub held_outcome : Option Cached → Outcome
 held_outcome None = outcome.NotHolding
 held_outcome (Some item) = outcome.Value item.value
@@ -38,7 +38,7 @@ abbrev pub lock_outcome : Option ℕ → Outcome
 lock_outcome None = outcome.Locked
 lock_outcome (Some bucket) = outcome.AlreadyLocked
 
--- which bucket is locked then
+-- which bucket is locked after a lock
 abbrev pub locked_after : ℕ → Option ℕ → Option ℕ
 locked_after bucket None = Some bucket
 locked_after bucket (Some other) = Some other

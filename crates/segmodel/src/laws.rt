@@ -21,17 +21,18 @@ ghost use Rattle.segmodel.specs.Laws.{CommandsKeep, TurnsKeep, RefilledWhereNone
 ghost use Rattle.segmodel.specs.Laws.{HeldIsNotRefilled, StoreIsAnEntry, DeleteIsAnEntry};
 ghost use Rattle.segmodel.specs.Laws.{EveryTurnIsAnswered, OnlyEvictChooses, ServingIsHistory};
 
-/// Legal histories grow by entries that follow, and were legal at each earlier moment;
-/// what stands after them is a map.
+/// A legal history is legal with one more entry that follows, and was legal at each earlier moment.
+/// After any history the items are in the order of their keys, each key once.
 pub fn legal_histories()
     ensures longer { LongerIsLegal }
     ensures earlier { EarlierIsLegal }
     ensures ordered { ItemsAreInOrder }
 {}
 
-/// Before its deadline a key reads what its last write, deletion or eviction left,
-/// in the segment in which it was stored or to which it was moved last;
-/// and a segment's deadline is the one that its last refilling set.
+/// Under a key stands the value that its last store, deletion or eviction left.
+/// The key stands in the segment in which it was stored, or to which it was moved last.
+/// It reads that value before the deadline of this segment, and none from then on.
+/// A segment has the deadline that its last refilling set, and 0 before the first.
 pub fn last_change_decides()
     ensures stands { StandsAsLeft }
     ensures reads { ReadsAsLeft }
@@ -43,8 +44,8 @@ pub fn moves_are_unread()
     ensures { MovesAreUnread }
 {}
 
-/// A key under which a value stood reads none later only if it was deleted or evicted in between,
-/// or its deadline has come; and another value only if that one was stored under it.
+/// If a key under which a value stood reads none later, it was deleted or evicted in between,
+/// or its deadline has come. If it reads another value later, that one was stored in between.
 pub fn reads_change_by_entries()
     ensures gone { GoneIsTakenOut }
     ensures changed { ChangedIsStored }
@@ -66,13 +67,14 @@ pub fn versions_count_writes()
 
 /// A cas with the version that a gets of its key gave at an earlier moment
 /// is NotFound if the key is absent.
-/// Otherwise it is Exists exactly if the writes of its bucket differ, modulo 2^32,
+/// Otherwise the cas is Exists exactly if the numbers of its bucket's writes differ, modulo 2^32,
 /// at the two moments, else Stored.
 pub fn cas_fails_where_written()
     ensures { CasFailsWhereWritten }
 {}
 
-/// An add stores under an absent key alone; a replace and a cas under a present one.
+/// An add stores only under an absent key, and a replace only under a present one.
+/// A cas stores only under a present key whose bucket has the expected version.
 pub fn stores_need()
     ensures add { AddNeedsAbsent }
     ensures replace { ReplaceNeedsPresent }
@@ -86,8 +88,8 @@ pub fn buckets_are_apart()
     ensures still { UnstirredReadsTheSame }
 {}
 
-/// What always holds of a state holds at the start, and turns keep it;
-/// so a segment is refilled only where nothing stands in it and nothing of it is held.
+/// What always holds of a state (`IsSound`) holds at the start, and commands and turns keep it.
+/// So a segment is refilled only if no key stands in it, and not while an item of it is held.
 pub fn serving_keeps()
     ensures start { IsKeptAtTheStart }
     ensures command { ServingKeeps }

@@ -59,7 +59,7 @@ pub fn raise(keys: &[Key], frequencies: &mut [u8], key: &Key)
     }
 }
 
-// Raises the frequency of a key's item in a segment.
+// Raises the frequency of the last row of a segment that has the key, if one has it.
 pub fn raise_in(segments: &mut Vec<Segment>, segment: usize, key: &Key)
     requires in_range { segment < vec_len segments.old }
     requires each { length (fillings segments.old.items segment).frequencies
@@ -99,7 +99,7 @@ pub fn count_write(versions: &mut Vec<u32>, bucket: usize)
     versions[bucket] = versions[bucket].wrapping_add(1);
 }
 
-// Adds an overflow bucket to a chain, if it is to be longer.
+// Adds an overflow bucket to a bucket's chain, if the chain is to be longer.
 pub fn chain(widths: &mut Vec<u8>, drawn: &mut u32, bucket: usize, longer: bool)
     requires bucket { bucket < vec_len widths.old }
     requires short { longer ≡ true → by_bucket widths.old.items 1 bucket < 4 }
@@ -166,7 +166,7 @@ pub fn but_for(segment: u32, current: Option<u32>) -> Option<u32>
     }
 }
 
-// So many segments that were never filled, with memory for so many rows each.
+// This number of segments that were never filled, each with memory for this number of rows.
 pub fn empty_segments(alloc: Global, count: u32, rows: u32) -> Result<Vec<Segment>, PlainFault>
     ensures len { IfOk result (λ segments. vec_len segments ≡ count) }
     ensures empty { IfOk result (λ segments. AllEmpty segments.items) }
