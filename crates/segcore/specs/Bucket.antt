@@ -7,7 +7,7 @@ use Rattle.segcore.specs.declared.event.Event.TheVariants.{Took, Freed, Replied,
 use Rattle.segcore.specs.declared.event.Leaving.TheVariants.{Deletes, Evicts}
 use Rattle.segcore.specs.declared.event.Leaving.{Leaving}
 
--- what an item word names: the row that its link named, and the key that stands there
+-- what an item word names: the key that stands there, and the segment and row that its link or its last move named
 pub record Slot : Type 0 where
   pub key : List ℕ
   pub segment : ℕ
@@ -16,7 +16,8 @@ pub record Slot : Type 0 where
 abbrev pub slot : List ℕ → ℕ → ℕ → Slot
 slot key segment row = record { key = key; segment = segment; row = row }
 
--- what a word of a chain holds: nothing, an item, or the number of the next bucket; and a drawn bucket's first word a copy of the word that will move there
+-- What a word of a chain holds: nothing, an item, or the number of the next bucket.
+-- Word 1 of a bucket that waits to join the chain holds a copy of the word that will move there.
 pub data Content : Type 0 where
   nothing : Content
   item : Slot → Content
@@ -28,11 +29,11 @@ pub record Bucket : Type 0 where
   pub holder : Option ℕ
   -- whether something was stored or deleted under the bit
   pub written : Bool
-  -- how often the bit was given back counted
+  -- how often the bit was given back with the version raised
   pub version : ℕ
   -- how many overflow buckets are in the chain
   pub chained : ℕ
-  -- the number of the one that is drawn and not in the chain
+  -- the number of the overflow bucket that is drawn for the bucket and not yet in the chain
   pub spare : Option ℕ
   -- by position: word w of the bucket at depth d of the chain is at 8 * d + w
   pub items : ℕ → Content
@@ -41,7 +42,7 @@ pub record Bucket : Type 0 where
 abbrev pub last : Bucket → ℕ
 last bucket = 8 * bucket.chained + 7
 
--- the position of word 1 of the bucket that may come after it
+-- the position of word 1 of the overflow bucket that may join the chain next
 abbrev pub fresh_position : Bucket → ℕ
 fresh_position bucket = 8 * bucket.chained + 9
 
@@ -62,22 +63,22 @@ bucket_at shape (Put pass bucket word) = Some bucket
 bucket_at shape (Chained pass bucket number) = Some bucket
 bucket_at shape _ = None
 
--- whether this is the one
+-- whether the option has this number
 abbrev pub is : Option ℕ → ℕ → Bool
 is None number = false
 is (Some other) number = other == number
 
--- an item that leaves its word was written to by a delete, and not by an eviction
+-- whether something is written under the bit once an item has left its word: a delete writes, an eviction doesn't
 abbrev pub written_by : Leaving → Bool → Bool
 written_by (Deletes now) written = true
 written_by (Evicts segment) written = written
 
--- what an event of the bucket leaves
+-- the bucket after an event of it
 abbrev pub acts : Event → Bucket → Bucket
 acts (Took pass b) bucket = record bucket { holder = Some pass }
 acts (Freed pass b counted) bucket = record bucket { holder = None; written = false; version = if counted then bucket.version + 1 else bucket.version }
 acts (Linked pass request segment row position) bucket = record bucket { written = true; items = with_at bucket.items position (item (slot (key_of request) segment row)) }
--- an item that is moved keeps its word, and is no write to the bucket
+-- an item that is moved keeps its position, and a move is no write to the bucket
 acts (Relinked pass key from from_row segment row position) bucket = record bucket { items = with_at bucket.items position (item (slot key segment row)) }
 acts (Unlinked pass key position why) bucket = record bucket { written = written_by why bucket.written; items = with_at bucket.items position nothing }
 acts (Drew pass b depth number) bucket = record bucket { spare = Some number }

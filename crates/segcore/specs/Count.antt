@@ -13,31 +13,31 @@ taken pass [] = 0
 taken pass (Took q bucket ∷ trace) = if q == pass then taken pass trace + 1 else taken pass trace
 taken pass (_ ∷ trace) = taken pass trace
 
--- how often a take of it found another's bit set in the bucket
+-- how often a take of the pass found another pass's bit set in the bucket
 abbrev pub bounced : ℕ → ℕ → List Event → ℕ
 bounced pass bucket [] = 0
 bounced pass bucket (Bounced q b ∷ trace) = if (q == pass) && (b == bucket) then bounced pass bucket trace + 1 else bounced pass bucket trace
 bounced pass bucket (_ ∷ trace) = bounced pass bucket trace
 
--- how often a look of `gets` did
+-- how often a look of a `gets` of the pass found that
 abbrev pub glanced : ℕ → ℕ → List Event → ℕ
 glanced pass bucket [] = 0
 glanced pass bucket (Glanced q b ∷ trace) = if (q == pass) && (b == bucket) then glanced pass bucket trace + 1 else glanced pass bucket trace
 glanced pass bucket (_ ∷ trace) = glanced pass bucket trace
 
--- how many overflow buckets it drew for the bucket
+-- how many overflow buckets the pass drew for the bucket
 abbrev pub drew : ℕ → ℕ → List Event → ℕ
 drew pass bucket [] = 0
 drew pass bucket (Drew q b depth number ∷ trace) = if (q == pass) && (b == bucket) then drew pass bucket trace + 1 else drew pass bucket trace
 drew pass bucket (_ ∷ trace) = drew pass bucket trace
 
--- how often it raised the frequency of an item
+-- how often the pass raised the frequency of an item
 abbrev pub raised : ℕ → List Event → ℕ
 raised pass [] = 0
 raised pass (Bumped q segment row frequency ∷ trace) = if q == pass then raised pass trace + 1 else raised pass trace
 raised pass (_ ∷ trace) = raised pass trace
 
--- how often it came into a segment
+-- how often the pass came into a segment
 abbrev pub entered : ℕ → List Event → ℕ
 entered pass [] = 0
 entered pass (Entered q segment ∷ trace) = if q == pass then entered pass trace + 1 else entered pass trace

@@ -56,7 +56,7 @@ abbrev pub with_entry : Option Entry → List Entry → List Entry
 with_entry None history = history
 with_entry (Some added) history = added ∷ history
 
--- the history of entries that a trace comes to
+-- the history of the entries that the events of a trace add
 abbrev pub seen : List Event → List Entry
 seen [] = []
 seen (event ∷ trace) = with_entry (entry_of event) (seen trace)

@@ -1,5 +1,7 @@
--- A trace in which each kind of event comes, and a schedule with each kind of step by which two passes reach it, so that the theorems are seen to speak of something.
--- One bucket, so that the keys a and b share it, one overflow bucket, and two passes of two segments each, of two rows. A trace is named after what was done last.
+-- A trace in which each kind of event comes, and a schedule with each kind of step by which two passes reach it.
+-- They show that the conditions of the theorems can be met.
+-- There are one bucket, which the keys a and b share, one overflow bucket, and two passes of two segments of two rows.
+-- A trace is named after what was done last.
 use Rattle.std.specs.Prelude.{ℕ, true, false, List, [], ◌∷◌, ◌++◌, Some, None, replicate, slice_index_or}
 use Rattle.segword.specs.Words.{Shape}
 use Rattle.segmodel.specs.declared.request.Request.TheVariants.{Set, Add, Replace}
@@ -39,7 +41,7 @@ opened = Refilled 0 1 9 ∷ Refilled 1 2 9 ∷ Refilled 0 0 9 ∷ []
 abbrev pub stored : List Event
 stored = Freed 0 0 true ∷ Linked 0 (Set a one 0) 0 0 7 ∷ Filled 0 0 0 4 49 ∷ Filled 0 0 0 1 97 ∷ Filled 0 0 0 0 257 ∷ Took 0 0 ∷ opened
 
--- pass 1 reads it, and raises its frequency
+-- pass 1 reads a, and raises the frequency of its item
 abbrev pub bumped : List Event
 bumped = Left 1 0 ∷ Bumped 1 0 0 2 ∷ Entered 1 0 ∷ stored
 
@@ -47,19 +49,19 @@ bumped = Left 1 0 ∷ Bumped 1 0 0 2 ∷ Entered 1 0 ∷ stored
 abbrev pub moved : List Event
 moved = Freed 0 0 false ∷ Chained 0 0 0 ∷ Put 0 0 0xaf60_2000_0000_0000 ∷ Drew 0 0 1 0 ∷ Took 0 0 ∷ bumped
 
--- pass 1 adds b in word 1, while pass 0 finds its bit twice
+-- pass 1 adds b in word 1, while pass 0 finds the bit of pass 1 twice
 abbrev pub added : List Event
 added = Freed 1 0 true ∷ Linked 1 (Add b two 2) 2 0 1 ∷ Filled 1 2 0 4 50 ∷ Filled 1 2 0 1 98 ∷ Filled 1 2 0 0 257 ∷ Glanced 0 0 ∷ Bounced 0 0 ∷ Took 1 0 ∷ moved
 
--- and its add of a is refused
+-- an add of a by pass 1 is refused
 abbrev pub refused : List Event
 refused = Freed 1 0 false ∷ Replied 1 (Add a two 3) NotStored ∷ Took 1 0 ∷ added
 
--- pass 0 replaces a by its next row, where it has moved to
+-- pass 0 replaces a, at the position to which its item has moved, by an item in the pass's next row
 abbrev pub replaced : List Event
 replaced = Freed 0 0 true ∷ Linked 0 (Replace a two 4) 0 1 9 ∷ Filled 0 0 1 4 50 ∷ Filled 0 0 1 1 97 ∷ Filled 0 0 1 0 257 ∷ Took 0 0 ∷ refused
 
--- pass 1 reads it, and raises its frequency; and pass 0 moves it to its other segment
+-- pass 1 reads a and raises the frequency of its item, and pass 0 moves the item to its other segment
 abbrev pub relinked : List Event
 relinked = Freed 0 0 false ∷ Relinked 0 a 0 1 1 0 9 ∷ Left 1 0 ∷ Bumped 1 0 1 2 ∷ Entered 1 0
     ∷ Filled 0 1 0 4 50 ∷ Filled 0 1 0 1 97 ∷ Filled 0 1 0 0 257 ∷ Took 0 0 ∷ replaced
@@ -68,21 +70,22 @@ relinked = Freed 0 0 false ∷ Relinked 0 a 0 1 1 0 9 ∷ Left 1 0 ∷ Bumped 1 
 abbrev pub evicted : List Event
 evicted = Freed 0 0 false ∷ Unlinked 0 a 9 (Evicts 1) ∷ Took 0 0 ∷ Freed 0 0 true ∷ Unlinked 0 b 1 (Deletes 5) ∷ Took 0 0 ∷ relinked
 
--- pass 1 comes into the segment that it left, and pass 0 finds it read
+-- pass 1 comes into segment 0, so that pass 0 can't refill it
 abbrev pub read : List Event
 read = Entered 1 0 ∷ evicted
 
--- pass 1 leaves it, and comes to read elsewhere
+-- pass 1 leaves segment 0, and comes into segment 2
 abbrev pub elsewhere : List Event
 elsewhere = Entered 1 2 ∷ Left 1 0 ∷ read
 
--- and pass 0's segment is refilled, up to moment 20
+-- pass 0 refills segment 0, up to moment 20
 abbrev pub refilled : List Event
 refilled = Refilled 0 0 20 ∷ elsewhere
 
 -- ---- a scan
 
--- the looks of a scan for a but the first: up to word 6 a is in word 7 still, it has moved on when that is looked at, and is gone when the overflow bucket is
+-- The looks of a scan for a, but for the first. Up to word 6, a is still in word 7.
+-- When word 7 is looked at, a has moved on. When the overflow bucket is looked at, a is gone.
 abbrev pub looks : List (List Mark)
 looks = replicate 5 (marked stored) ++ marked moved ∷ replicate 7 (marked evicted)
 
@@ -108,7 +111,7 @@ abbrev pub after_steps : List (ℕ × Step) → World
 after_steps [] = opening
 after_steps (taken ∷ steps) = stepped taken (after_steps steps)
 
--- the steps that come to each trace; an item word has the tag 0xaf6, for a and for b
+-- the steps that lead to each trace; an item word has the tag 0xaf6, for a and for b
 abbrev pub to_opened : List (ℕ × Step)
 to_opened = (0, none_reading 1 0 9) ∷ (1, none_reading 2 0 9) ∷ (0, none_reading 0 0 9) ∷ []
 
@@ -116,7 +119,7 @@ abbrev pub to_stored : List (ℕ × Step)
 to_stored = (0, release 0 true None) ∷ (0, link (Set a one 0) 0 0 7 (OfBucket 0 7) 0)
     ∷ (0, row_store 0 0 4 49) ∷ (0, row_store 0 0 1 97) ∷ (0, row_store 0 0 0 257) ∷ (0, take 0 false) ∷ to_opened
 
--- a reader looks again once it is in the segment; its second bump expects a word that is gone
+-- a reader looks again once it is in the segment; the second bump expects a word that is gone
 abbrev pub to_bumped : List (ℕ × Step)
 to_bumped = (1, leave 0) ∷ (1, bump 0 7 (OfBucket 0 7) 0xaf6 0 0 1 2) ∷ (1, bump 0 7 (OfBucket 0 7) 0xaf6 0 0 1 2)
     ∷ (1, row_load 0 0 0) ∷ (1, look (OfBucket 0 7)) ∷ (1, enter 0) ∷ (1, look (OfBucket 0 7)) ∷ to_stored

@@ -30,20 +30,21 @@ NoneLinks segment row (event ∷ trace) =
     × ((pass from from_row position : ℕ) (key : List ℕ) → event ≢ Relinked pass key from from_row segment row position)
     × NoneLinks segment row trace
 
--- a row whose link, or the move to it, is past the last refilling of its segment: no other is, and it holds the pair that the key stood with right after it
+-- A row that was linked, or moved to, since the last refilling of its segment. No later event links it or moves to it.
+-- The row holds the pair with which the key stood right after that event.
 pub record IsKeptRow (shape : Shape) (trace more since : List Event) (key value : List ℕ) (segment row : ℕ) : Type 0 where
   pub once : NoneLinks segment row more
   pub holds : Holds (row_after trace segment row) key value
   pub stood : standing (after shape (seen since)) key ≡ Some (cached value segment)
 
 pub record SegmentFacts (shape : Shape) (trace : List Event) : Type 0 where
-  -- the segment word's upper half is the segment's deadline
+  -- the upper half of a segment's word is the segment's deadline
   pub deadlines : (segment : ℕ) → word shape trace (OfSegment segment) / 2 ^ 32 ≡ (after shape (seen trace)).deadline segment
-  -- its lower half counts who came and hasn't left
+  -- the lower half is how often passes came into the segment, less how often they left it
   pub readers : (segment : ℕ) → word shape trace (OfSegment segment) % 2 ^ 32 + all_left (marked trace) segment ≡ all_entered (marked trace) segment
   -- a pass is in a segment as often as its marks say that it came and hasn't left
   pub marks : (pass segment : ℕ) → inside trace pass segment + times_left pass (marked trace) segment ≡ times_entered pass (marked trace) segment
-  -- at most twice, so that few readers are counted; and where one is counted a pass is there
+  -- a pass is in a segment at most twice, so few readers are counted; if one is counted, a pass is there
   pub few : (pass segment : ℕ) → inside trace pass segment ≤ 2
   pub low : (segment : ℕ) → word shape trace (OfSegment segment) % 2 ^ 32 ≤ 2 * shape.passes
   pub reader : (segment : ℕ) → 0 < word shape trace (OfSegment segment) % 2 ^ 32 → (pass : ℕ) × (0 < inside trace pass segment)
@@ -58,7 +59,8 @@ pub record SegmentFacts (shape : Shape) (trace : List Event) : Type 0 where
 
 -- ---- passes
 
--- what a pass has seen: others alone went on from there, and did nothing in the buckets that it has the bits of; and what it knows of its own rows, and of the overflow bucket that it drew, is so
+-- What a pass has seen. Only others went on from there, and they did nothing in the buckets whose bits the pass has.
+-- What the pass knows of these buckets, of its own rows and of the overflow bucket that it drew is still so.
 pub record PassFacts (shape : Shape) (trace : List Event) (pass : ℕ) (view : View) : Type 0 where
   pub number : view.number ≡ pass
   pub more : List Event

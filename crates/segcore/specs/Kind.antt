@@ -1,4 +1,5 @@
--- The kinds of step: the one word that each touches, what that word becomes, the events that it adds, and where a pass may take it.
+-- The kinds of step: the one word that each touches, what that word becomes, the events that the step adds,
+-- and when a pass may take it.
 use Rattle.std.specs.Prelude.{◌≡◌, ℕ, ◌+◌, ◌%◌, ◌^◌, ◌<◌, ◌≤◌, ◌==◌, ◌⊎◌, Bool, true, false, List, [], ◌∷◌, ◌++◌, Option, Some, None, bit_or, if◌then◌else◌, ◌*◌}
 use prog.Atomic.{either}
 use Rattle.segword.specs.Words.{chain_word, Shape}
@@ -18,15 +19,15 @@ use Rattle.segcore.specs.Lawful.{IsSegment, Fits, IsLawful}
 use Rattle.segcore.specs.Word.{IsCell, same_cell, word, IsAt, IsItemAt}
 use Rattle.segcore.specs.declared.event.Leaving.{Leaving}
 
--- what a pass can do to one word of the table, with what it takes for it
+-- what a pass can do to one word of the table, and what it needs for that
 pub data Step : Type 0 where
   -- of a bucket; whether the pass has its bit
   take : ℕ → Bool → Step
-  -- of a bucket: whether the version goes up, and the refused write that is told
+  -- of a bucket: whether the version goes up, and the refused write that enters the history with it
   release : ℕ → Bool → Option (Request × Reply) → Step
   -- at the information word of a bucket, under its bit
   info_look : ℕ → Step
-  -- the same without the bit, for `gets`; whether the pass has it
+  -- the same without the bit, for `gets`; whether the pass has the bit
   glance : ℕ → Bool → Step
   -- at an item word, under the bit or without it
   look : Cell → Step
@@ -34,9 +35,9 @@ pub data Step : Type 0 where
   link : Request → ℕ → ℕ → ℕ → Cell → ℕ → Step
   -- a key, the segment and the row that its item names, its frequency, the segment and the row that it comes to name, its position and cell
   relink : List ℕ → ℕ → ℕ → ℕ → ℕ → ℕ → ℕ → Cell → Step
-  -- a key, its position and cell, the word that is to be there, and why it leaves
+  -- a key, its position and cell, the word that is to be there, and why the key's item leaves
   clear : List ℕ → ℕ → Cell → ℕ → Leaving → Step
-  -- for a bucket, at a depth of its chain: from this number of drawn ones
+  -- for a bucket, at a depth of its chain: the number of drawn buckets that is expected
   draw : ℕ → ℕ → ℕ → Step
   -- for a bucket: word 1 of the overflow bucket of this number takes this word
   fill : ℕ → ℕ → ℕ → Step
@@ -47,12 +48,12 @@ pub data Step : Type 0 where
   -- segment, row, place in the row, word
   row_store : ℕ → ℕ → ℕ → ℕ → Step
   row_load : ℕ → ℕ → ℕ → Step
-  -- of a segment: one reader more, one fewer; and none where it has this deadline, and then another one
+  -- of a segment: one reader more; one fewer; and, if it has this deadline and no reader, another deadline
   enter : ℕ → Step
   leave : ℕ → Step
   none_reading : ℕ → ℕ → ℕ → Step
 
--- the one word that it touches
+-- the one word that the step touches
 abbrev pub cell : Step → Cell
 cell (take bucket own) = OfBucket bucket 0
 cell (release bucket counted said) = OfBucket bucket 0
@@ -91,17 +92,17 @@ becomes (leave segment) = λ found. (found + 18446744073709551615) % 2 ^ 64
 becomes (none_reading segment old deadline) = λ found. either (found == old * 2 ^ 32) (deadline * 2 ^ 32) found
 becomes _ = λ found. found
 
--- a refused write is told with the release
+-- the event of the refused write that enters the history with a release, if there is one
 abbrev pub told : ℕ → Option (Request × Reply) → List Event
 told pass None = []
 told pass (Some said) = Replied pass said.0 said.1 ∷ []
 
--- a bit of the pass's own isn't counted where it is found set
+-- the event for a bit that was found set; none, if the bit is the pass's own
 abbrev pub unless_own : Bool → Event → List Event
 unless_own true event = []
 unless_own false event = event ∷ []
 
--- what a pass adds to the trace by it, having found this word, the newest event first; an exchange that fails adds nothing
+-- the events that a pass adds by a step that found this word, the newest first; an exchange that fails adds none
 abbrev pub adds : Step → ℕ → ℕ → List Event
 adds (take bucket own) pass found = if found % 2 == 0 then Took pass bucket ∷ [] else unless_own own (Bounced pass bucket)
 adds (release bucket counted said) pass found = Freed pass bucket counted ∷ told pass said
@@ -121,13 +122,13 @@ adds (leave segment) pass found = Left pass segment ∷ []
 adds (none_reading segment old deadline) pass found = if found == old * 2 ^ 32 then Refilled pass segment deadline ∷ [] else []
 adds _ pass found = []
 
--- ---- where it may be taken
+-- ---- when a step may be taken
 
 -- the pass has the bit of the bucket
 abbrev pub HasBit : Shape → List Event → ℕ → ℕ → Type 0
 HasBit shape trace pass bucket = (bucket < shape.buckets) × ((bucket_after shape trace bucket).holder ≡ Some pass)
 
--- own tells whether the pass has the bit
+-- `own` tells whether the pass has the bit
 abbrev pub KnowsBit : Shape → List Event → ℕ → ℕ → Bool → Type 0
 KnowsBit shape trace pass bucket own = (bucket < shape.buckets) × (is (bucket_after shape trace bucket).holder pass ≡ own)
 
@@ -136,7 +137,8 @@ IsItemCell (OfBucket bucket w) = 0 < w
 IsItemCell (OfOverflow number w) = 0 < w
 IsItemCell _ = ⊥
 
--- the row is the pass's own; or the pass is in its segment, and it was linked in this filling; or a word of a bucket whose bit it has names it
+-- The row is the pass's own. Or the pass is in the row's segment, and the row was linked in this filling.
+-- Or a word of a bucket whose bit the pass has names the row.
 abbrev pub MayRead : Shape → List Event → ℕ → ℕ → ℕ → Type 0
 MayRead shape trace pass segment row =
     (owner shape segment ≡ pass)
@@ -149,7 +151,7 @@ abbrev pub MayRefuse : Shape → List Event → ℕ → ℕ → Option (Request 
 MayRefuse shape trace pass bucket None = Unit {0}
 MayRefuse shape trace pass bucket (Some said) = (bucket_of shape (key_of said.0) ≡ bucket) × Fits shape trace (Replied pass said.0 said.1)
 
--- where a pass may take a step, having seen this trace
+-- a pass that has seen this trace may take the step
 abbrev pub May : Shape → List Event → ℕ → Step → Type 0
 May shape trace pass (take bucket own) = KnowsBit shape trace pass bucket own
 May shape trace pass (release bucket counted said) =
@@ -182,7 +184,8 @@ May shape trace pass (leave segment) = Fits shape trace (Left pass segment)
 May shape trace pass (none_reading segment old deadline) =
     IsSegment shape segment × Follows shape (after shape (seen trace)) (entry.Refilled pass segment deadline) × (deadline < 2 ^ 32)
 
--- what a step leaves of the trace at which the word changed: it is one of the table's words, the longer trace is lawful, and each word is what that makes it
+-- What a step leaves if it is taken after this trace. It touches a word of the table, and its events are of its pass.
+-- The longer trace is lawful. The touched word becomes what the step makes it, and every other word stays.
 pub record KeepsLaw (shape : Shape) (step : Step) (pass : ℕ) (trace : List Event) : Type 0 where
   pub inside : IsCell shape (cell step)
   pub own : AllBy pass (adds step pass (word shape trace (cell step)))

@@ -24,7 +24,7 @@ abbrev pub IsGuarded : Shape → List Event → Event → Type 0
 IsGuarded shape trace event =
     MatchOption (bucket_at shape event) (Unit {0}) (λ bucket. (bucket < shape.buckets) × ((bucket_after shape trace bucket).holder ≡ needs event))
 
--- a cache of one thread allows the entry that it adds
+-- a cache of one thread allows the entry that the event adds, if it adds one
 abbrev pub FollowsOn : Shape → List Event → Event → Type 0
 FollowsOn shape trace event = MatchOption (entry_of event) (Unit {0}) (Follows shape (after shape (seen trace)))
 
@@ -48,7 +48,7 @@ abbrev pub HasItemOf : Shape → List Event → List ℕ → ℕ → Type 0
 HasItemOf shape trace key position =
     (named : Slot) × ((bucket_after shape trace (bucket_of shape key)).items position ≡ item named) × (named.key ≡ key)
 
--- a link puts its item where the word is empty and the key stands nowhere, or in the place of an item of the key
+-- a link puts its item into an empty word if the key stands nowhere, or in the place of an item of the key
 abbrev pub HasRoomFor : Shape → List Event → List ℕ → ℕ → Type 0
 HasRoomFor shape trace key position =
     (((bucket_after shape trace (bucket_of shape key)).items position ≡ nothing) × (standing (after shape (seen trace)) key ≡ None))

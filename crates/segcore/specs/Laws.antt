@@ -1,4 +1,4 @@
--- Laws: what every schedule, every lawful trace and every step come to. Each is proved as the
+-- Laws: what is so of every schedule, every lawful trace and every step. Each is proved as the
 -- contract of a function in src/laws.rt.
 use Rattle.std.specs.Prelude.{◌≡◌, ◌≢◌, ℕ, ◌+◌, ◌*◌, ◌/◌, ◌%◌, ◌^◌, ◌<◌, ◌≤◌, ◌⊎◌, false, List, ◌∷◌, ◌++◌, Option, Some, None}
 use Rattle.segword.specs.Words.{chain_word, IsValid, Shape}
@@ -55,17 +55,17 @@ ScanPassesAMiss = (shape : Shape) (key : List ℕ) (row : Option (ℕ × ℕ))
 
 -- ---- lawful traces
 
--- The history that a lawful trace comes to is legal.
+-- The history of a lawful trace is legal.
 abbrev pub SeenHistoryIsLegal : Type 0
 SeenHistoryIsLegal = (shape : Shape) (trace : List Event) → IsLawful shape trace
     → IsLegal shape (seen trace)
 
--- Its marks hold together along the words of chains.
+-- The marks of a lawful trace hold together along the words of chains.
 abbrev pub MarksArePlaced : Type 0
 MarksArePlaced = (shape : Shape) (trace : List Event) → IsLawful shape trace
     → IsWellMarked shape (marked trace)
 
--- They hold together along segments and rows too.
+-- The marks hold together along segments and rows too.
 abbrev pub MarksAreOrderly : Type 0
 MarksAreOrderly = (shape : Shape) (trace : List Event) → IsLawful shape trace
     → IsOrderly (marked trace)
@@ -84,12 +84,12 @@ abbrev pub LawfulKeyFacts : Type 0
 LawfulKeyFacts = (shape : Shape) (trace : List Event)
     → IsValid shape → IsLawful shape trace → KeyFacts shape trace
 
--- It says what the words of buckets and of their chains are.
+-- A lawful trace says what the words of buckets and of their chains are.
 abbrev pub LawfulBucketFacts : Type 0
 LawfulBucketFacts = (shape : Shape) (trace : List Event) → IsLawful shape trace
     → BucketFacts shape trace
 
--- It says who is in a segment, and what its rows hold.
+-- A lawful trace says who is in a segment, and what its rows hold.
 abbrev pub LawfulSegmentFacts : Type 0
 LawfulSegmentFacts = (shape : Shape) (trace : List Event) → IsValid shape → IsLawful shape trace
     → SegmentFacts shape trace
@@ -121,13 +121,13 @@ OwnStepOnlyAdds = (shape : Shape) (step : Step) (found : ℕ) (old new : View)
 
 -- ---- searches, for a key and for a row alike
 
--- Where a search begins, what is sought is gone, or it is in its chain, at word 1 or later.
+-- When a search begins, what is sought is gone, or it is in its chain, at word 1 or later.
 abbrev pub EverySearchBeginsAhead : Type 0
 EverySearchBeginsAhead = (shape : Shape) (sought : Sought) (trace : List Event)
     → IsLawful shape trace → IsSoughtInItsChain shape sought trace
     → SoughtAhead shape sought 1 trace trace
 
--- What a search knows it knows later too: what is sought only moves forward, or is gone.
+-- What a search knows, it knows later too: what is sought only moves forward, or is gone.
 abbrev pub AheadStaysAhead : Type 0
 AheadStaysAhead = (shape : Shape) (sought : Sought) (position : ℕ) (old new later : List Event)
     → IsLawful shape later → Begins old new → Begins new later
@@ -139,7 +139,7 @@ SearchPassesAnother = (shape : Shape) (sought : Sought) (position : ℕ) (old ne
     → ¬ (SoughtAt shape sought new position)
     → SoughtAhead shape sought position old new → SoughtAhead shape sought (position + 1) old new
 
--- It goes on past word 0 of a bucket, which has no item.
+-- A search goes on past word 0 of a bucket, which has no item.
 abbrev pub SearchSkipsWordZero : Type 0
 SearchSkipsWordZero = (shape : Shape) (sought : Sought) (position : ℕ) (old new : List Event)
     → IsLawful shape new → position % 8 ≡ 0
@@ -151,7 +151,7 @@ EndedSearchMissed = (shape : Shape) (sought : Sought) (depth : ℕ) (old new : L
     → IsLawful shape new → (bucket_after shape new (chain_sought shape sought)).chained ≤ depth
     → SoughtAhead shape sought (8 * depth + 8) old new → WasGone (SoughtGone shape sought) old new
 
--- The word of the position where it is names its row, and has the tag of its key.
+-- The word at the position of what is sought names its row, and has the tag of its key.
 -- That key is linked to the row.
 abbrev pub SoughtWordNamesIt : Type 0
 SoughtWordNamesIt = (shape : Shape) (sought : Sought) (trace : List Event) (position : ℕ)
@@ -214,7 +214,7 @@ ChainWordLeadsOn = (shape : Shape) (trace : List Event) (bucket depth : ℕ) (ce
     × ((number : ℕ) × (word shape trace cell ≡ chain_word number)
     × (home_of trace number ≡ Some (home bucket (depth + 1))) × (number < shape.overflow))
 
--- If it is 0 or an item word, the chain ends there.
+-- If the last word of a bucket is 0 or an item word, the chain ends there.
 abbrev pub OtherLastWordEndsTheChain : Type 0
 OtherLastWordEndsTheChain = (shape : Shape) (trace : List Event) (bucket depth : ℕ) (cell : Cell)
     → IsValid shape → IsLawful shape trace → IsAt trace bucket (8 * depth + 7) cell
@@ -267,7 +267,7 @@ FreeWordHasTheVersion = (shape : Shape) (trace : List Event) (bucket : ℕ)
     → word shape trace (OfBucket bucket 0) % 2 ^ 32 ≡ 0
     → word shape trace (OfBucket bucket 0) / 2 ^ 32 ≡ (after shape (seen trace)).version bucket
 
--- If nothing was written under the bit yet, it has that version too.
+-- If nothing was written under the bit yet, the information word has that version too.
 abbrev pub UnwrittenWordHasTheVersion : Type 0
 UnwrittenWordHasTheVersion = (shape : Shape) (trace : List Event) (bucket : ℕ)
     → shape.first_version < 2 ^ 32 → IsLawful shape trace
@@ -290,20 +290,20 @@ KeysAreAsManyAsItems = (shape : Shape) (trace : List Event) (bucket : ℕ) → I
     ≡ items_below (bucket_after shape trace bucket)
     (8 * (bucket_after shape trace bucket).chained + 8)
 
--- They are at most seven, and six more for each overflow bucket, to which one word leads on.
+-- The keys of a bucket are at most seven, and six more for each overflow bucket of its chain.
 abbrev pub KeysFitTheirChain : Type 0
 KeysFitTheirChain = (shape : Shape) (trace : List Event) (bucket : ℕ) → IsLawful shape trace
     → keys_in shape (after shape (seen trace)) bucket
     ≤ 6 * (bucket_after shape trace bucket).chained + 7
 
--- They are just as many if no item word is empty.
+-- The keys of a bucket are exactly so many if no item word is empty.
 abbrev pub FullChainHasAllItsKeys : Type 0
 FullChainHasAllItsKeys = (shape : Shape) (trace : List Event) (bucket : ℕ)
     → IsLawful shape trace → HasNoEmptyWord (bucket_after shape trace bucket)
     → keys_in shape (after shape (seen trace)) bucket
     ≡ 6 * (bucket_after shape trace bucket).chained + 7
 
--- If no bucket waits to join it, the chain is as long as the bucket is wide.
+-- If no overflow bucket waits to join it, the chain is as long as the bucket is wide.
 abbrev pub ChainIsAsLongAsWide : Type 0
 ChainIsAsLongAsWide = (shape : Shape) (trace : List Event) (bucket : ℕ)
     → IsLawful shape trace → (bucket_after shape trace bucket).spare ≡ None

@@ -1,4 +1,5 @@
--- Marked histories: the history of entries with the marks that say where items came to stand and how chains grew; where a key's item is after one, and which hold together.
+-- Marked histories: histories of entries, with marks that say where items came to stand and how chains grew.
+-- Where the item of a key is after a marked history, and which marked histories hold together.
 use Rattle.std.specs.Prelude.{◌≡◌, ℕ, ◌+◌, ◌*◌, ◌%◌, ◌<◌, ◌==◌, ◌&&◌, ◌||◌, Bool, true, false, List, [], ◌∷◌, Option, Some, None, if◌then◌else◌}
 use Rattle.std.specs.Str.{bytes_eq}
 use Rattle.segword.specs.Words.{Shape}
@@ -20,7 +21,7 @@ pub data Mark : Type 0 where
   at : List ℕ → ℕ → ℕ → ℕ → ℕ → Mark
   -- the item of a row got a frequency: segment, row, frequency
   bumped : ℕ → ℕ → ℕ → Mark
-  -- a pass came into a segment, and left it
+  -- a pass came into a segment; a pass left a segment
   entered : ℕ → ℕ → Mark
   left : ℕ → ℕ → Mark
 
@@ -31,7 +32,8 @@ frequency_in (at key s r position frequency ∷ marks) segment row = if (s == se
 frequency_in (bumped s r frequency ∷ marks) segment row = if (s == segment) && (r == row) then frequency else frequency_in marks segment row
 frequency_in (_ ∷ marks) segment row = frequency_in marks segment row
 
--- what an event adds; a link is the mark of its item and then its entry, and so is a move, whose item keeps its frequency
+-- The marked history after an event. A link adds the mark of its item, and then its entry.
+-- So does a move, whose item keeps its frequency.
 abbrev pub marks_of : Event → List Mark → List Mark
 marks_of (Replied pass request reply) marks = enters (entry.Wrote pass request reply None) ∷ marks
 marks_of (Linked pass request segment row position) marks =
@@ -47,7 +49,7 @@ marks_of (Entered pass segment) marks = entered pass segment ∷ marks
 marks_of (Left pass segment) marks = left pass segment ∷ marks
 marks_of _ marks = marks
 
--- the marked history that a trace comes to
+-- the marked history that the events of a trace add up to
 abbrev pub marked : List Event → List Mark
 marked [] = []
 marked (event ∷ trace) = marks_of event (marked trace)
@@ -58,7 +60,7 @@ entries [] = []
 entries (enters added ∷ marks) = added ∷ entries marks
 entries (_ ∷ marks) = entries marks
 
--- how many buckets were drawn for a bucket, and how many joined its chain
+-- how many overflow buckets were drawn for a bucket, and how many joined its chain
 abbrev pub drawn_for : List Mark → ℕ → ℕ
 drawn_for [] bucket = 0
 drawn_for (drawn b ∷ marks) bucket = if b == bucket then drawn_for marks bucket + 1 else drawn_for marks bucket
@@ -77,7 +79,7 @@ width marks bucket = drawn_for marks bucket + 1
 unfoldable pub same_key : List ℕ → List ℕ → Bool
 same_key one other = bytes_eq one other
 
--- from the last word of a chain to word 1 of the bucket that joins it
+-- where an item is once a bucket has joined its chain: from the chain's last word it moves to word 1 of that bucket
 abbrev pub onward : ℕ → Option ℕ → Option ℕ
 onward depth None = None
 onward depth (Some position) = Some (if 8 * depth + 7 == position then 8 * depth + 9 else position)
@@ -118,7 +120,9 @@ MayMark shape marks (enters (entry.Wrote pass request reply segment)) = IsAfterA
 MayMark shape marks (chained bucket) = drawn_for marks bucket ≡ chained_to marks bucket + 1
 MayMark shape marks _ = Unit {0}
 
--- an `at` is in the chain that its key had then, and where the key stood already it is where that was; nothing is stored but right after its `at`; and a bucket that joins a chain was drawn for it and is the only one that waits
+-- An `at` is in the chain that its key had then. If the key stood already, the `at` is where the key's item was.
+-- A value is stored only right after an `at` of its key.
+-- A bucket that joins a chain was drawn for it, and is the only one that waits.
 abbrev pub IsWellMarked : Shape → List Mark → Type 0
 IsWellMarked shape [] = Unit {0}
 IsWellMarked shape (mark ∷ marks) = IsWellMarked shape marks × MayMark shape marks mark
@@ -131,7 +135,7 @@ all_drawn [] = 0
 all_drawn (drawn bucket ∷ marks) = all_drawn marks + 1
 all_drawn (_ ∷ marks) = all_drawn marks
 
--- how often a pass came into a segment, and how often one left it
+-- how often passes came into a segment, and how often passes left it
 abbrev pub all_entered : List Mark → ℕ → ℕ
 all_entered [] segment = 0
 all_entered (entered pass s ∷ marks) segment = if s == segment then all_entered marks segment + 1 else all_entered marks segment
@@ -142,7 +146,7 @@ all_left [] segment = 0
 all_left (left pass s ∷ marks) segment = if s == segment then all_left marks segment + 1 else all_left marks segment
 all_left (_ ∷ marks) segment = all_left marks segment
 
--- how often this pass came into it, and how often it left it
+-- how often this pass came into the segment, and how often it left the segment
 abbrev pub times_entered : ℕ → List Mark → ℕ → ℕ
 times_entered pass [] segment = 0
 times_entered pass (entered q s ∷ marks) segment = if (q == pass) && (s == segment) then times_entered pass marks segment + 1 else times_entered pass marks segment
@@ -172,7 +176,8 @@ MayCome marks (entered pass segment) = is_segment_named marks segment ≡ true
 MayCome marks (enters (entry.Refilled pass segment deadline)) = all_entered marks segment ≡ all_left marks segment
 MayCome marks _ = Unit {0}
 
--- each `at` is of a row that no other names in this filling; before each `entered` an `at` names its segment; and at each Refilled as many had left the segment as had come
+-- Each `at` is of a row that no other `at` names in this filling. Before each `entered` an `at` names its segment.
+-- At each Refilled as many had left the segment as had come in.
 abbrev pub IsOrderly : List Mark → Type 0
 IsOrderly [] = Unit {0}
 IsOrderly (mark ∷ marks) = IsOrderly marks × MayCome marks mark

@@ -3,13 +3,13 @@ use Rattle.std.specs.Prelude.{ℕ, ◌+◌, ◌==◌, List, [], ◌∷◌, Optio
 use Rattle.segcore.specs.declared.event.Event.{Event}
 use Rattle.segcore.specs.declared.event.Event.TheVariants.{Drew}
 
--- how many are drawn
+-- how many overflow buckets are drawn
 abbrev pub drawn_in : List Event → ℕ
 drawn_in [] = 0
 drawn_in (Drew pass bucket depth number ∷ trace) = drawn_in trace + 1
 drawn_in (_ ∷ trace) = drawn_in trace
 
--- the bucket that one is drawn for, and its depth in that bucket's chain
+-- the bucket that an overflow bucket is drawn for, and its depth in that bucket's chain
 pub record Home : Type 0 where
   pub bucket : ℕ
   pub depth : ℕ

@@ -1,4 +1,5 @@
--- The state of a segment's rows after a trace: their words, which key was linked to each in this filling, and the frequency of its item.
+-- The state of a segment's rows after a trace: the words of each, which key was linked to it in this filling,
+-- and the frequency of its item.
 use Rattle.std.specs.Prelude.{◌≡◌, ℕ, ◌<◌, ◌==◌, ◌&&◌, Bool, false, List, [], ◌∷◌, Option, Some, None, slice_index, if◌then◌else◌}
 use Rattle.segword.specs.Words.{row_of}
 use Rattle.segmodel.specs.Words.{key_of, with_at}
@@ -37,7 +38,8 @@ row_after (event ∷ trace) segment row =
 abbrev pub Holds : Row → List ℕ → List ℕ → Type 0
 Holds row key value = (place : ℕ) → place < 8 → row.words place ≡ slice_index (row_of key value) place
 
--- the frequency of the item that names the row: 1 at its link, what it was where the item was moved there, and what a bump raised it to
+-- The frequency of the item that names the row: 1 at its link, and what a bump raised it to.
+-- After a move to the row, it is the frequency that the row which the item left had.
 abbrev pub frequency_of : List Event → ℕ → ℕ → ℕ
 frequency_of [] segment row = 0
 frequency_of (Linked pass request s r position ∷ trace) segment row = if (s == segment) && (r == row) then 1 else frequency_of trace segment row

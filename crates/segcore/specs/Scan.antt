@@ -10,13 +10,13 @@ use Rattle.segcore.specs.Mark.{Mark, entries, chained_to, place, last_at, IsAbse
 
 -- A scan seeks the item of a key. If it is given a segment and a row, that item has to name them.
 
--- it is nowhere: the key doesn't stand, or its item names another row
+-- what is sought is nowhere: the key doesn't stand, or its item names another row
 abbrev pub IsNowhere : Shape → List ℕ → Option (ℕ × ℕ) → List Mark → Type 0
 IsNowhere shape key None marks = IsAbsent shape marks key
 IsNowhere shape key (Some row) marks =
     IsAbsent shape marks key ⊎ (last_at marks key ≢ Some (slot key row.0 row.1))
 
--- it isn't at this position: it is nowhere, or its key's place is another
+-- what is sought isn't at this position: it is nowhere, or its key's place is another
 abbrev pub IsNotAt : Shape → List ℕ → Option (ℕ × ℕ) → List Mark → ℕ → Type 0
 IsNotAt shape key row marks position =
     ¬ (IsNowhere shape key row marks) → place shape marks key ≢ Some position

@@ -27,7 +27,7 @@ pub data Sought : Type 0 where
   key_item : List ℕ → Sought
   row_item : ℕ → ℕ → ℕ → Sought
 
--- the bucket in whose chain it is sought
+-- the bucket in whose chain the item is sought
 abbrev pub chain_sought : Shape → Sought → ℕ
 chain_sought shape (key_item key) = bucket_of shape key
 chain_sought shape (row_item bucket segment row) = bucket
@@ -44,19 +44,19 @@ abbrev pub IsSought : Sought → Slot → Type 0
 IsSought (key_item key) named = named.key ≡ key
 IsSought (row_item bucket segment row) named = (named.segment ≡ segment) × (named.row ≡ row)
 
--- it is at this position of the chain
+-- what is sought is at this position of the chain
 abbrev pub SoughtAt : Shape → Sought → List Event → ℕ → Type 0
 SoughtAt shape sought trace position =
     (named : Slot)
     × ((bucket_after shape trace (chain_sought shape sought)).items position ≡ item named)
     × IsSought sought named
 
--- it is nowhere
+-- what is sought is nowhere
 abbrev pub SoughtGone : Shape → Sought → List Event → Type 0
 SoughtGone shape (key_item key) trace = KeyGone shape key trace
 SoughtGone shape (row_item bucket segment row) trace = RowGone shape segment row trace
 
--- between two moments it was gone at some point, or at the second it is at this position or later
+-- between two moments what is sought was gone at some point, or at the second it is at this position or later
 abbrev pub SoughtAhead : Shape → Sought → ℕ → List Event → List Event → Type 0
 SoughtAhead shape sought position old new =
     Ahead (SoughtAt shape sought) (SoughtGone shape sought) position old new

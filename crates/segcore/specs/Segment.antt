@@ -23,14 +23,14 @@ deadline_of [] segment = 0
 deadline_of (Refilled pass s deadline ∷ trace) segment = if s == segment then deadline else deadline_of trace segment
 deadline_of (_ ∷ trace) segment = deadline_of trace segment
 
--- whether an item was ever linked in it, or moved there
+-- whether an item was ever linked in the segment, or moved there
 abbrev pub was_used : List Event → ℕ → Bool
 was_used [] segment = false
 was_used (Linked pass request s row position ∷ trace) segment = (s == segment) || was_used trace segment
 was_used (Relinked pass key from from_row s row position ∷ trace) segment = (s == segment) || was_used trace segment
 was_used (_ ∷ trace) segment = was_used trace segment
 
--- how often it was filled anew
+-- how often the segment was filled anew
 abbrev pub refills : List Event → ℕ → ℕ
 refills [] segment = 0
 refills (Refilled pass s deadline ∷ trace) segment = if s == segment then refills trace segment + 1 else refills trace segment

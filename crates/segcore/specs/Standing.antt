@@ -27,7 +27,8 @@ pub record Names (shape : Shape) (trace : List Event) (bucket position : ℕ) (c
   pub small : frequency < 256
   pub reads : word shape trace cell ≡ packed tag frequency segment row
 
--- a word of the key's chain, the one at its place, has the key's tag and names the row of its last `at`, which is of the segment and holds the pair
+-- The word at the key's place has the key's tag, and names the row of the key's last `at`.
+-- That row is in the segment and holds the pair.
 pub record StandsAt (shape : Shape) (trace : List Event) (key value : List ℕ) (segment : ℕ) : Type 0 where
   pub valid : IsKey key × IsValue value
   pub position : ℕ
@@ -66,15 +67,15 @@ HasOneReading shape trace bucket position cell =
 
 -- what the words of the chains say of the keys that stand
 pub record KeyFacts (shape : Shape) (trace : List Event) : Type 0 where
-  -- a key stands with a value in a segment exactly where its word says so
+  -- a key stands with a value in a segment exactly if its word says so
   pub stands : (key value : List ℕ) (segment : ℕ)
       → (standing (after shape (seen trace)) key ≡ Some (cached value segment) → StandsAt shape trace key value segment)
       × (StandsAt shape trace key value segment → standing (after shape (seen trace)) key ≡ Some (cached value segment))
   -- chains have no other item words
   pub readings : (bucket position : ℕ) (cell : Cell) → bucket < shape.buckets → IsItemAt shape trace bucket position cell → HasOneReading shape trace bucket position cell
-  -- and no two of them name one row
+  -- no two words of chains name one row
   pub once : (b p c q : ℕ) (left right : Cell) (tag other segment row : ℕ)
       → Names shape trace b p left tag segment row → Names shape trace c q right other segment row → (b ≡ c) × (p ≡ q) × (left ≡ right)
-  -- and its frequency is what the mark says that gave it to its row last
+  -- the frequency of an item word is the one that the last mark of its row gave
   pub frequencies : (bucket position : ℕ) (cell : Cell) (tag segment row : ℕ) (names : Names shape trace bucket position cell tag segment row)
       → names.frequency ≡ frequency_in (marked trace) segment row

@@ -90,6 +90,6 @@ IsAt trace bucket position (OfOverflow number w) =
     (depth : ℕ) × (home_of trace number ≡ Some (home bucket depth)) × (position ≡ 8 * depth + w) × (w < 8)
 IsAt trace bucket position _ = ⊥
 
--- a position of the chain, and its cell
+-- the position is that of an item word of the chain, and the cell is at this position
 abbrev pub IsItemAt : Shape → List Event → ℕ → ℕ → Cell → Type 0
 IsItemAt shape trace bucket position cell = IsPosition (bucket_after shape trace bucket) position × IsAt trace bucket position cell

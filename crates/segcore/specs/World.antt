@@ -28,9 +28,9 @@ pub record Lawful (shape : Shape) (words : List ℕ) (views : List View) (trace 
   -- each word of the table is what the trace makes it
   pub long : length words ≡ word_count shape
   pub each : (of : Cell) → IsCell shape of → slice_index words (address shape of) ≡ word shape trace of
-  -- each pass has seen an end of it
+  -- each pass has seen the trace up to some point, from which only others went on
   pub knows : (pass : ℕ) (view : View) → get_elem? views pass ≡ some view → Knows pass view trace
-  -- nothing is of a pass that isn't there yet
+  -- no event is of a pass that isn't there yet
   pub later : (pass : ℕ) → length views ≤ pass → NoneBy pass trace
   pub dealt : (view : View) → get_elem? views 0 ≡ some view → view.dealt ≡ length views
 
@@ -74,7 +74,7 @@ after_step shape pass view step world =
       trace = trace;
     }
 
--- the world is reached by these steps of passes, the last one first, each allowed to its pass where it comes
+-- the world is reached by these steps of passes, the last one first, each of which its pass may take at that point
 abbrev pub Reaches : Shape → List (ℕ × Step) → World → Type 0
 Reaches shape [] world = IsOpening shape world
 Reaches shape (taken ∷ steps) world =

@@ -4,7 +4,7 @@ use segword::Key;
 
 /// What a step did, the pass first.
 /// A position counts along a bucket's chain: `8 * d + w` is word `w` of the bucket at depth `d`.
-/// No value of it is made.
+/// No value of this type is made.
 pub enum Event {
     /// The bucket's bit was taken.
     Took(u32, u32),
@@ -30,22 +30,22 @@ pub enum Event {
     /// Word 1 of the overflow bucket drawn for a bucket was stored.
     Put(u32, u32, u64),
     /// The drawn bucket of this number joined the chain of a bucket,
-    /// and the item of the last word moved into it.
+    /// and the item of the chain's last word moved into that bucket.
     Chained(u32, u32, u32),
     /// The item of a row got a higher frequency: segment, row, frequency.
     Bumped(u32, u32, u32, u32),
     /// A reader came into a segment.
     Entered(u32, u32),
-    /// It left.
+    /// A reader left a segment.
     Left(u32, u32),
     /// A segment of the pass's own is filled anew, from its first row, up to a deadline.
     Refilled(u32, u32, u32),
 }
 
-/// Why an item leaves its word. No value of it is made.
+/// Why an item leaves its word. No value of this type is made.
 pub enum Leaving {
-    /// It is deleted, at this moment.
+    /// The key is deleted, at this moment.
     Deletes(u32),
-    /// It is evicted from this segment.
+    /// The key is evicted from this segment.
     Evicts(u32),
 }

@@ -32,17 +32,17 @@ ghost use Rattle.segcore.specs.Laws.{KeysAreAsManyAsItems, KeysFitTheirChain};
 ghost use Rattle.segcore.specs.Laws.{FullChainHasAllItsKeys, ChainIsAsLongAsWide};
 ghost use Rattle.segcore.specs.Laws.{FilledWordHasContent};
 
-/// Whatever steps the passes take, in whatever order, the world that they reach is lawful, and what
-/// each pass has seen only grows.
+/// Whatever steps the passes take, in whatever order, the world that they reach is lawful, and says
+/// all that a lawful world says. What each pass has seen only grows.
 pub fn every_schedule()
     ensures lawful { EveryScheduleIsLawful }
     ensures seen { SightOnlyGrows }
     ensures says { EveryScheduleSaysAll }
 {}
 
-/// A scan of all words of a chain that found what it sought in none of them passed a point at which
-/// that was nowhere.
-/// What it seeks is a key, or the word of the key that names a given row.
+/// A scan looks at all words of a chain. If it finds what it seeks in none of them, it passed a
+/// point at which that was nowhere.
+/// What a scan seeks is a key, or the word of the key that names a given row.
 pub fn miss_point()
     ensures { ScanPassesAMiss }
 {}
@@ -59,8 +59,8 @@ pub fn lawful_trace()
     ensures segments { LawfulSegmentFacts }
 {}
 
-/// A step that a pass may take, having seen a beginning of the trace that others went on with,
-/// leaves words and trace as the rule wants them.
+/// A step that a pass may take by what it has seen leaves words and trace as the rule wants them,
+/// if only others added to the trace since.
 pub fn step_keeps_law()
     ensures { AllowedStepKeepsTheRule }
 {}
@@ -73,8 +73,8 @@ pub fn between_steps()
     ensures grows { OwnStepOnlyAdds }
 {}
 
-/// A search along a chain, for the item of a key or for the item that names a row: it was gone at
-/// some point, or it is ahead of the words that were passed.
+/// A search along a chain, for the item of a key or for the item that names a row: what is sought
+/// was gone at some point, or is ahead of the words that were passed.
 pub fn search()
     ensures first { EverySearchBeginsAhead }
     ensures later { AheadStaysAhead }
@@ -92,9 +92,9 @@ pub fn place_of_key()
     ensures there { PlaceHasTheKey }
 {}
 
-/// What the words of a chain say to one who has no bit: a word with another tag isn't the key's,
-/// one that names another row isn't the row's, and the last word of a bucket leads on to the next
-/// or ends the chain. A chain only grows, and its places stay where they are.
+/// What the words of a chain say to one who has no bit. A word with another tag isn't the key's, and
+/// one that names another row isn't the row's. The last word of a bucket leads on to the next or
+/// ends the chain. A chain only grows, and its places stay where they are.
 pub fn chain_words()
     ensures tag { OtherTagIsNotTheKeys }
     ensures row { OtherPlaceIsNotTheRows }
@@ -112,9 +112,9 @@ pub fn changed_word()
     ensures stirred { EntryStirsTheKey }
 {}
 
-/// Where the bit of a bucket is clear, or nothing was written under it yet, its information word
-/// has the version of the cache: the first version and as many more as the bucket had writes,
-/// modulo 2^32.
+/// If the bit of a bucket is clear, or nothing was written under it yet, the bucket's information
+/// word has the version of the cache. That is the first version and as many more as the bucket had
+/// writes, modulo 2^32.
 pub fn version_of_bucket()
     ensures free { FreeWordHasTheVersion }
     ensures unwritten { UnwrittenWordHasTheVersion }
@@ -122,9 +122,9 @@ pub fn version_of_bucket()
 {}
 
 /// As many keys of a bucket stand as positions of its chain have an item: at most seven, and six
-/// for each overflow bucket of the chain, since one word leads on to it; and just so many where no
-/// item word is empty. With no bucket that waits to join it, the chain is as long as the bucket is
-/// wide.
+/// for each overflow bucket of the chain, since one word leads on to it. They are exactly so many if
+/// no item word is empty. If no overflow bucket waits to join it, the chain is as long as the bucket
+/// is wide.
 pub fn keys_of_bucket()
     ensures counted { KeysAreAsManyAsItems }
     ensures few { KeysFitTheirChain }
@@ -134,8 +134,8 @@ pub fn keys_of_bucket()
 {}
 
 /// The example is lawful, and its words are those of the format. A scan for a key that moves on,
-/// and then goes, finds it nowhere, nor a word of it that names a row. Two passes reach it by steps
-/// of each kind, and have then seen different ends of it.
+/// and then goes, finds the key nowhere, and no word of it that names a row. Two passes reach the
+/// example by steps of each kind, and have then seen it up to different points.
 pub fn example()
     ensures lawful { IsLawful shape refilled }
     ensures item { (word shape stored (OfBucket 0 7) ≡ 0xaf60_1000_0000_0000)

@@ -2,11 +2,11 @@
 use crate::Event;
 use std::collections::LinkedList;
 
-/// What a pass knows of the table. No value of it is made.
+/// What a pass knows of the table. No value of this type is made.
 pub struct View {
-    /// Its number, which is that of its seat.
+    /// The number of the pass, which is that of its seat.
     pub number: u32,
-    /// The trace that it has seen, the newest event first.
+    /// The trace that the pass has seen, the newest event first.
     pub trace: LinkedList<Event>,
     /// In the view of pass 0, how many passes there are.
     pub dealt: u32,
