@@ -1,4 +1,5 @@
--- What a gets answers: a value and a version of one moment; and what each of its scans comes to, of which one goes on where the one before was disturbed.
+-- What a gets answers: a value and a version of one moment. What each of its scans finds:
+-- if a scan was disturbed, the next one goes on where that one stopped.
 use Rattle.std.specs.Prelude.{◌≡◌, ◌≢◌, ◌⊎◌, true, false, ℕ, ◌+◌, ◌-◌, ◌<◌, ◌≤◌, List, Option, Some, None}
 use Rattle.segword.specs.Words.{Info, IsSameItem, item_word, Shape, tag_part}
 use Rattle.segmodel.specs.declared.answer.GetsAnswer.TheVariants as gets
@@ -21,11 +22,12 @@ use Rattle.segread.specs.Scanning.{IsPlaceOf, words_below, ComesIn, Tries, Count
 
 -- ---- the answer
 
--- at some moment from one history to a longer one, the key read so, with the version of its bucket
+-- at some moment from one history to a longer one, a gets of the key reads this value and version, or nothing
 abbrev pub ReadsVersionBetween : Shape → List ℕ → ℕ → List Entry → List Entry → Option (List ℕ × ℕ) → Type 0
 ReadsVersionBetween shape key now old new read = (history : List Entry) × IsBetween old new history × (reads_version shape (after shape history) now key ≡ read)
 
--- How much the pass was disturbed at the key's bucket: the entries of it that came in, and the looks of the pass that found the bucket's bit set by another.
+-- How often the pass was disturbed at the key's bucket: by entries of the bucket that came in,
+-- and by looks of the pass that found the bucket's bit set by another.
 abbrev pub disturbed : Shape → List ℕ → Pass → Pass → ℕ
 disturbed shape key p q = stirred shape key (seen p) (seen q) + (glanced q (bucket_of shape key) - glanced p (bucket_of shape key))
 
@@ -33,7 +35,7 @@ disturbed shape key p q = stirred shape key (seen p) (seen q) + (glanced q (buck
 abbrev pub PresentBetween : Shape → List ℕ → ℕ → Pass → Pass → Type 0
 PresentBetween shape key now p q = (value : List ℕ) × ReadsBetween shape key now (seen p) (seen q) (Some value)
 
--- 64 entries of the key's bucket came in; or, where the key was present, as many with the looks that found the bit set
+-- 64 entries of the key's bucket came in; or the key was present, and with the looks that found the bit they are 64
 abbrev pub IsDisturbed : Shape → List ℕ → ℕ → Pass → Pass → Type 0
 IsDisturbed shape key now p q = (64 ≤ stirred shape key (seen p) (seen q)) ⊎ ((64 ≤ disturbed shape key p q) × PresentBetween shape key now p q)
 
@@ -41,13 +43,15 @@ IsDisturbed shape key now p q = (64 ≤ stirred shape key (seen p) (seen q)) ⊎
 abbrev pub PresentLocked : Shape → List ℕ → ℕ → Pass → Pass → Type 0
 PresentLocked shape key now p q = (locked_of p ≡ Some (bucket_of shape key)) × PresentBetween shape key now p q
 
--- a gets answers as a cache of one thread does at some moment of the call; it is Busy only where the pass was disturbed 64 times, or has the bucket of a key that was present locked by itself
+-- A gets answers as a cache of one thread does at some moment of the call. It is Busy only if the pass was disturbed
+-- 64 times, or if the key was present and the pass itself has its bucket locked.
 abbrev pub IsGetsAnswer : Shape → List ℕ → ℕ → GetsAnswer → Pass → Pass → Type 0
 IsGetsAnswer shape key now (gets.Found value version) p q = ReadsVersionBetween shape key now (seen p) (seen q) (Some (value, version))
 IsGetsAnswer shape key now gets.Miss p q = ReadsBetween shape key now (seen p) (seen q) None
 IsGetsAnswer shape key now gets.Busy p q = IsDisturbed shape key now p q ⊎ PresentLocked shape key now p q
 
--- A gets of a key is answered so. It changes nothing, takes no bit, draws no overflow bucket, and only a hit raises a frequency. It finds nothing in a bucket that the pass itself has locked.
+-- A gets of a key has this answer. The gets changes nothing, takes no bit, draws no overflow bucket,
+-- and raises a frequency only by a hit. It finds nothing in a bucket that the pass itself has locked.
 pub record ReadsVersion (b : Board) (key : List ℕ) (draw now : ℕ) (told : GetsAnswer) (p q : Pass) : Type 0 where
   pub on : GoesOn b p q
   pub keeps : ChangesNothing p q
@@ -61,26 +65,28 @@ pub record ReadsVersion (b : Board) (key : List ℕ) (draw now : ℕ) (told : Ge
 
 -- ---- on the way
 
--- it is not the pass itself that has the bit of the key's bucket
+-- the pass itself doesn't have the bit of the key's bucket
 abbrev pub HasNoBit : Shape → List ℕ → Pass → Type 0
 HasNoBit shape key p = ¬ (HasBit shape (trace p) (number p) (bucket_of shape key))
 
--- the tries that were counted, from some to more, are at most as many as the disturbances at the key's bucket
+-- The tries that were counted, from `some` to `more`, are at most as many as the disturbances at the key's bucket.
+-- They are at most as many as its entries, unless the key was present at some moment between.
 abbrev pub Disturbs : Shape → List ℕ → ℕ → ℕ → ℕ → Pass → Pass → Type 0
 Disturbs shape key now some more p q =
     let bucket = bucket_of shape key in
     Begins (seen p) (seen q) × (entries_of shape bucket (seen p) + glanced p bucket + more ≤ entries_of shape bucket (seen q) + glanced q bucket + some)
     × (CountsTries shape key some more (trace p) (trace q) ⊎ PresentBetween shape key now p q)
 
--- The key read nothing at a moment: a search that had it still ahead came to the chain's end, or its deadline had come.
+-- A search that still had the key ahead ended: at some moment since it began, the key read nothing.
 pub record IsMissed (shape : Shape) (key : List ℕ) (now from tries : ℕ) (p q : Pass) : Type 0 where
   pub missed : (start : List Event) → Begins start (trace p) → KeyAhead shape key from start (trace p)
       → ReadsBetween shape key now (event.seen start) (seen q) None
   pub tried : Tries from 32 tries 63 p q
 
--- ---- one scan for the key and its version, from a position on, with so many tries counted before
+-- ---- one scan for the key and its version, from a position on, after some tries were counted
 
--- The key's item was found, and the pass is still in its segment. The bucket's information was looked at, and after that the word in the item's place.
+-- The key's item was found, and the pass is still in the item's segment.
+-- The pass looked at the bucket's information, and after that at the word in the item's place.
 pub record IsSeen (b : Board) (key : List ℕ) (now from tries : ℕ) (hit : Hit) (value : List ℕ) (info : Info) (word : ℕ) (p q : Pass) : Type 0 where
   pub reads : IsReaderIn b p q hit.item.seg
   pub in_table : IsSegment b.shape hit.item.seg
@@ -107,7 +113,8 @@ IsVersionSight b key now from tries (sight.Found hit value info word) p q = IsSe
 IsVersionSight b key now from tries sight.Absent p q = IsReader b p q × IsMissed b.shape key now from tries p q
 IsVersionSight b key now from tries sight.Busy p q = IsReader b p q × GivesUp b.shape key from tries p q
 
--- The next scan goes on from this place, with so many tries counted. It has a try less or a word less before it.
+-- The next scan goes on from this place, with this count of tries.
+-- The words that were passed and the tries that were counted are together more than before.
 pub record MovesOn (shape : Shape) (key : List ℕ) (now from tries : ℕ) (next : Place) (counted : ℕ) (p q : Pass) : Type 0 where
   pub few : counted ≤ 64
   pub place : IsPlaceOf shape (trace q) key next
@@ -116,7 +123,7 @@ pub record MovesOn (shape : Shape) (key : List ℕ) (now from tries : ℕ) (next
   pub brings : AdvancesSearch shape key from (position shape (trace q) next) (trace p) (trace q)
   pub onward : words_below from + tries < words_below (position shape (trace q) next) + counted
 
--- one scan answers, or goes on
+-- one scan gives an answer, or the place from which the next one goes on
 abbrev pub IsAttempt : Shape → List ℕ → ℕ → ℕ → ℕ → ℕ → Attempt → Pass → Pass → Type 0
 IsAttempt shape key now draw from tries (attempt.Told (gets.Found value version)) p q =
     ReadsVersionBetween shape key now (seen p) (seen q) (Some (value, version))

@@ -11,7 +11,8 @@ use Rattle.segbase.specs.Words.{Board, entered, number, Pass, Place, raised, tra
 use Rattle.segstore.specs.Words.{FoundItem, WasLinked, word_of_place}
 use Rattle.segpass.specs.Words.{RaisesNothing}
 
--- It came into segments at most as often as a scan of a chain may try: 63 tries that are counted, and one more at each of 28 words.
+-- The pass came into segments at most as often as a scan of a chain may try:
+-- for 63 tries that are counted, and once more at each of 28 words.
 abbrev pub TriesFew : Pass → Pass → Type 0
 TriesFew p q = entered q ≤ entered p + 63 + 28
 
@@ -21,7 +22,8 @@ pub record HasFrequency (shape : Shape) (key value : List ℕ) (segment row freq
   pub last : last_at (marked at) key ≡ Some (slot key segment row)
   pub had : frequency_in (marked at) segment row ≡ frequency
 
--- at a moment between two traces the key's item had a frequency at which this draw counts, and the pass raised it by one
+-- At a moment between two traces the key's item had a frequency at which this draw counts.
+-- The pass raised that frequency by one.
 pub record CountsHit (shape : Shape) (key value : List ℕ) (draw pass : ℕ) (old new : List Event) : Type 0 where
   pub at : List Event
   pub segment : ℕ
@@ -43,7 +45,7 @@ pub record PassesHit (shape : Shape) (key value : List ℕ) (draw : ℕ) (old ne
   pub had : HasFrequency shape key value segment row frequency at
   pub uncounted : draw_raises frequency draw ≡ false
 
--- between two traces the key's item stood in a word, and later another word stood there: another pass was quicker
+-- between two traces the key's item stood in a word, and later another word stood there
 pub record IsOvertaken (shape : Shape) (key value : List ℕ) (old new : List Event) : Type 0 where
   pub at : List Event
   pub later : List Event
@@ -55,7 +57,8 @@ pub record IsOvertaken (shape : Shape) (key value : List ℕ) (old new : List Ev
   pub was : WasLinked shape place word key value at
   pub other : word_of_place shape later place ≢ word
 
--- From this trace on it raised the frequency of the key's item by one, where the draw counts; or nothing, where the draw doesn't count, or another pass was quicker, which can't be with one pass.
+-- From this trace on the pass raised the frequency of the key's item by one, and the draw counts.
+-- Or it raised nothing: the draw doesn't count, or there are several passes and the word changed first.
 abbrev pub RaisesFrom : Shape → List ℕ → List ℕ → ℕ → List Event → Pass → Pass → Type 0
 RaisesFrom shape key value draw before p q =
     ((raised q ≡ raised p + 1) × CountsHit shape key value draw (number p) before (trace q))
@@ -64,12 +67,13 @@ RaisesFrom shape key value draw before p q =
 abbrev pub RaisesOne : Shape → List ℕ → List ℕ → ℕ → Pass → Pass → Type 0
 RaisesOne shape key value draw p q = RaisesFrom shape key value draw (trace p) p q
 
--- So it raises the frequency of the item at a place from the moment on at which that was found for a key; it is in the item's segment.
+-- The pass does so with the item at a place, from a moment on at which the item was found for a key.
+-- This is so if the pass is in the item's segment.
 abbrev pub RaisesFound : Board → Place → Item → ℕ → Pass → Pass → Type 0
 RaisesFound b place item draw p q = (key value : List ℕ) (before : List Event) → 0 < inside (trace p) (number p) item.seg → FoundItem b.shape place (item_word item) key value before (trace p)
     → RaisesFrom b.shape key value draw before p q
 
--- only a hit raises a frequency
+-- a get that hits raises a frequency so, and any other get raises none
 abbrev pub GetRaises : Shape → List ℕ → ℕ → GetAnswer → Pass → Pass → Type 0
 GetRaises shape key draw (get.Found value) p q = RaisesOne shape key value draw p q
 GetRaises shape key draw _ p q = RaisesNothing p q

@@ -1,4 +1,4 @@
--- What a hold is of the pass that holds, and what the calls of holds do.
+-- What a hold says of the pass that has it, and what the calls of holds do.
 use Rattle.std.specs.Prelude.{◌≡◌, ◌≢◌, ◌↔◌, ℕ, ◌<◌, ◌≤◌, true, is_some, List, [], ◌∷◌, ◌++◌, Option, Some, None, IfSome}
 use Rattle.segword.specs.Words.{IsKey, IsValue, Shape}
 use Rattle.segmodel.specs.declared.entry.Entry.TheVariants.{Refilled}
@@ -19,8 +19,8 @@ pub record IsRowOf (trace : List Event) (hold : Hold) (held : Held) : Type 0 whe
   pub linked : (row_after trace hold.segment hold.row).linked ≡ Some held.key
   pub pair : Holds (row_after trace hold.segment hold.row) held.key held.value
 
--- The hold names the row of what the pass holds, as it was at the moment at which this stood.
--- The row stays so while the pass holds it, since its segment isn't filled again.
+-- The hold names the row of the item that the pass holds.
+-- While the pass holds it, the row stays as it is, since its segment isn't filled again.
 pub record IsHoldOf (shape : Shape) (hold : Hold) (p : Pass) : Type 0 where
   pub held : Held
   pub holds : holding p ≡ Some held
@@ -29,12 +29,12 @@ pub record IsHoldOf (shape : Shape) (hold : Hold) (p : Pass) : Type 0 where
   pub valid : IsKey held.key × IsValue held.value
   pub row : IsRowOf held.trace hold held
 
--- this is held from now on, or nothing; all else that the pass keeps is as it was
+-- the pass holds this from now on, or nothing; all else that the pass keeps is as it was
 pub record SetsHold (held : Option Held) (p q : Pass) : Type 0 where
   pub plain : q.plain ≡ with_holding (is_some held) p.plain
   pub memo : memo q ≡ record (memo p) { holding = held }
 
--- the pass holds an item of the key, which stood at some moment of the call, and was present then for the moment that was handed in
+-- The pass holds an item of the key. The item stood at some moment of the call, and was then present at `now`.
 pub record TakesHold (shape : Shape) (key : List ℕ) (now : ℕ) (hold : Hold) (p q : Pass) : Type 0 where
   pub is : IsHoldOf shape hold q
   pub of : is.held.key ≡ key
@@ -45,14 +45,15 @@ pub record TakesHold (shape : Shape) (key : List ℕ) (now : ℕ) (hold : Hold) 
   pub entries : mine q ≡ mine p
   pub sets : SetsHold (Some is.held) p q
 
--- a hold is taken, or answers as a get does and changes nothing
+-- a hold takes the item, or answers as a get does and changes nothing
 abbrev pub IsHoldAnswer : Shape → List ℕ → ℕ → HoldAnswer → Pass → Pass → Type 0
 IsHoldAnswer shape key now (hold_answer.Holding hold) p q = TakesHold shape key now hold p q
 IsHoldAnswer shape key now hold_answer.Miss p q = ChangesNothing p q × ReadsBetween shape key now (seen p) (seen q) None
 IsHoldAnswer shape key now hold_answer.Busy p q = ChangesNothing p q × (64 ≤ stirred shape key (seen p) (seen q))
 IsHoldAnswer shape key now hold_answer.AlreadyHolding p q = q ≡ p
 
--- A hold of a key is answered so: AlreadyHolding exactly if the pass holds an item. It takes no bit, draws no overflow bucket, and raises no frequency.
+-- A hold of a key has this answer, which is AlreadyHolding exactly if the pass holds an item.
+-- The hold takes no bit, draws no overflow bucket, and raises no frequency.
 pub record HoldsItem (b : Board) (key : List ℕ) (now : ℕ) (told : HoldAnswer) (p q : Pass) : Type 0 where
   pub on : GoesOn b p q
   pub takes_no_bit : TakesNoBit p q
@@ -62,7 +63,8 @@ pub record HoldsItem (b : Board) (key : List ℕ) (now : ℕ) (told : HoldAnswer
   pub answer : IsHoldAnswer b.shape key now told p q
   pub already : (told ≡ hold_answer.AlreadyHolding) ↔ (is_holding_of p ≡ true)
 
--- The value of a hold is the one that the pass holds. Reading it changes nothing and costs nothing, and the hold stays.
+-- The value that is read is the one that the pass holds.
+-- Reading it changes nothing and costs nothing, and the hold stays.
 pub record ReadsHeld (b : Board) (taken : Hold) (told : List ℕ) (p q : Pass) : Type 0 where
   pub on : GoesOn b p q
   pub keeps : ChangesNothing p q
@@ -85,7 +87,7 @@ pub record Releases (p q : Pass) : Type 0 where
   pub sets : SetsHold None p q
   pub unfilled : (held : Held) → holding p ≡ Some held → IsUnfilled held (seen q)
 
--- The end of a hold releases it, and costs nothing.
+-- a release ends the hold of the pass, and costs nothing
 pub record ReleasesHold (b : Board) (p q : Pass) : Type 0 where
   pub on : GoesOn b p q
   pub costs_nothing : CostsNothing p q

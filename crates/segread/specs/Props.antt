@@ -1,4 +1,4 @@
--- What is so of a hold has at most one proof, so that a struct may keep it in a ghost field, by { IsHoldOf-prop .. }.
+-- What `IsHoldOf` says has at most one proof, so that a struct may keep it in a ghost field, by { IsHoldOf-prop .. }.
 use Rattle.std.specs.Prelude.{◌≡◌, ◌<◌, List, Some}
 use Rattle.std.proofs.Common.{sym, ◌∙◌}
 use Rattle.std.proofs.Props.{props}

@@ -1,4 +1,5 @@
--- A reader's way along the chain of a key, without the bucket's bit: what its looks found, how many tries it counted, and how often it came into segments.
+-- A reader's way along the chain of a key, without the bucket's bit: what its looks found, how many tries it counted,
+-- and how often it came into segments.
 use Rattle.std.specs.Prelude.{◌≡◌, ◌⊎◌, ℕ, ◌+◌, ◌-◌, ◌/◌, ◌<◌, ◌≤◌, List, Option, Some, None}
 use Rattle.segword.specs.Words.{chain_word, IsChainWord, Shape}
 use Rattle.segmodel.specs.Words.{after, Begins, bucket_of, entries_of}
@@ -25,7 +26,7 @@ place_of bucket word = record { bucket = bucket; word = word }
 abbrev pub IsPlaceOf : Shape → List Event → List ℕ → Place → Type 0
 IsPlaceOf shape trace key place = IsChained shape trace place × (home_bucket shape trace place ≡ bucket_of shape key)
 
--- the place after one at which this word stood, if its chain has one
+-- the place after one at which this word stood, if the chain has one
 abbrev pub IsPlaceAfter : Shape → Place → ℕ → Option Place → Type 0
 IsPlaceAfter shape place word (Some next) =
     ((place.word < 7) × (next ≡ place_of place.bucket (place.word + 1)))
@@ -38,7 +39,7 @@ words_below at = at - 1 - (at - 1) / 8
 
 -- ---- readers
 
--- after a try it is in the item's segment where that was the key's
+-- after a try the pass is in the item's segment if the item is the key's
 abbrev pub IsTrial : Board → Trial → Pass → Pass → Type 0
 IsTrial b (trial.Same item header deadline) p q = IsReaderIn b p q item.seg
 IsTrial b (trial.Other item) p q = IsReader b p q
@@ -74,15 +75,16 @@ TellsDeadline shape (trial.Changed word) trace = Unit {0}
 
 -- ---- tries
 
--- it came into a segment once, and raised the frequency of no item
+-- the pass came into a segment once, and raised no frequency
 abbrev pub IsTry : Pass → Pass → Type 0
 IsTry p q = (entered q ≡ entered p + 1) × RaisesNothing p q
 
--- it came into segments at most once for each try that was counted, from some to more, and once for each word from one position up to another
+-- The pass came into segments at most once for each try that was counted, from `some` to `more`,
+-- and once for each word from one position up to another.
 abbrev pub ComesIn : ℕ → ℕ → ℕ → ℕ → Pass → Pass → Type 0
 ComesIn from to some more p q = entered q + words_below from + some ≤ entered p + words_below to + more
 
--- and it raised the frequency of no item; words and tries together are no fewer
+-- the pass came in no more often than that, and raised no frequency; words and tries together are no fewer than before
 pub record Tries (from to some more : ℕ) (p q : Pass) : Type 0 where
   pub comes_in : ComesIn from to some more p q
   pub onward : words_below from + some ≤ words_below to + more
@@ -90,22 +92,25 @@ pub record Tries (from to some more : ℕ) (p q : Pass) : Type 0 where
 
 -- ---- what was found
 
--- the tries that were counted, from some to more, are at most as many as entries of the key's bucket came in
+-- The tries that were counted, from `some` to `more`, are at most as many as entries of the key's bucket came in.
 abbrev pub CountsTries : Shape → List ℕ → ℕ → ℕ → List Event → List Event → Type 0
 CountsTries shape key some more old new = entries_of shape (bucket_of shape key) (seen old) + more ≤ entries_of shape (bucket_of shape key) (seen new) + some
 
--- A search for the key that stood at one position of the chain before is at another one now: none of the words between was the key's.
+-- A search for the key goes on from one position of the chain to another.
+-- If the key was gone, or stands at the one or later, then it was gone, or stands at the other or later.
 abbrev pub AdvancesSearch : Shape → List ℕ → ℕ → ℕ → List Event → List Event → Type 0
 AdvancesSearch shape key from to old new = (start : List Event) → Begins start old → KeyAhead shape key from start old → KeyAhead shape key to start new
 
--- the words from one position up to another were looked at, and none was the key's; at the last one, at this place, this word stood
+-- The pass looked at the words from one position up to another, and none was the key's.
+-- The last of them, at this place, was this word.
 pub record HasPassed (shape : Shape) (key : List ℕ) (from to : ℕ) (place : Place) (word : ℕ) (old new : List Event) : Type 0 where
   pub last : SawWord shape place word old new
   pub brings : AdvancesSearch shape key from to old last.at
 
--- ---- what looks along the key's chain came to, from a position on, with so many tries counted before
+-- ---- what looks along the key's chain found, from a position on, after some tries were counted
 
--- The key's item was found, and the deadline of its segment. So many tries were counted up to the moment at which it stood, and a search for the key may go on from its place.
+-- The key's item was found, and the deadline of its segment. The tries were counted before it stood there.
+-- A search for the key may go on from the item's place.
 pub record IsHit (shape : Shape) (key : List ℕ) (from tries : ℕ) (hit : Hit) (p q : Pass) : Type 0 where
   pub found : FoundKey shape hit.place hit.item hit.header key (trace p) (trace q)
   pub deadline : HasDeadline shape hit.item.seg hit.deadline (trace q)
@@ -122,12 +127,12 @@ pub record IsPast (shape : Shape) (key : List ℕ) (from to tries counted : ℕ)
   pub tried : Tries from to tries counted p q
   pub passed : HasPassed shape key from to last word (trace p) (trace q)
 
--- 64 tries are counted
+-- 64 tries were counted
 pub record GivesUp (shape : Shape) (key : List ℕ) (from tries : ℕ) (p q : Pass) : Type 0 where
   pub counts : CountsTries shape key tries 64 (trace p) (trace q)
   pub tried : Tries from 32 tries 63 p q
 
--- The chain ended: a key that a search had still ahead there was gone at some point of the search.
+-- The chain ended. If a search still had the key ahead, the key was gone at some moment since the search began.
 pub record IsEnded (shape : Shape) (key : List ℕ) (from tries : ℕ) (p q : Pass) : Type 0 where
   pub gone : (start : List Event) → Begins start (trace p) → KeyAhead shape key from start (trace p)
       → WasGone (KeyGone shape key) start (trace q)

@@ -1,5 +1,5 @@
-//! Items held: a pass stays in the segment of an item, so that its value stands there until it is
-//! released, also where its key is deleted, stored again or evicted.
+//! Items held: a pass stays in the segment of an item, so that the item's value stands there until
+//! the hold is released, even if the key is deleted, stored again or evicted.
 ghost use Rattle.std.specs.Prelude.{◌≡◌, Option, is_some, IfSome};
 ghost use Rattle.segbase.specs.declared.law.Held.{Held};
 ghost use Rattle.segbase.specs.declared.pass.Pass.{Pass};
@@ -16,9 +16,9 @@ use segbase::{Board, Pass};
 use segstore::{leave_segment, value_of_row};
 use segword::{Key, Value};
 
-/// An item that a pass holds. It has to be released, with the pass that holds it.
+/// An item that a pass holds. The hold has to be released, with the pass that holds the item.
 pub struct Hold<'i> {
-    // No call that ends the index is made while it stands.
+    // While the hold stands, this borrow keeps the index from being closed.
     pub(crate) board: &'i Board,
     pub(crate) segment: u32,
     pub(crate) row: u32,
@@ -35,7 +35,7 @@ pub enum HoldAnswer<'i> {
 }
 
 /// Holds the item of a key at a moment.
-/// Its value can be read until it is released, and a pass holds one item at most.
+/// The value can be read until the hold is released. A pass holds one item at most.
 /// No frequency changes.
 pub fn hold_item<'i>(board: &'i Board, pass: &mut Pass, key: &Key, now: u32) -> HoldAnswer<'i>
     requires pass { IsQuiet board.now pass.old }
@@ -64,7 +64,7 @@ pub fn hold_item<'i>(board: &'i Board, pass: &mut Pass, key: &Key, now: u32) -> 
     }
 }
 
-/// The value that is held: the one that stood under the key when it was held.
+/// The value that is held: the one that stood under the key at the moment of the hold.
 pub fn held_value(board: &Board, pass: &mut Pass, hold: &Hold<'_>) -> Value
     requires pass { IsQuiet board.now pass.old }
     requires hold { IsHoldOf board.now.shape hold.now pass.old }
@@ -74,7 +74,7 @@ pub fn held_value(board: &Board, pass: &mut Pass, hold: &Hold<'_>) -> Value
     value_of_row(board, pass, hold.segment, hold.row, header)
 }
 
-/// Ends a hold. Up to then the segment wasn't filled again.
+/// Ends a hold. Until then the segment wasn't filled again.
 pub fn release(board: &Board, pass: &mut Pass, hold: Hold<'_>)
     requires pass { IsQuiet board.now pass.old }
     requires hold { IsHoldOf board.now.shape hold pass.old }
@@ -104,8 +104,8 @@ fn set_hold(board: &Board, pass: &mut Pass, item: Option<(&Key, &Value, u32)>)
     board.remember(pass);
 }
 
-/// A hold is a pass's own as long as the pass holds the same, whatever it does meanwhile,
-/// and its row holds the pair that long. This function does nothing: its contract is the theorem.
+/// A hold is a pass's own as long as the pass holds the same, whatever else the pass does, and its
+/// row holds the pair that long. This function does nothing: its contract is the theorem.
 pub fn hold_stays()
     ensures stays { (shape : Shape) (hold : Hold) (p q : Pass)
         → IsHoldOf shape hold p → holding q ≡ holding p → IsHoldOf shape hold q }

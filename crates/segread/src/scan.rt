@@ -1,6 +1,6 @@
-//! A reader's way along the chain of a key, without the bucket's bit: a look at each word,
-//! and at a word with the key's tag a second look from within the item's segment.
-//! It can go on from any place of the chain.
+//! A reader's way along the chain of a key, without the bucket's bit. It looks at each word, and at
+//! a word with the key's tag it looks a second time, from within the item's segment.
+//! A scan can begin at any place of the chain.
 ghost use Rattle.std.specs.Prelude.{◌≡◌, ◌≢◌, ◌+◌, ◌<◌, ◌≤◌, IfSome, IsNone};
 ghost use Rattle.segword.specs.Words.{IsValid, item_word, tag_part};
 ghost use Rattle.segmodel.specs.Words.{tag_of};
@@ -17,8 +17,8 @@ use segbase::{Board, CHAIN_BUCKETS, Pass, Place};
 use segstore::{Keyed, enter_segment, leave_segment, read_keyed};
 use segword::{Chain, Item, Key, KeyWords, bucket_of, hash, tag_of};
 
-// An item of the key, in whose segment the pass is: where it stands, word 0 of its row,
-// and the deadline of the segment. So many tries were counted before it.
+// An item of the key, in whose segment the pass is: where the item stands, word 0 of its row,
+// the deadline of the segment, and how many tries were counted before.
 #[derive(Clone, Copy, Drop)]
 pub(crate) struct Hit {
     pub(crate) place: Place,
@@ -28,7 +28,7 @@ pub(crate) struct Hit {
     pub(crate) tries: u32,
 }
 
-// What a second look from within the segment of an item came to.
+// What a second look at a word found, from within the segment of the item that was seen there.
 #[derive(Drop)]
 pub(crate) enum Trial {
     // The key's item as it stands now, word 0 of its row, and the deadline of its segment.
@@ -39,7 +39,7 @@ pub(crate) enum Trial {
     Changed(u64),
 }
 
-// How far looks at words of a chain came.
+// What looks at words of a chain found.
 #[derive(Drop)]
 pub(crate) enum Way {
     Found(Hit),
@@ -49,7 +49,7 @@ pub(crate) enum Way {
     Busy,
 }
 
-// What a scan of a whole chain came to.
+// What a scan to the end of a chain found.
 #[derive(Drop)]
 pub(crate) enum Scan {
     Found(Hit),
@@ -58,10 +58,10 @@ pub(crate) enum Scan {
     Busy,
 }
 
-// How often a scan finds that an item with the key's tag has become another one before it gives up.
+// After so many finds that an item with the key's tag has become another one, a scan gives up.
 pub(crate) const TRIES: u32 = 64;
 
-// The item of a word, where it has the tag.
+// The item of a word, if the word is an item word with this tag.
 pub(crate) fn item_of_tag(word: u64, tag: u16) -> Option<Item>
     requires { 1 ≤ tag }
     ensures some { IfSome result (λ item. (item_word item ≡ word) × (item.tag ≡ tag)) }
@@ -71,7 +71,7 @@ pub(crate) fn item_of_tag(word: u64, tag: u16) -> Option<Item>
 }
 
 // Comes into the segment of an item that was seen, and looks a second time.
-// The pass stays there where the item is the key's.
+// The pass stays there if the item is the key's, and else leaves.
 #[inline(always)]
 pub(crate) fn try_item(
     board: &Board,
@@ -103,7 +103,7 @@ pub(crate) fn try_item(
     }
 }
 
-// Looks at a word until it is found to be the key's or not.
+// Looks at a word until that is found to be the key's or not, or 64 tries are counted.
 #[inline(always)]
 fn visit_word(
     board: &Board,
@@ -147,7 +147,7 @@ fn visit_word(
     Way::Busy
 }
 
-// Visits the words of one bucket of the chain, from a place on.
+// Visits the words of one bucket of the chain, from a place on, up to the key's item.
 #[inline(always)]
 fn visit_bucket(
     board: &Board,
@@ -196,8 +196,8 @@ fn visit_bucket(
     )
 }
 
-// The place after one of a chain at which this word stood: the next word of its bucket,
-// or word 1 of the bucket that its last word leads to.
+// The place after one of a chain at which this word stood: the next word of the bucket,
+// or word 1 of the bucket that the last word leads to.
 #[inline(always)]
 pub(crate) fn place_after(board: &Board, place: Place, word: u64) -> Option<Place>
     requires valid { IsValid board.now.shape }
@@ -219,7 +219,7 @@ pub(crate) fn place_after(board: &Board, place: Place, word: u64) -> Option<Plac
     })
 }
 
-// Looks for a key along its chain, from a place on. So many tries are counted so far.
+// Looks for a key along its chain, from a place on. `tries` are counted so far.
 #[inline(always)]
 pub(crate) fn scan_from(
     board: &Board,
@@ -258,7 +258,7 @@ pub(crate) fn scan_from(
     Scan::Absent
 }
 
-// Looks for a key along its whole chain. Its hash and words are made here, once a call.
+// Looks for a key along its whole chain. The key's hash and words are computed here, once a call.
 pub(crate) fn scan_for(board: &Board, pass: &mut Pass, key: &Key) -> Scan
     requires pass { IsQuiet board.now pass.old }
     ensures reads { IsScanner board.now result pass.old pass.new }

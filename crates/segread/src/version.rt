@@ -1,4 +1,4 @@
-//! Values with the version of their bucket, both of one moment, read without any bit.
+//! Values with the version of their bucket, both of one moment, and both read without any bit.
 ghost use Rattle.std.specs.Prelude.{◌≡◌, ◌≢◌, ℕ, ◌^◌, ◌<◌, List, Some};
 ghost use Rattle.segmodel.specs.declared.answer.GetsAnswer.TheVariants as gets;
 ghost use Rattle.segmodel.specs.Words.{bucket_of, tag_of};
@@ -17,11 +17,11 @@ use segmodel::GetsAnswer;
 use segstore::{leave_segment, value_of_row};
 use segword::{Info, Key, KeyWords, Value, bucket_of, hash, same_item, tag_of};
 
-// What a scan for a key and its version saw.
+// What one scan for a key and its version saw.
 #[derive(Drop)]
 enum Sight {
     // The key's item and its value, the information of its bucket,
-    // and the word that stood in the item's place after that.
+    // and the word that stood in the item's place after that look.
     Found(Hit, Value, Info, u64),
     // The key was absent at a moment: it didn't stand, or its deadline had come.
     Absent,
@@ -29,19 +29,19 @@ enum Sight {
     Busy,
 }
 
-// What a scan for a key and its version came to.
+// What one scan for a key and its version gives: an answer, or where to go on.
 #[derive(Drop)]
 enum Attempt {
     Told(GetsAnswer),
-    // The bit was set, or the item changed: the next scan goes on from this place,
-    // with so many tries counted.
+    // The bit was set, or another word stood in the item's place. The next scan begins at this place,
+    // with this many tries counted.
     GoesOn(Place, u32),
 }
 
 /// The value under a key at a moment with the version of the key's bucket,
 /// for a later compare-and-swap.
-/// It is Busy where the pass has the bucket locked by itself and the key is present.
-/// A hit raises the frequency of the key's item where the draw, a number at random, says so.
+/// The answer is Busy if the pass itself has the bucket locked and the key is present.
+/// A hit raises the frequency of the key's item if the draw, a random number, says so.
 pub fn gets(board: &Board, pass: &mut Pass, key: &Key, draw: u32, now: u32) -> GetsAnswer
     requires pass { IsQuiet board.now pass.old }
     ensures reads { ReadsVersion board.now key.now draw now result pass.old pass.new }
@@ -62,8 +62,8 @@ pub fn gets(board: &Board, pass: &mut Pass, key: &Key, draw: u32, now: u32) -> G
     )
 }
 
-// Whether a key is present whose bucket the pass itself has locked:
-// its version is another one once the bucket is unlocked.
+// Whether a key is present whose bucket the pass itself has locked. The answer is Busy if it is,
+// or if the scan gave up, and else Miss.
 fn find_locked(board: &Board, pass: &mut Pass, key: &Key, now: u32) -> GetsAnswer
     requires pass { IsQuiet board.now pass.old }
     requires locked { locked_of pass.old ≡ Some (bucket_of board.now.shape key.now) }
@@ -88,7 +88,7 @@ fn find_locked(board: &Board, pass: &mut Pass, key: &Key, now: u32) -> GetsAnswe
 }
 
 // Looks for a key and its version along its chain, which begins with this bucket.
-// If a scan was disturbed, the next one goes on from there.
+// If a scan was disturbed, the next one begins where that one stopped.
 fn find_version(
     board: &Board,
     pass: &mut Pass,
@@ -126,8 +126,8 @@ fn find_version(
     GetsAnswer::Busy
 }
 
-// One scan from a place on.
-// The version is of one moment with the value if the bit is clear and the item stands there still.
+// One scan from a place on. The value and the version are of one moment if the bit is clear
+// and the item still stands at its place.
 fn try_version(
     board: &Board,
     pass: &mut Pass,
@@ -176,8 +176,8 @@ fn try_version(
     }
 }
 
-// Looks for a key from a place on.
-// At its item the bucket's information is looked at between two looks at the item's word.
+// Looks for a key from a place on. At the key's item, the pass looks at the bucket's information
+// between two looks at the item's word.
 #[inline(always)]
 fn see_version(
     board: &Board,
