@@ -14,7 +14,8 @@ pub record IsFirstEmpty (bucket : Bucket) (position : ℕ) : Type 0 where
   pub empty : bucket.items position ≡ nothing
   pub before : AreTakenBefore bucket position
 
--- at the moment at which the pass linked the row of the request, between one trace and a longer one, it did so at the first empty word of its key's chain, where no item of the key stood
+-- Between one trace and a longer one, the pass linked a row for the request.
+-- If the key didn't stand at that moment, the row was linked at the first empty word of the key's chain.
 pub record TookFirstEmpty (shape : Shape) (request : Request) (pass : ℕ) (old new : List Event) : Type 0 where
   pub at : List Event
   pub segment : ℕ

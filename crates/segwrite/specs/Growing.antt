@@ -1,4 +1,5 @@
--- How a chain grows under its bucket's bit: an overflow bucket is drawn, the item of the chain's last word is copied to word 1 of it, and that word then leads on to it.
+-- How a chain grows under its bucket's bit. An overflow bucket is drawn, and the item of the chain's last word is
+-- copied to word 1 of it. Then that last word leads on to the overflow bucket.
 use Rattle.std.specs.Prelude.{◌≡◌, ℕ, ◌+◌, ◌*◌, ◌<◌, ◌⊎◌, List, [], ◌∷◌, ◌++◌, map, false, Option, Some, None, Result, Ok, Err}
 use Rattle.segmodel.specs.Words.{after, bucket_of, IsSameAt}
 use Rattle.segcore.specs.declared.event.Event.TheVariants.{Drew, Put, Chained}
@@ -22,7 +23,8 @@ use Rattle.segwrite.specs.Writing.{IsInChain, IsEarlier, IsNewKey, IsTarget, Has
 abbrev pub bucket_seen : Board → ℕ → Pass → Bucket
 bucket_seen b bucket p = bucket_after b.shape (trace p) bucket
 
--- the place is that of the last word of the bucket's chain, an item stands there, and the word is one that it had
+-- The place is that of the last word of the bucket's chain, and an item stands there.
+-- The word is one that this item had: its frequency may have risen since.
 pub record IsLast (b : Board) (bucket : ℕ) (place : Place) (word : ℕ) (p : Pass) : Type 0 where
   pub chain : IsInChain b bucket place p
   pub ends : position_at b place p ≡ last (bucket_seen b bucket p)
@@ -31,12 +33,12 @@ pub record IsLast (b : Board) (bucket : ℕ) (place : Place) (word : ℕ) (p : P
   pub is : IsWordOf named word
   pub earlier : IsEarlier b place word p
 
--- so a search finds it, and it counts the buckets of the chain
+-- the end of a chain as a search finds it, with the number of the chain's buckets
 pub record IsChainEnd (b : Board) (bucket : ℕ) (end : ChainEnd) (p : Pass) : Type 0 where
   pub last : IsLast b bucket end.place end.word p
   pub buckets : end.buckets ≡ (bucket_seen b bucket p).chained + 1
 
--- what a search comes to: a word for the key; or the end of the chain, where the key doesn't stand and no word is empty
+-- what a search finds: a word for the key; or the end of the chain, if the key doesn't stand and no word is empty
 abbrev pub Searches : Board → List ℕ → Found → Pass → Type 0
 Searches b key (Word target) p = IsTarget b key target p
 Searches b key (Full end) p = HasFullChain b key p × IsChainEnd b (bucket_of b.shape key) end p
@@ -51,12 +53,13 @@ or_end end (Some target) = Word target
 
 -- ---- drawing
 
--- the first overflow bucket that nobody had drawn is drawn; or all are
+-- the first overflow bucket that nobody had drawn is drawn; or all are drawn already
 abbrev pub DrawsSpare : Board → ℕ → Option ℕ → Pass → Pass → Type 0
 DrawsSpare b bucket None p q = Idles b p q × (drawn_in (trace q) ≡ b.shape.overflow)
 DrawsSpare b bucket (Some overflow) p q = AddsAtOnce b (Drew (number p) bucket (depth_to_draw b bucket p) overflow ∷ []) p q × (q.plain ≡ p.plain) × (memo q ≡ memo p)
 
--- the pass has the bit, under which nothing was written, and this overflow bucket waits to join the chain, none of whose words is empty
+-- The pass has the bit, and nothing was written under it.
+-- This overflow bucket waits to join the chain, which has no empty word.
 pub record HasSpare (b : Board) (bucket overflow : ℕ) (p : Pass) : Type 0 where
   pub bit : HasBit b.shape (trace p) (number p) bucket
   pub unwritten : (bucket_seen b bucket p).written ≡ false
@@ -65,7 +68,7 @@ pub record HasSpare (b : Board) (bucket overflow : ℕ) (p : Pass) : Type 0 wher
 
 -- ---- joining
 
--- the pass did just this by itself; the keys of the bucket stand as they stood, and its version is the same
+-- These events are all that the pass added. The keys of the bucket stand as they stood, and its version is the same.
 pub record Prepares (b : Board) (own : List Event) (bucket : ℕ) (p q : Pass) : Type 0 where
   pub moved : AddsEvents b own p q
   pub plain : q.plain ≡ p.plain
@@ -79,7 +82,7 @@ pub record HasJoined (b : Board) (bucket overflow : ℕ) (p : Pass) : Type 0 whe
   pub empty : (bucket_seen b bucket p).items (8 * (bucket_seen b bucket p).chained + 2) ≡ nothing
   pub before : AreTakenBefore (bucket_seen b bucket p) (8 * (bucket_seen b bucket p).chained + 2)
 
--- word 1 of the overflow bucket was stored for the bucket so often, with these words
+-- word 1 of the overflow bucket was stored once for each of these words, with that word
 unfoldable pub puts : ℕ → ℕ → List ℕ → List Event
 puts pass bucket words = map (Put pass bucket) words
 
@@ -87,7 +90,7 @@ puts pass bucket words = map (Put pass bucket) words
 abbrev pub joins : ℕ → ℕ → ℕ → List ℕ → List Event
 joins pass bucket overflow words = Chained pass bucket overflow ∷ puts pass bucket words
 
--- one try: it joined; or the item of the last word has a higher frequency than the word that was copied
+-- one try: the overflow bucket joined; or the frequency of the last word's item is higher than that of the copied word
 abbrev pub TriesToJoin : Board → ℕ → ℕ → Place → ℕ → Result (Unit {0}) ℕ → Pass → Pass → Type 0
 TriesToJoin b bucket overflow place word (Ok done) p q = Prepares b (joins (number p) bucket overflow (word ∷ [])) bucket p q × HasJoined b bucket overflow q
 TriesToJoin b bucket overflow place word (Err found) p q =
@@ -106,7 +109,8 @@ CannotGrow b bucket p = ((bucket_seen b bucket p).chained ≡ 3) ⊎ (drawn_in (
 abbrev pub lengthens : ℕ → ℕ → ℕ → ℕ → List ℕ → List Event
 lengthens pass bucket depth overflow words = joins pass bucket overflow words ++ Drew pass bucket depth overflow ∷ []
 
--- an overflow bucket was drawn and joined the chain: its word 2 is free for a key that doesn't stand, which had no word before
+-- An overflow bucket was drawn and joined the chain.
+-- Word 2 of it is free for a key that doesn't stand, which had no word before.
 pub record Lengthens (b : Board) (bucket : ℕ) (target : Target) (p q : Pass) : Type 0 where
   pub depth : ℕ
   pub overflow : ℕ
@@ -123,12 +127,12 @@ Grows b bucket (Some target) p q = Lengthens b bucket target p q
 
 -- ---- room for a key
 
--- where a search found no word empty, none is, and the end of the chain is where it was
+-- if a search found no empty word, none is empty, and the end of the chain is where it was
 abbrev pub IsAsFound : Board → ℕ → Found → Pass → Type 0
 IsAsFound b bucket (Word target) p = Unit {0}
 IsAsFound b bucket (Full end) p = HasNoEmptyWord (bucket_seen b bucket p) × IsChainEnd b bucket end p
 
--- the word that a search found serves the key; or the chain grew, where it could
+-- the word that a search found is the key's; or the chain grew, if it could
 abbrev pub MakesRoom : Board → ℕ → Found → Option Target → Pass → Pass → Type 0
 MakesRoom b bucket (Word target) room p q = (room ≡ Some target) × Idles b p q
 MakesRoom b bucket (Full end) room p q = Grows b bucket room p q

@@ -1,4 +1,5 @@
--- Whether a key is present at a moment, seen under the bit of its bucket: the pass comes into the segment in which the key stands, sees its deadline, and leaves it.
+-- Whether a key is present at a moment, seen under the bit of its bucket.
+-- The pass comes into the segment in which the key stands, sees the segment's deadline, and leaves.
 use Rattle.std.specs.Prelude.{◌≡◌, ℕ, Bool, true, false, List, ◌∷◌, IfSome, IsSome, Option, Some, None}
 use Rattle.segmodel.specs.declared.request.Request.TheVariants.{Set}
 use Rattle.segmodel.specs.Words.{after, Begins, present, Request, StandsIn, key_of}
@@ -23,7 +24,8 @@ pub record CameIn (shape : Shape) (key : List ℕ) (pass segment : ℕ) (old new
   pub until : Begins (Entered pass segment ∷ at) new
   pub stood : StandsIn (after shape (event.seen at)) key segment
 
--- it looked at the deadline of the segment in which the key stands, or came into none; it did nothing else
+-- The pass came into the segment in which the key stood, to see its deadline, or came into none.
+-- It did nothing else.
 pub record Peeks (b : Board) (key : List ℕ) (p q : Pass) : Type 0 where
   pub into : Option ℕ
   pub moved : AddsEvents b (peek (number p) into) p q
@@ -31,12 +33,12 @@ pub record Peeks (b : Board) (key : List ℕ) (p q : Pass) : Type 0 where
   pub plain : q.plain ≡ p.plain
   pub memo : memo q ≡ memo p
 
--- for a request that doesn't depend on it, none
+-- the pass looked so for a request; it came into no segment for one that doesn't depend on the key's presence
 pub record PeeksFor (b : Board) (request : Request) (p q : Pass) : Type 0 where
   pub peeks : Peeks b (key_of request) p q
   pub none : depends_on_key request ≡ false → peeks.into ≡ None
 
--- the key's own word, if the key is present at the moment
+-- the key's own word if the key is present at the moment, and none if it is absent
 abbrev pub IsPresentWord : Board → List ℕ → ℕ → Option Target → Option Target → Pass → Type 0
 IsPresentWord b key now found None q = present (after b.shape (seen q)) now key ≡ None
 IsPresentWord b key now found (Some target) q = (own_word found ≡ Some target) × IsSome (present (after b.shape (seen q)) now key)

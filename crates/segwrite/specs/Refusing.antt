@@ -29,7 +29,8 @@ IsToldBy reply (Some refusal) = (reply_of_write refusal ≡ Some reply) × IsRef
 abbrev pub reply_now : Board → Pass → Request → Reply
 reply_now b p request = reply_in b.shape (after b.shape (seen p)) request
 
--- The bit of the bucket was given back. Since then the pass did just this, newest first, and keeps what it kept.
+-- The bit of the bucket was given back. Before that the pass added just these events, newest first.
+-- What the pass keeps is as it was.
 pub record GivesBack (b : Board) (bucket : ℕ) (counted : Bool) (own : List Event) (p q : Pass) : Type 0 where
   pub moved : AddsEvents b (Freed (number p) bucket counted ∷ own) p q
   pub free : (bucket_after b.shape (trace q) bucket).holder ≡ None
@@ -40,7 +41,8 @@ pub record GivesBack (b : Board) (bucket : ℕ) (counted : Bool) (own : List Eve
 abbrev pub RefusesUnderBit : Board → Request → Reply → Pass → Pass → Type 0
 RefusesUnderBit b request reply p q = GivesBack b (bucket_of b.shape (key_of request)) false (Replied (number p) request reply ∷ []) p q
 
--- once the pass knew whether the key is present, the key left its word, or was absent, and the bit was given back
+-- Once the pass knew whether the key is present, a present key left its word, or the refusal entered the history.
+-- Then the bit was given back.
 abbrev pub RemovesPresent : Board → Request → DeleteAnswer → Pass → Pass → Type 0
 RemovesPresent b request delete.Deleted p q = (position : ℕ) × GivesBack b (bucket_of b.shape (key_of request)) true (Unlinked (number p) (key_of request) position (Deletes (moment_of request)) ∷ []) p q
 RemovesPresent b request delete.NotFound p q = RefusesUnderBit b request NotFound p q

@@ -20,7 +20,7 @@ pub record Requests (b : Board) (request : Request) (key value : List ℕ) (p : 
   pub of : (key_of request ≡ key) × (value_of request ≡ value)
   pub stored : Stored ≡ reply_in b.shape (after b.shape (seen p)) request
 
--- the row was written, and an item word then named it: for a new key the first that was empty
+-- the row was written, and then an item word named it
 abbrev pub stores : ℕ → Request → ℕ → ℕ → ℕ → List Event
 stores pass request segment row position = Linked pass request segment row position ∷ fills pass segment row (row_of (key_of request) (value_of request)) 8
 

@@ -1,4 +1,4 @@
--- What the replies to writes tell of the one history.
+-- What the replies to writes say of the one history.
 use Rattle.std.specs.Prelude.{◌≡◌, ℕ, ◌%◌, ◌^◌, ◌==◌, is_some, List, ◌∷◌, Option, if◌then◌else◌}
 use Rattle.segword.specs.Words.{Shape}
 use Rattle.segmodel.specs.declared.entry.Entry.TheVariants.{Wrote}
@@ -6,7 +6,8 @@ use Rattle.segmodel.specs.declared.request.Reply.TheVariants.{Stored, Exists, No
 use Rattle.segmodel.specs.Words.{after, Begins, bucket_of, Entry, present, Reply, reply_in, Request}
 use Rattle.segmodel.specs.Words.{writes}
 
--- from one history to a longer one the request of this pass was replied so: its entry came in right after this history, at which a cache of one thread replies so
+-- From one history to a longer one, the request of this pass has this reply.
+-- Its entry came in right after a history at which a cache of one thread gives this reply.
 pub record IsTold (shape : Shape) (pass : ℕ) (request : Request) (said : Reply) (segment : Option ℕ) (old new history : List Entry) : Type 0 where
   pub since : Begins old history
   pub entered : Begins (Wrote pass request said segment ∷ history) new

@@ -23,17 +23,19 @@ use Rattle.segwrite.specs.Full.{WasFull, GrowsFor}
 abbrev pub one_more : OwnSegment → OwnSegment
 one_more own = record own { used = own.used + 1 }
 
--- one more row of its current segment is used, and nothing else of what the pass keeps is changed
+-- one more row of the pass's current segment is used, and nothing else of what the pass keeps is changed
 pub record UsesRow (segment : ℕ) (p q : Pass) : Type 0 where
   pub current : current_of p ≡ Some segment
   pub plain : q.plain ≡ with_own segment one_more p.plain
   pub memo : memo q ≡ memo p
 
--- the request is replied so, by an entry that stores nothing
+-- the request has this reply, by an entry that stores nothing
 abbrev pub AddsReply : Request → Reply → Pass → Pass → Type 0
 AddsReply request told p q = AddsEntry (Wrote (number p) request told None) p q × (q.plain ≡ p.plain) × (memo q ≡ memo p)
 
--- a request to store was stored in the current segment, or refused by the cache with a reply, each by one entry; or refused for want of a row, a word (which only a set or an add of a new key needs) or the bit, by none
+-- A request to store was stored in the current segment, or the cache refused it with a reply. Each is one entry.
+-- Without an entry it was refused for lack of a row, of a word, or of the bit.
+-- A word is lacking only for a set or an add of a new key.
 abbrev pub IsWriteAnswer : Shape → Request → WriteAnswer → Pass → Pass → Type 0
 IsWriteAnswer shape request write.Stored p q = (segment : ℕ) × AddsEntry (Wrote (number p) request reply.Stored (Some segment)) p q × UsesRow segment p q
 IsWriteAnswer shape request write.NotStored p q = AddsReply request reply.NotStored p q
@@ -43,26 +45,30 @@ IsWriteAnswer shape request write.NoRoom p q = ChangesNothing p q
 IsWriteAnswer shape request write.BucketFull p q = ChangesNothing p q × (adds_key request false ≡ true) × WasFull shape (key_of request) (marked p) (marked q)
 IsWriteAnswer shape request write.Busy p q = ChangesNothing p q × IsBusy (bucket_of shape (key_of request)) p q
 
--- a set is stored or refused
+-- a set is stored, or lacks a row, a word or the bit
 abbrev pub IsSetAnswer : WriteAnswer → Type 0
 IsSetAnswer write.NotStored = ⊥
 IsSetAnswer write.Exists = ⊥
 IsSetAnswer write.NotFound = ⊥
 IsSetAnswer _ = Unit {0}
 
--- a delete is replied by one entry, or refused for want of the bit by none
+-- a delete has its reply by one entry, or is Busy, without an entry, for lack of the bit
 abbrev pub IsDeleteAnswer : Shape → List ℕ → ℕ → DeleteAnswer → Pass → Pass → Type 0
 IsDeleteAnswer shape key now delete.Deleted p q = AddsReply (Delete key now) reply.Deleted p q
 IsDeleteAnswer shape key now delete.NotFound p q = AddsReply (Delete key now) reply.NotFound p q
 IsDeleteAnswer shape key now delete.Busy p q = ChangesNothing p q × IsBusy (bucket_of shape key) p q
 
--- It raised no frequency, and found no bit by a look without it. It came into a segment once at most, and the key stood there at that moment.
+-- The pass raised no frequency, and no look of it without the bit found the bit set.
+-- It came into a segment once at most, and the key stood there at that moment.
 pub record EntersForKey (shape : Shape) (key : List ℕ) (p q : Pass) : Type 0 where
   pub raises_nothing : RaisesNothing p q
   pub glanced : (bucket : ℕ) → glanced q bucket ≡ glanced p bucket
   pub entered : (entered q ≡ entered p) ⊎ ((entered q ≡ entered p + 1) × ((segment : ℕ) × CameIn shape key (number p) segment (trace p) (trace q)))
 
--- A set, an add, a replace or a cas is answered so. NoRoom comes first, exactly where the pass has no row left; then Busy, always where the pass itself has the bucket locked. For any other answer it took one bit. A new key is stored in the first empty word of its bucket's chain. A set comes into no segment, nor does what is Busy.
+-- A set, an add, a replace or a cas has this answer. NoRoom comes first, exactly if the pass has no row left.
+-- Then comes Busy, always if the pass itself has the bucket locked. For any other answer the pass took one bit.
+-- A new key is stored in the first empty word of its bucket's chain.
+-- The pass comes into no segment for a set, or if the answer is Busy.
 pub record Writes (b : Board) (request : Request) (told : WriteAnswer) (p q : Pass) : Type 0 where
   pub on : GoesOn b p q
   pub answer : IsWriteAnswer b.shape request told p q
@@ -76,7 +82,7 @@ pub record Writes (b : Board) (request : Request) (told : WriteAnswer) (p q : Pa
   pub enters : EntersForKey b.shape (key_of request) p q
   pub reads_nothing : (depends_on_key request ≡ false) ⊎ (told ≡ write.Busy) → ReadsNothing p q
 
--- a delete is answered so; it needs no row
+-- a delete has this answer, and needs no row
 pub record Deletes (b : Board) (key : List ℕ) (now : ℕ) (told : DeleteAnswer) (p q : Pass) : Type 0 where
   pub on : GoesOn b p q
   pub answer : IsDeleteAnswer b.shape key now told p q

@@ -25,7 +25,7 @@ IsNewKey b key p = standing (after b.shape (seen p)) key ≡ None
 abbrev pub IsFirst : Board → List ℕ → Place → Pass → Type 0
 IsFirst b key place p = AreTakenBefore (bucket_after b.shape (trace p) (bucket_of b.shape key)) (position b.shape (trace p) place)
 
--- the first empty word, of a key that doesn't stand; or the word of the key's item
+-- the first empty word, if the key doesn't stand; or the word of the key's item
 abbrev pub IsEmptyOrKeys : Board → List ℕ → Target → Pass → Type 0
 IsEmptyOrKeys b key target p =
     ((target.word ≡ 0) × IsFree b key target.place p × IsNewKey b key p × IsFirst b key target.place p)
@@ -44,12 +44,12 @@ pub record HasFullChain (b : Board) (key : List ℕ) (p : Pass) : Type 0 where
 abbrev pub Finds : Board → List ℕ → Option Target → Pass → Type 0
 Finds b key target p = MatchOption target (HasFullChain b key p) (λ found. IsTarget b key found p)
 
--- the key's own word, where a search found it, and not one that is free for the key
+-- the key's own word, if a search found it, and not a word that is free for the key
 abbrev pub own_word : Option Target → Option Target
 own_word None = None
 own_word (Some target) = if target.word == 0 then None else Some target
 
--- of the words of a search so far the first empty one, with one word more
+-- the first empty word of a search, after one word more
 abbrev pub Updates : Target → Option Target → Option Target → Type 0
 Updates target old new = ((target.word ≡ 0) × (new ≡ Some target) × (old ≡ None)) ⊎ ((new ≡ old) × ((target.word ≢ 0) ⊎ (is_some old ≡ true)))
 

@@ -1,5 +1,5 @@
-//! The word of a key's chain that a write changes, found under the bucket's bit by one pass over
-//! the chain, or the end of the chain where there is none.
+//! The word of a key's chain that a write changes, or the end of the chain if there is none.
+//! One walk along the chain, under the bucket's bit, finds it.
 ghost use Rattle.std.specs.Prelude.{◌≡◌, ◌≤◌, ◌↔◌, IsTrue, List, ℕ};
 ghost use Rattle.segmodel.specs.Words.{bucket_of, tag_of};
 ghost use Rattle.segcore.specs.Words.{HasBit};
@@ -17,7 +17,7 @@ use segstore::{enter_segment, leave_segment};
 use segword::{Chain, Item, KeyWords};
 
 /// A word of a chain, and what stood there: the item of a key,
-/// or 0 where the key doesn't stand and the word is free for it.
+/// or 0 if the key doesn't stand and the word is free for it.
 #[derive(Clone, Copy, Drop)]
 pub struct Target {
     pub place: Place,
@@ -33,7 +33,7 @@ pub(crate) struct ChainEnd {
     pub(crate) buckets: u32,
 }
 
-/// What a search comes to: a word for the key, or the end of its chain.
+/// What a search finds: a word for the key, or the end of its chain.
 #[derive(Clone, Copy, Drop)]
 pub(crate) enum Found {
     Word(Target),
@@ -43,7 +43,7 @@ pub(crate) enum Found {
 impl Target {
     ghost use Rattle.segwrite.specs.Writing.{Updates};
 
-    // The first empty word, of an earlier one and this.
+    // The first empty word of a search: the earlier one, or else this one if it is empty.
     fn or_earlier(self, earlier: Option<Target>) -> Option<Target>
         ensures { Updates self earlier result }
     {
@@ -58,7 +58,7 @@ impl Target {
 impl ChainEnd {
     ghost use Rattle.segwrite.specs.Growing.{or_end};
 
-    // The first empty word of a chain that ends here, if it has one.
+    // The first empty word of a chain that ends here, or else the end.
     fn or_empty(self, empty: Option<Target>) -> Found
         ensures { result ≡ or_end self empty }
     {
@@ -80,7 +80,7 @@ impl Found {
     }
 }
 
-// The key's own word, where a search found it, and not a word that is free for the key.
+// The key's own word, if a search found it, and not a word that is free for the key.
 pub(crate) fn own_word(found: Option<Target>) -> Option<Target>
     ensures { result ≡ own_word found }
 {
@@ -90,7 +90,7 @@ pub(crate) fn own_word(found: Option<Target>) -> Option<Target>
     }
 }
 
-// The key's word; or the first empty one, where the key doesn't stand; or neither.
+// The key's word; or the first empty one, if the key doesn't stand; or neither.
 pub(crate) fn find(
     board: &Board,
     pass: &mut Pass,
@@ -108,7 +108,7 @@ pub(crate) fn find(
     search(board, pass, bucket, key, tag).target()
 }
 
-// As `find`, but where there is neither it tells the end of the chain.
+// As `find`, but if there is neither, it returns the end of the chain.
 #[inline(always)]
 pub(crate) fn search(board: &Board, pass: &mut Pass, bucket: u32, key: &KeyWords, tag: u16) -> Found
     requires pass { IsPassOf board.now pass.old }
@@ -190,8 +190,8 @@ pub fn next_place(board: &Board, place: Place, word: u64) -> Option<Place>
     })
 }
 
-// The key's own word, where the key is present at a moment, under the bit of its bucket.
-// The pass comes into the segment of the key's item to see its deadline, and leaves it at once.
+// The key's own word, if the key is present at a moment, under the bit of the key's bucket.
+// The pass comes into the segment of the key's item, sees the deadline, and leaves at once.
 pub(crate) fn present_word(
     board: &Board,
     pass: &mut Pass,

@@ -1,5 +1,5 @@
 //! Growing of a chain none of whose words is empty, under the bit of its bucket:
-//! an overflow bucket is drawn, and joins the chain with the item of its last word.
+//! an overflow bucket is drawn, and joins the chain with the item of the chain's last word.
 ghost use Rattle.std.specs.Prelude.{◌<◌};
 ghost use Rattle.segcore.specs.Words.{HasNoEmptyWord};
 ghost use Rattle.segbase.specs.Words.{home_at, IsPassOf};
@@ -13,7 +13,7 @@ use segword::Item;
 
 // The word for a key: the one that a search found,
 // or one of an overflow bucket that joins the chain.
-// It is `None` where the chain is full and can't grow.
+// It is `None` if the chain is full and can't grow.
 pub(crate) fn make_room(board: &Board, pass: &mut Pass, bucket: u32, found: Found) -> Option<Target>
     requires pass { IsPassOf board.now pass.old }
     requires clean { HasCleanBit board.now pass.old bucket }
@@ -26,8 +26,8 @@ pub(crate) fn make_room(board: &Board, pass: &mut Pass, bucket: u32, found: Foun
     }
 }
 
-// Makes room for a new key of a bucket none of whose words is empty:
-// word 2 of an overflow bucket that joins its chain. It is `None` where the chain can't grow.
+// Makes room for a new key of a bucket whose chain has no empty word: word 2 of an overflow bucket
+// that joins the chain. It is `None` if the chain can't grow.
 fn grow(board: &Board, pass: &mut Pass, bucket: u32, end: ChainEnd) -> Option<Target>
     requires pass { IsPassOf board.now pass.old }
     requires clean { HasCleanBit board.now pass.old bucket }
@@ -48,7 +48,7 @@ fn grow(board: &Board, pass: &mut Pass, bucket: u32, end: ChainEnd) -> Option<Ta
 }
 
 // Draws the next overflow bucket for a bucket whose chain may grow.
-// It is `None` where all of them are drawn.
+// It is `None` if all of them are drawn.
 fn draw(board: &Board, pass: &mut Pass, bucket: u32) -> Option<u32>
     requires pass { IsPassOf board.now pass.old }
     requires clean { HasCleanBit board.now pass.old bucket }
@@ -66,7 +66,7 @@ fn draw(board: &Board, pass: &mut Pass, bucket: u32) -> Option<u32>
 }
 
 // Lets the overflow bucket that waits for the chain of a place join it.
-// While the item that moves there is hit, its frequency rises, and the word is copied again.
+// If a hit raises the frequency of the item that moves there, the word is copied again.
 fn join(board: &Board, pass: &mut Pass, place: Place, word: u64, overflow: u32)
     requires pass { IsPassOf board.now pass.old }
     requires spare { HasSpare board.now (home_at board.now place pass.old) overflow pass.old }
@@ -80,7 +80,7 @@ fn join(board: &Board, pass: &mut Pass, place: Place, word: u64, overflow: u32)
 }
 
 // Copies the word of the chain's last item to the overflow bucket,
-// and lets the chain lead on to it where that word still stands. `Err` has the word that does.
+// and lets the chain lead on to it if that word still stands. `Err` has the word that stands there.
 fn try_to_join(
     board: &Board,
     pass: &mut Pass,

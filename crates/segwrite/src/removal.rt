@@ -18,7 +18,7 @@ use segmodel::DeleteAnswer;
 use segpass::take_to_write;
 use segword::{Key, KeyWords, bucket_of, hash, tag_of};
 
-/// Takes the key out. It needs no row.
+/// Takes the key out. A delete needs no row.
 pub fn delete(board: &Board, pass: &mut Pass, key: &Key, now: u32) -> DeleteAnswer
     requires quiet { IsQuiet board.now pass.old }
     ensures deletes { Deletes board.now key.now now result pass.old pass.new }
@@ -61,7 +61,7 @@ fn remove(
 }
 
 /// Lets the item of a key leave its word, under the bit of its bucket.
-/// Its frequency may rise, and the exchange is tried again.
+/// If a hit raises the item's frequency meanwhile, the exchange is tried again.
 pub fn clear(board: &Board, pass: &mut Pass, target: Target)
     ghost left: { List ℕ × Leaving }
     requires pass { IsPassOf board.now pass.old }

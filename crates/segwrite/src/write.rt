@@ -22,15 +22,15 @@ use segmodel::WriteAnswer;
 use segpass::take_to_write;
 use segword::{Item, Key, KeyWords, Value, bucket_of, hash, tag_of};
 
-// Where a write stores.
+// When a write stores.
 #[derive(Clone, Copy, Drop)]
 pub(crate) enum When {
     Always,
-    // Where the key is absent.
+    // If the key is absent.
     Absent,
-    // Where the key is present.
+    // If the key is present.
     Present,
-    // Where the key is present and its bucket still has this version.
+    // If the key is present and its bucket still has this version.
     Unchanged(u32),
 }
 
@@ -43,7 +43,7 @@ pub fn set(board: &Board, pass: &mut Pass, key: &Key, value: &Value, now: u32) -
     write(board, pass, key, value, When::Always, now)
 }
 
-/// Stores the value under the key, which is absent: else it is NotStored.
+/// Stores the value under the key if the key is absent: else the answer is NotStored.
 pub fn add(board: &Board, pass: &mut Pass, key: &Key, value: &Value, now: u32) -> WriteAnswer
     requires quiet { IsQuiet board.now pass.old }
     ensures writes { Writes board.now (Add key.now value.now now) result pass.old pass.new }
@@ -51,7 +51,7 @@ pub fn add(board: &Board, pass: &mut Pass, key: &Key, value: &Value, now: u32) -
     write(board, pass, key, value, When::Absent, now)
 }
 
-/// Stores the value under the key, which is present: else it is NotStored.
+/// Stores the value under the key if the key is present: else the answer is NotStored.
 pub fn replace(board: &Board, pass: &mut Pass, key: &Key, value: &Value, now: u32) -> WriteAnswer
     requires quiet { IsQuiet board.now pass.old }
     ensures writes { Writes board.now (Replace key.now value.now now) result pass.old pass.new }
@@ -59,8 +59,8 @@ pub fn replace(board: &Board, pass: &mut Pass, key: &Key, value: &Value, now: u3
     write(board, pass, key, value, When::Present, now)
 }
 
-/// Stores the value under the key, whose bucket has the expected version: else it is Exists,
-/// or NotFound where the key is absent.
+/// Stores the value under the key if the key's bucket has the expected version. Else the answer is
+/// Exists, or NotFound if the key is absent.
 pub fn cas(
     board: &Board,
     pass: &mut Pass,
@@ -75,7 +75,7 @@ pub fn cas(
     write(board, pass, key, value, When::Unchanged(expected), now)
 }
 
-// Stores the value under the key where the cache doesn't refuse it.
+// Stores the value under the key if the cache doesn't refuse it.
 fn write(
     board: &Board,
     pass: &mut Pass,
@@ -115,7 +115,7 @@ fn write(
 }
 
 // What the cache answers in place of storing.
-// A set is stored in any case; else it depends on whether the key is present.
+// A set is stored in any case. For any other write it depends on whether the key is present.
 fn refusal(
     board: &Board,
     pass: &mut Pass,
@@ -142,8 +142,8 @@ fn refusal(
     refusal_where(board, pass, bucket, is_present, when, now)
 }
 
-// The same where the key is present or not.
-// The version is looked at only where the write depends on it.
+// What the cache answers in place of storing, by whether the key is present.
+// The version is looked at only if the write depends on it.
 fn refusal_where(
     board: &Board,
     pass: &mut Pass,
@@ -175,7 +175,7 @@ fn refusal_where(
     }
 }
 
-// Gives back the bit of a write that the cache refuses. The refusal comes into the history with it.
+// Gives back the bit of a write that the cache refuses. The refusal enters the history with this step.
 pub(crate) fn refuse(board: &Board, pass: &mut Pass, bucket: u32)
     ghost request: { Request }
     requires pass { IsPassOf board.now pass.old }
@@ -224,8 +224,8 @@ fn store(
     pass.set_used(segment, row + 1);
 }
 
-// Puts the item of a stored write into the key's word.
-// While that has an item of the key, its frequency may rise, and the exchange is tried again.
+// Puts the item of a stored write into the key's word. If that has an item of the key, and a hit
+// raises its frequency meanwhile, the exchange is tried again.
 fn link(board: &Board, pass: &mut Pass, target: Target, item: Item)
     ghost request: { Request }
     requires pass { IsPassOf board.now pass.old }
