@@ -1,4 +1,5 @@
--- What an evict answers: how many keys it took out of the segment, each by one entry, and that none stands there then, or whose bucket was in the way.
+-- What an evict answers: how many keys it took out of the segment, each by one entry.
+-- Either no key stands there then, or the bucket of one was in the way.
 use Rattle.std.specs.Prelude.{◌≡◌, ◌≢◌, ◌↔◌, ◌⊎◌, ℕ, List, [], ◌∷◌, ◌++◌, length, Some, None}
 use Rattle.segword.specs.Words.{Shape}
 use Rattle.segmodel.specs.declared.entry.Entry.TheVariants as entry
@@ -21,11 +22,12 @@ AreEvictions pass segment (added ∷ more) = ((key : List ℕ) × (added ≡ ent
 abbrev pub StoodIn : Shape → ℕ → List ℕ → List Entry → List Entry → Type 0
 StoodIn shape segment key old new = (history : List Entry) × IsBetween old new history × StandsIn (after shape history) key segment
 
--- it tried for bits for at most so many keys, each of which stood in the segment at some moment of the call
+-- the pass tried for bits for at most `most` keys, each of which stood in the segment at some moment of the call
 abbrev pub TriesForKeys : Shape → ℕ → ℕ → Pass → Pass → Type 0
 TriesForKeys shape segment most p q = TriesFor shape (λ key. StoodIn shape segment key (seen p) (seen q)) most p q
 
--- So many keys were taken out of the segment. It tried for bits for no more keys than the segment has used rows.
+-- This number of keys was taken out of the segment.
+-- The pass tried for bits for no more keys than the segment has used rows.
 pub record TakesOut (shape : Shape) (segment count : ℕ) (p q : Pass) : Type 0 where
   pub evictions : List Entry
   pub counted : length evictions ≡ count
@@ -38,11 +40,13 @@ pub record TakesOut (shape : Shape) (segment count : ℕ) (p q : Pass) : Type 0 
 abbrev pub ended : ℕ → Plain → Plain
 ended segment plain = with_current (but_for segment plain.current) plain
 
--- the bucket of a key that stood in the segment is one that the pass itself has locked, or whose bit it found set by another 64 times or more
+-- A key stood in the segment whose bucket the pass itself has locked.
+-- Or the pass found the bit of that bucket set by another 64 times or more.
 abbrev pub IsBarred : Shape → ℕ → Pass → Pass → Type 0
 IsBarred shape segment p q = IsInTheWay shape (λ key. StoodIn shape segment key (seen p) (seen q)) p q
 
--- An own segment in use is emptied, or stays in use with what couldn't be taken out; calling again goes on. One that isn't in use has nothing to take out.
+-- An own segment in use is emptied, or stays in use with what couldn't be taken out; calling again goes on.
+-- A segment that isn't in use has nothing to take out.
 abbrev pub IsEvictAnswer : Shape → ℕ → EvictAnswer → Pass → Pass → Type 0
 IsEvictAnswer shape segment (evict.Evicted count) p q =
     ((state_of p segment ≡ Some InUse) × TakesOut shape segment count p q × (q.plain ≡ with_state segment Evicted (ended segment p.plain)) × NoneStandsIn (after shape (seen q)) segment)
@@ -51,7 +55,8 @@ IsEvictAnswer shape segment evict.NotYours p q = q ≡ p
 IsEvictAnswer shape segment (evict.Busy count) p q =
     (state_of p segment ≡ Some InUse) × TakesOut shape segment count p q × (q.plain ≡ ended segment p.plain) × IsBarred shape segment p q
 
--- An evict is answered so: NotYours exactly if the segment isn't one of the pass's own. It draws no overflow bucket and reads nothing.
+-- An evict has this answer, which is NotYours exactly if the segment isn't one of the pass's own.
+-- The pass draws no overflow bucket, and does nothing of what readers do.
 pub record EvictsSegment (b : Board) (segment : ℕ) (told : EvictAnswer) (p q : Pass) : Type 0 where
   pub on : GoesOn b p q
   pub answer : IsEvictAnswer b.shape segment told p q

@@ -5,7 +5,8 @@ use Rattle.segmodel.specs.Words.{after, Begins, StandsIn}
 use Rattle.segcore.specs.Words.{entries, frequency_in, last_at, Mark, slot}
 use Rattle.segbase.specs.Words.{marked, Pass}
 
--- at a moment between these two the key stood in the segment, and its item, which named this row, had a frequency of which this is so
+-- At a moment between these two the key stood in the segment.
+-- The key's item named a row there, and had a frequency of which this is so.
 pub record HadFrequency (shape : Shape) (segment : ℕ) (IsSo : ℕ → Type 0) (old new : List Mark) (key : List ℕ) : Type 0 where
   pub moment : List Mark
   pub from : Begins old moment
@@ -22,6 +23,6 @@ WasOften shape segment cutoff p q = HadFrequency shape segment (λ frequency. cu
 abbrev pub WasSeldom : Shape → ℕ → ℕ → Pass → Pass → List ℕ → Type 0
 WasSeldom shape segment cutoff p q = HadFrequency shape segment (λ frequency. frequency < cutoff) (marked p) (marked q)
 
--- so it is at the return: the key's item is in the segment, and its frequency is the cutoff or over it
+-- at the return the key's item is in the segment, and its frequency is the cutoff or over it
 abbrev pub IsOften : Shape → ℕ → ℕ → Pass → List ℕ → Type 0
 IsOften shape segment cutoff q = HadFrequency shape segment (λ frequency. cutoff ≤ frequency) (marked q) (marked q)

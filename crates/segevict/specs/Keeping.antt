@@ -1,4 +1,5 @@
--- What a keep answers: how many items it moved into the current segment, each by one entry; that what is left was below the cutoff; and what was in the way.
+-- What a keep answers: how many items it moved into the current segment, each by one entry.
+-- Either what is left was below the cutoff, or something was in the way.
 use Rattle.std.specs.Prelude.{◌≡◌, ◌≢◌, ◌↔◌, ◌⊎◌, ℕ, ◌+◌, List, [], ◌∷◌, ◌++◌, length, true, false, Some, None}
 use Rattle.segword.specs.Words.{Shape}
 use Rattle.segmodel.specs.declared.entry.Entry.TheVariants as entry
@@ -16,7 +17,7 @@ use Rattle.segevict.specs.Tries.{IsInTheWay, TriesFor}
 
 -- ---- where it goes
 
--- items of the segment can be moved into this one: it is current, another one than the first, and has the same deadline
+-- items of the segment can be moved into this one: it is current, it is not the same, and it has the same deadline
 pub record IsKeepTarget (segment into : ℕ) (p : Pass) : Type 0 where
   pub current : current_of p ≡ Some into
   pub other : segment ≢ into
@@ -29,7 +30,8 @@ abbrev pub AreMoves : ℕ → ℕ → ℕ → (List ℕ → Type 0) → List Ent
 AreMoves pass segment into IsSo [] = Unit {0}
 AreMoves pass segment into IsSo (added ∷ more) = ((key : List ℕ) × (added ≡ entry.Moved pass key segment into) × IsSo key) × AreMoves pass segment into IsSo more
 
--- so many more rows of the segment are used, and nothing else of what the pass keeps of its segments, its lock and its hold is changed
+-- This number of rows more is used of the segment.
+-- Nothing else is changed of what the pass keeps of its segments, its lock and its hold.
 pub record UsesRows (into count : ℕ) (p q : Pass) : Type 0 where
   pub used : (used : ℕ) → used_of p into ≡ Some used → used_of q into ≡ Some (used + count)
   pub others : (other : ℕ) → other ≢ into → used_of q other ≡ used_of p other
@@ -40,7 +42,9 @@ pub record UsesRows (into count : ℕ) (p q : Pass) : Type 0 where
   pub holds : is_holding_of q ≡ is_holding_of p
   pub memo : memo q ≡ memo p
 
--- So many items were moved, each by one entry and into a row of its own, and each of a frequency that was the cutoff or over it at a moment of the call. The call tried for the bits of such keys alone, and for no more than the segment has used rows.
+-- This number of items was moved, each by one entry and into a row of its own.
+-- Each had a frequency that was the cutoff or over it at a moment of the call.
+-- The pass tried for the bits of such keys alone, and for no more than the segment has used rows.
 pub record MovesItems (shape : Shape) (segment into cutoff count : ℕ) (p q : Pass) : Type 0 where
   pub moves : List Entry
   pub counted : length moves ≡ count
@@ -55,12 +59,15 @@ AreSeldom shape segment cutoff p q = (key : List ℕ) → StandsIn (after shape 
 
 -- ---- the answer
 
--- so many were moved from a segment in use into the current one
+-- this number of items was moved from a segment in use into the current one
 abbrev pub MovesAway : Shape → ℕ → ℕ → ℕ → Pass → Pass → Type 0
 MovesAway shape segment cutoff count p q =
     (state_of p segment ≡ Some InUse) × ((into : ℕ) × IsKeepTarget segment into p × MovesItems shape segment into cutoff count p q)
 
--- Each key that still stands in the segment was below the cutoff at a moment of the call; a segment that isn't in use has nothing to move. Or there is no segment to move into; or no row of it is left, and an item of the cutoff's frequency or a higher one is still in the old one; or a bucket was in the way of one that had a row. What was moved stays so, and calling again goes on.
+-- Kept: each key that still stands in the segment was below the cutoff at a moment of the call, or the segment isn't
+-- in use, and nothing is moved. NoRoom: there is no segment to move into; or no row of it is left, and an item of the
+-- cutoff's frequency or a higher one is still in the old one. Busy: there is a row, but a bucket was in the way.
+-- What was moved stays so, and calling again goes on.
 abbrev pub IsKeepAnswer : Shape → ℕ → ℕ → KeepAnswer → Pass → Pass → Type 0
 IsKeepAnswer shape segment cutoff (keep.Kept count) p q =
     (MovesAway shape segment cutoff count p q × AreSeldom shape segment cutoff p q)
@@ -72,7 +79,9 @@ IsKeepAnswer shape segment cutoff (keep.NoRoom count) p q =
 IsKeepAnswer shape segment cutoff (keep.Busy count) p q =
     MovesAway shape segment cutoff count p q × (has_room shape q ≡ true) × IsInTheWay shape (WasOften shape segment cutoff p q) p q
 
--- A keep is answered so: NotYours exactly if the segment isn't one of the pass's own. The segment's rows are gone over in their order. The pass draws no overflow bucket, and does nothing of what readers do.
+-- A keep has this answer, which is NotYours exactly if the segment isn't one of the pass's own.
+-- The rows of the segment are gone over in their order.
+-- The pass draws no overflow bucket, and does nothing of what readers do.
 pub record KeepsItems (b : Board) (segment cutoff : ℕ) (told : KeepAnswer) (p q : Pass) : Type 0 where
   pub on : GoesOn b p q
   pub answer : IsKeepAnswer b.shape segment cutoff told p q

@@ -19,7 +19,8 @@ use Rattle.segevict.specs.Tries.{TriesFor}
 
 -- ---- what is seen of a row without the bit
 
--- By looks alone the pass saw that a word names the row, for the key that was stored or moved there, and that its item has a frequency of which this is so.
+-- By looks alone the pass saw that a word names the row, for the key that was stored or moved there.
+-- The row's item has a frequency of which this is so.
 pub record SeesRow (b : Board) (segment row : ℕ) (IsSo : ℕ → Type 0) (p q : Pass) : Type 0 where
   pub idles : Idles b p q
   pub key : List ℕ
@@ -28,9 +29,10 @@ pub record SeesRow (b : Board) (segment row : ℕ) (IsSo : ℕ → Type 0) (p q 
   pub named : (bucket_after b.shape (trace q) (bucket_of b.shape key)).items position ≡ item (slot key segment row)
   pub is : IsSo (frequency_of (trace q) segment row)
 
--- ---- what is done under it
+-- ---- what is done under the bit
 
--- the bit of the bucket was taken after so many tries that found it set, this was done under it, and it was given back
+-- The bit of the bucket was taken after this number of tries that found it set.
+-- Then the pass added these events, and gave the bit back.
 abbrev pub under_bit : ℕ → ℕ → ℕ → List Event → List Event
 under_bit pass bucket times own = Freed pass bucket false ∷ (own ++ (Took pass bucket ∷ bounces pass bucket times))
 
@@ -45,7 +47,7 @@ MovesItem b bucket sought into to true p q = (key : List ℕ) × (position : ℕ
     × AddsEvents b (moves (number p) key sought.seg sought.row into to position words) p q × (q.plain ≡ with_own into one_more p.plain)
 MovesItem b bucket sought into to false p q = AddsEvents b [] p q × (q.plain ≡ p.plain)
 
--- So it was. Then no word names the row, and the pass still has the bit.
+-- The item was moved so, or nothing was done. Then no word names the row, and the pass still has the bit.
 pub record MovesRow (b : Board) (bucket : ℕ) (sought : Item) (into to : ℕ) (told : Bool) (p q : Pass) : Type 0 where
   pub moves : MovesItem b bucket sought into to told p q
   pub gone : RowGone b.shape sought.seg sought.row (trace q)
@@ -55,7 +57,9 @@ pub record MovesRow (b : Board) (bucket : ℕ) (sought : Item) (into to : ℕ) (
 
 -- ---- a row
 
--- The row's item is moved. Or the row is passed over: no word names it, its item is below the cutoff, or under the bit no word names it any more. Or there is no row left for the item, or its bucket's bit can't be had.
+-- The row's item is moved. Or the row is passed over: no word names it, its item is below the cutoff,
+-- or under the bit no word names it any more. Or there is no row left for the item.
+-- Or the bit of the item's bucket can't be taken.
 abbrev pub IsKeptRow : Board → ℕ → ℕ → ℕ → ℕ → KeptRow → Pass → Pass → Type 0
 IsKeptRow b segment row into cutoff kept.Moved p q = (f : Pass) × (s : SeesRow b segment row (λ frequency. cutoff ≤ frequency) p f)
     × GoesOn b f q × (to : ℕ) × (times : ℕ) × (position : ℕ) × (words : List ℕ) × (used_of p into ≡ Some to) × (to < b.shape.rows)
@@ -72,7 +76,8 @@ IsKeptRow b segment row into cutoff kept.NoRoom p q = SeesRow b segment row (λ 
 IsKeptRow b segment row into cutoff kept.Busy p q = (f : Pass) × (s : SeesRow b segment row (λ frequency. cutoff ≤ frequency) p f)
     × GoesOn b f q × (has_room b.shape p ≡ true) × ChangesNothing f q × IsBusy (bucket_of b.shape s.key) f q
 
--- The row of a segment is gone over. The pass tries for the bit only if the row's item had the cutoff's frequency or a higher one.
+-- A row of the segment is gone over. The pass tries for the bit only if the row's item had the cutoff's frequency
+-- or a higher one.
 pub record KeepsRow (b : Board) (segment row into cutoff : ℕ) (told : KeptRow) (p q : Pass) : Type 0 where
   pub on : GoesOn b p q
   pub memo : memo q ≡ memo p
@@ -83,19 +88,19 @@ pub record KeepsRow (b : Board) (segment row into cutoff : ℕ) (told : KeptRow)
 
 -- ---- rows in their order
 
--- the first rows were gone over, and so many of their items moved
+-- this number of rows was gone over, from the first on, and this number of their items was moved
 abbrev pub GoesOver : Board → ℕ → ℕ → ℕ → ℕ → ℕ → Pass → Pass → Type 0
 GoesOver b segment into cutoff zero count p q = (count ≡ 0) × (q ≡ p)
 GoesOver b segment into cutoff (suc row) count p q = (middle : Pass) × (
     ((before : ℕ) × (count ≡ before + 1) × GoesOver b segment into cutoff row before p middle × KeepsRow b segment row into cutoff kept.Moved middle q)
     ⊎ (GoesOver b segment into cutoff row count p middle × KeepsRow b segment row into cutoff kept.Left middle q))
 
--- the rows before one were gone over, and that one was answered so
+-- the rows before one were gone over, and that one has this answer
 abbrev pub StopsAt : Board → ℕ → ℕ → ℕ → KeptRow → ℕ → Pass → Pass → Type 0
 StopsAt b segment into cutoff told count p q = (row : ℕ) × (used : ℕ) × (used_of p segment ≡ Some used) × (row < used)
     × (middle : Pass) × GoesOver b segment into cutoff row count p middle × KeepsRow b segment row into cutoff told middle q
 
--- all used rows of the segment are gone over, or those up to one that stops it
+-- all used rows of the segment are gone over, or those up to one that stops the keep
 abbrev pub GoesInOrder : Board → ℕ → ℕ → ℕ → KeepAnswer → Pass → Pass → Type 0
 GoesInOrder b segment into cutoff (keep.Kept count) p q = (used : ℕ) × (used_of p segment ≡ Some used) × GoesOver b segment into cutoff used count p q
 GoesInOrder b segment into cutoff (keep.NoRoom count) p q = StopsAt b segment into cutoff kept.NoRoom count p q

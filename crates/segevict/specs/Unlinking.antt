@@ -15,12 +15,13 @@ use Rattle.segevict.specs.Rows.{KeepsGone}
 
 -- ---- the key goes
 
--- the word was cleared, and its key so taken out of the segment; or there was none
+-- the word was cleared, which took its key out of the segment; or there was no such word
 abbrev pub TakesKey : Board → ℕ → Item → Bool → Pass → Pass → Type 0
 TakesKey b bucket item true p q = (key : List ℕ) × (at : ℕ) × (bucket ≡ bucket_of b.shape key) × AddsEvents b (Unlinked (number p) key at (Evicts item.seg) ∷ []) p q
 TakesKey b bucket item false p q = AddsEvents b [] p q
 
--- under the bit; no word names the row any more
+-- Under the bit, which the pass still has, the key was taken out, or there was no word of it.
+-- No word names the row any more.
 pub record TakesRow (b : Board) (bucket : ℕ) (item : Item) (told : Bool) (p q : Pass) : Type 0 where
   pub takes : TakesKey b bucket item told p q
   pub gone : RowGone b.shape item.seg item.row (trace q)
@@ -33,7 +34,7 @@ IsRowAnswer b segment row row_answer.Evicted p q = KeepsGone b segment p q × Ro
 IsRowAnswer b segment row row_answer.Gone p q = KeepsGone b segment p q × RowGone b.shape segment row (trace q) × (mine q ≡ mine p)
 IsRowAnswer b segment row row_answer.Busy p q = (mine q ≡ mine p) × IsBarred b.shape segment p q
 
--- the key of a row is taken out, or gone already, or its bucket's bit can't be had
+-- the key of a row is taken out, or gone already, or the bit of its bucket can't be taken
 pub record EvictsRow (b : Board) (segment row : ℕ) (told : RowAnswer) (p q : Pass) : Type 0 where
   pub on : GoesOn b p q
   pub plain : q.plain ≡ p.plain

@@ -19,15 +19,15 @@ use segwrite::clear;
 
 // What became of the key of a row.
 pub(crate) enum RowAnswer {
-    // It was taken out of the segment.
+    // The key was taken out of the segment.
     Evicted,
-    // It didn't stand there any more.
+    // The key didn't stand there any more.
     Gone,
-    // The bit of its bucket was found set at each try, or the pass itself has the bucket locked.
+    // The bit of the key's bucket was found set at each try, or the pass itself has the bucket locked.
     Busy,
 }
 
-// Nothing more is stored in the segment.
+// Lets the pass store nothing more into the segment.
 fn end_storing(pass: &mut Pass, segment: u32)
     ensures { pass.new ≡ record pass.old { plain = ended segment pass.old.plain } }
 {
@@ -37,8 +37,8 @@ fn end_storing(pass: &mut Pass, segment: u32)
 }
 
 /// Takes out every key that stands in a segment of the pass's own, so that it can be refilled.
-/// Nothing is stored there from then on, also where the answer is Busy:
-/// then the keys that are left go when it is asked again.
+/// Nothing is stored there from then on, even if the answer is Busy.
+/// Then another evict takes out the keys that are left.
 pub fn evict(board: &Board, pass: &mut Pass, segment: u32) -> EvictAnswer
     requires quiet { IsQuiet board.now pass.old }
     ensures evicts { EvictsSegment board.now segment result pass.old pass.new }
@@ -77,7 +77,7 @@ fn evict_rows(board: &Board, pass: &mut Pass, segment: u32) -> EvictAnswer
     EvictAnswer::Evicted(evicted)
 }
 
-// Takes out the key of a row, where it stands there. Its bucket's bit is taken only then.
+// Takes out the key of a row, if it stands there. The bit of the key's bucket is taken only then.
 fn evict_row(board: &Board, pass: &mut Pass, segment: u32, row: u32) -> RowAnswer
     requires quiet { IsQuiet board.now pass.old }
     requires used { IsUsedRow segment row pass.old }
@@ -100,7 +100,7 @@ fn evict_row(board: &Board, pass: &mut Pass, segment: u32, row: u32) -> RowAnswe
 }
 
 // Clears the word that names the row of an item, under the bit of its bucket.
-// It is false where there is none.
+// Returns false if no word names the row.
 fn clear_row(board: &Board, pass: &mut Pass, bucket: u32, item: Item) -> bool
     requires pass { IsPassOf board.now pass.old }
     requires stored { IsStoredIn board.now bucket item pass.old }

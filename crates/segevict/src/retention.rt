@@ -22,18 +22,18 @@ use segwrite::Target;
 
 // What became of the item of a row.
 pub(crate) enum KeptRow {
-    // It was moved.
+    // The item was moved.
     Moved,
-    // It was read too seldom, or doesn't stand there any more.
+    // The item was read too seldom, or doesn't stand there any more.
     Left,
     // The segment to move into has no row left.
     NoRoom,
-    // The bit of its bucket was found set at each try, or the pass itself has the bucket locked.
+    // The bit of the item's bucket was found set at each try, or the pass itself has the bucket locked.
     Busy,
 }
 
 /// Moves the items of a segment of the pass's own whose frequency is the cutoff or over it
-/// into its current segment. If no other segment with the same deadline is current,
+/// into the pass's current segment. If no other segment with the same deadline is current,
 /// the answer is NoRoom(0). If the answer is NoRoom or Busy, what was moved stays moved,
 /// and another keep goes on.
 pub fn keep(board: &Board, pass: &mut Pass, segment: u32, cutoff: u8) -> KeepAnswer
@@ -82,7 +82,7 @@ fn keep_rows(board: &Board, pass: &mut Pass, segment: u32, into: u32, cutoff: u8
     KeepAnswer::Kept(kept)
 }
 
-// Moves the item of a row, if it was read often enough. Its bucket's bit is taken only then.
+// Moves the item of a row, if it was read often enough. The bit of the item's bucket is taken only then.
 fn keep_row(
     board: &Board,
     pass: &mut Pass,
@@ -119,7 +119,7 @@ fn keep_row(
 }
 
 // Moves the item of a row into this row of another segment, under the bit of its bucket.
-// It is false where no word names the row any more.
+// Returns false if no word names the row any more.
 fn move_row(board: &Board, pass: &mut Pass, bucket: u32, item: Item, into: u32, to: u32) -> bool
     requires pass { IsPassOf board.now pass.old }
     requires segments { KeepsSegments board.now pass.old }
@@ -139,7 +139,7 @@ fn move_row(board: &Board, pass: &mut Pass, bucket: u32, item: Item, into: u32, 
 }
 
 // Lets the item of a word name another row, under the bit of its bucket.
-// Its frequency may rise, and the exchange is tried again with the higher one.
+// If a hit raises the item's frequency meanwhile, the exchange is tried again with the higher one.
 fn relink(board: &Board, pass: &mut Pass, target: Target, into: u32, to: u32)
     ghost named: { Slot }
     requires pass { IsPassOf board.now pass.old }
@@ -152,8 +152,8 @@ fn relink(board: &Board, pass: &mut Pass, target: Target, into: u32, to: u32)
     }
 }
 
-// Lets the item of a place name another row where this word still stands.
-// `Err` has the word that does.
+// Lets the item of a place name another row if this word still stands there.
+// `Err` has the word that stands there instead.
 fn try_to_relink(
     board: &Board,
     pass: &mut Pass,

@@ -1,4 +1,4 @@
-//! Rows of a segment of the pass's own: whose key was stored there, and which word names them.
+//! Rows of a segment of the pass's own: whose key was stored in each, and which word names it.
 ghost use Rattle.std.specs.Prelude.{◌≡◌, ◌<◌, Option};
 ghost use Rattle.segbase.specs.Words.{IsPassOf};
 ghost use Rattle.segstore.specs.Words.{Idles};
