@@ -5,7 +5,7 @@ use Rattle.segbase.specs.Words.{Board, bounced, drew, entered, glanced, locked_o
 use Rattle.segbase.specs.Words.{mine, number, Pass, raised, seen, sight, taken}
 use Rattle.segpass.specs.Quiet.{IsQuiet}
 
--- it is the same pass, quiet again, and what it has seen only grew
+-- the pass is the same one, quiet again, and what it has seen only grew
 pub record GoesOn (b : Board) (p q : Pass) : Type 0 where
   pub quiet : IsQuiet b q
   pub same : number q ≡ number p
@@ -15,61 +15,63 @@ pub record GoesOn (b : Board) (p q : Pass) : Type 0 where
 abbrev pub memo : Pass → Memo
 memo p = (sight p).memo
 
--- it added no entry, and its segments, its hold and its lock are as they were
+-- the pass added no entry, and its segments, its hold and its lock are as they were
 pub record ChangesNothing (p q : Pass) : Type 0 where
   pub entries : mine q ≡ mine p
   pub plain : q.plain ≡ p.plain
   pub memo : memo q ≡ memo p
 
--- it took no bit, and no try of it for one found another's
+-- the pass took no bit, and no try of it for one found another's
 pub record TakesNoBit (p q : Pass) : Type 0 where
   pub taken : taken q ≡ taken p
   pub bounced : (bucket : ℕ) → bounced q bucket ≡ bounced p bucket
 
--- it took one bit, after at most 63 tries that found that of the bucket set by another, and found that of no other bucket set; a try for a bit that it has itself is no event
+-- The pass took one bit, after at most 63 tries that found the bit of this bucket set by another.
+-- It found the bit of no other bucket set by a try. A try for a bit that the pass itself has is no event.
 pub record TakesOneBit (bucket : ℕ) (p q : Pass) : Type 0 where
   pub taken : taken q ≡ taken p + 1
   pub tries : bounced q bucket < bounced p bucket + 64
   pub others : (other : ℕ) → other ≢ bucket → bounced q other ≡ bounced p other
 
--- it took none: 64 tries found that of the bucket set by another, and none that of another bucket
+-- the pass took no bit: 64 tries found the bit of this bucket set by another, and none that of another bucket
 pub record TriesInVain (bucket : ℕ) (p q : Pass) : Type 0 where
   pub taken : taken q ≡ taken p
   pub tries : bounced q bucket ≡ bounced p bucket + 64
   pub others : (other : ℕ) → other ≢ bucket → bounced q other ≡ bounced p other
 
--- it drew no overflow bucket
+-- the pass drew no overflow bucket
 abbrev pub DrawsNothing : Pass → Pass → Type 0
 DrawsNothing p q = (bucket : ℕ) → drew q bucket ≡ drew p bucket
 
--- it raised the frequency of no item
+-- the pass raised the frequency of no item
 abbrev pub RaisesNothing : Pass → Pass → Type 0
 RaisesNothing p q = raised q ≡ raised p
 
--- how often it raised a frequency, came into a segment, and found the bit of a bucket set by a look without it
+-- how often the pass raised a frequency, came into a segment, and found a bucket's bit set by a look without it
 abbrev pub readings : Pass → ℕ × ℕ × (ℕ → ℕ)
 readings p = (raised p, entered p, λ bucket. glanced p bucket)
 
--- it did nothing of what readers do
+-- the pass did nothing of what readers do
 abbrev pub ReadsNothing : Pass → Pass → Type 0
 ReadsNothing p q = readings q ≡ readings p
 
--- how often it took a bit, found the bit of a bucket set by a take, and drew an overflow bucket for a bucket
+-- how often the pass took a bit, found a bucket's bit set by a take, and drew an overflow bucket for a bucket
 abbrev pub writings : Pass → ℕ × (ℕ → ℕ) × (ℕ → ℕ)
 writings p = (taken p, (λ bucket. bounced p bucket), λ bucket. drew p bucket)
 
--- all that a call may cost: what it does as writers do, and as readers do
+-- all that a call may cost: what the pass does as writers do, and as readers do
 abbrev pub efforts : Pass → (ℕ × (ℕ → ℕ) × (ℕ → ℕ)) × (ℕ × ℕ × (ℕ → ℕ))
 efforts p = (writings p, readings p)
 
--- none of this
+-- the call cost nothing of this
 abbrev pub CostsNothing : Pass → Pass → Type 0
 CostsNothing p q = efforts q ≡ efforts p
 
--- it added one entry of its own
+-- the pass added one entry of its own
 abbrev pub AddsEntry : Entry → Pass → Pass → Type 0
 AddsEntry entry p q = mine q ≡ entry ∷ mine p
 
--- the pass itself has the bucket locked, took no bit and found none of another's; or it found the bucket's bit set by another 64 times
+-- The pass itself has the bucket locked, took no bit and found none of another's.
+-- Or it found the bucket's bit set by another 64 times.
 abbrev pub IsBusy : ℕ → Pass → Pass → Type 0
 IsBusy bucket p q = ((locked_of p ≡ Some bucket) × TakesNoBit p q) ⊎ TriesInVain bucket p q

@@ -20,7 +20,7 @@ pub record SetsLock (bucket : Option ℕ) (p q : Pass) : Type 0 where
   pub plain : q.plain ≡ with_locked bucket p.plain
   pub memo : memo q ≡ record (memo p) { locked = option_map (lock_now q) bucket }
 
--- the bucket is locked: the pass took its bit for that
+-- the bucket is locked: the pass took the bucket's bit for that
 pub record Locks (bucket : ℕ) (p q : Pass) : Type 0 where
   pub entries : mine q ≡ mine p
   pub sets : SetsLock (Some bucket) p q
@@ -31,7 +31,8 @@ IsLockAnswer shape key lock.Locked p q = Locks (bucket_of shape key) p q
 IsLockAnswer shape key lock.Busy p q = ChangesNothing p q × TriesInVain (bucket_of shape key) p q
 IsLockAnswer shape key lock.AlreadyLocked p q = q ≡ p
 
--- A lock of a key's bucket is answered so. It draws no overflow bucket and reads nothing.
+-- A lock of a key's bucket has this answer, which is AlreadyLocked exactly if the pass has a bucket locked.
+-- The pass draws no overflow bucket, and does nothing of what readers do.
 pub record LocksBucket (b : Board) (key : List ℕ) (told : LockAnswer) (p q : Pass) : Type 0 where
   pub on : GoesOn b p q
   pub answer : IsLockAnswer b.shape key told p q
@@ -53,7 +54,7 @@ abbrev pub IsUnlockAnswer : Shape → Bool → Pass → Pass → Type 0
 IsUnlockAnswer shape true p q = Unlocks shape p q
 IsUnlockAnswer shape false p q = q ≡ p
 
--- An unlock is answered so: true exactly if the pass had a bucket locked.
+-- An unlock has this answer, which is true exactly if the pass had a bucket locked.
 pub record UnlocksBucket (b : Board) (told : Bool) (p q : Pass) : Type 0 where
   pub on : GoesOn b p q
   pub answer : IsUnlockAnswer b.shape told p q

@@ -1,4 +1,5 @@
--- What is so of a pass between calls has at most one proof, so that a struct may keep it in a ghost field, by { IsQuiet-prop .. }.
+-- What is so of a pass between calls has at most one proof, so that a struct may keep it in a ghost field,
+-- by { IsQuiet-prop .. }.
 use Rattle.std.specs.Prelude.{ℕ, List, Option}
 use Rattle.std.proofs.Props.{props}
 use mathlib.Core.Bool.{Bool-set}

@@ -1,4 +1,4 @@
--- How a call takes the writer bit of a bucket: by at most 64 tries, until one finds it clear.
+-- How a call takes the writer bit of a bucket: by at most 64 tries, until one finds the bit clear.
 use Rattle.std.specs.Prelude.{◌≡◌, ◌⊎◌, ℕ, ◌<◌, Bool, true, false, List, ◌∷◌, [], replicate, Option, None, ◌≢◌, Some}
 use Rattle.segcore.specs.declared.event.Event.TheVariants.{Took, Bounced, Entered, Left}
 use Rattle.segcore.specs.Words.{bucket_after, Event, HasBit}
@@ -11,11 +11,12 @@ pub record HasCleanBit (b : Board) (p : Pass) (bucket : ℕ) : Type 0 where
   pub unwritten : (bucket_after b.shape (trace p) bucket).written ≡ false
   pub undrawn : (bucket_after b.shape (trace p) bucket).spare ≡ None
 
--- the pass found the bit of the bucket set, so often
+-- the pass found the bit of the bucket set this number of times
 unfoldable pub bounces : ℕ → ℕ → ℕ → List Event
 bounces pass bucket times = replicate times (Bounced pass bucket)
 
--- The bit was taken at one of 64 tries, and the earlier ones found it set; or all 64 did, which aren't counted where the bit is the pass's own.
+-- The bit was taken at one of 64 tries, and the earlier tries found it set. Or all 64 tries found it set.
+-- They aren't counted if the bit is the pass's own.
 abbrev pub TakesBucket : Board → ℕ → Bool → Pass → Pass → Type 0
 TakesBucket b bucket true p q =
     (times : ℕ) × (times < 64) × AddsEvents b (Took (number p) bucket ∷ bounces (number p) bucket times) p q × HasCleanBit b q bucket
@@ -30,7 +31,7 @@ pub record TookToWrite (b : Board) (bucket : ℕ) (p q : Pass) : Type 0 where
   pub plain : q.plain ≡ p.plain
   pub memo : memo q ≡ memo p
 
--- or the call is Busy
+-- the pass took the bit so, or the call is Busy
 abbrev pub TakesToWrite : Board → ℕ → Bool → Pass → Pass → Type 0
 TakesToWrite b bucket true p q = TookToWrite b bucket p q
 TakesToWrite b bucket false p q = GoesOn b p q × ChangesNothing p q × IsBusy bucket p q × DrawsNothing p q × ReadsNothing p q

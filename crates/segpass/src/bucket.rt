@@ -1,4 +1,4 @@
-//! Buckets taken and given back, for the time of a call or locked for longer.
+//! The bits of buckets: taken and given back in a call, or kept by a lock for longer.
 ghost use Rattle.std.specs.Prelude.{◌≡◌, ◌≢◌, ◌<◌, ◌↔◌, is_some, None, IfSome, false};
 ghost use Rattle.segcore.specs.Words.{HasBit};
 ghost use Rattle.segpass.specs.declared.bucket.LockAnswer.TheVariants as lock;
@@ -25,7 +25,8 @@ pub enum LockAnswer {
 // How often a call tries to take a bit before it answers Busy.
 const TRIES: u32 = 64;
 
-/// Locks the bucket of a key. Until it is unlocked no other pass writes in it, and a delete and every write that has room are answered Busy.
+/// Locks the bucket of a key. Until the bucket is unlocked no other pass writes in it.
+/// The pass's own deletes in it, and its own writes that have room, are answered Busy.
 pub fn lock_bucket(board: &Board, pass: &mut Pass, key: &Key) -> LockAnswer
     requires quiet { IsQuiet board.now pass.old }
     ensures locks { LocksBucket board.now key.now result pass.old pass.new }
@@ -41,7 +42,7 @@ pub fn lock_bucket(board: &Board, pass: &mut Pass, key: &Key) -> LockAnswer
     LockAnswer::Locked
 }
 
-/// Unlocks the bucket that the pass has locked, and is false where there is none.
+/// Unlocks the bucket that the pass has locked. Returns false if there is none.
 pub fn unlock_bucket(board: &Board, pass: &mut Pass) -> bool
     requires quiet { IsQuiet board.now pass.old }
     ensures unlocks { UnlocksBucket board.now result pass.old pass.new }
@@ -66,7 +67,7 @@ fn set_lock(board: &Board, pass: &mut Pass, bucket: Option<u32>)
     board.remember(pass);
 }
 
-/// Takes the writer bit of a bucket, and is false where each try found it set.
+/// Takes the writer bit of a bucket. Returns false if each try found the bit set.
 pub fn take_bucket(board: &Board, pass: &mut Pass, bucket: u32) -> bool
     requires pass { IsPassOf board.now pass.old }
     requires bucket { bucket < board.now.shape.buckets }
@@ -81,7 +82,8 @@ pub fn take_bucket(board: &Board, pass: &mut Pass, bucket: u32) -> bool
     false
 }
 
-/// Takes the bit of a bucket for a write. It is false where the pass has the bucket locked itself, or found the bit set at each try.
+/// Takes the bit of a bucket for a write. Returns false if the pass itself has the bucket locked,
+/// or found the bit set at each try.
 pub fn take_to_write(board: &Board, pass: &mut Pass, bucket: u32) -> bool
     requires pass { IsQuiet board.now pass.old }
     requires bucket { bucket < board.now.shape.buckets }

@@ -1,4 +1,5 @@
-//! What a pass keeps between calls, and the writer bits of buckets: taken for the time of a call, or locked for longer.
+//! What a pass keeps between calls, and the writer bits of buckets: taken for the time of a call,
+//! or locked for longer.
 #![tactic(auto)]
 
 mod bucket;
