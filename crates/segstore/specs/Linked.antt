@@ -1,4 +1,5 @@
--- Item words that a pass looks at a second time, in whose segment it is: what stood there, and that its row is still the one.
+-- Item words at which a pass looks a second time, from within the item's segment: what stood there,
+-- and that the row is still as it was.
 use Rattle.std.specs.Prelude.{◌≡◌, ◌≢◌, ℕ, ◌/◌, ◌%◌, ◌^◌, ◌<◌, List, ◌++◌, Some}
 use Rattle.segword.specs.Words.{IsKey, IsSameItem, IsValue, Item, item_word, Shape, tag_part}
 use Rattle.segmodel.specs.Words.{after, bucket_of, IsBetween, standing, tag_of}
@@ -29,7 +30,8 @@ pub record IsChained (shape : Shape) (trace : List Event) (place : Place) : Type
 abbrev pub word_of_place : Shape → List Event → Place → ℕ
 word_of_place shape trace place = core.word shape trace (cell_at shape place)
 
--- At a moment this item word stood at the place, and was the key's: the key stood with the value in the word's segment, and the word's row held the pair.
+-- At a moment this item word stood at the place, and was the key's.
+-- The key stood with the value in the word's segment, and the word's row held the pair.
 pub record WasLinked (shape : Shape) (place : Place) (word : ℕ) (key value : List ℕ) (at : List Event) : Type 0 where
   pub lawful : IsLawful shape at
   pub chained : IsChained shape at place
@@ -48,7 +50,7 @@ pub record SawItem (shape : Shape) (place : Place) (word : ℕ) (key value : Lis
   pub between : IsBetween old new at
   pub was : WasLinked shape place word key value at
 
--- and now its row is as it was then, since its segment wasn't filled again
+-- a look found this item word, and its row is now as it was then, since the segment wasn't filled again
 pub record FoundItem (shape : Shape) (place : Place) (word : ℕ) (key value : List ℕ) (old new : List Event) : Type 0 where
   pub saw : SawItem shape place word key value old new
   pub kept : (more : List Event) × (new ≡ more ++ saw.at) × NoneRefills (segment_part word) more
@@ -56,20 +58,20 @@ pub record FoundItem (shape : Shape) (place : Place) (word : ℕ) (key value : L
   -- with one pass nothing has happened since
   pub alone : shape.passes ≡ 1 → new ≡ saw.at
 
--- The key's item was found, and its value is the row's: this is word 0 of it.
+-- The key's item was found, and `header` is word 0 of its row.
 pub record FoundKey (shape : Shape) (place : Place) (item : Item) (header : ℕ) (key : List ℕ) (old new : List Event) : Type 0 where
   pub value : List ℕ
   pub found : FoundItem shape place (item_word item) key value old new
   pub begins : header ≡ (row_after new item.seg item.row).words 0
 
--- a look between them found this word
+-- a look between two moments found this word
 pub record SawWord (shape : Shape) (place : Place) (word : ℕ) (old new : List Event) : Type 0 where
   pub at : List Event
   pub between : IsBetween old new at
   pub lawful : IsLawful shape at
   pub stood : word_of_place shape at place ≡ word
 
--- A second look saw the same item still: a key's, in whose segment the pass is, so that it may read the row.
+-- A second look saw the same item still. It is a key's, and the pass is in its segment, so it may read the row.
 pub record SeesAgain (b : Board) (place : Place) (word : ℕ) (item : Item) (q : Pass) : Type 0 where
   pub same : IsSameItem word (item_word item)
   pub key : List ℕ
@@ -78,12 +80,12 @@ pub record SeesAgain (b : Board) (place : Place) (word : ℕ) (item : Item) (q :
   pub entered : 0 < inside (trace q) (number q) item.seg
   pub readable : IsReadable b q item.seg item.row
 
--- the second look at an item word
+-- what a second look at an item word found
 abbrev pub IsLinked : Shape → Place → ℕ → Linked → List Event → List Event → Type 0
 IsLinked shape place word (linked.Same key value) old new = (same : ℕ) × IsSameItem word same × FoundItem shape place same key value old new
 IsLinked shape place word (linked.Changed other) old new = SawWord shape place other old new × ¬ (IsSameItem word other)
 
--- the same, taken for a key
+-- what a second look for a key found
 abbrev pub IsKeyed : Shape → Place → ℕ → List ℕ → Keyed → List Event → List Event → Type 0
 IsKeyed shape place word key (keyed.Same item header) old new = IsSameItem word (item_word item) × FoundKey shape place item header key old new
 IsKeyed shape place word key (keyed.Other item) old new = IsSameItem word (item_word item) × ((other value : List ℕ) × (other ≢ key) × SawItem shape place (item_word item) other value old new)

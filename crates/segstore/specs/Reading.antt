@@ -1,4 +1,4 @@
--- What a pass reads of a row, and what it does by that.
+-- What a pass reads of a row, and what the pass does by that.
 use Rattle.std.specs.Prelude.{◌≡◌, ℕ, ◌+◌, ◌<◌, List, [], ◌∷◌}
 use Rattle.segcore.specs.Words.{IsSegment, MayRead, row_after}
 use Rattle.segcore.specs.declared.event.Event.TheVariants.{Entered, Left}
@@ -11,7 +11,7 @@ pub record OnlyLooks (b : Board) (p q : Pass) : Type 0 where
   pub plain : q.plain ≡ p.plain
   pub memo : (sight q).memo ≡ (sight p).memo
 
--- a row of the table, and the pass may read it: no one changes it meanwhile
+-- the row is one of the table, and the pass may read it: no one changes it meanwhile
 abbrev pub IsReadable : Board → Pass → ℕ → ℕ → Type 0
 IsReadable b p segment row = IsSegment b.shape segment × (row < b.shape.rows) × MayRead b.shape (trace p) (number p) segment row
 
@@ -33,19 +33,19 @@ pub record IsReader (b : Board) (p q : Pass) : Type 0 where
   pub plain : q.plain ≡ p.plain
   pub memo : (sight q).memo ≡ (sight p).memo
 
--- and it is in one segment once more
+-- the pass only read, is in this segment once more than before, and what it keeps is as it was
 pub record IsReaderIn (b : Board) (p q : Pass) (segment : ℕ) : Type 0 where
   pub reads : ReadsIn b p q segment
   pub plain : q.plain ≡ p.plain
   pub memo : (sight q).memo ≡ (sight p).memo
 
--- it came into a segment, and did nothing else
+-- the pass came into a segment, and did nothing else
 pub record Enters (b : Board) (p q : Pass) (segment : ℕ) : Type 0 where
   pub did : AddsAtOnce b (Entered (number p) segment ∷ []) p q
   pub plain : q.plain ≡ p.plain
   pub memo : (sight q).memo ≡ (sight p).memo
 
--- it left a segment, and did nothing else
+-- the pass left a segment, and did nothing else
 pub record LeavesSegment (b : Board) (p q : Pass) (segment : ℕ) : Type 0 where
   pub moved : AddsEvents b (Left (number p) segment ∷ []) p q
   pub plain : q.plain ≡ p.plain

@@ -1,4 +1,4 @@
--- What a refill comes to.
+-- What a refill answers and leaves.
 use Rattle.std.specs.Prelude.{◌≡◌, ℕ, ◌<◌, [], ◌∷◌, Some, IsSome}
 use Rattle.segmodel.specs.Words.{RefillAnswer}
 use Rattle.segmodel.specs.declared.answer.RefillAnswer.TheVariants.{Refilled, NotYours, NotEvicted, Held}
@@ -27,7 +27,8 @@ pub record FillsAnew (b : Board) (segment deadline : ℕ) (p q : Pass) : Type 0 
   pub plain : q.plain ≡ refilled segment deadline p.plain
   pub memo : (sight q).memo ≡ (sight p).memo
 
--- a segment of another's or in use is left at once; one that wasn't refilled because it is read has a reader at that moment
+-- A segment of another pass, or one in use, is left as it is, without a step.
+-- If the answer is Held, some pass is in the segment at that moment.
 abbrev pub IsOutcome : Board → ℕ → ℕ → RefillAnswer → Pass → Pass → Type 0
 IsOutcome b segment deadline Refilled p q = FillsAnew b segment deadline p q
 IsOutcome b segment deadline NotYours p q = q ≡ p

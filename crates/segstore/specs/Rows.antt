@@ -10,10 +10,10 @@ unfoldable pub fills : ℕ → ℕ → ℕ → List ℕ → ℕ → List Event
 fills pass segment row words zero = []
 fills pass segment row words (suc place) = Filled pass segment row place (slice_index words place) ∷ fills pass segment row words place
 
--- it stored these eight words into the row, and did nothing else
+-- the pass stored these eight words into the row, and did nothing else
 abbrev pub StoresRow : Board → ℕ → ℕ → List ℕ → Pass → Pass → Type 0
 StoresRow b segment row words p q = AddsEvents b (fills (number p) segment row words 8) p q
 
--- it stored the words of the pair
+-- the pass stored the words of the pair into the row
 abbrev pub FillsRow : Board → ℕ → ℕ → List ℕ → List ℕ → Pass → Pass → Type 0
 FillsRow b segment row key value p q = StoresRow b segment row (row_of key value) p q

@@ -7,7 +7,7 @@ ghost use Rattle.segstore.specs.Reading.{Enters, LeavesSegment};
 
 use segbase::{Board, Pass};
 
-/// Comes into a segment in which an item was linked, and answers its deadline.
+/// Comes into a segment in which an item was linked, and returns the segment's deadline.
 /// A pass is in a segment at most twice.
 pub fn enter_segment(board: &Board, pass: &mut Pass, segment: u32) -> u32
     requires pass { IsPassOf board.now pass.old }

@@ -20,7 +20,7 @@ pub enum Linked {
     Changed(u64),
 }
 
-/// What a second look found that was taken for a key.
+/// What a second look for a key found.
 #[derive(Clone, Debug, Drop, PartialEq, Eq)]
 pub enum Keyed {
     /// The same item, its frequency aside, and the key's: the item as it stands now,
@@ -50,7 +50,8 @@ pub fn read_linked(board: &Board, pass: &mut Pass, place: Place, word: u64) -> L
     }
 }
 
-/// The same for a key in hand, which is compared with the row word by word. The value isn't read.
+/// Looks again as `read_linked` does, for a key in hand.
+/// The key is compared with the row word by word, and the value isn't read.
 #[inline(always)]
 pub fn read_keyed(board: &Board, pass: &mut Pass, place: Place, word: u64, key: &KeyWords) -> Keyed
     requires pass { IsPassOf board.now pass.old }
@@ -69,8 +70,8 @@ pub fn read_keyed(board: &Board, pass: &mut Pass, place: Place, word: u64, key: 
     }
 }
 
-// The second look: the item as it stands now, its frequency aside the same,
-// or the word that stands there.
+// The second look: the item as it stands now, if that is the same but for its frequency,
+// or else the word that stands there.
 fn look_again(board: &Board, pass: &mut Pass, place: Place, word: u64) -> Result<Item, u64>
     requires pass { IsPassOf board.now pass.old }
     requires place { IsChained board.now.shape (trace pass.old) place }

@@ -30,7 +30,7 @@ pub(crate) fn load_words(
     [first, second, third, fourth]
 }
 
-/// Word 0 of a row, where the row is one of the key:
+/// Word 0 of a row, if the row is one of the key:
 /// its first four words are compared with the key's.
 #[inline(always)]
 pub fn row_of_key(

@@ -12,8 +12,8 @@ use crate::row::load_words;
 use segbase::{Board, Pass};
 use segword::{Key, KeyWords, Value};
 
-/// Writes a key and a value into the row that the pass stores into next,
-/// and tells its segment and its number. The row isn't counted as used by it.
+/// Writes a key and a value into the row that the pass stores into next, and returns the row's
+/// segment and number. The call doesn't count the row as used.
 pub fn write_row(
     board: &Board,
     pass: &mut Pass,
@@ -41,7 +41,7 @@ pub fn write_row(
 }
 
 /// Writes a key and a value into a row of the pass's own that no item named in this filling.
-/// The row isn't counted as used by it.
+/// The call doesn't count the row as used.
 pub fn fill_row(
     board: &Board,
     pass: &mut Pass,
@@ -63,7 +63,7 @@ pub fn fill_row(
 }
 
 /// Writes into a row of the pass's own, that no item named in this filling, the pair that another
-/// row has. The row isn't counted as used by it.
+/// row has. The call doesn't count the row as used.
 pub fn copy_row(board: &Board, pass: &mut Pass, from: u32, from_row: u32, segment: u32, row: u32)
     requires pass { IsPassOf board.now pass.old }
     requires readable { IsReadable board.now pass.old from from_row }
@@ -81,7 +81,7 @@ pub fn copy_row(board: &Board, pass: &mut Pass, from: u32, from_row: u32, segmen
     store_words(board, pass, segment, row, &words);
 }
 
-// Eight words into a row of the pass's own that no item named in this filling.
+// Stores eight words into a row of the pass's own that no item named in this filling.
 fn store_words(board: &Board, pass: &mut Pass, segment: u32, row: u32, words: &[u64; 8])
     requires pass { IsPassOf board.now pass.old }
     requires own { IsOwnRow board.now.shape (trace pass.old) (number pass.old) segment row }
