@@ -21,7 +21,8 @@ pub record IsAtRest (words : Words) (trace : List Event) : Type 0 where
   pub lawful : IsLawful (shape_of words) trace
   pub each : (cell : Cell) → IsCell (shape_of words) cell → word_of_cell words cell ≡ word (shape_of words) trace cell
 
--- all that had happened when the board was closed: it goes on from what the pass has seen, by events of others alone; where it is the only pass it is what that has seen
+-- All that had happened when the board was closed. It goes on from what the pass has seen, by events of others alone.
+-- With only one pass, it is what that pass has seen.
 pub record Closes (b : Board) (p : Pass) (words : Words) (last : List Event) : Type 0 where
   pub of : shape_of words ≡ b.shape
   pub rest : IsAtRest words last
@@ -39,7 +40,8 @@ pub record AreAll (b : Board) (passes : List Pass) : Type 0 where
   pub each : (place : ℕ) (p : Pass) → slice_get passes place ≡ Some p → IsPassOf b p
   pub all : HasEach b.shape.passes passes
 
--- one of the passes has seen all that had happened when the board was closed with all of them: it goes on from what each has seen, by events of others alone, and is of nobody else
+-- One of the passes has seen all that had happened when the board was closed with all of them.
+-- That goes on from what each pass has seen, by events of others alone, and no event is of a pass that isn't there.
 pub record ClosesAll (b : Board) (passes : List Pass) (words : Words) : Type 0 where
   pub of : shape_of words ≡ b.shape
   pub place : ℕ

@@ -1,4 +1,4 @@
--- A board that was just made, and its passes.
+-- A board that was just created, and its passes.
 use Rattle.std.specs.Prelude.{◌≡◌, ℕ, ◌*◌, List, [], length, replicate, Some, None, false, slice_get}
 use Rattle.segword.specs.Words.{IsFirstFault, IsValid, Shape}
 use Rattle.segmodel.specs.declared.answer.SegState.TheVariants.{Empty}
@@ -10,7 +10,7 @@ use Rattle.segbase.specs.declared.pass.Pass.{Pass}
 use Rattle.segbase.specs.declared.board.Board.{Board}
 use Rattle.segbase.specs.Passes.{number, trace, holding, locked, IsPassOf}
 
--- the fault is the first of the shape; memory is wanted only for a shape that an index may have
+-- the fault is the first of the shape; out of memory comes only for a shape that an index may have
 abbrev pub IsMakeFault : Shape → MakeFault → Type 0
 IsMakeFault shape (fault.Shape f) = IsFirstFault shape f
 IsMakeFault shape fault.OutOfMemory = IsValid shape
@@ -40,7 +40,7 @@ pub record IsDealt (b : Board) (count : ℕ) (passes : List Pass) : Type 0 where
   pub long : length passes ≡ count
   pub each : (n : ℕ) (p : Pass) → slice_get passes n ≡ Some p → IsNewPass b n p
 
--- a board that was made of this shape, with all its passes
+-- a board that was created with this shape, with all its passes
 pub record IsMade (shape : Shape) (b : Board) (all : List Pass) : Type 0 where
   pub valid : IsValid shape
   pub of : b.shape ≡ shape

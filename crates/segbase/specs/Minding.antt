@@ -17,7 +17,7 @@ pub record HasLocked (shape : Shape) (trace : List Event) (pass : ℕ) (locked :
   pub past : Begins locked.trace trace
   pub bit : HasBit shape locked.trace pass locked.bucket
 
--- both are so of whatever it keeps in mind
+-- both are so of whatever the pass keeps in mind
 pub record Minds (shape : Shape) (trace : List Event) (pass : ℕ) (memo : Memo) : Type 0 where
   pub holding : (held : Held) → memo.holding ≡ Some held → HasHeld shape trace held
   pub locked : (locked : Locked) → memo.locked ≡ Some locked → HasLocked shape trace pass locked

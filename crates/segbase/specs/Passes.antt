@@ -29,22 +29,22 @@ view p = (sight p).view
 abbrev pub number : Pass → ℕ
 number p = (view p).number
 
--- all events that it has seen, its own among them
+-- all events that the pass has seen, its own among them
 abbrev pub trace : Pass → List Event
 trace p = (view p).trace
 
--- the history that it has seen, with marks and without
+-- the history that the pass has seen, with marks and without
 abbrev pub marked : Pass → List Mark
 marked p = mark.marked (trace p)
 
 abbrev pub seen : Pass → List Entry
 seen p = event.seen (trace p)
 
--- its own entries there
+-- the pass's own entries in that history
 abbrev pub mine : Pass → List Entry
 mine p = history.mine (number p) (seen p)
 
--- how often it set a bit, found the bit of a bucket set by a take, and by a glance
+-- how often the pass set a bit, found the bit of a bucket set by a take, and by a glance
 abbrev pub taken : Pass → ℕ
 taken p = count.taken (number p) (trace p)
 
@@ -54,30 +54,32 @@ bounced p bucket = count.bounced (number p) bucket (trace p)
 abbrev pub glanced : Pass → ℕ → ℕ
 glanced p bucket = count.glanced (number p) bucket (trace p)
 
--- how many overflow buckets it drew for a bucket
+-- how many overflow buckets the pass drew for a bucket
 abbrev pub drew : Pass → ℕ → ℕ
 drew p bucket = count.drew (number p) bucket (trace p)
 
--- how often it raised the frequency of an item
+-- how often the pass raised the frequency of an item
 abbrev pub raised : Pass → ℕ
 raised p = count.raised (number p) (trace p)
 
--- how often it came into a segment
+-- how often the pass came into a segment
 abbrev pub entered : Pass → ℕ
 entered p = count.entered (number p) (trace p)
 
--- what it holds and what it has locked
+-- what the pass holds and what it has locked
 abbrev pub holding : Pass → Option Held
 holding p = (sight p).memo.holding
 
 abbrev pub locked : Pass → Option Locked
 locked p = (sight p).memo.locked
 
--- the pass may keep this in mind: what it holds stood, and what it has locked it had the bit of, each at a moment that it has seen
+-- The pass may keep this in mind. What it holds stood, and what it has locked it had the bit of,
+-- each at a moment that it has seen.
 abbrev pub IsMemo : Board → Pass → Memo → Type 0
 IsMemo b p memo = Minds b.shape (trace p) (number p) memo
 
--- a pass of this board, between any two of its steps: the trace that it has seen is lawful, and its plain part agrees with it
+-- A pass of this board, between any two of its steps.
+-- The trace that it has seen is lawful, and its plain part agrees with it.
 pub record IsPassOf (b : Board) (p : Pass) : Type 0 where
   pub table : p.seat.table_id ≡ b.table.shared.table_id
   pub bare : p.seat.me.1 ≡ []
@@ -85,10 +87,10 @@ pub record IsPassOf (b : Board) (p : Pass) : Type 0 where
   pub valid : IsValid b.shape
   pub lawful : IsLawful b.shape (trace p)
   pub one_of : number p < b.shape.passes
-  -- where it is the only pass, all that has happened is its own
+  -- if the pass is the only one, all that has happened is its own
   pub alone : b.shape.passes ≡ 1 → AllBy (number p) (trace p)
   pub minds : IsMemo b p (sight p).memo
-  -- its plain part agrees
+  -- the plain part agrees
   pub numbered : p.plain.number ≡ number p
   pub first : p.plain.first ≡ number p * b.shape.segments_each
   pub owns : length p.plain.segments.items ≡ b.shape.segments_each
@@ -107,14 +109,14 @@ pub record AddsEvents (b : Board) (own : List Event) (p q : Pass) : Type 0 where
   pub more : List Event
   pub goes_on : trace q ≡ more ++ trace p
   pub adds : own_of (number p) more ≡ own
-  -- a segment that it stayed in wasn't filled again
+  -- a segment that the pass stayed in wasn't filled again
   pub kept : (s : ℕ) → StaysIn own (trace p) (number p) s → NoneRefills s more
 
--- it did nothing itself, and keeps its plain part and what it has in mind
+-- the pass did nothing itself, and keeps its plain part and what it has in mind
 abbrev pub SeesMore : Board → Pass → Pass → Type 0
 SeesMore b p q = AddsEvents b [] p q × (q.plain ≡ p.plain) × ((sight q).memo ≡ (sight p).memo)
 
--- One step: others did something, nothing of it the pass's, and then the pass added just these events.
+-- One step: others added events, none of them the pass's, and then the pass added just these.
 pub record AddsAtOnce (b : Board) (own : List Event) (p q : Pass) : Type 0 where
   pub moved : AddsEvents b own p q
   pub others : List Event
@@ -128,7 +130,7 @@ pub record Stepped (b : Board) (step : Step) (found : ℕ) (p q : Pass) : Type 0
   pub did : AddsAtOnce b (adds step (number p) found) p q
   pub plain : q.plain ≡ p.plain
   pub memo : (sight q).memo ≡ (sight p).memo
-  -- it has seen at least what it was told of
+  -- the pass has seen at least what it was told of
   pub met : Begins (sight p).met (trace q)
 
 -- the pass only read, and is in each segment as often as before
@@ -139,7 +141,7 @@ pub record Reads (b : Board) (p q : Pass) : Type 0 where
   pub inside : (s : ℕ) → inside (trace q) (number p) s ≡ inside (trace p) (number p) s
   pub stays : (s : ℕ) → 0 < segments.inside (trace p) (number p) s → StaysIn own (trace p) (number p) s
 
--- and it is in one segment once more
+-- the pass only read, and is in this segment once more than before, and in each other one as often as before
 pub record ReadsIn (b : Board) (p q : Pass) (segment : ℕ) : Type 0 where
   pub own : List Event
   pub moved : AddsEvents b own p q

@@ -1,4 +1,4 @@
--- The plain facts of a pass, which its owner's calls alone change.
+-- The plain facts of a pass, which only its owner's calls change.
 use Rattle.std.specs.Prelude.{ℕ, ◌-◌, nat_le, Bool, Option, Some, None, option_map, slice_get, if◌then◌else◌}
 use Rattle.std.specs.Global.{Vec}
 use Rattle.std.specs.Vec.{with_item}
@@ -19,7 +19,7 @@ locked_of p = p.plain.locked
 abbrev pub is_holding_of : Pass → Bool
 is_holding_of p = p.plain.is_holding
 
--- what it knows of a segment, where that is its own
+-- what the pass knows of a segment, if that is its own
 abbrev pub own_segment : Plain → ℕ → Option OwnSegment
 own_segment plain segment = if nat_le plain.first segment then slice_get plain.segments.items (segment - plain.first) else None
 
@@ -44,7 +44,7 @@ used_of p segment = used_in (own_segment p.plain segment)
 abbrev pub deadline_of : Pass → ℕ → Option ℕ
 deadline_of p segment = deadline_in (own_segment p.plain segment)
 
--- ---- what its owner's calls make of it
+-- ---- what its owner's calls make of a plain part
 
 -- with another current segment, another lock, another hold
 abbrev pub with_current : Option ℕ → Plain → Plain
@@ -56,12 +56,12 @@ with_locked locked plain = record plain { locked = locked }
 abbrev pub with_holding : Bool → Plain → Plain
 with_holding holding plain = record plain { is_holding = holding }
 
--- one of the segments is known so
+-- the segments, with this one at a place; unchanged if there is none
 abbrev pub put_own : Vec OwnSegment → ℕ → Option OwnSegment → Vec OwnSegment
 put_own segments place None = segments
 put_own segments place (Some own) = with_item segments place own
 
--- a segment of its own changed so
+-- with a segment of the pass's own changed so
 abbrev pub with_own : ℕ → (OwnSegment → OwnSegment) → Plain → Plain
 with_own segment change plain = record plain { segments = put_own plain.segments (segment - plain.first) (option_map change (own_segment plain segment)) }
 

@@ -19,7 +19,8 @@ abbrev pub NoneNumbered : ℕ → List View → Type 0
 NoneNumbered number [] = Unit {0}
 NoneNumbered number (view ∷ more) = (view.number ≢ number) × NoneNumbered number more
 
--- what a seat knows has happened; and of the passes, the view is the one of its number, as is that of each pass that was given up to it
+-- What a seat knows has happened. The seat of a pass has the view of its number,
+-- and so has each pass that was given up to the seat.
 pub record IsSight (views : List View) (trace : List Event) (sight : Sight) : Type 0 where
   pub seen : Begins sight.view.trace trace
   pub met : Begins sight.met trace
@@ -70,7 +71,7 @@ witness sight = record { view = sight.view; met = []; is_pass = false; memo = no
 abbrev pub spent : Sight
 spent = record { view = record { number = 0; trace = []; dealt = 0 }; met = []; is_pass = false; memo = no_memo; ended = [] }
 
--- a pass is told of what another had seen
+-- a pass learns what another had seen
 abbrev pub meets : Sight → Sight → Sight
 meets sight other = record sight { met = other.view.trace }
 
@@ -82,7 +83,7 @@ ends sight pass = record sight { ended = pass.view ∷ sight.ended }
 abbrev pub minding : Memo → Sight → Sight
 minding memo sight = record sight { memo = memo }
 
--- what a seat is told by a step of its pass
+-- what a seat learns from a step of its pass
 pub record Learns (shape : Shape) (step : Step) (found : ℕ) (x y : Sight) : Type 0 where
   pub told : Told shape step found x.view y.view
   pub met : Begins x.met y.view.trace

@@ -30,7 +30,7 @@ cell_of shape (Overflow number) = OfOverflow number 1
 cell_of shape (Segment segment) = OfSegment segment
 cell_of shape (Row segment row word) = OfRow segment row word
 
--- where a word is along its chain: 8 times the depth of its bucket, plus the word
+-- where a word is along its chain: 8 times the depth of its bucket, plus the number of the word
 abbrev pub depth_of : Option Home → ℕ
 depth_of None = 0
 depth_of (Some of) = of.depth

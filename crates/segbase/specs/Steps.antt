@@ -16,15 +16,15 @@ use Rattle.segbase.specs.Spots.{cell_at, home_bucket, home_bucket_of, position}
 
 -- ---- any step
 
--- by what it has seen, the pass may take the step
+-- the pass may take the step, by what it has seen
 abbrev pub MayTake : Board → Pass → Step → Type 0
 MayTake b p step = May b.shape (trace p) (number p) step
 
--- it took the step, which found some word
+-- the pass took the step, which found some word
 abbrev pub TakesStep : Board → Step → Pass → Pass → Type 0
 TakesStep b step p q = (found : ℕ) × Stepped b step found p q
 
--- by a step it added this one event, which names it
+-- by a step the pass added this one event, which has the pass's number
 abbrev pub AddsOne : Board → (ℕ → Event) → Pass → Pass → Type 0
 AddsOne b event p q = AddsAtOnce b (event (number p) ∷ []) p q
 
@@ -38,14 +38,16 @@ exchanging old new word = either (word == old) new word
 abbrev pub has_bit : Board → Pass → ℕ → Bool
 has_bit b p bucket = is (bucket_after b.shape (trace p) bucket).holder (number p)
 
--- a take that came out true gave the pass the bit, under which nothing was written and no bucket is drawn yet; one that came out false changed nothing
+-- A take that returned true gave the pass the bit, under which nothing was written and no bucket is drawn yet.
+-- A take that returned false added nothing but that it bounced, and not even that if the bit is the pass's own.
 abbrev pub Takes : Board → ℕ → Bool → Pass → Pass → Type 0
 Takes b bucket true p q =
     AddsAtOnce b (Took (number p) bucket ∷ []) p q × HasBit b.shape (trace q) (number q) bucket
     × ((bucket_after b.shape (trace q) bucket).written ≡ false) × ((bucket_after b.shape (trace q) bucket).spare ≡ None)
 Takes b bucket false p q = AddsAtOnce b (unless_own (has_bit b p bucket) (Bounced (number p) bucket)) p q
 
--- a glance found the bit clear, and nobody has it; or it found the bit set, which counts unless it is the pass's own
+-- A glance found the bit clear, and nobody has it.
+-- Or it found the bit set, which is an event unless the bit is the pass's own.
 abbrev pub Glances : Board → ℕ → Info → Pass → Pass → Type 0
 Glances b bucket info p q =
     (info.held ≡ false → AddsAtOnce b [] p q × ((bucket_after b.shape (trace q) bucket).holder ≡ None))
@@ -89,11 +91,13 @@ IsWordOfContent (item named) word = IsWordOf named word × (1 ≤ tag_part word)
 IsWordOfContent (next number) word = word ≡ chain_word number
 IsWordOfContent (copy other) word = ⊥
 
--- so this word reads, whatever position of whatever chain the place is
+-- the word reads so, whatever position of whatever chain the place is
 abbrev pub IsWordAt : Board → Place → ℕ → Pass → Type 0
 IsWordAt b place word p = (bucket at : ℕ) → IsItemAt b.shape (trace p) bucket at (cell_at b.shape place) → IsWordOfContent ((bucket_after b.shape (trace p) bucket).items at) word
 
--- an exchange that failed changed no word and added nothing: the word that stands there is another one than was expected, and where that one was an earlier word of the item that the pass last knew there, it is the same item with a higher frequency
+-- An exchange that failed changed no word and added nothing. Another word stands there than was expected.
+-- If the expected one was an earlier word of the item that the pass last knew there, it is that item,
+-- with a higher frequency.
 pub record Missed (b : Board) (place : Place) (old found : ℕ) (p q : Pass) : Type 0 where
   pub did : AddsAtOnce b [] p q
   pub other : found ≢ old
@@ -153,7 +157,7 @@ chaining b p place old overflow = chain (home_at b place p) (cell_at b.shape pla
 abbrev pub depth_to_draw : Board → ℕ → Pass → ℕ
 depth_to_draw b bucket p = (bucket_after b.shape (trace p) bucket).chained + 1
 
--- that bucket is drawn, if so many were
+-- that bucket is drawn, if this number of them was drawn before
 abbrev pub drawing : Board → Pass → ℕ → ℕ → Step
 drawing b p bucket from = draw bucket (depth_to_draw b bucket p) from
 
@@ -161,7 +165,7 @@ drawing b p bucket from = draw bucket (depth_to_draw b bucket p) from
 abbrev pub copying : Pass → ℕ → Item → Step
 copying p overflow moved = fill (home_bucket_of (trace p) overflow) overflow (item_word moved)
 
--- a draw that failed drew nothing: others drew that bucket, and the counter is over its number
+-- a draw that failed drew nothing: others drew the bucket of this number, and the counter is over it
 pub record CounterMissed (b : Board) (from counter : ℕ) (p q : Pass) : Type 0 where
   pub did : AddsAtOnce b [] p q
   pub is : counter ≡ drawn_in (trace q)

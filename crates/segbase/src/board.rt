@@ -1,4 +1,4 @@
-//! The board: the table of the index's words, and how it is made.
+//! The board: the table of the index's words, and how it is created.
 ghost use Rattle.std.specs.Prelude.{◌≡◌, ◌<◌, ◌≤◌, ◌^◌, [], IfOk, IfErr};
 ghost use Rattle.segword.specs.Words.{word_count};
 ghost use Rattle.segbase.specs.Spots.{IsLayoutOf};
@@ -101,7 +101,7 @@ impl Board {
         Ok(Pass { seat, plain })
     }
 
-    /// Its shape.
+    /// The shape of the board.
     pub fn shape(&self) -> Shape
         ensures { result ≡ self.now.shape }
     {

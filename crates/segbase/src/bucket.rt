@@ -17,7 +17,7 @@ impl Board {
     ghost use Rattle.segbase.specs.Steps.{Takes, Glances};
 
     /// Tries to take the writer bit of a bucket.
-    /// It is true where the bit was clear; the pass then has it.
+    /// Returns true if the bit was clear; the pass then has it.
     pub fn take(&self, pass: &mut Pass, bucket: u32) -> bool
         requires pass { IsPassOf self.now pass.old }
         requires bucket { bucket < self.now.shape.buckets }
@@ -29,8 +29,8 @@ impl Board {
         self.or_at(pass, Spot::Info(bucket), 1) % 2 == 0
     }
 
-    /// Gives the bit back, and in the same event counts the write, where one is to be counted.
-    /// A refused write is told with it.
+    /// Gives the bit back, and with it raises the version if the write is to be counted.
+    /// A refused write enters the history with this step.
     pub fn release(&self, pass: &mut Pass, bucket: u32, counted: bool)
         ghost said: { Option (Request × Reply) }
         requires pass { IsPassOf self.now pass.old }

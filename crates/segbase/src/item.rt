@@ -75,8 +75,8 @@ impl Board {
         if found == old { Ok(()) } else { Err(found) }
     }
 
-    /// The item of a key comes to name a row of another segment of the pass's own, in its word
-    /// and under the bucket's bit. That row has its pair, and the frequency stays.
+    /// The item of a key comes to name a row of another segment of the pass's own, in the item's word
+    /// and under the bucket's bit. That row has the item's pair, and the frequency stays.
     /// `Err` is as for `replace`.
     pub fn move_item(&self, pass: &mut Pass, place: Place, old: u64, item: Item) -> Result<(), u64>
         ghost named: { Slot }
@@ -109,7 +109,7 @@ impl Board {
     }
 
     /// Raises the frequency of an item, without its bucket's bit.
-    /// It is tried once, and is true where it came about.
+    /// The exchange is tried once. Returns true if the frequency was raised.
     pub fn bump(&self, pass: &mut Pass, place: Place, old: Item, new: Item) -> bool
         requires pass { IsPassOf self.now pass.old }
         requires item { (new.tag ≡ old.tag) × (new.seg ≡ old.seg) × (new.row ≡ old.row) }

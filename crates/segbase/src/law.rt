@@ -5,7 +5,7 @@ use segword::{Key, Shape, Value};
 use std::collections::LinkedList;
 use std::marker::Brand;
 
-/// The item that a pass holds, as contracts see it. No value of it is made.
+/// The item that a pass holds, as contracts see it. No value of this type is made.
 pub struct Held {
     pub segment: u32,
     pub key: Key,
@@ -14,27 +14,27 @@ pub struct Held {
     pub trace: LinkedList<Event>,
 }
 
-/// The bucket that a pass has locked, as contracts see it. No value of it is made.
+/// The bucket that a pass has locked, as contracts see it. No value of this type is made.
 pub struct Locked {
     pub bucket: u32,
-    /// What had happened when it was locked.
+    /// What had happened when the bucket was locked.
     pub trace: LinkedList<Event>,
 }
 
 /// What a pass keeps in mind for contracts alone.
-/// No word, rule or other pass depends on it, and no value of it is made.
+/// No word, rule or other pass depends on it, and no value of this type is made.
 pub struct Memo {
     pub holding: Option<Held>,
     pub locked: Option<Locked>,
 }
 
-/// What a seat of the table knows. No value of it is made.
+/// What a seat of the table knows. No value of this type is made.
 pub struct Sight {
     /// What a pass knows.
     pub view: View,
-    /// What another pass had seen when this one was told of it.
+    /// What another pass had seen when this one learned of it.
     pub met: LinkedList<Event>,
-    /// Whether it is the seat of a pass. The others only carry to a pass what another one has seen.
+    /// Whether the seat is that of a pass. Other seats only carry to a pass what another one has seen.
     pub is_pass: bool,
     pub memo: Memo,
     /// What the passes knew that were given up to this seat. They take no more steps.
@@ -79,7 +79,7 @@ impl Split<Sight> for Carry {
     ghost right = { witness };
 }
 
-// A pass is told of what such a seat carries.
+// A pass learns what such a seat carries.
 pub(crate) struct Tell;
 
 impl Join<Sight> for Tell {

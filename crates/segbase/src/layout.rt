@@ -26,7 +26,7 @@ impl Layout {
     }
 
     // The place of a word.
-    // An overflow bucket lies behind the buckets, so its number tells its place as theirs do.
+    // The overflow buckets lie behind the buckets, so their numbers give their places as those of buckets do.
     pub(crate) fn index(&self, shape: &Shape, spot: Spot) -> usize
         requires layout { IsLayoutOf shape.now self.now }
         requires small { word_count shape.now ≤ 2 ^ 26 }

@@ -1,6 +1,6 @@
 //! What passes learn of each other, and what they keep in mind.
-//! The table lets a view change where a word is loaded,
-//! so what passes tell each other is told by loads, which change none.
+//! The table lets a view change when a word is loaded.
+//! So passes tell each other what they have seen by loads, which change no word.
 ghost use Rattle.std.specs.Prelude.{◌≡◌};
 ghost use Rattle.segmodel.specs.Words.{AreOne, Begins};
 ghost use Rattle.segbase.specs.declared.law.Memo.{Memo};
@@ -28,7 +28,7 @@ impl Board {
         self.tell(second, first);
     }
 
-    // The pass has then seen what the other has, which only carries it there.
+    // The pass has then seen what the other has seen. The other pass changes nothing of its own.
     fn tell(&self, pass: &mut Pass, other: &mut Pass)
         requires pass { IsPassOf self.now pass.old }
         requires other { IsPassOf self.now other.old }

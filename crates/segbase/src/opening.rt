@@ -6,7 +6,7 @@ ghost use Rattle.segbase.specs.Opening.{IsOpened};
 use segword::{Info, Shape};
 use std::alloc::{AllocError, Global};
 
-// All 0, save the information words, which have the first version.
+// All words are 0, except the information words, which have the first version.
 pub(crate) fn opening_words(alloc: Global, shape: Shape) -> Result<Vec<u64>, AllocError>
     requires { IsValid shape }
     ensures { IfOk result (λ words. IsOpened shape words.items) }

@@ -1,5 +1,5 @@
-//! Steps that lengthen a bucket's chain: an overflow bucket is drawn, its first word filled,
-//! and then chained.
+//! Steps that lengthen a bucket's chain: an overflow bucket is drawn, its word 1 is stored,
+//! and the chain then leads on to it.
 ghost use Rattle.std.specs.Prelude.{ℕ, ◌<◌, OnOk, IfErr};
 ghost use Rattle.segword.specs.Words.{chain_word, item_word};
 ghost use Rattle.segcore.specs.declared.event.Event.TheVariants.{Drew, Put, Chained};
@@ -21,7 +21,7 @@ impl Board {
     ghost use Rattle.segbase.specs.Steps.{CounterMissed};
 
     /// Draws overflow bucket `from` for a bucket whose bit the pass has.
-    /// `Err` has the counter, which is over `from`.
+    /// `Err` has the counter, which is over `from`: others drew that bucket.
     pub fn draw_overflow(&self, pass: &mut Pass, bucket: u32, from: u32) -> Result<(), u32>
         requires pass { IsPassOf self.now pass.old }
         requires may { MayTake self.now pass.old (drawing self.now pass.old bucket from) }

@@ -17,7 +17,7 @@ pub(crate) struct OwnSegment {
 #[derive(Drop)]
 pub(crate) struct Plain {
     pub(crate) number: u32,
-    // The number of its first segment.
+    // The number of the pass's first segment.
     pub(crate) first: u32,
     pub(crate) segments: Vec<OwnSegment>,
     pub(crate) current: Option<u32>,
@@ -25,7 +25,8 @@ pub(crate) struct Plain {
     pub(crate) is_holding: bool,
 }
 
-/// A caller's token for the steps of a board. Where it is dropped, its entries, its segments and the bits that it set stay as they stand.
+/// A caller's token for the steps of a board. If it is dropped, its entries, its segments and the
+/// bits that it set stay as they stand.
 #[derive(Drop)]
 pub struct Pass {
     pub(crate) seat: Seat<(), Sight>,
@@ -38,63 +39,64 @@ impl Pass {
     ghost use Rattle.segbase.specs.Plain.{with_current, with_state, with_used, with_deadline};
     ghost use Rattle.segbase.specs.Plain.{with_locked, with_holding};
 
-    /// Its number, below the number of passes.
+    /// The pass's number, below the number of passes.
     pub fn number(&self) -> u32
         ensures { result ≡ number_of self.now }
     {
         self.plain.number
     }
 
-    /// The segment that it stores into.
+    /// The segment that the pass stores into.
     pub fn current(&self) -> Option<u32>
         ensures { result ≡ current_of self.now }
     {
         self.plain.current
     }
 
-    /// The state of a segment of its own; `None` for any other.
+    /// The state of a segment of the pass's own; `None` for any other.
     pub fn state(&self, segment: u32) -> Option<SegState>
         ensures { result ≡ state_of self.now segment }
     {
         Some(self.own(segment)?.state)
     }
 
-    /// How many rows of a segment of its own are used; `None` for any other.
+    /// How many rows of a segment of the pass's own are used; `None` for any other.
     pub fn used(&self, segment: u32) -> Option<u32>
         ensures { result ≡ used_of self.now segment }
     {
         Some(self.own(segment)?.used)
     }
 
-    /// The deadline of a segment of its own, which the last refilling set, or 0; `None` for any other.
+    /// The deadline of a segment of the pass's own, which the last refilling set, or 0;
+    /// `None` for any other.
     pub fn deadline(&self, segment: u32) -> Option<u32>
         ensures { result ≡ deadline_of self.now segment }
     {
         Some(self.own(segment)?.deadline)
     }
 
-    /// The bucket that it has locked.
+    /// The bucket that the pass has locked.
     pub fn locked(&self) -> Option<u32>
         ensures { result ≡ locked_of self.now }
     {
         self.plain.locked
     }
 
-    /// Whether it holds an item.
+    /// Whether the pass holds an item.
     pub fn is_holding(&self) -> bool
         ensures { result ≡ is_holding_of self.now }
     {
         self.plain.is_holding
     }
 
-    /// Names the segment that it stores into.
+    /// Sets the segment that the pass stores into.
     pub fn set_current(&mut self, current: Option<u32>)
         ensures { self.new ≡ record self.old { plain = with_current current self.old.plain } }
     {
         self.plain.current = current;
     }
 
-    /// Sets the state of a segment of its own.
+    /// Sets the state of a segment of the pass's own.
     pub fn set_state(&mut self, segment: u32, state: SegState)
         requires own { IsSome (state_of self.old segment) }
         ensures { self.new ≡ record self.old { plain = with_state segment state self.old.plain } }
@@ -102,7 +104,7 @@ impl Pass {
         self.plain.segments[(segment - self.plain.first) as usize].state = state;
     }
 
-    /// Sets how many rows of a segment of its own are used.
+    /// Sets how many rows of a segment of the pass's own are used.
     pub fn set_used(&mut self, segment: u32, used: u32)
         requires own { IsSome (used_of self.old segment) }
         ensures { self.new ≡ record self.old { plain = with_used segment used self.old.plain } }
@@ -110,7 +112,7 @@ impl Pass {
         self.plain.segments[(segment - self.plain.first) as usize].used = used;
     }
 
-    /// Sets the deadline of a segment of its own.
+    /// Sets the deadline of a segment of the pass's own.
     pub fn set_deadline(&mut self, segment: u32, deadline: u32)
         requires own { IsSome (deadline_of self.old segment) }
         ensures { self.new
@@ -119,21 +121,21 @@ impl Pass {
         self.plain.segments[(segment - self.plain.first) as usize].deadline = deadline;
     }
 
-    /// Names the bucket that it has locked.
+    /// Sets the bucket that the pass has locked.
     pub fn set_locked(&mut self, locked: Option<u32>)
         ensures { self.new ≡ record self.old { plain = with_locked locked self.old.plain } }
     {
         self.plain.locked = locked;
     }
 
-    /// Tells whether it holds an item.
+    /// Sets whether the pass holds an item.
     pub fn set_holding(&mut self, holding: bool)
         ensures { self.new ≡ record self.old { plain = with_holding holding self.old.plain } }
     {
         self.plain.is_holding = holding;
     }
 
-    // What it knows of a segment of its own.
+    // What the pass knows of a segment of its own; `None` for any other.
     fn own(&self, segment: u32) -> Option<OwnSegment>
         ensures { result ≡ own_segment self.now.plain segment }
     {

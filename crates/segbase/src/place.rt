@@ -18,7 +18,7 @@ pub struct RowPlace {
 // A word of the table.
 #[derive(Clone, Copy, Drop)]
 pub(crate) enum Spot {
-    // The overflow counter, where a bucket is drawn for this one.
+    // The overflow counter, when an overflow bucket is drawn for this bucket.
     Counter(u32),
     // The information word of a bucket.
     Info(u32),

@@ -30,7 +30,7 @@ impl Board {
         self.load_index(pass, spot, index)
     }
 
-    // As `load_at`, where the place of the word in the table is known.
+    // As `load_at`, if the place of the word in the table is known.
     pub(crate) fn load_index(&self, pass: &mut Pass, spot: Spot, index: usize) -> u64
         ghost step: { Step }
         requires can { CanStep self.now pass.old step spot (λ n. n) }

@@ -97,8 +97,8 @@ impl Board {
         self.add_at(pass, Spot::Segment(segment), u64::MAX);
     }
 
-    /// Whether no reader is counted in a segment of the pass's own with this deadline, in which no
-    /// key stands. In that event it gets another deadline, and its refilling enters the history.
+    /// Whether no reader is counted in a segment of the pass's own with this deadline, in which no key
+    /// stands. If so, the segment gets another deadline, and its refilling enters the history.
     pub fn none_reading(&self, pass: &mut Pass, segment: u32, old: u32, deadline: u32) -> bool
         requires pass { IsPassOf self.now pass.old }
         requires may { MayTake self.now pass.old (none_reading segment old deadline) }
