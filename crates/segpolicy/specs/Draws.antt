@@ -33,7 +33,7 @@ next_load draws =
     let third = after_word second in
     load_of draws.keys (next_word_of draws.generator) (next_word_of second) (next_word_of third)
 
--- the workload after it is three words on
+-- the workload after a command is three words on
 abbrev pub after_load : Draws → Draws
 after_load draws = record draws {
   generator = after_word (after_word (after_word draws.generator));

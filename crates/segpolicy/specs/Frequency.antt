@@ -1,8 +1,8 @@
--- The frequency of an item is an approximate count of its hits in 8 bits, as Segcache keeps it: exact
--- while it is low, and then raised by chance, the more seldom the higher it is.
+-- The frequency of an item is an approximate count of its hits in 8 bits, as Segcache keeps it. It is
+-- exact while it is low. Then it is raised by chance, the more seldom the higher it is.
 use Rattle.std.specs.Prelude.{ℕ, ◌+◌, ◌%◌, Bool, ◌&&◌, ◌||◌, ◌==◌, nat_lt, if◌then◌else◌}
 
--- whether a hit with this draw counts: below 16 always, from 16 to 254 where the frequency divides
+-- whether a hit with this draw counts: below 16 always, from 16 to 254 if the frequency divides
 -- the draw, and at 255 never
 abbrev pub draw_raises : ℕ → ℕ → Bool
 draw_raises frequency draw =

@@ -5,8 +5,8 @@ ghost use Rattle.segpolicy.specs.Frequency.{frequency_after_hit};
 /// The frequency of an item after a hit, by Segcache's approximate counter of 8 bits.
 ///
 /// A new item has 1.
-/// Below 16 each hit counts, from 16 to 254 a hit counts where the frequency divides the draw,
-/// which for a draw at random is one hit in `frequency`, and 255 stays.
+/// Below 16 each hit counts. From 16 to 254 a hit counts if the frequency divides the draw, which
+/// for a random draw is one hit in `frequency`. 255 stays.
 pub fn next_frequency(frequency: u8, draw: u32) -> u8
     ensures value { result ≡ frequency_after_hit frequency draw }
     ensures never_falls { frequency ≤ result }
