@@ -1,4 +1,6 @@
--- Facts that have at most one proof, so that a struct may keep them in a ghost field: pairs whose first part is told by the rest, one of two facts that exclude each other, and the facts of keys, values and shapes.
+-- Facts that have at most one proof, so that a struct may keep them in a ghost field:
+-- pairs whose second part determines the first, one of two facts that exclude each other,
+-- and the facts of keys, values and shapes.
 use Rattle.std.specs.Prelude.{◌≡◌, ℕ, ◌^◌, ◌⊎◌, List}
 use Rattle.std.specs.Int.{IsPowerOfTwo}
 use Rattle.std.proofs.Common.{sym, ap, ◌∙◌, inl, inr, arith}
@@ -10,7 +12,7 @@ use Rattle.segword.specs.declared.shape.Shape.{Shape}
 use Rattle.segword.specs.Bytes.{IsKey, IsValue}
 use Rattle.segword.specs.Shape.{IsValid}
 
--- a pair whose second part tells the first
+-- a pair whose second part determines the first
 pub pair-prop : {A : Type 0} {P : A → Type 0} → ((x : A) → IsProp (P x)) → ((x y : A) → P x → P y → x ≡ y) → IsProp ((x : A) × P x)
 pair-prop one told u v = Σ_prop_path one (told u.0 v.0 u.1 v.1)
 

@@ -5,7 +5,7 @@ use Rattle.segword.specs.ChainWord.{chain_word, IsChainWord}
 use Rattle.segword.specs.declared.reading.Reading.{Reading}
 use Rattle.segword.specs.declared.reading.Reading.TheVariants.{Empty, Item, Chain}
 
--- the word that is read so
+-- the word that has this reading
 abbrev pub reading_word : Reading → ℕ
 reading_word Empty = 0
 reading_word (Item item) = item_word item

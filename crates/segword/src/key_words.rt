@@ -9,7 +9,7 @@ use crate::{Key, Value};
 use std::marker::Model;
 
 /// A key as rows hold it: its length, and its bytes in three words.
-/// It is made once a call and then compared with rows, without a key being read out of each.
+/// It is computed once a call and then compared with rows, so that no key is read out of a row.
 /// Contracts see it as the list of the key's bytes.
 #[derive(Clone, Copy, Debug)]
 pub struct KeyWords {

@@ -17,7 +17,7 @@ pub enum Reading {
 impl Reading {
     ghost use Rattle.segword.specs.Reading.{reading_word, IsProperReading, HasReading};
 
-    /// The word that is read so.
+    /// The word that has this reading.
     pub fn pack(self) -> u64
         requires { IsProperReading self }
         ensures { result ≡ reading_word self }
@@ -29,7 +29,7 @@ impl Reading {
         }
     }
 
-    /// The reading of a word, or `None` where it is neither 0 nor an item's nor a chain's.
+    /// The reading of a word, or `None` if the word is neither 0 nor an item's nor a chain's.
     /// No such word stands in a table.
     pub fn unpack(word: u64) -> Option<Reading>
         ensures variant { IsSome result ↔ HasReading word }

@@ -12,9 +12,9 @@ const LEAST_SEGMENTS: u32 = 8;
 impl Shape {
     ghost use Rattle.segword.specs.Shape.{HasRoomFor, IsFaultOfKeys, IsValid, word_count};
 
-    /// A shape for so many passes, in which so many keys have room to spare:
+    /// A shape for this number of passes, in which this number of keys has room to spare:
     /// for each key its chains have two item words, and the segments of all passes two rows.
-    /// There is one for up to 425,984 keys and 64 passes.
+    /// There is one for up to 425,984 keys and 1 to 64 passes.
     pub fn for_keys(keys: u32, passes: u32) -> Result<Shape, ShapeFault>
         ensures ok { IfOk result (λ shape.
             IsValid shape × (shape.passes ≡ passes) × HasRoomFor keys shape) }

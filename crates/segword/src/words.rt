@@ -3,7 +3,7 @@ ghost use Rattle.std.specs.Prelude.{◌≡◌, ◌*◌, ◌-◌, ◌<◌, ◌≤
 ghost use Rattle.segword.specs.Row.{word_of, word_at, words_from, bytes_of};
 ghost use Rattle.segword.specs.RowLayout.{IsZeroFrom};
 
-// The first `N` words of these bytes. Where bytes are missing they count as 0.
+// The first `N` words of these bytes. Missing bytes count as 0.
 pub(crate) fn words_of<const N: usize>(bytes: &[u8]) -> [u64; N]
     requires { N ≤ 4 }
     ensures { result ≡ words_from N bytes.now 0 }
@@ -30,8 +30,8 @@ fn word_at(bytes: &[u8], from: usize) -> u64
 }
 
 // The word of fewer than eight bytes.
-// Where they are four or more (or two or more),
-// the last four are shifted until only what stands behind the first four is left.
+// If they are four or more (or two or more), the last four (or two) are shifted
+// until only what stands behind the first four (or two) is left.
 fn short_word(bytes: &[u8]) -> u64
     requires { length bytes.now < 8 }
     ensures { result ≡ word_of bytes.now }
