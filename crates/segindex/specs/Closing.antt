@@ -1,4 +1,6 @@
--- The content of an index at its end: the pairs of the cache after some history that goes on from what the closing pass has seen; or, where all passes close it, after the one that one of them has seen.
+-- The content of an index at its end: the pairs of the cache after some history.
+-- If one pass closes the index, the history goes on from what this pass has seen.
+-- If all passes close it, the history is what one of them has seen.
 use Rattle.std.specs.Prelude.{◌≡◌, ℕ, ◌+◌, ◌*◌, ◌<◌, ◌≤◌, ◌⊎◌, List, [], map, Option, None, Some, slice_get}
 use Rattle.std.specs.List.{IsDistinct}
 use Rattle.std.specs.Ordering.{eq_by_cmp}
@@ -28,25 +30,25 @@ pair_of entry = (entry.0, entry.1.value)
 abbrev pub pairs_of : Cache → Pairs
 pairs_of cache = map pair_of cache.items
 
--- the history goes on from what the pass has seen, by entries of other passes
+-- The history is legal, and goes on from what the pass has seen by entries of other passes.
 pub record IsEnd (shape : Shape) (p : Pass) (last : List Entry) : Type 0 where
   pub legal : IsLegal shape last
   pub goes_on : Begins (seen p) last
   pub mine : history.mine (number p) last ≡ mine p
 
--- these are the pairs of the cache after such a history
+-- These are the pairs of the cache after such a history.
 abbrev pub IsContent : Shape → Pass → Pairs → Type 0
 IsContent shape p content = (last : List Entry) × IsEnd shape p last × (content ≡ pairs_of (after shape last))
 
--- the pairs of the cache after what the pass has seen
+-- These are the pairs of the cache after what the pass has seen.
 abbrev pub IsContentSeen : Shape → Pass → Pairs → Type 0
 IsContentSeen shape p content = content ≡ pairs_of (after shape (seen p))
 
--- some key stands after the history
+-- Some key stands after the history.
 abbrev pub HasContent : Shape → List Entry → Type 0
 HasContent shape last = (key : List ℕ) × (value : List ℕ) × (value_under (after shape last) key ≡ Some value)
 
--- there was content to be listed at the end, after such a history; with one pass, after what the pass has seen
+-- Some key stands after such a history. If the index has one pass, the history is what the pass has seen.
 pub record WantsMemory (shape : Shape) (p : Pass) : Type 0 where
   pub end : List Entry
   pub is_end : IsEnd shape p end
@@ -55,12 +57,13 @@ pub record WantsMemory (shape : Shape) (p : Pass) : Type 0 where
 
 -- ---- with all passes
 
--- these are the passes of the board, all of them, between calls
+-- These are all the passes of the board, and each is between two calls.
 pub record AreAllQuiet (b : Board) (passes : List Pass) : Type 0 where
   pub quiet : (place : ℕ) (p : Pass) → slice_get passes place ≡ Some p → IsQuiet b p
   pub all : HasEach b.shape.passes passes
 
--- The history is what one of the passes has seen. What each has seen begins it, and it has no entry of a pass that this hasn't seen, and none of anyone else.
+-- The history is what one of the passes has seen. From what each pass has seen it goes on by entries of other passes.
+-- It has no entry of a pass whose number the index doesn't have.
 pub record IsEndOfAll (shape : Shape) (passes : List Pass) (last : List Entry) : Type 0 where
   pub place : ℕ
   pub pass : Pass
@@ -69,21 +72,21 @@ pub record IsEndOfAll (shape : Shape) (passes : List Pass) (last : List Entry) :
   pub each : (at : ℕ) (p : Pass) → slice_get passes at ≡ Some p → IsEnd shape p last
   pub among : (n : ℕ) → shape.passes ≤ n → history.mine n last ≡ []
 
--- these are the pairs of the cache after it
+-- These are the pairs of the cache after that history.
 abbrev pub IsContentOfAll : Shape → List Pass → Pairs → Type 0
 IsContentOfAll shape passes content = (last : List Entry) × IsEndOfAll shape passes last × (content ≡ pairs_of (after shape last))
 
--- there was content to be listed after it
+-- Some key stands after that history.
 abbrev pub WantsMemoryOfAll : Shape → List Pass → Type 0
 WantsMemoryOfAll shape passes = (last : List Entry) × IsEndOfAll shape passes last × HasContent shape last
 
 -- ---- on the way
 
--- these are the pairs that stand, whatever made the words what they are
+-- These are the pairs that stand, whichever events made the words what they are.
 abbrev pub IsPairsAtRest : Words → Pairs → Type 0
 IsPairsAtRest words pairs = (trace : List Event) → closing.IsAtRest words trace → pairs ≡ pairs_of (after (closing.shape_of words) (event.seen trace))
 
--- some key stands whatever made the words what they are
+-- Some key stands, whichever events made the words what they are.
 abbrev pub HasPairs : Words → Type 0
 HasPairs words = (trace : List Event) → closing.IsAtRest words trace → HasContent (closing.shape_of words) (event.seen trace)
 
@@ -91,30 +94,30 @@ HasPairs words = (trace : List Event) → closing.IsAtRest words trace → HasCo
 abbrev pub listed : Pairs → List ℕ → Option (List ℕ)
 listed pairs key = lookup (is_at (key_cmp key)) pairs
 
--- the pairs that stand at some moment, of just those keys of which this is so, each once
+-- These are the pairs that stand after the events of the trace, of just the keys of which `Of` is so, each key once.
 pub record Lists (shape : Shape) (trace : List Event) (Of : List ℕ → Type 0) (pairs : Pairs) : Type 0 where
   pub distinct : IsDistinct (eq_by_cmp key_cmp) (keys_of pairs)
   pub only : (key value : List ℕ) → listed pairs key ≡ Some value → Of key × (value_under (after shape (event.seen trace)) key ≡ Some value)
   pub all : (key value : List ℕ) → Of key → value_under (after shape (event.seen trace)) key ≡ Some value → listed pairs key ≡ Some value
 
--- the key's item is at a position below this one of the bucket's chain, or in a bucket before
+-- The key's bucket is before this one, or it is this one and the key's item is at a lower position of its chain.
 abbrev pub IsBefore : Shape → List Event → ℕ → ℕ → List ℕ → Type 0
 IsBefore shape trace bucket position key =
     (bucket_of shape key < bucket) ⊎ ((bucket_of shape key ≡ bucket) × ((at : ℕ) × (at < position) × KeyAt shape key trace at))
 
--- the chains of the buckets up to this one are listed, and of its own chain the words up to this position
+-- The chains of the buckets before this one are listed, and of its own chain the words before this position.
 abbrev pub IsListed : Words → List Event → ℕ → ℕ → Pairs → Type 0
 IsListed words trace bucket position pairs = Lists (closing.shape_of words) trace (IsBefore (closing.shape_of words) trace bucket position) pairs
 
--- the place is the word at a position of the chain of a bucket
+-- The place is the word at a position of the chain of a bucket.
 abbrev pub IsWordIn : Words → List Event → ℕ → ℕ → Place → Type 0
 IsWordIn words trace home at place = IsPlace (closing.shape_of words) place × IsItemAt (closing.shape_of words) trace home at (cell_at (closing.shape_of words) place)
 
--- the bucket is the one at this depth of the chain that begins with the bucket `home`
+-- The bucket is the one at this depth of the chain that begins with the bucket `home`.
 abbrev pub IsBucketIn : Words → List Event → ℕ → ℕ → ℕ → Type 0
 IsBucketIn words trace home depth bucket = (word : ℕ) → 0 < word → word < 8 → IsWordIn words trace home (8 * depth + word) (place_of bucket word)
 
--- the key whose item is at a position of the chain, with its value, where one is
+-- the key whose item is at a position of the chain, with its value, if there is one
 abbrev pub IsPairAt : Shape → List Event → ℕ → ℕ → Option (List ℕ × List ℕ) → Type 0
 IsPairAt shape trace home at None = (key : List ℕ) → bucket_of shape key ≡ home → ¬ (KeyAt shape key trace at)
 IsPairAt shape trace home at (Some pair) =

@@ -1,4 +1,4 @@
--- What a command is answered: as the call that it is.
+-- What a command is answered: what the call that it names answers.
 use Rattle.std.specs.Prelude.{ℕ}
 use Rattle.segmodel.specs.declared.request.Request.TheVariants.{Delete}
 use Rattle.segmodel.specs.Words.{Answer}
@@ -11,7 +11,7 @@ use Rattle.segwrite.specs.Words.{Deletes, Writes}
 use Rattle.segevict.specs.Words.{EvictsSegment, KeepsItems}
 use Rattle.segindex.specs.Refilling.{RefillsSegment}
 
--- The answer is that of the call which the command is. A get and a gets are made with this draw.
+-- The answer is that of the call that the command names. A get and a gets are made with this draw.
 abbrev pub AnswersCommand : Board → Command → ℕ → Answer → Pass → Pass → Type 0
 AnswersCommand b (command.Write (Delete key now)) draw (answer.Delete told) p q = Deletes b key now told p q
 AnswersCommand b (command.Write (Delete key now)) draw _ p q = ⊥

@@ -1,4 +1,4 @@
--- Laws of quiet passes and of replies: what the contracts of the calls come to. Each is proved as the contract of a function in src/laws.rt.
+-- Laws of quiet passes and of replies. Each is proved as the contract of a function in src/laws.rt.
 use Rattle.std.specs.Prelude.{◌≡◌, ◌≢◌, ℕ, ◌+◌, ◌*◌, ◌^◌, ◌<◌, ◌≤◌, ◌↔◌, nat_lt, is_some, IsSome, List, Some}
 use Rattle.segmodel.specs.declared.request.Request.TheVariants.{Cas, Delete}
 use Rattle.segmodel.specs.declared.answer.GetsAnswer.TheVariants.{Found}
@@ -15,111 +15,113 @@ use Rattle.segread.specs.Words.{IsGetsAnswer}
 
 -- ---- a quiet pass
 
--- so it is of each quiet pass of each index
+-- `Is` holds of each quiet pass of each index.
 abbrev pub OfQuiet : (Board → Pass → Type 0) → Type 0
 OfQuiet Is = (b : Board) (p : Pass) → IsQuiet b p → Is b p
 
--- what it has seen is a history of a cache of one thread
+-- What the pass has seen is a history of a cache of one thread.
 abbrev pub SeenIsLegal : Type 0
 SeenIsLegal = OfQuiet (λ b p. IsLegal b.shape (seen p))
 
--- the history with marks that it has seen is the one without, once the marks are left out
+-- The history with marks that the pass has seen is the one without, once the marks are left out.
 abbrev pub MarksAreBeside : Type 0
 MarksAreBeside = OfQuiet (λ b p. entries (marked p) ≡ seen p)
 
--- it knows the states of just its own segments
+-- The pass knows the states of just its own segments.
 abbrev pub KnowsItsOwn : Type 0
 KnowsItsOwn = OfQuiet (λ b p. (segment : ℕ) → IsSome (state_of p segment) ↔ (owner b.shape segment ≡ number p))
 
--- its segments are segments of the table
+-- The segments whose states the pass knows are segments of the table.
 abbrev pub OwnAreInTable : Type 0
 OwnAreInTable = OfQuiet (λ b p. (segment : ℕ) → IsSome (state_of p segment) → IsSegment b.shape segment)
 
--- of a segment of its own those rows are used that an item was linked to in this filling
+-- Of a segment of the pass those rows are used that an item was linked to in this filling.
 abbrev pub UsedAreLinked : Type 0
 UsedAreLinked = OfQuiet (λ b p. (segment used row : ℕ) → used_of p segment ≡ Some used → row < b.shape.rows
     → is_some (linked_in (marked p) segment row) ≡ nat_lt row used)
 
--- the segment that it stores into is in use
+-- The segment that the pass stores into is in use.
 abbrev pub CurrentIsInUse : Type 0
 CurrentIsInUse = OfQuiet (λ b p. (segment : ℕ) → current_of p ≡ Some segment → state_of p segment ≡ Some InUse)
 
--- what it tells of the deadline of a segment of its own is the deadline that the cache has
+-- A deadline that the pass keeps of a segment is the segment's deadline in the cache.
 abbrev pub DeadlinesAreKnown : Type 0
 DeadlinesAreKnown = OfQuiet (λ b p. (segment deadline : ℕ) → deadline_of p segment ≡ Some deadline
     → (after b.shape (seen p)).deadline segment ≡ deadline)
 
--- no key stands in a segment of its own that isn't in use
+-- No key stands in a segment of the pass that isn't in use.
 abbrev pub UnusedIsEmpty : Type 0
 UnusedIsEmpty = OfQuiet (λ b p. (segment : ℕ) (state : SegState) → state_of p segment ≡ Some state → state ≢ InUse
     → NoneStandsIn (after b.shape (seen p)) segment)
 
--- no entry came into the bucket that it has locked
+-- No entry came into the bucket that the pass has locked, since it was locked.
 abbrev pub LockedIsStill : Type 0
 LockedIsStill = OfQuiet (λ b p. (lock : Locked) → locked p ≡ Some lock → NoneSince b.shape lock (seen p))
 
--- at most seven keys of a bucket stand, and six more for each overflow bucket that joined its chain
+-- At most seven keys of a bucket stand, and six more for each overflow bucket that joined its chain.
 abbrev pub KeysAreFew : Type 0
 KeysAreFew = OfQuiet (λ b p. (bucket : ℕ) → keys_in b.shape (after b.shape (seen p)) bucket ≤ 6 * chained_to (marked p) bucket + 7)
 
--- no chain has more overflow buckets than there are
+-- No chain has more overflow buckets than there are.
 abbrev pub ChainsAreShort : Type 0
 ChainsAreShort = OfQuiet (λ b p. (bucket : ℕ) → chained_to (marked p) bucket ≤ b.shape.overflow)
 
 -- ---- the only pass of an index
 
--- so it is of a quiet pass that is the only one of its index
+-- `Is` holds of each quiet pass that is the only one of its index.
 abbrev pub OfOnly : (Board → Pass → Type 0) → Type 0
 OfOnly Is = OfQuiet (λ b p. b.shape.passes ≡ 1 → Is b p)
 
--- so it is of the only pass at two moments at which it is quiet
+-- `Is` holds of the only pass of an index at any two moments at which it is quiet.
 abbrev pub OfOnlyTwice : (Board → Pass → Pass → Type 0) → Type 0
 OfOnlyTwice Is = (b : Board) (p q : Pass) → IsQuiet b p → IsQuiet b q → b.shape.passes ≡ 1 → Is b p q
 
--- each entry that it has seen is its own
+-- Each entry that the pass has seen is its own.
 abbrev pub AllAreOwn : Type 0
 AllAreOwn = OfOnly (λ b p. mine p ≡ seen p)
 
--- no take of its own found a bit of another's
+-- No take of the pass found a bit of another's.
 abbrev pub NoTakeBounced : Type 0
 NoTakeBounced = OfOnly (λ b p. (bucket : ℕ) → bounced p bucket ≡ 0)
 
--- nor did a look
+-- No look of the pass found a bit of another's.
 abbrev pub NoLookGlanced : Type 0
 NoLookGlanced = OfOnly (λ b p. (bucket : ℕ) → glanced p bucket ≡ 0)
 
--- nobody else is in a segment
+-- Nobody else is in a segment.
 abbrev pub NobodyIsInside : Type 0
 NobodyIsInside = OfOnly (λ b p. (other segment : ℕ) → other ≢ number p → inside (trace p) other segment ≡ 0)
 
--- each overflow bucket that was drawn has joined its chain
+-- Each overflow bucket that was drawn has joined its chain.
 abbrev pub DrawnHaveJoined : Type 0
 DrawnHaveJoined = OfOnly (λ b p. (bucket : ℕ) → width (marked p) bucket ≡ chained_to (marked p) bucket + 1)
 
--- only the bucket that it has locked itself is busy
+-- Only the bucket that the pass has locked itself is busy.
 abbrev pub BusyIsLocked : Type 0
 BusyIsLocked = OfOnlyTwice (λ b p q. (bucket : ℕ) → IsBusy bucket p q → locked_of p ≡ Some bucket)
 
--- while it adds no entry nothing comes into the bucket of a key
+-- While the pass adds no entry, nothing comes into the bucket of a key.
 abbrev pub NothingIsStirred : Type 0
 NothingIsStirred = OfOnlyTwice (λ b p q. (key : List ℕ) → mine q ≡ mine p → stirred b.shape key (seen p) (seen q) ≡ 0)
 
 -- ---- replies
 
--- a reply to a write is that of a cache of one thread at one moment of the call, at which its entry came into the history
+-- A reply to a write is that of a cache of one thread at one moment of the call.
+-- At that moment the write's entry came into the history.
 abbrev pub WritesAtAMoment : Type 0
 WritesAtAMoment = (b : Board) (p q : Pass) (request : Request) (told : WriteAnswer) (said : Reply)
     → Writes b request told p q → reply_of_write told ≡ Some said
     → WasTold b.shape (number p) request said (seen p) (seen q)
 
--- so is a reply to a delete
+-- The same is so of a reply to a delete.
 abbrev pub DeletesAtAMoment : Type 0
 DeletesAtAMoment = (b : Board) (p q : Pass) (key : List ℕ) (now : ℕ) (told : DeleteAnswer) (said : Reply)
     → Deletes b key now told p q → reply_of_delete told ≡ Some said
     → WasTold b.shape (number p) (Delete key now) said (seen p) (seen q)
 
--- A gets by one pass, from `reader` to `found`, gave the version that a cas by any pass, from `p` to `q`, then expects, and the cas was replied.
--- Told of such two calls is what the history was at the gets (`got.0`) and at the cas (`was.1.0`), whose moment is `now`.
+-- A gets of one pass, from `reader` to `found`, gave a version. A cas of any pass, from `p` to `q`, expects
+-- this version, and was replied. `Is` holds of any such two calls, with the history at the gets (`got.0`),
+-- the history at the cas (`was.1.0`), and the cas's `now`.
 abbrev pub OfGetsAndCas : ((b : Board) → List ℕ → (now : ℕ) → (found p : Pass) → Reply → (read entered : List Entry) → Type 0) → Type 0
 OfGetsAndCas Is = (b : Board) (reader found p q : Pass) (key read value : List ℕ) (version before now : ℕ) (told : WriteAnswer) (said : Reply)
     → b.shape.first_version < 2 ^ 32
@@ -127,10 +129,12 @@ OfGetsAndCas Is = (b : Board) (reader found p q : Pass) (key read value : List �
     → Writes b (Cas key value version now) told p q → reply_of_write told ≡ Some said
     → (was : WasTold b.shape (number p) (Cas key value version now) said (seen p) (seen q)) × Is b key now found p said got.0 was.1.0
 
--- A cas that is entered later than the gets is NotFound if its key is absent then, Exists exactly if the bucket's writes at the two moments differ modulo 2^32, else Stored.
+-- A cas that is entered later than the gets is NotFound if its key is absent then.
+-- Otherwise the cas is Exists exactly if the numbers of the bucket's writes at the two moments differ modulo 2^32,
+-- and else Stored.
 abbrev pub CasFailsWhereWrittenSince : Type 0
 CasFailsWhereWrittenSince = OfGetsAndCas (λ b key now found p said read entered. Begins read entered → said ≡ cas_reply b.shape key now read entered)
 
--- It is entered later if its pass, when it called, had seen all that the gets had seen.
+-- The same is so if the cas's pass, when it called, had seen all that the gets had seen.
 abbrev pub CasCalledLaterFails : Type 0
 CasCalledLaterFails = OfGetsAndCas (λ b key now found p said read entered. Begins (seen found) (seen p) → said ≡ cas_reply b.shape key now read entered)

@@ -11,14 +11,15 @@ use Rattle.segpass.specs.Words.{AddsEntry, ChangesNothing, CostsNothing, GoesOn,
 
 -- ---- refilling
 
--- the segment, one of the pass's own, is in use and current, with no row used and with this deadline; all else that the pass keeps is as it was
+-- The refilling was entered. The segment, one of the pass's own, is in use and current.
+-- No row of it is used, and it has this deadline. All else that the pass keeps is as it was.
 pub record Refills (segment deadline : ℕ) (p q : Pass) : Type 0 where
   pub entry : AddsEntry (Refilled (number p) segment deadline) p q
   pub own : IsSome (state_of p segment)
   pub plain : q.plain ≡ refilled segment deadline p.plain
   pub memo : memo q ≡ memo p
 
--- another pass is in the segment, or this one holds an item there
+-- Another pass is in the segment, or this one holds an item there.
 abbrev pub IsBeingRead : ℕ → Pass → Type 0
 IsBeingRead segment p = ((other : ℕ) × (other ≢ number p) × (0 < inside (trace p) other segment)) ⊎ (is_held_in (holding p) segment ≡ true)
 

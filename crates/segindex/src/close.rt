@@ -26,16 +26,16 @@ impl Index {
 
     /// Ends the index with one of its passes, and lists its content: each key with its value,
     /// in the order of the keys.
-    /// It is the content after some legal history
-    /// that goes on from what this pass has seen by entries of others,
-    /// and with one pass after just what that has seen.
-    /// With several passes the contract leaves open which entries of others these are:
+    /// The content is that after some legal history,
+    /// which goes on from what this pass has seen by entries of other passes.
+    /// If the index has one pass, the content is that after just what the pass has seen.
+    /// With several passes the contract leaves open which entries of others these are.
     /// `close_all` is the close that leaves nothing open.
-    /// It can't be called while an item is held.
+    /// The index can't be closed while an item is held.
     ///
-    /// Each bucket has four times seven words at most, so no more pairs are listed.
-    /// It takes memory for the list, if a key stands at all.
-    /// If that is refused, index and pass are gone all the same.
+    /// A bucket's chain has at most four buckets of seven words, so it has at most 28 pairs.
+    /// The list takes memory, if a key stands at all.
+    /// If that memory is refused, the index and the pass are gone all the same.
     pub fn close(self, alloc: Global, pass: Pass) -> Result<Vec<(Key, Value)>, OutOfMemory>
         requires { IsQuiet (index.board_of self) pass }
         ensures content { IfOk result (λ content.
@@ -51,10 +51,10 @@ impl Index {
     }
 
     /// Ends the index with all its passes, in any order, and lists its content as `close` does.
-    /// It is the content after what one of the passes has seen.
-    /// What each of them has seen begins that, and it has every entry of each.
-    /// It takes memory for the list, if a key stands at all.
-    /// If that is refused, index and passes are gone all the same.
+    /// The content is that after the history that one of the passes has seen.
+    /// What each pass has seen begins this history, which has every entry of each.
+    /// The list takes memory, if a key stands at all.
+    /// If that memory is refused, the index and the passes are gone all the same.
     pub fn close_all(
         self,
         alloc: Global,
@@ -101,7 +101,7 @@ fn list_pairs(alloc: Global, words: &Words) -> Result<Vec<(Key, Value)>, AllocEr
     Ok(pairs)
 }
 
-// Lists the pairs of a bucket's chain behind the others.
+// Adds the pairs of a bucket's chain at the end of the list.
 fn list_chain(words: &Words, home: u32, pairs: &mut Vec<(Key, Value)>) -> Result<(), AllocError>
     requires rest { (trace : List Event) × IsAtRest words.now trace }
     requires home { home < (shape_of words.now).buckets }
@@ -122,7 +122,7 @@ fn list_chain(words: &Words, home: u32, pairs: &mut Vec<(Key, Value)>) -> Result
     Ok(())
 }
 
-// Lists the pairs of one bucket of a chain.
+// Adds the pairs of one bucket of a chain at the end of the list.
 fn list_bucket(words: &Words, bucket: u32, pairs: &mut Vec<(Key, Value)>) -> Result<(), AllocError>
     requires { (trace : List Event) × (home : ℕ) × (depth : ℕ)
         × IsAtRest words.now trace × IsBucketIn words.now trace home depth bucket }

@@ -1,4 +1,4 @@
-//! The index, and how it is made.
+//! The index, and how one is created.
 ghost use Rattle.std.specs.Prelude.{◌≡◌, IfOk, IfErr};
 
 use segbase::{Board, MakeFault, Pass};
@@ -26,7 +26,7 @@ impl Index {
         Ok((Index { board }, passes))
     }
 
-    /// Its shape.
+    /// The shape of the index.
     pub fn shape(&self) -> Shape
         ensures { result ≡ shape_of self.now }
     {

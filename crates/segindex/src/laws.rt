@@ -1,4 +1,4 @@
-//! Laws of quiet passes and of replies, beside what the calls say.
+//! Laws of quiet passes and of replies, beside what the contracts of the calls say.
 //! These functions do nothing: their contracts are the theorems.
 ghost use Rattle.segindex.specs.Laws.{SeenIsLegal, MarksAreBeside, KnowsItsOwn, OwnAreInTable};
 ghost use Rattle.segindex.specs.Laws.{UsedAreLinked, CurrentIsInUse, UnusedIsEmpty, LockedIsStill};
@@ -11,12 +11,12 @@ ghost use Rattle.segindex.specs.Laws.{CasFailsWhereWrittenSince, CasCalledLaterF
 /// What a quiet pass has seen is a history of a cache of one thread, with marks.
 /// The pass knows just its own segments,
 /// and of their rows those are used that an item was linked to.
-/// The segment that it stores into is in use, and no key stands in one that isn't.
-/// It knows the deadlines of its segments.
-/// No entry came into the bucket that it has locked.
+/// The segment that the pass stores into is in use, and no key stands in one of its own that isn't.
+/// A deadline that the pass keeps of a segment is the segment's deadline in that cache.
+/// No entry came into the bucket that the pass has locked, since it was locked.
 /// At most seven keys of a bucket stand,
 /// and six more for each overflow bucket that joined its chain.
-/// No more of these joined than there are.
+/// No more overflow buckets joined than there are.
 pub fn quiet_pass()
     ensures legal { SeenIsLegal }
     ensures unmarked { MarksAreBeside }
@@ -53,11 +53,11 @@ pub fn replies_at_a_moment()
     ensures deletes { DeletesAtAMoment }
 {}
 
-/// A cas with the version that a gets of its key gave, and that is entered later,
+/// A cas that expects the version that a gets of its key gave, and that is entered later,
 /// is NotFound if the key is absent then.
-/// Otherwise it is Exists exactly if the writes of its bucket differ, modulo 2^32,
-/// at the moments of the two, else Stored.
-/// It is entered later if its pass, when it called, had seen all that the gets had seen.
+/// Otherwise the cas is Exists exactly if the numbers of its bucket's writes
+/// at the moments of the two calls differ modulo 2^32, and else Stored.
+/// The cas is entered later if its pass, when it called, had seen all that the gets had seen.
 pub fn cas_fails_where_written()
     ensures entered_later { CasFailsWhereWrittenSince }
     ensures called_later { CasCalledLaterFails }

@@ -9,7 +9,7 @@ impl Index {
     ghost use Rattle.segindex.specs.Index.{board_of};
 
     /// Locks the bucket of a key.
-    /// Until it is unlocked no other pass writes in it,
+    /// Until the bucket is unlocked, no other pass writes in it,
     /// and a delete and every write that has room are answered Busy.
     pub fn lock_bucket(&self, pass: &mut Pass, key: &Key) -> LockAnswer
         requires quiet { IsQuiet (board_of self.now) pass.old }

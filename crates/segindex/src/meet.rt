@@ -7,8 +7,9 @@ impl Index {
     ghost use Rattle.segpass.specs.Words.{IsQuiet};
     ghost use Rattle.segindex.specs.Meeting.{MeetsPass};
 
-    /// Both passes have then seen what either had seen before, the second all that the first has.
-    /// Of their histories one began the other.
+    /// Afterwards each pass has seen what either had seen before,
+    /// and the second has seen all that the first has.
+    /// Of the histories that they had seen before, one begins the other.
     pub fn meet(&self, first: &mut Pass, second: &mut Pass)
         requires first { IsQuiet (board_of self.now) first.old }
         requires second { IsQuiet (board_of self.now) second.old }

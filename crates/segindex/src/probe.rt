@@ -1,5 +1,5 @@
 //! A set and a get of one key.
-//! Their contracts and the laws of replies are all that its own contract stands on.
+//! The contract of the probe is proved from the contracts of these two calls and from laws alone.
 use crate::index::Index;
 use crate::laws::{quiet_pass, replies_at_a_moment};
 use segbase::Pass;

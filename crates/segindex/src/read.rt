@@ -1,4 +1,4 @@
-//! Values read, and items held, without any bit.
+//! The calls that read values and hold items. None of them sets a bucket's bit.
 use crate::index::Index;
 use segbase::Pass;
 use segmodel::{GetAnswer, GetsAnswer};
@@ -32,7 +32,7 @@ impl Index {
         segread::gets(&self.board, pass, key, draw, now)
     }
 
-    /// Holds the item of a key at a moment: its value can be read until it is released.
+    /// Holds the item of a key at a moment. Its value can be read until the hold is released.
     /// A pass holds one item at most. No frequency changes.
     pub fn hold<'i>(&'i self, pass: &mut Pass, key: &Key, now: u32) -> HoldAnswer<'i>
         requires pass { IsQuiet (board_of self.now) pass.old }
@@ -50,7 +50,7 @@ impl Index {
         segread::held_value(&self.board, pass, hold)
     }
 
-    /// Ends a hold. Up to then the segment wasn't refilled.
+    /// Ends a hold. Until then the segment of the held item isn't refilled.
     pub fn release(&self, pass: &mut Pass, hold: Hold<'_>)
         requires pass { IsQuiet (board_of self.now) pass.old }
         requires hold { IsHoldOf (shape_of self.now) hold pass.old }

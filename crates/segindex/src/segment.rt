@@ -1,4 +1,4 @@
-//! Segments whose items are kept elsewhere or taken out, and that are given out again.
+//! The calls on segments: evict, keep and refill.
 use crate::index::Index;
 use segbase::Pass;
 use segmodel::{EvictAnswer, KeepAnswer, RefillAnswer};
@@ -10,8 +10,8 @@ impl Index {
     ghost use Rattle.segindex.specs.Refilling.{RefillsSegment};
 
     /// Takes every key out of a segment of the pass's own, so that it can be refilled.
-    /// From then on nothing is stored there, even if the answer is Busy:
-    /// then another evict takes out the keys that are left.
+    /// From then on nothing is stored there before a refill, even if the answer is Busy.
+    /// After a Busy, another evict takes out the keys that are left.
     pub fn evict(&self, pass: &mut Pass, segment: u32) -> EvictAnswer
         requires quiet { IsQuiet (board_of self.now) pass.old }
         ensures evicts { EvictsSegment (board_of self.now) segment result pass.old pass.new }
@@ -19,9 +19,8 @@ impl Index {
         segevict::evict(&self.board, pass, segment)
     }
 
-    /// Moves the items of a segment of the pass's own that were read often
-    /// into its current segment, if both have the same deadline:
-    /// those whose frequency is the cutoff or over it.
+    /// Moves the items of a segment of the pass's own whose frequency is at least the cutoff.
+    /// They go into another segment, the pass's current one, if both have the same deadline.
     /// If the answer is NoRoom or Busy, what was moved stays moved,
     /// and another keep goes on.
     pub fn keep(&self, pass: &mut Pass, segment: u32, cutoff: u8) -> KeepAnswer
@@ -31,8 +30,8 @@ impl Index {
         segevict::keep(&self.board, pass, segment, cutoff)
     }
 
-    /// Makes a segment of the pass's own, in which no key stands and no item is read or held,
-    /// the one that it stores into, up to a deadline.
+    /// Makes a segment of the pass's own the one that the pass stores into, up to a deadline.
+    /// A segment that is in use is refused, and so is one of which an item is read or held.
     pub fn refill(&self, pass: &mut Pass, segment: u32, deadline: u32) -> RefillAnswer
         requires pass { IsQuiet (board_of self.now) pass.old }
         ensures refills { RefillsSegment (board_of self.now) segment deadline result

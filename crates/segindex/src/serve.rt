@@ -1,4 +1,4 @@
-//! Commands as values: each is the call that it names.
+//! Commands as values, and the calls that they name.
 ghost use Rattle.std.specs.Prelude.{ℕ};
 
 use crate::index::Index;

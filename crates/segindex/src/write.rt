@@ -1,4 +1,4 @@
-//! Values stored and keys taken out.
+//! The calls that store a value or take out a key.
 ghost use Rattle.segmodel.specs.declared.request.Request.TheVariants.{Set, Add, Replace, Cas};
 
 use crate::index::Index;
@@ -39,8 +39,8 @@ impl Index {
         segwrite::replace(&self.board, pass, key, value, now)
     }
 
-    /// Stores the value if the key's bucket has the expected version.
-    /// Otherwise the answer is Exists, or NotFound if the key is absent.
+    /// Stores the value if the key is present and its bucket has the expected version.
+    /// If the key is absent, the answer is NotFound. If only the version differs, it is Exists.
     pub fn cas(
         &self,
         pass: &mut Pass,
