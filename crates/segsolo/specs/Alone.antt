@@ -26,7 +26,7 @@ keys_stored_in (Moved pass key from to ∷ history) segment = if to == segment t
 keys_stored_in (Refilled pass other deadline ∷ history) segment = if other == segment then [] else keys_stored_in history segment
 keys_stored_in (_ ∷ history) segment = keys_stored_in history segment
 
--- nothing is kept of a segment that isn't the pass's: the model takes it as one that was never filled
+-- A pass keeps no state of a segment that isn't its own. The model takes such a segment as one that was never filled.
 abbrev pub or_empty : Option SegState → SegState
 or_empty None = Empty
 or_empty (Some state) = state
@@ -59,22 +59,24 @@ state_at shape p = record {
   locked = locked_of p;
 }
 
--- each key that was stored in a segment of its own used a row
+-- The count of used rows of a segment of the pass is the number of keys that were stored there.
 abbrev pub CountsRows : Pass → Type 0
 CountsRows p = (segment count : ℕ) → used_of p segment ≡ Some count → count ≡ length (keys_stored_in (seen p) segment)
 
--- the row is the last one of those for which these keys were stored that has the key
+-- Of the rows in which these keys were stored, the row is the last one that has the key.
 abbrev pub IsLastRow : List ℕ → List (List ℕ) → ℕ → Type 0
 IsLastRow key [] row = ⊥
 IsLastRow key (stored ∷ keys) zero = (is_at (key_cmp key) stored ≡ true) × (list_any (is_at (key_cmp key)) keys ≡ false)
 IsLastRow key (stored ∷ keys) (suc row) = IsLastRow key keys row
 
--- the item of a key that stands names the last row that was used for the key in its segment
+-- The item of a key that stands names the last row that was used for the key in its segment.
 abbrev pub NamesLastRows : Shape → Pass → Type 0
 NamesLastRows shape p = (key value : List ℕ) (segment row : ℕ) → standing (after shape (seen p)) key ≡ Some (cached value segment)
     → last_at (marked p) key ≡ Some (slot key segment row) → IsLastRow key (keys_stored_in (seen p) segment) row
 
--- the only pass of an index between calls: the rows that it counts are those of the keys stored, items name the last ones of these, and of its state holds what always holds
+-- The pass is the only one of its index, and is between two calls.
+-- The rows that it counts are those of the keys stored. Each item names the last row of its key.
+-- The state of the model that the pass is at is sound.
 pub record IsAlone (b : Board) (p : Pass) : Type 0 where
   pub one : b.shape.passes ≡ 1
   pub quiet : IsQuiet b p
@@ -82,7 +84,8 @@ pub record IsAlone (b : Board) (p : Pass) : Type 0 where
   pub rows : NamesLastRows b.shape p
   pub kept : IsSound b.shape (state_at b.shape p)
 
--- a command, or a turn, was served as the model says, from the state that the pass was at to the one that it is at now
+-- The pass is still alone. The command, or the turn, was served as the model says:
+-- from the state that the pass was at to the one that it is at now.
 abbrev pub ServesAlone : Board → Command → Answer → Pass → Pass → Type 0
 ServesAlone b command given p q = IsAlone b q × Serves b.shape (state_at b.shape p) command given (state_at b.shape q)
 

@@ -1,4 +1,5 @@
--- If an index has one pass, each of its calls is served as the model says. What the call's contract says is enough.
+-- If an index has one pass, each of its calls is served as the model says, a command if the draw is 0.
+-- What the call's contract says is enough for this.
 use Rattle.std.specs.Prelude.{◌≡◌, ℕ, Bool, false, List, Some, slice_get}
 use Rattle.segword.specs.Words.{Shape}
 use Rattle.segmodel.specs.declared.answer.Command.{Command}
@@ -11,14 +12,14 @@ use Rattle.segread.specs.Words.{Hold, HoldAnswer, HoldsItem, IsHoldOf, ReadsHeld
 use Rattle.segindex.specs.Words.{AnswersCommand, board_of, Index, IsNew}
 use Rattle.segsolo.specs.Alone.{state_at, IsAlone, ServesAlone, TurnsAlone, outcome_of_lock, outcome_of_unlock, outcome_of_hold}
 
--- a new index with one pass is at the state at the start
+-- The pass of a new index that has one pass is alone, and is at the start state.
 abbrev pub StartsAlone : Type 0
 StartsAlone = (shape : Shape) (index : Index) (passes : List Pass) (p : Pass) → IsNew shape index passes → shape.passes ≡ 1 → slice_get passes 0 ≡ Some p
     → IsAlone (board_of index) p × (state_at shape p ≡ fresh shape)
 
 -- ---- commands
 
--- a command, whose hit raises a frequency wherever it may: the draw is 0
+-- A command is served if the draw is 0. With this draw a hit raises the frequency if it may.
 abbrev pub CommandIsServed : Type 0
 CommandIsServed = (b : Board) (p q : Pass) (command : Command) (told : Answer) → IsAlone b p
     → AnswersCommand b command 0 told p q → ServesAlone b command told p q
@@ -47,7 +48,7 @@ abbrev pub ReleaseIsServed : Type 0
 ReleaseIsServed = (b : Board) (p q : Pass) (hold : Hold) → IsAlone b p → IsHoldOf b.shape hold p
     → ReleasesHold b p q → TurnsAlone b turn.Release outcome.Released p q
 
--- a pass that holds nothing makes no call for a held or a release
+-- If the pass holds nothing, a held and a release are answered NotHolding, and no call is made.
 abbrev pub NothingIsHeld : Type 0
 NothingIsHeld = (b : Board) (p : Pass) → IsAlone b p → is_holding_of p ≡ false
     → TurnsAlone b turn.Held outcome.NotHolding p p × TurnsAlone b turn.Release outcome.NotHolding p p

@@ -2,9 +2,10 @@
 ghost use Rattle.segsolo.specs.Served.{StartsAlone, CommandIsServed, LockIsServed, UnlockIsServed};
 ghost use Rattle.segsolo.specs.Served.{HoldIsServed, HeldIsServed, ReleaseIsServed, NothingIsHeld};
 
-/// If an index has one pass, each call is served as the model says, from the state of the model
-/// that the pass is at to the one that it is at then: what the call's contract says is enough.
-/// The states are told by what the pass has seen and keeps. A new index is at the one at the start.
+/// If an index has one pass, each call is served as the model says, a command if the draw is 0.
+/// The call leads from the model's state that the pass was at to the one that it is at then.
+/// What the call's contract says is enough for this.
+/// What the pass has seen and keeps determines the state. A new index is at the start state.
 pub fn one_pass_is_served()
     ensures start { StartsAlone }
     ensures command { CommandIsServed }

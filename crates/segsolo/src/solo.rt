@@ -12,7 +12,7 @@ use segmodel::{Answer, Command, PlainFault, Shelf};
 use segword::Shape;
 use std::alloc::Global;
 
-// The draw of each hit: it raises the frequency wherever it may, as in the model.
+// The draw of each hit. With this draw a hit raises the frequency if it may, as in the model.
 const DRAW: u32 = 0;
 
 /// An index with its one pass.
@@ -41,7 +41,7 @@ impl Solo {
         }
     }
 
-    /// Serves one command. It never fails.
+    /// Serves one command, and never fails.
     pub fn answer(&mut self, command: &Command) -> Answer
         ensures shape { shape_of self.new ≡ shape_of self.old }
         ensures serves { Serves (shape_of self.old) (state_of self.old) command.now
