@@ -1,20 +1,20 @@
 -- What goes through a reader or a writer.
 use Rattle.std.specs.Prelude.{◌≡◌, ℕ, ◌+◌, ◌<◌, ◌%◌, ◌^◌, ◌==◌, if◌then◌else◌, Bool, true, List, ◌++◌, length, Result, Ok, Err}
 
--- a write failed, or took none of its bytes
+-- whether a write failed, or took none of its bytes
 abbrev pub took_nothing : {E : Type 0} → Result ℕ E → Bool
 took_nothing (Ok n) = n == 0
 took_nothing (Err e) = true
 
--- the front is a beginning of all, and less than all
+-- The front is a beginning of all, and less than all.
 abbrev pub IsBeginning : List ℕ → List ℕ → Type 0
 IsBeginning front all = (rest : List ℕ) × (all ≡ front ++ rest) × (0 < length rest)
 
--- a beginning of the bytes was taken
+-- A beginning of the bytes was taken, and not all of them.
 abbrev pub TakesPart : {W : Type 0} → (W → List ℕ → W → Type 0) → W → List ℕ → W → Type 0
 TakesPart takes old bytes new = (part : List ℕ) × IsBeginning part bytes × takes old part new
 
--- a count of calls, after one more
+-- the count of calls after one more, modulo 2^64
 abbrev pub one_more : ℕ → ℕ
 one_more count = (count + 1) % 2 ^ 64
 
@@ -22,6 +22,6 @@ one_more count = (count + 1) % 2 ^ 64
 abbrev pub ends_after : ℕ → ℕ → ℕ
 ends_after count handed = if handed == 0 then one_more count else count
 
--- whatever the reader handed out is a beginning of the script, and all of it where the reader is at its end
+-- Whatever the reader handed out is a beginning of the script, and all of it if the reader is at its end.
 abbrev pub HandsOut : {R : Type 0} → (R → List ℕ → R → Type 0) → (R → Type 0) → R → R → List ℕ → Type 0
 HandsOut hands is_at_end old new script = (seen : List ℕ) → hands old seen new → (rest : List ℕ) × (script ≡ seen ++ rest) × (is_at_end new → script ≡ seen)

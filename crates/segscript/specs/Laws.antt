@@ -2,10 +2,10 @@
 use Rattle.std.specs.Prelude.{◌≡◌, ℕ, ◌≤◌, length}
 use Rattle.segscript.specs.Spelling.{PassTurn, IsSayable, spelling}
 
--- a line that says something is no longer than a line may be
+-- A line that spells a turn has at most 128 bytes.
 abbrev pub LinesFit : Type 0
 LinesFit = (passes : ℕ) (said : PassTurn) → IsSayable passes said → length (spelling said) ≤ 128
 
--- two turns of passes that are spelled by the same line are the same turn of the same pass
+-- If one line spells two turns of passes, they are the same turn of the same pass.
 abbrev pub LineSpellsOneTurn : Type 0
 LineSpellsOneTurn = (passes : ℕ) (left right : PassTurn) → IsSayable passes left → IsSayable passes right → spelling left ≡ spelling right → left ≡ right

@@ -1,5 +1,4 @@
--- How a run of a script ends. Its turns are taken by whatever stands behind the script: it has this many passes, and step says
--- what one turn of it is.
+-- How a run of a script ends. An engine takes its turns: it has `passes` passes, and `step` says what one turn is.
 use Rattle.std.specs.Prelude.{◌⊎◌, ◌≡◌, ℕ, ◌+◌, ◌^◌, ◌≤◌, Bool, true, false, List, [], ◌∷◌, ◌++◌, length, Result, Ok, Err}
 use Rattle.std.specs.List.{flat_map, AllByRecursion}
 use Rattle.segword.specs.Words.{IsValid, Shape}
@@ -25,14 +24,16 @@ abbrev pub is_make_fault : Result (Unit {0}) RunFault → Bool
 is_make_fault (Err (fault.Make f)) = true
 is_make_fault _ = false
 
--- a shape that can't be had is answered by its first fault, and one that can be had is never called a bad one
+-- If creating the index failed, the fault is the shape's first one, or out of memory for a valid shape.
+-- With any other result the shape is valid.
 abbrev pub ShapeIsAnswered : Shape → Result (Unit {0}) RunFault → Type 0
 ShapeIsAnswered shape (Err (fault.Make f)) = IsMakeFault shape f
 ShapeIsAnswered shape _ = IsValid shape
 
 -- ---- how far a run came
 
--- all whole lines of the bytes that came are served, with this text of replies, and the line after them is not too long so far
+-- All whole lines of the bytes that came are served, with this text of replies.
+-- The line after them is not too long so far.
 pub record ServesWholeLines (passes : ℕ) {S : Type 0} (step : S → PassTurn → Outcome → S → Type 0) (start : S) (seen text : List ℕ) : Type 0 where
   pub lines : List (List ℕ)
   pub rest : List ℕ
@@ -41,14 +42,16 @@ pub record ServesWholeLines (passes : ℕ) {S : Type 0} (step : S → PassTurn �
   pub short : length rest ≤ 128
   pub served : ServesLines passes step start lines text state
 
--- a reply could not be written whole: a beginning of the text is written, that of the lines up to the one of this reply
+-- A reply could not be written whole. The text is that of the lines up to the one of this reply.
+-- A beginning of the text is written, and not all of it.
 abbrev pub StopsWriting : (passes : ℕ) {S : Type 0} (step : S → PassTurn → Outcome → S → Type 0) → S → List ℕ → List ℕ → Type 0
 StopsWriting passes step start seen part =
     (text : List ℕ) × IsBeginning part text
     × (((front : List ℕ) × (rest : List ℕ) × (seen ≡ front ++ rest) × ServesWholeLines passes step start front text) ⊎ ServesScript passes step start seen text)
 
--- Line n of these bytes is bad, and none before it, and this is the text of those. Of the line its end was read, or its 129th byte,
--- or (where Ends) nothing comes after it: so it is told neither early nor on a guess.
+-- Line n of these bytes is bad, and no line before it is. The text has the replies to the lines before it.
+-- The end of the bad line was read, or its 129th byte, or (if `Ends` holds) nothing comes after it.
+-- So the run reports the line neither early nor on a guess.
 pub record IsSeenBad (passes : ℕ) {S : Type 0} (step : S → PassTurn → Outcome → S → Type 0) (start : S) (Ends : Type 0) (seen text : List ℕ) (n : ℕ) : Type 0 where
   pub lines : List (List ℕ)
   pub bad : List ℕ
@@ -64,9 +67,10 @@ pub record IsSeenBad (passes : ℕ) {S : Type 0} (step : S → PassTurn → Outc
 
 -- ---- how it ends
 
--- Read is what is so of all bytes that were read, Wrote of all that were written, Flushes of how many flushes were asked
--- for before and how many then, and Ends that the reader is at its end.
--- A fault of creating the index is none of a run.
+-- `Read` is so of all bytes that were read, and `Wrote` of all that were written.
+-- `Ends` is that the reader is at its end.
+-- `before` flushes were asked for before the run, and `flushes` after it.
+-- A fault of creating the index is none of a run, so nothing is said of it.
 abbrev pub EndOfRun : (passes : ℕ) {S : Type 0} (step : S → PassTurn → Outcome → S → Type 0) → S → (List ℕ → Type 0) → Type 0 → (List ℕ → Type 0) → ℕ → ℕ → Result (Unit {0}) RunFault → Type 0
 EndOfRun passes step start Read Ends Wrote before flushes (Ok _) =
     (script : List ℕ) × (text : List ℕ) × Read script × Ends × Wrote text × (flushes ≡ one_more before) × ServesScript passes step start script text
@@ -81,8 +85,8 @@ EndOfRun passes step start Read Ends Wrote before flushes (Err fault.Write) =
     × (((flushes ≡ before) × StopsWriting passes step start seen part) ⊎ ((flushes ≡ one_more before) × Ends × ServesScript passes step start seen part))
 EndOfRun passes step start Read Ends Wrote before flushes (Err (fault.Make f)) = Unit {0}
 
--- The reader handed out nothing once where all ended well, and once at most where it did not; so it is not asked again then.
--- Before and ends are how often it had handed out nothing before, and then.
+-- If all ended well, one read handed out nothing, and else at most one did. After it the reader isn't asked again.
+-- `before` such reads were made before the run, and `ends` when it ended.
 abbrev pub EndsOnce : ℕ → ℕ → Result (Unit {0}) RunFault → Type 0
 EndsOnce before ends (Ok _) = ends ≡ one_more before
 EndsOnce before ends (Err fault.Read) = ends ≡ before
@@ -91,6 +95,6 @@ EndsOnce before ends (Err (fault.Line n)) = (ends ≡ before) ⊎ (ends ≡ one_
 EndsOnce before ends (Err (fault.Make f)) = ends ≡ before
 EndsOnce before ends (Err fault.TooLong) = ends ≡ before
 
--- so the model says, of a cache in which nothing was done before
+-- The run ends as the model says, from a cache in which nothing was done before.
 abbrev pub RunOutcome : Shape → (List ℕ → Type 0) → Type 0 → (List ℕ → Type 0) → ℕ → ℕ → Result (Unit {0}) RunFault → Type 0
 RunOutcome shape Read Ends Wrote before flushes result = EndOfRun shape.passes (Steps shape) (fresh shape) Read Ends Wrote before flushes result

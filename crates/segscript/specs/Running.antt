@@ -1,5 +1,5 @@
--- What the parts of a run do, between its reads. Their turns are taken by whatever stands behind the script: it has this many
--- passes, and step says what one turn of it is.
+-- What the parts of a run do, between its reads. An engine takes the turns: it has `passes` passes, and `step` says
+-- what one turn is.
 use Rattle.std.specs.Prelude.{◌⊎◌, ◌≡◌, ℕ, ◌+◌, ◌≤◌, List, [], ◌∷◌, ◌++◌, length, Result, Ok, Err}
 use Rattle.segmodel.specs.Words.{Outcome}
 use Rattle.segscript.specs.Spelling.{PassTurn}
@@ -9,8 +9,9 @@ use Rattle.segscript.specs.Run.{ServesWholeLines, StopsWriting, IsSeenBad}
 use Rattle.segscript.specs.declared.fault.RunFault.{RunFault}
 use Rattle.segscript.specs.declared.fault.RunFault.TheVariants as fault
 
--- Where a run is: these bytes came, this text is written for their whole lines, what stands behind the script is as these
--- left it, and the bytes of the line that has no end yet are kept, with its number.
+-- How far a run has come. The bytes `seen` came, and `text` has the replies to their whole lines.
+-- These lines left the engine in the state `reached`.
+-- The bytes of the line that has no end yet are kept, with its number.
 pub record HasServed (passes : ℕ) {S : Type 0} (step : S → PassTurn → Outcome → S → Type 0) (start reached : S) (seen text line : List ℕ) (number : ℕ) : Type 0 where
   pub lines : List (List ℕ)
   pub splits : Splits seen lines line
@@ -34,7 +35,7 @@ module _ (passes : ℕ) {S : Type 0} (step : S → PassTurn → Outcome → S �
       (part : List ℕ) × (text : List ℕ) × Wrote part × IsBeginning part text × ServesLines passes step old (line ∷ []) text new
   LineOutcome old new Wrote line number (Err _) = ⊥
 
-  -- what became of bytes that were fed: seen are all that came, theirs among them, and told is what was written before
+  -- what became of bytes that were fed: `seen` are all that came, these among them, and `told` was written before
   abbrev pub FeedOutcome : S → S → (List ℕ → Type 0) → List ℕ → List ℕ → List ℕ → ℕ → Result (Unit {0}) RunFault → Type 0
   FeedOutcome start reached Wrote seen told line number (Ok _) = (text : List ℕ) × Wrote text × HasServed passes step start reached seen (told ++ text) line number
   FeedOutcome start reached Wrote seen told line number (Err (fault.Line n)) = (text : List ℕ) × Wrote text × IsSeenBad passes step start ⊥ seen (told ++ text) n

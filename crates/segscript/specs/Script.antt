@@ -8,7 +8,7 @@ use Rattle.segscript.specs.Replies.{reply}
 
 -- ---- lines
 
--- a line has no byte 10 in it
+-- A line has no byte 10 in it.
 abbrev pub IsLine : List ℕ → Type 0
 IsLine line = AllByRecursion (λ byte. byte ≢ 10) line
 
@@ -16,13 +16,13 @@ IsLine line = AllByRecursion (λ byte. byte ≢ 10) line
 abbrev pub ended : List ℕ → List ℕ
 ended line = line ++ 10 ∷ []
 
--- the bytes are these lines with their ends, and then the bytes of a line that has no end
+-- The bytes are these lines with their ends, and then the bytes of a line that has no end.
 pub record Splits (bytes : List ℕ) (lines : List (List ℕ)) (rest : List ℕ) : Type 0 where
   pub whole : bytes ≡ flat_map ended lines ++ rest
   pub each : AllByRecursion IsLine lines
   pub partial : IsLine rest
 
--- the lines say these turns, a line without bytes none
+-- The lines say these turns. A line without bytes says none.
 abbrev pub Say : ℕ → List (List ℕ) → List PassTurn → Type 0
 Say passes [] [] = Unit {0}
 Say passes [] (said ∷ turns) = ⊥
@@ -31,15 +31,15 @@ Say passes ((byte ∷ line) ∷ lines) [] = ⊥
 Say passes ((byte ∷ line) ∷ lines) (said ∷ turns) =
     IsSayable passes said × (byte ∷ line ≡ spelling said) × Say passes lines turns
 
--- a bad line is too long, or has bytes and says nothing
+-- A bad line is too long, or has bytes and says no turn.
 abbrev pub IsBad : ℕ → List ℕ → Type 0
 IsBad passes line =
     (128 < length line) ⊎ ((0 < length line) × ((said : PassTurn) → IsSayable passes said → line ≡ spelling said → ⊥))
 
 -- ---- replies
 
--- The lines say turns that were taken one after the other, from the old state to the new one, and the text has the replies to them.
--- There are this many passes, and step says what one turn is.
+-- The lines say turns, which were taken one after the other, from the old state to the new one.
+-- The text has the replies to them. There are this many passes, and `step` says what one turn is.
 pub record ServesLines (passes : ℕ) {S : Type 0} (step : S → PassTurn → Outcome → S → Type 0) (old : S) (lines : List (List ℕ)) (text : List ℕ) (new : S) : Type 0 where
   pub turns : List PassTurn
   pub outcomes : List Outcome
@@ -47,17 +47,18 @@ pub record ServesLines (passes : ℕ) {S : Type 0} (step : S → PassTurn → Ou
   pub run : Runs step old turns outcomes new
   pub told : text ≡ flat_map reply outcomes
 
--- where there is one pass, its turns are served one after the other; of several passes no more is said here than that each turn has a reply
+-- If there is one pass, its turn is served as the model says.
+-- Of several passes no more is said here than that each turn has a reply.
 abbrev pub Steps : Shape → State → PassTurn → Outcome → State → Type 0
 Steps shape old said outcome new = shape.passes ≡ 1 → Turns shape old said.1 outcome new
 
--- from the old state on the model serves these lines, with this text of replies
+-- From the old state on the model serves these lines, with this text of replies.
 abbrev pub IsServed : Shape → State → List (List ℕ) → List ℕ → State → Type 0
 IsServed shape old lines text new = ServesLines shape.passes (Steps shape) old lines text new
 
 -- ---- whole scripts
 
--- The script is served to its end, with this text of replies. A line without an end counts where it has bytes.
+-- The script is served to its end, with this text of replies. The last line, which has no end, counts if it has bytes.
 pub record ServesScript (passes : ℕ) {S : Type 0} (step : S → PassTurn → Outcome → S → Type 0) (start : S) (script text : List ℕ) : Type 0 where
   pub lines : List (List ℕ)
   pub last : List ℕ
@@ -65,11 +66,11 @@ pub record ServesScript (passes : ℕ) {S : Type 0} (step : S → PassTurn → O
   pub splits : Splits script lines last
   pub served : ServesLines passes step start (lines ++ last ∷ []) text state
 
--- no line of the script is bad, and this is a text of replies that belongs to it
+-- No line of the script is bad, and this is a text of replies that belongs to it.
 abbrev pub IsTextOf : Shape → List ℕ → List ℕ → Type 0
 IsTextOf shape script text = ServesScript shape.passes (Steps shape) (fresh shape) script text
 
--- the n-th line of the script is its first bad one, and this is a text of replies to the lines before it
+-- The n-th line of the script is its first bad one, and this is a text of replies to the lines before it.
 pub record IsFirstBad (shape : Shape) (script text : List ℕ) (n : ℕ) : Type 0 where
   pub lines : List (List ℕ)
   pub bad : List ℕ
@@ -78,7 +79,7 @@ pub record IsFirstBad (shape : Shape) (script text : List ℕ) (n : ℕ) : Type 
   pub whole : script ≡ flat_map ended lines ++ (bad ++ after)
   pub each : AllByRecursion IsLine lines
   pub unbroken : IsLine bad
-  -- the line has its end, or the script ends with it
+  -- The line has its end, or the script ends with it.
   pub ends : ((more : List ℕ) × (after ≡ 10 ∷ more)) ⊎ (after ≡ [])
   pub is_bad : IsBad shape.passes bad
   pub served : IsServed shape (fresh shape) lines text state

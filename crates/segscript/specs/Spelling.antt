@@ -57,7 +57,7 @@ turn_words Release = codes "release" ∷ []
 turn_words (Lock key) = codes "lock" ∷ key ∷ []
 turn_words Unlock = codes "unlock" ∷ []
 
--- its keys, values, numbers and moments are those that a script can name
+-- The keys, values, numbers and moments of the turn are those that a script can name.
 abbrev pub IsWritable : Turn → Type 0
 IsWritable (Serve (Refill segment deadline)) = IsNumber segment × IsNumber deadline
 IsWritable (Serve (Evict segment)) = IsNumber segment
@@ -89,6 +89,6 @@ PassTurn = ℕ × Turn
 abbrev pub spelling : PassTurn → List ℕ
 spelling said = join_with_byte 32 (pass_word said.0 ∷ turn_words said.1)
 
--- a script for this many passes can name the pass and the turn
+-- A script for this many passes can name the pass and the turn.
 abbrev pub IsSayable : ℕ → PassTurn → Type 0
 IsSayable passes said = (said.0 < passes) × IsNumber said.0 × IsWritable said.1

@@ -9,11 +9,12 @@ use Rattle.segread.specs.Words.{Hold, HoldAnswer, HoldsItem, IsHoldOf, ReadsHeld
 use Rattle.segindex.specs.Words.{AnswersCommand}
 use Rattle.segsolo.specs.Words.{outcome_of_hold, outcome_of_lock, outcome_of_unlock}
 
--- the draw of a script's hits: no line of a script shows a frequency
+-- the draw of a script's hits, each of which raises a frequency if it may
 abbrev pub draw : ℕ
 draw = 0
 
--- the outcome is that of the call which the turn is; without a hold there is nothing to call
+-- The outcome is that of the call that the turn names.
+-- If the pass holds nothing, a held and a release make no call, and the pass is as it was.
 abbrev pub IsOutcomeOfCall : Board → Turn → Outcome → Pass → Pass → Type 0
 IsOutcomeOfCall b (turn.Serve asked) (outcome.Answered told) p q = AnswersCommand b asked draw told p q
 IsOutcomeOfCall b (turn.Hold key now) told p q = (given : HoldAnswer) × (told ≡ outcome_of_hold given) × HoldsItem b key now given p q

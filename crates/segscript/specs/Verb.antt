@@ -26,7 +26,7 @@ verb Release = verbs.Release
 verb (Lock key) = verbs.Lock
 verb Unlock = verbs.Unlock
 
--- every command has a word
+-- Every command has a word.
 abbrev pub IsVerb : Verb → Type 0
 IsVerb v = Unit {0}
 

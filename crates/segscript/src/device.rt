@@ -9,19 +9,19 @@ pub struct Failed;
 
 /// Where the bytes of a script come from.
 pub trait Source {
-    /// From one state to the other it handed out these bytes.
+    /// From one state to the other the reader handed out these bytes.
     ghost hands: { Self → List ℕ → Self → Type 0 };
 
-    /// It has nothing more to hand out.
+    /// The reader has nothing more to hand out.
     ghost is_at_end: { Self → Type 0 };
 
-    /// A call of it has failed. Such a reader is not asked again.
+    /// A call of the reader has failed. Such a reader is not asked again.
     ghost has_failed: { Self → Bool };
 
-    /// How many of its reads handed out nothing, modulo 2^64.
+    /// How many reads handed out nothing, modulo 2^64.
     ghost ends: { Self → ℕ };
 
-    /// Puts some bytes at the front of the buffer, and says how many: none only at the end.
+    /// Puts some bytes at the front of the buffer, and returns how many: none only at the end.
     fn read(&mut self, buffer: &mut [u8]) -> Result<usize, Failed>
         requires works { has_failed self.old ≡ false }
         requires room { 0 < length buffer.old }
@@ -41,17 +41,17 @@ pub trait Source {
 
 /// Where the replies go.
 pub trait Sink {
-    /// From one state to the other it took these bytes.
+    /// From one state to the other the writer took these bytes.
     ghost takes: { Self → List ℕ → Self → Type 0 };
 
-    /// A call of it has failed, or a write took none of its bytes.
+    /// A call of the writer has failed, or a write took none of its bytes.
     /// Such a writer is not asked to write again; it may still be flushed.
     ghost has_failed: { Self → Bool };
 
-    /// How many flushes were asked of it, modulo 2^64.
+    /// How many flushes were asked for, modulo 2^64.
     ghost flushes: { Self → ℕ };
 
-    /// Takes some of the bytes from their front, and says how many.
+    /// Takes some of the bytes from their front, and returns how many.
     fn write(&mut self, bytes: &[u8]) -> Result<usize, Failed>
         requires works { has_failed self.old ≡ false }
         requires some { 0 < length bytes.now }
@@ -61,7 +61,7 @@ pub trait Sink {
         ensures failed { has_failed self.new ≡ took_nothing result }
         ensures flushes { flushes self.new ≡ flushes self.old };
 
-    /// Passes on what it holds back.
+    /// Passes on what the writer holds back.
     fn flush(&mut self) -> Result<(), Failed>
         ensures bytes { takes self.old [] self.new }
         ensures failed { has_failed self.new ≡ (has_failed self.old || is_err result) }

@@ -1,4 +1,4 @@
-//! What stands behind a script.
+//! The engine: what takes the turns of a script.
 ghost use Rattle.std.specs.Prelude.{◌≡◌, ◌<◌};
 ghost use Rattle.segword.specs.declared.shape.Shape.{Shape};
 ghost use Rattle.segmodel.specs.declared.answer.Outcome.{Outcome};
@@ -10,13 +10,13 @@ use segmodel::{Outcome, Turn};
 pub trait Engine {
     ghost shape: { Self → Shape };
 
-    /// What is so of it between turns.
+    /// What is so of the engine between turns.
     ghost is_ready: { Self → Type 0 };
 
-    /// One turn of a pass, with this outcome, leads from the one to the other.
+    /// One turn of a pass, with this outcome, leads from the one state to the other.
     ghost turns: { Self → PassTurn → Outcome → Self → Type 0 };
 
-    /// How many passes it has.
+    /// How many passes the engine has.
     fn passes(&self) -> u32
         ensures { result ≡ (shape self.now).passes };
 

@@ -14,7 +14,7 @@ pub enum RunFault {
     /// This line is the first bad one. Lines are counted from 1.
     #[error("bad line {0}")]
     Line(u64),
-    /// The index was not made, so nothing was read or written.
+    /// The index couldn't be created, so nothing was read or written.
     #[error("{0}")]
     Make(MakeFault),
     /// After 2^63 bytes the script had no end.

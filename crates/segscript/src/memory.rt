@@ -1,4 +1,4 @@
-//! A reader and a writer over memory, which fail where they are told to.
+//! A reader and a writer over memory, which can be set to fail.
 ghost use Rattle.std.specs.Prelude.{◌≡◌, ◌+◌, ◌-◌, ◌^◌, ◌%◌, ◌<◌, ◌≤◌, ◌||◌, ◌++◌, [], false};
 ghost use Rattle.std.specs.Prelude.{vec_len, length, take, drop, min, None, IfOk, OnErr};
 ghost use Rattle.std.specs.Prelude.{is_err, refl};
@@ -16,9 +16,9 @@ pub struct MemSource<'a> {
     /// What is left to hand out.
     pub left: &'a [u8],
     pub step: usize,
-    /// It fails once this many more bytes were handed out.
+    /// If there is such a number, the reader fails once this many more bytes were handed out.
     pub good: Option<usize>,
-    /// A call of it has failed.
+    /// A call of the reader has failed.
     pub failed: bool,
     /// How many reads handed out nothing, modulo 2^64.
     pub ends: u64,
@@ -65,7 +65,7 @@ impl<'a> Source for MemSource<'a> {
         ensures ends { IfOk result (λ n. self.new.ends ≡ ends_after self.old.ends n) }
         ensures unended { OnErr result (self.new.ends ≡ self.old.ends) }
 
-        // It fails where it was told to, and else hands out as many bytes as it may.
+        // The reader fails if it may hand out no more bytes, and else hands out as many as it may.
         ensures fails { is_err result ≡ is_spent self.old.good }
         ensures handed { IfOk result (λ n. n
             ≡ handed self.old.good self.old.step (length self.old.left.now) (length buffer.old)) }
@@ -107,19 +107,19 @@ pub enum WhenFull {
 }
 
 /// Keeps up to `room` more bytes, at most `step` of a call.
-/// The memory for them is reserved when it is made, so that no byte that it takes is lost.
+/// The memory for them is reserved when the writer is created, so no byte that it takes is lost.
 #[derive(Drop)]
 pub struct MemSink {
-    /// What it took.
+    /// The bytes that the writer took.
     pub taken: Vec<u8>,
     pub step: usize,
-    /// How many more bytes it takes.
+    /// How many more bytes the writer takes.
     pub room: usize,
     pub when_full: WhenFull,
     pub flush_fails: bool,
-    /// A call of it has failed, or a write took none of its bytes.
+    /// A call of the writer has failed, or a write took none of its bytes.
     pub failed: bool,
-    /// How many flushes were asked, modulo 2^64.
+    /// How many flushes were asked for, modulo 2^64.
     pub flushes: u64,
     ghost moves: { 0 < step },
     ghost reserved: { vec_len taken + room ≤ vec_capacity taken },
@@ -165,7 +165,7 @@ impl Sink for MemSink {
         ensures failed { self.new.failed ≡ took_nothing result }
         ensures flushes { self.new.flushes ≡ self.old.flushes }
 
-        // It takes as many bytes as it may. If that is none, it does as it was told to.
+        // The writer takes as many bytes as it may. If it has no room, it does what `when_full` says.
         ensures full { self.old.room ≡ 0 → when_full self.old.when_full result }
         ensures takes { 0 < self.old.room
             → result ≡ Ok (min (min self.old.step self.old.room) (length bytes.now)) }

@@ -13,7 +13,7 @@ use crate::line::read_line;
 use crate::reply::reply_of;
 use arrayvec::ArrayVec;
 
-/// How many bytes a script may have, and one more.
+/// One more than the number of bytes that a script may have.
 const LIMIT: u64 = 1 << 63;
 
 /// How many bytes are read at a time, at most.
@@ -56,7 +56,7 @@ impl OpenLine {
         }
     }
 
-    // Takes the next byte of the script, and serves the line that it ends.
+    // Takes the next byte of the script, and serves the line if the byte ends it.
     fn feed<E: Engine, W: Sink>(
         &mut self,
         engine: &mut E,
@@ -154,7 +154,7 @@ impl OpenLine {
     }
 }
 
-// Reads once. It is called only once the replies to all whole lines so far are written.
+// Reads once. Before it does, the replies to all whole lines so far are written.
 fn read_piece<R: Source, W: Sink, E: Engine>(
     reader: &mut R,
     _writer: &W,
@@ -177,8 +177,8 @@ fn read_piece<R: Source, W: Sink, E: Engine>(
     reader.read(piece)
 }
 
-/// Runs the script that the reader hands out over an engine, and writes the replies. No
-/// more is read before the lines that are there have their replies.
+/// Runs the script that the reader hands out over an engine, and writes the replies.
+/// No more is read before the whole lines that came have their replies.
 pub fn run<R: Source, W: Sink, E: Engine>(
     reader: &mut R,
     writer: &mut W,

@@ -1,4 +1,4 @@
-//! Runs a script over an index and its passes, or over an index that is made for it.
+//! Runs a script over an index and its passes, or over an index that is created for it.
 ghost use Rattle.std.specs.Prelude.{◌≡◌, ◌⊎◌, ℕ, List, true, false, IsOk};
 ghost use Rattle.segindex.specs.Words.{board_of, shape_of};
 ghost use Rattle.segscript.specs.Passes.{OneTakes};
@@ -18,10 +18,11 @@ use segword::Shape;
 use std::alloc::Global;
 
 /// Runs the script that the reader hands out over an index and its passes, and writes the replies.
-/// It is given no allocator.
+/// The run is given no allocator.
 ///
-/// If the index has one pass, the text is the one that the cache of one thread gives, from where
-/// that pass is. If it has several, they take turns on this thread, and each turn has a reply.
+/// If the index has one pass, the text is the one that the cache of one thread gives,
+/// from the state that the pass is at.
+/// If the index has several, they take turns on this thread, and each turn has a reply.
 pub fn serve_script<R: Source, W: Sink>(
     reader: &mut R,
     writer: &mut W,
@@ -32,15 +33,15 @@ pub fn serve_script<R: Source, W: Sink>(
     requires ready { IsReady server.old }
     ensures ready { IsReady server.new }
 
-    // How it ends, what it read and wrote, and which text belongs to that.
+    // How the run ends, what it read and wrote, and which text belongs to that.
     ensures outcome { EndOfRun (shape_of server.old.index.now).passes
         (Steps (shape_of server.old.index.now)) (state server.old)
         (λ seen. R.hands reader.old seen reader.new) (R.is_at_end reader.new)
         (λ text. W.takes writer.old text writer.new)
         (W.flushes writer.old) (W.flushes writer.new) result }
 
-    // Each turn was that of the pass that its line names, and the reply is its answer. When it
-    // began, the pass had seen all that any of the passes had seen. The others did nothing.
+    // Each turn was that of the pass that its line names, and the reply is its answer.
+    // Before the turn the pass had seen all that any pass had seen. The others did nothing.
     ensures each_turn { EndOfRun (shape_of server.old.index.now).passes
         (OneTakes (board_of server.old.index.now)) server.old.passes.items
         (λ seen. R.hands reader.old seen reader.new) (R.is_at_end reader.new)
@@ -56,11 +57,11 @@ pub fn serve_script<R: Source, W: Sink>(
     run(reader, writer, server)
 }
 
-/// Makes an index of this shape, runs the script that the reader hands out, and writes the replies.
+/// Creates an index of this shape, runs the script that the reader hands out, and writes the replies.
 ///
 /// If the shape has one pass, the text is the one that the cache of one thread gives.
-/// If it has several, they take turns on this thread, and each turn has a reply.
-/// Once the index and the list of its holds are made, `serve_script` does the rest.
+/// If the shape has several, they take turns on this thread, and each turn has a reply.
+/// Once the index and the list of its holds are created, `serve_script` does the rest.
 pub fn run_script<R: Source, W: Sink>(
     alloc: Global,
     reader: &mut R,
@@ -70,14 +71,14 @@ pub fn run_script<R: Source, W: Sink>(
     requires reader_works { R.has_failed reader.old ≡ false }
     requires writer_works { W.has_failed writer.old ≡ false }
 
-    // How it ends, what it read and wrote, and which text belongs to that.
+    // How the run ends, what it read and wrote, and which text belongs to that.
     ensures outcome { RunOutcome shape
         (λ seen. R.hands reader.old seen reader.new) (R.is_at_end reader.new)
         (λ text. W.takes writer.old text writer.new)
         (W.flushes writer.old) (W.flushes writer.new) result }
 
-    // Each turn was that of the pass that its line names, and the reply is its answer. When it
-    // began, the pass had seen all that any of the passes had seen. The others did nothing.
+    // Each turn was that of the pass that its line names, and the reply is its answer.
+    // Before the turn the pass had seen all that any pass had seen. The others did nothing.
     ensures each_turn { EachTurn shape
         (λ seen. R.hands reader.old seen reader.new) (R.is_at_end reader.new)
         (λ text. W.takes writer.old text writer.new)
@@ -93,8 +94,8 @@ pub fn run_script<R: Source, W: Sink>(
     ensures made { is_make_fault result ≡ true
         → (reader.new ≡ reader.old) × (writer.new ≡ writer.old) }
 
-    // Where the devices never failed, a script with a first bad line ends there,
-    // and any other ends well.
+    // If the index was created and no device failed, a script with a bad line ends at the first one,
+    // and any other script ends well. Either may be too long instead.
     ensures bad_line { (script text : List ℕ) (n : ℕ) →
         HandsOut R.hands R.is_at_end reader.old reader.new script → IsFirstBad shape script text n →
         R.has_failed reader.new ≡ false → W.has_failed writer.new ≡ false →

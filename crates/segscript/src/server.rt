@@ -17,7 +17,7 @@ pub struct Server<'i> {
     index: &'i Index,
     passes: Vec<Pass>,
     holds: Vec<Option<Hold<'i>>>,
-    // The pass that took the last turn. It has seen all that was done.
+    // The place of the pass that took the last turn. That pass has seen all that any pass has.
     last: usize,
 }
 
@@ -38,7 +38,7 @@ fn meet_at(index: &Index, passes: &mut [Pass], first: usize, second: usize)
     }
 }
 
-// The pass at the one place has then seen all that the one at the other place has, if it is another.
+// If the pass at `last` had seen all that any pass had, so has the pass at `place` then.
 fn catch_up(index: &Index, passes: &mut Vec<Pass>, last: usize, place: usize)
     requires quiet { All (IsQuiet (board_of index.now)) passes.old.items }
     requires last { last < vec_len passes.old }
@@ -113,7 +113,7 @@ impl Engine for Server<'_> {
         ensures ready { IsReady self.new }
         ensures shape { shape_of self.new.index.now ≡ shape_of self.old.index.now }
 
-        // The turn was that pass's, after it had seen all that was done, and the others did nothing.
+        // Before the turn the pass had seen all that any pass had seen. The others did nothing.
         ensures turns { TurnsOne self.old (pass, turn.now) result self.new }
     {
         let place = pass as usize;

@@ -1,4 +1,5 @@
-//! Readers and writers of std, as standard input and output are, as a source and a sink.
+//! A source over a reader of std, and a sink over a writer of std.
+//! Standard input and output are such a reader and such a writer.
 ghost use Rattle.std.specs.Prelude.{◌≡◌, false};
 ghost use Rattle.std.specs.Io.KnownBytes.{Consumes, Appends, IsAtEnd};
 ghost use Rattle.segscript.specs.Known.{Consumes-none, Consumes-more, Appends-none, Appends-more};
@@ -16,7 +17,7 @@ pub struct ReadSource<R: Read> {
 }
 
 impl<R: Read> ReadSource<R> {
-    /// A reader of this one, from which nothing was read yet.
+    /// A source over this reader, which has read nothing yet.
     pub fn new(inner: R) -> ReadSource<R>
         ensures inner { result.inner ≡ inner }
         ensures works { result.failed ≡ false }
@@ -64,12 +65,12 @@ impl<R: Read> Source for ReadSource<R> {
 pub struct WriteSink<W: Write> {
     inner: W,
     failed: bool,
-    // How many flushes were asked, modulo 2^64.
+    // How many flushes were asked for, modulo 2^64.
     flushes: u64,
 }
 
 impl<W: Write> WriteSink<W> {
-    /// A writer of this one, to which nothing was written yet.
+    /// A sink over this writer, which has written nothing yet.
     pub fn new(inner: W) -> WriteSink<W>
         ensures inner { result.inner ≡ inner }
         ensures works { result.failed ≡ false }

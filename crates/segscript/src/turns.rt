@@ -10,10 +10,10 @@ use segindex::{Hold, HoldAnswer, Index, LockAnswer, Pass};
 use segmodel::{Outcome, Turn};
 use segword::Key;
 
-/// The draw of each hit. No line of a script shows a frequency, so any number will do.
+/// The draw of each hit. With this draw a hit raises the frequency if it may, as in the model.
 const DRAW: u32 = 0;
 
-/// One turn of a pass, beside which its hold is kept.
+/// Takes one turn of a pass, whose hold is kept in `held`.
 pub fn take_turn<'i>(
     index: &'i Index,
     pass: &mut Pass,

@@ -8,7 +8,7 @@ ghost use Rattle.segscript.specs.Verb.{IsPass};
 
 use segword::{Key, Value};
 
-// Whether the word has no plus in front, and no zero before another digit.
+// Whether the word has no plus in front, and no zero in front of more bytes.
 fn begins_plainly(word: &[u8]) -> bool
     ensures { IsTrue result ↔ BeginsPlainly word.now }
 {
