@@ -21,7 +21,7 @@ no_tallies = record {
   busy = 0;
 }
 
--- one command more is counted
+-- the tallies, with one more command counted as this tally
 abbrev pub with_one_more : Tally → Tallies → Tallies
 with_one_more tally.Hit tallies = record tallies { hit = tallies.hit + 1 }
 with_one_more tally.Miss tallies = record tallies { miss = tallies.miss + 1 }
@@ -59,6 +59,6 @@ tells _ _ = false
 abbrev pub replies : Reply → List Entry → ℕ
 replies told history = count_by (tells told) history
 
--- the five tallies of replies count the writes of these entries
+-- The five tallies of replies count the writes of these entries.
 abbrev pub CountsReplies : Tallies → List Entry → Type 0
 CountsReplies tallies entries = (told : Reply) → count_of_reply told tallies ≡ replies told entries

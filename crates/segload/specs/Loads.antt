@@ -1,4 +1,4 @@
--- What a load comes to.
+-- What a load returns.
 use Rattle.std.specs.Prelude.{◌≡◌, ℕ, ◌<◌, ◌≤◌, Bool, List, [], length, slice_get, Some}
 use Rattle.segword.specs.Words.{IsValid, Shape}
 use Rattle.segmodel.specs.Words.{after, Cache, Entry, IsLegal, mine}
@@ -12,8 +12,10 @@ use Rattle.segload.specs.Gates.{IsToldOf, LetsThrough, RanToEnd, Stops}
 use Rattle.segload.specs.Counting.{all_of, CountsReplies}
 use Rattle.segload.specs.Making.{ClientState, Makes}
 
--- The tallies of a pass count so many commands, each once. These are the first ones of its workload, which is drawn with the seed from the stream of its number, over so many keys.
--- What they come to makes its tallies, what it goes by in the end, and its own entries in a history; the five tallies of replies count its own writes there.
+-- The tallies of a pass count `asked` commands, each once. These are the first ones of the pass's workload.
+-- The workload is drawn with the seed from the stream of the pass's number, over so many keys.
+-- The commands make the tallies and the pass's own entries in the history.
+-- The five tallies of replies count the pass's own writes there.
 pub record CountsCommands (shape : Shape) (seed keys asked pass : ℕ) (history : List Entry) (totals : PassTotals) : Type 0 where
   pub commands : totals.commands ≡ asked
   pub all : all_of totals.tallies ≡ asked
@@ -25,7 +27,9 @@ pub record CountsCommands (shape : Shape) (seed keys asked pass : ℕ) (history 
 abbrev pub keys_of : Cache → ℕ
 keys_of cache = length cache.items
 
--- One legal history has the entries of all passes, and none of anyone else. Those of each are what so many commands over so many keys, drawn with this seed, come to, as they are counted. So many keys stand after it.
+-- One legal history has the entries of all passes, and none of anyone else.
+-- The entries of each pass are those that its commands make, which are drawn with this seed over so many keys.
+-- The totals count these commands, and how many keys stand after the history.
 pub record IsLoad (shape : Shape) (seed keys commands : ℕ) (totals : Totals) : Type 0 where
   pub valid : IsValid shape
   pub long : length totals.passes.items ≡ shape.passes
@@ -35,16 +39,16 @@ pub record IsLoad (shape : Shape) (seed keys commands : ℕ) (totals : Totals) :
   pub among : (pass : ℕ) → shape.passes ≤ pass → mine pass history ≡ []
   pub stand : totals.keys ≡ keys_of (after shape history)
 
--- the gate may let each command of each pass through; when it was asked isn't said
+-- The gate may let each command of each pass through. When it was asked isn't said.
 abbrev pub IsLetThrough : Shape → ℕ → (ℕ → ℕ → Bool → Type 0) → Type 0
 IsLetThrough shape commands may_answer = (pass : ℕ) → pass < shape.passes → LetsThrough may_answer commands pass
 
--- the gate was told that each command of each pass was answered, by its number
+-- The gate was told of each command of each pass, by its number, that it was answered.
 abbrev pub IsToldOfAll : Shape → ℕ → (ℕ → ℕ → Type 0) → Type 0
 IsToldOfAll shape commands told = (pass : ℕ) → pass < shape.passes → IsToldOf told commands pass
 
--- The gate may stop a pass before one of its commands, and may let those before it through, and each command of each pass below.
--- Every pass had its thread, and ran to its end.
+-- The gate may stop a pass before one of its commands, and may let those before that one through.
+-- It may let through each command of each pass with a lower number. Every pass ran to its end.
 pub record IsStopped (shape : Shape) (commands : ℕ) (may_answer : ℕ → ℕ → Bool → Type 0) (pass : ℕ) : Type 0 where
   pub valid : IsValid shape
   pub one_of : pass < shape.passes
@@ -52,7 +56,8 @@ pub record IsStopped (shape : Shape) (commands : ℕ) (may_answer : ℕ → ℕ 
   pub lowest : (lower : ℕ) → lower < pass → LetsThrough may_answer commands lower
   pub each : (other : ℕ) → other < shape.passes → RanToEnd may_answer commands other
 
--- the index couldn't be created; or a pass of it may have been stopped, and none below it; or it is out of memory, over a shape that an index may have
+-- The index couldn't be created; or the gate stopped a pass of it, and none with a lower number;
+-- or the load is out of memory, and its shape is valid.
 abbrev pub IsLoadFault : Shape → ℕ → (ℕ → ℕ → Bool → Type 0) → LoadFault → Type 0
 IsLoadFault shape commands may_answer (Make fault) = IsMakeFault shape fault
 IsLoadFault shape commands may_answer (Stopped pass) = IsStopped shape commands may_answer pass

@@ -1,4 +1,4 @@
--- What a pass does at its load.
+-- What a pass does in a load.
 use Rattle.std.specs.Prelude.{◌≡◌, ◌≢◌, ℕ, zero, suc, ◌*◌, ◌<◌, Bool, false, true, List, ◌∷◌, slice_get, Some, None}
 use Rattle.std.specs.Int.NonZero.{non_zero_u32_get}
 use Rattle.segword.specs.Words.{Shape}
@@ -38,30 +38,31 @@ write_tally write.NoRoom = tally.NoRoom
 write_tally write.BucketFull = tally.BucketFull
 write_tally write.Busy = tally.Busy
 
--- and a delete
+-- how a delete that was answered so is counted
 abbrev pub delete_tally : DeleteAnswer → Tally
 delete_tally delete.Deleted = tally.Deleted
 delete_tally delete.NotFound = tally.NotFound
 delete_tally delete.Busy = tally.Busy
 
--- what a client goes by
+-- what the next commands of a client depend on
 abbrev pub course_of : Client → ClientState
 course_of client = record { segments = client.segments; version = client.version }
 
--- the pass has no bucket locked, and holds nothing
+-- The pass has no bucket locked, and holds nothing.
 abbrev pub HoldsNothing : Pass → Type 0
 HoldsNothing p = (locked_of p ≡ None) × (holding p ≡ None)
 
--- the ring has the segments of the pass
+-- The ring has the segments of the pass.
 abbrev pub IsOwnRing : Shape → ℕ → Cycle → Type 0
 IsOwnRing shape pass ring = (ring.first ≡ pass * shape.segments_each) × (ring.count ≡ shape.segments_each)
 
--- the pass gave up a segment: it emptied it and refilled it up to the load's deadline, and now there is room; or it couldn't, but only where there are other passes
+-- The pass gave up a segment: it emptied and refilled the segment, up to the load's deadline, and now there is room.
+-- Or the pass couldn't, but only if there are other passes.
 abbrev pub GivesUpSegment : Shape → ℕ → Bool → Pass → Pass → Type 0
 GivesUpSegment shape segment true p q = (room : List Entry) × Empties (number p) segment (mine p) room × (mine q ≡ Refilled (number p) segment load_deadline ∷ room) × (has_room shape q ≡ true)
 GivesUpSegment shape segment false p q = Empties (number p) segment (mine p) (mine q) × (shape.passes ≢ 1)
 
--- the command that a load's command of this kind is, with the moment of the load; a cas expects this version
+-- The command of the index for a load's command of this kind, with the moment of the load. A cas expects this version.
 abbrev pub asked_by : Kind → ℕ → Load → Command
 asked_by kind.Get version load = command.Get load.key load_moment
 asked_by kind.Gets version load = command.Gets load.key load_moment
@@ -74,7 +75,7 @@ asked_by kind.Delete version load = command.Write (request.Delete load.key load_
 abbrev pub command_of : ℕ → Load → Command
 command_of version load = asked_by load.kind version load
 
--- no command of a load is answered as an evict or a refill
+-- No command of a load is answered as an evict, a keep or a refill.
 abbrev pub IsOfLoad : Answer → Type 0
 IsOfLoad (answer.Evict told) = ⊥
 IsOfLoad (answer.Keep told) = ⊥
@@ -91,23 +92,24 @@ tally_of (answer.Gets (gets.Found value version)) = tally.Hit
 tally_of (answer.Gets gets.Miss) = tally.Miss
 tally_of _ = tally.Busy
 
--- what a pass goes by after an answer: the version that a gets found
+-- What the next commands of a pass depend on, after an answer: a gets that is a hit changes the version.
 abbrev pub course_after : Answer → ClientState → ClientState
 course_after (answer.Gets (gets.Found value version)) course = record course { version = version }
 course_after _ course = course
 
--- A get or a gets of a load, counted so, was made with the draw of its load and the moment of the load: if it is a hit, that draw says whether the frequency of the item is raised.
+-- A get or a gets of a load, counted so, was made with the draw of its load and the moment of the load.
+-- If it is a hit, that draw says whether the frequency of the item is raised.
 abbrev pub ReadsWithDraw : Board → Kind → Load → Tally → Pass → Pass → Type 0
 ReadsWithDraw b kind.Get load told p q = (read : GetAnswer) × (told ≡ tally_of (answer.Get read)) × ReadsKey b load.key load.draw load_moment read p q
 ReadsWithDraw b kind.Gets load told p q = (read : GetsAnswer) × (told ≡ tally_of (answer.Gets read)) × ReadsVersion b load.key load.draw load_moment read p q
 ReadsWithDraw b _ load told p q = Unit {0}
 
--- so were all of the first so many commands of a workload, at the end of which the pass is this one
+-- All reads among the first so many commands of a workload were made so. After them the pass is this one.
 abbrev pub HandsInDraws : Board → Draws → ℕ → Pass → Type 0
 HandsInDraws b draws zero q = Unit {0}
 HandsInDraws b draws (suc made) q = (p : Pass) × (told : Tally) × HandsInDraws b draws made p × ReadsWithDraw b (next_load (draws_after draws made)).kind (next_load (draws_after draws made)) told p q
 
--- a pass at its load, which made so many commands of a workload, has no bucket locked and holds nothing
+-- The worker's pass made so many commands of a workload. It is quiet, has no bucket locked, and holds nothing.
 pub record IsAtWork (b : Board) (draws : Draws) (made : ℕ) (worker : Worker) : Type 0 where
   pub quiet : IsQuiet b worker.client.pass
   pub free : HoldsNothing worker.client.pass
@@ -116,7 +118,9 @@ pub record IsAtWork (b : Board) (draws : Draws) (made : ℕ) (worker : Worker) :
   pub reads : HandsInDraws b draws made worker.client.pass
   pub all : all_of worker.tallies ≡ made
 
--- the pass of this number made all its commands, each of which the gate let through and was told of, unless the gate stopped it before one of them: then it made those before that one, of which the gate was told
+-- The worker is that of the pass of this number. If the gate didn't stop it, it made all its commands.
+-- If the gate stopped it before one of them, it made those before that one.
+-- The gate let through each command that was made, and was told of each.
 pub record HasWorked (b : Board) (may_answer : ℕ → ℕ → Bool → Type 0) (told : ℕ → ℕ → Type 0) (draws : Draws) (pass commands : ℕ) (worker : Worker) : Type 0 where
   pub quiet : IsQuiet b worker.client.pass
   pub is : number worker.client.pass ≡ pass
@@ -125,7 +129,7 @@ pub record HasWorked (b : Board) (may_answer : ℕ → ℕ → Bool → Type 0) 
   pub told_of : worker.is_stopped ≡ false → IsToldOf told commands pass
   pub stopped : worker.is_stopped ≡ true → (stops : Stops may_answer commands pass) × IsAtWork b draws stops.call worker × IsToldOf told stops.call pass
 
--- a pass that begins its load
+-- The worker is that of the pass of this number, which has made no command yet.
 pub record BeginsLoad (b : Board) (draws : Draws) (pass : ℕ) (worker : Worker) : Type 0 where
   pub at_work : IsAtWork b draws 0 worker
   pub is : number worker.client.pass ≡ pass
@@ -135,11 +139,11 @@ pub record BeginsLoad (b : Board) (draws : Draws) (pass : ℕ) (worker : Worker)
 abbrev pub draws_for : Plan → ℕ → Draws
 draws_for plan pass = draws_of plan.seed pass (non_zero_u32_get plan.keys)
 
--- a pass that begins what the plan says
+-- The worker begins what the plan says.
 abbrev pub BeginsPlan : Board → Plan → ℕ → Worker → Type 0
 BeginsPlan b plan pass worker = BeginsLoad b (draws_for plan pass) pass worker
 
--- the pass of this number did what the plan says, as far as the gate let it
+-- The pass of this number did what the plan says, as far as the gate let it.
 abbrev pub HasMadePlan : Board → (ℕ → ℕ → Bool → Type 0) → (ℕ → ℕ → Type 0) → Plan → ℕ → Worker → Type 0
 HasMadePlan b may_answer told plan pass worker = HasWorked b may_answer told (draws_for plan pass) pass plan.commands worker
 
@@ -147,11 +151,11 @@ HasMadePlan b may_answer told plan pass worker = HasWorked b may_answer told (dr
 abbrev pub pass_of : Worker → Pass
 pass_of worker = worker.client.pass
 
--- the gate stopped none of them
+-- The gate stopped none of the workers.
 abbrev pub NoneStopped : List Worker → Type 0
 NoneStopped workers = AllAt (λ n worker. worker.is_stopped ≡ false) workers
 
--- the first of them that the gate stopped is the one of this pass
+-- The first of the workers that the gate stopped is the one of this pass.
 pub record IsFirstStopped (workers : List Worker) (pass : ℕ) : Type 0 where
   pub place : ℕ
   pub worker : Worker

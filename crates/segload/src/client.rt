@@ -16,17 +16,17 @@ const DEADLINE: u32 = u32::MAX;
 // The moment that each command of a load is made with.
 const MOMENT: u32 = 0;
 
-/// A pass, and what it goes by from one command to the next.
+/// A pass, and what its next commands depend on.
 #[derive(Drop)]
 pub(crate) struct Client {
     pub(crate) pass: Pass,
-    // Its segments, in the order in which they are given up for new keys.
+    // The segments of the pass, in the order in which they are given up for new keys.
     segments: Ring,
-    // The version that its last gets found.
+    // The version that the pass's last gets found.
     version: u32,
 }
 
-// The command that a load's command is, with the moment of the load. A cas expects the version.
+// The call of the index for a command of the load, at the load's moment. A cas expects the version.
 fn command_of(load: Load, version: u32) -> Command
     ensures { result ≡ command_of version load }
 {
@@ -47,7 +47,7 @@ fn command_of(load: Load, version: u32) -> Command
     }
 }
 
-// How a command of a load is counted that was answered so.
+// How a command of a load that has this answer is counted.
 fn tally_of(answer: &Answer) -> Tally
     requires { IsOfLoad answer.now }
     ensures { result ≡ tally_of answer.now }
@@ -94,7 +94,7 @@ impl Client {
     ghost use Rattle.segload.specs.Making.{turned_on, ComesTo};
     ghost use Rattle.segload.specs.Working.{course_of, course_after, HoldsNothing, IsOwnRing, GivesUpSegment, ReadsWithDraw};
 
-    /// A pass that made no command yet.
+    /// A client whose pass made no command yet.
     pub(crate) fn new(pass: Pass, segments: Ring) -> Client
         ensures pass { result.pass ≡ pass }
         ensures course { course_of result ≡ record { segments = segments; version = 0 } }
@@ -106,7 +106,7 @@ impl Client {
         }
     }
 
-    /// Its pass, which makes no more commands.
+    /// The pass of the client, which makes no more commands.
     pub(crate) fn into_pass(self) -> Pass
         ensures { result ≡ self.pass }
     {
@@ -118,7 +118,8 @@ impl Client {
         pass
     }
 
-    /// Makes a command, and says what it came to. A write that finds no room is made once more, if room could be made.
+    /// Makes a command, and returns how it is counted.
+    /// A write that finds no room is made once more, if room could be made.
     pub(crate) fn serve(&mut self, index: &Index, load: Load) -> Tally
         requires quiet { IsQuiet (board_of index.now) self.old.pass }
         requires free { HoldsNothing self.old.pass }
@@ -144,7 +145,7 @@ impl Client {
         tally_of(&index.serve(&mut self.pass, &command, draw))
     }
 
-    // Keeps the version of a gets that is a hit for the next cas.
+    // Keeps, for the next cas, the version that a gets found.
     fn remember(&mut self, answer: &Answer)
         ensures pass { self.new.pass ≡ self.old.pass }
         ensures course { course_of self.new ≡ course_after answer.now (course_of self.old) }
@@ -154,8 +155,8 @@ impl Client {
         }
     }
 
-    // Gives up the next of its segments for new keys, and says whether that came about.
-    // The segment then has the load's deadline.
+    // Gives up the next of the pass's segments for new keys, and returns whether there is room then.
+    // If there is, the segment has the load's deadline.
     fn make_room(&mut self, index: &Index) -> bool
         requires quiet { IsQuiet (board_of index.now) self.old.pass }
         requires free { HoldsNothing self.old.pass }

@@ -5,14 +5,14 @@ use thiserror::Error;
 /// Why a load gave no totals.
 #[derive(Clone, Copy, Debug, PartialEq, Eq, Error)]
 pub enum LoadFault {
-    /// The index was not made, so no command was made either.
+    /// The index couldn't be created, so no command was made either.
     #[error("{0}")]
     Make(MakeFault),
     /// The gate stopped this pass, and none below it. Each other pass made all its commands, or was
     /// stopped too.
     #[error("stopped pass {0}")]
     Stopped(u32),
-    /// A list or a thread could not be had.
+    /// There was no memory for a list, or no thread could be started.
     #[error("out of memory")]
     OutOfMemory,
 }

@@ -1,28 +1,28 @@
-//! What lets the commands of a load through.
+//! The gate: what lets the commands of a load through.
 ghost use Rattle.std.specs.Prelude.{ℕ, Bool, true, ⊤};
 ghost use Rattle.segload.specs.Gates.{lets_all_through};
 
-/// A load asks it once before each command of a pass, from the pass's own thread,
-/// and tells it when the command was answered. Tests show that; no contract says it.
+/// A load asks the gate once before each command of a pass, from the pass's own thread,
+/// and tells the gate when the command was answered. Tests show that; no contract says it.
 /// The commands of a pass are numbered from 0.
 pub trait Gate: Sync {
-    /// What it may answer before a command of a pass.
+    /// What the gate may answer before a command of a pass.
     ghost may_answer: { Self → ℕ → ℕ → Bool → Type 0 } = { λ gate pass call answer. ⊤ };
 
-    /// What it knows once it was told of a command of a pass.
+    /// What the gate knows once it was told of a command of a pass.
     ghost told: { Self → ℕ → ℕ → Type 0 } = { λ gate pass call. ⊤ };
 
-    /// Whether the pass may make the command. Where it may not, the pass stops.
+    /// Whether the pass may make the command. If it may not, the pass stops.
     fn enter(&self, pass: u32, call: u32) -> bool
         ensures { may_answer self.now pass call result };
 
-    /// The command was answered. It is one that the gate let through.
+    /// Tells the gate that a command was answered. It is a command that the gate may let through.
     fn answered(&self, pass: u32, call: u32)
         requires { may_answer self.now pass call true }
         ensures { told self.now pass call };
 }
 
-/// It lets every command through.
+/// A gate that lets every command through.
 #[derive(Clone, Copy, Debug, Drop)]
 pub struct OpenGate;
 

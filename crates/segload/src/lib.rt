@@ -1,4 +1,5 @@
-//! A load: each pass of an index makes its own commands, on a thread of its own, and what they came to is counted.
+//! A load: each pass of an index makes its own commands, on a thread of its own.
+//! The load counts how the commands were answered.
 #![tactic(auto)]
 
 mod client;

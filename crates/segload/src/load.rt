@@ -25,7 +25,8 @@ use std::sync::Wait;
 use std::thread;
 use std::thread::{Promise, Threads};
 
-// What a thread gives back: the pass of this number, which has made its commands of the plan over the index, or was stopped.
+// What a thread promises: it returns the worker of the pass of this number.
+// That pass has made its commands of the plan over the index, or was stopped.
 #[derive(Drop)]
 struct Worked<'i, G> {
     index: &'i Index,
@@ -43,7 +44,7 @@ impl<'i, G: Gate> Promise<Worker> for Worked<'i, G> {
         promise.plan promise.pass worker };
 }
 
-// Each worker at work on a thread of its own. A thread that can't be had doesn't stop the others.
+// Lets each worker work on a thread of its own. If a thread can't be started, the others still run.
 fn work_at_once<R: Threads + Wait + Sync, G: Gate>(
     rt: &R,
     alloc: Global,
@@ -115,7 +116,7 @@ fn begin_all(
     Ok(workers)
 }
 
-// The lowest of the passes that the gate stopped.
+// The number of the first pass that the gate stopped.
 fn first_stopped(workers: &Vec<Worker>) -> Option<u32>
     ensures some { IfSome result (IsFirstStopped workers.now.items) }
     ensures none { result ≡ None → NoneStopped workers.now.items }
@@ -128,7 +129,7 @@ fn first_stopped(workers: &Vec<Worker>) -> Option<u32>
     None
 }
 
-// What each of the workers counted.
+// What each of the workers counted, in the same order.
 fn count_all(
     alloc: Global,
     commands: u32,
@@ -160,7 +161,7 @@ fn all_passes(alloc: Global, workers: Vec<Worker>) -> Result<Vec<Pass>, AllocErr
     Ok(passes)
 }
 
-// How many keys the index has at its end.
+// Ends the index, and returns how many keys stand then.
 fn count_keys(alloc: Global, index: Index, passes: Vec<Pass>) -> Option<u32>
     requires { AreAllQuiet (board_of index) passes.items }
     ensures { IfSome result (λ keys. (history : List Entry)
@@ -172,9 +173,9 @@ fn count_keys(alloc: Global, index: Index, passes: Vec<Pass>) -> Option<u32>
 }
 
 /// Runs a load over this many keys: so many commands for each pass of a new index,
-/// drawn with this seed. The totals say what they came to.
+/// drawn with this seed. The totals count how the commands were answered.
 ///
-/// It waits for its threads, one for each pass. What its contract says holds if it returns.
+/// The call waits for its threads, one for each pass. What its contract says holds if it returns.
 /// The contract says nothing of threads, of when the gate is asked,
 /// or of what the other passes do if the gate stops one. Tests do.
 pub fn run_crowd<R: Threads + Wait + AllocGlobal + Sync, G: Gate>(
@@ -224,7 +225,7 @@ pub fn run_crowd<R: Threads + Wait + AllocGlobal + Sync, G: Gate>(
     })
 }
 
-/// Runs a load over 64 keys. It waits as `run_crowd` does.
+/// Runs a load over 64 keys, and waits as `run_crowd` does.
 pub fn run_load<R: Threads + Wait + AllocGlobal + Sync, G: Gate>(
     rt: &R,
     alloc: Global,

@@ -15,7 +15,7 @@ pub(crate) struct Plan {
 impl Plan {
     ghost use Rattle.segload.specs.Working.{draws_for};
 
-    /// The commands of a pass.
+    /// The workload of a pass, which draws its commands.
     pub(crate) fn workload(self, pass: u32) -> Workload
         ensures { result ≡ draws_for self pass }
     {

@@ -3,12 +3,12 @@ ghost use Rattle.std.specs.Prelude.{◌≡◌, ◌+◌, ◌^◌, ◌<◌, sum_by
 ghost use Rattle.segload.specs.declared.totals.PassTotals.{PassTotals};
 ghost use Rattle.segload.specs.Counting.{no_tallies, with_one_more, all_of};
 
-/// What a command came to.
+/// How a command is counted.
 #[derive(Clone, Copy, Debug, PartialEq, Eq)]
 pub enum Tally {
     /// A get or a gets found its key.
     Hit,
-    /// A get or a gets didn't.
+    /// A get or a gets didn't find its key.
     Miss,
     Stored,
     NotStored,
@@ -21,7 +21,7 @@ pub enum Tally {
     Busy,
 }
 
-/// How many commands of a pass came to what.
+/// How many commands of a pass are counted as each tally.
 #[derive(Clone, Copy, Debug, PartialEq, Eq)]
 pub struct Tallies {
     pub hit: u32,
@@ -75,14 +75,15 @@ impl Tallies {
     }
 }
 
-/// What the commands of one pass came to.
+/// How many commands one pass made, and how they are counted.
 #[derive(Debug, Drop, PartialEq, Eq)]
 pub struct PassTotals {
     pub commands: u32,
     pub tallies: Tallies,
 }
 
-/// What a load came to: for each pass, in the order of their numbers, and how many keys the index had at its end.
+/// What a load counts: the totals of each pass, in the order of their numbers,
+/// and how many keys the index had at its end.
 #[derive(Debug, Drop, PartialEq, Eq)]
 pub struct Totals {
     pub passes: Vec<PassTotals>,

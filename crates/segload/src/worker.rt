@@ -1,4 +1,4 @@
-//! A pass at its load.
+//! A pass that makes its commands of a load.
 ghost use Rattle.std.specs.Prelude.{◌≡◌, []};
 ghost use Rattle.segindex.specs.Words.{board_of};
 
@@ -9,7 +9,7 @@ use crate::totals::Tallies;
 use segindex::{Index, Pass};
 use segpolicy::{Ring, Workload};
 
-/// A pass with its commands, and what they came to so far.
+/// A pass with its commands, and how they were counted so far.
 #[derive(Drop)]
 pub(crate) struct Worker {
     pub(crate) client: Client,
@@ -23,7 +23,7 @@ impl Worker {
     ghost use Rattle.segpass.specs.Words.{IsQuiet};
     ghost use Rattle.segload.specs.Working.{HoldsNothing, BeginsLoad, BeginsPlan, HasWorked};
 
-    /// A pass that made no command yet.
+    /// A worker whose pass made no command yet.
     pub(crate) fn new(index: &Index, plan: Plan, pass: Pass) -> Worker
         requires quiet { IsQuiet (board_of index.now) pass }
         requires nothing { mine pass ≡ [] }
@@ -40,14 +40,14 @@ impl Worker {
         }
     }
 
-    /// The number of its pass.
+    /// The number of the worker's pass.
     pub(crate) fn number(&self) -> u32
         ensures { result ≡ number_of self.now.client.pass }
     {
         self.client.pass.number()
     }
 
-    /// Makes its commands, until the gate stops it.
+    /// Makes the pass's commands, unless the gate stops it before one of them.
     pub(crate) fn work<G: Gate>(mut self, index: &Index, gate: &G, commands: u32) -> Worker
         requires begins { BeginsLoad (board_of index.now)
             self.workload (number self.client.pass) self }
