@@ -21,13 +21,14 @@ use Rattle.segcli.specs.declared.command.Command.TheVariants as command
 
 -- ---- the matches of a command
 
--- the number that a text writes where it has so few bits, and else the other one
+-- the number that a text writes, if it has at most `bits` bits, and else `other`
 abbrev pub number_or : ℕ → ℕ → Text → ℕ
 number_or other bits text =
     let digits = without_leading_plus text in
     if is_numeral digits && nat_lt (digits_value 10 digits) (2 ^ bits) then digits_value 10 digits else other
 
--- the number of an option: `clap` gives each a text, of the words or its default, and lets only such numbers through
+-- The number of an option. `clap` gives each option a text, of the words or its default,
+-- and lets only such numbers through.
 abbrev pub number_given : NumberOption → List Row → ℕ
 number_given option rows = option_map_or (number_or option.default option.bits) (one_of option.name rows) option.default
 
@@ -35,7 +36,7 @@ number_given option rows = option_map_or (number_or option.default option.bits) 
 abbrev pub is_given : Text → List Row → Bool
 is_given flag rows = option_map_or (λ text. bytes_eq text true_text) (one_of flag rows) false
 
--- the shape that the options give, with the numbers of the default one where the words say none
+-- the shape that the options give, with the numbers of the default one if the words say none
 abbrev pub shape_given : Shape → List Row → Shape
 shape_given default rows = record {
   buckets = number_given (buckets_option default) rows;
@@ -49,7 +50,7 @@ shape_given default rows = record {
 abbrev pub IsCommandName : Text → Type 0
 IsCommandName name = (name ≡ codes "script") ⊎ (name ≡ codes "load") ⊎ (name ≡ codes "word")
 
--- the command of this name with these matches; a load has one key at least, and `clap` lets no 0 through
+-- The command is the one of this name with these matches. A load has at least one key: `clap` lets no 0 through.
 abbrev pub IsAsked : Text × List Row → Command → Type 0
 IsAsked asked (command.Script shape) = (asked.0 ≡ codes "script") × (shape ≡ shape_given default_shape asked.1)
 IsAsked asked (command.Load shape seed commands keys progress) =
@@ -61,23 +62,24 @@ IsAsked asked (command.Show text) = ⊥
 
 -- ---- the words
 
--- help or the version is asked for
+-- whether help or the version is asked for
 abbrev pub is_request : ErrorKind → Bool
 is_request kind.DisplayHelp = true
 is_request kind.DisplayVersion = true
 is_request _ = false
 
--- what is read where `clap` ends with a fault of this kind
+-- what is read if `clap` ends with a fault of this kind
 abbrev pub IsRefused : ErrorKind → Result Command Refusal → Type 0
 IsRefused k (Ok (command.Show text)) = is_request k ≡ true
 IsRefused k (Ok asked) = ⊥
 IsRefused k (Err (refusal.Usage text)) = (is_request k ≡ false) × (k ≢ kind.OutOfMemory)
 IsRefused k (Err refusal.OutOfMemory) = ⊤
 
--- What is read of one word or more. `clap` finds no fault in a command. A request for help or for the version is a fault to
--- it, with a text that is shown; and any other fault is a bad command line. Memory may be wanted in each case. There is one
--- kind of fault, but for a word that may be an argument or a command, which is bad as either, and for what stands behind the
--- command `help`: `clap` says only that its help is shown, or that it is no command.
+-- What is read from one word or more. In a command that is read `clap` finds no fault.
+-- A request for help or for the version is a fault to `clap`, with a text that is shown.
+-- Any other fault is a bad command line. In each case the answer may be out of memory.
+-- Words have one kind of fault, with two exceptions. A word that may be an argument or a command is bad as either.
+-- Of what stands behind the command `help`, `clap` says only that its help is shown, or that it is no command.
 abbrev pub IsReadByClap : List Text → Result Command Refusal → Type 0
 IsReadByClap words (Ok (command.Show text)) = list_any is_request (fault_of command_line words) ≡ true
 IsReadByClap words (Ok asked) =
@@ -85,7 +87,7 @@ IsReadByClap words (Ok asked) =
 IsReadByClap words (Err (refusal.Usage text)) = list_any (λ k. not (is_request k)) (fault_of command_line words) ≡ true
 IsReadByClap words (Err refusal.OutOfMemory) = ⊤
 
--- what is read of the words: none at all are the command `script` with no options
+-- What is read from the words. No words at all are the command `script` with no options.
 abbrev pub IsReadAsCommand : List Text → Result Command Refusal → Type 0
 IsReadAsCommand [] read = read ≡ Ok (command.Script default_shape)
 IsReadAsCommand (word ∷ words) read = IsReadByClap (word ∷ words) read

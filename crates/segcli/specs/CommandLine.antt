@@ -13,13 +13,14 @@ use Rattle.clap.specs.declared.builder.value_parser.ValueParser.TheVariants as p
 abbrev pub default_shape : Shape
 default_shape = record { buckets = 1; overflow = 0; passes = 1; segments_each = 1; rows = 8; first_version = 0 }
 
--- that of a load, which has room for its 64 keys
+-- the shape of a load that no option changes, with room for the load's 64 keys
 abbrev pub load_shape : Shape
 load_shape = record default_shape { buckets = 16; segments_each = 2; rows = 128 }
 
 -- ---- options
 
--- `--NAME N`, where N is a number of so many bits, and within these bounds; it is this one where the words don't say it
+-- `--NAME N`, with a number N of so many bits, from `least` to `most`.
+-- If the words don't have the option, N is `default`.
 pub record NumberOption : Type 0 where
   pub name : Text
   pub bits : ℕ
@@ -27,11 +28,11 @@ pub record NumberOption : Type 0 where
   pub most : ℕ
   pub default : ℕ
 
--- any number of 32 bits
+-- an option with any number of 32 bits
 abbrev pub of_32_bits : Text → ℕ → NumberOption
 of_32_bits name default = record { name = name; bits = 32; least = 0; most = 4294967295; default = default }
 
--- those of a shape, each with its number in the default one
+-- the options of a shape, each with its number in this shape as its default
 abbrev pub buckets_option : Shape → NumberOption
 buckets_option shape = of_32_bits (codes "buckets") shape.buckets
 
@@ -64,7 +65,7 @@ shape_options shape =
     buckets_option shape ∷ overflow_option shape ∷ passes_option shape ∷ segments_option shape ∷ rows_option shape
     ∷ first_version_option shape ∷ []
 
--- these texts are three numbers of the shape, whose other numbers are 0 overflow buckets, one pass and the first version 0
+-- These texts are three numbers of the shape. Its others are 0 overflow buckets, one pass and the first version 0.
 pub record AreDefaults (shape : Shape) (of_buckets of_segments of_rows : Text) : Type 0 where
   pub buckets : of_buckets ≡ decimal shape.buckets
   pub segments : of_segments ≡ decimal shape.segments_each
@@ -73,11 +74,11 @@ pub record AreDefaults (shape : Shape) (of_buckets of_segments of_rows : Text) :
   pub passes : shape.passes ≡ 1
   pub first_version : shape.first_version ≡ 0
 
--- what takes the numbers of an option
+-- the parser that takes the numbers of an option
 abbrev pub number_parser : NumberOption → ValueParser
 number_parser option = if option.bits == 64 then parser.Unsigned option.least option.most else parser.Signed (pos option.least) (pos option.most)
 
--- an option of this name, whose values this parser takes, and which has this value where it isn't given
+-- an option of this name, whose values this parser takes, and which has this value if it isn't given
 abbrev pub option_rule : Text → ValueParser → Text → Rule
 option_rule name takes default =
     record (new_rule name) { long = Some name; value_names = 1; parser = Some takes; defaults = default ∷ [] }
@@ -133,6 +134,6 @@ command_line = with_subcommand (with_subcommand (with_subcommand (alone program_
 abbrev pub with_options : App → List NumberOption → App
 with_options app options = fold (λ a option. with_rule a (rule_of_option option)) app options
 
--- a parse by this command reads this of it
+-- The command of `clap` is this one, and has no global options.
 abbrev pub Builds : App → Command → Type 0
 Builds app command = (app_of command ≡ app) × ((fields_of command).has_globals ≡ false)

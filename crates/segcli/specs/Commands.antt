@@ -17,8 +17,9 @@ use Rattle.segcli.specs.declared.command.Command.TheVariants as command
 
 -- ---- a script
 
--- The script of the reader was run, and that ended so: what was read and written belongs to it, each of its turns was one of the
--- pass that its line names, and a fault of creating the index comes before anything is read or written.
+-- The script of the reader was run, and the run ended so. What was read and written belongs to that end.
+-- Each turn was one of the pass that its line names.
+-- A fault of creating the index comes before anything is read or written.
 pub record RanScript {R W : Type 0} (hands : R → List ℕ → R → Type 0) (is_at_end : R → Type 0) (read_failed : R → Bool) (ends : R → ℕ) (takes : W → List ℕ → W → Type 0) (write_failed : W → Bool) (flushes : W → ℕ) (shape : Shape) (reader reader' : R) (writer writer' : W) (end : Result (Unit {0}) RunFault) : Type 0 where
   pub outcome : RunOutcome shape (λ seen. hands reader seen reader') (is_at_end reader') (λ text. takes writer text writer') (flushes writer) (flushes writer') end
   pub each_turn : EachTurn shape (λ seen. hands reader seen reader') (is_at_end reader') (λ text. takes writer text writer') (flushes writer) (flushes writer') end
@@ -36,25 +37,25 @@ ScriptOutcome hands is_at_end read_failed ends takes write_failed flushes shape 
 
 -- ---- a word, and other texts
 
--- the text was shown: Wrote is what is so of the bytes that were written
+-- The text was shown, or the writer failed. `Wrote` is so of the bytes that were written.
 abbrev pub ShowOutcome : List ℕ → (List ℕ → Type 0) → ℕ → ℕ → Result (Unit {0}) ProgramFault → Type 0
 ShowOutcome text Wrote before flushes (Ok _) = PrintOutcome {E = ProgramFault} text Wrote before flushes (Ok tt)
 ShowOutcome text Wrote before flushes (Err fault.Write) = PrintOutcome text Wrote before flushes (Err fault.Write)
 ShowOutcome text Wrote before flushes (Err _) = ⊥
 
--- a word that has a reading was explained, and only one that has none is a bad one
+-- A word that has a reading was explained. Only a word that has none is a bad one.
 abbrev pub WordOutcome : List ℕ → (List ℕ → Type 0) → ℕ → ℕ → Result (Unit {0}) ProgramFault → Type 0
 WordOutcome text Wrote before flushes (Err fault.BadWord) = ((reading : Reading) → SpellsWord text reading → ⊥) × Wrote [] × (flushes ≡ before)
 WordOutcome text Wrote before flushes end = (reading : Reading) × SpellsWord text reading × ShowOutcome (explanation reading) Wrote before flushes end
 
 -- ---- a load
 
--- why a load of this shape has no totals to show: no pass of it is stopped
+-- This is a fault of a load of this shape, in which no pass is stopped.
 abbrev pub IsFaultOfLoad : Shape → ℕ → ProgramFault → Type 0
 IsFaultOfLoad shape commands f = (why : LoadFault) × IsLoadFault shape commands lets_all_through why × (f ≡ fault_of_load why)
 
--- The totals of a load of this shape, in which each pass made so many commands over so many keys, drawn with this seed, were
--- shown; or there are none to show, and nothing was written.
+-- The totals were shown of a load of this shape, in which each pass made so many commands over so many keys,
+-- drawn with this seed. Or there are no totals, and nothing was written.
 abbrev pub LoadOutcome : Shape → ℕ → ℕ → ℕ → (List ℕ → Type 0) → ℕ → ℕ → Result (Unit {0}) ProgramFault → Type 0
 LoadOutcome shape seed keys commands Wrote before flushes (Ok _) =
     (totals : Totals) × IsLoad shape seed keys commands totals × ShowOutcome (totals_text totals) Wrote before flushes (Ok tt)
@@ -78,8 +79,8 @@ CommandOutcome hands is_at_end read_failed ends takes write_failed flushes (comm
     (reader' ≡ reader) × (write_failed writer' ≡ is_write_end end)
     × ShowOutcome (string_bytes text) (λ part. takes writer part writer') (flushes writer) (flushes writer') end
 
--- What follows what ended so. A success is status 0, and nothing more is written. For a fault the writer is flushed, and its
--- line is printed to the error writer.
+-- What follows a command that ended so. A success has status 0, and nothing more is written.
+-- For a fault the writer is flushed, and the fault's line is printed to the error writer.
 abbrev pub Concludes : {W E : Type 0} → (W → List ℕ → W → Type 0) → (W → ℕ) → (E → List ℕ → E → Type 0) → (E → Bool) → (E → ℕ) → Result (Unit {0}) ProgramFault → W → W → E → E → ℕ → Type 0
 Concludes takes flushes error_takes error_failed error_flushes (Ok _) writer writer' errors errors' status =
     (status ≡ 0) × (writer' ≡ writer) × (errors' ≡ errors)

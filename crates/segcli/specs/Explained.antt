@@ -4,11 +4,11 @@ use Rattle.std.specs.Str.Parse.{AllDigits, digits_value}
 use Rattle.segword.specs.Words.{IsProperReading, Reading, reading_word}
 use Rattle.segword.specs.declared.reading.Reading.TheVariants as reading
 
--- the text is exactly 16 hexadecimal digits, of either case
+-- The text is exactly 16 hexadecimal digits, of either case.
 abbrev pub IsHexWord : List ℕ → Type 0
 IsHexWord text = (length text ≡ 16) × AllDigits 16 text
 
--- the text writes the word of this reading
+-- The text writes the word of this reading, which is one that a table can have.
 abbrev pub SpellsWord : List ℕ → Reading → Type 0
 SpellsWord text reading = IsHexWord text × IsProperReading reading × (digits_value 16 text ≡ reading_word reading)
 

@@ -9,7 +9,7 @@ use Rattle.segload.specs.declared.fault.LoadFault.TheVariants as load
 use Rattle.segcli.specs.declared.fault.ProgramFault.{ProgramFault}
 use Rattle.segcli.specs.declared.fault.ProgramFault.TheVariants as fault
 
--- what the fault of a run is to the program
+-- the program's fault if the run of a script had this fault
 abbrev pub fault_of_run : RunFault → ProgramFault
 fault_of_run run.Read = fault.Read
 fault_of_run run.Write = fault.Write
@@ -18,14 +18,14 @@ fault_of_run (run.Make (made.Shape f)) = fault.BadShape f
 fault_of_run (run.Make made.OutOfMemory) = fault.OutOfMemory
 fault_of_run run.TooLong = fault.TooLong
 
--- what the fault of a load is to the program
+-- the program's fault if a load had this fault
 abbrev pub fault_of_load : LoadFault → ProgramFault
 fault_of_load (load.Make (made.Shape f)) = fault.BadShape f
 fault_of_load (load.Make made.OutOfMemory) = fault.OutOfMemory
 fault_of_load (load.Stopped pass) = fault.Stopped pass
 fault_of_load load.OutOfMemory = fault.OutOfMemory
 
--- how a command ends whose run ended so
+-- how the command `script` ends if its run ended so
 abbrev pub end_of_run : Result (Unit {0}) RunFault → Result (Unit {0}) ProgramFault
 end_of_run (Ok _) = Ok tt
 end_of_run (Err f) = Err (fault_of_run f)
@@ -42,7 +42,7 @@ fault_line fault.Write = codes "write failed\n"
 fault_line fault.TooLong = codes "script too long\n"
 fault_line (fault.Stopped pass) = codes "stopped pass " ++ decimal pass ++ codes "\n"
 
--- the status that the program ends with: 2 where what it was given is wrong
+-- the status that the program ends with: 2 for a bad line, a bad word or bad arguments, else 3
 abbrev pub fault_status : ProgramFault → ℕ
 fault_status (fault.BadLine n) = 2
 fault_status fault.BadWord = 2

@@ -19,17 +19,17 @@ use Rattle.segcli.specs.declared.command.Command.{Command}
 use Rattle.segcli.specs.declared.fault.ProgramFault.{ProgramFault}
 use Rattle.segcli.specs.declared.fault.ProgramFault.TheVariants as fault
 
--- what it is to the program that std gives no words: it is out of memory, or they are not UTF-8
+-- the program's fault if std gives no words: it is out of memory, or they are bad arguments
 abbrev pub fault_of_words : ErrorKind → ProgramFault
 fault_of_words kind.OutOfMemory = fault.OutOfMemory
 fault_of_words _ = fault.BadArguments
 
--- what is read of the words; memory may be wanted for their list
+-- What is read from the words. There may be no memory for their list.
 abbrev pub IsReadOfWords : List Text → Result Command Refusal → Type 0
 IsReadOfWords words read = IsReadAsCommand words read ⊎ (read ≡ Err refusal.OutOfMemory)
 
--- The program is run over the words behind the first, which is its name. Where std gives none, that is told, and the reader is
--- left alone.
+-- The program is run over the words behind the first, which is its name.
+-- If std gives no words, the fault is printed, and the reader is left alone.
 abbrev pub GivenOutcome : {R W E : Type 0} → (R → List ℕ → R → Type 0) → (R → Type 0) → (R → Bool) → (R → ℕ) → (W → List ℕ → W → Type 0) → (W → Bool) → (W → ℕ) → (E → List ℕ → E → Type 0) → (E → Bool) → (E → ℕ) → Result (IntoIter (String Global) Global) Error → R → R → W → W → E → E → ℕ → Type 0
 GivenOutcome hands is_at_end read_failed ends takes write_failed flushes error_takes error_failed error_flushes (Ok given) reader reader' writer writer' errors errors' status =
     (read : Result Command Refusal) × IsReadOfWords (map (λ word. string_bytes word) (drop 1 (into_iter_items given))) read

@@ -9,7 +9,7 @@ use Rattle.segcli.specs.declared.command.Command.{Command}
 use Rattle.segcli.specs.declared.fault.ProgramFault.{ProgramFault}
 use Rattle.segcli.specs.declared.fault.ProgramFault.TheVariants as fault
 
--- the status where no command was read, and the text that says why
+-- the status if no command was read, and the text that says why
 abbrev pub refusal_status : Refusal → ℕ
 refusal_status (refusal.Usage text) = 2
 refusal_status refusal.OutOfMemory = fault_status fault.OutOfMemory
@@ -18,8 +18,9 @@ abbrev pub refusal_text : Refusal → List ℕ
 refusal_text (refusal.Usage text) = string_bytes text
 refusal_text refusal.OutOfMemory = fault_line fault.OutOfMemory
 
--- A command that was read is carried out: it ends somehow with the writer there, and that is concluded. Where none was read,
--- the reader is left alone, the writer is flushed, and the text that says why is printed to the error writer.
+-- A command that was read is carried out. It ends with the writer at `there`, and that end is concluded.
+-- If none was read, the reader is left alone, the writer is flushed, and the text that says why is printed
+-- to the error writer.
 abbrev pub ProgramOutcome : {R W E : Type 0} → (R → List ℕ → R → Type 0) → (R → Type 0) → (R → Bool) → (R → ℕ) → (W → List ℕ → W → Type 0) → (W → Bool) → (W → ℕ) → (E → List ℕ → E → Type 0) → (E → Bool) → (E → ℕ) → Result Command Refusal → R → R → W → W → E → E → ℕ → Type 0
 ProgramOutcome {R} {W} hands is_at_end read_failed ends takes write_failed flushes error_takes error_failed error_flushes (Ok command) reader reader' writer writer' errors errors' status =
     (there : W) × (end : Result (Unit {0}) ProgramFault)

@@ -1,7 +1,7 @@
 -- What the program prints while a load runs.
 use Rattle.std.specs.Prelude.{ℕ, ◌*◌, ◌/◌, max, List, [], ◌++◌, Option, Some, None, codes, decimal}
 
--- how many commands are made in a second, where that is known
+-- the text of how many commands are made in a second, if that is known
 abbrev pub rate_text : Option ℕ → List ℕ
 rate_text None = []
 rate_text (Some rate) = codes ", " ++ decimal rate ++ codes " a second"

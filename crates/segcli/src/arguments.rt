@@ -74,7 +74,7 @@ pub fn read_command<'a>(alloc: Global, words: &'a [String]) -> Result<Command<'a
     }
 }
 
-// Help and the version are asked for, and anything else is refused.
+// Shows help or the version if they are asked for, and refuses anything else.
 fn refused<'a>(alloc: Global, error: &Error) -> Result<Command<'a>, Refusal>
     ensures { IsRefused (kind_of error.now) result }
 {

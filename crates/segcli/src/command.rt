@@ -26,7 +26,7 @@ pub enum Command<'a> {
     /// Runs the script of the reader over an index of this shape.
     Script(Shape),
     /// Runs a load over an index of this shape: each pass makes so many commands over so many keys, drawn with this seed.
-    /// If it is to tell its progress, a watch looks on.
+    /// If `progress` is true, a watch looks on.
     Load {
         shape: Shape,
         seed: u64,
@@ -40,11 +40,11 @@ pub enum Command<'a> {
     Show(String),
 }
 
-/// Carries out a command, and answers the exit status.
+/// Carries out a command, and returns the exit status.
 /// Replies, totals and explanations go to the writer.
 /// For a fault the writer is asked to flush, and then one line goes to the error writer.
 /// (That order is a condition of `print_after`.)
-/// The watch looks on at a load that is to tell its progress.
+/// The watch looks on at a load if the command says so.
 ///
 /// A load waits for its threads. What the contract says holds if this returns.
 pub fn run_command<R: Threads + Wait + AllocGlobal + Sync, S: Source, W: Sink, E: Sink, V: Watch>(
@@ -60,7 +60,7 @@ pub fn run_command<R: Threads + Wait + AllocGlobal + Sync, S: Source, W: Sink, E
     requires writer_works { W.has_failed writer.old ≡ false }
     requires errors_work { E.has_failed errors.old ≡ false }
 
-    // The command ends somehow with the writer there, and then its fault, if it has one, is reported.
+    // The command ends with the writer at `there`. Then its fault, if it has one, is reported.
     ensures outcome { (there : W) × (end : Result (Unit {0}) ProgramFault)
         × CommandOutcome S.hands S.is_at_end S.has_failed S.ends W.takes W.has_failed W.flushes
         command.now source.old source.new writer.old there end
@@ -140,7 +140,7 @@ fn perform_load<R: Threads + Wait + AllocGlobal + Sync, W: Sink, V: Watch>(
     }
 }
 
-// Runs a load, and gives the text of its totals.
+// Runs a load, and returns the text of its totals.
 fn load_text<R: Threads + Wait + AllocGlobal + Sync, V: Watch>(
     rt: &R,
     alloc: Global,
@@ -212,7 +212,7 @@ fn show<W: Sink>(text: &[u8], writer: &mut W) -> Result<(), ProgramFault>
     }
 }
 
-// The status of what ended so; a fault is reported.
+// Returns the status of a command that ended so. A fault is reported.
 fn conclude<W: Sink, E: Sink>(end: Result<(), ProgramFault>, writer: &mut W, errors: &mut E) -> u8
     requires errors_work { E.has_failed errors.old ≡ false }
     ensures { Concludes W.takes W.flushes E.takes E.has_failed E.flushes end

@@ -20,8 +20,8 @@ fn word_of(text: &str) -> Option<u64>
     u64::from_str_radix(text, 16).ok()
 }
 
-/// The reading of the word that 16 hexadecimal digits write, or `None` if the text is anything else, or no item word
-/// of a table reads so.
+/// The reading of the word that the text writes in 16 hexadecimal digits.
+/// It is `None` if the text isn't 16 such digits, or if the word has no reading.
 pub fn reading_of(text: &str) -> Option<Reading>
     ensures some { IfSome result (SpellsWord text.now) }
     ensures all { (reading : Reading) → SpellsWord text.now reading → result ≡ Some reading }

@@ -13,13 +13,13 @@ use segword::ShapeFault;
 pub enum ProgramFault {
     /// This line of the script is the first bad one. Lines are counted from 1.
     BadLine(u64),
-    /// A word isn't 16 hexadecimal digits, or isn't an item word of any reading.
+    /// A word isn't 16 hexadecimal digits, or has no reading as an item word.
     BadWord,
     /// The arguments aren't text.
     BadArguments,
     /// An index can't have this shape.
     BadShape(ShapeFault),
-    /// Memory was wanted and not had.
+    /// There was no memory left.
     OutOfMemory,
     /// The reader failed.
     Read,
@@ -32,7 +32,7 @@ pub enum ProgramFault {
 }
 
 impl ProgramFault {
-    /// What the fault of a run is to the program.
+    /// The program's fault if the run of a script had this fault.
     pub fn of_run(fault: RunFault) -> ProgramFault
         ensures { result ≡ fault_of_run fault }
     {
@@ -46,7 +46,7 @@ impl ProgramFault {
         }
     }
 
-    /// What the fault of a load is to the program.
+    /// The program's fault if a load had this fault.
     pub fn of_load(fault: LoadFault) -> ProgramFault
         ensures { result ≡ fault_of_load fault }
     {
@@ -59,7 +59,7 @@ impl ProgramFault {
         }
     }
 
-    /// The exit status: 2 if what the program was given is wrong, else 3.
+    /// The exit status: 2 for a bad line, a bad word or bad arguments, else 3.
     pub fn status(self) -> u8
         ensures { result ≡ fault_status self }
     {
@@ -123,7 +123,7 @@ pub fn print<W: Sink>(writer: &mut W, text: &[u8]) -> Result<(), Failed>
     }
 }
 
-// Prints the line of a fault. It is called only once the writer was flushed.
+// Prints the line of a fault. Before it does, the writer was asked to flush.
 pub(crate) fn print_after<W: Sink, E: Sink>(_writer: &W, errors: &mut E, text: &[u8])
     requires flushed { WasFlushed W.takes W.flushes _writer.now }
     requires errors_work { E.has_failed errors.old ≡ false }
@@ -132,7 +132,8 @@ pub(crate) fn print_after<W: Sink, E: Sink>(_writer: &W, errors: &mut E, text: &
     let _ = print(errors, text);
 }
 
-/// Flushes the writer, then prints the line of a fault, and answers the status, whatever comes of the flush and the line.
+/// Flushes the writer, then prints the line of a fault, and returns the fault's status.
+/// It does so even if the flush or the line fails.
 pub fn report<W: Sink, E: Sink>(fault: ProgramFault, writer: &mut W, errors: &mut E) -> u8
     requires errors_work { E.has_failed errors.old ≡ false }
     ensures status { result ≡ fault_status fault }

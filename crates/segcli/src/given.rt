@@ -16,8 +16,8 @@ use std::sync::Wait;
 use std::thread::Threads;
 
 /// Does what the program is asked for by the words that std gives, the first of which is its name.
-/// Std gives no words if one of them isn't UTF-8. Then they are bad arguments.
-/// It answers the exit status, as `run_program` does.
+/// Std gives no words if one of them isn't UTF-8. Then the fault is BadArguments.
+/// It returns the exit status, as `run_program` does.
 ///
 /// A load waits for its threads. What the contract says holds if this returns.
 pub fn run_given<R: Threads + Wait + AllocGlobal + Sync, S: Source, W: Sink, E: Sink, V: Watch>(

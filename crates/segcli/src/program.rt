@@ -19,10 +19,10 @@ use std::thread::Threads;
 const BAD_USAGE: u8 = 2;
 
 /// Does what the words after the program's name ask for, with a script from the source.
-/// It answers the exit status: 0 if it was done,
+/// It returns the exit status: 0 if that was done,
 /// 2 for a bad line, a bad word or a bad command line, and else 3.
 /// Faults are printed to the error writer.
-/// The watch looks on at a load that is to tell its progress.
+/// The watch looks on at a load if the words say so.
 ///
 /// A load waits for its threads. What the contract says holds if this returns.
 pub fn run_program<R: Threads + Wait + AllocGlobal + Sync, S: Source, W: Sink, E: Sink, V: Watch>(
@@ -38,7 +38,7 @@ pub fn run_program<R: Threads + Wait + AllocGlobal + Sync, S: Source, W: Sink, E
     requires writer_works { W.has_failed writer.old ≡ false }
     requires errors_work { E.has_failed errors.old ≡ false }
 
-    // What is read of the words is carried out, or refused.
+    // The command that is read from the words is carried out, or the words are refused.
     ensures outcome { (read : Result Asked Refusal)
         × IsReadAsCommand (map (λ word. string_bytes word) words.now) read
         × ProgramOutcome S.hands S.is_at_end S.has_failed S.ends W.takes W.has_failed W.flushes

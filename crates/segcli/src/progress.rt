@@ -1,4 +1,4 @@
-//! How far a load is: a gate that a watch looks at it through, and the line that tells it.
+//! How far a load has come: a gate that reports it to a watch, and the line that tells it.
 ghost use Rattle.std.specs.Prelude.{◌≡◌, ◌*◌, ◌/◌, ◌++◌, max, IfOk};
 ghost use Rattle.segload.specs.Words.{lets_all_through};
 ghost use Rattle.segcli.specs.Progress.{rate_text, progress_text};
@@ -10,14 +10,14 @@ use std::sync::atomic::{AtomicU64, Ordering};
 
 /// What looks on while a load runs.
 pub trait Watch: Sync {
-    /// So many commands of the load were made, of so many in all. The thread of pass 0 calls it.
+    /// So many commands of the load were made, of so many in all. The thread of pass 0 makes this call.
     fn saw(&self, made: u64, of: u64);
 }
 
-/// The watch hears of each of so many commands of pass 0.
+/// The watch is called each time that pass 0 has made so many more commands.
 const BETWEEN: u32 = 1024;
 
-/// It lets every command through, counts them, and lets a watch look on.
+/// A gate that lets every command through, counts those that were answered, and calls a watch.
 #[derive(Drop)]
 pub struct Watched<'w, V> {
     watch: &'w V,
