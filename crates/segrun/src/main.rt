@@ -1,5 +1,5 @@
 //! The object index of a segment-structured cache as a program,
-//! which runs scripts of cache commands.
+//! which runs scripts and loads, and explains item words.
 #![tactic(auto)]
 
 mod progress;

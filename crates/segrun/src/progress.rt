@@ -1,4 +1,4 @@
-//! How far a load is: a line on standard error, about twice a second.
+//! How far a load has come: a line on standard error, at most twice a second.
 use segcli::{Watch, progress_line};
 use std::io::Write;
 use std::sync::atomic::{AtomicU64, Ordering};
@@ -10,15 +10,15 @@ const INTERVAL: u64 = 500;
 /// The least number of commands between two lines, if there is no clock.
 const COMMANDS: u64 = 1 << 20;
 
-/// Writes the lines. Only pass 0 calls it, so it needs no lock.
+/// Writes the lines. Only the thread of pass 0 calls it, so it needs no lock.
 #[derive(Drop)]
 pub struct Teller<'r> {
     rt: &'r HostRuntime,
-    // By its clock, if that can be had.
+    // The moment of the start, if there is a clock.
     start: Option<Instant>,
-    // The commands that were made at the last line, or at the first call: 0 before it.
+    // How many commands were made at the last line or, before one, at the first call. 0 before that call.
     made: AtomicU64,
-    // When that was, in milliseconds since the start.
+    // The time of that line or call, in milliseconds since the start.
     time: AtomicU64,
 }
 
