@@ -1,5 +1,5 @@
 //! All the states in which a bucket may be, by what was answered so far.
-//! A call is taken at the latest when it returns, and only where its answer is allowed.
+//! A call is taken at the latest when it returns, and only in a state that allows its answer.
 use crate::call::Operation;
 use crate::replay::Fault;
 use crate::state::{KEYS, State, THREADS};
@@ -7,7 +7,7 @@ use crate::sums::bit;
 use std::alloc::{AllocError, Global};
 use std::mem;
 
-/// In how many states a bucket is looked at for one answer.
+/// How many states of a bucket are looked at for one answer, at most.
 const LIMIT: usize = 1 << 14;
 
 /// The operations that were called and didn't return, by their threads.
@@ -17,7 +17,7 @@ pub type Pending = [Option<Operation>; THREADS];
 pub struct Bucket {
     number: usize,
     states: Vec<State>,
-    /// The states that the search for an answer came to. It is kept for its memory alone.
+    /// The states that the search for an answer reached. The list is kept for its memory alone.
     seen: Vec<State>,
 }
 
@@ -41,7 +41,7 @@ impl Bucket {
     }
 
     /// Keeps those states in which the thread's evict took out one of these numbers of keys.
-    /// Whether there is any is told.
+    /// Returns whether there is any such state.
     pub fn keep(&mut self, thread: usize, counts: u64) -> bool {
         self.states
             .retain(|state| counts & bit(state.taken(thread)) != 0);
@@ -58,9 +58,10 @@ impl Bucket {
         Ok(())
     }
 
-    /// The thread's operation returns. Then the bucket may be in those states that calls
-    /// which are under way lead to, the thread's among them, each taken where it is allowed.
-    /// Whether there is any is told.
+    /// The thread's operation returns. Then the bucket may be in those states
+    /// that the calls under way lead to, the thread's among them.
+    /// Each of these calls is taken in a state that allows it.
+    /// Returns whether there is any such state.
     pub fn answer(&mut self, thread: usize, pending: &Pending) -> Result<bool, Fault> {
         let is_cut_off = matches!(pending.get(thread), Some(Some(it)) if it.is_cut_off());
         self.seen.clear();
@@ -82,7 +83,7 @@ impl Bucket {
         Err(Fault::TooMany)
     }
 
-    // Adds what one more call leads to from a state.
+    // Adds the states that one more call leads to from this one.
     fn go_on(&mut self, state: &State, pending: &Pending) -> Result<(), AllocError> {
         for (thread, operation) in pending.iter().enumerate() {
             let Some(operation) = operation else {
@@ -105,7 +106,7 @@ impl Bucket {
     }
 }
 
-// Takes each operation that may be taken for nothing. A release or an unlock can allow others: so it is done twice.
+// Takes each operation that is free and allowed. A release or an unlock can allow others, so this is done twice.
 fn settled(mut state: State, bucket: usize, pending: &Pending) -> State {
     for _ in 0..2 {
         for (thread, operation) in pending.iter().enumerate() {
@@ -119,7 +120,7 @@ fn settled(mut state: State, bucket: usize, pending: &Pending) -> State {
     state
 }
 
-// Adds a state that isn't there.
+// Adds a state, unless it is there.
 fn add(states: &mut Vec<State>, state: State) -> Result<(), AllocError> {
     if !states.contains(&state) {
         states.push(state)?;

@@ -17,7 +17,7 @@ pub enum Access {
     Gets(Option<(u32, u32)>),
     /// The value that is held from now on, or none at a Miss.
     Hold(Option<u32>),
-    /// It was stored.
+    /// The item that was stored.
     Set(Item),
     /// What was stored, or none at NotStored.
     Add(Option<Item>),
@@ -38,8 +38,8 @@ pub enum CasReply {
 }
 
 /// What a call asked, and its answer. Buckets are numbered from 0, and so are the keys of each.
-/// A call that was Busy, or found no room, says nothing of the cache and isn't noted;
-/// but an evict that was Busy is.
+/// A call that was refused says nothing of the cache and isn't noted.
+/// But an evict that was Busy is noted.
 #[derive(Clone, Copy, Debug, PartialEq, Eq)]
 pub enum Operation {
     /// A call on a key, at the moment `now`.
@@ -64,7 +64,7 @@ pub enum Operation {
     Unlock {
         bucket: usize,
     },
-    /// So many keys were taken out of the segment. If it was whole, none stands there afterwards.
+    /// So many keys were taken out of the segment. If the evict was whole, none stands there afterwards.
     Evict {
         segment: u32,
         taken: u32,
@@ -76,7 +76,7 @@ pub enum Operation {
 }
 
 impl Access {
-    // Whether the cache isn't the same after it, or the thread holds an item.
+    // Whether the call changes the cache, or lets the thread hold an item.
     fn changes(&self) -> bool {
         match self {
             Access::Get(_) | Access::Gets(_) => false,
@@ -90,7 +90,7 @@ impl Access {
 }
 
 impl Operation {
-    /// The bucket that it is of, or none where it is of all of them.
+    /// The bucket that the operation is of, or none if it is of all buckets.
     pub(crate) fn bucket(&self) -> Option<usize> {
         match self {
             Operation::OnKey { bucket, .. }
@@ -102,12 +102,12 @@ impl Operation {
         }
     }
 
-    /// Whether it is of this bucket.
+    /// Whether the operation is of this bucket.
     pub(crate) fn is_of(&self, number: usize) -> bool {
         self.bucket().is_none_or(|bucket| bucket == number)
     }
 
-    /// Whether nothing is lost by taking it as soon as it is allowed:
+    /// Whether nothing is lost by taking the operation as soon as it is allowed:
     /// whatever could come next without it can come next after it.
     pub(crate) fn is_free(&self) -> bool {
         match self {
@@ -117,7 +117,7 @@ impl Operation {
         }
     }
 
-    /// The segment whose keys it takes out, one after the other.
+    /// The segment whose keys the operation takes out, one after the other, if it is an evict.
     pub(crate) fn evicts(&self) -> Option<u32> {
         match self {
             Operation::Evict { segment, .. } => Some(*segment),
@@ -125,7 +125,7 @@ impl Operation {
         }
     }
 
-    /// Whether it may return though it didn't come to its end: an evict that was Busy.
+    /// Whether the operation may return before it is at its end: an evict that was Busy.
     pub(crate) fn is_cut_off(&self) -> bool {
         matches!(
             self,
@@ -138,7 +138,7 @@ impl Operation {
 }
 
 /// A call of a thread.
-/// The stamps are of one counter for all threads, which is drawn from before the call and after its return.
+/// The stamps are of one counter for all threads. One is drawn before the call, and one after its return.
 #[derive(Clone, Copy, Debug, PartialEq, Eq)]
 pub struct Call {
     pub called: u64,

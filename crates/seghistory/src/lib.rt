@@ -1,6 +1,6 @@
-//! Checks what threads were told of an index: whether there is an order of their calls, within the time
-//! in which each was made, that a cache of one thread allows.
-//! It has a small model of its own, and knows nothing of the definitions that the proofs go by.
+//! Checks what an index answered to threads: whether a cache of one thread allows an order of their calls.
+//! Each call stands in that order within the time in which it was made.
+//! The checker has a small model of its own, and uses no definition of the proofs.
 #![tactic(auto)]
 
 mod bucket;

@@ -33,15 +33,15 @@ struct Replay {
     pending: [Option<Operation>; THREADS],
     /// How many calls of each thread have returned.
     returned: [usize; THREADS],
-    /// The last stamp, and one more; 0 before the first.
+    /// One more than the last stamp; 0 before the first.
     stamp: u64,
 }
 
 /// Looks for an order of the calls in which a cache of one thread gives each of these answers.
 /// Every call stands in the order between its two stamps. The calls of each thread come one after the other.
 ///
-/// An evict takes out each of its keys at a moment of its own. How many it took out of the buckets together
-/// is looked at when it returns: what is told later of one bucket doesn't bear on the others.
+/// An evict takes out each of its keys at a moment of its own. How many keys it took out of all buckets together
+/// is checked when it returns. What is answered later of one bucket doesn't bear on the others.
 pub fn check(
     alloc: Global,
     buckets: usize,
@@ -125,7 +125,7 @@ impl Replay {
         Ok(())
     }
 
-    // Whether there are such a bucket and such a key, and so many keys that were taken out can be counted.
+    // Whether the operation's bucket and key exist, and the number of keys that it took out can be counted.
     fn is_known(&self, operation: &Operation) -> bool {
         operation
             .bucket()
@@ -150,7 +150,7 @@ impl Replay {
         Ok(())
     }
 
-    // Takes the operation at the latest now, and tells whether it can be.
+    // The operation is taken at the latest now. Returns whether that is possible.
     fn answer(&mut self, thread: usize, operation: &Operation) -> Result<bool, Fault> {
         for (number, bucket) in self.buckets.iter_mut().enumerate() {
             if operation.is_of(number) && !bucket.answer(thread, &self.pending)? {
@@ -163,7 +163,7 @@ impl Replay {
         }
     }
 
-    // The thread's evict took so many keys out of all buckets together.
+    // The thread's evict took so many keys out of all buckets together. Returns whether that is possible.
     fn count(&mut self, thread: usize, taken: u32) -> Result<bool, Fault> {
         for number in 0..self.buckets.len() {
             let others = self

@@ -8,14 +8,14 @@ pub const KEYS: usize = 12;
 /// How many threads there are at most.
 pub const THREADS: usize = 8;
 
-/// What there is of a thread.
+/// What a state has of a thread.
 #[derive(Clone, Copy, Debug, PartialEq, Eq)]
 struct Hand {
     /// Whether the call that is under way has been taken.
     is_done: bool,
-    /// How many keys its evict took out of this bucket.
+    /// How many keys the thread's evict took out of this bucket.
     taken: u32,
-    /// What it holds, of a key of this bucket.
+    /// The item that the thread holds, of a key of this bucket.
     held: Option<Item>,
 }
 
@@ -29,7 +29,7 @@ pub struct State {
 }
 
 impl State {
-    /// No key stands.
+    /// A state in which no key stands.
     pub fn new(version: u32) -> State {
         let idle = Hand {
             is_done: false,
@@ -107,7 +107,7 @@ impl State {
         (item.segment == segment && !self.is_locked).then_some(next)
     }
 
-    // Whether the cache allows this answer to a call on a key. If so it is as after the call.
+    // Whether the cache allows this answer to a call on a key. If so, the state is then as after the call.
     fn access(&mut self, thread: usize, key: usize, now: u32, access: &Access) -> bool {
         let present = self.present(key, now);
         let value = present.map(|item| item.value);
@@ -143,7 +143,7 @@ impl State {
         (now < item.deadline).then_some(item)
     }
 
-    // Writes a key, unless the bucket is locked.
+    // Writes a key, and returns whether that is allowed: whether the bucket isn't locked.
     fn put(&mut self, key: usize, item: Option<Item>) -> bool {
         let Some(place) = self.items.get_mut(key) else {
             return false;

@@ -5,7 +5,7 @@ pub fn bit(number: u32) -> u64 {
     1u64.checked_shl(number).unwrap_or(0)
 }
 
-/// The sums of a number of each set.
+/// The sums of two numbers, one of each set.
 pub fn added(numbers: u64, others: u64) -> u64 {
     (0..64).fold(0, |sums, number| {
         if others & bit(number) == 0 {
@@ -16,7 +16,7 @@ pub fn added(numbers: u64, others: u64) -> u64 {
     })
 }
 
-/// The numbers that, with one of a set, come to a sum.
+/// The numbers that, added to one of the set, make this sum.
 pub fn rests(sum: u32, numbers: u64) -> u64 {
     (0..64)
         .filter(|number| numbers & bit(*number) != 0)
