@@ -11,7 +11,7 @@ use segmodel::{
 #[derive(Drop)]
 pub enum Said {
     Operation(Operation),
-    /// It was refused, which says nothing of the cache.
+    /// The call was refused, which says nothing of the cache.
     Nothing,
     /// No such call is answered so.
     Wrong,

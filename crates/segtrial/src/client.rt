@@ -24,7 +24,7 @@ pub const SEGMENTS: u32 = 3;
 /// How many commands are made while an item is held, or a bucket is locked.
 const MEANWHILE: u32 = 2;
 
-/// A pass, and what it goes by.
+/// A pass, and what its next calls depend on.
 #[derive(Drop)]
 pub struct Client<'a> {
     index: &'a Index,
@@ -33,18 +33,18 @@ pub struct Client<'a> {
     draws: Draws,
     log: Log<'a>,
     start: &'a Start,
-    /// How many segments it began to fill.
+    /// How many times the pass went on to its next segment.
     fillings: u32,
-    /// The segment that it stores into, and its deadline.
+    /// The segment that the pass stores into, and the segment's deadline.
     segment: u32,
     deadline: u32,
-    /// The version that its last gets of each bucket read.
+    /// The version that the pass's last gets of each bucket found.
     versions: [u32; BUCKETS as usize],
     ghost quiet: { IsQuiet (board_of index.now) pass } by { IsQuiet-prop (board_of index.now) pass },
 }
 
 impl<'a> Client<'a> {
-    /// A pass that made no call.
+    /// A client whose pass has made no call.
     pub fn new(
         alloc: Global,
         index: &'a Index,
@@ -71,7 +71,7 @@ impl<'a> Client<'a> {
         }
     }
 
-    /// Makes so many turns, once as many passes as these are there.
+    /// Waits until so many passes are there, and then makes so many turns.
     pub fn work(mut self, passes: u32, turns: u32) -> Client<'a> {
         self.start.wait_for(passes);
         self.refill();
@@ -86,7 +86,7 @@ impl<'a> Client<'a> {
         self
     }
 
-    /// What it was told.
+    /// What the client noted of its calls.
     pub fn into_log(self) -> Log<'a> {
         let Client { log, .. } = self;
         log
@@ -124,7 +124,7 @@ impl<'a> Client<'a> {
         }
     }
 
-    // Empties the next segment, and stores there from then on.
+    // Evicts and refills the next segment. If that is done, the pass stores there from then on.
     fn refill(&mut self)
         ensures index { self.new.index.now ≡ self.old.index.now }
         ensures held { holding self.new.pass ≡ holding self.old.pass }
@@ -180,7 +180,7 @@ impl<'a> Client<'a> {
         }
     }
 
-    // Reads what is held once more, and releases it.
+    // Reads the held value once more, and releases the hold.
     fn end_hold(&mut self, bucket: usize, hold: Hold<'_>)
         requires { IsHoldOf (shape_of self.old.index.now) hold self.old.pass }
     {
@@ -236,7 +236,7 @@ impl<'a> Client<'a> {
     }
 }
 
-// A command. What is held stays so.
+// Serves a command. What the pass holds stays held.
 fn serve(index: &Index, pass: &mut Pass, command: &Command, draw: u32) -> Answer
     requires { IsQuiet (board_of index.now) pass.old }
     ensures quiet { IsQuiet (board_of index.now) pass.new }
@@ -245,7 +245,7 @@ fn serve(index: &Index, pass: &mut Pass, command: &Command, draw: u32) -> Answer
     index.serve(pass, command, draw)
 }
 
-// An evict. What is held stays so.
+// Evicts a segment. What the pass holds stays held.
 fn evict(index: &Index, pass: &mut Pass, segment: u32) -> EvictAnswer
     requires { IsQuiet (board_of index.now) pass.old }
     ensures quiet { IsQuiet (board_of index.now) pass.new }
@@ -254,7 +254,7 @@ fn evict(index: &Index, pass: &mut Pass, segment: u32) -> EvictAnswer
     index.evict(pass, segment)
 }
 
-// A refill. What is held stays so.
+// Refills a segment. What the pass holds stays held.
 fn refill(index: &Index, pass: &mut Pass, segment: u32, deadline: u32) -> RefillAnswer
     requires { IsQuiet (board_of index.now) pass.old }
     ensures quiet { IsQuiet (board_of index.now) pass.new }

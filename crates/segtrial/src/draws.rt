@@ -5,7 +5,7 @@ use rand_pcg::Lcg64Xsh32;
 use segmodel::{Command, Request};
 use segword::{Key, Value};
 
-/// Moments are below this number, and so are the deadlines that are not for long.
+/// Moments are below this number, and deadlines below its double.
 const MOMENTS: u32 = 16;
 
 /// The draws of a pass.
@@ -13,7 +13,7 @@ const MOMENTS: u32 = 16;
 pub struct Draws {
     generator: Lcg64Xsh32,
     pass: u32,
-    /// How many values there were.
+    /// How many values were drawn.
     values: u32,
 }
 
@@ -23,7 +23,7 @@ pub enum Turn {
     Command,
     Hold,
     Lock,
-    /// It empties its next segment, and stores there from then on.
+    /// The pass evicts and refills its next segment.
     Refill,
 }
 
@@ -50,7 +50,7 @@ impl Draws {
         }
     }
 
-    /// A key.
+    /// The place of a key.
     pub fn place(&mut self) -> Place {
         Place::of_number(self.below(BUCKETS * EACH as u32) as usize)
     }
@@ -59,7 +59,7 @@ impl Draws {
         self.below(MOMENTS)
     }
 
-    /// Half of the deadlines come after every moment.
+    /// A deadline. About half of the deadlines come after every moment.
     pub fn deadline(&mut self) -> u32 {
         self.below(2 * MOMENTS)
     }

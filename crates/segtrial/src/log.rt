@@ -1,4 +1,4 @@
-//! What a pass was told: each call with its stamps.
+//! What a pass notes: each call with its answer and its stamps.
 use crate::answers::Said;
 use seghistory::{Call, Operation};
 use std::alloc::Global;
@@ -7,14 +7,14 @@ use std::sync::atomic::{AtomicU64, Ordering};
 /// The calls of one pass, in their order.
 #[derive(Drop)]
 pub struct Log<'a> {
-    /// The counter of which all passes draw their stamps.
+    /// The counter from which all passes draw their stamps.
     clock: &'a AtomicU64,
     pub calls: Vec<Call>,
     /// How many answers say nothing.
     pub refusals: u32,
     /// Whether an answer was one that no such call gives.
     pub is_wrong: bool,
-    /// Whether memory was wanted for a call.
+    /// Whether there was no memory to note a call.
     pub is_short: bool,
 }
 
@@ -34,7 +34,7 @@ impl<'a> Log<'a> {
         self.clock.fetch_add(1, Ordering::SeqCst)
     }
 
-    /// Notes a call by its stamps.
+    /// Notes what a call's answer says, with the call's stamps.
     pub fn note(&mut self, called: u64, returned: u64, said: Said) {
         match said {
             Said::Operation(operation) => {

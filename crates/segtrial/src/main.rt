@@ -1,5 +1,5 @@
-//! Lets passes make calls at random, each on a thread of its own, and looks for an order that explains what
-//! they were told.
+//! Lets passes make calls at random, each on a thread of its own, and looks for an order that explains
+//! the answers.
 #![tactic(auto)]
 
 mod answers;
@@ -36,7 +36,7 @@ fn main(rt: HostRuntime) -> io::Result<ExitCode> {
     }
 }
 
-// Tells why there are no options. Help and the version are asked for.
+// Prints why there are no options, or the help or the version that was asked for.
 fn refuse(rt: &HostRuntime, error: &Error) -> io::Result<ExitCode> {
     match error.kind() {
         ErrorKind::DisplayHelp | ErrorKind::DisplayVersion => {
@@ -54,7 +54,7 @@ fn refuse(rt: &HostRuntime, error: &Error) -> io::Result<ExitCode> {
     }
 }
 
-// Tells how the rounds ended.
+// Prints how the rounds ended.
 fn tell(
     rt: &HostRuntime,
     options: &Options,

@@ -1,4 +1,4 @@
-//! Rounds: each has a new index, a thread for each pass, and a check of what they were told.
+//! Rounds: each has a new index, a thread for each pass, and a check of the answers.
 ghost use Rattle.std.specs.Prelude.{All};
 ghost use Rattle.segindex.specs.Words.{board_of};
 ghost use Rattle.segpass.specs.Words.{IsQuiet};
@@ -34,7 +34,7 @@ pub struct Counts {
     pub refusals: u64,
 }
 
-/// Why a round was no success.
+/// Why a round failed.
 #[derive(Clone, Copy, Debug, PartialEq, Eq, Error)]
 pub enum RoundFault {
     #[error("an answer is one that no such call gives")]
@@ -51,14 +51,14 @@ impl From<AllocError> for RoundFault {
     }
 }
 
-/// The seed of the round that was no success, and why it wasn't.
+/// The seed of the round that failed, and why it did.
 #[derive(Clone, Copy, Debug, PartialEq, Eq)]
 pub struct Failure {
     pub seed: u64,
     pub fault: RoundFault,
 }
 
-/// Runs all rounds, up to the first that is no success.
+/// Runs all rounds, up to the first that fails.
 pub fn run_rounds<R: Threads + Sync>(
     rt: &R,
     alloc: Global,
@@ -137,7 +137,7 @@ fn clients_of<'a>(
 }
 
 impl Counts {
-    /// Both together.
+    /// The sums of both counts.
     pub fn plus(self, other: Counts) -> Counts {
         Counts {
             answers: self.answers.saturating_add(other.answers),
@@ -146,7 +146,7 @@ impl Counts {
         }
     }
 
-    // Counts what a pass was told, if that is all that it was told.
+    // Counts the answers to a pass, if no answer was wrong and each could be noted.
     fn add(&mut self, log: &Log<'_>) -> Result<(), RoundFault> {
         if log.is_wrong {
             return Err(RoundFault::WrongAnswer);

@@ -2,7 +2,7 @@
 use std::sync::atomic::{AtomicU64, Ordering};
 use std::thread::yield_now;
 
-/// How often a pass looks for the others. Then it goes on without them, as where no thread could be had for one.
+/// How often a pass looks for the others. Then it goes on without them: one may have got no thread.
 const LOOKS: u32 = 1 << 20;
 
 /// How many passes are there.
@@ -18,7 +18,7 @@ impl Start {
         }
     }
 
-    /// Is there, and waits until so many are.
+    /// Counts the calling pass as there, and waits until so many passes are.
     pub fn wait_for(&self, passes: u32) {
         self.there.fetch_add(1, Ordering::SeqCst);
         for _ in 0..LOOKS {

@@ -14,7 +14,7 @@ pub fn value_of(number: u32) -> Option<Value> {
     Value::new(&bytes[..4 * repeats + 4])
 }
 
-/// The number of a value. No value is stored for the number of one that is torn.
+/// The number of a value, or `TORN` if it is no value of a number. No value of this number is stored.
 pub fn number_of(value: &Value) -> u32 {
     let Some(bytes) = value.as_bytes().first_chunk::<4>() else {
         return TORN;
