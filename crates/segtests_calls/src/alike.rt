@@ -17,8 +17,8 @@ use std::test::Fail;
 
 const COMMANDS: u32 = 10_000;
 
-// Few segments, so that each meets the others often.
-// One number more stands for a segment that there isn't.
+// Few segments, so that commands name each of them often.
+// One number more is drawn, for a segment that doesn't exist.
 const SEGMENTS: u32 = 3;
 
 // Few cutoffs, so that some items are read often enough for one and others aren't.
@@ -131,8 +131,8 @@ fn command(generator: &mut Lcg64Xsh32, load: Load, version: u32) -> Result<Comma
 
 const KINDS: usize = 20;
 
-// Which kind of answer it is.
-// No bucket is locked and nothing is held, so that none is Busy or Held.
+// The kind of an answer.
+// No bucket is locked and nothing is held, so no answer is Busy or Held.
 fn kind_of(answer: &Answer) -> Option<usize>
     ensures { IfSome result (λ kind. kind < KINDS) }
 {
@@ -179,7 +179,7 @@ fn moved_by(answer: &Answer) -> u32 {
     }
 }
 
-// What came of a load: which kinds of answer, how often a bucket was full of expired keys,
+// What a load gave: which kinds of answer, how often a bucket was full of expired keys,
 // and how many items were moved.
 #[derive(Clone, Copy)]
 struct Came {
@@ -310,7 +310,7 @@ fn two_chains_and_one_overflow_bucket(rt: HostRuntime) -> Result<(), Fail> {
 }
 
 // Serves a load whose buckets have to be full of expired keys again and again.
-// It gives which kinds of answer came.
+// Returns which kinds of answer came.
 fn serve_expired(rt: &impl Abort, alloc: Global, load: Load) -> Result<[bool; KINDS], Fail>
     requires keys { (0 < load.keys) × (load.keys ≤ 60) }
     requires limits { (0 < load.draws) × (0 < load.moments) × (0 < load.deadlines) }
@@ -354,7 +354,7 @@ fn a_chain_of_expired_keys(rt: HostRuntime) -> Result<(), Fail> {
     Ok(())
 }
 
-// It has words for 25 of the 60 keys.
+// The chain has words for 25 of the 60 keys.
 #[test]
 fn a_chain_of_four_buckets_of_expired_keys(rt: HostRuntime) -> Result<(), Fail> {
     let load = Load {
@@ -381,7 +381,7 @@ fn two_chains_of_expired_keys(rt: HostRuntime) -> Result<(), Fail> {
     Ok(())
 }
 
-// The deadlines are 0 and 1: of 32 commands one may find a key.
+// The deadlines are 0 and 1, so only one of 32 commands may find a key.
 #[test]
 fn one_bucket_that_is_always_expired(rt: HostRuntime) -> Result<(), Fail> {
     let load = Load {

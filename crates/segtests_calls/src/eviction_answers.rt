@@ -49,7 +49,7 @@ fn evicting_the_current_segment_ends_it(rt: HostRuntime) -> Result<(), Fail> {
         ("p0 state 0", "EVICTED"),
         ("p0 set a 1 @0", "NOROOM"),
         ("p0 refill 0 4294967295", "REFILLED"),
-        // One in use in which nothing was stored.
+        // Then a segment in use in which nothing was stored.
         ("p0 evict 0", "EVICTED 0"),
         ("p0 current", "NONE"),
     ];
@@ -136,7 +136,7 @@ fn an_eviction_stops_at_a_locked_bucket(rt: HostRuntime) -> Result<(), Fail> {
         ("p0 get a @0", "MISS"),
         ("p0 get b @0", "VALUE 1"),
         ("p0 get c @0", "VALUE 1"),
-        // It is in use still, and nothing is stored there any more.
+        // The segment is in use still, and nothing is stored there any more.
         ("p0 state 0", "IN_USE"),
         ("p0 set a 2 @0", "NOROOM"),
         ("p0 evict 0", "BUSY 0"),

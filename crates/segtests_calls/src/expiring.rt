@@ -30,7 +30,7 @@ fn reads_before_a_deadline_and_at_it(rt: HostRuntime) -> Result<(), Fail> {
         ("p0 set_held a 2 @10", "NOT_HOLDING"),
         ("p0 holding", "NOT_HOLDING"),
         ("p0 set_held a 2 @9", "VALUE 1"),
-        // The same for a pass whose segment it isn't, long before and long after.
+        // The same for a pass that doesn't own the segment, long before the deadline and long after it.
         ("p1 get a @0", "VALUE 2"),
         ("p1 get a @4294967295", "MISS"),
         ("p1 gets a @9", "VALUE 2 2"),
@@ -65,14 +65,14 @@ fn writes_at_a_deadline(rt: HostRuntime) -> Result<(), Fail> {
     let rows = [
         ("p0 refill 0 10", "REFILLED"),
         ("p0 set a 1 @9", "STORED"),
-        // Each is refused, uses no row and counts no write; the key stands as before.
+        // Each of these is refused, uses no row and counts no write. The key stands as before.
         ("p0 replace a 2 @10", "NOT_STORED"),
         ("p0 cas a 2 1 @10", "NOT_FOUND"),
         ("p0 cas a 2 7 @10", "NOT_FOUND"),
         ("p0 delete a @10", "NOT_FOUND"),
         ("p0 gets a @9", "VALUE 1 1"),
         ("p0 used 0", "1"),
-        // These are stored over its word.
+        // These are stored over the key's word.
         ("p0 add a 3 @10", "STORED"),
         ("p0 gets a @9", "VALUE 3 2"),
         ("p0 set a 4 @10", "STORED"),
@@ -98,7 +98,7 @@ fn writes_by_a_pass_whose_segment_lives_on(rt: HostRuntime) -> Result<(), Fail> 
         ("p0 get a @19", "VALUE 2"),
         ("p0 get a @20", "MISS"),
         ("p0 add a 3 @19", "NOT_STORED"),
-        // And the earlier one again: it is absent at the moment at which it is stored.
+        // Then the key has the earlier one again: it is absent at the moment at which it is stored.
         ("p0 set a 3 @19", "STORED"),
         ("p0 get a @19", "MISS"),
         ("p1 get a @9", "VALUE 3"),
@@ -263,7 +263,7 @@ fn an_expired_key_of_a_locked_bucket(rt: HostRuntime) -> Result<(), Fail> {
         ("p0 delete a @10", "BUSY"),
         ("p0 add a 2 @10", "BUSY"),
         ("p0 unlock", "UNLOCKED"),
-        // Another pass has.
+        // Another pass has the bucket locked.
         ("p1 lock a", "LOCKED"),
         ("p0 gets a @9", "BUSY"),
         ("p0 gets a @10", "MISS"),

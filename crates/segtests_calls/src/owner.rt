@@ -36,7 +36,7 @@ impl Cache {
 }
 
 /// What a pass holds of an index.
-/// Its value can be read as often as it is asked for, until it is released.
+/// The held value can be read as often as it is asked for, until the hold is released.
 pub struct Holder<'i> {
     pub index: &'i Index,
     pub pass: Pass,
@@ -73,7 +73,7 @@ fn a_cache_sets_and_gets(rt: HostRuntime) -> Result<(), Fail> {
     Ok(())
 }
 
-// Holds the key, and reads what is held twice.
+// Holds the key, and reads the held value twice.
 fn read_twice(index: &Index, mut pass: Pass, key: &Key) -> Option<(Value, Value)>
     requires { IsQuiet (board_of index.now) pass }
 {

@@ -7,14 +7,14 @@ use std::alloc::Global;
 use std::process::Abort;
 use std::test::Fail;
 
-/// Each row is answered as it wants.
+/// Checks that each row has the answer that it wants.
 pub fn answers(rt: &impl Abort, alloc: Global, shape: Shape, rows: &[Row<'_>]) -> Result<(), Fail> {
     let (index, mut first, mut second) = two_passes(alloc, shape)?;
     assert_eq!(rt; first_wrong(&index, &mut first, &mut second, rows), None);
     Ok(())
 }
 
-/// The same, and pass 0 then ends the index, which has just these keys and values in this order.
+/// Checks the same, and that the index has just these keys and values, in this order, when pass 0 ends it.
 pub fn answers_and_lists(
     rt: &impl Abort,
     alloc: Global,

@@ -19,7 +19,7 @@ fn writes_of_an_absent_key(rt: HostRuntime) -> Result<(), Fail> {
     let rows = [
         ("p0 refill 0 4294967295", "REFILLED"),
         ("p0 add b 1 @0", "STORED"),
-        // Each is refused, uses no row and counts no write.
+        // Each of these is refused, uses no row and counts no write.
         ("p0 replace a 1 @0", "NOT_STORED"),
         ("p0 cas a 1 1 @0", "NOT_FOUND"),
         ("p0 delete a @0", "NOT_FOUND"),
@@ -92,7 +92,7 @@ fn a_locked_bucket_takes_no_write(rt: HostRuntime) -> Result<(), Fail> {
         ("p0 replace a 1 @0", "BUSY"),
         ("p0 cas a 1 1 @0", "BUSY"),
         ("p0 delete a @0", "BUSY"),
-        // Nor by the pass that locked it, which has no row.
+        // The pass that locked it writes nothing there either. It has no row.
         ("p1 set a 1 @0", "NOROOM"),
         ("p1 add a 1 @0", "NOROOM"),
         ("p1 replace a 1 @0", "NOROOM"),
@@ -180,7 +180,7 @@ fn a_full_bucket_takes_no_new_key(rt: HostRuntime) -> Result<(), Fail> {
         // Nine rows, nine writes: no room goes before a full bucket.
         ("p0 set h 1 @0", "NOROOM"),
         ("p0 set a 1 @0", "NOROOM"),
-        // They are counted, and no bit is left.
+        // The writes are counted, and no bit is left.
         ("p0 gets a @0", "VALUE 2 9"),
         ("p0 lock a", "LOCKED"),
     ];
