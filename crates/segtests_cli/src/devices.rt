@@ -191,7 +191,7 @@ fn a_flush_that_fails_is_a_fault_of_the_writer(rt: HostRuntime) -> Result<(), Fa
         assert_eq!(rt; errors.taken.as_slice(), b"write failed\n".as_slice());
         assert_eq!(rt; (writer.flushes, errors.flushes), (2, 1));
     }
-    // A fault keeps its line and its status where a flush before it fails.
+    // A fault keeps its line and its status if a flush before it fails.
     let words = words_of(rt.alloc(), &[])?;
     let mut source = reader_of(b"p0 refill 0 4294967295\nx\n", 5000, None);
     let mut writer = MemSink::new(rt.alloc(), 100)?;

@@ -11,7 +11,7 @@ use std::sync::Wait;
 use std::test::Fail;
 use std::thread::Threads;
 
-// Runs the program over what std gives, and checks what it answers, writes and prints.
+// Runs the program over what std gives, and checks what it returns, writes and prints.
 fn check_given<R: Threads + Wait + AllocGlobal + Abort + Sync>(
     rt: &R,
     given: io::Result<Args>,

@@ -1,5 +1,5 @@
-//! The program by its one call, `run_program`, over memory: what no clause says,
-//! as the texts of help. This crate has tests alone.
+//! The program by its calls, over memory: what no clause says, such as the texts of help.
+//! This crate has tests alone.
 #![tactic(auto)]
 
 #[cfg(test)]

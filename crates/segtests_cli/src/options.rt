@@ -147,7 +147,7 @@ fn a_load_may_tell_its_progress(rt: HostRuntime) -> Result<(), Fail> {
     ] {
         check_refused(&rt, words, "--progress")?;
     }
-    // It takes no value, so the number is a word too many.
+    // The option takes no value, so the number is a word too many.
     check_refused(&rt, &["load", "--progress", "1"], "'1'")
 }
 

@@ -1,4 +1,4 @@
-//! What comes first where a command ends with a fault: both writers look at one clock.
+//! What comes first if a command ends with a fault: both writers look at one clock.
 ghost use Rattle.std.specs.Prelude.{◌≡◌, ◌++◌};
 ghost use Rattle.segscript.specs.Words.{takes_more, takes_none};
 
@@ -9,7 +9,7 @@ use std::cell::Cell;
 use std::test::Fail;
 
 /// A writer that keeps when it was flushed last, and when it was written to first.
-/// Each call of it is a tick of the clock. 0 is never.
+/// Each call of the writer is a tick of the clock. 0 stands for never.
 #[derive(Drop)]
 struct TimedSink<'a> {
     inner: MemSink,

@@ -9,7 +9,7 @@ use std::sync::atomic::Ordering::SeqCst;
 use std::test::Fail;
 use std::thread::Threads;
 
-/// It keeps how often it was called, and what it was told in the first calls.
+/// A watch that keeps how often it was called, and what it was told in the first calls.
 #[derive(Drop)]
 struct Seen {
     calls: AtomicU64,
@@ -35,7 +35,7 @@ impl Seen {
         }
     }
 
-    // What it was told by the first four calls: 0 of 0 where there was no such call.
+    // What the watch was told by the first four calls: 0 of 0 if there was no such call.
     fn told(&self) -> [(u64, u64); 4] {
         let mut told = [(0u64, 0u64); 4];
         for (at, pair) in told.iter_mut().enumerate() {
@@ -106,7 +106,7 @@ fn a_watch_sees_nothing_without_the_option(rt: HostRuntime) -> Result<(), Fail> 
     check_seen(&rt, &["load", "--commands", "4096"], 0, [(0, 0); 4])
 }
 
-// The calls are those of pass 0, and what it tells is of all passes: 3 times 2,048 commands.
+// The calls are those of pass 0, and they tell the commands of all passes: 3 times 2,048.
 #[test]
 fn a_watch_sees_the_commands_of_all_passes(rt: HostRuntime) -> Result<(), Fail> {
     let words = [

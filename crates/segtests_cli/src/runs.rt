@@ -1,4 +1,4 @@
-//! Runs of the program over memory: its words, and what it writes, prints and answers.
+//! Runs of the program over memory: its words, and what it writes, prints and returns.
 ghost use Rattle.std.specs.Prelude.{◌≡◌, false};
 
 use segcli::{Watch, run_program};
@@ -28,7 +28,7 @@ pub fn reader_of(script: &[u8], step: usize, good: Option<usize>) -> MemSource<'
     reader
 }
 
-/// It looks away.
+/// A watch that does nothing.
 #[derive(Drop)]
 pub struct Nobody;
 
@@ -36,13 +36,13 @@ impl Watch for Nobody {
     fn saw(&self, _made: u64, _of: u64) {}
 }
 
-/// What came of a run of the program.
+/// How a run of the program ended, and what it wrote.
 #[derive(Drop)]
 pub struct Ended {
     pub status: u8,
     pub written: Vec<u8>,
     pub printed: Vec<u8>,
-    /// How many flushes were asked of the writer and of the error writer.
+    /// How many flushes the writer and the error writer were asked for.
     pub flushes: (u64, u64),
 }
 
@@ -64,7 +64,7 @@ pub fn run<R: Threads + Wait + AllocGlobal + Sync>(
     run_watched(rt, words, script, &Nobody)
 }
 
-/// Runs it while a watch looks on.
+/// Runs the program while a watch looks on.
 pub fn run_watched<R: Threads + Wait + AllocGlobal + Sync, V: Watch>(
     rt: &R,
     words: &[&str],
@@ -92,7 +92,7 @@ pub fn run_watched<R: Threads + Wait + AllocGlobal + Sync, V: Watch>(
     })
 }
 
-/// Checks what the program writes, prints and answers,
+/// Checks what the program writes, prints and returns,
 /// and that it flushes once what it writes and prints.
 pub fn check_program<R: Threads + Wait + AllocGlobal + Abort + Sync>(
     rt: &R,
