@@ -1,5 +1,5 @@
-//! The calls of the index with contracts that say only that the pass stays quiet:
-//! a test that calls the index itself reads the whole contract at each call.
+//! The calls of the index with contracts that say only that the pass stays quiet.
+//! At a call of the index itself the proof of a test would have to read the whole contract.
 ghost use Rattle.std.specs.Prelude.{◌≡◌, ◌∷◌, [], IfOk};
 ghost use Rattle.segindex.specs.Words.{board_of};
 ghost use Rattle.segpass.specs.Words.{IsQuiet};
@@ -38,7 +38,7 @@ pub fn replace(index: &Index, pass: &mut Pass, key: &Key, value: &Value, now: u3
     index.replace(pass, key, value, now)
 }
 
-/// Stores the value if the bucket has the expected version.
+/// Stores the value if the key is present and its bucket has the expected version.
 pub fn cas(
     index: &Index,
     pass: &mut Pass,
@@ -92,7 +92,7 @@ pub fn probe(
     index.probe(pass, key, value, draw, now)
 }
 
-/// Empties a segment.
+/// Takes every key out of a segment.
 pub fn evict(index: &Index, pass: &mut Pass, segment: u32) -> EvictAnswer
     requires { IsQuiet (board_of index.now) pass.old }
     ensures { IsQuiet (board_of index.now) pass.new }
@@ -124,7 +124,7 @@ pub fn lock(index: &Index, pass: &mut Pass, key: &Key) -> LockAnswer
     index.lock_bucket(pass, key)
 }
 
-/// Unlocks what the pass has locked.
+/// Unlocks the bucket that the pass has locked.
 pub fn unlock(index: &Index, pass: &mut Pass) -> bool
     requires { IsQuiet (board_of index.now) pass.old }
     ensures { IsQuiet (board_of index.now) pass.new }
@@ -140,7 +140,7 @@ pub fn meet(index: &Index, first: &mut Pass, second: &mut Pass)
     index.meet(first, second);
 }
 
-/// Ends the index, and tells whether it had just these keys and values, in this order.
+/// Ends the index, and returns whether it had just these keys and values, in this order.
 pub fn lists(
     alloc: Global,
     index: Index,
@@ -153,7 +153,7 @@ pub fn lists(
     Ok(is_just(&content, pairs))
 }
 
-/// The same with both passes of an index that has two.
+/// Does the same with both passes of an index that has two.
 pub fn lists_all(
     alloc: Global,
     index: Index,

@@ -6,7 +6,7 @@ use crate::rows::{
 use segmodel::{Answer, Command, Request};
 use segword::{Key, Value};
 
-/// The command of a row, as "p0 set a 1 @0". The pass is not looked at.
+/// The command of a row, such as "p0 set a 1 @0". The pass is not looked at.
 pub fn command_of(text: &str) -> Option<Command> {
     let call = call_of(text);
     match call.name {
@@ -42,7 +42,7 @@ fn store_of(call: Call<'_>, key: Key, value: Value, now: u32) -> Option<Request>
     }
 }
 
-/// Whether this answer is wanted, as "STORED".
+/// Whether this answer is the wanted one, which is a text such as "STORED".
 pub fn is_answer(wanted: &str, answer: &Answer) -> bool {
     match answer {
         Answer::Write(told) => written(*told) == wanted,

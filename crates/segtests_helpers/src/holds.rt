@@ -8,7 +8,7 @@ use segindex::{Hold, HoldAnswer, Index, Pass, hold_stays};
 use segmodel::EvictAnswer;
 use segword::{Key, Value};
 
-/// Holds the item of a key, if it can.
+/// Holds the item of a key, if that is possible.
 pub fn hold<'i>(index: &'i Index, pass: &mut Pass, key: &Key, now: u32) -> Option<Hold<'i>>
     requires { IsQuiet (board_of index.now) pass.old }
     ensures quiet { IsQuiet (board_of index.now) pass.new }
@@ -20,7 +20,7 @@ pub fn hold<'i>(index: &'i Index, pass: &mut Pass, key: &Key, now: u32) -> Optio
     }
 }
 
-/// Reads what is held.
+/// Reads the held value.
 pub fn held_value(index: &Index, pass: &mut Pass, hold: &Hold<'_>) -> Value
     requires { IsQuiet (board_of index.now) pass.old
         × IsHoldOf (shape_of index.now) hold.now pass.old }
@@ -38,7 +38,7 @@ pub fn release(index: &Index, pass: &mut Pass, hold: Hold<'_>)
     index.release(pass, hold);
 }
 
-/// Holds the key while it is set to another value. It gives the value that was held then.
+/// Holds the key while it is set to another value. Returns what the hold reads after that.
 pub fn hold_over_a_set(
     index: &Index,
     pass: &mut Pass,
@@ -58,7 +58,7 @@ pub fn hold_over_a_set(
 }
 
 /// Holds the key while its segment is evicted.
-/// It gives the value that was held then, and what the eviction answered.
+/// Returns what the hold reads after that, and what the eviction answered.
 pub fn hold_over_an_eviction(
     index: &Index,
     pass: &mut Pass,

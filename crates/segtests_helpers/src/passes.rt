@@ -40,7 +40,7 @@ pub fn two_passes(alloc: Global, shape: Shape) -> Result<(Index, Pass, Pass), Fa
     Ok((index, first, second))
 }
 
-/// The same where each pass has one segment, which is filled.
+/// The same, with a segment of each pass made current. Each pass has one segment.
 pub fn two_that_fill(alloc: Global, shape: Shape) -> Result<(Index, Pass, Pass), Fail>
     ensures { IfOk result (λ made. IsQuiet (board_of made.0) made.1
         × IsQuiet (board_of made.0) made.2) }

@@ -41,7 +41,7 @@ pub fn first_wrong<'t>(
     None
 }
 
-// Whether a row is answered as it wants.
+// Whether a row has the answer that it wants.
 fn is_right(index: &Index, first: &mut Pass, second: &mut Pass, text: &str, wanted: &str) -> bool
     requires { IsQuiet (board_of index.now) first.old × IsQuiet (board_of index.now) second.old }
     ensures { IsQuiet (board_of index.now) first.new × IsQuiet (board_of index.now) second.new }
@@ -56,7 +56,7 @@ fn is_right(index: &Index, first: &mut Pass, second: &mut Pass, text: &str, want
     false
 }
 
-// The words of a call. One that isn't there is empty, and is then no key, no value and no number.
+// The words of a call. A word that isn't there is empty, and so it is no key, no value and no number.
 #[derive(Clone, Copy)]
 pub(crate) struct Call<'t> {
     pub(crate) pass: &'t str,
