@@ -1,4 +1,4 @@
-//! A legal history, and the same with a call or two altered, which no cache allows.
+//! A legal history, and the same history with a call or two altered, which no cache allows.
 use crate::histories::{Change, Line, item, on_key, verdict};
 use seghistory::{Access, CasReply, Fault, Operation};
 
@@ -57,7 +57,7 @@ fn gets(value: u32, version: u32) -> Operation {
 
 #[test]
 fn a_legal_history_is_accepted(rt: HostRuntime) {
-    // The get at 11 may read what stood before the set that is made meanwhile.
+    // The get at 11 may also read the value that stood before the set beside it.
     let before = [(11, on_key(0, Access::Get(Some(1))))];
     for changes in [[].as_slice(), before.as_slice()] {
         assert_eq!(rt;
@@ -83,7 +83,7 @@ fn nine_alterations_are_refused(rt: HostRuntime) {
         (28, gets(4, 13)),
         (40, gets(5, 14)),
     ];
-    // With the return of the first call that can't be explained.
+    // Each has the return of the first call that can't be explained.
     let altered: [(&str, &[Change], u64); 9] = [
         ("stale read", &stale_read, 27),
         ("lost write", &lost_write, 21),

@@ -5,7 +5,7 @@ use std::alloc::{AllocError, Global};
 /// The version with which the buckets of these histories begin.
 pub const FIRST_VERSION: u32 = 7;
 
-/// A deadline that no call of these histories comes to, but where one says so.
+/// A deadline after the moments of all calls of these histories, unless a call is said to come at it.
 pub const DEADLINE: u32 = 100;
 
 /// The stamps of a call and of its return, and the call.
@@ -38,7 +38,7 @@ pub fn on_key_at(key: usize, now: u32, access: Access) -> Operation {
     }
 }
 
-/// What the checker says of two threads' lines, with some calls changed.
+/// What the checker returns for the lines of two threads, with some calls changed.
 pub fn verdict(alloc: Global, lines: [&[Line]; 2], changes: &[Change]) -> Result<(), Fault> {
     let threads = threads(alloc, lines, changes)?;
     check(alloc, 2, FIRST_VERSION, &threads)

@@ -119,7 +119,7 @@ fn what_may_stand_there(rt: HostRuntime) {
 
 #[test]
 fn what_may_not_stand_there(rt: HostRuntime) {
-    // With the return of the first call that can't be explained.
+    // Each has the return of the first call that can't be explained.
     let rows: [(&str, u64, Change); 17] = [
         (
             "a write while locked",

@@ -1,4 +1,4 @@
-//! The checker of what threads were told, by histories that were worked out by hand.
+//! The checker of histories, tried with histories that were worked out by hand.
 //! This crate has tests alone.
 #![tactic(auto)]
 
