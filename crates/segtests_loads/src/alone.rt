@@ -23,8 +23,8 @@ const MOMENT: u32 = 0;
 /// The seed of a load.
 pub const SEED: u64 = 7;
 
-// Rows enough for a while in each segment, and segments that come in turn: an even number,
-// so that one that skips each second one leaves some out.
+// Each segment has rows enough for a while. The number of segments is even,
+// so that a load which skipped each second segment would leave some out.
 const WIDE: Shape = Shape {
     buckets: 8,
     segments_each: 4,
@@ -45,7 +45,7 @@ fn no_commands(rt: HostRuntime) -> Result<(), Fail> {
     Ok(())
 }
 
-/// What a command comes to, in the order in which a load is printed.
+/// How many tallies there are. They stand in the order in which a load is printed.
 pub const PLACES: usize = 10;
 
 fn place_of(answer: &Answer) -> usize
@@ -83,7 +83,7 @@ fn command_of(load: Load, version: u32) -> Command {
     }
 }
 
-// Empties a segment and makes it current.
+// Takes every key out of a segment and makes it current.
 fn renews(solo: &mut Solo, segment: u32) -> bool {
     matches!(
         solo.answer(&Command::Evict(segment)),
@@ -94,7 +94,7 @@ fn renews(solo: &mut Solo, segment: u32) -> bool {
     )
 }
 
-// Serves a command, once more where room could be made for it.
+// Serves a command. If it finds no room and room could be made, it is served once more.
 fn serve(solo: &mut Solo, segments: &mut Ring, command: &Command) -> Answer {
     let answer = solo.answer(command);
     if answer == Answer::Write(WriteAnswer::NoRoom) && renews(solo, segments.next()) {
@@ -166,7 +166,8 @@ pub fn counts_of(tallies: &Tallies) -> [u32; PLACES] {
     ]
 }
 
-// Two loads over so many keys are the same, nothing of them is busy, and a plain loop counts the same.
+// Checks that two loads over so many keys are the same, and that no command is busy.
+// Checks that a plain loop counts the same.
 fn counts_as_plain<R: Threads + Wait + AllocGlobal + Abort + Sync>(
     rt: &R,
     shape: Shape,

@@ -30,8 +30,8 @@ const LARGE: Shape = Shape {
     ..SHAPE
 };
 
-// Each pass of a crowd over so many keys counts each of its commands once, and some are stored.
-// It gives how many keys stand at the end.
+// Checks that each pass of a crowd over so many keys counts each of its commands once, and that some are stored.
+// Returns how many keys stand at the end.
 fn keys_of_crowd<R: Threads + Wait + AllocGlobal + Abort + Sync>(
     rt: &R,
     shape: Shape,

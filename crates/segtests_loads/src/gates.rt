@@ -21,9 +21,9 @@ fn is_set(flag: &AtomicU64) -> bool {
     false
 }
 
-// It lets through the first command of pass 0 only once that of pass 1 was answered,
+// A gate that lets through the first command of pass 0 only once that of pass 1 was answered,
 // and that of pass 1 only once that of pass 0 was asked for.
-// One thread can't pass it, in whatever order it takes the passes.
+// One thread can't get through, in whatever order it takes the passes.
 #[derive(Drop)]
 struct Crossing {
     first_asked: AtomicU64,
@@ -66,7 +66,7 @@ fn passes_work_at_the_same_time(rt: HostRuntime) -> Result<(), Fail> {
     Ok(())
 }
 
-// It lets the commands of two passes through in turn,
+// A gate that lets the commands of two passes through in turn,
 // each only once the one before it was answered.
 #[derive(Drop)]
 struct InTurn {
@@ -124,7 +124,7 @@ const COMMANDS: u32 = 200;
 // The command before which passes are stopped.
 const STOP: u32 = 3;
 
-// It stops pass 1 and pass 2, and counts how often each pass asked, and was answered.
+// A gate that stops pass 1 and pass 2, and counts how often each pass asked, and was answered.
 #[derive(Drop)]
 struct Stopper {
     asked: [AtomicU64; PASSES],
@@ -175,7 +175,7 @@ fn a_stopped_pass_does_not_stop_the_others(rt: HostRuntime) -> Result<(), Fail> 
     assert_eq!(rt; third.load(SeqCst), u64::from(STOP));
     assert_eq!(rt; fourth.load(SeqCst), u64::from(COMMANDS));
 
-    // Each pass asks once before each command, and a stopped one no more.
+    // Each pass asks once before each command, and a stopped pass doesn't ask again.
     let [first, second, third, fourth] = &gate.asked;
     assert_eq!(rt; first.load(SeqCst), u64::from(COMMANDS));
     assert_eq!(rt; second.load(SeqCst), u64::from(STOP) + 1);

@@ -1,5 +1,5 @@
 //! Loads as the tests run them.
-//! The contract of a load isn't read by each test, since this one has none.
+//! These functions have no contract, so that the proof of a test needn't read that of a load.
 use segload::{Gate, LoadFault, Totals, run_crowd, run_load};
 use segword::Shape;
 use std::alloc::AllocGlobal;
