@@ -1,4 +1,5 @@
-//! The index where memory runs out: each request of its making and of its closing refused in turn, and calls that ask for none.
+//! The index out of memory: each request of creating it and of closing it is refused in turn.
+//! The other calls ask for none.
 use crate::hoard::{RUNS, STEP, hoard, is_none_left, leave};
 use crate::tables::{LONGEST_CHAIN, MOVED_ITEMS, TWO_SEGMENTS};
 use segbase::Board;
@@ -49,7 +50,7 @@ fn an_index_is_made_or_memory_is_wanted(rt: HostRuntime) -> Result<(), Fail> {
     Ok(())
 }
 
-// Closes an index with one of its passes, or with both, where each request for memory is refused in turn.
+// Closes an index with one of its passes, or with both. Each request for memory is refused in turn.
 fn close_in_turn(rt: &impl Abort, alloc: Global, both: bool) -> Result<(), Fail> {
     let rows = [
         ("p0 refill 0 4294967295", "REFILLED"),
@@ -86,7 +87,7 @@ fn the_content_is_listed_or_memory_is_wanted(rt: HostRuntime) -> Result<(), Fail
     close_in_turn(&rt, rt.alloc(), true)
 }
 
-// Each row is answered as it wants where no memory is left once the index is made.
+// Checks that each row has the answer that it wants, if no memory is left once the index is created.
 // The shape has two passes.
 fn answers_without_memory(
     rt: &impl Abort,

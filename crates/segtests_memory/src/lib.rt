@@ -1,4 +1,5 @@
-//! Want of memory: each request refused in turn, and calls that ask for none. This crate has tests alone, for `rt test`: the heap of `rt try` can't be taken whole.
+//! Out of memory: each request is refused in turn, and some calls ask for none.
+//! This crate has tests alone, for `rt test`: the heap of `rt try` can't be taken whole.
 #![tactic(auto)]
 
 #[cfg(test)]

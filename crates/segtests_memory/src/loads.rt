@@ -1,4 +1,4 @@
-//! Loads where memory runs out: each request refused in turn, first those of lists and then those of threads.
+//! Loads out of memory: each request is refused in turn, first those for lists and then those for threads.
 use crate::hoard::{RUNS, STEP, hoard, leave};
 use segindex::MakeFault;
 use segload::{Gate, LoadFault, Totals, run_crowd, run_load};
@@ -28,12 +28,13 @@ const COMMANDS: u32 = 50;
 // The command before which a pass is stopped.
 const STOP: u32 = 3;
 
-// So many blocks of so many bytes are given up one by one, so that there is room for the stack of one thread, of two, and of three.
+// So many blocks of so many bytes are given up one by one,
+// so that there is room for the stack of one thread, of two, and of three.
 const BLOCKS: usize = 60;
 
 const BLOCK: usize = 1 << 20;
 
-// It counts the commands of each pass, and may stop pass 0.
+// A gate that counts the commands of each pass, and may stop pass 0.
 #[derive(Drop)]
 struct Counter {
     stops: bool,
@@ -48,7 +49,7 @@ impl Counter {
         }
     }
 
-    // How many passes ran to their end. None may have come to only a part of its commands.
+    // How many passes ran to their end, if no pass made only a part of its commands.
     fn ran(&self) -> Option<usize> {
         let mut ran = 0usize;
         let mut end = if self.stops { STOP } else { COMMANDS };
@@ -77,8 +78,8 @@ impl Gate for Counter {
     }
 }
 
-// A load, over 64 keys where nothing is said of them.
-// The contract of a load isn't read by each test, since this has none.
+// Runs a load, over 64 keys if no number of keys is given.
+// This function has no contract, so that the proof of a test needn't read that of a load.
 fn load<R: Threads + Wait + AllocGlobal + Sync>(
     rt: &R,
     keys: Option<NonZeroU32>,
@@ -93,7 +94,7 @@ fn load<R: Threads + Wait + AllocGlobal + Sync>(
 // How many runs were refused, by how many of their passes ran to their end.
 type Refused = [usize; PASSES + 1];
 
-// Counts a run that was refused memory. It tells whether the run was.
+// Counts a run that was refused memory. Returns whether the run was.
 fn is_counted(
     rt: &impl Abort,
     refused: &mut Refused,
@@ -112,8 +113,8 @@ fn is_counted(
     Ok(true)
 }
 
-// Makes loads, each with a little more memory than the one before, until one is refused none.
-// Their threads are had by the stacks that the C library keeps of a first load.
+// Runs loads, each with a little more memory than the one before, until one is refused none.
+// Their threads get the stacks that the C library keeps of a first load.
 fn refuse_in_turn<R: Threads + Wait + AllocGlobal + Abort + Sync>(
     rt: &R,
     keys: Option<NonZeroU32>,

@@ -1,4 +1,5 @@
-//! The plain cache where memory runs out: a command that is refused changes nothing, and the answers before it are kept.
+//! The plain cache out of memory: a command that is refused changes nothing,
+//! and the answers before it are kept.
 use crate::hoard::{RUNS, STEP, hoard, leave};
 use crate::tables::{LONGEST_CHAIN, MOVED_ITEMS, TWO_SEGMENTS, Table};
 use segmodel::{Answer, Command, Plain, PlainFault, Shelf, run};
@@ -43,9 +44,9 @@ fn after(alloc: Global, shape: &Shape, rows: &[Row<'_>]) -> Result<Plain, Fail> 
     Ok(plain)
 }
 
-// Serves the rows with so many bytes left at each command, and tells how many commands were refused.
-// A refused command is served again where memory is left: its answer is then the row's.
-// The keys and versions at the end are those of a cache that was never refused.
+// Serves the rows with so many bytes left at each command, and returns how many commands were refused.
+// A refused command is served again with memory left: its answer is then the row's.
+// The keys and versions at the end are those of a cache that was never refused memory.
 // They are read at the end alone, since a read raises a frequency, on which a keep depends.
 fn refused_commands(
     rt: &impl Abort,
@@ -97,9 +98,9 @@ fn are_answers(rows: &[Row<'_>], answers: &[Answer]) -> bool {
         .all(|((_, wanted), answer)| is_answer(wanted, answer))
 }
 
-// Runs the commands of the rows with so many bytes left, and tells whether the run was refused.
-// A refused run has the answers of the commands before. The commands that are left go on from there,
-// and at the end the keys and versions are those of a cache that was never refused.
+// Runs the commands of the rows with so many bytes left, and returns whether the run was refused memory.
+// A refused run has the answers of the commands before. The commands that are left go on from there.
+// At the end the keys and versions are those of a cache that was never refused memory.
 fn is_run_refused(
     rt: &impl Abort,
     alloc: Global,

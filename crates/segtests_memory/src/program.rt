@@ -1,4 +1,4 @@
-//! The program where memory runs out: each request refused in turn, those of its command line among them.
+//! The program out of memory: each request is refused in turn, those of its command line among them.
 use crate::hoard::{RUNS, STEP, hoard, leave};
 use segcli::{Watch, run_program};
 use segscript::{MemSink, MemSource};
@@ -10,7 +10,7 @@ use std::thread::Threads;
 
 const SCRIPT: &[u8] = b"p0 refill 0 4294967295\np0 set a 1 @0\np0 get a @0\n";
 
-// It looks away.
+// A watch that does nothing.
 #[derive(Drop)]
 struct Nobody;
 
@@ -27,8 +27,8 @@ fn words_of(alloc: Global, words: &[&str]) -> Result<Vec<String>, AllocError> {
     Ok(list)
 }
 
-// Runs the program with all memory but that of a list, and tells whether it was refused any.
-// Then it wrote nothing, and told so.
+// Runs the program with so many bytes left, or with all memory, and returns whether it was refused any.
+// If it was, it wrote nothing, and its fault is out of memory.
 fn is_refused<R: Threads + Wait + AllocGlobal + Abort + Sync>(
     rt: &R,
     words: &[&str],
@@ -66,13 +66,14 @@ fn is_refused<R: Threads + Wait + AllocGlobal + Abort + Sync>(
     Ok(true)
 }
 
-// Each request of the program is refused in turn for each of these words, which end with their status.
+// For each of these command lines, each request of the program is refused in turn.
+// Once none is refused, the program ends with this status.
 fn refuse_in_turn<R: Threads + Wait + AllocGlobal + Abort + Sync>(
     rt: &R,
     table: &[(&[&str], u8)],
 ) -> Result<(), Fail> {
     for (words, status) in table.iter().copied() {
-        // The C library keeps the stacks of a load's threads for those of the next.
+        // The C library keeps the stacks of a load's threads for the threads of the next load.
         assert!(rt; !is_refused(rt, words, status, None)?, "{words:?}");
         let all = hoard(rt.alloc())?;
         let mut refused = 0;

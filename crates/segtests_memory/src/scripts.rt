@@ -1,4 +1,4 @@
-//! Scripts where memory runs out: each request of the making refused in turn, and none after it.
+//! Scripts out of memory: each request of creating the index is refused in turn, and none is made after it.
 ghost use Rattle.std.specs.Prelude.{◌≡◌, ◌++◌, [], refl};
 ghost use Rattle.segscript.specs.Words.{hands_more};
 
@@ -24,8 +24,8 @@ fn texts_of(alloc: Global, table: Table<'_>) -> Result<(Vec<u8>, Vec<u8>), Alloc
     Ok((script, replies))
 }
 
-// Runs a table with so many bytes left, and tells whether its index was refused memory.
-// Then nothing was read and nothing written.
+// Runs a table with so many bytes left, and returns whether its index was refused memory.
+// If it was, nothing was read and nothing written.
 fn is_refused(
     rt: &impl Abort,
     alloc: Global,

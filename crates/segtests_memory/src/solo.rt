@@ -1,4 +1,4 @@
-//! The lone pass asks for no memory once it is made.
+//! The lone pass asks for no memory once its index is created.
 use crate::hoard::{hoard, is_none_left, leave};
 use crate::tables::{LONGEST_CHAIN, MOVED_ITEMS, TWO_SEGMENTS, Table};
 use segsolo::Solo;
