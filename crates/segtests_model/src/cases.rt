@@ -1,5 +1,5 @@
 //! Cases: commands and their answers, none of them with a fault.
-//! A case is a command and its answer in the words of a script, as `set a 1 @0 = STORED`.
+//! A case is a command and its answer in the words of a script, such as `set a 1 @0 = STORED`.
 //! Several keys before it stand in turn for the key `*` in it, as in `a b c: set * 1 @0 = STORED`.
 use segmodel::{
     Answer, Command, DeleteAnswer, EvictAnswer, GetAnswer, GetsAnswer, KeepAnswer, Plain,
@@ -25,18 +25,18 @@ pub fn plain(alloc: Global, numbers: [u32; 5]) -> Result<Plain, Fail> {
     Ok(Plain::new(alloc, &shape).ok().ok_or("out of memory")?)
 }
 
-// Serves a command; no fault is accepted.
+// Serves a command. No fault is accepted.
 fn serve(plain: &mut Plain, command: &Command) -> Result<Answer, Fail> {
     Ok(plain.serve(command).ok().ok_or("out of memory")?)
 }
 
-// A key; `*` is the one that it stands for.
+// The key of a word. The word `*` is the key `each`.
 fn key(word: &str, each: &str) -> Result<Key, Fail> {
     let name = if word == "*" { each } else { word };
     Ok(Key::new(name.as_bytes()).ok_or("no key")?)
 }
 
-// A value; `-` is the empty one.
+// The value of a word. The word `-` is the empty value.
 fn value(word: &str) -> Result<Value, Fail> {
     let bytes = if word == "-" { "" } else { word };
     Ok(Value::new(bytes.as_bytes()).ok_or("no value")?)
@@ -50,7 +50,7 @@ fn cutoff(word: &str) -> Result<u8, Fail> {
     Ok(word.parse::<u8>().ok().ok_or("no cutoff")?)
 }
 
-// A moment, as `@0`.
+// The moment of a word, such as `@0`.
 fn moment(word: &str) -> Result<u32, Fail> {
     number(word.strip_prefix("@").ok_or("no moment")?)
 }
@@ -60,7 +60,7 @@ fn cut(text: &str) -> (&str, &str) {
     text.split_once(' ').unwrap_or((text, ""))
 }
 
-/// A command; `each` is the key that `*` stands for in it.
+/// The command of a text, in which `*` stands for the key `each`.
 pub fn command(text: &str, each: &str) -> Result<Command, Fail> {
     let (name, rest) = cut(text);
     let (first, rest) = cut(rest);
@@ -178,7 +178,7 @@ fn write_answer(text: &str) -> Result<WriteAnswer, Fail> {
     }
 }
 
-/// The cache answers each command of the case as it says.
+/// Checks that the cache answers each command of the case as the case says.
 pub fn check_case(rt: &impl Abort, plain: &mut Plain, case: &str) -> Result<(), Fail> {
     let (keys, case) = case.split_once(": ").unwrap_or(("*", case));
     let (asked, told) = case.split_once(" = ").ok_or("no case")?;
@@ -190,7 +190,7 @@ pub fn check_case(rt: &impl Abort, plain: &mut Plain, case: &str) -> Result<(), 
     Ok(())
 }
 
-/// A cache of this shape answers each command as the case says.
+/// Checks that a cache of this shape answers each command as the cases say.
 pub fn check(
     rt: &impl Abort,
     alloc: Global,

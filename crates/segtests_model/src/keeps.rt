@@ -44,7 +44,7 @@ fn a_keep_goes_on_where_it_ended(rt: HostRuntime) -> Result<(), Fail> {
 
 #[test]
 fn nothing_to_move_to(rt: HostRuntime) -> Result<(), Fail> {
-    // No segment is current, or the segment itself, or one with another deadline.
+    // No segment is current, or the segment itself is, or one with another deadline.
     let cases = [
         "keep 0 0 = KEPT 0",
         "keep 2 0 = NOT_YOURS",

@@ -1,5 +1,5 @@
 //! The plain cache by the public calls of `segmodel`: what no clause says,
-//! as that worked cases are answered as they should be. This crate has tests alone.
+//! such as that worked cases are answered as they should be. This crate has tests alone.
 #![tactic(auto)]
 
 #[cfg(test)]
