@@ -1,12 +1,12 @@
-//! Bad scripts and failing devices: a table, each line of which is served by one function.
+//! Bad scripts and failing devices: a table, and one function that serves each of its lines.
 use crate::runs::{Devices, REPLIES, SCRIPT, SOUND, check, shape_of};
 use segscript::{RunFault, WhenFull};
 use std::alloc::Global;
 use std::process::Abort;
 use std::test::Fail;
 
-// A line: a script, what fails, how the run ends, and what a sound writer would have of the replies. What fails does so
-// after any number of bytes from the first to the last. The words for it are those of `devices_of`.
+// A line: a script, what fails, how the run ends, and what a sound writer would have of the replies.
+// The device fails after each number of bytes from the first to the last. `devices_of` has the words for what fails.
 type Line<'t> = (&'t [u8], &'t str, [usize; 2], &'t str, &'t [u8]);
 
 // More bytes than any script here has.
@@ -97,7 +97,7 @@ const BAD: [Line<'static>; 19] = [
     ),
 ];
 
-// The devices of a run in which this fails after so many bytes. A script that is cut has sound ones.
+// The devices of a run in which this fails after so many bytes. If the script is cut, the devices are sound.
 fn devices_of(fails: &str, bytes: usize) -> Option<Devices> {
     match fails {
         "cut" => Some(SOUND),

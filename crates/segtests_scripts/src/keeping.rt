@@ -39,8 +39,8 @@ const ROWS_RUN_OUT: [Line<'static>; 13] = [
     ("p0 keep 2 0", "NOT_YOURS"),
 ];
 
-// Pass 0 has the segments 0 and 1, of two rows each. Pass 1 holds the item that moves:
-// it reads the row that was left, which is refilled only when it is released.
+// Pass 0 has the segments 0 and 1, of two rows each. Pass 1 holds the item that moves.
+// The hold reads the row that the item left, whose segment is refilled only after the release.
 const BESIDE_A_HOLD_AND_A_LOCK: [Line<'static>; 14] = [
     ("p0 refill 0 9", "REFILLED"),
     ("p0 set a 1 @1", "STORED"),

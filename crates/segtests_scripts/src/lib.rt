@@ -1,5 +1,5 @@
 //! Scripts by the public calls of `segscript`: what no clause says,
-//! as the replies to worked scripts. This crate has tests alone.
+//! such as the replies to worked scripts. This crate has tests alone.
 #![tactic(auto)]
 
 #[cfg(test)]

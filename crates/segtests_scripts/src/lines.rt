@@ -21,7 +21,7 @@ fn texts(alloc: Global, lines: &[Line<'_>]) -> Result<(String, String), AllocErr
     Ok((script, replies))
 }
 
-/// Each line is replied as it wants, by an index with one bucket,
+/// Checks that each line has the reply that it wants, by an index with one bucket,
 /// and this many passes, segments of a pass and rows of a segment.
 pub fn check_lines(
     rt: &impl Abort,

@@ -1,4 +1,4 @@
-//! Shapes that can't be had, and the texts of faults.
+//! Shapes that no index can have, and the texts of faults.
 use crate::runs::{SCRIPT, reader_of};
 use segindex::MakeFault;
 use segscript::{MemSink, RunFault, run_script};

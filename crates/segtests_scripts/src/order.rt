@@ -34,7 +34,7 @@ impl<'a> Source for WatchingSource<'a> {
     ghost hands_more = { λ s t u a b. hands_more s.inner.left.now t.inner.left.now u.inner.left.now a b };
 }
 
-/// A writer that tells how many bytes it took.
+/// A writer that counts the bytes that it took, where the reader can see the count.
 #[derive(Drop)]
 struct TellingSink<'a> {
     inner: MemSink,

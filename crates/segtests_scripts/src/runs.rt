@@ -56,9 +56,9 @@ pub const SOUND: Devices = Devices {
     flush_fails: false,
 };
 
-/// Runs a script, and checks how it ends, what it wrote,
-/// that it flushed once where it ended well or the flush failed, else not at all,
-/// and that it met the end of the script once at most.
+/// Runs a script, and checks how the run ends and what it wrote.
+/// The run flushes once if it ended well or the flush failed, else not at all.
+/// It meets the end of the script at most once.
 pub fn check(
     rt: &impl Abort,
     alloc: Global,

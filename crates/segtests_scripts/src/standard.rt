@@ -1,5 +1,5 @@
 //! Readers and writers of std.
-//! What a flush does to a writer of std no contract tells, so a writer counts its own.
+//! No contract tells what a flush does to a writer of std, so this writer counts its flushes.
 use crate::runs::{REPLIES, SCRIPT, shape_of};
 use segscript::{ReadSource, RunFault, WriteSink, run_script};
 use std::io;

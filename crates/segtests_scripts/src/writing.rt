@@ -88,7 +88,7 @@ fn the_longest_reply_is_written(rt: HostRuntime) -> Result<(), Fail> {
     )
 }
 
-// The one row is used; a delete needs none.
+// The one row is used. A delete needs none.
 #[test]
 fn want_of_a_row_comes_before_what_the_key_says(rt: HostRuntime) -> Result<(), Fail> {
     check_turns(
@@ -127,7 +127,7 @@ fn a_full_bucket_refuses_a_new_key_alone(rt: HostRuntime) -> Result<(), Fail> {
     )
 }
 
-// It is Busy to the pass that has it locked too.
+// The bucket is Busy also to the pass that has it locked.
 #[test]
 fn a_locked_bucket_is_written_by_nobody(rt: HostRuntime) -> Result<(), Fail> {
     check_turns(
