@@ -57,7 +57,8 @@ impl Work for Writer<'_> {
 }
 
 // Reads the key until it reads the last number.
-// It keeps the last one that it read, and whether each was a number, and none below an earlier one.
+// The reader keeps the last number that it read, whether each value was a number,
+// and whether none was below an earlier one.
 #[derive(Drop)]
 struct Reader<'a> {
     key: &'a Key,

@@ -46,7 +46,7 @@ fn count_once(index: &Index, pass: &mut Pass, key: &Key, draw: u32) -> bool
     cas(index, pass, key, &next, version, MOMENT) == WriteAnswer::Stored
 }
 
-// The number that is one higher.
+// The value of the number that is one higher.
 fn next_of(value: &Value) -> Option<Value> {
     value_of(number_of(value)?.saturating_add(1))
 }

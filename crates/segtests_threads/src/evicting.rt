@@ -22,8 +22,8 @@ fn round_of(value: &Value) -> Option<u32> {
     number_of(value).filter(|round| (1..=ROUNDS).contains(round))
 }
 
-// In each round its number is stored under the key, alone in segment 0, and taken out again.
-// It counts the rounds that went well.
+// In each round the writer stores the round's number under the key, alone in segment 0, and takes it out again.
+// The writer counts the rounds that went well.
 #[derive(Drop)]
 struct Writer<'a> {
     key: &'a Key,
@@ -59,7 +59,7 @@ fn store_once(index: &Index, pass: &mut Pass, key: &Key, round: u32) -> bool
 }
 
 // Holds the key as often as there are rounds, and counts how often that went well.
-// Its moments are the last round that it held and, each second time, the one after it.
+// The holder's moments are the last round that it held and, each second time, the one after that.
 #[derive(Drop)]
 struct Holder<'a> {
     key: &'a Key,
@@ -88,9 +88,9 @@ impl<'a> Holder<'a> {
     }
 }
 
-// Holds the key at a moment, and reads what it holds twice.
-// It tells the round of the value, if both were the same, of a round not before the moment.
-// A pass that can't hold must hold nothing, and the round is then 0.
+// Holds the key at a moment, and reads the held value twice.
+// Returns the round of the value, if both reads gave the same one, of a round not before the moment.
+// If the hold was refused, the pass must hold nothing, and the round is 0.
 fn hold_once(index: &Index, pass: &mut Pass, key: &Key, now: u32) -> Option<u32>
     requires { IsQuiet (board_of index.now) pass.old }
     ensures { IsQuiet (board_of index.now) pass.new }

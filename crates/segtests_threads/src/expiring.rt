@@ -31,8 +31,8 @@ fn key_of(number: u32) -> Option<Key> {
     Key::new(&[b'a' + (number % KEYS) as u8])
 }
 
-// In each round it fills its next segment anew, with the next deadline,
-// and stores that deadline there under two of the keys. It counts the rounds that went well.
+// In each round the writer fills its next segment anew, with the next deadline,
+// and stores that deadline there under two of the keys. The writer counts the rounds that went well.
 #[derive(Drop)]
 struct Writer {
     round: u32,
@@ -79,7 +79,7 @@ enum Way {
 }
 
 // Reads the keys in turn, at moments that rise up to the last deadline.
-// It keeps whether each value was read at a moment before the deadline that it tells.
+// The reader keeps whether each value was read at a moment before the deadline that the value tells.
 #[derive(Drop)]
 struct Reader {
     way: Way,

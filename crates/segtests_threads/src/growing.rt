@@ -156,8 +156,8 @@ fn two_chains_share_the_overflow_buckets(rt: HostRuntime) -> Result<(), Fail> {
             (first, Setter { byte: 0, stored: 0 }),
             (second, Setter { byte: 1, stored: 0 }),
         );
-        // Seven words each, and six more for each of the four buckets,
-        // however the two shared these.
+        // Each chain has seven words, and six more for each overflow bucket that joined it.
+        // The two chains share four overflow buckets, in whatever way.
         assert_eq!(rt; sets.stored.saturating_add(other_sets.stored), 38);
         assert_eq!(rt; sets.stored % 6, 1);
         meet(&index, &mut first, &mut second);
@@ -168,7 +168,7 @@ fn two_chains_share_the_overflow_buckets(rt: HostRuntime) -> Result<(), Fail> {
 }
 
 // Reads a key again and again, and keeps whether it was found each time from the first time on.
-// Each hit raises its frequency.
+// Each hit raises the key's frequency.
 #[derive(Drop)]
 struct Reader {
     byte: u8,

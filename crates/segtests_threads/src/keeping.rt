@@ -28,8 +28,8 @@ fn key_of(number: u32) -> Option<Key> {
     Key::new(&[b'a' + (number % KEYS) as u8])
 }
 
-// In each round it sets a key, and then fills its other segment:
-// it moves all items there, and evicts what is left of the first one, which is nothing.
+// In each round the mover sets a key, and then fills its other segment.
+// It moves all items there, and evicts what is left in the first segment, which is nothing.
 #[derive(Drop)]
 struct Mover {
     rounds: u32,
@@ -117,7 +117,7 @@ fn is_stored(index: &Index, pass: &mut Pass, number: u32) -> bool
 struct Reader {
     found: u32,
     missed: u32,
-    // The last version that it read, and whether none was lower than the one before.
+    // The last version that the reader read, and whether none was lower than the one before.
     version: u32,
     is_rising: bool,
 }

@@ -1,4 +1,4 @@
-//! Passes on threads of their own: what no clause says, as that calls get on beside each other.
+//! Passes on threads of their own: what no clause says, such as that calls get on beside each other.
 //! This crate has tests alone.
 #![tactic(auto)]
 

@@ -12,7 +12,7 @@ use std::thread::yield_now;
 // How often each thread has to lock.
 const LOCKS: u32 = 1_000;
 
-// Locks and unlocks the key's bucket, again while it is busy, and counts how often it did both.
+// Locks and unlocks the key's bucket, again while it is busy. The locker counts how often it did both.
 #[derive(Drop)]
 struct Locker<'a> {
     key: &'a Key,

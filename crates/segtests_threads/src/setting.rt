@@ -112,7 +112,7 @@ fn close_forgets_others(rt: HostRuntime) -> Result<(), Fail> {
     );
     assert_eq!(rt; (sets.stored, other_sets.stored), (1, 1));
     meet(&index, &mut first, &mut second);
-    // The first pass doesn't see this one.
+    // The first pass doesn't see this set.
     let rows = [("p1 set a 1 @0", "STORED")];
     assert_eq!(rt; first_wrong(&index, &mut first, &mut second, &rows), None);
     let pairs = [("a", "1"), ("b", "2"), ("c", "3")];

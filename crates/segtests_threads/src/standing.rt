@@ -1,4 +1,5 @@
-//! A bucket that stays locked beside three threads that read and write its key: each get finds it, and each set and gets is refused.
+//! A bucket that stays locked beside three threads that read and write its key.
+//! Each get finds the key, and each set and each gets is refused.
 use crate::work::{Work, three_at_once};
 use segindex::{Index, Pass};
 use segmodel::{GetAnswer, GetsAnswer, WriteAnswer};
@@ -11,7 +12,8 @@ use std::test::Fail;
 // How often each thread makes each call.
 const ROUNDS: u32 = 1_000;
 
-// In each round it gets the key, sets it to another value, and gets it with its version. It counts the answers that are wanted.
+// In each round the caller gets the key, sets it to another value, and gets it with its version.
+// The caller counts the answers that are wanted.
 #[derive(Drop)]
 struct Caller<'a> {
     key: &'a Key,

@@ -1,5 +1,5 @@
 //! What a thread does with its pass, turn after turn.
-//! Each test gives the turns alone: that the pass stays quiet over them is proved once.
+//! A test has only its turns to give: that the pass stays quiet over them is proved once, here.
 ghost use Rattle.segindex.specs.Words.{board_of};
 ghost use Rattle.segpass.specs.Words.{IsQuiet};
 
@@ -11,13 +11,13 @@ const TURNS: u32 = 1_000_000_000;
 
 /// Work in turns.
 pub trait Work: Send + Drop {
-    /// Takes a turn, and tells whether there is another. The turns are numbered from 0.
+    /// Takes a turn, and returns whether there is another. The turns are numbered from 0.
     fn turn(&mut self, index: &Index, pass: &mut Pass, turn: u32) -> bool
         requires { IsQuiet (board_of index.now) pass.old }
         ensures { IsQuiet (board_of index.now) pass.new };
 }
 
-/// Takes turns until there is no other, and gives back the pass and the work.
+/// Takes turns until there is no other, and returns the pass and the work.
 pub fn take_turns<W: Work>(index: &Index, mut pass: Pass, mut work: W) -> (Pass, W)
     requires { IsQuiet (board_of index.now) pass }
     ensures { IsQuiet (board_of index.now) result.0 }
