@@ -1,4 +1,4 @@
--- A board of two passes that both enter one segment: what a pass has to know for that.
+-- A board of two passes that both enter one segment, and what a pass has to know for that.
 use Rattle.std.specs.Prelude.{◌≡◌, ℕ, true, List, [], ◌∷◌}
 use Rattle.segword.specs.Words.{Shape}
 use Rattle.segmodel.specs.Words.{Request}
@@ -9,7 +9,7 @@ use Rattle.segbase.specs.Words.{Board, IsPassOf, number, Pass, trace}
 abbrev pub shape : Shape
 shape = record { buckets = 1; overflow = 0; passes = 2; segments_each = 1; rows = 1; first_version = 0 }
 
--- the key is one byte 0, and the value is empty
+-- The key is one byte 0, and the value is empty.
 abbrev pub key : List ℕ
 key = 0 ∷ []
 
@@ -22,12 +22,12 @@ pub record IsOutside (b : Board) (p : Pass) : Type 0 where
   pub shape : b.shape ≡ shape
   pub outside : inside (trace p) (number p) 0 ≡ 0
 
--- nothing has happened that it has seen
+-- The pass is outside, and has seen no event.
 pub record IsNew (b : Board) (p : Pass) : Type 0 where
   pub outside : IsOutside b p
   pub nothing : trace p ≡ []
 
--- it has seen that an item was linked in segment 0
+-- The pass is outside, and has seen that an item was linked in segment 0.
 pub record KnowsUse (b : Board) (p : Pass) : Type 0 where
   pub outside : IsOutside b p
   pub used : was_used (trace p) 0 ≡ true

@@ -1,4 +1,5 @@
--- The walk of an only pass through each kind of step, whose words the tests read back: the board's shape, and what the pass has done at each stage, the newest event first.
+-- The walk of an only pass through each kind of step, whose words the tests read back.
+-- These are the board's shape, and what the pass has done at each stage, the newest event first.
 use Rattle.std.specs.Prelude.{◌≡◌, ℕ, true, false, List, [], ◌∷◌}
 use Rattle.segword.specs.Words.{Shape}
 use Rattle.segmodel.specs.Words.{Request}
@@ -21,26 +22,27 @@ value = 120 ∷ 121 ∷ 122 ∷ []
 abbrev pub set : Request
 set = Set key value 0
 
--- the key is set again, over its word; a segment that was never refilled has the deadline 0, so for a replace the key would be absent
+-- The key is set again, over its word, at a moment at which it is absent: its segment was never refilled,
+-- and has the deadline 0.
 abbrev pub replace : Request
 replace = Set key value 1
 
--- the bit is taken
+-- The bit is taken.
 abbrev pub took : List Event → List Event
 took es = Took 0 0 ∷ es
 
--- the words of the pair's row that aren't 0 are stored
+-- The words of the pair's row that aren't 0 are stored.
 abbrev pub written : ℕ → ℕ → List Event → List Event
 written s r es = Filled 0 s r 4 0x7a7978 ∷ Filled 0 s r 1 0x6261 ∷ Filled 0 s r 0 0x302 ∷ es
 
--- a row of segment 1 is written, and the key set in word 7
+-- A row of segment 1 is written, and the key is set in word 7.
 abbrev pub linked : List Event
 linked = Linked 0 set 1 1 7 ∷ written 1 1 (took [])
 
 abbrev pub stored : List Event
 stored = Freed 0 0 true ∷ linked
 
--- it is read, and its frequency raised
+-- The key is read, and its frequency is raised.
 abbrev pub inside : List Event
 inside = Entered 0 1 ∷ stored
 
@@ -53,7 +55,7 @@ raised = Bumped 0 1 1 2 ∷ twice_inside
 abbrev pub bumped : List Event
 bumped = Left 0 1 ∷ Left 0 1 ∷ raised
 
--- the chain grows, and the item moves on
+-- The chain grows, and the item moves on.
 abbrev pub drawn : List Event
 drawn = Drew 0 0 1 0 ∷ took bumped
 
@@ -66,39 +68,39 @@ chained = Chained 0 0 0 ∷ filled
 abbrev pub moved : List Event
 moved = Freed 0 0 false ∷ chained
 
--- there the item is moved to a row of segment 0; two segments that were never refilled have one deadline
+-- There the item is moved to a row of segment 0. Two segments that were never refilled have one deadline.
 abbrev pub carried : List Event
 carried = Relinked 0 key 1 1 0 0 9 ∷ written 0 0 (took moved)
 
 abbrev pub settled : List Event
 settled = Freed 0 0 false ∷ carried
 
--- and replaced by one in the next row
+-- The item is replaced by one in the next row.
 abbrev pub relinked : List Event
 relinked = Linked 0 replace 0 1 9 ∷ written 0 1 (took settled)
 
 abbrev pub replaced : List Event
 replaced = Freed 0 0 true ∷ relinked
 
--- it is evicted
+-- The item is evicted.
 abbrev pub unlinked : List Event
 unlinked = Unlinked 0 key 9 (Evicts 0) ∷ took replaced
 
 abbrev pub evicted : List Event
 evicted = Freed 0 0 false ∷ unlinked
 
--- and its segment refilled, up to moment 9
+-- The item's segment is refilled, up to moment 9.
 abbrev pub refilled : List Event
 refilled = Refilled 0 0 9 ∷ evicted
 
--- a reader comes and leaves
+-- A reader enters and leaves.
 abbrev pub visited : List Event
 visited = Entered 0 0 ∷ refilled
 
 abbrev pub unread : List Event
 unread = Left 0 0 ∷ visited
 
--- the pass is the only one of a board of this shape, and these are all events
+-- The pass is the only one of a board of this shape, and these are all its events.
 pub record HasDone (b : Board) (p : Pass) (events : List Event) : Type 0 where
   pub pass : IsPassOf b p
   pub shape : b.shape ≡ shape

@@ -85,8 +85,8 @@ fn a_bad_shape_is_refused(rt: HostRuntime) -> Result<(), Fail> {
     Ok(())
 }
 
-// Takes the bit of bucket 1, and gives it back where that is asked for.
-// It gives the board's words then.
+// Takes the bit of bucket 1, and gives it back if that is asked for.
+// Returns the board's words after that.
 fn bit_of_bucket_1(rt: &impl Abort, alloc: Global, is_given_back: bool) -> Result<Words, Fail>
     ensures { IfOk result (λ words. IsValid (shape_of words)) }
 {

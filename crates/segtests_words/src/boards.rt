@@ -1,4 +1,4 @@
-//! Boards that were just made, and all words of a board at its end.
+//! Boards that were just created, and all words of a board at its end.
 ghost use Rattle.std.specs.Prelude.{◌≡◌, ◌-◌, IfOk};
 ghost use Rattle.segword.specs.Words.{IsValid};
 ghost use Rattle.segbase.specs.Words.{IsNewPass, shape_of};

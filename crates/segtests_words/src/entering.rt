@@ -22,8 +22,8 @@ const ITEM: Item = Item {
     row: 0,
 };
 
-/// The key is set with the empty value, where its bucket is empty.
-/// Its row has one word that isn't 0.
+/// Sets the key to the empty value, in an empty bucket.
+/// The key's row has one word that isn't 0.
 fn set(rt: &impl Abort, board: &Board, pass: &mut Pass)
     requires new { IsNew board.now pass.old }
     requires first { number pass.old ≡ 0 }
@@ -38,7 +38,7 @@ fn set(rt: &impl Abort, board: &Board, pass: &mut Pass)
     board.release(pass, 0, true);
 }
 
-/// The pass comes into segment 0 and goes out again, so many times.
+/// Lets the pass enter segment 0 and leave it again, so many times.
 fn enter_and_leave(board: &Board, mut pass: Pass, times: u32) -> Pass
     requires { KnowsUse board.now pass }
     ensures { KnowsUse board.now result }
@@ -60,7 +60,7 @@ fn two_threads_enter_and_leave(rt: HostRuntime) -> Result<(), Fail> {
         rows: 1,
         first_version: 0,
     };
-    // The second time a pass comes in once more at the end, so that it is seen to be counted.
+    // The second time a pass enters once more at the end, to see that the word counts it.
     for readers in [0, 1] {
         let (board, mut passes) = Board::new(rt.alloc(), shape)?;
         let mut second = passes.pop().expect(&rt, "a pass");

@@ -1,4 +1,4 @@
-//! Tables that no contract says: frequencies by draws,
+//! Tables that no contract has: frequencies by draws,
 //! and commands of published words of the generator.
 use segpolicy::{Kind, Load, Ring, Workload, each_number_comes_once, next_frequency};
 use segword::{Key, Value};

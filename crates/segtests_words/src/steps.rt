@@ -33,7 +33,7 @@ const ITEM: Item = Item {
     row: 1,
 };
 
-/// The same with a higher frequency.
+/// The same item with a higher frequency.
 const RAISED: Item = Item {
     tag: 0x089,
     freq: 2,
@@ -60,7 +60,7 @@ const REPLACEMENT: Item = Item {
     row: 1,
 };
 
-/// The bucket's bit is taken.
+/// Takes the bucket's bit.
 pub fn take(rt: &impl Abort, board: &Board, pass: &mut Pass)
     ghost done: { List Event }
     requires { HasDone board.now pass.old done }
@@ -69,7 +69,7 @@ pub fn take(rt: &impl Abort, board: &Board, pass: &mut Pass)
     assert!(rt; board.take(pass, 0));
 }
 
-/// The bit is given back.
+/// Gives the bit back.
 pub fn give_back(board: &Board, pass: &mut Pass, counted: bool)
     ghost done: { List Event }
     requires done { HasDone board.now pass.old done }
@@ -79,7 +79,7 @@ pub fn give_back(board: &Board, pass: &mut Pass, counted: bool)
     board.release(pass, 0, counted);
 }
 
-/// A word of a row is stored.
+/// Stores a word of a row.
 pub fn store(board: &Board, pass: &mut Pass, segment: u32, row: u32, word: u8, value: u64)
     ghost done: { List Event }
     requires done { HasDone board.now pass.old done }
@@ -89,7 +89,7 @@ pub fn store(board: &Board, pass: &mut Pass, segment: u32, row: u32, word: u8, v
     board.row_store(pass, segment, row, word, value);
 }
 
-/// Word 7 of the bucket names the row.
+/// Lets word 7 of the bucket name the row.
 pub fn link(board: &Board, pass: &mut Pass)
     requires { HasDone board.now pass.old (written 1 1 (took [])) }
     ensures { HasDone board.now pass.new linked }
@@ -97,7 +97,7 @@ pub fn link(board: &Board, pass: &mut Pass)
     board.link(pass, LAST, ITEM);
 }
 
-/// The frequency of the item is raised.
+/// Raises the frequency of the item.
 pub fn bump(rt: &impl Abort, board: &Board, pass: &mut Pass)
     requires { HasDone board.now pass.old twice_inside }
     ensures { HasDone board.now pass.new raised }
@@ -105,7 +105,7 @@ pub fn bump(rt: &impl Abort, board: &Board, pass: &mut Pass)
     assert!(rt; board.bump(pass, LAST, ITEM, RAISED));
 }
 
-/// The overflow bucket is drawn.
+/// Draws the overflow bucket.
 pub fn draw(rt: &impl Abort, board: &Board, pass: &mut Pass)
     requires { HasDone board.now pass.old (took bumped) }
     ensures { HasDone board.now pass.new drawn }
@@ -113,7 +113,7 @@ pub fn draw(rt: &impl Abort, board: &Board, pass: &mut Pass)
     assert!(rt; board.draw_overflow(pass, 0, 0).is_ok());
 }
 
-/// Its word 1 gets the item.
+/// Puts the item into word 1 of the overflow bucket.
 pub fn fill(board: &Board, pass: &mut Pass)
     requires { HasDone board.now pass.old drawn }
     ensures { HasDone board.now pass.new filled }
@@ -121,7 +121,7 @@ pub fn fill(board: &Board, pass: &mut Pass)
     board.fill_overflow(pass, 0, RAISED);
 }
 
-/// It joins the chain.
+/// Lets the overflow bucket join the chain.
 pub fn chain(rt: &impl Abort, board: &Board, pass: &mut Pass)
     requires { HasDone board.now pass.old filled }
     ensures { HasDone board.now pass.new chained }
@@ -129,7 +129,7 @@ pub fn chain(rt: &impl Abort, board: &Board, pass: &mut Pass)
     assert!(rt; board.chain(pass, LAST, 0x0890_2000_0010_0001, 0).is_ok());
 }
 
-/// The item is moved to row 0 of segment 0.
+/// Moves the item to row 0 of segment 0.
 pub fn carry(rt: &impl Abort, board: &Board, pass: &mut Pass)
     requires { HasDone board.now pass.old (written 0 0 (took moved)) }
     ensures { HasDone board.now pass.new carried }
@@ -141,7 +141,7 @@ pub fn carry(rt: &impl Abort, board: &Board, pass: &mut Pass)
     );
 }
 
-/// The item is replaced by one in row 1 of segment 0.
+/// Replaces the item by one in row 1 of segment 0.
 pub fn replace(rt: &impl Abort, board: &Board, pass: &mut Pass)
     requires { HasDone board.now pass.old (written 0 1 (took settled)) }
     ensures { HasDone board.now pass.new relinked }
@@ -153,7 +153,7 @@ pub fn replace(rt: &impl Abort, board: &Board, pass: &mut Pass)
     );
 }
 
-/// The item is evicted.
+/// Evicts the item.
 pub fn clear(rt: &impl Abort, board: &Board, pass: &mut Pass)
     requires { HasDone board.now pass.old (took replaced) }
     ensures { HasDone board.now pass.new unlinked }
@@ -161,7 +161,7 @@ pub fn clear(rt: &impl Abort, board: &Board, pass: &mut Pass)
     assert!(rt; board.clear(pass, MOVED, 0x0890_1000_0000_0001).is_ok());
 }
 
-/// Whether segment 0, which has the old deadline, is refilled up to another one.
+/// Refills segment 0, which has the old deadline, up to another one, and returns whether that was done.
 pub fn refill(board: &Board, pass: &mut Pass, old: u32, deadline: u32) -> bool
     ghost done: { List Event }
     requires done { HasDone board.now pass.old done }

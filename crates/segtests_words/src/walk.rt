@@ -42,32 +42,32 @@ const CHANGES: [(u32, usize, u64); 36] = [
     (14, 10, 0x0890_2000_0010_0001),
     (15, 8, 0x0000_0000_0000_0001),
     (16, 1, 0x0000_0006_0000_0000),
-    // There it is moved to row 0 of segment 0, with the frequency that it has.
+    // There the item is moved to row 0 of segment 0, with the frequency that it has.
     (17, 1, 0x0000_0006_0000_0001),
     (18, 18, 0x0000_0000_0000_0302),
     (19, 19, 0x0000_0000_0000_6261),
     (20, 22, 0x0000_0000_007a_7978),
     (21, 10, 0x0890_2000_0000_0000),
     (22, 1, 0x0000_0006_0000_0000),
-    // It is replaced by one in row 1 of segment 0.
+    // The item is replaced by one in row 1 of segment 0.
     (23, 1, 0x0000_0006_0000_0001),
     (24, 26, 0x0000_0000_0000_0302),
     (25, 27, 0x0000_0000_0000_6261),
     (26, 30, 0x0000_0000_007a_7978),
     (27, 10, 0x0890_1000_0000_0001),
     (28, 1, 0x0000_0007_0000_0000),
-    // It is evicted, and its segment refilled up to moment 9.
+    // The item is evicted, and its segment is refilled up to moment 9.
     (29, 1, 0x0000_0007_0000_0001),
     (30, 10, 0),
     (31, 1, 0x0000_0007_0000_0000),
     (32, 17, 0x0000_0009_0000_0000),
-    // The pass comes into that segment and leaves it, and it is refilled up to the last moment.
+    // The pass enters that segment and leaves it, and the segment is refilled up to the last moment.
     (33, 17, 0x0000_0009_0000_0001),
     (34, 17, 0x0000_0009_0000_0000),
     (35, 17, 0xffff_ffff_0000_0000),
 ];
 
-// The first steps of those that are left: the pair is set.
+// Takes the first of the steps that are left: the pair is set.
 fn set(rt: &impl Abort, board: &Board, pass: &mut Pass, left: u32) -> Option<u32>
     requires { HasDone board.now pass.old [] }
     ensures done { IfSome result (λ left. HasDone board.now pass.new stored) }
@@ -88,7 +88,7 @@ fn set(rt: &impl Abort, board: &Board, pass: &mut Pass, left: u32) -> Option<u32
     Some(left)
 }
 
-// What the loads find then.
+// Checks what the loads find then.
 fn look(rt: &impl Abort, board: &Board, pass: &mut Pass)
     requires { HasDone board.now pass.old stored }
     ensures { HasDone board.now pass.new stored }
@@ -100,7 +100,7 @@ fn look(rt: &impl Abort, board: &Board, pass: &mut Pass)
     assert_eq!(rt; board.row_load(pass, 1, 1, 4), 0x007a_7978);
 }
 
-// The next ones: it is read.
+// Takes the next steps: the pair is read.
 fn read(rt: &impl Abort, board: &Board, pass: &mut Pass, left: u32) -> Option<u32>
     requires { HasDone board.now pass.old stored }
     ensures done { IfSome result (λ left. HasDone board.now pass.new bumped) }
@@ -119,7 +119,7 @@ fn read(rt: &impl Abort, board: &Board, pass: &mut Pass, left: u32) -> Option<u3
     Some(left)
 }
 
-// The chain grows.
+// Takes the next steps: the chain grows.
 fn grow(rt: &impl Abort, board: &Board, pass: &mut Pass, left: u32) -> Option<u32>
     requires { HasDone board.now pass.old bumped }
     ensures done { IfSome result (λ left. HasDone board.now pass.new moved) }
@@ -138,7 +138,7 @@ fn grow(rt: &impl Abort, board: &Board, pass: &mut Pass, left: u32) -> Option<u3
     Some(left)
 }
 
-// The item is moved to a row of another segment.
+// Takes the next steps: the item is moved to a row of another segment.
 fn move_over(rt: &impl Abort, board: &Board, pass: &mut Pass, left: u32) -> Option<u32>
     requires { HasDone board.now pass.old moved }
     ensures done { IfSome result (λ left. HasDone board.now pass.new settled) }
@@ -159,7 +159,7 @@ fn move_over(rt: &impl Abort, board: &Board, pass: &mut Pass, left: u32) -> Opti
     Some(left)
 }
 
-// The pair is stored again.
+// Takes the next steps: the pair is stored again.
 fn set_again(rt: &impl Abort, board: &Board, pass: &mut Pass, left: u32) -> Option<u32>
     requires { HasDone board.now pass.old settled }
     ensures done { IfSome result (λ left. HasDone board.now pass.new replaced) }
@@ -180,7 +180,7 @@ fn set_again(rt: &impl Abort, board: &Board, pass: &mut Pass, left: u32) -> Opti
     Some(left)
 }
 
-// It is evicted, and its segment refilled.
+// Takes the next steps: the pair is evicted, and its segment is refilled.
 fn evict(rt: &impl Abort, board: &Board, pass: &mut Pass, left: u32) -> Option<u32>
     requires { HasDone board.now pass.old replaced }
     ensures done { IfSome result (λ left. HasDone board.now pass.new refilled) }
@@ -197,7 +197,7 @@ fn evict(rt: &impl Abort, board: &Board, pass: &mut Pass, left: u32) -> Option<u
     Some(left)
 }
 
-// A reader of that segment finds its deadline. Once it has left, the segment is refilled again.
+// Takes the next steps: a reader finds the deadline of that segment. Once it has left, the segment is refilled again.
 fn refill_again(rt: &impl Abort, board: &Board, pass: &mut Pass, left: u32) -> Option<u32>
     requires { HasDone board.now pass.old refilled }
     ensures { IsPassOf board.now pass.new }
@@ -211,7 +211,7 @@ fn refill_again(rt: &impl Abort, board: &Board, pass: &mut Pass, left: u32) -> O
     Some(left)
 }
 
-// So many steps of the walk. It gives how many are left, where it has come to its end.
+// Takes so many steps of the walk. If the walk is at its end then, it returns how many are left.
 fn walk(rt: &impl Abort, board: &Board, pass: &mut Pass, steps: u32) -> Option<u32>
     requires { HasDone board.now pass.old [] }
     ensures { IsPassOf board.now pass.new }

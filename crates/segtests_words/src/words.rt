@@ -1,4 +1,4 @@
-//! Tables and texts that no contract says: hashes and words known from outside, and the limits.
+//! Tables and texts that no contract has: hashes and words known from outside, and the limits.
 use segword::{
     Chain, Info, Item, Key, KeyWords, Reading, Shape, ShapeFault, Value, bucket_of, hash, read_key,
     read_row, read_value, row_words, same_item, tag_of,
