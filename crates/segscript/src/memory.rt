@@ -16,7 +16,7 @@ pub struct MemSource<'a> {
     /// What is left to hand out.
     pub left: &'a [u8],
     pub step: usize,
-    /// If there is such a number, the reader fails once this many more bytes were handed out.
+    /// The reader fails once this many more bytes were handed out. Without a number it doesn't fail.
     pub good: Option<usize>,
     /// A call of the reader has failed.
     pub failed: bool,
