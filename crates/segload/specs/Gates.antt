@@ -21,6 +21,6 @@ pub record Stops (may_answer : ℕ → ℕ → Bool → Type 0) (commands pass :
   pub until : LetsThrough may_answer call pass
   pub stopped : may_answer pass call false
 
--- A pass ran to its end: its `commands` commands were let through, or it was stopped before one of them.
+-- How a pass may have run to its end: the gate may let its `commands` commands through, or stop it before one of them.
 abbrev pub RanToEnd : (ℕ → ℕ → Bool → Type 0) → ℕ → ℕ → Type 0
 RanToEnd may_answer commands pass = LetsThrough may_answer commands pass ⊎ Stops may_answer commands pass

@@ -48,7 +48,8 @@ abbrev pub IsToldOfAll : Shape → ℕ → (ℕ → ℕ → Type 0) → Type 0
 IsToldOfAll shape commands told = (pass : ℕ) → pass < shape.passes → IsToldOf told commands pass
 
 -- The gate may stop a pass before one of its commands, and may let those before that one through.
--- It may let through each command of each pass with a lower number. Every pass ran to its end.
+-- It may let through each command of each pass with a lower number.
+-- It may let each other pass through to its end too, or stop that pass before one of its commands.
 pub record IsStopped (shape : Shape) (commands : ℕ) (may_answer : ℕ → ℕ → Bool → Type 0) (pass : ℕ) : Type 0 where
   pub valid : IsValid shape
   pub one_of : pass < shape.passes
@@ -56,7 +57,7 @@ pub record IsStopped (shape : Shape) (commands : ℕ) (may_answer : ℕ → ℕ 
   pub lowest : (lower : ℕ) → lower < pass → LetsThrough may_answer commands lower
   pub each : (other : ℕ) → other < shape.passes → RanToEnd may_answer commands other
 
--- The index couldn't be created; or the gate stopped a pass of it, and none with a lower number;
+-- The index couldn't be created; or the gate may have stopped this pass, and none with a lower number;
 -- or the load is out of memory, and its shape is valid.
 abbrev pub IsLoadFault : Shape → ℕ → (ℕ → ℕ → Bool → Type 0) → LoadFault → Type 0
 IsLoadFault shape commands may_answer (Make fault) = IsMakeFault shape fault

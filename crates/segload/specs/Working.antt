@@ -120,7 +120,7 @@ pub record IsAtWork (b : Board) (draws : Draws) (made : ℕ) (worker : Worker) :
 
 -- The worker is that of the pass of this number. If the gate didn't stop it, it made all its commands.
 -- If the gate stopped it before one of them, it made those before that one.
--- The gate let through each command that was made, and was told of each.
+-- Each command that was made is one that the gate may let through, and the gate was told of each.
 pub record HasWorked (b : Board) (may_answer : ℕ → ℕ → Bool → Type 0) (told : ℕ → ℕ → Type 0) (draws : Draws) (pass commands : ℕ) (worker : Worker) : Type 0 where
   pub quiet : IsQuiet b worker.client.pass
   pub is : number worker.client.pass ≡ pass
