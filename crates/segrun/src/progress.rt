@@ -1,4 +1,4 @@
-//! How far a load has come: a line on standard error, at most twice a second.
+//! How far a load has come: a line on standard error, at most twice a second if there is a clock.
 use segcli::{Watch, progress_line};
 use std::io::Write;
 use std::sync::atomic::{AtomicU64, Ordering};
