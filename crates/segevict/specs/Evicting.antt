@@ -16,15 +16,19 @@ use Rattle.segevict.specs.Tries.{IsInTheWay, TriesFor}
 -- each of the entries is an eviction by the pass of a key out of the segment
 abbrev pub AreEvictions : ℕ → ℕ → List Entry → Type 0
 AreEvictions pass segment [] = Unit {0}
-AreEvictions pass segment (added ∷ more) = ((key : List ℕ) × (added ≡ entry.Evicted pass key segment)) × AreEvictions pass segment more
+AreEvictions pass segment (added ∷ more) =
+    ((key : List ℕ) × (added ≡ entry.Evicted pass key segment)) × AreEvictions pass segment more
 
 -- the key stood in the segment at some moment of the call
 abbrev pub StoodIn : Shape → ℕ → List ℕ → List Entry → List Entry → Type 0
-StoodIn shape segment key old new = (history : List Entry) × IsBetween old new history × StandsIn (after shape history) key segment
+StoodIn shape segment key old new =
+    (history : List Entry) × IsBetween old new history × StandsIn (after shape history) key segment
 
--- the pass tried for bits for at most `most` keys, each of which stood in the segment at some moment of the call
+-- the pass tried for bits for at most `most` keys,
+-- each of which stood in the segment at some moment of the call
 abbrev pub TriesForKeys : Shape → ℕ → ℕ → Pass → Pass → Type 0
-TriesForKeys shape segment most p q = TriesFor shape (λ key. StoodIn shape segment key (seen p) (seen q)) most p q
+TriesForKeys shape segment most p q =
+    TriesFor shape (λ key. StoodIn shape segment key (seen p) (seen q)) most p q
 
 -- This number of keys was taken out of the segment.
 -- The pass tried for bits for no more keys than the segment has used rows.
@@ -43,17 +47,24 @@ ended segment plain = with_current (but_for segment plain.current) plain
 -- A key stood in the segment whose bucket the pass itself has locked.
 -- Or the pass found the bit of that bucket set by another 64 times or more.
 abbrev pub IsBarred : Shape → ℕ → Pass → Pass → Type 0
-IsBarred shape segment p q = IsInTheWay shape (λ key. StoodIn shape segment key (seen p) (seen q)) p q
+IsBarred shape segment p q =
+    IsInTheWay shape (λ key. StoodIn shape segment key (seen p) (seen q)) p q
 
--- An own segment in use is emptied, or stays in use with what couldn't be taken out; calling again goes on.
+-- An own segment in use is emptied, or stays in use with what couldn't be taken out;
+-- calling again goes on.
 -- A segment that isn't in use has nothing to take out.
 abbrev pub IsEvictAnswer : Shape → ℕ → EvictAnswer → Pass → Pass → Type 0
 IsEvictAnswer shape segment (evict.Evicted count) p q =
-    ((state_of p segment ≡ Some InUse) × TakesOut shape segment count p q × (q.plain ≡ with_state segment Evicted (ended segment p.plain)) × NoneStandsIn (after shape (seen q)) segment)
+    ((state_of p segment ≡ Some InUse) × TakesOut shape segment count p q
+    × (q.plain ≡ with_state segment Evicted (ended segment p.plain))
+    × NoneStandsIn (after shape (seen q)) segment)
     ⊎ ((state_of p segment ≢ Some InUse) × (count ≡ 0) × (q ≡ p))
 IsEvictAnswer shape segment evict.NotYours p q = q ≡ p
 IsEvictAnswer shape segment (evict.Busy count) p q =
-    (state_of p segment ≡ Some InUse) × TakesOut shape segment count p q × (q.plain ≡ ended segment p.plain) × IsBarred shape segment p q
+    (state_of p segment ≡ Some InUse)
+    × TakesOut shape segment count p q
+    × (q.plain ≡ ended segment p.plain)
+    × IsBarred shape segment p q
 
 -- An evict has this answer, which is NotYours exactly if the segment isn't one of the pass's own.
 -- The pass draws no overflow bucket, and does nothing of what readers do.

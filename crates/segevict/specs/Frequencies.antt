@@ -7,7 +7,8 @@ use Rattle.segbase.specs.Words.{marked, Pass}
 
 -- At a moment between these two the key stood in the segment.
 -- The key's item named a row there, and had a frequency of which this is so.
-pub record HadFrequency (shape : Shape) (segment : ℕ) (IsSo : ℕ → Type 0) (old new : List Mark) (key : List ℕ) : Type 0 where
+pub record HadFrequency (shape : Shape) (segment : ℕ) (IsSo : ℕ → Type 0) (old new : List Mark)
+    (key : List ℕ) : Type 0 where
   pub moment : List Mark
   pub from : Begins old moment
   pub to : Begins moment new
@@ -16,13 +17,17 @@ pub record HadFrequency (shape : Shape) (segment : ℕ) (IsSo : ℕ → Type 0) 
   pub last : last_at moment key ≡ Some (slot key segment row)
   pub is : IsSo (frequency_in moment segment row)
 
--- at a moment of the call the key's item was in the segment, and its frequency was the cutoff or over it, or below the cutoff
+-- at a moment of the call the key's item was in the segment,
+-- and its frequency was the cutoff or over it, or below the cutoff
 abbrev pub WasOften : Shape → ℕ → ℕ → Pass → Pass → List ℕ → Type 0
-WasOften shape segment cutoff p q = HadFrequency shape segment (λ frequency. cutoff ≤ frequency) (marked p) (marked q)
+WasOften shape segment cutoff p q =
+    HadFrequency shape segment (λ frequency. cutoff ≤ frequency) (marked p) (marked q)
 
 abbrev pub WasSeldom : Shape → ℕ → ℕ → Pass → Pass → List ℕ → Type 0
-WasSeldom shape segment cutoff p q = HadFrequency shape segment (λ frequency. frequency < cutoff) (marked p) (marked q)
+WasSeldom shape segment cutoff p q =
+    HadFrequency shape segment (λ frequency. frequency < cutoff) (marked p) (marked q)
 
 -- at the return the key's item is in the segment, and its frequency is the cutoff or over it
 abbrev pub IsOften : Shape → ℕ → ℕ → Pass → List ℕ → Type 0
-IsOften shape segment cutoff q = HadFrequency shape segment (λ frequency. cutoff ≤ frequency) (marked q) (marked q)
+IsOften shape segment cutoff q =
+    HadFrequency shape segment (λ frequency. cutoff ≤ frequency) (marked q) (marked q)

@@ -17,7 +17,8 @@ use Rattle.segevict.specs.Tries.{IsInTheWay, TriesFor}
 
 -- ---- where it goes
 
--- items of the segment can be moved into this one: it is current, it is not the same, and it has the same deadline
+-- items of the segment can be moved into this one: it is current, it is not the same,
+-- and it has the same deadline
 pub record IsKeepTarget (segment into : ℕ) (p : Pass) : Type 0 where
   pub current : current_of p ≡ Some into
   pub other : segment ≢ into
@@ -25,10 +26,13 @@ pub record IsKeepTarget (segment into : ℕ) (p : Pass) : Type 0 where
 
 -- ---- what is moved
 
--- each of the entries is a move by the pass from the segment into the other one, of a key of which this is so
+-- each of the entries is a move by the pass from the segment into the other one,
+-- of a key of which this is so
 abbrev pub AreMoves : ℕ → ℕ → ℕ → (List ℕ → Type 0) → List Entry → Type 0
 AreMoves pass segment into IsSo [] = Unit {0}
-AreMoves pass segment into IsSo (added ∷ more) = ((key : List ℕ) × (added ≡ entry.Moved pass key segment into) × IsSo key) × AreMoves pass segment into IsSo more
+AreMoves pass segment into IsSo (added ∷ more) =
+    ((key : List ℕ) × (added ≡ entry.Moved pass key segment into) × IsSo key)
+    × AreMoves pass segment into IsSo more
 
 -- This number of rows more is used of the segment.
 -- Nothing else is changed of what the pass keeps of its segments, its lock and its hold.
@@ -51,22 +55,29 @@ pub record MovesItems (shape : Shape) (segment into cutoff count : ℕ) (p q : P
   pub all : AreMoves (number p) segment into (WasOften shape segment cutoff p q) moves
   pub entries : mine q ≡ moves ++ mine p
   pub uses : UsesRows into count p q
-  pub tries : (rows : ℕ) → used_of p segment ≡ Some rows → TriesFor shape (WasOften shape segment cutoff p q) rows p q
+  pub tries : (rows : ℕ)
+      → used_of p segment ≡ Some rows
+      → TriesFor shape (WasOften shape segment cutoff p q) rows p q
 
 -- each key that stands in the segment then was below the cutoff at a moment of the call
 abbrev pub AreSeldom : Shape → ℕ → ℕ → Pass → Pass → Type 0
-AreSeldom shape segment cutoff p q = (key : List ℕ) → StandsIn (after shape (seen q)) key segment → WasSeldom shape segment cutoff p q key
+AreSeldom shape segment cutoff p q = (key : List ℕ)
+    → StandsIn (after shape (seen q)) key segment
+    → WasSeldom shape segment cutoff p q key
 
 -- ---- the answer
 
 -- this number of items was moved from a segment in use into the current one
 abbrev pub MovesAway : Shape → ℕ → ℕ → ℕ → Pass → Pass → Type 0
 MovesAway shape segment cutoff count p q =
-    (state_of p segment ≡ Some InUse) × ((into : ℕ) × IsKeepTarget segment into p × MovesItems shape segment into cutoff count p q)
+    (state_of p segment ≡ Some InUse)
+    × ((into : ℕ) × IsKeepTarget segment into p × MovesItems shape segment into cutoff count p q)
 
--- Kept: each key that still stands in the segment was below the cutoff at a moment of the call, or the segment isn't
--- in use, and nothing is moved. NoRoom: there is no segment to move into; or no row of it is left, and an item of the
--- cutoff's frequency or a higher one is still in the old one. Busy: there is a row, but a bucket was in the way.
+-- Kept: each key that still stands in the segment was below the cutoff at a moment of the call,
+-- or the segment isn't in use, and nothing is moved.
+-- NoRoom: there is no segment to move into; or no row of it is left,
+-- and an item of the cutoff's frequency or a higher one is still in the old one.
+-- Busy: there is a row, but a bucket was in the way.
 -- What was moved stays so, and calling again goes on.
 abbrev pub IsKeepAnswer : Shape → ℕ → ℕ → KeepAnswer → Pass → Pass → Type 0
 IsKeepAnswer shape segment cutoff (keep.Kept count) p q =
@@ -74,18 +85,26 @@ IsKeepAnswer shape segment cutoff (keep.Kept count) p q =
     ⊎ ((state_of p segment ≢ Some InUse) × (count ≡ 0) × (q ≡ p))
 IsKeepAnswer shape segment cutoff keep.NotYours p q = q ≡ p
 IsKeepAnswer shape segment cutoff (keep.NoRoom count) p q =
-    ((state_of p segment ≡ Some InUse) × ((into : ℕ) → ¬ (IsKeepTarget segment into p)) × (count ≡ 0) × (q ≡ p))
-    ⊎ (MovesAway shape segment cutoff count p q × (has_room shape q ≡ false) × ((key : List ℕ) × IsOften shape segment cutoff q key))
+    ((state_of p segment ≡ Some InUse) × ((into : ℕ) → ¬ (IsKeepTarget segment into p))
+    × (count ≡ 0) × (q ≡ p))
+    ⊎ (MovesAway shape segment cutoff count p q × (has_room shape q ≡ false)
+    × ((key : List ℕ) × IsOften shape segment cutoff q key))
 IsKeepAnswer shape segment cutoff (keep.Busy count) p q =
-    MovesAway shape segment cutoff count p q × (has_room shape q ≡ true) × IsInTheWay shape (WasOften shape segment cutoff p q) p q
+    MovesAway shape segment cutoff count p q
+    × (has_room shape q ≡ true)
+    × IsInTheWay shape (WasOften shape segment cutoff p q) p q
 
 -- A keep has this answer, which is NotYours exactly if the segment isn't one of the pass's own.
 -- The rows of the segment are gone over in their order.
 -- The pass draws no overflow bucket, and does nothing of what readers do.
-pub record KeepsItems (b : Board) (segment cutoff : ℕ) (told : KeepAnswer) (p q : Pass) : Type 0 where
+pub record KeepsItems (b : Board) (segment cutoff : ℕ) (told : KeepAnswer) (p q : Pass)
+    : Type 0 where
   pub on : GoesOn b p q
   pub answer : IsKeepAnswer b.shape segment cutoff told p q
   pub not_yours : (told ≡ keep.NotYours) ↔ (state_of p segment ≡ None)
-  pub order : (into : ℕ) → state_of p segment ≡ Some InUse → IsKeepTarget segment into p → GoesInOrder b segment into cutoff told p q
+  pub order : (into : ℕ)
+      → state_of p segment ≡ Some InUse
+      → IsKeepTarget segment into p
+      → GoesInOrder b segment into cutoff told p q
   pub draws_nothing : DrawsNothing p q
   pub reads_nothing : ReadsNothing p q

@@ -1,4 +1,5 @@
--- What a keep did with a row, by names for the crates above: the answer for a row is private to this crate.
+-- What a keep did with a row, by names for the crates above:
+-- the answer for a row is private to this crate.
 use Rattle.std.specs.Prelude.{ℕ}
 use Rattle.segbase.specs.Words.{Board, Pass}
 use Rattle.segevict.specs.declared.retention.KeptRow.TheVariants as kept

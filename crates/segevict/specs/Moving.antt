@@ -19,14 +19,16 @@ use Rattle.segevict.specs.Tries.{TriesFor}
 
 -- ---- what is seen of a row without the bit
 
--- By looks alone the pass saw that a word names the row, for the key that was stored or moved there.
+-- By looks alone the pass saw that a word names the row,
+-- for the key that was stored or moved there.
 -- The row's item has a frequency of which this is so.
 pub record SeesRow (b : Board) (segment row : ℕ) (IsSo : ℕ → Type 0) (p q : Pass) : Type 0 where
   pub idles : Idles b p q
   pub key : List ℕ
   pub linked : (row_after (trace q) segment row).linked ≡ Some key
   pub position : ℕ
-  pub named : (bucket_after b.shape (trace q) (bucket_of b.shape key)).items position ≡ item (slot key segment row)
+  pub named : (bucket_after b.shape (trace q) (bucket_of b.shape key)).items position
+      ≡ item (slot key segment row)
   pub is : IsSo (frequency_of (trace q) segment row)
 
 -- ---- what is done under the bit
@@ -34,21 +36,28 @@ pub record SeesRow (b : Board) (segment row : ℕ) (IsSo : ℕ → Type 0) (p q 
 -- The bit of the bucket was taken after this number of tries that found it set.
 -- Then the pass added these events, and gave the bit back.
 abbrev pub under_bit : ℕ → ℕ → ℕ → List Event → List Event
-under_bit pass bucket times own = Freed pass bucket false ∷ (own ++ (Took pass bucket ∷ bounces pass bucket times))
+under_bit pass bucket times own =
+    Freed pass bucket false ∷ (own ++ (Took pass bucket ∷ bounces pass bucket times))
 
 -- the row of the other segment was written, and the item of the key came to name it
 abbrev pub moves : ℕ → List ℕ → ℕ → ℕ → ℕ → ℕ → ℕ → List ℕ → List Event
-moves pass key segment row into to position words = Relinked pass key segment row into to position ∷ fills pass into to words 8
+moves pass key segment row into to position words =
+    Relinked pass key segment row into to position ∷ fills pass into to words 8
 
 -- under the bit: the item was moved into this row, which is counted as used; or nothing was done
 abbrev pub MovesItem : Board → ℕ → Item → ℕ → ℕ → Bool → Pass → Pass → Type 0
-MovesItem b bucket sought into to true p q = (key : List ℕ) × (position : ℕ) × (words : List ℕ) × (bucket ≡ bucket_of b.shape key)
+MovesItem b bucket sought into to true p q =
+    (key : List ℕ) × (position : ℕ) × (words : List ℕ)
+    × (bucket ≡ bucket_of b.shape key)
     × ((row_after (trace p) sought.seg sought.row).linked ≡ Some key)
-    × AddsEvents b (moves (number p) key sought.seg sought.row into to position words) p q × (q.plain ≡ with_own into one_more p.plain)
+    × AddsEvents b (moves (number p) key sought.seg sought.row into to position words) p q
+    × (q.plain ≡ with_own into one_more p.plain)
 MovesItem b bucket sought into to false p q = AddsEvents b [] p q × (q.plain ≡ p.plain)
 
--- The item was moved so, or nothing was done. Then no word names the row, and the pass still has the bit.
-pub record MovesRow (b : Board) (bucket : ℕ) (sought : Item) (into to : ℕ) (told : Bool) (p q : Pass) : Type 0 where
+-- The item was moved so, or nothing was done.
+-- Then no word names the row, and the pass still has the bit.
+pub record MovesRow (b : Board) (bucket : ℕ) (sought : Item) (into to : ℕ) (told : Bool)
+    (p q : Pass) : Type 0 where
   pub moves : MovesItem b bucket sought into to told p q
   pub gone : RowGone b.shape sought.seg sought.row (trace q)
   pub bit : HasCleanBit b q bucket
@@ -57,28 +66,43 @@ pub record MovesRow (b : Board) (bucket : ℕ) (sought : Item) (into to : ℕ) (
 
 -- ---- a row
 
--- The row's item is moved. Or the row is passed over: no word names it, its item is below the cutoff,
+-- The row's item is moved.
+-- Or the row is passed over: no word names it, its item is below the cutoff,
 -- or under the bit no word names it any more. Or there is no row left for the item.
 -- Or the bit of the item's bucket can't be taken.
 abbrev pub IsKeptRow : Board → ℕ → ℕ → ℕ → ℕ → KeptRow → Pass → Pass → Type 0
-IsKeptRow b segment row into cutoff kept.Moved p q = (f : Pass) × (s : SeesRow b segment row (λ frequency. cutoff ≤ frequency) p f)
-    × GoesOn b f q × (to : ℕ) × (times : ℕ) × (position : ℕ) × (words : List ℕ) × (used_of p into ≡ Some to) × (to < b.shape.rows)
-    × AddsEvents b (under_bit (number f) (bucket_of b.shape s.key) times (moves (number f) s.key segment row into to position words)) f q
-    × AddsEntry (entry.Moved (number p) s.key segment into) p q × (q.plain ≡ with_own into one_more p.plain) × RowGone b.shape segment row (trace q)
+IsKeptRow b segment row into cutoff kept.Moved p q =
+    (f : Pass) × (s : SeesRow b segment row (λ frequency. cutoff ≤ frequency) p f)
+    × GoesOn b f q
+    × (to : ℕ) × (times : ℕ) × (position : ℕ) × (words : List ℕ)
+    × (used_of p into ≡ Some to)
+    × (to < b.shape.rows)
+    × AddsEvents b (under_bit (number f) (bucket_of b.shape s.key) times
+    (moves (number f) s.key segment row into to position words)) f q
+    × AddsEntry (entry.Moved (number p) s.key segment into) p q
+    × (q.plain ≡ with_own into one_more p.plain)
+    × RowGone b.shape segment row (trace q)
     × (times < 64)
 IsKeptRow b segment row into cutoff kept.Left p q =
     (Idles b p q × RowGone b.shape segment row (trace q))
     ⊎ SeesRow b segment row (λ frequency. frequency < cutoff) p q
     ⊎ ((f : Pass) × (s : SeesRow b segment row (λ frequency. cutoff ≤ frequency) p f) × (times : ℕ)
-    × AddsEvents b (under_bit (number f) (bucket_of b.shape s.key) times []) f q × ChangesNothing p q × RowGone b.shape segment row (trace q)
-    × (times < 64) × (has_room b.shape p ≡ true))
-IsKeptRow b segment row into cutoff kept.NoRoom p q = SeesRow b segment row (λ frequency. cutoff ≤ frequency) p q × (has_room b.shape p ≡ false)
-IsKeptRow b segment row into cutoff kept.Busy p q = (f : Pass) × (s : SeesRow b segment row (λ frequency. cutoff ≤ frequency) p f)
-    × GoesOn b f q × (has_room b.shape p ≡ true) × ChangesNothing f q × IsBusy (bucket_of b.shape s.key) f q
+    × AddsEvents b (under_bit (number f) (bucket_of b.shape s.key) times []) f q
+    × ChangesNothing p q × RowGone b.shape segment row (trace q) × (times < 64)
+    × (has_room b.shape p ≡ true))
+IsKeptRow b segment row into cutoff kept.NoRoom p q =
+    SeesRow b segment row (λ frequency. cutoff ≤ frequency) p q × (has_room b.shape p ≡ false)
+IsKeptRow b segment row into cutoff kept.Busy p q =
+    (f : Pass) × (s : SeesRow b segment row (λ frequency. cutoff ≤ frequency) p f)
+    × GoesOn b f q
+    × (has_room b.shape p ≡ true)
+    × ChangesNothing f q
+    × IsBusy (bucket_of b.shape s.key) f q
 
--- A row of the segment is gone over. The pass tries for the bit only if the row's item had the cutoff's frequency
--- or a higher one.
-pub record KeepsRow (b : Board) (segment row into cutoff : ℕ) (told : KeptRow) (p q : Pass) : Type 0 where
+-- A row of the segment is gone over.
+-- The pass tries for the bit only if the row's item had the cutoff's frequency or a higher one.
+pub record KeepsRow (b : Board) (segment row into cutoff : ℕ) (told : KeptRow) (p q : Pass)
+    : Type 0 where
   pub on : GoesOn b p q
   pub memo : memo q ≡ memo p
   pub draws_nothing : DrawsNothing p q
@@ -91,18 +115,29 @@ pub record KeepsRow (b : Board) (segment row into cutoff : ℕ) (told : KeptRow)
 -- this number of rows was gone over, from the first on, and this number of their items was moved
 abbrev pub GoesOver : Board → ℕ → ℕ → ℕ → ℕ → ℕ → Pass → Pass → Type 0
 GoesOver b segment into cutoff zero count p q = (count ≡ 0) × (q ≡ p)
-GoesOver b segment into cutoff (suc row) count p q = (middle : Pass) × (
-    ((before : ℕ) × (count ≡ before + 1) × GoesOver b segment into cutoff row before p middle × KeepsRow b segment row into cutoff kept.Moved middle q)
-    ⊎ (GoesOver b segment into cutoff row count p middle × KeepsRow b segment row into cutoff kept.Left middle q))
+GoesOver b segment into cutoff (suc row) count p q =
+    (middle : Pass)
+    × (((before : ℕ) × (count ≡ before + 1) × GoesOver b segment into cutoff row before p middle
+    × KeepsRow b segment row into cutoff kept.Moved middle q)
+    ⊎ (GoesOver b segment into cutoff row count p middle
+    × KeepsRow b segment row into cutoff kept.Left middle q))
 
 -- the rows before one were gone over, and that one has this answer
 abbrev pub StopsAt : Board → ℕ → ℕ → ℕ → KeptRow → ℕ → Pass → Pass → Type 0
-StopsAt b segment into cutoff told count p q = (row : ℕ) × (used : ℕ) × (used_of p segment ≡ Some used) × (row < used)
-    × (middle : Pass) × GoesOver b segment into cutoff row count p middle × KeepsRow b segment row into cutoff told middle q
+StopsAt b segment into cutoff told count p q =
+    (row : ℕ) × (used : ℕ)
+    × (used_of p segment ≡ Some used)
+    × (row < used)
+    × (middle : Pass)
+    × GoesOver b segment into cutoff row count p middle
+    × KeepsRow b segment row into cutoff told middle q
 
 -- all used rows of the segment are gone over, or those up to one that stops the keep
 abbrev pub GoesInOrder : Board → ℕ → ℕ → ℕ → KeepAnswer → Pass → Pass → Type 0
-GoesInOrder b segment into cutoff (keep.Kept count) p q = (used : ℕ) × (used_of p segment ≡ Some used) × GoesOver b segment into cutoff used count p q
-GoesInOrder b segment into cutoff (keep.NoRoom count) p q = StopsAt b segment into cutoff kept.NoRoom count p q
-GoesInOrder b segment into cutoff (keep.Busy count) p q = StopsAt b segment into cutoff kept.Busy count p q
+GoesInOrder b segment into cutoff (keep.Kept count) p q =
+    (used : ℕ) × (used_of p segment ≡ Some used) × GoesOver b segment into cutoff used count p q
+GoesInOrder b segment into cutoff (keep.NoRoom count) p q =
+    StopsAt b segment into cutoff kept.NoRoom count p q
+GoesInOrder b segment into cutoff (keep.Busy count) p q =
+    StopsAt b segment into cutoff kept.Busy count p q
 GoesInOrder b segment into cutoff keep.NotYours p q = ⊥

@@ -13,7 +13,8 @@ use Rattle.segwrite.specs.Words.{IsInChain, Target}
 abbrev pub IsUsedRow : ℕ → ℕ → Pass → Type 0
 IsUsedRow segment row p = (used : ℕ) × (used_of p segment ≡ Some used) × (row < used)
 
--- The item, its frequency aside, is that of a key that was linked to a row of the pass's own in this filling.
+-- The item, its frequency aside,
+-- is that of a key that was linked to a row of the pass's own in this filling.
 -- The bucket is that of the key.
 pub record IsStoredIn (b : Board) (bucket : ℕ) (item : Item) (p : Pass) : Type 0 where
   pub key : List ℕ
@@ -25,20 +26,28 @@ pub record IsStoredIn (b : Board) (bucket : ℕ) (item : Item) (p : Pass) : Type
 -- ---- the word that names a row
 
 -- the place has a word of the bucket's chain, which names the row of the item now
-pub record IsNamedAt (b : Board) (bucket : ℕ) (item : Item) (target : Target) (p : Pass) : Type 0 where
+pub record IsNamedAt (b : Board) (bucket : ℕ) (item : Item) (target : Target) (p : Pass)
+    : Type 0 where
   pub chain : IsInChain b bucket target.place p
-  pub named : RowAt b.shape bucket item.seg item.row (trace p) (position b.shape (trace p) target.place)
+  pub named : RowAt b.shape bucket item.seg item.row (trace p)
+      (position b.shape (trace p) target.place)
   pub reads : target.word ≡ word b.shape (trace p) (cell_at b.shape target.place)
   pub same : IsSameItem target.word (item_word item)
 
 -- the word that names the row is found, or no word names the row
 abbrev pub FindsRow : Board → ℕ → Item → Option Target → Pass → Type 0
-FindsRow b bucket item found p = MatchOption found (RowGone b.shape item.seg item.row (trace p)) (λ target. IsNamedAt b bucket item target p)
+FindsRow b bucket item found p =
+    MatchOption found (RowGone b.shape item.seg item.row (trace p))
+    (λ target. IsNamedAt b bucket item target p)
 
 -- ---- a walk
 
--- what the pass has seen only grew, the rows of the segment have the keys that they had, and what was gone stays gone
+-- what the pass has seen only grew, the rows of the segment have the keys that they had,
+-- and what was gone stays gone
 pub record KeepsGone (b : Board) (segment : ℕ) (p q : Pass) : Type 0 where
   pub grew : Begins (trace p) (trace q)
-  pub linked : (row : ℕ) → (row_after (trace q) segment row).linked ≡ (row_after (trace p) segment row).linked
-  pub lasts : (row : ℕ) → RowGone b.shape segment row (trace p) → RowGone b.shape segment row (trace q)
+  pub linked : (row : ℕ)
+      → (row_after (trace q) segment row).linked ≡ (row_after (trace p) segment row).linked
+  pub lasts : (row : ℕ)
+      → RowGone b.shape segment row (trace p)
+      → RowGone b.shape segment row (trace q)

@@ -4,17 +4,23 @@ use Rattle.segword.specs.Words.{Shape}
 use Rattle.segmodel.specs.Words.{bucket_of}
 use Rattle.segbase.specs.Words.{bounced, locked_of, Pass, taken}
 
--- The pass tried for bits for at most `most` keys, of each of which this is so. For each key it took at most one bit,
+-- The pass tried for bits for at most `most` keys, of each of which this is so.
+-- For each key it took at most one bit,
 -- and found the bit of the key's bucket set at most 64 times.
 pub record TriesFor (shape : Shape) (IsSo : List ℕ → Type 0) (most : ℕ) (p q : Pass) : Type 0 where
   pub keys : List (List ℕ)
   pub few : length keys ≤ most
   pub stood : All IsSo keys
   pub taken : taken q ≤ taken p + length keys
-  pub bounced : (bucket : ℕ) → bounced q bucket ≤ bounced p bucket + 64 * count_by (λ key. bucket_of shape key == bucket) keys
+  pub bounced : (bucket : ℕ)
+      → bounced q bucket ≤ bounced p bucket
+      + 64 * count_by (λ key. bucket_of shape key == bucket) keys
 
 -- There is a key of which this is so. The pass itself has the key's bucket locked,
 -- or found the bit of that bucket set by another 64 times or more.
 abbrev pub IsInTheWay : Shape → (List ℕ → Type 0) → Pass → Pass → Type 0
-IsInTheWay shape IsSo p q = (key : List ℕ) × IsSo key
-    × ((locked_of p ≡ Some (bucket_of shape key)) ⊎ (bounced p (bucket_of shape key) + 64 ≤ bounced q (bucket_of shape key)))
+IsInTheWay shape IsSo p q =
+    (key : List ℕ)
+    × IsSo key
+    × ((locked_of p ≡ Some (bucket_of shape key))
+    ⊎ (bounced p (bucket_of shape key) + 64 ≤ bounced q (bucket_of shape key)))

@@ -17,7 +17,10 @@ use Rattle.segevict.specs.Rows.{KeepsGone}
 
 -- the word was cleared, which took its key out of the segment; or there was no such word
 abbrev pub TakesKey : Board → ℕ → Item → Bool → Pass → Pass → Type 0
-TakesKey b bucket item true p q = (key : List ℕ) × (at : ℕ) × (bucket ≡ bucket_of b.shape key) × AddsEvents b (Unlinked (number p) key at (Evicts item.seg) ∷ []) p q
+TakesKey b bucket item true p q =
+    (key : List ℕ) × (at : ℕ)
+    × (bucket ≡ bucket_of b.shape key)
+    × AddsEvents b (Unlinked (number p) key at (Evicts item.seg) ∷ []) p q
 TakesKey b bucket item false p q = AddsEvents b [] p q
 
 -- Under the bit, which the pass still has, the key was taken out, or there was no word of it.
@@ -30,8 +33,12 @@ pub record TakesRow (b : Board) (bucket : ℕ) (item : Item) (told : Bool) (p q 
 -- ---- a row
 
 abbrev pub IsRowAnswer : Board → ℕ → ℕ → RowAnswer → Pass → Pass → Type 0
-IsRowAnswer b segment row row_answer.Evicted p q = KeepsGone b segment p q × RowGone b.shape segment row (trace q) × ((key : List ℕ) × (mine q ≡ entry.Evicted (number p) key segment ∷ mine p))
-IsRowAnswer b segment row row_answer.Gone p q = KeepsGone b segment p q × RowGone b.shape segment row (trace q) × (mine q ≡ mine p)
+IsRowAnswer b segment row row_answer.Evicted p q =
+    KeepsGone b segment p q
+    × RowGone b.shape segment row (trace q)
+    × ((key : List ℕ) × (mine q ≡ entry.Evicted (number p) key segment ∷ mine p))
+IsRowAnswer b segment row row_answer.Gone p q =
+    KeepsGone b segment p q × RowGone b.shape segment row (trace q) × (mine q ≡ mine p)
 IsRowAnswer b segment row row_answer.Busy p q = (mine q ≡ mine p) × IsBarred b.shape segment p q
 
 -- the key of a row is taken out, or gone already, or the bit of its bucket can't be taken
