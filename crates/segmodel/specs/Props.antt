@@ -25,21 +25,28 @@ Cached-set = hlevel props
 
 -- the two lists determine what the newer one has before the older one
 pub Begins-prop : {A : Type 0} → IsSet (List A) → (old new : List A) → IsProp (Begins old new)
-Begins-prop set old new = pair-prop (λ more. set new _) (λ more other at on. append_cancel_right more other old (sym at ∙ on))
+Begins-prop set old new =
+    pair-prop (λ more. set new _)
+    (λ more other at on. append_cancel_right more other old (sym at ∙ on))
 
-IsPlaced-prop : (shape : Shape) (pass : ℕ) (reply : Reply) (named : Option ℕ) → IsProp (IsPlaced shape pass reply named)
+IsPlaced-prop : (shape : Shape) (pass : ℕ) (reply : Reply) (named : Option ℕ)
+    → IsProp (IsPlaced shape pass reply named)
 IsPlaced-prop shape pass Stored named = hlevel props
 IsPlaced-prop shape pass _ named = hlevel props
 
-pub Follows-prop : (shape : Shape) (cache : Cache) (entry : Entry) → IsProp (Follows shape cache entry)
-Follows-prop shape cache (Wrote pass request reply segment) = ×_prop (Reply-set reply _) (IsPlaced-prop shape pass reply segment)
+pub Follows-prop : (shape : Shape) (cache : Cache) (entry : Entry)
+    → IsProp (Follows shape cache entry)
+Follows-prop shape cache (Wrote pass request reply segment) =
+    ×_prop (Reply-set reply _) (IsPlaced-prop shape pass reply segment)
 Follows-prop shape cache (Evicted pass key segment) = hlevel props
 Follows-prop shape cache (Refilled pass segment deadline) = hlevel props
 Follows-prop shape cache (Moved pass key from to) = hlevel props
 
 pub IsLegal-prop : (shape : Shape) (history : List Entry) → IsProp (IsLegal shape history)
 IsLegal-prop shape [] = Unit-prop
-IsLegal-prop shape (entry ∷ history) = ×_prop (IsLegal-prop shape history) (Follows-prop shape (after shape history) entry)
+IsLegal-prop shape (entry ∷ history) =
+    ×_prop (IsLegal-prop shape history) (Follows-prop shape (after shape history) entry)
 
-pub IsStanding-prop : (shape : Shape) (history : List Entry) (key value : List ℕ) (segment : ℕ) → IsProp (IsStanding shape history key value segment)
+pub IsStanding-prop : (shape : Shape) (history : List Entry) (key value : List ℕ) (segment : ℕ)
+    → IsProp (IsStanding shape history key value segment)
 IsStanding-prop shape history key value segment = hlevel (props, IsLegal-prop, Cached-set)
