@@ -1,4 +1,5 @@
--- The state of a bucket and its chain after a trace: who has the bit, the version, and what stands at each position.
+-- The state of a bucket and its chain after a trace: who has the bit, the version,
+-- and what stands at each position.
 use Rattle.std.specs.Prelude.{ℕ, ◌+◌, ◌*◌, ◌%◌, ◌<◌, ◌==◌, Bool, true, false, List, [], ◌∷◌, Option, Some, None, if◌then◌else◌}
 use Rattle.segword.specs.Words.{Shape}
 use Rattle.segmodel.specs.Words.{bucket_of, key_of, with_at}
@@ -7,7 +8,8 @@ use Rattle.segcore.specs.declared.event.Event.TheVariants.{Took, Freed, Replied,
 use Rattle.segcore.specs.declared.event.Leaving.TheVariants.{Deletes, Evicts}
 use Rattle.segcore.specs.declared.event.Leaving.{Leaving}
 
--- what an item word names: the key that stands there, and the segment and row that its link or its last move named
+-- what an item word names: the key that stands there,
+-- and the segment and row that its link or its last move named
 pub record Slot : Type 0 where
   pub key : List ℕ
   pub segment : ℕ
@@ -68,7 +70,8 @@ abbrev pub is : Option ℕ → ℕ → Bool
 is None number = false
 is (Some other) number = other == number
 
--- whether something is written under the bit once an item has left its word: a delete writes, an eviction doesn't
+-- whether something is written under the bit once an item has left its word: a delete writes,
+-- an eviction doesn't
 abbrev pub written_by : Leaving → Bool → Bool
 written_by (Deletes now) written = true
 written_by (Evicts segment) written = written
@@ -76,26 +79,48 @@ written_by (Evicts segment) written = written
 -- the bucket after an event of it
 abbrev pub acts : Event → Bucket → Bucket
 acts (Took pass b) bucket = record bucket { holder = Some pass }
-acts (Freed pass b counted) bucket = record bucket { holder = None; written = false; version = if counted then bucket.version + 1 else bucket.version }
-acts (Linked pass request segment row position) bucket = record bucket { written = true; items = with_at bucket.items position (item (slot (key_of request) segment row)) }
+acts (Freed pass b counted) bucket = record bucket {
+  holder = None;
+  written = false;
+  version = if counted then bucket.version + 1 else bucket.version;
+}
+acts (Linked pass request segment row position) bucket = record bucket {
+  written = true;
+  items = with_at bucket.items position (item (slot (key_of request) segment row));
+}
 -- an item that is moved keeps its position, and a move is no write to the bucket
-acts (Relinked pass key from from_row segment row position) bucket = record bucket { items = with_at bucket.items position (item (slot key segment row)) }
-acts (Unlinked pass key position why) bucket = record bucket { written = written_by why bucket.written; items = with_at bucket.items position nothing }
+acts (Relinked pass key from from_row segment row position) bucket =
+    record bucket { items = with_at bucket.items position (item (slot key segment row)) }
+acts (Unlinked pass key position why) bucket = record bucket {
+  written = written_by why bucket.written;
+  items = with_at bucket.items position nothing;
+}
 acts (Drew pass b depth number) bucket = record bucket { spare = Some number }
-acts (Put pass b word) bucket = record bucket { items = with_at bucket.items (fresh_position bucket) (copy word) }
+acts (Put pass b word) bucket =
+    record bucket { items = with_at bucket.items (fresh_position bucket) (copy word) }
 -- the item of the last word moves to the first word of the new bucket
 acts (Chained pass b number) bucket = record bucket {
   chained = bucket.chained + 1;
   spare = None;
-  items = with_at (with_at bucket.items (fresh_position bucket) (bucket.items (last bucket))) (last bucket) (next number);
+  items = with_at (with_at bucket.items (fresh_position bucket) (bucket.items (last bucket)))
+      (last bucket) (next number);
 }
 acts _ bucket = bucket
 
 abbrev pub empty_bucket : Bucket
-empty_bucket = record { holder = None; written = false; version = 0; chained = 0; spare = None; items = λ position. nothing }
+empty_bucket = record {
+  holder = None;
+  written = false;
+  version = 0;
+  chained = 0;
+  spare = None;
+  items = λ position. nothing;
+}
 
 -- the state of a bucket after a trace
 abbrev pub bucket_after : Shape → List Event → ℕ → Bucket
 bucket_after shape [] bucket = empty_bucket
 bucket_after shape (event ∷ trace) bucket =
-    if is (bucket_at shape event) bucket then acts event (bucket_after shape trace bucket) else bucket_after shape trace bucket
+    if is (bucket_at shape event) bucket
+    then acts event (bucket_after shape trace bucket)
+    else bucket_after shape trace bucket

@@ -1,4 +1,5 @@
--- What an event is by itself: whose it is, and which entry it adds to the history. A trace has its newest event first, so that `∷` adds to it.
+-- What an event is by itself: whose it is, and which entry it adds to the history.
+-- A trace has its newest event first, so that `∷` adds to it.
 use Rattle.std.specs.Prelude.{◌≡◌, ◌≢◌, ℕ, List, [], ◌∷◌, Option, Some, None}
 use Rattle.segmodel.specs.declared.request.Request.TheVariants.{Delete}
 use Rattle.segmodel.specs.declared.request.Reply.TheVariants.{Stored, Deleted}
@@ -46,8 +47,10 @@ removal pass key (Evicts segment) = entry.Evicted pass key segment
 -- the entry that an event adds, if it adds one
 abbrev pub entry_of : Event → Option Entry
 entry_of (Replied pass request reply) = Some (entry.Wrote pass request reply None)
-entry_of (Linked pass request segment row position) = Some (entry.Wrote pass request Stored (Some segment))
-entry_of (Relinked pass key from from_row segment row position) = Some (entry.Moved pass key from segment)
+entry_of (Linked pass request segment row position) =
+    Some (entry.Wrote pass request Stored (Some segment))
+entry_of (Relinked pass key from from_row segment row position) =
+    Some (entry.Moved pass key from segment)
 entry_of (Unlinked pass key position why) = Some (removal pass key why)
 entry_of (Refilled pass segment deadline) = Some (entry.Refilled pass segment deadline)
 entry_of _ = None

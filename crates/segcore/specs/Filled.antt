@@ -17,4 +17,5 @@ items_below bucket (suc position) = items_below bucket position + item_count (bu
 
 -- each item word of the chain has an item or leads on
 abbrev pub HasNoEmptyWord : Bucket → Type 0
-HasNoEmptyWord bucket = (position : ℕ) → IsPosition bucket position → bucket.items position ≢ nothing
+HasNoEmptyWord bucket =
+    (position : ℕ) → IsPosition bucket position → bucket.items position ≢ nothing

@@ -13,8 +13,15 @@ IsInItem tag segment row = (0 < tag) × (tag < 4096) × (segment < 2 ^ 24) × (r
 
 -- the word is the item of the slot, with some frequency
 abbrev pub IsWordOf : Slot → ℕ → Type 0
-IsWordOf slot word = (frequency : ℕ) × (frequency < 256) × (word ≡ packed (tag_of slot.key) frequency slot.segment slot.row)
+IsWordOf slot word =
+    (frequency : ℕ)
+    × (frequency < 256)
+    × (word ≡ packed (tag_of slot.key) frequency slot.segment slot.row)
 
 -- the word is an item word
 abbrev pub IsItemWord : ℕ → Type 0
-IsItemWord word = (tag : ℕ) × (frequency : ℕ) × (segment : ℕ) × (row : ℕ) × IsInItem tag segment row × (frequency < 256) × (word ≡ packed tag frequency segment row)
+IsItemWord word =
+    (tag : ℕ) × (frequency : ℕ) × (segment : ℕ) × (row : ℕ)
+    × IsInItem tag segment row
+    × (frequency < 256)
+    × (word ≡ packed tag frequency segment row)

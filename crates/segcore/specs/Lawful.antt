@@ -1,4 +1,5 @@
--- Which event may come next after a trace, and which traces are lawful: each event could come where it stands.
+-- Which event may come next after a trace, and which traces are lawful:
+-- each event could come where it stands.
 use Rattle.std.specs.Prelude.{◌≡◌, ◌≢◌, ℕ, ◌+◌, ◌*◌, ◌<◌, Bool, true, false, List, [], ◌∷◌, ◌⊎◌, Option, Some, None, MatchOption, ◌^◌}
 use Rattle.segword.specs.Words.{IsKey, IsValue, Shape}
 use Rattle.segmodel.specs.declared.request.Reply.TheVariants.{NotStored, Exists, NotFound}
@@ -15,18 +16,22 @@ use Rattle.segcore.specs.ItemWord.{IsWordOf}
 use Rattle.segcore.specs.declared.event.Leaving.TheVariants.{Deletes, Evicts}
 use Rattle.segcore.specs.declared.event.Leaving.{Leaving}
 
--- who has the bit just before an event of its bucket: nobody before a take, and else the pass whose event it is
+-- who has the bit just before an event of its bucket: nobody before a take,
+-- and else the pass whose event it is
 abbrev pub needs : Event → Option ℕ
 needs (Took pass bucket) = None
 needs event = Some (by event)
 
 abbrev pub IsGuarded : Shape → List Event → Event → Type 0
 IsGuarded shape trace event =
-    MatchOption (bucket_at shape event) (Unit {0}) (λ bucket. (bucket < shape.buckets) × ((bucket_after shape trace bucket).holder ≡ needs event))
+    MatchOption (bucket_at shape event)
+    (Unit {0})
+    (λ bucket. (bucket < shape.buckets) × ((bucket_after shape trace bucket).holder ≡ needs event))
 
 -- a cache of one thread allows the entry that the event adds, if it adds one
 abbrev pub FollowsOn : Shape → List Event → Event → Type 0
-FollowsOn shape trace event = MatchOption (entry_of event) (Unit {0}) (Follows shape (after shape (seen trace)))
+FollowsOn shape trace event =
+    MatchOption (entry_of event) (Unit {0}) (Follows shape (after shape (seen trace)))
 
 abbrev pub IsSegment : Shape → ℕ → Type 0
 IsSegment shape segment = segment < shape.passes * shape.segments_each
@@ -34,7 +39,10 @@ IsSegment shape segment = segment < shape.passes * shape.segments_each
 -- a row of the pass, not linked in this filling
 abbrev pub IsOwnRow : Shape → List Event → ℕ → ℕ → ℕ → Type 0
 IsOwnRow shape trace pass segment row =
-    IsSegment shape segment × (row < shape.rows) × (owner shape segment ≡ pass) × ((row_after trace segment row).linked ≡ None)
+    IsSegment shape segment
+    × (row < shape.rows)
+    × (owner shape segment ≡ pass)
+    × ((row_after trace segment row).linked ≡ None)
 
 -- a refused write leaves all as it is
 abbrev pub IsRefusal : Reply → Type 0
@@ -46,12 +54,16 @@ IsRefusal _ = ⊥
 -- the word at a position of its chain has an item of the key
 abbrev pub HasItemOf : Shape → List Event → List ℕ → ℕ → Type 0
 HasItemOf shape trace key position =
-    (named : Slot) × ((bucket_after shape trace (bucket_of shape key)).items position ≡ item named) × (named.key ≡ key)
+    (named : Slot)
+    × ((bucket_after shape trace (bucket_of shape key)).items position ≡ item named)
+    × (named.key ≡ key)
 
--- a link puts its item into an empty word if the key stands nowhere, or in the place of an item of the key
+-- a link puts its item into an empty word if the key stands nowhere,
+-- or in the place of an item of the key
 abbrev pub HasRoomFor : Shape → List Event → List ℕ → ℕ → Type 0
 HasRoomFor shape trace key position =
-    (((bucket_after shape trace (bucket_of shape key)).items position ≡ nothing) × (standing (after shape (seen trace)) key ≡ None))
+    (((bucket_after shape trace (bucket_of shape key)).items position ≡ nothing)
+    × (standing (after shape (seen trace)) key ≡ None))
     ⊎ HasItemOf shape trace key position
 
 -- an evicted item is of the segment that is named, and a delete is the first write under its bit
@@ -62,7 +74,10 @@ MayLeave (Evicts evicted) written segment = evicted ≡ segment
 -- the key stands in the segment, and the row holds it with its value
 abbrev pub HoldsWhatStands : Shape → List Event → List ℕ → ℕ → Row → Type 0
 HoldsWhatStands shape trace key segment row =
-    (value : List ℕ) × (standing (after shape (seen trace)) key ≡ Some (record { value = value; segment = segment })) × Holds row key value
+    (value : List ℕ)
+    × (standing (after shape (seen trace)) key
+    ≡ Some (record { value = value; segment = segment }))
+    × Holds row key value
 
 abbrev pub IsOther : ℕ → Option ℕ → Type 0
 IsOther pass holder = (other : ℕ) × (holder ≡ Some other) × (other ≢ pass)
@@ -76,7 +91,8 @@ Suits shape trace (Freed pass bucket counted) =
     let state = bucket_after shape trace bucket in
     (state.written ≡ counted) × (state.spare ≡ None)
 Suits shape trace (Replied pass request reply) = IsRefusal reply
-Suits shape trace (Filled pass segment row place word) = IsOwnRow shape trace pass segment row × (place < 8)
+Suits shape trace (Filled pass segment row place word) =
+    IsOwnRow shape trace pass segment row × (place < 8)
 Suits shape trace (Linked pass request segment row position) =
     let state = bucket_after shape trace (bucket_of shape (key_of request)) in
     IsOwnRow shape trace pass segment row
@@ -93,22 +109,41 @@ Suits shape trace (Relinked pass key from from_row segment row position) =
     × (state.items position ≡ item (slot key from from_row))
 Suits shape trace (Unlinked pass key position why) =
     let state = bucket_after shape trace (bucket_of shape key) in
-    (named : Slot) × (state.items position ≡ item named) × (named.key ≡ key) × MayLeave why state.written named.segment
+    (named : Slot)
+    × (state.items position ≡ item named)
+    × (named.key ≡ key)
+    × MayLeave why state.written named.segment
 Suits shape trace (Drew pass bucket depth number) =
     let state = bucket_after shape trace bucket in
-    (number ≡ drawn_in trace) × (number < shape.overflow) × (state.spare ≡ None) × (depth ≡ state.chained + 1) × (depth < 4)
+    (number ≡ drawn_in trace)
+    × (number < shape.overflow)
+    × (state.spare ≡ None)
+    × (depth ≡ state.chained + 1)
+    × (depth < 4)
 Suits shape trace (Put pass bucket word) =
     let state = bucket_after shape trace bucket in
-    (number : ℕ) × (state.spare ≡ Some number) × ((named : Slot) × (state.items (last state) ≡ item named) × IsWordOf named word)
+    (number : ℕ)
+    × (state.spare ≡ Some number)
+    × ((named : Slot) × (state.items (last state) ≡ item named) × IsWordOf named word)
 Suits shape trace (Chained pass bucket number) =
     let state = bucket_after shape trace bucket in
-    (state.spare ≡ Some number) × ((named : Slot) × (word : ℕ) × (state.items (last state) ≡ item named) × (state.items (fresh_position state) ≡ copy word))
-Suits shape trace (Bumped pass segment row frequency) = (frequency_of trace segment row < frequency) × (frequency < 256)
+    (state.spare ≡ Some number)
+    × ((named : Slot) × (word : ℕ) × (state.items (last state) ≡ item named)
+    × (state.items (fresh_position state) ≡ copy word))
+Suits shape trace (Bumped pass segment row frequency) =
+    (frequency_of trace segment row < frequency) × (frequency < 256)
 Suits shape trace (Entered pass segment) =
-    (pass < shape.passes) × IsSegment shape segment × (inside trace pass segment < 2) × (was_used trace segment ≡ true)
-Suits shape trace (Left pass segment) = (pass < shape.passes) × IsSegment shape segment × (0 < inside trace pass segment)
+    (pass < shape.passes)
+    × IsSegment shape segment
+    × (inside trace pass segment < 2)
+    × (was_used trace segment ≡ true)
+Suits shape trace (Left pass segment) =
+    (pass < shape.passes) × IsSegment shape segment × (0 < inside trace pass segment)
 Suits shape trace (Refilled pass segment deadline) =
-    IsSegment shape segment × (owner shape segment ≡ pass) × (readers trace segment ≡ 0) × (deadline < 2 ^ 32)
+    IsSegment shape segment
+    × (owner shape segment ≡ pass)
+    × (readers trace segment ≡ 0)
+    × (deadline < 2 ^ 32)
 
 -- the event may come next
 pub record Fits (shape : Shape) (trace : List Event) (event : Event) : Type 0 where
@@ -124,7 +159,8 @@ IsLawful shape (event ∷ trace) = IsLawful shape trace × Fits shape trace even
 -- none of the events is of the bucket
 abbrev pub NoneAt : Shape → ℕ → List Event → Type 0
 NoneAt shape bucket [] = Unit {0}
-NoneAt shape bucket (event ∷ trace) = (is (bucket_at shape event) bucket ≡ false) × NoneAt shape bucket trace
+NoneAt shape bucket (event ∷ trace) =
+    (is (bucket_at shape event) bucket ≡ false) × NoneAt shape bucket trace
 
 -- whether an event asks of the words what its pass can't know before the moment itself
 abbrev pub is_of_now : Event → Bool

@@ -20,5 +20,6 @@ home bucket depth = record { bucket = bucket; depth = depth }
 -- the home of an overflow bucket that is drawn
 abbrev pub home_of : List Event → ℕ → Option Home
 home_of [] number = None
-home_of (Drew pass bucket depth drawn ∷ trace) number = if drawn == number then Some (home bucket depth) else home_of trace number
+home_of (Drew pass bucket depth drawn ∷ trace) number =
+    if drawn == number then Some (home bucket depth) else home_of trace number
 home_of (_ ∷ trace) number = home_of trace number

@@ -56,7 +56,8 @@ abbrev pub SoughtGone : Shape → Sought → List Event → Type 0
 SoughtGone shape (key_item key) trace = KeyGone shape key trace
 SoughtGone shape (row_item bucket segment row) trace = RowGone shape segment row trace
 
--- between two moments what is sought was gone at some point, or at the second it is at this position or later
+-- between two moments what is sought was gone at some point,
+-- or at the second it is at this position or later
 abbrev pub SoughtAhead : Shape → Sought → ℕ → List Event → List Event → Type 0
 SoughtAhead shape sought position old new =
     Ahead (SoughtAt shape sought) (SoughtGone shape sought) position old new

@@ -1,4 +1,5 @@
--- Worlds: the words of the table, the passes' views and the trace; the rule that they keep; and the worlds that schedules of steps reach.
+-- Worlds: the words of the table, the passes' views and the trace; the rule that they keep;
+-- and the worlds that schedules of steps reach.
 use Rattle.std.specs.Prelude.{◌≡◌, ℕ, ◌≤◌, List, [], ◌∷◌, ◌++◌, length, slice_index, slice_set}
 use mathlib.Core.Option.{some}
 use lib.ListN.{get_elem?}
@@ -22,19 +23,23 @@ pub record Knows (pass : ℕ) (view : View) (trace : List Event) : Type 0 where
   pub rest : trace ≡ more ++ view.trace
   pub others : NoneBy pass more
 
-pub record Lawful (shape : Shape) (words : List ℕ) (views : List View) (trace : List Event) : Type 0 where
+pub record Lawful (shape : Shape) (words : List ℕ) (views : List View) (trace : List Event)
+    : Type 0 where
   pub valid : IsValid shape
   pub legal : IsLawful shape trace
   -- each word of the table is what the trace makes it
   pub long : length words ≡ word_count shape
-  pub each : (of : Cell) → IsCell shape of → slice_index words (address shape of) ≡ word shape trace of
+  pub each : (of : Cell)
+      → IsCell shape of
+      → slice_index words (address shape of) ≡ word shape trace of
   -- each pass has seen the trace up to some point, from which only others went on
   pub knows : (pass : ℕ) (view : View) → get_elem? views pass ≡ some view → Knows pass view trace
   -- no event is of a pass that isn't there yet
   pub later : (pass : ℕ) → length views ≤ pass → NoneBy pass trace
   pub dealt : (view : View) → get_elem? views 0 ≡ some view → view.dealt ≡ length views
 
--- what a step tells its pass: what others did meanwhile, what it found, and that it added just its own events
+-- what a step tells its pass: what others did meanwhile, what it found,
+-- and that it added just its own events
 pub record Told (shape : Shape) (step : Step) (found : ℕ) (old new : View) : Type 0 where
   pub more : List Event
   pub others : NoneBy old.number more
@@ -60,8 +65,12 @@ pub record IsOpening (shape : Shape) (world : World) : Type 0 where
   pub valid : IsValid shape
   pub untouched : world.trace ≡ []
   pub long : length world.words ≡ word_count shape
-  pub each : (of : Cell) → IsCell shape of → slice_index world.words (address shape of) ≡ word shape [] of
-  pub new : (pass : ℕ) (view : View) → get_elem? world.views pass ≡ some view → IsFresh (length world.views) pass view
+  pub each : (of : Cell)
+      → IsCell shape of
+      → slice_index world.words (address shape of) ≡ word shape [] of
+  pub new : (pass : ℕ) (view : View)
+      → get_elem? world.views pass ≡ some view
+      → IsFresh (length world.views) pass view
 
 -- the world after a step of a pass, whose view was this
 abbrev pub after_step : Shape → ℕ → View → Step → World → World
@@ -74,12 +83,16 @@ after_step shape pass view step world =
       trace = trace;
     }
 
--- the world is reached by these steps of passes, the last one first, each of which its pass may take at that point
+-- the world is reached by these steps of passes, the last one first,
+-- each of which its pass may take at that point
 abbrev pub Reaches : Shape → List (ℕ × Step) → World → Type 0
 Reaches shape [] world = IsOpening shape world
 Reaches shape (taken ∷ steps) world =
-    (old : World) × (view : View) × Reaches shape steps old × (get_elem? old.views taken.0 ≡ some view)
-    × May shape view.trace taken.0 taken.1 × (world ≡ after_step shape taken.0 view taken.1 old)
+    (old : World) × (view : View)
+    × Reaches shape steps old
+    × (get_elem? old.views taken.0 ≡ some view)
+    × May shape view.trace taken.0 taken.1
+    × (world ≡ after_step shape taken.0 view taken.1 old)
 
 abbrev pub IsLawfulWorld : Shape → World → Type 0
 IsLawfulWorld shape world = Lawful shape world.words world.views world.trace
