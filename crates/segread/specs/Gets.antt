@@ -22,37 +22,55 @@ use Rattle.segread.specs.Scanning.{IsPlaceOf, words_below, ComesIn, Tries, Count
 
 -- ---- the answer
 
--- at some moment from one history to a longer one, a gets of the key reads this value and version, or nothing
-abbrev pub ReadsVersionBetween : Shape → List ℕ → ℕ → List Entry → List Entry → Option (List ℕ × ℕ) → Type 0
-ReadsVersionBetween shape key now old new read = (history : List Entry) × IsBetween old new history × (reads_version shape (after shape history) now key ≡ read)
+-- at some moment from one history to a longer one, a gets of the key reads this value and version,
+-- or nothing
+abbrev pub ReadsVersionBetween : Shape → List ℕ → ℕ → List Entry → List Entry → Option (List ℕ × ℕ)
+    → Type 0
+ReadsVersionBetween shape key now old new read =
+    (history : List Entry)
+    × IsBetween old new history
+    × (reads_version shape (after shape history) now key ≡ read)
 
 -- How often the pass was disturbed at the key's bucket: by entries of the bucket that came in,
 -- and by looks of the pass that found the bucket's bit set by another.
 abbrev pub disturbed : Shape → List ℕ → Pass → Pass → ℕ
-disturbed shape key p q = stirred shape key (seen p) (seen q) + (glanced q (bucket_of shape key) - glanced p (bucket_of shape key))
+disturbed shape key p q =
+    stirred shape key (seen p) (seen q)
+    + (glanced q (bucket_of shape key) - glanced p (bucket_of shape key))
 
 -- the key was present at some moment from the one pass to the other
 abbrev pub PresentBetween : Shape → List ℕ → ℕ → Pass → Pass → Type 0
-PresentBetween shape key now p q = (value : List ℕ) × ReadsBetween shape key now (seen p) (seen q) (Some value)
+PresentBetween shape key now p q =
+    (value : List ℕ) × ReadsBetween shape key now (seen p) (seen q) (Some value)
 
--- 64 entries of the key's bucket came in; or the key was present, and with the looks that found the bit they are 64
+-- 64 entries of the key's bucket came in; or the key was present,
+-- and with the looks that found the bit they are 64
 abbrev pub IsDisturbed : Shape → List ℕ → ℕ → Pass → Pass → Type 0
-IsDisturbed shape key now p q = (64 ≤ stirred shape key (seen p) (seen q)) ⊎ ((64 ≤ disturbed shape key p q) × PresentBetween shape key now p q)
+IsDisturbed shape key now p q =
+    (64 ≤ stirred shape key (seen p) (seen q))
+    ⊎ ((64 ≤ disturbed shape key p q) × PresentBetween shape key now p q)
 
 -- the key was present, and its bucket is locked by the pass itself
 abbrev pub PresentLocked : Shape → List ℕ → ℕ → Pass → Pass → Type 0
-PresentLocked shape key now p q = (locked_of p ≡ Some (bucket_of shape key)) × PresentBetween shape key now p q
+PresentLocked shape key now p q =
+    (locked_of p ≡ Some (bucket_of shape key)) × PresentBetween shape key now p q
 
--- A gets answers as a cache of one thread does at some moment of the call. It is Busy only if the pass was disturbed
+-- A gets answers as a cache of one thread does at some moment of the call.
+-- It is Busy only if the pass was disturbed
 -- 64 times, or if the key was present and the pass itself has its bucket locked.
 abbrev pub IsGetsAnswer : Shape → List ℕ → ℕ → GetsAnswer → Pass → Pass → Type 0
-IsGetsAnswer shape key now (gets.Found value version) p q = ReadsVersionBetween shape key now (seen p) (seen q) (Some (value, version))
+IsGetsAnswer shape key now (gets.Found value version) p q =
+    ReadsVersionBetween shape key now (seen p) (seen q) (Some (value, version))
 IsGetsAnswer shape key now gets.Miss p q = ReadsBetween shape key now (seen p) (seen q) None
-IsGetsAnswer shape key now gets.Busy p q = IsDisturbed shape key now p q ⊎ PresentLocked shape key now p q
+IsGetsAnswer shape key now gets.Busy p q =
+    IsDisturbed shape key now p q ⊎ PresentLocked shape key now p q
 
--- A gets of a key has this answer. The gets changes nothing, takes no bit, draws no overflow bucket,
--- and raises a frequency only by a hit. It finds nothing in a bucket that the pass itself has locked.
-pub record ReadsVersion (b : Board) (key : List ℕ) (draw now : ℕ) (told : GetsAnswer) (p q : Pass) : Type 0 where
+-- A gets of a key has this answer.
+-- The gets changes nothing, takes no bit, draws no overflow bucket,
+-- and raises a frequency only by a hit.
+-- It finds nothing in a bucket that the pass itself has locked.
+pub record ReadsVersion (b : Board) (key : List ℕ) (draw now : ℕ) (told : GetsAnswer) (p q : Pass)
+    : Type 0 where
   pub on : GoesOn b p q
   pub keeps : ChangesNothing p q
   pub takes_no_bit : TakesNoBit p q
@@ -69,17 +87,22 @@ pub record ReadsVersion (b : Board) (key : List ℕ) (draw now : ℕ) (told : Ge
 abbrev pub HasNoBit : Shape → List ℕ → Pass → Type 0
 HasNoBit shape key p = ¬ (HasBit shape (trace p) (number p) (bucket_of shape key))
 
--- The tries that were counted, from `some` to `more`, are at most as many as the disturbances at the key's bucket.
+-- The tries that were counted, from `some` to `more`,
+-- are at most as many as the disturbances at the key's bucket.
 -- They are at most as many as its entries, unless the key was present at some moment between.
 abbrev pub Disturbs : Shape → List ℕ → ℕ → ℕ → ℕ → Pass → Pass → Type 0
 Disturbs shape key now some more p q =
     let bucket = bucket_of shape key in
-    Begins (seen p) (seen q) × (entries_of shape bucket (seen p) + glanced p bucket + more ≤ entries_of shape bucket (seen q) + glanced q bucket + some)
+    Begins (seen p) (seen q)
+    × (entries_of shape bucket (seen p) + glanced p bucket + more
+    ≤ entries_of shape bucket (seen q) + glanced q bucket + some)
     × (CountsTries shape key some more (trace p) (trace q) ⊎ PresentBetween shape key now p q)
 
 -- A search that still had the key ahead ended: at some moment since it began, the key read nothing.
 pub record IsMissed (shape : Shape) (key : List ℕ) (now from tries : ℕ) (p q : Pass) : Type 0 where
-  pub missed : (start : List Event) → Begins start (trace p) → KeyAhead shape key from start (trace p)
+  pub missed : (start : List Event)
+      → Begins start (trace p)
+      → KeyAhead shape key from start (trace p)
       → ReadsBetween shape key now (event.seen start) (seen q) None
   pub tried : Tries from 32 tries 63 p q
 
@@ -87,35 +110,44 @@ pub record IsMissed (shape : Shape) (key : List ℕ) (now from tries : ℕ) (p q
 
 -- The key's item was found, and the pass is still in the item's segment.
 -- The pass looked at the bucket's information, and after that at the word in the item's place.
-pub record IsSeen (b : Board) (key : List ℕ) (now from tries : ℕ) (hit : Hit) (value : List ℕ) (info : Info) (word : ℕ) (p q : Pass) : Type 0 where
+pub record IsSeen (b : Board) (key : List ℕ) (now from tries : ℕ) (hit : Hit) (value : List ℕ)
+    (info : Info) (word : ℕ) (p q : Pass) : Type 0 where
   pub reads : IsReaderIn b p q hit.item.seg
   pub in_table : IsSegment b.shape hit.item.seg
   pub few : hit.tries < 64
   pub place : IsPlaceOf b.shape (trace q) key hit.place
   pub tried : Tries from (position b.shape (trace q) hit.place) tries (hit.tries + 1) p q
-  pub onward : words_below from + tries ≤ words_below (position b.shape (trace q) hit.place) + hit.tries
-  pub brings : AdvancesSearch b.shape key from (position b.shape (trace q) hit.place) (trace p) (trace q)
+  pub onward : words_below from + tries
+      ≤ words_below (position b.shape (trace q) hit.place) + hit.tries
+  pub brings : AdvancesSearch b.shape key from (position b.shape (trace q) hit.place) (trace p)
+      (trace q)
   pub counted : CountsTries b.shape key tries hit.tries (trace p) (trace q)
   pub stood : PresentBetween b.shape key now p q
   pub stands : word ≡ word_of_place b.shape (trace q) hit.place
   -- the bit was set
-  pub glanced : info.held ≡ true → glanced p (bucket_of b.shape key) + 1 ≤ glanced q (bucket_of b.shape key)
+  pub glanced : info.held ≡ true
+      → glanced p (bucket_of b.shape key) + 1 ≤ glanced q (bucket_of b.shape key)
   -- another item stood there
   pub changed : ¬ (IsSameItem (item_word hit.item) word) → 1 ≤ tag_part word
       → CountsTries b.shape key tries (hit.tries + 1) (trace p) (trace q)
   -- the bit was clear, and the item stood there still
   pub version : info.held ≡ false → IsSameItem (item_word hit.item) word
       → ReadsVersionBetween b.shape key now (seen p) (seen q) (Some (value, info.version))
-  pub found : info.held ≡ false → FoundItem b.shape hit.place (item_word hit.item) key value (trace p) (trace q)
+  pub found : info.held ≡ false
+      → FoundItem b.shape hit.place (item_word hit.item) key value (trace p) (trace q)
 
 abbrev pub IsVersionSight : Board → List ℕ → ℕ → ℕ → ℕ → Sight → Pass → Pass → Type 0
-IsVersionSight b key now from tries (sight.Found hit value info word) p q = IsSeen b key now from tries hit value info word p q
-IsVersionSight b key now from tries sight.Absent p q = IsReader b p q × IsMissed b.shape key now from tries p q
-IsVersionSight b key now from tries sight.Busy p q = IsReader b p q × GivesUp b.shape key from tries p q
+IsVersionSight b key now from tries (sight.Found hit value info word) p q =
+    IsSeen b key now from tries hit value info word p q
+IsVersionSight b key now from tries sight.Absent p q =
+    IsReader b p q × IsMissed b.shape key now from tries p q
+IsVersionSight b key now from tries sight.Busy p q =
+    IsReader b p q × GivesUp b.shape key from tries p q
 
 -- The next scan goes on from this place, with this count of tries.
 -- The words that were passed and the tries that were counted are together more than before.
-pub record MovesOn (shape : Shape) (key : List ℕ) (now from tries : ℕ) (next : Place) (counted : ℕ) (p q : Pass) : Type 0 where
+pub record MovesOn (shape : Shape) (key : List ℕ) (now from tries : ℕ) (next : Place) (counted : ℕ)
+    (p q : Pass) : Type 0 where
   pub few : counted ≤ 64
   pub place : IsPlaceOf shape (trace q) key next
   pub disturbs : Disturbs shape key now tries counted p q
@@ -128,6 +160,9 @@ abbrev pub IsAttempt : Shape → List ℕ → ℕ → ℕ → ℕ → ℕ → At
 IsAttempt shape key now draw from tries (attempt.Told (gets.Found value version)) p q =
     ReadsVersionBetween shape key now (seen p) (seen q) (Some (value, version))
     × RaisesOne shape key value draw p q × ComesIn from 32 tries 63 p q
-IsAttempt shape key now draw from tries (attempt.Told gets.Miss) p q = IsMissed shape key now from tries p q
-IsAttempt shape key now draw from tries (attempt.Told gets.Busy) p q = Disturbs shape key now tries 64 p q × Tries from 32 tries 63 p q
-IsAttempt shape key now draw from tries (attempt.GoesOn place counted) p q = MovesOn shape key now from tries place counted p q
+IsAttempt shape key now draw from tries (attempt.Told gets.Miss) p q =
+    IsMissed shape key now from tries p q
+IsAttempt shape key now draw from tries (attempt.Told gets.Busy) p q =
+    Disturbs shape key now tries 64 p q × Tries from 32 tries 63 p q
+IsAttempt shape key now draw from tries (attempt.GoesOn place counted) p q =
+    MovesOn shape key now from tries place counted p q

@@ -1,4 +1,5 @@
--- What readers do beside their answers: how often they come into segments, and which frequency a hit raises.
+-- What readers do beside their answers: how often they come into segments,
+-- and which frequency a hit raises.
 use Rattle.std.specs.Prelude.{◌≡◌, ◌≢◌, ◌<◌, ◌⊎◌, ℕ, ◌+◌, ◌≤◌, true, false, List, ◌∷◌, Some}
 use Rattle.segword.specs.Words.{Item, item_word, Shape}
 use Rattle.segmodel.specs.declared.answer.GetAnswer.TheVariants as get
@@ -17,14 +18,16 @@ abbrev pub TriesFew : Pass → Pass → Type 0
 TriesFew p q = entered q ≤ entered p + 63 + 28
 
 -- at a moment the key's item stands, in this segment and row, with this frequency
-pub record HasFrequency (shape : Shape) (key value : List ℕ) (segment row frequency : ℕ) (at : List Event) : Type 0 where
+pub record HasFrequency (shape : Shape) (key value : List ℕ) (segment row frequency : ℕ)
+    (at : List Event) : Type 0 where
   pub stands : standing (after shape (seen at)) key ≡ Some (cached value segment)
   pub last : last_at (marked at) key ≡ Some (slot key segment row)
   pub had : frequency_in (marked at) segment row ≡ frequency
 
 -- At a moment between two traces the key's item had a frequency at which this draw counts.
 -- The pass raised that frequency by one.
-pub record CountsHit (shape : Shape) (key value : List ℕ) (draw pass : ℕ) (old new : List Event) : Type 0 where
+pub record CountsHit (shape : Shape) (key value : List ℕ) (draw pass : ℕ) (old new : List Event)
+    : Type 0 where
   pub at : List Event
   pub segment : ℕ
   pub row : ℕ
@@ -35,7 +38,8 @@ pub record CountsHit (shape : Shape) (key value : List ℕ) (draw pass : ℕ) (o
   pub raise : Begins (Bumped pass segment row (frequency + 1) ∷ at) new
 
 -- at a moment between two traces the key's item had a frequency at which this draw doesn't count
-pub record PassesHit (shape : Shape) (key value : List ℕ) (draw : ℕ) (old new : List Event) : Type 0 where
+pub record PassesHit (shape : Shape) (key value : List ℕ) (draw : ℕ) (old new : List Event)
+    : Type 0 where
   pub at : List Event
   pub segment : ℕ
   pub row : ℕ
@@ -58,19 +62,25 @@ pub record IsOvertaken (shape : Shape) (key value : List ℕ) (old new : List Ev
   pub other : word_of_place shape later place ≢ word
 
 -- From this trace on the pass raised the frequency of the key's item by one, and the draw counts.
--- Or it raised nothing: the draw doesn't count, or there are several passes and the word changed first.
+-- Or it raised nothing: the draw doesn't count,
+-- or there are several passes and the word changed first.
 abbrev pub RaisesFrom : Shape → List ℕ → List ℕ → ℕ → List Event → Pass → Pass → Type 0
 RaisesFrom shape key value draw before p q =
     ((raised q ≡ raised p + 1) × CountsHit shape key value draw (number p) before (trace q))
-    ⊎ (RaisesNothing p q × (PassesHit shape key value draw before (trace q) ⊎ ((1 < shape.passes) × IsOvertaken shape key value before (trace q))))
+    ⊎ (RaisesNothing p q
+    × (PassesHit shape key value draw before (trace q)
+    ⊎ ((1 < shape.passes) × IsOvertaken shape key value before (trace q))))
 
 abbrev pub RaisesOne : Shape → List ℕ → List ℕ → ℕ → Pass → Pass → Type 0
 RaisesOne shape key value draw p q = RaisesFrom shape key value draw (trace p) p q
 
--- The pass does so with the item at a place, from a moment on at which the item was found for a key.
+-- The pass does so with the item at a place,
+-- from a moment on at which the item was found for a key.
 -- This is so if the pass is in the item's segment.
 abbrev pub RaisesFound : Board → Place → Item → ℕ → Pass → Pass → Type 0
-RaisesFound b place item draw p q = (key value : List ℕ) (before : List Event) → 0 < inside (trace p) (number p) item.seg → FoundItem b.shape place (item_word item) key value before (trace p)
+RaisesFound b place item draw p q = (key value : List ℕ) (before : List Event)
+    → 0 < inside (trace p) (number p) item.seg
+    → FoundItem b.shape place (item_word item) key value before (trace p)
     → RaisesFrom b.shape key value draw before p q
 
 -- a get that hits raises a frequency so, and any other get raises none

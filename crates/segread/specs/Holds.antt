@@ -34,8 +34,10 @@ pub record SetsHold (held : Option Held) (p q : Pass) : Type 0 where
   pub plain : q.plain ≡ with_holding (is_some held) p.plain
   pub memo : memo q ≡ record (memo p) { holding = held }
 
--- The pass holds an item of the key. The item stood at some moment of the call, and was then present at `now`.
-pub record TakesHold (shape : Shape) (key : List ℕ) (now : ℕ) (hold : Hold) (p q : Pass) : Type 0 where
+-- The pass holds an item of the key.
+-- The item stood at some moment of the call, and was then present at `now`.
+pub record TakesHold (shape : Shape) (key : List ℕ) (now : ℕ) (hold : Hold) (p q : Pass)
+    : Type 0 where
   pub is : IsHoldOf shape hold q
   pub of : is.held.key ≡ key
   pub stood : IsStanding shape (event.seen is.held.trace) is.held.key is.held.value is.held.segment
@@ -48,13 +50,16 @@ pub record TakesHold (shape : Shape) (key : List ℕ) (now : ℕ) (hold : Hold) 
 -- a hold takes the item, or answers as a get does and changes nothing
 abbrev pub IsHoldAnswer : Shape → List ℕ → ℕ → HoldAnswer → Pass → Pass → Type 0
 IsHoldAnswer shape key now (hold_answer.Holding hold) p q = TakesHold shape key now hold p q
-IsHoldAnswer shape key now hold_answer.Miss p q = ChangesNothing p q × ReadsBetween shape key now (seen p) (seen q) None
-IsHoldAnswer shape key now hold_answer.Busy p q = ChangesNothing p q × (64 ≤ stirred shape key (seen p) (seen q))
+IsHoldAnswer shape key now hold_answer.Miss p q =
+    ChangesNothing p q × ReadsBetween shape key now (seen p) (seen q) None
+IsHoldAnswer shape key now hold_answer.Busy p q =
+    ChangesNothing p q × (64 ≤ stirred shape key (seen p) (seen q))
 IsHoldAnswer shape key now hold_answer.AlreadyHolding p q = q ≡ p
 
 -- A hold of a key has this answer, which is AlreadyHolding exactly if the pass holds an item.
 -- The hold takes no bit, draws no overflow bucket, and raises no frequency.
-pub record HoldsItem (b : Board) (key : List ℕ) (now : ℕ) (told : HoldAnswer) (p q : Pass) : Type 0 where
+pub record HoldsItem (b : Board) (key : List ℕ) (now : ℕ) (told : HoldAnswer) (p q : Pass)
+    : Type 0 where
   pub on : GoesOn b p q
   pub takes_no_bit : TakesNoBit p q
   pub draws_nothing : DrawsNothing p q
@@ -75,11 +80,13 @@ pub record ReadsHeld (b : Board) (taken : Hold) (told : List ℕ) (p q : Pass) :
 -- none of the entries is a refilling of the segment
 abbrev pub NoneFills : ℕ → List Entry → Type 0
 NoneFills segment [] = Unit {0}
-NoneFills segment (entry ∷ history) = ((pass deadline : ℕ) → entry ≢ Refilled pass segment deadline) × NoneFills segment history
+NoneFills segment (entry ∷ history) =
+    ((pass deadline : ℕ) → entry ≢ Refilled pass segment deadline) × NoneFills segment history
 
 -- the segment of what is held wasn't filled again up to this history
 abbrev pub IsUnfilled : Held → List Entry → Type 0
-IsUnfilled held new = (more : List Entry) × (new ≡ more ++ event.seen held.trace) × NoneFills held.segment more
+IsUnfilled held new =
+    (more : List Entry) × (new ≡ more ++ event.seen held.trace) × NoneFills held.segment more
 
 -- the pass holds nothing, and up to now the segment of what it held wasn't filled again
 pub record Releases (p q : Pass) : Type 0 where

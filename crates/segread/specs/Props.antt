@@ -1,4 +1,5 @@
--- What `IsHoldOf` says has at most one proof, so that a struct may keep it in a ghost field, by { IsHoldOf-prop .. }.
+-- What `IsHoldOf` says has at most one proof, so that a struct may keep it in a ghost field,
+-- by { IsHoldOf-prop .. }.
 use Rattle.std.specs.Prelude.{◌≡◌, ◌<◌, List, Some}
 use Rattle.std.proofs.Common.{sym, ◌∙◌}
 use Rattle.std.proofs.Props.{props}
@@ -18,14 +19,18 @@ pub IsHoldOf-prop : (shape : Shape) (hold : Hold) (p : Pass) → IsProp (IsHoldO
 IsHoldOf-prop shape hold p u v =
     let start = one (u.held, u.holds) (v.held, v.holds) in
     let table : IsProp (IsSegment shape hold.segment × (hold.row < shape.rows)) = hlevel props in
-    let valid : (held : Held) → IsProp (IsKey held.key × IsValue held.value) = hlevel (IsKey-prop, IsValue-prop) in
+    let valid : (held : Held) → IsProp (IsKey held.key × IsValue held.value) =
+    hlevel (IsKey-prop, IsValue-prop) in
     λ i. record {
       held = (start i).0;
       holds = (start i).1;
-      segment = is_prop→PathP (λ j. hold.segment ≡ (start j).0.segment) (λ j. ℕ_set hold.segment (start j).0.segment) u.segment v.segment i;
+      segment = is_prop→PathP (λ j. hold.segment ≡ (start j).0.segment)
+          (λ j. ℕ_set hold.segment (start j).0.segment) u.segment v.segment i;
       in_table = table u.in_table v.in_table i;
-      valid = is_prop→PathP (λ j. IsKey (start j).0.key × IsValue (start j).0.value) (λ j. valid (start j).0) u.valid v.valid i;
-      row = is_prop→PathP (λ j. IsRowOf (start j).0.trace hold (start j).0) (λ j. IsRowOf-prop _ hold (start j).0) u.row v.row i;
+      valid = is_prop→PathP (λ j. IsKey (start j).0.key × IsValue (start j).0.value)
+          (λ j. valid (start j).0) u.valid v.valid i;
+      row = is_prop→PathP (λ j. IsRowOf (start j).0.trace hold (start j).0)
+          (λ j. IsRowOf-prop _ hold (start j).0) u.row v.row i;
     }
   where
     one : IsProp ((held : Held) × (holding p ≡ Some held))

@@ -1,4 +1,5 @@
--- What a get answers: what a cache of one thread answers at some moment of the call. What a get changes and costs.
+-- What a get answers: what a cache of one thread answers at some moment of the call.
+-- What a get changes and costs.
 use Rattle.std.specs.Prelude.{◌≡◌, ℕ, ◌≤◌, List, Option, Some, None}
 use Rattle.segword.specs.Words.{Shape}
 use Rattle.segmodel.specs.declared.answer.GetAnswer.TheVariants as get
@@ -11,18 +12,23 @@ use Rattle.segread.specs.Hits.{TriesFew, GetRaises}
 
 -- at some moment from one history to a longer one, a get of the key reads this value, or nothing
 abbrev pub ReadsBetween : Shape → List ℕ → ℕ → List Entry → List Entry → Option (List ℕ) → Type 0
-ReadsBetween shape key now old new read = (history : List Entry) × IsBetween old new history × (reads (after shape history) now key ≡ read)
+ReadsBetween shape key now old new read =
+    (history : List Entry)
+    × IsBetween old new history
+    × (reads (after shape history) now key ≡ read)
 
 -- A get answers as a cache of one thread does at some moment of the call.
 -- It is Busy only if 64 entries of the key's bucket came in meanwhile.
 abbrev pub IsGetAnswer : Shape → List ℕ → ℕ → GetAnswer → List Entry → List Entry → Type 0
-IsGetAnswer shape key now (get.Found value) old new = ReadsBetween shape key now old new (Some value)
+IsGetAnswer shape key now (get.Found value) old new =
+    ReadsBetween shape key now old new (Some value)
 IsGetAnswer shape key now get.Miss old new = ReadsBetween shape key now old new None
 IsGetAnswer shape key now get.Busy old new = 64 ≤ stirred shape key old new
 
 -- A get of a key has this answer. The get changes nothing, takes no bit, draws no overflow bucket,
 -- and raises a frequency only by a hit.
-pub record ReadsKey (b : Board) (key : List ℕ) (draw now : ℕ) (told : GetAnswer) (p q : Pass) : Type 0 where
+pub record ReadsKey (b : Board) (key : List ℕ) (draw now : ℕ) (told : GetAnswer) (p q : Pass)
+    : Type 0 where
   pub on : GoesOn b p q
   pub keeps : ChangesNothing p q
   pub takes_no_bit : TakesNoBit p q

@@ -1,5 +1,5 @@
--- A reader's way along the chain of a key, without the bucket's bit: what its looks found, how many tries it counted,
--- and how often it came into segments.
+-- A reader's way along the chain of a key, without the bucket's bit: what its looks found,
+-- how many tries it counted, and how often it came into segments.
 use Rattle.std.specs.Prelude.{◌≡◌, ◌⊎◌, ℕ, ◌+◌, ◌-◌, ◌/◌, ◌<◌, ◌≤◌, List, Option, Some, None}
 use Rattle.segword.specs.Words.{chain_word, IsChainWord, Shape}
 use Rattle.segmodel.specs.Words.{after, Begins, bucket_of, entries_of}
@@ -24,16 +24,20 @@ place_of bucket word = record { bucket = bucket; word = word }
 
 -- the place is an item word of the key's chain
 abbrev pub IsPlaceOf : Shape → List Event → List ℕ → Place → Type 0
-IsPlaceOf shape trace key place = IsChained shape trace place × (home_bucket shape trace place ≡ bucket_of shape key)
+IsPlaceOf shape trace key place =
+    IsChained shape trace place × (home_bucket shape trace place ≡ bucket_of shape key)
 
 -- the place after one at which this word stood, if the chain has one
 abbrev pub IsPlaceAfter : Shape → Place → ℕ → Option Place → Type 0
 IsPlaceAfter shape place word (Some next) =
     ((place.word < 7) × (next ≡ place_of place.bucket (place.word + 1)))
-    ⊎ ((7 ≤ place.word) × ((number : ℕ) × (number < 65536) × (chain_word number ≡ word) × (next ≡ place_of (shape.buckets + number) 1)))
+    ⊎ ((7 ≤ place.word)
+    × ((number : ℕ) × (number < 65536) × (chain_word number ≡ word)
+    × (next ≡ place_of (shape.buckets + number) 1)))
 IsPlaceAfter shape place word None = (7 ≤ place.word) × ¬ (IsChainWord word)
 
--- how many item words of a chain come before a position: seven of each bucket; every chain ends before position 32
+-- how many item words of a chain come before a position: seven of each bucket;
+-- every chain ends before position 32
 abbrev pub words_below : ℕ → ℕ
 words_below at = at - 1 - (at - 1) / 8
 
@@ -69,7 +73,8 @@ HasDeadline shape segment deadline trace = (after shape (seen trace)).deadline s
 
 -- if the item is the key's, the deadline is that of its segment
 abbrev pub TellsDeadline : Shape → Trial → List Event → Type 0
-TellsDeadline shape (trial.Same item header deadline) trace = HasDeadline shape item.seg deadline trace
+TellsDeadline shape (trial.Same item header deadline) trace =
+    HasDeadline shape item.seg deadline trace
 TellsDeadline shape (trial.Other item) trace = Unit {0}
 TellsDeadline shape (trial.Changed word) trace = Unit {0}
 
@@ -82,9 +87,11 @@ IsTry p q = (entered q ≡ entered p + 1) × RaisesNothing p q
 -- The pass came into segments at most once for each try that was counted, from `some` to `more`,
 -- and once for each word from one position up to another.
 abbrev pub ComesIn : ℕ → ℕ → ℕ → ℕ → Pass → Pass → Type 0
-ComesIn from to some more p q = entered q + words_below from + some ≤ entered p + words_below to + more
+ComesIn from to some more p q =
+    entered q + words_below from + some ≤ entered p + words_below to + more
 
--- the pass came in no more often than that, and raised no frequency; words and tries together are no fewer than before
+-- the pass came in no more often than that, and raised no frequency;
+-- words and tries together are no fewer than before
 pub record Tries (from to some more : ℕ) (p q : Pass) : Type 0 where
   pub comes_in : ComesIn from to some more p q
   pub onward : words_below from + some ≤ words_below to + more
@@ -92,36 +99,49 @@ pub record Tries (from to some more : ℕ) (p q : Pass) : Type 0 where
 
 -- ---- what was found
 
--- The tries that were counted, from `some` to `more`, are at most as many as entries of the key's bucket came in.
+-- The tries that were counted, from `some` to `more`,
+-- are at most as many as entries of the key's bucket came in.
 abbrev pub CountsTries : Shape → List ℕ → ℕ → ℕ → List Event → List Event → Type 0
-CountsTries shape key some more old new = entries_of shape (bucket_of shape key) (seen old) + more ≤ entries_of shape (bucket_of shape key) (seen new) + some
+CountsTries shape key some more old new =
+    entries_of shape (bucket_of shape key) (seen old) + more
+    ≤ entries_of shape (bucket_of shape key) (seen new) + some
 
 -- A search for the key goes on from one position of the chain to another.
--- If the key was gone, or stands at the one or later, then it was gone, or stands at the other or later.
+-- If the key was gone, or stands at the one or later, then it was gone,
+-- or stands at the other or later.
 abbrev pub AdvancesSearch : Shape → List ℕ → ℕ → ℕ → List Event → List Event → Type 0
-AdvancesSearch shape key from to old new = (start : List Event) → Begins start old → KeyAhead shape key from start old → KeyAhead shape key to start new
+AdvancesSearch shape key from to old new = (start : List Event)
+    → Begins start old
+    → KeyAhead shape key from start old
+    → KeyAhead shape key to start new
 
 -- The pass looked at the words from one position up to another, and none was the key's.
 -- The last of them, at this place, was this word.
-pub record HasPassed (shape : Shape) (key : List ℕ) (from to : ℕ) (place : Place) (word : ℕ) (old new : List Event) : Type 0 where
+pub record HasPassed (shape : Shape) (key : List ℕ) (from to : ℕ) (place : Place) (word : ℕ)
+    (old new : List Event) : Type 0 where
   pub last : SawWord shape place word old new
   pub brings : AdvancesSearch shape key from to old last.at
 
 -- ---- what looks along the key's chain found, from a position on, after some tries were counted
 
--- The key's item was found, and the deadline of its segment. The tries were counted before it stood there.
+-- The key's item was found, and the deadline of its segment.
+-- The tries were counted before it stood there.
 -- A search for the key may go on from the item's place.
-pub record IsHit (shape : Shape) (key : List ℕ) (from tries : ℕ) (hit : Hit) (p q : Pass) : Type 0 where
+pub record IsHit (shape : Shape) (key : List ℕ) (from tries : ℕ) (hit : Hit) (p q : Pass)
+    : Type 0 where
   pub found : FoundKey shape hit.place hit.item hit.header key (trace p) (trace q)
   pub deadline : HasDeadline shape hit.item.seg hit.deadline (trace q)
   pub few : hit.tries < 64
   pub counted : CountsTries shape key tries hit.tries (trace p) found.found.saw.at
   pub tried : Tries from (position shape (trace q) hit.place) tries (hit.tries + 1) p q
-  pub onward : words_below from + tries ≤ words_below (position shape (trace q) hit.place) + hit.tries
-  pub brings : AdvancesSearch shape key from (position shape (trace q) hit.place) (trace p) (trace q)
+  pub onward : words_below from + tries
+      ≤ words_below (position shape (trace q) hit.place) + hit.tries
+  pub brings : AdvancesSearch shape key from (position shape (trace q) hit.place) (trace p)
+      (trace q)
 
 -- none of the words up to a position was the key's; the last of them is at this place
-pub record IsPast (shape : Shape) (key : List ℕ) (from to tries counted : ℕ) (last : Place) (word : ℕ) (p q : Pass) : Type 0 where
+pub record IsPast (shape : Shape) (key : List ℕ) (from to tries counted : ℕ) (last : Place)
+    (word : ℕ) (p q : Pass) : Type 0 where
   pub few : counted < 64
   pub counts : CountsTries shape key tries counted (trace p) (trace q)
   pub tried : Tries from to tries counted p q
@@ -132,7 +152,8 @@ pub record GivesUp (shape : Shape) (key : List ℕ) (from tries : ℕ) (p q : Pa
   pub counts : CountsTries shape key tries 64 (trace p) (trace q)
   pub tried : Tries from 32 tries 63 p q
 
--- The chain ended. If a search still had the key ahead, the key was gone at some moment since the search began.
+-- The chain ended.
+-- If a search still had the key ahead, the key was gone at some moment since the search began.
 pub record IsEnded (shape : Shape) (key : List ℕ) (from tries : ℕ) (p q : Pass) : Type 0 where
   pub gone : (start : List Event) → Begins start (trace p) → KeyAhead shape key from start (trace p)
       → WasGone (KeyGone shape key) start (trace q)
@@ -141,7 +162,8 @@ pub record IsEnded (shape : Shape) (key : List ℕ) (from tries : ℕ) (p q : Pa
 -- looks from one position up to another
 abbrev pub IsWay : Shape → List ℕ → ℕ → ℕ → Place → ℕ → Way → Pass → Pass → Type 0
 IsWay shape key from to last tries (way.Found hit) p q = IsHit shape key from tries hit p q
-IsWay shape key from to last tries (way.Passed word counted) p q = IsPast shape key from to tries counted last word p q
+IsWay shape key from to last tries (way.Passed word counted) p q =
+    IsPast shape key from to tries counted last word p q
 IsWay shape key from to last tries way.Busy p q = GivesUp shape key from tries p q
 
 -- looks up to the chain's end
@@ -152,6 +174,8 @@ IsScanFrom shape key from tries scan.Busy p q = GivesUp shape key from tries p q
 
 -- a scan of the whole chain
 abbrev pub IsScanAnswer : Shape → List ℕ → Scan → List Event → List Event → Type 0
-IsScanAnswer shape key (scan.Found hit) old new = FoundKey shape hit.place hit.item hit.header key old new × HasDeadline shape hit.item.seg hit.deadline new
+IsScanAnswer shape key (scan.Found hit) old new =
+    FoundKey shape hit.place hit.item hit.header key old new
+    × HasDeadline shape hit.item.seg hit.deadline new
 IsScanAnswer shape key scan.Absent old new = WasGone (KeyGone shape key) old new
 IsScanAnswer shape key scan.Busy old new = CountsTries shape key 0 64 old new
