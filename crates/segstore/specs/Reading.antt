@@ -13,7 +13,10 @@ pub record OnlyLooks (b : Board) (p q : Pass) : Type 0 where
 
 -- the row is one of the table, and the pass may read it: no one changes it meanwhile
 abbrev pub IsReadable : Board → Pass → ℕ → ℕ → Type 0
-IsReadable b p segment row = IsSegment b.shape segment × (row < b.shape.rows) × MayRead b.shape (trace p) (number p) segment row
+IsReadable b p segment row =
+    IsSegment b.shape segment
+    × (row < b.shape.rows)
+    × MayRead b.shape (trace p) (number p) segment row
 
 -- the pass only looked, the row is as it was, and the pass may go on reading it
 pub record ReadsRow (b : Board) (p q : Pass) (segment row : ℕ) : Type 0 where

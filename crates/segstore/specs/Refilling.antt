@@ -18,7 +18,8 @@ pub record Idles (b : Board) (p q : Pass) : Type 0 where
 -- the segment is in use and current, with no row used and with this deadline; the rest is as it was
 abbrev pub refilled : ℕ → ℕ → Plain → Plain
 refilled segment deadline plain =
-    with_current (Some segment) (with_deadline segment deadline (with_used segment 0 (with_state segment InUse plain)))
+    with_current (Some segment)
+    (with_deadline segment deadline (with_used segment 0 (with_state segment InUse plain)))
 
 -- the segment, one of the pass's own, was refilled
 pub record FillsAnew (b : Board) (segment deadline : ℕ) (p q : Pass) : Type 0 where
@@ -33,4 +34,5 @@ abbrev pub IsOutcome : Board → ℕ → ℕ → RefillAnswer → Pass → Pass 
 IsOutcome b segment deadline Refilled p q = FillsAnew b segment deadline p q
 IsOutcome b segment deadline NotYours p q = q ≡ p
 IsOutcome b segment deadline NotEvicted p q = q ≡ p
-IsOutcome b segment deadline Held p q = Idles b p q × ((other : ℕ) × (0 < inside (trace q) other segment))
+IsOutcome b segment deadline Held p q =
+    Idles b p q × ((other : ℕ) × (0 < inside (trace q) other segment))

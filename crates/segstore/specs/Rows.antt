@@ -8,7 +8,8 @@ use Rattle.segbase.specs.Words.{AddsEvents, Board, number, Pass}
 -- the pass stored the first words into the row, one after another
 unfoldable pub fills : ℕ → ℕ → ℕ → List ℕ → ℕ → List Event
 fills pass segment row words zero = []
-fills pass segment row words (suc place) = Filled pass segment row place (slice_index words place) ∷ fills pass segment row words place
+fills pass segment row words (suc place) =
+    Filled pass segment row place (slice_index words place) ∷ fills pass segment row words place
 
 -- the pass stored these eight words into the row, and did nothing else
 abbrev pub StoresRow : Board → ℕ → ℕ → List ℕ → Pass → Pass → Type 0

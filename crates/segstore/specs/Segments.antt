@@ -11,13 +11,21 @@ pub record KeepsSegments (b : Board) (p : Pass) : Type 0 where
   -- no more rows are used than a segment has
   pub few : (segment used : ℕ) → used_of p segment ≡ Some used → used ≤ b.shape.rows
   -- the rows that an item was linked or moved to in this filling are the used ones
-  pub rows : (segment used row : ℕ) → used_of p segment ≡ Some used → row < b.shape.rows → is_some (row_after (trace p) segment row).linked ≡ nat_lt row used
+  pub rows : (segment used row : ℕ)
+      → used_of p segment ≡ Some used
+      → row < b.shape.rows
+      → is_some (row_after (trace p) segment row).linked ≡ nat_lt row used
   -- the deadline of a segment is the one that the pass knows
-  pub deadlines : (segment deadline : ℕ) → deadline_of p segment ≡ Some deadline → (after b.shape (seen p)).deadline segment ≡ deadline
+  pub deadlines : (segment deadline : ℕ)
+      → deadline_of p segment ≡ Some deadline
+      → (after b.shape (seen p)).deadline segment ≡ deadline
   -- the segment that the pass stores into is in use
   pub in_use : (segment : ℕ) → current_of p ≡ Some segment → state_of p segment ≡ Some InUse
   -- no key stands in a segment that isn't in use
-  pub unused : (segment : ℕ) (state : SegState) → state_of p segment ≡ Some state → state ≢ InUse → NoneStandsIn (after b.shape (seen p)) segment
+  pub unused : (segment : ℕ) (state : SegState)
+      → state_of p segment ≡ Some state
+      → state ≢ InUse
+      → NoneStandsIn (after b.shape (seen p)) segment
 
 -- how many rows of the current segment are used, if there is a current one
 abbrev pub used_now : Pass → Option ℕ
