@@ -13,9 +13,11 @@ use Rattle.segbase.specs.Words.{drew, number, Pass, trace}
 -- a new key finds no empty word: all words of its bucket's chain are taken
 pub record HasNoWord (shape : Shape) (marks : List Mark) (key : List ℕ) : Type 0 where
   pub new : standing (after shape (entries marks)) key ≡ None
-  pub full : keys_in shape (after shape (entries marks)) (bucket_of shape key) ≡ 6 * width marks (bucket_of shape key) + 1
+  pub full : keys_in shape (after shape (entries marks)) (bucket_of shape key)
+      ≡ 6 * width marks (bucket_of shape key) + 1
 
--- a new key finds no empty word, and the chain can't grow: it has four buckets, or no overflow bucket is left
+-- a new key finds no empty word, and the chain can't grow: it has four buckets,
+-- or no overflow bucket is left
 pub record IsFull (shape : Shape) (marks : List Mark) (key : List ℕ) : Type 0 where
   pub no_word : HasNoWord shape marks key
   pub last : (width marks (bucket_of shape key) ≡ 4) ⊎ (all_drawn marks ≡ shape.overflow)
@@ -34,7 +36,8 @@ pub record CanGrow (shape : Shape) (marks : List Mark) (key : List ℕ) : Type 0
 
 -- Between one trace and a longer one, the pass drew an overflow bucket for the bucket of a key.
 -- At that moment the key was new and found no empty word, and the chain could grow.
-pub record DrewInNeed (shape : Shape) (key : List ℕ) (pass : ℕ) (old new : List Event) : Type 0 where
+pub record DrewInNeed (shape : Shape) (key : List ℕ) (pass : ℕ) (old new : List Event)
+    : Type 0 where
   pub at : List Event
   pub depth : ℕ
   pub overflow : ℕ
@@ -42,9 +45,15 @@ pub record DrewInNeed (shape : Shape) (key : List ℕ) (pass : ℕ) (old new : L
   pub draw : Begins (Drew pass (bucket_of shape key) depth overflow ∷ at) new
   pub could : CanGrow shape (mark.marked at) key
 
--- For the bucket of the request's key the pass drew one overflow bucket at most, and for other buckets none.
+-- For the bucket of the request's key the pass drew one overflow bucket at most,
+-- and for other buckets none.
 -- It drew one only if that was needed, for a request that adds keys.
 pub record GrowsFor (shape : Shape) (request : Request) (p q : Pass) : Type 0 where
-  pub others : (bucket : ℕ) → bucket ≢ bucket_of shape (key_of request) → drew q bucket ≡ drew p bucket
+  pub others : (bucket : ℕ)
+      → bucket ≢ bucket_of shape (key_of request)
+      → drew q bucket ≡ drew p bucket
   pub own : (drew q (bucket_of shape (key_of request)) ≡ drew p (bucket_of shape (key_of request)))
-      ⊎ ((drew q (bucket_of shape (key_of request)) ≡ drew p (bucket_of shape (key_of request)) + 1) × (adds_key request false ≡ true) × DrewInNeed shape (key_of request) (number p) (trace p) (trace q))
+      ⊎ ((drew q (bucket_of shape (key_of request))
+      ≡ drew p (bucket_of shape (key_of request)) + 1)
+      × (adds_key request false ≡ true)
+      × DrewInNeed shape (key_of request) (number p) (trace p) (trace q))

@@ -12,13 +12,15 @@ use Rattle.segpass.specs.Words.{memo, peek}
 use Rattle.segwrite.specs.declared.find.Target.{Target}
 use Rattle.segwrite.specs.Writing.{own_word}
 
--- whether the answer to the request depends on whether its key is present: only a set is stored in any case
+-- whether the answer to the request depends on whether its key is present:
+-- only a set is stored in any case
 abbrev pub depends_on_key : Request → Bool
 depends_on_key (Set key value now) = false
 depends_on_key request = true
 
 -- between two traces the pass came into this segment, and the key stood there at that moment
-pub record CameIn (shape : Shape) (key : List ℕ) (pass segment : ℕ) (old new : List Event) : Type 0 where
+pub record CameIn (shape : Shape) (key : List ℕ) (pass segment : ℕ) (old new : List Event)
+    : Type 0 where
   pub at : List Event
   pub since : Begins old at
   pub until : Begins (Entered pass segment ∷ at) new
@@ -33,7 +35,8 @@ pub record Peeks (b : Board) (key : List ℕ) (p q : Pass) : Type 0 where
   pub plain : q.plain ≡ p.plain
   pub memo : memo q ≡ memo p
 
--- the pass looked so for a request; it came into no segment for one that doesn't depend on the key's presence
+-- the pass looked so for a request;
+-- it came into no segment for one that doesn't depend on the key's presence
 pub record PeeksFor (b : Board) (request : Request) (p q : Pass) : Type 0 where
   pub peeks : Peeks b (key_of request) p q
   pub none : depends_on_key request ≡ false → peeks.into ≡ None
@@ -41,4 +44,5 @@ pub record PeeksFor (b : Board) (request : Request) (p q : Pass) : Type 0 where
 -- the key's own word if the key is present at the moment, and none if it is absent
 abbrev pub IsPresentWord : Board → List ℕ → ℕ → Option Target → Option Target → Pass → Type 0
 IsPresentWord b key now found None q = present (after b.shape (seen q)) now key ≡ None
-IsPresentWord b key now found (Some target) q = (own_word found ≡ Some target) × IsSome (present (after b.shape (seen q)) now key)
+IsPresentWord b key now found (Some target) q =
+    (own_word found ≡ Some target) × IsSome (present (after b.shape (seen q)) now key)

@@ -1,4 +1,5 @@
--- Which request a write of a pair makes, what a cache of one thread replies in place of storing it, and how the bit is given back.
+-- Which request a write of a pair makes, what a cache of one thread replies in place of storing
+-- it, and how the bit is given back.
 use Rattle.std.specs.Prelude.{◌≡◌, ℕ, Bool, true, false, List, [], ◌∷◌, Option, Some, None}
 use Rattle.segmodel.specs.declared.request.Request.TheVariants.{Set, Add, Replace, Cas}
 use Rattle.segmodel.specs.declared.request.Reply.TheVariants.{Stored, NotFound}
@@ -31,7 +32,8 @@ reply_now b p request = reply_in b.shape (after b.shape (seen p)) request
 
 -- The bit of the bucket was given back. Before that the pass added just these events, newest first.
 -- What the pass keeps is as it was.
-pub record GivesBack (b : Board) (bucket : ℕ) (counted : Bool) (own : List Event) (p q : Pass) : Type 0 where
+pub record GivesBack (b : Board) (bucket : ℕ) (counted : Bool) (own : List Event) (p q : Pass)
+    : Type 0 where
   pub moved : AddsEvents b (Freed (number p) bucket counted ∷ own) p q
   pub free : (bucket_after b.shape (trace q) bucket).holder ≡ None
   pub plain : q.plain ≡ p.plain
@@ -39,14 +41,21 @@ pub record GivesBack (b : Board) (bucket : ℕ) (counted : Bool) (own : List Eve
 
 -- the refused request came into the history, and the bit was given back
 abbrev pub RefusesUnderBit : Board → Request → Reply → Pass → Pass → Type 0
-RefusesUnderBit b request reply p q = GivesBack b (bucket_of b.shape (key_of request)) false (Replied (number p) request reply ∷ []) p q
+RefusesUnderBit b request reply p q =
+    GivesBack b (bucket_of b.shape (key_of request)) false
+    (Replied (number p) request reply ∷ []) p q
 
--- Once the pass knew whether the key is present, a present key left its word, or the refusal entered the history.
+-- Once the pass knew whether the key is present, a present key left its word,
+-- or the refusal entered the history.
 -- Then the bit was given back.
 abbrev pub RemovesPresent : Board → Request → DeleteAnswer → Pass → Pass → Type 0
-RemovesPresent b request delete.Deleted p q = (position : ℕ) × GivesBack b (bucket_of b.shape (key_of request)) true (Unlinked (number p) (key_of request) position (Deletes (moment_of request)) ∷ []) p q
+RemovesPresent b request delete.Deleted p q =
+    (position : ℕ)
+    × GivesBack b (bucket_of b.shape (key_of request)) true
+    (Unlinked (number p) (key_of request) position (Deletes (moment_of request)) ∷ []) p q
 RemovesPresent b request delete.NotFound p q = RefusesUnderBit b request NotFound p q
 RemovesPresent b request delete.Busy p q = ⊥
 
 abbrev pub Removes : Board → Request → DeleteAnswer → Pass → Pass → Type 0
-Removes b request told p q = (between : Pass) × Peeks b (key_of request) p between × RemovesPresent b request told between q
+Removes b request told p q =
+    (between : Pass) × Peeks b (key_of request) p between × RemovesPresent b request told between q

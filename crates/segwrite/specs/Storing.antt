@@ -22,10 +22,15 @@ pub record Requests (b : Board) (request : Request) (key value : List ℕ) (p : 
 
 -- the row was written, and then an item word named it
 abbrev pub stores : ℕ → Request → ℕ → ℕ → ℕ → List Event
-stores pass request segment row position = Linked pass request segment row position ∷ fills pass segment row (row_of (key_of request) (value_of request)) 8
+stores pass request segment row position =
+    Linked pass request segment row position
+    ∷ fills pass segment row (row_of (key_of request) (value_of request)) 8
 
 abbrev pub StoresUnderBit : Board → Request → ℕ → ℕ → Pass → Pass → Type 0
-StoresUnderBit b request segment row p q = (position : ℕ) × AddsEvents b (stores (number p) request segment row position) p q × TookFirstEmpty b.shape request (number p) (trace p) (trace q)
+StoresUnderBit b request segment row p q =
+    (position : ℕ)
+    × AddsEvents b (stores (number p) request segment row position) p q
+    × TookFirstEmpty b.shape request (number p) (trace p) (trace q)
 
 -- the pass has the bit, and something was written under it
 pub record HasWritten (b : Board) (p : Pass) (bucket : ℕ) : Type 0 where

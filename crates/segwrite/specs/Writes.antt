@@ -23,7 +23,8 @@ use Rattle.segwrite.specs.Full.{WasFull, GrowsFor}
 abbrev pub one_more : OwnSegment → OwnSegment
 one_more own = record own { used = own.used + 1 }
 
--- one more row of the pass's current segment is used, and nothing else of what the pass keeps is changed
+-- one more row of the pass's current segment is used,
+-- and nothing else of what the pass keeps is changed
 pub record UsesRow (segment : ℕ) (p q : Pass) : Type 0 where
   pub current : current_of p ≡ Some segment
   pub plain : q.plain ≡ with_own segment one_more p.plain
@@ -31,19 +32,28 @@ pub record UsesRow (segment : ℕ) (p q : Pass) : Type 0 where
 
 -- the request has this reply, by an entry that stores nothing
 abbrev pub AddsReply : Request → Reply → Pass → Pass → Type 0
-AddsReply request told p q = AddsEntry (Wrote (number p) request told None) p q × (q.plain ≡ p.plain) × (memo q ≡ memo p)
+AddsReply request told p q =
+    AddsEntry (Wrote (number p) request told None) p q × (q.plain ≡ p.plain) × (memo q ≡ memo p)
 
--- A request to store was stored in the current segment, or the cache refused it with a reply. Each is one entry.
+-- A request to store was stored in the current segment, or the cache refused it with a reply.
+-- Each is one entry.
 -- Without an entry it was refused for lack of a row, of a word, or of the bit.
 -- A word is lacking only for a set or an add of a new key.
 abbrev pub IsWriteAnswer : Shape → Request → WriteAnswer → Pass → Pass → Type 0
-IsWriteAnswer shape request write.Stored p q = (segment : ℕ) × AddsEntry (Wrote (number p) request reply.Stored (Some segment)) p q × UsesRow segment p q
+IsWriteAnswer shape request write.Stored p q =
+    (segment : ℕ)
+    × AddsEntry (Wrote (number p) request reply.Stored (Some segment)) p q
+    × UsesRow segment p q
 IsWriteAnswer shape request write.NotStored p q = AddsReply request reply.NotStored p q
 IsWriteAnswer shape request write.Exists p q = AddsReply request reply.Exists p q
 IsWriteAnswer shape request write.NotFound p q = AddsReply request reply.NotFound p q
 IsWriteAnswer shape request write.NoRoom p q = ChangesNothing p q
-IsWriteAnswer shape request write.BucketFull p q = ChangesNothing p q × (adds_key request false ≡ true) × WasFull shape (key_of request) (marked p) (marked q)
-IsWriteAnswer shape request write.Busy p q = ChangesNothing p q × IsBusy (bucket_of shape (key_of request)) p q
+IsWriteAnswer shape request write.BucketFull p q =
+    ChangesNothing p q
+    × (adds_key request false ≡ true)
+    × WasFull shape (key_of request) (marked p) (marked q)
+IsWriteAnswer shape request write.Busy p q =
+    ChangesNothing p q × IsBusy (bucket_of shape (key_of request)) p q
 
 -- a set is stored, or lacks a row, a word or the bit
 abbrev pub IsSetAnswer : WriteAnswer → Type 0
@@ -63,10 +73,14 @@ IsDeleteAnswer shape key now delete.Busy p q = ChangesNothing p q × IsBusy (buc
 pub record EntersForKey (shape : Shape) (key : List ℕ) (p q : Pass) : Type 0 where
   pub raises_nothing : RaisesNothing p q
   pub glanced : (bucket : ℕ) → glanced q bucket ≡ glanced p bucket
-  pub entered : (entered q ≡ entered p) ⊎ ((entered q ≡ entered p + 1) × ((segment : ℕ) × CameIn shape key (number p) segment (trace p) (trace q)))
+  pub entered : (entered q ≡ entered p)
+      ⊎ ((entered q ≡ entered p + 1)
+      × ((segment : ℕ) × CameIn shape key (number p) segment (trace p) (trace q)))
 
--- A set, an add, a replace or a cas has this answer. NoRoom comes first, exactly if the pass has no row left.
--- Then comes Busy, always if the pass itself has the bucket locked. For any other answer the pass took one bit.
+-- A set, an add, a replace or a cas has this answer.
+-- NoRoom comes first, exactly if the pass has no row left.
+-- Then comes Busy, always if the pass itself has the bucket locked.
+-- For any other answer the pass took one bit.
 -- A new key is stored in the first empty word of its bucket's chain.
 -- The pass comes into no segment for a set, or if the answer is Busy.
 pub record Writes (b : Board) (request : Request) (told : WriteAnswer) (p q : Pass) : Type 0 where
@@ -74,16 +88,22 @@ pub record Writes (b : Board) (request : Request) (told : WriteAnswer) (p q : Pa
   pub answer : IsWriteAnswer b.shape request told p q
   pub untouched : told ≡ write.NoRoom → q ≡ p
   pub no_room : (told ≡ write.NoRoom) ↔ (has_room b.shape p ≡ false)
-  pub locked : has_room b.shape p ≡ true → locked_of p ≡ Some (bucket_of b.shape (key_of request)) → told ≡ write.Busy
-  pub takes : told ≢ write.NoRoom → told ≢ write.Busy → TakesOneBit (bucket_of b.shape (key_of request)) p q
+  pub locked : has_room b.shape p ≡ true
+      → locked_of p ≡ Some (bucket_of b.shape (key_of request))
+      → told ≡ write.Busy
+  pub takes : told ≢ write.NoRoom
+      → told ≢ write.Busy
+      → TakesOneBit (bucket_of b.shape (key_of request)) p q
   pub grows : GrowsFor b.shape request p q
   pub draws_nothing : told ≢ write.Stored → DrawsNothing p q
-  pub first_empty : told ≡ write.Stored → TookFirstEmpty b.shape request (number p) (trace p) (trace q)
+  pub first_empty : told ≡ write.Stored
+      → TookFirstEmpty b.shape request (number p) (trace p) (trace q)
   pub enters : EntersForKey b.shape (key_of request) p q
   pub reads_nothing : (depends_on_key request ≡ false) ⊎ (told ≡ write.Busy) → ReadsNothing p q
 
 -- a delete has this answer, and needs no row
-pub record Deletes (b : Board) (key : List ℕ) (now : ℕ) (told : DeleteAnswer) (p q : Pass) : Type 0 where
+pub record Deletes (b : Board) (key : List ℕ) (now : ℕ) (told : DeleteAnswer) (p q : Pass)
+    : Type 0 where
   pub on : GoesOn b p q
   pub answer : IsDeleteAnswer b.shape key now told p q
   pub locked : locked_of p ≡ Some (bucket_of b.shape key) → told ≡ delete.Busy

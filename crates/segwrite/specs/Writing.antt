@@ -11,11 +11,14 @@ use Rattle.segwrite.specs.FirstEmpty.{AreTakenBefore}
 -- the place is an item word of the bucket's chain
 pub record IsInChain (b : Board) (bucket : ℕ) (place : Place) (p : Pass) : Type 0 where
   pub in_table : IsPlace b.shape place
-  pub at : IsItemAt b.shape (trace p) bucket (position b.shape (trace p) place) (cell_at b.shape place)
+  pub at : IsItemAt b.shape (trace p) bucket (position b.shape (trace p) place)
+      (cell_at b.shape place)
 
 -- the word is one that the item of this place had: its frequency may have risen since
 abbrev pub IsEarlier : Board → Place → ℕ → Pass → Type 0
-IsEarlier b place old p = IsSameItem old (word b.shape (trace p) (cell_at b.shape place)) × (old ≤ word b.shape (trace p) (cell_at b.shape place))
+IsEarlier b place old p =
+    IsSameItem old (word b.shape (trace p) (cell_at b.shape place))
+    × (old ≤ word b.shape (trace p) (cell_at b.shape place))
 
 -- the key doesn't stand
 abbrev pub IsNewKey : Board → List ℕ → Pass → Type 0
@@ -23,12 +26,15 @@ IsNewKey b key p = standing (after b.shape (seen p)) key ≡ None
 
 -- the words of a key's chain before this place are taken
 abbrev pub IsFirst : Board → List ℕ → Place → Pass → Type 0
-IsFirst b key place p = AreTakenBefore (bucket_after b.shape (trace p) (bucket_of b.shape key)) (position b.shape (trace p) place)
+IsFirst b key place p =
+    AreTakenBefore (bucket_after b.shape (trace p) (bucket_of b.shape key))
+    (position b.shape (trace p) place)
 
 -- the first empty word, if the key doesn't stand; or the word of the key's item
 abbrev pub IsEmptyOrKeys : Board → List ℕ → Target → Pass → Type 0
 IsEmptyOrKeys b key target p =
-    ((target.word ≡ 0) × IsFree b key target.place p × IsNewKey b key p × IsFirst b key target.place p)
+    ((target.word ≡ 0) × IsFree b key target.place p × IsNewKey b key p
+    × IsFirst b key target.place p)
     ⊎ (HasItemOf b key target.place p × IsEarlier b target.place target.word p)
 
 -- the word that a write of the key changes
@@ -51,9 +57,12 @@ own_word (Some target) = if target.word == 0 then None else Some target
 
 -- the first empty word of a search, after one word more
 abbrev pub Updates : Target → Option Target → Option Target → Type 0
-Updates target old new = ((target.word ≡ 0) × (new ≡ Some target) × (old ≡ None)) ⊎ ((new ≡ old) × ((target.word ≢ 0) ⊎ (is_some old ≡ true)))
+Updates target old new =
+    ((target.word ≡ 0) × (new ≡ Some target) × (old ≡ None))
+    ⊎ ((new ≡ old) × ((target.word ≢ 0) ⊎ (is_some old ≡ true)))
 
--- the place that comes next along a chain: the next word of the bucket, or word 1 of the one that its last word leads on to
+-- the place that comes next along a chain: the next word of the bucket,
+-- or word 1 of the one that its last word leads on to
 abbrev pub next_word : Place → Place
 next_word place = record { bucket = place.bucket; word = place.word + 1 }
 
@@ -62,7 +71,8 @@ first_word shape number = record { bucket = shape.buckets + number; word = 1 }
 
 -- the overflow bucket that a word leads on to
 abbrev pub LeadsTo : Shape → ℕ → Place → Type 0
-LeadsTo shape here next = (number : ℕ) × (number < 65536) × (here ≡ chain_word number) × (next ≡ first_word shape number)
+LeadsTo shape here next =
+    (number : ℕ) × (number < 65536) × (here ≡ chain_word number) × (next ≡ first_word shape number)
 
 abbrev pub LeadsNowhere : ℕ → Type 0
 LeadsNowhere here = (number : ℕ) → number < 65536 → here ≢ chain_word number
