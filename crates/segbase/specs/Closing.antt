@@ -19,9 +19,12 @@ word_of_cell words cell = slice_index (slots_items words.closed.words) (address 
 pub record IsAtRest (words : Words) (trace : List Event) : Type 0 where
   pub valid : IsValid (shape_of words)
   pub lawful : IsLawful (shape_of words) trace
-  pub each : (cell : Cell) → IsCell (shape_of words) cell → word_of_cell words cell ≡ word (shape_of words) trace cell
+  pub each : (cell : Cell)
+      → IsCell (shape_of words) cell
+      → word_of_cell words cell ≡ word (shape_of words) trace cell
 
--- All that had happened when the board was closed. It goes on from what the pass has seen, by events of others alone.
+-- All that had happened when the board was closed.
+-- It goes on from what the pass has seen, by events of others alone.
 -- With only one pass, it is what that pass has seen.
 pub record Closes (b : Board) (p : Pass) (words : Words) (last : List Event) : Type 0 where
   pub of : shape_of words ≡ b.shape
@@ -33,7 +36,9 @@ pub record Closes (b : Board) (p : Pass) (words : Words) (last : List Event) : T
 
 -- each number below this one has its pass among these
 abbrev pub HasEach : ℕ → List Pass → Type 0
-HasEach count passes = (n : ℕ) → n < count → (place : ℕ) × (p : Pass) × (slice_get passes place ≡ Some p) × (number p ≡ n)
+HasEach count passes = (n : ℕ)
+    → n < count
+    → (place : ℕ) × (p : Pass) × (slice_get passes place ≡ Some p) × (number p ≡ n)
 
 -- these are passes of the board, and all of them are there
 pub record AreAll (b : Board) (passes : List Pass) : Type 0 where
@@ -41,12 +46,15 @@ pub record AreAll (b : Board) (passes : List Pass) : Type 0 where
   pub all : HasEach b.shape.passes passes
 
 -- One of the passes has seen all that had happened when the board was closed with all of them.
--- That goes on from what each pass has seen, by events of others alone, and no event is of a pass that isn't there.
+-- That goes on from what each pass has seen, by events of others alone,
+-- and no event is of a pass that isn't there.
 pub record ClosesAll (b : Board) (passes : List Pass) (words : Words) : Type 0 where
   pub of : shape_of words ≡ b.shape
   pub place : ℕ
   pub last : Pass
   pub there : slice_get passes place ≡ Some last
   pub rest : IsAtRest words (trace last)
-  pub each : (at : ℕ) (p : Pass) → slice_get passes at ≡ Some p → Knows (number p) (view p) (trace last)
+  pub each : (at : ℕ) (p : Pass)
+      → slice_get passes at ≡ Some p
+      → Knows (number p) (view p) (trace last)
   pub among : (n : ℕ) → b.shape.passes ≤ n → NoneBy n (trace last)

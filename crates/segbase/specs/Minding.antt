@@ -13,7 +13,8 @@ pub record HasHeld (shape : Shape) (trace : List Event) (held : Held) : Type 0 w
   pub stood : IsStanding shape (seen held.trace) held.key held.value held.segment
 
 -- at that moment the pass had the bit of the bucket
-pub record HasLocked (shape : Shape) (trace : List Event) (pass : ℕ) (locked : Locked) : Type 0 where
+pub record HasLocked (shape : Shape) (trace : List Event) (pass : ℕ) (locked : Locked)
+    : Type 0 where
   pub past : Begins locked.trace trace
   pub bit : HasBit shape locked.trace pass locked.bucket
 

@@ -124,7 +124,8 @@ pub record AddsAtOnce (b : Board) (own : List Event) (p q : Pass) : Type 0 where
   pub before : IsLawful b.shape (others ++ trace p)
   pub now : trace q ≡ own ++ (others ++ trace p)
 
--- the pass took the step, which found this word; its plain part and what it keeps in mind are as they were
+-- the pass took the step, which found this word;
+-- its plain part and what it keeps in mind are as they were
 pub record Stepped (b : Board) (step : Step) (found : ℕ) (p q : Pass) : Type 0 where
   pub told : Told b.shape step found (view p) (view q)
   pub did : AddsAtOnce b (adds step (number p) found) p q
@@ -139,12 +140,19 @@ pub record Reads (b : Board) (p q : Pass) : Type 0 where
   pub moved : AddsEvents b own p q
   pub only : OnlyReads own
   pub inside : (s : ℕ) → inside (trace q) (number p) s ≡ inside (trace p) (number p) s
-  pub stays : (s : ℕ) → 0 < segments.inside (trace p) (number p) s → StaysIn own (trace p) (number p) s
+  pub stays : (s : ℕ)
+      → 0 < segments.inside (trace p) (number p) s
+      → StaysIn own (trace p) (number p) s
 
--- the pass only read, and is in this segment once more than before, and in each other one as often as before
+-- the pass only read, and is in this segment once more than before,
+-- and in each other one as often as before
 pub record ReadsIn (b : Board) (p q : Pass) (segment : ℕ) : Type 0 where
   pub own : List Event
   pub moved : AddsEvents b own p q
   pub only : OnlyReads own
-  pub inside : (s : ℕ) → inside (trace q) (number p) s ≡ (if segment == s then inside (trace p) (number p) s + 1 else inside (trace p) (number p) s)
-  pub stays : (s : ℕ) → 0 < segments.inside (trace p) (number p) s → StaysIn own (trace p) (number p) s
+  pub inside : (s : ℕ)
+      → inside (trace q) (number p) s
+      ≡ (if segment == s then inside (trace p) (number p) s + 1 else inside (trace p) (number p) s)
+  pub stays : (s : ℕ)
+      → 0 < segments.inside (trace p) (number p) s
+      → StaysIn own (trace p) (number p) s

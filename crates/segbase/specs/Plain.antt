@@ -21,7 +21,10 @@ is_holding_of p = p.plain.is_holding
 
 -- what the pass knows of a segment, if that is its own
 abbrev pub own_segment : Plain → ℕ → Option OwnSegment
-own_segment plain segment = if nat_le plain.first segment then slice_get plain.segments.items (segment - plain.first) else None
+own_segment plain segment =
+    if nat_le plain.first segment
+    then slice_get plain.segments.items (segment - plain.first)
+    else None
 
 abbrev pub state_in : Option OwnSegment → Option SegState
 state_in None = None
@@ -63,7 +66,10 @@ put_own segments place (Some own) = with_item segments place own
 
 -- with a segment of the pass's own changed so
 abbrev pub with_own : ℕ → (OwnSegment → OwnSegment) → Plain → Plain
-with_own segment change plain = record plain { segments = put_own plain.segments (segment - plain.first) (option_map change (own_segment plain segment)) }
+with_own segment change plain = record plain {
+  segments = put_own plain.segments (segment - plain.first)
+      (option_map change (own_segment plain segment));
+}
 
 -- with another state of an own segment, other rows used of it, or another deadline
 abbrev pub with_state : ℕ → SegState → Plain → Plain

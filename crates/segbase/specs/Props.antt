@@ -19,14 +19,18 @@ Held-set = hlevel (props, Event-set)
 pub traces-prop : (old new : List Event) → IsProp (Begins old new)
 traces-prop = Begins-prop (hlevel (props, Event-set))
 
-HasHeld-prop : (shape : Shape) (trace : List Event) (held : Held) → IsProp (HasHeld shape trace held)
+HasHeld-prop : (shape : Shape) (trace : List Event) (held : Held)
+    → IsProp (HasHeld shape trace held)
 HasHeld-prop shape trace held = hlevel (traces-prop, IsStanding-prop)
 
-HasLocked-prop : (shape : Shape) (trace : List Event) (pass : ℕ) (locked : Locked) → IsProp (HasLocked shape trace pass locked)
+HasLocked-prop : (shape : Shape) (trace : List Event) (pass : ℕ) (locked : Locked)
+    → IsProp (HasLocked shape trace pass locked)
 HasLocked-prop shape trace pass locked = hlevel (props, traces-prop)
 
-Minds-prop : (shape : Shape) (trace : List Event) (pass : ℕ) (memo : Memo) → IsProp (Minds shape trace pass memo)
+Minds-prop : (shape : Shape) (trace : List Event) (pass : ℕ) (memo : Memo)
+    → IsProp (Minds shape trace pass memo)
 Minds-prop shape trace pass memo = hlevel (HasHeld-prop, HasLocked-prop)
 
 pub IsPassOf-prop : (b : Board) (p : Pass) → IsProp (IsPassOf b p)
-IsPassOf-prop b p = hlevel (props, table_id_coded, IsValid-prop, IsLawful-prop, AllBy-prop, Minds-prop)
+IsPassOf-prop b p =
+    hlevel (props, table_id_coded, IsValid-prop, IsLawful-prop, AllBy-prop, Minds-prop)

@@ -1,4 +1,5 @@
--- The rule of the table: some trace makes its words what they are, and goes on from what each seat knows.
+-- The rule of the table: some trace makes its words what they are,
+-- and goes on from what each seat knows.
 use Rattle.std.specs.Prelude.{◌≡◌, ◌≢◌, ℕ, ◌+◌, ◌≤◌, true, false, List, [], ◌∷◌, length, None}
 use mathlib.Core.Option.{some}
 use lib.ListN.{get_elem?}
@@ -29,7 +30,11 @@ pub record IsSight (views : List View) (trace : List Event) (sight : Sight) : Ty
 
 -- no pass that was given up has the number of one that takes steps
 abbrev pub AreApart : List Sight → Type 0
-AreApart sights = (i j : ℕ) (x y : Sight) → get_elem? sights i ≡ some x → get_elem? sights j ≡ some y → y.is_pass ≡ true → NoneNumbered y.view.number x.ended
+AreApart sights = (i j : ℕ) (x y : Sight)
+    → get_elem? sights i ≡ some x
+    → get_elem? sights j ≡ some y
+    → y.is_pass ≡ true
+    → NoneNumbered y.view.number x.ended
 
 -- the views are those of the passes, by their numbers
 pub record Rule {S : Type 0} (shape : Shape) (state : State S Sight) : Type 0 where
@@ -38,9 +43,17 @@ pub record Rule {S : Type 0} (shape : Shape) (state : State S Sight) : Type 0 wh
   pub lawful : Lawful shape state.words views trace
   -- no more passes than the shape has
   pub few : length views ≤ shape.passes
-  pub sights : (id : ℕ) (sight : Sight) → get_elem? state.views id ≡ some sight → IsSight views trace sight
+  pub sights : (id : ℕ) (sight : Sight)
+      → get_elem? state.views id ≡ some sight
+      → IsSight views trace sight
   -- no two passes have one number
-  pub one : (i j : ℕ) (x y : Sight) → get_elem? state.views i ≡ some x → get_elem? state.views j ≡ some y → x.is_pass ≡ true → y.is_pass ≡ true → x.view.number ≡ y.view.number → i ≡ j
+  pub one : (i j : ℕ) (x y : Sight)
+      → get_elem? state.views i ≡ some x
+      → get_elem? state.views j ≡ some y
+      → x.is_pass ≡ true
+      → y.is_pass ≡ true
+      → x.view.number ≡ y.view.number
+      → i ≡ j
   pub apart : AreApart state.views
 
 abbrev pub no_memo : Memo
@@ -58,7 +71,8 @@ abbrev pub dealer : Sight → Sight
 dealer sight = record sight { view = record sight.view { dealt = sight.view.dealt + 1 } }
 
 abbrev pub newcomer : Sight → Sight
-newcomer sight = pass_sight (record { number = sight.view.dealt; trace = sight.view.trace; dealt = 0 })
+newcomer sight =
+    pass_sight (record { number = sight.view.dealt; trace = sight.view.trace; dealt = 0 })
 
 -- a pass keeps what it knows
 abbrev pub same_sight : Sight → Sight
@@ -69,7 +83,13 @@ abbrev pub witness : Sight → Sight
 witness sight = record { view = sight.view; met = []; is_pass = false; memo = no_memo; ended = [] }
 
 abbrev pub spent : Sight
-spent = record { view = record { number = 0; trace = []; dealt = 0 }; met = []; is_pass = false; memo = no_memo; ended = [] }
+spent = record {
+  view = record { number = 0; trace = []; dealt = 0 };
+  met = [];
+  is_pass = false;
+  memo = no_memo;
+  ended = [];
+}
 
 -- a pass learns what another had seen
 abbrev pub meets : Sight → Sight → Sight
@@ -92,9 +112,12 @@ pub record Learns (shape : Shape) (step : Step) (found : ℕ) (x y : Sight) : Ty
   pub is_pass : y.is_pass ≡ x.is_pass
   pub memo : y.memo ≡ x.memo
 
-abbrev pub IsStepOutcome : {S : Type 0} → Shape → Step → TableStep S → Me S Sight → ℕ → Me S Sight → Type 0
+abbrev pub IsStepOutcome : {S : Type 0} → Shape → Step → TableStep S → Me S Sight → ℕ → Me S Sight
+    → Type 0
 IsStepOutcome shape step _ me found me' = Learns shape step found me.0 me'.0 × (me'.1 ≡ me.1)
 
 -- a store isn't told what it found
-abbrev pub TellsStored : {S : Type 0} → Shape → Step → TableStep S → Me S Sight → ℕ → Me S Sight → Type 0
-TellsStored shape step _ me _ me' = ((found : ℕ) × Learns shape step found me.0 me'.0) × (me'.1 ≡ me.1)
+abbrev pub TellsStored : {S : Type 0} → Shape → Step → TableStep S → Me S Sight → ℕ → Me S Sight
+    → Type 0
+TellsStored shape step _ me _ me' =
+    ((found : ℕ) × Learns shape step found me.0 me'.0) × (me'.1 ≡ me.1)

@@ -20,7 +20,10 @@ IsRowAt shape row = row.start ≡ address shape (OfRow row.segment row.row 0)
 
 -- overflow bucket n is bucket `buckets + n`
 abbrev pub cell_at : Shape → Place → Cell
-cell_at shape place = if nat_lt place.bucket shape.buckets then OfBucket place.bucket place.word else OfOverflow (place.bucket - shape.buckets) place.word
+cell_at shape place =
+    if nat_lt place.bucket shape.buckets
+    then OfBucket place.bucket place.word
+    else OfOverflow (place.bucket - shape.buckets) place.word
 
 abbrev pub cell_of : Shape → Spot → Cell
 cell_of shape (Counter bucket) = OfCounter
@@ -36,7 +39,10 @@ depth_of None = 0
 depth_of (Some of) = of.depth
 
 abbrev pub position : Shape → List Event → Place → ℕ
-position shape trace place = if nat_lt place.bucket shape.buckets then place.word else 8 * depth_of (home_of trace (place.bucket - shape.buckets)) + place.word
+position shape trace place =
+    if nat_lt place.bucket shape.buckets
+    then place.word
+    else 8 * depth_of (home_of trace (place.bucket - shape.buckets)) + place.word
 
 -- the bucket whose chain a place is in
 abbrev pub home_in : Option Home → ℕ
@@ -44,7 +50,10 @@ home_in None = 0
 home_in (Some of) = of.bucket
 
 abbrev pub home_bucket : Shape → List Event → Place → ℕ
-home_bucket shape trace place = if nat_lt place.bucket shape.buckets then place.bucket else home_in (home_of trace (place.bucket - shape.buckets))
+home_bucket shape trace place =
+    if nat_lt place.bucket shape.buckets
+    then place.bucket
+    else home_in (home_of trace (place.bucket - shape.buckets))
 
 -- the bucket that an overflow bucket was drawn for
 abbrev pub home_bucket_of : List Event → ℕ → ℕ
@@ -52,7 +61,8 @@ home_bucket_of trace number = home_in (home_of trace number)
 
 -- an item word of the table
 abbrev pub IsPlace : Shape → Place → Type 0
-IsPlace shape place = (place.bucket < shape.buckets + shape.overflow) × (0 < place.word) × (place.word < 8)
+IsPlace shape place =
+    (place.bucket < shape.buckets + shape.overflow) × (0 < place.word) × (place.word < 8)
 
 abbrev pub item_spot : Place → Spot
 item_spot place = Item place

@@ -38,24 +38,32 @@ exchanging old new word = either (word == old) new word
 abbrev pub has_bit : Board → Pass → ℕ → Bool
 has_bit b p bucket = is (bucket_after b.shape (trace p) bucket).holder (number p)
 
--- A take that returned true gave the pass the bit, under which nothing was written and no bucket is drawn yet.
--- A take that returned false added nothing but that it bounced, and not even that if the bit is the pass's own.
+-- A take that returned true gave the pass the bit,
+-- under which nothing was written and no bucket is drawn yet.
+-- A take that returned false added nothing but that it bounced,
+-- and not even that if the bit is the pass's own.
 abbrev pub Takes : Board → ℕ → Bool → Pass → Pass → Type 0
 Takes b bucket true p q =
-    AddsAtOnce b (Took (number p) bucket ∷ []) p q × HasBit b.shape (trace q) (number q) bucket
-    × ((bucket_after b.shape (trace q) bucket).written ≡ false) × ((bucket_after b.shape (trace q) bucket).spare ≡ None)
-Takes b bucket false p q = AddsAtOnce b (unless_own (has_bit b p bucket) (Bounced (number p) bucket)) p q
+    AddsAtOnce b (Took (number p) bucket ∷ []) p q
+    × HasBit b.shape (trace q) (number q) bucket
+    × ((bucket_after b.shape (trace q) bucket).written ≡ false)
+    × ((bucket_after b.shape (trace q) bucket).spare ≡ None)
+Takes b bucket false p q =
+    AddsAtOnce b (unless_own (has_bit b p bucket) (Bounced (number p) bucket)) p q
 
 -- A glance found the bit clear, and nobody has it.
 -- Or it found the bit set, which is an event unless the bit is the pass's own.
 abbrev pub Glances : Board → ℕ → Info → Pass → Pass → Type 0
 Glances b bucket info p q =
-    (info.held ≡ false → AddsAtOnce b [] p q × ((bucket_after b.shape (trace q) bucket).holder ≡ None))
-    × (info.held ≡ true → AddsAtOnce b (unless_own (has_bit b p bucket) (Glanced (number p) bucket)) p q)
+    (info.held ≡ false
+    → AddsAtOnce b [] p q × ((bucket_after b.shape (trace q) bucket).holder ≡ None))
+    × (info.held ≡ true
+    → AddsAtOnce b (unless_own (has_bit b p bucket) (Glanced (number p) bucket)) p q)
 
 -- the version that the information word has
 abbrev pub version_in : Board → Pass → ℕ → ℕ
-version_in b p bucket = (b.shape.first_version + (bucket_after b.shape (trace p) bucket).version) % 2 ^ 32
+version_in b p bucket =
+    (b.shape.first_version + (bucket_after b.shape (trace p) bucket).version) % 2 ^ 32
 
 -- a take and a glance tell whether the pass has the bit
 abbrev pub taking : Board → Pass → ℕ → Step
@@ -75,14 +83,16 @@ position_at b place p = position b.shape (trace p) place
 
 -- the place is one of an item word of that chain
 abbrev pub IsItemPlace : Board → Pass → Place → Type 0
-IsItemPlace b p place = IsItemAt b.shape (trace p) (home_at b place p) (position_at b place p) (cell_at b.shape place)
+IsItemPlace b p place =
+    IsItemAt b.shape (trace p) (home_at b place p) (position_at b place p) (cell_at b.shape place)
 
 -- the word that stands there, and what the chain of a key has there
 abbrev pub word_at : Board → Place → Pass → ℕ
 word_at b place p = word b.shape (trace p) (cell_at b.shape place)
 
 abbrev pub content_for : Board → List ℕ → Place → Pass → Content
-content_for b key place p = (bucket_after b.shape (trace p) (bucket_of b.shape key)).items (position_at b place p)
+content_for b key place p =
+    (bucket_after b.shape (trace p) (bucket_of b.shape key)).items (position_at b place p)
 
 -- how the word at a position of a chain reads
 abbrev pub IsWordOfContent : Content → ℕ → Type 0
@@ -93,16 +103,21 @@ IsWordOfContent (copy other) word = ⊥
 
 -- the word reads so, whatever position of whatever chain the place is
 abbrev pub IsWordAt : Board → Place → ℕ → Pass → Type 0
-IsWordAt b place word p = (bucket at : ℕ) → IsItemAt b.shape (trace p) bucket at (cell_at b.shape place) → IsWordOfContent ((bucket_after b.shape (trace p) bucket).items at) word
+IsWordAt b place word p = (bucket at : ℕ)
+    → IsItemAt b.shape (trace p) bucket at (cell_at b.shape place)
+    → IsWordOfContent ((bucket_after b.shape (trace p) bucket).items at) word
 
--- An exchange that failed changed no word and added nothing. Another word stands there than was expected.
--- If the expected one was an earlier word of the item that the pass last knew there, it is that item,
--- with a higher frequency.
+-- An exchange that failed changed no word and added nothing.
+-- Another word stands there than was expected.
+-- If the expected one was an earlier word of the item that the pass last knew there,
+-- it is that item, with a higher frequency.
 pub record Missed (b : Board) (place : Place) (old found : ℕ) (p q : Pass) : Type 0 where
   pub did : AddsAtOnce b [] p q
   pub other : found ≢ old
   pub is : found ≡ word_at b place q
-  pub higher : IsSameItem old (word_at b place p) → old ≤ word_at b place p → IsSameItem old found × (old < found)
+  pub higher : IsSameItem old (word_at b place p)
+      → old ≤ word_at b place p
+      → IsSameItem old found × (old < found)
 
 -- the word of the place, in the key's chain, is empty
 abbrev pub IsFree : Board → List ℕ → Place → Pass → Type 0
@@ -123,29 +138,38 @@ looking b place = look (cell_at b.shape place)
 
 -- the request's item comes in, for the old word
 abbrev pub linking : Board → Pass → Place → Request → Item → ℕ → Step
-linking b p place request new old = link request new.seg new.row (position_at b place p) (cell_at b.shape place) old
+linking b p place request new old =
+    link request new.seg new.row (position_at b place p) (cell_at b.shape place) old
 
 abbrev pub AddsLink : Board → Place → Request → Item → Pass → Pass → Type 0
-AddsLink b place request new p q = AddsOne b (λ n. Linked n request new.seg new.row (position_at b place p)) p q
+AddsLink b place request new p q =
+    AddsOne b (λ n. Linked n request new.seg new.row (position_at b place p)) p q
 
--- the item of a key, which names this row, comes to name another one, with the frequency that it has
+-- the item of a key, which names this row, comes to name another one,
+-- with the frequency that it has
 abbrev pub relinking : Board → Pass → Place → Slot → Item → Step
-relinking b p place named new = relink named.key named.segment named.row new.freq new.seg new.row (position_at b place p) (cell_at b.shape place)
+relinking b p place named new =
+    relink named.key named.segment named.row new.freq new.seg new.row (position_at b place p)
+    (cell_at b.shape place)
 
 abbrev pub AddsRelink : Board → Place → Slot → Item → Pass → Pass → Type 0
 AddsRelink b place named new p q =
-    AddsOne b (λ n. Relinked n named.key named.segment named.row new.seg new.row (position_at b place p)) p q
+    AddsOne b
+    (λ n. Relinked n named.key named.segment named.row new.seg new.row (position_at b place p)) p q
 
 -- the item of a key leaves, by a delete or by the eviction of a segment
 abbrev pub unlinking : Board → Pass → Place → List ℕ × Leaving → ℕ → Step
-unlinking b p place left old = clear left.0 (position_at b place p) (cell_at b.shape place) old left.1
+unlinking b p place left old =
+    clear left.0 (position_at b place p) (cell_at b.shape place) old left.1
 
 abbrev pub AddsUnlink : Board → Place → List ℕ × Leaving → Pass → Pass → Type 0
 AddsUnlink b place left p q = AddsOne b (λ n. Unlinked n left.0 (position_at b place p) left.1) p q
 
 -- the frequency of the old item is raised to this one
 abbrev pub bumping : Board → Pass → Place → Item → ℕ → Step
-bumping b p place old raised = bump (home_at b place p) (position_at b place p) (cell_at b.shape place) old.tag old.seg old.row old.freq raised
+bumping b p place old raised =
+    bump (home_at b place p) (position_at b place p)
+    (cell_at b.shape place) old.tag old.seg old.row old.freq raised
 
 -- the chain leads on to the overflow bucket
 abbrev pub chaining : Board → Pass → Place → ℕ → ℕ → Step
@@ -165,7 +189,8 @@ drawing b p bucket from = draw bucket (depth_to_draw b bucket p) from
 abbrev pub copying : Pass → ℕ → Item → Step
 copying p overflow moved = fill (home_bucket_of (trace p) overflow) overflow (item_word moved)
 
--- a draw that failed drew nothing: others drew the bucket of this number, and the counter is over it
+-- a draw that failed drew nothing: others drew the bucket of this number,
+-- and the counter is over it
 pub record CounterMissed (b : Board) (from counter : ℕ) (p q : Pass) : Type 0 where
   pub did : AddsAtOnce b [] p q
   pub is : counter ≡ drawn_in (trace q)

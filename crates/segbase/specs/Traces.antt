@@ -1,4 +1,5 @@
--- The events of one pass among those of others, and where the pass is over them. A trace has its newest event first.
+-- The events of one pass among those of others, and where the pass is over them.
+-- A trace has its newest event first.
 use Rattle.std.specs.Prelude.{ℕ, ◌<◌, ◌==◌, List, [], ◌∷◌, ◌++◌, if◌then◌else◌}
 use Rattle.segcore.specs.declared.event.Event.TheVariants.{Glanced, Bumped, Entered, Left}
 use Rattle.segcore.specs.Words.{by, Event, inside}
@@ -14,7 +15,8 @@ abbrev pub StaysIn : List Event → List Event → ℕ → ℕ → Type 0
 StaysIn [] trace p s = 0 < inside trace p s
 StaysIn (e ∷ own) trace p s = (0 < inside (e ∷ (own ++ trace)) p s) × StaysIn own trace p s
 
--- a reader's events: it comes into segments and leaves them, finds bits set by a glance, and raises frequencies
+-- a reader's events: it comes into segments and leaves them, finds bits set by a glance,
+-- and raises frequencies
 abbrev pub IsReaderEvent : Event → Type 0
 IsReaderEvent (Glanced p b) = Unit {0}
 IsReaderEvent (Bumped p s r f) = Unit {0}
