@@ -27,13 +27,15 @@ pub record TakesNoBit (p q : Pass) : Type 0 where
   pub bounced : (bucket : ℕ) → bounced q bucket ≡ bounced p bucket
 
 -- The pass took one bit, after at most 63 tries that found the bit of this bucket set by another.
--- It found the bit of no other bucket set by a try. A try for a bit that the pass itself has is no event.
+-- It found the bit of no other bucket set by a try.
+-- A try for a bit that the pass itself has is no event.
 pub record TakesOneBit (bucket : ℕ) (p q : Pass) : Type 0 where
   pub taken : taken q ≡ taken p + 1
   pub tries : bounced q bucket < bounced p bucket + 64
   pub others : (other : ℕ) → other ≢ bucket → bounced q other ≡ bounced p other
 
--- the pass took no bit: 64 tries found the bit of this bucket set by another, and none that of another bucket
+-- the pass took no bit: 64 tries found the bit of this bucket set by another,
+-- and none that of another bucket
 pub record TriesInVain (bucket : ℕ) (p q : Pass) : Type 0 where
   pub taken : taken q ≡ taken p
   pub tries : bounced q bucket ≡ bounced p bucket + 64
@@ -47,7 +49,8 @@ DrawsNothing p q = (bucket : ℕ) → drew q bucket ≡ drew p bucket
 abbrev pub RaisesNothing : Pass → Pass → Type 0
 RaisesNothing p q = raised q ≡ raised p
 
--- how often the pass raised a frequency, came into a segment, and found a bucket's bit set by a look without it
+-- how often the pass raised a frequency, came into a segment,
+-- and found a bucket's bit set by a look without it
 abbrev pub readings : Pass → ℕ × ℕ × (ℕ → ℕ)
 readings p = (raised p, entered p, λ bucket. glanced p bucket)
 
@@ -55,7 +58,8 @@ readings p = (raised p, entered p, λ bucket. glanced p bucket)
 abbrev pub ReadsNothing : Pass → Pass → Type 0
 ReadsNothing p q = readings q ≡ readings p
 
--- how often the pass took a bit, found a bucket's bit set by a take, and drew an overflow bucket for a bucket
+-- how often the pass took a bit, found a bucket's bit set by a take,
+-- and drew an overflow bucket for a bucket
 abbrev pub writings : Pass → ℕ × (ℕ → ℕ) × (ℕ → ℕ)
 writings p = (taken p, (λ bucket. bounced p bucket), λ bucket. drew p bucket)
 

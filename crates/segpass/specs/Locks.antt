@@ -31,7 +31,8 @@ IsLockAnswer shape key lock.Locked p q = Locks (bucket_of shape key) p q
 IsLockAnswer shape key lock.Busy p q = ChangesNothing p q × TriesInVain (bucket_of shape key) p q
 IsLockAnswer shape key lock.AlreadyLocked p q = q ≡ p
 
--- A lock of a key's bucket has this answer, which is AlreadyLocked exactly if the pass has a bucket locked.
+-- A lock of a key's bucket has this answer,
+-- which is AlreadyLocked exactly if the pass has a bucket locked.
 -- The pass draws no overflow bucket, and does nothing of what readers do.
 pub record LocksBucket (b : Board) (key : List ℕ) (told : LockAnswer) (p q : Pass) : Type 0 where
   pub on : GoesOn b p q
@@ -42,7 +43,9 @@ pub record LocksBucket (b : Board) (key : List ℕ) (told : LockAnswer) (p q : P
 
 -- no entry of the bucket came in since it was locked
 abbrev pub NoneSince : Shape → Locked → List Entry → Type 0
-NoneSince shape lock new = Begins (event.seen lock.trace) new × (entries_of shape lock.bucket new ≡ entries_of shape lock.bucket (event.seen lock.trace))
+NoneSince shape lock new =
+    Begins (event.seen lock.trace) new
+    × (entries_of shape lock.bucket new ≡ entries_of shape lock.bucket (event.seen lock.trace))
 
 -- the bucket is locked no more, and no entry of it came in since it was locked
 pub record Unlocks (shape : Shape) (p q : Pass) : Type 0 where

@@ -1,4 +1,5 @@
--- What is so of a pass between calls. It has no bit but that of its lock, and is in no segment but that of its hold.
+-- What is so of a pass between calls.
+-- It has no bit but that of its lock, and is in no segment but that of its hold.
 -- Its plain part says what is so.
 use Rattle.std.specs.Prelude.{◌≡◌, ℕ, ◌<◌, ◌==◌, Bool, false, is_some, List, ◌++◌, Option, Some, None, option_map, if◌then◌else◌}
 use Rattle.segword.specs.Words.{Shape}
@@ -9,7 +10,8 @@ use Rattle.segbase.specs.Words.{Board, Held, holding, is_holding_of, IsPassOf, L
 use Rattle.segbase.specs.Words.{locked_of, number, Pass, trace}
 use Rattle.segstore.specs.Words.{KeepsSegments}
 
--- the pass has had the bit of the bucket since it locked the bucket, and nothing was done in the bucket since
+-- the pass has had the bit of the bucket since it locked the bucket,
+-- and nothing was done in the bucket since
 pub record IsLock (shape : Shape) (trace : List Event) (pass : ℕ) (lock : Locked) : Type 0 where
   pub more : List Event
   pub since : trace ≡ more ++ lock.trace
@@ -39,7 +41,8 @@ pub record IsQuiet (b : Board) (p : Pass) : Type 0 where
   pub lock : (lock : Locked) → locked p ≡ Some lock → IsLock b.shape (trace p) (number p) lock
   -- the pass is in no segment but that of what it holds, and there once
   pub holds : is_holding_of p ≡ is_some (holding p)
-  pub inside : (segment : ℕ) → inside (trace p) (number p) segment ≡ (if is_held_in (holding p) segment then 1 else 0)
+  pub inside : (segment : ℕ)
+      → inside (trace p) (number p) segment ≡ (if is_held_in (holding p) segment then 1 else 0)
   pub hold : (hold : Held) → holding p ≡ Some hold → IsHold b.shape (trace p) hold
 
 -- the pass is in no segment twice

@@ -15,11 +15,15 @@ pub record HasCleanBit (b : Board) (p : Pass) (bucket : ℕ) : Type 0 where
 unfoldable pub bounces : ℕ → ℕ → ℕ → List Event
 bounces pass bucket times = replicate times (Bounced pass bucket)
 
--- The bit was taken at one of 64 tries, and the earlier tries found it set. Or all 64 tries found it set.
+-- The bit was taken at one of 64 tries, and the earlier tries found it set.
+-- Or all 64 tries found it set.
 -- They aren't counted if the bit is the pass's own.
 abbrev pub TakesBucket : Board → ℕ → Bool → Pass → Pass → Type 0
 TakesBucket b bucket true p q =
-    (times : ℕ) × (times < 64) × AddsEvents b (Took (number p) bucket ∷ bounces (number p) bucket times) p q × HasCleanBit b q bucket
+    (times : ℕ)
+    × (times < 64)
+    × AddsEvents b (Took (number p) bucket ∷ bounces (number p) bucket times) p q
+    × HasCleanBit b q bucket
 TakesBucket b bucket false p q =
     ((has_bit b p bucket ≡ true) × AddsEvents b [] p q)
     ⊎ ((has_bit b p bucket ≡ false) × AddsEvents b (bounces (number p) bucket 64) p q)
@@ -34,9 +38,11 @@ pub record TookToWrite (b : Board) (bucket : ℕ) (p q : Pass) : Type 0 where
 -- the pass took the bit so, or the call is Busy
 abbrev pub TakesToWrite : Board → ℕ → Bool → Pass → Pass → Type 0
 TakesToWrite b bucket true p q = TookToWrite b bucket p q
-TakesToWrite b bucket false p q = GoesOn b p q × ChangesNothing p q × IsBusy bucket p q × DrawsNothing p q × ReadsNothing p q
+TakesToWrite b bucket false p q =
+    GoesOn b p q × ChangesNothing p q × IsBusy bucket p q × DrawsNothing p q × ReadsNothing p q
 
--- what a look at the deadline of a segment adds: the pass comes into the segment, and leaves it at once
+-- what a look at the deadline of a segment adds: the pass comes into the segment,
+-- and leaves it at once
 abbrev pub peek : ℕ → Option ℕ → List Event
 peek pass None = []
 peek pass (Some segment) = Left pass segment ∷ Entered pass segment ∷ []
