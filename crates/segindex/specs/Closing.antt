@@ -38,7 +38,8 @@ pub record IsEnd (shape : Shape) (p : Pass) (last : List Entry) : Type 0 where
 
 -- These are the pairs of the cache after such a history.
 abbrev pub IsContent : Shape → Pass → Pairs → Type 0
-IsContent shape p content = (last : List Entry) × IsEnd shape p last × (content ≡ pairs_of (after shape last))
+IsContent shape p content =
+    (last : List Entry) × IsEnd shape p last × (content ≡ pairs_of (after shape last))
 
 -- These are the pairs of the cache after what the pass has seen.
 abbrev pub IsContentSeen : Shape → Pass → Pairs → Type 0
@@ -46,9 +47,11 @@ IsContentSeen shape p content = content ≡ pairs_of (after shape (seen p))
 
 -- Some key stands after the history.
 abbrev pub HasContent : Shape → List Entry → Type 0
-HasContent shape last = (key : List ℕ) × (value : List ℕ) × (value_under (after shape last) key ≡ Some value)
+HasContent shape last =
+    (key : List ℕ) × (value : List ℕ) × (value_under (after shape last) key ≡ Some value)
 
--- Some key stands after such a history. If the index has one pass, the history is what the pass has seen.
+-- Some key stands after such a history.
+-- If the index has one pass, the history is what the pass has seen.
 pub record WantsMemory (shape : Shape) (p : Pass) : Type 0 where
   pub end : List Entry
   pub is_end : IsEnd shape p end
@@ -62,7 +65,8 @@ pub record AreAllQuiet (b : Board) (passes : List Pass) : Type 0 where
   pub quiet : (place : ℕ) (p : Pass) → slice_get passes place ≡ Some p → IsQuiet b p
   pub all : HasEach b.shape.passes passes
 
--- The history is what one of the passes has seen. From what each pass has seen it goes on by entries of other passes.
+-- The history is what one of the passes has seen.
+-- From what each pass has seen it goes on by entries of other passes.
 -- It has no entry of a pass whose number the index doesn't have.
 pub record IsEndOfAll (shape : Shape) (passes : List Pass) (last : List Entry) : Type 0 where
   pub place : ℕ
@@ -74,51 +78,77 @@ pub record IsEndOfAll (shape : Shape) (passes : List Pass) (last : List Entry) :
 
 -- These are the pairs of the cache after that history.
 abbrev pub IsContentOfAll : Shape → List Pass → Pairs → Type 0
-IsContentOfAll shape passes content = (last : List Entry) × IsEndOfAll shape passes last × (content ≡ pairs_of (after shape last))
+IsContentOfAll shape passes content =
+    (last : List Entry) × IsEndOfAll shape passes last × (content ≡ pairs_of (after shape last))
 
 -- Some key stands after that history.
 abbrev pub WantsMemoryOfAll : Shape → List Pass → Type 0
-WantsMemoryOfAll shape passes = (last : List Entry) × IsEndOfAll shape passes last × HasContent shape last
+WantsMemoryOfAll shape passes =
+    (last : List Entry) × IsEndOfAll shape passes last × HasContent shape last
 
 -- ---- on the way
 
 -- These are the pairs that stand, whichever events made the words what they are.
 abbrev pub IsPairsAtRest : Words → Pairs → Type 0
-IsPairsAtRest words pairs = (trace : List Event) → closing.IsAtRest words trace → pairs ≡ pairs_of (after (closing.shape_of words) (event.seen trace))
+IsPairsAtRest words pairs = (trace : List Event)
+    → closing.IsAtRest words trace
+    → pairs ≡ pairs_of (after (closing.shape_of words) (event.seen trace))
 
 -- Some key stands, whichever events made the words what they are.
 abbrev pub HasPairs : Words → Type 0
-HasPairs words = (trace : List Event) → closing.IsAtRest words trace → HasContent (closing.shape_of words) (event.seen trace)
+HasPairs words = (trace : List Event)
+    → closing.IsAtRest words trace
+    → HasContent (closing.shape_of words) (event.seen trace)
 
 -- the value that is listed under a key
 abbrev pub listed : Pairs → List ℕ → Option (List ℕ)
 listed pairs key = lookup (is_at (key_cmp key)) pairs
 
--- These are the pairs that stand after the events of the trace, of just the keys of which `Of` is so, each key once.
-pub record Lists (shape : Shape) (trace : List Event) (Of : List ℕ → Type 0) (pairs : Pairs) : Type 0 where
+-- These are the pairs that stand after the events of the trace,
+-- of just the keys of which `Of` is so, each key once.
+pub record Lists (shape : Shape) (trace : List Event) (Of : List ℕ → Type 0) (pairs : Pairs)
+    : Type 0 where
   pub distinct : IsDistinct (eq_by_cmp key_cmp) (keys_of pairs)
-  pub only : (key value : List ℕ) → listed pairs key ≡ Some value → Of key × (value_under (after shape (event.seen trace)) key ≡ Some value)
-  pub all : (key value : List ℕ) → Of key → value_under (after shape (event.seen trace)) key ≡ Some value → listed pairs key ≡ Some value
+  pub only : (key value : List ℕ)
+      → listed pairs key ≡ Some value
+      → Of key × (value_under (after shape (event.seen trace)) key ≡ Some value)
+  pub all : (key value : List ℕ)
+      → Of key
+      → value_under (after shape (event.seen trace)) key ≡ Some value
+      → listed pairs key ≡ Some value
 
--- The key's bucket is before this one, or it is this one and the key's item is at a lower position of its chain.
+-- The key's bucket is before this one,
+-- or it is this one and the key's item is at a lower position of its chain.
 abbrev pub IsBefore : Shape → List Event → ℕ → ℕ → List ℕ → Type 0
 IsBefore shape trace bucket position key =
-    (bucket_of shape key < bucket) ⊎ ((bucket_of shape key ≡ bucket) × ((at : ℕ) × (at < position) × KeyAt shape key trace at))
+    (bucket_of shape key < bucket)
+    ⊎ ((bucket_of shape key ≡ bucket) × ((at : ℕ) × (at < position) × KeyAt shape key trace at))
 
--- The chains of the buckets before this one are listed, and of its own chain the words before this position.
+-- The chains of the buckets before this one are listed,
+-- and of its own chain the words before this position.
 abbrev pub IsListed : Words → List Event → ℕ → ℕ → Pairs → Type 0
-IsListed words trace bucket position pairs = Lists (closing.shape_of words) trace (IsBefore (closing.shape_of words) trace bucket position) pairs
+IsListed words trace bucket position pairs =
+    Lists (closing.shape_of words) trace
+    (IsBefore (closing.shape_of words) trace bucket position) pairs
 
 -- The place is the word at a position of the chain of a bucket.
 abbrev pub IsWordIn : Words → List Event → ℕ → ℕ → Place → Type 0
-IsWordIn words trace home at place = IsPlace (closing.shape_of words) place × IsItemAt (closing.shape_of words) trace home at (cell_at (closing.shape_of words) place)
+IsWordIn words trace home at place =
+    IsPlace (closing.shape_of words) place
+    × IsItemAt (closing.shape_of words) trace home at (cell_at (closing.shape_of words) place)
 
 -- The bucket is the one at this depth of the chain that begins with the bucket `home`.
 abbrev pub IsBucketIn : Words → List Event → ℕ → ℕ → ℕ → Type 0
-IsBucketIn words trace home depth bucket = (word : ℕ) → 0 < word → word < 8 → IsWordIn words trace home (8 * depth + word) (place_of bucket word)
+IsBucketIn words trace home depth bucket = (word : ℕ)
+    → 0 < word
+    → word < 8
+    → IsWordIn words trace home (8 * depth + word) (place_of bucket word)
 
 -- the key whose item is at a position of the chain, with its value, if there is one
 abbrev pub IsPairAt : Shape → List Event → ℕ → ℕ → Option (List ℕ × List ℕ) → Type 0
-IsPairAt shape trace home at None = (key : List ℕ) → bucket_of shape key ≡ home → ¬ (KeyAt shape key trace at)
+IsPairAt shape trace home at None =
+    (key : List ℕ) → bucket_of shape key ≡ home → ¬ (KeyAt shape key trace at)
 IsPairAt shape trace home at (Some pair) =
-    (bucket_of shape pair.0 ≡ home) × KeyAt shape pair.0 trace at × (value_under (after shape (event.seen trace)) pair.0 ≡ Some pair.1)
+    (bucket_of shape pair.0 ≡ home)
+    × KeyAt shape pair.0 trace at
+    × (value_under (after shape (event.seen trace)) pair.0 ≡ Some pair.1)

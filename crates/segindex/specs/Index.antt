@@ -11,7 +11,8 @@ board_of index = index.board
 abbrev pub shape_of : Index → Shape
 shape_of index = index.board.shape
 
--- an index that was just created, and its passes in the order of their numbers, which have seen nothing
+-- an index that was just created, and its passes in the order of their numbers,
+-- which have seen nothing
 pub record IsNew (shape : Shape) (index : Index) (passes : List Pass) : Type 0 where
   pub made : IsMade shape (board_of index) passes
   pub quiet : All (IsQuiet (board_of index)) passes

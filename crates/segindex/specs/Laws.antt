@@ -29,20 +29,23 @@ MarksAreBeside = OfQuiet (λ b p. entries (marked p) ≡ seen p)
 
 -- The pass knows the states of just its own segments.
 abbrev pub KnowsItsOwn : Type 0
-KnowsItsOwn = OfQuiet (λ b p. (segment : ℕ) → IsSome (state_of p segment) ↔ (owner b.shape segment ≡ number p))
+KnowsItsOwn = OfQuiet
+    (λ b p. (segment : ℕ) → IsSome (state_of p segment) ↔ (owner b.shape segment ≡ number p))
 
 -- The segments whose states the pass knows are segments of the table.
 abbrev pub OwnAreInTable : Type 0
-OwnAreInTable = OfQuiet (λ b p. (segment : ℕ) → IsSome (state_of p segment) → IsSegment b.shape segment)
+OwnAreInTable =
+    OfQuiet (λ b p. (segment : ℕ) → IsSome (state_of p segment) → IsSegment b.shape segment)
 
 -- Of a segment of the pass those rows are used that an item was linked to in this filling.
 abbrev pub UsedAreLinked : Type 0
-UsedAreLinked = OfQuiet (λ b p. (segment used row : ℕ) → used_of p segment ≡ Some used → row < b.shape.rows
-    → is_some (linked_in (marked p) segment row) ≡ nat_lt row used)
+UsedAreLinked = OfQuiet (λ b p. (segment used row : ℕ) → used_of p segment ≡ Some used
+    → row < b.shape.rows → is_some (linked_in (marked p) segment row) ≡ nat_lt row used)
 
 -- The segment that the pass stores into is in use.
 abbrev pub CurrentIsInUse : Type 0
-CurrentIsInUse = OfQuiet (λ b p. (segment : ℕ) → current_of p ≡ Some segment → state_of p segment ≡ Some InUse)
+CurrentIsInUse =
+    OfQuiet (λ b p. (segment : ℕ) → current_of p ≡ Some segment → state_of p segment ≡ Some InUse)
 
 -- A deadline that the pass keeps of a segment is the segment's deadline in the cache.
 abbrev pub DeadlinesAreKnown : Type 0
@@ -51,16 +54,19 @@ DeadlinesAreKnown = OfQuiet (λ b p. (segment deadline : ℕ) → deadline_of p 
 
 -- No key stands in a segment of the pass that isn't in use.
 abbrev pub UnusedIsEmpty : Type 0
-UnusedIsEmpty = OfQuiet (λ b p. (segment : ℕ) (state : SegState) → state_of p segment ≡ Some state → state ≢ InUse
-    → NoneStandsIn (after b.shape (seen p)) segment)
+UnusedIsEmpty = OfQuiet (λ b p. (segment : ℕ) (state : SegState) → state_of p segment ≡ Some state
+    → state ≢ InUse → NoneStandsIn (after b.shape (seen p)) segment)
 
 -- No entry came into the bucket that the pass has locked, since it was locked.
 abbrev pub LockedIsStill : Type 0
-LockedIsStill = OfQuiet (λ b p. (lock : Locked) → locked p ≡ Some lock → NoneSince b.shape lock (seen p))
+LockedIsStill =
+    OfQuiet (λ b p. (lock : Locked) → locked p ≡ Some lock → NoneSince b.shape lock (seen p))
 
--- At most seven keys of a bucket stand, and six more for each overflow bucket that joined its chain.
+-- At most seven keys of a bucket stand,
+-- and six more for each overflow bucket that joined its chain.
 abbrev pub KeysAreFew : Type 0
-KeysAreFew = OfQuiet (λ b p. (bucket : ℕ) → keys_in b.shape (after b.shape (seen p)) bucket ≤ 6 * chained_to (marked p) bucket + 7)
+KeysAreFew = OfQuiet (λ b p. (bucket : ℕ)
+    → keys_in b.shape (after b.shape (seen p)) bucket ≤ 6 * chained_to (marked p) bucket + 7)
 
 -- No chain has more overflow buckets than there are.
 abbrev pub ChainsAreShort : Type 0
@@ -74,7 +80,8 @@ OfOnly Is = OfQuiet (λ b p. b.shape.passes ≡ 1 → Is b p)
 
 -- `Is` holds of the only pass of an index at any two moments at which it is quiet.
 abbrev pub OfOnlyTwice : (Board → Pass → Pass → Type 0) → Type 0
-OfOnlyTwice Is = (b : Board) (p q : Pass) → IsQuiet b p → IsQuiet b q → b.shape.passes ≡ 1 → Is b p q
+OfOnlyTwice Is =
+    (b : Board) (p q : Pass) → IsQuiet b p → IsQuiet b q → b.shape.passes ≡ 1 → Is b p q
 
 -- Each entry that the pass has seen is its own.
 abbrev pub AllAreOwn : Type 0
@@ -90,11 +97,13 @@ NoLookGlanced = OfOnly (λ b p. (bucket : ℕ) → glanced p bucket ≡ 0)
 
 -- Nobody else is in a segment.
 abbrev pub NobodyIsInside : Type 0
-NobodyIsInside = OfOnly (λ b p. (other segment : ℕ) → other ≢ number p → inside (trace p) other segment ≡ 0)
+NobodyIsInside =
+    OfOnly (λ b p. (other segment : ℕ) → other ≢ number p → inside (trace p) other segment ≡ 0)
 
 -- Each overflow bucket that was drawn has joined its chain.
 abbrev pub DrawnHaveJoined : Type 0
-DrawnHaveJoined = OfOnly (λ b p. (bucket : ℕ) → width (marked p) bucket ≡ chained_to (marked p) bucket + 1)
+DrawnHaveJoined =
+    OfOnly (λ b p. (bucket : ℕ) → width (marked p) bucket ≡ chained_to (marked p) bucket + 1)
 
 -- Only the bucket that the pass has locked itself is busy.
 abbrev pub BusyIsLocked : Type 0
@@ -102,7 +111,8 @@ BusyIsLocked = OfOnlyTwice (λ b p q. (bucket : ℕ) → IsBusy bucket p q → l
 
 -- While the pass adds no entry, nothing comes into the bucket of a key.
 abbrev pub NothingIsStirred : Type 0
-NothingIsStirred = OfOnlyTwice (λ b p q. (key : List ℕ) → mine q ≡ mine p → stirred b.shape key (seen p) (seen q) ≡ 0)
+NothingIsStirred = OfOnlyTwice
+    (λ b p q. (key : List ℕ) → mine q ≡ mine p → stirred b.shape key (seen p) (seen q) ≡ 0)
 
 -- ---- replies
 
@@ -115,26 +125,38 @@ WritesAtAMoment = (b : Board) (p q : Pass) (request : Request) (told : WriteAnsw
 
 -- The same is so of a reply to a delete.
 abbrev pub DeletesAtAMoment : Type 0
-DeletesAtAMoment = (b : Board) (p q : Pass) (key : List ℕ) (now : ℕ) (told : DeleteAnswer) (said : Reply)
-    → Deletes b key now told p q → reply_of_delete told ≡ Some said
+DeletesAtAMoment =
+    (b : Board) (p q : Pass) (key : List ℕ) (now : ℕ) (told : DeleteAnswer) (said : Reply)
+    → Deletes b key now told p q
+    → reply_of_delete told ≡ Some said
     → WasTold b.shape (number p) (Delete key now) said (seen p) (seen q)
 
--- A gets of one pass, from `reader` to `found`, gave a version. A cas of any pass, from `p` to `q`, expects
--- this version, and was replied. `Is` holds of any such two calls, with the history at the gets (`got.0`),
+-- A gets of one pass, from `reader` to `found`, gave a version.
+-- A cas of any pass, from `p` to `q`, expects this version, and was replied.
+-- `Is` holds of any such two calls, with the history at the gets (`got.0`),
 -- the history at the cas (`was.1.0`), and the cas's `now`.
-abbrev pub OfGetsAndCas : ((b : Board) → List ℕ → (now : ℕ) → (found p : Pass) → Reply → (read entered : List Entry) → Type 0) → Type 0
-OfGetsAndCas Is = (b : Board) (reader found p q : Pass) (key read value : List ℕ) (version before now : ℕ) (told : WriteAnswer) (said : Reply)
+abbrev pub OfGetsAndCas : ((b : Board) → List ℕ → (now : ℕ) → (found p : Pass) → Reply
+    → (read entered : List Entry) → Type 0) → Type 0
+OfGetsAndCas Is =
+    (b : Board) (reader found p q : Pass) (key read value : List ℕ) (version before now : ℕ)
+    (told : WriteAnswer) (said : Reply)
     → b.shape.first_version < 2 ^ 32
     → (got : IsGetsAnswer b.shape key before (Found read version) reader found)
-    → Writes b (Cas key value version now) told p q → reply_of_write told ≡ Some said
-    → (was : WasTold b.shape (number p) (Cas key value version now) said (seen p) (seen q)) × Is b key now found p said got.0 was.1.0
+    → Writes b (Cas key value version now) told p q
+    → reply_of_write told ≡ Some said
+    → (was : WasTold b.shape (number p) (Cas key value version now) said (seen p) (seen q))
+    × Is b key now found p said got.0 was.1.0
 
 -- A cas that is entered later than the gets is NotFound if its key is absent then.
--- Otherwise the cas is Exists exactly if the numbers of the bucket's writes at the two moments differ modulo 2^32,
--- and else Stored.
+-- Otherwise the cas is Exists exactly if the numbers of the bucket's writes at the two moments
+-- differ modulo 2^32, and else Stored.
 abbrev pub CasFailsWhereWrittenSince : Type 0
-CasFailsWhereWrittenSince = OfGetsAndCas (λ b key now found p said read entered. Begins read entered → said ≡ cas_reply b.shape key now read entered)
+CasFailsWhereWrittenSince =
+    OfGetsAndCas (λ b key now found p said read entered.
+    Begins read entered → said ≡ cas_reply b.shape key now read entered)
 
 -- The same is so if the cas's pass, when it called, had seen all that the gets had seen.
 abbrev pub CasCalledLaterFails : Type 0
-CasCalledLaterFails = OfGetsAndCas (λ b key now found p said read entered. Begins (seen found) (seen p) → said ≡ cas_reply b.shape key now read entered)
+CasCalledLaterFails =
+    OfGetsAndCas (λ b key now found p said read entered.
+    Begins (seen found) (seen p) → said ≡ cas_reply b.shape key now read entered)

@@ -15,7 +15,8 @@ pub record Meets (p q p' q' : Pass) : Type 0 where
   pub of_second : Begins (history.mine (number q) (seen p)) (mine q)
   pub of_first : Begins (history.mine (number p) (seen q)) (mine p)
 
--- What a call of two passes does to one of them: the pass adds no entry, and keeps all that it kept.
+-- What a call of two passes does to one of them: the pass adds no entry,
+-- and keeps all that it kept.
 -- The call costs nothing.
 pub record OnlyLearns (b : Board) (p q : Pass) : Type 0 where
   pub on : GoesOn b p q

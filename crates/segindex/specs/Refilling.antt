@@ -21,7 +21,9 @@ pub record Refills (segment deadline : ℕ) (p q : Pass) : Type 0 where
 
 -- Another pass is in the segment, or this one holds an item there.
 abbrev pub IsBeingRead : ℕ → Pass → Type 0
-IsBeingRead segment p = ((other : ℕ) × (other ≢ number p) × (0 < inside (trace p) other segment)) ⊎ (is_held_in (holding p) segment ≡ true)
+IsBeingRead segment p =
+    ((other : ℕ) × (other ≢ number p) × (0 < inside (trace p) other segment))
+    ⊎ (is_held_in (holding p) segment ≡ true)
 
 abbrev pub IsRefillAnswer : ℕ → ℕ → RefillAnswer → Pass → Pass → Type 0
 IsRefillAnswer segment deadline refill.Refilled p q = Refills segment deadline p q
@@ -29,12 +31,16 @@ IsRefillAnswer segment deadline refill.NotYours p q = q ≡ p
 IsRefillAnswer segment deadline refill.NotEvicted p q = q ≡ p
 IsRefillAnswer segment deadline refill.Held p q = ChangesNothing p q × IsBeingRead segment q
 
--- A refill is answered so: NotYours exactly if the segment isn't one of the pass's own, and NotEvicted exactly if it is in use.
+-- A refill is answered so: NotYours exactly if the segment isn't one of the pass's own,
+-- and NotEvicted exactly if it is in use.
 -- An evicted segment in which the pass itself holds an item is always Held.
-pub record RefillsSegment (b : Board) (segment deadline : ℕ) (told : RefillAnswer) (p q : Pass) : Type 0 where
+pub record RefillsSegment (b : Board) (segment deadline : ℕ) (told : RefillAnswer) (p q : Pass)
+    : Type 0 where
   pub on : GoesOn b p q
   pub answer : IsRefillAnswer segment deadline told p q
   pub not_yours : (told ≡ refill.NotYours) ↔ (state_of p segment ≡ None)
   pub in_use : (told ≡ refill.NotEvicted) ↔ (state_of p segment ≡ Some InUse)
-  pub held : state_of p segment ≡ Some Evicted → is_held_in (holding p) segment ≡ true → told ≡ refill.Held
+  pub held : state_of p segment ≡ Some Evicted
+      → is_held_in (holding p) segment ≡ true
+      → told ≡ refill.Held
   pub costs_nothing : CostsNothing p q
