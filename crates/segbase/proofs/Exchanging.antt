@@ -11,7 +11,7 @@ use Rattle.segcore.proofs.Limits.{drawn_few, few_drawn}
 use Rattle.segbase.specs.Words.{Board, Pass, Place}
 use Rattle.segbase.specs.Passes.{number, trace, IsPassOf, AddsAtOnce, Stepped}
 use Rattle.segbase.specs.Spots.{cell_at}
-use Rattle.segbase.specs.Steps.{Missed, CounterMissed}
+use Rattle.segbase.specs.Steps.{counting, Missed, CounterMissed}
 use Rattle.segbase.proofs.Standing.{under_bit, higher}
 
 -- the exchange of an event that found what it expects
@@ -52,6 +52,10 @@ counter_missed b p q bucket depth from found low other s =
       over = omega arith;
       few = omega arith;
     }
+
+-- a look at the counter finds no more than the most that a table has
+pub counted_few : (b : Board) (p q : Pass) (found : ℕ) → IsPassOf b p → Stepped b counting found p q → found ≤ 65536
+counted_few b p q found is s = let a = drawn_few b.shape (s.told.more ++ trace p) s.told.before in let c = few_drawn b.shape is.valid in let e = s.told.found_is in omega arith
 
 -- the last word of a chain is one of its item words
 pub last_at : (z : Shape) (h : List Event) (b : ℕ) (c : Cell) → IsAt h b (last (bucket_after z h b)) c → IsItemAt z h b (last (bucket_after z h b)) c

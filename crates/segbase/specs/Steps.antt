@@ -2,6 +2,7 @@
 use Rattle.std.specs.Prelude.{◌≡◌, ◌≢◌, ℕ, ◌+◌, ◌/◌, ◌%◌, ◌^◌, ◌<◌, ◌≤◌, ◌==◌, Bool, true, false, List, [], ◌∷◌, None}
 use prog.Atomic.{either}
 use Rattle.segword.specs.Words.{chain_word, Info, IsSameItem, Item, item_word, tag_part}
+use Rattle.segcore.specs.declared.cell.Cell.TheVariants.{OfCounter}
 use Rattle.segcore.specs.declared.event.Event.TheVariants.{Took, Bounced, Glanced, Linked, Relinked, Unlinked}
 use Rattle.segcore.specs.Words.{bucket_after, bump, chain, clear, Content, copy, draw, drawn_in, Leaving}
 use Rattle.segcore.specs.Words.{Event, fill, glance, HasBit, is, IsItemAt, IsWordOf, item, link}
@@ -188,6 +189,10 @@ drawing b p bucket from = draw bucket (depth_to_draw b bucket p) from
 -- the item's word comes into word 1 of an overflow bucket that was drawn
 abbrev pub copying : Pass → ℕ → Item → Step
 copying p overflow moved = fill (home_bucket_of (trace p) overflow) overflow (item_word moved)
+
+-- a look at how many are drawn
+abbrev pub counting : Step
+counting = look OfCounter
 
 -- a draw that failed drew nothing: others drew the bucket of this number,
 -- and the counter is over it

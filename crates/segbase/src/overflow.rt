@@ -1,9 +1,9 @@
 //! Steps that lengthen a bucket's chain: an overflow bucket is drawn, its word 1 is stored,
 //! and the chain then leads on to it.
-ghost use Rattle.std.specs.Prelude.{ℕ, ◌<◌, OnOk, IfErr};
+ghost use Rattle.std.specs.Prelude.{◌≡◌, ℕ, ◌<◌, [], OnOk, IfErr};
 ghost use Rattle.segword.specs.Words.{chain_word, item_word};
 ghost use Rattle.segcore.specs.declared.event.Event.TheVariants.{Drew, Put, Chained};
-ghost use Rattle.segcore.specs.Words.{Step};
+ghost use Rattle.segcore.specs.Words.{drawn_in, Step};
 
 use crate::board::Board;
 use crate::pass::Pass;
@@ -14,11 +14,22 @@ use segword::{Chain, Item};
 pub const CHAIN_BUCKETS: u32 = 4;
 
 impl Board {
-    ghost use Rattle.segbase.specs.Passes.{trace, IsPassOf, CanStep, Stepped};
+    ghost use Rattle.segbase.specs.Passes.{trace, AddsAtOnce, IsPassOf, CanStep, Stepped};
     ghost use Rattle.segbase.specs.Spots.{item_spot, home_bucket_of};
     ghost use Rattle.segbase.specs.Steps.{MayTake, TakesStep, drawing, copying, chaining};
     ghost use Rattle.segbase.specs.Steps.{exchanging, AddsOne, home_at, depth_to_draw, Missed};
-    ghost use Rattle.segbase.specs.Steps.{CounterMissed};
+    ghost use Rattle.segbase.specs.Steps.{counting, CounterMissed};
+
+    /// How many overflow buckets are drawn. None of them is ever given back.
+    pub fn drawn_overflow(&self, pass: &mut Pass) -> u32
+        requires pass { IsPassOf self.now pass.old }
+        ensures step { Stepped self.now counting result pass.old pass.new }
+        ensures did { AddsAtOnce self.now [] pass.old pass.new }
+        ensures drawn { result ≡ drawn_in (trace pass.new) }
+    {
+        // Which bucket one would be drawn for is no matter to a look.
+        self.load_at(pass, Spot::Counter(0)) as u32
+    }
 
     /// Draws overflow bucket `from` for a bucket whose bit the pass has.
     /// `Err` has the counter, which is over `from`: others drew that bucket.

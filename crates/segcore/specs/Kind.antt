@@ -29,7 +29,7 @@ pub data Step : Type 0 where
   info_look : ℕ → Step
   -- the same without the bit, for `gets`; whether the pass has the bit
   glance : ℕ → Bool → Step
-  -- at an item word, under the bit or without it
+  -- at an item word, under the bit or without it, or at the counter of overflow buckets
   look : Cell → Step
   -- for a request: segment, row, position and its cell,
   -- and the word that is to be there (a link finds 0, a replace an item)
@@ -154,10 +154,12 @@ abbrev pub KnowsBit : Shape → List Event → ℕ → ℕ → Bool → Type 0
 KnowsBit shape trace pass bucket own =
     (bucket < shape.buckets) × (is (bucket_after shape trace bucket).holder pass ≡ own)
 
-abbrev pub IsItemCell : Cell → Type 0
-IsItemCell (OfBucket bucket w) = 0 < w
-IsItemCell (OfOverflow number w) = 0 < w
-IsItemCell _ = ⊥
+-- any pass may look at the counter of overflow buckets and at item words
+abbrev pub MayLookAt : Cell → Type 0
+MayLookAt OfCounter = Unit {0}
+MayLookAt (OfBucket bucket w) = 0 < w
+MayLookAt (OfOverflow number w) = 0 < w
+MayLookAt _ = ⊥
 
 -- The row is the pass's own.
 -- Or the pass is in the row's segment, and the row was linked in this filling.
@@ -187,7 +189,7 @@ May shape trace pass (release bucket counted said) =
     × MayRefuse shape trace pass bucket said
 May shape trace pass (info_look bucket) = HasBit shape trace pass bucket
 May shape trace pass (glance bucket own) = KnowsBit shape trace pass bucket own
-May shape trace pass (look of) = IsCell shape of × IsItemCell of
+May shape trace pass (look of) = IsCell shape of × MayLookAt of
 May shape trace pass (link request segment row position of old) =
     Fits shape trace (Linked pass request segment row position)
     × IsItemAt shape trace (bucket_of shape (key_of request)) position of
