@@ -10,3 +10,4 @@ pub mod Relinking
 pub mod Moving
 pub mod KeptRows
 pub mod Keeping
+pub mod Naming

@@ -3,6 +3,7 @@ pub mod Frequencies
 pub mod Keeping
 pub mod KeptRows
 pub mod Moving
+pub mod Naming
 pub mod Relinking
 pub mod Rows
 pub mod Tries

@@ -7,3 +7,5 @@ pub use Rattle.segevict.specs.Keeping.{MovesAway, MovesItems, UsesRows}
 pub use Rattle.segevict.specs.KeptRows.{LacksBit, LacksRoom, LeavesItsItem, MovesItsItem}
 pub use Rattle.segevict.specs.Moving.{GoesInOrder, GoesOver, IsKeptRow, KeepsRow, moves, SeesRow}
 pub use Rattle.segevict.specs.Moving.{StopsAt, under_bit}
+pub use Rattle.segevict.specs.Naming.{AreNamed, CountsRows, IsNamed, own_at, sum_below, SumsUp}
+pub use Rattle.segevict.specs.Naming.{Tallies, used_at, WasNamed}

@@ -1,10 +1,13 @@
 //! What empties a segment: an eviction takes every key out of it, and a keep before it moves
 //! what is read often into another segment, each key under the bit of its bucket.
+//! Beside that, how many rows of a pass's own segments are used, and how many of these items name.
 #![tactic(auto)]
 
 mod eviction;
+mod named;
 mod retention;
 mod row;
 
 pub use eviction::evict;
+pub use named::{RowCounts, count_rows};
 pub use retention::keep;
