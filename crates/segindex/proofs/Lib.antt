@@ -1,6 +1,7 @@
 pub mod Made
 pub mod Refills
 pub mod Meeting
+pub mod Stats
 pub mod OnePass
 pub mod Probing
 pub mod QuietPass

@@ -5,4 +5,5 @@ pub mod Laws
 pub mod Meeting
 pub mod Probing
 pub mod Refilling
+pub mod Stats
 pub mod Words

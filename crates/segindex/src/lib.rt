@@ -13,6 +13,7 @@ mod probe;
 mod read;
 mod segment;
 mod serve;
+mod table_stats;
 #[cfg(test)]
 mod tests;
 mod write;
@@ -28,3 +29,4 @@ pub use segmodel::{
 pub use segpass::LockAnswer;
 pub use segread::{Hold, HoldAnswer, hold_stays};
 pub use segword::{Key, Shape, ShapeFault, Value};
+pub use table_stats::IndexStats;

@@ -4,7 +4,7 @@ ghost use Rattle.std.specs.Prelude.{◌≡◌, ◌∷◌, [], IfOk};
 ghost use Rattle.segindex.specs.Words.{board_of};
 ghost use Rattle.segpass.specs.Words.{IsQuiet};
 
-use segindex::{Index, LockAnswer, OutOfMemory, Pass};
+use segindex::{Index, IndexStats, LockAnswer, OutOfMemory, Pass};
 use segmodel::{
     DeleteAnswer, EvictAnswer, GetAnswer, GetsAnswer, KeepAnswer, RefillAnswer, WriteAnswer,
 };
@@ -130,6 +130,14 @@ pub fn unlock(index: &Index, pass: &mut Pass) -> bool
     ensures { IsQuiet (board_of index.now) pass.new }
 {
     index.unlock_bucket(pass)
+}
+
+/// What the pass sees of the table, in numbers.
+pub fn index_stats(index: &Index, pass: &mut Pass) -> IndexStats
+    requires { IsQuiet (board_of index.now) pass.old }
+    ensures { IsQuiet (board_of index.now) pass.new }
+{
+    index.stats(pass)
 }
 
 /// Lets two passes meet.

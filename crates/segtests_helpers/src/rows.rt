@@ -4,10 +4,11 @@ ghost use Rattle.segindex.specs.Words.{board_of};
 ghost use Rattle.segpass.specs.Words.{IsQuiet};
 
 use crate::calls::{
-    add, cas, delete, evict, get, gets, keep, lock, probe, refill, replace, set, unlock,
+    add, cas, delete, evict, get, gets, index_stats, keep, lock, probe, refill, replace, set,
+    unlock,
 };
 use crate::holds::{hold_over_a_set, hold_over_an_eviction};
-use segindex::{Index, LockAnswer, Pass};
+use segindex::{Index, IndexStats, LockAnswer, Pass};
 use segmodel::{
     DeleteAnswer, EvictAnswer, GetAnswer, GetsAnswer, KeepAnswer, RefillAnswer, SegState,
     WriteAnswer,
@@ -19,6 +20,7 @@ use segword::{Key, Value};
 /// Beside those of a script there are the calls "used", "state", "deadline", "current" and
 /// "holding", of what the pass keeps, and "set_held" and "evict_held": the key is held, this value
 /// is set or this segment evicted, and the answer has what the hold reads then.
+/// A "stats" is answered as "1 8 7", for 1 overflow bucket, 8 used rows and 7 named ones.
 /// A "probe" has both of its answers, as "STORED VALUE 1".
 /// A call that reads or writes a key ends with its moment, as "@0".
 pub type Row<'t> = (&'t str, &'t str);
@@ -110,6 +112,7 @@ fn is_answered(index: &Index, pass: &mut Pass, call: Call<'_>, wanted: &str) -> 
         "unlock" => unlocked(unlock(index, pass)) == wanted,
         "current" => is_number(wanted, pass.current()),
         "holding" => holds(pass.is_holding()) == wanted,
+        "stats" => is_counted_so(wanted, index_stats(index, pass)),
         _ => false,
     }
 }
@@ -319,6 +322,14 @@ fn is_counted(wanted: &str, word: &str, number: u32) -> bool {
         Some((front, last)) => front == word && is_number(last, Some(number)),
         None => false,
     }
+}
+
+// Whether "1 8 7" is wanted, for 1 overflow bucket, 8 used rows and 7 named ones.
+fn is_counted_so(wanted: &str, told: IndexStats) -> bool {
+    let mut words = wanted.split(' ');
+    is_number(words.next().unwrap_or(""), Some(told.overflow_buckets))
+        && is_number(words.next().unwrap_or(""), Some(told.used_rows))
+        && is_number(words.next().unwrap_or(""), Some(told.named_rows))
 }
 
 // Whether this number is wanted, or "NONE".
