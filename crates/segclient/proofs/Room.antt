@@ -1,5 +1,6 @@
 -- How a put makes room, call by call.
-use Rattle.std.proofs.Common.{◌≡◌, ◌≢◌, ℕ, ◌+◌, ◌-◌, ◌*◌, ◌<◌, ◌≤◌, is_some, None, refl, sym, ap, ◌∙◌, subst, add-one, arith}
+use Rattle.std.proofs.Common.{◌≡◌, ◌≢◌, ℕ, ◌+◌, ◌-◌, ◌*◌, ◌<◌, ◌≤◌, is_some, None, refl, sym, ap, ◌∙◌, subst, add-one, arith, Bool, true, false, cond}
+use mir.Val.{bool_byte}
 use Rattle.std.proofs.lemmas.Bool.{false≢true}
 use Rattle.std.proofs.lemmas.Nat.{div-mul-add}
 use Rattle.segword.specs.Words.{Shape}
@@ -13,7 +14,7 @@ use Rattle.segindex.specs.Refilling.{RefillsSegment}
 use Rattle.segindex.proofs.QuietPass.{owned}
 use Rattle.segpolicy.specs.Words.{Cycle, next_of, turned}
 use Rattle.segclient.specs.Rings.{IsOwnRing}
-use Rattle.segclient.specs.Putting.{AreBusy, first_of, NoneRefilled, PassesOver, CannotGiveUp, turned_by}
+use Rattle.segclient.specs.Putting.{AreBusy, first_of, NoneRefilled, PassesOver, CannotGiveUp, turned_by, Effort}
 
 -- ---- sets that are busy
 
@@ -78,3 +79,13 @@ unfolding PassesOver
 passed_again b ring now deadline tried segment before more p q r were turned at cannot =
     subst (λ n. PassesOver b ring deadline n (before + more) p r) (sym (add-one tried))
     (before, more, q, were, subst (λ s. CannotGiveUp b s deadline more q r) (at ∙ ap next_of turned) cannot, refl)
+
+-- ---- efforts
+
+pub as_byte : (made : Bool) → bool_byte made ≡ cond made 1 0
+as_byte true = refl
+as_byte false = refl
+
+-- an effort by its numbers
+abbrev pub effort_from : ℕ → ℕ → ℕ → Cycle → Effort
+effort_from refilled kept keys ring = record { refilled = refilled; kept = kept; keys = keys; ring = ring }

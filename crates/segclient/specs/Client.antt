@@ -1,5 +1,5 @@
 -- A client as contracts see it, and what its calls leave as it was.
-use Rattle.std.specs.Prelude.{◌≡◌, ℕ, ◌+◌, ◌*◌, ◌/◌, ◌%◌, ◌^◌, ◌-◌}
+use Rattle.std.specs.Prelude.{◌≡◌, ℕ, ◌+◌, ◌*◌, ◌/◌, ◌%◌, ◌^◌, ◌-◌, Option, None}
 use Rattle.segword.specs.Words.{Shape}
 use Rattle.segbase.specs.Words.{Board, number, Pass}
 use Rattle.segindex.specs.Words.{Index}
@@ -19,12 +19,13 @@ next_draws draws = (draws * 1664525 % 2 ^ 32 + 1013904223) % 2 ^ 32
 abbrev pub draw_of : Client → ℕ
 draw_of client = next_draws client.draws / 256
 
--- a new client of the pass: its clock shows 0, what it puts never expires, and it counted nothing
+-- a new client of the pass: its clock shows 0, what it puts never expires, its puts keep nothing, and it counted nothing
 pub record Starts (i : Index) (p : Pass) (client : Client) : Type 0 where
   pub index : client.index.now ≡ i
   pub pass : client.pass ≡ p
   pub clock : client.clock ≡ 0
   pub time_to_live : client.time_to_live ≡ 2 ^ 32 - 1
+  pub cutoff : client.cutoff ≡ None
   pub stats : client.stats ≡ no_stats
 
 -- it is a client of the same index and the same pass
@@ -32,11 +33,12 @@ pub record IsSame (old new : Client) : Type 0 where
   pub index : new.index.now ≡ old.index.now
   pub number : number new.pass ≡ number old.pass
 
--- it is the same, with the same clock, and what it puts expires as before
+-- it is the same, with the same clock; what it puts expires as before, and its puts keep what they kept before
 pub record KeepsSettings (old new : Client) : Type 0 where
   pub same : IsSame old new
   pub clock : new.clock ≡ old.clock
   pub time_to_live : new.time_to_live ≡ old.time_to_live
+  pub cutoff : new.cutoff ≡ old.cutoff
 
 -- and it gives up the same segment next
 pub record Keeps (old new : Client) : Type 0 where
@@ -51,7 +53,7 @@ KeepsDraws old new = new.draws ≡ old.draws
 abbrev pub DrawsOnce : Client → Client → Type 0
 DrawsOnce old new = new.draws ≡ next_draws old.draws
 
--- what neither clock nor time to live are is as it was
+-- all but its settings is as it was
 pub record KeepsRest (old new : Client) : Type 0 where
   pub same : IsSame old new
   pub pass : new.pass ≡ old.pass
@@ -64,9 +66,18 @@ pub record SetsNow (now : ℕ) (old new : Client) : Type 0 where
   pub rest : KeepsRest old new
   pub clock : new.clock ≡ now
   pub time_to_live : new.time_to_live ≡ old.time_to_live
+  pub cutoff : new.cutoff ≡ old.cutoff
 
 -- what it puts expires so much later, and nothing else is changed
 pub record SetsTimeToLive (time : ℕ) (old new : Client) : Type 0 where
   pub rest : KeepsRest old new
   pub clock : new.clock ≡ old.clock
   pub time_to_live : new.time_to_live ≡ time
+  pub cutoff : new.cutoff ≡ old.cutoff
+
+-- its puts keep what has this frequency or a higher one, or nothing, and nothing else is changed
+pub record SetsCutoff (least : Option ℕ) (old new : Client) : Type 0 where
+  pub rest : KeepsRest old new
+  pub clock : new.clock ≡ old.clock
+  pub time_to_live : new.time_to_live ≡ old.time_to_live
+  pub cutoff : new.cutoff ≡ least

@@ -1,4 +1,4 @@
--- What a client counts: its calls, each by what it came to, and what its puts gave up.
+-- What a client counts: its calls, each by what it came to, and what its puts gave up and kept.
 use Rattle.std.specs.Prelude.{ℕ, ◌+◌, ◌-◌, ◌^◌, min}
 use Rattle.segmodel.specs.Words.{DeleteAnswer, GetAnswer, GetsAnswer, WriteAnswer}
 use Rattle.segmodel.specs.declared.answer.DeleteAnswer.TheVariants as delete
@@ -24,6 +24,7 @@ no_stats = record {
   bucket_full = 0;
   busy = 0;
   segments_refilled = 0;
+  items_kept = 0;
   keys_evicted = 0;
 }
 
@@ -44,9 +45,13 @@ counted tally.NoRoom stats = record stats { no_room = with_more stats.no_room 1 
 counted tally.BucketFull stats = record stats { bucket_full = with_more stats.bucket_full 1 }
 counted tally.Busy stats = record stats { busy = with_more stats.busy 1 }
 
--- what puts gave up is counted too: so many segments that were refilled, and so many keys that were evicted
-abbrev pub given_up_too : ℕ → ℕ → Stats → Stats
-given_up_too refilled keys stats = record stats { segments_refilled = with_more stats.segments_refilled refilled; keys_evicted = with_more stats.keys_evicted keys }
+-- what puts gave up is counted too: so many segments that were refilled, so many items that were kept, and so many keys that were evicted
+abbrev pub given_up_too : ℕ → ℕ → ℕ → Stats → Stats
+given_up_too refilled kept keys stats = record stats {
+  segments_refilled = with_more stats.segments_refilled refilled;
+  items_kept = with_more stats.items_kept kept;
+  keys_evicted = with_more stats.keys_evicted keys;
+}
 
 -- how an answer is counted
 abbrev pub get_tally : GetAnswer → Tally

@@ -1,17 +1,18 @@
 -- Which entries a put adds to the history, in the model's words.
-use Rattle.std.specs.Prelude.{◌≡◌, ◌⊎◌, ℕ, Bool, true, false, List, ◌∷◌, ◌++◌, All, Some, count_by}
+use Rattle.std.specs.Prelude.{◌≡◌, ◌⊎◌, ℕ, Bool, true, false, List, ◌∷◌, ◌++◌, All, Option, Some, IsSome, count_by}
 use Rattle.segword.specs.Words.{Shape}
-use Rattle.segmodel.specs.declared.entry.Entry.TheVariants.{Wrote, Evicted, Refilled}
+use Rattle.segmodel.specs.declared.entry.Entry.TheVariants.{Wrote, Evicted, Moved, Refilled}
 use Rattle.segmodel.specs.declared.request.Reply.TheVariants.{Stored}
 use Rattle.segmodel.specs.Words.{Entry, owner, Request}
 use Rattle.segclient.specs.declared.put.PutAnswer.{PutAnswer}
 use Rattle.segclient.specs.declared.put.PutAnswer.TheVariants as put
 
--- an eviction of a key from a segment of the pass's own, or a refilling of one up to this deadline
-abbrev pub IsOfRoom : Shape → ℕ → ℕ → Entry → Type 0
-IsOfRoom shape pass deadline entry =
+-- an eviction of a key from a segment of the pass's own, or a refilling of one up to this deadline; or, if there is a cutoff, a move of an item from one to another
+abbrev pub IsOfRoom : Shape → ℕ → Option ℕ → ℕ → Entry → Type 0
+IsOfRoom shape pass cutoff deadline entry =
     ((key : List ℕ) × (segment : ℕ) × (owner shape segment ≡ pass) × (entry ≡ Evicted pass key segment))
     ⊎ ((segment : ℕ) × (owner shape segment ≡ pass) × (entry ≡ Refilled pass segment deadline))
+    ⊎ (IsSome cutoff × ((key : List ℕ) × (from : ℕ) × (into : ℕ) × (owner shape from ≡ pass) × (owner shape into ≡ pass) × (entry ≡ Moved pass key from into)))
 
 abbrev pub is_eviction : Entry → Bool
 is_eviction (Evicted pass key segment) = true
@@ -21,18 +22,23 @@ abbrev pub is_refilling : Entry → Bool
 is_refilling (Refilled pass segment deadline) = true
 is_refilling _ = false
 
--- the pass took so many keys out of segments of its own, and refilled so many of these, and did nothing else that adds an entry
-pub record AddsRoom (shape : Shape) (pass deadline refilled keys : ℕ) (old new : List Entry) : Type 0 where
+abbrev pub is_move : Entry → Bool
+is_move (Moved pass key from into) = true
+is_move _ = false
+
+-- the pass refilled so many segments of its own, moved so many items from one to another, and took so many keys out of them, and did nothing else that adds an entry
+pub record AddsRoom (shape : Shape) (pass : ℕ) (cutoff : Option ℕ) (deadline refilled kept keys : ℕ) (old new : List Entry) : Type 0 where
   pub more : List Entry
-  pub of_room : All (IsOfRoom shape pass deadline) more
+  pub of_room : All (IsOfRoom shape pass cutoff deadline) more
   pub refillings : count_by is_refilling more ≡ refilled
+  pub moves : count_by is_move more ≡ kept
   pub evictions : count_by is_eviction more ≡ keys
   pub entries : new ≡ more ++ old
 
 -- A put adds entries that make room, and, if it is Stored, at last the one of its request. Any other put adds none of its request.
-abbrev pub AddsForPut : Shape → ℕ → Request → ℕ → PutAnswer → ℕ → ℕ → List Entry → List Entry → Type 0
-AddsForPut shape pass request deadline put.Stored refilled keys old new =
-    (room : List Entry) × AddsRoom shape pass deadline refilled keys old room × ((segment : ℕ) × (new ≡ Wrote pass request Stored (Some segment) ∷ room))
-AddsForPut shape pass request deadline put.NoRoom refilled keys old new = AddsRoom shape pass deadline refilled keys old new
-AddsForPut shape pass request deadline put.BucketFull refilled keys old new = AddsRoom shape pass deadline refilled keys old new
-AddsForPut shape pass request deadline put.Busy refilled keys old new = AddsRoom shape pass deadline refilled keys old new
+abbrev pub AddsForPut : Shape → ℕ → Option ℕ → Request → ℕ → PutAnswer → ℕ → ℕ → ℕ → List Entry → List Entry → Type 0
+AddsForPut shape pass cutoff request deadline put.Stored refilled kept keys old new =
+    (room : List Entry) × AddsRoom shape pass cutoff deadline refilled kept keys old room × ((segment : ℕ) × (new ≡ Wrote pass request Stored (Some segment) ∷ room))
+AddsForPut shape pass cutoff request deadline put.NoRoom refilled kept keys old new = AddsRoom shape pass cutoff deadline refilled kept keys old new
+AddsForPut shape pass cutoff request deadline put.BucketFull refilled kept keys old new = AddsRoom shape pass cutoff deadline refilled kept keys old new
+AddsForPut shape pass cutoff request deadline put.Busy refilled kept keys old new = AddsRoom shape pass cutoff deadline refilled kept keys old new

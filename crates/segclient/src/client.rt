@@ -4,7 +4,7 @@ ghost use Rattle.segindex.specs.Words.{board_of as index_board_of, shape_of as i
 ghost use Rattle.segpass.specs.Words.{IsQuiet, IsQuiet-prop};
 ghost use Rattle.segclient.specs.Rings.{IsOwnRing, IsOwnRing-prop};
 
-use crate::put::{PutAnswer, make_room, put_pair};
+use crate::put::{PutAnswer, get_room, put_pair};
 use crate::stats::{
     Stats, tally_of_delete, tally_of_get, tally_of_gets, tally_of_put, tally_of_write,
 };
@@ -26,6 +26,8 @@ pub struct Client<'i> {
     pub(crate) draws: u32,
     pub(crate) clock: u32,
     pub(crate) time_to_live: u32,
+    // The least frequency of an item that a put keeps. None: it keeps nothing.
+    pub(crate) cutoff: Option<u8>,
     pub(crate) stats: Stats,
     ghost quiet: { IsQuiet (index_board_of index.now) pass } by { IsQuiet-prop (index_board_of index.now) pass },
     ghost own: { IsOwnRing (index_shape_of index.now) (number pass) segments } by { IsOwnRing-prop (index_shape_of index.now) (number pass) segments },
@@ -37,11 +39,12 @@ impl<'i> Client<'i> {
     ghost use Rattle.segwrite.specs.Words.{Deletes, IsSetAnswer, Writes};
     ghost use Rattle.segread.specs.Words.{ReadsKey, ReadsVersion};
     ghost use Rattle.segclient.specs.Client.{board_of, draw_of, Starts, Keeps, KeepsDraws};
-    ghost use Rattle.segclient.specs.Client.{DrawsOnce, KeepsSettings, SetsNow, SetsTimeToLive};
+    ghost use Rattle.segclient.specs.Client.{DrawsOnce, KeepsSettings, SetsCutoff, SetsNow, SetsTimeToLive};
     ghost use Rattle.segclient.specs.Puts.{MakesRoomFor, Puts};
     ghost use Rattle.segclient.specs.Counting.{counted, get_tally, gets_tally, write_tally, delete_tally};
 
-    /// A client of this pass. Its clock shows 0, and what it puts never expires.
+    /// A client of this pass. Its clock shows 0, what it puts never expires,
+    /// and its puts keep nothing.
     pub fn new(index: &'i Index, pass: Pass) -> Client<'i>
         requires quiet { IsQuiet (index_board_of index.now) pass }
         ensures starts { Starts index.now pass result }
@@ -55,6 +58,7 @@ impl<'i> Client<'i> {
             draws: number,
             clock: 0,
             time_to_live: u32::MAX,
+            cutoff: None,
             stats: Stats::new(),
         }
     }
@@ -202,6 +206,19 @@ impl<'i> Client<'i> {
         self.time_to_live = time_to_live;
     }
 
+    /// Sets which items a put keeps: those whose frequency is the cutoff or over it.
+    /// None: it keeps nothing, as at the start.
+    ///
+    /// An item has the frequency 1 when it is stored, and gets raise it.
+    /// A put that keeps leaves one segment empty, so the client has room for one segment less.
+    /// Items are kept only where the two segments have the same deadline,
+    /// as they have for the largest time to live.
+    pub fn keep_from(&mut self, cutoff: Option<u8>)
+        ensures sets { SetsCutoff cutoff self.old self.new }
+    {
+        self.cutoff = cutoff;
+    }
+
     /// Makes room for a write that was answered NoRoom, as `put` does,
     /// and says whether that came about.
     pub fn make_room(&mut self) -> bool
@@ -210,9 +227,16 @@ impl<'i> Client<'i> {
         ensures settings { KeepsSettings self.old self.new }
     {
         let deadline = self.clock.saturating_add(self.time_to_live);
-        let (is_made, keys) = make_room(self.index, &mut self.pass, &mut self.segments, deadline);
-        self.stats.count_given_up(u32::from(is_made), keys);
-        is_made
+        let room = get_room(
+            self.index,
+            &mut self.pass,
+            &mut self.segments,
+            self.cutoff,
+            deadline,
+        );
+        self.stats
+            .count_given_up(room.refilled, room.kept, room.keys);
+        room.is_made
     }
 
     /// Stores the value under the key, and makes room for it if there is none.
@@ -221,6 +245,10 @@ impl<'i> Client<'i> {
     /// it refills a segment of its own that is not in use.
     /// If there is none, it evicts and refills the first of its segments, in turn,
     /// for which that comes about. What it refills expires a time to live from now.
+    /// If it keeps items and then each of its segments is in use, it clears the next one:
+    /// it moves what was read often into the segment that it stores into,
+    /// and evicts what is left. If that left no row, it makes room once more,
+    /// and keeps nothing.
     /// If the key's bucket is full, it evicts the next of its segments and tries once more.
     /// A busy set is made again, 16 times in a row at most.
     pub fn put(&mut self, key: &Key, value: &Value) -> PutAnswer
@@ -236,10 +264,12 @@ impl<'i> Client<'i> {
             key,
             value,
             self.clock,
+            self.cutoff,
             deadline,
         );
         self.stats.count(tally_of_put(came.told));
-        self.stats.count_given_up(came.refilled, came.keys);
+        self.stats
+            .count_given_up(came.refilled, came.kept, came.keys);
         came.told
     }
 }

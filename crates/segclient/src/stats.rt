@@ -21,7 +21,7 @@ pub(crate) enum Tally {
     Busy,
 }
 
-/// How many calls of a client came to what, and what its puts gave up.
+/// How many calls of a client came to what, and what its puts gave up and kept.
 /// Each number stays at its largest once it is there.
 #[derive(Clone, Copy, Debug, PartialEq, Eq)]
 pub struct Stats {
@@ -40,6 +40,8 @@ pub struct Stats {
     pub busy: u64,
     /// Segments that puts refilled.
     pub segments_refilled: u64,
+    /// Items that puts moved out of a segment before they evicted it.
+    pub items_kept: u64,
     /// Keys that puts evicted.
     pub keys_evicted: u64,
 }
@@ -61,6 +63,7 @@ impl Stats {
             bucket_full: 0,
             busy: 0,
             segments_refilled: 0,
+            items_kept: 0,
             keys_evicted: 0,
         }
     }
@@ -83,11 +86,13 @@ impl Stats {
         }
     }
 
-    // Counts what the puts gave up: segments that were refilled, and keys that were evicted.
-    pub(crate) fn count_given_up(&mut self, refilled: u32, keys: u64)
-        ensures { self.new ≡ given_up_too refilled keys self.old }
+    // Counts what the puts gave up and kept: segments that were refilled,
+    // items that were moved, and keys that were evicted.
+    pub(crate) fn count_given_up(&mut self, refilled: u32, kept: u64, keys: u64)
+        ensures { self.new ≡ given_up_too refilled kept keys self.old }
     {
         self.segments_refilled = self.segments_refilled.saturating_add(u64::from(refilled));
+        self.items_kept = self.items_kept.saturating_add(kept);
         self.keys_evicted = self.keys_evicted.saturating_add(keys);
     }
 }

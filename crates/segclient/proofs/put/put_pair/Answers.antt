@@ -21,7 +21,7 @@ returns-clause-puts c =
     inr (record {
       first = effort_of first.result first.new.ring;
       full = first.new.pass;
-      finds_full = subst (λ told. SetsWithRoom (board_of c.args.index.now) (Set c.args.key.now c.args.value.now c.args.now) c.args.deadline c.args.ring.now told (effort_of first.result first.new.ring) c.args.pass.now first.new.pass) c.in-BucketFull.is first.ensures.sets;
+      finds_full = subst (λ told. SetsWithRoom (board_of c.args.index.now) (Set c.args.key.now c.args.value.now c.args.now) c.args.cutoff c.args.deadline c.args.ring.now told (effort_of first.result first.new.ring) c.args.pass.now first.new.pass) c.in-BucketFull.is first.ensures.sets;
       keys = evicts.result;
       next = evicts.new.ring;
       emptied = evicts.new.pass;

@@ -14,13 +14,13 @@ returns-clause-puts c =
     let came = c.put_pair-came in
     let request = Set c.args.key.now c.args.value.now old.clock in
     let effort = effort_of came.result came.new.ring in
-    let puts : PutsPair (board_of old) request (deadline_of old) old.segments came.result.told effort old.pass came.new.pass = subst (λ deadline. PutsPair (board_of old) request deadline old.segments came.result.told effort old.pass came.new.pass) c.saturating_add-deadline.ensures came.ensures.puts in
-    let ways = puts_pair (board_of old) (deadline_of old) request old.segments came.result.told effort old.pass came.new.pass old.quiet puts in
+    let puts : PutsPair (board_of old) request old.cutoff (deadline_of old) old.segments came.result.told effort old.pass came.new.pass = subst (λ deadline. PutsPair (board_of old) request old.cutoff deadline old.segments came.result.told effort old.pass came.new.pass) c.saturating_add-deadline.ensures came.ensures.puts in
+    let ways = puts_pair (board_of old) old.cutoff (deadline_of old) request old.segments came.result.told effort old.pass came.new.pass old.quiet puts in
     record {
       effort = effort;
       puts = puts;
       adds = ways.adds;
       memo = ways.memo;
       segments = refl;
-      stats = c.count_given_up.ensures ∙ ap (given_up_too came.result.refilled came.result.keys) (c.count.ensures ∙ ap (λ tally. counted tally old.stats) c.tally_of_put.ensures);
+      stats = c.count_given_up.ensures ∙ ap (given_up_too came.result.refilled came.result.kept came.result.keys) (c.count.ensures ∙ ap (λ tally. counted tally old.stats) c.tally_of_put.ensures);
     }
