@@ -1,0 +1,5 @@
+//! Four uses of the client, as a program would write them. This crate has tests alone.
+#![tactic(auto)]
+
+#[cfg(test)]
+mod session_store;
