@@ -33,14 +33,14 @@ impl Bucket {
         })
     }
 
-    /// Which numbers of keys the thread's evict may have taken out: bit n for n.
+    /// Which numbers of keys the thread's evict or keep may have taken out: bit n for n.
     pub fn counts(&self, thread: usize) -> u64 {
         self.states
             .iter()
             .fold(0, |counts, state| counts | bit(state.taken(thread)))
     }
 
-    /// Keeps those states in which the thread's evict took out one of these numbers of keys.
+    /// Keeps those states in which the thread's evict or keep took out one of these numbers of keys.
     /// Returns whether there is any such state.
     pub fn keep(&mut self, thread: usize, counts: u64) -> bool {
         self.states
@@ -48,7 +48,7 @@ impl Bucket {
         !self.states.is_empty()
     }
 
-    /// Forgets how many keys the thread's evict took out.
+    /// Forgets how many keys the thread's evict or keep took out.
     pub fn forget(&mut self, thread: usize) -> Result<(), AllocError> {
         self.seen.clear();
         for state in self.states.iter() {
@@ -92,9 +92,9 @@ impl Bucket {
             if state.is_done(thread) || !operation.is_of(self.number) {
                 continue;
             }
-            if let Some(segment) = operation.evicts() {
+            if operation.taken().is_some() {
                 for key in 0..KEYS {
-                    if let Some(next) = state.without(thread, key, segment) {
+                    if let Some(next) = state.without(thread, key, operation) {
                         add(&mut self.seen, settled(next, self.number, pending))?;
                     }
                 }

@@ -39,7 +39,7 @@ pub enum CasReply {
 
 /// What a call asked, and its answer. Buckets are numbered from 0, and so are the keys of each.
 /// A call that was refused says nothing of the cache and isn't noted.
-/// But an evict that was Busy is noted.
+/// But an evict or a keep that ended early is noted, since it may have taken keys out before.
 #[derive(Clone, Copy, Debug, PartialEq, Eq)]
 pub enum Operation {
     /// A call on a key, at the moment `now`.
@@ -67,6 +67,14 @@ pub enum Operation {
     /// So many keys were taken out of the segment. If the evict was whole, none stands there afterwards.
     Evict {
         segment: u32,
+        taken: u32,
+        is_whole: bool,
+    },
+    /// So many items were moved from the segment into another one, which has the same deadline.
+    /// If the keep was whole, no key stands in the old segment afterwards.
+    Keep {
+        segment: u32,
+        into: u32,
         taken: u32,
         is_whole: bool,
     },
@@ -98,7 +106,7 @@ impl Operation {
             | Operation::Release { bucket }
             | Operation::Lock { bucket }
             | Operation::Unlock { bucket } => Some(*bucket),
-            Operation::Evict { .. } | Operation::Refill { .. } => None,
+            Operation::Evict { .. } | Operation::Keep { .. } | Operation::Refill { .. } => None,
         }
     }
 
@@ -117,23 +125,20 @@ impl Operation {
         }
     }
 
-    /// The segment whose keys the operation takes out, one after the other, if it is an evict.
-    pub(crate) fn evicts(&self) -> Option<u32> {
+    /// How many keys the operation took out of its segment, one after the other, if it is an evict or a keep.
+    pub(crate) fn taken(&self) -> Option<u32> {
         match self {
-            Operation::Evict { segment, .. } => Some(*segment),
+            Operation::Evict { taken, .. } | Operation::Keep { taken, .. } => Some(*taken),
             _ => None,
         }
     }
 
-    /// Whether the operation may return before it is at its end: an evict that was Busy.
+    /// Whether the operation may return though keys still stand in its segment.
     pub(crate) fn is_cut_off(&self) -> bool {
-        matches!(
-            self,
-            Operation::Evict {
-                is_whole: false,
-                ..
-            }
-        )
+        match self {
+            Operation::Evict { is_whole, .. } | Operation::Keep { is_whole, .. } => !*is_whole,
+            _ => false,
+        }
     }
 }
 

@@ -40,8 +40,9 @@ struct Replay {
 /// Looks for an order of the calls in which a cache of one thread gives each of these answers.
 /// Every call stands in the order between its two stamps. The calls of each thread come one after the other.
 ///
-/// An evict takes out each of its keys at a moment of its own. How many keys it took out of all buckets together
-/// is checked when it returns. What is answered later of one bucket doesn't bear on the others.
+/// An evict or a keep takes out each of its keys at a moment of its own.
+/// How many keys it took out of all buckets together is checked when it returns.
+/// What is answered later of one bucket doesn't bear on the others.
 pub fn check(
     alloc: Global,
     buckets: usize,
@@ -132,8 +133,7 @@ impl Replay {
             .is_none_or(|number| number < self.buckets.len())
             && match operation {
                 Operation::OnKey { key, .. } => *key < KEYS,
-                Operation::Evict { taken, .. } => *taken < 64,
-                _ => true,
+                _ => operation.taken().is_none_or(|taken| taken < 64),
             }
     }
 
@@ -157,13 +157,13 @@ impl Replay {
                 return Ok(false);
             }
         }
-        match operation {
-            Operation::Evict { taken, .. } => self.count(thread, *taken),
-            _ => Ok(true),
+        match operation.taken() {
+            Some(taken) => self.count(thread, taken),
+            None => Ok(true),
         }
     }
 
-    // The thread's evict took so many keys out of all buckets together. Returns whether that is possible.
+    // The thread's evict or keep took so many keys out of all buckets together. Returns whether that is possible.
     fn count(&mut self, thread: usize, taken: u32) -> Result<bool, Fault> {
         for number in 0..self.buckets.len() {
             let others = self

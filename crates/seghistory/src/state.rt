@@ -13,7 +13,7 @@ pub const THREADS: usize = 8;
 struct Hand {
     /// Whether the call that is under way has been taken.
     is_done: bool,
-    /// How many keys the thread's evict took out of this bucket.
+    /// How many keys of this bucket the thread's evict or keep took out of its segment.
     taken: u32,
     /// The item that the thread holds, of a key of this bucket.
     held: Option<Item>,
@@ -49,7 +49,7 @@ impl State {
         self.hands.get(thread).is_some_and(|hand| hand.is_done)
     }
 
-    /// How many keys the thread's evict took out.
+    /// How many keys the thread's evict or keep took out.
     pub fn taken(&self, thread: usize) -> u32 {
         self.hands.get(thread).map_or(0, |hand| hand.taken)
     }
@@ -90,6 +90,11 @@ impl State {
                 segment,
                 is_whole,
                 ..
+            }
+            | Operation::Keep {
+                segment,
+                is_whole,
+                ..
             } => *is_whole && !self.stands_in(*segment),
             Operation::Refill { segment } => {
                 !self.stands_in(*segment) && !self.is_held_in(*segment)
@@ -98,10 +103,18 @@ impl State {
         is_allowed.then_some(next)
     }
 
-    /// The state after a thread's evict took this key out of a segment, if it stands there.
-    pub fn without(&self, thread: usize, key: usize, segment: u32) -> Option<State> {
+    /// The state after a thread's evict or keep took this key out of its segment, if the key stands there.
+    /// A keep moves the key's item into another segment.
+    pub fn without(&self, thread: usize, key: usize, operation: &Operation) -> Option<State> {
+        let (segment, into) = match operation {
+            Operation::Evict { segment, .. } => (*segment, None),
+            Operation::Keep { segment, into, .. } => (*segment, Some(*into)),
+            _ => return None,
+        };
         let mut next = *self;
-        let item = next.items.get_mut(key)?.take()?;
+        let place = next.items.get_mut(key)?;
+        let item = (*place)?;
+        *place = into.map(|segment| Item { segment, ..item });
         let hand = next.hands.get_mut(thread)?;
         hand.taken = hand.taken.saturating_add(1);
         (item.segment == segment && !self.is_locked).then_some(next)

@@ -7,4 +7,6 @@ mod alterations;
 #[cfg(test)]
 mod histories;
 #[cfg(test)]
-mod keeping;
+mod holding;
+#[cfg(test)]
+mod moving;

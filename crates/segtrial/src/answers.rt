@@ -3,8 +3,8 @@ use crate::keys::Place;
 use crate::values::number_of;
 use seghistory::{Access, CasReply, Item, Operation};
 use segmodel::{
-    Answer, Command, DeleteAnswer, EvictAnswer, GetAnswer, GetsAnswer, RefillAnswer, Request,
-    WriteAnswer,
+    Answer, Command, DeleteAnswer, EvictAnswer, GetAnswer, GetsAnswer, KeepAnswer, RefillAnswer,
+    Request, WriteAnswer,
 };
 
 /// What an answer says.
@@ -37,6 +37,22 @@ pub fn said_by_evict(segment: u32, answer: EvictAnswer) -> Said {
     };
     Said::Operation(Operation::Evict {
         segment,
+        taken,
+        is_whole,
+    })
+}
+
+/// What the answer to a keep into a segment says.
+/// A keep of all items, whatever their frequency, leaves no key in the old segment.
+pub fn said_by_keep(segment: u32, into: u32, cutoff: u8, answer: KeepAnswer) -> Said {
+    let (taken, is_whole) = match answer {
+        KeepAnswer::Kept(taken) => (taken, cutoff == 0),
+        KeepAnswer::NoRoom(taken) | KeepAnswer::Busy(taken) => (taken, false),
+        KeepAnswer::NotYours => return Said::Wrong,
+    };
+    Said::Operation(Operation::Keep {
+        segment,
+        into,
         taken,
         is_whole,
     })

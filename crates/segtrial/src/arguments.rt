@@ -15,14 +15,14 @@ of one thread gives each answer. Busy, NOROOM and BUCKETFULL say nothing of the 
 
 const AFTER: &str = "Example:
   segtrial --passes 4 --turns 10000 --rounds 25
-runs 25 rounds, each of some 45000 calls, and writes a line where every answer was explained.
-How many answers there were is told on standard error.
+runs 25 rounds, each of some 45000 calls, and writes a line if every answer was explained.
+Standard error says how many answers there were.
 
 Exit status:
   0  every answer was explained
   1  an answer wasn't
   2  a bad command line
-  3  want of memory, or a search that is too long";
+  3  out of memory, or a search that is too long";
 
 /// What the program is to do.
 #[derive(Clone, Copy, Debug)]

@@ -5,7 +5,7 @@ ghost use Rattle.segindex.specs.Words.{board_of, shape_of};
 ghost use Rattle.segpass.specs.Words.{IsQuiet, IsQuiet-prop};
 ghost use Rattle.segread.specs.Words.{IsHoldOf};
 
-use crate::answers::{Said, said_by, said_by_evict, said_by_refill};
+use crate::answers::{Said, said_by, said_by_evict, said_by_keep, said_by_refill};
 use crate::draws::{Draws, Turn};
 use crate::keys::{BUCKETS, Place};
 use crate::log::Log;
@@ -13,7 +13,7 @@ use crate::start::Start;
 use crate::values::{number_of, value_of};
 use seghistory::{Access, Item, Operation};
 use segindex::{Hold, HoldAnswer, Index, LockAnswer, Pass, hold_stays};
-use segmodel::{Answer, Command, EvictAnswer, GetsAnswer, RefillAnswer, WriteAnswer};
+use segmodel::{Answer, Command, EvictAnswer, GetsAnswer, KeepAnswer, RefillAnswer, WriteAnswer};
 use segword::Key;
 use std::alloc::Global;
 use std::sync::atomic::AtomicU64;
@@ -80,6 +80,7 @@ impl<'a> Client<'a> {
                 Turn::Command => self.command(),
                 Turn::Hold => self.hold(),
                 Turn::Lock => self.lock(),
+                Turn::Keep => self.keep(),
                 Turn::Refill => self.refill(),
             }
         }
@@ -122,6 +123,21 @@ impl<'a> Client<'a> {
         if answer == Answer::Write(WriteAnswer::NoRoom) {
             self.refill();
         }
+    }
+
+    // Moves items of one of the pass's segments into the one that the pass stores into.
+    fn keep(&mut self)
+        ensures index { self.new.index.now ≡ self.old.index.now }
+        ensures held { holding self.new.pass ≡ holding self.old.pass }
+    {
+        let first = self.pass.number().saturating_mul(SEGMENTS);
+        let segment = first.saturating_add(self.draws.below(SEGMENTS));
+        let cutoff = self.draws.cutoff();
+        let called = self.log.stamp();
+        let answer = keep(self.index, &mut self.pass, segment, cutoff);
+        let returned = self.log.stamp();
+        let said = said_by_keep(segment, self.segment, cutoff, answer);
+        self.log.note(called, returned, said);
     }
 
     // Evicts and refills the next segment. If that is done, the pass stores there from then on.
@@ -254,7 +270,16 @@ fn evict(index: &Index, pass: &mut Pass, segment: u32) -> EvictAnswer
     index.evict(pass, segment)
 }
 
-// Refills a segment. What the pass holds stays held.
+// A keep. What the pass holds stays held.
+fn keep(index: &Index, pass: &mut Pass, segment: u32, cutoff: u8) -> KeepAnswer
+    requires { IsQuiet (board_of index.now) pass.old }
+    ensures quiet { IsQuiet (board_of index.now) pass.new }
+    ensures held { holding pass.new ≡ holding pass.old }
+{
+    index.keep(pass, segment, cutoff)
+}
+
+// A refill. What the pass holds stays held.
 fn refill(index: &Index, pass: &mut Pass, segment: u32, deadline: u32) -> RefillAnswer
     requires { IsQuiet (board_of index.now) pass.old }
     ensures quiet { IsQuiet (board_of index.now) pass.new }

@@ -5,7 +5,7 @@ use rand_pcg::Lcg64Xsh32;
 use segmodel::{Command, Request};
 use segword::{Key, Value};
 
-/// Moments are below this number, and deadlines below its double.
+/// Moments are below this number.
 const MOMENTS: u32 = 16;
 
 /// The draws of a pass.
@@ -23,6 +23,8 @@ pub enum Turn {
     Command,
     Hold,
     Lock,
+    /// The pass moves items of another segment into the one that it stores into.
+    Keep,
     /// The pass evicts and refills its next segment.
     Refill,
 }
@@ -46,6 +48,7 @@ impl Draws {
             0 | 1 => Turn::Hold,
             2 | 3 => Turn::Lock,
             4 => Turn::Refill,
+            5 => Turn::Keep,
             _ => Turn::Command,
         }
     }
@@ -59,9 +62,23 @@ impl Draws {
         self.below(MOMENTS)
     }
 
-    /// A deadline. About half of the deadlines come after every moment.
+    /// Half of the deadlines are one that comes after every moment, and a quarter are one in their middle:
+    /// an item moves only between segments with one deadline.
     pub fn deadline(&mut self) -> u32 {
-        self.below(2 * MOMENTS)
+        match self.below(4) {
+            0 | 1 => MOMENTS,
+            2 => MOMENTS / 2,
+            _ => self.moment(),
+        }
+    }
+
+    /// The least frequency of an item that is kept: any, or that of an item that was read once or twice.
+    pub fn cutoff(&mut self) -> u8 {
+        match self.below(3) {
+            0 => 0,
+            1 => 2,
+            _ => 3,
+        }
     }
 
     /// The number of a value that no other store has.

@@ -66,10 +66,15 @@ fn tell(
                 "{} answers, {} beside other calls",
                 counts.answers, counts.beside
             )?;
-            eprintln!(rt; "{} answers that say nothing", counts.refusals)?;
+            eprintln!(rt;
+                "{} answers that say nothing, {} items moved",
+                counts.refusals, counts.moved
+            )?;
             println!(rt;
-                "{} rounds of {} passes: every answer is explained",
-                options.rounds, options.passes
+                "{} rounds of {} passes: every answer is explained, {}",
+                options.rounds,
+                options.passes,
+                moves_of(&counts)
             )?;
             Ok(ExitCode::SUCCESS)
         }
@@ -77,6 +82,15 @@ fn tell(
             eprintln!(rt; "seed {seed}: {fault}")?;
             Ok(ExitCode::from(status_of(fault)))
         }
+    }
+}
+
+// Whether the order that explains the answers has moves of items.
+fn moves_of(counts: &Counts) -> &'static str {
+    if counts.moved > 0 {
+        "with items that moved"
+    } else {
+        "and no item moved"
     }
 }
 

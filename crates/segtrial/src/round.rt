@@ -8,7 +8,7 @@ use crate::client::{Client, SEGMENTS};
 use crate::keys::{BUCKETS, colliding_keys};
 use crate::log::Log;
 use crate::start::Start;
-use seghistory::{Fault, check};
+use seghistory::{Fault, Operation, check};
 use segindex::{Index, Pass};
 use segword::{Key, Shape};
 use std::alloc::{AllocError, Global};
@@ -32,6 +32,8 @@ pub struct Counts {
     pub beside: u64,
     /// Those that say nothing.
     pub refusals: u64,
+    /// The items that were moved.
+    pub moved: u64,
 }
 
 /// Why a round failed.
@@ -143,6 +145,7 @@ impl Counts {
             answers: self.answers.saturating_add(other.answers),
             beside: self.beside.saturating_add(other.beside),
             refusals: self.refusals.saturating_add(other.refusals),
+            moved: self.moved.saturating_add(other.moved),
         }
     }
 
@@ -158,6 +161,9 @@ impl Counts {
             self.answers = self.answers.saturating_add(1);
             if call.called.saturating_add(1) < call.returned {
                 self.beside = self.beside.saturating_add(1);
+            }
+            if let Operation::Keep { taken, .. } = call.operation {
+                self.moved = self.moved.saturating_add(u64::from(taken));
             }
         }
         self.refusals = self.refusals.saturating_add(u64::from(log.refusals));
