@@ -8,7 +8,8 @@ const ABOUT: &str = "Looks for an order that explains what threads are told by t
 
 const LONG_ABOUT: &str = "Looks for an order that explains what threads are told by the object index
 
-In each round a new index is made, and each of its passes makes calls at random on a thread of its own.
+In each round a new index is made, and each of its passes makes calls at random, on a thread of its own
+or in turn with the others.
 The keys are few, share four buckets, and have the same tag. Each call is stamped before and after it
 by one counter. Then an order of all calls is looked for, each between its two stamps, in which a cache
 of one thread gives each answer. Busy, NOROOM and BUCKETFULL say nothing of the cache.";
@@ -29,7 +30,10 @@ Exit status:
 pub struct Options {
     pub passes: u32,
     pub turns: u32,
+    /// Rounds in which each pass has a thread.
     pub rounds: u32,
+    /// Rounds in which the passes take turns on one thread.
+    pub in_turn: u32,
     pub seed: u64,
 }
 
@@ -40,6 +44,7 @@ pub fn read_options(alloc: Global, words: &[String]) -> Result<Options, Error> {
         passes: matches.get_one("passes").unwrap_or(1),
         turns: matches.get_one("turns").unwrap_or(1),
         rounds: matches.get_one("rounds").unwrap_or(1),
+        in_turn: matches.get_one("in-turn").unwrap_or(0),
         seed: matches.get_one("seed").unwrap_or(1),
     })
 }
@@ -59,7 +64,14 @@ fn command_line<'a>(alloc: Global) -> Result<Command<'a>, Error> {
         alloc,
         "rounds",
         "1",
-        "Rounds, of which each has draws of its own",
+        "Rounds in which each pass has a thread",
+    )
+    .value_parser(value_parser!(u32));
+    let in_turn = option(
+        alloc,
+        "in-turn",
+        "0",
+        "Rounds more, in which the passes take turns on one thread",
     )
     .value_parser(value_parser!(u32));
     let seed = option(
@@ -78,6 +90,7 @@ fn command_line<'a>(alloc: Global) -> Result<Command<'a>, Error> {
         .arg(passes)?
         .arg(turns)?
         .arg(rounds)?
+        .arg(in_turn)?
         .arg(seed)?;
     Ok(command)
 }

@@ -21,7 +21,7 @@ use std::sync::atomic::AtomicU64;
 /// How many segments a pass has.
 pub const SEGMENTS: u32 = 3;
 
-/// How many commands are made while an item is held, or a bucket is locked.
+/// How many commands are made while an item is held, and how many turns while a bucket is locked.
 const MEANWHILE: u32 = 2;
 
 /// A pass, and what its next calls depend on.
@@ -40,6 +40,8 @@ pub struct Client<'a> {
     deadline: u32,
     /// The version that the pass's last gets of each bucket found.
     versions: [u32; BUCKETS as usize],
+    /// The bucket that the pass has locked, and after how many turns it unlocks the bucket.
+    locked: Option<(usize, u32)>,
     ghost quiet: { IsQuiet (board_of index.now) pass } by { IsQuiet-prop (board_of index.now) pass },
 }
 
@@ -68,6 +70,7 @@ impl<'a> Client<'a> {
             segment: 0,
             deadline: 0,
             versions: [0; BUCKETS as usize],
+            locked: None,
         }
     }
 
@@ -76,15 +79,21 @@ impl<'a> Client<'a> {
         self.start.wait_for(passes);
         self.refill();
         for _ in 0..turns {
-            match self.draws.turn() {
-                Turn::Command => self.command(),
-                Turn::Hold => self.hold(),
-                Turn::Lock => self.lock(),
-                Turn::Keep => self.keep(),
-                Turn::Refill => self.refill(),
-            }
+            self.turn();
         }
         self
+    }
+
+    /// Makes one turn, drawn at random.
+    pub fn turn(&mut self) {
+        self.go_on_with_lock();
+        match self.draws.turn() {
+            Turn::Command => self.command(),
+            Turn::Hold => self.hold(),
+            Turn::Lock => self.lock(),
+            Turn::Keep => self.keep(),
+            Turn::Refill => self.refill(),
+        }
     }
 
     /// What the client noted of its calls.
@@ -140,8 +149,8 @@ impl<'a> Client<'a> {
         self.log.note(called, returned, said);
     }
 
-    // Evicts and refills the next segment. If that is done, the pass stores there from then on.
-    fn refill(&mut self)
+    /// Evicts and refills the next segment. If that is done, the pass stores there from then on.
+    pub fn refill(&mut self)
         ensures index { self.new.index.now ≡ self.old.index.now }
         ensures held { holding self.new.pass ≡ holding self.old.pass }
     {
@@ -213,11 +222,11 @@ impl<'a> Client<'a> {
         self.log.note(called, returned, Said::Operation(release));
     }
 
-    // Locks a bucket while commands are made.
+    // Locks a bucket for the next turns, unless the pass has one locked.
     fn lock(&mut self) {
         let place = self.draws.place();
         let bucket = place.bucket;
-        let Some(key) = self.key(place) else {
+        let (None, Some(key)) = (self.locked, self.key(place)) else {
             return;
         };
         let called = self.log.stamp();
@@ -229,12 +238,21 @@ impl<'a> Client<'a> {
             LockAnswer::AlreadyLocked => Said::Wrong,
         };
         self.log.note(called, returned, said);
-        if answer != LockAnswer::Locked {
-            return;
+        if answer == LockAnswer::Locked {
+            self.locked = Some((bucket, MEANWHILE));
         }
-        for _ in 0..MEANWHILE {
-            self.command();
+    }
+
+    // Unlocks the bucket that is locked, if enough turns were made since.
+    fn go_on_with_lock(&mut self) {
+        match self.locked {
+            None => {}
+            Some((bucket, 0)) => self.unlock(bucket),
+            Some((bucket, turns)) => self.locked = Some((bucket, turns - 1)),
         }
+    }
+
+    fn unlock(&mut self, bucket: usize) {
         let called = self.log.stamp();
         let is_unlocked = self.index.unlock_bucket(&mut self.pass);
         let returned = self.log.stamp();
@@ -244,6 +262,7 @@ impl<'a> Client<'a> {
             returned,
             if is_unlocked { unlock } else { Said::Wrong },
         );
+        self.locked = None;
     }
 
     fn key(&self, place: Place) -> Option<&'a Key> {

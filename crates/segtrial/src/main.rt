@@ -71,9 +71,10 @@ fn tell(
                 counts.refusals, counts.moved
             )?;
             println!(rt;
-                "{} rounds of {} passes: every answer is explained, {}",
+                "{} rounds of {} passes, and {} in turn: every answer is explained, {}",
                 options.rounds,
                 options.passes,
+                options.in_turn,
                 moves_of(&counts)
             )?;
             Ok(ExitCode::SUCCESS)

@@ -1,4 +1,4 @@
-//! Rounds: each has a new index, a thread for each pass, and a check of the answers.
+//! Rounds: each has a new index, passes that make calls on threads or in turn, and a check of the answers.
 ghost use Rattle.std.specs.Prelude.{All};
 ghost use Rattle.segindex.specs.Words.{board_of};
 ghost use Rattle.segpass.specs.Words.{IsQuiet};
@@ -67,9 +67,10 @@ pub fn run_rounds<R: Threads + Sync>(
     options: &Options,
 ) -> Result<Counts, Failure> {
     let mut counts = Counts::default();
-    for round in 0..options.rounds {
+    for round in 0..options.rounds.saturating_add(options.in_turn) {
         let seed = options.seed.wrapping_add(u64::from(round));
-        match run_round(rt, alloc, options, seed) {
+        let is_in_turn = options.rounds <= round;
+        match run_round(rt, alloc, options, is_in_turn, seed) {
             Ok(more) => counts = counts.plus(more),
             Err(fault) => return Err(Failure { seed, fault }),
         }
@@ -93,6 +94,7 @@ fn run_round<R: Threads + Sync>(
     rt: &R,
     alloc: Global,
     options: &Options,
+    is_in_turn: bool,
     seed: u64,
 ) -> Result<Counts, RoundFault> {
     let keys = colliding_keys(alloc)?;
@@ -103,7 +105,11 @@ fn run_round<R: Threads + Sync>(
     let start = Start::new();
     let clients = clients_of(alloc, &index, &keys, &clock, &start, passes, seed)?;
     let (passes, turns) = (options.passes, options.turns);
-    let clients = thread::map_vec(rt, clients, &|client: Client| client.work(passes, turns))?;
+    let clients = if is_in_turn {
+        work_in_turn(clients, turns)
+    } else {
+        thread::map_vec(rt, clients, &|client: Client| client.work(passes, turns))?
+    };
     let mut counts = Counts::default();
     let mut told = Vec::new(alloc);
     for client in clients {
@@ -117,6 +123,19 @@ fn run_round<R: Threads + Sync>(
         Ok(()) => Ok(counts),
         Err(fault) => Err(RoundFault::History(fault)),
     }
+}
+
+// Lets the clients take so many turns each on this thread, one after the other.
+fn work_in_turn<'a>(mut clients: Vec<Client<'a>>, turns: u32) -> Vec<Client<'a>> {
+    for client in clients.iter_mut() {
+        client.refill();
+    }
+    for _ in 0..turns {
+        for client in clients.iter_mut() {
+            client.turn();
+        }
+    }
+    clients
 }
 
 // A client for each pass.
