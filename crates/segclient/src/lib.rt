@@ -13,6 +13,6 @@ pub use client::Client;
 pub use put::PutAnswer;
 pub use segindex::{
     DeleteAnswer, GetAnswer, GetsAnswer, Hold, HoldAnswer, Index, Key, MakeFault, OutOfMemory,
-    Pass, Shape, ShapeFault, Value, WriteAnswer,
+    Pass, Shape, ShapeFault, Value, WriteAnswer, hold_stays,
 };
 pub use stats::Stats;

@@ -2,8 +2,9 @@
 ghost use Rattle.segclient.specs.Client.{IsSame};
 
 use anyhow::Result;
-use segclient::{Client, GetAnswer, HoldAnswer, Index, Key, Shape, Value, clients, into_passes};
-use segindex::hold_stays;
+use segclient::{
+    Client, GetAnswer, HoldAnswer, Index, Key, Shape, Value, clients, hold_stays, into_passes,
+};
 use std::alloc::Global;
 use std::thread::{Threads, for_each_mut};
 
