@@ -47,6 +47,17 @@ impl Board {
         ensures { (found : ℕ) × Stepped self.now step found pass.old pass.new }
     {
         let index = self.index(spot);
+        self.store_index(pass, spot, index, word)
+    }
+
+    // As `store_at`, where the place of the word in the table is known.
+    pub(crate) fn store_index(&self, pass: &mut Pass, spot: Spot, index: usize, word: u64)
+        ghost step: { Step }
+        requires can { CanStep self.now pass.old step spot (λ _. word) }
+        requires place { index ≡ address self.now.shape (cell_of self.now.shape spot) }
+        requires within { index < self.now.table.shared.table_id.words }
+        ensures { (found : ℕ) × Stepped self.now step found pass.old pass.new }
+    {
         self.table
             .shared
             .store::<Brand>(&mut pass.seat, index, word)

@@ -32,6 +32,25 @@ impl Board {
         self.store_at(pass, Spot::Row(segment, row, word), value);
     }
 
+    /// As `row_store`, for a row whose place is known.
+    pub fn row_store_at(&self, pass: &mut Pass, row: RowPlace, word: u8, value: u64)
+        requires pass { IsPassOf self.now pass.old }
+        requires start { IsRowAt self.now.shape row }
+        requires may { MayTake self.now pass.old (row_store row.segment row.row word value) }
+        ensures step { TakesStep self.now (row_store row.segment row.row word value)
+            pass.old pass.new }
+        ensures did { AddsOne self.now (λ n. Filled n row.segment row.row word value)
+            pass.old pass.new }
+    {
+        let RowPlace {
+            segment,
+            row,
+            start,
+        } = row;
+        let spot = Spot::Row(segment, row, word);
+        self.store_index(pass, spot, start + word as usize, value);
+    }
+
     /// A word of a row that can't change: the row is the pass's own, or the pass is in its segment
     /// and it was linked in this filling, or a word of a bucket whose bit the pass has names it.
     pub fn row_load(&self, pass: &mut Pass, segment: u32, row: u32, word: u8) -> u64
@@ -44,7 +63,7 @@ impl Board {
         self.load_at(pass, Spot::Row(segment, row, word))
     }
 
-    /// A row with the place at which its words begin, for several loads of one row.
+    /// A row with the place at which its words begin, for several steps at one row.
     pub fn row_at(&self, segment: u32, row: u32) -> RowPlace
         requires row { IsCell self.now.shape (OfRow segment row 0) }
         ensures row { (result.segment ≡ segment) × (result.row ≡ row) }

@@ -1,5 +1,4 @@
-use Rattle.segbase.specs.Ruled.{TellsStored}
 use Rattle.segbase.proofs.board.Board.store_at.Given as goal
 
-abbrev pub ghosts-store : goal.ghosts-store
-ghosts-store g a = record { then = TellsStored a.self.now.key g.step }
+abbrev pub ghost-store_index : goal.ghost-store_index
+ghost-store_index g a = g.step
