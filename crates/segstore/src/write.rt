@@ -92,7 +92,8 @@ fn store_words(board: &Board, pass: &mut Pass, segment: u32, row: u32, words: &[
     ensures plain { pass.new.plain ≡ pass.old.plain }
     ensures memo { (sight pass.new).memo ≡ (sight pass.old).memo }
 {
+    let at = board.row_at(segment, row);
     for place in 0..8u8 {
-        board.row_store(pass, segment, row, place, words[place as usize]);
+        board.row_store_at(pass, at, place, words[place as usize]);
     }
 }

@@ -7,9 +7,9 @@ use Rattle.segstore.proofs.write.store_words.Given as goal
 
 abbrev pub invariant-loop-place : goal.invariant-loop-place
 invariant-loop-place l = record {
-  moved : AddsEvents l.board (fills (number l.fn.pass) l.segment l.row l.words l.place) l.fn.pass l.pass;
-  own : IsOwnRow l.board.shape (trace l.pass) (number l.pass) l.segment l.row;
-  holds : (j : ℕ) → j < l.place → (row_after (trace l.pass) l.segment l.row).words j ≡ slice_index l.words j;
+  moved : AddsEvents l.board (fills (number l.fn.pass) l.at.segment l.at.row l.words l.place) l.fn.pass l.pass;
+  own : IsOwnRow l.board.shape (trace l.pass) (number l.pass) l.at.segment l.at.row;
+  holds : (j : ℕ) → j < l.place → (row_after (trace l.pass) l.at.segment l.at.row).words j ≡ slice_index l.words j;
   plain : l.pass.plain ≡ l.fn.pass.plain;
   memo : (sight l.pass).memo ≡ (sight l.fn.pass).memo;
 }
