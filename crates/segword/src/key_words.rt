@@ -33,14 +33,15 @@ impl Model for KeyWords {
 
 impl KeyWords {
     /// The words of a key.
+    #[inline(always)]
     pub fn new(key: &Key) -> KeyWords
         ensures value { result ≡ key.now }
         ensures valid { IsKey key.now }
     {
-        let bytes = key.as_bytes();
-        let [first, second, third] = words_of::<3>(bytes);
+        let length = key.as_bytes().len() as u64;
+        let [first, second, third] = key.words();
         KeyWords {
-            words: [bytes.len() as u64, first, second, third],
+            words: [length, first, second, third],
         }
     }
 

@@ -4,6 +4,7 @@ ghost use Rattle.segword.specs.Row.{word_of, word_at, words_from, bytes_of};
 ghost use Rattle.segword.specs.RowLayout.{IsZeroFrom};
 
 // The first `N` words of these bytes. Missing bytes count as 0.
+#[inline(always)]
 pub(crate) fn words_of<const N: usize>(bytes: &[u8]) -> [u64; N]
     requires { N ≤ 4 }
     ensures { result ≡ words_from N bytes.now 0 }
@@ -16,6 +17,7 @@ pub(crate) fn words_of<const N: usize>(bytes: &[u8]) -> [u64; N]
 }
 
 // The word of the eight bytes from `from` on, or of as many as there are.
+#[inline(always)]
 fn word_at(bytes: &[u8], from: usize) -> u64
     ensures { result ≡ word_at bytes.now from }
 {
@@ -32,6 +34,7 @@ fn word_at(bytes: &[u8], from: usize) -> u64
 // The word of fewer than eight bytes.
 // If they are four or more (or two or more), the last four (or two) are shifted
 // until only what stands behind the first four (or two) is left.
+#[inline(always)]
 fn short_word(bytes: &[u8]) -> u64
     requires { length bytes.now < 8 }
     ensures { result ≡ word_of bytes.now }
@@ -51,6 +54,7 @@ fn short_word(bytes: &[u8]) -> u64
 }
 
 // The first and the last `N` of these bytes.
+#[inline(always)]
 fn ends<const N: usize>(bytes: &[u8]) -> ([u8; N], [u8; N])
     requires { N ≤ length bytes.now }
     ensures first { result.0 ≡ take N bytes.now }
