@@ -2,6 +2,8 @@
 #![tactic(auto)]
 
 #[cfg(test)]
+mod cache_server;
+#[cfg(test)]
 mod closing;
 #[cfg(test)]
 mod counting;
