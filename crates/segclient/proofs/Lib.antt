@@ -1,4 +1,5 @@
 pub mod Places
 pub mod Room
+pub mod RowsLeft
 pub mod Together
 pub mod Ways

@@ -385,7 +385,7 @@ module _ (b : Board) (cutoff : Option ℕ) (deadline : ℕ) where
     put_then put.Busy r m k s n l p q t first then = not_stored put.Busy (r + s) (m + n) (k + l) p t busy (makes_then r m k s n l p q t first (room_only put.Busy s n l q t busy then))
 
     set_in_room : (ring : Cycle) (told : PutAnswer) (effort : Effort) (p q : Pass) → IsQuiet b p → SetsInRoom b request cutoff deadline ring told effort p q → MakesPut told effort.refilled effort.kept effort.keys p q
-    set_in_room ring told effort p q quiet (inl (between, room, sets)) =
+    set_in_room ring told effort p q quiet (inl (between, room, sets, enough)) =
         let made = got_room ring true effort p between quiet room in
         put_so_many told (effort.refilled + 0) (effort.kept + 0) (effort.keys + 0) effort.refilled effort.kept effort.keys p q (omega arith) (omega arith) (omega arith)
         (put_then told effort.refilled effort.kept effort.keys 0 0 0 p between q made (set_at_last told between q made.on.quiet sets))

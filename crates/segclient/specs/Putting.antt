@@ -200,10 +200,10 @@ GetsRoom b (Some cutoff) ring deadline made effort p q =
 
 -- ---- a put
 
--- a set that had no room: it was made again if room was made
+-- a set that had no room: it was made again if room was made, and only if none was is it NoRoom
 abbrev pub SetsInRoom : Board → Request → Option ℕ → ℕ → Cycle → PutAnswer → Effort → Pass → Pass → Type 0
 SetsInRoom b request cutoff deadline ring told effort p q =
-    ((between : Pass) × GetsRoom b cutoff ring deadline true effort p between × SetsAtLast b request told between q)
+    ((between : Pass) × GetsRoom b cutoff ring deadline true effort p between × SetsAtLast b request told between q × (told ≢ put.NoRoom))
     ⊎ (GetsRoom b cutoff ring deadline false effort p q × (told ≡ put.NoRoom))
 
 -- whether the segment that the pass stores into has expired, so that what is stored there can't be read

@@ -39,7 +39,8 @@ impl<'i> Client<'i> {
     ghost use Rattle.segwrite.specs.Words.{Deletes, IsSetAnswer, Writes};
     ghost use Rattle.segread.specs.Words.{ReadsKey, ReadsVersion};
     ghost use Rattle.segclient.specs.Client.{board_of, draw_of, Starts, Keeps, KeepsDraws};
-    ghost use Rattle.segclient.specs.Client.{DrawsOnce, KeepsSettings, SetsCutoff, SetsNow, SetsTimeToLive};
+    ghost use Rattle.segclient.specs.Client.{DrawsOnce, KeepsSettings};
+    ghost use Rattle.segclient.specs.Client.{SetsCutoff, SetsNow, SetsTimeToLive};
     ghost use Rattle.segclient.specs.Puts.{MakesRoomFor, Puts};
     ghost use Rattle.segclient.specs.Counting.{counted, get_tally, gets_tally, write_tally, delete_tally};
 
@@ -210,7 +211,8 @@ impl<'i> Client<'i> {
     /// None: it keeps nothing, as at the start.
     ///
     /// An item has the frequency 1 when it is stored, and gets raise it.
-    /// A put that keeps leaves one segment empty, so the client has room for one segment less.
+    /// Puts with a cutoff evict the next segment ahead of time,
+    /// so the client has room for one segment less.
     /// Items are kept only where the two segments have the same deadline,
     /// as they have for the largest time to live.
     pub fn keep_from(&mut self, cutoff: Option<u8>)
@@ -245,7 +247,7 @@ impl<'i> Client<'i> {
     /// it refills a segment of its own that is not in use.
     /// If there is none, it evicts and refills the first of its segments, in turn,
     /// for which that comes about. What it refills expires a time to live from now.
-    /// If it keeps items and then each of its segments is in use, it clears the next one:
+    /// If there is a cutoff, and each of its segments is in use then, it clears the next one:
     /// it moves what was read often into the segment that it stores into,
     /// and evicts what is left. If that left no row, it makes room once more,
     /// and keeps nothing.
