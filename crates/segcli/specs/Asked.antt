@@ -25,12 +25,15 @@ use Rattle.segcli.specs.declared.command.Command.TheVariants as command
 abbrev pub number_or : ℕ → ℕ → Text → ℕ
 number_or other bits text =
     let digits = without_leading_plus text in
-    if is_numeral digits && nat_lt (digits_value 10 digits) (2 ^ bits) then digits_value 10 digits else other
+    if is_numeral digits && nat_lt (digits_value 10 digits) (2 ^ bits)
+    then digits_value 10 digits
+    else other
 
 -- The number of an option. `clap` gives each option a text, of the words or its default,
 -- and lets only such numbers through.
 abbrev pub number_given : NumberOption → List Row → ℕ
-number_given option rows = option_map_or (number_or option.default option.bits) (one_of option.name rows) option.default
+number_given option rows =
+    option_map_or (number_or option.default option.bits) (one_of option.name rows) option.default
 
 -- whether a flag is given: `clap` gives it the text `true` if the words have it, and else `false`
 abbrev pub is_given : Text → List Row → Bool
@@ -50,14 +53,20 @@ shape_given default rows = record {
 abbrev pub IsCommandName : Text → Type 0
 IsCommandName name = (name ≡ codes "script") ⊎ (name ≡ codes "load") ⊎ (name ≡ codes "word")
 
--- The command is the one of this name with these matches. A load has at least one key: `clap` lets no 0 through.
+-- The command is the one of this name with these matches.
+-- A load has at least one key: `clap` lets no 0 through.
 abbrev pub IsAsked : Text × List Row → Command → Type 0
-IsAsked asked (command.Script shape) = (asked.0 ≡ codes "script") × (shape ≡ shape_given default_shape asked.1)
+IsAsked asked (command.Script shape) =
+    (asked.0 ≡ codes "script") × (shape ≡ shape_given default_shape asked.1)
 IsAsked asked (command.Load shape seed commands keys progress) =
-    (asked.0 ≡ codes "load") × (shape ≡ shape_given load_shape asked.1)
-    × (seed ≡ number_given seed_option asked.1) × (commands ≡ number_given commands_option asked.1)
-    × (non_zero_u32_get keys ≡ max 1 (number_given keys_option asked.1)) × (progress ≡ is_given progress_flag asked.1)
-IsAsked asked (command.Word text) = (asked.0 ≡ codes "word") × (text.now ≡ unwrap_or (first_of hex asked.1) [])
+    (asked.0 ≡ codes "load")
+    × (shape ≡ shape_given load_shape asked.1)
+    × (seed ≡ number_given seed_option asked.1)
+    × (commands ≡ number_given commands_option asked.1)
+    × (non_zero_u32_get keys ≡ max 1 (number_given keys_option asked.1))
+    × (progress ≡ is_given progress_flag asked.1)
+IsAsked asked (command.Word text) =
+    (asked.0 ≡ codes "word") × (text.now ≡ unwrap_or (first_of hex asked.1) [])
 IsAsked asked (command.Show text) = ⊥
 
 -- ---- the words
@@ -78,13 +87,18 @@ IsRefused k (Err refusal.OutOfMemory) = ⊤
 -- What is read from one word or more. In a command that is read `clap` finds no fault.
 -- A request for help or for the version is a fault to `clap`, with a text that is shown.
 -- Any other fault is a bad command line. In each case the answer may be out of memory.
--- Words have one kind of fault, with two exceptions. A word that may be an argument or a command is bad as either.
--- Of what stands behind the command `help`, `clap` says only that its help is shown, or that it is no command.
+-- Words have one kind of fault, with two exceptions.
+-- A word that may be an argument or a command is bad as either.
+-- Of what stands behind the command `help`, `clap` says only that its help is shown,
+-- or that it is no command.
 abbrev pub IsReadByClap : List Text → Result Command Refusal → Type 0
-IsReadByClap words (Ok (command.Show text)) = list_any is_request (fault_of command_line words) ≡ true
+IsReadByClap words (Ok (command.Show text)) =
+    list_any is_request (fault_of command_line words) ≡ true
 IsReadByClap words (Ok asked) =
-    (fault_of command_line words ≡ []) × IsSomeAnd (subcommand_of command_line words) (λ found. IsAsked found asked)
-IsReadByClap words (Err (refusal.Usage text)) = list_any (λ k. not (is_request k)) (fault_of command_line words) ≡ true
+    (fault_of command_line words ≡ [])
+    × IsSomeAnd (subcommand_of command_line words) (λ found. IsAsked found asked)
+IsReadByClap words (Err (refusal.Usage text)) =
+    list_any (λ k. not (is_request k)) (fault_of command_line words) ≡ true
 IsReadByClap words (Err refusal.OutOfMemory) = ⊤
 
 -- What is read from the words. No words at all are the command `script` with no options.

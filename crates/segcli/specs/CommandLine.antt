@@ -11,7 +11,14 @@ use Rattle.clap.specs.declared.builder.value_parser.ValueParser.TheVariants as p
 
 -- the shape of a script that no option changes
 abbrev pub default_shape : Shape
-default_shape = record { buckets = 1; overflow = 0; passes = 1; segments_each = 1; rows = 8; first_version = 0 }
+default_shape = record {
+  buckets = 1;
+  overflow = 0;
+  passes = 1;
+  segments_each = 1;
+  rows = 8;
+  first_version = 0;
+}
 
 -- the shape of a load that no option changes, with room for the load's 64 keys
 abbrev pub load_shape : Shape
@@ -30,7 +37,8 @@ pub record NumberOption : Type 0 where
 
 -- an option with any number of 32 bits
 abbrev pub of_32_bits : Text → ℕ → NumberOption
-of_32_bits name default = record { name = name; bits = 32; least = 0; most = 4294967295; default = default }
+of_32_bits name default =
+    record { name = name; bits = 32; least = 0; most = 4294967295; default = default }
 
 -- the options of a shape, each with its number in this shape as its default
 abbrev pub buckets_option : Shape → NumberOption
@@ -52,7 +60,8 @@ abbrev pub first_version_option : Shape → NumberOption
 first_version_option shape = of_32_bits (codes "first-version") shape.first_version
 
 abbrev pub seed_option : NumberOption
-seed_option = record { name = codes "seed"; bits = 64; least = 0; most = 18446744073709551615; default = 1 }
+seed_option =
+    record { name = codes "seed"; bits = 64; least = 0; most = 18446744073709551615; default = 1 }
 
 abbrev pub commands_option : NumberOption
 commands_option = of_32_bits (codes "commands") 1000
@@ -62,10 +71,11 @@ keys_option = record (of_32_bits (codes "keys") 64) { least = 1; most = 1000000 
 
 abbrev pub shape_options : Shape → List NumberOption
 shape_options shape =
-    buckets_option shape ∷ overflow_option shape ∷ passes_option shape ∷ segments_option shape ∷ rows_option shape
-    ∷ first_version_option shape ∷ []
+    buckets_option shape ∷ overflow_option shape ∷ passes_option shape ∷ segments_option shape
+    ∷ rows_option shape ∷ first_version_option shape ∷ []
 
--- These texts are three numbers of the shape. Its others are 0 overflow buckets, one pass and the first version 0.
+-- These texts are three numbers of the shape.
+-- Its others are 0 overflow buckets, one pass and the first version 0.
 pub record AreDefaults (shape : Shape) (of_buckets of_segments of_rows : Text) : Type 0 where
   pub buckets : of_buckets ≡ decimal shape.buckets
   pub segments : of_segments ≡ decimal shape.segments_each
@@ -76,12 +86,20 @@ pub record AreDefaults (shape : Shape) (of_buckets of_segments of_rows : Text) :
 
 -- the parser that takes the numbers of an option
 abbrev pub number_parser : NumberOption → ValueParser
-number_parser option = if option.bits == 64 then parser.Unsigned option.least option.most else parser.Signed (pos option.least) (pos option.most)
+number_parser option =
+    if option.bits == 64
+    then parser.Unsigned option.least option.most
+    else parser.Signed (pos option.least) (pos option.most)
 
--- an option of this name, whose values this parser takes, and which has this value if it isn't given
+-- an option of this name, whose values this parser takes,
+-- and which has this value if it isn't given
 abbrev pub option_rule : Text → ValueParser → Text → Rule
-option_rule name takes default =
-    record (new_rule name) { long = Some name; value_names = 1; parser = Some takes; defaults = default ∷ [] }
+option_rule name takes default = record (new_rule name) {
+  long = Some name;
+  value_names = 1;
+  parser = Some takes;
+  defaults = default ∷ [];
+}
 
 abbrev pub rule_of_option : NumberOption → Rule
 rule_of_option option = option_rule option.name (number_parser option) (decimal option.default)
@@ -111,23 +129,32 @@ script_rules = command_rules (codes "script") (map rule_of_option (shape_options
 
 abbrev pub load_rules : CommandRules
 load_rules =
-    command_rules (codes "load") (map rule_of_option (shape_options load_shape ++ seed_option ∷ commands_option ∷ keys_option ∷ []) ++ flag_rule progress_flag ∷ [])
+    command_rules (codes "load") (map rule_of_option
+    (shape_options load_shape ++ seed_option ∷ commands_option ∷ keys_option ∷ [])
+    ++ flag_rule progress_flag ∷ [])
 
 abbrev pub word_rules : CommandRules
 word_rules = command_rules (codes "word") (hex_rule ∷ [])
 
 -- the program itself, which reads the words after its name, and wants a command among them
 abbrev pub program_rules : CommandRules
-program_rules = record (new_shape (codes "segrun")) { no_binary_name = true; has_version = true; subcommand_required = true }
+program_rules = record (new_shape (codes "segrun")) {
+  no_binary_name = true;
+  has_version = true;
+  subcommand_required = true;
+}
 
 -- a command with no commands below it
 abbrev pub alone : CommandRules → App
 alone rules = record { top = rules; subs = [] }
 
--- The words after the program's name: one of three commands with its options. `clap` adds the options for help, and for the
--- version above the commands, and the command `help`.
+-- The words after the program's name: one of three commands with its options.
+-- `clap` adds the options for help, and for the version above the commands,
+-- and the command `help`.
 unfoldable pub command_line : App
-command_line = with_subcommand (with_subcommand (with_subcommand (alone program_rules) script_rules) load_rules) word_rules
+command_line =
+    with_subcommand
+    (with_subcommand (with_subcommand (alone program_rules) script_rules) load_rules) word_rules
 
 -- ---- as `clap` holds them
 

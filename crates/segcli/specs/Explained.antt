@@ -10,7 +10,8 @@ IsHexWord text = (length text ≡ 16) × AllDigits 16 text
 
 -- The text writes the word of this reading, which is one that a table can have.
 abbrev pub SpellsWord : List ℕ → Reading → Type 0
-SpellsWord text reading = IsHexWord text × IsProperReading reading × (digits_value 16 text ≡ reading_word reading)
+SpellsWord text reading =
+    IsHexWord text × IsProperReading reading × (digits_value 16 text ≡ reading_word reading)
 
 abbrev pub hex_digit : ℕ → ℕ
 hex_digit n = slice_index (codes "0123456789abcdef") n
@@ -23,6 +24,6 @@ tag_digits tag = hex_digit (tag / 256) ∷ hex_digit (tag / 16 % 16) ∷ hex_dig
 abbrev pub explanation : Reading → List ℕ
 explanation reading.Empty = codes "empty\n"
 explanation (reading.Item item) =
-    codes "item tag=" ++ tag_digits item.tag ++ codes " freq=" ++ decimal item.freq ++ codes " seg=" ++ decimal item.seg
-    ++ codes " row=" ++ decimal item.row ++ codes "\n"
+    codes "item tag=" ++ tag_digits item.tag ++ codes " freq=" ++ decimal item.freq
+    ++ codes " seg=" ++ decimal item.seg ++ codes " row=" ++ decimal item.row ++ codes "\n"
 explanation (reading.Chain number) = codes "chain " ++ decimal number ++ codes "\n"

@@ -19,7 +19,8 @@ next_draws draws = (draws * 1664525 % 2 ^ 32 + 1013904223) % 2 ^ 32
 abbrev pub draw_of : Client → ℕ
 draw_of client = next_draws client.draws / 256
 
--- a new client of the pass: its clock shows 0, what it puts never expires, its puts keep nothing, and it counted nothing
+-- a new client of the pass: its clock shows 0, what it puts never expires, its puts keep nothing,
+-- and it counted nothing
 pub record Starts (i : Index) (p : Pass) (client : Client) : Type 0 where
   pub index : client.index.now ≡ i
   pub pass : client.pass ≡ p
@@ -33,7 +34,8 @@ pub record IsSame (old new : Client) : Type 0 where
   pub index : new.index.now ≡ old.index.now
   pub number : number new.pass ≡ number old.pass
 
--- it is the same, with the same clock; what it puts expires as before, and its puts keep what they kept before
+-- it is the same, with the same clock; what it puts expires as before,
+-- and its puts keep what they kept before
 pub record KeepsSettings (old new : Client) : Type 0 where
   pub same : IsSame old new
   pub clock : new.clock ≡ old.clock

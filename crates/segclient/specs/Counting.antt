@@ -45,7 +45,8 @@ counted tally.NoRoom stats = record stats { no_room = with_more stats.no_room 1 
 counted tally.BucketFull stats = record stats { bucket_full = with_more stats.bucket_full 1 }
 counted tally.Busy stats = record stats { busy = with_more stats.busy 1 }
 
--- what puts gave up is counted too: so many segments that were refilled, so many items that were kept, and so many keys that were evicted
+-- what puts gave up is counted too: so many segments that were refilled,
+-- so many items that were kept, and so many keys that were evicted
 abbrev pub given_up_too : ℕ → ℕ → ℕ → Stats → Stats
 given_up_too refilled kept keys stats = record stats {
   segments_refilled = with_more stats.segments_refilled refilled;

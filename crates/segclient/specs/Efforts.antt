@@ -5,7 +5,9 @@ use Rattle.segclient.specs.declared.put.Room.{Room}
 use Rattle.segclient.specs.Putting.{Effort}
 
 abbrev pub effort_of : Came → Cycle → Effort
-effort_of came ring = record { refilled = came.refilled; kept = came.kept; keys = came.keys; ring = ring }
+effort_of came ring =
+    record { refilled = came.refilled; kept = came.kept; keys = came.keys; ring = ring }
 
 abbrev pub effort_for : Room → Cycle → Effort
-effort_for room ring = record { refilled = room.refilled; kept = room.kept; keys = room.keys; ring = ring }
+effort_for room ring =
+    record { refilled = room.refilled; kept = room.kept; keys = room.keys; ring = ring }

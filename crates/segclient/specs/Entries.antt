@@ -7,12 +7,17 @@ use Rattle.segmodel.specs.Words.{Entry, owner, Request}
 use Rattle.segclient.specs.declared.put.PutAnswer.{PutAnswer}
 use Rattle.segclient.specs.declared.put.PutAnswer.TheVariants as put
 
--- an eviction of a key from a segment of the pass's own, or a refilling of one up to this deadline; or, if there is a cutoff, a move of an item from one to another
+-- an eviction of a key from a segment of the pass's own,
+-- or a refilling of one up to this deadline; or, if there is a cutoff,
+-- a move of an item from one to another
 abbrev pub IsOfRoom : Shape → ℕ → Option ℕ → ℕ → Entry → Type 0
 IsOfRoom shape pass cutoff deadline entry =
-    ((key : List ℕ) × (segment : ℕ) × (owner shape segment ≡ pass) × (entry ≡ Evicted pass key segment))
+    ((key : List ℕ) × (segment : ℕ) × (owner shape segment ≡ pass)
+    × (entry ≡ Evicted pass key segment))
     ⊎ ((segment : ℕ) × (owner shape segment ≡ pass) × (entry ≡ Refilled pass segment deadline))
-    ⊎ (IsSome cutoff × ((key : List ℕ) × (from : ℕ) × (into : ℕ) × (owner shape from ≡ pass) × (owner shape into ≡ pass) × (entry ≡ Moved pass key from into)))
+    ⊎ (IsSome cutoff
+    × ((key : List ℕ) × (from : ℕ) × (into : ℕ) × (owner shape from ≡ pass)
+    × (owner shape into ≡ pass) × (entry ≡ Moved pass key from into)))
 
 abbrev pub is_eviction : Entry → Bool
 is_eviction (Evicted pass key segment) = true
@@ -26,8 +31,10 @@ abbrev pub is_move : Entry → Bool
 is_move (Moved pass key from into) = true
 is_move _ = false
 
--- the pass refilled so many segments of its own, moved so many items from one to another, and took so many keys out of them, and did nothing else that adds an entry
-pub record AddsRoom (shape : Shape) (pass : ℕ) (cutoff : Option ℕ) (deadline refilled kept keys : ℕ) (old new : List Entry) : Type 0 where
+-- the pass refilled so many segments of its own, moved so many items from one to another,
+-- and took so many keys out of them, and did nothing else that adds an entry
+pub record AddsRoom (shape : Shape) (pass : ℕ) (cutoff : Option ℕ)
+    (deadline refilled kept keys : ℕ) (old new : List Entry) : Type 0 where
   pub more : List Entry
   pub of_room : All (IsOfRoom shape pass cutoff deadline) more
   pub refillings : count_by is_refilling more ≡ refilled
@@ -35,10 +42,17 @@ pub record AddsRoom (shape : Shape) (pass : ℕ) (cutoff : Option ℕ) (deadline
   pub evictions : count_by is_eviction more ≡ keys
   pub entries : new ≡ more ++ old
 
--- A put adds entries that make room, and, if it is Stored, at last the one of its request. Any other put adds none of its request.
-abbrev pub AddsForPut : Shape → ℕ → Option ℕ → Request → ℕ → PutAnswer → ℕ → ℕ → ℕ → List Entry → List Entry → Type 0
+-- A put adds entries that make room, and, if it is Stored, at last the one of its request.
+-- Any other put adds none of its request.
+abbrev pub AddsForPut : Shape → ℕ → Option ℕ → Request → ℕ → PutAnswer → ℕ → ℕ → ℕ → List Entry
+    → List Entry → Type 0
 AddsForPut shape pass cutoff request deadline put.Stored refilled kept keys old new =
-    (room : List Entry) × AddsRoom shape pass cutoff deadline refilled kept keys old room × ((segment : ℕ) × (new ≡ Wrote pass request Stored (Some segment) ∷ room))
-AddsForPut shape pass cutoff request deadline put.NoRoom refilled kept keys old new = AddsRoom shape pass cutoff deadline refilled kept keys old new
-AddsForPut shape pass cutoff request deadline put.BucketFull refilled kept keys old new = AddsRoom shape pass cutoff deadline refilled kept keys old new
-AddsForPut shape pass cutoff request deadline put.Busy refilled kept keys old new = AddsRoom shape pass cutoff deadline refilled kept keys old new
+    (room : List Entry)
+    × AddsRoom shape pass cutoff deadline refilled kept keys old room
+    × ((segment : ℕ) × (new ≡ Wrote pass request Stored (Some segment) ∷ room))
+AddsForPut shape pass cutoff request deadline put.NoRoom refilled kept keys old new =
+    AddsRoom shape pass cutoff deadline refilled kept keys old new
+AddsForPut shape pass cutoff request deadline put.BucketFull refilled kept keys old new =
+    AddsRoom shape pass cutoff deadline refilled kept keys old new
+AddsForPut shape pass cutoff request deadline put.Busy refilled kept keys old new =
+    AddsRoom shape pass cutoff deadline refilled kept keys old new

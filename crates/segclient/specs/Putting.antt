@@ -20,10 +20,12 @@ use Rattle.segclient.specs.declared.put.PutAnswer.TheVariants as put
 -- so many sets in a row were Busy
 unfoldable pub AreBusy : Board → Request → ℕ → Pass → Pass → Type 0
 AreBusy b request zero p q = q ≡ p
-AreBusy b request (suc busy) p q = (between : Pass) × AreBusy b request busy p between × Writes b request write.Busy between q
+AreBusy b request (suc busy) p q =
+    (between : Pass) × AreBusy b request busy p between × Writes b request write.Busy between q
 
 -- a set was answered so, after fewer than 16 that were Busy
-pub record SetsAfter (b : Board) (request : Request) (told : WriteAnswer) (p q : Pass) : Type 0 where
+pub record SetsAfter (b : Board) (request : Request) (told : WriteAnswer) (p q : Pass)
+    : Type 0 where
   pub busy : ℕ
   pub few : busy < 16
   pub between : Pass
@@ -47,8 +49,10 @@ first_of b p = number p * b.shape.segments_each
 unfoldable pub NoneRefilled : Board → ℕ → ℕ → ℕ → Pass → Pass → Type 0
 NoneRefilled b first deadline zero p q = q ≡ p
 NoneRefilled b first deadline (suc tried) p q =
-    (between : Pass) × NoneRefilled b first deadline tried p between
-    × ((told : RefillAnswer) × (told ≢ refill.Refilled) × RefillsSegment b (first + tried) deadline told between q)
+    (between : Pass)
+    × NoneRefilled b first deadline tried p between
+    × ((told : RefillAnswer) × (told ≢ refill.Refilled)
+    × RefillsSegment b (first + tried) deadline told between q)
 
 -- one of the pass's own segments could, as it was
 pub record RefillsUnused (b : Board) (deadline : ℕ) (p q : Pass) : Type 0 where
@@ -76,7 +80,8 @@ pub record GivesUp (b : Board) (segment deadline keys : ℕ) (p q : Pass) : Type
 abbrev pub CannotGiveUp : Board → ℕ → ℕ → ℕ → Pass → Pass → Type 0
 CannotGiveUp b segment deadline keys p q =
     EvictsSegment b segment (evict.Busy keys) p q
-    ⊎ ((between : Pass) × EvictsSegment b segment (evict.Evicted keys) p between × RefillsSegment b segment deadline refill.Held between q)
+    ⊎ ((between : Pass) × EvictsSegment b segment (evict.Evicted keys) p between
+    × RefillsSegment b segment deadline refill.Held between q)
 
 abbrev pub GivesUpSegment : Board → ℕ → ℕ → Bool → ℕ → Pass → Pass → Type 0
 GivesUpSegment b segment deadline true keys p q = GivesUp b segment deadline keys p q
@@ -91,11 +96,14 @@ turned_by (suc given) ring = turned (turned_by given ring)
 unfoldable pub PassesOver : Board → Cycle → ℕ → ℕ → ℕ → Pass → Pass → Type 0
 PassesOver b ring deadline zero keys p q = (keys ≡ 0) × (q ≡ p)
 PassesOver b ring deadline (suc tried) keys p q =
-    (before : ℕ) × (more : ℕ) × (between : Pass) × PassesOver b ring deadline tried before p between
-    × CannotGiveUp b (next_of (turned_by tried ring)) deadline more between q × (keys ≡ before + more)
+    (before : ℕ) × (more : ℕ) × (between : Pass)
+    × PassesOver b ring deadline tried before p between
+    × CannotGiveUp b (next_of (turned_by tried ring)) deadline more between q
+    × (keys ≡ before + more)
 
 -- then the next one was given up
-pub record GivesUpOne (b : Board) (ring : Cycle) (deadline keys : ℕ) (next : Cycle) (p q : Pass) : Type 0 where
+pub record GivesUpOne (b : Board) (ring : Cycle) (deadline keys : ℕ) (next : Cycle) (p q : Pass)
+    : Type 0 where
   pub tried : ℕ
   pub below : tried < ring.count
   pub before : ℕ
@@ -107,7 +115,8 @@ pub record GivesUpOne (b : Board) (ring : Cycle) (deadline keys : ℕ) (next : C
   pub turned : next ≡ turned_by (tried + 1) ring
 
 -- none of them could be
-pub record GivesUpNone (b : Board) (ring : Cycle) (deadline keys : ℕ) (next : Cycle) (p q : Pass) : Type 0 where
+pub record GivesUpNone (b : Board) (ring : Cycle) (deadline keys : ℕ) (next : Cycle) (p q : Pass)
+    : Type 0 where
   pub others : PassesOver b ring deadline ring.count keys p q
   pub turned : next ≡ turned_by ring.count ring
 
@@ -115,7 +124,8 @@ abbrev pub GivesUpSome : Board → Cycle → ℕ → Bool → ℕ → Cycle → 
 GivesUpSome b ring deadline true keys next p q = GivesUpOne b ring deadline keys next p q
 GivesUpSome b ring deadline false keys next p q = GivesUpNone b ring deadline keys next p q
 
--- what calls of a put came to beside its answer: how many segments were refilled, how many items kept, how many keys evicted, and which segment is next
+-- what calls of a put came to beside its answer: how many segments were refilled,
+-- how many items kept, how many keys evicted, and which segment is next
 pub record Effort : Type 0 where
   pub refilled : ℕ
   pub kept : ℕ
@@ -129,8 +139,11 @@ no_effort ring = record { refilled = 0; kept = 0; keys = 0; ring = ring }
 -- Or it wasn't: none could be refilled, and none given up.
 abbrev pub MakesRoom : Board → Cycle → ℕ → Bool → Effort → Pass → Pass → Type 0
 MakesRoom b ring deadline made effort p q =
-    (RefillsUnused b deadline p q × (made ≡ true) × (effort ≡ record { refilled = 1; kept = 0; keys = 0; ring = ring }))
-    ⊎ ((between : Pass) × RefillsNone b deadline p between × GivesUpSome b ring deadline made effort.keys effort.ring between q × (effort.refilled ≡ cond made 1 0) × (effort.kept ≡ 0))
+    (RefillsUnused b deadline p q × (made ≡ true)
+    × (effort ≡ record { refilled = 1; kept = 0; keys = 0; ring = ring }))
+    ⊎ ((between : Pass) × RefillsNone b deadline p between
+    × GivesUpSome b ring deadline made effort.keys effort.ring between q
+    × (effort.refilled ≡ cond made 1 0) × (effort.kept ≡ 0))
 
 -- ---- room of a client that keeps what was read often
 
@@ -141,15 +154,18 @@ moved_by (keep.NoRoom count) = count
 moved_by (keep.Busy count) = count
 moved_by keep.NotYours = 0
 
--- so many items of this frequency or a higher one were moved from the segment into the current one, whatever the keep answered; then so many keys were evicted from it, to the end or not
+-- so many items of this frequency or a higher one were moved from the segment into the current
+-- one, whatever the keep answered; then so many keys were evicted from it, to the end or not
 pub record KeepsThenEvicts (b : Board) (segment cutoff kept keys : ℕ) (p q : Pass) : Type 0 where
   pub told : KeepAnswer
   pub between : Pass
   pub keeps : KeepsItems b segment cutoff told p between
   pub moved : kept ≡ moved_by told
-  pub evicts : EvictsSegment b segment (evict.Evicted keys) between q ⊎ EvictsSegment b segment (evict.Busy keys) between q
+  pub evicts : EvictsSegment b segment (evict.Evicted keys) between q
+      ⊎ EvictsSegment b segment (evict.Busy keys) between q
 
--- so it went with the next segment of the ring, unless the pass stores into it: then it was passed over
+-- so it went with the next segment of the ring, unless the pass stores into it:
+-- then it was passed over
 abbrev pub ClearsNext : Board → Cycle → ℕ → ℕ → ℕ → Pass → Pass → Type 0
 ClearsNext b ring cutoff kept keys p q =
     ((current_of p ≢ Some (next_of ring)) × KeepsThenEvicts b (next_of ring) cutoff kept keys p q)
@@ -157,7 +173,8 @@ ClearsNext b ring cutoff kept keys p q =
 
 -- every segment of the pass is in use
 abbrev pub AreAllInUse : Board → Pass → Type 0
-AreAllInUse b p = (ahead : ℕ) → ahead < b.shape.segments_each → state_of p (first_of b p + ahead) ≡ Some InUse
+AreAllInUse b p =
+    (ahead : ℕ) → ahead < b.shape.segments_each → state_of p (first_of b p + ahead) ≡ Some InUse
 
 -- a row is left, or else room is made
 abbrev pub HasRoomAtLast : Board → Cycle → ℕ → Bool → Effort → Pass → Pass → Type 0
@@ -165,8 +182,11 @@ HasRoomAtLast b ring deadline made effort p q =
     ((has_room b.shape p ≡ true) × (made ≡ true) × (effort ≡ no_effort ring) × (q ≡ p))
     ⊎ ((has_room b.shape p ≡ false) × MakesRoom b ring deadline made effort p q)
 
--- Every segment was in use. So the next one was cleared, for the next time, and if what was kept left no row, room was made again.
-pub record ClearsOne (b : Board) (ring : Cycle) (cutoff deadline : ℕ) (made : Bool) (effort : Effort) (p q : Pass) : Type 0 where
+-- Every segment was in use.
+-- So the next one was cleared, for the next time, and if what was kept left no row,
+-- room was made again.
+pub record ClearsOne (b : Board) (ring : Cycle) (cutoff deadline : ℕ) (made : Bool)
+    (effort : Effort) (p q : Pass) : Type 0 where
   pub all_in_use : AreAllInUse b p
   pub kept : ℕ
   pub keys : ℕ
@@ -174,7 +194,12 @@ pub record ClearsOne (b : Board) (ring : Cycle) (cutoff deadline : ℕ) (made : 
   pub clears : ClearsNext b ring cutoff kept keys p cleared
   pub last : Effort
   pub room : HasRoomAtLast b (turned ring) deadline made last cleared q
-  pub all : effort ≡ record { refilled = last.refilled; kept = kept; keys = keys + last.keys; ring = last.ring }
+  pub all : effort ≡ record {
+    refilled = last.refilled;
+    kept = kept;
+    keys = keys + last.keys;
+    ring = last.ring;
+  }
 
 -- so it went, unless a segment of the pass isn't in use
 abbrev pub ClearsIfFull : Board → Cycle → ℕ → ℕ → Bool → Effort → Pass → Pass → Type 0
@@ -183,15 +208,22 @@ ClearsIfFull b ring cutoff deadline made effort p q =
     ⊎ ((¬ (AreAllInUse b p)) × (made ≡ true) × (effort ≡ no_effort ring) × (q ≡ p))
 
 -- room was made, and then it went so
-pub record MakesAndClears (b : Board) (ring : Cycle) (cutoff deadline : ℕ) (made : Bool) (effort : Effort) (p q : Pass) : Type 0 where
+pub record MakesAndClears (b : Board) (ring : Cycle) (cutoff deadline : ℕ) (made : Bool)
+    (effort : Effort) (p q : Pass) : Type 0 where
   pub first : Effort
   pub between : Pass
   pub makes : MakesRoom b ring deadline true first p between
   pub last : Effort
   pub clears : ClearsIfFull b first.ring cutoff deadline made last between q
-  pub all : effort ≡ record { refilled = first.refilled + last.refilled; kept = last.kept; keys = first.keys + last.keys; ring = last.ring }
+  pub all : effort ≡ record {
+    refilled = first.refilled + last.refilled;
+    kept = last.kept;
+    keys = first.keys + last.keys;
+    ring = last.ring;
+  }
 
--- Room was made, or not, for a client that keeps nothing, or that keeps what has this frequency or a higher one.
+-- Room was made, or not, for a client that keeps nothing,
+-- or that keeps what has this frequency or a higher one.
 abbrev pub GetsRoom : Board → Option ℕ → Cycle → ℕ → Bool → Effort → Pass → Pass → Type 0
 GetsRoom b None ring deadline made effort p q = MakesRoom b ring deadline made effort p q
 GetsRoom b (Some cutoff) ring deadline made effort p q =
@@ -201,12 +233,15 @@ GetsRoom b (Some cutoff) ring deadline made effort p q =
 -- ---- a put
 
 -- a set that had no room: it was made again if room was made, and only if none was is it NoRoom
-abbrev pub SetsInRoom : Board → Request → Option ℕ → ℕ → Cycle → PutAnswer → Effort → Pass → Pass → Type 0
+abbrev pub SetsInRoom : Board → Request → Option ℕ → ℕ → Cycle → PutAnswer → Effort → Pass → Pass
+    → Type 0
 SetsInRoom b request cutoff deadline ring told effort p q =
-    ((between : Pass) × GetsRoom b cutoff ring deadline true effort p between × SetsAtLast b request told between q × (told ≢ put.NoRoom))
+    ((between : Pass) × GetsRoom b cutoff ring deadline true effort p between
+    × SetsAtLast b request told between q × (told ≢ put.NoRoom))
     ⊎ (GetsRoom b cutoff ring deadline false effort p q × (told ≡ put.NoRoom))
 
--- whether the segment that the pass stores into has expired, so that what is stored there can't be read
+-- whether the segment that the pass stores into has expired,
+-- so that what is stored there can't be read
 abbrev pub is_over : ℕ → Option ℕ → Bool
 is_over now None = false
 is_over now (Some deadline) = nat_le deadline now
@@ -227,27 +262,40 @@ LacksRoom b request p q =
 -- a set that may answer NoRoom for an expired segment too
 abbrev pub SetsIfFresh : Board → Request → PutAnswer → Pass → Pass → Type 0
 SetsIfFresh b request put.NoRoom p q = LacksRoom b request p q
-SetsIfFresh b request put.Stored p q = (is_stale (moment_of request) p ≡ false) × SetsAtLast b request put.Stored p q
-SetsIfFresh b request put.BucketFull p q = (is_stale (moment_of request) p ≡ false) × SetsAtLast b request put.BucketFull p q
-SetsIfFresh b request put.Busy p q = (is_stale (moment_of request) p ≡ false) × SetsAtLast b request put.Busy p q
+SetsIfFresh b request put.Stored p q =
+    (is_stale (moment_of request) p ≡ false) × SetsAtLast b request put.Stored p q
+SetsIfFresh b request put.BucketFull p q =
+    (is_stale (moment_of request) p ≡ false) × SetsAtLast b request put.BucketFull p q
+SetsIfFresh b request put.Busy p q =
+    (is_stale (moment_of request) p ≡ false) × SetsAtLast b request put.Busy p q
 
 -- a set, for which room was made if it had none
-abbrev pub SetsWithRoom : Board → Request → Option ℕ → ℕ → Cycle → PutAnswer → Effort → Pass → Pass → Type 0
+abbrev pub SetsWithRoom : Board → Request → Option ℕ → ℕ → Cycle → PutAnswer → Effort → Pass → Pass
+    → Type 0
 SetsWithRoom b request cutoff deadline ring told effort p q =
     (SetsIfFresh b request told p q × (told ≢ put.NoRoom) × (effort ≡ no_effort ring))
-    ⊎ ((between : Pass) × LacksRoom b request p between × SetsInRoom b request cutoff deadline ring told effort between q)
+    ⊎ ((between : Pass) × LacksRoom b request p between
+    × SetsInRoom b request cutoff deadline ring told effort between q)
 
 -- so many keys were evicted from the next segment of the ring, to the end or not
-pub record EvictsNext (b : Board) (ring : Cycle) (keys : ℕ) (next : Cycle) (p q : Pass) : Type 0 where
-  pub evicts : EvictsSegment b (next_of ring) (evict.Evicted keys) p q ⊎ EvictsSegment b (next_of ring) (evict.Busy keys) p q
+pub record EvictsNext (b : Board) (ring : Cycle) (keys : ℕ) (next : Cycle) (p q : Pass)
+    : Type 0 where
+  pub evicts : EvictsSegment b (next_of ring) (evict.Evicted keys) p q
+      ⊎ EvictsSegment b (next_of ring) (evict.Busy keys) p q
   pub turned : next ≡ turned ring
 
 -- the efforts of a first set, of an evict between, and of the last set
 abbrev pub together : Effort → ℕ → Effort → Effort
-together first keys last = record { refilled = first.refilled + last.refilled; kept = first.kept + last.kept; keys = first.keys + keys + last.keys; ring = last.ring }
+together first keys last = record {
+  refilled = first.refilled + last.refilled;
+  kept = first.kept + last.kept;
+  keys = first.keys + keys + last.keys;
+  ring = last.ring;
+}
 
 -- a set that found its bucket full: the next segment was evicted, and the set made again
-pub record PutsAgain (b : Board) (request : Request) (cutoff : Option ℕ) (deadline : ℕ) (ring : Cycle) (told : PutAnswer) (effort : Effort) (p q : Pass) : Type 0 where
+pub record PutsAgain (b : Board) (request : Request) (cutoff : Option ℕ) (deadline : ℕ)
+    (ring : Cycle) (told : PutAnswer) (effort : Effort) (p q : Pass) : Type 0 where
   pub first : Effort
   pub full : Pass
   pub finds_full : SetsWithRoom b request cutoff deadline ring put.BucketFull first p full
@@ -259,8 +307,10 @@ pub record PutsAgain (b : Board) (request : Request) (cutoff : Option ℕ) (dead
   pub sets : SetsWithRoom b request cutoff deadline next told last emptied q
   pub all : effort ≡ together first keys last
 
--- a put: a set for which room was made if it had none, and again once a segment was evicted if its bucket was full
-abbrev pub PutsPair : Board → Request → Option ℕ → ℕ → Cycle → PutAnswer → Effort → Pass → Pass → Type 0
+-- a put: a set for which room was made if it had none,
+-- and again once a segment was evicted if its bucket was full
+abbrev pub PutsPair : Board → Request → Option ℕ → ℕ → Cycle → PutAnswer → Effort → Pass → Pass
+    → Type 0
 PutsPair b request cutoff deadline ring told effort p q =
     (SetsWithRoom b request cutoff deadline ring told effort p q × (told ≢ put.BucketFull))
     ⊎ PutsAgain b request cutoff deadline ring told effort p q

@@ -6,7 +6,8 @@ use Rattle.segpolicy.specs.Words.{Cycle}
 
 -- the ring has the segments of the pass
 abbrev pub IsOwnRing : Shape → ℕ → Cycle → Type 0
-IsOwnRing shape pass ring = (ring.first ≡ pass * shape.segments_each) × (ring.count ≡ shape.segments_each)
+IsOwnRing shape pass ring =
+    (ring.first ≡ pass * shape.segments_each) × (ring.count ≡ shape.segments_each)
 
 pub IsOwnRing-prop : (shape : Shape) (pass : ℕ) (ring : Cycle) → IsProp (IsOwnRing shape pass ring)
 IsOwnRing-prop shape pass ring = hlevel props

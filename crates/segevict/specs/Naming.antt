@@ -31,17 +31,22 @@ TellsNamed shape segment row false q = RowGone shape segment row (trace q)
 abbrev pub Tallies : (ℕ → Type 0) → (ℕ → Type 0) → ℕ → ℕ → Type 0
 Tallies IsSo IsNot zero count = count ≡ 0
 Tallies IsSo IsNot (suc row) count =
-    ((before : ℕ) × (count ≡ before + 1) × Tallies IsSo IsNot row before × IsSo row) ⊎ (Tallies IsSo IsNot row count × IsNot row)
+    ((before : ℕ) × (count ≡ before + 1) × Tallies IsSo IsNot row before × IsSo row)
+    ⊎ (Tallies IsSo IsNot row count × IsNot row)
 
--- of the first rows so many were named, each at a moment of the call, and no word names any of the others
+-- of the first rows so many were named, each at a moment of the call,
+-- and no word names any of the others
 abbrev pub FindsNamed : Shape → ℕ → ℕ → ℕ → Pass → Pass → Type 0
 FindsNamed shape segment rows count p q =
-    Tallies (λ row. WasNamed shape segment row (marked p) (marked q)) (λ row. RowGone shape segment row (trace q)) rows count
+    Tallies (λ row. WasNamed shape segment row (marked p) (marked q))
+    (λ row. RowGone shape segment row (trace q)) rows count
 
--- of the first rows so many were named, each at a moment of the call, and at its end no item names any of the others
+-- of the first rows so many were named, each at a moment of the call,
+-- and at its end no item names any of the others
 abbrev pub AreNamed : Shape → ℕ → ℕ → ℕ → Pass → Pass → Type 0
 AreNamed shape segment rows count p q =
-    Tallies (λ row. WasNamed shape segment row (marked p) (marked q)) (λ row. ¬ (IsNamed shape segment row (marked q))) rows count
+    Tallies (λ row. WasNamed shape segment row (marked p) (marked q))
+    (λ row. ¬ (IsNamed shape segment row (marked q))) rows count
 
 -- ---- in all segments of the pass's own
 
@@ -53,7 +58,8 @@ sum_below amount (suc at) = sum_below amount at + amount at
 -- it is the sum of a number for each, of which this is so
 abbrev pub SumsUp : (ℕ → ℕ → Type 0) → ℕ → ℕ → Type 0
 SumsUp Is zero sum = sum ≡ 0
-SumsUp Is (suc at) sum = (before : ℕ) × (one : ℕ) × (sum ≡ before + one) × SumsUp Is at before × Is at one
+SumsUp Is (suc at) sum =
+    (before : ℕ) × (one : ℕ) × (sum ≡ before + one) × SumsUp Is at before × Is at one
 
 abbrev pub or_zero : Option ℕ → ℕ
 or_zero None = 0
@@ -69,5 +75,6 @@ used_at shape p at = or_zero (used_of p (own_at shape p at))
 -- so many rows of the pass's own segments are used, and so many of these were named
 pub record CountsRows (shape : Shape) (used named : ℕ) (p q : Pass) : Type 0 where
   pub sum : used ≡ sum_below (used_at shape p) shape.segments_each
-  pub sums : SumsUp (λ at count. AreNamed shape (own_at shape p at) (used_at shape p at) count p q) shape.segments_each named
+  pub sums : SumsUp (λ at count. AreNamed shape (own_at shape p at) (used_at shape p at) count p q)
+      shape.segments_each named
   pub few : named ≤ used

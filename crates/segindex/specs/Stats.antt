@@ -14,7 +14,11 @@ pub record WereDrawn (count : ℕ) (old new : List Mark) : Type 0 where
   pub to : Begins moment new
   pub drawn : all_drawn moment ≡ count
 
--- So many overflow buckets were drawn at a moment of the call. So many rows of the pass's own segments are used. So many of these were named by an item, each at a moment of the call, and at the return no item names any of the others. The pass added no entry, keeps all that it kept, and nothing of it costs.
+-- So many overflow buckets were drawn at a moment of the call.
+-- So many rows of the pass's own segments are used.
+-- So many of these were named by an item, each at a moment of the call,
+-- and at the return no item names any of the others.
+-- The pass added no entry, keeps all that it kept, and nothing of it costs.
 pub record TellsStats (b : Board) (told : IndexStats) (p q : Pass) : Type 0 where
   pub only : OnlyLearns b p q
   pub drawn : WereDrawn told.overflow_buckets (marked p) (marked q)

@@ -36,7 +36,17 @@ with_one_more tally.Busy tallies = record tallies { busy = tallies.busy + 1 }
 
 -- how many commands are counted in all
 abbrev pub all_of : Tallies → ℕ
-all_of tallies = tallies.hit + tallies.miss + tallies.stored + tallies.not_stored + tallies.exists + tallies.not_found + tallies.deleted + tallies.no_room + tallies.bucket_full + tallies.busy
+all_of tallies =
+    tallies.hit
+    + tallies.miss
+    + tallies.stored
+    + tallies.not_stored
+    + tallies.exists
+    + tallies.not_found
+    + tallies.deleted
+    + tallies.no_room
+    + tallies.bucket_full
+    + tallies.busy
 
 -- how many commands are counted with a reply
 abbrev pub count_of_reply : Reply → Tallies → ℕ

@@ -12,36 +12,43 @@ use Rattle.segload.specs.Gates.{IsToldOf, LetsThrough, RanToEnd, Stops}
 use Rattle.segload.specs.Counting.{all_of, CountsReplies}
 use Rattle.segload.specs.Making.{ClientState, Makes}
 
--- The tallies of a pass count `asked` commands, each once. These are the first ones of the pass's workload.
+-- The tallies of a pass count `asked` commands, each once.
+-- These are the first ones of the pass's workload.
 -- The workload is drawn with the seed from the stream of the pass's number, over so many keys.
 -- The commands make the tallies and the pass's own entries in the history.
 -- The five tallies of replies count the pass's own writes there.
-pub record CountsCommands (shape : Shape) (seed keys asked pass : ℕ) (history : List Entry) (totals : PassTotals) : Type 0 where
+pub record CountsCommands (shape : Shape) (seed keys asked pass : ℕ) (history : List Entry)
+    (totals : PassTotals) : Type 0 where
   pub commands : totals.commands ≡ asked
   pub all : all_of totals.tallies ≡ asked
   pub replies : CountsReplies totals.tallies (mine pass history)
   pub course : ClientState
-  pub made : Makes shape history pass (draws_of seed pass keys) asked totals.tallies course (mine pass history)
+  pub made : Makes shape history pass (draws_of seed pass keys) asked totals.tallies course
+      (mine pass history)
 
 -- how many keys stand
 abbrev pub keys_of : Cache → ℕ
 keys_of cache = length cache.items
 
 -- One legal history has the entries of all passes, and none of anyone else.
--- The entries of each pass are those that its commands make, which are drawn with this seed over so many keys.
+-- The entries of each pass are those that its commands make,
+-- which are drawn with this seed over so many keys.
 -- The totals count these commands, and how many keys stand after the history.
 pub record IsLoad (shape : Shape) (seed keys commands : ℕ) (totals : Totals) : Type 0 where
   pub valid : IsValid shape
   pub long : length totals.passes.items ≡ shape.passes
   pub history : List Entry
   pub legal : IsLegal shape history
-  pub each : (pass : ℕ) (of : PassTotals) → slice_get totals.passes.items pass ≡ Some of → CountsCommands shape seed keys commands pass history of
+  pub each : (pass : ℕ) (of : PassTotals)
+      → slice_get totals.passes.items pass ≡ Some of
+      → CountsCommands shape seed keys commands pass history of
   pub among : (pass : ℕ) → shape.passes ≤ pass → mine pass history ≡ []
   pub stand : totals.keys ≡ keys_of (after shape history)
 
 -- The gate may let each command of each pass through. When it was asked isn't said.
 abbrev pub IsLetThrough : Shape → ℕ → (ℕ → ℕ → Bool → Type 0) → Type 0
-IsLetThrough shape commands may_answer = (pass : ℕ) → pass < shape.passes → LetsThrough may_answer commands pass
+IsLetThrough shape commands may_answer =
+    (pass : ℕ) → pass < shape.passes → LetsThrough may_answer commands pass
 
 -- The gate was told of each command of each pass, by its number, that it was answered.
 abbrev pub IsToldOfAll : Shape → ℕ → (ℕ → ℕ → Type 0) → Type 0
@@ -50,15 +57,16 @@ IsToldOfAll shape commands told = (pass : ℕ) → pass < shape.passes → IsTol
 -- The gate may stop a pass before one of its commands, and may let those before that one through.
 -- It may let through each command of each pass with a lower number.
 -- It may let each other pass through to its end too, or stop that pass before one of its commands.
-pub record IsStopped (shape : Shape) (commands : ℕ) (may_answer : ℕ → ℕ → Bool → Type 0) (pass : ℕ) : Type 0 where
+pub record IsStopped (shape : Shape) (commands : ℕ) (may_answer : ℕ → ℕ → Bool → Type 0) (pass : ℕ)
+    : Type 0 where
   pub valid : IsValid shape
   pub one_of : pass < shape.passes
   pub stops : Stops may_answer commands pass
   pub lowest : (lower : ℕ) → lower < pass → LetsThrough may_answer commands lower
   pub each : (other : ℕ) → other < shape.passes → RanToEnd may_answer commands other
 
--- The index couldn't be created; or the gate may have stopped this pass, and none with a lower number;
--- or the load is out of memory, and its shape is valid.
+-- The index couldn't be created; or the gate may have stopped this pass,
+-- and none with a lower number; or the load is out of memory, and its shape is valid.
 abbrev pub IsLoadFault : Shape → ℕ → (ℕ → ℕ → Bool → Type 0) → LoadFault → Type 0
 IsLoadFault shape commands may_answer (Make fault) = IsMakeFault shape fault
 IsLoadFault shape commands may_answer (Stopped pass) = IsStopped shape commands may_answer pass

@@ -54,15 +54,23 @@ HoldsNothing p = (locked_of p ≡ None) × (holding p ≡ None)
 
 -- The ring has the segments of the pass.
 abbrev pub IsOwnRing : Shape → ℕ → Cycle → Type 0
-IsOwnRing shape pass ring = (ring.first ≡ pass * shape.segments_each) × (ring.count ≡ shape.segments_each)
+IsOwnRing shape pass ring =
+    (ring.first ≡ pass * shape.segments_each) × (ring.count ≡ shape.segments_each)
 
--- The pass gave up a segment: it emptied and refilled the segment, up to the load's deadline, and now there is room.
+-- The pass gave up a segment: it emptied and refilled the segment, up to the load's deadline,
+-- and now there is room.
 -- Or the pass couldn't, but only if there are other passes.
 abbrev pub GivesUpSegment : Shape → ℕ → Bool → Pass → Pass → Type 0
-GivesUpSegment shape segment true p q = (room : List Entry) × Empties (number p) segment (mine p) room × (mine q ≡ Refilled (number p) segment load_deadline ∷ room) × (has_room shape q ≡ true)
-GivesUpSegment shape segment false p q = Empties (number p) segment (mine p) (mine q) × (shape.passes ≢ 1)
+GivesUpSegment shape segment true p q =
+    (room : List Entry)
+    × Empties (number p) segment (mine p) room
+    × (mine q ≡ Refilled (number p) segment load_deadline ∷ room)
+    × (has_room shape q ≡ true)
+GivesUpSegment shape segment false p q =
+    Empties (number p) segment (mine p) (mine q) × (shape.passes ≢ 1)
 
--- The command of the index for a load's command of this kind, with the moment of the load. A cas expects this version.
+-- The command of the index for a load's command of this kind, with the moment of the load.
+-- A cas expects this version.
 abbrev pub asked_by : Kind → ℕ → Load → Command
 asked_by kind.Get version load = command.Get load.key load_moment
 asked_by kind.Gets version load = command.Gets load.key load_moment
@@ -92,42 +100,61 @@ tally_of (answer.Gets (gets.Found value version)) = tally.Hit
 tally_of (answer.Gets gets.Miss) = tally.Miss
 tally_of _ = tally.Busy
 
--- What the next commands of a pass depend on, after an answer: a gets that is a hit changes the version.
+-- What the next commands of a pass depend on, after an answer:
+-- a gets that is a hit changes the version.
 abbrev pub course_after : Answer → ClientState → ClientState
 course_after (answer.Gets (gets.Found value version)) course = record course { version = version }
 course_after _ course = course
 
--- A get or a gets of a load, counted so, was made with the draw of its load and the moment of the load.
+-- A get or a gets of a load, counted so,
+-- was made with the draw of its load and the moment of the load.
 -- If it is a hit, that draw says whether the frequency of the item is raised.
 abbrev pub ReadsWithDraw : Board → Kind → Load → Tally → Pass → Pass → Type 0
-ReadsWithDraw b kind.Get load told p q = (read : GetAnswer) × (told ≡ tally_of (answer.Get read)) × ReadsKey b load.key load.draw load_moment read p q
-ReadsWithDraw b kind.Gets load told p q = (read : GetsAnswer) × (told ≡ tally_of (answer.Gets read)) × ReadsVersion b load.key load.draw load_moment read p q
+ReadsWithDraw b kind.Get load told p q =
+    (read : GetAnswer)
+    × (told ≡ tally_of (answer.Get read))
+    × ReadsKey b load.key load.draw load_moment read p q
+ReadsWithDraw b kind.Gets load told p q =
+    (read : GetsAnswer)
+    × (told ≡ tally_of (answer.Gets read))
+    × ReadsVersion b load.key load.draw load_moment read p q
 ReadsWithDraw b _ load told p q = Unit {0}
 
--- All reads among the first so many commands of a workload were made so. After them the pass is this one.
+-- All reads among the first so many commands of a workload were made so.
+-- After them the pass is this one.
 abbrev pub HandsInDraws : Board → Draws → ℕ → Pass → Type 0
 HandsInDraws b draws zero q = Unit {0}
-HandsInDraws b draws (suc made) q = (p : Pass) × (told : Tally) × HandsInDraws b draws made p × ReadsWithDraw b (next_load (draws_after draws made)).kind (next_load (draws_after draws made)) told p q
+HandsInDraws b draws (suc made) q =
+    (p : Pass) × (told : Tally)
+    × HandsInDraws b draws made p
+    × ReadsWithDraw b (next_load (draws_after draws made)).kind
+    (next_load (draws_after draws made)) told p q
 
--- The worker's pass made so many commands of a workload. It is quiet, has no bucket locked, and holds nothing.
+-- The worker's pass made so many commands of a workload.
+-- It is quiet, has no bucket locked, and holds nothing.
 pub record IsAtWork (b : Board) (draws : Draws) (made : ℕ) (worker : Worker) : Type 0 where
   pub quiet : IsQuiet b worker.client.pass
   pub free : HoldsNothing worker.client.pass
   pub workload : worker.workload ≡ draws_after draws made
-  pub makes : Makes b.shape (seen worker.client.pass) (number worker.client.pass) draws made worker.tallies (course_of worker.client) (mine worker.client.pass)
+  pub makes : Makes b.shape (seen worker.client.pass) (number worker.client.pass) draws made
+      worker.tallies (course_of worker.client) (mine worker.client.pass)
   pub reads : HandsInDraws b draws made worker.client.pass
   pub all : all_of worker.tallies ≡ made
 
--- The worker is that of the pass of this number. If the gate didn't stop it, it made all its commands.
+-- The worker is that of the pass of this number.
+-- If the gate didn't stop it, it made all its commands.
 -- If the gate stopped it before one of them, it made those before that one.
 -- Each command that was made is one that the gate may let through, and the gate was told of each.
-pub record HasWorked (b : Board) (may_answer : ℕ → ℕ → Bool → Type 0) (told : ℕ → ℕ → Type 0) (draws : Draws) (pass commands : ℕ) (worker : Worker) : Type 0 where
+pub record HasWorked (b : Board) (may_answer : ℕ → ℕ → Bool → Type 0) (told : ℕ → ℕ → Type 0)
+    (draws : Draws) (pass commands : ℕ) (worker : Worker) : Type 0 where
   pub quiet : IsQuiet b worker.client.pass
   pub is : number worker.client.pass ≡ pass
   pub at_work : worker.is_stopped ≡ false → IsAtWork b draws commands worker
   pub let_through : worker.is_stopped ≡ false → LetsThrough may_answer commands pass
   pub told_of : worker.is_stopped ≡ false → IsToldOf told commands pass
-  pub stopped : worker.is_stopped ≡ true → (stops : Stops may_answer commands pass) × IsAtWork b draws stops.call worker × IsToldOf told stops.call pass
+  pub stopped : worker.is_stopped ≡ true
+      → (stops : Stops may_answer commands pass) × IsAtWork b draws stops.call worker
+      × IsToldOf told stops.call pass
 
 -- The worker is that of the pass of this number, which has made no command yet.
 pub record BeginsLoad (b : Board) (draws : Draws) (pass : ℕ) (worker : Worker) : Type 0 where
@@ -144,8 +171,10 @@ abbrev pub BeginsPlan : Board → Plan → ℕ → Worker → Type 0
 BeginsPlan b plan pass worker = BeginsLoad b (draws_for plan pass) pass worker
 
 -- The pass of this number did what the plan says, as far as the gate let it.
-abbrev pub HasMadePlan : Board → (ℕ → ℕ → Bool → Type 0) → (ℕ → ℕ → Type 0) → Plan → ℕ → Worker → Type 0
-HasMadePlan b may_answer told plan pass worker = HasWorked b may_answer told (draws_for plan pass) pass plan.commands worker
+abbrev pub HasMadePlan : Board → (ℕ → ℕ → Bool → Type 0) → (ℕ → ℕ → Type 0) → Plan → ℕ → Worker
+    → Type 0
+HasMadePlan b may_answer told plan pass worker =
+    HasWorked b may_answer told (draws_for plan pass) pass plan.commands worker
 
 -- the pass of a worker
 abbrev pub pass_of : Worker → Pass
@@ -162,4 +191,7 @@ pub record IsFirstStopped (workers : List Worker) (pass : ℕ) : Type 0 where
   pub there : slice_get workers place ≡ Some worker
   pub stopped : worker.is_stopped ≡ true
   pub of : pass ≡ number_of worker.client.pass
-  pub first : (n : ℕ) (lower : Worker) → n < place → slice_get workers n ≡ Some lower → lower.is_stopped ≡ false
+  pub first : (n : ℕ) (lower : Worker)
+      → n < place
+      → slice_get workers n ≡ Some lower
+      → lower.is_stopped ≡ false

@@ -8,12 +8,16 @@ use Rattle.segscript.specs.Run.{EndOfRun}
 use Rattle.segscript.specs.declared.fault.RunFault.{RunFault}
 use Rattle.segscript.specs.declared.fault.RunFault.TheVariants as fault
 
--- In a new index the passes took the turns that the lines of what was read say, in the order of the lines.
+-- In a new index the passes took the turns that the lines of what was read say,
+-- in the order of the lines.
 -- The pass that a line names took the line's turn, and the other passes did nothing.
 -- The outcome of a turn is the answer of one call of its pass.
 -- What was written, and how the run ended, is what `EndOfRun` says of these outcomes.
 -- If creating the index failed, nothing is said here.
-abbrev pub EachTurn : Shape → (List ℕ → Type 0) → Type 0 → (List ℕ → Type 0) → ℕ → ℕ → Result (Unit {0}) RunFault → Type 0
+abbrev pub EachTurn : Shape → (List ℕ → Type 0) → Type 0 → (List ℕ → Type 0) → ℕ → ℕ
+    → Result (Unit {0}) RunFault → Type 0
 EachTurn shape Read Ends Wrote before flushes (Err (fault.Make f)) = Unit {0}
 EachTurn shape Read Ends Wrote before flushes result =
-    (index : Index) × (start : List Pass) × IsNew shape index start × EndOfRun shape.passes (OneTakes (board_of index)) start Read Ends Wrote before flushes result
+    (index : Index) × (start : List Pass)
+    × IsNew shape index start
+    × EndOfRun shape.passes (OneTakes (board_of index)) start Read Ends Wrote before flushes result

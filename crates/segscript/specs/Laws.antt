@@ -8,4 +8,8 @@ LinesFit = (passes : ℕ) (said : PassTurn) → IsSayable passes said → length
 
 -- If one line spells two turns of passes, they are the same turn of the same pass.
 abbrev pub LineSpellsOneTurn : Type 0
-LineSpellsOneTurn = (passes : ℕ) (left right : PassTurn) → IsSayable passes left → IsSayable passes right → spelling left ≡ spelling right → left ≡ right
+LineSpellsOneTurn = (passes : ℕ) (left right : PassTurn)
+    → IsSayable passes left
+    → IsSayable passes right
+    → spelling left ≡ spelling right
+    → left ≡ right

@@ -1,4 +1,5 @@
--- The passes of an index between turns, each with the hold that is kept beside it, and the turns that they take.
+-- The passes of an index between turns, each with the hold that is kept beside it,
+-- and the turns that they take.
 use Rattle.std.specs.Prelude.{◌≡◌, ◌≢◌, ℕ, List, [], ◌∷◌, Option, Some, None, length, slice_get}
 use Rattle.segword.specs.Words.{Shape}
 use Rattle.segmodel.specs.Words.{Begins, fresh, Outcome, State, Turn}
@@ -15,15 +16,20 @@ abbrev pub IsHoldKept : Shape → Option Hold → Pass → Type 0
 IsHoldKept shape None p = holding p ≡ None
 IsHoldKept shape (Some hold) p = IsHoldOf shape hold p
 
--- Between turns a pass is quiet, and its hold is kept. If the index has one pass, that pass is alone.
+-- Between turns a pass is quiet, and its hold is kept.
+-- If the index has one pass, that pass is alone.
 pub record IsIdle (b : Board) (kept : Option Hold) (p : Pass) : Type 0 where
   pub quiet : IsQuiet b p
   pub hold : IsHoldKept b.shape kept p
   pub alone : b.shape.passes ≡ 1 → IsAlone b p
 
--- Each pass is idle, and stands at the place of its number. Its hold is at the same place of the other list.
+-- Each pass is idle, and stands at the place of its number.
+-- Its hold is at the same place of the other list.
 abbrev pub AreInOrder : Board → List Pass → List (Option Hold) → Type 0
-AreInOrder b passes holds = (n : ℕ) (p : Pass) (hold : Option Hold) → slice_get passes n ≡ Some p → slice_get holds n ≡ Some hold → IsIdle b hold p × (number p ≡ n)
+AreInOrder b passes holds = (n : ℕ) (p : Pass) (hold : Option Hold)
+    → slice_get passes n ≡ Some p
+    → slice_get holds n ≡ Some hold
+    → IsIdle b hold p × (number p ≡ n)
 
 -- the state of the model that the first pass is at
 abbrev pub first_state : Shape → List Pass → State
@@ -45,9 +51,12 @@ IsSeenBy p q = Begins (marked p) (marked q) × Begins (seen p) (seen q)
 abbrev pub SeesAllOf : List Pass → Pass → Type 0
 SeesAllOf passes q = (n : ℕ) (p : Pass) → slice_get passes n ≡ Some p → IsSeenBy p q
 
--- The new list has the passes of the old one, each at its place. They did nothing, but may have seen more.
+-- The new list has the passes of the old one, each at its place.
+-- They did nothing, but may have seen more.
 abbrev pub OnlyLearn : Board → List Pass → List Pass → Type 0
-OnlyLearn b old new = (n : ℕ) (p : Pass) → slice_get old n ≡ Some p → (q : Pass) × (slice_get new n ≡ Some q) × OnlyLearns b p q
+OnlyLearn b old new = (n : ℕ) (p : Pass)
+    → slice_get old n ≡ Some p
+    → (q : Pass) × (slice_get new n ≡ Some q) × OnlyLearns b p q
 
 -- The passes at two places met, and the others are as they were.
 pub record HaveMet (b : Board) (first second : ℕ) (old new : List Pass) : Type 0 where
@@ -64,16 +73,22 @@ pub record HaveMet (b : Board) (first second : ℕ) (old new : List Pass) : Type
   pub others : (n : ℕ) → n ≢ first → n ≢ second → slice_get new n ≡ slice_get old n
 
 -- The passes only learned something.
--- If the pass at `last` had seen all that any of them had, the one at `place` now has seen all that any has.
+-- If the pass at `last` had seen all that any of them had,
+-- the one at `place` now has seen all that any has.
 pub record CatchesUp (b : Board) (last place : ℕ) (old new : List Pass) : Type 0 where
   pub long : length new ≡ length old
   pub learn : OnlyLearn b old new
-  pub sees : (p q : Pass) → slice_get old last ≡ Some p → slice_get new place ≡ Some q → SeesAllOf old p → SeesAllOf new q
+  pub sees : (p q : Pass)
+      → slice_get old last ≡ Some p
+      → slice_get new place ≡ Some q
+      → SeesAllOf old p
+      → SeesAllOf new q
   pub stays : last ≡ place → new ≡ old
 
 -- The pass of this number took the turn, and the others did nothing.
 -- Before the turn the pass had seen all that any of them had seen.
-pub record OneTakes (b : Board) (old : List Pass) (said : PassTurn) (outcome : Outcome) (new : List Pass) : Type 0 where
+pub record OneTakes (b : Board) (old : List Pass) (said : PassTurn) (outcome : Outcome)
+    (new : List Pass) : Type 0 where
   pub met : List Pass
   pub before : Pass
   pub after : Pass

@@ -43,7 +43,8 @@ get_reply get.Busy = codes "BUSY\n"
 
 -- the line of the answer to a gets: the value, and the version in decimal digits
 abbrev pub gets_reply : GetsAnswer → List ℕ
-gets_reply (gets.Found value version) = codes "VALUE " ++ value_word value ++ codes " " ++ decimal version ++ codes "\n"
+gets_reply (gets.Found value version) =
+    codes "VALUE " ++ value_word value ++ codes " " ++ decimal version ++ codes "\n"
 gets_reply gets.Miss = codes "MISS\n"
 gets_reply gets.Busy = codes "BUSY\n"
 

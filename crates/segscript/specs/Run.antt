@@ -1,4 +1,5 @@
--- How a run of a script ends. An engine takes its turns: it has `passes` passes, and `step` says what one turn is.
+-- How a run of a script ends.
+-- An engine takes its turns: it has `passes` passes, and `step` says what one turn is.
 use Rattle.std.specs.Prelude.{◌⊎◌, ◌≡◌, ℕ, ◌+◌, ◌^◌, ◌≤◌, Bool, true, false, List, [], ◌∷◌, ◌++◌, length, Result, Ok, Err}
 use Rattle.std.specs.List.{flat_map, AllByRecursion}
 use Rattle.segword.specs.Words.{IsValid, Shape}
@@ -24,7 +25,8 @@ abbrev pub is_make_fault : Result (Unit {0}) RunFault → Bool
 is_make_fault (Err (fault.Make f)) = true
 is_make_fault _ = false
 
--- If creating the index failed, the fault is the shape's first one, or out of memory for a valid shape.
+-- If creating the index failed, the fault is the shape's first one,
+-- or out of memory for a valid shape.
 -- With any other result the shape is valid.
 abbrev pub ShapeIsAnswered : Shape → Result (Unit {0}) RunFault → Type 0
 ShapeIsAnswered shape (Err (fault.Make f)) = IsMakeFault shape f
@@ -34,7 +36,8 @@ ShapeIsAnswered shape _ = IsValid shape
 
 -- All whole lines of the bytes that came are served, with this text of replies.
 -- The line after them is not too long so far.
-pub record ServesWholeLines (passes : ℕ) {S : Type 0} (step : S → PassTurn → Outcome → S → Type 0) (start : S) (seen text : List ℕ) : Type 0 where
+pub record ServesWholeLines (passes : ℕ) {S : Type 0} (step : S → PassTurn → Outcome → S → Type 0)
+    (start : S) (seen text : List ℕ) : Type 0 where
   pub lines : List (List ℕ)
   pub rest : List ℕ
   pub state : S
@@ -44,15 +47,21 @@ pub record ServesWholeLines (passes : ℕ) {S : Type 0} (step : S → PassTurn �
 
 -- A reply could not be written whole. The text is that of the lines up to the one of this reply.
 -- A beginning of the text is written, and not all of it.
-abbrev pub StopsWriting : (passes : ℕ) {S : Type 0} (step : S → PassTurn → Outcome → S → Type 0) → S → List ℕ → List ℕ → Type 0
+abbrev pub StopsWriting : (passes : ℕ) {S : Type 0} (step : S → PassTurn → Outcome → S → Type 0)
+    → S → List ℕ → List ℕ → Type 0
 StopsWriting passes step start seen part =
-    (text : List ℕ) × IsBeginning part text
-    × (((front : List ℕ) × (rest : List ℕ) × (seen ≡ front ++ rest) × ServesWholeLines passes step start front text) ⊎ ServesScript passes step start seen text)
+    (text : List ℕ)
+    × IsBeginning part text
+    × (((front : List ℕ) × (rest : List ℕ) × (seen ≡ front ++ rest)
+    × ServesWholeLines passes step start front text)
+    ⊎ ServesScript passes step start seen text)
 
--- Line n of these bytes is bad, and no line before it is. The text has the replies to the lines before it.
+-- Line n of these bytes is bad, and no line before it is.
+-- The text has the replies to the lines before it.
 -- The end of the bad line was read, or its 129th byte, or (if `Ends` holds) nothing comes after it.
 -- So the run reports the line neither early nor on a guess.
-pub record IsSeenBad (passes : ℕ) {S : Type 0} (step : S → PassTurn → Outcome → S → Type 0) (start : S) (Ends : Type 0) (seen text : List ℕ) (n : ℕ) : Type 0 where
+pub record IsSeenBad (passes : ℕ) {S : Type 0} (step : S → PassTurn → Outcome → S → Type 0)
+    (start : S) (Ends : Type 0) (seen text : List ℕ) (n : ℕ) : Type 0 where
   pub lines : List (List ℕ)
   pub bad : List ℕ
   pub after : List ℕ
@@ -71,21 +80,44 @@ pub record IsSeenBad (passes : ℕ) {S : Type 0} (step : S → PassTurn → Outc
 -- `Ends` is that the reader is at its end.
 -- `before` flushes were asked for before the run, and `flushes` after it.
 -- A fault of creating the index is none of a run, so nothing is said of it.
-abbrev pub EndOfRun : (passes : ℕ) {S : Type 0} (step : S → PassTurn → Outcome → S → Type 0) → S → (List ℕ → Type 0) → Type 0 → (List ℕ → Type 0) → ℕ → ℕ → Result (Unit {0}) RunFault → Type 0
+abbrev pub EndOfRun : (passes : ℕ) {S : Type 0} (step : S → PassTurn → Outcome → S → Type 0) → S
+    → (List ℕ → Type 0) → Type 0 → (List ℕ → Type 0) → ℕ → ℕ → Result (Unit {0}) RunFault → Type 0
 EndOfRun passes step start Read Ends Wrote before flushes (Ok _) =
-    (script : List ℕ) × (text : List ℕ) × Read script × Ends × Wrote text × (flushes ≡ one_more before) × ServesScript passes step start script text
+    (script : List ℕ) × (text : List ℕ)
+    × Read script
+    × Ends
+    × Wrote text
+    × (flushes ≡ one_more before)
+    × ServesScript passes step start script text
 EndOfRun passes step start Read Ends Wrote before flushes (Err fault.Read) =
-    (seen : List ℕ) × (text : List ℕ) × Read seen × Wrote text × (flushes ≡ before) × ServesWholeLines passes step start seen text
+    (seen : List ℕ) × (text : List ℕ)
+    × Read seen
+    × Wrote text
+    × (flushes ≡ before)
+    × ServesWholeLines passes step start seen text
 EndOfRun passes step start Read Ends Wrote before flushes (Err fault.TooLong) =
-    (seen : List ℕ) × (text : List ℕ) × Read seen × Wrote text × (flushes ≡ before) × ServesWholeLines passes step start seen text × (length seen ≡ 2 ^ 63)
+    (seen : List ℕ) × (text : List ℕ)
+    × Read seen
+    × Wrote text
+    × (flushes ≡ before)
+    × ServesWholeLines passes step start seen text
+    × (length seen ≡ 2 ^ 63)
 EndOfRun passes step start Read Ends Wrote before flushes (Err (fault.Line n)) =
-    (seen : List ℕ) × (text : List ℕ) × Read seen × Wrote text × (flushes ≡ before) × IsSeenBad passes step start Ends seen text n
+    (seen : List ℕ) × (text : List ℕ)
+    × Read seen
+    × Wrote text
+    × (flushes ≡ before)
+    × IsSeenBad passes step start Ends seen text n
 EndOfRun passes step start Read Ends Wrote before flushes (Err fault.Write) =
-    (seen : List ℕ) × (part : List ℕ) × Read seen × Wrote part
-    × (((flushes ≡ before) × StopsWriting passes step start seen part) ⊎ ((flushes ≡ one_more before) × Ends × ServesScript passes step start seen part))
+    (seen : List ℕ) × (part : List ℕ)
+    × Read seen
+    × Wrote part
+    × (((flushes ≡ before) × StopsWriting passes step start seen part)
+    ⊎ ((flushes ≡ one_more before) × Ends × ServesScript passes step start seen part))
 EndOfRun passes step start Read Ends Wrote before flushes (Err (fault.Make f)) = Unit {0}
 
--- If all ended well, one read handed out nothing, and else at most one did. After it the reader isn't asked again.
+-- If all ended well, one read handed out nothing, and else at most one did.
+-- After it the reader isn't asked again.
 -- `before` such reads were made before the run, and `ends` when it ended.
 abbrev pub EndsOnce : ℕ → ℕ → Result (Unit {0}) RunFault → Type 0
 EndsOnce before ends (Ok _) = ends ≡ one_more before
@@ -96,5 +128,7 @@ EndsOnce before ends (Err (fault.Make f)) = ends ≡ before
 EndsOnce before ends (Err fault.TooLong) = ends ≡ before
 
 -- The run ends as the model says, from a cache in which nothing was done before.
-abbrev pub RunOutcome : Shape → (List ℕ → Type 0) → Type 0 → (List ℕ → Type 0) → ℕ → ℕ → Result (Unit {0}) RunFault → Type 0
-RunOutcome shape Read Ends Wrote before flushes result = EndOfRun shape.passes (Steps shape) (fresh shape) Read Ends Wrote before flushes result
+abbrev pub RunOutcome : Shape → (List ℕ → Type 0) → Type 0 → (List ℕ → Type 0) → ℕ → ℕ
+    → Result (Unit {0}) RunFault → Type 0
+RunOutcome shape Read Ends Wrote before flushes result =
+    EndOfRun shape.passes (Steps shape) (fresh shape) Read Ends Wrote before flushes result

@@ -34,13 +34,15 @@ Say passes ((byte ∷ line) ∷ lines) (said ∷ turns) =
 -- A bad line is too long, or has bytes and says no turn.
 abbrev pub IsBad : ℕ → List ℕ → Type 0
 IsBad passes line =
-    (128 < length line) ⊎ ((0 < length line) × ((said : PassTurn) → IsSayable passes said → line ≡ spelling said → ⊥))
+    (128 < length line)
+    ⊎ ((0 < length line) × ((said : PassTurn) → IsSayable passes said → line ≡ spelling said → ⊥))
 
 -- ---- replies
 
 -- The lines say turns, which were taken one after the other, from the old state to the new one.
 -- The text has the replies to them. There are this many passes, and `step` says what one turn is.
-pub record ServesLines (passes : ℕ) {S : Type 0} (step : S → PassTurn → Outcome → S → Type 0) (old : S) (lines : List (List ℕ)) (text : List ℕ) (new : S) : Type 0 where
+pub record ServesLines (passes : ℕ) {S : Type 0} (step : S → PassTurn → Outcome → S → Type 0)
+    (old : S) (lines : List (List ℕ)) (text : List ℕ) (new : S) : Type 0 where
   pub turns : List PassTurn
   pub outcomes : List Outcome
   pub says : Say passes lines turns
@@ -58,8 +60,10 @@ IsServed shape old lines text new = ServesLines shape.passes (Steps shape) old l
 
 -- ---- whole scripts
 
--- The script is served to its end, with this text of replies. The last line, which has no end, counts if it has bytes.
-pub record ServesScript (passes : ℕ) {S : Type 0} (step : S → PassTurn → Outcome → S → Type 0) (start : S) (script text : List ℕ) : Type 0 where
+-- The script is served to its end, with this text of replies.
+-- The last line, which has no end, counts if it has bytes.
+pub record ServesScript (passes : ℕ) {S : Type 0} (step : S → PassTurn → Outcome → S → Type 0)
+    (start : S) (script text : List ℕ) : Type 0 where
   pub lines : List (List ℕ)
   pub last : List ℕ
   pub state : S
@@ -70,7 +74,8 @@ pub record ServesScript (passes : ℕ) {S : Type 0} (step : S → PassTurn → O
 abbrev pub IsTextOf : Shape → List ℕ → List ℕ → Type 0
 IsTextOf shape script text = ServesScript shape.passes (Steps shape) (fresh shape) script text
 
--- The n-th line of the script is its first bad one, and this is a text of replies to the lines before it.
+-- The n-th line of the script is its first bad one,
+-- and this is a text of replies to the lines before it.
 pub record IsFirstBad (shape : Shape) (script text : List ℕ) (n : ℕ) : Type 0 where
   pub lines : List (List ℕ)
   pub bad : List ℕ

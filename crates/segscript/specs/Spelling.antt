@@ -1,4 +1,5 @@
--- How a turn of a pass is spelled in a script: as one line, its words with a space between each two.
+-- How a turn of a pass is spelled in a script: as one line,
+-- its words with a space between each two.
 use Rattle.std.specs.Prelude.{◌≢◌, ℕ, ◌<◌, ◌≤◌, ◌^◌, List, [], ◌∷◌, ◌++◌, length, codes, decimal}
 use Rattle.std.specs.List.{join_with_byte, AllByRecursion}
 use Rattle.segmodel.specs.declared.request.Request.TheVariants.{Set, Add, Replace, Cas, Delete}
@@ -29,7 +30,8 @@ abbrev pub value_word : List ℕ → List ℕ
 value_word [] = codes "-"
 value_word (byte ∷ bytes) = byte ∷ bytes
 
--- a value that a script can name: all but the value of the one byte `-`, whose word is that of the empty value
+-- a value that a script can name: all but the value of the one byte `-`,
+-- whose word is that of the empty value
 abbrev pub IsValueWord : List ℕ → Type 0
 IsValueWord value = (length value ≤ 32) × AllByRecursion IsWordByte value × (value ≢ codes "-")
 
@@ -41,13 +43,18 @@ moment_word now = codes "@" ++ decimal now
 
 -- the words of a turn, the command word first
 abbrev pub turn_words : Turn → List (List ℕ)
-turn_words (Serve (Refill segment deadline)) = codes "refill" ∷ decimal segment ∷ decimal deadline ∷ []
+turn_words (Serve (Refill segment deadline)) =
+    codes "refill" ∷ decimal segment ∷ decimal deadline ∷ []
 turn_words (Serve (Evict segment)) = codes "evict" ∷ decimal segment ∷ []
 turn_words (Serve (Keep segment cutoff)) = codes "keep" ∷ decimal segment ∷ decimal cutoff ∷ []
-turn_words (Serve (Write (Set key value now))) = codes "set" ∷ key ∷ value_word value ∷ moment_word now ∷ []
-turn_words (Serve (Write (Add key value now))) = codes "add" ∷ key ∷ value_word value ∷ moment_word now ∷ []
-turn_words (Serve (Write (Replace key value now))) = codes "replace" ∷ key ∷ value_word value ∷ moment_word now ∷ []
-turn_words (Serve (Write (Cas key value expected now))) = codes "cas" ∷ key ∷ value_word value ∷ decimal expected ∷ moment_word now ∷ []
+turn_words (Serve (Write (Set key value now))) =
+    codes "set" ∷ key ∷ value_word value ∷ moment_word now ∷ []
+turn_words (Serve (Write (Add key value now))) =
+    codes "add" ∷ key ∷ value_word value ∷ moment_word now ∷ []
+turn_words (Serve (Write (Replace key value now))) =
+    codes "replace" ∷ key ∷ value_word value ∷ moment_word now ∷ []
+turn_words (Serve (Write (Cas key value expected now))) =
+    codes "cas" ∷ key ∷ value_word value ∷ decimal expected ∷ moment_word now ∷ []
 turn_words (Serve (Write (Delete key now))) = codes "delete" ∷ key ∷ moment_word now ∷ []
 turn_words (Serve (Get key now)) = codes "get" ∷ key ∷ moment_word now ∷ []
 turn_words (Serve (Gets key now)) = codes "gets" ∷ key ∷ moment_word now ∷ []
@@ -64,8 +71,10 @@ IsWritable (Serve (Evict segment)) = IsNumber segment
 IsWritable (Serve (Keep segment cutoff)) = IsNumber segment × IsFrequency cutoff
 IsWritable (Serve (Write (Set key value now))) = IsKeyWord key × IsValueWord value × IsNumber now
 IsWritable (Serve (Write (Add key value now))) = IsKeyWord key × IsValueWord value × IsNumber now
-IsWritable (Serve (Write (Replace key value now))) = IsKeyWord key × IsValueWord value × IsNumber now
-IsWritable (Serve (Write (Cas key value expected now))) = IsKeyWord key × IsValueWord value × IsNumber expected × IsNumber now
+IsWritable (Serve (Write (Replace key value now))) =
+    IsKeyWord key × IsValueWord value × IsNumber now
+IsWritable (Serve (Write (Cas key value expected now))) =
+    IsKeyWord key × IsValueWord value × IsNumber expected × IsNumber now
 IsWritable (Serve (Write (Delete key now))) = IsKeyWord key × IsNumber now
 IsWritable (Serve (Get key now)) = IsKeyWord key × IsNumber now
 IsWritable (Serve (Gets key now)) = IsKeyWord key × IsNumber now

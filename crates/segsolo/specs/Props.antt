@@ -1,4 +1,5 @@
--- That a pass is alone has at most one proof. So a struct may keep it in a ghost field, by { IsAlone-prop .. }.
+-- That a pass is alone has at most one proof.
+-- So a struct may keep it in a ghost field, by { IsAlone-prop .. }.
 use Rattle.std.specs.Prelude.{ℕ, zero, suc, List, [], ◌∷◌}
 use Rattle.std.proofs.Props.{props}
 use Rattle.segbase.specs.Words.{Board, Pass}

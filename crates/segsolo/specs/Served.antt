@@ -1,4 +1,5 @@
--- If an index has one pass, each of its calls is served as the model says, a command if the draw is 0.
+-- If an index has one pass, each of its calls is served as the model says,
+-- a command if the draw is 0.
 -- What the call's contract says is enough for this.
 use Rattle.std.specs.Prelude.{◌≡◌, ℕ, Bool, false, List, Some, slice_get}
 use Rattle.segword.specs.Words.{Shape}
@@ -14,7 +15,10 @@ use Rattle.segsolo.specs.Alone.{state_at, IsAlone, ServesAlone, TurnsAlone, outc
 
 -- The pass of a new index that has one pass is alone, and is at the start state.
 abbrev pub StartsAlone : Type 0
-StartsAlone = (shape : Shape) (index : Index) (passes : List Pass) (p : Pass) → IsNew shape index passes → shape.passes ≡ 1 → slice_get passes 0 ≡ Some p
+StartsAlone = (shape : Shape) (index : Index) (passes : List Pass) (p : Pass)
+    → IsNew shape index passes
+    → shape.passes ≡ 1
+    → slice_get passes 0 ≡ Some p
     → IsAlone (board_of index) p × (state_at shape p ≡ fresh shape)
 
 -- ---- commands
@@ -41,8 +45,11 @@ HoldIsServed = (b : Board) (p q : Pass) (key : List ℕ) (now : ℕ) (told : Hol
     → HoldsItem b key now told p q → TurnsAlone b (turn.Hold key now) (outcome_of_hold told) p q
 
 abbrev pub HeldIsServed : Type 0
-HeldIsServed = (b : Board) (p q : Pass) (hold : Hold) (value : List ℕ) → IsAlone b p → IsHoldOf b.shape hold p
-    → ReadsHeld b hold value p q → TurnsAlone b turn.Held (outcome.Value value) p q
+HeldIsServed = (b : Board) (p q : Pass) (hold : Hold) (value : List ℕ)
+    → IsAlone b p
+    → IsHoldOf b.shape hold p
+    → ReadsHeld b hold value p q
+    → TurnsAlone b turn.Held (outcome.Value value) p q
 
 abbrev pub ReleaseIsServed : Type 0
 ReleaseIsServed = (b : Board) (p q : Pass) (hold : Hold) → IsAlone b p → IsHoldOf b.shape hold p
@@ -50,5 +57,8 @@ ReleaseIsServed = (b : Board) (p q : Pass) (hold : Hold) → IsAlone b p → IsH
 
 -- If the pass holds nothing, a held and a release are answered NotHolding, and no call is made.
 abbrev pub NothingIsHeld : Type 0
-NothingIsHeld = (b : Board) (p : Pass) → IsAlone b p → is_holding_of p ≡ false
-    → TurnsAlone b turn.Held outcome.NotHolding p p × TurnsAlone b turn.Release outcome.NotHolding p p
+NothingIsHeld = (b : Board) (p : Pass)
+    → IsAlone b p
+    → is_holding_of p ≡ false
+    → TurnsAlone b turn.Held outcome.NotHolding p p
+    × TurnsAlone b turn.Release outcome.NotHolding p p

@@ -1,4 +1,5 @@
--- An index with its one pass as contracts see it: its shape, and the state of the model that it is at.
+-- An index with its one pass as contracts see it: its shape,
+-- and the state of the model that it is at.
 use Rattle.segword.specs.Words.{Shape}
 use Rattle.segmodel.specs.Words.{State}
 use Rattle.segbase.specs.Words.{Board, Pass}
