@@ -104,11 +104,17 @@ impl State {
     }
 
     /// The state after a thread's evict or keep took this key out of its segment, if the key stands there.
+    /// It took out no more keys than it was answered.
     /// A keep moves the key's item into another segment.
     pub fn without(&self, thread: usize, key: usize, operation: &Operation) -> Option<State> {
-        let (segment, into) = match operation {
-            Operation::Evict { segment, .. } => (*segment, None),
-            Operation::Keep { segment, into, .. } => (*segment, Some(*into)),
+        let (segment, most, into) = match operation {
+            Operation::Evict { segment, taken, .. } => (*segment, *taken, None),
+            Operation::Keep {
+                segment,
+                into,
+                taken,
+                ..
+            } => (*segment, *taken, Some(*into)),
             _ => return None,
         };
         let mut next = *self;
@@ -116,6 +122,9 @@ impl State {
         let item = (*place)?;
         *place = into.map(|segment| Item { segment, ..item });
         let hand = next.hands.get_mut(thread)?;
+        if most <= hand.taken {
+            return None;
+        }
         hand.taken = hand.taken.saturating_add(1);
         (item.segment == segment && !self.is_locked).then_some(next)
     }

@@ -134,19 +134,37 @@ impl<'a> Client<'a> {
         }
     }
 
-    // Moves items of one of the pass's segments into the one that the pass stores into.
+    // Goes on to the next segment, moves items of the oldest one there, and evicts what is left.
     fn keep(&mut self)
         ensures index { self.new.index.now ≡ self.old.index.now }
         ensures held { holding self.new.pass ≡ holding self.old.pass }
     {
-        let first = self.pass.number().saturating_mul(SEGMENTS);
-        let segment = first.saturating_add(self.draws.below(SEGMENTS));
+        self.refill();
+        let segment = self.next_segment();
         let cutoff = self.draws.cutoff();
         let called = self.log.stamp();
         let answer = keep(self.index, &mut self.pass, segment, cutoff);
         let returned = self.log.stamp();
         let said = said_by_keep(segment, self.segment, cutoff, answer);
         self.log.note(called, returned, said);
+        self.evict(segment);
+    }
+
+    // The segment that the pass goes on to next. It is the one that was refilled first.
+    fn next_segment(&self) -> u32 {
+        let first = self.pass.number().saturating_mul(SEGMENTS);
+        first.saturating_add(self.fillings % SEGMENTS)
+    }
+
+    fn evict(&mut self, segment: u32)
+        ensures index { self.new.index.now ≡ self.old.index.now }
+        ensures held { holding self.new.pass ≡ holding self.old.pass }
+    {
+        let called = self.log.stamp();
+        let answer = evict(self.index, &mut self.pass, segment);
+        let returned = self.log.stamp();
+        self.log
+            .note(called, returned, said_by_evict(segment, answer));
     }
 
     /// Evicts and refills the next segment. If that is done, the pass stores there from then on.
@@ -154,14 +172,9 @@ impl<'a> Client<'a> {
         ensures index { self.new.index.now ≡ self.old.index.now }
         ensures held { holding self.new.pass ≡ holding self.old.pass }
     {
-        let first = self.pass.number().saturating_mul(SEGMENTS);
-        let segment = first.saturating_add(self.fillings % SEGMENTS);
+        let segment = self.next_segment();
         self.fillings = self.fillings.wrapping_add(1);
-        let called = self.log.stamp();
-        let answer = evict(self.index, &mut self.pass, segment);
-        let returned = self.log.stamp();
-        self.log
-            .note(called, returned, said_by_evict(segment, answer));
+        self.evict(segment);
         let deadline = self.draws.deadline();
         let called = self.log.stamp();
         let answer = refill(self.index, &mut self.pass, segment, deadline);

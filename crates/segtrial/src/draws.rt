@@ -23,7 +23,7 @@ pub enum Turn {
     Command,
     Hold,
     Lock,
-    /// The pass moves items of another segment into the one that it stores into.
+    /// The pass goes on to its next segment, moves items of the oldest one there, and evicts that.
     Keep,
     /// The pass evicts and refills its next segment.
     Refill,
@@ -72,12 +72,11 @@ impl Draws {
         }
     }
 
-    /// The least frequency of an item that is kept: any, or that of an item that was read once or twice.
+    /// The least frequency of an item that is kept: mostly any.
     pub fn cutoff(&mut self) -> u8 {
-        match self.below(3) {
-            0 => 0,
-            1 => 2,
-            _ => 3,
+        match self.below(4) {
+            0 => 2,
+            _ => 0,
         }
     }
 
