@@ -28,7 +28,7 @@ class Sample:
 
     process_ns: float
     wall_ns: float
-    thread_ns: float | None
+    thread_ns: float
     hits: float
     busy: float
     full: float
@@ -134,10 +134,17 @@ def rounds_of(words, rounds):
     return told
 
 
-def sample(path, cell, times, rounds):
+def words_for(name, path, cell, times, rounds):
+    """The command line of a run. Ours has options, and the programs of `common` have places."""
+    if name != "ours":
+        return [path, cell.mix, cell.draw, cell.keys, cell.threads, times]
+    return [path, "--mix", cell.mix, "--draws", cell.draw, "--keys", cell.keys, "--threads", cell.threads,
+            "--commands", times, "--rounds", rounds, "--format", "json", "--wait"]
+
+
+def sample(name, path, cell, times, rounds):
     """One run of a program: medians of its rounds, and shares of all their commands."""
-    words = [path, cell.mix, cell.draw, cell.keys, cell.threads, times]
-    lines = rounds_of([str(word) for word in words], rounds)
+    lines = rounds_of([str(word) for word in words_for(name, path, cell, times, rounds)], rounds)
     commands = sum(line["commands"] for line in lines)
 
     def share(name):
@@ -146,7 +153,7 @@ def sample(path, cell, times, rounds):
     return Sample(
         process_ns=median(line["process_ns"] for line in lines),
         wall_ns=median(line["wall_ns"] for line in lines),
-        thread_ns=median(line["thread_ns"] for line in lines) if "thread_ns" in lines[0] else None,
+        thread_ns=median(line["thread_ns"] for line in lines),
         hits=share("hits"),
         busy=share("busy"),
         full=share("full"),

@@ -31,14 +31,15 @@ public:
             return answer_of(reference::Reader(*table_, key, now).gets(draw, value, version));
         }
 
-        // The write is made once more if the current segment was used up.
+        // A set is made as a put of the index's client: if its bucket is full the next segment is
+        // evicted, and it is made once more.
         Answer write(bench::Write write, const bench::Key& key, const bench::Value& value, std::uint32_t expected) {
-            const Answer answer = reference::Writer(*table_, pass_, key, now).write(write, value, expected);
-            if (answer != Answer::NoRoom) {
+            const Answer answer = write_with_room(write, key, value, expected);
+            if (answer != Answer::Full || write != bench::Write::Set) {
                 return answer;
             }
-            refill();
-            return reference::Writer(*table_, pass_, key, now).write(write, value, expected);
+            reference::Eviction(*table_, pass_).evict(pass_.next_segment());
+            return write_with_room(write, key, value, expected);
         }
 
         Answer remove(const bench::Key& key) { return reference::Writer(*table_, pass_, key, now).remove(); }
@@ -51,6 +52,28 @@ public:
                 case reference::Read::Busy: break;
             }
             return Answer::Busy;
+        }
+
+        // The write is made once more if the current segment was used up.
+        Answer write_with_room(bench::Write write, const bench::Key& key, const bench::Value& value,
+                               std::uint32_t expected) {
+            const Answer answer = write_at_last(write, key, value, expected);
+            if (answer != Answer::NoRoom) {
+                return answer;
+            }
+            refill();
+            return write_at_last(write, key, value, expected);
+        }
+
+        // A set is made again while it is busy, 16 times at most.
+        Answer write_at_last(bench::Write write, const bench::Key& key, const bench::Value& value,
+                             std::uint32_t expected) {
+            const int tries = write == bench::Write::Set ? 16 : 1;
+            Answer answer = Answer::Busy;
+            for (int tried = 0; tried < tries && answer == Answer::Busy; ++tried) {
+                answer = reference::Writer(*table_, pass_, key, now).write(write, value, expected);
+            }
+            return answer;
         }
 
         void refill() {
@@ -70,14 +93,13 @@ public:
 
 private:
     // Up to 65,536 buckets, with two keys for each where there are fewer, and as many overflow buckets;
-    // 1,024 segments of 4,096 rows.
+    // 1,024 segments of 4,096 rows, or 256 for each of up to four threads.
     static reference::Shape shape_of(const bench::Plan& plan) {
         std::uint32_t buckets = 1;
         while (buckets < 65'536 && buckets < plan.keys / 2) {
             buckets *= 2;
         }
-        const std::uint32_t passes = std::max(4u, plan.threads);
-        return {buckets, buckets, passes, 1024 / passes, 4096};
+        return {buckets, buckets, plan.threads, 1024 / std::max(4u, plan.threads), 4096};
     }
 
     std::unique_ptr<reference::Table> table_;

@@ -1,0 +1,190 @@
+//! Rounds: all threads make commands at once, and a line tells what they came to.
+ghost use Rattle.std.specs.Prelude.{All};
+ghost use Rattle.segindex.specs.Words.{board_of};
+ghost use Rattle.segpass.specs.Words.{IsQuiet};
+
+use crate::arguments::Options;
+use crate::draws::Draws;
+use crate::report::Round;
+use crate::tally::Tally;
+use crate::worker::{Task, Worker};
+use segclient::clients;
+use segindex::{Index, Pass};
+use segword::{Key, Shape, Value};
+use std::alloc::{AllocError, AllocGlobal, Global};
+use std::io::{Input, Print};
+use std::sync::atomic::{AtomicU64, Ordering};
+use std::sync::{RwLock, Wait};
+use std::thread::{Threads, yield_now};
+use std::time::{Clock, CpuClock, Duration, Instant};
+use std::{io, thread};
+
+/// The value that is stored under each key.
+const VALUE: &[u8] = b"0123456789abcdef";
+
+/// How many segments all threads have together, where no option says it.
+const SEGMENTS: u32 = 1024;
+
+/// How often it is looked whether all threads are there. Then they begin without those that aren't.
+const LOOKS: u32 = 1 << 24;
+
+// Up to 65,536 buckets, with two keys for each where there are fewer, and as many overflow buckets.
+fn shape_of(options: &Options) -> Shape {
+    let buckets = (options.keys / 2).min(65_536).next_power_of_two();
+    Shape {
+        buckets,
+        overflow: buckets,
+        passes: options.threads,
+        segments_each: match options.segments {
+            0 => SEGMENTS / options.threads.max(4),
+            segments => segments,
+        },
+        rows: 4096,
+        first_version: 0,
+    }
+}
+
+fn keys_below(alloc: Global, count: u32) -> Result<Vec<Key>, AllocError> {
+    let mut keys = Vec::new(alloc);
+    for number in 0..count {
+        if let Some(key) = Key::new(&number.to_le_bytes()) {
+            keys.push(key)?;
+        }
+    }
+    Ok(keys)
+}
+
+// A worker for each of the passes.
+fn workers_of<'i>(
+    alloc: Global,
+    index: &'i Index,
+    passes: Vec<Pass>,
+    seed: u32,
+) -> Result<Vec<Worker<'i>>, AllocError>
+    requires { All (IsQuiet (board_of index.now)) passes.items }
+{
+    let mut workers = Vec::new(alloc);
+    let mut state = seed;
+    for client in clients(alloc, index, passes)? {
+        workers.push(Worker::new(alloc, client, state))?;
+        state = state.wrapping_add(1);
+    }
+    Ok(workers)
+}
+
+// Stores each key once, by the workers in turn.
+fn fill(workers: &mut Vec<Worker<'_>>, keys: &Vec<Key>, value: &Value) {
+    let count = workers.len().max(1);
+    for (place, key) in keys.iter().enumerate() {
+        if let Some(worker) = workers.get_mut(place % count) {
+            worker.client.put(key, value);
+        }
+    }
+}
+
+/// Makes the index, and then the rounds, each of which it tells.
+pub fn measure<R: Threads + Wait + Sync + AllocGlobal + Input + Print + Clock + CpuClock>(
+    rt: &R,
+    options: &Options,
+) -> io::Result<()> {
+    let alloc = rt.alloc();
+    let Ok((index, passes)) = Index::new(alloc, shape_of(options)) else {
+        return Err(io::Error::other("the table is too large, or out of memory"));
+    };
+    let Some(value) = Value::new(VALUE) else {
+        return Ok(());
+    };
+    let draws = Draws::new(alloc, options.keys, options.is_zipf)?;
+    let keys = keys_below(alloc, options.keys)?;
+    let mut workers = workers_of(alloc, &index, passes, options.seed)?;
+    fill(&mut workers, &keys, &value);
+    let task = Task {
+        mix: options.mix,
+        sample: options.sample,
+        keys: &keys,
+        value: &value,
+    };
+    for _ in 0..options.rounds {
+        if options.waits && !wait_for_line(rt)? {
+            break;
+        }
+        for worker in workers.iter_mut() {
+            worker.draw_keys(&draws, options.commands)?;
+        }
+        if options.waits {
+            println!(rt; "ready")?;
+            if !wait_for_line(rt)? {
+                break;
+            }
+        }
+        let (worked, wall) = work_at_once(rt, workers, task)?;
+        workers = worked;
+        round_of(alloc, &workers, wall)?.tell(rt, options)?;
+    }
+    Ok(())
+}
+
+// Whether there was one more line of input.
+fn wait_for_line<R: AllocGlobal + Input>(rt: &R) -> io::Result<bool> {
+    let mut line = String::new(rt.alloc());
+    Ok(rt.read_line(&mut line)? > 0)
+}
+
+// Each worker at work on a thread of its own, and the time from their common start to the end of the last.
+// All threads are started from here, and wait at the gate until all are there.
+fn work_at_once<'i, R: Threads + Wait + Sync + AllocGlobal + Clock + CpuClock>(
+    rt: &R,
+    workers: Vec<Worker<'i>>,
+    task: Task<'_>,
+) -> io::Result<(Vec<Worker<'i>>, Duration)> {
+    let gate = RwLock::new(());
+    let there = AtomicU64::new(0);
+    let (gate, there) = (&gate, &there);
+    thread::scope(
+        thread::scope_env(),
+        rt,
+        move |scope| -> io::Result<(Vec<Worker>, Duration)> {
+            let count = workers.len();
+            let mut threads = Vec::with_capacity(rt.alloc(), count)?;
+            let shut = gate.write(rt);
+            for worker in workers {
+                let work = move || -> io::Result<Worker> {
+                    there.fetch_add(1, Ordering::SeqCst);
+                    drop(gate.read(rt));
+                    worker.work(rt, task)
+                };
+                threads.push(scope.spawn(work)?)?;
+            }
+            for _ in 0..LOOKS {
+                if there.load(Ordering::SeqCst) >= count as u64 {
+                    break;
+                }
+                yield_now();
+            }
+            let start = Instant::now(rt)?;
+            drop(shut);
+            let mut worked = Vec::with_capacity(rt.alloc(), count)?;
+            for thread in threads {
+                worked.push(thread.join(rt)?)?;
+            }
+            Ok((worked, start.elapsed(rt)?))
+        },
+    )
+}
+
+// What the workers' round came to.
+fn round_of(alloc: Global, workers: &Vec<Worker<'_>>, wall: Duration) -> Result<Round, AllocError> {
+    let mut round = Round {
+        wall,
+        spent: Duration::ZERO,
+        tally: Tally::default(),
+        samples: Vec::new(alloc),
+    };
+    for worker in workers.iter() {
+        round.spent = round.spent.saturating_add(worker.spent);
+        round.tally = round.tally.plus(worker.tally);
+        round.samples.extend_from_slice(&worker.samples)?;
+    }
+    round.samples.sort_unstable();
+    Ok(round)
+}

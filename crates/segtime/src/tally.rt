@@ -1,0 +1,64 @@
+//! What the commands of a thread came to.
+use segclient::PutAnswer;
+use segmodel::{Answer, DeleteAnswer, GetAnswer, GetsAnswer, WriteAnswer};
+
+/// How many commands came to what.
+#[derive(Clone, Copy, Default)]
+pub struct Tally {
+    /// Those that found their key or were done.
+    hits: u64,
+    /// Those that were answered otherwise.
+    misses: u64,
+    busy: u64,
+    /// Those that found no room, or no word for a new key.
+    full: u64,
+}
+
+impl Tally {
+    /// Each number with its name.
+    pub fn parts(self) -> [(&'static str, u64); 4] {
+        [
+            ("hits", self.hits),
+            ("misses", self.misses),
+            ("busy", self.busy),
+            ("full", self.full),
+        ]
+    }
+
+    /// Both together.
+    pub fn plus(self, other: Tally) -> Tally {
+        Tally {
+            hits: self.hits.saturating_add(other.hits),
+            misses: self.misses.saturating_add(other.misses),
+            busy: self.busy.saturating_add(other.busy),
+            full: self.full.saturating_add(other.full),
+        }
+    }
+
+    /// Counts the answer to a command.
+    pub fn count(&mut self, answer: &Answer) {
+        let number = match answer {
+            Answer::Get(GetAnswer::Found(_))
+            | Answer::Gets(GetsAnswer::Found(_, _))
+            | Answer::Write(WriteAnswer::Stored)
+            | Answer::Delete(DeleteAnswer::Deleted) => &mut self.hits,
+            Answer::Get(GetAnswer::Busy)
+            | Answer::Gets(GetsAnswer::Busy)
+            | Answer::Write(WriteAnswer::Busy)
+            | Answer::Delete(DeleteAnswer::Busy) => &mut self.busy,
+            Answer::Write(WriteAnswer::NoRoom | WriteAnswer::BucketFull) => &mut self.full,
+            _ => &mut self.misses,
+        };
+        *number = number.saturating_add(1);
+    }
+}
+
+/// A put's answer as that of a set.
+pub fn set_answer(put: PutAnswer) -> WriteAnswer {
+    match put {
+        PutAnswer::Stored => WriteAnswer::Stored,
+        PutAnswer::NoRoom => WriteAnswer::NoRoom,
+        PutAnswer::BucketFull => WriteAnswer::BucketFull,
+        PutAnswer::Busy => WriteAnswer::Busy,
+    }
+}
