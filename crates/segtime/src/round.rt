@@ -15,7 +15,7 @@ use std::alloc::{AllocError, AllocGlobal, Global};
 use std::io::{Input, Print};
 use std::sync::atomic::{AtomicU64, Ordering};
 use std::sync::{RwLock, Wait};
-use std::thread::{Threads, yield_now};
+use std::thread::{Threads, sleep};
 use std::time::{Clock, CpuClock, Duration, Instant};
 use std::{io, thread};
 
@@ -26,7 +26,10 @@ const VALUE: &[u8] = b"0123456789abcdef";
 const SEGMENTS: u32 = 1024;
 
 /// How often it is looked whether all threads are there. Then they begin without those that aren't.
-const LOOKS: u32 = 1 << 24;
+const LOOKS: u32 = 1 << 16;
+
+/// So long it sleeps between two looks. Without sleep the looks would count as processor time.
+const MICROSECONDS: u64 = 50;
 
 // Up to 65,536 buckets, with two keys for each where there are fewer, and as many overflow buckets.
 fn shape_of(options: &Options) -> Shape {
@@ -159,7 +162,7 @@ fn work_at_once<'i, R: Threads + Wait + Sync + AllocGlobal + Clock + CpuClock>(
                 if there.load(Ordering::SeqCst) >= count as u64 {
                     break;
                 }
-                yield_now();
+                sleep(rt, Duration::from_micros(MICROSECONDS));
             }
             let start = Instant::now(rt)?;
             drop(shut);
