@@ -42,11 +42,11 @@ pub fn said_by_evict(segment: u32, answer: EvictAnswer) -> Said {
     })
 }
 
-/// What the answer to a keep into a segment says.
-/// A keep of all items, whatever their frequency, leaves no key in the old segment.
-pub fn said_by_keep(segment: u32, into: u32, cutoff: u8, answer: KeepAnswer) -> Said {
+/// What the answer to a keep of all items, whatever their frequency, says.
+/// They move into another segment, and a keep that isn't refused leaves no key in the old one.
+pub fn said_by_keep(segment: u32, into: u32, answer: KeepAnswer) -> Said {
     let (taken, is_whole) = match answer {
-        KeepAnswer::Kept(taken) => (taken, cutoff == 0),
+        KeepAnswer::Kept(taken) => (taken, true),
         KeepAnswer::NoRoom(taken) | KeepAnswer::Busy(taken) => (taken, false),
         KeepAnswer::NotYours => return Said::Wrong,
     };

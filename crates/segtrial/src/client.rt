@@ -141,12 +141,14 @@ impl<'a> Client<'a> {
     {
         self.refill();
         let segment = self.next_segment();
-        let cutoff = self.draws.cutoff();
         let called = self.log.stamp();
-        let answer = keep(self.index, &mut self.pass, segment, cutoff);
+        let answer = keep(self.index, &mut self.pass, segment);
         let returned = self.log.stamp();
-        let said = said_by_keep(segment, self.segment, cutoff, answer);
-        self.log.note(called, returned, said);
+        self.log.note(
+            called,
+            returned,
+            said_by_keep(segment, self.segment, answer),
+        );
         self.evict(segment);
     }
 
@@ -302,13 +304,13 @@ fn evict(index: &Index, pass: &mut Pass, segment: u32) -> EvictAnswer
     index.evict(pass, segment)
 }
 
-// A keep. What the pass holds stays held.
-fn keep(index: &Index, pass: &mut Pass, segment: u32, cutoff: u8) -> KeepAnswer
+// A keep of all items, whatever their frequency. What the pass holds stays held.
+fn keep(index: &Index, pass: &mut Pass, segment: u32) -> KeepAnswer
     requires { IsQuiet (board_of index.now) pass.old }
     ensures quiet { IsQuiet (board_of index.now) pass.new }
     ensures held { holding pass.new ≡ holding pass.old }
 {
-    index.keep(pass, segment, cutoff)
+    index.keep(pass, segment, 0)
 }
 
 // A refill. What the pass holds stays held.

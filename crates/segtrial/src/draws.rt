@@ -72,14 +72,6 @@ impl Draws {
         }
     }
 
-    /// The least frequency of an item that is kept: mostly any.
-    pub fn cutoff(&mut self) -> u8 {
-        match self.below(4) {
-            0 => 2,
-            _ => 0,
-        }
-    }
-
     /// The number of a value that no other store has.
     pub fn value(&mut self) -> u32 {
         self.values = self.values.wrapping_add(1);
