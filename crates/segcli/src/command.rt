@@ -109,8 +109,8 @@ fn perform_script<S: Source, W: Sink>(
 ) -> Result<(), ProgramFault>
     requires source_works { S.has_failed source.old ≡ false }
     requires writer_works { W.has_failed writer.old ≡ false }
-    ensures { ScriptOutcome S.hands S.is_at_end S.has_failed S.ends W.takes W.has_failed W.flushes shape
-        source.old source.new writer.old writer.new result }
+    ensures { ScriptOutcome S.hands S.is_at_end S.has_failed S.ends W.takes W.has_failed W.flushes
+        shape source.old source.new writer.old writer.new result }
 {
     match run_script(alloc, source, writer, shape) {
         Ok(()) => Ok(()),
