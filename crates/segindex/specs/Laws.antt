@@ -2,6 +2,7 @@
 use Rattle.std.specs.Prelude.{◌≡◌, ◌≢◌, ℕ, ◌+◌, ◌*◌, ◌^◌, ◌<◌, ◌≤◌, ◌↔◌, nat_lt, is_some, IsSome, List, Some}
 use Rattle.segmodel.specs.declared.request.Request.TheVariants.{Cas, Delete}
 use Rattle.segmodel.specs.declared.answer.GetsAnswer.TheVariants.{Found}
+use Rattle.segmodel.specs.declared.answer.KeepAnswer.TheVariants.{Kept}
 use Rattle.segmodel.specs.declared.answer.SegState.TheVariants.{InUse}
 use Rattle.segmodel.specs.Words.{after, Begins, DeleteAnswer, Entry, IsLegal, keys_in, NoneStandsIn}
 use Rattle.segmodel.specs.Words.{owner, Reply, reply_of_delete, reply_of_write, Request, SegState}
@@ -12,6 +13,7 @@ use Rattle.segbase.specs.Words.{marked, mine, number, Pass, seen, state_of, trac
 use Rattle.segpass.specs.Words.{IsBusy, IsQuiet, NoneSince}
 use Rattle.segwrite.specs.Words.{cas_reply, Deletes, WasTold, Writes}
 use Rattle.segread.specs.Words.{IsGetsAnswer}
+use Rattle.segevict.specs.Words.{KeepsItems}
 
 -- ---- a quiet pass
 
@@ -56,6 +58,13 @@ DeadlinesAreKnown = OfQuiet (λ b p. (segment deadline : ℕ) → deadline_of p 
 abbrev pub UnusedIsEmpty : Type 0
 UnusedIsEmpty = OfQuiet (λ b p. (segment : ℕ) (state : SegState) → state_of p segment ≡ Some state
     → state ≢ InUse → NoneStandsIn (after b.shape (seen p)) segment)
+
+-- A keep with the cutoff 0 that is told Kept leaves no key in the segment.
+abbrev pub KeptAllLeavesNone : Type 0
+KeptAllLeavesNone = (b : Board) (segment count : ℕ) (p q : Pass)
+    → IsQuiet b p
+    → KeepsItems b segment 0 (Kept count) p q
+    → NoneStandsIn (after b.shape (seen q)) segment
 
 -- No entry came into the bucket that the pass has locked, since it was locked.
 abbrev pub LockedIsStill : Type 0

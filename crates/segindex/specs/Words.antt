@@ -4,6 +4,7 @@ pub use Rattle.segindex.specs.Commands.{AnswersCommand}
 pub use Rattle.segindex.specs.Index.{board_of, IsNew, shape_of}
 pub use Rattle.segindex.specs.Meeting.{Meets}
 pub use Rattle.segindex.specs.Refilling.{IsBeingRead, IsRefillAnswer, Refills}
+pub use Rattle.segindex.specs.Stats.{TellsStats}
 pub use Rattle.segpass.specs.Words.{IsQuiet, IsQuiet-prop}
 pub use Rattle.segread.specs.Words.{IsHoldOf, IsHoldOf-prop}
 use Rattle.segindex.specs.declared.index.Index as declared_index

@@ -34,7 +34,8 @@ impl Index {
     /// The index can't be closed while an item is held.
     ///
     /// A bucket's chain has at most four buckets of seven words, so it has at most 28 pairs.
-    /// The list takes memory, if a key stands at all.
+    /// The list takes memory, if a key stands at all. With several passes the contract
+    /// leaves that open too.
     /// If that memory is refused, the index and the pass are gone all the same.
     pub fn close(self, alloc: Global, pass: Pass) -> Result<Vec<(Key, Value)>, OutOfMemory>
         requires { IsQuiet (index.board_of self) pass }

@@ -5,7 +5,7 @@ ghost use Rattle.segindex.specs.Laws.{UsedAreLinked, CurrentIsInUse, UnusedIsEmp
 ghost use Rattle.segindex.specs.Laws.{DeadlinesAreKnown};
 ghost use Rattle.segindex.specs.Laws.{KeysAreFew, ChainsAreShort, AllAreOwn, NoTakeBounced};
 ghost use Rattle.segindex.specs.Laws.{NoLookGlanced, NobodyIsInside, BusyIsLocked, DrawnHaveJoined};
-ghost use Rattle.segindex.specs.Laws.{NothingIsStirred, WritesAtAMoment, DeletesAtAMoment};
+ghost use Rattle.segindex.specs.Laws.{KeptAllLeavesNone, NothingIsStirred, WritesAtAMoment, DeletesAtAMoment};
 ghost use Rattle.segindex.specs.Laws.{CasFailsWhereWrittenSince, CasCalledLaterFails};
 
 /// What a quiet pass has seen is a history of a cache of one thread, with marks.
@@ -29,6 +29,11 @@ pub fn quiet_pass()
     ensures locked { LockedIsStill }
     ensures few_keys { KeysAreFew }
     ensures few_chained { ChainsAreShort }
+{}
+
+/// A keep with the cutoff 0 that is told Kept leaves no key in the segment.
+pub fn keep_of_all()
+    ensures { KeptAllLeavesNone }
 {}
 
 /// If an index has one pass, each entry that the pass has seen is its own.

@@ -20,7 +20,7 @@ mod write;
 
 pub use close::OutOfMemory;
 pub use index::Index;
-pub use laws::{cas_fails_where_written, one_pass, quiet_pass, replies_at_a_moment};
+pub use laws::{cas_fails_where_written, keep_of_all, one_pass, quiet_pass, replies_at_a_moment};
 pub use segbase::{MakeFault, Pass};
 pub use segmodel::{
     Answer, Command, DeleteAnswer, EvictAnswer, GetAnswer, GetsAnswer, KeepAnswer, RefillAnswer,

@@ -1,0 +1,5 @@
+use Rattle.segindex.proofs.Keeps.{none_kept}
+use Rattle.segindex.proofs.laws.keep_of_all.Goals as goal
+
+pub returns : goal.returns
+returns c = none_kept
