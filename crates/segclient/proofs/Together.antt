@@ -24,21 +24,32 @@ same_then old between new one then = record { index = then.index ∙ one.index; 
 -- clients of all passes of a new index
 pub all_clients : (shape : Shape) (i : Index) (passes : List Pass) (clients : List Client) → IsNew shape i passes → AllZip (Starts i) passes clients → AreAllClients i clients
 all_clients shape i passes clients new zip = record {
-  long = zip_long (Starts i) passes clients zip ∙ new.made.dealt.long ∙ sym (ap (λ (s : Shape). s.passes) new.made.of);
-  each = λ n client at.
-      let one = zip_at (Starts i) passes clients n client zip at in
-      (one.2.index, ap number one.2.pass ∙ (new.made.dealt.each n one.0 one.1).number);
+  of = λ place client at. (zip_at (Starts i) passes clients place client zip at).2.index;
+  all = λ n below.
+      let there = is_there clients n (subst (λ count. n < count) (sym long) below) in
+      let one = zip_at (Starts i) passes clients n there.0 zip there.1 in
+      (n, there.0, there.1, ap number one.2.pass ∙ (new.made.dealt.each n one.0 one.1).number);
 }
+  where
+    long : length clients ≡ (board_of i).shape.passes
+    long = zip_long (Starts i) passes clients zip ∙ new.made.dealt.long ∙ sym (ap (λ (s : Shape). s.passes) new.made.of)
 
 -- they stay so while each stays the same
 pub still_all : (i : Index) (old new : List Client) → length new ≡ length old → ((n : ℕ) (client : Client) → n < length old → IsSame (slice_index_or old n client) (slice_index_or new n client)) → AreAllClients i old → AreAllClients i new
 still_all i old new long same all = record {
-  long = long ∙ all.long;
-  each = λ n client at.
-      let below : n < length old = subst (λ count. n < count) long (slice_get_within new n client at) in
-      let was = all.each n (slice_index_or old n client) (slice_get-get_or old n client below) in
-      let now = subst (IsSame (slice_index_or old n client)) (get_or_from_slice_get new n client client at) (same n client below) in
-      (now.index ∙ was.0, now.number ∙ was.1);
+  of = λ place client at.
+      let below : place < length old = subst (λ count. place < count) long (slice_get_within new place client at) in
+      let was = slice_index_or old place client in
+      let now = subst (IsSame was) (get_or_from_slice_get new place client client at) (same place client below) in
+      now.index ∙ all.of place was (slice_get-get_or old place client below);
+  all = λ n below.
+      let one = all.all n below in
+      let place = one.0 in
+      let was = one.1 in
+      let within : place < length old = slice_get_within old place was one.2 in
+      let now = slice_index_or new place was in
+      let here = subst (λ client. IsSame client now) (get_or_from_slice_get old place was was one.2) (same place was within) in
+      (place, now, slice_get-get_or new place was (subst (λ count. place < count) (sym long) within), here.number ∙ one.3);
 }
 
 abbrev pub pass_of : Client → Pass
@@ -49,9 +60,9 @@ pub passes_quiet : (i : Index) (clients : List Client) → AreAllClients i clien
 passes_quiet i clients are = record {
   quiet = λ n p at.
       let one = made_of pass_of clients n p at in
-      let of_index = subst (λ j. IsQuiet (board_of j) one.0.pass) (are.each n one.0 one.1).0 one.0.quiet in
+      let of_index = subst (λ j. IsQuiet (board_of j) one.0.pass) (are.of n one.0 one.1) one.0.quiet in
       subst (IsQuiet (board_of i)) one.2 of_index;
   all = λ n below.
-      let one = is_there clients n (subst (λ count. n < count) (sym are.long) below) in
-      (n, one.0.pass, slice_get-map pass_of clients n ∙ ap (λ client. option_map pass_of client) one.1, (are.each n one.0 one.1).1);
+      let one = are.all n below in
+      (one.0, one.1.pass, slice_get-map pass_of clients one.0 ∙ ap (λ client. option_map pass_of client) one.2, one.3);
 }

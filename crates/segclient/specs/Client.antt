@@ -5,6 +5,7 @@ use Rattle.segbase.specs.Words.{Board, number, Pass}
 use Rattle.segindex.specs.Words.{Index}
 use Rattle.segclient.specs.declared.client.Client.{Client}
 use Rattle.segclient.specs.Counting.{no_stats}
+use Rattle.segclient.specs.Rings.{first_ring}
 
 abbrev pub board_of : Client → Board
 board_of client = client.index.now.board
@@ -19,11 +20,14 @@ next_draws draws = (draws * 1664525 % 2 ^ 32 + 1013904223) % 2 ^ 32
 abbrev pub draw_of : Client → ℕ
 draw_of client = next_draws client.draws / 256
 
--- a new client of the pass: its clock shows 0, what it puts never expires, its puts keep nothing,
+-- a new client of the pass: it gives up its first segment first, its draws begin with the pass's
+-- number, its clock shows 0, what it puts expires at the largest moment, its puts keep nothing,
 -- and it counted nothing
 pub record Starts (i : Index) (p : Pass) (client : Client) : Type 0 where
   pub index : client.index.now ≡ i
   pub pass : client.pass ≡ p
+  pub segments : client.segments ≡ first_ring i.board.shape (number p)
+  pub draws : client.draws ≡ number p
   pub clock : client.clock ≡ 0
   pub time_to_live : client.time_to_live ≡ 2 ^ 32 - 1
   pub cutoff : client.cutoff ≡ None

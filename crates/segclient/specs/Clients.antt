@@ -1,12 +1,15 @@
 -- Clients of all passes of an index.
-use Rattle.std.specs.Prelude.{◌≡◌, ℕ, List, length, slice_get, Some}
+use Rattle.std.specs.Prelude.{◌≡◌, ℕ, ◌<◌, List, slice_get, Some}
 use Rattle.segbase.specs.Words.{number}
 use Rattle.segindex.specs.Words.{board_of, Index}
 use Rattle.segclient.specs.declared.client.Client.{Client}
 
--- the clients are of all passes of the index, each at the place of its pass's number
+-- the clients are of this index, and each of its passes is one's, in any order
 pub record AreAllClients (i : Index) (clients : List Client) : Type 0 where
-  pub long : length clients ≡ (board_of i).shape.passes
-  pub each : (n : ℕ) (client : Client)
-      → slice_get clients n ≡ Some client
-      → (client.index.now ≡ i) × (number client.pass ≡ n)
+  pub of : (place : ℕ) (client : Client)
+      → slice_get clients place ≡ Some client
+      → client.index.now ≡ i
+  pub all : (n : ℕ)
+      → n < (board_of i).shape.passes
+      → (place : ℕ) × (client : Client)
+      × (slice_get clients place ≡ Some client) × (number client.pass ≡ n)

@@ -1,5 +1,5 @@
 //! Clients for all passes of an index.
-ghost use Rattle.std.specs.Prelude.{◌≡◌, ◌++◌, [], ◌∷◌, All, IfOk, IfSome, MatchOption};
+ghost use Rattle.std.specs.Prelude.{◌≡◌, ◌++◌, [], ◌∷◌, map, All, IfOk, IfSome, MatchOption};
 ghost use Rattle.std.specs.List.{AllZip};
 ghost use Rattle.segword.specs.Words.{Shape};
 ghost use Rattle.segindex.specs.Words.{AreAllQuiet, board_of, IsNew};
@@ -12,7 +12,7 @@ use segindex::{Index, Pass};
 use std::alloc::{AllocError, Global};
 
 /// A client for each of these passes, in their order. No later call of a client is given
-/// an allocator.
+/// an allocator. If the memory for the list is refused, the passes are gone.
 ///
 /// Once they are done, `into_passes` has the passes back for a close with all of them.
 /// A pass that was kept back can close the index alone.
@@ -45,7 +45,9 @@ pub fn keep_back(index: &Index, passes: &mut Vec<Pass>) -> Option<Pass>
     passes.pop()
 }
 
-/// The passes of the clients, which are of all passes of the index, so that they can close it.
+/// The passes of the clients, in their order, so that they can close the index.
+/// The clients are of all passes of the index, in any order.
+/// If the memory for the list is refused, the passes are gone.
 pub fn into_passes(
     alloc: Global,
     index: &Index,
@@ -53,6 +55,8 @@ pub fn into_passes(
 ) -> Result<Vec<Pass>, AllocError>
     requires all { AreAllClients index.now clients.items }
     ensures all { IfOk result (λ passes. AreAllQuiet (board_of index.now) passes.items) }
+    ensures passes { IfOk result (λ passes.
+        passes.items ≡ map (λ client. client.pass) clients.entry.items) }
 {
     let mut passes = Vec::with_capacity(alloc, clients.len())?;
     for client in clients {

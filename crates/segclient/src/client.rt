@@ -8,7 +8,7 @@ use crate::put::{PutAnswer, get_room, put_pair};
 use crate::stats::{
     Stats, tally_of_delete, tally_of_get, tally_of_gets, tally_of_put, tally_of_write,
 };
-use segindex::{Index, Pass};
+use segindex::{Index, IndexStats, Pass};
 use segmodel::{DeleteAnswer, GetAnswer, GetsAnswer, WriteAnswer};
 use segpolicy::Ring;
 use segword::{Key, Value};
@@ -38,13 +38,14 @@ impl<'i> Client<'i> {
     ghost use Rattle.segmodel.specs.declared.request.Request.TheVariants.{Set, Add, Replace, Cas};
     ghost use Rattle.segwrite.specs.Words.{Deletes, IsSetAnswer, Writes};
     ghost use Rattle.segread.specs.Words.{ReadsKey, ReadsVersion};
+    ghost use Rattle.segindex.specs.Words.{TellsStats};
     ghost use Rattle.segclient.specs.Client.{board_of, draw_of, Starts, Keeps, KeepsDraws};
     ghost use Rattle.segclient.specs.Client.{DrawsOnce, KeepsSettings};
     ghost use Rattle.segclient.specs.Client.{SetsCutoff, SetsNow, SetsTimeToLive};
     ghost use Rattle.segclient.specs.Puts.{MakesRoomFor, Puts};
     ghost use Rattle.segclient.specs.Counting.{counted, get_tally, gets_tally, write_tally, delete_tally};
 
-    /// A client of this pass. Its clock shows 0, what it puts never expires,
+    /// A client of this pass. Its clock shows 0, what it puts expires at the largest moment,
     /// and its puts keep nothing.
     pub fn new(index: &'i Index, pass: Pass) -> Client<'i>
         requires quiet { IsQuiet (index_board_of index.now) pass }
@@ -85,6 +86,18 @@ impl<'i> Client<'i> {
         self.stats
     }
 
+    /// What the client sees of the table: the overflow buckets in use,
+    /// the used rows of its own segments, and how many of these an item names.
+    /// The others are dead. It goes over all these rows, so it takes long.
+    pub fn index_stats(&mut self) -> IndexStats
+        ensures tells { TellsStats (board_of self.old) result self.old.pass self.new.pass }
+        ensures stats { self.new.stats ≡ self.old.stats }
+        ensures draws { KeepsDraws self.old self.new }
+        ensures keeps { Keeps self.old self.new }
+    {
+        self.index.stats(&mut self.pass)
+    }
+
     // The next number at random.
     fn draw(&mut self) -> u32
         ensures draw { result ≡ draw_of self.old }
@@ -102,8 +115,8 @@ impl<'i> Client<'i> {
 
     /// The value under a key.
     pub fn get(&mut self, key: &Key) -> GetAnswer
-        ensures reads { ReadsKey (board_of self.old) key.now (draw_of self.old) self.old.clock result
-            self.old.pass self.new.pass }
+        ensures reads { ReadsKey (board_of self.old) key.now (draw_of self.old) self.old.clock
+            result self.old.pass self.new.pass }
         ensures counts { self.new.stats ≡ counted (get_tally result) self.old.stats }
         ensures draws { DrawsOnce self.old self.new }
         ensures keeps { Keeps self.old self.new }
@@ -168,8 +181,8 @@ impl<'i> Client<'i> {
         told
     }
 
-    /// Stores the value if the key's bucket has the expected version.
-    /// Otherwise the answer is Exists, or NotFound if the key is absent.
+    /// Stores the value if the key is present and its bucket has the expected version.
+    /// Otherwise the answer is NotFound if the key is absent, and else Exists.
     pub fn cas(&mut self, key: &Key, value: &Value, expected: u32) -> WriteAnswer
         ensures writes { Writes (board_of self.old)
             (Cas key.now value.now expected self.old.clock) result self.old.pass self.new.pass }
@@ -197,8 +210,9 @@ impl<'i> Client<'i> {
         told
     }
 
-    /// Sets how long a segment that a put refills can be read from then on.
-    /// What is put expires with its segment, so at the latest so much later.
+    /// Sets how long the segments can be read that puts refill from now on.
+    /// What is put expires with its segment, and a segment that is refilled already
+    /// keeps its deadline.
     /// At the start it is the largest number, and then nothing expires
     /// before the largest moment.
     pub fn set_time_to_live(&mut self, time_to_live: u32)
@@ -245,12 +259,12 @@ impl<'i> Client<'i> {
     ///
     /// If no row is left, or the segment that it stores into has expired,
     /// it refills a segment of its own that is not in use.
-    /// If there is none, it evicts and refills the first of its segments, in turn,
+    /// If it can refill none, it evicts and refills the first of its segments, in turn,
     /// for which that comes about. What it refills expires a time to live from now.
     /// If there is a cutoff, and each of its segments is in use then, it clears the next one:
     /// it moves what was read often into the segment that it stores into,
-    /// and evicts what is left. If that left no row, it makes room once more,
-    /// and keeps nothing.
+    /// and evicts what is left, as far as each comes about.
+    /// If that left no row, it makes room once more, and keeps nothing.
     /// If the key's bucket is full, it evicts the next of its segments and tries once more.
     /// A busy set is made again, 16 times in a row at most.
     pub fn put(&mut self, key: &Key, value: &Value) -> PutAnswer

@@ -12,7 +12,7 @@ pub use all::{clients, into_passes, keep_back};
 pub use client::Client;
 pub use put::PutAnswer;
 pub use segindex::{
-    DeleteAnswer, GetAnswer, GetsAnswer, Hold, HoldAnswer, Index, Key, MakeFault, OutOfMemory,
-    Pass, Shape, ShapeFault, Value, WriteAnswer, hold_stays,
+    DeleteAnswer, GetAnswer, GetsAnswer, Hold, HoldAnswer, Index, IndexStats, Key, MakeFault,
+    OutOfMemory, Pass, Shape, ShapeFault, Value, WriteAnswer, hold_stays,
 };
 pub use stats::Stats;

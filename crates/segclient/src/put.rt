@@ -24,11 +24,11 @@ use segword::{Key, Value};
 #[derive(Clone, Copy, Debug, PartialEq, Eq)]
 pub enum PutAnswer {
     Stored,
-    /// No segment of the client could be refilled:
-    /// others were reading in each, or at work in the bucket of a key of it.
+    /// No segment of the client could be refilled: in each somebody was reading
+    /// or held an item, or others were at work in the bucket of a key of it.
     /// Or the items that were kept used up the one that was refilled, and then no other could be.
     NoRoom,
-    /// No word of the bucket is left for a new key, though a segment was given up for it.
+    /// No word of the bucket is left for a new key, also after an evict of the next segment.
     BucketFull,
     /// The bucket is locked, or others were at work in it, at each of 16 sets in a row.
     Busy,

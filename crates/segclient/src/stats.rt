@@ -27,7 +27,7 @@ pub(crate) enum Tally {
 pub struct Stats {
     /// Gets and gets with a version that found their key.
     pub hits: u64,
-    /// Those that didn't.
+    /// Those that missed it.
     pub misses: u64,
     pub stored: u64,
     pub not_stored: u64,
@@ -38,11 +38,11 @@ pub struct Stats {
     pub no_room: u64,
     pub bucket_full: u64,
     pub busy: u64,
-    /// Segments that puts refilled.
+    /// Segments that puts and `make_room` refilled.
     pub segments_refilled: u64,
-    /// Items that puts moved out of a segment before they evicted it.
+    /// Items that these moved out of a segment before they evicted it.
     pub items_kept: u64,
-    /// Keys that puts evicted.
+    /// Keys that these evicted.
     pub keys_evicted: u64,
 }
 
