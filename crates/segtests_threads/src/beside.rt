@@ -1,19 +1,25 @@
-//! A reader beside a writer: each value that is read was stored as a whole,
+//! A client that reads beside one that puts: each value that is read was stored as a whole,
 //! and none is older than one read before.
-use crate::work::{Work, at_once};
-use segindex::{Index, Pass};
-use segmodel::{GetAnswer, RefillAnswer, WriteAnswer};
-use segtests_helpers::calls::{MOMENT, get, meet, refill, set};
-use segtests_helpers::passes::{SHAPE, two_passes};
-use segword::{Key, Shape, Value};
+use segclient::{Client, GetAnswer, Index, Key, PutAnswer, Shape, Value, clients};
 use std::test::Fail;
+use std::thread::join;
 
-const SEGMENTS: u32 = 16;
-
-const ROWS: u32 = 4096;
+// The client that puts goes round its 4,096 rows sixteen times.
+// The one that reads is in one segment at most, so that another one can be refilled.
+const SHAPE: Shape = Shape {
+    buckets: 1,
+    overflow: 0,
+    passes: 2,
+    segments_each: 4,
+    rows: 1_024,
+    first_version: 0,
+};
 
 // The last number that is stored.
-const LAST: u32 = SEGMENTS * ROWS;
+const LAST: u32 = 65_536;
+
+// How often the key is read at most.
+const READS: u32 = 1_000_000_000;
 
 // The value of a number: its four bytes, eight times, so that each word of the row has them.
 fn value_of(number: u32) -> Option<Value> {
@@ -31,85 +37,55 @@ fn number_of(value: &Value) -> Option<u32> {
     (value_of(number)? == *value).then_some(number)
 }
 
-// Stores the numbers from 1 on under the key, one after the other, into each segment of the pass.
-#[derive(Drop)]
-struct Writer<'a> {
-    key: &'a Key,
-    last: u32,
-}
-
-impl Work for Writer<'_> {
-    fn turn(&mut self, index: &Index, pass: &mut Pass, turn: u32) -> bool {
-        if turn % ROWS == 0
-            && refill(index, pass, turn / ROWS, u32::MAX) != RefillAnswer::Refilled
-        {
-            return false;
-        }
-        let number = turn.saturating_add(1);
+// Stores the numbers from 1 on under the key, one after the other, and counts those that are stored.
+fn put_all(client: &mut Client<'_>, key: &Key) -> u32 {
+    let mut stored = 0u32;
+    for number in 1..=LAST {
         let Some(value) = value_of(number) else {
-            return false;
+            return stored;
         };
-        if set(index, pass, self.key, &value, MOMENT) == WriteAnswer::Stored {
-            self.last = number;
+        if client.put(key, &value) == PutAnswer::Stored {
+            stored = stored.saturating_add(1);
         }
-        number < LAST
     }
+    stored
 }
 
-// Reads the key until it reads the last number.
-// The reader keeps the last number that it read, whether each value was a number,
-// and whether none was below an earlier one.
-#[derive(Drop)]
-struct Reader<'a> {
-    key: &'a Key,
-    last: u32,
-    is_well: bool,
-}
-
-impl Work for Reader<'_> {
-    fn turn(&mut self, index: &Index, pass: &mut Pass, turn: u32) -> bool {
-        match get(index, pass, self.key, turn, MOMENT) {
+// Reads the key until it has the last number.
+// Returns whether each value was a number, none was below an earlier one,
+// and the key was never missed after the first.
+fn read_all(client: &mut Client<'_>, key: &Key) -> bool {
+    let mut last = 0;
+    for _ in 0..READS {
+        match client.get(key) {
             GetAnswer::Found(value) => match number_of(&value) {
-                Some(number) => {
-                    self.is_well = self.is_well && self.last <= number;
-                    self.last = number;
-                }
-                None => self.is_well = false,
+                Some(LAST) => return last <= LAST,
+                Some(number) if last <= number => last = number,
+                Some(_) | None => return false,
             },
-            GetAnswer::Miss => self.is_well = self.is_well && self.last == 0,
-            GetAnswer::Busy => {}
+            GetAnswer::Miss if last > 0 => return false,
+            GetAnswer::Miss | GetAnswer::Busy => {}
         }
-        self.last != LAST
     }
+    false
 }
 
 #[test]
 fn a_reader_beside_a_writer(rt: HostRuntime) -> Result<(), Fail> {
-    let shape = Shape {
-        segments_each: SEGMENTS,
-        rows: ROWS,
-        ..SHAPE
+    let (index, passes) = Index::new(rt.alloc(), SHAPE)?;
+    let mut both = clients(rt.alloc(), &index, passes)?;
+    let (Some(mut reader), Some(mut writer)) = (both.pop(), both.pop()) else {
+        return Err(Fail::new("no two clients"));
     };
-    let (index, first, second) = two_passes(rt.alloc(), shape)?;
     let key = Key::new(b"a").expect(&rt, "a key");
-    let reader = Reader {
-        key: &key,
-        last: 0,
-        is_well: true,
-    };
-    let ((mut first, writer), (mut second, reader)) = at_once(
+    let (stored, is_well) = join(
         &rt,
-        &index,
-        (first, Writer { key: &key, last: 0 }),
-        (second, reader),
+        || put_all(&mut writer, &key),
+        || read_all(&mut reader, &key),
     );
-    assert!(rt; reader.is_well);
-    assert_eq!(rt; (writer.last, reader.last), (LAST, LAST));
-    meet(&index, &mut first, &mut second);
+    assert_eq!(rt; stored, LAST);
+    assert!(rt; is_well);
     let last = value_of(LAST).expect(&rt, "a value");
-    assert_eq!(rt;
-        get(&index, &mut second, &key, 0, MOMENT),
-        GetAnswer::Found(last)
-    );
+    assert_eq!(rt; reader.get(&key), GetAnswer::Found(last));
     Ok(())
 }

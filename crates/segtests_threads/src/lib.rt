@@ -5,8 +5,6 @@
 #[cfg(test)]
 mod beside;
 #[cfg(test)]
-mod counting;
-#[cfg(test)]
 mod digits;
 #[cfg(test)]
 mod evicting;
@@ -18,6 +16,8 @@ mod growing;
 mod keeping;
 #[cfg(test)]
 mod locking;
+#[cfg(test)]
+mod putting;
 #[cfg(test)]
 mod setting;
 #[cfg(test)]

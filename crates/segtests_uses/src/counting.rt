@@ -91,8 +91,9 @@ fn no_visit_is_lost(rt: HostRuntime) -> Result<(), Fail> {
     );
     assert_eq!(rt; is_counted, (true, true));
     let all = value_of(2 * VISITS).expect(&rt, "a value");
-    assert_eq!(rt; first.get(&page), GetAnswer::Found(all.clone()?));
-    assert_eq!(rt; second.get(&page), GetAnswer::Found(all));
+    assert_eq!(rt; first.get(&page), GetAnswer::Found(all.copy()));
+    // The version counts the put and each visit.
+    assert_eq!(rt; second.gets(&page), GetsAnswer::Found(all, 2 * VISITS + 1));
     let stored = (first.stats().stored, second.stats().stored);
     assert_eq!(rt; stored, (101, 100));
     Ok(())
