@@ -1,5 +1,6 @@
 //! A cache by its clients, each on a thread of its own.
 ghost use Rattle.segclient.specs.Client.{IsSame};
+ghost use Rattle.segclient.specs.Clients.{AreAllClients};
 
 use anyhow::Result;
 use segclient::{
@@ -47,6 +48,27 @@ fn serve_all(client: &mut Client<'_>, pairs: &[(Key, Value)], now: u32)
     }
 }
 
+// Each client serves the pairs, on a thread of its own.
+fn serve_each<R: Threads + Sync>(
+    rt: &R,
+    index: &Index,
+    clients: &mut [Client<'_>],
+    pairs: &[(Key, Value)],
+    now: u32,
+)
+    requires { AreAllClients index.now clients.old }
+    ensures { AreAllClients index.now clients.new }
+{
+    for_each_mut(
+        rt,
+        clients,
+        2,
+        &|_number, client: &mut Client<'_>|
+            ensures { IsSame client.old client.new }
+        { serve_all(client, pairs, now) },
+    );
+}
+
 /// Two clients serve the pairs at the same time, and the cache lists what it has in the end.
 pub fn client_caller<R: Threads + Sync>(
     rt: &R,
@@ -57,14 +79,7 @@ pub fn client_caller<R: Threads + Sync>(
     let shape = Shape::for_keys(1_000, 2)?;
     let (index, passes) = Index::new(alloc, shape)?;
     let mut clients = clients(alloc, &index, passes)?;
-    for_each_mut(
-        rt,
-        &mut clients,
-        2,
-        &|_number, client| -> ()
-            ensures { IsSame client.entry.now client.exit.now }
-        { serve_all(client, pairs, now) },
-    );
+    serve_each(rt, &index, clients.as_mut_slice(), pairs, now);
     let passes = into_passes(alloc, &index, clients)?;
     Ok(index.close_all(alloc, passes)?)
 }

@@ -2,7 +2,7 @@
 use crate::client_caller::client_caller;
 use crate::index_caller::index_caller;
 use crate::readme_lines::readme_lines;
-use segindex::{EvictAnswer, GetAnswer, Key, RefillAnswer, Shape, Value, WriteAnswer};
+use segclient::{DeleteAnswer, GetAnswer, Key, PutAnswer, Value};
 use std::alloc::{AllocError, Global};
 use std::test::Fail;
 
@@ -35,12 +35,11 @@ fn an_index_gives_up_what_is_seldom_read(rt: HostRuntime) -> Result<(), Fail> {
 fn the_lines_of_the_readme_answer_as_they_say(rt: HostRuntime) -> Result<(), Fail> {
     let key = Key::new(b"a").expect(&rt, "a key");
     let value = Value::new(b"1").expect(&rt, "a value");
-    let answers = readme_lines(rt.alloc(), Shape::for_keys(100, 1)?, &key, &value, 0, 0)?;
+    let answers = readme_lines(rt.alloc(), &key, &value, 0)?;
     let wanted = (
-        RefillAnswer::Refilled,
-        WriteAnswer::Stored,
+        PutAnswer::Stored,
         GetAnswer::Found(value),
-        EvictAnswer::Evicted(1),
+        DeleteAnswer::Deleted,
     );
     assert_eq!(rt; answers, Some(wanted));
     Ok(())
