@@ -7,9 +7,13 @@ use std::sync::Wait;
 use std::sync::atomic::AtomicU64;
 use std::sync::atomic::Ordering::SeqCst;
 use std::test::Fail;
-use std::thread::Threads;
+use std::thread::{Threads, yield_now};
+
+// How often the first call of a watch lets other threads go first.
+const YIELDS: u32 = 100_000;
 
 /// A watch that keeps how often it was called, and what it was told in the first calls.
+/// At the first call it gives the passes that are not watched time for their commands.
 #[derive(Drop)]
 struct Seen {
     calls: AtomicU64,
@@ -55,6 +59,11 @@ impl Watch for Seen {
         }
         if let Some(kept) = self.of.get(at) {
             kept.store(of, SeqCst);
+        }
+        if at == 0 {
+            for _ in 0..YIELDS {
+                yield_now();
+            }
         }
     }
 }
@@ -126,7 +135,7 @@ fn a_watch_sees_the_commands_of_all_passes(rt: HostRuntime) -> Result<(), Fail> 
     assert_eq!(rt; (first.1, second.1), (6144, 6144));
     assert_eq!(rt; (third, fourth), ((0, 0), (0, 0)));
     assert!(rt; 1024 <= first.0 && first.0 < second.0, "{told:?}");
-    assert!(rt; 2048 <= second.0 && second.0 <= 6144, "{told:?}");
+    assert!(rt; 2048 < second.0 && second.0 <= 6144, "{told:?}");
     Ok(())
 }
 
