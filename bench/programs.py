@@ -32,6 +32,10 @@ class Sample:
     hits: float
     busy: float
     full: float
+    # Latencies, if commands were timed one by one.
+    p50_ns: float | None = None
+    p99_ns: float | None = None
+    p999_ns: float | None = None
 
 
 @dataclass(frozen=True)
@@ -134,27 +138,36 @@ def rounds_of(words, rounds):
     return told
 
 
-def words_for(name, path, cell, times, rounds):
+def words_for(name, path, cell, times, rounds, every):
     """The command line of a run. Ours has options, and the programs of `common` have places."""
     if name != "ours":
-        return [path, cell.mix, cell.draw, cell.keys, cell.threads, times]
+        return [path, cell.mix, cell.draw, cell.keys, cell.threads, times, every]
     return [path, "--mix", cell.mix, "--draws", cell.draw, "--keys", cell.keys, "--threads", cell.threads,
-            "--commands", times, "--rounds", rounds, "--format", "json", "--wait"]
+            "--commands", times, "--rounds", rounds, "--format", "json", "--wait", "--sample", every]
 
 
-def sample(name, path, cell, times, rounds):
-    """One run of a program: medians of its rounds, and shares of all their commands."""
-    lines = rounds_of([str(word) for word in words_for(name, path, cell, times, rounds)], rounds)
+def sample(name, path, cell, times, rounds, every):
+    """One run of a program: medians of its rounds, and shares of all their commands.
+
+    Each command is timed whose place is a multiple of `every`; none is if that is 0.
+    """
+    lines = rounds_of([str(word) for word in words_for(name, path, cell, times, rounds, every)], rounds)
     commands = sum(line["commands"] for line in lines)
 
     def share(name):
         return sum(line[name] for line in lines) / commands
 
+    def middle(name):
+        return median(line[name] for line in lines) if name in lines[0] else None
+
     return Sample(
-        process_ns=median(line["process_ns"] for line in lines),
-        wall_ns=median(line["wall_ns"] for line in lines),
-        thread_ns=median(line["thread_ns"] for line in lines),
+        process_ns=middle("process_ns"),
+        wall_ns=middle("wall_ns"),
+        thread_ns=middle("thread_ns"),
         hits=share("hits"),
         busy=share("busy"),
         full=share("full"),
+        p50_ns=middle("p50_ns"),
+        p99_ns=middle("p99_ns"),
+        p999_ns=middle("p99.9_ns"),
     )

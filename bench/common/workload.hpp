@@ -4,6 +4,7 @@
 #include "store.hpp"
 
 #include <algorithm>
+#include <chrono>
 #include <cstdint>
 #include <optional>
 #include <string_view>
@@ -127,17 +128,32 @@ public:
         }
     }
 
-    void work(Mix mix, const std::vector<Key>& keys, const Value& value) {
+    // Makes the commands of a round. Each is timed whose place is a multiple of `sample`; none is if that is 0.
+    void work(Mix mix, const std::vector<Key>& keys, const Value& value, std::uint32_t sample) {
+        using Clock = std::chrono::steady_clock;
         tally = {};
-        for (const std::uint32_t number : numbers_) {
+        samples.clear();
+        std::size_t next = sample == 0 ? numbers_.size() : 0;
+        for (std::size_t place = 0; place < numbers_.size(); ++place) {
+            const Key& key = keys[numbers_[place]];
             const std::uint32_t draw = generator_.next();
-            tally.count(serve(kind_of(mix, draw), keys[number], value, draw));
+            if (place != next) {
+                tally.count(serve(kind_of(mix, draw), key, value, draw));
+                continue;
+            }
+            const auto start = Clock::now();
+            tally.count(serve(kind_of(mix, draw), key, value, draw));
+            const std::chrono::nanoseconds time = Clock::now() - start;
+            samples.push_back(static_cast<std::uint64_t>(time.count()));
+            next += sample;
         }
     }
 
     void set(const Key& key, const Value& value) { tally.count(client_.write(Write::Set, key, value, 0)); }
 
     Tally tally;
+    // The nanoseconds that each timed command of the last round took.
+    std::vector<std::uint64_t> samples;
     // The values that were read, added up, so that no reading is left out by the compiler.
     std::uint64_t read = 0;
 
