@@ -8,8 +8,8 @@ pub type Answers = (PutAnswer, GetAnswer, DeleteAnswer);
 
 /// The README shows the lines between the braces, but for the last one.
 pub fn readme_lines(alloc: Global, key: &Key, value: &Value, now: u32) -> Result<Option<Answers>> {
-    let (index, passes) = Index::new(alloc, Shape::for_keys(100_000, 4)?)?; // takes all memory
-    let mut clients = clients(alloc, &index, passes)?; // four, one for each thread
+    let (index, passes) = Index::new(alloc, Shape::for_keys(100_000, 4)?)?; // for four threads
+    let mut clients = clients(alloc, &index, passes)?; // one for each thread
     let Some(mut client) = clients.pop() else {
         return Ok(None);
     };
