@@ -151,7 +151,8 @@ pub fn example()
         × (standing (after shape (seen relinked)) a ≡ Some (cached two 1)) }
     ensures held { word shape (Took 1 0 ∷ moved) (OfBucket 0 0) ≡ 0x1_0000_0001 }
     ensures emptied { (word shape refilled (OfOverflow 0 1) ≡ 0)
-        × (word shape refilled (OfBucket 0 1) ≡ 0) × (word shape refilled (OfSegment 2) ≡ 0x9_0000_0001) }
+        × (word shape refilled (OfBucket 0 1) ≡ 0)
+        × (word shape refilled (OfSegment 2) ≡ 0x9_0000_0001) }
     ensures versions { (standing (after shape (seen replaced)) a ≡ Some (cached two 0))
         × (standing (after shape (seen refilled)) a ≡ None)
         × ((after shape (seen refilled)).version 0 ≡ 4) }

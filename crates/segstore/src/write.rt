@@ -70,7 +70,8 @@ pub fn copy_row(board: &Board, pass: &mut Pass, from: u32, from_row: u32, segmen
     requires own { IsOwnRow board.now.shape (trace pass.old) (number pass.old) segment row }
     ensures moved { (words : List ℕ) × StoresRow board.now segment row words pass.old pass.new }
     ensures own { IsOwnRow board.now.shape (trace pass.new) (number pass.new) segment row }
-    ensures holds { (key value : List ℕ) → Holds (row_after (trace pass.old) from from_row) key value
+    ensures holds { (key value : List ℕ)
+        → Holds (row_after (trace pass.old) from from_row) key value
         → Holds (row_after (trace pass.new) segment row) key value }
     ensures plain { pass.new.plain ≡ pass.old.plain }
     ensures memo { (sight pass.new).memo ≡ (sight pass.old).memo }

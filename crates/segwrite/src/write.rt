@@ -70,7 +70,8 @@ pub fn cas(
     now: u32,
 ) -> WriteAnswer
     requires quiet { IsQuiet board.now pass.old }
-    ensures writes { Writes board.now (Cas key.now value.now expected now) result pass.old pass.new }
+    ensures writes { Writes board.now (Cas key.now value.now expected now) result
+        pass.old pass.new }
 {
     write(board, pass, key, value, When::Unchanged(expected), now)
 }
