@@ -9,5 +9,6 @@ rate_text (Some rate) = codes ", " ++ decimal rate ++ codes " a second"
 -- the line of a load that has made so many commands, of so many in all
 abbrev pub progress_text : ℕ → ℕ → Option ℕ → List ℕ
 progress_text made of rate =
-    decimal made ++ codes " of " ++ decimal of ++ codes ", " ++ decimal (made * 100 / max 1 of) ++ codes " %"
+    decimal made ++ codes " of " ++ decimal of ++ codes ", " ++ decimal (made * 100 / max 1 of) ++
+    codes " %"
     ++ rate_text rate ++ codes "\n"

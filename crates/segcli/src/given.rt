@@ -35,8 +35,8 @@ pub fn run_given<R: Threads + Wait + AllocGlobal + Sync, S: Source, W: Sink, E: 
 
     // The words behind the first are those that the program is run over.
     ensures outcome { GivenOutcome S.hands S.is_at_end S.has_failed S.ends
-        W.takes W.has_failed W.flushes E.takes E.has_failed E.flushes given source.old source.new writer.old writer.new
-        errors.old errors.new result }
+        W.takes W.has_failed W.flushes E.takes E.has_failed E.flushes
+        given source.old source.new writer.old writer.new errors.old errors.new result }
 {
     let given = match given {
         Ok(given) => given,
