@@ -35,9 +35,11 @@ impl Bucket {
 
     /// Which numbers of keys the thread's evict or keep may have taken out: bit n for n.
     pub fn counts(&self, thread: usize) -> u64 {
-        self.states
-            .iter()
-            .fold(0, |counts, state| counts | bit(state.taken(thread)))
+        let mut counts = 0;
+        for state in self.states.iter() {
+            counts |= bit(state.taken(thread));
+        }
+        counts
     }
 
     /// Keeps those states in which the thread's evict or keep took out one of these numbers of keys.

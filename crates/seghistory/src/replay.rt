@@ -166,14 +166,7 @@ impl Replay {
     // The thread's evict or keep took so many keys out of all buckets together. Returns whether that is possible.
     fn count(&mut self, thread: usize, taken: u32) -> Result<bool, Fault> {
         for number in 0..self.buckets.len() {
-            let others = self
-                .buckets
-                .iter()
-                .enumerate()
-                .filter(|(place, _)| *place != number)
-                .fold(1, |sums, (_, bucket)| {
-                    added(sums, bucket.counts(thread))
-                });
+            let others = self.counts_beside(thread, number);
             let bucket = self.buckets.get_mut(number).ok_or(Fault::BadCall)?;
             if !bucket.keep(thread, rests(taken, others)) {
                 return Ok(false);
@@ -183,5 +176,16 @@ impl Replay {
             bucket.forget(thread)?;
         }
         Ok(true)
+    }
+
+    // Which numbers of keys the thread's evict or keep may have taken out of all buckets but this one.
+    fn counts_beside(&self, thread: usize, number: usize) -> u64 {
+        let mut sums = 1;
+        for (place, bucket) in self.buckets.iter().enumerate() {
+            if place != number {
+                sums = added(sums, bucket.counts(thread));
+            }
+        }
+        sums
     }
 }

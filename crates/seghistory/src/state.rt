@@ -9,7 +9,7 @@ pub const KEYS: usize = 12;
 pub const THREADS: usize = 8;
 
 /// What a state has of a thread.
-#[derive(Clone, Copy, Debug, PartialEq, Eq)]
+#[derive(Clone, Copy, PartialEq, Eq)]
 struct Hand {
     /// Whether the call that is under way has been taken.
     is_done: bool,
@@ -20,7 +20,7 @@ struct Hand {
 }
 
 /// A bucket as it may be at one moment.
-#[derive(Clone, Copy, Debug, PartialEq, Eq)]
+#[derive(Clone, Copy, PartialEq, Eq)]
 pub struct State {
     items: [Option<Item>; KEYS],
     version: u32,
@@ -161,8 +161,10 @@ impl State {
 
     // The item that a call at this moment finds under a key.
     fn present(&self, key: usize, now: u32) -> Option<Item> {
-        let item = self.items.get(key).copied().flatten()?;
-        (now < item.deadline).then_some(item)
+        match self.items.get(key) {
+            Some(Some(item)) if now < item.deadline => Some(*item),
+            _ => None,
+        }
     }
 
     // Writes a key, and returns whether that is allowed: whether the bucket isn't locked.

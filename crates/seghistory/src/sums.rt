@@ -7,19 +7,22 @@ pub fn bit(number: u32) -> u64 {
 
 /// The sums of two numbers, one of each set.
 pub fn added(numbers: u64, others: u64) -> u64 {
-    (0..64).fold(0, |sums, number| {
-        if others & bit(number) == 0 {
-            sums
-        } else {
-            sums | numbers.checked_shl(number).unwrap_or(0)
+    let mut sums = 0;
+    for number in 0..64u32 {
+        if others & bit(number) != 0 {
+            sums |= numbers << number;
         }
-    })
+    }
+    sums
 }
 
 /// The numbers that, added to one of the set, make this sum.
 pub fn rests(sum: u32, numbers: u64) -> u64 {
-    (0..64)
-        .filter(|number| numbers & bit(*number) != 0)
-        .filter_map(|number| sum.checked_sub(number))
-        .fold(0, |rests, rest| rests | bit(rest))
+    let mut rests = 0;
+    for rest in 0..64u32 {
+        if rest <= sum && numbers & bit(sum - rest) != 0 {
+            rests |= bit(rest);
+        }
+    }
+    rests
 }

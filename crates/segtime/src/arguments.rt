@@ -89,24 +89,33 @@ pub struct Options {
 /// Reads the words behind the program's name.
 pub fn read_options(alloc: Global, words: &[String]) -> Result<Options, Error> {
     let matches = command_line(alloc)?.try_get_matches_from(words)?;
-    Ok(Options {
+    Ok(options_of(&matches))
+}
+
+fn options_of(matches: &ArgMatches<'_>) -> Options {
+    Options {
         mix: mix_named(matches.get_str("mix").unwrap_or("mixed")),
         is_zipf: matches.get_str("draws") == Some("zipf"),
-        keys: number_of(&matches, "keys"),
-        threads: number_of(&matches, "threads"),
-        segments: number_of(&matches, "segments"),
-        commands: number_of(&matches, "commands"),
-        rounds: number_of(&matches, "rounds"),
-        seed: number_of(&matches, "seed"),
-        sample: number_of(&matches, "sample"),
+        keys: number_of(matches, "keys"),
+        threads: number_of(matches, "threads"),
+        segments: number_of(matches, "segments"),
+        commands: number_of(matches, "commands"),
+        rounds: number_of(matches, "rounds"),
+        seed: number_of(matches, "seed"),
+        sample: number_of(matches, "sample"),
         is_json: matches.get_str("format") == Some("json"),
         has_times: !matches.get_flag("no-times"),
         waits: matches.get_flag("wait"),
-        gets: match matches.subcommand() {
-            Some((_, matches)) => Some(number_of(matches, "gets")),
-            None => None,
-        },
-    })
+        gets: gets_of(matches),
+    }
+}
+
+// The number of gets, where the subcommand is given.
+fn gets_of(matches: &ArgMatches<'_>) -> Option<u32> {
+    match matches.subcommand() {
+        Some((_, matches)) => Some(number_of(matches, "gets")),
+        None => None,
+    }
 }
 
 // The number of an option. Each has a default.

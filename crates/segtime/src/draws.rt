@@ -2,7 +2,7 @@
 use std::alloc::{AllocError, Global};
 
 /// A linear congruential generator.
-#[derive(Clone, Copy, Debug)]
+#[derive(Clone, Copy)]
 pub struct Generator {
     pub state: u32,
 }

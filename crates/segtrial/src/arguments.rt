@@ -1,8 +1,7 @@
 //! The command line.
-use clap::builder::ValueParser;
 use clap::error::Error;
-use clap::{Arg, Command, value_parser};
-use std::alloc::Global;
+use clap::{Arg, ArgMatches, Command, value_parser};
+use std::alloc::{AllocError, Global};
 
 const ABOUT: &str = "Looks for an order that explains what threads are told by the object index";
 
@@ -25,8 +24,26 @@ Exit status:
   2  a bad command line
   3  out of memory, or a search that is too long";
 
+// Options with a number: the least, the most, the default, and the help.
+const NUMBERS: [(&str, i64, i64, &str, &str); 4] = [
+    ("passes", 1, 8, "4", "Passes, each on a thread: 1 to 8"),
+    ("turns", 1, 1_000_000, "10000", TURNS),
+    ("rounds", 0, MOST, "1", ROUNDS),
+    ("in-turn", 0, MOST, "0", IN_TURN),
+];
+
+const TURNS: &str = "Turns of each pass in a round: 1 to 1000000";
+
+const ROUNDS: &str = "Rounds in which each pass has a thread";
+
+const IN_TURN: &str = "Rounds more, in which the passes take turns on one thread";
+
+const SEED: &str = "The number from which the calls are drawn";
+
+const MOST: i64 = 4_294_967_295;
+
 /// What the program is to do.
-#[derive(Clone, Copy, Debug)]
+#[derive(Clone, Copy)]
 pub struct Options {
     pub passes: u32,
     pub turns: u32,
@@ -40,59 +57,36 @@ pub struct Options {
 /// Reads the words behind the program's name.
 pub fn read_options(alloc: Global, words: &[String]) -> Result<Options, Error> {
     let matches = command_line(alloc)?.try_get_matches_from(words)?;
-    Ok(Options {
-        passes: matches.get_one("passes").unwrap_or(1),
-        turns: matches.get_one("turns").unwrap_or(1),
-        rounds: matches.get_one("rounds").unwrap_or(1),
-        in_turn: matches.get_one("in-turn").unwrap_or(0),
-        seed: matches.get_one("seed").unwrap_or(1),
-    })
+    Ok(options_of(&matches))
 }
 
-fn command_line<'a>(alloc: Global) -> Result<Command<'a>, Error> {
-    let passes = option(alloc, "passes", "4", "Passes, each on a thread: 1 to 8").value_parser(
-        value_parser!(u32).range(1..=8),
-    );
-    let turns = option(
-        alloc,
-        "turns",
-        "10000",
-        "Turns of each pass in a round: 1 to 1000000",
-    )
-    .value_parser(value_parser!(u32).range(1..=1_000_000));
-    let rounds = option(
-        alloc,
-        "rounds",
-        "1",
-        "Rounds in which each pass has a thread",
-    )
-    .value_parser(value_parser!(u32));
-    let in_turn = option(
-        alloc,
-        "in-turn",
-        "0",
-        "Rounds more, in which the passes take turns on one thread",
-    )
-    .value_parser(value_parser!(u32));
-    let seed = option(
-        alloc,
-        "seed",
-        "1",
-        "The number from which the calls are drawn",
-    )
-    .value_parser(value_parser!(u64));
-    let command = Command::new(alloc, "segtrial")
+fn options_of(matches: &ArgMatches<'_>) -> Options {
+    Options {
+        passes: number_of(matches, "passes"),
+        turns: number_of(matches, "turns"),
+        rounds: number_of(matches, "rounds"),
+        in_turn: number_of(matches, "in-turn"),
+        seed: matches.get_one("seed").unwrap_or(1),
+    }
+}
+
+// The number of an option. Each has a default.
+fn number_of(matches: &ArgMatches<'_>, name: &str) -> u32 {
+    matches.get_one(name).unwrap_or(0)
+}
+
+fn command_line<'a>(alloc: Global) -> Result<Command<'a>, AllocError> {
+    let mut command = Command::new(alloc, "segtrial")
         .version("0.1.0")
         .about(ABOUT)
         .long_about(LONG_ABOUT)
         .after_help(AFTER)
-        .no_binary_name(true)
-        .arg(passes)?
-        .arg(turns)?
-        .arg(rounds)?
-        .arg(in_turn)?
-        .arg(seed)?;
-    Ok(command)
+        .no_binary_name(true);
+    for &(name, least, most, default, help) in NUMBERS.iter() {
+        let parser = value_parser!(u32).range(least..=most);
+        command = command.arg(option(alloc, name, default, help).value_parser(parser))?;
+    }
+    command.arg(option(alloc, "seed", "1", SEED).value_parser(value_parser!(u64)))
 }
 
 // An option with a number.

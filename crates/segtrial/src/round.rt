@@ -24,7 +24,7 @@ const ROWS: u32 = 16;
 const FIRST_VERSION: u32 = u32::MAX - 100;
 
 /// How many answers there were.
-#[derive(Clone, Copy, Debug, Default)]
+#[derive(Clone, Copy, Default)]
 pub struct Counts {
     /// Those that are explained.
     pub answers: u64,
@@ -37,7 +37,7 @@ pub struct Counts {
 }
 
 /// Why a round failed.
-#[derive(Clone, Copy, Debug, PartialEq, Eq, Error)]
+#[derive(Clone, Copy, Debug, Error)]
 pub enum RoundFault {
     #[error("an answer is one that no such call gives")]
     WrongAnswer,
@@ -54,7 +54,7 @@ impl From<AllocError> for RoundFault {
 }
 
 /// The seed of the round that failed, and why it did.
-#[derive(Clone, Copy, Debug, PartialEq, Eq)]
+#[derive(Clone, Copy)]
 pub struct Failure {
     pub seed: u64,
     pub fault: RoundFault,
