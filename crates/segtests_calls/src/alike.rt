@@ -1,8 +1,6 @@
 //! The index with its one pass beside the plain cache:
 //! over commands drawn at random both answer alike.
 //! Their moments and deadlines are small numbers, so that many keys are expired.
-ghost use Rattle.std.specs.Prelude.{◌<◌, ◌≤◌, IfSome};
-
 use rand_core::utils::NextWord;
 use rand_pcg::Lcg64Xsh32;
 use segmodel::{
@@ -78,43 +76,41 @@ fn both(alloc: Global, load: Load) -> Result<(Plain, Solo), Fail> {
     Ok((plain, solo))
 }
 
-// A number below the limit.
-fn below(generator: &mut Lcg64Xsh32, limit: u32) -> u32
-    requires { 0 < limit }
-    ensures { result < limit }
-{
-    generator.next_word() % limit
+// A number below the limit, which is at least 1.
+fn below(generator: &mut Lcg64Xsh32, limit: u32) -> u32 {
+    generator.next_word() % limit.max(1)
 }
 
-// One of so many keys.
-fn key(generator: &mut Lcg64Xsh32, keys: u32) -> Result<Key, Fail>
-    requires { (0 < keys) × (keys ≤ 60) }
-{
-    let number = below(generator, keys) as u8;
-    Ok(Key::new(&[b'k', b'A' + number]).ok_or("no key")?)
+// A byte below the limit, which is 256 at most.
+fn byte_below(generator: &mut Lcg64Xsh32, limit: u32) -> u8 {
+    let [byte, ..] = below(generator, limit).to_le_bytes();
+    byte
+}
+
+// One of so many keys, which are 60 at most.
+fn key(generator: &mut Lcg64Xsh32, keys: u32) -> Option<Key> {
+    let number = byte_below(generator, keys);
+    Key::new(&[b'k', b'A'.wrapping_add(number)])
 }
 
 // The empty value, or one of a letter.
-fn value(generator: &mut Lcg64Xsh32) -> Result<Value, Fail> {
-    let number = below(generator, 26) as u8;
-    let bytes = [b'a' + number];
-    let long = if number == 0 { 0 } else { 1 };
-    Ok(Value::new(&bytes[..long]).ok_or("no value")?)
+fn value(generator: &mut Lcg64Xsh32) -> Option<Value> {
+    match byte_below(generator, 26) {
+        0 => Value::new(b""),
+        number => Value::new(&[b'a'.wrapping_add(number)]),
+    }
 }
 
 // A command; a cas expects the version that a gets found last.
-fn command(generator: &mut Lcg64Xsh32, load: Load, version: u32) -> Result<Command, Fail>
-    requires keys { (0 < load.keys) × (load.keys ≤ 60) }
-    requires limits { (0 < load.draws) × (0 < load.moments) × (0 < load.deadlines) }
-{
+fn command(generator: &mut Lcg64Xsh32, load: Load, version: u32) -> Option<Command> {
     let kind = below(generator, load.draws);
     let key = key(generator, load.keys)?;
     let value = value(generator)?;
     let segment = below(generator, SEGMENTS + 1);
     let deadline = below(generator, load.deadlines);
     let now = below(generator, load.moments);
-    let cutoff = below(generator, CUTOFFS) as u8;
-    Ok(match kind {
+    let cutoff = byte_below(generator, CUTOFFS);
+    Some(match kind {
         0..=3 => Command::Write(Request::Set(key, value, now)),
         4 => Command::Write(Request::Add(key, value, now)),
         5 => Command::Write(Request::Replace(key, value, now)),
@@ -133,9 +129,7 @@ const KINDS: usize = 20;
 
 // The kind of an answer.
 // No bucket is locked and nothing is held, so no answer is Busy or Held.
-fn kind_of(answer: &Answer) -> Option<usize>
-    ensures { IfSome result (λ kind. kind < KINDS) }
-{
+fn kind_of(answer: &Answer) -> Option<usize> {
     match answer {
         Answer::Write(WriteAnswer::Stored) => Some(0),
         Answer::Write(WriteAnswer::NotStored) => Some(1),
@@ -180,19 +174,45 @@ fn moved_by(answer: &Answer) -> u32 {
 }
 
 // What a load gave: which kinds of answer, how often a bucket was full of expired keys,
-// and how many items were moved.
-#[derive(Clone, Copy)]
+// and how many items were moved. The version is the one that a gets found last.
+#[derive(Drop)]
 struct Came {
     kinds: [bool; KINDS],
     full: u32,
     moved: u32,
+    version: u32,
+}
+
+impl Came {
+    // Takes note of an answer, if its kind is known.
+    fn note(&mut self, load: Load, command: &Command, answer: &Answer) -> Option<()> {
+        *self.kinds.get_mut(kind_of(answer)?)? = true;
+        if is_full_of_expired(load, command, answer) {
+            self.full = self.full.saturating_add(1);
+        }
+        self.moved = self.moved.saturating_add(moved_by(answer));
+        if let Answer::Gets(GetsAnswer::Found(_, found)) = answer {
+            self.version = *found;
+        }
+        Some(())
+    }
+}
+
+// Serves a command by both caches, and returns what both answer.
+fn serve_both(
+    rt: &impl Abort,
+    plain: &mut Plain,
+    solo: &mut Solo,
+    command: &Command,
+) -> Result<Answer, Fail> {
+    let expected = plain.serve(command).ok().ok_or("out of memory")?;
+    let given = solo.serve(command).ok().ok_or("out of memory")?;
+    assert_eq!(rt; given, expected, "{command:?}");
+    Ok(expected)
 }
 
 // Serves so many commands by both, each once the one before is answered.
-fn serve_alike(rt: &impl Abort, alloc: Global, load: Load) -> Result<Came, Fail>
-    requires keys { (0 < load.keys) × (load.keys ≤ 60) }
-    requires limits { (0 < load.draws) × (0 < load.moments) × (0 < load.deadlines) }
-{
+fn serve_alike(rt: &impl Abort, alloc: Global, load: Load) -> Result<Came, Fail> {
     let (mut plain, mut solo) = both(alloc, load)?;
     let seed = load.buckets.wrapping_add(load.overflow.wrapping_mul(8));
     let stream = load.rows ^ load.deadlines;
@@ -201,22 +221,12 @@ fn serve_alike(rt: &impl Abort, alloc: Global, load: Load) -> Result<Came, Fail>
         kinds: [false; KINDS],
         full: 0,
         moved: 0,
+        version: FIRST_VERSION,
     };
-    let mut version = FIRST_VERSION;
-    for number in 0..COMMANDS {
-        let command = command(&mut generator, load, version)?;
-        let expected = plain.serve(&command).ok().ok_or("out of memory")?;
-        let given = solo.serve(&command).ok().ok_or("out of memory")?;
-        assert_eq!(rt; given, expected, "command {number}: {command:?}");
-        if let Answer::Gets(GetsAnswer::Found(_, found)) = expected {
-            version = found;
-        }
-        let kind = kind_of(&expected).ok_or("Busy or Held")?;
-        came.kinds[kind] = true;
-        if is_full_of_expired(load, &command, &expected) {
-            came.full = came.full.saturating_add(1);
-        }
-        came.moved = came.moved.saturating_add(moved_by(&expected));
+    for _ in 0..COMMANDS {
+        let command = command(&mut generator, load, came.version).ok_or("no command")?;
+        let answer = serve_both(rt, &mut plain, &mut solo, &command)?;
+        came.note(load, &command, &answer).ok_or("Busy or Held")?;
     }
     Ok(came)
 }
@@ -239,7 +249,7 @@ fn items_that_move(rt: HostRuntime) -> Result<(), Fail> {
         ..ONE_BUCKET
     };
     let came = serve_alike(&rt, rt.alloc(), load)?;
-    assert!(rt; came.moved > 50, "{} items moved", came.moved);
+    assert!(rt; came.moved > 50);
     Ok(())
 }
 
@@ -311,16 +321,9 @@ fn two_chains_and_one_overflow_bucket(rt: HostRuntime) -> Result<(), Fail> {
 
 // Serves a load whose buckets have to be full of expired keys again and again.
 // Returns which kinds of answer came.
-fn serve_expired(rt: &impl Abort, alloc: Global, load: Load) -> Result<[bool; KINDS], Fail>
-    requires keys { (0 < load.keys) × (load.keys ≤ 60) }
-    requires limits { (0 < load.draws) × (0 < load.moments) × (0 < load.deadlines) }
-{
+fn serve_expired(rt: &impl Abort, alloc: Global, load: Load) -> Result<[bool; KINDS], Fail> {
     let came = serve_alike(rt, alloc, load)?;
-    assert!(rt;
-        came.full > COMMANDS / 10,
-        "full of expired keys {} times",
-        came.full
-    );
+    assert!(rt; came.full > COMMANDS / 10);
     Ok(came.kinds)
 }
 
@@ -410,7 +413,8 @@ fn commands(alloc: Global, number: u32) -> Result<Vec<Command>, Fail> {
     let mut generator = Lcg64Xsh32::new(1, 2);
     let mut commands = Vec::new(alloc);
     for _ in 0..number {
-        commands.push(command(&mut generator, ONE_BUCKET, FIRST_VERSION)?)?;
+        let command = command(&mut generator, ONE_BUCKET, FIRST_VERSION).ok_or("no command")?;
+        commands.push(command)?;
     }
     Ok(commands)
 }

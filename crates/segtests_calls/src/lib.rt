@@ -17,8 +17,6 @@ mod owner;
 #[cfg(test)]
 mod probing;
 #[cfg(test)]
-mod putting;
-#[cfg(test)]
 mod seen_numbers;
 #[cfg(test)]
 mod tables;

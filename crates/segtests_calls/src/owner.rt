@@ -3,12 +3,12 @@ ghost use Rattle.segindex.specs.Words.{board_of, shape_of};
 ghost use Rattle.segpass.specs.Words.{IsQuiet, IsQuiet-prop};
 ghost use Rattle.segread.specs.Words.{IsHoldOf, IsHoldOf-prop};
 
+use crate::tables::served;
 use segindex::{Hold, Index, Pass};
 use segmodel::{GetAnswer, RefillAnswer, WriteAnswer};
 use segtests_helpers::calls::{self, MOMENT};
 use segtests_helpers::holds::{held_value, hold, release};
 use segtests_helpers::passes::{SHAPE, two_passes};
-use segtests_helpers::rows::first_wrong;
 use segword::{Key, Value};
 use std::test::Fail;
 
@@ -86,12 +86,11 @@ fn read_twice(index: &Index, mut pass: Pass, key: &Key) -> Option<(Value, Value)
 
 #[test]
 fn a_holder_reads_its_value(rt: HostRuntime) -> Result<(), Fail> {
-    let (index, mut pass, mut other) = two_passes(rt.alloc(), SHAPE)?;
-    let rows = [
-        ("p0 refill 0 4294967295", "REFILLED"),
-        ("p0 set a 1 @0", "STORED"),
-    ];
-    assert_eq!(rt; first_wrong(&index, &mut pass, &mut other, &rows), None);
+    let script = "
+        p0 refill 0 4294967295 -> REFILLED
+        p0 set a 1 @0 -> STORED
+    ";
+    let (index, pass, _) = served(&rt, rt.alloc(), SHAPE, script)?;
     let key = Key::new(b"a").expect(&rt, "a key");
     let value = Value::new(b"1").expect(&rt, "a value");
     let twice = (value.copy(), value);

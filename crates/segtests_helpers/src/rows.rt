@@ -43,6 +43,57 @@ pub fn first_wrong<'t>(
     None
 }
 
+/// The first line of a script that is answered otherwise, or that is no call.
+/// A line has a call and its answer, as "p0 set a 1 @0 -> STORED".
+/// Empty lines and comments are passed over.
+pub fn first_wrong_line<'t>(
+    index: &Index,
+    first: &mut Pass,
+    second: &mut Pass,
+    script: &'t str,
+) -> Option<&'t str>
+    requires { IsQuiet (board_of index.now) first.old × IsQuiet (board_of index.now) second.old }
+    ensures { IsQuiet (board_of index.now) first.new × IsQuiet (board_of index.now) second.new }
+{
+    for line in script.lines() {
+        let is_well = match row_of(line) {
+            Some((text, wanted)) => is_right(index, first, second, text, wanted),
+            None => true,
+        };
+        if !is_well {
+            return Some(line);
+        }
+    }
+    None
+}
+
+/// The same for a script that this pass serves alone, whatever pass a line names.
+pub fn first_wrong_alone<'t>(index: &Index, pass: &mut Pass, script: &'t str) -> Option<&'t str>
+    requires { IsQuiet (board_of index.now) pass.old }
+    ensures { IsQuiet (board_of index.now) pass.new }
+{
+    for line in script.lines() {
+        let is_well = match row_of(line) {
+            Some((text, wanted)) => is_answered(index, pass, call_of(text), wanted),
+            None => true,
+        };
+        if !is_well {
+            return Some(line);
+        }
+    }
+    None
+}
+
+// The row of a line, if it is neither empty nor a comment.
+// A line with no answer is a row that is wrong.
+fn row_of(line: &str) -> Option<Row<'_>> {
+    let line = line.trim();
+    if line.is_empty() || line.starts_with("//") {
+        return None;
+    }
+    Some(line.split_once(" -> ").unwrap_or(("", "")))
+}
+
 // Whether a row has the answer that it wants.
 fn is_right(index: &Index, first: &mut Pass, second: &mut Pass, text: &str, wanted: &str) -> bool
     requires { IsQuiet (board_of index.now) first.old × IsQuiet (board_of index.now) second.old }

@@ -8,15 +8,18 @@ use std::test::Fail;
 /// A line of a script and its reply, both without their ends.
 pub type Line<'t> = (&'t str, &'t str);
 
+fn push_line(text: &mut String, line: &str) -> Result<(), AllocError> {
+    text.push_str(line)?;
+    text.push('\n')
+}
+
 // The lines, and their replies, as the bytes of a run.
 fn texts(alloc: Global, lines: &[Line<'_>]) -> Result<(String, String), AllocError> {
     let mut script = String::new(alloc);
     let mut replies = String::new(alloc);
     for (line, reply) in lines.iter().copied() {
-        script.push_str(line)?;
-        script.push('\n')?;
-        replies.push_str(reply)?;
-        replies.push('\n')?;
+        push_line(&mut script, line)?;
+        push_line(&mut replies, reply)?;
     }
     Ok((script, replies))
 }

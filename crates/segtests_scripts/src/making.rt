@@ -1,9 +1,29 @@
 //! Shapes that no index can have, and the texts of faults.
-use crate::runs::{SCRIPT, reader_of};
+use crate::runs::{SCRIPT, check_same, reader_of, run_over};
 use segindex::MakeFault;
-use segscript::{MemSink, RunFault, run_script};
+use segscript::{MemSink, RunFault};
 use segword::{Shape, ShapeFault};
+use std::alloc::Global;
+use std::process::Abort;
 use std::test::Fail;
+
+// Checks that the shape has this fault, and that nothing is read and nothing written.
+fn check_refused(
+    rt: &impl Abort,
+    alloc: Global,
+    shape: Shape,
+    fault: ShapeFault,
+) -> Result<(), Fail> {
+    let mut reader = reader_of(SCRIPT, 5000, None);
+    let mut writer = MemSink::new(alloc, 1000)?;
+    let found = run_over(alloc, &mut reader, &mut writer, shape);
+    let end = Err(RunFault::Make(MakeFault::Shape(fault)));
+    check_same(rt, 5000, found, end);
+    check_same(rt, 5000, reader.left, SCRIPT);
+    check_same(rt, 5000, writer.taken.as_slice(), b"");
+    check_same(rt, 5000, writer.flushes, 0);
+    Ok(())
+}
 
 #[test]
 fn a_bad_shape_is_answered_by_its_first_fault(rt: HostRuntime) -> Result<(), Fail> {
@@ -29,13 +49,7 @@ fn a_bad_shape_is_answered_by_its_first_fault(rt: HostRuntime) -> Result<(), Fai
             rows,
             first_version: 0,
         };
-        let mut reader = reader_of(SCRIPT, 5000, None);
-        let mut writer = MemSink::new(rt.alloc(), 1000)?;
-        let found = run_script(rt.alloc(), &mut reader, &mut writer, shape);
-        assert_eq!(rt; found, Err(RunFault::Make(MakeFault::Shape(fault))));
-        assert_eq!(rt; reader.left, SCRIPT);
-        assert_eq!(rt; writer.taken.as_slice(), b"".as_slice());
-        assert_eq!(rt; writer.flushes, 0);
+        check_refused(&rt, rt.alloc(), shape, fault)?;
     }
     Ok(())
 }
@@ -49,7 +63,8 @@ fn the_texts_of_faults(rt: HostRuntime) -> Result<(), Fail> {
         (RunFault::TooLong, "script too long"),
         (RunFault::Make(MakeFault::OutOfMemory), "out of memory"),
     ] {
-        assert_eq!(rt; format!(in rt.alloc(); "{fault}")?.as_str(), text);
+        let shown = format!(in rt.alloc(); "{fault}")?;
+        assert_eq!(rt; shown.as_str(), text);
     }
     Ok(())
 }

@@ -2,8 +2,8 @@
 ghost use Rattle.std.specs.Prelude.{◌≡◌, ◌++◌, [], refl};
 ghost use Rattle.segscript.specs.Words.{hands_more, takes_more, takes_none};
 
-use crate::runs::{REPLIES, SCRIPT, reader_of, shape_of};
-use segscript::{Failed, MemSink, MemSource, Sink, Source, run_script};
+use crate::runs::{REPLIES, SCRIPT, check_same, reader_of, run_over, shape_of};
+use segscript::{Failed, MemSink, MemSource, Sink, Source};
 use std::cell::Cell;
 use std::test::Fail;
 
@@ -77,14 +77,12 @@ fn the_reply_of_each_whole_line_is_written_before_the_next_read(
         inner: MemSink::new(rt.alloc(), 1000)?,
         written: &written,
     };
-    let found = run_script(rt.alloc(), &mut reader, &mut writer, shape_of(2));
-    assert_eq!(rt; found, Ok(()));
-    assert_eq!(rt; writer.inner.taken.as_slice(), REPLIES);
+    let found = run_over(rt.alloc(), &mut reader, &mut writer, shape_of(2));
+    check_same(&rt, 7, found, Ok(()));
+    check_same(&rt, 7, writer.inner.taken.as_slice(), REPLIES);
     // The lines end at bytes 23, 37 and 49.
     // The reads begin at bytes 0, 7, 14, 21, 28, 35, 42 and 49.
-    assert_eq!(rt;
-        reader.at_reads.as_slice(),
-        [0, 0, 0, 0, 9, 9, 16, 24].as_slice()
-    );
+    let taken = [0, 0, 0, 0, 9, 9, 16, 24];
+    check_same(&rt, 7, reader.at_reads.as_slice(), taken.as_slice());
     Ok(())
 }

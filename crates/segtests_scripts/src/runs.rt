@@ -1,9 +1,10 @@
 //! Whole runs over memory, in pieces of 1, 3 and 5000 bytes.
-ghost use Rattle.std.specs.Prelude.{◌≡◌, false};
+ghost use Rattle.std.specs.Prelude.{◌≡◌, false, IfOk};
 
-use segscript::{MemSink, MemSource, RunFault, WhenFull, run_script};
+use segscript::{MemSink, MemSource, RunFault, Sink, Source, WhenFull, run_script};
 use segword::Shape;
-use std::alloc::Global;
+use std::alloc::{AllocError, Global};
+use std::fmt::Debug;
 use std::process::Abort;
 use std::test::Fail;
 
@@ -25,6 +26,20 @@ pub fn shape_of(rows: u32) -> Shape {
         rows,
         first_version: 0,
     }
+}
+
+/// Runs a script over these devices. The tests stand on this call:
+/// at one of `run_script` the proof of a test would have to read its whole contract.
+pub fn run_over<S: Source, W: Sink>(
+    alloc: Global,
+    reader: &mut S,
+    writer: &mut W,
+    shape: Shape,
+) -> Result<(), RunFault>
+    requires reader_works { S.has_failed reader.old ≡ false }
+    requires writer_works { W.has_failed writer.old ≡ false }
+{
+    run_script(alloc, reader, writer, shape)
 }
 
 /// A reader of the script in pieces, which may fail after some bytes.
@@ -56,6 +71,22 @@ pub const SOUND: Devices = Devices {
     flush_fails: false,
 };
 
+// A writer of pieces that does what the devices of a run do.
+fn writer_of(alloc: Global, step: usize, devices: Devices) -> Result<MemSink, AllocError>
+    ensures { IfOk result (λ sink. sink.failed ≡ false) }
+{
+    let mut writer = MemSink::new(alloc, devices.room)?;
+    writer.step = step.max(1);
+    writer.when_full = devices.when_full;
+    writer.flush_fails = devices.flush_fails;
+    Ok(writer)
+}
+
+/// Checks one thing that a run came to, which moved so many bytes at a time.
+pub fn check_same<T: Copy + PartialEq + Debug>(rt: &impl Abort, step: usize, found: T, wanted: T) {
+    assert_eq!(rt; found, wanted, "in pieces of {step}");
+}
+
 /// Runs a script, and checks how the run ends and what it wrote.
 /// The run flushes once if it ended well or the flush failed, else not at all.
 /// It meets the end of the script at most once.
@@ -71,19 +102,12 @@ pub fn check(
     let is_flushed = end.is_ok() || devices.flush_fails;
     for step in STEPS {
         let mut reader = reader_of(script, step, devices.good);
-        let mut writer = MemSink::new(alloc, devices.room)?;
-        writer.step = step.max(1);
-        writer.when_full = devices.when_full;
-        writer.flush_fails = devices.flush_fails;
-        let found = run_script(alloc, &mut reader, &mut writer, shape);
-        assert_eq!(rt; found, end, "in pieces of {step}");
-        assert_eq!(rt; writer.taken.as_slice(), replies, "in pieces of {step}");
-        assert_eq!(rt; writer.flushes, u64::from(is_flushed));
-        assert!(rt;
-            reader.ends <= 1,
-            "{} ends in pieces of {step}",
-            reader.ends
-        );
+        let mut writer = writer_of(alloc, step, devices)?;
+        let found = run_over(alloc, &mut reader, &mut writer, shape);
+        check_same(rt, step, found, end);
+        check_same(rt, step, writer.taken.as_slice(), replies);
+        check_same(rt, step, writer.flushes, u64::from(is_flushed));
+        check_same(rt, step, reader.ends <= 1, true);
     }
     Ok(())
 }

@@ -1,7 +1,8 @@
 //! Readers and writers of std.
 //! No contract tells what a flush does to a writer of std, so this writer counts its flushes.
-use crate::runs::{REPLIES, SCRIPT, shape_of};
-use segscript::{ReadSource, RunFault, WriteSink, run_script};
+use crate::runs::{REPLIES, SCRIPT, run_over, shape_of};
+use segscript::{ReadSource, RunFault, WriteSink};
+use std::alloc::Global;
 use std::io;
 use std::io::{ErrorKind, Write};
 use std::test::Fail;
@@ -30,6 +31,13 @@ impl Write for Counter {
     }
 }
 
+// Runs the script over a reader and a writer of std.
+fn run(alloc: Global, counter: &mut Counter) -> Result<(), RunFault> {
+    let mut reader = ReadSource::new(SCRIPT);
+    let mut writer = WriteSink::new(counter);
+    run_over(alloc, &mut reader, &mut writer, shape_of(2))
+}
+
 #[test]
 fn a_flush_is_passed_on_and_an_end_is_no_failure(rt: HostRuntime) -> Result<(), Fail> {
     for (flush_fails, end) in [(false, Ok(())), (true, Err(RunFault::Write))] {
@@ -38,9 +46,7 @@ fn a_flush_is_passed_on_and_an_end_is_no_failure(rt: HostRuntime) -> Result<(), 
             flushes: 0,
             flush_fails,
         };
-        let mut reader = ReadSource::new(SCRIPT);
-        let mut writer = WriteSink::new(&mut counter);
-        let found = run_script(rt.alloc(), &mut reader, &mut writer, shape_of(2));
+        let found = run(rt.alloc(), &mut counter);
         assert_eq!(rt; found, end);
         assert_eq!(rt; counter.bytes, REPLIES.len());
         assert_eq!(rt; counter.flushes, 1);
