@@ -4,13 +4,13 @@ ghost use Rattle.segindex.specs.Words.{board_of};
 ghost use Rattle.segpass.specs.Words.{IsQuiet};
 
 use crate::digits::{number_of, value_of};
+use crate::tables::answers;
 use crate::work::{Work, four_at_once};
 use segindex::{Index, Pass};
 use segmodel::{EvictAnswer, GetAnswer, GetsAnswer, RefillAnswer, WriteAnswer};
 use segtests_helpers::calls::{evict, get, gets, refill, set};
 use segtests_helpers::holds::{held_value, hold, release};
 use segtests_helpers::passes::{SHAPE, four_passes};
-use segtests_helpers::rows::first_wrong;
 use segword::{Key, Shape, Value};
 use std::test::Fail;
 use std::thread::yield_now;
@@ -163,16 +163,16 @@ fn nothing_is_read_past_its_deadline(rt: HostRuntime) -> Result<(), Fail> {
     assert!(rt; second.is_well);
     assert!(rt; third.is_well);
     // What the last three rounds left: one key in each of the first two, and two in the last.
-    let rows = [
-        ("p0 get c @3991", "VALUE 3992"),
-        ("p1 get c @3992", "MISS"),
-        ("p1 get d @3995", "VALUE 3996"),
-        ("p0 get d @3996", "MISS"),
-        ("p1 get a @3999", "VALUE 4000"),
-        ("p1 get b @3999", "VALUE 4000"),
-        ("p1 get b @4000", "MISS"),
-        ("p0 evict 1", "EVICTED 2"),
-    ];
-    assert_eq!(rt; first_wrong(&index, &mut p0, &mut p1, &rows), None);
+    let script = "
+        p0 get c @3991 -> VALUE 3992
+        p1 get c @3992 -> MISS
+        p1 get d @3995 -> VALUE 3996
+        p0 get d @3996 -> MISS
+        p1 get a @3999 -> VALUE 4000
+        p1 get b @3999 -> VALUE 4000
+        p1 get b @4000 -> MISS
+        p0 evict 1 -> EVICTED 2
+    ";
+    answers(&rt, &index, &mut p0, &mut p1, script);
     Ok(())
 }

@@ -4,12 +4,12 @@ ghost use Rattle.segindex.specs.Words.{board_of};
 ghost use Rattle.segpass.specs.Words.{IsQuiet};
 
 use crate::digits::value_of;
+use crate::tables::answers;
 use crate::work::{Work, four_at_once};
 use segindex::{Index, Pass};
 use segmodel::{EvictAnswer, GetAnswer, GetsAnswer, KeepAnswer, RefillAnswer, WriteAnswer};
 use segtests_helpers::calls::{MOMENT, evict, get, gets, keep, refill, set};
 use segtests_helpers::passes::{SHAPE, four_passes};
-use segtests_helpers::rows::first_wrong;
 use segword::{Key, Shape};
 use std::test::Fail;
 use std::thread::yield_now;
@@ -79,6 +79,11 @@ impl Mover {
             EvictAnswer::NotYours => KEYS,
         };
         self.lost = self.lost.saturating_add(lost);
+    }
+
+    // Whether items were moved, and no key was lost.
+    fn is_well(&self) -> bool {
+        self.moved > 0 && self.lost == 0
     }
 }
 
@@ -151,6 +156,21 @@ impl Reader {
         version: 0,
         is_rising: true,
     };
+
+    // Whether keys were found and none was missed, and the versions rose.
+    fn is_well(&self) -> bool {
+        self.found > 0 && self.missed == 0 && self.is_rising
+    }
+}
+
+// The version of the bucket.
+fn version_of(index: &Index, pass: &mut Pass) -> Option<u32>
+    requires { IsQuiet (board_of index.now) pass.old }
+{
+    match gets(index, pass, &key_of(0)?, 0, MOMENT) {
+        GetsAnswer::Found(_value, version) => Some(version),
+        GetsAnswer::Miss | GetsAnswer::Busy => None,
+    }
 }
 
 #[test]
@@ -162,15 +182,15 @@ fn no_key_is_missed_while_items_move(rt: HostRuntime) -> Result<(), Fail> {
         ..SHAPE
     };
     let (index, mut p0, mut p1, p2, p3) = four_passes(rt.alloc(), shape)?;
-    let rows = [
-        ("p0 refill 0 4294967295", "REFILLED"),
-        ("p1 refill 2 4294967295", "REFILLED"),
-        ("p0 set a 0 @0", "STORED"),
-        ("p0 set b 0 @0", "STORED"),
-        ("p0 set c 0 @0", "STORED"),
-        ("p0 set d 0 @0", "STORED"),
-    ];
-    assert_eq!(rt; first_wrong(&index, &mut p0, &mut p1, &rows), None);
+    let script = "
+        p0 refill 0 4294967295 -> REFILLED
+        p1 refill 2 4294967295 -> REFILLED
+        p0 set a 0 @0 -> STORED
+        p0 set b 0 @0 -> STORED
+        p0 set c 0 @0 -> STORED
+        p0 set d 0 @0 -> STORED
+    ";
+    answers(&rt, &index, &mut p0, &mut p1, script);
     let ((mut p0, first), (_, second), (_, reader), (_, other)) = four_at_once(
         &rt,
         &index,
@@ -179,20 +199,15 @@ fn no_key_is_missed_while_items_move(rt: HostRuntime) -> Result<(), Fail> {
         (p2, Reader::NEW),
         (p3, Reader::NEW),
     );
-    assert_eq!(rt; (reader.missed, other.missed), (0, 0));
-    assert!(rt; reader.found > 0 && other.found > 0);
-    assert!(rt; reader.is_rising && other.is_rising);
-    assert_eq!(rt; (first.lost, second.lost), (0, 0));
-    assert!(rt; first.moved > 0 && second.moved > 0);
+    assert!(rt; reader.is_well());
+    assert!(rt; other.is_well());
+    assert!(rt; first.is_well());
+    assert!(rt; second.is_well());
     // Four sets came before, and each Stored counts once; no move does.
     let version = first
         .stored
         .saturating_add(second.stored)
         .saturating_add(KEYS);
-    let key = key_of(0).ok_or("no key")?;
-    let GetsAnswer::Found(_value, found) = gets(&index, &mut p0, &key, 0, MOMENT) else {
-        return Err("no value".into());
-    };
-    assert_eq!(rt; found, version);
+    assert_eq!(rt; version_of(&index, &mut p0), Some(version));
     Ok(())
 }

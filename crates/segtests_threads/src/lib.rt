@@ -3,8 +3,6 @@
 #![tactic(auto)]
 
 #[cfg(test)]
-mod beside;
-#[cfg(test)]
 mod digits;
 #[cfg(test)]
 mod evicting;
@@ -17,10 +15,10 @@ mod keeping;
 #[cfg(test)]
 mod locking;
 #[cfg(test)]
-mod putting;
-#[cfg(test)]
 mod setting;
 #[cfg(test)]
 mod standing;
+#[cfg(test)]
+mod tables;
 #[cfg(test)]
 mod work;

@@ -1,10 +1,10 @@
 //! Two threads that lock one bucket: both get on, no lock is counted as a write,
 //! and no bit is left.
+use crate::tables::answers;
 use crate::work::{Work, at_once};
 use segindex::{Index, LockAnswer, Pass};
 use segtests_helpers::calls::{lock, unlock};
 use segtests_helpers::passes::{SHAPE, two_that_fill};
-use segtests_helpers::rows::first_wrong;
 use segword::Key;
 use std::test::Fail;
 use std::thread::yield_now;
@@ -34,8 +34,13 @@ impl Work for Locker<'_> {
 fn two_threads_lock_one_bucket(rt: HostRuntime) -> Result<(), Fail> {
     let (index, mut first, mut second) = two_that_fill(rt.alloc(), SHAPE)?;
     let key = Key::new(b"a").expect(&rt, "a key");
-    let rows = [("p0 set a 1 @0", "STORED")];
-    assert_eq!(rt; first_wrong(&index, &mut first, &mut second, &rows), None);
+    answers(
+        &rt,
+        &index,
+        &mut first,
+        &mut second,
+        "p0 set a 1 @0 -> STORED",
+    );
     let ((mut first, locks), (mut second, other_locks)) = at_once(
         &rt,
         &index,
@@ -44,7 +49,10 @@ fn two_threads_lock_one_bucket(rt: HostRuntime) -> Result<(), Fail> {
     );
     assert_eq!(rt; (locks.done, other_locks.done), (LOCKS, LOCKS));
     // The set alone counts as a write, and no lock is left.
-    let rows = [("p0 gets a @0", "VALUE 1 1"), ("p0 lock a", "LOCKED")];
-    assert_eq!(rt; first_wrong(&index, &mut first, &mut second, &rows), None);
+    let script = "
+        p0 gets a @0 -> VALUE 1 1
+        p0 lock a -> LOCKED
+    ";
+    answers(&rt, &index, &mut first, &mut second, script);
     Ok(())
 }

@@ -1,13 +1,18 @@
 //! A bucket that stays locked beside three threads that read and write its key.
 //! Each get finds the key, and each set and each gets is refused.
+ghost use Rattle.segindex.specs.Words.{board_of};
+ghost use Rattle.segpass.specs.Words.{IsQuiet};
+
+use crate::tables::answers;
 use crate::work::{Work, three_at_once};
 use segindex::{Index, Pass};
 use segmodel::{GetAnswer, GetsAnswer, WriteAnswer};
 use segtests_helpers::calls::{MOMENT, get, gets, set};
 use segtests_helpers::passes::{SHAPE, four_passes};
-use segtests_helpers::rows::first_wrong;
 use segword::{Key, Shape, Value};
+use std::process::Abort;
 use std::test::Fail;
+use std::thread::Threads;
 
 // How often each thread makes each call.
 const ROUNDS: u32 = 1_000;
@@ -65,6 +70,35 @@ impl<'a> Caller<'a> {
     }
 }
 
+// Three passes make the calls at the same time, and each call is answered as wanted.
+fn call_at_once<R: Threads + Sync + Abort>(
+    rt: &R,
+    index: &Index,
+    first: Pass,
+    second: Pass,
+    third: Pass,
+) -> (Pass, Pass, Pass)
+    requires { IsQuiet (board_of index.now) first × IsQuiet (board_of index.now) second
+        × IsQuiet (board_of index.now) third }
+    ensures { IsQuiet (board_of index.now) result.0 × IsQuiet (board_of index.now) result.1
+        × IsQuiet (board_of index.now) result.2 }
+{
+    let key = Key::new(b"a").expect(rt, "a key");
+    let stands = Value::new(b"1").expect(rt, "a value");
+    let other = Value::new(b"2").expect(rt, "a value");
+    let ((first, calls), (second, other_calls), (third, third_calls)) = three_at_once(
+        rt,
+        index,
+        (first, Caller::new(&key, &stands, &other)),
+        (second, Caller::new(&key, &stands, &other)),
+        (third, Caller::new(&key, &stands, &other)),
+    );
+    for counts in [calls.counts(), other_calls.counts(), third_calls.counts()] {
+        assert_eq!(rt; counts, [ROUNDS; 3]);
+    }
+    (first, second, third)
+}
+
 #[test]
 fn a_standing_lock_lets_each_get_through_and_no_set_and_no_gets(
     rt: HostRuntime,
@@ -75,44 +109,32 @@ fn a_standing_lock_lets_each_get_through_and_no_set_and_no_gets(
         ..SHAPE
     };
     let (index, mut p0, mut p1, mut p2, mut p3) = four_passes(rt.alloc(), shape)?;
-    let rows = [
-        ("p0 refill 0 4294967295", "REFILLED"),
-        ("p1 refill 1 4294967295", "REFILLED"),
-        ("p0 set a 1 @0", "STORED"),
-    ];
-    assert_eq!(rt; first_wrong(&index, &mut p0, &mut p1, &rows), None);
-    // The table calls them pass 0 and pass 1.
-    let rows = [
-        ("p0 refill 2 4294967295", "REFILLED"),
-        ("p1 refill 3 4294967295", "REFILLED"),
-        ("p1 lock a", "LOCKED"),
-    ];
-    assert_eq!(rt; first_wrong(&index, &mut p2, &mut p3, &rows), None);
-    let key = Key::new(b"a").expect(&rt, "a key");
-    let stands = Value::new(b"1").expect(&rt, "a value");
-    let other = Value::new(b"2").expect(&rt, "a value");
-    let ((mut p0, first), (mut p1, second), (mut p2, third)) = three_at_once(
-        &rt,
-        &index,
-        (p0, Caller::new(&key, &stands, &other)),
-        (p1, Caller::new(&key, &stands, &other)),
-        (p2, Caller::new(&key, &stands, &other)),
-    );
-    for counts in [first.counts(), second.counts(), third.counts()] {
-        assert_eq!(rt; counts, [ROUNDS; 3]);
-    }
+    let script = "
+        p0 refill 0 4294967295 -> REFILLED
+        p1 refill 1 4294967295 -> REFILLED
+        p0 set a 1 @0 -> STORED
+    ";
+    answers(&rt, &index, &mut p0, &mut p1, script);
+    // The script calls them pass 0 and pass 1.
+    let script = "
+        p0 refill 2 4294967295 -> REFILLED
+        p1 refill 3 4294967295 -> REFILLED
+        p1 lock a -> LOCKED
+    ";
+    answers(&rt, &index, &mut p2, &mut p3, script);
+    let (mut p0, mut p1, mut p2) = call_at_once(&rt, &index, p0, p1, p2);
     // Five sets are stored in all.
-    let rows = [
-        ("p1 unlock", "UNLOCKED"),
-        ("p0 set a 4 @0", "STORED"),
-        ("p1 set a 5 @0", "STORED"),
-    ];
-    assert_eq!(rt; first_wrong(&index, &mut p2, &mut p3, &rows), None);
-    let rows = [
-        ("p0 set a 6 @0", "STORED"),
-        ("p1 set a 7 @0", "STORED"),
-        ("p1 gets a @0", "VALUE 7 5"),
-    ];
-    assert_eq!(rt; first_wrong(&index, &mut p0, &mut p1, &rows), None);
+    let script = "
+        p1 unlock -> UNLOCKED
+        p0 set a 4 @0 -> STORED
+        p1 set a 5 @0 -> STORED
+    ";
+    answers(&rt, &index, &mut p2, &mut p3, script);
+    let script = "
+        p0 set a 6 @0 -> STORED
+        p1 set a 7 @0 -> STORED
+        p1 gets a @0 -> VALUE 7 5
+    ";
+    answers(&rt, &index, &mut p0, &mut p1, script);
     Ok(())
 }

@@ -1,4 +1,5 @@
-//! Four uses of the client, as a program would write them. This crate has tests alone.
+//! Four uses of the client, as a program would write them, and tests of what it keeps and reads.
+//! This crate has tests alone.
 #![tactic(auto)]
 
 #[cfg(test)]
@@ -7,5 +8,11 @@ mod cache_server;
 mod closing;
 #[cfg(test)]
 mod counting;
+#[cfg(test)]
+mod keeping;
+#[cfg(test)]
+mod keeping_at_once;
+#[cfg(test)]
+mod reading_at_once;
 #[cfg(test)]
 mod session_store;

@@ -33,22 +33,50 @@ impl<'i> Sessions<'i> {
     }
 
     /// Begins a session of this user, and says whether the session is stored.
-    fn sign_in(&mut self, token: &Key, user: &Value) -> bool {
-        self.client.put(token, user) == PutAnswer::Stored
+    fn sign_in(&mut self, token: &str, user: &str) -> bool {
+        let (Some(token), Some(user)) = (Key::new(token.as_bytes()), Value::new(user.as_bytes()))
+        else {
+            return false;
+        };
+        self.client.put(&token, &user) == PutAnswer::Stored
     }
 
     /// The user of a session, if the session hasn't ended.
-    fn user_of(&mut self, token: &Key) -> Option<Value> {
-        match self.client.get(token) {
+    fn user_of(&mut self, token: &str) -> Option<Value> {
+        match self.client.get(&Key::new(token.as_bytes())?) {
             GetAnswer::Found(user) => Some(user),
             GetAnswer::Miss | GetAnswer::Busy => None,
         }
     }
 
     /// Ends a session.
-    fn sign_out(&mut self, token: &Key) {
-        let _ = self.client.delete(token);
+    fn sign_out(&mut self, token: &str) {
+        if let Some(token) = Key::new(token.as_bytes()) {
+            let _ = self.client.delete(&token);
+        }
     }
+}
+
+// A moment, a token, and whose session it is then. No session is nobody's, "".
+type Row = (u32, &'static str, &'static str);
+
+// Whether the session is this user's.
+fn is_of(sessions: &mut Sessions<'_>, token: &str, name: &str) -> bool {
+    match sessions.user_of(token) {
+        Some(user) => user.as_bytes() == name.as_bytes(),
+        None => name.is_empty(),
+    }
+}
+
+// The moment of the first row that isn't so.
+fn first_wrong(sessions: &mut Sessions<'_>, rows: &[Row]) -> Option<u32> {
+    for (now, token, name) in rows.iter().copied() {
+        sessions.tick(now);
+        if !is_of(sessions, token, name) {
+            return Some(now);
+        }
+    }
+    None
 }
 
 #[test]
@@ -58,32 +86,25 @@ fn a_session_ends_at_its_deadline(rt: HostRuntime) -> Result<(), Fail> {
         return Err(Fail::new("no client"));
     };
     let mut sessions = Sessions::new(client);
-    let first = Key::new(b"token-1").expect(&rt, "a key");
-    let second = Key::new(b"token-2").expect(&rt, "a key");
-    let alice = Value::new(b"alice").expect(&rt, "a value");
-    let bob = Value::new(b"bob").expect(&rt, "a value");
-
-    sessions.tick(1_000);
-    assert!(rt; sessions.sign_in(&first, &alice));
-    assert_eq!(rt; sessions.user_of(&first), Some(alice.clone()?));
-    assert_eq!(rt; sessions.user_of(&second), None);
 
     // One second before the deadline the session stands, and at the deadline it has ended.
-    sessions.tick(2_799);
-    assert_eq!(rt; sessions.user_of(&first), Some(alice.clone()?));
-    sessions.tick(2_800);
-    assert_eq!(rt; sessions.user_of(&first), None);
+    sessions.tick(1_000);
+    assert!(rt; sessions.sign_in("token-1", "alice"));
+    let rows = [
+        (1_000, "token-1", "alice"),
+        (1_000, "token-2", ""),
+        (2_799, "token-1", "alice"),
+        (2_800, "token-1", ""),
+    ];
+    assert_eq!(rt; first_wrong(&mut sessions, &rows), None);
 
     // Who signs in again has the whole time again.
-    assert!(rt; sessions.sign_in(&first, &alice));
-    assert!(rt; sessions.sign_in(&second, &bob));
-    sessions.tick(4_599);
-    assert_eq!(rt; sessions.user_of(&first), Some(alice));
-    assert_eq!(rt; sessions.user_of(&second), Some(bob));
-    sessions.sign_out(&second);
-    assert_eq!(rt; sessions.user_of(&second), None);
-    sessions.tick(4_600);
-    assert_eq!(rt; sessions.user_of(&first), None);
+    assert!(rt; sessions.sign_in("token-1", "alice") && sessions.sign_in("token-2", "bob"));
+    let rows = [(4_599, "token-1", "alice"), (4_599, "token-2", "bob")];
+    assert_eq!(rt; first_wrong(&mut sessions, &rows), None);
+    sessions.sign_out("token-2");
+    let rows = [(4_599, "token-2", ""), (4_600, "token-1", "")];
+    assert_eq!(rt; first_wrong(&mut sessions, &rows), None);
 
     let stats = sessions.client.stats();
     assert_eq!(rt; (stats.stored, stats.hits, stats.misses), (3, 4, 4));

@@ -23,11 +23,9 @@ const READS: u32 = 1_000_000_000;
 
 // The value of a number: its four bytes, eight times, so that each word of the row has them.
 fn value_of(number: u32) -> Option<Value> {
-    let mut bytes = [0u8; 32];
-    for (place, byte) in bytes.iter_mut().enumerate() {
-        *byte = number.to_le_bytes()[place % 4];
-    }
-    Value::new(&bytes)
+    let [a, b, c, d] = number.to_le_bytes();
+    let word = [a, b, c, d, a, b, c, d];
+    Value::new([word; 4].as_flattened())
 }
 
 // The number of a value that is one.

@@ -2,7 +2,7 @@
 //! no key is missed unless a put evicted one.
 use segclient::{Client, GetAnswer, GetsAnswer, Index, Key, PutAnswer, Shape, Value, clients};
 use std::test::Fail;
-use std::thread::{join, yield_now};
+use std::thread::{Threads, join, yield_now};
 
 // The keys a and c stand in one bucket, and b and d in the other.
 // So the two clients that put are never at work in the same bucket.
@@ -75,45 +75,54 @@ fn read_all(client: &mut Client<'_>, kept: &[u8], changed: &[u8]) -> (u32, bool)
     (missed, is_rising)
 }
 
+// A client that puts and one that reads, with two keys of one bucket.
+#[derive(Drop)]
+struct Pair<'i> {
+    writer: Client<'i>,
+    reader: Client<'i>,
+    kept: &'static [u8],
+    changed: &'static [u8],
+}
+
+impl<'i> Pair<'i> {
+    // Takes two clients, the first of which keeps what stands, and puts both keys once.
+    fn new(all: &mut Vec<Client<'i>>, bucket: usize) -> Option<Pair<'i>> {
+        let (kept, changed) = (*KEPT.get(bucket)?, *CHANGED.get(bucket)?);
+        let mut writer = all.pop()?;
+        let reader = all.pop()?;
+        writer.keep_from(Some(1));
+        let is_stored = is_put(&mut writer, kept, 0) && is_put(&mut writer, changed, 0);
+        is_stored.then_some(Pair {
+            writer,
+            reader,
+            kept,
+            changed,
+        })
+    }
+
+    // Puts and reads at the same time.
+    // Returns whether each put is stored, the versions rose, items were kept,
+    // and no key was missed unless a put evicted one.
+    fn is_well<R: Threads + Sync>(&mut self, rt: &R) -> bool {
+        let (writer, reader) = (&mut self.writer, &mut self.reader);
+        let (kept, changed) = (self.kept, self.changed);
+        let (stored, (missed, is_rising)) = join(
+            rt,
+            || put_all(writer, changed),
+            || read_all(reader, kept, changed),
+        );
+        let puts = self.writer.stats();
+        stored == PUTS && is_rising && puts.items_kept > 0 && (missed == 0 || puts.keys_evicted > 0)
+    }
+}
+
 #[test]
 fn no_key_is_missed_while_puts_keep(rt: HostRuntime) -> Result<(), Fail> {
     let (index, passes) = Index::new(rt.alloc(), SHAPE)?;
     let mut all = clients(rt.alloc(), &index, passes)?;
-    let (Some(mut other_reader), Some(mut reader), Some(mut other_writer), Some(mut writer)) = (
-        all.pop(),
-        all.pop(),
-        all.pop(),
-        all.pop(),
-    ) else {
-        return Err(Fail::new("no four clients"));
-    };
-    writer.keep_from(Some(1));
-    other_writer.keep_from(Some(1));
-    assert!(rt; is_put(&mut writer, KEPT[0], 0) && is_put(&mut writer, CHANGED[0], 0));
-    assert!(rt; is_put(&mut other_writer, KEPT[1], 0) && is_put(&mut other_writer, CHANGED[1], 0));
-    let (stored, came) = join(
-        &rt,
-        || {
-            join(
-                &rt,
-                || put_all(&mut writer, CHANGED[0]),
-                || put_all(&mut other_writer, CHANGED[1]),
-            )
-        },
-        || {
-            join(
-                &rt,
-                || read_all(&mut reader, KEPT[0], CHANGED[0]),
-                || read_all(&mut other_reader, KEPT[1], CHANGED[1]),
-            )
-        },
-    );
-    assert_eq!(rt; stored, (PUTS, PUTS));
-    let ((missed, is_rising), (other_missed, is_also_rising)) = came;
-    assert!(rt; is_rising && is_also_rising);
-    let (puts, other_puts) = (writer.stats(), other_writer.stats());
-    assert!(rt; missed == 0 || puts.keys_evicted > 0);
-    assert!(rt; other_missed == 0 || other_puts.keys_evicted > 0);
-    assert!(rt; puts.items_kept > 0 && other_puts.items_kept > 0);
+    let mut first = Pair::new(&mut all, 0).ok_or("no first pair")?;
+    let mut second = Pair::new(&mut all, 1).ok_or("no second pair")?;
+    let are_well = join(&rt, || first.is_well(&rt), || second.is_well(&rt));
+    assert_eq!(rt; are_well, (true, true));
     Ok(())
 }

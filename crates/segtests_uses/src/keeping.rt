@@ -1,0 +1,88 @@
+//! Puts of a client that keeps what was read often, and of one that doesn't.
+use segclient::{Client, GetAnswer, Index, Key, PutAnswer, Shape, Stats, Value, keep_back};
+use std::alloc::Global;
+use std::test::Fail;
+
+// One pass with three segments of four rows.
+const THREE_SEGMENTS: Shape = Shape {
+    buckets: 8,
+    overflow: 0,
+    passes: 1,
+    segments_each: 3,
+    rows: 4,
+    first_version: 0,
+};
+
+// One pass with two segments of two rows.
+const TWO_SEGMENTS: Shape = Shape {
+    segments_each: 2,
+    rows: 2,
+    ..THREE_SEGMENTS
+};
+
+// Puts so many keys, and tells whether each was stored.
+fn put_numbers(client: &mut Client<'_>, value: &Value, count: u32) -> Option<bool> {
+    for number in 0..count {
+        let key = Key::new(&number.to_le_bytes())?;
+        if client.put(&key, value) != PutAnswer::Stored {
+            return Some(false);
+        }
+    }
+    Some(true)
+}
+
+// What a key that was read once reads after 30 other puts, and what the client counted.
+fn read_after_puts(alloc: Global, cutoff: Option<u8>) -> Result<(GetAnswer, Stats), Fail> {
+    let (index, mut passes) = Index::new(alloc, THREE_SEGMENTS)?;
+    let pass = keep_back(&index, &mut passes).ok_or("no pass")?;
+    let mut client = Client::new(&index, pass);
+    client.keep_from(cutoff);
+    let key = Key::new(b"often").ok_or("no key")?;
+    let value = Value::new(b"1").ok_or("no value")?;
+    let _stored: PutAnswer = client.put(&key, &value);
+    let _found: GetAnswer = client.get(&key);
+    let is_stored = put_numbers(&mut client, &value, 30).ok_or("no key")?;
+    is_stored.then_some(()).ok_or("a put isn't stored")?;
+    Ok((client.get(&key), client.stats()))
+}
+
+#[test]
+fn what_was_read_often_is_kept(rt: HostRuntime) -> Result<(), Fail> {
+    let (told, stats) = read_after_puts(rt.alloc(), Some(2))?;
+    assert!(rt; matches!(told, GetAnswer::Found(_)));
+    assert_eq!(rt; (stats.stored, stats.segments_refilled), (31, 9));
+    assert_eq!(rt; (stats.items_kept, stats.keys_evicted), (4, 24));
+    Ok(())
+}
+
+#[test]
+fn nothing_is_kept_unasked(rt: HostRuntime) -> Result<(), Fail> {
+    let (told, stats) = read_after_puts(rt.alloc(), None)?;
+    assert!(rt; matches!(told, GetAnswer::Miss));
+    assert_eq!(rt; stats.items_kept, 0);
+    let (too_seldom, stats) = read_after_puts(rt.alloc(), Some(3))?;
+    assert!(rt; matches!(too_seldom, GetAnswer::Miss));
+    assert_eq!(rt; stats.items_kept, 0);
+    Ok(())
+}
+
+// What a client that keeps every item counted at five puts, if each was stored.
+fn stats_after_puts(alloc: Global) -> Result<Stats, Fail> {
+    let (index, mut passes) = Index::new(alloc, TWO_SEGMENTS)?;
+    let pass = keep_back(&index, &mut passes).ok_or("no pass")?;
+    let mut client = Client::new(&index, pass);
+    client.keep_from(Some(1));
+    let value = Value::new(b"1").ok_or("no value")?;
+    let is_stored = put_numbers(&mut client, &value, 5).ok_or("no key")?;
+    is_stored.then_some(()).ok_or("a put isn't stored")?;
+    Ok(client.stats())
+}
+
+// Two items that are kept leave no row of the segment that was refilled for the third.
+#[test]
+fn a_put_that_keeps_a_whole_segment_is_stored(rt: HostRuntime) -> Result<(), Fail> {
+    let stats = stats_after_puts(rt.alloc())?;
+    assert_eq!(rt; stats.segments_refilled, 5);
+    assert_eq!(rt; (stats.items_kept, stats.keys_evicted), (4, 2));
+    Ok(())
+}
