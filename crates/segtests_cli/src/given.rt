@@ -1,8 +1,8 @@
 //! The program over its words as std gives them.
-use crate::runs::{Nobody, REPLIES, SCRIPT, words_of};
+use crate::runs::{Nobody, REPLIES, SCRIPT, check_same, words_of};
 use segcli::run_given;
 use segscript::{MemSink, MemSource};
-use std::alloc::AllocGlobal;
+use std::alloc::{AllocError, AllocGlobal};
 use std::env::Args;
 use std::io;
 use std::io::ErrorKind;
@@ -11,18 +11,15 @@ use std::sync::Wait;
 use std::test::Fail;
 use std::thread::Threads;
 
-// Runs the program over what std gives, and checks what it returns, writes and prints.
-fn check_given<R: Threads + Wait + AllocGlobal + Abort + Sync>(
+// Runs the program over what std gives: its status, and what it writes and prints.
+fn run<R: Threads + Wait + AllocGlobal + Sync>(
     rt: &R,
     given: io::Result<Args>,
-    status: u8,
-    written: &[u8],
-    printed: &[u8],
-) -> Result<(), Fail> {
+) -> Result<(u8, Vec<u8>, Vec<u8>), AllocError> {
     let mut source = MemSource::new(SCRIPT);
     let mut writer = MemSink::new(rt.alloc(), 1_000)?;
     let mut errors = MemSink::new(rt.alloc(), 1_000)?;
-    let found = run_given(
+    let status = run_given(
         rt,
         rt.alloc(),
         given,
@@ -31,22 +28,45 @@ fn check_given<R: Threads + Wait + AllocGlobal + Abort + Sync>(
         &mut errors,
         &Nobody,
     );
-    assert_eq!(rt; writer.taken.as_slice(), written);
-    assert_eq!(rt; errors.taken.as_slice(), printed);
-    assert_eq!(rt; found, status);
+    Ok((status, writer.taken, errors.taken))
+}
+
+fn check_given<R: Threads + Wait + AllocGlobal + Abort + Sync>(
+    rt: &R,
+    given: io::Result<Args>,
+    status: u8,
+    written: &[u8],
+    printed: &[u8],
+) -> Result<(), Fail> {
+    let (found, taken, told) = run(rt, given)?;
+    check_same(rt, &[], taken.as_slice(), written);
+    check_same(rt, &[], told.as_slice(), printed);
+    check_same(rt, &[], found, status);
     Ok(())
 }
 
 #[test]
 fn the_first_word_is_the_name(rt: HostRuntime) -> Result<(), Fail> {
-    let none = words_of(rt.alloc(), &[])?.into_iter();
-    check_given(&rt, Ok(none), 0, REPLIES, b"")?;
-    let name = words_of(rt.alloc(), &["segrun"])?.into_iter();
-    check_given(&rt, Ok(name), 0, REPLIES, b"")?;
-    let word = words_of(rt.alloc(), &["segrun", "word", "0000000000000000"])?.into_iter();
-    check_given(&rt, Ok(word), 0, b"empty\n", b"")?;
-    let bad = words_of(rt.alloc(), &["word", "word", "0"])?.into_iter();
-    check_given(&rt, Ok(bad), 2, b"", b"bad word\n")
+    for (words, status, written, printed) in [
+        ([].as_slice(), 0, REPLIES, b"".as_slice()),
+        (["segrun"].as_slice(), 0, REPLIES, b"".as_slice()),
+        (
+            ["segrun", "word", "0000000000000000"].as_slice(),
+            0,
+            b"empty\n".as_slice(),
+            b"".as_slice(),
+        ),
+        (
+            ["word", "word", "0"].as_slice(),
+            2,
+            b"".as_slice(),
+            b"bad word\n".as_slice(),
+        ),
+    ] {
+        let given = words_of(rt.alloc(), words)?.into_iter();
+        check_given(&rt, Ok(given), status, written, printed)?;
+    }
+    Ok(())
 }
 
 #[test]

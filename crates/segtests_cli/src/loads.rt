@@ -1,6 +1,10 @@
 //! Loads over the program: the text of their totals.
-use crate::runs::{NO_TOTALS, SCRIPT, check_program, run};
+use crate::runs::{NO_TOTALS, SCRIPT, check_program, check_same, run};
+use std::alloc::AllocGlobal;
+use std::process::Abort;
+use std::sync::Wait;
 use std::test::Fail;
+use std::thread::Threads;
 
 // The numbers of a line's tallies, added up: each stands behind a `=`,
 // and the tallies behind the commands.
@@ -13,23 +17,43 @@ fn sum_of_tallies(line: &str) -> Option<u64> {
     Some(sum)
 }
 
+// Checks the sum of the tallies of a line.
+fn check_tallies(rt: &impl Abort, line: &str, commands: u64) {
+    assert_eq!(rt; sum_of_tallies(line), Some(commands), "{line}");
+}
+
 #[test]
 fn a_load_without_commands_counts_nothing(rt: HostRuntime) -> Result<(), Fail> {
     let words = ["load", "--commands", "0"];
     check_program(&rt, &words, SCRIPT, 0, NO_TOTALS, b"")
 }
 
+// Checks the totals of a load of one pass, twice, and that its tallies add up.
+fn check_load<R: Threads + Wait + AllocGlobal + Abort + Sync>(
+    rt: &R,
+    words: &[&str],
+    commands: u64,
+    totals: &str,
+) -> Result<(), Fail> {
+    check_program(rt, words, b"x\n", 0, totals.as_bytes(), b"")?;
+    check_program(rt, words, b"x\n", 0, totals.as_bytes(), b"")?;
+    check_tallies(rt, totals.lines().next().ok_or("a line")?, commands);
+    Ok(())
+}
+
 // The totals are those of another program,
 // which draws the same commands and serves them by a plain map.
 #[test]
 fn one_pass_counts_as_a_plain_map(rt: HostRuntime) -> Result<(), Fail> {
-    for (words, totals) in [
+    for (words, commands, totals) in [
         (
             ["load", "--commands", "500", "--seed", "7"].as_slice(),
+            500,
             "p0 commands=500 hit=113 miss=204 stored=85 not_stored=25 exists=6 not_found=45 deleted=22 noroom=0 bucketfull=0 busy=0\ntotal commands=500 keys=36\n",
         ),
         (
             ["load"].as_slice(),
+            1000,
             "p0 commands=1000 hit=303 miss=311 stored=165 not_stored=53 exists=18 not_found=95 deleted=55 noroom=0 bucketfull=0 busy=0\ntotal commands=1000 keys=37\n",
         ),
         (
@@ -42,6 +66,7 @@ fn one_pass_counts_as_a_plain_map(rt: HostRuntime) -> Result<(), Fail> {
                 "--commands=500",
             ]
             .as_slice(),
+            500,
             "p0 commands=500 hit=24 miss=293 stored=63 not_stored=24 exists=0 not_found=72 deleted=3 noroom=0 bucketfull=21 busy=0\ntotal commands=500 keys=6\n",
         ),
         (
@@ -54,6 +79,7 @@ fn one_pass_counts_as_a_plain_map(rt: HostRuntime) -> Result<(), Fail> {
                 "--commands=500",
             ]
             .as_slice(),
+            500,
             "p0 commands=500 hit=101 miss=216 stored=84 not_stored=26 exists=6 not_found=47 deleted=20 noroom=0 bucketfull=0 busy=0\ntotal commands=500 keys=25\n",
         ),
         (
@@ -67,17 +93,39 @@ fn one_pass_counts_as_a_plain_map(rt: HostRuntime) -> Result<(), Fail> {
                 "--commands=500",
             ]
             .as_slice(),
+            500,
             "p0 commands=500 hit=81 miss=236 stored=56 not_stored=25 exists=3 not_found=53 deleted=17 noroom=0 bucketfull=29 busy=0\ntotal commands=500 keys=17\n",
         ),
     ] {
-        for _ in 0..2 {
-            check_program(&rt, words, b"x\n", 0, totals.as_bytes(), b"")?;
-        }
-        let first = totals.lines().next().ok_or("a line")?;
-        let commands = if words.len() == 1 { 1000 } else { 500 };
-        assert_eq!(rt; sum_of_tallies(first), Some(commands), "{words:?}");
+        check_load(&rt, words, commands, totals)?;
     }
     Ok(())
+}
+
+// Checks that the lines begin so.
+fn check_starts(rt: &impl Abort, text: &str, starts: &[&str]) {
+    let mut lines = text.lines();
+    for start in starts {
+        let line = lines.next().unwrap_or("");
+        assert!(rt; line.starts_with(*start), "{line}");
+    }
+    assert!(rt; lines.next().is_none(), "{text}");
+}
+
+// Checks the lines of a load of four passes with 200 commands each.
+fn check_lines(rt: &impl Abort, text: &str) {
+    assert!(rt; text.ends_with('\n'), "{text}");
+    let starts = [
+        "p0 commands=200 hit=",
+        "p1 commands=200 hit=",
+        "p2 commands=200 hit=",
+        "p3 commands=200 hit=",
+        "total commands=800 keys=",
+    ];
+    check_starts(rt, text, &starts);
+    for line in text.lines().take(4) {
+        check_tallies(rt, line, 200);
+    }
 }
 
 #[test]
@@ -91,24 +139,9 @@ fn each_pass_has_a_line(rt: HostRuntime) -> Result<(), Fail> {
         "--commands=200",
     ];
     let ended = run(&rt, &words, b"")?;
-    assert_eq!(rt; ended.status, 0);
-    assert_eq!(rt; ended.printed.as_slice(), b"".as_slice());
-    let text = str::from_utf8(ended.written.as_slice())?;
-    assert!(rt; text.ends_with('\n'), "{text}");
-    let mut lines = text.lines();
-    for start in [
-        "p0 commands=200 hit=",
-        "p1 commands=200 hit=",
-        "p2 commands=200 hit=",
-        "p3 commands=200 hit=",
-    ] {
-        let line = lines.next().ok_or("a line")?;
-        assert!(rt; line.starts_with(start), "{line}");
-        assert_eq!(rt; sum_of_tallies(line), Some(200), "{line}");
-    }
-    let line = lines.next().ok_or("a line")?;
-    assert!(rt; line.starts_with("total commands=800 keys="), "{line}");
-    assert!(rt; lines.next().is_none(), "{text}");
+    check_same(&rt, &words, ended.status, 0);
+    check_same(&rt, &words, ended.printed.as_slice(), b"");
+    check_lines(&rt, str::from_utf8(ended.written.as_slice())?);
     Ok(())
 }
 

@@ -1,5 +1,5 @@
 //! The options of a shape, at the ends of what they take.
-use crate::runs::{NO_TOTALS, REPLIES, SCRIPT, check_program, has, run};
+use crate::runs::{NO_TOTALS, REPLIES, SCRIPT, check_part, check_program, check_same, run};
 use std::alloc::AllocGlobal;
 use std::process::Abort;
 use std::sync::Wait;
@@ -13,67 +13,73 @@ fn check_refused<R: Threads + Wait + AllocGlobal + Abort + Sync>(
     part: &str,
 ) -> Result<(), Fail> {
     let ended = run(rt, words, SCRIPT)?;
-    assert_eq!(rt; ended.status, 2, "{words:?}");
-    assert_eq!(rt; ended.written.as_slice(), b"".as_slice(), "{words:?}");
-    assert!(rt;
+    check_same(rt, words, ended.status, 2);
+    check_same(rt, words, ended.written.as_slice(), b"");
+    check_same(
+        rt,
+        words,
         ended.printed.as_slice().starts_with(b"error: "),
-        "{words:?}"
+        true,
     );
-    assert!(rt; has(ended.printed.as_slice(), part), "{words:?}");
-    assert_eq!(rt; ended.flushes, (1, 1), "{words:?}");
+    check_part(rt, words, ended.printed.as_slice(), part);
+    check_same(rt, words, ended.flushes, (1, 1));
     Ok(())
+}
+
+/// Checks that the option stands once, and has a number that is under this one.
+fn check_numbers<R: Threads + Wait + AllocGlobal + Abort + Sync>(
+    rt: &R,
+    command: &str,
+    option: &str,
+    above: &str,
+) -> Result<(), Fail> {
+    for number in [above, "-1", "x", "", "1.5"] {
+        check_refused(rt, &[command, option, number], "error: ")?;
+    }
+    check_refused(rt, &[command, option, above], option)?;
+    check_refused(rt, &[command, option], option)?;
+    check_refused(rt, &[command, option, "1", option, "1"], option)
 }
 
 #[test]
 fn an_option_takes_32_bits(rt: HostRuntime) -> Result<(), Fail> {
-    for (option, at_zero, at_largest) in [
-        (
-            "--buckets",
-            b"bad shape 1\n".as_slice(),
-            b"bad shape 1\n".as_slice(),
-        ),
-        (
-            "--passes",
-            b"bad shape 3\n".as_slice(),
-            b"bad shape 3\n".as_slice(),
-        ),
-        (
-            "--segments",
-            b"bad shape 4\n".as_slice(),
-            b"bad shape 4\n".as_slice(),
-        ),
-        (
-            "--rows",
-            b"bad shape 5\n".as_slice(),
-            b"bad shape 5\n".as_slice(),
-        ),
+    for (option, fault) in [
+        ("--buckets", b"bad shape 1\n".as_slice()),
+        ("--passes", b"bad shape 3\n".as_slice()),
+        ("--segments", b"bad shape 4\n".as_slice()),
+        ("--rows", b"bad shape 5\n".as_slice()),
     ] {
-        let words = ["script", option, "0"];
-        check_program(&rt, &words, SCRIPT, 3, b"", at_zero)?;
-        let words = ["script", option, "1"];
-        check_program(&rt, &words, SCRIPT, 0, REPLIES, b"")?;
+        check_program(&rt, &["script", option, "0"], SCRIPT, 3, b"", fault)?;
+        check_program(&rt, &["script", option, "1"], SCRIPT, 0, REPLIES, b"")?;
         let words = ["script", option, "4294967295"];
-        check_program(&rt, &words, SCRIPT, 3, b"", at_largest)?;
+        check_program(&rt, &words, SCRIPT, 3, b"", fault)?;
     }
+    Ok(())
+}
+
+#[test]
+fn a_first_version_is_any_number_of_32_bits(rt: HostRuntime) -> Result<(), Fail> {
     for version in ["0", "1", "4294967295"] {
         let words = ["script", "--first-version", version];
         check_program(&rt, &words, SCRIPT, 0, REPLIES, b"")?;
     }
-    for option in [
-        "--buckets",
-        "--overflow",
-        "--passes",
-        "--segments",
-        "--rows",
-        "--first-version",
+    Ok(())
+}
+
+#[test]
+fn an_option_stands_once_and_has_a_number(rt: HostRuntime) -> Result<(), Fail> {
+    for (command, option, above) in [
+        ("script", "--buckets", "4294967296"),
+        ("script", "--overflow", "4294967296"),
+        ("script", "--passes", "4294967296"),
+        ("script", "--segments", "4294967296"),
+        ("script", "--rows", "4294967296"),
+        ("script", "--first-version", "4294967296"),
+        ("load", "--seed", "18446744073709551616"),
+        ("load", "--commands", "4294967296"),
+        ("load", "--keys", "1000001"),
     ] {
-        for number in ["4294967296", "-1", "x", "", "1.5"] {
-            let ended = run(&rt, &["script", option, number], SCRIPT)?;
-            assert_eq!(rt; ended.status, 2, "{option} {number}");
-        }
-        check_refused(&rt, &["script", option, "4294967296"], option)?;
-        check_refused(&rt, &["script", option], option)?;
-        check_refused(&rt, &["script", option, "1", option, "1"], option)?;
+        check_numbers(&rt, command, option, above)?;
     }
     Ok(())
 }
@@ -84,25 +90,22 @@ fn a_load_takes_a_seed_and_a_number_of_commands(rt: HostRuntime) -> Result<(), F
         let words = ["load", "--commands", "0", "--seed", seed];
         check_program(&rt, &words, b"", 0, NO_TOTALS, b"")?;
     }
-    let one = run(&rt, &["load", "--commands", "1"], b"")?;
-    assert_eq!(rt; one.status, 0);
-    assert!(rt; has(one.written.as_slice(), "\ntotal commands=1 keys="));
     // Without rows the most commands there are take no time.
     let words = ["load", "--commands", "4294967295", "--rows", "0"];
-    check_program(&rt, &words, b"", 3, b"", b"bad shape 5\n")?;
-    for (option, above) in [
-        ("--seed", "18446744073709551616"),
-        ("--commands", "4294967296"),
-    ] {
-        for number in [above, "-1", "x", "", "1.5"] {
-            let ended = run(&rt, &["load", option, number], b"")?;
-            assert_eq!(rt; ended.status, 2, "{option} {number}");
-        }
-        check_refused(&rt, &["load", option, above], option)?;
-        check_refused(&rt, &["load", option], option)?;
-        check_refused(&rt, &["load", option, "1", option, "1"], option)?;
-        check_refused(&rt, &["script", option, "1"], option)?;
-    }
+    check_program(&rt, &words, b"", 3, b"", b"bad shape 5\n")
+}
+
+#[test]
+fn a_load_makes_one_command(rt: HostRuntime) -> Result<(), Fail> {
+    let words = ["load", "--commands", "1"];
+    let ended = run(&rt, &words, b"")?;
+    check_same(&rt, &words, ended.status, 0);
+    check_part(
+        &rt,
+        &words,
+        ended.written.as_slice(),
+        "\ntotal commands=1 keys=",
+    );
     Ok(())
 }
 
@@ -112,19 +115,34 @@ fn a_load_takes_1_to_1000000_keys(rt: HostRuntime) -> Result<(), Fail> {
         let words = ["load", "--commands", "0", "--keys", keys];
         check_program(&rt, &words, b"", 0, NO_TOTALS, b"")?;
     }
-    for keys in ["0", "1000001", "4294967296", "-1", "x", "", "1.5"] {
-        let ended = run(&rt, &["load", "--keys", keys], b"")?;
-        assert_eq!(rt; ended.status, 2, "{keys}");
-    }
-    for words in [
-        ["load", "--keys", "0"].as_slice(),
-        ["load", "--keys", "1000001"].as_slice(),
-        ["load", "--keys", "x"].as_slice(),
-        ["load", "--keys", "1", "--keys", "1"].as_slice(),
-        ["load", "--keys"].as_slice(),
-        ["script", "--keys", "1"].as_slice(),
+    Ok(())
+}
+
+#[test]
+fn a_bad_option_of_a_load_is_refused(rt: HostRuntime) -> Result<(), Fail> {
+    for (words, part) in [
+        (["load", "--keys", "0"].as_slice(), "--keys"),
+        (["load", "--keys", "x"].as_slice(), "--keys"),
+        (["load", "--keys", "4294967296"].as_slice(), "error: "),
+        (["script", "--keys", "1"].as_slice(), "--keys"),
+        (["script", "--seed", "1"].as_slice(), "--seed"),
+        (["script", "--commands", "1"].as_slice(), "--commands"),
+        (
+            ["load", "--progress", "--progress"].as_slice(),
+            "--progress",
+        ),
+        (["load", "--progress=1"].as_slice(), "--progress"),
+        (["load", "--progress=true"].as_slice(), "--progress"),
+        (["script", "--progress"].as_slice(), "--progress"),
+        (
+            ["word", "0000000000000000", "--progress"].as_slice(),
+            "--progress",
+        ),
+        (["--progress"].as_slice(), "--progress"),
+        // The option takes no value, so the number is a word too many.
+        (["load", "--progress", "1"].as_slice(), "'1'"),
     ] {
-        check_refused(&rt, words, "--keys")?;
+        check_refused(&rt, words, part)?;
     }
     Ok(())
 }
@@ -137,18 +155,7 @@ fn a_load_may_tell_its_progress(rt: HostRuntime) -> Result<(), Fail> {
     ] {
         check_program(&rt, words, b"", 0, NO_TOTALS, b"")?;
     }
-    for words in [
-        ["load", "--progress", "--progress"].as_slice(),
-        ["load", "--progress=1"].as_slice(),
-        ["load", "--progress=true"].as_slice(),
-        ["script", "--progress"].as_slice(),
-        ["word", "0000000000000000", "--progress"].as_slice(),
-        ["--progress"].as_slice(),
-    ] {
-        check_refused(&rt, words, "--progress")?;
-    }
-    // The option takes no value, so the number is a word too many.
-    check_refused(&rt, &["load", "--progress", "1"], "'1'")
+    Ok(())
 }
 
 #[test]
@@ -194,16 +201,23 @@ fn each_option_changes_its_own_part(rt: HostRuntime) -> Result<(), Fail> {
 fn a_full_bucket_takes_an_overflow_bucket(rt: HostRuntime) -> Result<(), Fail> {
     let script =
         b"p0 refill 0 4294967295\np0 set a 1 @0\np0 set b 1 @0\np0 set c 1 @0\np0 set d 1 @0\np0 set e 1 @0\np0 set f 1 @0\np0 set g 1 @0\np0 set h 1 @0\np0 get h @0\n";
-    let words = ["script", "--overflow", "0", "--rows", "8"];
     let full =
         b"REFILLED\nSTORED\nSTORED\nSTORED\nSTORED\nSTORED\nSTORED\nSTORED\nBUCKETFULL\nMISS\n";
-    check_program(&rt, &words, script, 0, full, b"")?;
-    for overflow in ["1", "65536"] {
+    let grown =
+        b"REFILLED\nSTORED\nSTORED\nSTORED\nSTORED\nSTORED\nSTORED\nSTORED\nSTORED\nVALUE 1\n";
+    for (overflow, replies) in [
+        ("0", full.as_slice()),
+        ("1", grown.as_slice()),
+        ("65536", grown.as_slice()),
+    ] {
         let words = ["script", "--overflow", overflow, "--rows", "8"];
-        let grown =
-            b"REFILLED\nSTORED\nSTORED\nSTORED\nSTORED\nSTORED\nSTORED\nSTORED\nSTORED\nVALUE 1\n";
-        check_program(&rt, &words, script, 0, grown, b"")?;
+        check_program(&rt, &words, script, 0, replies, b"")?;
     }
+    Ok(())
+}
+
+#[test]
+fn more_than_65536_overflow_buckets_are_refused(rt: HostRuntime) -> Result<(), Fail> {
     for overflow in ["65537", "4294967295"] {
         let words = ["script", "--overflow", overflow];
         check_program(&rt, &words, SCRIPT, 3, b"", b"bad shape 2\n")?;

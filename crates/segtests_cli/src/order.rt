@@ -1,10 +1,10 @@
 //! What comes first if a command ends with a fault: both writers look at one clock.
-ghost use Rattle.std.specs.Prelude.{◌≡◌, ◌++◌};
+ghost use Rattle.std.specs.Prelude.{◌≡◌, ◌++◌, false, IfOk};
 ghost use Rattle.segscript.specs.Words.{takes_more, takes_none};
 
-use crate::runs::{Nobody, words_of};
-use segcli::run_program;
+use crate::runs::{Nobody, run_over};
 use segscript::{Failed, MemSink, MemSource, Sink};
+use std::alloc::{AllocError, Global};
 use std::cell::Cell;
 use std::test::Fail;
 
@@ -51,6 +51,18 @@ impl Sink for TimedSink<'_> {
     ghost takes_more = { λ s t u a b. takes_more s.inner.taken.items t.inner.taken.items u.inner.taken.items a b };
 }
 
+// A writer over memory that has not been called yet.
+fn timed(alloc: Global, clock: &Cell<u32>) -> Result<TimedSink<'_>, AllocError>
+    ensures { IfOk result (λ sink. sink.inner.failed ≡ false) }
+{
+    Ok(TimedSink {
+        inner: MemSink::new(alloc, 1_000)?,
+        clock,
+        flushed_at: 0,
+        written_at: 0,
+    })
+}
+
 #[test]
 fn the_writer_is_flushed_before_a_fault_is_printed(rt: HostRuntime) -> Result<(), Fail> {
     for words in [
@@ -59,30 +71,11 @@ fn the_writer_is_flushed_before_a_fault_is_printed(rt: HostRuntime) -> Result<()
         ["word", "0"].as_slice(),
         ["scrpt"].as_slice(),
     ] {
-        let list = words_of(rt.alloc(), words)?;
         let clock = Cell::new(0);
         let mut source = MemSource::new(b"p0 refill 0 4294967295\nx\n");
-        let mut writer = TimedSink {
-            inner: MemSink::new(rt.alloc(), 1_000)?,
-            clock: &clock,
-            flushed_at: 0,
-            written_at: 0,
-        };
-        let mut errors = TimedSink {
-            inner: MemSink::new(rt.alloc(), 1_000)?,
-            clock: &clock,
-            flushed_at: 0,
-            written_at: 0,
-        };
-        let status = run_program(
-            &rt,
-            rt.alloc(),
-            list.as_slice(),
-            &mut source,
-            &mut writer,
-            &mut errors,
-            &Nobody,
-        );
+        let mut writer = timed(rt.alloc(), &clock)?;
+        let mut errors = timed(rt.alloc(), &clock)?;
+        let status = run_over(&rt, words, &mut source, &mut writer, &mut errors, &Nobody)?;
         assert!(rt; status != 0, "{words:?}");
         assert!(rt;
             0 < writer.flushed_at && writer.flushed_at < errors.written_at,

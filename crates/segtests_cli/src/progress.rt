@@ -1,7 +1,7 @@
 //! What a watch sees of a load, and the line that tells it.
-use crate::runs::run_watched;
+use crate::runs::{Ended, SOUND, check_ended, check_same, run_watched};
 use segcli::{Watch, progress_line};
-use std::alloc::AllocGlobal;
+use std::alloc::{AllocError, AllocGlobal, Global};
 use std::process::Abort;
 use std::sync::Wait;
 use std::sync::atomic::AtomicU64;
@@ -68,6 +68,29 @@ impl Watch for Seen {
     }
 }
 
+/// Runs a load while the watch looks on, with devices that don't fail.
+fn run_seen<R: Threads + Wait + AllocGlobal + Sync>(
+    rt: &R,
+    words: &[&str],
+    seen: &Seen,
+) -> Result<Ended, AllocError> {
+    run_watched(rt, words, b"", SOUND, seen)
+}
+
+/// Checks how a load ends, and what a watch sees of it.
+fn check_watched<R: Threads + Wait + AllocGlobal + Abort + Sync>(
+    rt: &R,
+    words: &[&str],
+    seen: &Seen,
+    calls: u64,
+) -> Result<(), Fail> {
+    let ended = run_seen(rt, words, seen)?;
+    check_same(rt, words, ended.status, 0);
+    check_same(rt, words, ended.printed.as_slice(), b"");
+    check_same(rt, words, seen.calls.load(SeqCst), calls);
+    Ok(())
+}
+
 /// Checks what a watch sees of a load of one pass.
 fn check_seen<R: Threads + Wait + AllocGlobal + Abort + Sync>(
     rt: &R,
@@ -76,11 +99,8 @@ fn check_seen<R: Threads + Wait + AllocGlobal + Abort + Sync>(
     told: [(u64, u64); 4],
 ) -> Result<(), Fail> {
     let seen = Seen::new();
-    let ended = run_watched(rt, words, b"", &seen)?;
-    assert_eq!(rt; ended.status, 0, "{words:?}");
-    assert_eq!(rt; ended.printed.as_slice(), b"".as_slice(), "{words:?}");
-    assert_eq!(rt; seen.calls.load(SeqCst), calls, "{words:?}");
-    assert_eq!(rt; seen.told(), told, "{words:?}");
+    check_watched(rt, words, &seen, calls)?;
+    check_same(rt, words, seen.told(), told);
     Ok(())
 }
 
@@ -126,16 +146,19 @@ fn a_watch_sees_the_commands_of_all_passes(rt: HostRuntime) -> Result<(), Fail> 
         "--progress",
     ];
     let seen = Seen::new();
-    let ended = run_watched(&rt, &words, b"", &seen)?;
-    assert_eq!(rt; ended.status, 0);
-    assert_eq!(rt; ended.printed.as_slice(), b"".as_slice());
-    assert_eq!(rt; seen.calls.load(SeqCst), 2);
+    check_watched(&rt, &words, &seen, 2)?;
     let told = seen.told();
-    let [first, second, third, fourth] = told;
-    assert_eq!(rt; (first.1, second.1), (6144, 6144));
-    assert_eq!(rt; (third, fourth), ((0, 0), (0, 0)));
-    assert!(rt; 1024 <= first.0 && first.0 < second.0, "{told:?}");
-    assert!(rt; 2048 < second.0 && second.0 <= 6144, "{told:?}");
+    let [(first, _), (second, _), _, _] = told;
+    check_same(
+        &rt,
+        &words,
+        told,
+        [(first, 6144), (second, 6144), (0, 0), (0, 0)],
+    );
+    assert!(rt;
+        1024 <= first && first < second && 2048 < second && second <= 6144,
+        "{told:?}"
+    );
     Ok(())
 }
 
@@ -145,10 +168,9 @@ fn check_totals<R: Threads + Wait + AllocGlobal + Abort + Sync>(
     words: &[&str],
     totals: &str,
 ) -> Result<(), Fail> {
-    let ended = run_watched(rt, words, b"", &Seen::new())?;
-    assert_eq!(rt; ended.written.as_slice(), totals.as_bytes(), "{words:?}");
-    assert_eq!(rt; ended.printed.as_slice(), b"".as_slice(), "{words:?}");
-    assert_eq!(rt; (ended.status, ended.flushes), (0, (1, 0)), "{words:?}");
+    let ended = run_seen(rt, words, &Seen::new())?;
+    check_ended(rt, words, &ended, 0, totals.as_bytes(), b"");
+    check_same(rt, words, ended.flushes, (1, 0));
     Ok(())
 }
 
@@ -173,15 +195,27 @@ fn a_watch_changes_no_totals(rt: HostRuntime) -> Result<(), Fail> {
 #[test]
 fn a_watch_that_is_called_changes_no_totals(rt: HostRuntime) -> Result<(), Fail> {
     let shape = ["load", "--commands=5000", "--buckets=8", "--rows=64"];
-    let plain = run_watched(&rt, &shape, b"", &Seen::new())?;
+    let plain = run_seen(&rt, &shape, &Seen::new())?;
     let [load, commands, buckets, rows] = shape;
     let seen = Seen::new();
     let words = [load, commands, buckets, rows, "--progress"];
-    let watched = run_watched(&rt, &words, b"", &seen)?;
-    assert_eq!(rt; (plain.status, watched.status), (0, 0));
-    assert_eq!(rt; plain.written.as_slice(), watched.written.as_slice());
-    assert_eq!(rt; watched.printed.as_slice(), b"".as_slice());
-    assert_eq!(rt; seen.calls.load(SeqCst), 4);
+    let watched = run_seen(&rt, &words, &seen)?;
+    check_same(&rt, &shape, plain.status, 0);
+    check_ended(&rt, &words, &watched, 0, plain.written.as_slice(), b"");
+    check_same(&rt, &words, seen.calls.load(SeqCst), 4);
+    Ok(())
+}
+
+fn check_line(
+    rt: &impl Abort,
+    alloc: Global,
+    made: u64,
+    of: u64,
+    each_second: Option<u128>,
+    line: &str,
+) -> Result<(), Fail> {
+    let text = progress_line(alloc, made, of, each_second)?;
+    assert_eq!(rt; text.as_slice(), line.as_bytes(), "{line}");
     Ok(())
 }
 
@@ -205,8 +239,7 @@ fn a_line_tells_commands_share_and_rate(rt: HostRuntime) -> Result<(), Fail> {
             "18446744073709551615 of 18446744073709551615, 100 %, 340282366920938463463374607431768211455 a second\n",
         ),
     ] {
-        let text = progress_line(rt.alloc(), made, of, each_second)?;
-        assert_eq!(rt; text.as_slice(), line.as_bytes(), "{line}");
+        check_line(&rt, rt.alloc(), made, of, each_second, line)?;
     }
     Ok(())
 }

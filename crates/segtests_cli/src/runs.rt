@@ -1,9 +1,10 @@
 //! Runs of the program over memory: its words, and what it writes, prints and returns.
-ghost use Rattle.std.specs.Prelude.{◌≡◌, false};
+ghost use Rattle.std.specs.Prelude.{◌≡◌, false, IfOk};
 
 use segcli::{Watch, run_program};
-use segscript::{MemSink, MemSource};
+use segscript::{MemSink, MemSource, Sink, Source, WhenFull};
 use std::alloc::{AllocError, AllocGlobal, Global};
+use std::fmt::Debug;
 use std::process::Abort;
 use std::sync::Wait;
 use std::test::Fail;
@@ -18,16 +19,6 @@ pub const REPLIES: &[u8] = b"REFILLED\nSTORED\nVALUE 1\n";
 pub const NO_TOTALS: &[u8] =
     b"p0 commands=0 hit=0 miss=0 stored=0 not_stored=0 exists=0 not_found=0 deleted=0 noroom=0 bucketfull=0 busy=0\ntotal commands=0 keys=0\n";
 
-/// A reader of the script in pieces, which may fail after some bytes.
-pub fn reader_of(script: &[u8], step: usize, good: Option<usize>) -> MemSource<'_>
-    ensures { result.failed ≡ false }
-{
-    let mut reader = MemSource::new(script);
-    reader.step = step.max(1);
-    reader.good = good;
-    reader
-}
-
 /// A watch that does nothing.
 #[derive(Drop)]
 pub struct Nobody;
@@ -35,6 +26,25 @@ pub struct Nobody;
 impl Watch for Nobody {
     fn saw(&self, _made: u64, _of: u64) {}
 }
+
+/// What the devices of a run do. Of a pair the first is the writer's, the second the error writer's.
+#[derive(Clone, Copy)]
+pub struct Devices {
+    /// After how many bytes the reader fails.
+    pub good: Option<usize>,
+    /// How many bytes each writer takes.
+    pub rooms: (usize, usize),
+    pub when_full: WhenFull,
+    pub flush_fails: (bool, bool),
+}
+
+/// Devices that don't fail.
+pub const SOUND: Devices = Devices {
+    good: None,
+    rooms: (10_000, 10_000),
+    when_full: WhenFull::Fails,
+    flush_fails: (false, false),
+};
 
 /// How a run of the program ended, and what it wrote.
 #[derive(Drop)]
@@ -55,41 +65,107 @@ pub fn words_of(alloc: Global, words: &[&str]) -> Result<Vec<String>, AllocError
     Ok(list)
 }
 
-/// Runs the program with devices that don't fail.
-pub fn run<R: Threads + Wait + AllocGlobal + Sync>(
+/// Runs the program over these devices. The tests stand on this call:
+/// at one of `run_program` the proof of a test would have to read its whole contract.
+pub fn run_over<R: Threads + Wait + AllocGlobal + Sync, S: Source, W: Sink, E: Sink, V: Watch>(
     rt: &R,
     words: &[&str],
-    script: &[u8],
-) -> Result<Ended, AllocError> {
-    run_watched(rt, words, script, &Nobody)
+    source: &mut S,
+    writer: &mut W,
+    errors: &mut E,
+    watch: &V,
+) -> Result<u8, AllocError>
+    requires source_works { S.has_failed source.old ≡ false }
+    requires writer_works { W.has_failed writer.old ≡ false }
+    requires errors_work { E.has_failed errors.old ≡ false }
+{
+    let words = words_of(rt.alloc(), words)?;
+    Ok(run_program(
+        rt,
+        rt.alloc(),
+        words.as_slice(),
+        source,
+        writer,
+        errors,
+        watch,
+    ))
 }
 
-/// Runs the program while a watch looks on.
+fn reader_of(script: &[u8], good: Option<usize>) -> MemSource<'_>
+    ensures { result.failed ≡ false }
+{
+    let mut reader = MemSource::new(script);
+    reader.good = good;
+    reader
+}
+
+fn writer_of(
+    alloc: Global,
+    room: usize,
+    when_full: WhenFull,
+    flush_fails: bool,
+) -> Result<MemSink, AllocError>
+    ensures { IfOk result (λ sink. sink.failed ≡ false) }
+{
+    let mut writer = MemSink::new(alloc, room)?;
+    writer.when_full = when_full;
+    writer.flush_fails = flush_fails;
+    Ok(writer)
+}
+
+/// Runs the program over devices in memory while a watch looks on.
 pub fn run_watched<R: Threads + Wait + AllocGlobal + Sync, V: Watch>(
     rt: &R,
     words: &[&str],
     script: &[u8],
+    devices: Devices,
     watch: &V,
 ) -> Result<Ended, AllocError> {
-    let words = words_of(rt.alloc(), words)?;
-    let mut source = MemSource::new(script);
-    let mut writer = MemSink::new(rt.alloc(), 10_000)?;
-    let mut errors = MemSink::new(rt.alloc(), 10_000)?;
-    let status = run_program(
-        rt,
-        rt.alloc(),
-        words.as_slice(),
-        &mut source,
-        &mut writer,
-        &mut errors,
-        watch,
-    );
+    let (room, error_room) = devices.rooms;
+    let (fails, error_fails) = devices.flush_fails;
+    let mut source = reader_of(script, devices.good);
+    let mut writer = writer_of(rt.alloc(), room, devices.when_full, fails)?;
+    let mut errors = writer_of(rt.alloc(), error_room, devices.when_full, error_fails)?;
+    let status = run_over(rt, words, &mut source, &mut writer, &mut errors, watch)?;
     Ok(Ended {
         status,
         flushes: (writer.flushes, errors.flushes),
         written: writer.taken,
         printed: errors.taken,
     })
+}
+
+/// Runs the program with devices that don't fail.
+pub fn run<R: Threads + Wait + AllocGlobal + Sync>(
+    rt: &R,
+    words: &[&str],
+    script: &[u8],
+) -> Result<Ended, AllocError> {
+    run_watched(rt, words, script, SOUND, &Nobody)
+}
+
+/// Checks one thing that a run with these words came to.
+pub fn check_same<T: Copy + PartialEq + Debug>(
+    rt: &impl Abort,
+    words: &[&str],
+    found: T,
+    wanted: T,
+) {
+    assert_eq!(rt; found, wanted, "{words:?}");
+}
+
+/// Checks what the program wrote, printed and returned.
+pub fn check_ended(
+    rt: &impl Abort,
+    words: &[&str],
+    ended: &Ended,
+    status: u8,
+    written: &[u8],
+    printed: &[u8],
+) {
+    check_same(rt, words, ended.written.as_slice(), written);
+    check_same(rt, words, ended.printed.as_slice(), printed);
+    check_same(rt, words, ended.status, status);
 }
 
 /// Checks what the program writes, prints and returns,
@@ -103,16 +179,18 @@ pub fn check_program<R: Threads + Wait + AllocGlobal + Abort + Sync>(
     printed: &[u8],
 ) -> Result<(), Fail> {
     let ended = run(rt, words, script)?;
-    assert_eq!(rt; ended.written.as_slice(), written, "{words:?}");
-    assert_eq!(rt; ended.printed.as_slice(), printed, "{words:?}");
-    assert_eq!(rt; ended.status, status, "{words:?}");
-    let flushes = if status == 0 { (1, 0) } else { (1, 1) };
-    assert_eq!(rt; ended.flushes, flushes, "{words:?}");
+    check_ended(rt, words, &ended, status, written, printed);
+    check_same(rt, words, ended.flushes, (1, u64::from(status != 0)));
     Ok(())
 }
 
-/// Whether the bytes are a text that has this part.
-pub fn has(bytes: &[u8], part: &str) -> bool {
+/// Checks that the bytes are a text that has this part.
+pub fn check_part(rt: &impl Abort, words: &[&str], bytes: &[u8], part: &str) {
+    assert!(rt; has(bytes, part), "{words:?}: {part}");
+}
+
+// Whether the bytes are a text that has this part.
+fn has(bytes: &[u8], part: &str) -> bool {
     match str::from_utf8(bytes) {
         Ok(text) => text.contains(part),
         Err(_) => false,
