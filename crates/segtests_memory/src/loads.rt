@@ -30,14 +30,19 @@ const STOP: u32 = 3;
 
 // So many blocks of so many bytes are given up one by one,
 // so that there is room for the stack of one thread, of two, and of three.
-const BLOCKS: usize = 60;
+const BLOCKS: usize = 240;
 
-const BLOCK: usize = 1 << 20;
+const BLOCK: usize = 1 << 18;
+
+// How often a pass looks, before its first command, whether all passes have begun.
+const LOOKS: u32 = 1 << 20;
 
 // A gate that counts the commands of each pass, and may stop pass 0.
+// The passes begin together. A thread that ended sooner would leave its stack to the next.
 #[derive(Drop)]
 struct Counter {
     stops: bool,
+    begun: AtomicU64,
     answered: [AtomicU64; PASSES],
 }
 
@@ -45,6 +50,7 @@ impl Counter {
     fn new(stops: bool) -> Counter {
         Counter {
             stops,
+            begun: AtomicU64::new(0),
             answered: [AtomicU64::new(0), AtomicU64::new(0), AtomicU64::new(0)],
         }
     }
@@ -64,10 +70,23 @@ impl Counter {
         }
         Some(ran)
     }
+
+    // Waits until all passes have begun, but not for long: some may have no thread.
+    fn begin(&self) {
+        self.begun.fetch_add(1, SeqCst);
+        for _ in 0..LOOKS {
+            if self.begun.load(SeqCst) == PASSES as u64 {
+                return;
+            }
+        }
+    }
 }
 
 impl Gate for Counter {
     fn enter(&self, pass: u32, call: u32) -> bool {
+        if call == 0 {
+            self.begin();
+        }
         !(self.stops && pass == 0 && call == STOP)
     }
 
