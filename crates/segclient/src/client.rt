@@ -114,6 +114,7 @@ impl<'i> Client<'i> {
     }
 
     /// The value under a key.
+    #[inline(always)]
     pub fn get(&mut self, key: &Key) -> GetAnswer
         ensures reads { ReadsKey (board_of self.old) key.now (draw_of self.old) self.old.clock
             result self.old.pass self.new.pass }
@@ -267,6 +268,7 @@ impl<'i> Client<'i> {
     /// If that left no row, it makes room once more, and keeps nothing.
     /// If the key's bucket is full, it evicts the next of its segments and tries once more.
     /// A busy set is made again, 16 times in a row at most.
+    #[inline(always)]
     pub fn put(&mut self, key: &Key, value: &Value) -> PutAnswer
         ensures puts { Puts key.now value.now result self.old self.new }
         ensures draws { KeepsDraws self.old self.new }

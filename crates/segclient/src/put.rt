@@ -38,6 +38,7 @@ pub enum PutAnswer {
 const TRIES: u32 = 16;
 
 // A set, made again while it is busy.
+#[inline(always)]
 fn set_at_last(index: &Index, pass: &mut Pass, key: &Key, value: &Value, now: u32) -> PutAnswer
     requires quiet { IsQuiet (board_of index.now) pass.old }
     ensures on { GoesOn (board_of index.now) pass.old pass.new }
@@ -277,6 +278,8 @@ fn clear_if_full(index: &Index, pass: &mut Pass, ring: &mut Ring, cutoff: u8, de
 }
 
 // Makes room, and keeps what has the cutoff's frequency or a higher one, if there is a cutoff.
+#[cold]
+#[inline(never)]
 pub(crate) fn get_room(
     index: &Index,
     pass: &mut Pass,
@@ -332,6 +335,7 @@ fn is_stale(pass: &Pass, now: u32) -> bool
 }
 
 // A set, unless the segment that the pass stores into has expired: then there is no room.
+#[inline(always)]
 fn set_if_fresh(index: &Index, pass: &mut Pass, key: &Key, value: &Value, now: u32) -> PutAnswer
     requires quiet { IsQuiet (board_of index.now) pass.old }
     ensures on { GoesOn (board_of index.now) pass.old pass.new }
@@ -345,6 +349,7 @@ fn set_if_fresh(index: &Index, pass: &mut Pass, key: &Key, value: &Value, now: u
 }
 
 // A set. If it has no room that can be read, it is made again once room was made.
+#[inline(always)]
 fn set_with_room(
     index: &Index,
     pass: &mut Pass,
@@ -391,6 +396,8 @@ fn set_with_room(
 }
 
 // Evicts the next segment of the ring, and says how many keys were.
+#[cold]
+#[inline(never)]
 fn evict_next(index: &Index, pass: &mut Pass, ring: &mut Ring) -> u32
     requires quiet { IsQuiet (board_of index.now) pass.old }
     requires own { IsOwnRing (shape_of index.now) (number pass.old) ring.old }
@@ -407,6 +414,7 @@ fn evict_next(index: &Index, pass: &mut Pass, ring: &mut Ring) -> u32
 }
 
 // A set that makes room for its row, and then for its word.
+#[inline(always)]
 pub(crate) fn put_pair(
     index: &Index,
     pass: &mut Pass,

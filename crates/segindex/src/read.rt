@@ -13,6 +13,7 @@ impl Index {
 
     /// The value under a key at a moment.
     /// A hit raises the frequency of the key's item if the draw, a random number, says so.
+    #[inline(always)]
     pub fn get(&self, pass: &mut Pass, key: &Key, draw: u32, now: u32) -> GetAnswer
         requires pass { IsQuiet (board_of self.now) pass.old }
         ensures reads { ReadsKey (board_of self.now) key.now draw now result pass.old pass.new }

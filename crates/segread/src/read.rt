@@ -15,6 +15,7 @@ use segword::{Item, Key};
 
 /// The value under a key at a moment. From the deadline of the key's segment on the answer is Miss.
 /// A hit raises the frequency of the key's item if the draw, a random number, says so.
+#[inline(always)]
 pub fn get(board: &Board, pass: &mut Pass, key: &Key, draw: u32, now: u32) -> GetAnswer
     requires pass { IsQuiet board.now pass.old }
     ensures reads { ReadsKey board.now key.now draw now result pass.old pass.new }
@@ -36,6 +37,7 @@ pub fn get(board: &Board, pass: &mut Pass, key: &Key, draw: u32, now: u32) -> Ge
 }
 
 // Raises the frequency of an item that was read, if the draw says so. The exchange is tried once.
+#[inline(always)]
 pub(crate) fn count_hit(board: &Board, pass: &mut Pass, place: Place, item: Item, draw: u32)
     requires pass { IsPassOf board.now pass.old }
     requires place { IsChained board.now.shape (trace pass.old) place }

@@ -259,6 +259,7 @@ pub(crate) fn scan_from(
 }
 
 // Looks for a key along its whole chain. The key's hash and words are computed here, once a call.
+#[inline(always)]
 pub(crate) fn scan_for(board: &Board, pass: &mut Pass, key: &Key) -> Scan
     requires pass { IsQuiet board.now pass.old }
     ensures reads { IsScanner board.now result pass.old pass.new }

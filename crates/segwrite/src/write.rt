@@ -35,6 +35,7 @@ pub(crate) enum When {
 }
 
 /// Stores the value under the key.
+#[inline(always)]
 pub fn set(board: &Board, pass: &mut Pass, key: &Key, value: &Value, now: u32) -> WriteAnswer
     requires quiet { IsQuiet board.now pass.old }
     ensures writes { Writes board.now (Set key.now value.now now) result pass.old pass.new }
@@ -77,6 +78,7 @@ pub fn cas(
 }
 
 // Stores the value under the key if the cache doesn't refuse it.
+#[inline(always)]
 fn write(
     board: &Board,
     pass: &mut Pass,
