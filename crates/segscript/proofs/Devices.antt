@@ -58,11 +58,11 @@ unended_still before ends (fault.Line n) none = inl none
 unended_still before ends (fault.Make f) none = none
 
 -- once it has, the last line is all that is left
-pub ended_once : (passes : ℕ) {S : Type 0} (step : S → PassTurn → Outcome → S → Type 0) (start : S) (Wrote : List ℕ → Type 0) (flushes flushes' : ℕ) (seen told : List ℕ) (before ends : ℕ) (result : Result (Unit {0}) RunFault)
-    → ends ≡ one_more before → FinishOutcome passes step start Wrote flushes flushes' seen told result → EndsOnce before ends result
-ended_once passes step start Wrote flushes flushes' seen told before ends (Ok u) once out = once
-ended_once passes step start Wrote flushes flushes' seen told before ends (Err (fault.Line n)) once out = inr once
-ended_once passes step start Wrote flushes flushes' seen told before ends (Err fault.Write) once out = inr once
-ended_once passes step start Wrote flushes flushes' seen told before ends (Err fault.Read) once out = absurd out
-ended_once passes step start Wrote flushes flushes' seen told before ends (Err fault.TooLong) once out = absurd out
-ended_once passes step start Wrote flushes flushes' seen told before ends (Err (fault.Make f)) once out = absurd out
+pub ended_once : (passes : ℕ) {S : Type 0} (step : S → PassTurn → Outcome → S → Type 0) (start end : S) (Wrote : List ℕ → Type 0) (flushes flushes' : ℕ) (seen told : List ℕ) (before ends : ℕ) (result : Result (Unit {0}) RunFault)
+    → ends ≡ one_more before → FinishOutcome passes step start end Wrote flushes flushes' seen told result → EndsOnce before ends result
+ended_once passes step start end Wrote flushes flushes' seen told before ends (Ok u) once out = once
+ended_once passes step start end Wrote flushes flushes' seen told before ends (Err (fault.Line n)) once out = inr once
+ended_once passes step start end Wrote flushes flushes' seen told before ends (Err fault.Write) once out = inr once
+ended_once passes step start end Wrote flushes flushes' seen told before ends (Err fault.Read) once out = absurd out
+ended_once passes step start end Wrote flushes flushes' seen told before ends (Err fault.TooLong) once out = absurd out
+ended_once passes step start end Wrote flushes flushes' seen told before ends (Err (fault.Make f)) once out = absurd out

@@ -3,18 +3,17 @@ use Rattle.std.proofs.Common.{Result, subst, Err, ◌≡◌, ℕ, ◌+◌, ◌<�
 use Rattle.std.proofs.lemmas.List.{take-append-drop, drop_more}
 use Rattle.segmodel.specs.Words.{Outcome}
 use Rattle.segscript.specs.Spelling.{PassTurn}
-use Rattle.segscript.specs.Run.{IsSeenBad}
+use Rattle.segscript.specs.Run.{IsSeenBad, StopsWriting}
 use Rattle.segscript.specs.Running.{HasServed, FeedOutcome}
 use Rattle.segscript.specs.Words.{RunFault}
 use Rattle.segscript.specs.declared.fault.RunFault.TheVariants as fault
 
 -- what is known of the line doesn't change where the end is known in another way
-pub seen_bad_where : (passes : ℕ) {S : Type 0} (step : S → PassTurn → Outcome → S → Type 0) (start : S) (seen text : List ℕ) (n : ℕ) (Ends Is : Type 0) → (Ends → Is) → IsSeenBad passes step start Ends seen text n → IsSeenBad passes step start Is seen text n
-seen_bad_where passes step start seen text n Ends Is is bad = record {
+pub seen_bad_where : (passes : ℕ) {S : Type 0} (step : S → PassTurn → Outcome → S → Type 0) (start end : S) (seen text : List ℕ) (n : ℕ) (Ends Is : Type 0) → (Ends → Is) → IsSeenBad passes step start end Ends seen text n → IsSeenBad passes step start end Is seen text n
+seen_bad_where passes step start end seen text n Ends Is is bad = record {
   lines = bad.lines;
   bad = bad.bad;
   after = bad.after;
-  state = bad.state;
   whole = bad.whole;
   each = bad.each;
   unbroken = bad.unbroken;
@@ -29,12 +28,11 @@ seen_bad_where passes step start seen text n Ends Is is bad = record {
 }
 
 -- later bytes don't change what the first bad line is
-seen_bad_more : (passes : ℕ) {S : Type 0} (step : S → PassTurn → Outcome → S → Type 0) (start : S) (seen more text : List ℕ) (n : ℕ) → IsSeenBad passes step start ⊥ seen text n → IsSeenBad passes step start ⊥ (seen ++ more) text n
-seen_bad_more passes step start seen more text n bad = record {
+seen_bad_more : (passes : ℕ) {S : Type 0} (step : S → PassTurn → Outcome → S → Type 0) (start end : S) (seen more text : List ℕ) (n : ℕ) → IsSeenBad passes step start end ⊥ seen text n → IsSeenBad passes step start end ⊥ (seen ++ more) text n
+seen_bad_more passes step start end seen more text n bad = record {
   lines = bad.lines;
   bad = bad.bad;
   after = bad.after ++ more;
-  state = bad.state;
   whole = rw bad.whole (simp append_assoc);
   each = bad.each;
   unbroken = bad.unbroken;
@@ -46,6 +44,51 @@ seen_bad_more passes step start seen more text n bad = record {
   ];
   served = bad.served;
   number = bad.number;
+}
+
+-- nor is the line another whose reply was cut short
+pub stops_where : (passes : ℕ) {S : Type 0} (step : S → PassTurn → Outcome → S → Type 0) (start end : S) (seen part : List ℕ) (Ends Is : Type 0) → (Ends → Is) → StopsWriting passes step start end Ends seen part → StopsWriting passes step start end Is seen part
+stops_where passes step start end seen part Ends Is is off = record {
+  lines = off.lines;
+  line = off.line;
+  after = off.after;
+  state = off.state;
+  told = off.told;
+  begun = off.begun;
+  reply = off.reply;
+  whole = off.whole;
+  each = off.each;
+  unbroken = off.unbroken;
+  known = elim off.known [
+    | inl whole ↦ inl whole
+    | inr last ↦ inr (last.0, is last.1)
+  ];
+  earlier = off.earlier;
+  served = off.served;
+  begins = off.begins;
+  written = off.written;
+}
+
+stops_more : (passes : ℕ) {S : Type 0} (step : S → PassTurn → Outcome → S → Type 0) (start end : S) (seen more part : List ℕ) → StopsWriting passes step start end ⊥ seen part → StopsWriting passes step start end ⊥ (seen ++ more) part
+stops_more passes step start end seen more part off = record {
+  lines = off.lines;
+  line = off.line;
+  after = off.after ++ more;
+  state = off.state;
+  told = off.told;
+  begun = off.begun;
+  reply = off.reply;
+  whole = rw off.whole (simp append_assoc);
+  each = off.each;
+  unbroken = off.unbroken;
+  known = elim off.known [
+    | inl whole ↦ inl (whole.0 ++ more, rw whole.1 refl)
+    | inr ends ↦ absurd ends.1
+  ];
+  earlier = off.earlier;
+  served = off.served;
+  begins = off.begins;
+  written = off.written;
 }
 
 -- these bytes were fed after seen, and what was written came after told
@@ -79,17 +122,12 @@ module _ (passes : ℕ) {S : Type 0} (step : S → PassTurn → Outcome → S �
   fault_later old mid new seen told bytes b rest all state state' line line' number number' (fault.Line n) fed same out = (
     fed.text ++ out.0,
     more old mid new fed.text out.0 fed.took out.1,
-    rw (same, ← append_assoc told fed.text out.0, ← append_assoc seen (bytes ++ b ∷ []) rest, ← append_assoc seen bytes (b ∷ [])) (seen_bad_more passes step start ((seen ++ bytes) ++ b ∷ []) rest _ n out.2),
+    rw (same, ← append_assoc told fed.text out.0, ← append_assoc seen (bytes ++ b ∷ []) rest, ← append_assoc seen bytes (b ∷ [])) (seen_bad_more passes step start state' ((seen ++ bytes) ++ b ∷ []) rest _ n out.2),
   )
   fault_later old mid new seen told bytes b rest all state state' line line' number number' fault.Write fed same out = (
     fed.text ++ out.0,
-    out.1,
-    out.2,
-    out.3 ++ rest,
-    more old mid new fed.text out.0 fed.took out.4,
-    rw (← append_assoc told fed.text out.0) out.5,
-    rw (same, ← append_assoc seen (bytes ++ b ∷ []) rest, ← append_assoc seen bytes (b ∷ []), out.6) (append_assoc out.2 out.3 rest),
-    out.7,
+    more old mid new fed.text out.0 fed.took out.1,
+    rw (same, ← append_assoc told fed.text out.0, ← append_assoc seen (bytes ++ b ∷ []) rest, ← append_assoc seen bytes (b ∷ [])) (stops_more passes step start state' ((seen ++ bytes) ++ b ∷ []) rest _ out.2),
   )
 
 -- the bytes before, the byte at i and those behind it

@@ -8,7 +8,7 @@ use Rattle.segscript.specs.Run.{EndOfRun}
 use Rattle.segscript.specs.Words.{RunFault}
 use Rattle.segscript.specs.declared.fault.RunFault.TheVariants as fault
 use Rattle.segscript.proofs.LineLemmas.{reached, at_start}
-use Rattle.segscript.proofs.Feeding.{seen_bad_where}
+use Rattle.segscript.proofs.Feeding.{seen_bad_where, stops_where}
 
 -- these bytes came, and this text was written
 pub record Going (passes : ℕ) {S : Type 0} (step : S → PassTurn → Outcome → S → Type 0) (start state : S) {R W : Type 0} (hands : R → List ℕ → R → Type 0) (takes : W → List ℕ → W → Type 0) (from reader : R) (to writer : W) (total : ℕ) (line : List ℕ) (number : ℕ) : Type 0 where
@@ -59,7 +59,7 @@ module _ (passes : ℕ) {S : Type 0} (step : S → PassTurn → Outcome → S �
         → flushes writer' ≡ flushes to
         → hands reader bytes reader' → fed ≡ bytes
         → FeedOutcome passes step start state' (λ text. takes writer text writer') (going.seen ++ fed) going.told line' number' (Err f)
-        → EndOfRun passes step start (λ seen. hands from seen reader') Ends (λ text. takes to text writer') (flushes to) (flushes writer') (Err f)
+        → EndOfRun passes step start state' (λ seen. hands from seen reader') Ends (λ text. takes to text writer') (flushes to) (flushes writer') (Err f)
     ends_fed state state' from reader reader' to writer writer' total line line' number number' bytes fed Ends fault.Read going none came same out = absurd out
     ends_fed state state' from reader reader' to writer writer' total line line' number number' bytes fed Ends fault.TooLong going none came same out = absurd out
     ends_fed state state' from reader reader' to writer writer' total line line' number number' bytes fed Ends (fault.Make m) going none came same out = absurd out
@@ -69,14 +69,14 @@ module _ (passes : ℕ) {S : Type 0} (step : S → PassTurn → Outcome → S �
       hands_more from reader reader' going.seen bytes going.came came,
       takes_more to writer writer' going.told out.0 going.went out.1,
       none,
-      seen_bad_where passes step start _ _ _ ⊥ Ends (λ never. absurd never) (rw same at out.2),
+      seen_bad_where passes step start state' _ _ _ ⊥ Ends (λ never. absurd never) (rw same at out.2),
     )
     ends_fed state state' from reader reader' to writer writer' total line line' number number' bytes fed Ends fault.Write going none came same out = (
       going.seen ++ bytes,
       going.told ++ out.0,
       hands_more from reader reader' going.seen bytes going.came came,
-      takes_more to writer writer' going.told out.0 going.went out.4,
-      inl (none, (out.1, out.5, inl (out.2, out.3, rw same at out.6, out.7))),
+      takes_more to writer writer' going.told out.0 going.went out.1,
+      inl (none, stops_where passes step start state' _ _ ⊥ Ends (λ never. absurd never) (rw same at out.2)),
     )
 
     -- the reader failed
@@ -84,7 +84,7 @@ module _ (passes : ℕ) {S : Type 0} (step : S → PassTurn → Outcome → S �
         (going : Going passes step start state hands takes from reader to writer total line number)
         → flushes writer ≡ flushes to
         → hands reader [] reader'
-        → EndOfRun passes step start (λ seen. hands from seen reader') Ends (λ text. takes to text writer) (flushes to) (flushes writer) (Err fault.Read)
+        → EndOfRun passes step start state (λ seen. hands from seen reader') Ends (λ text. takes to text writer) (flushes to) (flushes writer) (Err fault.Read)
     ends_read state from reader reader' to writer total line number Ends going none came = (
       going.seen ++ [],
       going.told,
@@ -95,13 +95,13 @@ module _ (passes : ℕ) {S : Type 0} (step : S → PassTurn → Outcome → S �
     )
 
     -- the end of the input
-    pub ends_finish : (state : S) (from reader reader' : R) (to writer writer' : W) (total : ℕ) (line : List ℕ) (number : ℕ) (bytes : List ℕ) (Ends : Type 0) (result : Result (Unit {0}) RunFault)
+    pub ends_finish : (state state' : S) (from reader reader' : R) (to writer writer' : W) (total : ℕ) (line : List ℕ) (number : ℕ) (bytes : List ℕ) (Ends : Type 0) (result : Result (Unit {0}) RunFault)
         (going : Going passes step start state hands takes from reader to writer total line number)
         → flushes writer ≡ flushes to
         → hands reader bytes reader' → bytes ≡ [] → Ends
-        → FinishOutcome passes step start (λ text. takes writer text writer') (flushes writer) (flushes writer') going.seen going.told result
-        → EndOfRun passes step start (λ seen. hands from seen reader') Ends (λ text. takes to text writer') (flushes to) (flushes writer') result
-    ends_finish state from reader reader' to writer writer' total line number bytes Ends (Ok u) going none came empty ends out = (
+        → FinishOutcome passes step start state' (λ text. takes writer text writer') (flushes writer) (flushes writer') going.seen going.told result
+        → EndOfRun passes step start state' (λ seen. hands from seen reader') Ends (λ text. takes to text writer') (flushes to) (flushes writer') result
+    ends_finish state state' from reader reader' to writer writer' total line number bytes Ends (Ok u) going none came empty ends out = (
       going.seen ++ bytes,
       going.told ++ out.0,
       hands_more from reader reader' going.seen bytes going.came came,
@@ -110,24 +110,24 @@ module _ (passes : ℕ) {S : Type 0} (step : S → PassTurn → Outcome → S �
       out.2 ∙ ap one_more none,
       rw (empty, append-nil) out.3,
     )
-    ends_finish state from reader reader' to writer writer' total line number bytes Ends (Err (fault.Line n)) going none came empty ends out = (
+    ends_finish state state' from reader reader' to writer writer' total line number bytes Ends (Err (fault.Line n)) going none came empty ends out = (
       going.seen ++ bytes,
       going.told ++ out.0,
       hands_more from reader reader' going.seen bytes going.came came,
       takes_more to writer writer' going.told out.0 going.went out.1,
       out.2 ∙ none,
-      seen_bad_where passes step start _ _ _ (Unit {0}) Ends (λ last. ends) (rw (empty, append-nil) out.3),
+      seen_bad_where passes step start state' _ _ _ (Unit {0}) Ends (λ last. ends) (rw (empty, append-nil) out.3),
     )
-    ends_finish state from reader reader' to writer writer' total line number bytes Ends (Err fault.Write) going none came empty ends out = (
+    ends_finish state state' from reader reader' to writer writer' total line number bytes Ends (Err fault.Write) going none came empty ends out = (
       going.seen ++ bytes,
       going.told ++ out.0,
       hands_more from reader reader' going.seen bytes going.came came,
       takes_more to writer writer' going.told out.0 going.went out.1,
       elim out.2 [
-        | inl part ↦ inl (part.0 ∙ none, rw (empty, append-nil) part.1)
+        | inl part ↦ inl (part.0 ∙ none, stops_where passes step start state' _ _ (Unit {0}) Ends (λ last. ends) (rw (empty, append-nil) part.1))
         | inr all ↦ inr (all.0 ∙ ap one_more none, ends, rw (empty, append-nil) all.1)
       ],
     )
-    ends_finish state from reader reader' to writer writer' total line number bytes Ends (Err fault.Read) going none came empty ends out = absurd out
-    ends_finish state from reader reader' to writer writer' total line number bytes Ends (Err fault.TooLong) going none came empty ends out = absurd out
-    ends_finish state from reader reader' to writer writer' total line number bytes Ends (Err (fault.Make m)) going none came empty ends out = absurd out
+    ends_finish state state' from reader reader' to writer writer' total line number bytes Ends (Err fault.Read) going none came empty ends out = absurd out
+    ends_finish state state' from reader reader' to writer writer' total line number bytes Ends (Err fault.TooLong) going none came empty ends out = absurd out
+    ends_finish state state' from reader reader' to writer writer' total line number bytes Ends (Err (fault.Make m)) going none came empty ends out = absurd out

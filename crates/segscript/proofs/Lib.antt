@@ -3,6 +3,7 @@ pub mod Devices
 pub mod Endings
 pub mod Feeding
 pub mod Going
+pub mod Leaving
 pub mod LineLemmas
 pub mod LineReadings
 pub mod Lines

@@ -9,7 +9,7 @@ use Rattle.segscript.specs.Spelling.{PassTurn, IsSayable, spelling}
 use Rattle.segscript.specs.Replies.{reply}
 use Rattle.segscript.specs.Script.{IsLine, ended, Splits, Say, IsBad, ServesLines, ServesScript}
 use Rattle.segscript.specs.Device.{IsBeginning}
-use Rattle.segscript.specs.Run.{ServesWholeLines, IsSeenBad}
+use Rattle.segscript.specs.Run.{ServesWholeLines, StopsWriting, IsSeenBad}
 use Rattle.segscript.specs.Running.{HasServed, LineOutcome, FeedOutcome, FinishOutcome}
 use Rattle.segscript.specs.Words.{RunFault}
 use Rattle.segscript.specs.declared.fault.RunFault.TheVariants as fault
@@ -99,16 +99,15 @@ module _ (passes : ℕ) {S : Type 0} (step : S → PassTurn → Outcome → S �
       numbered = simp length-append (ap (λ n. n + 1) here.numbered);
     }
 
-    pub reached : (seen told line : List ℕ) (number : ℕ) → HasServed passes step start state seen told line number → ServesWholeLines passes step start seen told
-    reached seen told line number here = record { lines = here.lines; rest = line; state = state; splits = here.splits; short = here.short; served = here.served }
+    pub reached : (seen told line : List ℕ) (number : ℕ) → HasServed passes step start state seen told line number → ServesWholeLines passes step start state seen told
+    reached seen told line number here = record { lines = here.lines; rest = line; splits = here.splits; short = here.short; served = here.served }
 
     -- the byte is the 129th of its line
-    pub too_long : (seen told line : List ℕ) (number b : ℕ) → HasServed passes step start state seen told line number → b ≢ 10 → length line ≡ 128 → IsSeenBad passes step start ⊥ (seen ++ b ∷ []) (told ++ []) number
+    pub too_long : (seen told line : List ℕ) (number b : ℕ) → HasServed passes step start state seen told line number → b ≢ 10 → length line ≡ 128 → IsSeenBad passes step start state ⊥ (seen ++ b ∷ []) (told ++ []) number
     too_long seen told line number b here other full = record {
       lines = here.lines;
       bad = line ++ b ∷ [];
       after = [];
-      state = state;
       whole = rw here.splits.whole (simp (append_assoc, append-nil));
       each = here.splits.each;
       unbroken = IsLine-append line (b ∷ []) here.splits.partial (other, tt);
@@ -119,12 +118,11 @@ module _ (passes : ℕ) {S : Type 0} (step : S → PassTurn → Outcome → S �
     }
 
     -- the line whose end has come is bad
-    whole_bad : (seen told line : List ℕ) (number : ℕ) → HasServed passes step start state seen told line number → IsBad passes line → IsSeenBad passes step start ⊥ (seen ++ 10 ∷ []) (told ++ []) number
+    whole_bad : (seen told line : List ℕ) (number : ℕ) → HasServed passes step start state seen told line number → IsBad passes line → IsSeenBad passes step start state ⊥ (seen ++ 10 ∷ []) (told ++ []) number
     whole_bad seen told line number here bad = record {
       lines = here.lines;
       bad = line;
       after = 10 ∷ [];
-      state = state;
       whole = rw here.splits.whole (simp append_assoc);
       each = here.splits.each;
       unbroken = here.splits.partial;
@@ -135,12 +133,11 @@ module _ (passes : ℕ) {S : Type 0} (step : S → PassTurn → Outcome → S �
     }
 
     -- the last line is bad
-    last_bad : (seen told line : List ℕ) (number : ℕ) → HasServed passes step start state seen told line number → IsBad passes line → IsSeenBad passes step start (Unit {0}) seen (told ++ []) number
+    last_bad : (seen told line : List ℕ) (number : ℕ) → HasServed passes step start state seen told line number → IsBad passes line → IsSeenBad passes step start state (Unit {0}) seen (told ++ []) number
     last_bad seen told line number here bad = record {
       lines = here.lines;
       bad = line;
       after = [];
-      state = state;
       whole = rw here.splits.whole (simp append-nil);
       each = here.splits.each;
       unbroken = here.splits.partial;
@@ -150,18 +147,54 @@ module _ (passes : ℕ) {S : Type 0} (step : S → PassTurn → Outcome → S �
       number = here.numbered;
     }
 
+    -- the line whose end has come was served, and its reply was cut short
+    whole_stops : (new : S) (seen told begun reply line : List ℕ) (number : ℕ) → HasServed passes step start state seen told line number → IsBeginning begun reply → ServesLines passes step state (line ∷ []) reply new → StopsWriting passes step start new ⊥ (seen ++ 10 ∷ []) (told ++ begun)
+    whole_stops new seen told begun reply line number here begins served = record {
+      lines = here.lines;
+      line = line;
+      after = 10 ∷ [];
+      state = state;
+      told = told;
+      begun = begun;
+      reply = reply;
+      whole = rw here.splits.whole (simp append_assoc);
+      each = here.splits.each;
+      unbroken = here.splits.partial;
+      known = inl ([], refl);
+      earlier = here.served;
+      served = served;
+      begins = begins;
+      written = refl;
+    }
+
+    -- the last line was served, and its reply was cut short
+    last_stops : (new : S) (seen told begun reply line : List ℕ) (number : ℕ) → HasServed passes step start state seen told line number → IsBeginning begun reply → ServesLines passes step state (line ∷ []) reply new → StopsWriting passes step start new (Unit {0}) seen (told ++ begun)
+    last_stops new seen told begun reply line number here begins served = record {
+      lines = here.lines;
+      line = line;
+      after = [];
+      state = state;
+      told = told;
+      begun = begun;
+      reply = reply;
+      whole = rw here.splits.whole (simp append-nil);
+      each = here.splits.each;
+      unbroken = here.splits.partial;
+      known = inr (refl, tt);
+      earlier = here.served;
+      served = served;
+      begins = begins;
+      written = refl;
+    }
+
     -- the last line was served
-    pub finish_text : (seen told text line : List ℕ) (number : ℕ) (new : S) → HasServed passes step start state seen told line number → ServesLines passes step state (line ∷ []) text new → ServesScript passes step start seen (told ++ text)
+    pub finish_text : (seen told text line : List ℕ) (number : ℕ) (new : S) → HasServed passes step start state seen told line number → ServesLines passes step state (line ∷ []) text new → ServesScript passes step start new seen (told ++ text)
     finish_text seen told text line number new here served = record {
       lines = here.lines;
       last = line;
-      state = new;
       splits = here.splits;
       served = ServesLines-append start state new here.lines (line ∷ []) told text here.served served;
     }
-
-  IsBeginning-told : (told part text : List ℕ) → IsBeginning part text → IsBeginning (told ++ part) (told ++ text)
-  IsBeginning-told told part text front = (front.0, rw front.1 (sym (append_assoc told part front.0)), front.2)
 
   -- nothing has come yet
   pub at_start : (start : S) → HasServed passes step start start [] [] [] 1
@@ -174,29 +207,20 @@ module _ (passes : ℕ) {S : Type 0} (step : S → PassTurn → Outcome → S �
   }
 
   -- a fault at the end of a line
-  pub feed-fault : (start old new then : S) (Wrote : List ℕ → Type 0) (seen told line after : List ℕ) (number count b : ℕ) (f : RunFault) → b ≡ 10
-      → HasServed passes step start old seen told line number → LineOutcome passes step old new Wrote line number (Err f) → FeedOutcome passes step start then Wrote (seen ++ b ∷ []) told after count (Err f)
-  feed-fault start old new then Wrote seen told line after number count b fault.Read ten here h = absurd h
-  feed-fault start old new then Wrote seen told line after number count b fault.TooLong ten here h = absurd h
-  feed-fault start old new then Wrote seen told line after number count b (fault.Make m) ten here h = absurd h
-  feed-fault start old new then Wrote seen told line after number count b (fault.Line n) ten here h = ([], h.0, rw (ten, h.1) (whole_bad start old seen told line number here h.2))
-  feed-fault start old new then Wrote seen told line after number count b fault.Write ten here h = rw ten (
-    h.0,
-    told ++ h.1,
-    seen ++ 10 ∷ [],
-    [],
-    h.2,
-    IsBeginning-told told h.0 h.1 h.3,
-    sym (append-nil (seen ++ 10 ∷ [])),
-    reached start new (seen ++ 10 ∷ []) (told ++ h.1) [] (number + 1) (at_end start old new seen told h.1 line number here h.4),
-  )
+  pub feed-fault : (start old new : S) (Wrote : List ℕ → Type 0) (seen told line after : List ℕ) (number count b : ℕ) (f : RunFault) → b ≡ 10
+      → HasServed passes step start old seen told line number → LineOutcome passes step old new Wrote line number (Err f) → FeedOutcome passes step start new Wrote (seen ++ b ∷ []) told after count (Err f)
+  feed-fault start old new Wrote seen told line after number count b fault.Read ten here h = absurd h
+  feed-fault start old new Wrote seen told line after number count b fault.TooLong ten here h = absurd h
+  feed-fault start old new Wrote seen told line after number count b (fault.Make m) ten here h = absurd h
+  feed-fault start old new Wrote seen told line after number count b (fault.Line n) ten here h = ([], h.0, rw (ten, h.1, h.2) (whole_bad start old seen told line number here h.3))
+  feed-fault start old new Wrote seen told line after number count b fault.Write ten here h = (h.0, h.2, rw ten (whole_stops start old new seen told h.0 h.1 line number here h.3 h.4))
 
   -- a fault at the last line
   pub finish-fault : (start old new : S) (Wrote : List ℕ → Type 0) (before flushes : ℕ) (seen told line : List ℕ) (number : ℕ) (f : RunFault) → flushes ≡ before
-      → HasServed passes step start old seen told line number → LineOutcome passes step old new Wrote line number (Err f) → FinishOutcome passes step start Wrote before flushes seen told (Err f)
+      → HasServed passes step start old seen told line number → LineOutcome passes step old new Wrote line number (Err f) → FinishOutcome passes step start new Wrote before flushes seen told (Err f)
   finish-fault start old new Wrote before flushes seen told line number fault.Read none here h = absurd h
   finish-fault start old new Wrote before flushes seen told line number fault.TooLong none here h = absurd h
   finish-fault start old new Wrote before flushes seen told line number (fault.Make m) none here h = absurd h
-  finish-fault start old new Wrote before flushes seen told line number (fault.Line n) none here h = ([], h.0, none, rw h.1 (last_bad start old seen told line number here h.2))
+  finish-fault start old new Wrote before flushes seen told line number (fault.Line n) none here h = ([], h.0, none, rw (h.1, h.2) (last_bad start old seen told line number here h.3))
   finish-fault start old new Wrote before flushes seen told line number fault.Write none here h =
-      (h.0, h.2, inl (none, (told ++ h.1, IsBeginning-told told h.0 h.1 h.3, inr (finish_text start old seen told h.1 line number new here h.4))))
+      (h.0, h.2, inl (none, last_stops start old new seen told h.0 h.1 line number here h.3 h.4))

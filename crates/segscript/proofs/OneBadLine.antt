@@ -6,7 +6,7 @@ use Rattle.std.proofs.lemmas.Bool.{true≢false}
 use Rattle.std.proofs.lemmas.Bool.Decides.{eqb_tells}
 use Rattle.std.proofs.lemmas.Grind.{flat_map-append}
 use Rattle.segword.specs.Words.{Shape}
-use Rattle.segmodel.specs.Words.{fresh}
+use Rattle.segmodel.specs.Words.{fresh, State}
 use Rattle.segscript.specs.Spelling.{PassTurn}
 use Rattle.segscript.specs.Script.{IsLine, ended, Say, IsBad, Steps, IsTextOf, IsFirstBad}
 use Rattle.segscript.specs.Device.{HandsOut}
@@ -122,21 +122,22 @@ module _ (shape : Shape) where
   -- a script that has a text has no bad line
   pub IsTextOf-good : (script text text' : List ℕ) (n : ℕ) → IsTextOf shape script text → IsFirstBad shape script text' n → ⊥
   IsTextOf-good script text text' n whole bad =
+      let all = whole.1 in
       let end = closed bad in
-      goes_past shape.passes (whole.lines ++ whole.last ∷ []) bad.lines bad.bad end.0 whole.served.turns
-      (lines-append whole.lines (whole.last ∷ []) whole.splits.each (whole.splits.partial, tt)) whole.served.says
+      goes_past shape.passes (all.lines ++ all.last ∷ []) bad.lines bad.bad end.0 all.served.turns
+      (lines-append all.lines (all.last ∷ []) all.splits.each (all.splits.partial, tt)) all.served.says
       bad.each bad.unbroken bad.is_bad
-      (sym end.1 ∙ ap (λ b. b ++ 10 ∷ []) whole.splits.whole ∙ simp (flat_map-append, append_assoc, append-nil))
+      (sym end.1 ∙ ap (λ b. b ++ 10 ∷ []) all.splits.whole ∙ simp (flat_map-append, append_assoc, append-nil))
 
   -- a line that was seen to be the first bad one is that of the whole script
-  of_script : (seen script text : List ℕ) (n : ℕ) (Ends : Type 0) → (rest : List ℕ) × (script ≡ seen ++ rest) × (Ends → script ≡ seen)
-      → IsSeenBad shape.passes (Steps shape) (fresh shape) Ends seen text n → IsFirstBad shape script text n
-  of_script seen script text n Ends all bad = elim bad.known [
+  of_script : (seen script text : List ℕ) (n : ℕ) (end : State) (Ends : Type 0) → (rest : List ℕ) × (script ≡ seen ++ rest) × (Ends → script ≡ seen)
+      → IsSeenBad shape.passes (Steps shape) (fresh shape) end Ends seen text n → IsFirstBad shape script text n
+  of_script seen script text n end Ends all bad = elim bad.known [
     | inl whole ↦ record {
       lines = bad.lines;
       bad = bad.bad;
       after = bad.after ++ all.0;
-      state = bad.state;
+      state = end;
       whole = rw (all.1, bad.whole) (simp append_assoc);
       each = bad.each;
       unbroken = bad.unbroken;
@@ -151,7 +152,7 @@ module _ (shape : Shape) where
           lines = bad.lines;
           bad = bad.bad ++ rest.front;
           after = rest.back;
-          state = bad.state;
+          state = end;
           whole = rw (all.1, bad.whole) (simp append_assoc (ap (λ r. flat_map ended bad.lines ++ (bad.bad ++ r)) rest.whole));
           each = bad.each;
           unbroken = IsLine-append bad.bad rest.front bad.unbroken rest.unbroken;
@@ -164,7 +165,7 @@ module _ (shape : Shape) where
       lines = bad.lines;
       bad = bad.bad;
       after = bad.after;
-      state = bad.state;
+      state = end;
       whole = all.2 last.1 ∙ bad.whole;
       each = bad.each;
       unbroken = bad.unbroken;
@@ -185,14 +186,16 @@ module _ (shape : Shape) where
           → RunOutcome shape (λ seen. hands old seen new) (is_at_end new) Wrote before flushes result
           → (result ≡ Err (fault.Line n)) ⊎ (result ≡ Err fault.TooLong)
       ends_at_bad text n (Ok u) r w made bad out =
-          let is = (all out.0 out.2).2 out.3 in
-          absurd (IsTextOf-good out.0 out.1 text n out.6 (rw is at bad))
+          let end = out.1 in
+          let is = (all end.0 end.2).2 end.3 in
+          absurd (IsTextOf-good end.0 end.1 text n (out.0, end.6) (rw is at bad))
       ends_at_bad text n (Err fault.Read) r w made bad out = absurd (true≢false (sym r ∙ working))
       ends_at_bad text n (Err fault.Write) r w made bad out = absurd (true≢false (sym w ∙ writing))
       ends_at_bad text n (Err fault.TooLong) r w made bad out = inr refl
       ends_at_bad text n (Err (fault.Make f)) r w made bad out = absurd (true≢false made)
       ends_at_bad text n (Err (fault.Line m)) r w made bad out =
-          inl (ap (λ k. Err (fault.Line k)) (IsFirstBad-one script out.1 text m n (of_script out.0 script out.1 m (is_at_end new) (all out.0 out.2) out.5) bad))
+          let end = out.1 in
+          inl (ap (λ k. Err (fault.Line k)) (IsFirstBad-one script end.1 text m n (of_script end.0 script end.1 m out.0 (is_at_end new) (all end.0 end.2) end.5) bad))
 
       pub ends_well : (text : List ℕ) (result : Result (Unit {0}) RunFault) → read ≡ is_read_fault result → write ≡ is_write_fault result → is_make_fault result ≡ false
           → IsTextOf shape script text
@@ -204,4 +207,5 @@ module _ (shape : Shape) where
       ends_well text (Err fault.TooLong) r w made good out = inr refl
       ends_well text (Err (fault.Make f)) r w made good out = absurd (true≢false made)
       ends_well text (Err (fault.Line m)) r w made good out =
-          absurd (IsTextOf-good script text out.1 m good (of_script out.0 script out.1 m (is_at_end new) (all out.0 out.2) out.5))
+          let end = out.1 in
+          absurd (IsTextOf-good script text end.1 m good (of_script end.0 script end.1 m out.0 (is_at_end new) (all end.0 end.2) end.5))

@@ -18,6 +18,7 @@ abbrev pub EachTurn : Shape → (List ℕ → Type 0) → Type 0 → (List ℕ �
     → Result (Unit {0}) RunFault → Type 0
 EachTurn shape Read Ends Wrote before flushes (Err (fault.Make f)) = Unit {0}
 EachTurn shape Read Ends Wrote before flushes result =
-    (index : Index) × (start : List Pass)
+    (index : Index) × (start : List Pass) × (end : List Pass)
     × IsNew shape index start
-    × EndOfRun shape.passes (OneTakes (board_of index)) start Read Ends Wrote before flushes result
+    × EndOfRun shape.passes (OneTakes (board_of index)) start end Read Ends Wrote before flushes
+    result

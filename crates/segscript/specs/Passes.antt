@@ -3,6 +3,7 @@
 use Rattle.std.specs.Prelude.{◌≡◌, ◌≢◌, ℕ, List, [], ◌∷◌, Option, Some, None, length, slice_get}
 use Rattle.segword.specs.Words.{Shape}
 use Rattle.segmodel.specs.Words.{Begins, fresh, Outcome, State, Turn}
+use Rattle.segmodel.specs.declared.answer.Turn.TheVariants as turn
 use Rattle.segbase.specs.Words.{Board, holding, marked, number, Pass, seen}
 use Rattle.segpass.specs.Words.{GoesOn, IsQuiet}
 use Rattle.segread.specs.Words.{Hold, IsHoldOf}
@@ -42,6 +43,22 @@ pub record TakesTurn (b : Board) (turn : Turn) (outcome : Outcome) (p q : Pass) 
   pub goes_on : GoesOn b p q
   pub tells : IsOutcomeOfCall b turn outcome p q
   pub alone : IsAlone b p → TurnsAlone b turn outcome p q
+
+-- The pass took two turns, which end what it held and what it had locked:
+-- a release, and then an unlock. It did nothing else.
+pub record Leaves (b : Board) (p q : Pass) : Type 0 where
+  pub between : Pass
+  pub released : Outcome
+  pub unlocked : Outcome
+  pub releases : TakesTurn b turn.Release released p between
+  pub unlocks : TakesTurn b turn.Unlock unlocked between q
+
+-- The new list has the passes of the old one, each at its place and after it left.
+pub record AllLeave (b : Board) (old new : List Pass) : Type 0 where
+  pub long : length new ≡ length old
+  pub each : (n : ℕ) (p : Pass)
+      → slice_get old n ≡ Some p
+      → (q : Pass) × (slice_get new n ≡ Some q) × Leaves b p q
 
 -- All that the one pass has seen, the other has seen too.
 abbrev pub IsSeenBy : Pass → Pass → Type 0

@@ -5,7 +5,7 @@ use Rattle.segmodel.specs.Words.{Outcome}
 use Rattle.segscript.specs.Spelling.{PassTurn}
 use Rattle.segscript.specs.Script.{Splits, IsBad, ServesLines, ServesScript}
 use Rattle.segscript.specs.Device.{IsBeginning, one_more}
-use Rattle.segscript.specs.Run.{ServesWholeLines, StopsWriting, IsSeenBad}
+use Rattle.segscript.specs.Run.{StopsWriting, IsSeenBad}
 use Rattle.segscript.specs.declared.fault.RunFault.{RunFault}
 use Rattle.segscript.specs.declared.fault.RunFault.TheVariants as fault
 
@@ -45,7 +45,7 @@ module _ (passes : ℕ) {S : Type 0} (step : S → PassTurn → Outcome → S �
   LineOutcome old new Wrote line number (Ok _) =
       (text : List ℕ) × Wrote text × ServesLines passes step old (line ∷ []) text new
   LineOutcome old new Wrote line number (Err (fault.Line n)) =
-      Wrote [] × (n ≡ number) × IsBad passes line
+      Wrote [] × (n ≡ number) × (new ≡ old) × IsBad passes line
   LineOutcome old new Wrote line number (Err fault.Write) =
       (part : List ℕ) × (text : List ℕ)
       × Wrote part
@@ -54,7 +54,7 @@ module _ (passes : ℕ) {S : Type 0} (step : S → PassTurn → Outcome → S �
   LineOutcome old new Wrote line number (Err _) = ⊥
 
   -- what became of bytes that were fed: `seen` are all that came, these among them,
-  -- and `told` was written before
+  -- and `told` was written before; `reached` is the state after them
   abbrev pub FeedOutcome : S
       → S
       → (List ℕ → Type 0)
@@ -69,17 +69,14 @@ module _ (passes : ℕ) {S : Type 0} (step : S → PassTurn → Outcome → S �
       × Wrote text
       × HasServed passes step start reached seen (told ++ text) line number
   FeedOutcome start reached Wrote seen told line number (Err (fault.Line n)) =
-      (text : List ℕ) × Wrote text × IsSeenBad passes step start ⊥ seen (told ++ text) n
+      (text : List ℕ) × Wrote text × IsSeenBad passes step start reached ⊥ seen (told ++ text) n
   FeedOutcome start reached Wrote seen told line number (Err fault.Write) =
-      (part : List ℕ) × (text : List ℕ) × (front : List ℕ) × (rest : List ℕ)
-      × Wrote part
-      × IsBeginning (told ++ part) text
-      × (seen ≡ front ++ rest)
-      × ServesWholeLines passes step start front text
+      (part : List ℕ) × Wrote part × StopsWriting passes step start reached ⊥ seen (told ++ part)
   FeedOutcome start reached Wrote seen told line number (Err _) = ⊥
 
-  -- what became of the last line, at the end of the script
+  -- what became of the last line, at the end of the script, which leaves the state `end`
   abbrev pub FinishOutcome : S
+      → S
       → (List ℕ → Type 0)
       → ℕ
       → ℕ
@@ -87,19 +84,20 @@ module _ (passes : ℕ) {S : Type 0} (step : S → PassTurn → Outcome → S �
       → List ℕ
       → Result (Unit {0}) RunFault
       → Type 0
-  FinishOutcome start Wrote before flushes seen told (Ok _) =
+  FinishOutcome start end Wrote before flushes seen told (Ok _) =
       (text : List ℕ)
       × Wrote text
       × (flushes ≡ one_more before)
-      × ServesScript passes step start seen (told ++ text)
-  FinishOutcome start Wrote before flushes seen told (Err (fault.Line n)) =
+      × ServesScript passes step start end seen (told ++ text)
+  FinishOutcome start end Wrote before flushes seen told (Err (fault.Line n)) =
       (text : List ℕ)
       × Wrote text
       × (flushes ≡ before)
-      × IsSeenBad passes step start (Unit {0}) seen (told ++ text) n
-  FinishOutcome start Wrote before flushes seen told (Err fault.Write) =
+      × IsSeenBad passes step start end (Unit {0}) seen (told ++ text) n
+  FinishOutcome start end Wrote before flushes seen told (Err fault.Write) =
       (part : List ℕ)
       × Wrote part
-      × (((flushes ≡ before) × StopsWriting passes step start seen (told ++ part))
-      ⊎ ((flushes ≡ one_more before) × ServesScript passes step start seen (told ++ part)))
-  FinishOutcome start Wrote before flushes seen told (Err _) = ⊥
+      × (((flushes ≡ before)
+      × StopsWriting passes step start end (Unit {0}) seen (told ++ part))
+      ⊎ ((flushes ≡ one_more before) × ServesScript passes step start end seen (told ++ part)))
+  FinishOutcome start end Wrote before flushes seen told (Err _) = ⊥

@@ -62,17 +62,18 @@ IsServed shape old lines text new = ServesLines shape.passes (Steps shape) old l
 
 -- The script is served to its end, with this text of replies.
 -- The last line, which has no end, counts if it has bytes.
+-- The lines led from the state `start` to the state `end`, and no turn came after them.
 pub record ServesScript (passes : ℕ) {S : Type 0} (step : S → PassTurn → Outcome → S → Type 0)
-    (start : S) (script text : List ℕ) : Type 0 where
+    (start end : S) (script text : List ℕ) : Type 0 where
   pub lines : List (List ℕ)
   pub last : List ℕ
-  pub state : S
   pub splits : Splits script lines last
-  pub served : ServesLines passes step start (lines ++ last ∷ []) text state
+  pub served : ServesLines passes step start (lines ++ last ∷ []) text end
 
 -- No line of the script is bad, and this is a text of replies that belongs to it.
 abbrev pub IsTextOf : Shape → List ℕ → List ℕ → Type 0
-IsTextOf shape script text = ServesScript shape.passes (Steps shape) (fresh shape) script text
+IsTextOf shape script text =
+    (end : State) × ServesScript shape.passes (Steps shape) (fresh shape) end script text
 
 -- The n-th line of the script is its first bad one,
 -- and this is a text of replies to the lines before it.

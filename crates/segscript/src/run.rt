@@ -137,7 +137,7 @@ impl OpenLine {
         ensures outcome { (start : E) (seen told : List ℕ) →
             HasServed (E.shape engine.old).passes E.turns start engine.old seen told
             self.now.bytes.items self.now.number →
-            FinishOutcome (E.shape engine.old).passes E.turns start
+            FinishOutcome (E.shape engine.old).passes E.turns start engine.new
             (λ text. W.takes writer.old text writer.new)
             (W.flushes writer.old) (W.flushes writer.new) seen told result }
         ensures failed { W.has_failed writer.new ≡ is_write_fault result }
@@ -179,6 +179,7 @@ fn read_piece<R: Source, W: Sink, E: Engine>(
 
 /// Runs the script that the reader hands out over an engine, and writes the replies.
 /// No more is read before the whole lines that came have their replies.
+/// The engine takes the turns of the lines that were served, and no turn after them.
 pub fn run<R: Source, W: Sink, E: Engine>(
     reader: &mut R,
     writer: &mut W,
@@ -188,7 +189,7 @@ pub fn run<R: Source, W: Sink, E: Engine>(
     requires writer_works { W.has_failed writer.old ≡ false }
     requires ready { E.is_ready engine.old }
     ensures ready { E.is_ready engine.new }
-    ensures outcome { EndOfRun (E.shape engine.old).passes E.turns engine.old
+    ensures outcome { EndOfRun (E.shape engine.old).passes E.turns engine.old engine.new
         (λ seen. R.hands reader.old seen reader.new) (R.is_at_end reader.new)
         (λ text. W.takes writer.old text writer.new)
         (W.flushes writer.old) (W.flushes writer.new) result }

@@ -21,8 +21,9 @@ use std::alloc::Global;
 /// The run is given no allocator.
 ///
 /// If the index has one pass, the text is the one that the cache of one thread gives,
-/// from the state that the pass is at.
+/// from the state that the pass is at. The pass is then at the state to which the lines led.
 /// If the index has several, they take turns on this thread, and each turn has a reply.
+/// No pass takes a turn after the last line that is served.
 pub fn serve_script<R: Source, W: Sink>(
     reader: &mut R,
     writer: &mut W,
@@ -32,18 +33,21 @@ pub fn serve_script<R: Source, W: Sink>(
     requires writer_works { W.has_failed writer.old ≡ false }
     requires ready { IsReady server.old }
     ensures ready { IsReady server.new }
+    ensures index { server.new.index.now ≡ server.old.index.now }
 
     // How the run ends, what it read and wrote, and which text belongs to that.
+    // The lines that were served led to the state at the end.
     ensures outcome { EndOfRun (shape_of server.old.index.now).passes
-        (Steps (shape_of server.old.index.now)) (state server.old)
+        (Steps (shape_of server.old.index.now)) (state server.old) (state server.new)
         (λ seen. R.hands reader.old seen reader.new) (R.is_at_end reader.new)
         (λ text. W.takes writer.old text writer.new)
         (W.flushes writer.old) (W.flushes writer.new) result }
 
     // Each turn was that of the pass that its line names, and the reply is its answer.
     // Before the turn the pass had seen all that any pass had seen. The others did nothing.
+    // These turns made the passes what they are at the end.
     ensures each_turn { EndOfRun (shape_of server.old.index.now).passes
-        (OneTakes (board_of server.old.index.now)) server.old.passes.items
+        (OneTakes (board_of server.old.index.now)) server.old.passes.items server.new.passes.items
         (λ seen. R.hands reader.old seen reader.new) (R.is_at_end reader.new)
         (λ text. W.takes writer.old text writer.new)
         (W.flushes writer.old) (W.flushes writer.new) result }

@@ -52,6 +52,8 @@ fn catch_up(index: &Index, passes: &mut Vec<Pass>, last: usize, place: usize)
 }
 
 impl<'i> Server<'i> {
+    ghost use Rattle.segindex.specs.Words.{AreAllQuiet};
+    ghost use Rattle.segscript.specs.Passes.{AllLeave};
     ghost use Rattle.segscript.specs.Server.{IsReady, state, NoneKeeps};
 
     /// A server of an index in which nothing was done yet. Its turns take no more memory.
@@ -75,10 +77,18 @@ impl<'i> Server<'i> {
     }
 
     /// Ends the turns: each hold is released, and each bucket unlocked.
+    /// The passes stand in the order of their numbers, and may make further calls.
     pub fn end(self) -> Vec<Pass>
         requires ready { IsReady self }
         ensures all { length result.items ≡ (shape_of self.entry.index.now).passes }
         ensures left { NoneKeeps result.items }
+
+        // Each pass is at its place, and did nothing but a release and an unlock.
+        ensures leave { AllLeave (board_of self.entry.index.now) self.entry.passes.items
+            result.items }
+
+        // The index can be closed with them.
+        ensures quiet { AreAllQuiet (board_of self.entry.index.now) result.items }
     {
         let Server {
             index,

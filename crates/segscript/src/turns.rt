@@ -4,7 +4,7 @@ ghost use Rattle.segmodel.specs.declared.answer.Turn.TheVariants as turn;
 ghost use Rattle.segbase.specs.Words.{holding, locked_of};
 ghost use Rattle.segindex.specs.Words.{board_of, shape_of};
 ghost use Rattle.segpass.specs.Words.{IsQuiet};
-ghost use Rattle.segscript.specs.Passes.{IsHoldKept, TakesTurn};
+ghost use Rattle.segscript.specs.Passes.{IsHoldKept, Leaves, TakesTurn};
 
 use segindex::{Hold, HoldAnswer, Index, LockAnswer, Pass};
 use segmodel::{Outcome, Turn};
@@ -29,7 +29,7 @@ pub fn take_turn<'i>(
         Turn::Serve(command) => Outcome::Answered(index.serve(pass, command, DRAW)),
         Turn::Hold(key, now) => hold(index, pass, held, key, *now),
         Turn::Held => read_held(index, pass, held),
-        Turn::Release => release(index, pass, held),
+        Turn::Release => release(index, pass, held.take()),
         Turn::Lock(key) => lock(index, pass, key),
         Turn::Unlock => unlock(index, pass),
     }
@@ -40,11 +40,10 @@ pub fn leave(index: &Index, pass: &mut Pass, held: Option<Hold<'_>>)
     requires quiet { IsQuiet (board_of index.now) pass.old }
     requires hold { IsHoldKept (shape_of index.now) held pass.old }
     ensures left { (holding pass.new ≡ None) × (locked_of pass.new ≡ None) }
+    ensures leaves { Leaves (board_of index.now) pass.old pass.new }
 {
-    if let Some(hold) = held {
-        index.release(pass, hold);
-    }
-    index.unlock_bucket(pass);
+    release(index, pass, held);
+    unlock(index, pass);
 }
 
 fn hold<'i>(
@@ -82,13 +81,13 @@ fn read_held(index: &Index, pass: &mut Pass, held: &Option<Hold<'_>>) -> Outcome
     }
 }
 
-fn release(index: &Index, pass: &mut Pass, held: &mut Option<Hold<'_>>) -> Outcome
+fn release(index: &Index, pass: &mut Pass, held: Option<Hold<'_>>) -> Outcome
     requires quiet { IsQuiet (board_of index.now) pass.old }
-    requires hold { IsHoldKept (shape_of index.now) held.old pass.old }
+    requires hold { IsHoldKept (shape_of index.now) held pass.old }
     ensures turn { TakesTurn (board_of index.now) turn.Release result pass.old pass.new }
-    ensures hold { IsHoldKept (shape_of index.now) held.new pass.new }
+    ensures released { holding pass.new ≡ None }
 {
-    match held.take() {
+    match held {
         Some(hold) => {
             index.release(pass, hold);
             Outcome::Released
@@ -113,6 +112,7 @@ fn unlock(index: &Index, pass: &mut Pass) -> Outcome
     requires quiet { IsQuiet (board_of index.now) pass.old }
     ensures turn { TakesTurn (board_of index.now) turn.Unlock result pass.old pass.new }
     ensures holding { holding pass.new ≡ holding pass.old }
+    ensures unlocked { locked_of pass.new ≡ None }
 {
     if index.unlock_bucket(pass) {
         Outcome::Unlocked

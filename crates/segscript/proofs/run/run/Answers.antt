@@ -29,7 +29,7 @@ pub returns-then-n-eq0-clause-outcome : goal.returns-then-n-eq0-clause-outcome
 returns-then-n-eq0-clause-outcome g c =
     let going = c.loop-total.invariant.going in
     let outcome = rw c.loop-total.invariant.shape at c.finish.ensures.outcome _ in
-    ends_finish _ _ _ g.R.Source.hands g.met.R.Source.hands_more g.W.Sink.takes g.met.W.Sink.takes_more g.W.Sink.flushes _ _ _ _ _ _ _ _ _ _ _ (g.R.Source.is_at_end c.read_piece.new.reader) c.finish.result going c.loop-total.invariant.unflushed
+    ends_finish _ _ _ g.R.Source.hands g.met.R.Source.hands_more g.W.Sink.takes g.met.W.Sink.takes_more g.W.Sink.flushes _ c.finish.new.engine _ _ _ _ _ _ _ _ _ _ (g.R.Source.is_at_end c.read_piece.new.reader) c.finish.result going c.loop-total.invariant.unflushed
     c.in-Ok.ensures.bytes (ap (λ k. take k c.read_piece.new.piece) c.if-n-eq0.true) (c.in-Ok.ensures.end c.if-n-eq0.true) (outcome _ _ going.here)
 
 pub returns-in-Err-clause-outcome : goal.returns-in-Err-clause-outcome
@@ -45,7 +45,7 @@ returns-in_default-clause-ends g c = c.in_default.ensures.unended ∙ c.loop-tot
 
 pub returns-then-n-eq0-clause-ends : goal.returns-then-n-eq0-clause-ends
 returns-then-n-eq0-clause-ends g c =
-    ended_once _ _ _ _ _ _ _ _ _ _ c.finish.result (c.in-Ok.ensures.ends ∙ end_read _ _ c.if-n-eq0.true ∙ ap one_more c.loop-total.invariant.unended) ((rw c.loop-total.invariant.shape at c.finish.ensures.outcome _) _ _ c.loop-total.invariant.going.here)
+    ended_once _ _ _ c.finish.new.engine _ _ _ _ _ _ _ c.finish.result (c.in-Ok.ensures.ends ∙ end_read _ _ c.if-n-eq0.true ∙ ap one_more c.loop-total.invariant.unended) ((rw c.loop-total.invariant.shape at c.finish.ensures.outcome _) _ _ c.loop-total.invariant.going.here)
 
 pub returns-in-Err-clause-ends : goal.returns-in-Err-clause-ends
 returns-in-Err-clause-ends g c = unended_still _ _ c.in-Err.fault (c.in-Ok.ensures.ends ∙ more_read _ _ c.if-n-eq0.false ∙ c.loop-total.invariant.unended)

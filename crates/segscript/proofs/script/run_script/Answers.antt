@@ -11,16 +11,23 @@ new-requires-2 g c =
     let made = c.in-Ok.ensures.made in
     record { new = subst (λ (shape : Shape). IsNew shape c.in-Ok.made.0 c.in-Ok.made.1.items) (sym made.made.of) made }
 
+-- where the index isn't created, there is no run, and any state will do
+pub returns-in-Err-clause-outcome : goal.returns-in-Err-clause-outcome
+returns-in-Err-clause-outcome g c = (fresh c.args.shape, tt)
+
+pub returns-in_default-clause-outcome : goal.returns-in_default-clause-outcome
+returns-in_default-clause-outcome g c = (fresh c.args.shape, tt)
+
 pub returns-clause-outcome : goal.returns-clause-outcome
 returns-clause-outcome g c =
     let of : shape_of c.in-Ok-new.server.index.now ≡ c.args.shape = ap shape_of c.in-Ok-new.ensures.holds.0 ∙ c.in-Ok.ensures.made.made.of in
     let start = c.in-Ok-new.ensures.start ∙ ap fresh c.in-Ok.ensures.made.made.of in
-    model_ends c.args.shape _ _ _ _ _ _ _ of start c.serve_script-result.result c.serve_script-result.ensures.outcome
+    model_ends c.args.shape _ _ _ _ _ _ _ _ of start c.serve_script-result.result c.serve_script-result.ensures.outcome
 
 pub returns-clause-each_turn : goal.returns-clause-each_turn
 returns-clause-each_turn g c =
     let new : IsNew c.args.shape c.in-Ok-new.server.index.now c.in-Ok-new.server.passes.items = rw (c.in-Ok-new.ensures.holds.0, c.in-Ok-new.ensures.holds.1) c.in-Ok.ensures.made in
-    passes_end c.args.shape _ _ _ _ _ _ _ new c.serve_script-result.result c.serve_script-result.ensures.each_turn
+    passes_end c.args.shape _ _ _ _ _ _ _ _ new c.serve_script-result.result c.serve_script-result.ensures.each_turn
 
 pub returns-clause-bad_line : goal.returns-clause-bad_line
 returns-clause-bad_line g c = λ script text n all bad reads writes made.

@@ -20,5 +20,5 @@ returns-in-Ok-clause-outcome g c = λ start seen told here.
 
 pub returns-in-Err-clause-outcome : goal.returns-in-Err-clause-outcome
 returns-in-Err-clause-outcome g c = λ start seen told here.
-    feed-fault _ _ start _ c.serve.new.engine c.serve.new.engine _ seen told _ c.args.self.now.bytes.items _ c.args.self.now.number _ c.in-Err.fault
+    feed-fault _ _ start _ c.serve.new.engine _ seen told _ c.args.self.now.bytes.items _ c.args.self.now.number _ c.in-Err.fault
     c.if-byte-ne10.false here c.in-Err.ensures.outcome

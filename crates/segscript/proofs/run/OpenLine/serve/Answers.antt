@@ -12,6 +12,7 @@ pub returns-in_default-clause-outcome : goal.returns-in_default-clause-outcome
 returns-in_default-clause-outcome g c = (
   g.met.W.Sink.takes_none c.args.writer.now,
   refl,
+  refl,
   inr (nonempty _ _ c.is_empty.ensures c.if-is_empty.false, not_read _ _ _ _ c.as_slice.ensures.value c.passes.ensures c.in_default.ensures),
 )
 
