@@ -1,7 +1,7 @@
 //! What an answer says of the cache, as the checker takes it.
+use crate::call::{Access, CasReply, Item, Operation};
 use crate::keys::Place;
 use crate::values::number_of;
-use seghistory::{Access, CasReply, Item, Operation};
 use segmodel::{
     Answer, Command, DeleteAnswer, EvictAnswer, GetAnswer, GetsAnswer, KeepAnswer, RefillAnswer,
     Request, WriteAnswer,

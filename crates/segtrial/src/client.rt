@@ -6,12 +6,12 @@ ghost use Rattle.segpass.specs.Words.{IsQuiet, IsQuiet-prop};
 ghost use Rattle.segread.specs.Words.{IsHoldOf};
 
 use crate::answers::{Said, said_by, said_by_evict, said_by_keep, said_by_refill};
+use crate::call::{Access, Item, Operation};
 use crate::draws::{Draws, Turn};
 use crate::keys::{BUCKETS, Place};
 use crate::log::Log;
 use crate::start::Start;
 use crate::values::{number_of, value_of};
-use seghistory::{Access, Item, Operation};
 use segindex::{Hold, HoldAnswer, Index, LockAnswer, Pass, hold_stays};
 use segmodel::{Answer, Command, EvictAnswer, GetsAnswer, KeepAnswer, RefillAnswer, WriteAnswer};
 use segword::Key;

@@ -1,6 +1,6 @@
 //! Keys that are hard to tell apart: their tags are the same, and many of them share a bucket.
 use crate::answers::Said;
-use seghistory::{Access, Operation};
+use crate::call::{Access, Operation};
 use segword::{Key, bucket_of, hash, tag_of};
 use std::alloc::{AllocError, Global};
 

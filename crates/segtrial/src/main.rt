@@ -1,21 +1,34 @@
 //! Lets passes make calls at random, each on a thread of its own, and looks for an order that explains
-//! the answers.
+//! the answers. The checker (`replay`) has a small model of its own, and uses no definition of the proofs.
 #![tactic(auto)]
 
 mod answers;
 mod arguments;
+mod bucket;
+mod call;
 mod client;
 mod draws;
+#[cfg(test)]
+mod histories;
+#[cfg(test)]
+mod history_alterations;
+#[cfg(test)]
+mod history_holding;
+#[cfg(test)]
+mod history_moving;
 mod keys;
 mod log;
+mod replay;
 mod round;
 mod start;
+mod state;
+mod sums;
 mod values;
 
 use arguments::{Options, read_options};
 use clap::error::{Error, ErrorKind};
+use replay::Fault;
 use round::{Counts, Failure, RoundFault, run_rounds};
-use seghistory::Fault;
 use std::process::ExitCode;
 use std::{env, io};
 

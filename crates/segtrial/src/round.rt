@@ -4,11 +4,12 @@ ghost use Rattle.segindex.specs.Words.{board_of};
 ghost use Rattle.segpass.specs.Words.{IsQuiet};
 
 use crate::arguments::Options;
+use crate::call::Operation;
 use crate::client::{Client, SEGMENTS};
 use crate::keys::{BUCKETS, colliding_keys};
 use crate::log::Log;
+use crate::replay::{Fault, check};
 use crate::start::Start;
-use seghistory::{Fault, Operation, check};
 use segindex::{Index, Pass};
 use segword::{Key, Shape};
 use std::alloc::{AllocError, Global};

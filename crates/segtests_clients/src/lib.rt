@@ -1,0 +1,26 @@
+//! Tests of clients: uses as a program would write them,
+//! and the callers that the pages for callers show. `docs/check` compares those pages with these files.
+#![tactic(auto)]
+
+#[cfg(test)]
+mod cache_server;
+#[cfg(test)]
+mod callers;
+#[cfg(test)]
+mod client_caller;
+#[cfg(test)]
+mod closing;
+#[cfg(test)]
+mod counting;
+#[cfg(test)]
+mod index_caller;
+#[cfg(test)]
+mod keeping;
+#[cfg(test)]
+mod keeping_at_once;
+#[cfg(test)]
+mod reading_at_once;
+#[cfg(test)]
+mod readme_lines;
+#[cfg(test)]
+mod session_store;

@@ -1,0 +1,70 @@
+//! Tests of the index: calls of one thread, passes on threads of their own, and too little memory.
+//! The tests of memory are for `rt test` alone: the heap of `rt try` can't be taken whole.
+#![tactic(auto)]
+
+#[cfg(test)]
+mod alike;
+#[cfg(test)]
+mod calls;
+#[cfg(test)]
+mod closing;
+#[cfg(test)]
+mod commands;
+#[cfg(test)]
+mod digits;
+#[cfg(test)]
+mod eviction_answers;
+#[cfg(test)]
+mod expiring;
+#[cfg(test)]
+mod hoard;
+#[cfg(test)]
+mod holding;
+#[cfg(test)]
+mod holds;
+#[cfg(test)]
+mod memory_index;
+#[cfg(test)]
+mod memory_loads;
+#[cfg(test)]
+mod memory_plain;
+#[cfg(test)]
+mod memory_program;
+#[cfg(test)]
+mod memory_scripts;
+#[cfg(test)]
+mod memory_solo;
+#[cfg(test)]
+mod memory_tables;
+#[cfg(test)]
+mod owner;
+#[cfg(test)]
+mod passes;
+#[cfg(test)]
+mod probing;
+#[cfg(test)]
+mod rows;
+#[cfg(test)]
+mod seen_numbers;
+#[cfg(test)]
+mod tables;
+#[cfg(test)]
+mod threads_evicting;
+#[cfg(test)]
+mod threads_expiring;
+#[cfg(test)]
+mod threads_growing;
+#[cfg(test)]
+mod threads_keeping;
+#[cfg(test)]
+mod threads_locking;
+#[cfg(test)]
+mod threads_setting;
+#[cfg(test)]
+mod threads_standing;
+#[cfg(test)]
+mod threads_tables;
+#[cfg(test)]
+mod work;
+#[cfg(test)]
+mod write_answers;

@@ -1,0 +1,143 @@
+//! Scripts out of memory: each request of creating the index is refused in turn, and none is made after it.
+ghost use Rattle.std.specs.Prelude.{◌≡◌, ◌++◌, [], refl};
+ghost use Rattle.segscript.specs.Words.{hands_more};
+
+use crate::hoard::{RUNS, STEP, hoard, is_none_left, leave};
+use crate::memory_tables::{
+    HELD_OVER_EVICTION, LOCKED_AND_HELD, LONGEST_CHAIN, TWO_SEGMENTS, Table,
+};
+use segindex::MakeFault;
+use segscript::{Failed, MemSink, MemSource, RunFault, Source, run_script};
+use std::alloc::{AllocError, Global};
+use std::process::Abort;
+use std::test::Fail;
+
+// The lines of a table, and the replies that it wants.
+fn texts_of(alloc: Global, table: Table<'_>) -> Result<(Vec<u8>, Vec<u8>), AllocError> {
+    let (_, rows) = table;
+    let mut script = Vec::new(alloc);
+    let mut replies = Vec::new(alloc);
+    for (line, reply) in rows.iter().copied() {
+        script.extend_from_slice(line.as_bytes())?;
+        script.push(b'\n')?;
+        replies.extend_from_slice(reply.as_bytes())?;
+        replies.push(b'\n')?;
+    }
+    Ok((script, replies))
+}
+
+// Runs a table with so many bytes left, and returns whether its index was refused memory.
+// If it was, nothing was read and nothing written.
+fn is_refused(
+    rt: &impl Abort,
+    alloc: Global,
+    table: Table<'_>,
+    bytes: usize,
+) -> Result<bool, Fail> {
+    let (shape, _) = table;
+    let (script, replies) = texts_of(alloc, table)?;
+    let mut reader = MemSource::new(script.as_slice());
+    let mut writer = MemSink::new(alloc, 1_000)?;
+    let taken = leave(alloc, bytes)?;
+    let ended = run_script(alloc, &mut reader, &mut writer, shape);
+    drop(taken);
+    if ended.is_ok() {
+        assert_eq!(rt; writer.taken.as_slice(), replies.as_slice());
+        return Ok(false);
+    }
+    assert_eq!(rt; ended, Err(RunFault::Make(MakeFault::OutOfMemory)));
+    assert_eq!(rt; reader.left, script.as_slice());
+    assert_eq!(rt; writer.taken.as_slice(), b"".as_slice());
+    assert_eq!(rt; writer.flushes, 0);
+    Ok(true)
+}
+
+#[test]
+fn a_script_has_its_index_or_memory_is_wanted(rt: HostRuntime) -> Result<(), Fail> {
+    for table in [LONGEST_CHAIN, LOCKED_AND_HELD] {
+        let all = hoard(rt.alloc())?;
+        let mut refused = 0;
+        for run in 0..RUNS {
+            if !is_refused(&rt, rt.alloc(), table, STEP * run)? {
+                break;
+            }
+            refused = run + 1;
+        }
+        drop(all);
+        assert!(rt; 0 < refused && refused < RUNS, "{refused} refusals");
+    }
+    Ok(())
+}
+
+/// A reader that takes all memory before it hands out its first byte.
+#[derive(Drop)]
+struct TakingSource<'a> {
+    inner: MemSource<'a>,
+    alloc: Global,
+    taken: Option<(Vec<Vec<u8>>, Vec<Vec<u8>>)>,
+    is_none_left: bool,
+}
+
+impl TakingSource<'_> {
+    // Takes all memory, unless it was taken before.
+    fn take(&mut self)
+        ensures { self.new.inner ≡ self.old.inner }
+    {
+        if self.taken.is_some() {
+            return;
+        }
+        let Ok(all) = hoard(self.alloc) else {
+            return;
+        };
+        let Ok(rest) = leave(self.alloc, 0) else {
+            return;
+        };
+        self.is_none_left = is_none_left(self.alloc);
+        self.taken = Some((all, rest));
+    }
+}
+
+impl<'a> Source for TakingSource<'a> {
+    ghost hands = { λ old bytes new. old.inner.left.now ≡ bytes ++ new.inner.left.now };
+
+    ghost is_at_end = { λ s. s.inner.left.now ≡ [] };
+
+    ghost has_failed = { λ s. s.inner.failed };
+
+    ghost ends = { λ s. s.inner.ends };
+
+    fn read(&mut self, buffer: &mut [u8]) -> Result<usize, Failed> {
+        self.take();
+        self.inner.read(buffer)
+    }
+
+    ghost hands_none = { λ s. refl };
+
+    ghost hands_more = { λ s t u a b. hands_more s.inner.left.now t.inner.left.now u.inner.left.now a b };
+}
+
+#[test]
+fn a_script_asks_for_nothing_once_its_index_is_made(rt: HostRuntime) -> Result<(), Fail> {
+    for table in [
+        LONGEST_CHAIN,
+        HELD_OVER_EVICTION,
+        TWO_SEGMENTS,
+        LOCKED_AND_HELD,
+    ] {
+        let (shape, _) = table;
+        let (script, replies) = texts_of(rt.alloc(), table)?;
+        let mut reader = TakingSource {
+            inner: MemSource::new(script.as_slice()),
+            alloc: rt.alloc(),
+            taken: None,
+            is_none_left: false,
+        };
+        let mut writer = MemSink::new(rt.alloc(), 1_000)?;
+        let ended = run_script(rt.alloc(), &mut reader, &mut writer, shape);
+        reader.taken = None;
+        assert!(rt; reader.is_none_left);
+        assert_eq!(rt; ended, Ok(()));
+        assert_eq!(rt; writer.taken.as_slice(), replies.as_slice());
+    }
+    Ok(())
+}

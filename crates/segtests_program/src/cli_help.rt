@@ -1,0 +1,131 @@
+//! Help and the version.
+use crate::cli_runs::{SCRIPT, check_part, check_program, check_same, run};
+use std::alloc::AllocGlobal;
+use std::process::Abort;
+use std::sync::Wait;
+use std::test::Fail;
+use std::thread::Threads;
+
+const PROGRAM: [&str; 13] = [
+    "object index",
+    "Usage: segrun",
+    "script",
+    "load",
+    "word",
+    "printf 'p0 refill 0 4294967295\\np0 set a 1 @0\\np0 get a @0\\n' | segrun",
+    "Exit status",
+    "\n  1  the number of buckets is not a power of two, or is over 65536\n",
+    "\n  2  the number of overflow buckets is over 65536\n",
+    "\n  3  the number of passes is not 1 to 64\n",
+    "\n  4  the number of segments of a pass is not 1 to 1024\n",
+    "\n  5  the number of rows of a segment is not 1 to 4096\n",
+    "\n  6  the table would have over 67108864 words",
+];
+
+const SCRIPTS: [&str; 19] = [
+    "Usage: segrun script",
+    "--buckets <N>",
+    "[default: 1]",
+    "--overflow <N>",
+    "[default: 0]",
+    "--passes <N>",
+    "--segments <N>",
+    "--rows <N>",
+    "[default: 8]",
+    "--first-version <N>",
+    "p0 refill SEGMENT DEADLINE        REFILLED",
+    "p0 keep SEGMENT CUTOFF            KEPT, NOROOM",
+    "p0 cas KEY VALUE VERSION @MOMENT  STORED",
+    "p0 get KEY @MOMENT                VALUE",
+    "p0 lock KEY                       LOCKED",
+    "p0 unlock                         UNLOCKED or NOT_LOCKED",
+    "printf 'p0 refill 0 4294967295\\np0 set a 1 @0\\np0 get a @0\\n' | segrun script --rows 100",
+    "A line is bad if it has\n",
+    "Exit status",
+];
+
+// The short help has no text about what a line says.
+const TEXT_OF_LINES: [&str; 3] = [
+    "A key is absent from\nthe deadline of its segment on.",
+    "SEGMENT, DEADLINE,\nVERSION and MOMENT are numbers from 0 to 4294967295, and CUTOFF is one from 0 to 255.",
+    "there are no comments",
+];
+
+const LOADS: [&str; 24] = [
+    "Usage: segrun load",
+    "--passes <N>",
+    "--first-version <N>",
+    "[default: 16]",
+    "[default: 2]",
+    "[default: 128]",
+    "--seed <N>",
+    "[default: 1]",
+    "--commands <N>",
+    "[default: 1000]",
+    "--keys <N>",
+    "[default: 64]",
+    "segrun load --passes 4 --buckets 16 --commands 100000",
+    "segrun load --keys 1000000",
+    "\n      --progress",
+    "about twice a second",
+    "segrun load --commands 100000000 --progress",
+    "41231360 of 100000000, 41 %, 17023488 a second",
+    "\n  hit, miss    ",
+    "\n  stored, not_stored, exists, not_found, deleted\n",
+    "\n  noroom       ",
+    "\n  bucketfull   ",
+    "\n  busy         ",
+    "Exit status",
+];
+
+const WORDS: [&str; 3] = [
+    "Usage: segrun word <HEX>",
+    "item tag=af6 freq=1 seg=2 row=3",
+    "Exit status",
+];
+
+/// Checks that the words are answered with a text that has these parts.
+fn check_shown<R: Threads + Wait + AllocGlobal + Abort + Sync>(
+    rt: &R,
+    words: &[&str],
+    parts: &[&str],
+) -> Result<(), Fail> {
+    let ended = run(rt, words, SCRIPT)?;
+    check_same(rt, words, ended.status, 0);
+    check_same(rt, words, ended.printed.as_slice(), b"");
+    check_same(rt, words, ended.flushes, (1, 0));
+    for part in parts {
+        check_part(rt, words, ended.written.as_slice(), part);
+    }
+    Ok(())
+}
+
+#[test]
+fn help_tells_a_newcomer_what_to_do(rt: HostRuntime) -> Result<(), Fail> {
+    for (words, parts) in [
+        (["--help"].as_slice(), PROGRAM.as_slice()),
+        (["-h"].as_slice(), PROGRAM.as_slice()),
+        (["help"].as_slice(), PROGRAM.as_slice()),
+        (["script", "--help"].as_slice(), SCRIPTS.as_slice()),
+        (["script", "-h"].as_slice(), SCRIPTS.as_slice()),
+        (["help", "script"].as_slice(), SCRIPTS.as_slice()),
+        (["script", "--help"].as_slice(), TEXT_OF_LINES.as_slice()),
+        (["load", "--help"].as_slice(), LOADS.as_slice()),
+        (["load", "-h"].as_slice(), LOADS.as_slice()),
+        (["help", "load"].as_slice(), LOADS.as_slice()),
+        (["word", "--help"].as_slice(), WORDS.as_slice()),
+        (["word", "-h"].as_slice(), WORDS.as_slice()),
+        (["help", "word"].as_slice(), WORDS.as_slice()),
+    ] {
+        check_shown(&rt, words, parts)?;
+    }
+    Ok(())
+}
+
+#[test]
+fn the_version_is_told(rt: HostRuntime) -> Result<(), Fail> {
+    for word in ["--version", "-V"] {
+        check_program(&rt, &[word], b"", 0, b"segrun 0.1.0\n", b"")?;
+    }
+    Ok(())
+}

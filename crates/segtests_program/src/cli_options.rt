@@ -1,0 +1,247 @@
+//! The options of a shape, at the ends of what they take.
+use crate::cli_runs::{NO_TOTALS, REPLIES, SCRIPT, check_part, check_program, check_same, run};
+use std::alloc::AllocGlobal;
+use std::process::Abort;
+use std::sync::Wait;
+use std::test::Fail;
+use std::thread::Threads;
+
+/// Checks that the words are a bad command line, and that its text has this part.
+fn check_refused<R: Threads + Wait + AllocGlobal + Abort + Sync>(
+    rt: &R,
+    words: &[&str],
+    part: &str,
+) -> Result<(), Fail> {
+    let ended = run(rt, words, SCRIPT)?;
+    check_same(rt, words, ended.status, 2);
+    check_same(rt, words, ended.written.as_slice(), b"");
+    check_same(
+        rt,
+        words,
+        ended.printed.as_slice().starts_with(b"error: "),
+        true,
+    );
+    check_part(rt, words, ended.printed.as_slice(), part);
+    check_same(rt, words, ended.flushes, (1, 1));
+    Ok(())
+}
+
+/// Checks that the option stands once, and has a number that is under this one.
+fn check_numbers<R: Threads + Wait + AllocGlobal + Abort + Sync>(
+    rt: &R,
+    command: &str,
+    option: &str,
+    above: &str,
+) -> Result<(), Fail> {
+    for number in [above, "-1", "x", "", "1.5"] {
+        check_refused(rt, &[command, option, number], "error: ")?;
+    }
+    check_refused(rt, &[command, option, above], option)?;
+    check_refused(rt, &[command, option], option)?;
+    check_refused(rt, &[command, option, "1", option, "1"], option)
+}
+
+#[test]
+fn an_option_takes_32_bits(rt: HostRuntime) -> Result<(), Fail> {
+    for (option, fault) in [
+        ("--buckets", b"bad shape 1\n".as_slice()),
+        ("--passes", b"bad shape 3\n".as_slice()),
+        ("--segments", b"bad shape 4\n".as_slice()),
+        ("--rows", b"bad shape 5\n".as_slice()),
+    ] {
+        check_program(&rt, &["script", option, "0"], SCRIPT, 3, b"", fault)?;
+        check_program(&rt, &["script", option, "1"], SCRIPT, 0, REPLIES, b"")?;
+        let words = ["script", option, "4294967295"];
+        check_program(&rt, &words, SCRIPT, 3, b"", fault)?;
+    }
+    Ok(())
+}
+
+#[test]
+fn a_first_version_is_any_number_of_32_bits(rt: HostRuntime) -> Result<(), Fail> {
+    for version in ["0", "1", "4294967295"] {
+        let words = ["script", "--first-version", version];
+        check_program(&rt, &words, SCRIPT, 0, REPLIES, b"")?;
+    }
+    Ok(())
+}
+
+#[test]
+fn an_option_stands_once_and_has_a_number(rt: HostRuntime) -> Result<(), Fail> {
+    for (command, option, above) in [
+        ("script", "--buckets", "4294967296"),
+        ("script", "--overflow", "4294967296"),
+        ("script", "--passes", "4294967296"),
+        ("script", "--segments", "4294967296"),
+        ("script", "--rows", "4294967296"),
+        ("script", "--first-version", "4294967296"),
+        ("load", "--seed", "18446744073709551616"),
+        ("load", "--commands", "4294967296"),
+        ("load", "--keys", "1000001"),
+    ] {
+        check_numbers(&rt, command, option, above)?;
+    }
+    Ok(())
+}
+
+#[test]
+fn a_load_takes_a_seed_and_a_number_of_commands(rt: HostRuntime) -> Result<(), Fail> {
+    for seed in ["0", "1", "18446744073709551615"] {
+        let words = ["load", "--commands", "0", "--seed", seed];
+        check_program(&rt, &words, b"", 0, NO_TOTALS, b"")?;
+    }
+    // Without rows the most commands there are take no time.
+    let words = ["load", "--commands", "4294967295", "--rows", "0"];
+    check_program(&rt, &words, b"", 3, b"", b"bad shape 5\n")
+}
+
+#[test]
+fn a_load_makes_one_command(rt: HostRuntime) -> Result<(), Fail> {
+    let words = ["load", "--commands", "1"];
+    let ended = run(&rt, &words, b"")?;
+    check_same(&rt, &words, ended.status, 0);
+    check_part(
+        &rt,
+        &words,
+        ended.written.as_slice(),
+        "\ntotal commands=1 keys=",
+    );
+    Ok(())
+}
+
+#[test]
+fn a_load_takes_1_to_1000000_keys(rt: HostRuntime) -> Result<(), Fail> {
+    for keys in ["1", "64", "+64", "1000000"] {
+        let words = ["load", "--commands", "0", "--keys", keys];
+        check_program(&rt, &words, b"", 0, NO_TOTALS, b"")?;
+    }
+    Ok(())
+}
+
+#[test]
+fn a_bad_option_of_a_load_is_refused(rt: HostRuntime) -> Result<(), Fail> {
+    for (words, part) in [
+        (["load", "--keys", "0"].as_slice(), "--keys"),
+        (["load", "--keys", "x"].as_slice(), "--keys"),
+        (["load", "--keys", "4294967296"].as_slice(), "error: "),
+        (["script", "--keys", "1"].as_slice(), "--keys"),
+        (["script", "--seed", "1"].as_slice(), "--seed"),
+        (["script", "--commands", "1"].as_slice(), "--commands"),
+        (
+            ["load", "--progress", "--progress"].as_slice(),
+            "--progress",
+        ),
+        (["load", "--progress=1"].as_slice(), "--progress"),
+        (["load", "--progress=true"].as_slice(), "--progress"),
+        (["script", "--progress"].as_slice(), "--progress"),
+        (
+            ["word", "0000000000000000", "--progress"].as_slice(),
+            "--progress",
+        ),
+        (["--progress"].as_slice(), "--progress"),
+        // The option takes no value, so the number is a word too many.
+        (["load", "--progress", "1"].as_slice(), "'1'"),
+    ] {
+        check_refused(&rt, words, part)?;
+    }
+    Ok(())
+}
+
+#[test]
+fn a_load_may_tell_its_progress(rt: HostRuntime) -> Result<(), Fail> {
+    for words in [
+        ["load", "--progress", "--commands", "0"].as_slice(),
+        ["load", "--commands", "0", "--progress"].as_slice(),
+    ] {
+        check_program(&rt, words, b"", 0, NO_TOTALS, b"")?;
+    }
+    Ok(())
+}
+
+#[test]
+fn each_option_changes_its_own_part(rt: HostRuntime) -> Result<(), Fail> {
+    // The second pass, and the second segment of the first.
+    check_program(
+        &rt,
+        &["script", "--passes", "2", "--segments", "2"],
+        b"p0 refill 1 4294967295\np1 refill 1 4294967295\np1 refill 3 4294967295\np1 refill 4 4294967295\n",
+        0,
+        b"REFILLED\nNOT_YOURS\nREFILLED\nNOT_YOURS\n",
+        b"",
+    )?;
+    check_program(
+        &rt,
+        &["script", "--rows", "1"],
+        b"p0 refill 0 4294967295\np0 set a 1 @0\np0 set a 2 @0\n",
+        0,
+        b"REFILLED\nSTORED\nNOROOM\n",
+        b"",
+    )?;
+    // Over two buckets the keys a and b have one each.
+    let locks = b"p0 lock a\np1 lock b\n";
+    check_program(
+        &rt,
+        &["script", "--passes=2", "--buckets=2"],
+        locks,
+        0,
+        b"LOCKED\nLOCKED\n",
+        b"",
+    )?;
+    check_program(
+        &rt,
+        &["script", "--passes=2", "--buckets=1"],
+        locks,
+        0,
+        b"LOCKED\nBUSY\n",
+        b"",
+    )
+}
+
+#[test]
+fn a_full_bucket_takes_an_overflow_bucket(rt: HostRuntime) -> Result<(), Fail> {
+    let script =
+        b"p0 refill 0 4294967295\np0 set a 1 @0\np0 set b 1 @0\np0 set c 1 @0\np0 set d 1 @0\np0 set e 1 @0\np0 set f 1 @0\np0 set g 1 @0\np0 set h 1 @0\np0 get h @0\n";
+    let full =
+        b"REFILLED\nSTORED\nSTORED\nSTORED\nSTORED\nSTORED\nSTORED\nSTORED\nBUCKETFULL\nMISS\n";
+    let grown =
+        b"REFILLED\nSTORED\nSTORED\nSTORED\nSTORED\nSTORED\nSTORED\nSTORED\nSTORED\nVALUE 1\n";
+    for (overflow, replies) in [
+        ("0", full.as_slice()),
+        ("1", grown.as_slice()),
+        ("65536", grown.as_slice()),
+    ] {
+        let words = ["script", "--overflow", overflow, "--rows", "8"];
+        check_program(&rt, &words, script, 0, replies, b"")?;
+    }
+    Ok(())
+}
+
+#[test]
+fn more_than_65536_overflow_buckets_are_refused(rt: HostRuntime) -> Result<(), Fail> {
+    for overflow in ["65537", "4294967295"] {
+        let words = ["script", "--overflow", overflow];
+        check_program(&rt, &words, SCRIPT, 3, b"", b"bad shape 2\n")?;
+    }
+    Ok(())
+}
+
+#[test]
+fn a_bad_command_line_says_what_is_wrong(rt: HostRuntime) -> Result<(), Fail> {
+    for (words, part) in [
+        (["--rows", "4"].as_slice(), "--rows"),
+        (["scrpt"].as_slice(), "script"),
+        (["script", "more"].as_slice(), "more"),
+        (["script", "--row", "4"].as_slice(), "--rows"),
+        (["word"].as_slice(), "HEX"),
+        (["word", "0000000000000000", "more"].as_slice(), "more"),
+        (["word", "--rows", "4"].as_slice(), "--rows"),
+        (["load", "more"].as_slice(), "more"),
+        (["load", "--command", "4"].as_slice(), "--commands"),
+        ([""].as_slice(), "segrun"),
+        (["--"].as_slice(), "segrun"),
+        (["help", "lode"].as_slice(), "lode"),
+    ] {
+        check_refused(&rt, words, part)?;
+    }
+    Ok(())
+}

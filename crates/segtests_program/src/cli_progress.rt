@@ -1,0 +1,245 @@
+//! What a watch sees of a load, and the line that tells it.
+use crate::cli_runs::{Ended, SOUND, check_ended, check_same, run_watched};
+use segcli::{Watch, progress_line};
+use std::alloc::{AllocError, AllocGlobal, Global};
+use std::process::Abort;
+use std::sync::Wait;
+use std::sync::atomic::AtomicU64;
+use std::sync::atomic::Ordering::SeqCst;
+use std::test::Fail;
+use std::thread::{Threads, yield_now};
+
+// How often the first call of a watch lets other threads go first.
+const YIELDS: u32 = 100_000;
+
+/// A watch that keeps how often it was called, and what it was told in the first calls.
+/// At the first call it gives the passes that are not watched time for their commands.
+#[derive(Drop)]
+struct Seen {
+    calls: AtomicU64,
+    made: [AtomicU64; 4],
+    of: [AtomicU64; 4],
+}
+
+fn nothing() -> [AtomicU64; 4] {
+    [
+        AtomicU64::new(0),
+        AtomicU64::new(0),
+        AtomicU64::new(0),
+        AtomicU64::new(0),
+    ]
+}
+
+impl Seen {
+    fn new() -> Seen {
+        Seen {
+            calls: AtomicU64::new(0),
+            made: nothing(),
+            of: nothing(),
+        }
+    }
+
+    // What the watch was told by the first four calls: 0 of 0 if there was no such call.
+    fn told(&self) -> [(u64, u64); 4] {
+        let mut told = [(0u64, 0u64); 4];
+        for (at, pair) in told.iter_mut().enumerate() {
+            if let (Some(made), Some(of)) = (self.made.get(at), self.of.get(at)) {
+                *pair = (made.load(SeqCst), of.load(SeqCst));
+            }
+        }
+        told
+    }
+}
+
+impl Watch for Seen {
+    fn saw(&self, made: u64, of: u64) {
+        let at = self.calls.fetch_add(1, SeqCst) as usize;
+        if let Some(kept) = self.made.get(at) {
+            kept.store(made, SeqCst);
+        }
+        if let Some(kept) = self.of.get(at) {
+            kept.store(of, SeqCst);
+        }
+        if at == 0 {
+            for _ in 0..YIELDS {
+                yield_now();
+            }
+        }
+    }
+}
+
+/// Runs a load while the watch looks on, with devices that don't fail.
+fn run_seen<R: Threads + Wait + AllocGlobal + Sync>(
+    rt: &R,
+    words: &[&str],
+    seen: &Seen,
+) -> Result<Ended, AllocError> {
+    run_watched(rt, words, b"", SOUND, seen)
+}
+
+/// Checks how a load ends, and what a watch sees of it.
+fn check_watched<R: Threads + Wait + AllocGlobal + Abort + Sync>(
+    rt: &R,
+    words: &[&str],
+    seen: &Seen,
+    calls: u64,
+) -> Result<(), Fail> {
+    let ended = run_seen(rt, words, seen)?;
+    check_same(rt, words, ended.status, 0);
+    check_same(rt, words, ended.printed.as_slice(), b"");
+    check_same(rt, words, seen.calls.load(SeqCst), calls);
+    Ok(())
+}
+
+/// Checks what a watch sees of a load of one pass.
+fn check_seen<R: Threads + Wait + AllocGlobal + Abort + Sync>(
+    rt: &R,
+    words: &[&str],
+    calls: u64,
+    told: [(u64, u64); 4],
+) -> Result<(), Fail> {
+    let seen = Seen::new();
+    check_watched(rt, words, &seen, calls)?;
+    check_same(rt, words, seen.told(), told);
+    Ok(())
+}
+
+// The watch is called after each 1,024 commands of pass 0.
+#[test]
+fn a_watch_sees_each_1024_commands(rt: HostRuntime) -> Result<(), Fail> {
+    let none = [(0, 0); 4];
+    check_seen(&rt, &["load", "--progress", "--commands", "0"], 0, none)?;
+    check_seen(&rt, &["load", "--progress", "--commands", "1023"], 0, none)?;
+    check_seen(
+        &rt,
+        &["load", "--progress", "--commands", "1024"],
+        1,
+        [(1024, 1024), (0, 0), (0, 0), (0, 0)],
+    )?;
+    check_seen(
+        &rt,
+        &["load", "--progress", "--commands", "4096"],
+        4,
+        [(1024, 4096), (2048, 4096), (3072, 4096), (4096, 4096)],
+    )?;
+    check_seen(
+        &rt,
+        &["load", "--progress", "--commands", "5119"],
+        4,
+        [(1024, 5119), (2048, 5119), (3072, 5119), (4096, 5119)],
+    )
+}
+
+#[test]
+fn a_watch_sees_nothing_without_the_option(rt: HostRuntime) -> Result<(), Fail> {
+    check_seen(&rt, &["load", "--commands", "4096"], 0, [(0, 0); 4])
+}
+
+// The calls are those of pass 0, and they tell the commands of all passes: 3 times 2,048.
+#[test]
+fn a_watch_sees_the_commands_of_all_passes(rt: HostRuntime) -> Result<(), Fail> {
+    let words = [
+        "load",
+        "--passes=3",
+        "--buckets=16",
+        "--commands=2048",
+        "--progress",
+    ];
+    let seen = Seen::new();
+    check_watched(&rt, &words, &seen, 2)?;
+    let told = seen.told();
+    let [(first, _), (second, _), _, _] = told;
+    check_same(
+        &rt,
+        &words,
+        told,
+        [(first, 6144), (second, 6144), (0, 0), (0, 0)],
+    );
+    assert!(rt;
+        1024 <= first && first < second && 2048 < second && second <= 6144,
+        "{told:?}"
+    );
+    Ok(())
+}
+
+/// Checks the totals of a load of one pass, with a watch.
+fn check_totals<R: Threads + Wait + AllocGlobal + Abort + Sync>(
+    rt: &R,
+    words: &[&str],
+    totals: &str,
+) -> Result<(), Fail> {
+    let ended = run_seen(rt, words, &Seen::new())?;
+    check_ended(rt, words, &ended, 0, totals.as_bytes(), b"");
+    check_same(rt, words, ended.flushes, (1, 0));
+    Ok(())
+}
+
+// The totals are those of another program, with the option and without it.
+#[test]
+fn a_watch_changes_no_totals(rt: HostRuntime) -> Result<(), Fail> {
+    let short =
+        "p0 commands=500 hit=113 miss=204 stored=85 not_stored=25 exists=6 not_found=45 deleted=22 noroom=0 bucketfull=0 busy=0\ntotal commands=500 keys=36\n";
+    check_totals(&rt, &["load", "--commands", "500", "--seed", "7"], short)?;
+    check_totals(
+        &rt,
+        &["load", "--progress", "--commands", "500", "--seed", "7"],
+        short,
+    )?;
+    let usual =
+        "p0 commands=1000 hit=303 miss=311 stored=165 not_stored=53 exists=18 not_found=95 deleted=55 noroom=0 bucketfull=0 busy=0\ntotal commands=1000 keys=37\n";
+    check_totals(&rt, &["load"], usual)?;
+    check_totals(&rt, &["load", "--progress"], usual)
+}
+
+// More commands than a watch is called after, with the option and without it.
+#[test]
+fn a_watch_that_is_called_changes_no_totals(rt: HostRuntime) -> Result<(), Fail> {
+    let shape = ["load", "--commands=5000", "--buckets=8", "--rows=64"];
+    let plain = run_seen(&rt, &shape, &Seen::new())?;
+    let [load, commands, buckets, rows] = shape;
+    let seen = Seen::new();
+    let words = [load, commands, buckets, rows, "--progress"];
+    let watched = run_seen(&rt, &words, &seen)?;
+    check_same(&rt, &shape, plain.status, 0);
+    check_ended(&rt, &words, &watched, 0, plain.written.as_slice(), b"");
+    check_same(&rt, &words, seen.calls.load(SeqCst), 4);
+    Ok(())
+}
+
+fn check_line(
+    rt: &impl Abort,
+    alloc: Global,
+    made: u64,
+    of: u64,
+    each_second: Option<u128>,
+    line: &str,
+) -> Result<(), Fail> {
+    let text = progress_line(alloc, made, of, each_second)?;
+    assert_eq!(rt; text.as_slice(), line.as_bytes(), "{line}");
+    Ok(())
+}
+
+#[test]
+fn a_line_tells_commands_share_and_rate(rt: HostRuntime) -> Result<(), Fail> {
+    for (made, of, each_second, line) in [
+        (0, 0, None, "0 of 0, 0 %\n"),
+        (
+            1024,
+            4096,
+            Some(2048),
+            "1024 of 4096, 25 %, 2048 a second\n",
+        ),
+        // Two thirds are 66.7 hundredths.
+        (2, 3, Some(0), "2 of 3, 66 %, 0 a second\n"),
+        (99, 100, None, "99 of 100, 99 %\n"),
+        (
+            u64::MAX,
+            u64::MAX,
+            Some(u128::MAX),
+            "18446744073709551615 of 18446744073709551615, 100 %, 340282366920938463463374607431768211455 a second\n",
+        ),
+    ] {
+        check_line(&rt, rt.alloc(), made, of, each_second, line)?;
+    }
+    Ok(())
+}

@@ -1,0 +1,69 @@
+//! Tests of what the program runs: the plain cache, scripts, loads and the command line.
+#![tactic(auto)]
+
+#[cfg(test)]
+mod cli_devices;
+#[cfg(test)]
+mod cli_given;
+#[cfg(test)]
+mod cli_help;
+#[cfg(test)]
+mod cli_loads;
+#[cfg(test)]
+mod cli_options;
+#[cfg(test)]
+mod cli_order;
+#[cfg(test)]
+mod cli_progress;
+#[cfg(test)]
+mod cli_runs;
+#[cfg(test)]
+mod cli_scripts;
+#[cfg(test)]
+mod cli_words;
+#[cfg(test)]
+mod load_alone;
+#[cfg(test)]
+mod load_crowds;
+#[cfg(test)]
+mod load_gates;
+#[cfg(test)]
+mod load_runs;
+#[cfg(test)]
+mod model_answers;
+#[cfg(test)]
+mod model_cases;
+#[cfg(test)]
+mod model_keeps;
+#[cfg(test)]
+mod script_bad_lines;
+#[cfg(test)]
+mod script_evicting;
+#[cfg(test)]
+mod script_expiring;
+#[cfg(test)]
+mod script_growing;
+#[cfg(test)]
+mod script_holding;
+#[cfg(test)]
+mod script_hostile;
+#[cfg(test)]
+mod script_keeping;
+#[cfg(test)]
+mod script_lines;
+#[cfg(test)]
+mod script_locking;
+#[cfg(test)]
+mod script_making;
+#[cfg(test)]
+mod script_moments;
+#[cfg(test)]
+mod script_order;
+#[cfg(test)]
+mod script_runs;
+#[cfg(test)]
+mod script_serving;
+#[cfg(test)]
+mod script_standard;
+#[cfg(test)]
+mod script_writing;

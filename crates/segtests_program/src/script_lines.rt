@@ -1,0 +1,50 @@
+//! Scripts as tables: each line stands beside its reply.
+use crate::script_runs::{SOUND, check, shape_of};
+use segword::Shape;
+use std::alloc::{AllocError, Global};
+use std::process::Abort;
+use std::test::Fail;
+
+/// A line of a script and its reply, both without their ends.
+pub type Line<'t> = (&'t str, &'t str);
+
+fn push_line(text: &mut String, line: &str) -> Result<(), AllocError> {
+    text.push_str(line)?;
+    text.push('\n')
+}
+
+// The lines, and their replies, as the bytes of a run.
+fn texts(alloc: Global, lines: &[Line<'_>]) -> Result<(String, String), AllocError> {
+    let mut script = String::new(alloc);
+    let mut replies = String::new(alloc);
+    for (line, reply) in lines.iter().copied() {
+        push_line(&mut script, line)?;
+        push_line(&mut replies, reply)?;
+    }
+    Ok((script, replies))
+}
+
+/// Checks that each line has the reply that it wants, by an index with one bucket,
+/// and this many passes, segments of a pass and rows of a segment.
+pub fn check_lines(
+    rt: &impl Abort,
+    alloc: Global,
+    [passes, segments_each, rows]: [u32; 3],
+    lines: &[Line<'_>],
+) -> Result<(), Fail> {
+    let shape = Shape {
+        passes,
+        segments_each,
+        ..shape_of(rows)
+    };
+    let (script, replies) = texts(alloc, lines)?;
+    check(
+        rt,
+        alloc,
+        shape,
+        script.as_bytes(),
+        SOUND,
+        Ok(()),
+        replies.as_bytes(),
+    )
+}
