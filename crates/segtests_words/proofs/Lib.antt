@@ -1,3 +1,0 @@
-pub mod EnteringPasses
-pub mod WalkAllowed
-pub mod Walking
