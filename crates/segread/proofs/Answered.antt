@@ -16,6 +16,7 @@ use Rattle.segstore.proofs.Words.{chained_later}
 use Rattle.segstore.proofs.Readers.{looks}
 use Rattle.segpass.specs.Words.{IsQuiet, RaisesNothing, TakesNoBit}
 use Rattle.segpass.proofs.Draws.{reader_draws_none}
+use Rattle.segread.specs.Costs.{CostsOfLooks}
 use Rattle.segread.specs.Reads.{ReadsBetween, IsGetAnswer, ReadsKey}
 use Rattle.segread.specs.Gets.{IsGetsAnswer, ReadsVersion}
 use Rattle.segread.specs.Hits.{TriesFew, GetRaises, GetsRaises}
@@ -81,15 +82,15 @@ reads_no_bit b p q i = record {
 
 -- ---- whole calls
 
+pub costs_of_looks : (b : Board) (p q : Pass) → IsReader b p q → TriesFew p q → CostsOfLooks p q
+costs_of_looks b p q i few = record { takes_no_bit = reads_no_bit b p q i; draws_nothing = reader_draws_none b p q i.reads; tries = few }
+
 pub reads_key : (b : Board) (key : List ℕ) (draw now : ℕ) (told : GetAnswer) (p q : Pass) → IsQuiet b p → IsReader b p q → TriesFew p q → GetRaises b.shape key draw told p q → IsGetAnswer b.shape key now told (seen p) (seen q) → ReadsKey b key draw now told p q
 reads_key b key draw now told p q quiet i few raised answer = let on = read_on b p q quiet i.reads i.plain i.memo in record {
   on = on.0;
   keeps = on.1;
-  takes_no_bit = reads_no_bit b p q i;
-  draws_nothing = reader_draws_none b p q i.reads;
-  tries = few;
-  raises = raised;
   answer = answer;
+  costs = record { looks = costs_of_looks b p q i few; raises = raised };
 }
 
 pub reads_version : (b : Board) (key : List ℕ) (draw now : ℕ) (told : GetsAnswer) (p q : Pass) → IsQuiet b p → IsReader b p q → TriesFew p q → GetsRaises b.shape key draw told p q → IsGetsAnswer b.shape key now told p q
@@ -97,12 +98,9 @@ pub reads_version : (b : Board) (key : List ℕ) (draw now : ℕ) (told : GetsAn
 reads_version b key draw now told p q quiet i few raised answer unlocked = let on = read_on b p q quiet i.reads i.plain i.memo in record {
   on = on.0;
   keeps = on.1;
-  takes_no_bit = reads_no_bit b p q i;
-  draws_nothing = reader_draws_none b p q i.reads;
-  tries = few;
-  raises = raised;
   answer = answer;
   unlocked = unlocked;
+  costs = record { looks = costs_of_looks b p q i few; raises = raised };
 }
 
 -- an answer that isn't a hit

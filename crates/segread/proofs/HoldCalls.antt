@@ -33,8 +33,8 @@ use Rattle.segread.specs.Hits.{TriesFew}
 use Rattle.segread.specs.Holds.{IsRowOf, IsHoldOf, TakesHold, IsHoldAnswer, HoldsItem, NoneFills, IsUnfilled, Releases, SetsHold}
 use Rattle.segpass.proofs.Still.{then_minds}
 use Rattle.segpass.proofs.Bits.{none_at_both, bit_before}
-use Rattle.segpass.proofs.Draws.{moved_undrawn, reads_undrawn, reader_draws_none}
-use Rattle.segread.proofs.Answered.{reads_set_none, reads_try_none, reads_no_bit}
+use Rattle.segpass.proofs.Draws.{moved_undrawn, reads_undrawn}
+use Rattle.segread.proofs.Answered.{costs_of_looks, reads_set_none, reads_try_none}
 use Rattle.segpass.proofs.Idling.{took_none}
 use Rattle.segread.proofs.Holding.{held_at, held_from, held_past, held_deadline, held_stood, has_held, is_hold, held_row, row_of_hold}
 use Rattle.segpass.proofs.Quiet.{has_lock, goes_on, reads_none}
@@ -212,12 +212,9 @@ module _ (b : Board) (p r q : Pass) (place : Place) (item : Item) (key value : L
 pub holds_none : (b : Board) (key : List ℕ) (now : ℕ) (told : HoldAnswer) (p q : Pass) → IsQuiet b p → IsReader b p q → TriesFew p q → RaisesNothing p q → (ChangesNothing p q → IsHoldAnswer b.shape key now told p q) → ((told ≡ answer.AlreadyHolding) ↔ (is_holding_of p ≡ true)) → HoldsItem b key now told p q
 holds_none b key now told p q quiet i few none then already = let on = read_on b p q quiet i.reads i.plain i.memo in record {
   on = on.0;
-  takes_no_bit = reads_no_bit b p q i;
-  draws_nothing = reader_draws_none b p q i.reads;
-  raises_nothing = none;
-  tries = few;
   answer = then on.1;
   already = already;
+  costs = record { looks = costs_of_looks b p q i few; raises_nothing = none };
 }
 
 -- what the pass may keep in mind of what it found

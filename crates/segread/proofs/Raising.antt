@@ -2,9 +2,9 @@
 use Rattle.std.proofs.Common.{◌≡◌, ℕ, ◌+◌, ◌<◌, ◌≤◌, Bool, true, false, cond, eqb, List, [], ◌∷◌, ◌++◌, Some, refl, sym, ap, ◌∙◌, subst, inl, inr, arith, ◌⊎◌}
 use Rattle.std.proofs.lemmas.Bool.Decides.{eqb_tells}
 use Rattle.std.proofs.lemmas.Bool.{cond-true, cond-false, eq-eqb, eqb-true, false≢true}
-use Rattle.std.proofs.lemmas.Option.{same_Some}
+use Rattle.std.proofs.lemmas.Option.{none-some, same_Some}
 use Rattle.segword.specs.Words.{IsValid, Item, item_word, Shape}
-use Rattle.segmodel.specs.Words.{after, Begins, standing, tag_of}
+use Rattle.segmodel.specs.Words.{after, Begins, bucket_of, standing, tag_of}
 use Rattle.segcore.specs.declared.event.Event.TheVariants.{Bumped}
 use Rattle.segcore.specs.Words.{bucket_after, bump, cached, content_word, Event, frequency_of}
 use Rattle.segcore.specs.Words.{Holds, inside, last_at, marked, packed, Row, row_after, seen, View}
@@ -15,6 +15,7 @@ use Rattle.segcore.proofs.Entered.{no_refill}
 use Rattle.segcore.proofs.Exact.{content_at, one_value}
 use Rattle.segcore.proofs.Moments.{begins_on}
 use Rattle.segcore.proofs.Limits.{low_row, low_segment, low_frequency}
+use Rattle.segcore.proofs.Searches.{key_placed, placed_key}
 use Rattle.segcore.proofs.Segments.{row_since}
 use Rattle.segcore.proofs.Standing.{coherent}
 use Rattle.segpolicy.specs.Words.{draw_raises, frequency_after_hit}
@@ -22,11 +23,12 @@ use Rattle.segbase.specs.Words.{AddsAtOnce, AddsEvents, Board, cell_at, entered,
 use Rattle.segbase.specs.Words.{IsPassOf, number, Pass, Place, position, raised, Stepped, trace}
 use Rattle.segbase.proofs.Alone.{moved_alone}
 use Rattle.segbase.proofs.Moves.{moved_entered}
+use Rattle.segbase.proofs.Standing.{tag_of_word}
 use Rattle.segstore.specs.Words.{FoundItem, IsChained, row_part, segment_part, WasLinked}
-use Rattle.segstore.proofs.Words.{chained_later, stood_item}
+use Rattle.segstore.proofs.Words.{chained_later, same_place, stood_item}
 use Rattle.segstore.proofs.Seconds.{segment_of_item, row_of_item}
 use Rattle.segpass.specs.Words.{RaisesNothing}
-use Rattle.segread.specs.Hits.{HasFrequency, CountsHit, PassesHit, IsOvertaken, RaisesFrom, RaisesOne}
+use Rattle.segread.specs.Hits.{HasFrequency, CountsHit, IsItemAtPosition, PassesHit, IsOvertaken, RaisesFrom, RaisesOne}
 use Rattle.segread.proofs.Tries.{has_tag}
 
 -- an item whose word stands at a place is its key's, and has the word's frequency
@@ -123,17 +125,39 @@ module _ (b : Board) (p q : Pass) (place : Place) (item : Item) (higher draw fou
       | inr more ↦ let n = is.one_of in let ne = more.1 in omega (arith, n, ne)
     ]
 
+    abbrev then_at : ℕ
+    then_at = position b.shape saw.saw.at place
+
+    -- the item no longer stands so: else the exchange would have found its word
+    gone : ¬ (IsItemAtPosition b.shape key value item.seg item.row item.freq then_at at)
+    gone (had, placed) =
+        let z = b.shape in let lawful = step.told.before in let was = saw.saw.was in
+        let up = begins_on saw.saw.at (trace p) at saw.saw.between.1 (step.told.more, refl) in
+        let kept = same_place z saw.saw.at at place lawful up was.chained in
+        let there = placed_key z key at then_at lawful (λ none. none-some (cached value item.seg) (sym none ∙ had.stands)) placed in
+        let home : home_bucket z at place ≡ bucket_of z key = kept.0 ∙ sym was.here.0 in
+        let here : (bucket_after z at (home_bucket z at place)).items (position z at place) ≡ buckets.item there.0 = (λ i. (bucket_after z at (home i)).items (kept.1 i)) ∙ there.1 in
+        let last = ((coherent z at lawful).items (bucket_of z key) then_at there.0 there.1).last in
+        let named : there.0 ≡ buckets.slot key item.seg item.row = same_Some there.0 (buckets.slot key item.seg item.row) (sym last ∙ (ap (last_at (marked at)) there.2 ∙ had.last)) in
+        let tag : tag_of key ≡ item.tag = sym was.tag ∙ tag_of_word item.tag item.freq item.seg item.row item.freq_in_range item.seg_in_range item.row_in_range in
+        let frequency : frequency_of at item.seg item.row ≡ item.freq = sym (frequency_marked at item.seg item.row) ∙ had.had in
+        let reads : word z at (cell_at z place) ≡ packed (tag_of key) (frequency_of at item.seg item.row) item.seg item.row =
+        content_at z at (home_bucket z at place) (position z at place) (cell_at z place) (chained_later z saw.saw.at at place lawful up was.chained).at ∙ ap (content_word at) (here ∙ ap buckets.item named) in
+        false≢true (sym other ∙ eq-eqb found (item_word item) (step.told.found_is ∙ (reads ∙ (λ i. packed (tag i) (frequency i) item.seg item.row))))
+
     pub overtaken : IsOvertaken b.shape key value h (trace q)
     overtaken = record {
       at = saw.saw.at;
       later = at;
-      place = place;
-      word = item_word item;
+      segment = item.seg;
+      row = item.row;
+      frequency = item.freq;
+      position = then_at;
       since = saw.saw.between.0;
       then = begins_on saw.saw.at (trace p) at saw.saw.between.1 (step.told.more, refl);
       until = ([], unchanged);
-      was = saw.saw.was;
-      other = λ same. false≢true (sym other ∙ eq-eqb found (item_word item) (step.told.found_is ∙ same));
+      stood = (has_frequency b.shape saw.saw.at place item key value is.valid saw.saw.was, key_placed b.shape key saw.saw.at then_at saw.saw.was.lawful saw.saw.was.here.1);
+      other = gone;
     }
 
 -- an exchange that is tried once
@@ -201,12 +225,14 @@ overtaken_wider : (z : Shape) (key value : List ℕ) (h g f e : List Event) → 
 overtaken_wider z key value h g f e before after c = record {
   at = c.at;
   later = c.later;
-  place = c.place;
-  word = c.word;
+  segment = c.segment;
+  row = c.row;
+  frequency = c.frequency;
+  position = c.position;
   since = begins_on h g c.at before c.since;
   then = c.then;
   until = begins_on c.later f e c.until after;
-  was = c.was;
+  stood = c.stood;
   other = c.other;
 }
 

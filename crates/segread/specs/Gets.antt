@@ -15,9 +15,10 @@ use Rattle.segread.specs.declared.version.Sight.{Sight}
 use Rattle.segread.specs.declared.version.Sight.TheVariants as sight
 use Rattle.segread.specs.declared.version.Attempt.{Attempt}
 use Rattle.segread.specs.declared.version.Attempt.TheVariants as attempt
-use Rattle.segpass.specs.Words.{ChangesNothing, DrawsNothing, GoesOn, TakesNoBit}
+use Rattle.segpass.specs.Words.{ChangesNothing, GoesOn}
+use Rattle.segread.specs.Costs.{CostsOfGets}
 use Rattle.segread.specs.Reads.{ReadsBetween}
-use Rattle.segread.specs.Hits.{TriesFew, RaisesOne, GetsRaises}
+use Rattle.segread.specs.Hits.{RaisesOne}
 use Rattle.segread.specs.Scanning.{IsPlaceOf, words_below, ComesIn, Tries, CountsTries, AdvancesSearch, GivesUp}
 
 -- ---- the answer
@@ -65,21 +66,16 @@ IsGetsAnswer shape key now gets.Miss p q = ReadsBetween shape key now (seen p) (
 IsGetsAnswer shape key now gets.Busy p q =
     IsDisturbed shape key now p q ⊎ PresentLocked shape key now p q
 
--- A gets of a key has this answer.
--- The gets changes nothing, takes no bit, draws no overflow bucket,
--- and raises a frequency only by a hit.
+-- A gets of a key has this answer, and changes nothing.
 -- It finds nothing in a bucket that the pass itself has locked.
 pub record ReadsVersion (b : Board) (key : List ℕ) (draw now : ℕ) (told : GetsAnswer) (p q : Pass)
     : Type 0 where
   pub on : GoesOn b p q
   pub keeps : ChangesNothing p q
-  pub takes_no_bit : TakesNoBit p q
-  pub draws_nothing : DrawsNothing p q
-  pub tries : TriesFew p q
-  pub raises : GetsRaises b.shape key draw told p q
   pub answer : IsGetsAnswer b.shape key now told p q
   pub unlocked : (value : List ℕ) (version : ℕ) → told ≡ gets.Found value version
       → locked_of p ≢ Some (bucket_of b.shape key)
+  pub costs : CostsOfGets b.shape key draw told p q
 
 -- ---- on the way
 

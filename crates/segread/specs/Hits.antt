@@ -1,15 +1,16 @@
 -- What readers do beside their answers: how often they come into segments,
 -- and which frequency a hit raises.
-use Rattle.std.specs.Prelude.{◌≡◌, ◌≢◌, ◌<◌, ◌⊎◌, ℕ, ◌+◌, ◌≤◌, true, false, List, ◌∷◌, Some}
+use Rattle.std.specs.Prelude.{◌≡◌, ◌<◌, ◌⊎◌, ℕ, ◌+◌, ◌≤◌, true, false, List, ◌∷◌, Some}
 use Rattle.segword.specs.Words.{Item, item_word, Shape}
 use Rattle.segmodel.specs.declared.answer.GetAnswer.TheVariants as get
 use Rattle.segmodel.specs.declared.answer.GetsAnswer.TheVariants as gets
 use Rattle.segmodel.specs.Words.{after, Begins, GetAnswer, GetsAnswer, standing}
 use Rattle.segcore.specs.declared.event.Event.TheVariants.{Bumped}
+use Rattle.segcore.specs.Mark.{place}
 use Rattle.segcore.specs.Words.{cached, Event, frequency_in, inside, last_at, marked, seen, slot}
 use Rattle.segpolicy.specs.Words.{draw_raises}
 use Rattle.segbase.specs.Words.{Board, entered, number, Pass, Place, raised, trace}
-use Rattle.segstore.specs.Words.{FoundItem, WasLinked, word_of_place}
+use Rattle.segstore.specs.Words.{FoundItem}
 use Rattle.segpass.specs.Words.{RaisesNothing}
 
 -- The pass came into segments at most as often as a scan of a chain may try:
@@ -49,21 +50,29 @@ pub record PassesHit (shape : Shape) (key value : List ℕ) (draw : ℕ) (old ne
   pub had : HasFrequency shape key value segment row frequency at
   pub uncounted : draw_raises frequency draw ≡ false
 
--- between two traces the key's item stood in a word, and later another word stood there
+-- at a moment the key's item stands at this position of its chain, with this frequency
+abbrev pub IsItemAtPosition : Shape → List ℕ → List ℕ → ℕ → ℕ → ℕ → ℕ → List Event → Type 0
+IsItemAtPosition shape key value segment row frequency position at =
+    HasFrequency shape key value segment row frequency at
+    × (place shape (marked at) key ≡ Some position)
+
+-- between two traces the key's item stood so, and later it didn't
 pub record IsOvertaken (shape : Shape) (key value : List ℕ) (old new : List Event) : Type 0 where
   pub at : List Event
   pub later : List Event
-  pub place : Place
-  pub word : ℕ
+  pub segment : ℕ
+  pub row : ℕ
+  pub frequency : ℕ
+  pub position : ℕ
   pub since : Begins old at
   pub then : Begins at later
   pub until : Begins later new
-  pub was : WasLinked shape place word key value at
-  pub other : word_of_place shape later place ≢ word
+  pub stood : IsItemAtPosition shape key value segment row frequency position at
+  pub other : ¬ (IsItemAtPosition shape key value segment row frequency position later)
 
 -- From this trace on the pass raised the frequency of the key's item by one, and the draw counts.
 -- Or it raised nothing: the draw doesn't count,
--- or there are several passes and the word changed first.
+-- or there are several passes and the item changed first.
 abbrev pub RaisesFrom : Shape → List ℕ → List ℕ → ℕ → List Event → Pass → Pass → Type 0
 RaisesFrom shape key value draw before p q =
     ((raised q ≡ raised p + 1) × CountsHit shape key value draw (number p) before (trace q))

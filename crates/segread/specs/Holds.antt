@@ -9,9 +9,8 @@ use Rattle.segbase.specs.Words.{Board, Held, holding, is_holding_of, mine, Pass,
 use Rattle.segread.specs.declared.held.Hold.{Hold}
 use Rattle.segread.specs.declared.held.HoldAnswer.{HoldAnswer}
 use Rattle.segread.specs.declared.held.HoldAnswer.TheVariants as hold_answer
-use Rattle.segpass.specs.Words.{ChangesNothing, CostsNothing, DrawsNothing, GoesOn, RaisesNothing}
-use Rattle.segpass.specs.Words.{memo, TakesNoBit}
-use Rattle.segread.specs.Hits.{TriesFew}
+use Rattle.segpass.specs.Words.{ChangesNothing, CostsNothing, GoesOn, memo}
+use Rattle.segread.specs.Costs.{CostsOfHold}
 use Rattle.segread.specs.Reads.{ReadsBetween}
 
 -- the row of the hold is linked to the key of what is held, and holds the pair
@@ -56,17 +55,13 @@ IsHoldAnswer shape key now hold_answer.Busy p q =
     ChangesNothing p q × (64 ≤ stirred shape key (seen p) (seen q))
 IsHoldAnswer shape key now hold_answer.AlreadyHolding p q = q ≡ p
 
--- A hold of a key has this answer, which is AlreadyHolding exactly if the pass holds an item.
--- The hold takes no bit, draws no overflow bucket, and raises no frequency.
+-- a hold of a key has this answer, which is AlreadyHolding exactly if the pass holds an item
 pub record HoldsItem (b : Board) (key : List ℕ) (now : ℕ) (told : HoldAnswer) (p q : Pass)
     : Type 0 where
   pub on : GoesOn b p q
-  pub takes_no_bit : TakesNoBit p q
-  pub draws_nothing : DrawsNothing p q
-  pub raises_nothing : RaisesNothing p q
-  pub tries : TriesFew p q
   pub answer : IsHoldAnswer b.shape key now told p q
   pub already : (told ≡ hold_answer.AlreadyHolding) ↔ (is_holding_of p ≡ true)
+  pub costs : CostsOfHold p q
 
 -- The value that is read is the one that the pass holds.
 -- Reading it changes nothing and costs nothing, and the hold stays.

@@ -1,3 +1,4 @@
+pub mod Costs
 pub mod Gets
 pub mod Hits
 pub mod Holds

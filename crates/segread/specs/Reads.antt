@@ -5,8 +5,8 @@ use Rattle.segword.specs.Words.{Shape}
 use Rattle.segmodel.specs.declared.answer.GetAnswer.TheVariants as get
 use Rattle.segmodel.specs.Words.{after, Entry, GetAnswer, IsBetween, reads, stirred}
 use Rattle.segbase.specs.Words.{Board, Pass, seen}
-use Rattle.segpass.specs.Words.{ChangesNothing, DrawsNothing, GoesOn, TakesNoBit}
-use Rattle.segread.specs.Hits.{TriesFew, GetRaises}
+use Rattle.segpass.specs.Words.{ChangesNothing, GoesOn}
+use Rattle.segread.specs.Costs.{CostsOfGet}
 
 -- ---- readers
 
@@ -25,14 +25,10 @@ IsGetAnswer shape key now (get.Found value) old new =
 IsGetAnswer shape key now get.Miss old new = ReadsBetween shape key now old new None
 IsGetAnswer shape key now get.Busy old new = 64 ≤ stirred shape key old new
 
--- A get of a key has this answer. The get changes nothing, takes no bit, draws no overflow bucket,
--- and raises a frequency only by a hit.
+-- a get of a key has this answer, and changes nothing
 pub record ReadsKey (b : Board) (key : List ℕ) (draw now : ℕ) (told : GetAnswer) (p q : Pass)
     : Type 0 where
   pub on : GoesOn b p q
   pub keeps : ChangesNothing p q
-  pub takes_no_bit : TakesNoBit p q
-  pub draws_nothing : DrawsNothing p q
-  pub tries : TriesFew p q
-  pub raises : GetRaises b.shape key draw told p q
   pub answer : IsGetAnswer b.shape key now told (seen p) (seen q)
+  pub costs : CostsOfGet b.shape key draw told p q

@@ -28,12 +28,12 @@ pub returns-then-is_holding : goal.returns-then-is_holding
 returns-then-is_holding c = record {
   holds = record {
     on = goes_same c.args.board.now c.args.pass.now c.requires.pass;
-    takes_no_bit = record { taken = refl; bounced = λ bucket. refl };
-    draws_nothing = λ bucket. refl;
-    raises_nothing = refl;
-    tries = omega arith;
     answer = refl;
     already = search rules;
+    costs = record {
+      looks = record { takes_no_bit = record { taken = refl; bounced = λ bucket. refl }; draws_nothing = λ bucket. refl; tries = omega arith };
+      raises_nothing = refl;
+    };
   };
 }
 
@@ -56,12 +56,16 @@ returns-else-hit-now c =
     let still = out_then q t r (looked b q t v.ensures.reads.looked.did.moved) (same_view t r set.view) in record {
       holds = record {
         on = holds.0;
-        takes_no_bit = takes_no_bit b read.reads.own held p t r c.requires.pass read.reads.moved read.reads.only read.plain read.memo set.pass set.view set.sets;
-        draws_nothing = draws_nothing b read.reads.own held p t r c.requires.pass read.reads.moved read.reads.only read.plain read.memo set.pass set.view set.sets;
-        raises_nothing = still.1 ∙ f.ensures.raises_nothing;
-        tries = few_out p q r f.ensures.tries still;
         answer = holds.1;
         already = search rules;
+        costs = record {
+          looks = record {
+            takes_no_bit = takes_no_bit b read.reads.own held p t r c.requires.pass read.reads.moved read.reads.only read.plain read.memo set.pass set.view set.sets;
+            draws_nothing = draws_nothing b read.reads.own held p t r c.requires.pass read.reads.moved read.reads.only read.plain read.memo set.pass set.view set.sets;
+            tries = few_out p q r f.ensures.tries still;
+          };
+          raises_nothing = still.1 ∙ f.ensures.raises_nothing;
+        };
       };
     }
 
