@@ -145,7 +145,7 @@ module _ (b : Board) (request : Request) (key : List ℕ) (now : ℕ) (bucket : 
 
 -- the bit can't be had
 pub deletes_nothing : (b : Board) (key : List ℕ) (now : ℕ) (p q : Pass) → TakesToWrite b (bucket_of b.shape key) false p q → Deletes b key now delete.Busy p q
-deletes_nothing b key now p q busy = record { on = busy.0; answer = (busy.1, busy.2); locked = λ has. refl; takes = λ other. absurd (other refl); draws_nothing = busy.3; enters = enters_none b.shape key p q busy.4; reads_nothing = λ told. busy.4 }
+deletes_nothing b key now p q busy = record { on = busy.0; answer = (busy.1, busy.2); locked = λ has. refl; costs = record { takes = λ other. absurd (other refl); draws_nothing = busy.3; enters = enters_none b.shape key p q busy.4; reads_nothing = λ told. busy.4 } }
 
 deletion_entry : (z : Shape) (key : List ℕ) (now at : ℕ) → IsEntry z (bucket_of z key) (λ pass. Unlinked pass key at (leaving.Deletes now)) (λ pass. Wrote pass (Delete key now) reply.Deleted None)
 deletion_entry z key now at = record { at = λ pass. refl; adds = λ pass. refl; of = λ pass. refl; still = λ pass. tt; calm = λ pass. tt; undrawn = λ pass. tt; untried = λ pass. tt }
@@ -178,19 +178,23 @@ module _ (b : Board) (key : List ℕ) (now : ℕ) (p q s : Pass) (quiet : IsQuie
           on = entered_on b own_bucket true act entry is p g g s quiet had still gives;
           answer = (entered b own_bucket true act entry is p g g s quiet had still gives, plain_back b own_bucket true act entry is p g g s quiet had still gives, memo_back b own_bucket true act entry is p g g s quiet had still gives);
           locked = λ has. absurd (took.unlocked has);
-          takes = λ other. entered_taking b own_bucket true act entry is p g g s quiet had still gives;
-          draws_nothing = entered_undrawn b own_bucket true act entry is p g g s quiet had still gives;
-          enters = enters_once (entered_peeking b own_bucket true act entry is p g g s quiet had still gives) (moved_on b _ g s gives.moved);
-          reads_nothing = λ (busy : delete.Deleted ≡ delete.Busy). cc;
+          costs = record {
+            takes = λ other. entered_taking b own_bucket true act entry is p g g s quiet had still gives;
+            draws_nothing = entered_undrawn b own_bucket true act entry is p g g s quiet had still gives;
+            enters = enters_once (entered_peeking b own_bucket true act entry is p g g s quiet had still gives) (moved_on b _ g s gives.moved);
+            reads_nothing = λ (busy : delete.Deleted ≡ delete.Busy). cc;
+          };
         }
     deletes_present delete.NotFound refuses = record {
       on = refused_goes_on b (Delete key now) reply.NotFound p g g s quiet had still refuses;
       answer = refused_replied b (Delete key now) reply.NotFound p g g s quiet had still refuses;
       locked = λ has. absurd (took.unlocked has);
-      takes = λ other. refused_takes b (Delete key now) reply.NotFound p g g s quiet had still refuses;
-      draws_nothing = refused_undrawn b (Delete key now) reply.NotFound p g g s quiet had still refuses;
-      enters = enters_once (refused_peeking b (Delete key now) reply.NotFound p g g s quiet had still refuses) (moved_on b _ g s refuses.moved);
-      reads_nothing = λ (busy : delete.NotFound ≡ delete.Busy). cc;
+      costs = record {
+        takes = λ other. refused_takes b (Delete key now) reply.NotFound p g g s quiet had still refuses;
+        draws_nothing = refused_undrawn b (Delete key now) reply.NotFound p g g s quiet had still refuses;
+        enters = enters_once (refused_peeking b (Delete key now) reply.NotFound p g g s quiet had still refuses) (moved_on b _ g s refuses.moved);
+        reads_nothing = λ (busy : delete.NotFound ≡ delete.Busy). cc;
+      };
     }
     deletes_present delete.Busy none = absurd none
 

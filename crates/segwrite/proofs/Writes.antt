@@ -1,5 +1,5 @@
 -- A write of a key, from the take of the bit to its answer: what was found, what the cache replies, and each way in which it ends.
-use Rattle.std.proofs.Common.{◌≡◌, ◌≢◌, ⊎_elim, ℕ, ◌^◌, ◌<◌, true, false, is_some, List, [], ◌∷◌, Option, Some, None, refl, sym, ap, ◌∙◌, subst}
+use Rattle.std.proofs.Common.{◌≡◌, ◌≢◌, ℕ, ◌^◌, ◌<◌, true, false, is_some, List, [], ◌∷◌, Option, Some, None, refl, sym, ap, ◌∙◌, subst}
 use Rattle.std.proofs.lemmas.Option.{same_Some, none-some}
 use Rattle.segword.specs.Words.{IsKey}
 use Rattle.segmodel.specs.declared.request.Reply.TheVariants.{Stored}
@@ -23,9 +23,8 @@ use Rattle.segpass.proofs.Peeking.{PeeksInto}
 use Rattle.segpass.specs.Words.{DrawsNothing, GoesOn, HasCleanBit, IsQuiet, MayEnterAny, memo, peek, ReadsNothing}
 use Rattle.segpass.specs.Words.{TakesOneBit, TakesToWrite, TookToWrite}
 use Rattle.segwrite.specs.Presence.{depends_on_key, PeeksFor}
-use Rattle.segwrite.specs.Writes.{EntersForKey, IsWriteAnswer, Writes, UsesRow}
+use Rattle.segwrite.specs.Writes.{CostsOfAnswer, EntersForKey, IsWriteAnswer, Writes, UsesRow}
 use Rattle.segwrite.specs.Full.{GrowsFor}
-use Rattle.segwrite.specs.FirstEmpty.{TookFirstEmpty}
 use Rattle.segwrite.specs.Writing.{Finds, IsTarget, HasFullChain}
 use Rattle.segwrite.specs.Growing.{Searches, target_of, CannotGrow, IsAsFound, MakesRoom}
 use Rattle.segwrite.specs.Storing.{IsNextRow, Requests, StoresUnderBit}
@@ -40,36 +39,39 @@ use Rattle.segpass.proofs.UnderWrite.{HasBegun, begun, took_keeps}
 
 -- all that follows where there is room, and the bit was taken
 writes_with : (b : Board) (request : Request) (told : WriteAnswer) (p s : Pass) → ¬ (has_room b.shape p ≡ false) → locked_of p ≢ Some (bucket_of b.shape (key_of request)) → told ≢ write.NoRoom → told ≢ write.Busy
-    → GoesOn b p s → IsWriteAnswer b.shape request told p s → TakesOneBit (bucket_of b.shape (key_of request)) p s → GrowsFor b.shape request p s → (told ≢ write.Stored → DrawsNothing p s) → (told ≡ write.Stored → TookFirstEmpty b.shape request (number p) (trace p) (trace s))
-    → EntersForKey b.shape (key_of request) p s → (depends_on_key request ≡ false → ReadsNothing p s) → Writes b request told p s
-writes_with b request told p s room unlocked some free on answer takes grows none first enters unread = record {
+    → GoesOn b p s → IsWriteAnswer b.shape request told p s → CostsOfAnswer b.shape request told p s → GrowsFor b.shape request p s → EntersForKey b.shape (key_of request) p s → (depends_on_key request ≡ false → ReadsNothing p s) → Writes b request told p s
+writes_with b request told p s room unlocked some free on answer of_answer grows enters unread = record {
   on = on;
   answer = answer;
-  untouched = λ none. absurd (some none);
   no_room = (λ none. absurd (some none), λ none. absurd (room none));
   locked = λ has locked. absurd (unlocked locked);
-  takes = λ some free. takes;
-  grows = grows;
-  draws_nothing = none;
-  first_empty = first;
-  enters = enters;
-  reads_nothing = λ why. ⊎_elim unread (λ busy. absurd (free busy)) why;
+  costs = record { of_answer = of_answer; grows = grows; enters = enters; reads_nothing = unread };
 }
+
+-- what a refusal by the cache, or for lack of a word, costs
+refusal_costs : (b : Board) (request : Request) (told : WriteAnswer) (p s : Pass) → told ≢ write.Stored → told ≢ write.NoRoom → told ≢ write.Busy
+    → TakesOneBit (bucket_of b.shape (key_of request)) p s → DrawsNothing p s → CostsOfAnswer b.shape request told p s
+refusal_costs b request write.Stored p s unstored some free takes none = absurd (unstored refl)
+refusal_costs b request write.NotStored p s unstored some free takes none = (takes, none)
+refusal_costs b request write.Exists p s unstored some free takes none = (takes, none)
+refusal_costs b request write.NotFound p s unstored some free takes none = (takes, none)
+refusal_costs b request write.NoRoom p s unstored some free takes none = absurd (some refl)
+refusal_costs b request write.BucketFull p s unstored some free takes none = (takes, none)
+refusal_costs b request write.Busy p s unstored some free takes none = absurd (free refl)
 
 -- the bit can't be had
 pub ends_busy : (b : Board) (request : Request) (p q : Pass) → ¬ (has_room b.shape p ≡ false) → TakesToWrite b (bucket_of b.shape (key_of request)) false p q → Writes b request write.Busy p q
 ends_busy b request p q room busy = record {
   on = busy.0;
   answer = (busy.1, busy.2);
-  untouched = λ (e : write.Busy ≡ write.NoRoom). cc;
   no_room = ((λ (e : write.Busy ≡ write.NoRoom). cc), λ none. absurd (room none));
   locked = λ has locked. refl;
-  takes = λ some free. absurd (free refl);
-  grows = grows_none b.shape request p q busy.3;
-  draws_nothing = λ other. busy.3;
-  first_empty = λ (e : write.Busy ≡ write.Stored). cc;
-  enters = enters_none b.shape (key_of request) p q busy.4;
-  reads_nothing = λ why. busy.4;
+  costs = record {
+    of_answer = (busy.3, busy.4);
+    grows = grows_none b.shape request p q busy.3;
+    enters = enters_none b.shape (key_of request) p q busy.4;
+    reads_nothing = λ is_set. busy.4;
+  };
 }
 
 module _ (b : Board) (w : When) (request : Request) (key value words : List ℕ) (now bucket : ℕ) (asked : request ≡ request_of w key value now) (home : bucket ≡ bucket_of b.shape key) (copied : words ≡ key)
@@ -130,11 +132,14 @@ module _ (b : Board) (w : When) (request : Request) (key value words : List ℕ)
         let why = subst (IsToldBy (reply_now b g request)) is told in
         let undrawn = refused_undrawn b request (reply_now b g request) p g g s quiet had_it still refuses in
         let peeks = refused_peeking b request (reply_now b g request) p g g s quiet had_it still refuses in
-        writes_with b request answer p s room took_it.unlocked (λ none. none-some (reply_now b g request) (sym (ap reply_of_write none) ∙ why.0)) (λ busy. none-some (reply_now b g request) (sym (ap reply_of_write busy) ∙ why.0))
+        let some : answer ≢ write.NoRoom = λ none. none-some (reply_now b g request) (sym (ap reply_of_write none) ∙ why.0) in
+        let free : answer ≢ write.Busy = λ busy. none-some (reply_now b g request) (sym (ap reply_of_write busy) ∙ why.0) in
+        let unstored : answer ≢ write.Stored = λ stored. subst IsRefusal (same_Some (reply_now b g request) Stored (sym why.0 ∙ ap reply_of_write stored)) why.1 in
+        writes_with b request answer p s room took_it.unlocked some free
         (refused_goes_on b request (reply_now b g request) p g g s quiet had_it still refuses)
         (refused_answer b request (reply_now b g request) p g g s quiet had_it still refuses answer why.0 why.1)
-        (refused_takes b request (reply_now b g request) p g g s quiet had_it still refuses)
-        (grows_none b.shape request p s undrawn) (λ other. undrawn) (λ stored. absurd (subst IsRefusal (same_Some (reply_now b g request) Stored (sym why.0 ∙ ap reply_of_write stored)) why.1))
+        (refusal_costs b request answer p s unstored some free (refused_takes b request (reply_now b g request) p g g s quiet had_it still refuses) undrawn)
+        (grows_none b.shape request p s undrawn)
         (enters_once s (moved_on b _ g s refuses.moved) peeks) (unread_set s peeks)
 
     -- what the refusal asks for
@@ -173,8 +178,8 @@ module _ (b : Board) (w : When) (request : Request) (key value words : List ℕ)
             let undrawn = full_undrawn b (key_of request) p g r s quiet had_it none.0 none.2 none.1 freed' free' plain same in
             let peeks = full_peeking b (key_of request) p g r s quiet had_it none.0 none.2 none.1 freed' free' plain same in
             writes_with b request write.BucketFull p s rows took_it.unlocked (λ e. cc) (λ e. cc) (full_goes_on b (key_of request) p g r s quiet had_it none.0 none.2 none.1 freed' free' plain same) (answer.0, adds, answer.1)
-            (full_takes b (key_of request) p g r s quiet had_it none.0 none.2 none.1 freed' free' plain same)
-            (grows_none b.shape request p s undrawn) (λ other. undrawn) (λ stored. cc)
+            (full_takes b (key_of request) p g r s quiet had_it none.0 none.2 none.1 freed' free' plain same, undrawn)
+            (grows_none b.shape request p s undrawn)
             (enters_once s (begins_on (trace g) (trace r) (trace s) (moved_on b [] g r none.0.moved) (moved_on b _ r s freed.moved)) peeks) (unread_set s peeks)
 
       -- it is stored
@@ -209,8 +214,9 @@ module _ (b : Board) (w : When) (request : Request) (key value words : List ℕ)
             adds_absent request version (ap (λ o. reply_to request (is_some o) version) (sym (none_present b (key_of request) (moment_of request) g absent)) ∙ subst (IsToldBy (reply_now b g request)) unrefused told) in
             let peeks = stored_peeking b request segment row p g r t s quiet had_it there.own there.ready done kept uses freed' free' plain same in
             writes_with b request write.Stored p s rows took_it.unlocked (λ e. cc) (λ e. cc)
-            (stored_goes_on b request segment row p g r t s quiet had_it there.own there.ready done kept uses freed' free' plain same) (segment, answer.0, answer.1)
-            (stored_takes b request segment row p g r t s quiet had_it there.own there.ready done kept uses freed' free' plain same)
-            (stored_grows b request segment row p g r t s quiet had_it there.own there.ready done kept uses freed' free' plain same (seen g) draws adds) (λ other. absurd (other refl))
-            (λ told. stored_first b request segment row p g r t s quiet had_it there.own there.ready done kept uses freed' free' plain same)
+            (stored_goes_on b request segment row p g r t s quiet had_it there.own there.ready done kept uses freed' free' plain same) (segment, answer.0, answer.1) (
+              stored_takes b request segment row p g r t s quiet had_it there.own there.ready done kept uses freed' free' plain same,
+              stored_first b request segment row p g r t s quiet had_it there.own there.ready done kept uses freed' free' plain same,
+            )
+            (stored_grows b request segment row p g r t s quiet had_it there.own there.ready done kept uses freed' free' plain same (seen g) draws adds)
             (enters_once s (begins_on (trace g) (trace r) (trace s) (moved_on b _ g r there.ready.moved) (begins_on (trace r) (trace t) (trace s) (moved_on b _ r t done.1) (moved_on b _ t s freed.moved))) peeks) (unread_set s peeks)

@@ -2,7 +2,7 @@
 pub use Rattle.segwrite.specs.Full.{CanGrow, GrowsFor, HasNoWord, WasFull}
 pub use Rattle.segwrite.specs.Storing.{IsNextRow}
 pub use Rattle.segwrite.specs.Telling.{cas_reply, IsTold, WasTold}
-pub use Rattle.segwrite.specs.Writes.{AddsReply, Deletes, IsDeleteAnswer, IsSetAnswer}
+pub use Rattle.segwrite.specs.Writes.{AddsReply, CostsOfWrite, Deletes, IsDeleteAnswer, IsSetAnswer}
 pub use Rattle.segwrite.specs.Writes.{IsWriteAnswer, one_more, UsesRow, Writes}
 pub use Rattle.segwrite.specs.Writing.{first_word, IsEarlier, IsInChain, IsNext, LeadsNowhere}
 pub use Rattle.segwrite.specs.Writing.{LeadsTo, next_word}

@@ -1,4 +1,4 @@
--- What a write or a delete answers, in the terms of the model, and what it changes and costs.
+-- What a write or a delete answers, in the terms of the model, what it changes, and what it costs.
 use Rattle.std.specs.Prelude.{◌≡◌, ◌≢◌, ◌⊎◌, ◌↔◌, ℕ, ◌+◌, true, false, List, Some, None}
 use Rattle.segword.specs.Words.{Shape}
 use Rattle.segmodel.specs.declared.entry.Entry.TheVariants.{Wrote}
@@ -47,7 +47,7 @@ IsWriteAnswer shape request write.Stored p q =
 IsWriteAnswer shape request write.NotStored p q = AddsReply request reply.NotStored p q
 IsWriteAnswer shape request write.Exists p q = AddsReply request reply.Exists p q
 IsWriteAnswer shape request write.NotFound p q = AddsReply request reply.NotFound p q
-IsWriteAnswer shape request write.NoRoom p q = ChangesNothing p q
+IsWriteAnswer shape request write.NoRoom p q = q ≡ p
 IsWriteAnswer shape request write.BucketFull p q =
     ChangesNothing p q
     × (adds_key request false ≡ true)
@@ -68,6 +68,8 @@ IsDeleteAnswer shape key now delete.Deleted p q = AddsReply (Delete key now) rep
 IsDeleteAnswer shape key now delete.NotFound p q = AddsReply (Delete key now) reply.NotFound p q
 IsDeleteAnswer shape key now delete.Busy p q = ChangesNothing p q × IsBusy (bucket_of shape key) p q
 
+-- ---- what they cost
+
 -- The pass raised no frequency, and no look of it without the bit found the bit set.
 -- It came into a segment once at most, and the key stood there at that moment.
 pub record EntersForKey (shape : Shape) (key : List ℕ) (p q : Pass) : Type 0 where
@@ -77,29 +79,47 @@ pub record EntersForKey (shape : Shape) (key : List ℕ) (p q : Pass) : Type 0 w
       ⊎ ((entered q ≡ entered p + 1)
       × ((segment : ℕ) × CameIn shape key (number p) segment (trace p) (trace q)))
 
+-- Stored: the pass took one bit, and a new key is stored in the first empty word of its chain.
+-- Busy: the pass drew no overflow bucket, and did nothing of what readers do.
+-- NoRoom: the answer says all. For any other answer the pass took one bit, and drew nothing.
+abbrev pub CostsOfAnswer : Shape → Request → WriteAnswer → Pass → Pass → Type 0
+CostsOfAnswer shape request write.Stored p q =
+    TakesOneBit (bucket_of shape (key_of request)) p q
+    × TookFirstEmpty shape request (number p) (trace p) (trace q)
+CostsOfAnswer shape request write.NoRoom p q = Unit {0}
+CostsOfAnswer shape request write.Busy p q = DrawsNothing p q × ReadsNothing p q
+CostsOfAnswer shape request _ p q =
+    TakesOneBit (bucket_of shape (key_of request)) p q × DrawsNothing p q
+
+-- the pass comes into no segment for a set
+pub record CostsOfWrite (shape : Shape) (request : Request) (told : WriteAnswer) (p q : Pass)
+    : Type 0 where
+  pub of_answer : CostsOfAnswer shape request told p q
+  pub grows : GrowsFor shape request p q
+  pub enters : EntersForKey shape (key_of request) p q
+  pub reads_nothing : depends_on_key request ≡ false → ReadsNothing p q
+
+-- a delete takes one bit, or is Busy
+pub record CostsOfDelete (shape : Shape) (key : List ℕ) (told : DeleteAnswer) (p q : Pass)
+    : Type 0 where
+  pub takes : told ≢ delete.Busy → TakesOneBit (bucket_of shape key) p q
+  pub draws_nothing : DrawsNothing p q
+  pub enters : EntersForKey shape key p q
+  pub reads_nothing : told ≡ delete.Busy → ReadsNothing p q
+
+-- ---- whole calls
+
 -- A set, an add, a replace or a cas has this answer.
 -- NoRoom comes first, exactly if the pass has no row left.
 -- Then comes Busy, always if the pass itself has the bucket locked.
--- For any other answer the pass took one bit.
--- A new key is stored in the first empty word of its bucket's chain.
--- The pass comes into no segment for a set, or if the answer is Busy.
 pub record Writes (b : Board) (request : Request) (told : WriteAnswer) (p q : Pass) : Type 0 where
   pub on : GoesOn b p q
   pub answer : IsWriteAnswer b.shape request told p q
-  pub untouched : told ≡ write.NoRoom → q ≡ p
   pub no_room : (told ≡ write.NoRoom) ↔ (has_room b.shape p ≡ false)
   pub locked : has_room b.shape p ≡ true
       → locked_of p ≡ Some (bucket_of b.shape (key_of request))
       → told ≡ write.Busy
-  pub takes : told ≢ write.NoRoom
-      → told ≢ write.Busy
-      → TakesOneBit (bucket_of b.shape (key_of request)) p q
-  pub grows : GrowsFor b.shape request p q
-  pub draws_nothing : told ≢ write.Stored → DrawsNothing p q
-  pub first_empty : told ≡ write.Stored
-      → TookFirstEmpty b.shape request (number p) (trace p) (trace q)
-  pub enters : EntersForKey b.shape (key_of request) p q
-  pub reads_nothing : (depends_on_key request ≡ false) ⊎ (told ≡ write.Busy) → ReadsNothing p q
+  pub costs : CostsOfWrite b.shape request told p q
 
 -- a delete has this answer, and needs no row
 pub record Deletes (b : Board) (key : List ℕ) (now : ℕ) (told : DeleteAnswer) (p q : Pass)
@@ -107,7 +127,4 @@ pub record Deletes (b : Board) (key : List ℕ) (now : ℕ) (told : DeleteAnswer
   pub on : GoesOn b p q
   pub answer : IsDeleteAnswer b.shape key now told p q
   pub locked : locked_of p ≡ Some (bucket_of b.shape key) → told ≡ delete.Busy
-  pub takes : told ≢ delete.Busy → TakesOneBit (bucket_of b.shape key) p q
-  pub draws_nothing : DrawsNothing p q
-  pub enters : EntersForKey b.shape key p q
-  pub reads_nothing : told ≡ delete.Busy → ReadsNothing p q
+  pub costs : CostsOfDelete b.shape key told p q
