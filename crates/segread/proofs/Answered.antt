@@ -19,7 +19,7 @@ use Rattle.segpass.proofs.Draws.{reader_draws_none}
 use Rattle.segread.specs.Costs.{CostsOfLooks}
 use Rattle.segread.specs.Reads.{ReadsBetween, IsGetAnswer, ReadsKey}
 use Rattle.segread.specs.Gets.{IsGetsAnswer, ReadsVersion}
-use Rattle.segread.specs.Hits.{TriesFew, GetRaises, GetsRaises}
+use Rattle.segread.specs.Hits.{GetRaises, GetsRaises, GlancesFew, GlancesNothing, TriesFew}
 use Rattle.segread.proofs.Reading.{read_on}
 
 -- ---- the answer
@@ -85,22 +85,22 @@ reads_no_bit b p q i = record {
 pub costs_of_looks : (b : Board) (p q : Pass) → IsReader b p q → TriesFew p q → CostsOfLooks p q
 costs_of_looks b p q i few = record { takes_no_bit = reads_no_bit b p q i; draws_nothing = reader_draws_none b p q i.reads; tries = few }
 
-pub reads_key : (b : Board) (key : List ℕ) (draw now : ℕ) (told : GetAnswer) (p q : Pass) → IsQuiet b p → IsReader b p q → TriesFew p q → GetRaises b.shape key draw told p q → IsGetAnswer b.shape key now told (seen p) (seen q) → ReadsKey b key draw now told p q
-reads_key b key draw now told p q quiet i few raised answer = let on = read_on b p q quiet i.reads i.plain i.memo in record {
+pub reads_key : (b : Board) (key : List ℕ) (draw now : ℕ) (told : GetAnswer) (p q : Pass) → IsQuiet b p → IsReader b p q → TriesFew p q → GlancesNothing p q → GetRaises b.shape key draw told p q → IsGetAnswer b.shape key now told (seen p) (seen q) → ReadsKey b key draw now told p q
+reads_key b key draw now told p q quiet i few unset raised answer = let on = read_on b p q quiet i.reads i.plain i.memo in record {
   on = on.0;
   keeps = on.1;
   answer = answer;
-  costs = record { looks = costs_of_looks b p q i few; raises = raised };
+  costs = record { looks = costs_of_looks b p q i few; glances_nothing = unset; raises = raised };
 }
 
-pub reads_version : (b : Board) (key : List ℕ) (draw now : ℕ) (told : GetsAnswer) (p q : Pass) → IsQuiet b p → IsReader b p q → TriesFew p q → GetsRaises b.shape key draw told p q → IsGetsAnswer b.shape key now told p q
+pub reads_version : (b : Board) (key : List ℕ) (draw now : ℕ) (told : GetsAnswer) (p q : Pass) → IsQuiet b p → IsReader b p q → TriesFew p q → GlancesFew p q → GetsRaises b.shape key draw told p q → IsGetsAnswer b.shape key now told p q
     → ((value : List ℕ) (version : ℕ) → told ≡ gets.Found value version → locked_of p ≢ Some (bucket_of b.shape key)) → ReadsVersion b key draw now told p q
-reads_version b key draw now told p q quiet i few raised answer unlocked = let on = read_on b p q quiet i.reads i.plain i.memo in record {
+reads_version b key draw now told p q quiet i few glances raised answer unlocked = let on = read_on b p q quiet i.reads i.plain i.memo in record {
   on = on.0;
   keeps = on.1;
   answer = answer;
   unlocked = unlocked;
-  costs = record { looks = costs_of_looks b p q i few; raises = raised };
+  costs = record { looks = costs_of_looks b p q i few; glances = glances; raises = raised };
 }
 
 -- an answer that isn't a hit

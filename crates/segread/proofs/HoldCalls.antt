@@ -28,12 +28,13 @@ use Rattle.segstore.proofs.Seconds.{segment_of_item, row_of_item}
 use Rattle.segread.specs.Words.{Hold, HoldAnswer}
 use Rattle.segread.specs.declared.held.HoldAnswer.TheVariants as answer
 use Rattle.segpass.specs.Words.{ChangesNothing, DrawsNothing, GoesOn, is_held_in, IsHold, IsLock}
-use Rattle.segpass.specs.Words.{IsQuiet, memo, RaisesNothing, TakesNoBit}
-use Rattle.segread.specs.Hits.{TriesFew}
+use Rattle.segpass.specs.Words.{IsQuiet, memo, TakesNoBit}
+use Rattle.segread.specs.Hits.{OnlyScans, TriesFew}
 use Rattle.segread.specs.Holds.{IsRowOf, IsHoldOf, TakesHold, IsHoldAnswer, HoldsItem, NoneFills, IsUnfilled, Releases, SetsHold}
 use Rattle.segpass.proofs.Still.{then_minds}
 use Rattle.segpass.proofs.Bits.{none_at_both, bit_before}
 use Rattle.segpass.proofs.Draws.{moved_undrawn, reads_undrawn}
+use Rattle.segread.proofs.ComingIn.{glances_none, raises_none}
 use Rattle.segread.proofs.Answered.{costs_of_looks, reads_set_none, reads_try_none}
 use Rattle.segpass.proofs.Idling.{took_none}
 use Rattle.segread.proofs.Holding.{held_at, held_from, held_past, held_deadline, held_stood, has_held, is_hold, held_row, row_of_hold}
@@ -209,12 +210,12 @@ module _ (b : Board) (p r q : Pass) (place : Place) (item : Item) (key value : L
   )
 
 -- no item was found
-pub holds_none : (b : Board) (key : List ℕ) (now : ℕ) (told : HoldAnswer) (p q : Pass) → IsQuiet b p → IsReader b p q → TriesFew p q → RaisesNothing p q → (ChangesNothing p q → IsHoldAnswer b.shape key now told p q) → ((told ≡ answer.AlreadyHolding) ↔ (is_holding_of p ≡ true)) → HoldsItem b key now told p q
-holds_none b key now told p q quiet i few none then already = let on = read_on b p q quiet i.reads i.plain i.memo in record {
+pub holds_none : (b : Board) (key : List ℕ) (now : ℕ) (told : HoldAnswer) (p q : Pass) → IsQuiet b p → IsReader b p q → TriesFew p q → OnlyScans p q → (ChangesNothing p q → IsHoldAnswer b.shape key now told p q) → ((told ≡ answer.AlreadyHolding) ↔ (is_holding_of p ≡ true)) → HoldsItem b key now told p q
+holds_none b key now told p q quiet i few only then already = let on = read_on b p q quiet i.reads i.plain i.memo in record {
   on = on.0;
   answer = then on.1;
   already = already;
-  costs = record { looks = costs_of_looks b p q i few; raises_nothing = none };
+  costs = record { looks = costs_of_looks b p q i few; glances_nothing = glances_none p q only; raises_nothing = raises_none p q only };
 }
 
 -- what the pass may keep in mind of what it found

@@ -22,13 +22,13 @@ use Rattle.segpolicy.specs.Words.{draw_raises, frequency_after_hit}
 use Rattle.segbase.specs.Words.{AddsAtOnce, AddsEvents, Board, cell_at, entered, home_bucket}
 use Rattle.segbase.specs.Words.{IsPassOf, number, Pass, Place, position, raised, Stepped, trace}
 use Rattle.segbase.proofs.Alone.{moved_alone}
-use Rattle.segbase.proofs.Moves.{moved_entered}
+use Rattle.segbase.proofs.Moves.{moved_entered, moved_glanced}
 use Rattle.segbase.proofs.Standing.{tag_of_word}
 use Rattle.segstore.specs.Words.{FoundItem, IsChained, row_part, segment_part, WasLinked}
 use Rattle.segstore.proofs.Words.{chained_later, same_place, stood_item}
 use Rattle.segstore.proofs.Seconds.{segment_of_item, row_of_item}
 use Rattle.segpass.specs.Words.{RaisesNothing}
-use Rattle.segread.specs.Hits.{HasFrequency, CountsHit, IsItemAtPosition, PassesHit, IsOvertaken, RaisesFrom, RaisesOne}
+use Rattle.segread.specs.Hits.{HasFrequency, CountsHit, GlancesNothing, IsItemAtPosition, PassesHit, IsOvertaken, RaisesFrom, RaisesOne}
 use Rattle.segread.proofs.Tries.{has_tag}
 
 -- an item whose word stands at a place is its key's, and has the word's frequency
@@ -194,6 +194,11 @@ raised_none b p place item higher draw key value h is saw by low = inr (
 pub stays_out : (b : Board) (p q : Pass) (segment row frequency : ℕ) (result : Bool) → AddsEvents b (cond result (Bumped (number p) segment row frequency ∷ []) []) p q → entered q ≡ entered p
 stays_out b p q segment row frequency true m = moved_entered b _ p q m
 stays_out b p q segment row frequency false m = moved_entered b _ p q m
+
+-- and looks at no bit
+pub glances_none : (b : Board) (p q : Pass) (segment row frequency : ℕ) (result : Bool) → AddsEvents b (cond result (Bumped (number p) segment row frequency ∷ []) []) p q → GlancesNothing p q
+glances_none b p q segment row frequency true m bucket = moved_glanced b _ p q bucket m
+glances_none b p q segment row frequency false m bucket = moved_glanced b _ p q bucket m
 
 -- ---- one after another
 

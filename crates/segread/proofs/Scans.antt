@@ -23,8 +23,7 @@ use Rattle.segread.specs.declared.scan.Scan.TheVariants as scan
 use Rattle.segread.specs.declared.scan.Way.{Way}
 use Rattle.segread.specs.declared.scan.Way.TheVariants.{Found, Passed, Busy}
 use Rattle.segread.specs.Scanning.{HasDeadline, place_of, words_below, IsPlaceOf, IsPlaceAfter, IsOnWay, IsScanner, IsTry, ComesIn, Tries, CountsTries, AdvancesSearch, HasPassed, IsHit, IsPast, GivesUp, IsEnded, IsWay, IsScanFrom, IsScanAnswer}
-use Rattle.segread.specs.Hits.{TriesFew}
-use Rattle.segpass.specs.Words.{RaisesNothing}
+use Rattle.segread.specs.Hits.{OnlyScans, TriesFew}
 use Rattle.segread.proofs.ComingIn.{tries_none, tries_once, tries_then, at_most, word_more, words_few, words_most}
 use Rattle.segread.proofs.Tries.{Trying, hit_from, word_wider, counts_none, counts_later, counts_then}
 
@@ -315,13 +314,13 @@ hit_place z key from tries hit p q l x = let saw = x.found.found.saw in
     place_later z key hit.place saw.at (trace q) l saw.between.1 (saw.was.chained, sym saw.was.here.0)
 
 -- so often it came into segments at most
-pub few_times : (from to tries : ℕ) (p q : Pass) → from ≡ 1 → words_below to + tries ≤ 91 → Tries from to 0 tries p q → TriesFew p q
+few_times : (from to tries : ℕ) (p q : Pass) → from ≡ 1 → words_below to + tries ≤ 91 → Tries from to 0 tries p q → TriesFew p q
 few_times from to tries p q first most i = let few = subst (λ n. ComesIn n to 0 tries p q) first i.comes_in in omega (arith, few, most)
 
-pub whole_scan : (b : Board) (key : List ℕ) (from : ℕ) (w : Scan) (p q : Pass) → from ≡ 1 → IsPassOf b p → IsScanner b w p q → IsScanFrom b.shape key from 0 w p q → IsScanAnswer b.shape key w (trace p) (trace q) × TriesFew p q × RaisesNothing p q
+pub whole_scan : (b : Board) (key : List ℕ) (from : ℕ) (w : Scan) (p q : Pass) → from ≡ 1 → IsPassOf b p → IsScanner b w p q → IsScanFrom b.shape key from 0 w p q → IsScanAnswer b.shape key w (trace p) (trace q) × TriesFew p q × OnlyScans p q
 whole_scan b key from (scan.Found hit) p q first is i x =
     let l = i.reads.moved.pass.lawful in let in' = (in_chain b.shape (trace q) hit.place l (hit_place b.shape key from 0 hit p q l x).0).1 in
-    ((x.found, x.deadline), few_times from (position b.shape (trace q) hit.place) (hit.tries + 1) p q first (let few = x.few in let most = words_few (position b.shape (trace q) hit.place) in' in omega (arith, few, most)) x.tried, x.tried.raises_nothing)
+    ((x.found, x.deadline), few_times from (position b.shape (trace q) hit.place) (hit.tries + 1) p q first (let few = x.few in let most = words_few (position b.shape (trace q) hit.place) in' in omega (arith, few, most)) x.tried, x.tried.only_scans)
 whole_scan b key from scan.Absent p q first is i x =
-    (x.gone (trace p) ([], refl) (subst (λ n. KeyAhead b.shape key n (trace p) (trace p)) (sym first) (key_first b.shape key (trace p) is.lawful)), few_times from 32 63 p q first (omega arith) x.tried, x.tried.raises_nothing)
-whole_scan b key from scan.Busy p q first is i x = (x.counts, few_times from 32 63 p q first (omega arith) x.tried, x.tried.raises_nothing)
+    (x.gone (trace p) ([], refl) (subst (λ n. KeyAhead b.shape key n (trace p) (trace p)) (sym first) (key_first b.shape key (trace p) is.lawful)), few_times from 32 63 p q first (omega arith) x.tried, x.tried.only_scans)
+whole_scan b key from scan.Busy p q first is i x = (x.counts, few_times from 32 63 p q first (omega arith) x.tried, x.tried.only_scans)

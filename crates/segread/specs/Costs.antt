@@ -5,7 +5,7 @@ use Rattle.segword.specs.Words.{Shape}
 use Rattle.segmodel.specs.Words.{GetAnswer, GetsAnswer}
 use Rattle.segbase.specs.Words.{Pass}
 use Rattle.segpass.specs.Words.{DrawsNothing, RaisesNothing, TakesNoBit}
-use Rattle.segread.specs.Hits.{TriesFew, GetRaises, GetsRaises}
+use Rattle.segread.specs.Hits.{GetRaises, GetsRaises, GlancesFew, GlancesNothing, TriesFew}
 
 -- what each reader costs: no bit, no overflow bucket, and few comings into segments
 pub record CostsOfLooks (p q : Pass) : Type 0 where
@@ -13,19 +13,23 @@ pub record CostsOfLooks (p q : Pass) : Type 0 where
   pub draws_nothing : DrawsNothing p q
   pub tries : TriesFew p q
 
--- a get raises a frequency only by a hit
+-- a get finds no bit set, and raises a frequency only by a hit
 pub record CostsOfGet (shape : Shape) (key : List ℕ) (draw : ℕ) (told : GetAnswer) (p q : Pass)
     : Type 0 where
   pub looks : CostsOfLooks p q
+  pub glances_nothing : GlancesNothing p q
   pub raises : GetRaises shape key draw told p q
 
--- a gets raises a frequency only by a hit
+-- A gets looks at the bit of the key's bucket only once it has come into a segment.
+-- It raises a frequency only by a hit.
 pub record CostsOfGets (shape : Shape) (key : List ℕ) (draw : ℕ) (told : GetsAnswer) (p q : Pass)
     : Type 0 where
   pub looks : CostsOfLooks p q
+  pub glances : GlancesFew p q
   pub raises : GetsRaises shape key draw told p q
 
--- a hold raises no frequency
+-- a hold finds no bit set, and raises no frequency
 pub record CostsOfHold (p q : Pass) : Type 0 where
   pub looks : CostsOfLooks p q
+  pub glances_nothing : GlancesNothing p q
   pub raises_nothing : RaisesNothing p q

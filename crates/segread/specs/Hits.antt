@@ -9,7 +9,7 @@ use Rattle.segcore.specs.declared.event.Event.TheVariants.{Bumped}
 use Rattle.segcore.specs.Mark.{place}
 use Rattle.segcore.specs.Words.{cached, Event, frequency_in, inside, last_at, marked, seen, slot}
 use Rattle.segpolicy.specs.Words.{draw_raises}
-use Rattle.segbase.specs.Words.{Board, entered, number, Pass, Place, raised, trace}
+use Rattle.segbase.specs.Words.{Board, entered, glanced, number, Pass, Place, raised, trace}
 use Rattle.segstore.specs.Words.{FoundItem}
 use Rattle.segpass.specs.Words.{RaisesNothing}
 
@@ -17,6 +17,22 @@ use Rattle.segpass.specs.Words.{RaisesNothing}
 -- for 63 tries that are counted, and once more at each of 28 words.
 abbrev pub TriesFew : Pass → Pass → Type 0
 TriesFew p q = entered q ≤ entered p + 63 + 28
+
+-- no look of the pass without a bit found a bucket's bit set
+abbrev pub GlancesNothing : Pass → Pass → Type 0
+GlancesNothing p q = (bucket : ℕ) → glanced q bucket ≡ glanced p bucket
+
+-- the pass found a bucket's bit set at most as often as it may come into segments
+abbrev pub GlancesFew : Pass → Pass → Type 0
+GlancesFew p q = (bucket : ℕ) → glanced q bucket ≤ glanced p bucket + 63 + 28
+
+-- how often the pass raised a frequency, and found a bucket's bit set by a look without it
+abbrev pub beside_scans : Pass → ℕ × (ℕ → ℕ)
+beside_scans p = (raised p, λ bucket. glanced p bucket)
+
+-- the pass raised no frequency, and no such look found a bit set
+abbrev pub OnlyScans : Pass → Pass → Type 0
+OnlyScans p q = beside_scans q ≡ beside_scans p
 
 -- at a moment the key's item stands, in this segment and row, with this frequency
 pub record HasFrequency (shape : Shape) (key value : List ℕ) (segment row frequency : ℕ)

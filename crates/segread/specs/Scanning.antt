@@ -15,7 +15,7 @@ use Rattle.segread.specs.declared.scan.Way.{Way}
 use Rattle.segread.specs.declared.scan.Way.TheVariants as way
 use Rattle.segread.specs.declared.scan.Scan.{Scan}
 use Rattle.segread.specs.declared.scan.Scan.TheVariants as scan
-use Rattle.segpass.specs.Words.{RaisesNothing}
+use Rattle.segread.specs.Hits.{OnlyScans}
 
 -- ---- chains
 
@@ -80,9 +80,9 @@ TellsDeadline shape (trial.Changed word) trace = Unit {0}
 
 -- ---- tries
 
--- the pass came into a segment once, and raised no frequency
+-- the pass came into a segment once, and did nothing beside
 abbrev pub IsTry : Pass → Pass → Type 0
-IsTry p q = (entered q ≡ entered p + 1) × RaisesNothing p q
+IsTry p q = (entered q ≡ entered p + 1) × OnlyScans p q
 
 -- The pass came into segments at most once for each try that was counted, from `some` to `more`,
 -- and once for each word from one position up to another.
@@ -90,12 +90,12 @@ abbrev pub ComesIn : ℕ → ℕ → ℕ → ℕ → Pass → Pass → Type 0
 ComesIn from to some more p q =
     entered q + words_below from + some ≤ entered p + words_below to + more
 
--- the pass came in no more often than that, and raised no frequency;
+-- the pass came in no more often than that, and did nothing beside;
 -- words and tries together are no fewer than before
 pub record Tries (from to some more : ℕ) (p q : Pass) : Type 0 where
   pub comes_in : ComesIn from to some more p q
   pub onward : words_below from + some ≤ words_below to + more
-  pub raises_nothing : RaisesNothing p q
+  pub only_scans : OnlyScans p q
 
 -- ---- what was found
 

@@ -4,7 +4,7 @@ ghost use Rattle.segbase.specs.Words.{entered, IsPassOf, trace};
 ghost use Rattle.segstore.specs.Words.{IsChained, IsReader};
 ghost use Rattle.segpass.specs.Words.{IsQuiet};
 ghost use Rattle.segread.specs.Reads.{ReadsKey};
-ghost use Rattle.segread.specs.Hits.{RaisesFound};
+ghost use Rattle.segread.specs.Hits.{GlancesNothing, RaisesFound};
 
 use crate::scan::{Scan, scan_for};
 use segbase::{Board, Pass, Place};
@@ -43,6 +43,7 @@ pub(crate) fn count_hit(board: &Board, pass: &mut Pass, place: Place, item: Item
     requires place { IsChained board.now.shape (trace pass.old) place }
     ensures reads { IsReader board.now pass.old pass.new }
     ensures stays_out { entered pass.new ≡ entered pass.old }
+    ensures glances { GlancesNothing pass.old pass.new }
     ensures raises { RaisesFound board.now place item draw pass.old pass.new }
 {
     let mut hit = item;

@@ -7,8 +7,8 @@ ghost use Rattle.segmodel.specs.Words.{tag_of};
 ghost use Rattle.segcore.specs.Words.{enter, May};
 ghost use Rattle.segbase.specs.Words.{IsPassOf, number, position, trace};
 ghost use Rattle.segstore.specs.Words.{IsChained, IsKeyed};
-ghost use Rattle.segpass.specs.Words.{IsQuiet, MayEnterAny, RaisesNothing};
-ghost use Rattle.segread.specs.Hits.{TriesFew};
+ghost use Rattle.segpass.specs.Words.{IsQuiet, MayEnterAny};
+ghost use Rattle.segread.specs.Hits.{OnlyScans, TriesFew};
 ghost use Rattle.segread.specs.Scanning.{place_of, IsPlaceOf, IsPlaceAfter, IsTrial};
 ghost use Rattle.segread.specs.Scanning.{IsOnWay, IsScanner, IsTry, IsWay, IsScanFrom};
 ghost use Rattle.segread.specs.Scanning.{IsScanAnswer, keyed_of, TellsDeadline};
@@ -264,7 +264,7 @@ pub(crate) fn scan_for(board: &Board, pass: &mut Pass, key: &Key) -> Scan
     requires pass { IsQuiet board.now pass.old }
     ensures reads { IsScanner board.now result pass.old pass.new }
     ensures tries { TriesFew pass.old pass.new }
-    ensures raises_nothing { RaisesNothing pass.old pass.new }
+    ensures only_scans { OnlyScans pass.old pass.new }
     ensures scan { IsScanAnswer board.now.shape key.now result (trace pass.old) (trace pass.new) }
 {
     let hash = hash(key);

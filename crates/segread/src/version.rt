@@ -4,9 +4,9 @@ ghost use Rattle.segmodel.specs.declared.answer.GetsAnswer.TheVariants as gets;
 ghost use Rattle.segmodel.specs.Words.{bucket_of, tag_of};
 ghost use Rattle.segbase.specs.Words.{IsPassOf, locked_of, position, trace};
 ghost use Rattle.segstore.specs.Words.{IsReader};
-ghost use Rattle.segpass.specs.Words.{IsQuiet, MayEnterAny, RaisesNothing};
+ghost use Rattle.segpass.specs.Words.{IsQuiet, MayEnterAny};
 ghost use Rattle.segread.specs.Scanning.{IsPlaceOf};
-ghost use Rattle.segread.specs.Hits.{TriesFew, GetsRaises};
+ghost use Rattle.segread.specs.Hits.{GetsRaises, GlancesFew, OnlyScans, TriesFew};
 ghost use Rattle.segread.specs.Gets.{ReadsVersion, IsGetsAnswer, HasNoBit, IsVersionSight};
 ghost use Rattle.segread.specs.Gets.{IsAttempt};
 
@@ -69,7 +69,7 @@ fn find_locked(board: &Board, pass: &mut Pass, key: &Key, now: u32) -> GetsAnswe
     requires locked { locked_of pass.old ≡ Some (bucket_of board.now.shape key.now) }
     ensures reads { IsReader board.now pass.old pass.new }
     ensures tries { TriesFew pass.old pass.new }
-    ensures raises_nothing { RaisesNothing pass.old pass.new }
+    ensures only_scans { OnlyScans pass.old pass.new }
     ensures answer { IsGetsAnswer board.now.shape key.now now result pass.old pass.new }
     ensures none { (value : List ℕ) (version : ℕ) → result ≢ gets.Found value version }
 {
@@ -106,6 +106,7 @@ fn find_version(
     requires versions { board.now.shape.first_version < 2 ^ 32 }
     ensures reads { IsReader board.now pass.old pass.new }
     ensures tries { TriesFew pass.old pass.new }
+    ensures glances { GlancesFew pass.old pass.new }
     ensures raises { GetsRaises board.now.shape key.now draw result pass.old pass.new }
     ensures answer { IsGetsAnswer board.now.shape key.now now result pass.old pass.new }
 {

@@ -5,7 +5,7 @@ use Rattle.std.proofs.Common.{Some, refl, ◌∙◌, arith, rules}
 use Rattle.segbase.specs.Words.{trace}
 use Rattle.segpass.proofs.Idling.{goes_same}
 use Rattle.segread.proofs.Answered.{gone_reads}
-use Rattle.segread.proofs.ComingIn.{leaves, looked, same_view, out_then, few_out}
+use Rattle.segread.proofs.ComingIn.{glances_none, leaves, looked, raises_none, same_view, out_then, few_out}
 use Rattle.segread.proofs.Hits.{hit_readable, read_in, read_value}
 use Rattle.segread.proofs.HoldCalls.{has_found, takes_hold, holds_none, takes_no_bit, draws_nothing}
 use Rattle.segread.proofs.Holding.{held_at}
@@ -32,6 +32,7 @@ returns-then-is_holding c = record {
     already = search rules;
     costs = record {
       looks = record { takes_no_bit = record { taken = refl; bounced = λ bucket. refl }; draws_nothing = λ bucket. refl; tries = omega arith };
+      glances_nothing = λ bucket. refl;
       raises_nothing = refl;
     };
   };
@@ -40,7 +41,7 @@ returns-then-is_holding c = record {
 pub returns-then-hit-now : goal.returns-then-hit-now
 returns-then-hit-now c = let b = c.args.board.now in let p = c.args.pass.now in let q = c.scan_for.new.pass in let r = c.leave_segment.new.pass in let f = c.in-Found in let hit = f.hit in
     let out = leaves b hit.item.seg q r c.leave_segment.ensures.moved in record {
-      holds = holds_none b c.args.key.now c.args.now _ p r c.requires.pass (leave_then b p q r hit.item.seg f.ensures.reads c.leave_segment.ensures) (few_out p q r f.ensures.tries out) (out.1 ∙ f.ensures.raises_nothing)
+      holds = holds_none b c.args.key.now c.args.now _ p r c.requires.pass (leave_then b p q r hit.item.seg f.ensures.reads c.leave_segment.ensures) (few_out p q r f.ensures.tries out) (out.1 ∙ f.ensures.only_scans)
           (λ keeps. (keeps, expired_reads b c.args.key.now hit p q r c.args.now f.ensures.scan c.leave_segment.ensures (let past = c.if-hit-now.true in omega arith))) (search rules);
     }
 
@@ -64,17 +65,18 @@ returns-else-hit-now c =
             draws_nothing = draws_nothing b read.reads.own held p t r c.requires.pass read.reads.moved read.reads.only read.plain read.memo set.pass set.view set.sets;
             tries = few_out p q r f.ensures.tries still;
           };
-          raises_nothing = still.1 ∙ f.ensures.raises_nothing;
+          glances_nothing = glances_none p r (still.1 ∙ f.ensures.only_scans);
+          raises_nothing = raises_none p r (still.1 ∙ f.ensures.only_scans);
         };
       };
     }
 
 pub returns-in-Absent : goal.returns-in-Absent
 returns-in-Absent c = let b = c.args.board.now in let p = c.args.pass.now in let q = c.scan_for.new.pass in let x = c.in-Absent.ensures in record {
-  holds = holds_none b c.args.key.now c.args.now _ p q c.requires.pass x.reads x.tries x.raises_nothing (λ keeps. (keeps, gone_reads b.shape c.args.key.now c.args.now (trace p) (trace q) x.scan)) (search rules);
+  holds = holds_none b c.args.key.now c.args.now _ p q c.requires.pass x.reads x.tries x.only_scans (λ keeps. (keeps, gone_reads b.shape c.args.key.now c.args.now (trace p) (trace q) x.scan)) (search rules);
 }
 
 pub returns-in-Busy : goal.returns-in-Busy
 returns-in-Busy c = let x = c.in-Busy.ensures in record {
-  holds = holds_none c.args.board.now c.args.key.now c.args.now _ c.args.pass.now c.scan_for.new.pass c.requires.pass x.reads x.tries x.raises_nothing (λ keeps. (keeps, (let more = x.scan in omega arith))) (search rules);
+  holds = holds_none c.args.board.now c.args.key.now c.args.now _ c.args.pass.now c.scan_for.new.pass c.requires.pass x.reads x.tries x.only_scans (λ keeps. (keeps, (let more = x.scan in omega arith))) (search rules);
 }

@@ -13,6 +13,6 @@ returns c =
     (subst (λ k. IsScanFrom b.shape k from 0 v.result p v.new.pass) c.new.ensures.value v.ensures.scan) in record {
       reads = v.ensures.reads;
       tries = x.1;
-      raises_nothing = x.2;
+      only_scans = x.2;
       scan = x.0;
     }

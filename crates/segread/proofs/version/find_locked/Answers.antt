@@ -16,9 +16,9 @@ pub returns-then-hit-now-clause-tries : goal.returns-then-hit-now-clause-tries
 returns-then-hit-now-clause-tries c = let b = c.args.board.now in let p = c.args.pass.now in let f = c.in-Found in let q = c.scan_for.new.pass in let r = c.leave_segment.new.pass in let out = leaves b f.hit.item.seg q r c.leave_segment.ensures.moved in
     few_out p q r f.ensures.tries out
 
-pub returns-then-hit-now-clause-raises_nothing : goal.returns-then-hit-now-clause-raises_nothing
-returns-then-hit-now-clause-raises_nothing c = let b = c.args.board.now in let p = c.args.pass.now in let f = c.in-Found in let q = c.scan_for.new.pass in let r = c.leave_segment.new.pass in let out = leaves b f.hit.item.seg q r c.leave_segment.ensures.moved in
-    out.1 ∙ f.ensures.raises_nothing
+pub returns-then-hit-now-clause-only_scans : goal.returns-then-hit-now-clause-only_scans
+returns-then-hit-now-clause-only_scans c = let b = c.args.board.now in let p = c.args.pass.now in let f = c.in-Found in let q = c.scan_for.new.pass in let r = c.leave_segment.new.pass in let out = leaves b f.hit.item.seg q r c.leave_segment.ensures.moved in
+    out.1 ∙ f.ensures.only_scans
 
 pub returns-then-hit-now-clause-answer : goal.returns-then-hit-now-clause-answer
 returns-then-hit-now-clause-answer c = let b = c.args.board.now in let p = c.args.pass.now in let f = c.in-Found in let q = c.scan_for.new.pass in let r = c.leave_segment.new.pass in let out = leaves b f.hit.item.seg q r c.leave_segment.ensures.moved in
@@ -32,9 +32,9 @@ pub returns-else-hit-now-clause-tries : goal.returns-else-hit-now-clause-tries
 returns-else-hit-now-clause-tries c = let b = c.args.board.now in let p = c.args.pass.now in let f = c.in-Found in let q = c.scan_for.new.pass in let r = c.leave_segment.new.pass in let out = leaves b f.hit.item.seg q r c.leave_segment.ensures.moved in
     few_out p q r f.ensures.tries out
 
-pub returns-else-hit-now-clause-raises_nothing : goal.returns-else-hit-now-clause-raises_nothing
-returns-else-hit-now-clause-raises_nothing c = let b = c.args.board.now in let p = c.args.pass.now in let f = c.in-Found in let q = c.scan_for.new.pass in let r = c.leave_segment.new.pass in let out = leaves b f.hit.item.seg q r c.leave_segment.ensures.moved in
-    out.1 ∙ f.ensures.raises_nothing
+pub returns-else-hit-now-clause-only_scans : goal.returns-else-hit-now-clause-only_scans
+returns-else-hit-now-clause-only_scans c = let b = c.args.board.now in let p = c.args.pass.now in let f = c.in-Found in let q = c.scan_for.new.pass in let r = c.leave_segment.new.pass in let out = leaves b f.hit.item.seg q r c.leave_segment.ensures.moved in
+    out.1 ∙ f.ensures.only_scans
 
 pub returns-else-hit-now-clause-answer : goal.returns-else-hit-now-clause-answer
 returns-else-hit-now-clause-answer c = let b = c.args.board.now in let p = c.args.pass.now in let f = c.in-Found in let q = c.scan_for.new.pass in let r = c.leave_segment.new.pass in let out = leaves b f.hit.item.seg q r c.leave_segment.ensures.moved in

@@ -14,6 +14,7 @@ returns-in-Told c =
     let told = told_by b key c.args.now l.place l.tries p l.pass r l.invariant x.ensures.reads c.args.draw x.answer x.ensures.attempt in record {
       reads = reads_on b key c.args.now l.place l.tries p l.pass r l.invariant x.ensures.reads;
       tries = told.0;
+      glances = told.3;
       raises = told.1;
       answer = told.2;
     }
@@ -30,6 +31,7 @@ pub returns : goal.returns
 returns c = let l = c.loop-tries in let told = tried_all c.args.board.now c.args.key.now c.args.now l.place l.tries c.args.draw c.args.pass.now l.pass l.invariant c.loop-tries-test.false in record {
   reads = l.invariant.reads;
   tries = told.0;
+  glances = told.3;
   raises = told.1;
   answer = told.2;
 }

@@ -3,6 +3,7 @@ use Rattle.std.proofs.lemmas.Bool.{false≢true}
 use Rattle.segword.specs.Words.{IsSameItem, item_word}
 use Rattle.segbase.specs.Words.{position, trace}
 use Rattle.segbase.proofs.Moves.{is_inside}
+use Rattle.segread.proofs.ComingIn.{attempts}
 use Rattle.segread.proofs.Disturbing.{by_entries}
 use Rattle.segread.proofs.Tries.{has_tag}
 use Rattle.segread.proofs.Versions.{left, again_held, again_changed, goes_past, ends_past, hit_left, hit_told}
@@ -23,8 +24,8 @@ returns-then-same_item c =
     let b = c.args.board.now in let key = c.args.key.now in let p = c.args.pass.now in let l = c.see_version.new.pass in let t = c.count_hit in let r = c.leave_segment-then-same_item in let f = c.in-Found in let x = f.ensures.sight in let from = position b.shape (trace p) c.args.place in
     let same = subst (λ w. IsSameItem w f.word) c.pack.ensures (c.if-same_item.ensures.0 refl) in
     let raised = t.ensures.raises key f.value (trace p) (is_inside b p l f.hit.item.seg x.reads.reads) (x.found c.if-info.false) in record {
-      reads = hit_left b key c.args.now from c.args.tries c.args.draw f.hit f.value f.info f.word p l t.new.pass r.new.pass x c.if-info.false same t.ensures.reads t.ensures.stays_out raised r.ensures;
-      attempt = hit_told b key c.args.now from c.args.tries c.args.draw f.hit f.value f.info f.word p l t.new.pass r.new.pass x c.if-info.false same t.ensures.reads t.ensures.stays_out raised r.ensures;
+      reads = hit_left b key c.args.now from c.args.tries c.args.draw f.hit f.value f.info f.word p l t.new.pass r.new.pass x c.if-info.false same t.ensures.reads t.ensures.stays_out t.ensures.glances raised r.ensures;
+      attempt = hit_told b key c.args.now from c.args.tries c.args.draw f.hit f.value f.info f.word p l t.new.pass r.new.pass x c.if-info.false same t.ensures.reads t.ensures.stays_out t.ensures.glances raised r.ensures;
     }
 
 pub returns-in-Some : goal.returns-in-Some
@@ -52,5 +53,5 @@ returns-in-None c =
 pub returns-in-Busy : goal.returns-in-Busy
 returns-in-Busy c = let b = c.args.board.now in let p = c.args.pass.now in let q = c.see_version.new.pass in let x = c.in-Busy.ensures.sight in record {
   reads = x.0;
-  attempt = (by_entries b c.args.key.now c.args.now c.args.tries 64 p q x.0 x.1.counts, x.1.tried);
+  attempt = (by_entries b c.args.key.now c.args.now c.args.tries 64 p q x.0 x.1.counts, attempts (position b.shape (trace p) c.args.place) 32 c.args.tries 63 p q x.1.tried);
 }
