@@ -1,5 +1,5 @@
 -- The eviction of a segment, row by row: what was taken out so far, and that no key stands there when all its rows are gone.
-use Rattle.std.proofs.Common.{◌≡◌, ◌≢◌, ℕ, ◌+◌, ◌<◌, ◌≤◌, Bool, true, false, cond, eqb, ◌&&◌, is_some, List, [], ◌∷◌, ◌++◌, length, Option, Some, None, refl, sym, ap, ◌∙◌, subst, inl, inr, ⊎_elim, arith}
+use Rattle.std.proofs.Common.{◌≡◌, ◌≢◌, ℕ, suc, ◌+◌, ◌<◌, ◌≤◌, Bool, true, false, cond, eqb, ◌&&◌, is_some, List, [], ◌∷◌, ◌++◌, length, Option, Some, None, refl, sym, ap, ◌∙◌, subst, inl, inr, ⊎_elim, arith}
 use Rattle.std.proofs.lemmas.Bool.{cases_eq, cases_Bool, cond-true, cond-false, eq-eqb, ne_eqb, ltb-true, false≢true}
 use Rattle.std.proofs.lemmas.Option.{none-some, same_Some}
 use Rattle.segmodel.specs.declared.entry.Entry.TheVariants as entry
@@ -23,11 +23,12 @@ use Rattle.segstore.specs.Words.{KeepsSegments}
 use Rattle.segstore.proofs.Keeping.{same_used}
 use Rattle.segevict.specs.declared.eviction.RowAnswer.TheVariants as row_answer
 use Rattle.segpass.specs.Words.{DrawsNothing, GoesOn, IsQuiet, memo, ReadsNothing}
-use Rattle.segevict.specs.Evicting.{AreEvictions, ended, StoodIn, TriesForKeys, TakesOut, IsBarred, IsEvictAnswer}
+use Rattle.segevict.specs.Evicting.{AreEvictions, CostsOfEvict, ended, EvictsInOrder, EvictsOver, IsEvictAnswer, TakesOut}
 use Rattle.segevict.specs.Rows.{KeepsGone}
+use Rattle.segevict.specs.Tries.{IsBarred, StoodIn, TriesForKeys}
 use Rattle.segevict.specs.Unlinking.{EvictsRow}
 use Rattle.segpass.proofs.Draws.{draws_none_then}
-use Rattle.segevict.proofs.KeyTries.{no_tries, rows_tried_then}
+use Rattle.segevict.proofs.KeyTries.{no_tries, of_row, rows_tried_then}
 use Rattle.segevict.proofs.RowsOut.{goes_then, keeps_gone_then}
 
 -- ---- a change of the plain part alone
@@ -81,6 +82,7 @@ pub record Evicting (b : Board) (segment row taken : ℕ) (p q : Pass) : Type 0 
   pub below : (r : ℕ) → r < row → RowGone b.shape segment r (trace q)
   pub few : taken ≤ row
   pub tries : TriesForKeys b.shape segment row p q
+  pub order : EvictsOver b segment row taken p q
 
 -- before the first row
 pub evicting_first : (b : Board) (segment : ℕ) (p : Pass) → IsQuiet b p → Evicting b segment 0 0 p p
@@ -98,7 +100,12 @@ evicting_first b segment p quiet = record {
   below = λ r lt. absurd (omega (arith, lt));
   few = omega arith;
   tries = no_tries b (λ key. StoodIn b.shape segment key (seen p) (seen p)) 0 p p (stays b p quiet.pass);
+  order = (refl, refl);
 }
+
+-- one row more was gone over
+one_row_on : (b : Board) (segment row taken : ℕ) (p r : Pass) → EvictsOver b segment (suc row) taken p r → EvictsOver b segment (row + 1) taken p r
+one_row_on b segment row taken p r = subst (λ n. EvictsOver b segment n taken p r) (let e : suc row ≡ row + 1 = omega arith in e)
 
 module _ (b : Board) (segment row taken : ℕ) (p q r : Pass) (e : Evicting b segment row taken p q) where
   gone_below : KeepsGone b segment q r → RowGone b.shape segment row (trace r) → (n : ℕ) → n < row + 1 → RowGone b.shape segment n (trace r)
@@ -123,7 +130,8 @@ module _ (b : Board) (segment row taken : ℕ) (p q r : Pass) (e : Evicting b se
         entries = one.answer.2.1 ∙ (λ t. entry.Evicted (e.on.same t) key segment ∷ e.entries t);
         below = gone_below one.answer.0 one.answer.1;
         few = omega arith;
-        tries = rows_tried_then b.shape segment row 1 (row + 1) p q r e.on.seen one.on.seen (omega arith) e.tries one.tries;
+        tries = rows_tried_then b.shape segment row 1 (row + 1) p q r e.on.seen one.on.seen (omega arith) e.tries (of_row b.shape segment row 1 q r one.tries);
+        order = one_row_on b segment row (taken + 1) p r (q, inl (taken, refl, e.order, one));
       }
 
   -- or was gone
@@ -141,7 +149,8 @@ module _ (b : Board) (segment row taken : ℕ) (p q r : Pass) (e : Evicting b se
     entries = one.answer.2 ∙ e.entries;
     below = gone_below one.answer.0 one.answer.1;
     few = omega arith;
-    tries = rows_tried_then b.shape segment row 1 (row + 1) p q r e.on.seen one.on.seen (omega arith) e.tries one.tries;
+    tries = rows_tried_then b.shape segment row 1 (row + 1) p q r e.on.seen one.on.seen (omega arith) e.tries (of_row b.shape segment row 1 q r one.tries);
+    order = one_row_on b segment row taken p r (q, inr (e.order, one));
   }
 
 -- ---- the current segment
@@ -164,20 +173,26 @@ module _ (b : Board) (segment row taken : ℕ) (p q : Pass) (in_use : state_of p
   plain_then : q.plain ≡ ended segment p.plain
   plain_then = e.plain ∙ ap (λ o. with_current o p.plain) (sym (but_other segment (current_of p) over))
 
+  -- nothing is stored in the segment already
+  over_order : (count : ℕ) → EvictsOver b segment row count p q → EvictsOver b segment row count (record p { plain = ended segment p.plain }) q
+  over_order count = subst (λ x. EvictsOver b segment row count x q) (ap (λ o. record p { plain = with_current o p.plain }) (sym (but_other segment (current_of p) over)))
+
   -- the bit of a bucket couldn't be had
   module _ (r : Pass) (busy : EvictsRow b segment row row_answer.Busy q r) where
     pub barred_on : GoesOn b p r
     barred_on = goes_then b p q r e.on busy.on
 
-    pub barred_undrawn : DrawsNothing p r
-    barred_undrawn = draws_none_then p q r e.draws_nothing busy.draws_nothing
-
-    pub barred_unread : ReadsNothing p r
-    barred_unread = busy.reads_nothing ∙ e.reads_nothing
+    pub barred_costs : (used : ℕ) → used_of p segment ≡ Some used → row < used → CostsOfEvict b segment (evict.Busy taken) p r
+    barred_costs used is_used within = record {
+      order = λ again. (used, row, q, is_used, within, over_order taken e.order, busy);
+      tries = λ rows is. rows_tried_then b.shape segment row 1 rows p q r e.on.seen busy.on.seen (let same : used ≡ rows = same_Some used rows (sym is_used ∙ is) in omega arith) e.tries (of_row b.shape segment row 1 q r busy.tries);
+      draws_nothing = draws_none_then p q r e.draws_nothing busy.draws_nothing;
+      reads_nothing = busy.reads_nothing ∙ e.reads_nothing;
+    }
 
     barred_by : IsBarred b.shape segment p r
     barred_by =
-        let by = busy.answer.1 in let stood = by.1 in (
+        let by = busy.answer.1 in let stood = by.1.0 in (
           by.0,
           (stood.0, (begins_on (seen p) (seen q) stood.0 e.on.seen stood.1.0, stood.1.1), stood.2),
           ⊎_elim
@@ -186,8 +201,8 @@ module _ (b : Board) (segment row taken : ℕ) (p q : Pass) (in_use : state_of p
               by.2,
         )
 
-    pub barred_answer : ((rows : ℕ) → used_of p segment ≡ Some rows → row < rows) → IsEvictAnswer b.shape segment (evict.Busy taken) p r
-    barred_answer left = (
+    pub barred_answer : IsEvictAnswer b.shape segment (evict.Busy taken) p r
+    barred_answer = (
       in_use,
       record {
         evictions = e.evictions;
@@ -195,7 +210,6 @@ module _ (b : Board) (segment row taken : ℕ) (p q : Pass) (in_use : state_of p
         all = e.all;
         entries = busy.answer.0 ∙ e.entries;
         memo = busy.memo ∙ e.memo;
-        tries = λ rows is. rows_tried_then b.shape segment row 1 rows p q r e.on.seen busy.on.seen (let lt = left rows is in omega arith) e.tries busy.tries;
       },
       busy.plain ∙ plain_then,
       barred_by,
@@ -249,11 +263,18 @@ module _ (b : Board) (segment row taken : ℕ) (p q : Pass) (in_use : state_of p
         all = e.all;
         entries = e.entries;
         memo = e.memo;
-        tries = λ rows is. tries_alike (subst (λ n. TriesForKeys b.shape segment n p q) (same_Some row rows (sym all_rows ∙ is)) e.tries);
       },
       ap (with_state segment Evicted) plain_then,
       none_stands,
     )
+
+    pub emptied_costs : CostsOfEvict b segment (evict.Evicted taken) p emptied
+    emptied_costs = record {
+      order = λ again. (row, q, all_rows, over_order taken e.order, refl);
+      tries = λ rows is. tries_alike (subst (λ n. TriesForKeys b.shape segment n p q) (same_Some row rows (sym all_rows ∙ is)) e.tries);
+      draws_nothing = e.draws_nothing;
+      reads_nothing = e.reads_nothing;
+    }
 
 -- what the segment's state is then
 pub emptied_state : (segment : ℕ) (p q : Pass) → state_of p segment ≡ Some InUse → q.plain ≡ with_state segment Evicted (ended segment p.plain) → state_of q segment ≡ Some Evicted
@@ -281,14 +302,13 @@ module _ (b : Board) (segment : ℕ) (p : Pass) (quiet : IsQuiet b p) (in_use : 
   closes_on = let k = quiet.segments in
       plain_goes_on b p closed.plain quiet refl refl refl (record { few = k.few; rows = k.rows; deadlines = k.deadlines; in_use = λ t is. k.in_use t (in_one (current_of p) t is).0; unused = k.unused })
 
-  from_closed : (n : ℕ) (q : Pass) → TakesOut b.shape segment n closed q → TakesOut b.shape segment n p q
+  from_closed : (n : ℕ) (q : Pass) → TakesOut segment n closed q → TakesOut segment n p q
   from_closed n q t = record {
     evictions = t.evictions;
     counted = t.counted;
     all = t.all;
     entries = t.entries;
     memo = t.memo;
-    tries = λ rows is. let x = t.tries rows is in record { keys = x.keys; few = x.few; stood = x.stood; taken = x.taken; bounced = x.bounced };
   }
 
   closed_twice : ended segment closed.plain ≡ closed.plain
@@ -301,3 +321,19 @@ module _ (b : Board) (segment : ℕ) (p : Pass) (quiet : IsQuiet b p) (in_use : 
       is
   evict_answers evict.NotYours q is yours = absurd (yours refl)
   evict_answers (evict.Busy n) q is yours = (in_use, from_closed n q is.1, is.2 ∙ closed_twice, is.3)
+
+  over_closed : (used count : ℕ) (q : Pass) → EvictsOver b segment used count (record closed { plain = ended segment closed.plain }) q → EvictsOver b segment used count closed q
+  over_closed used count q = subst (λ x. EvictsOver b segment used count x q) (ap (λ x. record p { plain = x }) closed_twice)
+
+  order_closed : (told : EvictAnswer) (q : Pass) → EvictsInOrder b segment told closed q → EvictsInOrder b segment told p q
+  order_closed (evict.Evicted n) q (used, last, is, over, done) = (used, last, is, over_closed used n last over, done)
+  order_closed evict.NotYours q none = none
+  order_closed (evict.Busy n) q (used, row, middle, is, within, over, busy) = (used, row, middle, is, within, over_closed row n middle over, busy)
+
+  pub evict_costs : (told : EvictAnswer) (q : Pass) → CostsOfEvict b segment told closed q → CostsOfEvict b segment told p q
+  evict_costs told q costs = record {
+    order = λ is. order_closed told q (costs.order is);
+    tries = λ rows is. let x = costs.tries rows is in record { keys = x.keys; few = x.few; stood = x.stood; taken = x.taken; bounced = x.bounced };
+    draws_nothing = costs.draws_nothing;
+    reads_nothing = costs.reads_nothing;
+  }

@@ -276,10 +276,12 @@ module _ (b : Board) (segment into cutoff row count : ℕ) (p q : Pass) (quiet :
             all = moves_weaker (number p) segment into (WasOften b.shape segment cutoff p q) (WasOften b.shape segment cutoff p r) (often_then b segment into cutoff row count p q r own e later) e.moves e.all;
             entries = none.entries ∙ e.entries;
             uses = uses_then into count 0 count p q r (omega arith) e.uses (uses_none into q r none.plain none.memo);
-            tries = λ rows is. let same : used ≡ rows = same_Some used rows (sym is_used ∙ is) in tries_all b segment into cutoff row count p q r own e rows later (omega arith) tries;
           },
         ),
       )
+
+      tries_few : (rows : ℕ) → used_of p segment ≡ Some rows → TriesFor b.shape (WasOften b.shape segment cutoff p r) rows p r
+      tries_few rows is = let same : used ≡ rows = same_Some used rows (sym is_used ∙ is) in tries_all b segment into cutoff row count p q r own e rows later (omega arith) tries
 
     -- there was no row for its item
     pub keep_stopped : (r : Pass) → row < used → KeepsRow b segment row into cutoff kept.NoRoom q r → KeepsItems b segment cutoff (keep.NoRoom count) p r
@@ -293,9 +295,12 @@ module _ (b : Board) (segment into cutoff row count : ℕ) (p q : Pass) (quiet :
             (s.key, had_then b segment row (λ n. cutoff ≤ n) q r s (marked r) (marked r) ([], refl) ([], refl)),
           );
           not_yours = ((λ other. absurd (not_so other)), (λ nobody. absurd (none-some InUse (sym nobody ∙ in_use))));
-          order = λ other used_too t. subst (λ o. GoesInOrder b segment o cutoff (keep.NoRoom count) p r) (only_into other t) (row, used, is_used, within, q, e.order, k);
-          draws_nothing = draws_none_then p q r e.draws_nothing k.draws_nothing;
-          reads_nothing = k.reads_nothing ∙ e.reads_nothing;
+          costs = record {
+            order = λ other used_too t. subst (λ o. GoesInOrder b segment o cutoff (keep.NoRoom count) p r) (only_into other t) (row, used, is_used, within, q, e.order, k);
+            tries = tries_few r k.on.marked none within k.tries;
+            draws_nothing = draws_none_then p q r e.draws_nothing k.draws_nothing;
+            reads_nothing = k.reads_nothing ∙ e.reads_nothing;
+          };
         }
       where
         not_so : keep.NoRoom count ≢ keep.NotYours
@@ -323,9 +328,12 @@ module _ (b : Board) (segment into cutoff row count : ℕ) (p q : Pass) (quiet :
             ),
           );
           not_yours = ((λ other. absurd (not_so other)), (λ nobody. absurd (none-some InUse (sym nobody ∙ in_use))));
-          order = λ other used_too t. subst (λ o. GoesInOrder b segment o cutoff (keep.Busy count) p r) (only_into other t) (row, used, is_used, within, q, e.order, k);
-          draws_nothing = draws_none_then p q r e.draws_nothing k.draws_nothing;
-          reads_nothing = k.reads_nothing ∙ e.reads_nothing;
+          costs = record {
+            order = λ other used_too t. subst (λ o. GoesInOrder b segment o cutoff (keep.Busy count) p r) (only_into other t) (row, used, is_used, within, q, e.order, k);
+            tries = tries_few r k.on.marked none within k.tries;
+            draws_nothing = draws_none_then p q r e.draws_nothing k.draws_nothing;
+            reads_nothing = k.reads_nothing ∙ e.reads_nothing;
+          };
         }
       where
         not_so : keep.Busy count ≢ keep.NotYours
@@ -367,16 +375,18 @@ module _ (b : Board) (segment into cutoff row count : ℕ) (p q : Pass) (quiet :
               all = e.all;
               entries = e.entries;
               uses = e.uses;
-              tries = λ rows is. subst (λ n. TriesFor b.shape (WasOften b.shape segment cutoff p q) n p q) (same_Some row rows (sym all_rows ∙ is)) e.tries;
             },
           ),
         ),
         are_seldom,
       );
       not_yours = ((λ other. absurd (not_so other)), (λ nobody. absurd (none-some InUse (sym nobody ∙ in_use))));
-      order = λ other used_too t. subst (λ o. GoesInOrder b segment o cutoff (keep.Kept count) p q) (only_into other t) (row, all_rows, e.order);
-      draws_nothing = e.draws_nothing;
-      reads_nothing = e.reads_nothing;
+      costs = record {
+        order = λ other used_too t. subst (λ o. GoesInOrder b segment o cutoff (keep.Kept count) p q) (only_into other t) (row, all_rows, e.order);
+        tries = λ rows is. subst (λ n. TriesFor b.shape (WasOften b.shape segment cutoff p q) n p q) (same_Some row rows (sym all_rows ∙ is)) e.tries;
+        draws_nothing = e.draws_nothing;
+        reads_nothing = e.reads_nothing;
+      };
     }
       where
         not_so : keep.Kept count ≢ keep.NotYours

@@ -9,8 +9,7 @@ use Rattle.segmodel.proofs.LawLemmas.{count_by-append}
 use Rattle.segcore.proofs.Moments.{begins_on}
 use Rattle.segbase.specs.Words.{AddsEvents, Board, bounced, Pass, seen, taken}
 use Rattle.segbase.proofs.Moves.{moved_taken, moved_bounced}
-use Rattle.segevict.specs.Evicting.{StoodIn, TriesForKeys}
-use Rattle.segevict.specs.Tries.{TriesFor}
+use Rattle.segevict.specs.Tries.{StoodAtRow, StoodIn, TriesFor, TriesForKeys}
 
 pub no_tries : (b : Board) (IsSo : List ℕ → Type 0) (most : ℕ) (p q : Pass) → AddsEvents b [] p q → TriesFor b.shape IsSo most p q
 no_tries b IsSo most p q m = record {
@@ -74,3 +73,13 @@ pub rows_tried_then : (shape : Shape) (segment m n most : ℕ) (p q r : Pass) �
 rows_tried_then shape segment m n most p q r first second within i j =
     let stood : List Entry → List Entry → List ℕ → Type 0 = λ old new key. StoodIn shape segment key old new in
     tries_then shape (stood (seen p) (seen q)) (stood (seen q) (seen r)) (stood (seen p) (seen r)) m n most p q r (λ key. stood_after shape segment key (seen p) (seen q) (seen r) second) (λ key. stood_before shape segment key (seen p) (seen q) (seen r) first) within i j
+
+-- the key of a row is one that stood in the segment
+pub of_row : (shape : Shape) (segment row most : ℕ) (p q : Pass) → TriesFor shape (StoodAtRow shape segment row p q) most p q → TriesForKeys shape segment most p q
+of_row shape segment row most p q t = record {
+  keys = t.keys;
+  few = t.few;
+  stood = All-weaker (StoodAtRow shape segment row p q) (λ key. StoodIn shape segment key (seen p) (seen q)) (λ key s. s.0) t.keys t.stood;
+  taken = t.taken;
+  bounced = t.bounced;
+}

@@ -20,8 +20,8 @@ use Rattle.segevict.specs.declared.eviction.RowAnswer.{RowAnswer}
 use Rattle.segevict.specs.declared.eviction.RowAnswer.TheVariants as row_answer
 use Rattle.segpass.specs.Words.{ChangesNothing, DrawsNothing, GoesOn, IsBusy, IsQuiet, memo}
 use Rattle.segpass.specs.Words.{ReadsNothing, TookToWrite}
-use Rattle.segevict.specs.Evicting.{StoodIn, TriesForKeys}
 use Rattle.segevict.specs.Rows.{IsStoredIn, IsNamedAt, FindsRow, KeepsGone}
+use Rattle.segevict.specs.Tries.{StoodAtRow, StoodIn, TriesFor}
 use Rattle.segevict.specs.Unlinking.{TakesRow, EvictsRow}
 use Rattle.segpass.proofs.Bounces.{bounces_calm}
 use Rattle.segpass.proofs.Draws.{AreUndrawn, moved_undrawn, draws_none_then}
@@ -82,14 +82,17 @@ module _ (b : Board) (bucket : ℕ) (sought : Item) (p f : Pass) (quiet : IsQuie
   unread_looking : ReadsNothing p f
   unread_looking = no_reader b [] p f i.moved tt
 
-  -- the bit was tried for, since the key stood then
-  tries_one : (target : Target) (q : Pass) → IsNamedAt b bucket sought target f → Begins (seen f) (seen q) → taken q ≤ taken f + 1 → bounced q bucket ≤ bounced f bucket + 64 → ((other : ℕ) → other ≢ bucket → bounced q other ≡ bounced f other) → TriesForKeys b.shape sought.seg 1 p q
-  tries_one target q n later took met others = tries_after b (λ key. StoodIn b.shape sought.seg key (seen f) (seen q)) (λ key. StoodIn b.shape sought.seg key (seen p) (seen q)) 1 p f q i.moved (λ key s. stood_before b.shape sought.seg key (seen p) (seen f) (seen q) goes_looking.seen s) (one_try b.shape (λ key. StoodIn b.shape sought.seg key (seen f) (seen q)) stored.key f q
-      (seen f, (([], refl), later), named_stands b bucket sought f i.moved.pass stored target n) took
-      (subst (λ k. bounced q k ≤ bounced f k + 64) stored.home met) (λ other apart. others other (λ same. apart (same ∙ stored.home))))
-
   gone_looking : KeepsGone b sought.seg p f
   gone_looking = keeps_gone b sought.seg [] p f i.moved tt own_before
+
+  -- the bit was tried for, since the key stood then
+  tries_one : (target : Target) (q : Pass) → IsNamedAt b bucket sought target f → Begins (seen f) (seen q) → taken q ≤ taken f + 1 → bounced q bucket ≤ bounced f bucket + 64 → ((other : ℕ) → other ≢ bucket → bounced q other ≡ bounced f other) → TriesFor b.shape (StoodAtRow b.shape sought.seg sought.row p q) 1 p q
+  tries_one target q n later took met others =
+      let row : List ℕ → Type 0 = λ key. (row_after (trace p) sought.seg sought.row).linked ≡ Some key in
+      let now : List ℕ → Type 0 = λ key. StoodIn b.shape sought.seg key (seen f) (seen q) × row key in
+      tries_after b now (StoodAtRow b.shape sought.seg sought.row p q) 1 p f q i.moved (λ key s. (stood_before b.shape sought.seg key (seen p) (seen f) (seen q) goes_looking.seen s.0, s.1)) (one_try b.shape now stored.key f q
+      ((seen f, (([], refl), later), named_stands b bucket sought f i.moved.pass stored target n), sym (gone_looking.linked sought.row) ∙ stored.linked) took
+      (subst (λ k. bounced q k ≤ bounced f k + 64) stored.home met) (λ other apart. others other (λ same. apart (same ∙ stored.home))))
 
   -- no word names the row
   pub row_is_gone : RowGone b.shape sought.seg sought.row (trace f) → EvictsRow b sought.seg sought.row row_answer.Gone p f
@@ -99,7 +102,7 @@ module _ (b : Board) (bucket : ℕ) (sought : Item) (p f : Pass) (quiet : IsQuie
     memo = i.memo;
     draws_nothing = undrawn_looking;
     reads_nothing = unread_looking;
-    tries = no_tries b (λ key. StoodIn b.shape sought.seg key (seen p) (seen f)) 1 p f i.moved;
+    tries = no_tries b (StoodAtRow b.shape sought.seg sought.row p f) 1 p f i.moved;
     answer = (gone_looking, gone, (does_nothing b p f quiet i.moved i.plain i.memo).entries);
   }
 
@@ -119,7 +122,7 @@ module _ (b : Board) (bucket : ℕ) (sought : Item) (p f : Pass) (quiet : IsQuie
       busy.1.entries ∙ (does_nothing b p f quiet i.moved i.plain i.memo).entries,
       (
         stored.key,
-        (seen f, (goes_looking.seen, busy.0.seen), named_stands b bucket sought f i.moved.pass stored target n),
+        ((seen f, (goes_looking.seen, busy.0.seen), named_stands b bucket sought f i.moved.pass stored target n), sym (gone_looking.linked sought.row) ∙ stored.linked),
         ⊎_elim
             (λ own. inl (sym (ap (λ (x : Plain). x.locked) i.plain) ∙ (own.0 ∙ ap Some stored.home)))
             (λ tried.
@@ -168,7 +171,7 @@ module _ (b : Board) (bucket : ℕ) (sought : Item) (p f : Pass) (quiet : IsQuie
       undrawn_all : AreUndrawn own → DrawsNothing p s
       undrawn_all none = draws_none_then p f s undrawn_looking (write_undrawn b bucket f q quiet_looking begins r s own added false m elsewhere still adds freed free none)
 
-      tries_all : AreNoTries own → (target : Target) → IsNamedAt b bucket sought target f → TriesForKeys b.shape sought.seg 1 p s
+      tries_all : AreNoTries own → (target : Target) → IsNamedAt b bucket sought target f → TriesFor b.shape (StoodAtRow b.shape sought.seg sought.row p s) 1 p s
       tries_all none target n =
           let on : GoesOn b f s = write_goes_on b bucket f q quiet_looking begins r s own added false m elsewhere still adds freed free
           (same' ∙ (same ∙ took.memo)) (ap (λ (x : Plain). x.locked) (plain' ∙ (plain ∙ took.plain))) (ap (λ (x : Plain). x.is_holding) (plain' ∙ (plain ∙ took.plain))) keeps_all in

@@ -1,5 +1,5 @@
 -- What a keep answers: how many items it moved into the current segment, each by one entry.
--- Either what is left was below the cutoff, or something was in the way.
+-- Either what is left was below the cutoff, or something was in the way. And what a keep costs.
 use Rattle.std.specs.Prelude.{◌≡◌, ◌≢◌, ◌↔◌, ◌⊎◌, ℕ, ◌+◌, List, [], ◌∷◌, ◌++◌, length, true, false, Some, None}
 use Rattle.segword.specs.Words.{Shape}
 use Rattle.segmodel.specs.declared.entry.Entry.TheVariants as entry
@@ -48,16 +48,12 @@ pub record UsesRows (into count : ℕ) (p q : Pass) : Type 0 where
 
 -- This number of items was moved, each by one entry and into a row of its own.
 -- Each had a frequency that was the cutoff or over it at a moment of the call.
--- The pass tried for the bits of such keys alone, and for no more than the segment has used rows.
 pub record MovesItems (shape : Shape) (segment into cutoff count : ℕ) (p q : Pass) : Type 0 where
   pub moves : List Entry
   pub counted : length moves ≡ count
   pub all : AreMoves (number p) segment into (WasOften shape segment cutoff p q) moves
   pub entries : mine q ≡ moves ++ mine p
   pub uses : UsesRows into count p q
-  pub tries : (rows : ℕ)
-      → used_of p segment ≡ Some rows
-      → TriesFor shape (WasOften shape segment cutoff p q) rows p q
 
 -- each key that stands in the segment then was below the cutoff at a moment of the call
 abbrev pub AreSeldom : Shape → ℕ → ℕ → Pass → Pass → Type 0
@@ -94,17 +90,26 @@ IsKeepAnswer shape segment cutoff (keep.Busy count) p q =
     × (has_room shape q ≡ true)
     × IsInTheWay shape (WasOften shape segment cutoff p q) p q
 
--- A keep has this answer, which is NotYours exactly if the segment isn't one of the pass's own.
 -- The rows of the segment are gone over in their order.
--- The pass draws no overflow bucket, and does nothing of what readers do.
+-- The pass tried for the bits of keys that were read often enough, and of no others.
+-- It tried for no more keys than the segment has used rows.
+-- It draws no overflow bucket, and does nothing of what readers do.
+pub record CostsOfKeep (b : Board) (segment cutoff : ℕ) (told : KeepAnswer) (p q : Pass)
+    : Type 0 where
+  pub order : (into : ℕ)
+      → state_of p segment ≡ Some InUse
+      → IsKeepTarget segment into p
+      → GoesInOrder b segment into cutoff told p q
+  pub tries : (rows : ℕ)
+      → used_of p segment ≡ Some rows
+      → TriesFor b.shape (WasOften b.shape segment cutoff p q) rows p q
+  pub draws_nothing : DrawsNothing p q
+  pub reads_nothing : ReadsNothing p q
+
+-- a keep has this answer, which is NotYours exactly if the segment isn't one of the pass's own
 pub record KeepsItems (b : Board) (segment cutoff : ℕ) (told : KeepAnswer) (p q : Pass)
     : Type 0 where
   pub on : GoesOn b p q
   pub answer : IsKeepAnswer b.shape segment cutoff told p q
   pub not_yours : (told ≡ keep.NotYours) ↔ (state_of p segment ≡ None)
-  pub order : (into : ℕ)
-      → state_of p segment ≡ Some InUse
-      → IsKeepTarget segment into p
-      → GoesInOrder b segment into cutoff told p q
-  pub draws_nothing : DrawsNothing p q
-  pub reads_nothing : ReadsNothing p q
+  pub costs : CostsOfKeep b segment cutoff told p q

@@ -10,8 +10,8 @@ use Rattle.segbase.specs.Words.{AddsEvents, Board, mine, number, Pass, trace}
 use Rattle.segevict.specs.declared.eviction.RowAnswer.{RowAnswer}
 use Rattle.segevict.specs.declared.eviction.RowAnswer.TheVariants as row_answer
 use Rattle.segpass.specs.Words.{DrawsNothing, GoesOn, HasCleanBit, memo, ReadsNothing}
-use Rattle.segevict.specs.Evicting.{TriesForKeys, IsBarred}
 use Rattle.segevict.specs.Rows.{KeepsGone}
+use Rattle.segevict.specs.Tries.{IsInTheWay, StoodAtRow, TriesFor}
 
 -- ---- the key goes
 
@@ -39,14 +39,16 @@ IsRowAnswer b segment row row_answer.Evicted p q =
     × ((key : List ℕ) × (mine q ≡ entry.Evicted (number p) key segment ∷ mine p))
 IsRowAnswer b segment row row_answer.Gone p q =
     KeepsGone b segment p q × RowGone b.shape segment row (trace q) × (mine q ≡ mine p)
-IsRowAnswer b segment row row_answer.Busy p q = (mine q ≡ mine p) × IsBarred b.shape segment p q
+IsRowAnswer b segment row row_answer.Busy p q =
+    (mine q ≡ mine p) × IsInTheWay b.shape (StoodAtRow b.shape segment row p q) p q
 
--- the key of a row is taken out, or gone already, or the bit of its bucket can't be taken
+-- The key of a row is taken out, or gone already, or the bit of its bucket can't be taken.
+-- The pass tries for a bit only for that key, and only once.
 pub record EvictsRow (b : Board) (segment row : ℕ) (told : RowAnswer) (p q : Pass) : Type 0 where
   pub on : GoesOn b p q
   pub plain : q.plain ≡ p.plain
   pub memo : memo q ≡ memo p
   pub draws_nothing : DrawsNothing p q
   pub reads_nothing : ReadsNothing p q
-  pub tries : TriesForKeys b.shape segment 1 p q
+  pub tries : TriesFor b.shape (StoodAtRow b.shape segment row p q) 1 p q
   pub answer : IsRowAnswer b segment row told p q

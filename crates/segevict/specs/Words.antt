@@ -1,6 +1,6 @@
 -- The words of this crate that others use, from one place.
-pub use Rattle.segevict.specs.Evicting.{AreEvictions, ended, EvictsSegment, IsBarred}
-pub use Rattle.segevict.specs.Evicting.{IsEvictAnswer, TakesOut}
+pub use Rattle.segevict.specs.Evicting.{AreEvictions, ended, EvictsSegment, IsEvictAnswer}
+pub use Rattle.segevict.specs.Evicting.{TakesOut}
 pub use Rattle.segevict.specs.Frequencies.{HadFrequency, WasOften, WasSeldom}
 pub use Rattle.segevict.specs.Keeping.{AreMoves, AreSeldom, IsKeepAnswer, IsKeepTarget, KeepsItems}
 pub use Rattle.segevict.specs.Keeping.{MovesAway, MovesItems, UsesRows}
@@ -9,3 +9,4 @@ pub use Rattle.segevict.specs.Moving.{GoesInOrder, GoesOver, IsKeptRow, KeepsRow
 pub use Rattle.segevict.specs.Moving.{StopsAt, under_bit}
 pub use Rattle.segevict.specs.Naming.{AreNamed, CountsRows, IsNamed, own_at, sum_below, SumsUp}
 pub use Rattle.segevict.specs.Naming.{Tallies, used_at, WasNamed}
+pub use Rattle.segevict.specs.Tries.{IsBarred}

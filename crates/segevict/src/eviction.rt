@@ -4,9 +4,8 @@ ghost use Rattle.std.specs.Prelude.{◌≡◌, ◌≢◌, Some};
 ghost use Rattle.segmodel.specs.declared.answer.SegState.TheVariants.{InUse};
 ghost use Rattle.segmodel.specs.declared.answer.EvictAnswer.TheVariants.{NotYours};
 ghost use Rattle.segbase.specs.Words.{current_of, IsPassOf, state_of};
-ghost use Rattle.segpass.specs.Words.{DrawsNothing, GoesOn, HasCleanBit, IsQuiet, memo};
-ghost use Rattle.segpass.specs.Words.{ReadsNothing};
-ghost use Rattle.segevict.specs.Evicting.{ended, IsEvictAnswer, EvictsSegment};
+ghost use Rattle.segpass.specs.Words.{GoesOn, HasCleanBit, IsQuiet, memo};
+ghost use Rattle.segevict.specs.Evicting.{CostsOfEvict, ended, EvictsSegment, IsEvictAnswer};
 ghost use Rattle.segevict.specs.Rows.{IsUsedRow, IsStoredIn};
 ghost use Rattle.segevict.specs.Unlinking.{TakesRow, EvictsRow};
 
@@ -60,8 +59,7 @@ fn evict_rows(board: &Board, pass: &mut Pass, segment: u32) -> EvictAnswer
     requires ended { current_of pass.old ≢ Some segment }
     ensures on { GoesOn board.now pass.old pass.new }
     ensures answer { IsEvictAnswer board.now.shape segment result pass.old pass.new }
-    ensures draws_nothing { DrawsNothing pass.old pass.new }
-    ensures reads_nothing { ReadsNothing pass.old pass.new }
+    ensures costs { CostsOfEvict board.now segment result pass.old pass.new }
     ensures yours { result ≢ NotYours }
 {
     let used = pass.used(segment).unwrap();

@@ -1,10 +1,13 @@
 use Rattle.std.proofs.Common.{rules, ◌≡◌, ◌≢◌, Some, refl, sym, subst, inr}
 use Rattle.segmodel.specs.declared.answer.SegState.TheVariants.{InUse}
-use Rattle.segbase.specs.Words.{current_of, state_of}
-use Rattle.segpass.specs.Words.{DrawsNothing, GoesOn, IsQuiet, ReadsNothing}
-use Rattle.segevict.specs.Evicting.{IsEvictAnswer}
+use Rattle.segbase.specs.Words.{current_of, seen, state_of}
+use Rattle.segbase.proofs.Moves.{stays}
+use Rattle.segpass.specs.Words.{GoesOn, IsQuiet}
+use Rattle.segevict.specs.Evicting.{CostsOfEvict, IsEvictAnswer}
+use Rattle.segevict.specs.Tries.{StoodIn}
 use Rattle.segpass.proofs.Idling.{goes_same}
-use Rattle.segevict.proofs.Evictions.{closed, closed_over, closes_on, evict_answers}
+use Rattle.segevict.proofs.Evictions.{closed, closed_over, closes_on, evict_answers, evict_costs}
+use Rattle.segevict.proofs.KeyTries.{no_tries}
 use Rattle.segevict.proofs.RowsOut.{goes_then}
 use Rattle.segevict.proofs.eviction.evict.Goals as goal
 
@@ -29,8 +32,12 @@ returns-in_default c = record {
     on = goes_same c.args.board.now c.args.pass.now c.requires.quiet;
     answer = refl;
     not_yours = search rules;
-    draws_nothing = λ bucket. refl;
-    reads_nothing = refl;
+    costs = record {
+      order = λ in_use. search (rules, in_use);
+      tries = λ rows is. no_tries c.args.board.now (λ key. StoodIn c.args.board.now.shape c.args.segment key (seen c.args.pass.now) (seen c.args.pass.now)) rows c.args.pass.now c.args.pass.now (stays c.args.board.now c.args.pass.now c.requires.quiet.pass);
+      draws_nothing = λ bucket. refl;
+      reads_nothing = refl;
+    };
   };
 }
 
@@ -40,8 +47,12 @@ returns-then-ne c = record {
     on = goes_same c.args.board.now c.args.pass.now c.requires.quiet;
     answer = inr (search rules, refl, refl);
     not_yours = search rules;
-    draws_nothing = λ bucket. refl;
-    reads_nothing = refl;
+    costs = record {
+      order = λ in_use. search (rules, in_use);
+      tries = λ rows is. no_tries c.args.board.now (λ key. StoodIn c.args.board.now.shape c.args.segment key (seen c.args.pass.now) (seen c.args.pass.now)) rows c.args.pass.now c.args.pass.now (stays c.args.board.now c.args.pass.now c.requires.quiet.pass);
+      draws_nothing = λ bucket. refl;
+      reads_nothing = refl;
+    };
   };
 }
 
@@ -55,7 +66,6 @@ returns c =
         on = goes_then b p (closed b s p c.requires.quiet in_use) q (closes_on b s p c.requires.quiet in_use) (subst (λ r. GoesOn b r q) e rows.on);
         answer = evict_answers b s p c.requires.quiet in_use told q (subst (λ r. IsEvictAnswer b.shape s told r q) e rows.answer) rows.yours;
         not_yours = search (rules, in_use, rows.yours);
-        draws_nothing = subst (λ r. DrawsNothing r q) e rows.draws_nothing;
-        reads_nothing = subst (λ r. ReadsNothing r q) e rows.reads_nothing;
+        costs = evict_costs b s p c.requires.quiet in_use told q (subst (λ r. CostsOfEvict b s told r q) e rows.costs);
       };
     }

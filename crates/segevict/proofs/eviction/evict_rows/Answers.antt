@@ -1,10 +1,9 @@
 use Rattle.std.proofs.Common.{◌≡◌, ◌+◌, Some, sym, ap, ◌∙◌, subst, arith}
-use Rattle.std.proofs.lemmas.Option.{same_Some}
 use Rattle.segmodel.specs.declared.answer.EvictAnswer.TheVariants as evict
 use Rattle.segbase.specs.Words.{used_of}
-use Rattle.segpass.specs.Words.{DrawsNothing, GoesOn, ReadsNothing}
-use Rattle.segevict.specs.Evicting.{IsEvictAnswer}
-use Rattle.segevict.proofs.Evictions.{Evicting, evicting_first, evicting_one, evicting_none, barred_on, barred_undrawn, barred_unread, barred_answer, emptied_on, emptied_answer}
+use Rattle.segpass.specs.Words.{GoesOn}
+use Rattle.segevict.specs.Evicting.{CostsOfEvict, IsEvictAnswer}
+use Rattle.segevict.proofs.Evictions.{Evicting, evicting_first, evicting_one, evicting_none, barred_on, barred_answer, barred_costs, emptied_on, emptied_answer, emptied_costs}
 use Rattle.segevict.proofs.eviction.evict_rows.Goals as goal
 use Rattle.segevict.proofs.eviction.evict_rows.Goals.{in-Evicted, in-Gone}
 
@@ -17,9 +16,7 @@ returns-in-Busy-clause-on c = let l = c.loop-row in let r = c.requires in
 
 pub returns-in-Busy-clause-answer : goal.returns-in-Busy-clause-answer
 returns-in-Busy-clause-answer c = let l = c.loop-row in let r = c.requires in
-    let below = c.loop-row-test.true in
     barred_answer c.args.board.now c.args.segment l.row l.evicted c.args.pass.now l.pass r.in_use r.ended l.invariant c.evict_row.new.pass c.in-Busy.ensures.evicts
-    (λ rows is. let all : rows ≡ c.unwrap-used.result = same_Some rows c.unwrap-used.result (sym is ∙ (sym c.used.ensures ∙ c.unwrap-used.ensures)) in omega arith)
 
 pub loop-row-preserved : goal.loop-row-preserved
 loop-row-preserved c = let b = c.args.board.now in let l = c.loop-row in elim c.match-evict_row.branch [
@@ -39,16 +36,13 @@ returns-clause-answer c = let l = c.loop-row in let r = c.requires in let done =
     let all : used_of c.args.pass.now c.args.segment ≡ Some l.row = sym c.used.ensures ∙ (c.unwrap-used.ensures ∙ ap Some (let e : c.unwrap-used.result ≡ l.row = omega arith in e)) in
     subst (IsEvictAnswer c.args.board.now.shape c.args.segment (evict.Evicted l.evicted) c.args.pass.now) done (emptied_answer c.args.board.now c.args.segment l.row l.evicted c.args.pass.now l.pass r.in_use r.ended l.invariant all)
 
-pub returns-in-Busy-clause-draws_nothing : goal.returns-in-Busy-clause-draws_nothing
-returns-in-Busy-clause-draws_nothing c = let l = c.loop-row in let r = c.requires in
-    barred_undrawn c.args.board.now c.args.segment l.row l.evicted c.args.pass.now l.pass r.in_use r.ended l.invariant c.evict_row.new.pass c.in-Busy.ensures.evicts
+pub returns-in-Busy-clause-costs : goal.returns-in-Busy-clause-costs
+returns-in-Busy-clause-costs c = let l = c.loop-row in let r = c.requires in
+    barred_costs c.args.board.now c.args.segment l.row l.evicted c.args.pass.now l.pass r.in_use r.ended l.invariant c.evict_row.new.pass c.in-Busy.ensures.evicts
+    c.unwrap-used.result (sym c.used.ensures ∙ c.unwrap-used.ensures) c.loop-row-test.true
 
-pub returns-clause-draws_nothing : goal.returns-clause-draws_nothing
-returns-clause-draws_nothing c = subst (DrawsNothing c.args.pass.now) (sym c.set_state.ensures) c.loop-row.invariant.draws_nothing
-
-pub returns-in-Busy-clause-reads_nothing : goal.returns-in-Busy-clause-reads_nothing
-returns-in-Busy-clause-reads_nothing c = let l = c.loop-row in let r = c.requires in
-    barred_unread c.args.board.now c.args.segment l.row l.evicted c.args.pass.now l.pass r.in_use r.ended l.invariant c.evict_row.new.pass c.in-Busy.ensures.evicts
-
-pub returns-clause-reads_nothing : goal.returns-clause-reads_nothing
-returns-clause-reads_nothing c = subst (ReadsNothing c.args.pass.now) (sym c.set_state.ensures) c.loop-row.invariant.reads_nothing
+pub returns-clause-costs : goal.returns-clause-costs
+returns-clause-costs c = let l = c.loop-row in let r = c.requires in let done = sym c.set_state.ensures in
+    let over = c.loop-row-test.false in let most = l.auto.row-end in
+    let all : used_of c.args.pass.now c.args.segment ≡ Some l.row = sym c.used.ensures ∙ (c.unwrap-used.ensures ∙ ap Some (let e : c.unwrap-used.result ≡ l.row = omega arith in e)) in
+    subst (CostsOfEvict c.args.board.now c.args.segment (evict.Evicted l.evicted) c.args.pass.now) done (emptied_costs c.args.board.now c.args.segment l.row l.evicted c.args.pass.now l.pass r.in_use r.ended l.invariant all)
