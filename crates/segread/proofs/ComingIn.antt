@@ -10,7 +10,7 @@ use Rattle.segbase.specs.Words.{raised, trace, view}
 use Rattle.segbase.proofs.Moves.{moved_entered, moved_glanced, moved_raised}
 use Rattle.segpass.specs.Words.{RaisesNothing}
 use Rattle.segread.specs.Gets.{Attempts}
-use Rattle.segread.specs.Hits.{GlancesNothing, OnlyScans, TriesFew}
+use Rattle.segread.specs.Hits.{GlancesNothing, GlancesOnce, OnlyScans, TriesFew}
 use Rattle.segread.specs.Scanning.{words_below, IsTry, Tries}
 
 -- it came into no segment, and did nothing beside
@@ -19,7 +19,7 @@ StaysOut p q = (entered q ≡ entered p) × OnlyScans p q
 
 -- by one look at the information of a bucket it came into no segment, and may have found the bit set
 abbrev pub LooksOnce : Pass → Pass → Type 0
-LooksOnce p q = (entered q ≡ entered p) × RaisesNothing p q × ((bucket : ℕ) → glanced q bucket ≤ glanced p bucket + 1)
+LooksOnce p q = (entered q ≡ entered p) × RaisesNothing p q × GlancesOnce p q
 
 pub raises_none : (p q : Pass) → OnlyScans p q → RaisesNothing p q
 raises_none p q only = ap (λ x. x.0) only
@@ -101,7 +101,6 @@ at_most from to end some more most p q le i = record { comes_in = (let a = i.com
 pub attempts : (from to some more : ℕ) (p q : Pass) → Tries from to some more p q → Attempts from to some more p q
 attempts from to some more p q i = record {
   comes_in = i.comes_in;
-  glances = λ bucket. let same = glances_none p q i.only_scans bucket in let on = i.onward in omega arith;
   onward = i.onward;
   raises_nothing = raises_none p q i.only_scans;
 }
@@ -113,11 +112,20 @@ once_between p q r s i once j = (
   λ bucket. let first = glances_none p q i.1 bucket in let then = glances_none r s j.1 bucket in let one = once.2 bucket in omega arith,
 )
 
+-- nothing but scans, and one look at a bit
+pub scans_once : (p q : Pass) → OnlyScans p q → GlancesOnce p q
+scans_once p q only bucket = let same = glances_none p q only bucket in omega arith
+
+pub glances_one : (p q r : Pass) → OnlyScans p q → LooksOnce q r → GlancesOnce p r
+glances_one p q r only once bucket = let same = glances_none p q only bucket in let one = once.2 bucket in omega arith
+
+pub glances_then : (p q r : Pass) → GlancesOnce p q → StaysOut q r → GlancesOnce p r
+glances_then p q r once out bucket = let one = once bucket in let same = glances_none q r out.1 bucket in omega arith
+
 -- a scan that found the item, and one look at the bit
-pub attempts_once : (from to some more : ℕ) (p q r : Pass) → Tries from to some (more + 1) p q → words_below from + some ≤ words_below to + more → LooksOnce q r → Attempts from to some (more + 1) p r
-attempts_once from to some more p q r i on once = record {
+pub attempts_once : (from to some more : ℕ) (p q r : Pass) → Tries from to some (more + 1) p q → LooksOnce q r → Attempts from to some (more + 1) p r
+attempts_once from to some more p q r i once = record {
   comes_in = (let a = i.comes_in in let c = once.0 in omega arith);
-  glances = λ bucket. let same = glances_none p q i.only_scans bucket in let one = once.2 bucket in omega (arith, on, same, one);
   onward = i.onward;
   raises_nothing = once.1 ∙ raises_none p q i.only_scans;
 }
@@ -125,7 +133,6 @@ attempts_once from to some more p q r i on once = record {
 pub attempts_out : (from to some more : ℕ) (p q r : Pass) → Attempts from to some more p q → StaysOut q r → Attempts from to some more p r
 attempts_out from to some more p q r i j = record {
   comes_in = (let a = i.comes_in in let c = j.0 in omega arith);
-  glances = λ bucket. let a = i.glances bucket in let same = glances_none q r j.1 bucket in omega arith;
   onward = i.onward;
   raises_nothing = raises_none q r j.1 ∙ i.raises_nothing;
 }
@@ -133,7 +140,6 @@ attempts_out from to some more p q r i j = record {
 pub attempts_then : (from mid to some more most : ℕ) (p q r : Pass) → Attempts from mid some more p q → Attempts mid to more most q r → Attempts from to some most p r
 attempts_then from mid to some more most p q r i j = record {
   comes_in = (let a = i.comes_in in let c = j.comes_in in omega arith);
-  glances = λ bucket. let a = i.glances bucket in let c = j.glances bucket in omega arith;
   onward = (let a = i.onward in let c = j.onward in omega arith);
   raises_nothing = j.raises_nothing ∙ i.raises_nothing;
 }
@@ -141,7 +147,6 @@ attempts_then from mid to some more most p q r i j = record {
 pub attempts_at_most : (from to end some more most : ℕ) (p q : Pass) → words_below to + more ≤ words_below end + most → Attempts from to some more p q → Attempts from end some most p q
 attempts_at_most from to end some more most p q le i = record {
   comes_in = (let a = i.comes_in in omega (arith, le));
-  glances = λ bucket. let a = i.glances bucket in omega (arith, a, le);
   onward = (let a = i.onward in omega (arith, le));
   raises_nothing = i.raises_nothing;
 }

@@ -10,7 +10,7 @@ use Rattle.segbase.proofs.Moves.{moved_on, moved_seen}
 use Rattle.segstore.specs.Words.{IsReader}
 use Rattle.segstore.proofs.Readers.{stays, reader_then}
 use Rattle.segread.specs.declared.version.Attempt.TheVariants.{Told}
-use Rattle.segread.specs.Hits.{GetsRaises, GlancesFew, TriesFew}
+use Rattle.segread.specs.Hits.{GetsRaises, GlancesFew, GlancesOnce, TriesFew}
 use Rattle.segread.specs.Scanning.{ComesIn, place_of, words_below, IsPlaceOf}
 use Rattle.segread.specs.Gets.{Attempts, IsGetsAnswer, Disturbs, MovesOn, IsAttempt}
 use Rattle.segread.proofs.ComingIn.{attempts, attempts_then, tries_none, words_few}
@@ -24,6 +24,7 @@ pub record HasTried (b : Board) (key : List ℕ) (now : ℕ) (next : Place) (tri
   pub few : tries ≤ 64
   pub place : IsPlaceOf b.shape (trace q) key next
   pub disturbs : Disturbs b.shape key now 0 tries p q
+  pub glances : (bucket : ℕ) → glanced q bucket ≤ glanced p bucket + tries
   pub tried : Attempts 1 (position b.shape (trace q) next) 0 tries p q
   pub ahead : KeyAhead b.shape key (position b.shape (trace q) next) (trace p) (trace q)
 
@@ -37,16 +38,14 @@ tried_none b key now bucket p is home = let first = first_place b.shape key buck
   few = omega arith;
   place = first.0;
   disturbs = disturbs_none b key now 0 p p (stays b p is);
+  glances = λ bucket. omega arith;
   tried = subst (λ n. Attempts 1 n 0 0 p p) (sym first.1) (attempts 1 1 0 0 p p (tries_none 1 0 p));
   ahead = subst (λ n. KeyAhead b.shape key n (trace p) (trace p)) (sym first.1) (key_first b.shape key (trace p) is.lawful);
 }
 
--- so often it came into segments at most, and found a bit set
+-- so often it came into segments at most
 few_attempts : (from to tries : ℕ) (p q : Pass) → from ≡ 1 → words_below to + tries ≤ 91 → Attempts from to 0 tries p q → TriesFew p q
 few_attempts from to tries p q first most i = let few = subst (λ n. ComesIn n to 0 tries p q) first i.comes_in in omega (arith, few, most)
-
-few_glances : (from to tries : ℕ) (p q : Pass) → from ≡ 1 → words_below to + tries ≤ 91 → Attempts from to 0 tries p q → GlancesFew p q
-few_glances from to tries p q first most i bucket = let few = subst (λ n. glanced q bucket + words_below n + 0 ≤ glanced p bucket + words_below to + tries) first (i.glances bucket) in omega (arith, few, most)
 
 module _ (b : Board) (key : List ℕ) (now : ℕ) (next : Place) (tries : ℕ) (p q r : Pass) (t : HasTried b key now next tries p q) (i : IsReader b q r) where
   abbrev at : ℕ
@@ -64,6 +63,7 @@ module _ (b : Board) (key : List ℕ) (now : ℕ) (next : Place) (tries : ℕ) (
     few = x.few;
     place = x.place;
     disturbs = disturbs_then b.shape key now 0 tries counted p q r t.disturbs x.disturbs;
+    glances = λ bucket. let before = t.glances bucket in let more = x.glances bucket in omega arith;
     tried = attempts_then 1 at (position b.shape (trace r) other) 0 tries counted p q r t.tried x.tried;
     ahead = x.brings (trace p) up t.ahead;
   }
@@ -72,24 +72,28 @@ module _ (b : Board) (key : List ℕ) (now : ℕ) (next : Place) (tries : ℕ) (
   fewer_left other counted x =
       let on = x.onward in let few = t.few in let most = words_few at (in_chain b.shape (trace q) next t.reads.reads.moved.pass.lawful t.place.0).1 in omega (arith, on, few, most)
 
-  pub told_by : (draw : ℕ) (told : GetsAnswer) → IsAttempt b.shape key now draw at tries (Told told) q r → TriesFew p r × GetsRaises b.shape key draw told p r × IsGetsAnswer b.shape key now told p r × GlancesFew p r
-  told_by draw (gets.Found value version) x = (
+  -- one look more
+  few_glances : tries < 64 → GlancesOnce q r → GlancesFew p r
+  few_glances few one bucket = let before = t.glances bucket in let more = one bucket in omega arith
+
+  pub told_by : (draw : ℕ) (told : GetsAnswer) → tries < 64 → IsAttempt b.shape key now draw at tries (Told told) q r → TriesFew p r × GetsRaises b.shape key draw told p r × IsGetsAnswer b.shape key now told p r × GlancesFew p r
+  told_by draw (gets.Found value version) more x = (
     (let before = t.tried.comes_in in let then = x.2 in omega (arith, before, then)),
     raises_later b.shape key value draw p q r t.reads.reads.moved.same up t.tried.raises_nothing x.1,
     (let v = x.0 in (v.0, (begins_on (seen p) (seen q) v.0 (moved_seen b t.reads.reads.own p q t.reads.reads.moved) v.1.0, v.1.1), v.2)),
-    (λ bucket. let before = t.tried.glances bucket in let then = x.3 bucket in omega (arith, before, then)),
+    few_glances more x.3,
   )
-  told_by draw gets.Miss x = (
+  told_by draw gets.Miss more x = (
     few_attempts 1 32 63 p r refl (omega arith) (attempts_then 1 at 32 0 tries 63 p q r t.tried x.tried),
     x.tried.raises_nothing ∙ t.tried.raises_nothing,
     x.missed (trace p) up t.ahead,
-    few_glances 1 32 63 p r refl (omega arith) (attempts_then 1 at 32 0 tries 63 p q r t.tried x.tried),
+    few_glances more x.glances,
   )
-  told_by draw gets.Busy x = (
+  told_by draw gets.Busy more x = (
     few_attempts 1 32 63 p r refl (omega arith) (attempts_then 1 at 32 0 tries 63 p q r t.tried x.1),
     x.1.raises_nothing ∙ t.tried.raises_nothing,
     inl (is_disturbed b key now p r reads_on (disturbs_then b.shape key now 0 tries 64 p q r t.disturbs x.0)),
-    few_glances 1 32 63 p r refl (omega arith) (attempts_then 1 at 32 0 tries 63 p q r t.tried x.1),
+    few_glances more x.2,
   )
 
 -- all tries are counted
@@ -99,5 +103,5 @@ tried_all b key now next tries draw p q t all =
       few_attempts 1 (position b.shape (trace q) next) tries p q refl (omega (arith, few, most)) t.tried,
       t.tried.raises_nothing,
       inl (is_disturbed b key now p q t.reads (subst (λ n. Disturbs b.shape key now 0 n p q) (let e : tries ≡ 64 = omega (arith, few, all) in e) t.disturbs)),
-      few_glances 1 (position b.shape (trace q) next) tries p q refl (omega (arith, few, most)) t.tried,
+      (λ bucket. let looks = t.glances bucket in omega (arith, few, looks)),
     )

@@ -130,6 +130,7 @@ hit_here b key place seen item header deadline tries count p q r of i j few trie
       found = hit_from z place item header key (trace q) (trace r) (trace p) up found;
       deadline = told;
       few = few;
+      up = let on = tried.onward in omega arith;
       counted = counts_later z key tries count (trace p) y.saw.at found.found.saw.at (begins_on y.saw.at (trace q) found.found.saw.at y.saw.between.1 found.found.saw.between.0) y.counted;
       onward = let on = tried.onward in omega (arith, on, e);
       tried = subst (λ n. Tries (position z (trace p) place) n tries (count + 1) p r) e (tries_once (position z (trace p) place) (position z (trace p) place) tries count p q r tried once);
@@ -140,6 +141,7 @@ hit_here b key place seen item header deadline tries count p q r of i j few trie
 pub record HasScanned (b : Board) (key : List ℕ) (from to some more : ℕ) (p q : Pass) : Type 0 where
   pub reads : IsReader b p q
   pub few : more < 64
+  pub up : some ≤ more
   pub counted : CountsTries b.shape key some more (trace p) (trace q)
   pub tried : Tries from to some more p q
   pub brings : AdvancesSearch b.shape key from to (trace p) (trace q)
@@ -148,6 +150,7 @@ pub scanned_none : (b : Board) (key : List ℕ) (at tries : ℕ) (p : Pass) → 
 scanned_none b key at tries p is few = record {
   reads = stays b p is;
   few = few;
+  up = omega arith;
   counted = counts_none b.shape key tries (trace p) (trace p) ([], refl);
   tried = tries_none at tries p;
   brings = λ start s ahead. ahead;
@@ -168,6 +171,7 @@ module _ (b : Board) (key : List ℕ) (from mid some tries : ℕ) (p q r : Pass)
   scanned_next after counted last next w i x n = record {
     reads = reader_then b p q r s.reads i;
     few = x.few;
+    up = let before = s.up in let more = x.up in omega arith;
     counted = counts_then b.shape key some tries counted (trace p) (trace q) (trace r) s.counted x.counts;
     tried = at_most from after (position b.shape (trace r) next) some counted counted p r (let e = n.words in omega (arith, e)) (tries_then from mid after some tries counted p q r s.tried x.tried);
     brings = λ start here ahead. n.brings start (begins_on start (trace p) (trace q) here up) (s.brings start here ahead);
@@ -185,6 +189,7 @@ module _ (b : Board) (key : List ℕ) (from mid some tries : ℕ) (p q r : Pass)
     found = hit_from b.shape hit.place hit.item hit.header key (trace q) (trace r) (trace p) up x.found;
     deadline = x.deadline;
     few = x.few;
+    up = let before = s.up in let more = x.up in omega arith;
     counted = counts_then b.shape key some tries hit.tries (trace p) (trace q) x.found.found.saw.at s.counted x.counted;
     tried = tries_then from mid (position b.shape (trace r) hit.place) some tries (hit.tries + 1) p q r s.tried x.tried;
     onward = let before = s.tried.onward in let on = x.onward in omega arith;
@@ -201,6 +206,7 @@ module _ (b : Board) (key : List ℕ) (from mid some tries : ℕ) (p q r : Pass)
   way_then to last (Found hit) x = hit_then hit x
   way_then to last (Passed word counted) x = record {
     few = x.few;
+    up = let before = s.up in let more = x.up in omega arith;
     counts = counts_then b.shape key some tries counted (trace p) (trace q) (trace r) s.counted x.counts;
     tried = tries_then from mid to some tries counted p q r s.tried x.tried;
     passed = passed_then b.shape key from mid to last word (trace p) (trace q) (trace r) up s.brings x.passed;

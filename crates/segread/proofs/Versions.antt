@@ -7,7 +7,7 @@ use Rattle.segcore.specs.Event as event
 use Rattle.segcore.specs.Words.{bucket_after, Holds, inside, IsLawful, row_after}
 use Rattle.segcore.proofs.Moments.{begins_on, seen_begins}
 use Rattle.segcore.proofs.Searches.{key_later}
-use Rattle.segbase.specs.Words.{Board, entered, glanced, Glances, number, Pass, Place, position, seen, sight}
+use Rattle.segbase.specs.Words.{Board, entered, Glances, number, Pass, Place, position, seen, sight}
 use Rattle.segbase.specs.Words.{trace}
 use Rattle.segbase.proofs.Moves.{moved_on, is_inside}
 use Rattle.segstore.specs.Words.{segment_part, FoundItem, IsReader, IsReaderIn, LeavesSegment, OnlyLooks}
@@ -16,12 +16,12 @@ use Rattle.segstore.proofs.Words.{same_place, chained_later}
 use Rattle.segstore.proofs.Seconds.{segment_of_item}
 use Rattle.segstore.proofs.Readers.{looks, reader_then, then_reader, leave_then}
 use Rattle.segread.specs.declared.scan.Hit.{Hit}
-use Rattle.segread.specs.Hits.{GlancesNothing, RaisesFrom, RaisesOne}
+use Rattle.segread.specs.Hits.{GlancesNothing, GlancesOnce, RaisesFrom, RaisesOne}
 use Rattle.segread.specs.Scanning.{HasDeadline, words_below, IsPlaceOf, IsPlaceAfter, ComesIn, CountsTries, AdvancesSearch, HasPassed, IsHit, IsEnded}
 use Rattle.segread.specs.Gets.{Attempts, ReadsVersionBetween, HasNoBit, Disturbs, IsMissed, IsSeen, MovesOn}
 use Rattle.segread.proofs.Answered.{gone_reads}
 use Rattle.segread.proofs.Deadlines.{by_word, read_deadline, found_reads, found_expired}
-use Rattle.segread.proofs.ComingIn.{StaysOut, LooksOnce, looked, leaves, raises_none, glances_none, glance_once, once_between, tries_out, at_most, attempts, attempts_once, attempts_out, attempts_at_most, word_more, words_few}
+use Rattle.segread.proofs.ComingIn.{StaysOut, LooksOnce, looked, leaves, raises_none, glances_none, glances_one, glances_then, glance_once, once_between, out_then, scans_once, tries_out, at_most, attempts, attempts_once, attempts_out, attempts_at_most, word_more, words_few}
 use Rattle.segread.proofs.Disturbing.{still_no_bit, glances_grow, set_reads, clear_reads, by_entries, by_bit}
 use Rattle.segread.proofs.Hits.{read_in, read_value, found_on, hit_raises}
 use Rattle.segread.proofs.OneMoment.{one_moment}
@@ -89,6 +89,10 @@ module _ (b : Board) (key : List ℕ) (now from tries : ℕ) (hit : Hit) (value 
   once : LooksOnce q l
   once = once_between q v g l (looked b q v row.looked.did.moved) (glance_once b c info v g glance) (looked b g l look.did.moved)
 
+  -- the bit was clear
+  out : info.held ≡ false → StaysOut q l
+  out clear = out_then q v l (looked b q v row.looked.did.moved) (out_then v g l (looked b v g (glance.0 clear).0.moved) (looked b g l look.did.moved))
+
   -- another item came in since this one stood
   one_more : ¬ (IsSameItem (item_word hit.item) third) → 1 ≤ tag_part third → CountsTries z key tries (hit.tries + 1) (trace p) (trace l)
   one_more ne tag =
@@ -114,8 +118,11 @@ module _ (b : Board) (key : List ℕ) (now from tries : ℕ) (hit : Hit) (value 
     reads = in_l;
     in_table = row.readable.0;
     few = x.few;
+    up = x.up;
+    glances = glances_one p q l x.tried.only_scans once;
+    unset = λ clear bucket. glances_none q l (out clear).1 bucket ∙ glances_none p q x.tried.only_scans bucket;
     place = place_later z key hit.place (trace q) (trace l) lawful on at_q;
-    tried = subst (λ n. Attempts from n tries (hit.tries + 1) p l) same_at (attempts_once from (position z (trace q) hit.place) tries hit.tries p q l x.tried x.onward once);
+    tried = subst (λ n. Attempts from n tries (hit.tries + 1) p l) same_at (attempts_once from (position z (trace q) hit.place) tries hit.tries p q l x.tried once);
     onward = subst (λ n. words_below from + tries ≤ words_below n + hit.tries) same_at x.onward;
     brings = subst (λ n. AdvancesSearch z key from n (trace p) (trace l)) same_at (λ start here ahead. key_later z key (position z (trace q) hit.place) start (trace q) (trace l) lawful (begins_on start (trace p) (trace q) here up) on (x.brings start here ahead));
     counted = counts_later z key tries hit.tries (trace p) x.found.found.saw.at (trace l) (begins_on x.found.found.saw.at (trace q) (trace l) x.found.found.saw.between.1 on) x.counted;
@@ -130,7 +137,7 @@ module _ (b : Board) (key : List ℕ) (now from tries : ℕ) (hit : Hit) (value 
 
 -- the chain ended
 pub ends_missed : (b : Board) (key : List ℕ) (now from tries : ℕ) (p q : Pass) → IsEnded b.shape key from tries p q → IsMissed b.shape key now from tries p q
-ends_missed b key now from tries p q x = record { missed = λ start here ahead. gone_reads b.shape key now start (trace q) (x.gone start here ahead); tried = attempts from 32 tries 63 p q x.tried }
+ends_missed b key now from tries p q x = record { missed = λ start here ahead. gone_reads b.shape key now start (trace q) (x.gone start here ahead); tried = attempts from 32 tries 63 p q x.tried; glances = scans_once p q x.tried.only_scans }
 
 -- the deadline of what was found had come, and the pass left the segment
 pub expires_missed : (b : Board) (key : List ℕ) (now from tries : ℕ) (hit : Hit) (p q r : Pass) → IsReaderIn b p q hit.item.seg → IsHit b.shape key from tries hit p q → LeavesSegment b q r hit.item.seg → hit.deadline ≤ now
@@ -144,6 +151,7 @@ expires_missed b key now from tries hit p q r i x gone past =
       record {
         missed = λ start here ahead. (read.0, (begins_on (event.seen start) (seen p) read.0 (seen_begins start (trace p) here) read.1.0, read.1.1), read.2);
         tried = attempts from 32 tries 63 p r (at_most from at 32 tries (hit.tries + 1) 63 p r (let few = x.few in let most = words_few at chained in omega (arith, few, most)) (tries_out from at tries (hit.tries + 1) p q r x.tried (leaves b hit.item.seg q r gone.moved)));
+        glances = glances_then p q r (scans_once p q x.tried.only_scans) (leaves b hit.item.seg q r gone.moved);
       },
     )
 
@@ -174,6 +182,7 @@ module _ (b : Board) (key : List ℕ) (now from tries : ℕ) (hit : Hit) (value 
     place = place_later b.shape key hit.place (trace l) (trace r) lawful_r to_r s.place;
     disturbs = disturbs;
     tried = subst (λ n. Attempts from n tries (hit.tries + 1) p r) same_r (attempts_out from (position b.shape (trace l) hit.place) tries (hit.tries + 1) p l r s.tried out_r);
+    glances = λ bucket. let one = glances_then p l r s.glances out_r bucket in let up = s.up in omega arith;
     brings = subst (λ n. AdvancesSearch b.shape key from n (trace p) (trace r)) same_r (λ start here ahead. key_later b.shape key (position b.shape (trace l) hit.place) start (trace l) (trace r) lawful_r (begins_on start (trace p) (trace l) here to_l) to_r (s.brings start here ahead));
     onward = let on = s.onward in omega (arith, on, same_r);
   }
@@ -187,7 +196,7 @@ module _ (b : Board) (key : List ℕ) (now from tries : ℕ) (hit : Hit) (value 
   again_changed ne tag = again (by_entries b key now tries (hit.tries + 1) p r left (counts_later b.shape key tries (hit.tries + 1) (trace p) (trace l) (trace r) to_r (s.changed ne tag)))
 
   -- past it, where no item with the tag stood there
-  module _ (valid : IsValid b.shape) (tag : ℕ) (is : tag ≡ tag_of key) (other : tag_part third ≢ tag) where
+  module _ (valid : IsValid b.shape) (tag : ℕ) (is : tag ≡ tag_of key) (other : tag_part third ≢ tag) (clear : info.held ≡ false) where
     abbrev at : ℕ
     at = position b.shape (trace l) hit.place
 
@@ -205,6 +214,7 @@ module _ (b : Board) (key : List ℕ) (now from tries : ℕ) (hit : Hit) (value 
           place = n.place;
           disturbs = by_entries b key now tries hit.tries p r left (counts_later b.shape key tries hit.tries (trace p) (trace l) (trace r) to_r s.counted);
           tried = attempts_at_most from at (position b.shape (trace r) next) tries (hit.tries + 1) hit.tries p r (omega (arith, words)) (attempts_out from at tries (hit.tries + 1) p l r s.tried out_r);
+          glances = λ bucket. let none = s.unset clear bucket in let left = glances_none l r out_r.1 bucket in let up = s.up in omega arith;
           brings = λ start here ahead. n.brings start (begins_on start (trace p) (trace l) here to_l) (s.brings start here ahead);
           onward = let on = s.onward in omega (arith, on, words);
         }
@@ -214,6 +224,7 @@ module _ (b : Board) (key : List ℕ) (now from tries : ℕ) (hit : Hit) (value 
       missed = λ start here ahead. gone_reads b.shape key now start (trace r)
           (end_of b.shape key hit.place at third (trace l) (trace r) valid lawful_r s.place passed after start (begins_on start (trace p) (trace l) here to_l) (s.brings start here ahead));
       tried = attempts_at_most from at 32 tries (hit.tries + 1) 63 p r (let few = s.few in let most = words_few at in'.1 in omega (arith, few, most)) (attempts_out from at tries (hit.tries + 1) p l r s.tried out_r);
+      glances = glances_then p l r s.glances out_r;
     }
 
 -- a hit: with l after the third look, t after it was counted, and r after the pass left the segment
@@ -229,11 +240,10 @@ module _ (b : Board) (key : List ℕ) (now from tries draw : ℕ) (hit : Hit) (v
   to_end = begins_on (trace l) (trace t) (trace r) (moved_on b counted.reads.own l t counted.reads.moved) (moved_on b _ t r gone.moved)
 
   pub hit_told : ReadsVersionBetween b.shape key now (seen p) (seen r) (Some (value, info.version)) × RaisesOne b.shape key value draw p r × ComesIn from 32 tries 63 p r
-      × ((bucket : ℕ) → glanced r bucket + words_below from + tries ≤ glanced p bucket + words_below 32 + 63)
+      × GlancesOnce p r
   hit_told = let x = s.version clear same in let away = leaves b hit.item.seg t r gone.moved in (
     (x.0, (x.1.0, begins_on x.0 (seen l) (seen r) x.1.1 (seen_begins (trace l) (trace r) to_end)), x.2),
     hit_raises b key value draw p l t r s.reads.reads.moved.same (moved_on b s.reads.reads.own p l s.reads.reads.moved) (moved_on b _ t r gone.moved) s.tried.raises_nothing raises (raises_none t r away.1),
     (let few = s.few in let came = s.tried.comes_in in let most = words_few (position b.shape (trace l) hit.place) (in_chain b.shape (trace l) hit.place s.reads.reads.moved.pass.lawful s.place.0).1 in let none = away.0 in omega (arith, few, came, most, out, none)),
-    (λ bucket. let few = s.few in let looks = s.tried.glances bucket in let most = words_few (position b.shape (trace l) hit.place) (in_chain b.shape (trace l) hit.place s.reads.reads.moved.pass.lawful s.place.0).1 in
-        let hit_none = unset bucket in let none = glances_none t r away.1 bucket in omega (arith, few, looks, most, hit_none, none)),
+    (λ bucket. let looks = s.glances bucket in let hit_none = unset bucket in let none = glances_none t r away.1 bucket in omega (arith, looks, hit_none, none)),
   )

@@ -20,8 +20,7 @@ pub record CostsOfGet (shape : Shape) (key : List ℕ) (draw : ℕ) (told : GetA
   pub glances_nothing : GlancesNothing p q
   pub raises : GetRaises shape key draw told p q
 
--- A gets looks at the bit of the key's bucket only once it has come into a segment.
--- It raises a frequency only by a hit.
+-- a gets looks at a bit once in each of its scans, and raises a frequency only by a hit
 pub record CostsOfGets (shape : Shape) (key : List ℕ) (draw : ℕ) (told : GetsAnswer) (p q : Pass)
     : Type 0 where
   pub looks : CostsOfLooks p q

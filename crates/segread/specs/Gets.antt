@@ -18,7 +18,7 @@ use Rattle.segread.specs.declared.version.Attempt.TheVariants as attempt
 use Rattle.segpass.specs.Words.{ChangesNothing, GoesOn, RaisesNothing}
 use Rattle.segread.specs.Costs.{CostsOfGets}
 use Rattle.segread.specs.Reads.{ReadsBetween}
-use Rattle.segread.specs.Hits.{RaisesOne}
+use Rattle.segread.specs.Hits.{GlancesNothing, GlancesOnce, RaisesOne}
 use Rattle.segread.specs.Scanning.{IsPlaceOf, words_below, ComesIn, CountsTries, AdvancesSearch, GivesUp}
 
 -- ---- the answer
@@ -95,11 +95,9 @@ Disturbs shape key now some more p q =
     × (CountsTries shape key some more (trace p) (trace q) ⊎ PresentBetween shape key now p q)
 
 -- The pass came into segments no more often than that, and raised no frequency.
--- It found a bucket's bit set no more often, and words and tries are no fewer than before.
+-- Words and tries together are no fewer than before. Beside that it may have found a bit set.
 pub record Attempts (from to some more : ℕ) (p q : Pass) : Type 0 where
   pub comes_in : ComesIn from to some more p q
-  pub glances : (bucket : ℕ)
-      → glanced q bucket + words_below from + some ≤ glanced p bucket + words_below to + more
   pub onward : words_below from + some ≤ words_below to + more
   pub raises_nothing : RaisesNothing p q
 
@@ -110,6 +108,7 @@ pub record IsMissed (shape : Shape) (key : List ℕ) (now from tries : ℕ) (p q
       → KeyAhead shape key from start (trace p)
       → ReadsBetween shape key now (event.seen start) (seen q) None
   pub tried : Attempts from 32 tries 63 p q
+  pub glances : GlancesOnce p q
 
 -- ---- one scan for the key and its version, from a position on, after some tries were counted
 
@@ -120,6 +119,9 @@ pub record IsSeen (b : Board) (key : List ℕ) (now from tries : ℕ) (hit : Hit
   pub reads : IsReaderIn b p q hit.item.seg
   pub in_table : IsSegment b.shape hit.item.seg
   pub few : hit.tries < 64
+  pub up : tries ≤ hit.tries
+  pub glances : GlancesOnce p q
+  pub unset : info.held ≡ false → GlancesNothing p q
   pub place : IsPlaceOf b.shape (trace q) key hit.place
   pub tried : Attempts from (position b.shape (trace q) hit.place) tries (hit.tries + 1) p q
   pub onward : words_below from + tries
@@ -157,6 +159,7 @@ pub record MovesOn (shape : Shape) (key : List ℕ) (now from tries : ℕ) (next
   pub place : IsPlaceOf shape (trace q) key next
   pub disturbs : Disturbs shape key now tries counted p q
   pub tried : Attempts from (position shape (trace q) next) tries counted p q
+  pub glances : (bucket : ℕ) → glanced q bucket + tries ≤ glanced p bucket + counted
   pub brings : AdvancesSearch shape key from (position shape (trace q) next) (trace p) (trace q)
   pub onward : words_below from + tries < words_below (position shape (trace q) next) + counted
 
@@ -165,11 +168,10 @@ abbrev pub IsAttempt : Shape → List ℕ → ℕ → ℕ → ℕ → ℕ → At
 IsAttempt shape key now draw from tries (attempt.Told (gets.Found value version)) p q =
     ReadsVersionBetween shape key now (seen p) (seen q) (Some (value, version))
     × RaisesOne shape key value draw p q × ComesIn from 32 tries 63 p q
-    × ((bucket : ℕ) → glanced q bucket + words_below from + tries
-    ≤ glanced p bucket + words_below 32 + 63)
+    × GlancesOnce p q
 IsAttempt shape key now draw from tries (attempt.Told gets.Miss) p q =
     IsMissed shape key now from tries p q
 IsAttempt shape key now draw from tries (attempt.Told gets.Busy) p q =
-    Disturbs shape key now tries 64 p q × Attempts from 32 tries 63 p q
+    Disturbs shape key now tries 64 p q × Attempts from 32 tries 63 p q × GlancesOnce p q
 IsAttempt shape key now draw from tries (attempt.GoesOn place counted) p q =
     MovesOn shape key now from tries place counted p q

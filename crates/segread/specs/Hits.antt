@@ -22,9 +22,12 @@ TriesFew p q = entered q ≤ entered p + 63 + 28
 abbrev pub GlancesNothing : Pass → Pass → Type 0
 GlancesNothing p q = (bucket : ℕ) → glanced q bucket ≡ glanced p bucket
 
--- the pass found a bucket's bit set at most as often as it may come into segments
+-- at most one such look, or at most 64, found a bucket's bit set
+abbrev pub GlancesOnce : Pass → Pass → Type 0
+GlancesOnce p q = (bucket : ℕ) → glanced q bucket ≤ glanced p bucket + 1
+
 abbrev pub GlancesFew : Pass → Pass → Type 0
-GlancesFew p q = (bucket : ℕ) → glanced q bucket ≤ glanced p bucket + 63 + 28
+GlancesFew p q = (bucket : ℕ) → glanced q bucket ≤ glanced p bucket + 64
 
 -- how often the pass raised a frequency, and found a bucket's bit set by a look without it
 abbrev pub beside_scans : Pass → ℕ × (ℕ → ℕ)

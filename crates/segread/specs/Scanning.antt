@@ -132,6 +132,7 @@ pub record IsHit (shape : Shape) (key : List ℕ) (from tries : ℕ) (hit : Hit)
   pub found : FoundKey shape hit.place hit.item hit.header key (trace p) (trace q)
   pub deadline : HasDeadline shape hit.item.seg hit.deadline (trace q)
   pub few : hit.tries < 64
+  pub up : tries ≤ hit.tries
   pub counted : CountsTries shape key tries hit.tries (trace p) found.found.saw.at
   pub tried : Tries from (position shape (trace q) hit.place) tries (hit.tries + 1) p q
   pub onward : words_below from + tries
@@ -143,6 +144,7 @@ pub record IsHit (shape : Shape) (key : List ℕ) (from tries : ℕ) (hit : Hit)
 pub record IsPast (shape : Shape) (key : List ℕ) (from to tries counted : ℕ) (last : Place)
     (word : ℕ) (p q : Pass) : Type 0 where
   pub few : counted < 64
+  pub up : tries ≤ counted
   pub counts : CountsTries shape key tries counted (trace p) (trace q)
   pub tried : Tries from to tries counted p q
   pub passed : HasPassed shape key from to last word (trace p) (trace q)

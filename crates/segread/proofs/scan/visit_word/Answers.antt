@@ -49,6 +49,7 @@ loop-count-preserved c = let b = c.args.board.now in let i = c.loop-count.invari
 pub returns-in_default-clause-way : goal.returns-in_default-clause-way
 returns-in_default-clause-way c = let b = c.args.board.now in let p = c.args.pass.now in let q = c.look-word.new.pass in let l = c.look-word.ensures in let key = c.args.key.now in let at = position b.shape (trace p) c.args.place in record {
   few = c.requires.tries;
+  up = omega arith;
   counts = counts_none b.shape key c.args.tries (trace p) (trace q) (moved_on b [] p q l.did.moved);
   tried = word_passed at c.args.tries c.args.tries p q (in_chain b.shape (trace p) c.args.place c.requires.pass.lawful c.requires.place.0).0 (tries_out at at c.args.tries c.args.tries p p q (tries_none at c.args.tries p) (looked b p q l.did.moved));
   passed = passed_word b.shape key c.args.place c.look-word.result c.args.tag (trace p) (trace p) (trace q) c.requires.pass.valid c.requires.place ([], refl) (saw_now b p q c.args.place c.look-word.result l.did l.found) c.requires.tag (c.in_default.ensures.none refl);
@@ -62,6 +63,7 @@ pub returns-in-Other-clause-way : goal.returns-in-Other-clause-way
 returns-in-Other-clause-way c = let b = c.args.board.now in let i = c.loop-count.invariant in let k = c.in-Other.ensures in let key = c.args.key.now in
     let p = c.args.pass.now in let q = c.loop-count.pass in let r = c.try_item.new.pass in record {
       few = c.loop-count-test.true;
+      up = let on = i.tried.onward in omega arith;
       counts = tried b.shape key c.args.place c.args.tries c.loop-count.item c.loop-count.count (trace p) (trace q) (trace r) (moved_on b _ q r k.reads.reads.moved) i.trying;
       tried = word_tried (position b.shape (trace p) c.args.place) c.args.tries c.loop-count.count p q r (in_chain b.shape (trace p) c.args.place c.requires.pass.lawful c.requires.place.0).0 i.tried k.once;
       passed = passed_other b.shape key k.keyed.1.0 k.keyed.1.1 c.args.place c.pack.result (trace p) (trace q) (trace r) c.requires.place (moved_on b _ p q i.reads.reads.moved) k.keyed.1.2
@@ -72,6 +74,7 @@ pub returns-in-None-clause-way : goal.returns-in-None-clause-way
 returns-in-None-clause-way c = let b = c.args.board.now in let i = c.loop-count.invariant in let k = c.in-Changed.ensures in let key = c.args.key.now in
     let p = c.args.pass.now in let q = c.loop-count.pass in let r = c.try_item.new.pass in record {
       few = c.loop-count-test.true;
+      up = let on = i.tried.onward in omega arith;
       counts = tried b.shape key c.args.place c.args.tries c.loop-count.item c.loop-count.count (trace p) (trace q) (trace r) (moved_on b _ q r k.reads.reads.moved) i.trying;
       tried = word_tried (position b.shape (trace p) c.args.place) c.args.tries c.loop-count.count p q r (in_chain b.shape (trace p) c.args.place c.requires.pass.lawful c.requires.place.0).0 i.tried k.once;
       passed = passed_word b.shape key c.args.place c.in-Changed.now c.args.tag (trace p) (trace q) (trace r) c.requires.pass.valid c.requires.place (moved_on b _ p q i.reads.reads.moved) k.keyed.0 c.requires.tag (c.in-None.ensures.none refl);

@@ -11,7 +11,7 @@ try_version-requires-clause-free c = let i = c.loop-tries.invariant.reads.reads 
 pub returns-in-Told : goal.returns-in-Told
 returns-in-Told c =
     let b = c.args.board.now in let key = c.args.key.now in let l = c.loop-tries in let p = c.args.pass.now in let r = c.try_version.new.pass in let x = c.in-Told in
-    let told = told_by b key c.args.now l.place l.tries p l.pass r l.invariant x.ensures.reads c.args.draw x.answer x.ensures.attempt in record {
+    let told = told_by b key c.args.now l.place l.tries p l.pass r l.invariant x.ensures.reads c.args.draw x.answer c.loop-tries-test.true x.ensures.attempt in record {
       reads = reads_on b key c.args.now l.place l.tries p l.pass r l.invariant x.ensures.reads;
       tries = told.0;
       glances = told.3;

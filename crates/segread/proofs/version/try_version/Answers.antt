@@ -3,7 +3,7 @@ use Rattle.std.proofs.lemmas.Bool.{false≢true}
 use Rattle.segword.specs.Words.{IsSameItem, item_word}
 use Rattle.segbase.specs.Words.{position, trace}
 use Rattle.segbase.proofs.Moves.{is_inside}
-use Rattle.segread.proofs.ComingIn.{attempts}
+use Rattle.segread.proofs.ComingIn.{attempts, scans_once}
 use Rattle.segread.proofs.Disturbing.{by_entries}
 use Rattle.segread.proofs.Tries.{has_tag}
 use Rattle.segread.proofs.Versions.{left, again_held, again_changed, goes_past, ends_past, hit_left, hit_told}
@@ -40,18 +40,18 @@ pub returns-in-Some-place_after : goal.returns-in-Some-place_after
 returns-in-Some-place_after c =
     let b = c.args.board.now in let key = c.args.key.now in let p = c.args.pass.now in let l = c.see_version.new.pass in let r = c.leave_segment-in-Found in let f = c.in-Found in let from = position b.shape (trace p) c.args.place in record {
       reads = left b key c.args.now from c.args.tries f.hit f.value f.info f.word p l r.new.pass f.ensures.sight r.ensures;
-      attempt = goes_past b key c.args.now from c.args.tries f.hit f.value f.info f.word p l r.new.pass f.ensures.sight r.ensures c.requires.pass.valid c.args.tag c.requires.tag (c.in_default.ensures.none refl) c.in-Some-place_after.next c.in-Some-place_after.ensures.after;
+      attempt = goes_past b key c.args.now from c.args.tries f.hit f.value f.info f.word p l r.new.pass f.ensures.sight r.ensures c.requires.pass.valid c.args.tag c.requires.tag (c.in_default.ensures.none refl) c.if-info.false c.in-Some-place_after.next c.in-Some-place_after.ensures.after;
     }
 
 pub returns-in-None : goal.returns-in-None
 returns-in-None c =
     let b = c.args.board.now in let key = c.args.key.now in let p = c.args.pass.now in let l = c.see_version.new.pass in let r = c.leave_segment-in-Found in let f = c.in-Found in let from = position b.shape (trace p) c.args.place in record {
       reads = left b key c.args.now from c.args.tries f.hit f.value f.info f.word p l r.new.pass f.ensures.sight r.ensures;
-      attempt = ends_past b key c.args.now from c.args.tries f.hit f.value f.info f.word p l r.new.pass f.ensures.sight r.ensures c.requires.pass.valid c.args.tag c.requires.tag (c.in_default.ensures.none refl) c.in-None.ensures.after;
+      attempt = ends_past b key c.args.now from c.args.tries f.hit f.value f.info f.word p l r.new.pass f.ensures.sight r.ensures c.requires.pass.valid c.args.tag c.requires.tag (c.in_default.ensures.none refl) c.if-info.false c.in-None.ensures.after;
     }
 
 pub returns-in-Busy : goal.returns-in-Busy
 returns-in-Busy c = let b = c.args.board.now in let p = c.args.pass.now in let q = c.see_version.new.pass in let x = c.in-Busy.ensures.sight in record {
   reads = x.0;
-  attempt = (by_entries b c.args.key.now c.args.now c.args.tries 64 p q x.0 x.1.counts, attempts (position b.shape (trace p) c.args.place) 32 c.args.tries 63 p q x.1.tried);
+  attempt = (by_entries b c.args.key.now c.args.now c.args.tries 64 p q x.0 x.1.counts, attempts (position b.shape (trace p) c.args.place) 32 c.args.tries 63 p q x.1.tried, scans_once p q x.1.tried.only_scans);
 }
