@@ -27,7 +27,7 @@ write_holds shape request write.Stored p q is = held_then p q is.2.memo
 write_holds shape request write.NotStored p q is = held_then p q is.2
 write_holds shape request write.Exists p q is = held_then p q is.2
 write_holds shape request write.NotFound p q is = held_then p q is.2
-write_holds shape request write.NoRoom p q is = held_then p q is.memo
+write_holds shape request write.NoRoom p q is = ap holding is
 write_holds shape request write.BucketFull p q is = held_then p q is.0.memo
 write_holds shape request write.Busy p q is = held_then p q is.0.memo
 
