@@ -36,8 +36,8 @@ module _ (b : Board) (p q : Pass) (key : List ℕ) (now : ℕ) (was : IsAlone b 
         refl,
         serves_so false (free_here b.shape p key (λ locked. other (is.locked locked))) (
           is_reply ∙ ap Some was_replied,
-          as_replied b p q (Wrote (number p) (Delete key now) r None) was is.on.quiet answered.0 answered.1 answered.2 keeps (same_widths b p q was is.on is.draws_nothing)
-              (frequencies_replied b p q was is.on (Wrote (number p) (Delete key now) r None) answered.0 (reply_unstored (number p) (Delete key now) r).0 is.enters.raises_nothing)
+          as_replied b p q (Wrote (number p) (Delete key now) r None) was is.on.quiet answered.0 answered.1 answered.2 keeps (same_widths b p q was is.on is.costs.draws_nothing)
+              (frequencies_replied b p q was is.on (Wrote (number p) (Delete key now) r None) answered.0 (reply_unstored (number p) (Delete key now) r).0 is.costs.enters.raises_nothing)
               ∙ (sym leaves ∙ ap (λ r. after_reply b.shape (Delete key now) r (state_at b.shape p)) was_replied),
         ),
       )
@@ -54,5 +54,5 @@ serves_delete b p q key now delete.Busy was is =
       delete.Busy,
       refl,
       serves_so b p q key now was delete.Busy is true (locked_here b.shape p key (busy_by_lock b p q (bucket_of b.shape key) was.quiet is.on.quiet was.one is.answer.1))
-          (refl, left b p q was is.on is.answer.0 (same_widths b p q was is.on is.draws_nothing) (frequencies_still b p q was is.on is.answer.0.entries is.enters.raises_nothing)),
+          (refl, left b p q was is.on is.answer.0 (same_widths b p q was is.on is.costs.draws_nothing) (frequencies_still b p q was is.on is.answer.0.entries is.costs.enters.raises_nothing)),
     )

@@ -55,7 +55,7 @@ rest_of x = ((λ s. used_in (own_segment x s)), x.current, x.locked)
 rest_emptied : (p q : Pass) (segment : ℕ) → q.plain ≡ with_state segment Evicted (ended segment p.plain) → rest_of q.plain ≡ rest_of (ended segment p.plain)
 rest_emptied p q segment now = ap rest_of now ∙ (λ i. ((λ s. used_kept (ended segment p.plain) segment Evicted s i), but_for segment p.plain.current, p.plain.locked))
 
-module _ (b : Board) (p q : Pass) (segment count : ℕ) (was : IsAlone b p) (on : GoesOn b p q) (undrawn : DrawsNothing p q) (unraised : RaisesNothing p q) (takes : TakesOut b.shape segment count p q) (rest : rest_of q.plain ≡ rest_of (ended segment p.plain)) where
+module _ (b : Board) (p q : Pass) (segment count : ℕ) (was : IsAlone b p) (on : GoesOn b p q) (undrawn : DrawsNothing p q) (unraised : RaisesNothing p q) (takes : TakesOut segment count p q) (rest : rest_of q.plain ≡ rest_of (ended segment p.plain)) where
   more : seen q ≡ takes.evictions ++ seen p
   more = more_seen b p q takes.evictions was on.quiet takes.entries
 
@@ -223,7 +223,7 @@ module _ (b : Board) (p q : Pass) (segment : ℕ) (was : IsAlone b p) (on : Goes
   still_names : q ≡ p → NamesLastRows b.shape q
   still_names same = subst (NamesLastRows b.shape) (sym same) was.rows
 
-  names : (count : ℕ) → TakesOut b.shape segment count p q → NamesLastRows b.shape q
+  names : (count : ℕ) → TakesOut segment count p q → NamesLastRows b.shape q
   names count takes = still_named b p q takes.evictions was on takes.entries (evictions_unstored (number p) segment takes.evictions takes.all)
 
   -- a segment that isn't in use has nothing to take out

@@ -105,7 +105,7 @@ module _ (b : Board) (p q : Pass) (was : IsAlone b p) (on : GoesOn b p q) (undra
 -- ---- as turns
 
 pub turns_hold : (b : Board) (p q : Pass) (key : List ℕ) (now : ℕ) (told : HoldAnswer) → IsAlone b p → HoldsItem b key now told p q → TurnsAlone b (turn.Hold key now) (outcome_of_hold told) p q
-turns_hold b p q key now told was is = hold_turn b p q was is.on is.draws_nothing is.raises_nothing key now told is.answer is.already
+turns_hold b p q key now told was is = hold_turn b p q was is.on is.costs.looks.draws_nothing is.costs.raises_nothing key now told is.answer is.already
 
 pub turns_held : (b : Board) (p q : Pass) (hold : Hold) (value : List ℕ) → IsAlone b p → IsHoldOf b.shape hold p → ReadsHeld b hold value p q → TurnsAlone b turn.Held (outcome.Value value) p q
 turns_held b p q hold value was of is = held_turn b p q was is.on (draws_nothing p q is.costs_nothing) (ap (λ r. r.0) (reads_nothing p q is.costs_nothing)) hold value of is.keeps is.value

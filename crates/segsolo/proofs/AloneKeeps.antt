@@ -155,7 +155,7 @@ module _ (b : Board) (p q : Pass) (segment cutoff : ℕ) (told : KeepAnswer) (wa
       there : segment ≢ into → old.cache.deadline segment ≡ old.cache.deadline into → AnswersSo
       there apart same =
           let target : IsKeepTarget segment into p = record { current = current; other = apart; deadlines = deadline_is segment in_use ∙ (ap Some same ∙ sym deadline_into) } in
-          let came = in_order b segment into cutoff p was current apart told q (is.order into in_use target) in (
+          let came = in_order b segment into cutoff p was current apart told q (is.costs.order into in_use target) in (
             came.0,
             into_is ∙ (ap (keep_into b.shape old segment cutoff) current
                 ∙ ((λ i. cond (not (ne_eqb segment into apart i) && eq-eqb (old.cache.deadline segment) (old.cache.deadline into) same i) (rows_left b segment into cutoff 0 0 old) (keep.NoRoom 0, old)) ∙ came.1)),

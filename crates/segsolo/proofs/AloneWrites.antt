@@ -23,11 +23,12 @@ use Rattle.segcore.specs.Mark.{last_at, same_key}
 use Rattle.segcore.specs.Words.{cached, frequency_in, slot}
 use Rattle.segcore.proofs.Keys.{same_true}
 use Rattle.segbase.specs.declared.pass.Plain.{Plain}
-use Rattle.segbase.specs.Words.{Board, marked, Memo, number, own_segment, OwnSegment, Pass, seen, state_in}
+use Rattle.segbase.specs.Words.{Board, drew, marked, Memo, number, own_segment, OwnSegment, Pass, seen, state_in}
 use Rattle.segbase.specs.Words.{state_of, used_in, used_of}
 use Rattle.segbase.proofs.Known.{own_here, own_apart, own_kept}
 use Rattle.segstore.specs.Words.{has_room}
-use Rattle.segpass.specs.Words.{AddsEntry, ChangesNothing, GoesOn, RaisesNothing}
+use Rattle.segpass.specs.Words.{AddsEntry, ChangesNothing, DrawsNothing, GoesOn, RaisesNothing}
+use Rattle.segpass.proofs.Idling.{unchanged}
 use Rattle.segwrite.specs.Words.{AddsReply, one_more, UsesRow, Writes}
 use Rattle.segsolo.specs.Alone.{frequencies_in, keys_stored_in, of_rows, or_empty, item_of, state_at, CountsRows, IsAlone, NamesLastRows, ServesAlone}
 use Rattle.segindex.proofs.OnePass.{busy_by_lock}
@@ -129,6 +130,16 @@ module _ (b : Board) (p q : Pass) (request : Request) (store : is_store request 
       → ServesStore b.shape (state_at b.shape p) request write.BucketFull (state_at b.shape p)
   refused_word out locked full = rw (out, locked, full) (refl, refl)
 
+  -- only a pair that is stored may need an overflow bucket
+  undrawn : (told : WriteAnswer) → Writes b request told p q → told ≢ write.Stored → DrawsNothing p q
+  undrawn write.Stored is unstored = absurd (unstored refl)
+  undrawn write.NotStored is unstored = is.costs.of_answer.1
+  undrawn write.Exists is unstored = is.costs.of_answer.1
+  undrawn write.NotFound is unstored = is.costs.of_answer.1
+  undrawn write.NoRoom is unstored = λ bucket. ap (λ x. drew x bucket) is.answer
+  undrawn write.BucketFull is unstored = is.costs.of_answer.1
+  undrawn write.Busy is unstored = is.costs.of_answer.0
+
   module _ (told : WriteAnswer) (is : Writes b request told p q) where
     rows_left : told ≢ write.NoRoom → has_room b.shape p ≡ true
     rows_left other = ⊎_elim (λ room. room) (λ out. absurd (other (is.no_room.1 out))) (cases_Bool (has_room b.shape p))
@@ -142,7 +153,7 @@ module _ (b : Board) (p q : Pass) (request : Request) (store : is_store request 
     refused : told ≢ write.Stored → ChangesNothing p q → ServesStore b.shape (state_at b.shape p) request told (state_at b.shape p) → ServesAlone b (command.Write request) (answer.Write told) p q
     refused unstored nothing serves = served_still b (command.Write request) (answer.Write told) p q was is.on nothing
         (stores.serves_write b.shape (state_at b.shape p) (state_at b.shape q) request told store
-        (subst (ServesStore b.shape (state_at b.shape p) request told) (sym (left b p q was is.on nothing (same_widths b p q was is.on (is.draws_nothing unstored)) (frequencies_still b p q was is.on nothing.entries is.enters.raises_nothing))) serves))
+        (subst (ServesStore b.shape (state_at b.shape p) request told) (sym (left b p q was is.on nothing (same_widths b p q was is.on (undrawn told is unstored)) (frequencies_still b p q was is.on nothing.entries is.costs.enters.raises_nothing))) serves))
 
     -- replied by an entry that stores nothing
     replied : (r : Reply) → told ≢ write.NoRoom → told ≢ write.Busy → r ≢ reply.Stored → reply_of_write told ≡ Some r → AddsReply request r p q
@@ -165,27 +176,27 @@ module _ (b : Board) (p q : Pass) (request : Request) (store : is_store request 
 
         same_state : state_at b.shape q ≡ state_at b.shape p
         same_state = as_replied b p q (Wrote (number p) request r None) was is.on.quiet answered.0 answered.1 answered.2 keeps
-            (same_widths b p q was is.on (is.draws_nothing (λ e. unstored (same_Some r reply.Stored (sym is_reply ∙ ap reply_of_write e)))))
-            (frequencies_replied b p q was is.on (Wrote (number p) request r None) answered.0 (reply_unstored (number p) request r).0 is.enters.raises_nothing)
+            (same_widths b p q was is.on (undrawn told is (λ e. unstored (same_Some r reply.Stored (sym is_reply ∙ ap reply_of_write e)))))
+            (frequencies_replied b p q was is.on (Wrote (number p) request r None) answered.0 (reply_unstored (number p) request r).0 is.costs.enters.raises_nothing)
             ∙ ap (λ cache. record (state_at b.shape p) { cache = cache }) leaves
 
   write_serves : (told : WriteAnswer) → Writes b request told p q → ServesAlone b (command.Write request) (answer.Write told) p q
   write_serves write.Stored is =
       let segment = is.answer.0 in let uses = is.answer.2 in
       let more : seen q ≡ Wrote (number p) request reply.Stored (Some segment) ∷ seen p = more_seen b p q (Wrote (number p) request reply.Stored (Some segment) ∷ []) was is.on.quiet is.answer.1 in
-      let grows = grown b p q request segment was is.on more is.grows in
+      let grows = grown b p q request segment was is.on more is.costs.grows in
       served b (command.Write request) (answer.Write write.Stored) p q was is.on.quiet (counts b p q request segment was more uses)
-      (stored_named b p q request segment was more uses is.on is.answer.1 is.enters.raises_nothing)
+      (stored_named b p q request segment was more uses is.on is.answer.1 is.costs.enters.raises_nothing)
       (stores.serves_write b.shape (state_at b.shape p) (state_at b.shape q) request write.Stored store
       (serves_replied b.shape (state_at b.shape p) request write.Stored (state_at b.shape q) (has_rows write.Stored is (λ e. cc)) (unlocked write.Stored is (λ e. cc) (λ e. cc)) grows.fits
-      reply.Stored (reply_then b p q request reply.Stored (Some segment) is.on.quiet more) refl (at_stored b p q request segment was more uses (frequencies_as_model b p q request segment was more uses is.on is.answer.1 is.enters.raises_nothing) grows)))
+      reply.Stored (reply_then b p q request reply.Stored (Some segment) is.on.quiet more) refl (at_stored b p q request segment was more uses (frequencies_as_model b p q request segment was more uses is.on is.answer.1 is.costs.enters.raises_nothing) grows)))
   write_serves write.NotStored is = replied write.NotStored is reply.NotStored (λ e. cc) (λ e. cc) (λ e. cc) refl is.answer (λ s. refl) refl refl
   write_serves write.Exists is = replied write.Exists is reply.Exists (λ e. cc) (λ e. cc) (λ e. cc) refl is.answer (λ s. refl) refl refl
   write_serves write.NotFound is = replied write.NotFound is reply.NotFound (λ e. cc) (λ e. cc) (λ e. cc) refl is.answer (λ s. refl) refl refl
-  write_serves write.NoRoom is = refused write.NoRoom is (λ e. cc) is.answer (refused_rows (out_of_rows b p was ∙ ap not (is.no_room.0 refl)))
+  write_serves write.NoRoom is = refused write.NoRoom is (λ e. cc) (unchanged p q is.answer) (refused_rows (out_of_rows b p was ∙ ap not (is.no_room.0 refl)))
   write_serves write.BucketFull is =
       refused write.BucketFull is (λ e. cc) is.answer.0 (refused_word (has_rows write.BucketFull is (λ e. cc)) (unlocked write.BucketFull is (λ e. cc) (λ e. cc))
-      (none_left b.shape p q request (same_seen b p q was is.on.quiet is.answer.0.entries) (same_widths b p q was is.on (is.draws_nothing (λ e. cc))) is.answer.2 is.answer.1))
+      (none_left b.shape p q request (same_seen b p q was is.on.quiet is.answer.0.entries) (same_widths b p q was is.on (undrawn write.BucketFull is (λ e. cc))) is.answer.2 is.answer.1))
   write_serves write.Busy is =
       refused write.Busy is (λ e. cc) is.answer.0 (refused_lock (has_rows write.Busy is (λ e. cc)) (locked_here b.shape p (key_of request) (busy_by_lock b p q (bucket_of b.shape (key_of request)) was.quiet is.on.quiet was.one is.answer.1)))
 
