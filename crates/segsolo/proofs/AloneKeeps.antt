@@ -1,15 +1,15 @@
 -- With one pass, a keep is served as the model says.
-use Rattle.std.proofs.Common.{◌≡◌, ◌≢◌, ℕ, zero, suc, ◌+◌, ◌<◌, ◌≤◌, ◌==◌, ◌&&◌, Bool, true, false, cond, eqb, not, drop, length, Option, Some, None, refl, sym, ap, ◌∙◌, subst, inl, inr, ⊎_elim, arith, eq-eqb, unwrap_or}
+use Rattle.std.proofs.Common.{◌≡◌, ◌≢◌, ℕ, zero, suc, ◌+◌, ◌<◌, ◌≤◌, ◌==◌, ◌&&◌, Bool, true, false, cond, not, drop, length, Option, Some, None, refl, sym, ap, ◌∙◌, subst, inl, inr, ⊎_elim, arith, eq-eqb, unwrap_or}
 use Rattle.std.proofs.Math.ListN.{drop_of_length-le}
-use Rattle.std.proofs.lemmas.Bool.{cases_eq, eqb-true, ne_eqb}
+use Rattle.std.proofs.lemmas.Bool.{cases_eq, ne_eqb}
 use Rattle.std.proofs.lemmas.Option.{none-some, same_Some}
 use Rattle.segmodel.specs.declared.answer.SegState.TheVariants.{Empty, InUse, Evicted}
 use Rattle.segmodel.specs.declared.answer.KeepAnswer.TheVariants as keep
 use Rattle.segmodel.specs.declared.answer.Answer.TheVariants as answer
 use Rattle.segmodel.specs.declared.answer.Command.TheVariants as command
-use Rattle.segmodel.specs.Words.{after, is_in_use, is_own, keep_into, keep_rows, KeepAnswer, keeps}
+use Rattle.segmodel.specs.Words.{is_in_use, is_own, keep_into, keep_rows, KeepAnswer, keeps}
 use Rattle.segmodel.specs.Words.{SegState, State}
-use Rattle.segbase.specs.Words.{Board, current_of, deadline_of, Pass, seen, state_of, used_of}
+use Rattle.segbase.specs.Words.{Board, current_of, deadline_of, Pass, seen, state_of}
 use Rattle.segstore.proofs.Keeping.{knows_deadline}
 use Rattle.segevict.specs.Words.{GoesInOrder, GoesOver, IsKeepAnswer, IsKeepTarget, KeepsItems}
 use Rattle.segsolo.specs.Alone.{frequencies_in, keys_stored_in, or_empty, state_at, IsAlone, ServesAlone}

@@ -1,9 +1,8 @@
 -- With one pass, a set, an add, a replace and a cas are served as the model says.
-use Rattle.std.proofs.Common.{◌≡◌, ◌≢◌, ℕ, ◌+◌, ◌&&◌, not, Bool, true, false, cond, List, [], ◌∷◌, ◌++◌, length, is_some, Option, Some, None, option_map, refl, sym, ap, subst, ◌∙◌, ⊎_elim, arith, eqb, eq-eqb}
+use Rattle.std.proofs.Common.{◌≡◌, ◌≢◌, ℕ, ◌&&◌, not, Bool, true, false, cond, List, [], ◌∷◌, ◌++◌, length, is_some, Some, None, option_map, refl, sym, ap, subst, ◌∙◌, ⊎_elim, eqb}
 use Rattle.std.specs.BTreeMap.{is_at}
-use Rattle.std.proofs.lemmas.Bool.{cases_Bool, cond-true, cond-false, ne_eqb, eqb-true, and_from, and_left, and_right, false≢true}
-use Rattle.std.proofs.lemmas.List.{length_push}
-use Rattle.std.proofs.lemmas.Option.{none-some, same_Some}
+use Rattle.std.proofs.lemmas.Bool.{cases_Bool, cond-true, cond-false, and_left, false≢true}
+use Rattle.std.proofs.lemmas.Option.{same_Some}
 use Rattle.segmodel.specs.declared.entry.Entry.TheVariants.{Wrote}
 use Rattle.segmodel.specs.declared.request.Request.TheVariants.{Set, Add, Replace, Cas, Delete}
 use Rattle.segmodel.specs.declared.request.Reply.TheVariants as reply
@@ -20,24 +19,23 @@ use Rattle.segmodel.proofs.Keys.{at_self}
 use Rattle.segmodel.proofs.Stores.{serves_replied}
 use Rattle.segmodel.proofs.Stores as stores
 use Rattle.segcore.specs.Mark.{last_at, same_key}
-use Rattle.segcore.specs.Words.{cached, frequency_in, slot}
+use Rattle.segcore.specs.Words.{cached, slot}
 use Rattle.segcore.proofs.Keys.{same_true}
 use Rattle.segbase.specs.declared.pass.Plain.{Plain}
-use Rattle.segbase.specs.Words.{Board, drew, marked, Memo, number, own_segment, OwnSegment, Pass, seen, state_in}
-use Rattle.segbase.specs.Words.{state_of, used_in, used_of}
-use Rattle.segbase.proofs.Known.{own_here, own_apart, own_kept}
+use Rattle.segbase.specs.Words.{Board, drew, marked, Memo, number, Pass, seen}
+use Rattle.segbase.specs.Words.{used_of}
 use Rattle.segstore.specs.Words.{has_room}
 use Rattle.segpass.specs.Words.{AddsEntry, ChangesNothing, DrawsNothing, GoesOn, RaisesNothing}
 use Rattle.segpass.proofs.Idling.{unchanged}
-use Rattle.segwrite.specs.Words.{AddsReply, one_more, UsesRow, Writes}
-use Rattle.segsolo.specs.Alone.{frequencies_in, keys_stored_in, of_rows, or_empty, item_of, state_at, CountsRows, IsAlone, NamesLastRows, ServesAlone}
+use Rattle.segwrite.specs.Words.{AddsReply, UsesRow, Writes}
+use Rattle.segsolo.specs.Alone.{frequencies_in, keys_stored_in, item_of, state_at, CountsRows, IsAlone, NamesLastRows, ServesAlone}
 use Rattle.segindex.proofs.OnePass.{busy_by_lock}
 use Rattle.segsolo.proofs.AloneBrought.{counts as brought_counts, frequencies_then, keys_then, named, state_then, used_more}
 use Rattle.segsolo.proofs.AlonePass.{same_seen, more_seen, at_state, as_replied, counts_replied, reply_then, left, locked_here, free_here}
-use Rattle.segsolo.proofs.AloneRows.{frequencies_replied, frequencies_still, brought_named, item_brought, next_row, row_in, served, served_still, still_named, reply_unstored}
+use Rattle.segsolo.proofs.AloneRows.{frequencies_replied, frequencies_still, item_brought, next_row, row_in, served, served_still, still_named, reply_unstored}
 use Rattle.segsolo.proofs.AloneRefusals.{rows_of, out_of_rows, none_left}
 use Rattle.segsolo.proofs.Marks.{BringsItem}
-use Rattle.segsolo.proofs.Rows.{at_other, pushed}
+use Rattle.segsolo.proofs.Rows.{at_other}
 use Rattle.segsolo.proofs.AloneWidths.{same_widths, Grows, grown}
 
 -- a request that is answered otherwise than Stored would put no new key
