@@ -14,7 +14,7 @@ use Rattle.segmodel.specs.declared.answer.WriteAnswer.TheVariants as write
 use Rattle.segmodel.specs.Words.{Entry, KeepAnswer, owner, RefillAnswer, Request}
 use Rattle.segbase.specs.Words.{Board, mine, number, Pass, state_of}
 use Rattle.segpass.specs.Words.{ChangesNothing, GoesOn, IsQuiet, memo}
-use Rattle.segpass.proofs.Idling.{goes_same}
+use Rattle.segpass.proofs.Idling.{goes_same, unchanged}
 use Rattle.segwrite.specs.Words.{Writes}
 use Rattle.segevict.specs.Words.{AreEvictions, AreMoves, EvictsSegment, IsEvictAnswer, IsKeepAnswer, KeepsItems, MovesAway, WasOften}
 use Rattle.segevict.proofs.RowsOut.{goes_then}
@@ -365,7 +365,7 @@ module _ (b : Board) (cutoff : Option ℕ) (deadline : ℕ) where
     set_at_last put.Stored p q quiet sets = stored 0 0 0 p sets.between q (were_busy request sets.busy p sets.between quiet sets.were_busy) sets.writes
     set_at_last put.NoRoom p q quiet sets =
         let before = were_busy request sets.busy p sets.between quiet sets.were_busy in
-        not_stored put.NoRoom 0 0 0 p q no_room (makes_then 0 0 0 0 0 0 p sets.between q before (unchanged_none sets.between q sets.writes.on sets.writes.answer))
+        not_stored put.NoRoom 0 0 0 p q no_room (makes_then 0 0 0 0 0 0 p sets.between q before (unchanged_none sets.between q sets.writes.on (unchanged sets.between q sets.writes.answer)))
     set_at_last put.BucketFull p q quiet sets =
         let before = were_busy request sets.busy p sets.between quiet sets.were_busy in
         not_stored put.BucketFull 0 0 0 p q full (makes_then 0 0 0 0 0 0 p sets.between q before (unchanged_none sets.between q sets.writes.on sets.writes.answer.0))
