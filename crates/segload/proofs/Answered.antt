@@ -81,7 +81,7 @@ write_free b asked write.Stored p q writes free = kept_free p q (ap (λ x. x.loc
 write_free b asked write.NotStored p q writes free = plain_free p q writes.answer.1 writes.answer.2 free
 write_free b asked write.Exists p q writes free = plain_free p q writes.answer.1 writes.answer.2 free
 write_free b asked write.NotFound p q writes free = plain_free p q writes.answer.1 writes.answer.2 free
-write_free b asked write.NoRoom p q writes free = unchanged_free p q writes.answer free
+write_free b asked write.NoRoom p q writes free = subst HoldsNothing (sym writes.answer) free
 write_free b asked write.BucketFull p q writes free = unchanged_free p q writes.answer.0 free
 write_free b asked write.Busy p q writes free = unchanged_free p q writes.answer.0 free
 
@@ -285,18 +285,18 @@ stored_again b asked told p q r s from to same on free made turned writes =
 
 pub came_nowhere : (b : Board) (of : Kind) (load : Load) (draw : ℕ) (from to : ClientState) (p q r : Pass) → AnswersCommand b (asked_by of from.version load) draw (answer.Write write.NoRoom) p q → GivesUpSegment b.shape (next_of from.segments) false q r → to ≡ turned_on from
     → CameTo b.shape (seen r) (number p) of load tally.NoRoom from to (mine p) (mine r)
-came_nowhere b kind.Set load draw from to p q r is room turned = stored_nowhere b (request.Set load.key load.value load_moment) p q r from to (is.untouched refl) room turned
-came_nowhere b kind.Add load draw from to p q r is room turned = stored_nowhere b (request.Add load.key load.value load_moment) p q r from to (is.untouched refl) room turned
-came_nowhere b kind.Replace load draw from to p q r is room turned = stored_nowhere b (request.Replace load.key load.value load_moment) p q r from to (is.untouched refl) room turned
-came_nowhere b kind.Cas load draw from to p q r is room turned = stored_nowhere b (request.Cas load.key load.value from.version load_moment) p q r from to (is.untouched refl) room turned
+came_nowhere b kind.Set load draw from to p q r is room turned = stored_nowhere b (request.Set load.key load.value load_moment) p q r from to is.answer room turned
+came_nowhere b kind.Add load draw from to p q r is room turned = stored_nowhere b (request.Add load.key load.value load_moment) p q r from to is.answer room turned
+came_nowhere b kind.Replace load draw from to p q r is room turned = stored_nowhere b (request.Replace load.key load.value load_moment) p q r from to is.answer room turned
+came_nowhere b kind.Cas load draw from to p q r is room turned = stored_nowhere b (request.Cas load.key load.value from.version load_moment) p q r from to is.answer room turned
 came_nowhere b of load draw from to p q r is room turned = absurd is
 
 pub came_again : (b : Board) (of : Kind) (load : Load) (draw : ℕ) (told : Answer) (from to : ClientState) (p q r s : Pass) → AnswersCommand b (asked_by of from.version load) draw (answer.Write write.NoRoom) p q → GoesOn b q r → HoldsNothing r → GivesUpSegment b.shape (next_of from.segments) true q r → to ≡ turned_on from
     → AnswersCommand b (asked_by of from.version load) draw told r s → CameTo b.shape (seen s) (number p) of load (tally_of told) from to (mine p) (mine s)
-came_again b kind.Set load draw (answer.Write told) from to p q r s is on free made turned again = stored_again b (request.Set load.key load.value load_moment) told p q r s from to (is.untouched refl) on free made turned again
-came_again b kind.Add load draw (answer.Write told) from to p q r s is on free made turned again = stored_again b (request.Add load.key load.value load_moment) told p q r s from to (is.untouched refl) on free made turned again
-came_again b kind.Replace load draw (answer.Write told) from to p q r s is on free made turned again = stored_again b (request.Replace load.key load.value load_moment) told p q r s from to (is.untouched refl) on free made turned again
-came_again b kind.Cas load draw (answer.Write told) from to p q r s is on free made turned again = stored_again b (request.Cas load.key load.value from.version load_moment) told p q r s from to (is.untouched refl) on free made turned again
+came_again b kind.Set load draw (answer.Write told) from to p q r s is on free made turned again = stored_again b (request.Set load.key load.value load_moment) told p q r s from to is.answer on free made turned again
+came_again b kind.Add load draw (answer.Write told) from to p q r s is on free made turned again = stored_again b (request.Add load.key load.value load_moment) told p q r s from to is.answer on free made turned again
+came_again b kind.Replace load draw (answer.Write told) from to p q r s is on free made turned again = stored_again b (request.Replace load.key load.value load_moment) told p q r s from to is.answer on free made turned again
+came_again b kind.Cas load draw (answer.Write told) from to p q r s is on free made turned again = stored_again b (request.Cas load.key load.value from.version load_moment) told p q r s from to is.answer on free made turned again
 came_again b kind.Set load draw told from to p q r s is on free made turned again = absurd again
 came_again b kind.Add load draw told from to p q r s is on free made turned again = absurd again
 came_again b kind.Replace load draw told from to p q r s is on free made turned again = absurd again
