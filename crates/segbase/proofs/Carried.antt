@@ -15,7 +15,7 @@ use Rattle.segbase.specs.declared.law.Sight.{Sight}
 use Rattle.segbase.specs.declared.pass.Plain.{Plain}
 use Rattle.segbase.specs.Minding.{Minds}
 use Rattle.segbase.specs.Passes.{sight, view, number, trace, IsPassOf, IsMemo}
-use Rattle.segbase.specs.Ruled.{AreViews, Rule, IsSight, witness, spent, meets, minding}
+use Rattle.segbase.specs.Ruled.{AreApart, AreViews, Rule, IsSight, witness, spent, meets, minding}
 use Rattle.segbase.proofs.Allowed.{apart_kept}
 use Rattle.segbase.proofs.Ended.{apart_longer, apart_moved, apart_spent}
 
@@ -63,6 +63,32 @@ carries S z id x u pass view met is_pass ended s rule at =
           (at_snoc (set s.views id u) (witness x) y j is);
       one = one_longer (set s.views id u) (witness x) one refl;
       apart = apart_longer (set s.views id u) (witness x) (apart_moved s.views id x u rule.apart at pass (ap (λ v. v.number) view) ended) refl refl;
+    }
+
+-- an item of a list in which one item was put in its own place was there before
+same_there : (views : List Sight) (id : ℕ) (x : Sight) → get_elem? views id ≡ some x → (j : ℕ) (y : Sight) → get_elem? (set views id x) j ≡ some y → get_elem? views j ≡ some y
+same_there views id x at j y is = ⊎_elim
+    (λ t. subst (λ (z : Sight). get_elem? views j ≡ some z) t.1 (subst (λ k. get_elem? views k ≡ some x) (sym t.0) at))
+    (λ t. t.1)
+    (at_set views id j x y is)
+
+-- a seat of no pass is split in two of the same
+pub copies : (S : Type 0) (z : Shape) (id : ℕ) (x : Sight) → x.is_pass ≡ false → x.ended ≡ [] → Splits {S = S} (Rule z) id x x x
+copies S z id x off none s rule at =
+    let there = same_there s.views id x at in
+    let one : IsOne (set s.views id x) = λ i j a b ai bj pa pb e. rule.one i j a b (there i a ai) (there j b bj) pa pb e in
+    let apart : AreApart (set s.views id x) = λ i j a b ai bj pb. rule.apart i j a b (there i a ai) (there j b bj) pb in
+    record {
+      trace = rule.trace;
+      views = rule.views;
+      lawful = rule.lawful;
+      few = rule.few;
+      sights = λ j y is. ⊎_elim
+          (λ t. rule.sights j y (there j y t))
+          (λ t. subst (IsSight rule.views rule.trace) t (rule.sights id x at))
+          (at_snoc (set s.views id x) x y j is);
+      one = one_longer (set s.views id x) x one off;
+      apart = apart_longer (set s.views id x) x apart off none;
     }
 
 pub tells : (S : Type 0) (z : Shape) (id other : ℕ) (x w : Sight) → x.is_pass ≡ true → Joins {S = S} (Rule z) id x other w (meets x w) spent
@@ -139,3 +165,7 @@ own_row b p is =
     let n = number p in let each = b.shape.segments_each in
     let more : 0 < each = is.valid.0.0.1.0 in
     (subst (λ s. s < b.shape.passes * each) (sym is.first) (within_first n each b.shape.passes is.one_of more), is.valid.0.1.0, omega arith, inl (ap (λ s. s / each) is.first ∙ own_first n each more))
+
+-- a pass that was only looked at is the same pass
+pub as_was : (b : Board) (p q : Pass) → IsPassOf b p → q.seat.table_id ≡ p.seat.table_id → q.seat.me ≡ (p.seat.me.0, p.seat.me.1) → q.plain ≡ p.plain → IsPassOf b q
+as_was b p q is table me plain = same_pass b p q is table (ap (λ (m : Me (Unit {0}) Sight). m.1) me) (ap (λ (m : Me (Unit {0}) Sight). m.0.view) me) (ap (λ (m : Me (Unit {0}) Sight). m.0.is_pass) me) (subst (λ (m : Memo). IsMemo b p m) (sym (ap (λ (m : Me (Unit {0}) Sight). m.0.memo) me)) is.minds) plain

@@ -1,6 +1,7 @@
 pub mod Closing
 pub mod Made
 pub mod Minding
+pub mod Notes
 pub mod Opening
 pub mod Passes
 pub mod Plain

@@ -1,4 +1,4 @@
--- Facts of passes that have at most one proof, so that a struct may keep them in a ghost field.
+-- Facts of passes and notes that have at most one proof, so that a struct may keep them in a ghost field.
 use Rattle.std.specs.Prelude.{ℕ, List}
 use Rattle.std.proofs.Props.{props}
 use Rattle.atomic_table.specs.Seated.{table_id_coded}
@@ -9,8 +9,10 @@ use Rattle.segbase.specs.declared.law.Held.{Held}
 use Rattle.segbase.specs.declared.law.Locked.{Locked}
 use Rattle.segbase.specs.declared.law.Memo.{Memo}
 use Rattle.segbase.specs.declared.board.Board.{Board}
+use Rattle.segbase.specs.declared.note.Note.{Note}
 use Rattle.segbase.specs.declared.pass.Pass.{Pass}
 use Rattle.segbase.specs.Minding.{HasHeld, HasLocked, Minds}
+use Rattle.segbase.specs.Notes.{IsNoteOf}
 use Rattle.segbase.specs.Passes.{IsPassOf}
 
 pub Held-set : IsSet Held
@@ -34,3 +36,6 @@ Minds-prop shape trace pass memo = hlevel (HasHeld-prop, HasLocked-prop)
 pub IsPassOf-prop : (b : Board) (p : Pass) → IsProp (IsPassOf b p)
 IsPassOf-prop b p =
     hlevel (props, table_id_coded, IsValid-prop, IsLawful-prop, AllBy-prop, Minds-prop)
+
+pub IsNoteOf-prop : (b : Board) (note : Note) → IsProp (IsNoteOf b note)
+IsNoteOf-prop b note = hlevel (props, table_id_coded)

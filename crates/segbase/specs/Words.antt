@@ -3,6 +3,7 @@ pub use Rattle.segbase.specs.Closing.{AreAll, Closes, ClosesAll, HasEach, IsAtRe
 pub use Rattle.segbase.specs.Closing.{word_of_cell}
 pub use Rattle.segbase.specs.Made.{IsMade, IsMakeFault, IsNewPass, IsNewPlain, unfilled}
 pub use Rattle.segbase.specs.Minding.{HasHeld, HasLocked, Minds}
+pub use Rattle.segbase.specs.Notes.{IsNoteOf, marked_of, noted, seen_of}
 pub use Rattle.segbase.specs.Passes.{AddsAtOnce, AddsEvents, bounced, drew, entered, glanced}
 pub use Rattle.segbase.specs.Passes.{holding, IsMemo, IsPassOf, locked, marked, mine, number}
 pub use Rattle.segbase.specs.Passes.{raised, Reads, ReadsIn, seen, sight, Stepped, taken, trace}
@@ -12,7 +13,7 @@ pub use Rattle.segbase.specs.Plain.{locked_of, number_of, own_segment}
 pub use Rattle.segbase.specs.Plain.{state_in, state_of, used_in, used_of, with_current}
 pub use Rattle.segbase.specs.Plain.{with_deadline, with_holding, with_locked, with_own}
 pub use Rattle.segbase.specs.Plain.{with_state, with_used}
-pub use Rattle.segbase.specs.Props.{Held-set, IsPassOf-prop, traces-prop}
+pub use Rattle.segbase.specs.Props.{Held-set, IsNoteOf-prop, IsPassOf-prop, traces-prop}
 pub use Rattle.segbase.specs.Spots.{cell_at, depth_of, home_bucket, home_bucket_of, home_in}
 pub use Rattle.segbase.specs.Spots.{IsPlace, position}
 pub use Rattle.segbase.specs.Steps.{AddsLink, AddsRelink, AddsUnlink, content_for, CounterMissed}
@@ -23,6 +24,7 @@ use Rattle.segbase.specs.declared.board.Board as declared_board
 use Rattle.segbase.specs.declared.law.Held as declared_held
 use Rattle.segbase.specs.declared.law.Locked as declared_locked
 use Rattle.segbase.specs.declared.law.Memo as declared_memo
+use Rattle.segbase.specs.declared.note.Note as declared_note
 use Rattle.segbase.specs.declared.pass.OwnSegment as declared_own_segment
 use Rattle.segbase.specs.declared.pass.Pass as declared_pass
 use Rattle.segbase.specs.declared.place.Place as declared_place
@@ -39,6 +41,9 @@ Locked = declared_locked.Locked
 
 abbrev pub Memo : Type 0
 Memo = declared_memo.Memo
+
+abbrev pub Note : Type 0
+Note = declared_note.Note
 
 abbrev pub OwnSegment : Type 0
 OwnSegment = declared_own_segment.OwnSegment

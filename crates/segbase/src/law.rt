@@ -79,6 +79,17 @@ impl Split<Sight> for Carry {
     ghost right = { witness };
 }
 
+// One more seat of what a seat that is no pass's carries.
+pub(crate) struct Copies;
+
+impl Split<Sight> for Copies {
+    ghost use Rattle.segbase.specs.Ruled.{same_sight};
+
+    ghost left = { same_sight };
+
+    ghost right = { same_sight };
+}
+
 // A pass learns what such a seat carries.
 pub(crate) struct Tell;
 
