@@ -1,6 +1,8 @@
 pub mod Made
 pub mod Refills
 pub mod Meeting
+pub mod Noting
+pub mod LaterReads
 pub mod Stats
 pub mod OnePass
 pub mod Probing

@@ -19,11 +19,11 @@ use Rattle.segindex.specs.Meeting.{Meets, OnlyLearns}
 pub mine_begins : (n : ℕ) (h g : List Entry) → Begins h g → Begins (history.mine n h) (history.mine n g)
 mine_begins n h g b = (history.mine n b.0, ap (history.mine n) b.1 ∙ filter-append (λ x. pass_of x == n) b.0 h)
 
-one_of : {A : Type 0} (F : List Event → List A) → ((h g : List Event) → Begins h g → Begins (F h) (F g)) → (h g : List Event) → AreOne h g → AreOne (F h) (F g)
+pub one_of : {A : Type 0} (F : List Event → List A) → ((h g : List Event) → Begins h g → Begins (F h) (F g)) → (h g : List Event) → AreOne h g → AreOne (F h) (F g)
 one_of F grows h g one = ⊎_elim (λ b. inl (grows h g b)) (λ b. inr (grows g h b)) one
 
 -- what another had seen of a pass's entries, which now it has seen itself
-mine_of : (b : Board) (h : List Event) (q q' : Pass) → AddsEvents b [] q q' → Begins h (trace q') → Begins (history.mine (number q) (event.seen h)) (mine q)
+pub mine_of : (b : Board) (h : List Event) (q q' : Pass) → AddsEvents b [] q q' → Begins h (trace q') → Begins (history.mine (number q) (event.seen h)) (mine q)
 mine_of b h q q' m begins =
     let same : history.mine (number q) (event.seen (trace q')) ≡ mine q = ap (λ n. history.mine n (event.seen (trace q'))) (sym m.same) ∙ moved_mine b [] q q' m in
     subst (Begins (history.mine (number q) (event.seen h))) same (mine_begins (number q) (event.seen h) (event.seen (trace q')) (seen_begins h (trace q') begins))

@@ -1,8 +1,10 @@
 pub mod Closing
 pub mod Commands
 pub mod Index
+pub mod LaterReads
 pub mod Laws
 pub mod Meeting
+pub mod Noting
 pub mod Probing
 pub mod Refilling
 pub mod Stats

@@ -2,7 +2,10 @@
 pub use Rattle.segindex.specs.Closing.{AreAllQuiet, IsContentOfAll, IsEnd, IsEndOfAll, pairs_of}
 pub use Rattle.segindex.specs.Commands.{AnswersCommand}
 pub use Rattle.segindex.specs.Index.{board_of, IsNew, shape_of}
-pub use Rattle.segindex.specs.Meeting.{Meets}
+pub use Rattle.segindex.specs.LaterReads.{NotedIsRead, StoodIsRead, StoredStands, Stood, StoresBetween}
+pub use Rattle.segindex.specs.Meeting.{Meets, MeetsPass}
+pub use Rattle.segindex.specs.Noting.{CopiesNote, LearnsNote, MakesNote}
+pub use Rattle.segindex.specs.Probing.{IsReadSince}
 pub use Rattle.segindex.specs.Refilling.{IsBeingRead, IsRefillAnswer, Refills}
 pub use Rattle.segindex.specs.Stats.{TellsStats}
 pub use Rattle.segpass.specs.Words.{IsQuiet, IsQuiet-prop}

@@ -9,6 +9,7 @@ mod index;
 mod laws;
 mod lock;
 mod meet;
+mod note;
 mod probe;
 mod read;
 mod segment;
@@ -20,8 +21,11 @@ mod write;
 
 pub use close::OutOfMemory;
 pub use index::Index;
-pub use laws::{cas_fails_where_written, keep_of_all, one_pass, quiet_pass, replies_at_a_moment};
-pub use segbase::{MakeFault, Pass};
+pub use laws::{
+    cas_fails_where_written, keep_of_all, one_pass, quiet_pass, replies_at_a_moment,
+    what_stood_is_read,
+};
+pub use segbase::{MakeFault, Note, Pass};
 pub use segmodel::{
     Answer, Command, DeleteAnswer, EvictAnswer, GetAnswer, GetsAnswer, KeepAnswer, RefillAnswer,
     Request, WriteAnswer,
