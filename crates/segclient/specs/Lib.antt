@@ -6,3 +6,4 @@ pub mod Entries
 pub mod Putting
 pub mod Puts
 pub mod Rings
+pub mod Told

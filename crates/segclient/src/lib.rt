@@ -5,14 +5,16 @@
 mod all;
 mod client;
 mod hold;
+mod note;
 mod put;
 mod stats;
 
 pub use all::{clients, into_passes, keep_back};
 pub use client::Client;
+pub use note::what_is_put_stands;
 pub use put::PutAnswer;
 pub use segindex::{
-    DeleteAnswer, GetAnswer, GetsAnswer, Hold, HoldAnswer, Index, IndexStats, Key, MakeFault,
+    DeleteAnswer, GetAnswer, GetsAnswer, Hold, HoldAnswer, Index, IndexStats, Key, MakeFault, Note,
     OutOfMemory, Pass, Shape, ShapeFault, Value, WriteAnswer, hold_stays,
 };
 pub use stats::Stats;
