@@ -37,6 +37,19 @@ stores_between b request p q writes =
       stood = stored_stands b.shape (number p) request segment told.0;
     }
 
+-- what was stored before an earlier moment was stored before a later one
+pub stored_by : (shape : Shape) (pass : ℕ) (request : Request) (old at new : List Entry) → Begins at new → StoresBetween shape pass request old at → StoresBetween shape pass request old new
+stored_by shape pass request old at new begins stores = record {
+  segment = stores.segment;
+  history = stores.history;
+  told = record {
+    since = stores.told.since;
+    entered = begins_on (Wrote pass request Stored (Some stores.segment) ∷ stores.history) at new stores.told.entered begins;
+    replied = stores.told.replied;
+  };
+  stood = stores.stood;
+}
+
 -- what came in before an earlier moment came in before a later one
 came_by : (Is : Entry → Type 0) (old at new : List Entry) → Begins at new → CameBetween Is old at → CameBetween Is old new
 came_by Is old at new begins came = (came.0, (came.1.0, came.1.1, begins_on (came.0 ∷ came.1.0) at new came.1.2 begins, came.1.3))
