@@ -37,6 +37,15 @@ impl Ring {
         }
     }
 
+    /// The number that is next, which stays so.
+    pub fn peek(&self) -> u32
+        ensures value { result ≡ next_of self.now }
+        ensures in_range { (self.now.first ≤ result)
+            × (result < self.now.first + self.now.count) }
+    {
+        self.first + self.given
+    }
+
     /// The next number.
     pub fn next(&mut self) -> u32
         ensures value { result ≡ next_of self.old }
