@@ -31,6 +31,6 @@ pub use segmodel::{
     Request, WriteAnswer,
 };
 pub use segpass::LockAnswer;
-pub use segread::{Hold, HoldAnswer, hold_stays};
+pub use segread::{HeldRow, Hold, HoldAnswer, hold_stays, row_of_hold};
 pub use segword::{Key, Shape, ShapeFault, Value};
 pub use table_stats::IndexStats;

@@ -4,5 +4,6 @@ pub mod Hits
 pub mod Holds
 pub mod Props
 pub mod Reads
+pub mod Rows
 pub mod Scanning
 pub mod Words

@@ -5,7 +5,9 @@ pub use Rattle.segread.specs.Holds.{HoldsItem, IsHoldAnswer, IsHoldOf, ReadsHeld
 pub use Rattle.segread.specs.Holds.{ReleasesHold, SetsHold}
 pub use Rattle.segread.specs.Props.{IsHoldOf-prop}
 pub use Rattle.segread.specs.Reads.{IsGetAnswer, ReadsBetween, ReadsKey}
+pub use Rattle.segread.specs.Rows.{IsOfRow}
 pub use Rattle.segread.specs.Scanning.{place_of}
+use Rattle.segread.specs.declared.held.HeldRow as declared_held_row
 use Rattle.segread.specs.declared.held.Hold as declared_hold
 use Rattle.segread.specs.declared.held.HoldAnswer as declared_hold_answer
 
@@ -15,3 +17,6 @@ Hold = declared_hold.Hold
 
 abbrev pub HoldAnswer : Type 0
 HoldAnswer = declared_hold_answer.HoldAnswer
+
+abbrev pub HeldRow : Type 0
+HeldRow = declared_held_row.HeldRow

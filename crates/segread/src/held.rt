@@ -10,6 +10,7 @@ ghost use Rattle.segread.specs.declared.held.Hold.{Hold};
 ghost use Rattle.segpass.specs.Words.{IsQuiet};
 ghost use Rattle.segread.specs.Holds.{IsHoldOf, IsRowOf, HoldsItem, ReadsHeld, ReleasesHold};
 ghost use Rattle.segread.specs.Holds.{SetsHold};
+ghost use Rattle.segread.specs.Rows.{IsOfRow};
 
 use crate::scan::{Scan, scan_for};
 use segbase::{Board, Pass};
@@ -20,6 +21,13 @@ use segword::{Key, Value};
 pub struct Hold<'i> {
     // While the hold stands, this borrow keeps the index from being closed.
     pub(crate) board: &'i Board,
+    pub(crate) segment: u32,
+    pub(crate) row: u32,
+}
+
+/// The row of a held item, for whoever shares the index and so keeps it without a borrow.
+#[derive(Clone, Copy, Debug, PartialEq, Eq, Drop)]
+pub struct HeldRow {
     pub(crate) segment: u32,
     pub(crate) row: u32,
 }
@@ -87,6 +95,29 @@ pub fn release(board: &Board, pass: &mut Pass, hold: Hold<'_>)
     } = hold;
     board.leave(pass, segment);
     set_hold(board, pass, None);
+}
+
+/// The row of a hold, which no longer borrows the index. The pass holds the item as before.
+pub fn row_of_hold(hold: Hold<'_>) -> HeldRow
+    ensures { IsOfRow result hold.entry }
+{
+    let Hold {
+        board: _,
+        segment,
+        row,
+    } = hold;
+    HeldRow { segment, row }
+}
+
+/// The hold of a row again.
+pub fn hold_of_row<'i>(board: &'i Board, row: HeldRow) -> Hold<'i>
+    ensures { IsOfRow row result }
+{
+    Hold {
+        board,
+        segment: row.segment,
+        row: row.row,
+    }
 }
 
 // Names what the pass holds: the item of this key, which stood with the value in the segment,

@@ -7,6 +7,8 @@ mod read;
 mod scan;
 mod version;
 
-pub use held::{Hold, HoldAnswer, held_value, hold_item, hold_stays, release};
+pub use held::{
+    HeldRow, Hold, HoldAnswer, held_value, hold_item, hold_of_row, hold_stays, release, row_of_hold,
+};
 pub use read::get;
 pub use version::gets;
