@@ -5,5 +5,6 @@ pub mod Efforts
 pub mod Entries
 pub mod Putting
 pub mod Puts
+pub mod Resting
 pub mod Rings
 pub mod Told

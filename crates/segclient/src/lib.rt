@@ -7,14 +7,17 @@ mod client;
 mod hold;
 mod note;
 mod put;
+mod rest;
 mod stats;
 
 pub use all::{clients, into_passes, keep_back};
 pub use client::Client;
 pub use note::what_is_put_stands;
 pub use put::PutAnswer;
+pub use rest::Resting;
 pub use segindex::{
-    DeleteAnswer, GetAnswer, GetsAnswer, Hold, HoldAnswer, Index, IndexStats, Key, MakeFault, Note,
-    OutOfMemory, Pass, Shape, ShapeFault, Value, WriteAnswer, hold_stays,
+    DeleteAnswer, GetAnswer, GetsAnswer, HeldRow, Hold, HoldAnswer, Index, IndexStats, Key,
+    MakeFault, Note, OutOfMemory, Pass, Shape, ShapeFault, Value, WriteAnswer, hold_stays,
+    row_of_hold,
 };
 pub use stats::Stats;
