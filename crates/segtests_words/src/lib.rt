@@ -1,5 +1,5 @@
-//! What no contract says of words, frequencies, workloads and the table:
-//! values that are known from outside. This crate has tests alone.
+//! What no contract says of words, frequencies, workloads and the table: values that are known from
+//! outside. This crate has tests alone.
 #![tactic(auto)]
 
 #[cfg(test)]
@@ -7,12 +7,12 @@ mod board;
 #[cfg(test)]
 mod boards;
 #[cfg(test)]
-mod entering;
+mod calls;
 #[cfg(test)]
 mod policy;
 #[cfg(test)]
-mod steps;
+mod readers;
 #[cfg(test)]
-mod walk;
+mod table;
 #[cfg(test)]
 mod words;

@@ -1,0 +1,202 @@
+//! The words of the table after each call, written out by the format.
+ghost use Rattle.segpass.specs.Words.{IsQuiet};
+
+use crate::boards::check;
+use crate::calls::{delete, evict, get, keep, pop, quiet_board, refill, set};
+use segbase::{Board, Pass};
+use segmodel::{DeleteAnswer, EvictAnswer, GetAnswer, KeepAnswer, RefillAnswer, WriteAnswer};
+use segword::{Key, Shape, Value};
+use std::process::Abort;
+use std::test::Fail;
+
+/// A bucket, an overflow bucket, and two segments of ten rows.
+const SHAPE: Shape = Shape {
+    buckets: 1,
+    overflow: 1,
+    passes: 1,
+    segments_each: 2,
+    rows: 10,
+    first_version: 5,
+};
+
+/// The counter, a bucket, an overflow bucket, and two segments of a word and ten rows.
+const COUNT: usize = 1 + 8 + 8 + 2 * 81;
+
+/// How many calls there are.
+const CALLS: u32 = 16;
+
+/// The longest key, whose hash is cfc57122610faddd, and the longest value.
+const LONGEST_KEY: &[u8] = b"abcdefghijklmnopqrstuvwx";
+
+const LONGEST_VALUE: &[u8] = b"0123456789abcdef0123456789abcdef";
+
+/// The word at the start that isn't 0, and the words that each call changes:
+/// the call, the place and the word.
+const CHANGES: [(u32, usize, u64); 69] = [
+    (0, 1, 0x0000_0005_0000_0000),
+    // Segment 0 gets a deadline.
+    (1, 17, 0x0000_0009_0000_0000),
+    // The pair `ab` and `xyz` is stored in row 0 of segment 0, and named by word 1.
+    (2, 18, 0x0000_0000_0000_0302),
+    (2, 19, 0x0000_0000_0000_6261),
+    (2, 22, 0x0000_0000_007a_7978),
+    (2, 2, 0x0890_1000_0000_0000),
+    (2, 1, 0x0000_0006_0000_0000),
+    // A hit raises its frequency.
+    (3, 2, 0x0890_2000_0000_0000),
+    // The keys `a` to `f` fill the bucket.
+    (4, 26, 0x0000_0000_0000_0101),
+    (4, 27, 0x0000_0000_0000_0061),
+    (4, 30, 0x0000_0000_0000_0031),
+    (4, 3, 0xaf60_1000_0000_0001),
+    (4, 1, 0x0000_0007_0000_0000),
+    (5, 34, 0x0000_0000_0000_0101),
+    (5, 35, 0x0000_0000_0000_0062),
+    (5, 38, 0x0000_0000_0000_0032),
+    (5, 4, 0xaf60_1000_0000_0002),
+    (5, 1, 0x0000_0008_0000_0000),
+    (6, 42, 0x0000_0000_0000_0101),
+    (6, 43, 0x0000_0000_0000_0063),
+    (6, 46, 0x0000_0000_0000_0033),
+    (6, 5, 0xaf60_1000_0000_0003),
+    (6, 1, 0x0000_0009_0000_0000),
+    (7, 50, 0x0000_0000_0000_0101),
+    (7, 51, 0x0000_0000_0000_0064),
+    (7, 54, 0x0000_0000_0000_0034),
+    (7, 6, 0xaf60_1000_0000_0004),
+    (7, 1, 0x0000_000a_0000_0000),
+    // The empty value has no word.
+    (8, 58, 0x0000_0000_0000_0001),
+    (8, 59, 0x0000_0000_0000_0065),
+    (8, 7, 0xaf60_1000_0000_0005),
+    (8, 1, 0x0000_000b_0000_0000),
+    (9, 66, 0x0000_0000_0000_0101),
+    (9, 67, 0x0000_0000_0000_0066),
+    (9, 70, 0x0000_0000_0000_0036),
+    (9, 8, 0xaf60_1000_0000_0006),
+    (9, 1, 0x0000_000c_0000_0000),
+    // The longest pair: the overflow bucket joins the chain, the item of `f` moves on into its word 1,
+    // and the new item gets word 2.
+    (10, 74, 0x0000_0000_0000_2018),
+    (10, 75, 0x6867_6665_6463_6261),
+    (10, 76, 0x706f_6e6d_6c6b_6a69),
+    (10, 77, 0x7877_7675_7473_7271),
+    (10, 78, 0x3736_3534_3332_3130),
+    (10, 79, 0x6665_6463_6261_3938),
+    (10, 80, 0x3736_3534_3332_3130),
+    (10, 81, 0x6665_6463_6261_3938),
+    (10, 0, 1),
+    (10, 10, 0xaf60_1000_0000_0006),
+    (10, 8, 0x0000_0000_0000_0001),
+    (10, 11, 0xcfc0_1000_0000_0007),
+    (10, 1, 0x0000_000d_0000_0000),
+    // Segment 1 gets the same deadline. The item of `ab` is moved there, with its frequency.
+    (11, 98, 0x0000_0009_0000_0000),
+    (12, 99, 0x0000_0000_0000_0302),
+    (12, 100, 0x0000_0000_0000_6261),
+    (12, 103, 0x0000_0000_007a_7978),
+    (12, 2, 0x0890_2000_0010_0000),
+    // The key `ab` is stored again: its item begins anew.
+    (13, 107, 0x0000_0000_0000_0202),
+    (13, 108, 0x0000_0000_0000_6261),
+    (13, 111, 0x0000_0000_0000_7978),
+    (13, 2, 0x0890_1000_0010_0001),
+    (13, 1, 0x0000_000e_0000_0000),
+    // The key `a` is deleted, and the other keys of segment 0 are evicted. Their rows stay.
+    (14, 3, 0),
+    (14, 1, 0x0000_000f_0000_0000),
+    (15, 4, 0),
+    (15, 5, 0),
+    (15, 6, 0),
+    (15, 7, 0),
+    (15, 10, 0),
+    (15, 11, 0),
+    // Segment 0 gets the last deadline.
+    (16, 17, 0xffff_ffff_0000_0000),
+];
+
+// Stores a pair.
+fn store(rt: &impl Abort, board: &Board, pass: &mut Pass, key: &[u8], value: &[u8])
+    requires { IsQuiet board.now pass.old }
+    ensures { IsQuiet board.now pass.new }
+{
+    let key = Key::new(key).expect(rt, "a key");
+    let value = Value::new(value).expect(rt, "a value");
+    assert_eq!(rt; set(board, pass, &key, &value), WriteAnswer::Stored);
+}
+
+// Reads the value `xyz` under the key `ab`.
+fn read(rt: &impl Abort, board: &Board, pass: &mut Pass)
+    requires { IsQuiet board.now pass.old }
+    ensures { IsQuiet board.now pass.new }
+{
+    let key = Key::new(b"ab").expect(rt, "a key");
+    let value = Value::new(b"xyz").expect(rt, "a value");
+    assert_eq!(rt; get(board, pass, &key, 0), GetAnswer::Found(value));
+}
+
+// Deletes the key `a`.
+fn take_out(rt: &impl Abort, board: &Board, pass: &mut Pass)
+    requires { IsQuiet board.now pass.old }
+    ensures { IsQuiet board.now pass.new }
+{
+    let key = Key::new(b"a").expect(rt, "a key");
+    assert_eq!(rt; delete(board, pass, &key), DeleteAnswer::Deleted);
+}
+
+// Makes the call of this number.
+fn make(rt: &impl Abort, board: &Board, pass: &mut Pass, call: u32)
+    requires { IsQuiet board.now pass.old }
+    ensures { IsQuiet board.now pass.new }
+{
+    match call {
+        1 => assert_eq!(rt; refill(board, pass, 0, 9), RefillAnswer::Refilled),
+        2 => store(rt, board, pass, b"ab", b"xyz"),
+        3 => read(rt, board, pass),
+        4 => store(rt, board, pass, b"a", b"1"),
+        5 => store(rt, board, pass, b"b", b"2"),
+        6 => store(rt, board, pass, b"c", b"3"),
+        7 => store(rt, board, pass, b"d", b"4"),
+        8 => store(rt, board, pass, b"e", b""),
+        9 => store(rt, board, pass, b"f", b"6"),
+        10 => store(rt, board, pass, LONGEST_KEY, LONGEST_VALUE),
+        11 => assert_eq!(rt; refill(board, pass, 1, 9), RefillAnswer::Refilled),
+        12 => assert_eq!(rt; keep(board, pass, 0, 2), KeepAnswer::Kept(1)),
+        13 => store(rt, board, pass, b"ab", b"xy"),
+        14 => take_out(rt, board, pass),
+        15 => assert_eq!(rt; evict(board, pass, 0), EvictAnswer::Evicted(6)),
+        _ => assert_eq!(rt; refill(board, pass, 0, u32::MAX), RefillAnswer::Refilled),
+    }
+}
+
+// Makes so many of the calls.
+fn make_first(rt: &impl Abort, board: &Board, pass: &mut Pass, calls: u32)
+    requires { IsQuiet board.now pass.old }
+    ensures { IsQuiet board.now pass.new }
+{
+    for call in 0..calls {
+        make(rt, board, pass, call.saturating_add(1));
+    }
+}
+
+// All words after so many calls.
+fn words_after(calls: u32) -> [u64; COUNT] {
+    let mut words = [0; COUNT];
+    for (call, place, word) in CHANGES {
+        if call <= calls && place < COUNT {
+            words[place] = word;
+        }
+    }
+    words
+}
+
+#[test]
+fn each_word_after_each_call(rt: HostRuntime) -> Result<(), Fail> {
+    for calls in 0..=CALLS {
+        let (board, mut passes) = quiet_board(rt.alloc(), SHAPE)?;
+        let mut pass = pop(&board, &mut passes).expect(&rt, "a pass");
+        make_first(&rt, &board, &mut pass, calls);
+        check(&rt, &board.close(pass), &words_after(calls));
+    }
+    Ok(())
+}
