@@ -1,6 +1,10 @@
+pub mod Calls
+pub mod Order
 pub mod Places
-pub mod Room
-pub mod RowsLeft
+pub mod Rooms
+pub mod Setting
 pub mod Together
 pub mod Told
+pub mod Trying
+pub mod Turns
 pub mod Ways

@@ -13,8 +13,9 @@ use Rattle.segindex.proofs.LaterReads.{stored_stands}
 use Rattle.segclient.specs.declared.client.Client.{Client}
 use Rattle.segclient.specs.declared.put.PutAnswer.TheVariants as put
 use Rattle.segclient.specs.Client.{board_of, shape_of}
-use Rattle.segclient.specs.Puts.{deadline_of, Puts}
-use Rattle.segclient.proofs.Ways.{puts_pair}
+use Rattle.segclient.specs.Putting.{most_for_put}
+use Rattle.segclient.specs.Puts.{plan_for, Puts}
+use Rattle.segclient.proofs.Ways.{put_comes}
 
 -- a pass added entries, this one last: the history goes on from one in which it came in
 came_last : (pass : ℕ) (entry : Entry) (others more old : List Entry) → mine pass (more ++ old) ≡ entry ∷ (others ++ mine pass old)
@@ -40,7 +41,7 @@ pub put_stands : (key value : List ℕ) (old new : Client) → Puts key value pu
     → StoresBetween (shape_of old) (number old.pass) (Set key value old.clock) (seen old.pass) (seen new.pass)
 put_stands key value old new puts =
     let z = shape_of old in let n = number old.pass in let request = Set key value old.clock in
-    let on = (puts_pair (board_of old) old.cutoff (deadline_of old) request old.segments put.Stored puts.effort old.pass new.pass old.quiet puts.puts).on in
+    let on = (put_comes (board_of old) (plan_for key value old) request refl (most_for_put z) put.Stored puts.effort old.pass new.pass old.quiet puts.puts).on in
     let room = puts.adds.1 in let segment = puts.adds.2.0 in
     let entry = Wrote n request Stored (Some segment) in
     let added : mine n (seen new.pass) ≡ entry ∷ (room.more ++ mine n (seen old.pass)) =

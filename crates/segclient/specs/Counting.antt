@@ -1,5 +1,5 @@
 -- What a client counts: its calls, each by what it came to, and what its puts gave up and kept.
-use Rattle.std.specs.Prelude.{ℕ, ◌+◌, ◌-◌, ◌^◌, min}
+use Rattle.std.specs.Prelude.{◌≡◌, ◌⊎◌, ℕ, ◌+◌, ◌-◌, ◌^◌, min}
 use Rattle.segmodel.specs.Words.{DeleteAnswer, GetAnswer, GetsAnswer, WriteAnswer}
 use Rattle.segmodel.specs.declared.answer.DeleteAnswer.TheVariants as delete
 use Rattle.segmodel.specs.declared.answer.GetAnswer.TheVariants as get
@@ -7,6 +7,7 @@ use Rattle.segmodel.specs.declared.answer.GetsAnswer.TheVariants as gets
 use Rattle.segmodel.specs.declared.answer.WriteAnswer.TheVariants as write
 use Rattle.segclient.specs.declared.put.PutAnswer.{PutAnswer}
 use Rattle.segclient.specs.declared.put.PutAnswer.TheVariants as put
+use Rattle.segclient.specs.declared.room.Effort.{Effort}
 use Rattle.segclient.specs.declared.stats.Stats.{Stats}
 use Rattle.segclient.specs.declared.stats.Tally.{Tally}
 use Rattle.segclient.specs.declared.stats.Tally.TheVariants as tally
@@ -45,14 +46,19 @@ counted tally.NoRoom stats = record stats { no_room = with_more stats.no_room 1 
 counted tally.BucketFull stats = record stats { bucket_full = with_more stats.bucket_full 1 }
 counted tally.Busy stats = record stats { busy = with_more stats.busy 1 }
 
--- what puts gave up is counted too: so many segments that were refilled,
--- so many items that were kept, and so many keys that were evicted
-abbrev pub given_up_too : ℕ → ℕ → ℕ → Stats → Stats
-given_up_too refilled kept keys stats = record stats {
-  segments_refilled = with_more stats.segments_refilled refilled;
-  items_kept = with_more stats.items_kept kept;
-  keys_evicted = with_more stats.keys_evicted keys;
+-- what calls of a put came to is counted too
+abbrev pub given_up_too : Effort → Stats → Stats
+given_up_too effort stats = record stats {
+  segments_refilled = with_more stats.segments_refilled effort.refilled;
+  items_kept = with_more stats.items_kept effort.kept;
+  keys_evicted = with_more stats.keys_evicted effort.keys;
 }
+
+-- nothing is added if they came to nothing
+abbrev pub IsCountedToo : Effort → Stats → Stats → Type 0
+IsCountedToo effort old new =
+    (new ≡ given_up_too effort old)
+    ⊎ ((effort ≡ record { refilled = 0; kept = 0; keys = 0 }) × (new ≡ old))
 
 -- how an answer is counted
 abbrev pub get_tally : GetAnswer → Tally

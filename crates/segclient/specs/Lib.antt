@@ -1,8 +1,9 @@
 pub mod Client
 pub mod Clients
 pub mod Counting
-pub mod Efforts
 pub mod Entries
+pub mod PutCalls
+pub mod PutParts
 pub mod Putting
 pub mod Puts
 pub mod Resting

@@ -4,7 +4,8 @@ ghost use Rattle.segindex.specs.Words.{board_of as index_board_of, shape_of as i
 ghost use Rattle.segpass.specs.Words.{IsQuiet, IsQuiet-prop};
 ghost use Rattle.segclient.specs.Rings.{IsOwnRing, IsOwnRing-prop};
 
-use crate::put::{PutAnswer, get_room, put_pair};
+use crate::put::{Order, PutAnswer, put_at_last, set_if_fresh};
+use crate::room::make_room_keeping;
 use crate::stats::{
     Stats, tally_of_delete, tally_of_get, tally_of_gets, tally_of_put, tally_of_write,
 };
@@ -42,7 +43,7 @@ impl<'i> Client<'i> {
     ghost use Rattle.segclient.specs.Client.{board_of, draw_of, Starts, Keeps, KeepsDraws};
     ghost use Rattle.segclient.specs.Client.{DrawsOnce, KeepsSettings};
     ghost use Rattle.segclient.specs.Client.{SetsCutoff, SetsNow, SetsTimeToLive};
-    ghost use Rattle.segclient.specs.Puts.{MakesRoomFor, Puts};
+    ghost use Rattle.segclient.specs.Puts.{deadline_of, MakesRoomFor, Puts};
     ghost use Rattle.segclient.specs.Counting.{counted, get_tally, gets_tally, write_tally, delete_tally};
 
     /// A client of this pass. Its clock shows 0, what it puts expires at the largest moment,
@@ -236,6 +237,13 @@ impl<'i> Client<'i> {
         self.cutoff = cutoff;
     }
 
+    // How room is made now: the deadline of what is refilled.
+    fn deadline(&self) -> u32
+        ensures { result ≡ deadline_of self.now }
+    {
+        self.clock.saturating_add(self.time_to_live)
+    }
+
     /// Makes room for a write that was answered NoRoom, as `put` does,
     /// and says whether that came about.
     pub fn make_room(&mut self) -> bool
@@ -243,30 +251,30 @@ impl<'i> Client<'i> {
         ensures draws { KeepsDraws self.old self.new }
         ensures settings { KeepsSettings self.old self.new }
     {
-        let deadline = self.clock.saturating_add(self.time_to_live);
-        let room = get_room(
+        let deadline = self.deadline();
+        let (is_made, effort) = make_room_keeping(
             self.index,
             &mut self.pass,
             &mut self.segments,
             self.cutoff,
             deadline,
         );
-        self.stats
-            .count_given_up(room.refilled, room.kept, room.keys);
-        room.is_made
+        self.stats.count_effort(effort);
+        is_made
     }
 
     /// Stores the value under the key, and makes room for it if there is none.
     ///
     /// If no row is left, or the segment that it stores into has expired,
-    /// it refills a segment of its own that is not in use.
-    /// If it can refill none, it evicts and refills the first of its segments, in turn,
-    /// for which that comes about. What it refills expires a time to live from now.
-    /// If there is a cutoff, and each of its segments is in use then, it clears the next one:
-    /// it moves what was read often into the segment that it stores into,
+    /// it gives up the one of its segments that was filled before the others:
+    /// it evicts it, and refills it to expire a time to live from now.
+    /// A segment that can't be given up is passed over until its next turn.
+    /// The one that it stores into comes last.
+    /// If there is a cutoff, it then clears the segment that is next:
+    /// it moves what was read often into the one that it stores into,
     /// and evicts what is left, as far as each comes about.
     /// If that left no row, it makes room once more, and keeps nothing.
-    /// If the key's bucket is full, it evicts the next of its segments and tries once more.
+    /// If the key's bucket is full, it evicts the oldest of its segments and tries once more.
     /// A busy set is made again, 16 times in a row at most.
     #[inline(always)]
     pub fn put(&mut self, key: &Key, value: &Value) -> PutAnswer
@@ -274,20 +282,27 @@ impl<'i> Client<'i> {
         ensures draws { KeepsDraws self.old self.new }
         ensures settings { KeepsSettings self.old self.new }
     {
-        let deadline = self.clock.saturating_add(self.time_to_live);
-        let came = put_pair(
+        let order = Order {
+            key,
+            value,
+            moment: self.clock,
+            cutoff: self.cutoff,
+            deadline: self.deadline(),
+        };
+        let first = set_if_fresh(self.index, &mut self.pass, order);
+        if let PutAnswer::Stored = first {
+            self.stats.count(tally_of_put(first));
+            return first;
+        }
+        let (told, effort) = put_at_last(
             self.index,
             &mut self.pass,
             &mut self.segments,
-            key,
-            value,
-            self.clock,
-            self.cutoff,
-            deadline,
+            order,
+            first,
         );
-        self.stats.count(tally_of_put(came.told));
-        self.stats
-            .count_given_up(came.refilled, came.kept, came.keys);
-        came.told
+        self.stats.count_effort(effort);
+        self.stats.count(tally_of_put(told));
+        told
     }
 }

@@ -8,6 +8,7 @@ mod hold;
 mod note;
 mod put;
 mod rest;
+mod room;
 mod stats;
 
 pub use all::{clients, into_passes, keep_back};

@@ -4,6 +4,7 @@ ghost use Rattle.segclient.specs.Counting.{no_stats, with_more, counted, given_u
 ghost use Rattle.segclient.specs.Counting.{get_tally, gets_tally, write_tally, delete_tally, put_tally};
 
 use crate::put::PutAnswer;
+use crate::room::Effort;
 use segmodel::{DeleteAnswer, GetAnswer, GetsAnswer, WriteAnswer};
 
 /// What a call came to.
@@ -86,14 +87,15 @@ impl Stats {
         }
     }
 
-    // Counts what the puts gave up and kept: segments that were refilled,
-    // items that were moved, and keys that were evicted.
-    pub(crate) fn count_given_up(&mut self, refilled: u32, kept: u64, keys: u64)
-        ensures { self.new ≡ given_up_too refilled kept keys self.old }
+    // Counts what calls of a put came to.
+    pub(crate) fn count_effort(&mut self, effort: Effort)
+        ensures { self.new ≡ given_up_too effort self.old }
     {
-        self.segments_refilled = self.segments_refilled.saturating_add(u64::from(refilled));
-        self.items_kept = self.items_kept.saturating_add(kept);
-        self.keys_evicted = self.keys_evicted.saturating_add(keys);
+        self.segments_refilled = self
+            .segments_refilled
+            .saturating_add(u64::from(effort.refilled));
+        self.items_kept = self.items_kept.saturating_add(effort.kept);
+        self.keys_evicted = self.keys_evicted.saturating_add(effort.keys);
     }
 }
 

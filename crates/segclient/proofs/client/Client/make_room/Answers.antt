@@ -1,24 +1,22 @@
 use Rattle.std.proofs.Common.{refl, subst}
-use Rattle.segclient.specs.Client.{board_of}
-use Rattle.segclient.specs.Efforts.{effort_for}
-use Rattle.segclient.specs.Putting.{GetsRoom}
+use Rattle.segclient.specs.Client.{board_of, shape_of}
+use Rattle.segclient.specs.Putting.{MakesRoom, most_for_room, room_plan}
 use Rattle.segclient.specs.Puts.{deadline_of}
-use Rattle.segclient.proofs.Ways.{got_room}
+use Rattle.segclient.proofs.Ways.{room_comes}
 use Rattle.segclient.proofs.client.Client.make_room.Goals as goal
 
 pub returns-clause-makes : goal.returns-clause-makes
 returns-clause-makes c =
     let old = c.args.self.now in
-    let room = c.get_room-room in
-    let effort = effort_for room.result room.new.ring in
-    let makes : GetsRoom (board_of old) old.cutoff old.segments (deadline_of old) room.result.is_made effort old.pass room.new.pass =
-    subst (λ deadline. GetsRoom (board_of old) old.cutoff old.segments deadline room.result.is_made effort old.pass room.new.pass) c.saturating_add-deadline.ensures room.ensures.room in
-    let ways = got_room (board_of old) old.cutoff (deadline_of old) old.segments room.result.is_made effort old.pass room.new.pass old.quiet makes in
+    let room = c.make_room_keeping-is_made in
+    let most = most_for_room (shape_of old) in
+    let makes : MakesRoom (board_of old) (room_plan old.cutoff (deadline_of old)) most room.result.0 room.result.1 old.pass room.new.pass =
+    subst (λ deadline. MakesRoom (board_of old) (room_plan old.cutoff deadline) most room.result.0 room.result.1 old.pass room.new.pass) c.deadline-deadline.ensures room.ensures.room in
+    let comes = room_comes (board_of old) (room_plan old.cutoff (deadline_of old)) refl most room.result.0 room.result.1 old.pass room.new.pass old.quiet makes in
     record {
-      effort = effort;
+      effort = room.result.1;
       makes = makes;
-      adds = ways.adds;
-      memo = ways.memo;
-      segments = refl;
-      stats = c.count_given_up.ensures;
+      adds = comes.adds;
+      memo = comes.memo;
+      stats = c.count_effort.ensures;
     }
