@@ -19,6 +19,8 @@ mod keeping;
 #[cfg(test)]
 mod keeping_at_once;
 #[cfg(test)]
+mod passing_over;
+#[cfg(test)]
 mod reading_at_once;
 #[cfg(test)]
 mod readme_lines;
