@@ -11,6 +11,7 @@ pub mod Meetings
 pub mod Numbers
 pub mod OneBadLine
 pub mod OneTurn
+pub mod Reasons
 pub mod Servers
 pub mod Turning
 pub mod WordLemmas

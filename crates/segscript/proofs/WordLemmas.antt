@@ -163,7 +163,7 @@ words_of Release = refl
 words_of (Lock k) = refl
 words_of Unlock = refl
 
-few_words : (t : Turn) → length (arguments_of t) ≤ 4
+pub few_words : (t : Turn) → length (arguments_of t) ≤ 4
 few_words (Serve (Refill n d)) = omega arith
 few_words (Serve (Evict n)) = omega arith
 few_words (Serve (Keep n c)) = omega arith

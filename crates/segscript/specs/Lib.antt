@@ -5,6 +5,7 @@ pub mod Laws
 pub mod Memory
 pub mod Passes
 pub mod Reading
+pub mod Reasons
 pub mod Replies
 pub mod Run
 pub mod Running

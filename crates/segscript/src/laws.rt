@@ -1,5 +1,5 @@
 //! The laws of the text of scripts. Each function does nothing: its contract is the law.
-ghost use Rattle.segscript.specs.Laws.{LinesFit, LineSpellsOneTurn};
+ghost use Rattle.segscript.specs.Laws.{BadLinesHaveAFault, LinesFit, LineSpellsOneTurn};
 
 /// Every line that spells a turn has at most 128 bytes.
 pub fn lines_fit()
@@ -9,4 +9,9 @@ pub fn lines_fit()
 /// A line spells at most one turn of one pass.
 pub fn one_turn()
     ensures { LineSpellsOneTurn }
+{}
+
+/// A line has a fault exactly if it is bad.
+pub fn bad_lines_have_a_fault()
+    ensures { BadLinesHaveAFault }
 {}

@@ -4,10 +4,12 @@
 
 mod device;
 mod engine;
+mod explain;
 mod fault;
 pub mod laws;
 mod line;
 mod memory;
+mod reason;
 mod reply;
 mod run;
 mod script;
@@ -19,8 +21,10 @@ mod verb;
 mod word;
 
 pub use device::{Failed, Sink, Source, write_all};
+pub use explain::{BadLine, Explaining};
 pub use fault::RunFault;
 pub use memory::{MemSink, MemSource, WhenFull};
+pub use reason::{LineFault, Part, WordFault, line_fault};
 pub use script::{run_script, serve_script};
 pub use server::Server;
 pub use standard::{ReadSource, WriteSink};

@@ -14,7 +14,7 @@ use segmodel::{Command, Request, Turn};
 use segword::{Key, Value};
 
 // The parts of a line between its spaces, if it has no more than 7.
-fn parts_of(line: &[u8]) -> Option<ArrayVec<&[u8], 7>>
+pub(crate) fn parts_of(line: &[u8]) -> Option<ArrayVec<&[u8], 7>>
     ensures some { IfSome result (λ parts.
         map (λ part. part.now) parts.items ≡ slice_split (λ byte. byte == 32) line.now) }
     ensures none { IfNone result (7 < length (slice_split (λ byte. byte == 32) line.now)) }
