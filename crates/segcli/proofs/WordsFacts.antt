@@ -1,28 +1,28 @@
 -- What words that are written out are read as.
-use Rattle.std.proofs.Common.{◌≡◌, [], ◌∷◌, Ok, true, false, refl, codes}
+use Rattle.std.proofs.Common.{◌≡◌, [], ◌∷◌, None, Ok, true, false, refl, codes}
 use Rattle.std.specs.Fmt.{digits}
 use Rattle.std.specs.Int.NonZero.{non_zero_u32_get}
 use Rattle.std.specs.declared.num.NonZeroU32.{NonZeroU32}
 use Rattle.clap.specs.Faults.{fault_of}
 use Rattle.clap.specs.declared.error.kind.ErrorKind.TheVariants as kind
 use Rattle.clap.proofs.OnLiterals.{clap_on_literals}
-use Rattle.segcli.specs.CommandLine.{command_line, default_shape, load_shape}
+use Rattle.segcli.specs.CommandLine.{command_line, default_shape}
 use Rattle.segcli.specs.Asked.{IsReadAsCommand}
 use Rattle.segcli.specs.declared.command.Command.TheVariants as command
 
-script_alone : IsReadAsCommand (codes "script" ∷ []) (Ok (command.Script default_shape))
+script_alone : IsReadAsCommand (codes "script" ∷ []) (Ok (command.Script default_shape false None))
 unfolding command_line clap_on_literals digits
-script_alone = (refl, (refl, refl))
+script_alone = (refl, (refl, refl, refl, refl))
 
-load_with_options : (keys : NonZeroU32) → non_zero_u32_get keys ≡ 64 → IsReadAsCommand (codes "load" ∷ codes "--seed" ∷ codes "7" ∷ codes "--rows=4" ∷ []) (Ok (command.Load (record load_shape { rows = 4 }) 7 1000 keys false))
+load_with_options : (keys : NonZeroU32) → non_zero_u32_get keys ≡ 64 → IsReadAsCommand (codes "load" ∷ codes "--seed" ∷ codes "7" ∷ codes "--rows=4" ∷ []) (Ok (command.Load (record default_shape { rows = 4 }) 7 1000 keys false))
 unfolding command_line clap_on_literals digits
 load_with_options keys is = (refl, (refl, refl, refl, refl, is, refl))
 
-load_over_keys : (keys : NonZeroU32) → non_zero_u32_get keys ≡ 1000000 → IsReadAsCommand (codes "load" ∷ codes "--keys" ∷ codes "1000000" ∷ []) (Ok (command.Load load_shape 1 1000 keys false))
+load_over_keys : (keys : NonZeroU32) → non_zero_u32_get keys ≡ 1000000 → IsReadAsCommand (codes "load" ∷ codes "--keys" ∷ codes "1000000" ∷ []) (Ok (command.Load default_shape 1 1000 keys false))
 unfolding command_line clap_on_literals digits
 load_over_keys keys is = (refl, (refl, refl, refl, refl, is, refl))
 
-load_with_progress : (keys : NonZeroU32) → non_zero_u32_get keys ≡ 64 → IsReadAsCommand (codes "load" ∷ codes "--progress" ∷ codes "--seed=7" ∷ []) (Ok (command.Load load_shape 7 1000 keys true))
+load_with_progress : (keys : NonZeroU32) → non_zero_u32_get keys ≡ 64 → IsReadAsCommand (codes "load" ∷ codes "--progress" ∷ codes "--seed=7" ∷ []) (Ok (command.Load default_shape 7 1000 keys true))
 unfolding command_line clap_on_literals digits
 load_with_progress keys is = (refl, (refl, refl, refl, refl, is, refl))
 

@@ -44,7 +44,7 @@ of_words (word ∷ words) read some is = is
 -- ---- a command
 
 pub command_read : (words : List Text) (found : Text × List Row) (asked : Command) → fault_of command_line words ≡ [] → subcommand_of command_line words ≡ Some found → IsAsked found asked → IsReadByClap words (Ok asked)
-command_read words found (command.Script shape) none is asked = (none, subst (λ o. IsSomeAnd o (λ f. IsAsked f (command.Script shape))) (sym is) asked)
+command_read words found (command.Script shape explain file) none is asked = (none, subst (λ o. IsSomeAnd o (λ f. IsAsked f (command.Script shape explain file))) (sym is) asked)
 command_read words found (command.Load shape seed commands keys progress) none is asked = (none, subst (λ o. IsSomeAnd o (λ f. IsAsked f (command.Load shape seed commands keys progress))) (sym is) asked)
 command_read words found (command.Word text) none is asked = (none, subst (λ o. IsSomeAnd o (λ f. IsAsked f (command.Word text))) (sym is) asked)
 command_read words found (command.Show text) none is asked = absurd asked
@@ -120,7 +120,7 @@ among_any p k (x ∷ xs) is (inr there) = or_true (p x) (list_any p xs) (among_a
 pub fault_read : (words : List Text) (k : ErrorKind) (read : Result Command Refusal) → (k ≡ kind.OutOfMemory) ⊎ IsAmong k (fault_of command_line words) → IsRefused k read → IsReadByClap words read
 fault_read words k (Ok (command.Show text)) (inl memory) refused = absurd (cc (ap is_request memory))
 fault_read words k (Ok (command.Show text)) (inr among) refused = among_any is_request k (fault_of command_line words) refused among
-fault_read words k (Ok (command.Script shape)) why refused = absurd refused
+fault_read words k (Ok (command.Script shape explain file)) why refused = absurd refused
 fault_read words k (Ok (command.Load shape seed commands keys progress)) why refused = absurd refused
 fault_read words k (Ok (command.Word text)) why refused = absurd refused
 fault_read words k (Err (refusal.Usage text)) (inl memory) refused = absurd (refused.1 memory)

@@ -1,7 +1,7 @@
 -- What the program is asked to do by its words.
-use Rattle.std.specs.Prelude.{◌≡◌, ◌≢◌, ◌⊎◌, ◌^◌, ◌&&◌, ⊤, ℕ, max, Bool, true, false, not, List, [], ◌∷◌, Result, Ok, Err, IsSomeAnd, if◌then◌else◌, nat_lt, unwrap_or, codes}
+use Rattle.std.specs.Prelude.{◌≡◌, ◌≢◌, ◌⊎◌, ◌^◌, ◌&&◌, ⊤, ℕ, max, Bool, true, false, not, List, [], ◌∷◌, None, Result, Ok, Err, IsSomeAnd, if◌then◌else◌, nat_lt, unwrap_or, codes}
 use Rattle.std.specs.List.{list_any}
-use Rattle.std.specs.Option.{option_map_or}
+use Rattle.std.specs.Option.{option_map, option_map_or}
 use Rattle.std.specs.Int.NonZero.{non_zero_u32_get}
 use Rattle.std.specs.Str.{bytes_eq}
 use Rattle.std.specs.Str.Parse.{digits_value, true_text, without_leading_plus}
@@ -12,8 +12,8 @@ use Rattle.clap.specs.ValueTests.{is_numeral}
 use Rattle.clap.specs.Faults.{fault_of}
 use Rattle.clap.specs.declared.error.kind.ErrorKind.{ErrorKind}
 use Rattle.clap.specs.declared.error.kind.ErrorKind.TheVariants as kind
-use Rattle.segcli.specs.CommandLine.{NumberOption, command_line, default_shape, load_shape, hex}
-use Rattle.segcli.specs.CommandLine.{buckets_option, overflow_option, passes_option, segments_option, rows_option, first_version_option, seed_option, commands_option, keys_option, progress_flag}
+use Rattle.segcli.specs.CommandLine.{NumberOption, command_line, default_shape, hex}
+use Rattle.segcli.specs.CommandLine.{buckets_option, overflow_option, passes_option, segments_option, rows_option, first_version_option, seed_option, commands_option, keys_option, progress_flag, explain_flag, script_file}
 use Rattle.segcli.specs.declared.arguments.Refusal.{Refusal}
 use Rattle.segcli.specs.declared.arguments.Refusal.TheVariants as refusal
 use Rattle.segcli.specs.declared.command.Command.{Command}
@@ -39,15 +39,15 @@ number_given option rows =
 abbrev pub is_given : Text → List Row → Bool
 is_given flag rows = option_map_or (λ text. bytes_eq text true_text) (one_of flag rows) false
 
--- the shape that the options give, with the numbers of the default one if the words say none
-abbrev pub shape_given : Shape → List Row → Shape
-shape_given default rows = record {
-  buckets = number_given (buckets_option default) rows;
-  overflow = number_given (overflow_option default) rows;
-  passes = number_given (passes_option default) rows;
-  segments_each = number_given (segments_option default) rows;
-  rows = number_given (rows_option default) rows;
-  first_version = number_given (first_version_option default) rows;
+-- the shape that the options give
+abbrev pub shape_given : List Row → Shape
+shape_given rows = record {
+  buckets = number_given buckets_option rows;
+  overflow = number_given overflow_option rows;
+  passes = number_given passes_option rows;
+  segments_each = number_given segments_option rows;
+  rows = number_given rows_option rows;
+  first_version = number_given first_version_option rows;
 }
 
 abbrev pub IsCommandName : Text → Type 0
@@ -56,11 +56,14 @@ IsCommandName name = (name ≡ codes "script") ⊎ (name ≡ codes "load") ⊎ (
 -- The command is the one of this name with these matches.
 -- A load has at least one key: `clap` lets no 0 through.
 abbrev pub IsAsked : Text × List Row → Command → Type 0
-IsAsked asked (command.Script shape) =
-    (asked.0 ≡ codes "script") × (shape ≡ shape_given default_shape asked.1)
+IsAsked asked (command.Script shape explain file) =
+    (asked.0 ≡ codes "script")
+    × (shape ≡ shape_given asked.1)
+    × (explain ≡ is_given explain_flag asked.1)
+    × (option_map (λ text. text.now) file ≡ first_of script_file asked.1)
 IsAsked asked (command.Load shape seed commands keys progress) =
     (asked.0 ≡ codes "load")
-    × (shape ≡ shape_given load_shape asked.1)
+    × (shape ≡ shape_given asked.1)
     × (seed ≡ number_given seed_option asked.1)
     × (commands ≡ number_given commands_option asked.1)
     × (non_zero_u32_get keys ≡ max 1 (number_given keys_option asked.1))
@@ -103,5 +106,5 @@ IsReadByClap words (Err refusal.OutOfMemory) = ⊤
 
 -- What is read from the words. No words at all are the command `script` with no options.
 abbrev pub IsReadAsCommand : List Text → Result Command Refusal → Type 0
-IsReadAsCommand [] read = read ≡ Ok (command.Script default_shape)
+IsReadAsCommand [] read = read ≡ Ok (command.Script default_shape false None)
 IsReadAsCommand (word ∷ words) read = IsReadByClap (word ∷ words) read

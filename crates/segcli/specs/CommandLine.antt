@@ -9,7 +9,7 @@ use Rattle.clap.specs.declared.builder.command.Command.TheViews.{out-Command as 
 use Rattle.clap.specs.declared.builder.value_parser.ValueParser.{ValueParser}
 use Rattle.clap.specs.declared.builder.value_parser.ValueParser.TheVariants as parser
 
--- the shape of a script that no option changes
+-- the shape that no option changes
 abbrev pub default_shape : Shape
 default_shape = record {
   buckets = 1;
@@ -19,10 +19,6 @@ default_shape = record {
   rows = 8;
   first_version = 0;
 }
-
--- the shape of a load that no option changes, with room for the load's 64 keys
-abbrev pub load_shape : Shape
-load_shape = record default_shape { buckets = 16; segments_each = 2; rows = 128 }
 
 -- ---- options
 
@@ -40,24 +36,24 @@ abbrev pub of_32_bits : Text → ℕ → NumberOption
 of_32_bits name default =
     record { name = name; bits = 32; least = 0; most = 4294967295; default = default }
 
--- the options of a shape, each with its number in this shape as its default
-abbrev pub buckets_option : Shape → NumberOption
-buckets_option shape = of_32_bits (codes "buckets") shape.buckets
+-- the options of a shape, each with its number in the default shape
+abbrev pub buckets_option : NumberOption
+buckets_option = of_32_bits (codes "buckets") default_shape.buckets
 
-abbrev pub overflow_option : Shape → NumberOption
-overflow_option shape = of_32_bits (codes "overflow") shape.overflow
+abbrev pub overflow_option : NumberOption
+overflow_option = of_32_bits (codes "overflow") default_shape.overflow
 
-abbrev pub passes_option : Shape → NumberOption
-passes_option shape = of_32_bits (codes "passes") shape.passes
+abbrev pub passes_option : NumberOption
+passes_option = of_32_bits (codes "passes") default_shape.passes
 
-abbrev pub segments_option : Shape → NumberOption
-segments_option shape = of_32_bits (codes "segments") shape.segments_each
+abbrev pub segments_option : NumberOption
+segments_option = of_32_bits (codes "segments") default_shape.segments_each
 
-abbrev pub rows_option : Shape → NumberOption
-rows_option shape = of_32_bits (codes "rows") shape.rows
+abbrev pub rows_option : NumberOption
+rows_option = of_32_bits (codes "rows") default_shape.rows
 
-abbrev pub first_version_option : Shape → NumberOption
-first_version_option shape = of_32_bits (codes "first-version") shape.first_version
+abbrev pub first_version_option : NumberOption
+first_version_option = of_32_bits (codes "first-version") default_shape.first_version
 
 abbrev pub seed_option : NumberOption
 seed_option =
@@ -69,20 +65,10 @@ commands_option = of_32_bits (codes "commands") 1000
 abbrev pub keys_option : NumberOption
 keys_option = record (of_32_bits (codes "keys") 64) { least = 1; most = 1000000 }
 
-abbrev pub shape_options : Shape → List NumberOption
-shape_options shape =
-    buckets_option shape ∷ overflow_option shape ∷ passes_option shape ∷ segments_option shape
-    ∷ rows_option shape ∷ first_version_option shape ∷ []
-
--- These texts are three numbers of the shape.
--- Its others are 0 overflow buckets, one pass and the first version 0.
-pub record AreDefaults (shape : Shape) (of_buckets of_segments of_rows : Text) : Type 0 where
-  pub buckets : of_buckets ≡ decimal shape.buckets
-  pub segments : of_segments ≡ decimal shape.segments_each
-  pub rows : of_rows ≡ decimal shape.rows
-  pub overflow : shape.overflow ≡ 0
-  pub passes : shape.passes ≡ 1
-  pub first_version : shape.first_version ≡ 0
+abbrev pub shape_options : List NumberOption
+shape_options =
+    buckets_option ∷ overflow_option ∷ passes_option ∷ segments_option ∷ rows_option
+    ∷ first_version_option ∷ []
 
 -- the parser that takes the numbers of an option
 abbrev pub number_parser : NumberOption → ValueParser
@@ -112,6 +98,17 @@ flag_rule name = record (new_rule name) { long = Some name; action = Some SetTru
 abbrev pub progress_flag : Text
 progress_flag = codes "progress"
 
+-- `--explain`, of a script
+abbrev pub explain_flag : Text
+explain_flag = codes "explain"
+
+-- the file of a script, which may be given
+abbrev pub script_file : Text
+script_file = codes "FILE"
+
+abbrev pub file_rule : Rule
+file_rule = new_rule script_file
+
 -- the hexadecimal digits of `word`, which have to be given
 abbrev pub hex : Text
 hex = codes "HEX"
@@ -125,12 +122,14 @@ abbrev pub command_rules : Text → List Rule → CommandRules
 command_rules name rules = record (new_shape name) { rules = rules }
 
 abbrev pub script_rules : CommandRules
-script_rules = command_rules (codes "script") (map rule_of_option (shape_options default_shape))
+script_rules =
+    command_rules (codes "script") (map rule_of_option shape_options
+    ++ file_rule ∷ flag_rule explain_flag ∷ [])
 
 abbrev pub load_rules : CommandRules
 load_rules =
     command_rules (codes "load") (map rule_of_option
-    (shape_options load_shape ++ seed_option ∷ commands_option ∷ keys_option ∷ [])
+    (shape_options ++ seed_option ∷ commands_option ∷ keys_option ∷ [])
     ++ flag_rule progress_flag ∷ [])
 
 abbrev pub word_rules : CommandRules

@@ -89,8 +89,8 @@ LoadOutcome shape seed keys commands Wrote before flushes (Err f) =
 abbrev pub CommandOutcome : {R W : Type 0} → (R → List ℕ → R → Type 0) → (R → Type 0) → (R → Bool)
     → (R → ℕ) → (W → List ℕ → W → Type 0) → (W → Bool) → (W → ℕ) → Command → R → R → W → W
     → Result (Unit {0}) ProgramFault → Type 0
-CommandOutcome hands is_at_end read_failed ends takes write_failed flushes (command.Script shape)
-    reader reader' writer writer' end =
+CommandOutcome hands is_at_end read_failed ends takes write_failed flushes
+    (command.Script shape explain file) reader reader' writer writer' end =
     ScriptOutcome hands is_at_end read_failed ends takes write_failed flushes shape reader reader'
     writer writer' end
 CommandOutcome hands is_at_end read_failed ends takes write_failed flushes

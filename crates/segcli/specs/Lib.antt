@@ -1,4 +1,5 @@
 pub mod Asked
+pub mod BadLines
 pub mod CommandLine
 pub mod Commands
 pub mod Explained

@@ -1,9 +1,12 @@
 //! Reads the words of the command line.
-ghost use Rattle.std.specs.Prelude.{◌≡◌, string_bytes, map, max};
+ghost use Rattle.std.specs.Prelude.{◌≡◌, string_bytes, map, max, false, None};
 ghost use Rattle.std.specs.Int.NonZero.{non_zero_u32_get};
+ghost use Rattle.std.specs.Option.{option_map};
+ghost use Rattle.clap.specs.Walk.{first_of};
 ghost use Rattle.clap.specs.Words.{found_of, kind_of, rows_of};
-ghost use Rattle.segcli.specs.CommandLine.{keys_option};
-ghost use Rattle.segcli.specs.Asked.{IsAsked, IsCommandName, IsReadAsCommand, IsRefused, number_given, shape_given};
+ghost use Rattle.segcli.specs.CommandLine.{default_shape, explain_flag, keys_option, script_file};
+ghost use Rattle.segcli.specs.Asked.{IsAsked, IsCommandName, IsReadAsCommand, IsRefused, is_given};
+ghost use Rattle.segcli.specs.Asked.{number_given, shape_given};
 
 use crate::command::Command;
 use crate::command_line::program;
@@ -13,23 +16,13 @@ use segword::Shape;
 use std::alloc::{AllocError, Global};
 use std::num::NonZeroU32;
 
-/// The shape of a script's index that no option changes: one bucket, one pass, and one segment of eight rows.
+/// The shape that no option changes: one bucket, one pass, and one segment of eight rows.
 pub const SHAPE: Shape = Shape {
     buckets: 1,
     overflow: 0,
     passes: 1,
     segments_each: 1,
     rows: 8,
-    first_version: 0,
-};
-
-/// The shape of a load's index that no option changes. It has room for the 64 keys of the load.
-const LOAD_SHAPE: Shape = Shape {
-    buckets: 16,
-    overflow: 0,
-    passes: 1,
-    segments_each: 2,
-    rows: 128,
     first_version: 0,
 };
 
@@ -63,14 +56,25 @@ pub fn read_command<'a>(alloc: Global, words: &'a [String]) -> Result<Command<'a
     ensures { IsReadAsCommand (map (λ word. string_bytes word) words.entry.now) result }
 {
     if words.is_empty() {
-        return Ok(Command::Script(SHAPE));
+        return Ok(script_alone());
     }
     match program(alloc)?.try_get_matches_from(words) {
         Ok(matches) => match matches.subcommand() {
             Some((name, matches)) => Ok(command_of(name, matches)),
-            None => Ok(Command::Script(SHAPE)),
+            None => Ok(script_alone()),
         },
         Err(error) => refused(alloc, &error),
+    }
+}
+
+// The script of standard input, over the default shape.
+fn script_alone<'a>() -> Command<'a>
+    ensures { result ≡ Command.Script default_shape false None }
+{
+    Command::Script {
+        shape: SHAPE,
+        explain: false,
+        file: None,
     }
 }
 
@@ -94,15 +98,33 @@ fn command_of<'a>(name: &str, matches: &ArgMatches<'a>) -> Command<'a>
 {
     match name {
         "load" => Command::Load {
-            shape: shape_of(matches, LOAD_SHAPE),
+            shape: shape_of(matches),
             seed: matches.get_one("seed").unwrap_or(SEED),
             commands: matches.get_one("commands").unwrap_or(COMMANDS),
             keys: keys_of(matches),
             progress: matches.get_one("progress").unwrap_or(false),
         },
         "word" => Command::Word(matches.get_str("HEX").unwrap_or("")),
-        _ => Command::Script(shape_of(matches, SHAPE)),
+        _ => Command::Script {
+            shape: shape_of(matches),
+            explain: explain_of(matches),
+            file: file_of(matches),
+        },
     }
+}
+
+fn explain_of(matches: &ArgMatches<'_>) -> bool
+    ensures { result ≡ is_given explain_flag (rows_of (found_of matches.now)) }
+{
+    matches.get_one("explain").unwrap_or(false)
+}
+
+// The file of a script, if one is named.
+fn file_of<'a>(matches: &ArgMatches<'a>) -> Option<&'a str>
+    ensures { option_map (λ text. text.now) result
+        ≡ first_of script_file (rows_of (found_of matches.now)) }
+{
+    matches.get_str("FILE")
 }
 
 // How many keys a load is over: `clap` lets no 0 through.
@@ -114,17 +136,17 @@ fn keys_of(matches: &ArgMatches<'_>) -> NonZeroU32
 }
 
 // The shape that the options give. An option that isn't there leaves the default.
-fn shape_of(matches: &ArgMatches<'_>, default: Shape) -> Shape
-    ensures { result ≡ shape_given default (rows_of (found_of matches.now)) }
+fn shape_of(matches: &ArgMatches<'_>) -> Shape
+    ensures { result ≡ shape_given (rows_of (found_of matches.now)) }
 {
     Shape {
-        buckets: matches.get_one("buckets").unwrap_or(default.buckets),
-        overflow: matches.get_one("overflow").unwrap_or(default.overflow),
-        passes: matches.get_one("passes").unwrap_or(default.passes),
-        segments_each: matches.get_one("segments").unwrap_or(default.segments_each),
-        rows: matches.get_one("rows").unwrap_or(default.rows),
+        buckets: matches.get_one("buckets").unwrap_or(SHAPE.buckets),
+        overflow: matches.get_one("overflow").unwrap_or(SHAPE.overflow),
+        passes: matches.get_one("passes").unwrap_or(SHAPE.passes),
+        segments_each: matches.get_one("segments").unwrap_or(SHAPE.segments_each),
+        rows: matches.get_one("rows").unwrap_or(SHAPE.rows),
         first_version: matches
             .get_one("first-version")
-            .unwrap_or(default.first_version),
+            .unwrap_or(SHAPE.first_version),
     }
 }

@@ -24,7 +24,12 @@ use std::thread::Threads;
 #[derive(Debug, Drop)]
 pub enum Command<'a> {
     /// Runs the script of the reader over an index of this shape.
-    Script(Shape),
+    /// Who calls the program opens the file, and says why a line is bad if `explain` is true.
+    Script {
+        shape: Shape,
+        explain: bool,
+        file: Option<&'a str>,
+    },
     /// Runs a load over an index of this shape: each pass makes so many commands over so many keys, drawn with this seed.
     /// If `progress` is true, a watch looks on.
     Load {
@@ -85,7 +90,7 @@ fn perform<R: Threads + Wait + AllocGlobal + Sync, S: Source, W: Sink, V: Watch>
         command.now source.old source.new writer.old writer.new result }
 {
     match command {
-        Command::Script(shape) => perform_script(alloc, *shape, source, writer),
+        Command::Script { shape, .. } => perform_script(alloc, *shape, source, writer),
         Command::Load {
             shape,
             seed,

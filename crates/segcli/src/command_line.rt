@@ -1,8 +1,7 @@
 //! The command line of the program: its commands and options with their texts, as `clap` takes them.
 ghost use Rattle.std.specs.Prelude.{◌≡◌, false, IfOk};
 ghost use Rattle.clap.specs.Words.{App, rule_of};
-ghost use Rattle.segword.specs.Words.{Shape};
-ghost use Rattle.segcli.specs.CommandLine.{Builds, alone, with_options, shape_options, option_rule, flag_rule, number_parser, keys_option, program_rules, script_rules, load_rules, word_rules, command_line, AreDefaults};
+ghost use Rattle.segcli.specs.CommandLine.{Builds, alone, with_options, shape_options, file_rule, option_rule, flag_rule, number_parser, keys_option, program_rules, script_rules, load_rules, word_rules, command_line};
 
 use clap::builder::{ValueParser, ValueParserFactory};
 use clap::{Arg, ArgAction, Command, value_parser};
@@ -10,12 +9,9 @@ use std::alloc::{AllocError, Global};
 
 const ABOUT: &str = "Runs scripts and loads over the object index of a segment-structured cache";
 
-const LONG_ABOUT: &str = "Runs scripts and loads over the object index of a segment-structured cache
-
-Such a cache keeps items in segments, which are filled, evicted and refilled as a whole. Its object
-index finds an item by its key.";
-
-const AFTER: &str = "Without a command it does what `segrun script` does.
+const AFTER: &str =
+    "Such a cache keeps items in segments, which are filled, evicted and refilled as a whole. Its object
+index finds an item by its key. Without a command segrun does what `segrun script` does.
 
 Example:
   printf 'p0 refill 0 4294967295\\np0 set a 1 @0\\np0 get a @0\\n' | segrun
@@ -34,17 +30,7 @@ A shape is bad for the first of these that applies, and the line has its number:
   5  the number of rows of a segment is not 1 to 4096
   6  the table would have over 67108864 words";
 
-const SCRIPT: &str = "Runs a script from standard input, and writes the reply of each line";
-
-const LONG_SCRIPT: &str = "Runs a script from standard input, and writes the reply of each line
-
-The index is made first, of the shape that the options give. Each line names a pass, a command and
-what it is about. A pass refills a segment before it sets its first key, and gives it a deadline. A
-line that reads or writes a key ends with the moment at which it does so, as @0. A key is absent from
-the deadline of its segment on. The first bad line ends the script. A key has 1 to 24 bytes, and a
-value 1 to 32 or is - for the empty one; each byte is printable and no space. SEGMENT, DEADLINE,
-VERSION and MOMENT are numbers from 0 to 4294967295, and CUTOFF is one from 0 to 255. There is one
-space between two words and no other, and there are no comments. An empty line says nothing.";
+const SCRIPT: &str = "Runs a script, and writes the reply of each line";
 
 const AFTER_SCRIPT: &str = "Lines, here of pass 0, and their replies:
   p0 refill SEGMENT DEADLINE        REFILLED, NOT_YOURS, NOT_EVICTED or HELD
@@ -62,35 +48,16 @@ const AFTER_SCRIPT: &str = "Lines, here of pass 0, and their replies:
   p0 release                        RELEASED or NOT_HOLDING
   p0 lock KEY                       LOCKED, BUSY or ALREADY_LOCKED
   p0 unlock                         UNLOCKED or NOT_LOCKED
-
-Example:
-  printf 'p0 refill 0 4294967295\\np0 set a 1 @0\\np0 get a @0\\n' | segrun script --rows 100
-writes REFILLED, STORED and VALUE 1, a line each.
-
-A line is bad if it has
-  another word, a word too few or too many, or another space
-  a number over 4294967295, or one that begins with a 0 but is not 0
-  a pass that is not there
-  a key or a value that is too long, or that has a byte which is not printable
-  more than 128 bytes
-
-Exit status:
-  0  the whole script was run
-  2  a bad line, or a bad command line
-  3  a bad shape (see segrun --help), a reader or a writer that failed, a script that is too long, or
-     out of memory";
+A key has 1 to 24 printable bytes. A value has 1 to 32, or is - for the empty one. CUTOFF is at most
+255, and each other number 4294967295. A pass refills a segment before it sets its first key. A key
+is absent from the deadline of its segment on. One space stands between two words, and there are no
+comments. The first bad line ends the script, with status 2; --explain says why it is bad.";
 
 const LOAD: &str = "Runs a load, in which all passes make commands at once, and prints its totals";
 
-const LONG_LOAD: &str =
-    "Runs a load, in which all passes make commands at once, and prints its totals
-
-The index is made first, of the shape that the options give. Then each pass makes its commands on a
-thread of its own: gets, writes and deletes of keys that all passes share, drawn with the seed. The
-totals are a line for each pass, with what its commands came to, and a line for all, with how many
-keys stand at the end.";
-
-const AFTER_LOAD: &str = "What the totals count, each command once:
+const AFTER_LOAD: &str =
+    "Each pass makes its commands on a thread of its own. The totals are a line for each pass, and one for
+all, with how many keys stand at the end. What they count, each command once:
   hit, miss    gets, with a version or without, that found their key or didn't
   stored, not_stored, exists, not_found, deleted
                the replies to writes and deletes
@@ -98,37 +65,28 @@ const AFTER_LOAD: &str = "What the totals count, each command once:
                another pass was reading there, or at work in the bucket of a key of it
   bucketfull   sets and adds of a new key that found no word left in its bucket
   busy         commands in whose bucket others were at work 64 times meanwhile
-With one pass nothing is counted as noroom or busy. The default shape has room for the 64 keys.
+With one pass nothing is counted as noroom or busy. One bucket holds 7 keys: give more to a load.
 
 Examples:
-  segrun load --passes 4 --buckets 16 --commands 100000
-writes the lines of p0, p1, p2, p3 and total.
+  segrun load --buckets 16 --segments 2 --rows 128
+has room for the 64 keys, and writes the lines of p0 and total.
   segrun load --keys 1000000 --buckets 65536 --segments 64 --rows 4096
-does the same for p0, whose commands are over a million keys.
-  segrun load --commands 100000000 --progress
-does it for more commands, and writes to standard error, about twice a second, a line as
-  41231360 of 100000000, 41 %, 17023488 a second
-
-Exit status:
-  0  the load was run
-  2  a bad command line
-  3  a bad shape (see segrun --help), a writer that failed, or out of memory";
+does the same over a million keys.
+  segrun load --passes 4 --commands 100000000 --progress
+writes to standard error, about twice a second, a line as
+  41231360 of 100000000, 41 %, 17023488 a second";
 
 const WORD: &str = "Explains an item word, one of the words in which the index keeps its items";
 
-const LONG_WORD: &str = "Explains an item word, one of the words in which the index keeps its items
+const AFTER_WORD: &str =
+    "An item word is empty, says in which row of which segment an item lies, or leads on to an overflow
+bucket. The word of a segment can look like one.
 
-An item word is empty, says in which row of which segment an item lies, or leads on to an overflow
-bucket.";
-
-const AFTER_WORD: &str = "Example:
+Example:
   segrun word af60100000200003
 writes item tag=af6 freq=1 seg=2 row=3.
 
-Exit status:
-  0  the word was explained
-  2  a bad word, or a bad command line
-  3  a writer that failed, or out of memory";
+Any other word is a bad word, with status 2.";
 
 /// The command line, of which a parse reads the words after the program's name.
 pub fn program<'a>(alloc: Global) -> Result<Command<'a>, AllocError>
@@ -147,7 +105,6 @@ fn named<'a>(alloc: Global) -> Result<Command<'a>, AllocError>
     Command::new(alloc, "segrun")
         .version("0.1.0")
         .about(ABOUT)
-        .long_about(LONG_ABOUT)
         .after_help(AFTER)
         .override_usage("segrun [COMMAND]")
         .no_binary_name(true)
@@ -160,9 +117,18 @@ fn script<'a>(alloc: Global) -> Result<Command<'a>, AllocError>
 {
     let command = Command::new(alloc, "script")
         .about(SCRIPT)
-        .long_about(LONG_SCRIPT)
         .after_help(AFTER_SCRIPT);
-    with_shape(alloc, command, "1", "1", "8")
+    let explain = flag(alloc, "explain", "Says on standard error why a line is bad");
+    with_shape(alloc, command)?
+        .arg(script_file(alloc))?
+        .arg(explain)
+}
+
+fn script_file<'a>(alloc: Global) -> Arg<'a>
+    ensures rule { rule_of result ≡ file_rule }
+    ensures local { result.global ≡ false }
+{
+    Arg::new(alloc, "FILE").help("The script; without it, or if it is -, standard input is read")
 }
 
 fn load<'a>(alloc: Global) -> Result<Command<'a>, AllocError>
@@ -194,9 +160,8 @@ fn load<'a>(alloc: Global) -> Result<Command<'a>, AllocError>
     );
     let command = Command::new(alloc, "load")
         .about(LOAD)
-        .long_about(LONG_LOAD)
         .after_help(AFTER_LOAD);
-    with_shape(alloc, command, "16", "2", "128")?
+    with_shape(alloc, command)?
         .arg(seed)?
         .arg(commands)?
         .arg(keys)?
@@ -217,28 +182,19 @@ fn word<'a>(alloc: Global) -> Result<Command<'a>, AllocError>
         .help("The word, in 16 hexadecimal digits");
     Command::new(alloc, "word")
         .about(WORD)
-        .long_about(LONG_WORD)
         .after_help(AFTER_WORD)
         .arg(digits)
 }
 
-// Gives a command the options of a shape. Three defaults are those of the command.
-fn with_shape<'a>(
-    alloc: Global,
-    command: Command<'a>,
-    default_buckets: &'a str,
-    default_segments: &'a str,
-    default_rows: &'a str,
-) -> Result<Command<'a>, AllocError>
-    ensures { (app : App) (shape : Shape) → Builds app command.entry
-        → AreDefaults shape default_buckets.entry.now default_segments.entry.now
-        default_rows.entry.now
-        → IfOk result (Builds (with_options app (shape_options shape))) }
+// Gives a command the options of a shape.
+fn with_shape<'a>(alloc: Global, command: Command<'a>) -> Result<Command<'a>, AllocError>
+    ensures { (app : App) → Builds app command.entry
+        → IfOk result (Builds (with_options app shape_options)) }
 {
     let buckets = number::<u32>(
         alloc,
         "buckets",
-        default_buckets,
+        "1",
         "Buckets: a power of two, at most 65536",
     );
     let overflow = number::<u32>(alloc, "overflow", "0", "Overflow buckets: at most 65536");
@@ -246,13 +202,13 @@ fn with_shape<'a>(
     let segments = number::<u32>(
         alloc,
         "segments",
-        default_segments,
+        "1",
         "Segments that each pass owns: 1 to 1024",
     );
     let rows = number::<u32>(
         alloc,
         "rows",
-        default_rows,
+        "8",
         "Rows of each segment, one for an item: 1 to 4096",
     );
     let version = number::<u32>(

@@ -5,7 +5,7 @@ ghost use Rattle.std.specs.Vec.Iter.{into_iter_items};
 ghost use Rattle.segcli.specs.Given.{fault_of_words, GivenOutcome};
 
 use crate::fault::{ProgramFault, report};
-use crate::program::run_program;
+use crate::program::run_watched;
 use crate::progress::Watch;
 use segscript::{Sink, Source};
 use std::alloc::{AllocError, AllocGlobal, Global};
@@ -17,7 +17,7 @@ use std::thread::Threads;
 
 /// Does what the program is asked for by the words that std gives, the first of which is its name.
 /// Std gives no words if one of them isn't UTF-8. Then the fault is BadArguments.
-/// It returns the exit status, as `run_program` does.
+/// It returns the exit status, as `run_watched` does.
 ///
 /// A load waits for its threads. What the contract says holds if this returns.
 pub fn run_given<R: Threads + Wait + AllocGlobal + Sync, S: Source, W: Sink, E: Sink, V: Watch>(
@@ -43,13 +43,13 @@ pub fn run_given<R: Threads + Wait + AllocGlobal + Sync, S: Source, W: Sink, E: 
         Err(error) => return report(fault_of_words(&error), writer, errors),
     };
     match words_of(alloc, given) {
-        Ok(words) => run_program(rt, alloc, words.as_slice(), source, writer, errors, watch),
+        Ok(words) => run_watched(rt, alloc, words.as_slice(), source, writer, errors, watch),
         Err(AllocError) => report(ProgramFault::OutOfMemory, writer, errors),
     }
 }
 
-// The words behind the program's name.
-fn words_of(alloc: Global, given: Args) -> Result<Vec<String>, AllocError>
+/// The words behind the program's name.
+pub fn words_of(alloc: Global, given: Args) -> Result<Vec<String>, AllocError>
     ensures { IfOk result (λ words. words.items ≡ drop 1 (into_iter_items given)) }
 {
     let mut words = Vec::new(alloc);

@@ -2,6 +2,7 @@
 #![tactic(auto)]
 
 mod arguments;
+mod bad_line;
 mod command;
 mod command_line;
 mod explanation;
@@ -12,9 +13,10 @@ mod progress;
 mod totals;
 
 pub use arguments::{Refusal, read_command};
+pub use bad_line::bad_line_text;
 pub use command::{Command, run_command};
 pub use explanation::{explain, reading_of};
 pub use fault::{ProgramFault, print, report};
-pub use given::run_given;
-pub use program::run_program;
-pub use progress::{Watch, progress_line};
+pub use given::{run_given, words_of};
+pub use program::{run_program, run_watched};
+pub use progress::{Nobody, Watch, progress_line};

@@ -9,7 +9,7 @@ ghost use Rattle.segcli.specs.Program.{refusal_status, refusal_text, ProgramOutc
 use crate::arguments::{Refusal, read_command};
 use crate::command::run_command;
 use crate::fault::{ProgramFault, print_after, report};
-use crate::progress::Watch;
+use crate::progress::{Nobody, Watch};
 use segscript::{Sink, Source};
 use std::alloc::{AllocGlobal, Global};
 use std::sync::Wait;
@@ -21,11 +21,35 @@ const BAD_USAGE: u8 = 2;
 /// Does what the words after the program's name ask for, with a script from the source.
 /// It returns the exit status: 0 if that was done,
 /// 2 for a bad line, a bad word or a bad command line, and else 3.
-/// Faults are printed to the error writer.
-/// The watch looks on at a load if the words say so.
+/// Faults are printed to the error writer. Nobody looks on at a load.
 ///
 /// A load waits for its threads. What the contract says holds if this returns.
-pub fn run_program<R: Threads + Wait + AllocGlobal + Sync, S: Source, W: Sink, E: Sink, V: Watch>(
+pub fn run_program<R: Threads + Wait + AllocGlobal + Sync, S: Source, W: Sink, E: Sink>(
+    rt: &R,
+    alloc: Global,
+    words: &[String],
+    source: &mut S,
+    writer: &mut W,
+    errors: &mut E,
+) -> u8
+    requires source_works { S.has_failed source.old ≡ false }
+    requires writer_works { W.has_failed writer.old ≡ false }
+    requires errors_work { E.has_failed errors.old ≡ false }
+
+    // The command that is read from the words is carried out, or the words are refused.
+    ensures outcome { (read : Result Asked Refusal)
+        × IsReadAsCommand (map (λ word. string_bytes word) words.now) read
+        × ProgramOutcome S.hands S.is_at_end S.has_failed S.ends W.takes W.has_failed W.flushes
+        E.takes E.has_failed E.flushes read source.old source.new writer.old writer.new
+        errors.old errors.new result }
+{
+    run_watched(rt, alloc, words, source, writer, errors, &Nobody)
+}
+
+/// Does what `run_program` does. The watch looks on at a load if the words say so.
+///
+/// A load waits for its threads. What the contract says holds if this returns.
+pub fn run_watched<R: Threads + Wait + AllocGlobal + Sync, S: Source, W: Sink, E: Sink, V: Watch>(
     rt: &R,
     alloc: Global,
     words: &[String],

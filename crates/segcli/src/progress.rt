@@ -14,6 +14,14 @@ pub trait Watch: Sync {
     fn saw(&self, made: u64, of: u64);
 }
 
+/// A watch that does nothing.
+#[derive(Drop)]
+pub struct Nobody;
+
+impl Watch for Nobody {
+    fn saw(&self, _made: u64, _of: u64) {}
+}
+
 /// The watch is called each time that pass 0 has made so many more commands.
 const BETWEEN: u32 = 1024;
 

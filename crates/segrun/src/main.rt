@@ -3,22 +3,10 @@
 #![tactic(auto)]
 
 mod progress;
+mod script;
 
-use progress::Teller;
-use segcli::run_given;
-use segscript::{ReadSource, WriteSink};
-use std::env;
 use std::process::ExitCode;
 
 fn main(rt: HostRuntime) -> ExitCode {
-    let status = run_given(
-        &rt,
-        rt.alloc(),
-        env::args(&rt),
-        &mut ReadSource::new(rt.reader()),
-        &mut WriteSink::new(rt.stdout()),
-        &mut WriteSink::new(rt.stderr()),
-        &Teller::new(&rt),
-    );
-    ExitCode::from(status)
+    ExitCode::from(script::run(&rt, &rt))
 }

@@ -1,6 +1,6 @@
 //! The program out of memory: each request is refused in turn, those of its command line among them.
 use crate::hoard::{RUNS, STEP, hoard, leave};
-use segcli::{Watch, run_program};
+use segcli::run_program;
 use segscript::{MemSink, MemSource};
 use std::alloc::{AllocError, AllocGlobal, Global};
 use std::process::Abort;
@@ -9,14 +9,6 @@ use std::test::Fail;
 use std::thread::Threads;
 
 const SCRIPT: &[u8] = b"p0 refill 0 4294967295\np0 set a 1 @0\np0 get a @0\n";
-
-// A watch that does nothing.
-#[derive(Drop)]
-struct Nobody;
-
-impl Watch for Nobody {
-    fn saw(&self, _made: u64, _of: u64) {}
-}
 
 // The words as the program gets them.
 fn words_of(alloc: Global, words: &[&str]) -> Result<Vec<String>, AllocError> {
@@ -50,7 +42,6 @@ fn is_refused<R: Threads + Wait + AllocGlobal + Abort + Sync>(
         &mut source,
         &mut writer,
         &mut errors,
-        &Nobody,
     );
     drop(taken);
     if ended == status {

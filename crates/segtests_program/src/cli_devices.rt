@@ -1,6 +1,6 @@
 //! Readers and writers that fail under the program.
 use crate::cli_runs::{
-    Devices, NO_TOTALS, Nobody, REPLIES, SCRIPT, SOUND, check_ended, check_same, run_watched,
+    Devices, NO_TOTALS, REPLIES, SCRIPT, SOUND, check_ended, check_same, run_with,
 };
 use segscript::WhenFull;
 use std::alloc::AllocGlobal;
@@ -27,7 +27,7 @@ fn check_failing<R: Threads + Wait + AllocGlobal + Abort + Sync>(
             when_full,
             ..SOUND
         };
-        let ended = run_watched(rt, words, SCRIPT, devices, &Nobody)?;
+        let ended = run_with(rt, words, SCRIPT, devices)?;
         check_ended(rt, words, &ended, status, written, printed);
     }
     Ok(())
@@ -114,7 +114,7 @@ fn a_help_that_can_not_be_printed_keeps_its_status(rt: HostRuntime) -> Result<()
             rooms: (100, room),
             ..SOUND
         };
-        let ended = run_watched(&rt, &["scrpt"], SCRIPT, devices, &Nobody)?;
+        let ended = run_with(&rt, &["scrpt"], SCRIPT, devices)?;
         check_same(&rt, &["scrpt"], ended.status, 2);
         check_same(&rt, &["scrpt"], ended.printed.len(), room);
     }
@@ -136,7 +136,7 @@ fn a_flush_that_fails_is_a_fault_of_the_writer(rt: HostRuntime) -> Result<(), Fa
         (["load", "--commands", "0"].as_slice(), NO_TOTALS),
         (["--version"].as_slice(), b"segrun 0.1.0\n".as_slice()),
     ] {
-        let ended = run_watched(&rt, words, SCRIPT, devices, &Nobody)?;
+        let ended = run_with(&rt, words, SCRIPT, devices)?;
         check_ended(&rt, words, &ended, 3, written, b"write failed\n");
         check_same(&rt, words, ended.flushes, (2, 1));
     }
@@ -150,7 +150,7 @@ fn a_fault_keeps_its_line_if_a_flush_before_it_fails(rt: HostRuntime) -> Result<
         ..SOUND
     };
     let script = b"p0 refill 0 4294967295\nx\n";
-    let ended = run_watched(&rt, &[], script, devices, &Nobody)?;
+    let ended = run_with(&rt, &[], script, devices)?;
     check_ended(&rt, &[], &ended, 2, b"REFILLED\n", b"bad line 2\n");
     Ok(())
 }

@@ -1,6 +1,6 @@
 //! The program over its words as std gives them.
-use crate::cli_runs::{Nobody, REPLIES, SCRIPT, check_same, words_of};
-use segcli::run_given;
+use crate::cli_runs::{REPLIES, SCRIPT, check_same, words_of};
+use segcli::{Nobody, run_given};
 use segscript::{MemSink, MemSource};
 use std::alloc::{AllocError, AllocGlobal};
 use std::env::Args;

@@ -47,25 +47,34 @@ fn check_load<R: Threads + Wait + AllocGlobal + Abort + Sync>(
 fn one_pass_counts_as_a_plain_map(rt: HostRuntime) -> Result<(), Fail> {
     for (words, commands, totals) in [
         (
-            ["load", "--commands", "500", "--seed", "7"].as_slice(),
+            [
+                "load",
+                "--buckets=16",
+                "--segments=2",
+                "--rows=128",
+                "--commands=500",
+                "--seed=7",
+            ]
+            .as_slice(),
             500,
             "p0 commands=500 hit=113 miss=204 stored=85 not_stored=25 exists=6 not_found=45 deleted=22 noroom=0 bucketfull=0 busy=0\ntotal commands=500 keys=36\n",
         ),
         (
-            ["load"].as_slice(),
+            [
+                "load",
+                "--buckets",
+                "16",
+                "--segments",
+                "2",
+                "--rows",
+                "128",
+            ]
+            .as_slice(),
             1000,
             "p0 commands=1000 hit=303 miss=311 stored=165 not_stored=53 exists=18 not_found=95 deleted=55 noroom=0 bucketfull=0 busy=0\ntotal commands=1000 keys=37\n",
         ),
         (
-            [
-                "load",
-                "--buckets=1",
-                "--segments=1",
-                "--rows=8",
-                "--seed=7",
-                "--commands=500",
-            ]
-            .as_slice(),
+            ["load", "--seed=7", "--commands=500"].as_slice(),
             500,
             "p0 commands=500 hit=24 miss=293 stored=63 not_stored=24 exists=0 not_found=72 deleted=3 noroom=0 bucketfull=21 busy=0\ntotal commands=500 keys=6\n",
         ),

@@ -158,6 +158,21 @@ fn a_load_may_tell_its_progress(rt: HostRuntime) -> Result<(), Fail> {
     Ok(())
 }
 
+// The file is opened by `main`, which hands in what it reads.
+#[test]
+fn a_file_and_explain_change_no_reply(rt: HostRuntime) -> Result<(), Fail> {
+    for words in [
+        ["script", "-"].as_slice(),
+        ["script", "file"].as_slice(),
+        ["script", "--explain"].as_slice(),
+        ["script", "--explain", "--rows=8", "file"].as_slice(),
+    ] {
+        check_program(&rt, words, SCRIPT, 0, REPLIES, b"")?;
+        check_program(&rt, words, b"x\n", 2, b"", b"bad line 1\n")?;
+    }
+    Ok(())
+}
+
 #[test]
 fn each_option_changes_its_own_part(rt: HostRuntime) -> Result<(), Fail> {
     // The second pass, and the second segment of the first.
@@ -230,7 +245,9 @@ fn a_bad_command_line_says_what_is_wrong(rt: HostRuntime) -> Result<(), Fail> {
     for (words, part) in [
         (["--rows", "4"].as_slice(), "--rows"),
         (["scrpt"].as_slice(), "script"),
-        (["script", "more"].as_slice(), "more"),
+        (["script", "file", "more"].as_slice(), "more"),
+        (["script", "--explain=1"].as_slice(), "--explain"),
+        (["load", "--explain"].as_slice(), "--explain"),
         (["script", "--row", "4"].as_slice(), "--rows"),
         (["word"].as_slice(), "HEX"),
         (["word", "0000000000000000", "more"].as_slice(), "more"),

@@ -179,16 +179,23 @@ fn check_totals<R: Threads + Wait + AllocGlobal + Abort + Sync>(
 fn a_watch_changes_no_totals(rt: HostRuntime) -> Result<(), Fail> {
     let short =
         "p0 commands=500 hit=113 miss=204 stored=85 not_stored=25 exists=6 not_found=45 deleted=22 noroom=0 bucketfull=0 busy=0\ntotal commands=500 keys=36\n";
-    check_totals(&rt, &["load", "--commands", "500", "--seed", "7"], short)?;
-    check_totals(
-        &rt,
-        &["load", "--progress", "--commands", "500", "--seed", "7"],
-        short,
-    )?;
+    let shape = ["load", "--buckets=16", "--segments=2", "--rows=128"];
+    let [load, buckets, segments, rows] = shape;
+    let words = [
+        load,
+        buckets,
+        segments,
+        rows,
+        "--commands=500",
+        "--seed=7",
+        "--progress",
+    ];
+    check_totals(&rt, &words[..6], short)?;
+    check_totals(&rt, &words, short)?;
     let usual =
         "p0 commands=1000 hit=303 miss=311 stored=165 not_stored=53 exists=18 not_found=95 deleted=55 noroom=0 bucketfull=0 busy=0\ntotal commands=1000 keys=37\n";
-    check_totals(&rt, &["load"], usual)?;
-    check_totals(&rt, &["load", "--progress"], usual)
+    check_totals(&rt, &shape, usual)?;
+    check_totals(&rt, &[load, buckets, segments, rows, "--progress"], usual)
 }
 
 // More commands than a watch is called after, with the option and without it.

@@ -1,7 +1,7 @@
 //! Runs of the program over memory: its words, and what it writes, prints and returns.
 ghost use Rattle.std.specs.Prelude.{◌≡◌, false, IfOk};
 
-use segcli::{Watch, run_program};
+use segcli::{Watch, run_program, run_watched as run_program_watched};
 use segscript::{MemSink, MemSource, Sink, Source, WhenFull};
 use std::alloc::{AllocError, AllocGlobal, Global};
 use std::fmt::Debug;
@@ -18,14 +18,6 @@ pub const REPLIES: &[u8] = b"REFILLED\nSTORED\nVALUE 1\n";
 /// What a load without commands prints.
 pub const NO_TOTALS: &[u8] =
     b"p0 commands=0 hit=0 miss=0 stored=0 not_stored=0 exists=0 not_found=0 deleted=0 noroom=0 bucketfull=0 busy=0\ntotal commands=0 keys=0\n";
-
-/// A watch that does nothing.
-#[derive(Drop)]
-pub struct Nobody;
-
-impl Watch for Nobody {
-    fn saw(&self, _made: u64, _of: u64) {}
-}
 
 /// What the devices of a run do. Of a pair the first is the writer's, the second the error writer's.
 #[derive(Clone, Copy)]
@@ -67,7 +59,23 @@ pub fn words_of(alloc: Global, words: &[&str]) -> Result<Vec<String>, AllocError
 
 /// Runs the program over these devices. The tests stand on this call:
 /// at one of `run_program` the proof of a test would have to read its whole contract.
-pub fn run_over<R: Threads + Wait + AllocGlobal + Sync, S: Source, W: Sink, E: Sink, V: Watch>(
+pub fn run_over<R: Threads + Wait + AllocGlobal + Sync, S: Source, W: Sink, E: Sink>(
+    rt: &R,
+    words: &[&str],
+    source: &mut S,
+    writer: &mut W,
+    errors: &mut E,
+) -> Result<u8, AllocError>
+    requires source_works { S.has_failed source.old ≡ false }
+    requires writer_works { W.has_failed writer.old ≡ false }
+    requires errors_work { E.has_failed errors.old ≡ false }
+{
+    let words = words_of(rt.alloc(), words)?;
+    Ok(run_program(rt, rt.alloc(), words.as_slice(), source, writer, errors))
+}
+
+/// Runs the program over these devices while a watch looks on.
+fn run_over_watched<R: Threads + Wait + AllocGlobal + Sync, S: Source, W: Sink, E: Sink, V: Watch>(
     rt: &R,
     words: &[&str],
     source: &mut S,
@@ -80,7 +88,7 @@ pub fn run_over<R: Threads + Wait + AllocGlobal + Sync, S: Source, W: Sink, E: S
     requires errors_work { E.has_failed errors.old ≡ false }
 {
     let words = words_of(rt.alloc(), words)?;
-    Ok(run_program(
+    Ok(run_program_watched(
         rt,
         rt.alloc(),
         words.as_slice(),
@@ -113,6 +121,40 @@ fn writer_of(
     Ok(writer)
 }
 
+/// The devices of a run, in memory.
+#[derive(Drop)]
+struct Memory<'s> {
+    source: MemSource<'s>,
+    writer: MemSink,
+    errors: MemSink,
+}
+
+fn memory_of(alloc: Global, script: &[u8], devices: Devices) -> Result<Memory<'_>, AllocError>
+    ensures source { IfOk result (λ memory. memory.source.failed ≡ false) }
+    ensures writer { IfOk result (λ memory. memory.writer.failed ≡ false) }
+    ensures errors { IfOk result (λ memory. memory.errors.failed ≡ false) }
+{
+    let (room, error_room) = devices.rooms;
+    let (fails, error_fails) = devices.flush_fails;
+    Ok(Memory {
+        source: reader_of(script, devices.good),
+        writer: writer_of(alloc, room, devices.when_full, fails)?,
+        errors: writer_of(alloc, error_room, devices.when_full, error_fails)?,
+    })
+}
+
+impl Memory<'_> {
+    // What was written and printed by a run that ended with this status.
+    fn ended(self, status: u8) -> Ended {
+        Ended {
+            status,
+            flushes: (self.writer.flushes, self.errors.flushes),
+            written: self.writer.taken,
+            printed: self.errors.taken,
+        }
+    }
+}
+
 /// Runs the program over devices in memory while a watch looks on.
 pub fn run_watched<R: Threads + Wait + AllocGlobal + Sync, V: Watch>(
     rt: &R,
@@ -121,18 +163,34 @@ pub fn run_watched<R: Threads + Wait + AllocGlobal + Sync, V: Watch>(
     devices: Devices,
     watch: &V,
 ) -> Result<Ended, AllocError> {
-    let (room, error_room) = devices.rooms;
-    let (fails, error_fails) = devices.flush_fails;
-    let mut source = reader_of(script, devices.good);
-    let mut writer = writer_of(rt.alloc(), room, devices.when_full, fails)?;
-    let mut errors = writer_of(rt.alloc(), error_room, devices.when_full, error_fails)?;
-    let status = run_over(rt, words, &mut source, &mut writer, &mut errors, watch)?;
-    Ok(Ended {
-        status,
-        flushes: (writer.flushes, errors.flushes),
-        written: writer.taken,
-        printed: errors.taken,
-    })
+    let mut memory = memory_of(rt.alloc(), script, devices)?;
+    let status = run_over_watched(
+        rt,
+        words,
+        &mut memory.source,
+        &mut memory.writer,
+        &mut memory.errors,
+        watch,
+    )?;
+    Ok(memory.ended(status))
+}
+
+/// Runs the program over devices in memory.
+pub fn run_with<R: Threads + Wait + AllocGlobal + Sync>(
+    rt: &R,
+    words: &[&str],
+    script: &[u8],
+    devices: Devices,
+) -> Result<Ended, AllocError> {
+    let mut memory = memory_of(rt.alloc(), script, devices)?;
+    let status = run_over(
+        rt,
+        words,
+        &mut memory.source,
+        &mut memory.writer,
+        &mut memory.errors,
+    )?;
+    Ok(memory.ended(status))
 }
 
 /// Runs the program with devices that don't fail.
@@ -141,7 +199,7 @@ pub fn run<R: Threads + Wait + AllocGlobal + Sync>(
     words: &[&str],
     script: &[u8],
 ) -> Result<Ended, AllocError> {
-    run_watched(rt, words, script, SOUND, &Nobody)
+    run_with(rt, words, script, SOUND)
 }
 
 /// Checks one thing that a run with these words came to.

@@ -16,6 +16,8 @@ mod cli_order;
 #[cfg(test)]
 mod cli_progress;
 #[cfg(test)]
+mod cli_reasons;
+#[cfg(test)]
 mod cli_runs;
 #[cfg(test)]
 mod cli_scripts;

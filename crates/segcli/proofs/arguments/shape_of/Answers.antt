@@ -6,13 +6,12 @@ use Rattle.segcli.proofs.arguments.shape_of.Goals as goal
 pub returns : goal.returns
 returns c =
     let found = found_of c.args.matches.now in
-    let default = c.args.default in
-    let buckets = option_read (buckets_option default) found c.get_one.ensures.none c.get_one.ensures.value c.unwrap_or.ensures in
-    let overflow = option_read (overflow_option default) found c.get_one-2.ensures.none c.get_one-2.ensures.value c.unwrap_or-2.ensures in
-    let passes = option_read (passes_option default) found c.get_one-3.ensures.none c.get_one-3.ensures.value c.unwrap_or-3.ensures in
-    let segments = option_read (segments_option default) found c.get_one-4.ensures.none c.get_one-4.ensures.value c.unwrap_or-4.ensures in
-    let rows = option_read (rows_option default) found c.get_one-5.ensures.none c.get_one-5.ensures.value c.unwrap_or-5.ensures in
-    let version = option_read (first_version_option default) found c.get_one-6.ensures.none c.get_one-6.ensures.value c.unwrap_or-6.ensures in
+    let buckets = option_read buckets_option found c.get_one.ensures.none c.get_one.ensures.value c.unwrap_or.ensures in
+    let overflow = option_read overflow_option found c.get_one-2.ensures.none c.get_one-2.ensures.value c.unwrap_or-2.ensures in
+    let passes = option_read passes_option found c.get_one-3.ensures.none c.get_one-3.ensures.value c.unwrap_or-3.ensures in
+    let segments = option_read segments_option found c.get_one-4.ensures.none c.get_one-4.ensures.value c.unwrap_or-4.ensures in
+    let rows = option_read rows_option found c.get_one-5.ensures.none c.get_one-5.ensures.value c.unwrap_or-5.ensures in
+    let version = option_read first_version_option found c.get_one-6.ensures.none c.get_one-6.ensures.value c.unwrap_or-6.ensures in
     λ i. record {
       buckets = buckets i;
       overflow = overflow i;

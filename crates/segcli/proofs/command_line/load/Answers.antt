@@ -1,16 +1,15 @@
-use Rattle.std.proofs.Common.{◌∙◌, ap, codes, refl, rules}
+use Rattle.std.proofs.Common.{◌∙◌, ap, codes, rules}
 use Rattle.std.proofs.lemmas.Result.{IfOk-weaker}
 use Rattle.std.specs.Fmt.{digits}
 use Rattle.clap.specs.Words.{new_app}
-use Rattle.segcli.specs.CommandLine.{AreDefaults, option_rule, flag_rule, rule_of_option, load_shape, seed_option, commands_option, keys_option, progress_flag}
+use Rattle.segcli.specs.CommandLine.{option_rule, flag_rule, rule_of_option, seed_option, commands_option, keys_option, progress_flag}
 use Rattle.segcli.proofs.Building.{with_argument}
 use Rattle.segcli.proofs.command_line.load.Goals as goal
 
 pub returns : goal.returns
 unfolding digits
 returns c =
-    let defaults : AreDefaults load_shape (codes "16") (codes "2") (codes "128") = record { buckets = refl; segments = refl; rows = refl; overflow = refl; passes = refl; first_version = refl } in
-    let plain = c.in_ok-with_shape.ensures (new_app (codes "load")) load_shape (search rules) defaults in
+    let plain = c.in_ok-with_shape.ensures (new_app (codes "load")) (search rules) in
     let one = with_argument _ _ _ _ (rule_of_option seed_option) plain c.in_ok-arg.ensures c.number-seed.ensures.local c.number-seed.ensures.rule in
     let two = with_argument _ _ _ _ (rule_of_option commands_option) one c.in_ok-arg-2.ensures c.number-commands.ensures.local c.number-commands.ensures.rule in
     let taken = c.taking-keys.ensures.rule ∙ ap (λ parser. option_rule (codes "keys") parser (codes "64")) c.keys_parser.ensures in

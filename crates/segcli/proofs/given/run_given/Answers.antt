@@ -19,7 +19,7 @@ returns-in-Err g c =
 
 pub returns-in-Ok-words_of : goal.returns-in-Ok-words_of
 returns-in-Ok-words_of g c =
-    let told = c.run_program.ensures.outcome in
+    let told = c.run_watched.ensures.outcome in
     let words = c.as_slice.ensures.value ∙ c.in-Ok-words_of.ensures in
     record { outcome = rw c.in-Ok.is (told.0, inl (subst (λ l. IsReadAsCommand (map (λ word. string_bytes word) l) told.0) words told.1), told.2) }
 

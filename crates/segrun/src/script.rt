@@ -1,0 +1,120 @@
+//! Where the program reads its script from, and what it says of it on standard error.
+ghost use Rattle.std.specs.Prelude.{◌≡◌, false};
+
+use crate::progress::Teller;
+use segcli::{Command, bad_line_text, read_command, run_given, words_of};
+use segscript::{Explaining, ReadSource, Source, WriteSink};
+use std::alloc::AllocGlobal;
+use std::fs::File;
+use std::io::{IsTerminal, Read, Write};
+use std::sync::Wait;
+use std::thread::Threads;
+use std::{env, io};
+
+/// The status of a bad line, and of a reader that failed.
+const BAD_LINE: u8 = 2;
+
+const READ_FAILED: u8 = 3;
+
+const HINT: &[u8] =
+    b"segrun: reads a script from the terminal (segrun script --help has its lines, Ctrl-D ends it)\n";
+
+/// Does what the words of the program ask for, and returns the exit status.
+pub fn run<T: Threads + Wait + AllocGlobal + Sync>(threads: &T, rt: &HostRuntime) -> u8 {
+    let words = match env::args(rt) {
+        Ok(given) => words_of(rt.alloc(), given),
+        Err(_) => return run_over(threads, rt, &mut ReadSource::new(rt.reader())),
+    };
+    let Ok(words) = words else {
+        return run_over(threads, rt, &mut ReadSource::new(rt.reader()));
+    };
+    match read_command(rt.alloc(), words.as_slice()) {
+        Ok(
+            Command::Script {
+                shape,
+                explain,
+                file,
+            },
+        ) => {
+            let passes = explain.then_some(shape.passes);
+            run_script(threads, rt, passes, file)
+        }
+        _ => run_over(threads, rt, &mut ReadSource::new(rt.reader())),
+    }
+}
+
+// Runs a script of a file or of standard input. With passes it says why a line is bad.
+fn run_script<T: Threads + Wait + AllocGlobal + Sync>(
+    threads: &T,
+    rt: &HostRuntime,
+    passes: Option<u32>,
+    file: Option<&str>,
+) -> u8 {
+    match file {
+        Some(path) if path != "-" => match File::open(rt, path) {
+            Ok(file) => run_from(threads, rt, passes, file),
+            Err(error) => {
+                let _ = tell_why(rt, path, &error);
+                READ_FAILED
+            }
+        },
+        _ => {
+            if rt.stdin().is_terminal() {
+                let _ = rt.stderr().write_all(HINT);
+            }
+            run_from(threads, rt, passes, rt.reader())
+        }
+    }
+}
+
+// Says why a file can't be read, behind the line of the fault.
+fn tell_why(rt: &HostRuntime, path: &str, error: &io::Error) -> io::Result<()> {
+    let text = format!(in rt.alloc(); "read failed\n{path}: {error}\n")?;
+    rt.stderr().write_all(text.as_bytes())
+}
+
+fn run_from<T: Threads + Wait + AllocGlobal + Sync, R: Read + Drop>(
+    threads: &T,
+    rt: &HostRuntime,
+    passes: Option<u32>,
+    input: R,
+) -> u8 {
+    let Some(passes) = passes else {
+        return run_over(threads, rt, &mut ReadSource::new(input));
+    };
+    let mut source = Explaining::new(ReadSource::new(input), passes);
+    let status = run_over(threads, rt, &mut source);
+    if status == BAD_LINE {
+        explain(rt, &source);
+    }
+    status
+}
+
+// Says why the first bad line is bad. A text that can't be written is left out.
+fn explain<S: Source>(rt: &HostRuntime, source: &Explaining<S>) {
+    let Some(bad) = source.bad_line() else {
+        return;
+    };
+    if let Ok(text) = bad_line_text(rt.alloc(), bad) {
+        let _ = rt.stderr().write_all(text.as_slice());
+    }
+}
+
+// Runs the program with a script of this source.
+fn run_over<T: Threads + Wait + AllocGlobal + Sync, S: Source>(
+    threads: &T,
+    rt: &HostRuntime,
+    source: &mut S,
+) -> u8
+    requires { S.has_failed source.old ≡ false }
+{
+    run_given(
+        threads,
+        rt.alloc(),
+        env::args(rt),
+        source,
+        &mut WriteSink::new(rt.stdout()),
+        &mut WriteSink::new(rt.stderr()),
+        &Teller::new(rt),
+    )
+}
