@@ -9,6 +9,8 @@ from pathlib import Path
 
 BENCH = Path(__file__).resolve().parent
 OUT = BENCH / "out"
+# The library for C. `bindings/check` makes it.
+LIBRARY = BENCH.parent / "bindings/c/out/libsegcache.a"
 COMPILER = ["g++", "-std=c++20", "-O3", "-Wall", "-Wextra", "-pthread"]
 
 
@@ -80,6 +82,7 @@ def build_dashmap():
 
 PROGRAMS = [
     Program("reference", "reference/reference.cpp"),
+    Program("ours_c", "peers/ours_c.cpp", libraries=(str(LIBRARY),)),
     Program("absl_spin", "peers/absl_spin.cpp", "libabsl-dev", pkg_config="absl_flat_hash_map"),
     Program("absl_mutex", "peers/absl_mutex.cpp", "libabsl-dev", pkg_config="absl_flat_hash_map"),
     Program("std_mutexes", "peers/std_mutexes.cpp"),

@@ -1,0 +1,419 @@
+/* The cache for C (C99 and later) and C++ (C++11 and later): a library over the proved index.
+ *
+ *     segcache cache; segcache_client clients[4];
+ *     if (segcache_open(100000, 4, &cache, clients) != SEGCACHE_OK) return 1;
+ *     ... each of four threads calls segcache_get(&clients[i], ..), segcache_put(&clients[i], ..) ...
+ *     for (i = 0; i < 4; i++) segcache_give_back(&cache, &clients[i]);
+ *     segcache_free(&cache);
+ *
+ * SHAPES. A key has 1 to 24 bytes, a value 0 to 32. A key is the bytes alone: a final NUL counts only if
+ * the length counts it. `now` is the caller's clock, a number that grows, in units of the caller's choice
+ * (seconds since the start, say); with no time to live set, any number below 4294967295 will do.
+ *
+ * ANSWERS. Each function returns a status, SEGCACHE_OK or another of the list below. A null or freed
+ * handle, a key or value of a bad length and a short buffer are answers, and the call did nothing else.
+ *
+ * WHAT IS PROVED, and under which conditions. The functions behind these (segcache_raw_..) are proved
+ * under Rattle. The proof takes for granted what no prover checks of C. Keep all of these:
+ *   1. A client serves one call at a time. Another thread may take it over by a lock, or at the start or
+ *      the end (join) of a thread. So do a cache and a cursor. Different clients may be called at once.
+ *   2. A handle (segcache, segcache_client, segcache_cursor) comes from this library or is zeroed. It may
+ *      be moved, but never used in two copies: a copy is dead once the other one was called.
+ *   3. A pointer and its length are true: so many bytes can be read, or written. A pointer is null only
+ *      with the length 0. What a call writes (value, lengths, version, handles) overlaps nothing else
+ *      that is passed to it.
+ *   4. malloc, realloc and free come from one allocator, and align to 16 bytes.
+ *   5. No call from a signal handler, and none in a forked child of a program with threads.
+ * Compiled with -DSEGCACHE_DEBUG, each call checks what can be checked of 1, 2 and 3, and aborts with
+ * one line on standard error. That needs gcc or clang, and all files of a program compiled alike.
+ */
+#ifndef SEGCACHE_H
+#define SEGCACHE_H
+
+#include <stddef.h>
+#include <stdint.h>
+#include <string.h>
+
+#ifdef __cplusplus
+extern "C" {
+#endif
+
+enum {
+  SEGCACHE_OK = 0,
+  SEGCACHE_MISS = 1,             /* the key was absent at a moment of the call */
+  SEGCACHE_BUSY = 2,             /* others worked on the key's bucket all the while: call again */
+  SEGCACHE_NO_ROOM = 3,          /* no row is left to store into: make_room, or put again later */
+  SEGCACHE_BUCKET_FULL = 4,      /* the key's bucket has no free word: go on without */
+  SEGCACHE_NOT_STORED = 5,       /* an add of a key that is present, a replace of one that is not */
+  SEGCACHE_EXISTS = 6,           /* a cas: the bucket was written since the gets */
+  SEGCACHE_NOT_FOUND = 7,        /* a cas or a delete: the key is absent */
+  SEGCACHE_BAD_KEY = 8,          /* no byte, or more than 24 */
+  SEGCACHE_BAD_VALUE = 9,        /* more than 32 bytes */
+  SEGCACHE_SHORT_BUFFER = 10,    /* nothing was copied; the length tells how much room is needed */
+  SEGCACHE_BAD_SHAPE = 11,       /* a shape, or a number of keys or of threads, that cannot be */
+  SEGCACHE_OUT_OF_MEMORY = 12,
+  SEGCACHE_NO_HANDLE = 13,       /* the handle is zeroed, given back or freed */
+  SEGCACHE_ALREADY_HOLDING = 14, /* this client holds an item: release it first */
+  SEGCACHE_NOT_HOLDING = 15,     /* this client holds none */
+  SEGCACHE_CLIENT_OUT = 16,      /* a client of the cache was not given back */
+  SEGCACHE_FOREIGN = 17,         /* the client is of another cache */
+  SEGCACHE_END = 18              /* of a cursor: no pair is left */
+};
+
+#define SEGCACHE_MAX_KEY 24u
+#define SEGCACHE_MAX_VALUE 32u
+#define SEGCACHE_MAX_THREADS 64u
+
+/* What a handle is to the library. Its content is the library's own. */
+typedef struct segcache_handle {
+  void *at;
+  uint8_t full; /* 0 or 1 */
+} segcache_handle;
+
+/* A cache. Zeroed, it is none. */
+typedef struct segcache {
+  segcache_handle raw;
+} segcache;
+
+/* A client: what one thread calls the cache by. Zeroed, it is none. As large as a cache line, so that
+   clients in an array do not slow each other down. */
+typedef struct segcache_client {
+  segcache_handle raw;
+  const void *home; /* the cache that it is of */
+  char apart[64 - sizeof(segcache_handle) - sizeof(void *)];
+} segcache_client;
+
+/* The content of a closed cache, from pair to pair. Zeroed, it is none. */
+typedef struct segcache_cursor {
+  segcache_handle raw;
+} segcache_cursor;
+
+/* The size of a cache. segcache_open makes one up from a number of keys. */
+typedef struct segcache_shape {
+  uint32_t buckets;       /* a power of two, 65536 at most; a bucket has words for 7 keys */
+  uint32_t overflow;      /* overflow buckets, each for 6 keys more; at most as many as buckets */
+  uint32_t passes;        /* clients, 1 to 64 */
+  uint32_t segments_each; /* segments of each client; two or more, or a full client loses all at once */
+  uint32_t rows;          /* items that a segment has room for, 4096 at most */
+  uint32_t first_version; /* the version that all buckets begin with; 0 will do */
+} segcache_shape;
+
+/* How many calls of one client came to what. */
+typedef struct segcache_stats_t {
+  uint64_t hits, misses; /* of get and gets */
+  uint64_t stored, not_stored, exists, not_found, deleted, no_room, bucket_full, busy;
+  uint64_t segments_refilled, items_kept, keys_evicted; /* by puts and make_room */
+} segcache_stats_t;
+
+/* How full the table is. */
+typedef struct segcache_index_stats_t {
+  uint32_t overflow_buckets; /* in use, of all chains */
+  uint32_t used_rows;        /* of this client's segments */
+  uint32_t named_rows;       /* those of them that a key stands for; the others are dead */
+} segcache_index_stats_t;
+
+/* --- The exports of the library. Programs call the functions below these. ---------------------------- */
+
+uint32_t segcache_raw_open(uint32_t keys, uint32_t threads, segcache_handle *cache, segcache_handle *clients,
+                           size_t clients_len);
+uint32_t segcache_raw_open_shape(const segcache_shape *shape, segcache_handle *cache, segcache_handle *clients,
+                                 size_t clients_len);
+uint32_t segcache_raw_get(segcache_handle *client, const uint8_t *key, size_t key_len, uint8_t *value, size_t room,
+                          size_t *value_len, uint32_t now);
+uint32_t segcache_raw_gets(segcache_handle *client, const uint8_t *key, size_t key_len, uint8_t *value, size_t room,
+                           size_t *value_len, uint32_t *version, uint32_t now);
+uint32_t segcache_raw_put(segcache_handle *client, const uint8_t *key, size_t key_len, const uint8_t *value,
+                          size_t value_len, uint32_t now);
+uint32_t segcache_raw_set(segcache_handle *client, const uint8_t *key, size_t key_len, const uint8_t *value,
+                          size_t value_len, uint32_t now);
+uint32_t segcache_raw_add(segcache_handle *client, const uint8_t *key, size_t key_len, const uint8_t *value,
+                          size_t value_len, uint32_t now);
+uint32_t segcache_raw_replace(segcache_handle *client, const uint8_t *key, size_t key_len, const uint8_t *value,
+                              size_t value_len, uint32_t now);
+uint32_t segcache_raw_cas(segcache_handle *client, const uint8_t *key, size_t key_len, const uint8_t *value,
+                          size_t value_len, uint32_t version, uint32_t now);
+uint32_t segcache_raw_delete(segcache_handle *client, const uint8_t *key, size_t key_len, uint32_t now);
+uint32_t segcache_raw_hold(segcache_handle *client, const uint8_t *key, size_t key_len, uint32_t now);
+uint32_t segcache_raw_held_value(segcache_handle *client, uint8_t *value, size_t room, size_t *value_len);
+uint32_t segcache_raw_release(segcache_handle *client);
+uint32_t segcache_raw_set_time_to_live(segcache_handle *client, uint32_t time_to_live);
+uint32_t segcache_raw_keep_from(segcache_handle *client, uint32_t cutoff);
+uint32_t segcache_raw_make_room(segcache_handle *client, uint32_t now);
+uint32_t segcache_raw_stats(segcache_handle *client, segcache_stats_t *stats);
+uint32_t segcache_raw_index_stats(segcache_handle *client, segcache_index_stats_t *stats);
+uint32_t segcache_raw_give_back(segcache_handle *cache, segcache_handle *client);
+uint32_t segcache_raw_close(segcache_handle *cache, segcache_handle *cursor);
+uint32_t segcache_raw_next(segcache_handle *cursor, uint8_t *key, size_t key_room, size_t *key_len, uint8_t *value,
+                           size_t value_room, size_t *value_len);
+uint32_t segcache_raw_cursor_free(segcache_handle *cursor);
+uint32_t segcache_raw_free(segcache_handle *cache);
+
+#ifdef SEGCACHE_DEBUG
+#include "segcache_debug.h"
+#else
+#define SEGCACHE_CALL(of, call) ((of) == NULL ? (uint32_t)SEGCACHE_NO_HANDLE : (call))
+#define SEGCACHE_BYTES(at, length) ((void)0)
+#define SEGCACHE_APART(a, a_len, b, b_len) ((void)0)
+#define SEGCACHE_OPENED(cache, clients, count) ((void)0)
+#endif
+
+/* --- Opening ---------------------------------------------------------------------------------------- */
+
+/* What open and open_shape hand to the user: handles at their places. */
+static inline uint32_t segcache_hand_out(uint32_t told, segcache_handle made, const segcache_handle *raw,
+                                         uint32_t count, segcache *cache, segcache_client *clients) {
+  uint32_t i;
+  memset(cache, 0, sizeof *cache);
+  cache->raw = made;
+  for (i = 0; i < count; i++) {
+    memset(&clients[i], 0, sizeof clients[i]);
+    clients[i].raw = raw[i];
+    clients[i].home = made.at;
+  }
+  if (told == SEGCACHE_OK) SEGCACHE_OPENED(cache, clients, count);
+  return told;
+}
+
+/* Makes a cache for so many keys (425,984 at most), and a client for each of so many threads (1 to 64).
+   It takes all memory at once. `cache` and `clients[threads]` are written, whatever they were: if they
+   are of a cache that is still open, that one is lost. If the answer is not OK they are zeroed.
+   Answers: OK, BAD_SHAPE, OUT_OF_MEMORY. */
+static inline uint32_t segcache_open(uint32_t keys, uint32_t threads, segcache *cache, segcache_client *clients) {
+  segcache_handle made, raw[SEGCACHE_MAX_THREADS];
+  uint32_t told = SEGCACHE_BAD_SHAPE, count = threads <= SEGCACHE_MAX_THREADS ? threads : SEGCACHE_MAX_THREADS;
+  memset(&made, 0, sizeof made);
+  memset(raw, 0, sizeof raw);
+  if (count == threads) told = segcache_raw_open(keys, threads, &made, raw, count);
+  return segcache_hand_out(told, made, raw, count, cache, clients);
+}
+
+/* The same for a shape, with a client for each of its passes. Answers as segcache_open. */
+static inline uint32_t segcache_open_shape(const segcache_shape *shape, segcache *cache, segcache_client *clients) {
+  segcache_handle made, raw[SEGCACHE_MAX_THREADS];
+  uint32_t told = SEGCACHE_BAD_SHAPE;
+  uint32_t count = shape->passes <= SEGCACHE_MAX_THREADS ? shape->passes : SEGCACHE_MAX_THREADS;
+  memset(&made, 0, sizeof made);
+  memset(raw, 0, sizeof raw);
+  if (count == shape->passes) told = segcache_raw_open_shape(shape, &made, raw, count);
+  return segcache_hand_out(told, made, raw, count, cache, clients);
+}
+
+/* --- Reading ---------------------------------------------------------------------------------------- */
+
+/* Copies the value of a key into `value`, which has room for `room` bytes, and its length into
+   `value_len`. It waits for nobody.
+   Answers: OK; MISS; BUSY; SHORT_BUFFER, with the length that is needed; BAD_KEY, NO_HANDLE. */
+static inline uint32_t segcache_get(segcache_client *client, const void *key, size_t key_len, uint32_t now,
+                                    void *value, size_t room, size_t *value_len) {
+  SEGCACHE_BYTES(key, key_len);
+  SEGCACHE_BYTES(value, room);
+  SEGCACHE_APART(value, room, key, key_len);
+  return SEGCACHE_CALL(client, segcache_raw_get(&client->raw, (const uint8_t *)key, key_len, (uint8_t *)value,
+                                                room, value_len, now));
+}
+
+/* A get that also gives the version of the key's bucket, for segcache_cas. Answers as segcache_get. */
+static inline uint32_t segcache_gets(segcache_client *client, const void *key, size_t key_len, uint32_t now,
+                                     void *value, size_t room, size_t *value_len, uint32_t *version) {
+  SEGCACHE_BYTES(key, key_len);
+  SEGCACHE_BYTES(value, room);
+  SEGCACHE_APART(value, room, key, key_len);
+  return SEGCACHE_CALL(client, segcache_raw_gets(&client->raw, (const uint8_t *)key, key_len, (uint8_t *)value,
+                                                 room, value_len, version, now));
+}
+
+/* --- Writing ---------------------------------------------------------------------------------------- */
+
+/* Stores a value under a key, and makes room for it: if no row is left, the client gives up a segment of
+   its own with the keys in it. This is what a server's set command calls. A put that is not OK leaves the
+   old value where it is: delete the key if nobody may read that any longer.
+   Answers: OK; NO_ROOM, if no segment could be had, since others read there or hold items;
+   BUCKET_FULL; BUSY; BAD_KEY, BAD_VALUE, NO_HANDLE. */
+static inline uint32_t segcache_put(segcache_client *client, const void *key, size_t key_len, const void *value,
+                                    size_t value_len, uint32_t now) {
+  SEGCACHE_BYTES(key, key_len);
+  SEGCACHE_BYTES(value, value_len);
+  return SEGCACHE_CALL(client, segcache_raw_put(&client->raw, (const uint8_t *)key, key_len,
+                                                      (const uint8_t *)value, value_len, now));
+}
+
+/* Stores a value, and makes no room: NO_ROOM where a put would give up a segment. Answers as put. */
+static inline uint32_t segcache_set(segcache_client *client, const void *key, size_t key_len, const void *value,
+                                    size_t value_len, uint32_t now) {
+  SEGCACHE_BYTES(key, key_len);
+  SEGCACHE_BYTES(value, value_len);
+  return SEGCACHE_CALL(client, segcache_raw_set(&client->raw, (const uint8_t *)key, key_len,
+                                                      (const uint8_t *)value, value_len, now));
+}
+
+/* A set that stores only if the key is absent. Answers as set, and NOT_STORED. */
+static inline uint32_t segcache_add(segcache_client *client, const void *key, size_t key_len, const void *value,
+                                    size_t value_len, uint32_t now) {
+  SEGCACHE_BYTES(key, key_len);
+  SEGCACHE_BYTES(value, value_len);
+  return SEGCACHE_CALL(client, segcache_raw_add(&client->raw, (const uint8_t *)key, key_len,
+                                                      (const uint8_t *)value, value_len, now));
+}
+
+/* A set that stores only if the key is present. Answers as set, and NOT_STORED. */
+static inline uint32_t segcache_replace(segcache_client *client, const void *key, size_t key_len, const void *value,
+                                        size_t value_len, uint32_t now) {
+  SEGCACHE_BYTES(key, key_len);
+  SEGCACHE_BYTES(value, value_len);
+  return SEGCACHE_CALL(client, segcache_raw_replace(&client->raw, (const uint8_t *)key, key_len,
+                                                          (const uint8_t *)value, value_len, now));
+}
+
+/* A set that stores only if no key of the bucket was stored or deleted since the segcache_gets that gave
+   `version`. Another key of the bucket counts too, so EXISTS says: gets again.
+   Answers as set, and EXISTS, NOT_FOUND. */
+static inline uint32_t segcache_cas(segcache_client *client, const void *key, size_t key_len, const void *value,
+                                    size_t value_len, uint32_t version, uint32_t now) {
+  SEGCACHE_BYTES(key, key_len);
+  SEGCACHE_BYTES(value, value_len);
+  return SEGCACHE_CALL(client, segcache_raw_cas(&client->raw, (const uint8_t *)key, key_len,
+                                                      (const uint8_t *)value, value_len, version, now));
+}
+
+/* Takes a key out. Answers: OK, NOT_FOUND, BUSY, BAD_KEY, NO_HANDLE. */
+static inline uint32_t segcache_delete(segcache_client *client, const void *key, size_t key_len, uint32_t now) {
+  SEGCACHE_BYTES(key, key_len);
+  return SEGCACHE_CALL(client, segcache_raw_delete(&client->raw, (const uint8_t *)key, key_len, now));
+}
+
+/* --- Holding an item -------------------------------------------------------------------------------- */
+
+/* Holds the item of a key: until the release its value can be read again and again and stays the same,
+   whatever becomes of the key. A client holds one item at most. Its segment is not refilled meanwhile,
+   so hold for a short time. Answers: OK, MISS, BUSY, ALREADY_HOLDING, BAD_KEY, NO_HANDLE. */
+static inline uint32_t segcache_hold(segcache_client *client, const void *key, size_t key_len, uint32_t now) {
+  SEGCACHE_BYTES(key, key_len);
+  return SEGCACHE_CALL(client, segcache_raw_hold(&client->raw, (const uint8_t *)key, key_len, now));
+}
+
+/* Copies the value that is held. Answers: OK; SHORT_BUFFER, with the length; NOT_HOLDING, NO_HANDLE. */
+static inline uint32_t segcache_held_value(segcache_client *client, void *value, size_t room, size_t *value_len) {
+  SEGCACHE_BYTES(value, room);
+  return SEGCACHE_CALL(client, segcache_raw_held_value(&client->raw, (uint8_t *)value, room, value_len));
+}
+
+/* Ends the hold. Answers: OK, NOT_HOLDING, NO_HANDLE. */
+static inline uint32_t segcache_release(segcache_client *client) {
+  return SEGCACHE_CALL(client, segcache_raw_release(&client->raw));
+}
+
+/* --- Settings, room and counts ---------------------------------------------------------------------- */
+
+/* From the client's next segment on, what it stores is absent at `now` plus this time, or earlier: a
+   segment has one deadline, counted from when it was begun. At the start it is 4294967295.
+   Answers: OK, NO_HANDLE. */
+static inline uint32_t segcache_set_time_to_live(segcache_client *client, uint32_t time_to_live) {
+  return SEGCACHE_CALL(client, segcache_raw_set_time_to_live(&client->raw, time_to_live));
+}
+
+/* From now on the client's puts keep items that were read often (of this frequency, 1 to 255, or more)
+   when they give up a segment. 3 did best on keys by Zipf's law. 0 keeps nothing, and more than 255
+   counts as 255. Answers: OK, NO_HANDLE. */
+static inline uint32_t segcache_keep_from(segcache_client *client, uint32_t cutoff) {
+  return SEGCACHE_CALL(client, segcache_raw_keep_from(&client->raw, cutoff));
+}
+
+/* Ends segcache_keep_from. Answers: OK, NO_HANDLE. */
+static inline uint32_t segcache_keep_nothing(segcache_client *client) {
+  return SEGCACHE_CALL(client, segcache_raw_keep_from(&client->raw, 0));
+}
+
+/* Begins another segment, as a put does that finds no row: what is stored next goes there, and has the
+   whole time to live. Answers: OK, NO_ROOM, NO_HANDLE. */
+static inline uint32_t segcache_make_room(segcache_client *client, uint32_t now) {
+  return SEGCACHE_CALL(client, segcache_raw_make_room(&client->raw, now));
+}
+
+/* What this client's calls came to so far. Answers: OK, NO_HANDLE. */
+static inline uint32_t segcache_stats(segcache_client *client, segcache_stats_t *stats) {
+  return SEGCACHE_CALL(client, segcache_raw_stats(&client->raw, stats));
+}
+
+/* How full the table is. It looks at all rows of the client's segments. Answers: OK, NO_HANDLE. */
+static inline uint32_t segcache_index_stats(segcache_client *client, segcache_index_stats_t *stats) {
+  return SEGCACHE_CALL(client, segcache_raw_index_stats(&client->raw, stats));
+}
+
+/* --- The end ---------------------------------------------------------------------------------------- */
+
+/* The same, once the cache is in a call. */
+static inline uint32_t segcache_give_back_entered(segcache *cache, segcache_client *client) {
+  return SEGCACHE_CALL(client, segcache_raw_give_back(&cache->raw, &client->raw));
+}
+
+/* Gives a client back to its cache, and releases what it holds. The client is none afterwards.
+   Answers: OK; FOREIGN, and nothing changed; NO_HANDLE, of either. */
+static inline uint32_t segcache_give_back(segcache *cache, segcache_client *client) {
+  if (client == NULL || cache == NULL || !client->raw.full || !cache->raw.full) return SEGCACHE_NO_HANDLE;
+  if (client->home != cache->raw.at) return SEGCACHE_FOREIGN;
+  return SEGCACHE_CALL(cache, segcache_give_back_entered(cache, client));
+}
+
+/* Closes a cache whose clients were all given back. The cursor lists its content, and has to be freed.
+   The cache is none afterwards. Keys that have expired are listed until they are evicted.
+   Answers: OK; CLIENT_OUT, and nothing changed; OUT_OF_MEMORY, and the content is gone; NO_HANDLE. */
+static inline uint32_t segcache_close(segcache *cache, segcache_cursor *cursor) {
+  segcache_handle made;
+  uint32_t told;
+  memset(&made, 0, sizeof made);
+  told = SEGCACHE_CALL(cache, segcache_raw_close(&cache->raw, &made));
+  cursor->raw = made;
+  return told;
+}
+
+/* Copies the next pair, in the order of the keys' bytes: `key[24]` and `value[32]`, and their lengths.
+   Answers: OK, END, NO_HANDLE. */
+static inline uint32_t segcache_next(segcache_cursor *cursor, void *key, size_t *key_len, void *value,
+                                     size_t *value_len) {
+  if (cursor == NULL) return SEGCACHE_NO_HANDLE;
+  return segcache_raw_next(&cursor->raw, (uint8_t *)key, SEGCACHE_MAX_KEY, key_len, (uint8_t *)value,
+                           SEGCACHE_MAX_VALUE, value_len);
+}
+
+/* Frees a cursor, wherever it is. It is none afterwards. Answers: OK, NO_HANDLE. */
+static inline uint32_t segcache_cursor_free(segcache_cursor *cursor) {
+  if (cursor == NULL) return SEGCACHE_NO_HANDLE;
+  return segcache_raw_cursor_free(&cursor->raw);
+}
+
+/* Gives all memory of a cache back, whose clients were all given back. The cache is none afterwards.
+   Answers: OK; CLIENT_OUT, and nothing changed; NO_HANDLE. */
+static inline uint32_t segcache_free(segcache *cache) {
+  return SEGCACHE_CALL(cache, segcache_raw_free(&cache->raw));
+}
+
+/* A status in words. */
+static inline const char *segcache_text(uint32_t status) {
+  static const char *const texts[] = {
+      "ok",
+      "the key is absent",
+      "busy: others worked on the key's bucket",
+      "no room: no segment can be had",
+      "the key's bucket is full",
+      "not stored",
+      "the bucket was written since the gets",
+      "the key is not found",
+      "a key has 1 to 24 bytes",
+      "a value has 32 bytes at most",
+      "the buffer is too short",
+      "such a shape cannot be",
+      "out of memory",
+      "no handle: zeroed, given back or freed",
+      "the client holds an item already",
+      "the client holds no item",
+      "a client is still out",
+      "the client is of another cache",
+      "the end",
+  };
+  return status < sizeof texts / sizeof *texts ? texts[status] : "no such status";
+}
+
+#ifdef __cplusplus
+}
+#endif
+#endif

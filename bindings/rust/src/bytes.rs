@@ -1,0 +1,58 @@
+//! Keys and values as the library hands them out: a few bytes, by value.
+use std::fmt;
+use std::ops::Deref;
+
+/// At most `N` bytes, which are copied with it. It reads as a slice.
+#[derive(Clone, Copy, PartialEq, Eq, PartialOrd, Ord, Hash)]
+pub struct Bytes<const N: usize> {
+    // The rest are zeros, so equal bytes are equal values; and shorter ones come first.
+    bytes: [u8; N],
+    length: usize,
+}
+
+impl<const N: usize> Bytes<N> {
+    /// What the library writes into a buffer and a length.
+    pub(crate) fn written<T>(write: impl FnOnce(*mut u8, usize, &mut usize) -> T) -> (T, Bytes<N>) {
+        let (mut bytes, mut length) = ([0; N], 0);
+        let told = write(bytes.as_mut_ptr(), N, &mut length);
+        let length = length.min(N);
+        (told, Bytes { bytes, length })
+    }
+
+    /// The bytes.
+    pub fn as_slice(&self) -> &[u8] {
+        &self.bytes[..self.length]
+    }
+}
+
+impl<const N: usize> Deref for Bytes<N> {
+    type Target = [u8];
+
+    fn deref(&self) -> &[u8] {
+        self.as_slice()
+    }
+}
+
+impl<const N: usize> AsRef<[u8]> for Bytes<N> {
+    fn as_ref(&self) -> &[u8] {
+        self
+    }
+}
+
+impl<const N: usize> PartialEq<[u8]> for Bytes<N> {
+    fn eq(&self, other: &[u8]) -> bool {
+        self.as_slice() == other
+    }
+}
+
+impl<const N: usize, const M: usize> PartialEq<&[u8; M]> for Bytes<N> {
+    fn eq(&self, other: &&[u8; M]) -> bool {
+        self.as_slice() == *other
+    }
+}
+
+impl<const N: usize> fmt::Debug for Bytes<N> {
+    fn fmt(&self, f: &mut fmt::Formatter<'_>) -> fmt::Result {
+        write!(f, "b\"{}\"", self.escape_ascii())
+    }
+}

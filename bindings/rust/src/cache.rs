@@ -1,0 +1,181 @@
+//! The cache that the clients share: how it is made, and what it lists at its end.
+use crate::raw::{self, Handle};
+use crate::{Bytes, Client, Error, Key, Value};
+use std::fmt;
+use std::sync::{Arc, Mutex, PoisonError};
+
+/// The size of a cache. [`Builder::keys`] makes one up from a number of keys.
+#[repr(C)]
+#[derive(Clone, Copy, Debug, PartialEq, Eq)]
+pub struct Shape {
+    /// A power of two, 65,536 at most. A bucket has words for 7 keys.
+    pub buckets: u32,
+    /// Overflow buckets, each for 6 keys more; at most as many as buckets.
+    pub overflow: u32,
+    /// Clients, 1 to 64.
+    pub passes: u32,
+    /// Segments of each client; two or more, or a full client loses all at once.
+    pub segments_each: u32,
+    /// Items that a segment has room for, 4,096 at most.
+    pub rows: u32,
+    /// The version that all buckets begin with; 0 will do.
+    pub first_version: u32,
+}
+
+/// The handle, which one thread uses at a time. Clients hold on to it, so that they can be given back.
+#[derive(Debug)]
+pub(crate) struct Shared {
+    handle: Mutex<Handle>,
+}
+
+impl Shared {
+    /// Does something with the handle.
+    pub(crate) fn with<T>(&self, act: impl FnOnce(*mut Handle) -> T) -> T {
+        act(&mut *self.handle.lock().unwrap_or_else(PoisonError::into_inner))
+    }
+}
+
+impl Drop for Shared {
+    fn drop(&mut self) {
+        // SAFETY: the handle is the cache's, or none; all clients were given back when they were dropped.
+        self.with(|cache| unsafe { raw::segcache_raw_free(cache) });
+    }
+}
+
+/// How large a cache is to be, before it is made.
+#[derive(Clone, Copy, Debug)]
+pub struct Builder {
+    keys: u32,
+    threads: u32,
+    shape: Option<Shape>,
+}
+
+impl Builder {
+    /// How many keys the cache is to have room for: 425,984 at most. 10,000 if it isn't said.
+    #[must_use]
+    pub fn keys(mut self, keys: u32) -> Builder {
+        self.keys = keys;
+        self
+    }
+
+    /// How many clients are made, 1 to 64: one for each thread. 1 if it isn't said.
+    #[must_use]
+    pub fn threads(mut self, threads: u32) -> Builder {
+        self.threads = threads;
+        self
+    }
+
+    /// The shape itself, in place of a number of keys and of threads.
+    #[must_use]
+    pub fn shape(mut self, shape: Shape) -> Builder {
+        self.shape = Some(shape);
+        self
+    }
+
+    /// Makes the cache and its clients. All memory is taken here.
+    ///
+    /// # Errors
+    /// [`Error::BadShape`] and [`Error::OutOfMemory`].
+    pub fn build(self) -> Result<(Cache, Vec<Client>), Error> {
+        let count = self.shape.map_or(self.threads, |shape| shape.passes);
+        if count > 64 {
+            return Err(Error::BadShape);
+        }
+        let mut cache = Handle::none();
+        let mut clients: Vec<Handle> = (0..count).map(|_| Handle::none()).collect();
+        let (at, len) = (clients.as_mut_ptr(), clients.len());
+        // SAFETY: the handles are none and apart from each other, and the length is that of the list.
+        let told = unsafe {
+            match &self.shape {
+                Some(shape) => raw::segcache_raw_open_shape(shape, &mut cache, at, len),
+                None => raw::segcache_raw_open(self.keys, self.threads, &mut cache, at, len),
+            }
+        };
+        if told != 0 {
+            return Err(Error::of(told));
+        }
+        let shared = Arc::new(Shared { handle: Mutex::new(cache) });
+        let clients = clients.into_iter().map(|handle| Client::new(Arc::clone(&shared), handle));
+        Ok((Cache { shared: Arc::clone(&shared) }, clients.collect()))
+    }
+}
+
+/// A cache. It is only needed for [`Cache::close`]: the clients read and write, and the memory is given
+/// back when the cache and its clients are all dropped, in any order.
+#[derive(Debug)]
+pub struct Cache {
+    shared: Arc<Shared>,
+}
+
+impl Cache {
+    /// Begins to say how large a cache is to be.
+    #[must_use]
+    pub fn builder() -> Builder {
+        Builder { keys: 10_000, threads: 1, shape: None }
+    }
+
+    /// Closes the cache, once its clients are dropped, and lists its content in the order of the keys.
+    /// Keys that have expired are listed until they are evicted.
+    ///
+    /// # Errors
+    /// [`Error::ClientOut`], with the cache as it was. [`Error::OutOfMemory`]: the content is gone.
+    pub fn close(self) -> Result<Content, Unclosed> {
+        let mut cursor = Handle::none();
+        // SAFETY: the handle is the cache's, and the cursor is none.
+        match self.shared.with(|cache| unsafe { raw::segcache_raw_close(cache, &mut cursor) }) {
+            0 => Ok(Content { cursor }),
+            told => Err(Unclosed { cache: self, error: Error::of(told) }),
+        }
+    }
+}
+
+/// A cache that could not be closed, and why.
+#[derive(Debug)]
+pub struct Unclosed {
+    /// The cache.
+    pub cache: Cache,
+    /// Why.
+    pub error: Error,
+}
+
+impl fmt::Display for Unclosed {
+    fn fmt(&self, f: &mut fmt::Formatter<'_>) -> fmt::Result {
+        self.error.fmt(f)
+    }
+}
+
+impl std::error::Error for Unclosed {
+    fn source(&self) -> Option<&(dyn std::error::Error + 'static)> {
+        Some(&self.error)
+    }
+}
+
+/// The content of a closed cache: pairs in the order of their keys' bytes.
+#[derive(Debug)]
+pub struct Content {
+    cursor: Handle,
+}
+
+impl Iterator for Content {
+    type Item = (Key, Value);
+
+    fn next(&mut self) -> Option<(Key, Value)> {
+        let cursor: *mut Handle = &mut self.cursor;
+        let ((told, value), key) = Bytes::written(|key, key_room, key_len| {
+            Bytes::written(|value, value_room, value_len| {
+                // SAFETY: the cursor is this one's, and the buffers are apart and as long as is said.
+                unsafe {
+                    raw::segcache_raw_next(cursor, key, key_room, key_len, value, value_room, value_len)
+                }
+            })
+        });
+        (told == 0).then_some((key, value))
+    }
+}
+
+impl Drop for Content {
+    fn drop(&mut self) {
+        // SAFETY: the cursor is this one's, and isn't used after this.
+        unsafe { raw::segcache_raw_cursor_free(&mut self.cursor) };
+    }
+}

@@ -1,0 +1,60 @@
+//! What a call may answer in place of a result.
+use std::fmt;
+
+/// Why a call did not do what was asked.
+#[derive(Clone, Copy, Debug, PartialEq, Eq)]
+#[non_exhaustive]
+pub enum Error {
+    /// Others worked on the key's bucket all the while: call again, or treat a get as a miss.
+    Busy,
+    /// No row is left to store into, and no segment can be had: others read there or hold items.
+    NoRoom,
+    /// The key's bucket has no free word.
+    BucketFull,
+    /// A key has 1 to 24 bytes.
+    BadKey,
+    /// A value has 32 bytes at most.
+    BadValue,
+    /// Such a number of keys or of threads, or such a shape, can't be.
+    BadShape,
+    /// The memory was refused.
+    OutOfMemory,
+    /// A client of the cache is still there.
+    ClientOut,
+    /// An answer that the call never gives; it would be a fault of the library.
+    Unexpected(u32),
+}
+
+impl Error {
+    pub(crate) fn of(status: u32) -> Error {
+        match status {
+            2 => Error::Busy,
+            3 => Error::NoRoom,
+            4 => Error::BucketFull,
+            8 => Error::BadKey,
+            9 => Error::BadValue,
+            11 => Error::BadShape,
+            12 => Error::OutOfMemory,
+            16 => Error::ClientOut,
+            other => Error::Unexpected(other),
+        }
+    }
+}
+
+impl fmt::Display for Error {
+    fn fmt(&self, f: &mut fmt::Formatter<'_>) -> fmt::Result {
+        f.write_str(match self {
+            Error::Busy => "others worked on the key's bucket all the while",
+            Error::NoRoom => "no segment can be had to store into",
+            Error::BucketFull => "the key's bucket is full",
+            Error::BadKey => "a key has 1 to 24 bytes",
+            Error::BadValue => "a value has 32 bytes at most",
+            Error::BadShape => "such a shape can't be",
+            Error::OutOfMemory => "out of memory",
+            Error::ClientOut => "a client of the cache is still there",
+            Error::Unexpected(status) => return write!(f, "unexpected status {status}"),
+        })
+    }
+}
+
+impl std::error::Error for Error {}

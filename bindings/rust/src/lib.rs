@@ -1,0 +1,94 @@
+//! A cache for the threads of one program, over a proved index: safe Rust over `libsegcache.a`.
+//!
+//! Each thread has a [`Client`] of its own, and reads what all of them put. No call waits. A key has 1 to
+//! 24 bytes, a value at most 32, and all memory is taken when the cache is made.
+//!
+//! ```
+//! let (_cache, mut clients) = segcache::Cache::builder().keys(1_000).threads(2).build()?;
+//! std::thread::scope(|scope| {
+//!     for client in &mut clients {
+//!         scope.spawn(move || match client.get("page") {
+//!             Ok(Some(page)) => println!("found {page:?}"),
+//!             _ => _ = client.put("page", "the page"),
+//!         });
+//!     }
+//! });
+//! assert_eq!(clients[0].get("page")?.as_deref(), Some(&b"the page"[..]));
+//! # Ok::<(), segcache::Error>(())
+//! ```
+//!
+//! A client may go to another thread, and can't be shared by two:
+//!
+//! ```
+//! fn goes_to_another_thread<T: Send>() {}
+//! goes_to_another_thread::<segcache::Client>();
+//! ```
+//! ```compile_fail,E0277
+//! fn is_shared<T: Sync>() {}
+//! is_shared::<segcache::Client>();
+//! ```
+//! ```compile_fail,E0499
+//! let (_cache, mut clients) = segcache::Cache::builder().build()?;
+//! std::thread::scope(|scope| {
+//!     scope.spawn(|| clients[0].get("page"));
+//!     scope.spawn(|| clients[0].get("page"));
+//! });
+//! # Ok::<(), segcache::Error>(())
+//! ```
+//!
+//! While a hold lives, its client can't be called:
+//!
+//! ```
+//! # let (_cache, mut clients) = segcache::Cache::builder().threads(2).build()?;
+//! # let (first, second) = clients.split_at_mut(1);
+//! # let (client, other) = (&mut first[0], &mut second[0]);
+//! client.put("page", "old")?;
+//! if let Some(mut hold) = client.hold("page")? {
+//!     other.put("page", "new")?;
+//!     assert_eq!(hold.value()?, b"old");
+//! }
+//! assert_eq!(client.get("page")?.as_deref(), Some(&b"new"[..]));
+//! # Ok::<(), segcache::Error>(())
+//! ```
+//!
+//! A number is raised by [`Client::gets`] and [`Client::cas`]:
+//!
+//! ```
+//! use segcache::{Cas, Client, Error};
+//!
+//! fn count(client: &mut Client, page: &str) -> Result<Option<u8>, Error> {
+//!     while let Some((value, version)) = client.gets(page)? {
+//!         let next = value[0] + 1;
+//!         if client.cas(page, [next], version)? == Cas::Stored {
+//!             return Ok(Some(next));
+//!         }
+//!     }
+//!     Ok(None)
+//! }
+//! # let (_cache, mut clients) = segcache::Cache::builder().build()?;
+//! # clients[0].put("page", [7])?;
+//! assert_eq!(count(&mut clients[0], "page")?, Some(8));
+//! # Ok::<(), Error>(())
+//! ```
+//!
+//! **What is proved**: the library's functions, under Rattle, where their caller keeps to what the header
+//! `segcache.h` lists. This crate is written by hand, and keeps to it by ownership and borrows: a client is
+//! moved and never copied, its calls take `&mut self`, and it is given back to its own cache.
+#![warn(missing_docs)]
+
+mod bytes;
+mod cache;
+mod client;
+mod error;
+mod raw;
+
+pub use bytes::Bytes;
+pub use cache::{Builder, Cache, Content, Shape, Unclosed};
+pub use client::{Cas, Client, Hold, IndexStats, Stats, Version};
+pub use error::Error;
+
+/// A key of the content: 1 to 24 bytes.
+pub type Key = Bytes<24>;
+
+/// A value: at most 32 bytes.
+pub type Value = Bytes<32>;

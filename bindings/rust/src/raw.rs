@@ -1,0 +1,45 @@
+//! The exports of libsegcache.a. A slice of the library is a pointer and a length here.
+
+/// What a handle is to the library; zeroed, it is none.
+#[repr(C)]
+#[derive(Debug)]
+pub(crate) struct Handle {
+    at: *mut u8,
+    full: bool,
+}
+
+// SAFETY: what a handle owns was proved to be `Send`. A handle isn't `Sync`, and has no methods.
+unsafe impl Send for Handle {}
+
+impl Handle {
+    pub(crate) fn none() -> Handle {
+        Handle { at: std::ptr::null_mut(), full: false }
+    }
+}
+
+#[rustfmt::skip]
+extern "C" {
+    pub(crate) fn segcache_raw_open(keys: u32, threads: u32, cache: *mut Handle, clients: *mut Handle, clients_len: usize) -> u32;
+    pub(crate) fn segcache_raw_open_shape(shape: *const crate::Shape, cache: *mut Handle, clients: *mut Handle, clients_len: usize) -> u32;
+    pub(crate) fn segcache_raw_get(client: *mut Handle, key: *const u8, key_len: usize, value: *mut u8, room: usize, value_len: *mut usize, now: u32) -> u32;
+    pub(crate) fn segcache_raw_gets(client: *mut Handle, key: *const u8, key_len: usize, value: *mut u8, room: usize, value_len: *mut usize, version: *mut u32, now: u32) -> u32;
+    pub(crate) fn segcache_raw_put(client: *mut Handle, key: *const u8, key_len: usize, value: *const u8, value_len: usize, now: u32) -> u32;
+    pub(crate) fn segcache_raw_set(client: *mut Handle, key: *const u8, key_len: usize, value: *const u8, value_len: usize, now: u32) -> u32;
+    pub(crate) fn segcache_raw_add(client: *mut Handle, key: *const u8, key_len: usize, value: *const u8, value_len: usize, now: u32) -> u32;
+    pub(crate) fn segcache_raw_replace(client: *mut Handle, key: *const u8, key_len: usize, value: *const u8, value_len: usize, now: u32) -> u32;
+    pub(crate) fn segcache_raw_cas(client: *mut Handle, key: *const u8, key_len: usize, value: *const u8, value_len: usize, version: u32, now: u32) -> u32;
+    pub(crate) fn segcache_raw_delete(client: *mut Handle, key: *const u8, key_len: usize, now: u32) -> u32;
+    pub(crate) fn segcache_raw_hold(client: *mut Handle, key: *const u8, key_len: usize, now: u32) -> u32;
+    pub(crate) fn segcache_raw_held_value(client: *mut Handle, value: *mut u8, room: usize, value_len: *mut usize) -> u32;
+    pub(crate) fn segcache_raw_release(client: *mut Handle) -> u32;
+    pub(crate) fn segcache_raw_set_time_to_live(client: *mut Handle, time_to_live: u32) -> u32;
+    pub(crate) fn segcache_raw_keep_from(client: *mut Handle, cutoff: u32) -> u32;
+    pub(crate) fn segcache_raw_make_room(client: *mut Handle, now: u32) -> u32;
+    pub(crate) fn segcache_raw_stats(client: *mut Handle, stats: *mut crate::Stats) -> u32;
+    pub(crate) fn segcache_raw_index_stats(client: *mut Handle, stats: *mut crate::IndexStats) -> u32;
+    pub(crate) fn segcache_raw_give_back(cache: *mut Handle, client: *mut Handle) -> u32;
+    pub(crate) fn segcache_raw_close(cache: *mut Handle, cursor: *mut Handle) -> u32;
+    pub(crate) fn segcache_raw_next(cursor: *mut Handle, key: *mut u8, key_room: usize, key_len: *mut usize, value: *mut u8, value_room: usize, value_len: *mut usize) -> u32;
+    pub(crate) fn segcache_raw_cursor_free(cursor: *mut Handle) -> u32;
+    pub(crate) fn segcache_raw_free(cache: *mut Handle) -> u32;
+}

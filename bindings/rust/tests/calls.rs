@@ -1,0 +1,147 @@
+//! Each call of the crate, and each error that a program can bring about.
+use segcache::{Cache, Cas, Client, Error, Shape, Version};
+use std::num::NonZeroU8;
+use std::thread;
+
+fn two() -> (Cache, Client, Client) {
+    let (cache, mut clients) = Cache::builder().keys(100).threads(2).build().unwrap();
+    let second = clients.pop().unwrap();
+    (cache, clients.pop().unwrap(), second)
+}
+
+#[test]
+fn a_bad_shape_is_an_error() {
+    assert_eq!(Cache::builder().threads(0).build().err(), Some(Error::BadShape));
+    assert_eq!(Cache::builder().threads(65).build().err(), Some(Error::BadShape));
+    assert_eq!(Cache::builder().keys(425_985).build().err(), Some(Error::BadShape));
+    let shape = Shape { buckets: 3, overflow: 0, passes: 1, segments_each: 2, rows: 8, first_version: 0 };
+    assert_eq!(Cache::builder().shape(shape).build().err(), Some(Error::BadShape));
+    assert_eq!(Error::BadShape.to_string(), "such a shape can't be");
+}
+
+#[test]
+fn a_key_reads_what_was_put() {
+    let (_cache, mut one, mut other) = two();
+    assert_eq!(one.get("k"), Ok(None));
+    assert_eq!(one.put("k", "value"), Ok(()));
+    let value = other.get("k").unwrap().unwrap();
+    assert_eq!(value, b"value");
+    assert_eq!(format!("{value:?}"), "b\"value\"");
+    assert_eq!(other.delete("k"), Ok(true));
+    assert_eq!(one.delete("k"), Ok(false));
+    assert_eq!(one.put([0; 24], [1; 32]), Ok(()));
+    assert_eq!(other.get([0; 24]).unwrap().unwrap().as_slice(), [1; 32]);
+    assert_eq!(other.get([0; 23]), Ok(None));
+}
+
+#[test]
+fn lengths_are_judged() {
+    let (_cache, mut client, _other) = two();
+    assert_eq!(client.get(""), Err(Error::BadKey));
+    assert_eq!(client.put([1; 25], ""), Err(Error::BadKey));
+    assert_eq!(client.put("k", [1; 33]), Err(Error::BadValue));
+    assert_eq!(client.hold("").err(), Some(Error::BadKey));
+}
+
+#[test]
+fn add_replace_and_cas_look_first() {
+    let (_cache, mut client, mut other) = two();
+    assert_eq!(client.set("k", "1"), Err(Error::NoRoom));
+    assert_eq!(client.make_room(), Ok(true));
+    assert_eq!(client.replace("k", "1"), Ok(false));
+    assert_eq!(client.add("k", "1"), Ok(true));
+    assert_eq!(client.add("k", "2"), Ok(false));
+    assert_eq!(client.replace("k", "3"), Ok(true));
+    let (value, version) = client.gets("k").unwrap().unwrap();
+    assert_eq!(value, b"3");
+    assert_eq!(client.cas("k", "4", version), Ok(Cas::Stored));
+    assert_eq!(client.cas("k", "5", version), Ok(Cas::Exists));
+    assert_eq!(client.cas("none", "5", Version(0)), Ok(Cas::NotFound));
+    assert_eq!(other.get("k").unwrap().unwrap(), b"4");
+    let stats = client.stats();
+    assert_eq!((stats.hits, stats.misses, stats.stored, stats.not_stored), (1, 0, 3, 2));
+    assert_eq!((stats.exists, stats.not_found, stats.no_room), (1, 1, 1));
+    let table = client.index_stats();
+    assert_eq!((table.used_rows, table.named_rows), (3, 1));
+}
+
+#[test]
+fn a_hold_keeps_its_value() {
+    let (_cache, mut one, mut other) = two();
+    other.put("k", "old").unwrap();
+    assert!(one.hold("none").unwrap().is_none());
+    let mut hold = one.hold("k").unwrap().unwrap();
+    other.delete("k").unwrap();
+    assert_eq!(hold.value().unwrap(), b"old");
+    std::mem::forget(hold);
+    other.put("k", "new").unwrap();
+    let mut hold = one.hold("k").unwrap().unwrap(); // the forgotten one is released
+    assert_eq!(hold.value().unwrap(), b"new");
+}
+
+#[test]
+fn what_is_put_expires() {
+    let (_cache, mut client, _other) = two();
+    client.set_time_to_live(10);
+    client.set_now(100);
+    client.put("k", "v").unwrap();
+    client.set_now(109);
+    assert!(client.get("k").unwrap().is_some());
+    client.set_now(110);
+    assert_eq!(client.get("k"), Ok(None));
+    client.keep_from(NonZeroU8::new(3));
+    client.keep_from(None);
+}
+
+#[test]
+fn the_content_is_listed_in_order() {
+    let (cache, mut one, mut other) = two();
+    one.put("b", "2").unwrap();
+    other.put("a", "1").unwrap();
+    drop(one);
+    let unclosed = cache.close().unwrap_err();
+    assert_eq!(unclosed.error, Error::ClientOut);
+    assert_eq!(other.get("b").unwrap().unwrap(), b"2");
+    drop(other);
+    let content: Vec<_> = unclosed.cache.close().unwrap().collect();
+    assert_eq!(content.len(), 2);
+    assert!(content[0].0 == b"a" && content[0].1 == b"1");
+    assert!(content[1].0 == b"b" && content[1].1 == b"2");
+}
+
+#[test]
+fn clients_outlive_their_cache() {
+    let (cache, mut one, other) = two();
+    drop(cache);
+    drop(other);
+    assert_eq!(one.put("k", "v"), Ok(()));
+    assert!(one.get("k").unwrap().is_some());
+}
+
+#[test]
+fn four_threads_read_what_belongs_to_the_key() {
+    let (_cache, clients) = Cache::builder().keys(500).threads(4).build().unwrap();
+    let hits: Vec<u64> = thread::scope(|scope| {
+        let running: Vec<_> = clients.into_iter().map(|client| scope.spawn(move || run(client))).collect();
+        running.into_iter().map(|thread| thread.join().unwrap()).collect()
+    });
+    assert!(hits.iter().all(|hits| *hits > 0));
+}
+
+// Gets and puts of a client; how many gets found their key's value.
+fn run(mut client: Client) -> u64 {
+    let (mut drawn, mut hits) = (1_u32, 0);
+    for _ in 0..20_000 {
+        drawn = drawn.wrapping_mul(1_664_525).wrapping_add(1_013_904_223);
+        let key = (drawn >> 8) % 500;
+        match client.get(key.to_le_bytes()) {
+            Ok(Some(value)) => {
+                assert_eq!(value.as_slice(), key.to_be_bytes());
+                hits += 1;
+            }
+            Ok(None) | Err(Error::Busy) => _ = client.put(key.to_le_bytes(), key.to_be_bytes()),
+            Err(error) => panic!("{error}"),
+        }
+    }
+    hits
+}
