@@ -172,8 +172,10 @@ int main(int count, char **words) {
   }
   double elapsed = now() - start;
   qsort(took, pieces, sizeof *took, by_size);
-  printf("{\"commands_per_second\": %.0f, \"hits\": %.4f, \"faults\": %llu, \"p50_us\": %.1f, \"p99_us\": %.1f}\n",
-         (double)commands / elapsed, asked > 0 ? (double)hits / (double)asked : 0, (unsigned long long)faults,
-         took[pieces / 2], took[pieces * 99 / 100]);
+  printf("{\"commands\": %llu, \"commands_per_second\": %.0f, ", (unsigned long long)commands,
+         (double)commands / elapsed);
+  printf("\"hits\": %.4f, \"faults\": %llu, ", asked > 0 ? (double)hits / (double)asked : 0,
+         (unsigned long long)faults);
+  printf("\"p50_us\": %.1f, \"p99_us\": %.1f}\n", took[pieces / 2], took[pieces * 99 / 100]);
   return 0;
 }
