@@ -136,11 +136,11 @@ uint32_t segcache_raw_delete(segcache_handle *client, const uint8_t *key, size_t
 uint32_t segcache_raw_hold(segcache_handle *client, const uint8_t *key, size_t key_len, uint32_t now);
 uint32_t segcache_raw_held_value(segcache_handle *client, uint8_t *value, size_t room, size_t *value_len);
 uint32_t segcache_raw_release(segcache_handle *client);
-uint32_t segcache_raw_set_time_to_live(segcache_handle *client, uint32_t time_to_live);
+uint32_t segcache_raw_set_time_to_live(segcache_handle *client, uint32_t seconds);
 uint32_t segcache_raw_keep_from(segcache_handle *client, uint32_t cutoff);
 uint32_t segcache_raw_make_room(segcache_handle *client, uint32_t now);
-uint32_t segcache_raw_stats(segcache_handle *client, segcache_stats_t *stats);
-uint32_t segcache_raw_index_stats(segcache_handle *client, segcache_index_stats_t *stats);
+uint32_t segcache_raw_stats(segcache_handle *client, segcache_stats_t *counts);
+uint32_t segcache_raw_index_stats(segcache_handle *client, segcache_index_stats_t *counts);
 uint32_t segcache_raw_give_back(segcache_handle *cache, segcache_handle *client);
 uint32_t segcache_raw_close(segcache_handle *cache, segcache_handle *cursor);
 uint32_t segcache_raw_next(segcache_handle *cursor, uint8_t *key, size_t key_room, size_t *key_len, uint8_t *value,

@@ -32,11 +32,11 @@ extern "C" {
     pub(crate) fn segcache_raw_hold(client: *mut Handle, key: *const u8, key_len: usize, now: u32) -> u32;
     pub(crate) fn segcache_raw_held_value(client: *mut Handle, value: *mut u8, room: usize, value_len: *mut usize) -> u32;
     pub(crate) fn segcache_raw_release(client: *mut Handle) -> u32;
-    pub(crate) fn segcache_raw_set_time_to_live(client: *mut Handle, time_to_live: u32) -> u32;
+    pub(crate) fn segcache_raw_set_time_to_live(client: *mut Handle, seconds: u32) -> u32;
     pub(crate) fn segcache_raw_keep_from(client: *mut Handle, cutoff: u32) -> u32;
     pub(crate) fn segcache_raw_make_room(client: *mut Handle, now: u32) -> u32;
-    pub(crate) fn segcache_raw_stats(client: *mut Handle, stats: *mut crate::Stats) -> u32;
-    pub(crate) fn segcache_raw_index_stats(client: *mut Handle, stats: *mut crate::IndexStats) -> u32;
+    pub(crate) fn segcache_raw_stats(client: *mut Handle, counts: *mut crate::Stats) -> u32;
+    pub(crate) fn segcache_raw_index_stats(client: *mut Handle, counts: *mut crate::IndexStats) -> u32;
     pub(crate) fn segcache_raw_give_back(cache: *mut Handle, client: *mut Handle) -> u32;
     pub(crate) fn segcache_raw_close(cache: *mut Handle, cursor: *mut Handle) -> u32;
     pub(crate) fn segcache_raw_next(cursor: *mut Handle, key: *mut u8, key_room: usize, key_len: *mut usize, value: *mut u8, value_room: usize, value_len: *mut usize) -> u32;
