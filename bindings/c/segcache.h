@@ -16,7 +16,8 @@
  * WHAT IS PROVED, and under which conditions. The functions behind these (segcache_raw_..) are proved
  * under Rattle. The proof takes for granted what no prover checks of C. Keep all of these:
  *   1. A client serves one call at a time. Another thread may take it over by a lock, or at the start or
- *      the end (join) of a thread. So do a cache and a cursor. Different clients may be called at once.
+ *      the end (join) of a thread. The same goes for a cache and a cursor. Different clients of a cache may
+ *      be called at the same time; that is what they are for.
  *   2. A handle (segcache, segcache_client, segcache_cursor) comes from this library or is zeroed. It may
  *      be moved, but never used in two copies: a copy is dead once the other one was called.
  *   3. A pointer and its length are true: so many bytes can be read, or written. A pointer is null only
@@ -356,7 +357,8 @@ static inline uint32_t segcache_give_back(segcache *cache, segcache_client *clie
 
 /* Closes a cache whose clients were all given back. The cursor lists its content, and has to be freed.
    The cache is none afterwards. Keys that have expired are listed until they are evicted.
-   Answers: OK; CLIENT_OUT, and nothing changed; OUT_OF_MEMORY, and the content is gone; NO_HANDLE. */
+   Answers: OK; CLIENT_OUT, and nothing changed; OUT_OF_MEMORY: the cache is as it was, or it is none and its
+   content is lost; NO_HANDLE. */
 static inline uint32_t segcache_close(segcache *cache, segcache_cursor *cursor) {
   segcache_handle made;
   uint32_t told;

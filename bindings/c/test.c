@@ -356,31 +356,58 @@ static void test_ends(void) {
   CHECK(out == before);
 }
 
-/* Each allocation of an open and of a close is refused in turn; nothing stays out, and none comes between. */
-static void test_memory(void) {
+/* Opens a cache; after so many allocations one is refused. */
+static uint32_t open_refused(long until, segcache *cache, segcache_client clients[3]) {
+  until_refused = until;
+  uint32_t told = segcache_open(100, 3, cache, clients);
+  until_refused = -1;
+  return told;
+}
+
+/* Each allocation of an open is refused in turn, and nothing stays out. The calls between allocate nothing. */
+static void test_memory_of_open(void) {
+  segcache cache;
+  segcache_client clients[3];
+  long before = out, refused = 0;
+  for (; open_refused(refused, &cache, clients) == SEGCACHE_OUT_OF_MEMORY; refused++) {
+    CHECK(out == before);
+    TOLD(segcache_give_back(&cache, &clients[0]), SEGCACHE_NO_HANDLE);
+    TOLD(segcache_free(&cache), SEGCACHE_NO_HANDLE);
+  }
+  CHECK(refused >= 3);
+  long opened = out;
+  for (int i = 0; i < 3; i++) TOLD(put(&clients[i], "key", "value", 0), SEGCACHE_OK);
+  for (int i = 0; i < 3; i++) CHECK(reads(&clients[i], "key", 0, "value"));
+  CHECK(out == opened && opened > before);
+  for (int i = 0; i < 3; i++) TOLD(segcache_give_back(&cache, &clients[i]), SEGCACHE_OK);
+  TOLD(segcache_free(&cache), SEGCACHE_OK);
+  CHECK(out == before);
+}
+
+/* Each allocation of a close is refused in turn: the cache is whole or gone, and nothing stays out. */
+static void test_memory_of_close(void) {
   segcache cache;
   segcache_client clients[3];
   segcache_cursor cursor;
+  char key[24], value[32];
+  size_t key_length, length;
+  uint32_t told = SEGCACHE_OUT_OF_MEMORY;
   long before = out, refused = 0;
-  uint32_t told;
-  while (until_refused = refused, told = segcache_open(100, 3, &cache, clients), told == SEGCACHE_OUT_OF_MEMORY) {
-    refused++;
-    CHECK(out == before);
-    TOLD(segcache_give_back(&cache, &clients[0]), SEGCACHE_NO_HANDLE);
+  for (; told == SEGCACHE_OUT_OF_MEMORY; refused++) {
+    TOLD(open_refused(-1, &cache, clients), SEGCACHE_OK);
+    TOLD(put(&clients[0], "key", "value", 0), SEGCACHE_OK);
+    for (int i = 0; i < 3; i++) TOLD(segcache_give_back(&cache, &clients[i]), SEGCACHE_OK);
+    until_refused = refused;
+    told = segcache_close(&cache, &cursor);
+    until_refused = -1;
+    if (told == SEGCACHE_OUT_OF_MEMORY) TOLD(segcache_cursor_free(&cursor), SEGCACHE_NO_HANDLE);
+    if (told == SEGCACHE_OUT_OF_MEMORY) segcache_free(&cache);
+    if (told == SEGCACHE_OUT_OF_MEMORY) CHECK(out == before);
   }
-  until_refused = -1;
-  CHECK(told == SEGCACHE_OK && refused >= 3);
-  CHECK(out == before + refused); /* so many were made, and none is freed yet */
-  long opened = out;
-  for (int i = 0; i < 3; i++) TOLD(put(&clients[i], "key", "value", 0), SEGCACHE_OK);
-  CHECK(out == opened);
-  for (int i = 0; i < 3; i++) TOLD(segcache_give_back(&cache, &clients[i]), SEGCACHE_OK);
-  until_refused = 0;
-  told = segcache_close(&cache, &cursor);
-  until_refused = -1;
-  CHECK(told == SEGCACHE_OUT_OF_MEMORY);
-  TOLD(segcache_cursor_free(&cursor), SEGCACHE_NO_HANDLE);
-  segcache_free(&cache);
+  CHECK(told == SEGCACHE_OK && refused >= 2);
+  TOLD(segcache_next(&cursor, key, &key_length, value, &length), SEGCACHE_OK);
+  TOLD(segcache_next(&cursor, key, &key_length, value, &length), SEGCACHE_END);
+  TOLD(segcache_cursor_free(&cursor), SEGCACHE_OK);
   CHECK(out == before);
 }
 
@@ -434,7 +461,8 @@ int main(void) {
   test_refusals();
   test_no_handles();
   test_ends();
-  test_memory();
+  test_memory_of_open();
+  test_memory_of_close();
   CHECK(strcmp(segcache_text(SEGCACHE_END), "the end") == 0 && strcmp(segcache_text(19), "no such status") == 0);
   CHECK(out == before);
   printf("%d checks, %d faults\n", checks, faults);

@@ -30,8 +30,8 @@ pub(crate) struct Shared {
 
 impl Shared {
     /// Does something with the handle.
-    pub(crate) fn with<T>(&self, act: impl FnOnce(*mut Handle) -> T) -> T {
-        act(&mut *self.handle.lock().unwrap_or_else(PoisonError::into_inner))
+    pub(crate) fn with<T>(&self, act: impl FnOnce(&mut Handle) -> T) -> T {
+        act(&mut self.handle.lock().unwrap_or_else(PoisonError::into_inner))
     }
 }
 
@@ -118,13 +118,17 @@ impl Cache {
     /// Keys that have expired are listed until they are evicted.
     ///
     /// # Errors
-    /// [`Error::ClientOut`], with the cache as it was. [`Error::OutOfMemory`]: the content is gone.
+    /// [`Error::ClientOut`], with the cache as it was. [`Error::OutOfMemory`], with the cache as it was, or
+    /// without it if the content is lost.
     pub fn close(self) -> Result<Content, Unclosed> {
         let mut cursor = Handle::none();
         // SAFETY: the handle is the cache's, and the cursor is none.
         match self.shared.with(|cache| unsafe { raw::segcache_raw_close(cache, &mut cursor) }) {
             0 => Ok(Content { cursor }),
-            told => Err(Unclosed { cache: self, error: Error::of(told) }),
+            told => {
+                let lost = self.shared.with(|cache| cache.is_none());
+                Err(Unclosed { cache: if lost { None } else { Some(self) }, error: Error::of(told) })
+            }
         }
     }
 }
@@ -132,8 +136,8 @@ impl Cache {
 /// A cache that could not be closed, and why.
 #[derive(Debug)]
 pub struct Unclosed {
-    /// The cache.
-    pub cache: Cache,
+    /// The cache, if its content isn't lost.
+    pub cache: Option<Cache>,
     /// Why.
     pub error: Error,
 }

@@ -12,6 +12,10 @@ pub(crate) struct Handle {
 unsafe impl Send for Handle {}
 
 impl Handle {
+    pub(crate) fn is_none(&self) -> bool {
+        !self.full
+    }
+
     pub(crate) fn none() -> Handle {
         Handle { at: std::ptr::null_mut(), full: false }
     }

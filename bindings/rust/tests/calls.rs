@@ -103,7 +103,7 @@ fn the_content_is_listed_in_order() {
     assert_eq!(unclosed.error, Error::ClientOut);
     assert_eq!(other.get("b").unwrap().unwrap(), b"2");
     drop(other);
-    let content: Vec<_> = unclosed.cache.close().unwrap().collect();
+    let content: Vec<_> = unclosed.cache.unwrap().close().unwrap().collect();
     assert_eq!(content.len(), 2);
     assert!(content[0].0 == b"a" && content[0].1 == b"1");
     assert!(content[1].0 == b"b" && content[1].1 == b"2");
