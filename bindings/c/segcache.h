@@ -25,6 +25,8 @@
  *      that is passed to it.
  *   4. malloc, realloc and free come from one allocator, and align to 16 bytes.
  *   5. No call from a signal handler, and none in a forked child of a program with threads.
+ *   6. A thread that calls has a stack as threads have by default, and the names segcache_raw_.. mean the
+ *      library's own functions.
  * Compiled with -DSEGCACHE_DEBUG, each call checks what can be checked of 1, 2 and 3, and aborts with
  * one line on standard error. That needs gcc or clang, and all files of a program compiled alike.
  */
