@@ -65,6 +65,7 @@ struct connection {
 };
 
 struct word { const char *at; size_t length; };
+
 /* The first words of a line, how many it has, and what has come behind it. */
 struct request {
   struct word words[MOST_WORDS], data;
@@ -74,7 +75,6 @@ struct request {
 
 /* An item as it is stored: memcached's flags stand in front of its data. */
 struct value { uint32_t flags; char data[SEGCACHE_MAX_VALUE - sizeof(uint32_t)]; };
-
 struct item { struct word key; struct value value; size_t length; uint32_t version; }; /* length: of the whole value */
 
 enum kind { SET, ADD, REPLACE, CAS };
@@ -191,8 +191,7 @@ static uint32_t store(struct worker *worker, enum kind kind, const struct item *
     bool made_room = told == SEGCACHE_NO_ROOM && kind != SET && segcache_make_room(client, now) == SEGCACHE_OK;
     if (told != SEGCACHE_BUSY && !made_room) break;
   }
-  /* Nobody is to read what a set was to replace. */
-  if (kind == SET && told != SEGCACHE_OK) take_out(worker, key);
+  if (kind == SET && told != SEGCACHE_OK) take_out(worker, key); /* nobody is to read what it was to replace */
   return told;
 }
 
@@ -306,7 +305,8 @@ static bool serve_line(struct connection *connection, const struct request *requ
   if (is(verb, "incr") || is(verb, "decr")) return serve_count(connection, request, verb.at[0] == 'i');
   if (is(verb, "stats")) return serve_stats(connection, request);
   if (is(verb, "version") && request->count == 1) return say(connection, false, "VERSION " VERSION);
-  if (is(verb, "verbosity") && request->count > 1 && request->count - request->quiet < 3) return say(connection, request->quiet, "OK");
+  if (is(verb, "verbosity") && request->count > 1 && request->count - request->quiet < 3)
+    return say(connection, request->quiet, "OK");
   if (is(verb, "touch") || is(verb, "gat") || is(verb, "gats") || is(verb, "flush_all"))
     return say(connection, request->quiet, "SERVER_ERROR not supported");
   if (is(verb, "quit") && request->count == 1) return connection->closing = true;
