@@ -91,13 +91,14 @@ typedef struct segcache_cursor {
   segcache_handle raw;
 } segcache_cursor;
 
-/* The size of a cache. segcache_open makes one up from a number of keys. */
+/* The size of a cache. segcache_open makes one up from a number of keys. Each bucket, overflow bucket and
+   row takes 64 bytes, and each segment 8; all of them together have 512 MiB at most. */
 typedef struct segcache_shape {
   uint32_t buckets;       /* a power of two, 65536 at most; a bucket has words for 7 keys */
-  uint32_t overflow;      /* overflow buckets, each for 6 keys more; at most as many as buckets */
+  uint32_t overflow;      /* overflow buckets, 65536 at most, each for 6 keys more of one bucket */
   uint32_t passes;        /* clients, 1 to 64 */
-  uint32_t segments_each; /* segments of each client; two or more, or a full client loses all at once */
-  uint32_t rows;          /* items that a segment has room for, 4096 at most */
+  uint32_t segments_each; /* segments of each client, 1 to 1024; with one, a full client loses all at once */
+  uint32_t rows;          /* items that a segment has room for, 1 to 4096 */
   uint32_t first_version; /* the version that all buckets begin with; 0 will do */
 } segcache_shape;
 

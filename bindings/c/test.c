@@ -78,8 +78,10 @@ static void test_opening(void) {
   segcache cache;
   segcache_client clients[65];
   segcache_shape shape = {4, 4, 2, 2, 8, 7}, bad;
-  const segcache_shape bads[] = {{3, 0, 1, 2, 8, 0}, {4, 5, 1, 2, 8, 0}, {4, 0, 0, 2, 8, 0}, {4, 0, 65, 2, 8, 0},
-                                 {4, 0, 1, 0, 8, 0}, {4, 0, 1, 2, 0, 0}, {4, 0, 1, 2, 4097, 0}};
+  const segcache_shape bads[] = {{3, 0, 1, 2, 8, 0},    {131072, 0, 1, 2, 8, 0}, {4, 65537, 1, 2, 8, 0},
+                                 {4, 0, 0, 2, 8, 0},    {4, 0, 65, 2, 8, 0},     {4, 0, 1, 0, 8, 0},
+                                 {4, 0, 1, 1025, 8, 0}, {4, 0, 1, 2, 0, 0},      {4, 0, 1, 2, 4097, 0},
+                                 {65536, 65536, 64, 1024, 4096, 0}};
   long before = out;
   TOLD(segcache_open(100, 0, &cache, clients), SEGCACHE_BAD_SHAPE);
   TOLD(segcache_open(100, 65, &cache, clients), SEGCACHE_BAD_SHAPE);

@@ -4,19 +4,20 @@ use crate::{Bytes, Client, Error, Key, Value};
 use std::fmt;
 use std::sync::{Arc, Mutex, PoisonError};
 
-/// The size of a cache. [`Builder::keys`] makes one up from a number of keys.
+/// The size of a cache. [`Builder::keys`] makes one up from a number of keys. Each bucket, overflow bucket and
+/// row takes 64 bytes, and each segment 8; all of them together have 512 MiB at most.
 #[repr(C)]
 #[derive(Clone, Copy, Debug, PartialEq, Eq)]
 pub struct Shape {
     /// A power of two, 65,536 at most. A bucket has words for 7 keys.
     pub buckets: u32,
-    /// Overflow buckets, each for 6 keys more; at most as many as buckets.
+    /// Overflow buckets, 65,536 at most, each for 6 keys more of one bucket.
     pub overflow: u32,
     /// Clients, 1 to 64.
     pub passes: u32,
-    /// Segments of each client; two or more, or a full client loses all at once.
+    /// Segments of each client, 1 to 1,024. With one, a full client loses all at once.
     pub segments_each: u32,
-    /// Items that a segment has room for, 4,096 at most.
+    /// Items that a segment has room for, 1 to 4,096.
     pub rows: u32,
     /// The version that all buckets begin with; 0 will do.
     pub first_version: u32,
