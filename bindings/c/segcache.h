@@ -56,8 +56,8 @@ enum {
   SEGCACHE_BAD_SHAPE = 11,       /* a shape, or a number of keys or of threads, that cannot be */
   SEGCACHE_OUT_OF_MEMORY = 12,
   SEGCACHE_NO_HANDLE = 13,       /* the handle is zeroed, given back or freed */
-  SEGCACHE_ALREADY_HOLDING = 14, /* this client holds an item: release it first */
-  SEGCACHE_NOT_HOLDING = 15,     /* this client holds none */
+  SEGCACHE_ALREADY_HOLDING = 14, /* of holds, which come later */
+  SEGCACHE_NOT_HOLDING = 15,     /* the same */
   SEGCACHE_CLIENT_OUT = 16,      /* a client of the cache was not given back */
   SEGCACHE_FOREIGN = 17,         /* the client is of another cache */
   SEGCACHE_END = 18              /* of a cursor: no pair is left */
@@ -137,9 +137,6 @@ uint32_t segcache_raw_replace(segcache_handle *client, const uint8_t *key, size_
 uint32_t segcache_raw_cas(segcache_handle *client, const uint8_t *key, size_t key_len, const uint8_t *value,
                           size_t value_len, uint32_t version, uint32_t now);
 uint32_t segcache_raw_delete(segcache_handle *client, const uint8_t *key, size_t key_len, uint32_t now);
-uint32_t segcache_raw_hold(segcache_handle *client, const uint8_t *key, size_t key_len, uint32_t now);
-uint32_t segcache_raw_held_value(segcache_handle *client, uint8_t *value, size_t room, size_t *value_len);
-uint32_t segcache_raw_release(segcache_handle *client);
 uint32_t segcache_raw_set_time_to_live(segcache_handle *client, uint32_t seconds);
 uint32_t segcache_raw_keep_from(segcache_handle *client, uint32_t cutoff);
 uint32_t segcache_raw_make_room(segcache_handle *client, uint32_t now);
@@ -231,7 +228,7 @@ static inline uint32_t segcache_gets(segcache_client *client, const void *key, s
 /* Stores a value under a key, and makes room for it: if no row is left, the client gives up a segment of
    its own with the keys in it. This is what a server's set command calls. A put that is not OK leaves the
    old value where it is: delete the key if nobody may read that any longer.
-   Answers: OK; NO_ROOM, if no segment could be had, since others read there or hold items;
+   Answers: OK; NO_ROOM, if no segment could be had, since others read there;
    BUCKET_FULL; BUSY; BAD_KEY, BAD_VALUE, NO_HANDLE. */
 static inline uint32_t segcache_put(segcache_client *client, const void *key, size_t key_len, const void *value,
                                     size_t value_len, uint32_t now) {
@@ -285,27 +282,6 @@ static inline uint32_t segcache_delete(segcache_client *client, const void *key,
   return SEGCACHE_CALL(client, segcache_raw_delete(&client->raw, (const uint8_t *)key, key_len, now));
 }
 
-/* --- Holding an item -------------------------------------------------------------------------------- */
-
-/* Holds the item of a key: until the release its value can be read again and again and stays the same,
-   whatever becomes of the key. A client holds one item at most. Its segment is not refilled meanwhile,
-   so hold for a short time. Answers: OK, MISS, BUSY, ALREADY_HOLDING, BAD_KEY, NO_HANDLE. */
-static inline uint32_t segcache_hold(segcache_client *client, const void *key, size_t key_len, uint32_t now) {
-  SEGCACHE_BYTES(key, key_len);
-  return SEGCACHE_CALL(client, segcache_raw_hold(&client->raw, (const uint8_t *)key, key_len, now));
-}
-
-/* Copies the value that is held. Answers: OK; SHORT_BUFFER, with the length; NOT_HOLDING, NO_HANDLE. */
-static inline uint32_t segcache_held_value(segcache_client *client, void *value, size_t room, size_t *value_len) {
-  SEGCACHE_BYTES(value, room);
-  return SEGCACHE_CALL(client, segcache_raw_held_value(&client->raw, (uint8_t *)value, room, value_len));
-}
-
-/* Ends the hold. Answers: OK, NOT_HOLDING, NO_HANDLE. */
-static inline uint32_t segcache_release(segcache_client *client) {
-  return SEGCACHE_CALL(client, segcache_raw_release(&client->raw));
-}
-
 /* --- Settings, room and counts ---------------------------------------------------------------------- */
 
 /* From the client's next segment on, what it stores is absent at `now` plus this time, or earlier: a
@@ -350,7 +326,7 @@ static inline uint32_t segcache_give_back_entered(segcache *cache, segcache_clie
   return SEGCACHE_CALL(client, segcache_raw_give_back(&cache->raw, &client->raw));
 }
 
-/* Gives a client back to its cache, and releases what it holds. The client is none afterwards.
+/* Gives a client back to its cache. The client is none afterwards.
    Answers: OK; FOREIGN, and nothing changed; NO_HANDLE, of either. */
 static inline uint32_t segcache_give_back(segcache *cache, segcache_client *client) {
   if (client == NULL || cache == NULL || !client->raw.full || !cache->raw.full) return SEGCACHE_NO_HANDLE;

@@ -1,4 +1,4 @@
-/* Tests of the library through segcache.h: each call, each answer but Busy, and allocations that fail.
+/* Tests of the library through segcache.h: each call and its answers, and allocations that fail.
  * Link with -Wl,--wrap=malloc,--wrap=realloc,--wrap=free: so the tests refuse memory and count what is out. */
 #define _GNU_SOURCE
 #include "segcache.h"
@@ -158,7 +158,6 @@ static void test_bad_arguments(segcache_client *client) {
     TOLD(segcache_replace(client, key, bad, value, 1, 0), SEGCACHE_BAD_KEY);
     TOLD(segcache_cas(client, key, bad, value, 1, 0, 0), SEGCACHE_BAD_KEY);
     TOLD(segcache_delete(client, key, bad, 0), SEGCACHE_BAD_KEY);
-    TOLD(segcache_hold(client, key, bad, 0), SEGCACHE_BAD_KEY);
   }
   TOLD(segcache_put(client, key, 1, value, 33, 0), SEGCACHE_BAD_VALUE);
   TOLD(segcache_set(client, key, 1, value, 33, 0), SEGCACHE_BAD_VALUE);
@@ -167,26 +166,6 @@ static void test_bad_arguments(segcache_client *client) {
   TOLD(segcache_cas(client, key, 1, value, 33, 0, 0), SEGCACHE_BAD_VALUE);
   TOLD(segcache_keep_from(client, UINT32_MAX), SEGCACHE_OK); /* counts as 255 */
   TOLD(segcache_keep_from(client, 0), SEGCACHE_OK);
-}
-
-static void test_holds(segcache_client *one, segcache_client *other) {
-  char value[32];
-  size_t length = 0;
-  TOLD(segcache_held_value(one, value, 32, &length), SEGCACHE_NOT_HOLDING);
-  TOLD(segcache_release(one), SEGCACHE_NOT_HOLDING);
-  TOLD(segcache_hold(one, "held", 4, 0), SEGCACHE_MISS);
-  TOLD(put(other, "held", "first", 0), SEGCACHE_OK);
-  TOLD(segcache_hold(one, "held", 4, 0), SEGCACHE_OK);
-  TOLD(segcache_hold(one, "held", 4, 0), SEGCACHE_ALREADY_HOLDING);
-  TOLD(put(other, "held", "second", 0), SEGCACHE_OK);
-  TOLD(segcache_delete(other, "held", 4, 0), SEGCACHE_OK);
-  TOLD(segcache_held_value(one, value, 4, &length), SEGCACHE_SHORT_BUFFER);
-  CHECK(length == 5);
-  TOLD(segcache_held_value(one, value, 5, &length), SEGCACHE_OK);
-  CHECK(length == 5 && memcmp(value, "first", 5) == 0);
-  CHECK(reads(one, "held", 0, NULL));
-  TOLD(segcache_release(one), SEGCACHE_OK);
-  TOLD(segcache_release(one), SEGCACHE_NOT_HOLDING);
 }
 
 static void test_time(segcache_client *client) {
@@ -259,7 +238,7 @@ static void test_keeping(void) {
   TOLD(segcache_free(&cache), SEGCACHE_OK);
 }
 
-/* No room while another client holds an item; a bucket of seven words. */
+/* A bucket of seven words. */
 static void test_refusals(void) {
   segcache cache;
   segcache_client clients[2];
@@ -270,12 +249,7 @@ static void test_refusals(void) {
   TOLD(add(&clients[0], "8", "x"), SEGCACHE_BUCKET_FULL);
   TOLD(segcache_set(&clients[0], "8", 1, "x", 1, 0), SEGCACHE_BUCKET_FULL);
   TOLD(put(&clients[1], "8", "x", 0), SEGCACHE_BUCKET_FULL); /* it has no key of its own there to evict */
-  TOLD(segcache_hold(&clients[1], "a", 1, 0), SEGCACHE_OK);
-  TOLD(put(&clients[0], "a", "y", 0), SEGCACHE_OK); /* the last row */
-  TOLD(segcache_make_room(&clients[0], 0), SEGCACHE_NO_ROOM);
-  TOLD(put(&clients[0], "a", "z", 0), SEGCACHE_NO_ROOM);
-  TOLD(segcache_give_back(&cache, &clients[1]), SEGCACHE_OK); /* which releases the hold */
-  TOLD(put(&clients[0], "a", "z", 0), SEGCACHE_OK);
+  TOLD(segcache_give_back(&cache, &clients[1]), SEGCACHE_OK);
   TOLD(segcache_give_back(&cache, &clients[0]), SEGCACHE_OK);
   TOLD(segcache_free(&cache), SEGCACHE_OK);
 }
@@ -301,9 +275,6 @@ static void test_no_handles(void) {
     TOLD(segcache_replace(no, key, 1, value, 1, 0), SEGCACHE_NO_HANDLE);
     TOLD(segcache_cas(no, key, 1, value, 1, 0, 0), SEGCACHE_NO_HANDLE);
     TOLD(segcache_delete(no, key, 1, 0), SEGCACHE_NO_HANDLE);
-    TOLD(segcache_hold(no, key, 1, 0), SEGCACHE_NO_HANDLE);
-    TOLD(segcache_held_value(no, value, 32, &length), SEGCACHE_NO_HANDLE);
-    TOLD(segcache_release(no), SEGCACHE_NO_HANDLE);
     TOLD(segcache_set_time_to_live(no, 1), SEGCACHE_NO_HANDLE);
     TOLD(segcache_keep_from(no, 3), SEGCACHE_NO_HANDLE);
     TOLD(segcache_keep_nothing(no), SEGCACHE_NO_HANDLE);
@@ -454,7 +425,6 @@ int main(void) {
   TOLD(segcache_open(1000, 2, &cache, clients), SEGCACHE_OK);
   test_reading_and_writing(&clients[0], &clients[1]);
   test_bad_arguments(&clients[0]);
-  test_holds(&clients[0], &clients[1]);
   test_time(&clients[0]);
   for (int i = 0; i < 2; i++) TOLD(segcache_give_back(&cache, &clients[i]), SEGCACHE_OK);
   TOLD(segcache_free(&cache), SEGCACHE_OK);

@@ -36,14 +36,6 @@ static void *work(void *argument) {
     worker->seed = worker->seed * 1664525u + 1013904223u;
     uint32_t key = (worker->seed >> 8) % KEYS, now = (uint32_t)i, told;
     switch ((worker->seed >> 28) % 8) {
-    case 0:
-      told = segcache_hold(client, &key, 4, now);
-      if (told == SEGCACHE_OK) {
-        told = segcache_held_value(client, value, 32, &length);
-        check_value(worker, told, key, value, length);
-        if (segcache_release(client) != SEGCACHE_OK) worker->wrong++;
-      }
-      break;
     case 1: told = segcache_delete(client, &key, 4, now); break;
     case 2:
     case 3:

@@ -11,7 +11,6 @@ const NO_ROOM: u32 = 3;
 const NOT_STORED: u32 = 5;
 const EXISTS: u32 = 6;
 const NOT_FOUND: u32 = 7;
-const ALREADY_HOLDING: u32 = 14;
 
 /// The version of a key's bucket, from [`Client::gets`] for [`Client::cas`].
 #[derive(Clone, Copy, Debug, PartialEq, Eq, Hash)]
@@ -175,26 +174,6 @@ impl Client {
         either(told, NOT_FOUND)
     }
 
-    /// Holds the item of a key, or gives `None` if it is absent. Until the hold is dropped its value stays
-    /// the same, whatever becomes of the key.
-    ///
-    /// # Errors
-    /// [`Error::Busy`], [`Error::BadKey`].
-    pub fn hold(&mut self, key: impl AsRef<[u8]>) -> Result<Option<Hold<'_>>, Error> {
-        let key = key.as_ref();
-        let mut told = self.hold_raw(key);
-        if told == ALREADY_HOLDING {
-            // A hold was forgotten: none is borrowed now.
-            self.release();
-            told = self.hold_raw(key);
-        }
-        match told {
-            OK => Ok(Some(Hold { client: self })),
-            MISS => Ok(None),
-            other => Err(Error::of(other)),
-        }
-    }
-
     /// What this client stores from its next segment on is absent at its clock plus this time, or earlier.
     pub fn set_time_to_live(&mut self, time_to_live: u32) {
         // SAFETY: the handle is this client's.
@@ -237,16 +216,6 @@ impl Client {
         // SAFETY: the handle is this client's, and the slices are borrowed.
         unsafe { write(&mut self.handle, key.as_ptr(), key.len(), value.as_ptr(), value.len(), self.now) }
     }
-
-    fn hold_raw(&mut self, key: &[u8]) -> u32 {
-        // SAFETY: the handle is this client's, and the slice is borrowed.
-        unsafe { raw::segcache_raw_hold(&mut self.handle, key.as_ptr(), key.len(), self.now) }
-    }
-
-    fn release(&mut self) {
-        // SAFETY: the handle is this client's.
-        unsafe { raw::segcache_raw_release(&mut self.handle) };
-    }
 }
 
 impl Drop for Client {
@@ -254,33 +223,6 @@ impl Drop for Client {
         let handle = &mut self.handle;
         // SAFETY: the client is of this cache, and isn't used after this.
         self.shared.with(|cache| unsafe { raw::segcache_raw_give_back(cache, handle) });
-    }
-}
-
-/// An item that a client holds. When it is dropped, it is released.
-#[derive(Debug)]
-pub struct Hold<'c> {
-    client: &'c mut Client,
-}
-
-impl Hold<'_> {
-    /// The value that was present when it was held.
-    ///
-    /// # Errors
-    /// None that is known.
-    pub fn value(&mut self) -> Result<Value, Error> {
-        let client = &mut self.client.handle;
-        // SAFETY: the handle is the client's, and the buffer is apart.
-        let (told, value) = Bytes::written(|value, room, length| unsafe {
-            raw::segcache_raw_held_value(client, value, room, length)
-        });
-        done(told).map(|()| value)
-    }
-}
-
-impl Drop for Hold<'_> {
-    fn drop(&mut self) {
-        self.client.release();
     }
 }
 

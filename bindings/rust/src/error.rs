@@ -7,7 +7,7 @@ use std::fmt;
 pub enum Error {
     /// Others worked on the key's bucket all the while: call again, or treat a get as a miss.
     Busy,
-    /// No row is left to store into, and no segment can be had: others read there or hold items.
+    /// No row is left to store into, and no segment can be had: others read there.
     NoRoom,
     /// The key's bucket has no free word.
     BucketFull,

@@ -36,21 +36,6 @@
 //! # Ok::<(), segcache::Error>(())
 //! ```
 //!
-//! While a hold lives, its client can't be called:
-//!
-//! ```
-//! # let (_cache, mut clients) = segcache::Cache::builder().threads(2).build()?;
-//! # let (first, second) = clients.split_at_mut(1);
-//! # let (client, other) = (&mut first[0], &mut second[0]);
-//! client.put("page", "old")?;
-//! if let Some(mut hold) = client.hold("page")? {
-//!     other.put("page", "new")?;
-//!     assert_eq!(hold.value()?, b"old");
-//! }
-//! assert_eq!(client.get("page")?.as_deref(), Some(&b"new"[..]));
-//! # Ok::<(), segcache::Error>(())
-//! ```
-//!
 //! A number is raised by [`Client::gets`] and [`Client::cas`]:
 //!
 //! ```
@@ -84,7 +69,7 @@ mod raw;
 
 pub use bytes::Bytes;
 pub use cache::{Builder, Cache, Content, Shape, Unclosed};
-pub use client::{Cas, Client, Hold, IndexStats, Stats, Version};
+pub use client::{Cas, Client, IndexStats, Stats, Version};
 pub use error::Error;
 
 /// A key of the content: 1 to 24 bytes.

@@ -40,7 +40,6 @@ fn lengths_are_judged() {
     assert_eq!(client.get(""), Err(Error::BadKey));
     assert_eq!(client.put([1; 25], ""), Err(Error::BadKey));
     assert_eq!(client.put("k", [1; 33]), Err(Error::BadValue));
-    assert_eq!(client.hold("").err(), Some(Error::BadKey));
 }
 
 #[test]
@@ -63,20 +62,6 @@ fn add_replace_and_cas_look_first() {
     assert_eq!((stats.exists, stats.not_found, stats.no_room), (1, 1, 1));
     let table = client.index_stats();
     assert_eq!((table.used_rows, table.named_rows), (3, 1));
-}
-
-#[test]
-fn a_hold_keeps_its_value() {
-    let (_cache, mut one, mut other) = two();
-    other.put("k", "old").unwrap();
-    assert!(one.hold("none").unwrap().is_none());
-    let mut hold = one.hold("k").unwrap().unwrap();
-    other.delete("k").unwrap();
-    assert_eq!(hold.value().unwrap(), b"old");
-    std::mem::forget(hold);
-    other.put("k", "new").unwrap();
-    let mut hold = one.hold("k").unwrap().unwrap(); // the forgotten one is released
-    assert_eq!(hold.value().unwrap(), b"new");
 }
 
 #[test]
