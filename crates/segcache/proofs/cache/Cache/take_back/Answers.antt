@@ -1,0 +1,18 @@
+use Rattle.std.proofs.Common.{subst}
+use Rattle.segindex.specs.Words.{board_of}
+use Rattle.segpass.specs.Words.{IsQuiet}
+use Rattle.segcache.proofs.Members.{same_number}
+use Rattle.segcache.proofs.Placed.{put_place}
+use Rattle.segcache.proofs.cache.Cache.take_back.Goals as goal
+
+pub invariant_of-self : goal.invariant_of-self
+invariant_of-self c =
+    let cache = c.args.self.now in
+    let client = c.args.client in
+    let number = c.number-place.result in
+    let pass = c.into_pass-pass.result in
+    record {
+      places_are = put_place cache.index.value cache.places.items number pass cache.places_are
+          (subst (λ i. IsQuiet (board_of i) pass) c.requires.same c.into_pass-pass.ensures.quiet)
+          (same_number client.index.value client.resting number pass client.member c.number-place.ensures c.into_pass-pass.ensures.pass);
+    }

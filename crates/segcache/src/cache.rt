@@ -1,0 +1,116 @@
+//! The cache that C has, with a place for each of its passes.
+ghost use Rattle.std.specs.Prelude.{◌≡◌, ◌↔◌, ◌≤◌, ◌+◌, true, All, IsSome, Option, Some, None, replicate, length, map, vec_len, IfOk, []};
+ghost use Rattle.std.specs.Vec.{vec_capacity};
+ghost use Rattle.segbase.specs.Words.{Pass};
+ghost use Rattle.segindex.specs.Words.{board_of, shape_of};
+ghost use Rattle.segpass.specs.Words.{IsQuiet};
+ghost use Rattle.segcache.specs.Places.{AreItsPlaces, AreItsPlaces-prop};
+
+use crate::client::SharedClient;
+use crate::status::Status;
+use segclient::{Index, Key, Pass, Value};
+use std::alloc::{AllocError, Global};
+use std::sync::Arc;
+
+/// An index that is shared with clients, and the passes of those that came back.
+#[derive(Drop)]
+pub struct Cache {
+    index: Arc<Index, Global>,
+    places: Vec<Option<Pass>>,
+    ghost places_are: { AreItsPlaces index.value places.items } by { AreItsPlaces-prop index.value places.items },
+}
+
+/// How the end of a cache went.
+pub(crate) enum End {
+    /// Its content.
+    Content { pairs: Vec<(Key, Value)> },
+    /// It didn't come about, and the cache is as it was.
+    Refused { cache: Cache, why: Status },
+    /// The memory for the list was refused, and the cache is gone.
+    Gone,
+}
+
+impl Cache {
+    /// A cache with no pass in its places.
+    pub(crate) fn new(alloc: Global, index: Arc<Index, Global>) -> Result<Cache, AllocError> {
+        let places = no_passes(alloc, index.shape().passes)?;
+        Ok(Cache { index, places })
+    }
+
+    /// Whether the pass of each client is back.
+    pub(crate) fn has_all(&self) -> bool
+        ensures { result ≡ true ↔ All IsSome self.now.places.items }
+    {
+        self.places.iter().all(|place| place.is_some())
+    }
+
+    /// Whether the place of the client is free.
+    pub(crate) fn has_place_for(&self, client: &SharedClient) -> bool {
+        matches!(self.places.get(client.number() as usize), Some(None))
+    }
+
+    /// Ends the hold of a client of this index, and puts its pass into its place.
+    pub(crate) fn take_back(&mut self, client: SharedClient)
+        requires same { client.index.value ≡ self.old.index.value }
+    {
+        let place = client.number() as usize;
+        let pass = client.into_pass();
+        if place < self.places.len() {
+            self.places[place] = Some(pass);
+        }
+    }
+
+    /// Closes the index with all passes, if all are back, and lists its content.
+    pub(crate) fn end(self, alloc: Global) -> End {
+        if !self.has_all() {
+            return End::Refused {
+                cache: self,
+                why: Status::ClientOut,
+            };
+        }
+        let Ok(passes) = Vec::with_capacity(alloc, self.places.len()) else {
+            return End::Refused {
+                cache: self,
+                why: Status::OutOfMemory,
+            };
+        };
+        let Cache { index, places } = self;
+        match Arc::try_unwrap(index) {
+            Ok(index) => match index.close_all(alloc, passes_of(places, passes)) {
+                Ok(pairs) => End::Content { pairs },
+                Err(_) => End::Gone,
+            },
+            Err(index) => End::Refused {
+                cache: Cache { index, places },
+                why: Status::ClientOut,
+            },
+        }
+    }
+}
+
+// So many places with no pass.
+fn no_passes(alloc: Global, count: u32) -> Result<Vec<Option<Pass>>, AllocError>
+    ensures { IfOk result (λ places. places.items ≡ replicate count None) }
+{
+    let mut places = Vec::with_capacity(alloc, count as usize)?;
+    for _ in 0..count {
+        places.push_reserved(None);
+    }
+    Ok(places)
+}
+
+// The passes in the places, in their order, behind those of the list.
+fn passes_of(places: Vec<Option<Pass>>, passes: Vec<Pass>) -> Vec<Pass>
+    requires all { All IsSome places.items }
+    requires room { vec_len passes + vec_len places ≤ vec_capacity passes }
+    requires none { passes.items ≡ [] }
+    ensures { map Some result.items ≡ places.items }
+{
+    let mut passes = passes;
+    for place in places {
+        if let Some(pass) = place {
+            passes.push_reserved(pass);
+        }
+    }
+    passes
+}

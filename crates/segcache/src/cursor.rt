@@ -1,0 +1,41 @@
+//! The content of a closed cache, pair by pair.
+use crate::status::Status;
+use segclient::{Key, Value};
+
+/// A list of pairs, and how many of them were told.
+#[derive(Drop)]
+pub struct Cursor {
+    pairs: Vec<(Key, Value)>,
+    told: usize,
+}
+
+impl Cursor {
+    /// Before the first pair.
+    pub(crate) fn new(pairs: Vec<(Key, Value)>) -> Cursor {
+        Cursor { pairs, told: 0 }
+    }
+
+    /// Copies the next pair out. If one of the buffers is too short, the next pair stays the next.
+    pub(crate) fn next(
+        &mut self,
+        key: &mut [u8],
+        key_len: &mut usize,
+        value: &mut [u8],
+        value_len: &mut usize,
+    ) -> Status {
+        let Some((next_key, next_value)) = self.pairs.get(self.told) else {
+            return Status::End;
+        };
+        let key_bytes = next_key.as_bytes();
+        let value_bytes = next_value.as_bytes();
+        *key_len = key_bytes.len();
+        *value_len = value_bytes.len();
+        if key.len() < key_bytes.len() || value.len() < value_bytes.len() {
+            return Status::ShortBuffer;
+        }
+        key[..key_bytes.len()].copy_from_slice(key_bytes);
+        value[..value_bytes.len()].copy_from_slice(value_bytes);
+        self.told += 1;
+        Status::Ok
+    }
+}

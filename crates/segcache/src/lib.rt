@@ -1,0 +1,16 @@
+//! The cache for C: exports on numbers, byte slices and handles, over clients that share an index.
+//! Each export makes one call of a client and answers with a status.
+#![tactic(auto)]
+
+mod cache;
+mod client;
+mod closing;
+mod cursor;
+mod handle;
+mod kept;
+mod loose;
+mod opening;
+mod reading;
+mod settings;
+mod status;
+mod writing;

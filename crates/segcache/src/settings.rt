@@ -1,0 +1,172 @@
+//! The exports that set how a client puts, and that count.
+use crate::handle::Handle;
+use crate::kept::Kept;
+use crate::status::Status;
+use std::alloc::Global;
+
+/// What a client's calls came to.
+#[repr(C)]
+#[derive(Clone, Copy, Drop)]
+pub struct ClientStats {
+    pub hits: u64,
+    pub misses: u64,
+    pub stored: u64,
+    pub not_stored: u64,
+    pub exists: u64,
+    pub not_found: u64,
+    pub deleted: u64,
+    pub no_room: u64,
+    pub bucket_full: u64,
+    pub busy: u64,
+    pub segments_refilled: u64,
+    pub items_kept: u64,
+    pub keys_evicted: u64,
+}
+
+/// What a client sees of the table.
+#[repr(C)]
+#[derive(Clone, Copy, Drop)]
+pub struct TableStats {
+    pub overflow_buckets: u32,
+    pub used_rows: u32,
+    pub named_rows: u32,
+}
+
+/// Sets how long what is put from now on can be read.
+#[unsafe(no_mangle)]
+pub extern "C" fn segcache_raw_set_time_to_live(
+    alloc: Global,
+    client: &mut Handle,
+    seconds: u32,
+) -> u32 {
+    let Some(mut kept) = client.take(alloc) else {
+        return Status::NoHandle.number();
+    };
+    let told = set_time_to_live(&mut kept, seconds);
+    client.fill(alloc, kept);
+    told.number()
+}
+
+/// Sets the least frequency of an item that a put keeps. With 0 it keeps nothing.
+/// A frequency has 8 bits, so what is higher counts as 255.
+#[unsafe(no_mangle)]
+pub extern "C" fn segcache_raw_keep_from(alloc: Global, client: &mut Handle, cutoff: u32) -> u32 {
+    let Some(mut kept) = client.take(alloc) else {
+        return Status::NoHandle.number();
+    };
+    let told = keep_from(&mut kept, cutoff);
+    client.fill(alloc, kept);
+    told.number()
+}
+
+/// Makes room for a write.
+#[unsafe(no_mangle)]
+pub extern "C" fn segcache_raw_make_room(alloc: Global, client: &mut Handle, now: u32) -> u32 {
+    let Some(mut kept) = client.take(alloc) else {
+        return Status::NoHandle.number();
+    };
+    let told = make_room(&mut kept, now);
+    client.fill(alloc, kept);
+    told.number()
+}
+
+/// Writes what the client's calls came to.
+#[unsafe(no_mangle)]
+pub extern "C" fn segcache_raw_stats(
+    alloc: Global,
+    client: &mut Handle,
+    counts: &mut ClientStats,
+) -> u32 {
+    let Some(mut kept) = client.take(alloc) else {
+        return Status::NoHandle.number();
+    };
+    let told = stats(&mut kept, counts);
+    client.fill(alloc, kept);
+    told.number()
+}
+
+/// Writes what the client sees of the table. It goes over all rows of the client.
+#[unsafe(no_mangle)]
+pub extern "C" fn segcache_raw_index_stats(
+    alloc: Global,
+    client: &mut Handle,
+    counts: &mut TableStats,
+) -> u32 {
+    let Some(mut kept) = client.take(alloc) else {
+        return Status::NoHandle.number();
+    };
+    let told = index_stats(&mut kept, counts);
+    client.fill(alloc, kept);
+    told.number()
+}
+
+fn set_time_to_live(kept: &mut Kept, seconds: u32) -> Status {
+    let Kept::Client(client) = kept else {
+        return Status::NoHandle;
+    };
+    client.set_time_to_live(seconds);
+    Status::Ok
+}
+
+fn keep_from(kept: &mut Kept, cutoff: u32) -> Status {
+    let Kept::Client(client) = kept else {
+        return Status::NoHandle;
+    };
+    client.keep_from(cutoff_of(cutoff));
+    Status::Ok
+}
+
+// The cutoff of a number: none for 0, and at most 255.
+fn cutoff_of(number: u32) -> Option<u8> {
+    if number == 0 {
+        return None;
+    }
+    Some(u8::try_from(number).unwrap_or(u8::MAX))
+}
+
+fn make_room(kept: &mut Kept, now: u32) -> Status {
+    let Kept::Client(client) = kept else {
+        return Status::NoHandle;
+    };
+    if client.make_room(now) {
+        Status::Ok
+    } else {
+        Status::NoRoom
+    }
+}
+
+fn stats(kept: &mut Kept, counts: &mut ClientStats) -> Status {
+    let Kept::Client(client) = kept else {
+        return Status::NoHandle;
+    };
+    let stats = client.stats();
+    *counts = ClientStats {
+        hits: stats.hits,
+        misses: stats.misses,
+        stored: stats.stored,
+        not_stored: stats.not_stored,
+        exists: stats.exists,
+        not_found: stats.not_found,
+        deleted: stats.deleted,
+        no_room: stats.no_room,
+        bucket_full: stats.bucket_full,
+        busy: stats.busy,
+        segments_refilled: stats.segments_refilled,
+        items_kept: stats.items_kept,
+        keys_evicted: stats.keys_evicted,
+    };
+    Status::Ok
+}
+
+fn index_stats(kept: &mut Kept, counts: &mut TableStats) -> Status {
+    let Kept::Client(client) = kept else {
+        return Status::NoHandle;
+    };
+    let stats = client.index_stats();
+    *counts = TableStats {
+        overflow_buckets: stats.overflow_buckets,
+        used_rows: stats.used_rows,
+        named_rows: stats.named_rows,
+    };
+    Status::Ok
+}
