@@ -16,4 +16,7 @@ IsMember i (Some resting) =
 
 pub IsMember-prop : (i : Index) (resting : Option Resting) → IsProp (IsMember i resting)
 IsMember-prop i None = λ x y. absurd x
-IsMember-prop i (Some resting) = λ x y j. (IsQuiet-prop (board_of i) resting.pass x.0 y.0 j, IsOwnRing-prop (shape_of i) (number resting.pass) resting.segments x.1 y.1 j)
+IsMember-prop i (Some resting) = λ x y j. (
+  IsQuiet-prop (board_of i) resting.pass x.0 y.0 j,
+  IsOwnRing-prop (shape_of i) (number resting.pass) resting.segments x.1 y.1 j,
+)

@@ -13,4 +13,10 @@ AreItsPlaces i places =
     → IsQuiet (board_of i) p × (number_of p ≡ n))
 
 pub AreItsPlaces-prop : (i : Index) (places : List (Option Pass)) → IsProp (AreItsPlaces i places)
-AreItsPlaces-prop i places = λ x y j. (ℕ_set (length places) (shape_of i).passes x.0 y.0 j, λ n p at. (IsQuiet-prop (board_of i) p (x.1 n p at).0 (y.1 n p at).0 j, ℕ_set (number_of p) n (x.1 n p at).1 (y.1 n p at).1 j))
+AreItsPlaces-prop i places = λ x y j. (
+  ℕ_set (length places) (shape_of i).passes x.0 y.0 j,
+  λ n p at. (
+    IsQuiet-prop (board_of i) p (x.1 n p at).0 (y.1 n p at).0 j,
+    ℕ_set (number_of p) n (x.1 n p at).1 (y.1 n p at).1 j,
+  ),
+)

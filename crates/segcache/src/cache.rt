@@ -1,5 +1,6 @@
 //! The cache that C has, with a place for each of its passes.
-ghost use Rattle.std.specs.Prelude.{◌≡◌, ◌↔◌, ◌≤◌, ◌+◌, true, All, IsSome, Option, Some, None, replicate, length, map, vec_len, IfOk, []};
+ghost use Rattle.std.specs.Prelude.{◌≡◌, ◌↔◌, ◌≤◌, ◌+◌, true, All, IsSome, Option, Some, None};
+ghost use Rattle.std.specs.Prelude.{replicate, length, map, vec_len, IfOk, []};
 ghost use Rattle.std.specs.Vec.{vec_capacity};
 ghost use Rattle.segbase.specs.Words.{Pass};
 ghost use Rattle.segindex.specs.Words.{board_of, shape_of};
