@@ -121,37 +121,13 @@ fn writer_of(
     Ok(writer)
 }
 
-/// The devices of a run, in memory.
-#[derive(Drop)]
-struct Memory<'s> {
-    source: MemSource<'s>,
-    writer: MemSink,
-    errors: MemSink,
-}
-
-fn memory_of(alloc: Global, script: &[u8], devices: Devices) -> Result<Memory<'_>, AllocError>
-    ensures source { IfOk result (λ memory. memory.source.failed ≡ false) }
-    ensures writer { IfOk result (λ memory. memory.writer.failed ≡ false) }
-    ensures errors { IfOk result (λ memory. memory.errors.failed ≡ false) }
-{
-    let (room, error_room) = devices.rooms;
-    let (fails, error_fails) = devices.flush_fails;
-    Ok(Memory {
-        source: reader_of(script, devices.good),
-        writer: writer_of(alloc, room, devices.when_full, fails)?,
-        errors: writer_of(alloc, error_room, devices.when_full, error_fails)?,
-    })
-}
-
-impl Memory<'_> {
-    // What was written and printed by a run that ended with this status.
-    fn ended(self, status: u8) -> Ended {
-        Ended {
-            status,
-            flushes: (self.writer.flushes, self.errors.flushes),
-            written: self.writer.taken,
-            printed: self.errors.taken,
-        }
+// What was written and printed by a run that ended with this status.
+fn ended(status: u8, writer: MemSink, errors: MemSink) -> Ended {
+    Ended {
+        status,
+        flushes: (writer.flushes, errors.flushes),
+        written: writer.taken,
+        printed: errors.taken,
     }
 }
 
@@ -163,16 +139,13 @@ pub fn run_watched<R: Threads + Wait + AllocGlobal + Sync, V: Watch>(
     devices: Devices,
     watch: &V,
 ) -> Result<Ended, AllocError> {
-    let mut memory = memory_of(rt.alloc(), script, devices)?;
-    let status = run_over_watched(
-        rt,
-        words,
-        &mut memory.source,
-        &mut memory.writer,
-        &mut memory.errors,
-        watch,
-    )?;
-    Ok(memory.ended(status))
+    let (room, error_room) = devices.rooms;
+    let (fails, error_fails) = devices.flush_fails;
+    let mut source = reader_of(script, devices.good);
+    let mut writer = writer_of(rt.alloc(), room, devices.when_full, fails)?;
+    let mut errors = writer_of(rt.alloc(), error_room, devices.when_full, error_fails)?;
+    let status = run_over_watched(rt, words, &mut source, &mut writer, &mut errors, watch)?;
+    Ok(ended(status, writer, errors))
 }
 
 /// Runs the program over devices in memory.
@@ -182,15 +155,13 @@ pub fn run_with<R: Threads + Wait + AllocGlobal + Sync>(
     script: &[u8],
     devices: Devices,
 ) -> Result<Ended, AllocError> {
-    let mut memory = memory_of(rt.alloc(), script, devices)?;
-    let status = run_over(
-        rt,
-        words,
-        &mut memory.source,
-        &mut memory.writer,
-        &mut memory.errors,
-    )?;
-    Ok(memory.ended(status))
+    let (room, error_room) = devices.rooms;
+    let (fails, error_fails) = devices.flush_fails;
+    let mut source = reader_of(script, devices.good);
+    let mut writer = writer_of(rt.alloc(), room, devices.when_full, fails)?;
+    let mut errors = writer_of(rt.alloc(), error_room, devices.when_full, error_fails)?;
+    let status = run_over(rt, words, &mut source, &mut writer, &mut errors)?;
+    Ok(ended(status, writer, errors))
 }
 
 /// Runs the program with devices that don't fail.
