@@ -122,7 +122,7 @@ fn writer_of(
 }
 
 // What was written and printed by a run that ended with this status.
-fn ended(status: u8, writer: MemSink, errors: MemSink) -> Ended {
+fn end_of(status: u8, writer: MemSink, errors: MemSink) -> Ended {
     Ended {
         status,
         flushes: (writer.flushes, errors.flushes),
@@ -145,7 +145,7 @@ pub fn run_watched<R: Threads + Wait + AllocGlobal + Sync, V: Watch>(
     let mut writer = writer_of(rt.alloc(), room, devices.when_full, fails)?;
     let mut errors = writer_of(rt.alloc(), error_room, devices.when_full, error_fails)?;
     let status = run_over_watched(rt, words, &mut source, &mut writer, &mut errors, watch)?;
-    Ok(ended(status, writer, errors))
+    Ok(end_of(status, writer, errors))
 }
 
 /// Runs the program over devices in memory.
@@ -161,7 +161,7 @@ pub fn run_with<R: Threads + Wait + AllocGlobal + Sync>(
     let mut writer = writer_of(rt.alloc(), room, devices.when_full, fails)?;
     let mut errors = writer_of(rt.alloc(), error_room, devices.when_full, error_fails)?;
     let status = run_over(rt, words, &mut source, &mut writer, &mut errors)?;
-    Ok(ended(status, writer, errors))
+    Ok(end_of(status, writer, errors))
 }
 
 /// Runs the program with devices that don't fail.
