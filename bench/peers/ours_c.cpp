@@ -34,18 +34,18 @@ public:
 
     Answer get(const Key& key, std::uint32_t, Value& value) {
         std::size_t length = 0;
-        const std::uint32_t told = segcache_get(client_, key.bytes.data(), key.length, now, value.bytes.data(),
+        const std::uint32_t status = segcache_get(client_, key.bytes.data(), key.length, now, value.bytes.data(),
                                                 value.bytes.size(), &length);
         value.length = static_cast<std::uint8_t>(length);
-        return answer_of(told);
+        return answer_of(status);
     }
 
     Answer gets(const Key& key, std::uint32_t, Value& value, std::uint32_t& version) {
         std::size_t length = 0;
-        const std::uint32_t told = segcache_gets(client_, key.bytes.data(), key.length, now, value.bytes.data(),
+        const std::uint32_t status = segcache_gets(client_, key.bytes.data(), key.length, now, value.bytes.data(),
                                                  value.bytes.size(), &length, &version);
         value.length = static_cast<std::uint8_t>(length);
-        return answer_of(told);
+        return answer_of(status);
     }
 
     // A set is a put. Another write is made once more if there was no room, and some is made.
@@ -84,8 +84,8 @@ public:
 
     explicit Store(const bench::Plan& plan) : clients_(plan.threads) {
         const segcache_shape shape = shape_of(plan);
-        if (const std::uint32_t told = segcache_open_shape(&shape, &cache_, clients_.data())) {
-            std::fprintf(stderr, "ours_c: %s\n", segcache_text(told));
+        if (const std::uint32_t status = segcache_open_shape(&shape, &cache_, clients_.data())) {
+            std::fprintf(stderr, "ours_c: %s\n", segcache_text(status));
             std::exit(3);
         }
     }

@@ -15,9 +15,9 @@ static void *work(void *client) {
     size_t length;
     uint32_t now = look / 1000; /* a clock of your own, as seconds since the start */
     int key_length = snprintf(key, sizeof key, "page:%u", look * 7919 % PAGES);
-    uint32_t told = segcache_get(client, key, (size_t)key_length, now, page, sizeof page, &length);
-    if (told == SEGCACHE_OK) found++;
-    else if (told == SEGCACHE_MISS) segcache_put(client, key, (size_t)key_length, "the page", 8, now);
+    uint32_t status = segcache_get(client, key, (size_t)key_length, now, page, sizeof page, &length);
+    if (status == SEGCACHE_OK) found++;
+    else if (status == SEGCACHE_MISS) segcache_put(client, key, (size_t)key_length, "the page", 8, now);
   }
   printf("found %zu of %d\n", found, LOOKS);
   return NULL;
@@ -26,9 +26,9 @@ static void *work(void *client) {
 int main(void) {
   segcache cache;
   pthread_t threads[THREADS];
-  uint32_t told = segcache_open(PAGES, THREADS, &cache, clients);
-  if (told != SEGCACHE_OK) {
-    fprintf(stderr, "no cache: %s\n", segcache_text(told));
+  uint32_t status = segcache_open(PAGES, THREADS, &cache, clients);
+  if (status != SEGCACHE_OK) {
+    fprintf(stderr, "no cache: %s\n", segcache_text(status));
     return 1;
   }
   for (int i = 0; i < THREADS; i++) pthread_create(&threads[i], NULL, work, &clients[i]);

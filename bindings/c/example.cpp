@@ -23,18 +23,18 @@ public:
     std::optional<std::string> get(std::string_view key, std::uint32_t now) {
       std::string value(SEGCACHE_MAX_VALUE, '\0');
       std::size_t length = 0;
-      std::uint32_t told = segcache_get(raw, key.data(), key.size(), now, value.data(), value.size(), &length);
-      if (told == SEGCACHE_MISS || told == SEGCACHE_BUSY) return std::nullopt;
-      check(told);
+      std::uint32_t status = segcache_get(raw, key.data(), key.size(), now, value.data(), value.size(), &length);
+      if (status == SEGCACHE_MISS || status == SEGCACHE_BUSY) return std::nullopt;
+      check(status);
       value.resize(length);
       return value;
     }
 
     // Says whether the value was stored.
     bool put(std::string_view key, std::string_view value, std::uint32_t now) {
-      std::uint32_t told = segcache_put(raw, key.data(), key.size(), value.data(), value.size(), now);
-      if (told != SEGCACHE_NO_ROOM && told != SEGCACHE_BUCKET_FULL && told != SEGCACHE_BUSY) check(told);
-      return told == SEGCACHE_OK;
+      std::uint32_t status = segcache_put(raw, key.data(), key.size(), value.data(), value.size(), now);
+      if (status != SEGCACHE_NO_ROOM && status != SEGCACHE_BUCKET_FULL && status != SEGCACHE_BUSY) check(status);
+      return status == SEGCACHE_OK;
     }
 
   private:
@@ -56,8 +56,8 @@ public:
   Client &client(std::size_t number) { return clients.at(number); }
 
 private:
-  static void check(std::uint32_t told) {
-    if (told != SEGCACHE_OK) throw std::runtime_error(segcache_text(told));
+  static void check(std::uint32_t status) {
+    if (status != SEGCACHE_OK) throw std::runtime_error(segcache_text(status));
   }
 
   segcache cache{};

@@ -17,10 +17,10 @@
  * under Rattle to be safe and to return, over a proved cache. Which status each gives is tested.
  * The proof takes for granted what no prover checks of C. Keep all of these:
  *   1. A client serves one call at a time. Another thread may take it over by a lock, or at the start or
- *      the end (join) of a thread. The same goes for a cache and a cursor. Different clients of a cache may
- *      be called at the same time; that is what they are for.
- *   2. A handle (segcache, segcache_client, segcache_cursor) comes from this library or is zeroed. It may
- *      be moved, but never used in two copies: a copy is dead once the other one was called.
+ *      the end (join) of a thread. The same goes for a cache, a cursor and a note. Different clients of a
+ *      cache may be called at the same time; that is what they are for.
+ *   2. A handle (segcache, segcache_client, segcache_cursor, segcache_note_t) comes from this library or is
+ *      zeroed. It may be moved, but never used in two copies: a copy is dead once the other one was called.
  *   3. A pointer and its length are true: so many bytes can be read, or written. A pointer is null only
  *      with the length 0. What a call writes (value, lengths, version, handles) overlaps nothing else
  *      that is passed to it.
@@ -53,14 +53,14 @@ enum {
   SEGCACHE_NOT_FOUND = 7,        /* a cas or a delete: the key is absent */
   SEGCACHE_BAD_KEY = 8,          /* no byte, or more than 24 */
   SEGCACHE_BAD_VALUE = 9,        /* more than 32 bytes */
-  SEGCACHE_SHORT_BUFFER = 10,    /* nothing was copied; the length tells how much room is needed */
+  SEGCACHE_SHORT_BUFFER = 10,    /* nothing was copied; the length says how much room is needed */
   SEGCACHE_BAD_SHAPE = 11,       /* a shape, or a number of keys or of threads, that cannot be */
   SEGCACHE_OUT_OF_MEMORY = 12,
   SEGCACHE_NO_HANDLE = 13,       /* the handle is zeroed, given back or freed */
-  SEGCACHE_ALREADY_HOLDING = 14, /* of holds, which come later */
-  SEGCACHE_NOT_HOLDING = 15,     /* the same */
+  SEGCACHE_ALREADY_HOLDING = 14, /* the client holds an item: release that first */
+  SEGCACHE_NOT_HOLDING = 15,     /* the client holds no item */
   SEGCACHE_CLIENT_OUT = 16,      /* a client of the cache was not given back */
-  SEGCACHE_FOREIGN = 17,         /* the client is of another cache */
+  SEGCACHE_FOREIGN = 17,         /* the client or the note is of another cache */
   SEGCACHE_END = 18              /* of a cursor: no pair is left */
 };
 
@@ -91,6 +91,12 @@ typedef struct segcache_client {
 typedef struct segcache_cursor {
   segcache_handle raw;
 } segcache_cursor;
+
+/* What a client had seen when it made the note. Zeroed, it is none. */
+typedef struct segcache_note_t {
+  segcache_handle raw;
+  const void *home; /* the cache of that client */
+} segcache_note_t;
 
 /* The size of a cache. segcache_open makes one up from a number of keys. Each bucket, overflow bucket and
    row takes 64 bytes, and each segment 8; all of them together have 512 MiB at most. */
@@ -138,6 +144,12 @@ uint32_t segcache_raw_replace(segcache_handle *client, const uint8_t *key, size_
 uint32_t segcache_raw_cas(segcache_handle *client, const uint8_t *key, size_t key_len, const uint8_t *value,
                           size_t value_len, uint32_t version, uint32_t now);
 uint32_t segcache_raw_delete(segcache_handle *client, const uint8_t *key, size_t key_len, uint32_t now);
+uint32_t segcache_raw_hold(segcache_handle *client, const uint8_t *key, size_t key_len, uint32_t now);
+uint32_t segcache_raw_held_value(segcache_handle *client, uint8_t *value, size_t room, size_t *value_len);
+uint32_t segcache_raw_release(segcache_handle *client);
+uint32_t segcache_raw_note(segcache_handle *client, segcache_handle *note);
+uint32_t segcache_raw_learn(segcache_handle *client, segcache_handle *note);
+uint32_t segcache_raw_note_free(segcache_handle *note);
 uint32_t segcache_raw_set_time_to_live(segcache_handle *client, uint32_t seconds);
 uint32_t segcache_raw_keep_from(segcache_handle *client, uint32_t cutoff);
 uint32_t segcache_raw_make_room(segcache_handle *client, uint32_t now);
@@ -157,12 +169,15 @@ uint32_t segcache_raw_free(segcache_handle *cache);
 #define SEGCACHE_BYTES(at, length) ((void)0)
 #define SEGCACHE_APART(a, a_len, b, b_len) ((void)0)
 #define SEGCACHE_OPENED(cache, clients, count) ((void)0)
+#define SEGCACHE_NOTED(client, note) ((void)0)
+#define SEGCACHE_SAME_CACHE(client, note) ((void)0)
+#define SEGCACHE_CLOSED(cursor) ((void)0)
 #endif
 
 /* --- Opening ---------------------------------------------------------------------------------------- */
 
 /* What open and open_shape hand to the user: handles at their places. */
-static inline uint32_t segcache_hand_out(uint32_t told, segcache_handle made, const segcache_handle *raw,
+static inline uint32_t segcache_hand_out(uint32_t status, segcache_handle made, const segcache_handle *raw,
                                          uint32_t count, segcache *cache, segcache_client *clients) {
   uint32_t i;
   memset(cache, 0, sizeof *cache);
@@ -172,8 +187,8 @@ static inline uint32_t segcache_hand_out(uint32_t told, segcache_handle made, co
     clients[i].raw = raw[i];
     clients[i].home = made.at;
   }
-  if (told == SEGCACHE_OK) SEGCACHE_OPENED(cache, clients, count);
-  return told;
+  if (status == SEGCACHE_OK) SEGCACHE_OPENED(cache, clients, count);
+  return status;
 }
 
 /* Makes a cache for so many keys (425,984 at most), and a client for each of so many threads (1 to 64).
@@ -182,22 +197,22 @@ static inline uint32_t segcache_hand_out(uint32_t told, segcache_handle made, co
    Answers: OK, BAD_SHAPE, OUT_OF_MEMORY. */
 static inline uint32_t segcache_open(uint32_t keys, uint32_t threads, segcache *cache, segcache_client *clients) {
   segcache_handle made, raw[SEGCACHE_MAX_THREADS];
-  uint32_t told = SEGCACHE_BAD_SHAPE, count = threads <= SEGCACHE_MAX_THREADS ? threads : SEGCACHE_MAX_THREADS;
+  uint32_t status = SEGCACHE_BAD_SHAPE, count = threads <= SEGCACHE_MAX_THREADS ? threads : SEGCACHE_MAX_THREADS;
   memset(&made, 0, sizeof made);
   memset(raw, 0, sizeof raw);
-  if (count == threads) told = segcache_raw_open(keys, threads, &made, raw, count);
-  return segcache_hand_out(told, made, raw, count, cache, clients);
+  if (count == threads) status = segcache_raw_open(keys, threads, &made, raw, count);
+  return segcache_hand_out(status, made, raw, count, cache, clients);
 }
 
 /* The same for a shape, with a client for each of its passes. Answers as segcache_open. */
 static inline uint32_t segcache_open_shape(const segcache_shape *shape, segcache *cache, segcache_client *clients) {
   segcache_handle made, raw[SEGCACHE_MAX_THREADS];
-  uint32_t told = SEGCACHE_BAD_SHAPE;
+  uint32_t status = SEGCACHE_BAD_SHAPE;
   uint32_t count = shape->passes <= SEGCACHE_MAX_THREADS ? shape->passes : SEGCACHE_MAX_THREADS;
   memset(&made, 0, sizeof made);
   memset(raw, 0, sizeof raw);
-  if (count == shape->passes) told = segcache_raw_open_shape(shape, &made, raw, count);
-  return segcache_hand_out(told, made, raw, count, cache, clients);
+  if (count == shape->passes) status = segcache_raw_open_shape(shape, &made, raw, count);
+  return segcache_hand_out(status, made, raw, count, cache, clients);
 }
 
 /* --- Reading ---------------------------------------------------------------------------------------- */
@@ -210,6 +225,8 @@ static inline uint32_t segcache_get(segcache_client *client, const void *key, si
   SEGCACHE_BYTES(key, key_len);
   SEGCACHE_BYTES(value, room);
   SEGCACHE_APART(value, room, key, key_len);
+  SEGCACHE_BYTES(value_len, sizeof *value_len);
+  SEGCACHE_APART(value, room, value_len, sizeof *value_len);
   return SEGCACHE_CALL(client, segcache_raw_get(&client->raw, (const uint8_t *)key, key_len, (uint8_t *)value,
                                                 room, value_len, now));
 }
@@ -220,13 +237,15 @@ static inline uint32_t segcache_gets(segcache_client *client, const void *key, s
   SEGCACHE_BYTES(key, key_len);
   SEGCACHE_BYTES(value, room);
   SEGCACHE_APART(value, room, key, key_len);
+  SEGCACHE_BYTES(value_len, sizeof *value_len);
+  SEGCACHE_APART(value, room, value_len, sizeof *value_len);
   return SEGCACHE_CALL(client, segcache_raw_gets(&client->raw, (const uint8_t *)key, key_len, (uint8_t *)value,
                                                  room, value_len, version, now));
 }
 
 /* --- Writing ---------------------------------------------------------------------------------------- */
 
-/* Stores a value under a key, and makes room for it: if no row is left, the client gives up a segment of
+/* Stores a value under a key, and makes room for it: if no row is left, the client recycles a segment of
    its own with the keys in it. This is what a server's set command calls. A put that is not OK leaves the
    old value where it is: delete the key if nobody may read that any longer.
    Answers: OK; NO_ROOM, if no segment could be had, since others read there;
@@ -239,7 +258,7 @@ static inline uint32_t segcache_put(segcache_client *client, const void *key, si
                                                       (const uint8_t *)value, value_len, now));
 }
 
-/* Stores a value, and makes no room: NO_ROOM where a put would give up a segment. Answers as put. */
+/* Stores a value, and makes no room: NO_ROOM where a put would recycle a segment. Answers as put. */
 static inline uint32_t segcache_set(segcache_client *client, const void *key, size_t key_len, const void *value,
                                     size_t value_len, uint32_t now) {
   SEGCACHE_BYTES(key, key_len);
@@ -283,6 +302,65 @@ static inline uint32_t segcache_delete(segcache_client *client, const void *key,
   return SEGCACHE_CALL(client, segcache_raw_delete(&client->raw, (const uint8_t *)key, key_len, now));
 }
 
+/* --- Holds and notes -------------------------------------------------------------------------------- */
+
+/* Holds the value of a key. Until the release segcache_held_value reads the same value, also past its deadline
+   and whatever becomes of the key. A client holds one item at most, and may make all other calls meanwhile. The
+   segment of a held item isn't recycled, and puts of its client pass over it: hold for a short time. A client
+   that is given back holds nothing any longer.
+   Answers: OK; MISS; BUSY; ALREADY_HOLDING, and the earlier hold stays; BAD_KEY, NO_HANDLE. */
+static inline uint32_t segcache_hold(segcache_client *client, const void *key, size_t key_len, uint32_t now) {
+  SEGCACHE_BYTES(key, key_len);
+  return SEGCACHE_CALL(client, segcache_raw_hold(&client->raw, (const uint8_t *)key, key_len, now));
+}
+
+/* Copies the value that is held. Answers: OK; SHORT_BUFFER, as segcache_get; NOT_HOLDING, NO_HANDLE. */
+static inline uint32_t segcache_held_value(segcache_client *client, void *value, size_t room, size_t *value_len) {
+  SEGCACHE_BYTES(value, room);
+  SEGCACHE_BYTES(value_len, sizeof *value_len);
+  SEGCACHE_APART(value, room, value_len, sizeof *value_len);
+  return SEGCACHE_CALL(client, segcache_raw_held_value(&client->raw, (uint8_t *)value, room, value_len));
+}
+
+/* Ends the hold. Answers: OK, NOT_HOLDING, NO_HANDLE. */
+static inline uint32_t segcache_release(segcache_client *client) {
+  return SEGCACHE_CALL(client, segcache_raw_release(&client->raw));
+}
+
+/* Makes a note of all that the client has seen, its own puts among it. Send it to another thread beside what you
+   tell that one; a client there learns it, and its gets then read what this client has put, or what was stored
+   since. That is proved. Without notes gets read the same, as tests show; so a program needs none.
+   The note is written, and what it was before is lost: learn or free each note once. It may outlive its cache.
+   Answers: OK; OUT_OF_MEMORY, NO_HANDLE, and the note is zeroed. */
+static inline uint32_t segcache_note(segcache_client *client, segcache_note_t *note) {
+  uint32_t status;
+  memset(note, 0, sizeof *note);
+  status = SEGCACHE_CALL(client, segcache_raw_note(&client->raw, &note->raw));
+  if (status != SEGCACHE_OK) return status;
+  note->home = client->home;
+  SEGCACHE_NOTED(client, note);
+  return status;
+}
+
+/* The same as segcache_learn, once the client is in a call. */
+static inline uint32_t segcache_learn_entered(segcache_client *client, segcache_note_t *note) {
+  return SEGCACHE_CALL(note, segcache_raw_learn(&client->raw, &note->raw));
+}
+
+/* The client has then seen what the note has. The note is none afterwards. It is of a client of the same cache,
+   and not of one that was freed. Answers: OK; FOREIGN, and nothing changed; NO_HANDLE, of either. */
+static inline uint32_t segcache_learn(segcache_client *client, segcache_note_t *note) {
+  if (client == NULL || note == NULL || !client->raw.full || !note->raw.full) return SEGCACHE_NO_HANDLE;
+  if (client->home != note->home) return SEGCACHE_FOREIGN;
+  SEGCACHE_SAME_CACHE(client, note);
+  return SEGCACHE_CALL(client, segcache_learn_entered(client, note));
+}
+
+/* Frees a note that nobody is to learn. It is none afterwards. Answers: OK, NO_HANDLE. */
+static inline uint32_t segcache_note_free(segcache_note_t *note) {
+  return SEGCACHE_CALL(note, segcache_raw_note_free(&note->raw));
+}
+
 /* --- Settings, room and counts ---------------------------------------------------------------------- */
 
 /* From the client's next segment on, what it stores is absent at `now` plus this time, or earlier: a
@@ -293,7 +371,7 @@ static inline uint32_t segcache_set_time_to_live(segcache_client *client, uint32
 }
 
 /* From now on the client's puts keep items that were read often (of this frequency, 1 to 255, or more)
-   when they give up a segment. 3 did best on keys by Zipf's law. 0 keeps nothing, and more than 255
+   when they recycle a segment. 3 did best on keys by Zipf's law. 0 keeps nothing, and more than 255
    counts as 255. Answers: OK, NO_HANDLE. */
 static inline uint32_t segcache_keep_from(segcache_client *client, uint32_t cutoff) {
   return SEGCACHE_CALL(client, segcache_raw_keep_from(&client->raw, cutoff));
@@ -341,26 +419,26 @@ static inline uint32_t segcache_give_back(segcache *cache, segcache_client *clie
    content is lost; NO_HANDLE. */
 static inline uint32_t segcache_close(segcache *cache, segcache_cursor *cursor) {
   segcache_handle made;
-  uint32_t told;
+  uint32_t status;
   memset(&made, 0, sizeof made);
-  told = SEGCACHE_CALL(cache, segcache_raw_close(&cache->raw, &made));
+  status = SEGCACHE_CALL(cache, segcache_raw_close(&cache->raw, &made));
   cursor->raw = made;
-  return told;
+  if (status == SEGCACHE_OK) SEGCACHE_CLOSED(cursor);
+  return status;
 }
 
 /* Copies the next pair, in the order of the keys' bytes: `key[24]` and `value[32]`, and their lengths.
    Answers: OK, END, NO_HANDLE. */
 static inline uint32_t segcache_next(segcache_cursor *cursor, void *key, size_t *key_len, void *value,
                                      size_t *value_len) {
-  if (cursor == NULL) return SEGCACHE_NO_HANDLE;
-  return segcache_raw_next(&cursor->raw, (uint8_t *)key, SEGCACHE_MAX_KEY, key_len, (uint8_t *)value,
-                           SEGCACHE_MAX_VALUE, value_len);
+  SEGCACHE_APART(key, SEGCACHE_MAX_KEY, value, SEGCACHE_MAX_VALUE);
+  return SEGCACHE_CALL(cursor, segcache_raw_next(&cursor->raw, (uint8_t *)key, SEGCACHE_MAX_KEY, key_len,
+                                                 (uint8_t *)value, SEGCACHE_MAX_VALUE, value_len));
 }
 
 /* Frees a cursor, wherever it is. It is none afterwards. Answers: OK, NO_HANDLE. */
 static inline uint32_t segcache_cursor_free(segcache_cursor *cursor) {
-  if (cursor == NULL) return SEGCACHE_NO_HANDLE;
-  return segcache_raw_cursor_free(&cursor->raw);
+  return SEGCACHE_CALL(cursor, segcache_raw_cursor_free(&cursor->raw));
 }
 
 /* Gives all memory of a cache back, whose clients were all given back. The cache is none afterwards.

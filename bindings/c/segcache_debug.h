@@ -9,14 +9,17 @@
 
 enum { SEGCACHE_DEBUG_PLACES = 4096 };
 
-/* A live cache or client: what it is to the library, and whether it is in a call. */
+/* A live handle. */
 typedef struct segcache_debug_place {
-  void *at;
-  int busy;
+  void *at;            /* what it is to the library; NULL in a free place */
+  unsigned long id;    /* no two handles have the same */
+  unsigned long cache; /* the id of its cache */
+  int busy;            /* whether it is in a call */
 } segcache_debug_place;
 
 __attribute__((weak)) segcache_debug_place segcache_debug_places[SEGCACHE_DEBUG_PLACES];
 __attribute__((weak)) char segcache_debug_locked;
+__attribute__((weak)) unsigned long segcache_debug_count;
 
 static inline void segcache_debug_lock(void) {
   while (__atomic_test_and_set(&segcache_debug_locked, __ATOMIC_SEQ_CST)) {
@@ -30,7 +33,7 @@ static inline void segcache_debug_fail(const char *function, const char *what) {
   abort();
 }
 
-/* The place of a handle, or of a free place if that is asked for by NULL; the lock is held. */
+/* The place of a handle, or a free place if `at` is NULL; the lock is held. */
 static inline segcache_debug_place *segcache_debug_find(const void *at) {
   int i;
   for (i = 0; i < SEGCACHE_DEBUG_PLACES; i++)
@@ -38,50 +41,78 @@ static inline segcache_debug_place *segcache_debug_find(const void *at) {
   return NULL;
 }
 
-static inline void segcache_debug_add(void *at) {
+/* A handle begins to live, as one of a cache with this id, or of itself. A handle that dies in a call just now may
+   still stand at the same address: the new one takes its place. The id of the new one. */
+static inline unsigned long segcache_debug_add(void *at, unsigned long cache) {
   segcache_debug_place *place;
+  unsigned long id;
   segcache_debug_lock();
-  place = segcache_debug_find(NULL);
+  id = ++segcache_debug_count;
+  place = segcache_debug_find(at);
+  if (place == NULL) place = segcache_debug_find(NULL);
   if (place != NULL) {
     place->at = at;
+    place->id = id;
+    place->cache = cache != 0 ? cache : id;
     place->busy = 0;
   }
   segcache_debug_unlock();
-  if (place == NULL) segcache_debug_fail("segcache_open", "more handles than SEGCACHE_DEBUG has places for");
+  if (place == NULL) segcache_debug_fail("segcache", "more handles than SEGCACHE_DEBUG has places for");
+  return id;
 }
 
 static inline void segcache_debug_opened(void *cache, const segcache_client *clients, uint32_t count) {
   uint32_t i;
-  segcache_debug_add(cache);
-  for (i = 0; i < count; i++) segcache_debug_add(clients[i].raw.at);
+  unsigned long id = segcache_debug_add(cache, 0);
+  for (i = 0; i < count; i++) segcache_debug_add(clients[i].raw.at, id);
 }
 
-/* A call begins: the handle lives, and is in no other call. */
-static inline void *segcache_debug_enter(const segcache_handle *handle, const char *function) {
+/* The id of the cache of a handle, or 0 if the handle doesn't live. */
+static inline unsigned long segcache_debug_cache_of(const void *at) {
+  const segcache_debug_place *place;
+  unsigned long cache;
+  segcache_debug_lock();
+  place = at == NULL ? NULL : segcache_debug_find(at);
+  cache = place == NULL ? 0 : place->cache;
+  segcache_debug_unlock();
+  return cache;
+}
+
+/* A note and a client whose caches have the same address are of the same cache. */
+static inline void segcache_debug_same_cache(const void *client, const void *note, const char *function) {
+  unsigned long mine = segcache_debug_cache_of(client), its = segcache_debug_cache_of(note);
+  if (mine != 0 && its != 0 && mine != its) segcache_debug_fail(function, "a note of a cache that was freed");
+}
+
+/* A call begins: the handle lives, and is in no other call. The id of the handle. */
+static inline unsigned long segcache_debug_enter(const segcache_handle *handle, const char *function) {
   segcache_debug_place *place;
+  unsigned long id = 0;
   int was_busy = 0;
-  if (handle->at == NULL) return NULL; /* the library's own answer is NO_HANDLE */
+  if (handle->at == NULL) return 0; /* the library's own answer is NO_HANDLE */
   segcache_debug_lock();
   place = segcache_debug_find(handle->at);
   if (place != NULL) {
+    id = place->id;
     was_busy = place->busy;
     place->busy = 1;
   }
   segcache_debug_unlock();
-  if (place == NULL) segcache_debug_fail(function, "a handle that was given back or freed, or was never opened");
+  if (id == 0) segcache_debug_fail(function, "a handle that was given back or freed, or was never opened");
   if (was_busy) segcache_debug_fail(function, "a handle that is in another call, as of another thread");
-  return handle->at;
+  return id;
 }
 
 /* The call is over. If it left the handle zeroed, that lives no more. */
-static inline void segcache_debug_leave(void *at, const segcache_handle *handle) {
-  segcache_debug_place *place;
-  if (at == NULL) return;
+static inline void segcache_debug_leave(unsigned long id, const segcache_handle *handle) {
+  int i;
+  if (id == 0) return;
   segcache_debug_lock();
-  place = segcache_debug_find(at);
-  if (place != NULL) {
+  for (i = 0; i < SEGCACHE_DEBUG_PLACES; i++) {
+    segcache_debug_place *place = &segcache_debug_places[i];
+    if (place->id != id) continue;
     place->busy = 0;
-    if (handle->at == NULL) place->at = NULL;
+    if (handle->at == NULL) memset(place, 0, sizeof *place);
   }
   segcache_debug_unlock();
 }
@@ -94,21 +125,24 @@ static inline void segcache_debug_apart(const void *a, size_t a_len, const void 
                                         const char *function) {
   uintptr_t at = (uintptr_t)a, other = (uintptr_t)b;
   if (a_len != 0 && b_len != 0 && at < other + b_len && other < at + a_len)
-    segcache_debug_fail(function, "what is written overlaps what is read");
+    segcache_debug_fail(function, "what is written overlaps something else that is passed");
 }
 
 #define SEGCACHE_CALL(of, call)                                                  \
   __extension__({                                                                \
-    uint32_t told_ = SEGCACHE_NO_HANDLE;                                         \
+    uint32_t status_ = SEGCACHE_NO_HANDLE;                                       \
     if ((of) != NULL) {                                                          \
-      void *entered_ = segcache_debug_enter(&(of)->raw, __func__);               \
-      told_ = (call);                                                            \
+      unsigned long entered_ = segcache_debug_enter(&(of)->raw, __func__);       \
+      status_ = (call);                                                          \
       segcache_debug_leave(entered_, &(of)->raw);                                \
     }                                                                            \
-    told_;                                                                       \
+    status_;                                                                     \
   })
 #define SEGCACHE_BYTES(at, length) segcache_debug_bytes(at, length, __func__)
 #define SEGCACHE_APART(a, a_len, b, b_len) segcache_debug_apart(a, a_len, b, b_len, __func__)
 #define SEGCACHE_OPENED(cache, clients, count) segcache_debug_opened((cache)->raw.at, clients, count)
+#define SEGCACHE_NOTED(client, note) segcache_debug_add((note)->raw.at, segcache_debug_cache_of((client)->raw.at))
+#define SEGCACHE_SAME_CACHE(client, note) segcache_debug_same_cache((client)->raw.at, (note)->raw.at, __func__)
+#define SEGCACHE_CLOSED(cursor) segcache_debug_add((cursor)->raw.at, 0)
 
 #endif

@@ -15,9 +15,9 @@ struct worker {
   long wrong, hits, stored, refused;
 };
 
-static void check_value(struct worker *worker, uint32_t told, uint32_t key, const uint8_t *value, size_t length) {
-  if (told != SEGCACHE_OK) {
-    if (told != SEGCACHE_MISS && told != SEGCACHE_BUSY) worker->wrong++;
+static void check_value(struct worker *worker, uint32_t status, uint32_t key, const uint8_t *value, size_t length) {
+  if (status != SEGCACHE_OK) {
+    if (status != SEGCACHE_MISS && status != SEGCACHE_BUSY) worker->wrong++;
     return;
   }
   uint32_t of = 0;
@@ -34,23 +34,23 @@ static void *work(void *argument) {
   size_t length = 0;
   for (int i = 0; i < commands; i++) {
     worker->seed = worker->seed * 1664525u + 1013904223u;
-    uint32_t key = (worker->seed >> 8) % KEYS, now = (uint32_t)i, told;
+    uint32_t key = (worker->seed >> 8) % KEYS, now = (uint32_t)i, status;
     switch ((worker->seed >> 28) % 8) {
-    case 1: told = segcache_delete(client, &key, 4, now); break;
+    case 1: status = segcache_delete(client, &key, 4, now); break;
     case 2:
     case 3:
       memset(value, 0, sizeof value);
       memcpy(value, &key, 4);
       length = 4 + key % 29;
       if (length > 4) value[length - 1] = (uint8_t)(key + length);
-      told = segcache_put(client, &key, 4, value, length, now);
-      if (told == SEGCACHE_OK) worker->stored++;
-      else if (told == SEGCACHE_BUSY || told == SEGCACHE_NO_ROOM || told == SEGCACHE_BUCKET_FULL) worker->refused++;
+      status = segcache_put(client, &key, 4, value, length, now);
+      if (status == SEGCACHE_OK) worker->stored++;
+      else if (status == SEGCACHE_BUSY || status == SEGCACHE_NO_ROOM || status == SEGCACHE_BUCKET_FULL) worker->refused++;
       else worker->wrong++;
       break;
     default:
-      told = segcache_get(client, &key, 4, now, value, 32, &length);
-      check_value(worker, told, key, value, length);
+      status = segcache_get(client, &key, 4, now, value, 32, &length);
+      check_value(worker, status, key, value, length);
     }
   }
   return NULL;

@@ -2,7 +2,7 @@
 use segcache::{Cache, Client, Error};
 use std::thread;
 
-fn look(client: &mut Client) -> Result<u32, Error> {
+fn look(client: &Client) -> Result<u32, Error> {
     let mut found = 0;
     for look in 0..100_000_u32 {
         client.set_now(look / 1_000);

@@ -14,9 +14,9 @@ impl<const N: usize> Bytes<N> {
     /// What the library writes into a buffer and a length.
     pub(crate) fn written<T>(write: impl FnOnce(*mut u8, usize, &mut usize) -> T) -> (T, Bytes<N>) {
         let (mut bytes, mut length) = ([0; N], 0);
-        let told = write(bytes.as_mut_ptr(), N, &mut length);
+        let status = write(bytes.as_mut_ptr(), N, &mut length);
         let length = length.min(N);
-        (told, Bytes { bytes, length })
+        (status, Bytes { bytes, length })
     }
 
     /// The bytes.

@@ -86,14 +86,14 @@ impl Builder {
         let mut clients: Vec<Handle> = (0..count).map(|_| Handle::none()).collect();
         let (at, len) = (clients.as_mut_ptr(), clients.len());
         // SAFETY: the handles are none and apart from each other, and the length is that of the list.
-        let told = unsafe {
+        let status = unsafe {
             match &self.shape {
                 Some(shape) => raw::segcache_raw_open_shape(shape, &mut cache, at, len),
                 None => raw::segcache_raw_open(self.keys, self.threads, &mut cache, at, len),
             }
         };
-        if told != 0 {
-            return Err(Error::of(told));
+        if status != 0 {
+            return Err(Error::of(status));
         }
         let shared = Arc::new(Shared { handle: Mutex::new(cache) });
         let clients = clients.into_iter().map(|handle| Client::new(Arc::clone(&shared), handle));
@@ -126,9 +126,9 @@ impl Cache {
         // SAFETY: the handle is the cache's, and the cursor is none.
         match self.shared.with(|cache| unsafe { raw::segcache_raw_close(cache, &mut cursor) }) {
             0 => Ok(Content { cursor }),
-            told => {
+            status => {
                 let lost = self.shared.with(|cache| cache.is_none());
-                Err(Unclosed { cache: if lost { None } else { Some(self) }, error: Error::of(told) })
+                Err(Unclosed { cache: if lost { None } else { Some(self) }, error: Error::of(status) })
             }
         }
     }
@@ -166,7 +166,7 @@ impl Iterator for Content {
 
     fn next(&mut self) -> Option<(Key, Value)> {
         let cursor: *mut Handle = &mut self.cursor;
-        let ((told, value), key) = Bytes::written(|key, key_room, key_len| {
+        let ((status, value), key) = Bytes::written(|key, key_room, key_len| {
             Bytes::written(|value, value_room, value_len| {
                 // SAFETY: the cursor is this one's, and the buffers are apart and as long as is said.
                 unsafe {
@@ -174,7 +174,7 @@ impl Iterator for Content {
                 }
             })
         });
-        (told == 0).then_some((key, value))
+        (status == 0).then_some((key, value))
     }
 }
 

@@ -1,11 +1,12 @@
 //! A client: what one thread reads and writes the cache by.
 use crate::cache::Shared;
 use crate::raw::{self, Handle};
-use crate::{Bytes, Error, Value};
+use crate::{Bytes, Error, Hold, Note, Value};
+use std::cell::{Cell, UnsafeCell};
 use std::num::NonZeroU8;
 use std::sync::Arc;
 
-const OK: u32 = 0;
+pub(crate) const OK: u32 = 0;
 const MISS: u32 = 1;
 const NO_ROOM: u32 = 3;
 const NOT_STORED: u32 = 5;
@@ -64,62 +65,84 @@ pub struct IndexStats {
 #[derive(Debug)]
 pub struct Client {
     shared: Arc<Shared>,
-    handle: Handle,
-    now: u32,
+    // The calls need it to themselves. No two are at work at once: a client isn't `Sync`, and no call runs the
+    // program's own code.
+    handle: UnsafeCell<Handle>,
+    now: Cell<u32>,
 }
 
 type Write = unsafe extern "C" fn(*mut Handle, *const u8, usize, *const u8, usize, u32) -> u32;
 
 impl Client {
     pub(crate) fn new(shared: Arc<Shared>, handle: Handle) -> Client {
-        Client { shared, handle, now: 0 }
+        Client { shared, handle: UnsafeCell::new(handle), now: Cell::new(0) }
+    }
+
+    pub(crate) fn handle(&self) -> *mut Handle {
+        self.handle.get()
     }
 
     /// Sets the client's clock, a number in units of your choice. It stands still until it is set again.
-    pub fn set_now(&mut self, now: u32) {
-        self.now = now;
+    pub fn set_now(&self, now: u32) {
+        self.now.set(now);
     }
 
     /// The value of a key, or `None` if it is absent.
     ///
     /// # Errors
     /// [`Error::Busy`], [`Error::BadKey`].
-    pub fn get(&mut self, key: impl AsRef<[u8]>) -> Result<Option<Value>, Error> {
-        let (client, key, now) = (&mut self.handle, key.as_ref(), self.now);
+    pub fn get(&self, key: impl AsRef<[u8]>) -> Result<Option<Value>, Error> {
+        let (key, now) = (key.as_ref(), self.now.get());
         // SAFETY: the handle is this client's; the slices are borrowed, and the buffer is apart.
-        let (told, value) = Bytes::written(|value, room, length| unsafe {
-            raw::segcache_raw_get(client, key.as_ptr(), key.len(), value, room, length, now)
+        let (status, value) = Bytes::written(|value, room, length| unsafe {
+            raw::segcache_raw_get(self.handle(), key.as_ptr(), key.len(), value, room, length, now)
         });
-        found(told, value)
+        found(status, value)
     }
 
     /// The value of a key with the version of its bucket, for [`Client::cas`].
     ///
     /// # Errors
     /// As [`Client::get`].
-    pub fn gets(&mut self, key: impl AsRef<[u8]>) -> Result<Option<(Value, Version)>, Error> {
-        let (client, key, now, mut version) = (&mut self.handle, key.as_ref(), self.now, 0);
+    pub fn gets(&self, key: impl AsRef<[u8]>) -> Result<Option<(Value, Version)>, Error> {
+        let (key, now, mut version) = (key.as_ref(), self.now.get(), 0);
+        let (at, len) = (key.as_ptr(), key.len());
         // SAFETY: as in get.
-        let (told, value) = Bytes::written(|value, room, length| unsafe {
-            raw::segcache_raw_gets(client, key.as_ptr(), key.len(), value, room, length, &mut version, now)
+        let (status, value) = Bytes::written(|value, room, length| unsafe {
+            raw::segcache_raw_gets(self.handle(), at, len, value, room, length, &mut version, now)
         });
-        Ok(found(told, value)?.map(|value| (value, Version(version))))
+        Ok(found(status, value)?.map(|value| (value, Version(version))))
     }
 
-    /// Stores a value, and makes room for it: if no row is left, the client gives up a segment of its own
+    /// Holds the value of a key, or `None` if it is absent: until the hold is dropped it reads the same, also
+    /// past its deadline and whatever becomes of the key. A client holds one value at a time.
+    ///
+    /// # Errors
+    /// [`Error::Busy`], [`Error::BadKey`], [`Error::AlreadyHolding`].
+    pub fn hold(&self, key: impl AsRef<[u8]>) -> Result<Option<Hold<'_>>, Error> {
+        let (key, now) = (key.as_ref(), self.now.get());
+        // SAFETY: the handle is this client's, and the slice is borrowed.
+        match unsafe { raw::segcache_raw_hold(self.handle(), key.as_ptr(), key.len(), now) } {
+            OK => Ok(Some(Hold::new(self))),
+            MISS => Ok(None),
+            other => Err(Error::of(other)),
+        }
+    }
+
+    /// Stores a value, and makes room for it: if no row is left, the client recycles a segment of its own
     /// with the keys in it. After an error the old value may stand; delete the key if nobody may read it.
     ///
     /// # Errors
     /// [`Error::NoRoom`], [`Error::BucketFull`], [`Error::Busy`], [`Error::BadKey`], [`Error::BadValue`].
-    pub fn put(&mut self, key: impl AsRef<[u8]>, value: impl AsRef<[u8]>) -> Result<(), Error> {
+    pub fn put(&self, key: impl AsRef<[u8]>, value: impl AsRef<[u8]>) -> Result<(), Error> {
         done(self.write(raw::segcache_raw_put, key.as_ref(), value.as_ref()))
     }
 
-    /// Stores a value, and makes no room: [`Error::NoRoom`] where a put would give up a segment.
+    /// Stores a value, and makes no room: [`Error::NoRoom`] where a put would recycle a segment.
     ///
     /// # Errors
     /// As [`Client::put`].
-    pub fn set(&mut self, key: impl AsRef<[u8]>, value: impl AsRef<[u8]>) -> Result<(), Error> {
+    pub fn set(&self, key: impl AsRef<[u8]>, value: impl AsRef<[u8]>) -> Result<(), Error> {
         done(self.write(raw::segcache_raw_set, key.as_ref(), value.as_ref()))
     }
 
@@ -127,7 +150,7 @@ impl Client {
     ///
     /// # Errors
     /// As [`Client::set`].
-    pub fn add(&mut self, key: impl AsRef<[u8]>, value: impl AsRef<[u8]>) -> Result<bool, Error> {
+    pub fn add(&self, key: impl AsRef<[u8]>, value: impl AsRef<[u8]>) -> Result<bool, Error> {
         either(self.write(raw::segcache_raw_add, key.as_ref(), value.as_ref()), NOT_STORED)
     }
 
@@ -135,7 +158,7 @@ impl Client {
     ///
     /// # Errors
     /// As [`Client::set`].
-    pub fn replace(&mut self, key: impl AsRef<[u8]>, value: impl AsRef<[u8]>) -> Result<bool, Error> {
+    pub fn replace(&self, key: impl AsRef<[u8]>, value: impl AsRef<[u8]>) -> Result<bool, Error> {
         either(self.write(raw::segcache_raw_replace, key.as_ref(), value.as_ref()), NOT_STORED)
     }
 
@@ -144,18 +167,18 @@ impl Client {
     /// # Errors
     /// As [`Client::set`].
     pub fn cas(
-        &mut self,
+        &self,
         key: impl AsRef<[u8]>,
         value: impl AsRef<[u8]>,
         version: Version,
     ) -> Result<Cas, Error> {
-        let (key, value) = (key.as_ref(), value.as_ref());
+        let (key, value, now) = (key.as_ref(), value.as_ref(), self.now.get());
         let (at, length) = (value.as_ptr(), value.len());
         // SAFETY: the handle is this client's, and the slices are borrowed.
-        let told = unsafe {
-            raw::segcache_raw_cas(&mut self.handle, key.as_ptr(), key.len(), at, length, version.0, self.now)
+        let status = unsafe {
+            raw::segcache_raw_cas(self.handle(), key.as_ptr(), key.len(), at, length, version.0, now)
         };
-        match told {
+        match status {
             OK => Ok(Cas::Stored),
             EXISTS => Ok(Cas::Exists),
             NOT_FOUND => Ok(Cas::NotFound),
@@ -167,82 +190,108 @@ impl Client {
     ///
     /// # Errors
     /// [`Error::Busy`], [`Error::BadKey`].
-    pub fn delete(&mut self, key: impl AsRef<[u8]>) -> Result<bool, Error> {
-        let key = key.as_ref();
+    pub fn delete(&self, key: impl AsRef<[u8]>) -> Result<bool, Error> {
+        let (key, now) = (key.as_ref(), self.now.get());
         // SAFETY: the handle is this client's, and the slice is borrowed.
-        let told = unsafe { raw::segcache_raw_delete(&mut self.handle, key.as_ptr(), key.len(), self.now) };
-        either(told, NOT_FOUND)
+        let status = unsafe { raw::segcache_raw_delete(self.handle(), key.as_ptr(), key.len(), now) };
+        either(status, NOT_FOUND)
+    }
+
+    /// A note of all that this client has seen, its own puts among it. Send it to another thread beside what
+    /// you tell that one; see [`Client::learn`].
+    ///
+    /// # Errors
+    /// [`Error::OutOfMemory`].
+    pub fn note(&self) -> Result<Note, Error> {
+        let mut note = Handle::none();
+        // SAFETY: the handle is this client's, and the note is none.
+        done(unsafe { raw::segcache_raw_note(self.handle(), &mut note) })?;
+        Ok(Note::new(&self.shared, note))
+    }
+
+    /// This client has then seen what the note has: its gets read what the note's client has put, or what was
+    /// stored since. That is proved. Without notes gets read the same, as tests show.
+    ///
+    /// # Errors
+    /// [`Error::Foreign`], if the note is of another cache.
+    pub fn learn(&self, mut note: Note) -> Result<(), Error> {
+        if !note.is_of(&self.shared) {
+            return Err(Error::Foreign);
+        }
+        // SAFETY: the handle is this client's, and the note is of the same cache, which is still there.
+        done(unsafe { raw::segcache_raw_learn(self.handle(), note.handle()) })
     }
 
     /// What this client stores from its next segment on is absent at its clock plus this time, or earlier.
-    pub fn set_time_to_live(&mut self, time_to_live: u32) {
+    pub fn set_time_to_live(&self, time_to_live: u32) {
         // SAFETY: the handle is this client's.
-        unsafe { raw::segcache_raw_set_time_to_live(&mut self.handle, time_to_live) };
+        unsafe { raw::segcache_raw_set_time_to_live(self.handle(), time_to_live) };
     }
 
-    /// With a cutoff, puts keep the items of this frequency or more when they give up a segment.
-    pub fn keep_from(&mut self, cutoff: Option<NonZeroU8>) {
+    /// With a cutoff, puts keep the items of this frequency or more when they recycle a segment.
+    pub fn keep_from(&self, cutoff: Option<NonZeroU8>) {
         let cutoff = cutoff.map_or(0, NonZeroU8::get).into();
         // SAFETY: the handle is this client's.
-        unsafe { raw::segcache_raw_keep_from(&mut self.handle, cutoff) };
+        unsafe { raw::segcache_raw_keep_from(self.handle(), cutoff) };
     }
 
     /// Begins another segment, and says whether one could be had.
     ///
     /// # Errors
     /// None that is known.
-    pub fn make_room(&mut self) -> Result<bool, Error> {
+    pub fn make_room(&self) -> Result<bool, Error> {
         // SAFETY: the handle is this client's.
-        either(unsafe { raw::segcache_raw_make_room(&mut self.handle, self.now) }, NO_ROOM)
+        either(unsafe { raw::segcache_raw_make_room(self.handle(), self.now.get()) }, NO_ROOM)
     }
 
     /// What this client's calls came to so far.
-    pub fn stats(&mut self) -> Stats {
+    pub fn stats(&self) -> Stats {
         let mut stats = Stats::default();
         // SAFETY: the handle is this client's.
-        unsafe { raw::segcache_raw_stats(&mut self.handle, &mut stats) };
+        unsafe { raw::segcache_raw_stats(self.handle(), &mut stats) };
         stats
     }
 
     /// How full the table is. It looks at all rows of the client's segments.
-    pub fn index_stats(&mut self) -> IndexStats {
+    pub fn index_stats(&self) -> IndexStats {
         let mut stats = IndexStats::default();
         // SAFETY: the handle is this client's.
-        unsafe { raw::segcache_raw_index_stats(&mut self.handle, &mut stats) };
+        unsafe { raw::segcache_raw_index_stats(self.handle(), &mut stats) };
         stats
     }
 
-    fn write(&mut self, write: Write, key: &[u8], value: &[u8]) -> u32 {
+    fn write(&self, write: Write, key: &[u8], value: &[u8]) -> u32 {
+        let now = self.now.get();
         // SAFETY: the handle is this client's, and the slices are borrowed.
-        unsafe { write(&mut self.handle, key.as_ptr(), key.len(), value.as_ptr(), value.len(), self.now) }
+        unsafe { write(self.handle(), key.as_ptr(), key.len(), value.as_ptr(), value.len(), now) }
     }
 }
 
 impl Drop for Client {
     fn drop(&mut self) {
-        let handle = &mut self.handle;
+        let handle = self.handle.get_mut();
         // SAFETY: the client is of this cache, and isn't used after this.
         self.shared.with(|cache| unsafe { raw::segcache_raw_give_back(cache, handle) });
     }
 }
 
-fn done(told: u32) -> Result<(), Error> {
-    match told {
+fn done(status: u32) -> Result<(), Error> {
+    match status {
         OK => Ok(()),
         other => Err(Error::of(other)),
     }
 }
 
-fn either(told: u32, no: u32) -> Result<bool, Error> {
-    match told {
+fn either(status: u32, no: u32) -> Result<bool, Error> {
+    match status {
         OK => Ok(true),
         other if other == no => Ok(false),
         other => Err(Error::of(other)),
     }
 }
 
-fn found(told: u32, value: Value) -> Result<Option<Value>, Error> {
-    match told {
+fn found(status: u32, value: Value) -> Result<Option<Value>, Error> {
+    match status {
         OK => Ok(Some(value)),
         MISS => Ok(None),
         other => Err(Error::of(other)),

@@ -19,8 +19,12 @@ pub enum Error {
     BadShape,
     /// The memory was refused.
     OutOfMemory,
+    /// The client holds a value: drop that hold first.
+    AlreadyHolding,
     /// A client of the cache is still there.
     ClientOut,
+    /// The note is of another cache.
+    Foreign,
     /// An answer that the call never gives; it would be a fault of the library.
     Unexpected(u32),
 }
@@ -35,7 +39,9 @@ impl Error {
             9 => Error::BadValue,
             11 => Error::BadShape,
             12 => Error::OutOfMemory,
+            14 => Error::AlreadyHolding,
             16 => Error::ClientOut,
+            17 => Error::Foreign,
             other => Error::Unexpected(other),
         }
     }
@@ -51,7 +57,9 @@ impl fmt::Display for Error {
             Error::BadValue => "a value has 32 bytes at most",
             Error::BadShape => "such a shape can't be",
             Error::OutOfMemory => "out of memory",
+            Error::AlreadyHolding => "the client holds a value already",
             Error::ClientOut => "a client of the cache is still there",
+            Error::Foreign => "the note is of another cache",
             Error::Unexpected(status) => return write!(f, "unexpected status {status}"),
         })
     }

@@ -27,10 +27,9 @@
 //! fn is_shared<T: Sync>() {}
 //! is_shared::<segcache::Client>();
 //! ```
-//! ```compile_fail,E0499
-//! let (_cache, mut clients) = segcache::Cache::builder().build()?;
+//! ```compile_fail,E0277
+//! let (_cache, clients) = segcache::Cache::builder().build()?;
 //! std::thread::scope(|scope| {
-//!     scope.spawn(|| clients[0].get("page"));
 //!     scope.spawn(|| clients[0].get("page"));
 //! });
 //! # Ok::<(), segcache::Error>(())
@@ -41,7 +40,7 @@
 //! ```
 //! use segcache::{Cas, Client, Error};
 //!
-//! fn count(client: &mut Client, page: &str) -> Result<Option<u8>, Error> {
+//! fn count(client: &Client, page: &str) -> Result<Option<u8>, Error> {
 //!     while let Some((value, version)) = client.gets(page)? {
 //!         let next = value[0] + 1;
 //!         if client.cas(page, [next], version)? == Cas::Stored {
@@ -50,27 +49,42 @@
 //!     }
 //!     Ok(None)
 //! }
-//! # let (_cache, mut clients) = segcache::Cache::builder().build()?;
+//! # let (_cache, clients) = segcache::Cache::builder().build()?;
 //! # clients[0].put("page", [7])?;
-//! assert_eq!(count(&mut clients[0], "page")?, Some(8));
+//! assert_eq!(count(&clients[0], "page")?, Some(8));
 //! # Ok::<(), Error>(())
+//! ```
+//!
+//! A value that is held reads the same until the hold is dropped, whatever becomes of its key:
+//!
+//! ```
+//! # let (_cache, clients) = segcache::Cache::builder().build()?;
+//! # let client = &clients[0];
+//! client.put("page", "first")?;
+//! if let Some(hold) = client.hold("page")? {
+//!     client.put("page", "second")?;
+//!     assert_eq!(hold.value(), b"first");
+//! }
+//! # Ok::<(), segcache::Error>(())
 //! ```
 //!
 //! **What is proved**: the library's functions, under Rattle, where their caller keeps to what the header
 //! `segcache.h` lists. This crate is written by hand, and keeps to it by ownership and borrows: a client is
-//! moved and never copied, its calls take `&mut self`, and it is given back to its own cache.
+//! moved and never copied, no two threads share it, and it is given back to its own cache.
 #![warn(missing_docs)]
 
 mod bytes;
 mod cache;
 mod client;
 mod error;
+mod hold;
 mod raw;
 
 pub use bytes::Bytes;
 pub use cache::{Builder, Cache, Content, Shape, Unclosed};
 pub use client::{Cas, Client, IndexStats, Stats, Version};
 pub use error::Error;
+pub use hold::{Hold, Note};
 
 /// A key of the content: 1 to 24 bytes.
 pub type Key = Bytes<24>;

@@ -33,6 +33,12 @@ extern "C" {
     pub(crate) fn segcache_raw_replace(client: *mut Handle, key: *const u8, key_len: usize, value: *const u8, value_len: usize, now: u32) -> u32;
     pub(crate) fn segcache_raw_cas(client: *mut Handle, key: *const u8, key_len: usize, value: *const u8, value_len: usize, version: u32, now: u32) -> u32;
     pub(crate) fn segcache_raw_delete(client: *mut Handle, key: *const u8, key_len: usize, now: u32) -> u32;
+    pub(crate) fn segcache_raw_hold(client: *mut Handle, key: *const u8, key_len: usize, now: u32) -> u32;
+    pub(crate) fn segcache_raw_held_value(client: *mut Handle, value: *mut u8, room: usize, value_len: *mut usize) -> u32;
+    pub(crate) fn segcache_raw_release(client: *mut Handle) -> u32;
+    pub(crate) fn segcache_raw_note(client: *mut Handle, note: *mut Handle) -> u32;
+    pub(crate) fn segcache_raw_learn(client: *mut Handle, note: *mut Handle) -> u32;
+    pub(crate) fn segcache_raw_note_free(note: *mut Handle) -> u32;
     pub(crate) fn segcache_raw_set_time_to_live(client: *mut Handle, seconds: u32) -> u32;
     pub(crate) fn segcache_raw_keep_from(client: *mut Handle, cutoff: u32) -> u32;
     pub(crate) fn segcache_raw_make_room(client: *mut Handle, now: u32) -> u32;

@@ -21,7 +21,7 @@ fn a_bad_shape_is_an_error() {
 
 #[test]
 fn a_key_reads_what_was_put() {
-    let (_cache, mut one, mut other) = two();
+    let (_cache, one, other) = two();
     assert_eq!(one.get("k"), Ok(None));
     assert_eq!(one.put("k", "value"), Ok(()));
     let value = other.get("k").unwrap().unwrap();
@@ -36,7 +36,7 @@ fn a_key_reads_what_was_put() {
 
 #[test]
 fn lengths_are_judged() {
-    let (_cache, mut client, _other) = two();
+    let (_cache, client, _other) = two();
     assert_eq!(client.get(""), Err(Error::BadKey));
     assert_eq!(client.put([1; 25], ""), Err(Error::BadKey));
     assert_eq!(client.put("k", [1; 33]), Err(Error::BadValue));
@@ -44,7 +44,7 @@ fn lengths_are_judged() {
 
 #[test]
 fn add_replace_and_cas_look_first() {
-    let (_cache, mut client, mut other) = two();
+    let (_cache, client, other) = two();
     assert_eq!(client.set("k", "1"), Err(Error::NoRoom));
     assert_eq!(client.make_room(), Ok(true));
     assert_eq!(client.replace("k", "1"), Ok(false));
@@ -66,7 +66,7 @@ fn add_replace_and_cas_look_first() {
 
 #[test]
 fn what_is_put_expires() {
-    let (_cache, mut client, _other) = two();
+    let (_cache, client, _other) = two();
     client.set_time_to_live(10);
     client.set_now(100);
     client.put("k", "v").unwrap();
@@ -79,8 +79,61 @@ fn what_is_put_expires() {
 }
 
 #[test]
+fn what_is_held_stays() {
+    let (_cache, one, other) = two();
+    assert!(one.hold("k").unwrap().is_none());
+    assert_eq!(one.hold("").err(), Some(Error::BadKey));
+    other.put("k", "first").unwrap();
+    let hold = one.hold("k").unwrap().unwrap();
+    assert_eq!(one.hold("k").err(), Some(Error::AlreadyHolding));
+    other.put("k", "second").unwrap();
+    assert_eq!(one.get("k").unwrap().unwrap(), b"second");
+    assert_eq!(one.delete("k"), Ok(true));
+    assert_eq!(hold.value(), b"first");
+    assert_eq!(hold.value(), hold.value());
+    drop(hold);
+    assert!(one.hold("k").unwrap().is_none());
+}
+
+#[test]
+fn a_held_segment_is_not_recycled() {
+    let shape = Shape { buckets: 4, overflow: 0, passes: 2, segments_each: 1, rows: 2, first_version: 0 };
+    let (_cache, clients) = Cache::builder().shape(shape).build().unwrap();
+    clients[0].put("k", "1").unwrap();
+    clients[0].put("k", "2").unwrap();
+    let hold = clients[1].hold("k").unwrap().unwrap();
+    assert_eq!(clients[0].put("k", "3"), Err(Error::NoRoom));
+    assert_eq!(hold.value(), b"2");
+    // A hold that is lost ends with its client.
+    std::mem::forget(hold);
+    assert_eq!(clients[0].put("k", "3"), Err(Error::NoRoom));
+    let mut clients = clients.into_iter();
+    let writer = clients.next().unwrap();
+    drop(clients);
+    assert_eq!(writer.put("k", "3"), Ok(()));
+}
+
+#[test]
+fn a_note_is_learned_by_a_client_of_its_cache() {
+    let (_cache, one, other) = two();
+    let (another, foreign, _) = two();
+    one.put("k", "v").unwrap();
+    let note = one.note().unwrap();
+    let reader = thread::spawn(move || {
+        other.learn(note).unwrap();
+        other.get("k").unwrap()
+    });
+    assert_eq!(reader.join().unwrap().unwrap(), b"v");
+    assert_eq!(one.learn(foreign.note().unwrap()), Err(Error::Foreign));
+    let late = foreign.note().unwrap();
+    drop((another, foreign));
+    assert_eq!(one.learn(late), Err(Error::Foreign));
+    drop(one.note());
+}
+
+#[test]
 fn the_content_is_listed_in_order() {
-    let (cache, mut one, mut other) = two();
+    let (cache, one, other) = two();
     one.put("b", "2").unwrap();
     other.put("a", "1").unwrap();
     drop(one);
@@ -96,7 +149,7 @@ fn the_content_is_listed_in_order() {
 
 #[test]
 fn clients_outlive_their_cache() {
-    let (cache, mut one, other) = two();
+    let (cache, one, other) = two();
     drop(cache);
     drop(other);
     assert_eq!(one.put("k", "v"), Ok(()));
@@ -114,7 +167,7 @@ fn four_threads_read_what_belongs_to_the_key() {
 }
 
 // Gets and puts of a client; how many gets found their key's value.
-fn run(mut client: Client) -> u64 {
+fn run(client: Client) -> u64 {
     let (mut drawn, mut hits) = (1_u32, 0);
     for _ in 0..20_000 {
         drawn = drawn.wrapping_mul(1_664_525).wrapping_add(1_013_904_223);

@@ -1,0 +1,41 @@
+/* What the files of the test program share. */
+#ifndef SEGCACHE_TEST_H
+#define SEGCACHE_TEST_H
+
+#define _GNU_SOURCE
+#include "segcache.h"
+
+#include <signal.h>
+#include <stdatomic.h>
+#include <stdio.h>
+#include <stdlib.h>
+#include <sys/wait.h>
+#include <unistd.h>
+
+extern int checks, faults;
+extern atomic_long out;    /* blocks of memory that are out */
+extern long until_refused; /* so many allocations more, and one is refused; none if negative */
+
+#define CHECK(condition)                                                      \
+  do {                                                                        \
+    checks++;                                                                 \
+    if (!(condition)) faults++, printf("%d: not so: %s\n", __LINE__, #condition); \
+  } while (0)
+
+#define EXPECT(call, wanted)                                                                                  \
+  do {                                                                                                      \
+    uint32_t status_here = (call);                                                                            \
+    checks++;                                                                                               \
+    if (status_here != (wanted))                                                                              \
+      faults++, printf("%d: %s: %s, and not: %s\n", __LINE__, #call, segcache_text(status_here), segcache_text(wanted)); \
+  } while (0)
+
+uint32_t put(segcache_client *client, const char *key, const char *value, uint32_t now);
+/* Whether the client reads the value under the key, or none if NULL is wanted. */
+int reads(segcache_client *client, const char *key, uint32_t now, const char *wanted);
+
+void test_holds(void);
+void test_notes(void);
+void test_debug(void);
+
+#endif
