@@ -6,7 +6,7 @@
  *     for (i = 0; i < 4; i++) segcache_give_back(&cache, &clients[i]);
  *     segcache_free(&cache);
  *
- * SHAPES. A key has 1 to 24 bytes, a value 0 to 32. A key is the bytes alone: a final NUL counts only if
+ * SHAPES. A key has 1 to 24 bytes, a value 0 to 32. A key is its bytes: a final NUL counts only if
  * the length counts it. `now` is the caller's clock, a number that grows, in units of the caller's choice
  * (seconds since the start, say); with no time to live set, any number below 4294967295 will do.
  *

@@ -47,7 +47,7 @@ static void test_time_and_holds(segcache_client *client) {
   EXPECT(segcache_hold(client, "short", 5, 110), SEGCACHE_MISS);
 }
 
-/* The segment of a held item isn't recycled: with that segment alone its client has no room. */
+/* The segment of a held item isn't recycled: its client has no other, so it has no room. */
 static void test_room_and_holds(void) {
   segcache cache;
   segcache_client clients[2];

@@ -49,8 +49,8 @@ struct worker {
   int epoll;
   uint32_t now;      /* seconds since the start, set before each round of events */
   uint32_t renew_at; /* when the next segment is to begin, if values expire */
-  pthread_mutex_t told_lock;
-  segcache_stats_t told; /* the client's counts after the last round, for any worker's stats */
+  pthread_mutex_t counts_lock;
+  segcache_stats_t counts; /* the client's counts after the last round, for any worker's stats */
 };
 
 struct buffer { char *at; size_t length, room, done; }; /* done: so much at the front is served or sent */
@@ -154,20 +154,20 @@ static const char *text_of(uint32_t status) {
 /* What the key reads, also with its version if that is wanted. A key that stays Busy is a miss. */
 static bool find(struct worker *worker, struct item *item, bool with_version) {
   const struct word *key = &item->key;
-  uint32_t told = SEGCACHE_BUSY;
-  for (int tries = 0; told == SEGCACHE_BUSY && tries < TRIES; tries++)
-    told = with_version ? segcache_gets(&worker->client, key->at, key->length, worker->now, &item->value,
+  uint32_t status = SEGCACHE_BUSY;
+  for (int tries = 0; status == SEGCACHE_BUSY && tries < TRIES; tries++)
+    status = with_version ? segcache_gets(&worker->client, key->at, key->length, worker->now, &item->value,
                                         sizeof item->value, &item->length, &item->version)
                         : segcache_get(&worker->client, key->at, key->length, worker->now, &item->value,
                                        sizeof item->value, &item->length);
-  return told == SEGCACHE_OK;
+  return status == SEGCACHE_OK;
 }
 
 static uint32_t take_out(struct worker *worker, struct word key) {
-  uint32_t told = SEGCACHE_BUSY;
-  for (int tries = 0; told == SEGCACHE_BUSY && tries < TRIES; tries++)
-    told = segcache_delete(&worker->client, key.at, key.length, worker->now);
-  return told;
+  uint32_t status = SEGCACHE_BUSY;
+  for (int tries = 0; status == SEGCACHE_BUSY && tries < TRIES; tries++)
+    status = segcache_delete(&worker->client, key.at, key.length, worker->now);
+  return status;
 }
 
 /* A segment has one deadline. So one begins each quarter of the time to live, and a value lives for three
@@ -183,16 +183,16 @@ static uint32_t store(struct worker *worker, enum kind kind, const struct item *
       segcache_put, segcache_add, segcache_replace};
   segcache_client *client = &worker->client;
   struct word key = item->key;
-  uint32_t told = SEGCACHE_BUSY, now = worker->now;
+  uint32_t status = SEGCACHE_BUSY, now = worker->now;
   renew(worker);
   for (int tries = 0; tries < TRIES; tries++) {
-    told = kind == CAS ? segcache_cas(client, key.at, key.length, &item->value, item->length, item->version, now)
+    status = kind == CAS ? segcache_cas(client, key.at, key.length, &item->value, item->length, item->version, now)
                        : calls[kind](client, key.at, key.length, &item->value, item->length, now);
-    bool made_room = told == SEGCACHE_NO_ROOM && kind != SET && segcache_make_room(client, now) == SEGCACHE_OK;
-    if (told != SEGCACHE_BUSY && !made_room) break;
+    bool made_room = status == SEGCACHE_NO_ROOM && kind != SET && segcache_make_room(client, now) == SEGCACHE_OK;
+    if (status != SEGCACHE_BUSY && !made_room) break;
   }
-  if (kind == SET && told != SEGCACHE_OK) take_out(worker, key); /* nobody is to read what it was to replace */
-  return told;
+  if (kind == SET && status != SEGCACHE_OK) take_out(worker, key); /* nobody is to read what it was to replace */
+  return status;
 }
 
 /* get and gets: a VALUE for each key that is there. */
@@ -246,8 +246,8 @@ static bool serve_delete(struct connection *connection, const struct request *re
   if (request->count < 2) return say(connection, false, "ERROR");
   if (!plain) return say(connection, false, BAD_LINE ".  Usage: delete <key> [noreply]");
   if (!is_key(request->words[1])) return say(connection, false, BAD_LINE);
-  uint32_t told = take_out(connection->worker, request->words[1]);
-  return say(connection, request->quiet, told == SEGCACHE_OK ? "DELETED" : text_of(told));
+  uint32_t status = take_out(connection->worker, request->words[1]);
+  return say(connection, request->quiet, status == SEGCACHE_OK ? "DELETED" : text_of(status));
 }
 
 /* incr and decr: gets and cas, again while others store meanwhile. */
@@ -258,20 +258,20 @@ static bool serve_count(struct connection *connection, const struct request *req
   if (!is_key(item.key)) return say(connection, false, BAD_LINE);
   if (!read_number(request->words[2], UINT64_MAX, &by))
     return say(connection, false, "CLIENT_ERROR invalid numeric delta argument");
-  uint32_t told = SEGCACHE_EXISTS;
-  for (int tries = 0; (told == SEGCACHE_BUSY || told == SEGCACHE_EXISTS) && tries < TRIES; tries++) {
+  uint32_t status = SEGCACHE_EXISTS;
+  for (int tries = 0; (status == SEGCACHE_BUSY || status == SEGCACHE_EXISTS) && tries < TRIES; tries++) {
     if (!find(connection->worker, &item, true)) return say(connection, request->quiet, "NOT_FOUND");
     struct word digits = {item.value.data, item.length - sizeof item.value.flags};
     if (!read_number(digits, UINT64_MAX, &number) || digits.length > 20)
       return say(connection, request->quiet, "CLIENT_ERROR cannot increment or decrement non-numeric value");
     number = up ? number + by : number < by ? 0 : number - by;
     item.length = sizeof item.value.flags + write_number(item.value.data, number);
-    told = store(connection->worker, CAS, &item);
+    status = store(connection->worker, CAS, &item);
   }
   char text[24] = {0};
   write_number(text, number);
-  if (told == SEGCACHE_EXISTS) told = SEGCACHE_BUSY;
-  return say(connection, request->quiet, told == SEGCACHE_OK ? text : text_of(told));
+  if (status == SEGCACHE_EXISTS) status = SEGCACHE_BUSY;
+  return say(connection, request->quiet, status == SEGCACHE_OK ? text : text_of(status));
 }
 
 static bool serve_stats(struct connection *connection, const struct request *request) {
@@ -280,9 +280,9 @@ static bool serve_stats(struct connection *connection, const struct request *req
   if (request->count > 1) return say(connection, false, "ERROR");
   for (uint32_t i = 0; i < server->threads; i++) {
     struct worker *worker = &server->workers[i];
-    pthread_mutex_lock(&worker->told_lock);
-    for (size_t k = 0; k < sizeof sum / sizeof(uint64_t); k++) ((uint64_t *)&sum)[k] += ((uint64_t *)&worker->told)[k];
-    pthread_mutex_unlock(&worker->told_lock);
+    pthread_mutex_lock(&worker->counts_lock);
+    for (size_t k = 0; k < sizeof sum / sizeof(uint64_t); k++) ((uint64_t *)&sum)[k] += ((uint64_t *)&worker->counts)[k];
+    pthread_mutex_unlock(&worker->counts_lock);
   }
   const struct { const char *name; uint64_t number; } stats[] = {
       {"pid", (uint64_t)getpid()}, {"uptime", (uint64_t)(seconds() - server->started)}, {"threads", server->threads},
@@ -408,9 +408,9 @@ static void *work(void *argument) {
       if (connection == NULL) stop = true;
       else if (!go_on(connection, events[i].events)) end_connection(connection);
     }
-    pthread_mutex_lock(&worker->told_lock);
-    segcache_stats(&worker->client, &worker->told);
-    pthread_mutex_unlock(&worker->told_lock);
+    pthread_mutex_lock(&worker->counts_lock);
+    segcache_stats(&worker->client, &worker->counts);
+    pthread_mutex_unlock(&worker->counts_lock);
   }
   return NULL;
 }
@@ -449,7 +449,7 @@ static int listen_at(const struct server *server) {
 static bool start(struct server *server, struct worker *worker) {
   struct epoll_event stop = {.events = EPOLLIN, .data.ptr = NULL};
   worker->server = server, worker->epoll = epoll_create1(EPOLL_CLOEXEC);
-  pthread_mutex_init(&worker->told_lock, NULL);
+  pthread_mutex_init(&worker->counts_lock, NULL);
   if (server->time_to_live > 0) segcache_set_time_to_live(&worker->client, server->time_to_live);
   if (server->keep_from > 0) segcache_keep_from(&worker->client, server->keep_from);
   return worker->epoll >= 0 && epoll_ctl(worker->epoll, EPOLL_CTL_ADD, server->stop, &stop) == 0 &&
@@ -485,8 +485,8 @@ int main(int count, char **words) {
                            "              [-e TIME TO LIVE] [-f CUTOFF]\n"), 2;
   segcache_client clients[SEGCACHE_MAX_THREADS];
   struct worker workers[SEGCACHE_MAX_THREADS] = {0};
-  uint32_t told = segcache_open(server.keys, server.threads, &server.cache, clients);
-  if (told != SEGCACHE_OK) return fprintf(stderr, "server: %s\n", segcache_text(told)), 1;
+  uint32_t status = segcache_open(server.keys, server.threads, &server.cache, clients);
+  if (status != SEGCACHE_OK) return fprintf(stderr, "server: %s\n", segcache_text(status)), 1;
   for (uint32_t i = 0; i < server.threads; i++) workers[i].client = clients[i];
   sigset_t ends;
   sigemptyset(&ends), sigaddset(&ends, SIGINT), sigaddset(&ends, SIGTERM), pthread_sigmask(SIG_BLOCK, &ends, NULL);
