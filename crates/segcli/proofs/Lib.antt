@@ -1,7 +1,9 @@
 pub mod Building
 pub mod HexWords
+pub mod Letters
 pub mod NoHelp
 pub mod Options
+pub mod Printed
 pub mod Showing
 pub mod TotalsText
 mod WordsFacts

@@ -15,7 +15,7 @@ use Rattle.clap.specs.declared.parser.matches.Found.{Found}
 use Rattle.clap.specs.ValueTests.{is_numeral}
 use Rattle.clap.proofs.WalkLemmas.{both, first_value-rows, one_text-rows}
 use Rattle.segcli.specs.CommandLine.{NumberOption}
-use Rattle.segcli.specs.Asked.{number_or, number_given, is_given}
+use Rattle.segcli.specs.Asked.{number_in, number_found, number_over, number_given, is_given}
 
 digits_pass : (ds : List ℕ) → AllDigits 10 ds → list_all (λ d. nat_lt (digit_value d) 10) ds ≡ true
 digits_pass [] h = refl
@@ -35,28 +35,36 @@ abbrev pub Gives : ℕ → List ℕ → Result ℕ ParseIntError → Type 0
 Gives bits text r = ParsesUnsigned bits 10 text r × ExplainsUnsignedError 10 text r × HasUnsignedDigitsIfOk text r
 
 -- a text that is no such number
-other_number : (other bits : ℕ) (text : List ℕ) (b : Bool) → fits bits (without_leading_plus text) ≡ b → (b ≡ true → ⊥) → other ≡ number_or other bits text
-other_number other bits text false is unfit = rw is refl
-other_number other bits text true is unfit = absurd (unfit refl)
+other_number : (bits : ℕ) (text : List ℕ) (b : Bool) → fits bits (without_leading_plus text) ≡ b → (b ≡ true → ⊥) → None ≡ number_in bits text
+other_number bits text false is unfit = rw is refl
+other_number bits text true is unfit = absurd (unfit refl)
 
-read_number : (other bits : ℕ) (text : List ℕ) (r : Option ℕ) → ReadsOne (Gives bits) text r → unwrap_or r other ≡ number_or other bits text
-read_number other bits text (Some n) read =
+read_number : (bits : ℕ) (text : List ℕ) (r : Option ℕ) → ReadsOne (Gives bits) text r → r ≡ number_in bits text
+read_number bits text (Some n) read =
     let ds : List ℕ = without_leading_plus text in
-    rw (lt-ltb 0 (length ds) read.0.0.0.0, digits_pass ds read.0.0.0.1, lt-ltb (digits_value 10 ds) (2 ^ bits) read.0.0.1) read.0.1
-read_number other bits text None read =
+    rw (lt-ltb 0 (length ds) read.0.0.0.0, digits_pass ds read.0.0.0.1, lt-ltb (digits_value 10 ds) (2 ^ bits) read.0.0.1) (ap Some read.0.1)
+read_number bits text None read =
     let ds : List ℕ = without_leading_plus text in
-    other_number other bits text (fits bits ds) refl (λ all.
+    other_number bits text (fits bits ds) refl (λ all.
     let outer = both _ _ all in
     let inner = both _ _ outer.0 in
     read.1.0 ((ltb-true _ _ inner.0, digits_from ds inner.1), ltb-true _ _ outer.1))
 
-found_number : (other bits : ℕ) (text : Option (List ℕ)) (r : Option ℕ) → (text ≡ None → r ≡ None) → ((t : List ℕ) → text ≡ Some t → ReadsOne (Gives bits) t r) → unwrap_or r other ≡ option_map_or (number_or other bits) text other
-found_number other bits None r none some = rw (none refl) refl
-found_number other bits (Some text) r none some = read_number other bits text r (some text refl)
+text_number : (bits : ℕ) (text : Option (List ℕ)) (r : Option ℕ) → (text ≡ None → r ≡ None) → ((t : List ℕ) → text ≡ Some t → ReadsOne (Gives bits) t r) → r ≡ option_map_or (number_in bits) text None
+text_number bits None r none some = none refl
+text_number bits (Some text) r none some = read_number bits text r (some text refl)
+
+-- the number of an option, if it has one
+pub option_found : (option : NumberOption) (found : Found) {r : Option ℕ} → (one_text found option.name ≡ None → r ≡ None) → ((t : List ℕ) → one_text found option.name ≡ Some t → ReadsOne (Gives option.bits) t r) → r ≡ number_found option (rows_of found)
+option_found option found {r} none some =
+    rw (← one_text-rows found option.name) (text_number option.bits (one_text found option.name) r none some)
+
+-- the same, or another number
+pub option_over : (other : ℕ) (option : NumberOption) (found : Found) {r : Option ℕ} {n : ℕ} → (one_text found option.name ≡ None → r ≡ None) → ((t : List ℕ) → one_text found option.name ≡ Some t → ReadsOne (Gives option.bits) t r) → n ≡ unwrap_or r other → n ≡ number_over other option (rows_of found)
+option_over other option found {r} none some is = is ∙ ap (λ o. unwrap_or o other) (option_found option found none some)
 
 pub option_read : (option : NumberOption) (found : Found) {r : Option ℕ} {n : ℕ} → (one_text found option.name ≡ None → r ≡ None) → ((t : List ℕ) → one_text found option.name ≡ Some t → ReadsOne (Gives option.bits) t r) → n ≡ unwrap_or r option.default → n ≡ number_given option (rows_of found)
-option_read option found {r} none some is =
-    is ∙ rw (← one_text-rows found option.name) (found_number option.default option.bits (one_text found option.name) r none some)
+option_read option found none some is = option_over option.default option found none some is
 
 -- a text that isn't `true`
 other_text : (text : List ℕ) (b : Bool) → bytes_eq text true_text ≡ b → (text ≡ true_text → ⊥) → false ≡ bytes_eq text true_text

@@ -1,5 +1,7 @@
 -- What words that are written out are read as.
-use Rattle.std.proofs.Common.{◌≡◌, [], ◌∷◌, None, Ok, true, false, refl, codes}
+use Rattle.std.proofs.Common.{◌≡◌, [], ◌∷◌, None, Ok, Err, true, false, inl, inr, refl, codes}
+use Rattle.std.specs.declared.alloc.Global.{Global}
+use Rattle.std.specs.declared.string.String.{String}
 use Rattle.std.specs.Fmt.{digits}
 use Rattle.std.specs.Int.NonZero.{non_zero_u32_get}
 use Rattle.std.specs.declared.num.NonZeroU32.{NonZeroU32}
@@ -8,23 +10,47 @@ use Rattle.clap.specs.declared.error.kind.ErrorKind.TheVariants as kind
 use Rattle.clap.proofs.OnLiterals.{clap_on_literals}
 use Rattle.segcli.specs.CommandLine.{command_line, default_shape}
 use Rattle.segcli.specs.Asked.{IsReadAsCommand}
+use Rattle.segcli.specs.declared.asked.Format.TheVariants as format
+use Rattle.segcli.specs.declared.asked.Load.{Load}
+use Rattle.segcli.specs.declared.arguments.Refusal.TheVariants as refusal
 use Rattle.segcli.specs.declared.command.Command.TheVariants as command
+
+-- the load that no option changes, over so many keys
+load_alone : NonZeroU32 → Load
+load_alone keys = record {
+  shape = default_shape;
+  seed = 1;
+  commands = 1000;
+  keys = keys;
+  format = format.Text;
+  stats = false;
+  progress = false;
+  explain = false;
+}
 
 script_alone : IsReadAsCommand (codes "script" ∷ []) (Ok (command.Script default_shape false None))
 unfolding command_line clap_on_literals digits
-script_alone = (refl, (refl, refl, refl, refl))
+script_alone = (refl, (refl, (default_shape, refl, refl), refl, refl))
 
-load_with_options : (keys : NonZeroU32) → non_zero_u32_get keys ≡ 64 → IsReadAsCommand (codes "load" ∷ codes "--seed" ∷ codes "7" ∷ codes "--rows=4" ∷ []) (Ok (command.Load (record default_shape { rows = 4 }) 7 1000 keys false))
-unfolding command_line clap_on_literals digits
-load_with_options keys is = (refl, (refl, refl, refl, refl, is, refl))
+load_with_options : (keys : NonZeroU32) → non_zero_u32_get keys ≡ 64 → IsReadAsCommand (codes "load" ∷ codes "--seed" ∷ codes "7" ∷ codes "--rows=4" ∷ []) (Ok (command.Load (record (load_alone keys) { shape = record default_shape { rows = 4 }; seed = 7 })))
+unfolding command_line clap_on_literals digits load_alone
+load_with_options keys is = (refl, (refl, record { shape = (default_shape, refl, refl); seed = refl; commands = refl; keys = is; format = refl; stats = refl; progress = refl; explain = refl }))
 
-load_over_keys : (keys : NonZeroU32) → non_zero_u32_get keys ≡ 1000000 → IsReadAsCommand (codes "load" ∷ codes "--keys" ∷ codes "1000000" ∷ []) (Ok (command.Load default_shape 1 1000 keys false))
-unfolding command_line clap_on_literals digits
-load_over_keys keys is = (refl, (refl, refl, refl, refl, is, refl))
+load_over_keys : (keys : NonZeroU32) → non_zero_u32_get keys ≡ 1000000 → IsReadAsCommand (codes "load" ∷ codes "--keys" ∷ codes "1000000" ∷ []) (Ok (command.Load (load_alone keys)))
+unfolding command_line clap_on_literals digits load_alone
+load_over_keys keys is = (refl, (refl, record { shape = (default_shape, refl, refl); seed = refl; commands = refl; keys = is; format = refl; stats = refl; progress = refl; explain = refl }))
 
-load_with_progress : (keys : NonZeroU32) → non_zero_u32_get keys ≡ 64 → IsReadAsCommand (codes "load" ∷ codes "--progress" ∷ codes "--seed=7" ∷ []) (Ok (command.Load default_shape 7 1000 keys true))
+load_told : (keys : NonZeroU32) → non_zero_u32_get keys ≡ 64 → IsReadAsCommand (codes "load" ∷ codes "--progress" ∷ codes "--format=json" ∷ codes "--stats" ∷ []) (Ok (command.Load (record (load_alone keys) { format = format.Json; stats = true; progress = true })))
+unfolding command_line clap_on_literals digits load_alone
+load_told keys is = (refl, (refl, record { shape = (default_shape, refl, refl); seed = refl; commands = refl; keys = is; format = refl; stats = refl; progress = refl; explain = refl }))
+
+load_in_no_format : (why : String Global) → IsReadAsCommand (codes "load" ∷ codes "--format" ∷ codes "xml" ∷ []) (Err (refusal.Usage why))
 unfolding command_line clap_on_literals digits
-load_with_progress keys is = (refl, (refl, refl, refl, refl, is, refl))
+load_in_no_format why = inr (refl, inl (refl, refl))
+
+help_of_help : (text : String Global) → IsReadAsCommand (codes "help" ∷ codes "-h" ∷ []) (Ok (command.Show text))
+unfolding command_line clap_on_literals digits
+help_of_help text = refl
 
 progress_twice : fault_of command_line (codes "load" ∷ codes "--progress" ∷ codes "--progress" ∷ []) ≡ kind.ArgumentConflict ∷ []
 unfolding command_line clap_on_literals digits

@@ -4,6 +4,8 @@ use Rattle.std.specs.Prelude.{⊤, Box, option_map}
 use Rattle.std.specs.List.{find, list_any}
 use Rattle.std.specs.Str.{bytes_eq}
 use Rattle.std.specs.Box.{box_value}
+use Rattle.std.specs.declared.alloc.Global.{Global}
+use Rattle.std.specs.declared.string.String.{String}
 use Rattle.std.proofs.lemmas.Slice.Eq.{bytes_eq-Decides}
 use Rattle.clap.specs.Walk.{Row, Text, answers_to, nothing_held, walk_from}
 use Rattle.clap.specs.Simple.{App, HasMatchesOf, Shape as CommandRules, built, entered, label_of, names_of, rows_at, subcommand_of, subcommand_rows, subcommand_rows_of}
@@ -21,7 +23,7 @@ use Rattle.clap.specs.declared.parser.matches.ArgMatches.TheViews.{out-ArgMatche
 use Rattle.clap.specs.declared.error.kind.ErrorKind.TheVariants as kind
 use Rattle.clap.proofs.OnLiterals.{clap_on_literals}
 use Rattle.segcli.specs.CommandLine.{Builds, command_line}
-use Rattle.segcli.specs.Asked.{IsAsked, IsCommandName, IsReadAsCommand, IsReadByClap, IsRefused, is_request}
+use Rattle.segcli.specs.Asked.{IsAsked, IsCommandName, IsMisnamed, IsReadAsCommand, IsReadByClap, IsRefused, is_request, plain_words}
 use Rattle.segcli.specs.declared.arguments.Refusal.{Refusal}
 use Rattle.segcli.specs.declared.arguments.Refusal.TheVariants as refusal
 use Rattle.segcli.specs.declared.command.Command.{Command}
@@ -37,7 +39,7 @@ pub some_words : {X : Type 0} (f : X → Text) (xs : List X) → (length xs == 0
 some_words f [] some none = true≢false some
 some_words f (x ∷ xs) some none = absurd (cc)
 
-pub of_words : (words : List Text) (read : Result Command Refusal) → (words ≡ [] → ⊥) → IsReadByClap words read → IsReadAsCommand words read
+pub of_words : (words : List Text) (read : Result Command Refusal) → (words ≡ [] → ⊥) → IsReadByClap (plain_words words) read → IsReadAsCommand words read
 of_words [] read some is = absurd (some refl)
 of_words (word ∷ words) read some is = is
 
@@ -45,9 +47,13 @@ of_words (word ∷ words) read some is = is
 
 pub command_read : (words : List Text) (found : Text × List Row) (asked : Command) → fault_of command_line words ≡ [] → subcommand_of command_line words ≡ Some found → IsAsked found asked → IsReadByClap words (Ok asked)
 command_read words found (command.Script shape explain file) none is asked = (none, subst (λ o. IsSomeAnd o (λ f. IsAsked f (command.Script shape explain file))) (sym is) asked)
-command_read words found (command.Load shape seed commands keys progress) none is asked = (none, subst (λ o. IsSomeAnd o (λ f. IsAsked f (command.Load shape seed commands keys progress))) (sym is) asked)
-command_read words found (command.Word text) none is asked = (none, subst (λ o. IsSomeAnd o (λ f. IsAsked f (command.Word text))) (sym is) asked)
+command_read words found (command.Load load) none is asked = (none, subst (λ o. IsSomeAnd o (λ f. IsAsked f (command.Load load))) (sym is) asked)
+command_read words found (command.Word word) none is asked = (none, subst (λ o. IsSomeAnd o (λ f. IsAsked f (command.Word word))) (sym is) asked)
 command_read words found (command.Show text) none is asked = absurd asked
+
+-- a format or a kind that is none
+pub choice_read : (words : List Text) (found : Text × List Row) (why : String Global) → fault_of command_line words ≡ [] → subcommand_of command_line words ≡ Some found → IsMisnamed found → IsReadByClap words (Err (refusal.Usage why))
+choice_read words found why none is named = inr (none, subst (λ o. IsSomeAnd o IsMisnamed) (sym is) named)
 
 abbrev Each : (CommandRules → Type 0) → List CommandRules → Type 0
 Each P [] = ⊤
@@ -121,8 +127,8 @@ pub fault_read : (words : List Text) (k : ErrorKind) (read : Result Command Refu
 fault_read words k (Ok (command.Show text)) (inl memory) refused = absurd (cc (ap is_request memory))
 fault_read words k (Ok (command.Show text)) (inr among) refused = among_any is_request k (fault_of command_line words) refused among
 fault_read words k (Ok (command.Script shape explain file)) why refused = absurd refused
-fault_read words k (Ok (command.Load shape seed commands keys progress)) why refused = absurd refused
-fault_read words k (Ok (command.Word text)) why refused = absurd refused
+fault_read words k (Ok (command.Load load)) why refused = absurd refused
+fault_read words k (Ok (command.Word word)) why refused = absurd refused
 fault_read words k (Err (refusal.Usage text)) (inl memory) refused = absurd (refused.1 memory)
-fault_read words k (Err (refusal.Usage text)) (inr among) refused = among_any (λ x. not (is_request x)) k (fault_of command_line words) (ap not refused.0) among
+fault_read words k (Err (refusal.Usage text)) (inr among) refused = inl (among_any (λ x. not (is_request x)) k (fault_of command_line words) (ap not refused.0) among)
 fault_read words k (Err refusal.OutOfMemory) why refused = tt

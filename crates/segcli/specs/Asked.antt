@@ -1,11 +1,13 @@
 -- What the program is asked to do by its words.
-use Rattle.std.specs.Prelude.{◌≡◌, ◌≢◌, ◌⊎◌, ◌^◌, ◌&&◌, ⊤, ℕ, max, Bool, true, false, not, List, [], ◌∷◌, None, Result, Ok, Err, IsSomeAnd, if◌then◌else◌, nat_lt, unwrap_or, codes}
+use Rattle.std.specs.Prelude.{◌≡◌, ◌≢◌, ◌⊎◌, ◌^◌, ◌&&◌, ◌||◌, ⊤, ℕ, max, Bool, true, false, not, List, [], ◌∷◌, Option, Some, None, Result, Ok, Err, IsSomeAnd, if◌then◌else◌, nat_lt, unwrap_or, codes}
 use Rattle.std.specs.List.{list_any}
 use Rattle.std.specs.Option.{option_map, option_map_or}
 use Rattle.std.specs.Int.NonZero.{non_zero_u32_get}
 use Rattle.std.specs.Str.{bytes_eq}
 use Rattle.std.specs.Str.Parse.{digits_value, true_text, without_leading_plus}
-use Rattle.segword.specs.Words.{Shape}
+use Rattle.segword.specs.Words.{IsValid, Shape}
+use Rattle.segword.specs.Shape.{HasRoomFor, IsFaultOfKeys}
+use Rattle.segword.specs.declared.shape.ShapeFault.{ShapeFault}
 use Rattle.clap.specs.Walk.{Row, Text, first_of, one_of}
 use Rattle.clap.specs.Simple.{subcommand_of}
 use Rattle.clap.specs.ValueTests.{is_numeral}
@@ -13,64 +15,128 @@ use Rattle.clap.specs.Faults.{fault_of}
 use Rattle.clap.specs.declared.error.kind.ErrorKind.{ErrorKind}
 use Rattle.clap.specs.declared.error.kind.ErrorKind.TheVariants as kind
 use Rattle.segcli.specs.CommandLine.{NumberOption, command_line, default_shape, hex}
-use Rattle.segcli.specs.CommandLine.{buckets_option, overflow_option, passes_option, segments_option, rows_option, first_version_option, seed_option, commands_option, keys_option, progress_flag, explain_flag, script_file}
+use Rattle.segcli.specs.CommandLine.{buckets_option, overflow_option, passes_option, segments_option, rows_option, first_version_option, for_keys_option, seed_option, commands_option, keys_option}
+use Rattle.segcli.specs.CommandLine.{stats_flag, progress_flag, explain_flag, script_file, format_choice, kind_choice}
 use Rattle.segcli.specs.declared.arguments.Refusal.{Refusal}
 use Rattle.segcli.specs.declared.arguments.Refusal.TheVariants as refusal
+use Rattle.segcli.specs.declared.asked.Format.{Format}
+use Rattle.segcli.specs.declared.asked.Format.TheVariants as format
+use Rattle.segcli.specs.declared.asked.Load.{Load}
+use Rattle.segcli.specs.declared.asked.Word.{Word}
+use Rattle.segcli.specs.declared.asked.WordKind.{WordKind}
+use Rattle.segcli.specs.declared.asked.WordKind.TheVariants as kinds
 use Rattle.segcli.specs.declared.command.Command.{Command}
 use Rattle.segcli.specs.declared.command.Command.TheVariants as command
 
 -- ---- the matches of a command
 
--- the number that a text writes, if it has at most `bits` bits, and else `other`
-abbrev pub number_or : ℕ → ℕ → Text → ℕ
-number_or other bits text =
+-- the number that a text writes, if it has at most `bits` bits
+abbrev pub number_in : ℕ → Text → Option ℕ
+number_in bits text =
     let digits = without_leading_plus text in
     if is_numeral digits && nat_lt (digits_value 10 digits) (2 ^ bits)
-    then digits_value 10 digits
-    else other
+    then Some (digits_value 10 digits)
+    else None
 
--- The number of an option. `clap` gives each option a text, of the words or its default,
--- and lets only such numbers through.
+-- The number of an option, if it has one.
+abbrev pub number_found : NumberOption → List Row → Option ℕ
+number_found option rows = option_map_or (number_in option.bits) (one_of option.name rows) None
+
+-- The same, and else this number.
+abbrev pub number_over : ℕ → NumberOption → List Row → ℕ
+number_over other option rows = unwrap_or (number_found option rows) other
+
+-- The number of an option, or else its default.
+-- `clap` lets only numbers within the option's bounds through.
 abbrev pub number_given : NumberOption → List Row → ℕ
-number_given option rows =
-    option_map_or (number_or option.default option.bits) (one_of option.name rows) option.default
+number_given option rows = number_over option.default option rows
 
 -- whether a flag is given: `clap` gives it the text `true` if the words have it, and else `false`
 abbrev pub is_given : Text → List Row → Bool
 is_given flag rows = option_map_or (λ text. bytes_eq text true_text) (one_of flag rows) false
 
--- the shape that the options give
-abbrev pub shape_given : List Row → Shape
-shape_given rows = record {
-  buckets = number_given buckets_option rows;
-  overflow = number_given overflow_option rows;
-  passes = number_given passes_option rows;
-  segments_each = number_given segments_option rows;
-  rows = number_given rows_option rows;
-  first_version = number_given first_version_option rows;
+-- The shape has room to spare for so many keys. If there is none for this number of passes,
+-- it is the default shape with that number, which is as bad.
+abbrev pub IsSized : ℕ → ℕ → Shape → Type 0
+IsSized keys passes shape =
+    (IsValid shape × (shape.passes ≡ passes) × HasRoomFor keys shape)
+    ⊎ ((fault : ShapeFault) × IsFaultOfKeys keys passes fault
+    × (shape ≡ record default_shape { passes = passes }))
+
+-- The shape before the options for its parts: the default one, or one for so many keys.
+abbrev pub IsBase : Option ℕ → ℕ → Shape → Type 0
+IsBase None passes shape = shape ≡ default_shape
+IsBase (Some keys) passes shape = IsSized keys passes shape
+
+-- the shape, with the parts that have an option
+abbrev pub shape_over : Shape → List Row → Shape
+shape_over base rows = record {
+  buckets = number_over base.buckets buckets_option rows;
+  overflow = number_over base.overflow overflow_option rows;
+  passes = number_over base.passes passes_option rows;
+  segments_each = number_over base.segments_each segments_option rows;
+  rows = number_over base.rows rows_option rows;
+  first_version = number_over base.first_version first_version_option rows;
 }
+
+-- The shape that the options give.
+abbrev pub IsShapeGiven : List Row → Shape → Type 0
+IsShapeGiven rows shape =
+    (base : Shape)
+    × IsBase (number_found for_keys_option rows) (number_given passes_option rows) base
+    × (shape ≡ shape_over base rows)
+
+-- the format of a word, or of no word
+abbrev pub format_named : Option Text → Option Format
+format_named None = Some format.Text
+format_named (Some word) =
+    if bytes_eq word (codes "text") then Some format.Text
+    else (if bytes_eq word (codes "json") then Some format.Json else None)
+
+-- the kind of word of a table that a word says, or no word
+abbrev pub kind_named : Option Text → Option WordKind
+kind_named None = Some kinds.Item
+kind_named (Some word) =
+    if bytes_eq word (codes "item") then Some kinds.Item
+    else (if bytes_eq word (codes "information") then Some kinds.Information
+    else (if bytes_eq word (codes "segment") then Some kinds.Segment else None))
 
 abbrev pub IsCommandName : Text → Type 0
 IsCommandName name = (name ≡ codes "script") ⊎ (name ≡ codes "load") ⊎ (name ≡ codes "word")
 
+-- The load is the one with these matches. It has at least one key: `clap` lets no 0 through.
+pub record IsLoadAsked (rows : List Row) (load : Load) : Type 0 where
+  pub shape : IsShapeGiven rows load.shape
+  pub seed : load.seed ≡ number_given seed_option rows
+  pub commands : load.commands ≡ number_given commands_option rows
+  pub keys : non_zero_u32_get load.keys ≡ max 1 (number_given keys_option rows)
+  pub format : format_named (first_of format_choice rows) ≡ Some load.format
+  pub stats : load.stats ≡ is_given stats_flag rows
+  pub progress : load.progress ≡ is_given progress_flag rows
+  pub explain : load.explain ≡ is_given explain_flag rows
+
+-- The word of the table is the one with these matches.
+pub record IsWordAsked (rows : List Row) (word : Word) : Type 0 where
+  pub text : word.text.now ≡ unwrap_or (first_of hex rows) []
+  pub kind : kind_named (first_of kind_choice rows) ≡ Some word.kind
+  pub explain : word.explain ≡ is_given explain_flag rows
+
 -- The command is the one of this name with these matches.
--- A load has at least one key: `clap` lets no 0 through.
 abbrev pub IsAsked : Text × List Row → Command → Type 0
 IsAsked asked (command.Script shape explain file) =
     (asked.0 ≡ codes "script")
-    × (shape ≡ shape_given asked.1)
+    × IsShapeGiven asked.1 shape
     × (explain ≡ is_given explain_flag asked.1)
     × (option_map (λ text. text.now) file ≡ first_of script_file asked.1)
-IsAsked asked (command.Load shape seed commands keys progress) =
-    (asked.0 ≡ codes "load")
-    × (shape ≡ shape_given asked.1)
-    × (seed ≡ number_given seed_option asked.1)
-    × (commands ≡ number_given commands_option asked.1)
-    × (non_zero_u32_get keys ≡ max 1 (number_given keys_option asked.1))
-    × (progress ≡ is_given progress_flag asked.1)
-IsAsked asked (command.Word text) =
-    (asked.0 ≡ codes "word") × (text.now ≡ unwrap_or (first_of hex asked.1) [])
+IsAsked asked (command.Load load) = (asked.0 ≡ codes "load") × IsLoadAsked asked.1 load
+IsAsked asked (command.Word word) = (asked.0 ≡ codes "word") × IsWordAsked asked.1 word
 IsAsked asked (command.Show text) = ⊥
+
+-- The command has a format or a kind that is none.
+abbrev pub IsMisnamed : Text × List Row → Type 0
+IsMisnamed asked =
+    ((asked.0 ≡ codes "load") × (format_named (first_of format_choice asked.1) ≡ None))
+    ⊎ ((asked.0 ≡ codes "word") × (kind_named (first_of kind_choice asked.1) ≡ None))
 
 -- ---- the words
 
@@ -89,7 +155,8 @@ IsRefused k (Err refusal.OutOfMemory) = ⊤
 
 -- What is read from one word or more. In a command that is read `clap` finds no fault.
 -- A request for help or for the version is a fault to `clap`, with a text that is shown.
--- Any other fault is a bad command line. In each case the answer may be out of memory.
+-- Any other fault is a bad command line, and so is a format or a kind that is none.
+-- In each case the answer may be out of memory.
 -- Words have one kind of fault, with two exceptions.
 -- A word that may be an argument or a command is bad as either.
 -- Of what stands behind the command `help`, `clap` says only that its help is shown,
@@ -101,10 +168,23 @@ IsReadByClap words (Ok asked) =
     (fault_of command_line words ≡ [])
     × IsSomeAnd (subcommand_of command_line words) (λ found. IsAsked found asked)
 IsReadByClap words (Err (refusal.Usage text)) =
-    list_any (λ k. not (is_request k)) (fault_of command_line words) ≡ true
+    (list_any (λ k. not (is_request k)) (fault_of command_line words) ≡ true)
+    ⊎ ((fault_of command_line words ≡ [])
+    × IsSomeAnd (subcommand_of command_line words) IsMisnamed)
 IsReadByClap words (Err refusal.OutOfMemory) = ⊤
+
+-- whether help is asked for of the command `help`
+abbrev pub asks_help_twice : List Text → Bool
+asks_help_twice (first ∷ second ∷ []) =
+    bytes_eq first (codes "help")
+    && (bytes_eq second (codes "-h") || bytes_eq second (codes "--help"))
+asks_help_twice _ = false
+
+-- the words that are read: help of the command `help` is the help of the program
+abbrev pub plain_words : List Text → List Text
+plain_words words = if asks_help_twice words then codes "help" ∷ [] else words
 
 -- What is read from the words. No words at all are the command `script` with no options.
 abbrev pub IsReadAsCommand : List Text → Result Command Refusal → Type 0
 IsReadAsCommand [] read = read ≡ Ok (command.Script default_shape false None)
-IsReadAsCommand (word ∷ words) read = IsReadByClap (word ∷ words) read
+IsReadAsCommand (word ∷ words) read = IsReadByClap (plain_words (word ∷ words)) read

@@ -36,7 +36,8 @@ abbrev pub of_32_bits : Text → ℕ → NumberOption
 of_32_bits name default =
     record { name = name; bits = 32; least = 0; most = 4294967295; default = default }
 
--- the options of a shape, each with its number in the default shape
+-- the options of a shape, each with its number in the default shape,
+-- and the one for a shape that has room for so many keys
 abbrev pub buckets_option : NumberOption
 buckets_option = of_32_bits (codes "buckets") default_shape.buckets
 
@@ -55,6 +56,9 @@ rows_option = of_32_bits (codes "rows") default_shape.rows
 abbrev pub first_version_option : NumberOption
 first_version_option = of_32_bits (codes "first-version") default_shape.first_version
 
+abbrev pub for_keys_option : NumberOption
+for_keys_option = record (of_32_bits (codes "for-keys") 1) { least = 1; most = 425984 }
+
 abbrev pub seed_option : NumberOption
 seed_option =
     record { name = codes "seed"; bits = 64; least = 0; most = 18446744073709551615; default = 1 }
@@ -68,7 +72,10 @@ keys_option = record (of_32_bits (codes "keys") 64) { least = 1; most = 1000000 
 abbrev pub shape_options : List NumberOption
 shape_options =
     buckets_option ∷ overflow_option ∷ passes_option ∷ segments_option ∷ rows_option
-    ∷ first_version_option ∷ []
+    ∷ first_version_option ∷ for_keys_option ∷ []
+
+abbrev pub load_options : List NumberOption
+load_options = seed_option ∷ commands_option ∷ keys_option ∷ []
 
 -- the parser that takes the numbers of an option
 abbrev pub number_parser : NumberOption → ValueParser
@@ -77,15 +84,20 @@ number_parser option =
     then parser.Unsigned option.least option.most
     else parser.Signed (pos option.least) (pos option.most)
 
--- an option of this name, whose values this parser takes,
--- and which has this value if it isn't given
+-- an option of this name, which has no value if it isn't given
+abbrev pub choice_rule : Text → Rule
+choice_rule name = record (new_rule name) { long = Some name; value_names = 1 }
+
+-- such an option, whose values this parser takes
+abbrev pub part_rule : Text → ValueParser → Rule
+part_rule name takes = record (choice_rule name) { parser = Some takes }
+
+-- such an option, which has this value if it isn't given
 abbrev pub option_rule : Text → ValueParser → Text → Rule
-option_rule name takes default = record (new_rule name) {
-  long = Some name;
-  value_names = 1;
-  parser = Some takes;
-  defaults = default ∷ [];
-}
+option_rule name takes default = record (part_rule name takes) { defaults = default ∷ [] }
+
+abbrev pub rule_of_part : NumberOption → Rule
+rule_of_part option = part_rule option.name (number_parser option)
 
 abbrev pub rule_of_option : NumberOption → Rule
 rule_of_option option = option_rule option.name (number_parser option) (decimal option.default)
@@ -98,7 +110,11 @@ flag_rule name = record (new_rule name) { long = Some name; action = Some SetTru
 abbrev pub progress_flag : Text
 progress_flag = codes "progress"
 
--- `--explain`, of a script
+-- `--stats`, of a load
+abbrev pub stats_flag : Text
+stats_flag = codes "stats"
+
+-- `--explain`
 abbrev pub explain_flag : Text
 explain_flag = codes "explain"
 
@@ -113,6 +129,14 @@ file_rule = new_rule script_file
 abbrev pub hex : Text
 hex = codes "HEX"
 
+-- `--format`, in which the totals of a load are written
+abbrev pub format_choice : Text
+format_choice = codes "format"
+
+-- `--kind`, which a word of the table is
+abbrev pub kind_choice : Text
+kind_choice = codes "kind"
+
 abbrev pub hex_rule : Rule
 hex_rule = record (new_rule hex) { required = true }
 
@@ -123,17 +147,18 @@ command_rules name rules = record (new_shape name) { rules = rules }
 
 abbrev pub script_rules : CommandRules
 script_rules =
-    command_rules (codes "script") (map rule_of_option shape_options
+    command_rules (codes "script") (map rule_of_part shape_options
     ++ file_rule ∷ flag_rule explain_flag ∷ [])
 
 abbrev pub load_rules : CommandRules
 load_rules =
-    command_rules (codes "load") (map rule_of_option
-    (shape_options ++ seed_option ∷ commands_option ∷ keys_option ∷ [])
-    ++ flag_rule progress_flag ∷ [])
+    command_rules (codes "load") (map rule_of_part shape_options ++ map rule_of_option load_options
+    ++ choice_rule format_choice ∷ flag_rule stats_flag ∷ flag_rule progress_flag
+    ∷ flag_rule explain_flag ∷ [])
 
 abbrev pub word_rules : CommandRules
-word_rules = command_rules (codes "word") (hex_rule ∷ [])
+word_rules =
+    command_rules (codes "word") (hex_rule ∷ choice_rule kind_choice ∷ flag_rule explain_flag ∷ [])
 
 -- the program itself, which reads the words after its name, and wants a command among them
 abbrev pub program_rules : CommandRules
@@ -157,8 +182,8 @@ command_line =
 
 -- ---- as `clap` holds them
 
-abbrev pub with_options : App → List NumberOption → App
-with_options app options = fold (λ a option. with_rule a (rule_of_option option)) app options
+abbrev pub with_parts : App → List NumberOption → App
+with_parts app options = fold (λ a option. with_rule a (rule_of_part option)) app options
 
 -- The command of `clap` is this one, and has no global options.
 abbrev pub Builds : App → Command → Type 0

@@ -1,17 +1,21 @@
 -- How the commands of the program end, and what is reported then.
-use Rattle.std.specs.Prelude.{◌≡◌, ℕ, Bool, true, List, [], Result, Ok, Err, string_bytes}
+use Rattle.std.specs.Prelude.{◌≡◌, ◌++◌, ℕ, Bool, true, List, [], Result, Ok, Err, string_bytes}
 use Rattle.std.specs.Int.NonZero.{non_zero_u32_get}
-use Rattle.segword.specs.Words.{Reading, Shape}
+use Rattle.segword.specs.Words.{Shape}
 use Rattle.segcli.specs.Explained.{SpellsWord, explanation}
 use Rattle.segcli.specs.Faults.{end_of_run, fault_of_load, fault_line, fault_status, is_write_end}
 use Rattle.segcli.specs.Printing.{PrintOutcome, IsPrinted, IsFlushed}
-use Rattle.segcli.specs.Totals.{totals_text}
+use Rattle.segcli.specs.Notes.{note_of}
+use Rattle.segcli.specs.Totals.{text_in}
 use Rattle.segscript.specs.Words.{EachTurn, EndsOnce, is_make_fault, is_read_fault, is_write_fault, RunFault}
 use Rattle.segscript.specs.Words.{RunOutcome, ShapeIsAnswered}
 use Rattle.segload.specs.Words.{IsLoad, IsLoadFault, lets_all_through, Totals}
 use Rattle.segload.specs.declared.fault.LoadFault.{LoadFault}
 use Rattle.segcli.specs.declared.fault.ProgramFault.{ProgramFault}
 use Rattle.segcli.specs.declared.fault.ProgramFault.TheVariants as fault
+use Rattle.segcli.specs.declared.asked.Load.{Load}
+use Rattle.segcli.specs.declared.asked.Word.{Word}
+use Rattle.segcli.specs.declared.explanation.Meaning.{Meaning}
 use Rattle.segcli.specs.declared.command.Command.{Command}
 use Rattle.segcli.specs.declared.command.Command.TheVariants as command
 
@@ -56,13 +60,14 @@ ShowOutcome text Wrote before flushes (Err fault.Write) = PrintOutcome text Wrot
     (Err fault.Write)
 ShowOutcome text Wrote before flushes (Err _) = ⊥
 
--- A word that has a reading was explained. Only a word that has none is a bad one.
-abbrev pub WordOutcome : List ℕ → (List ℕ → Type 0) → ℕ → ℕ → Result (Unit {0}) ProgramFault
+-- A word that has a meaning was explained. Only a word that has none is a bad one.
+abbrev pub WordOutcome : Word → (List ℕ → Type 0) → ℕ → ℕ → Result (Unit {0}) ProgramFault
     → Type 0
-WordOutcome text Wrote before flushes (Err fault.BadWord)
-    = ((reading : Reading) → SpellsWord text reading → ⊥) × Wrote [] × (flushes ≡ before)
-WordOutcome text Wrote before flushes end = (reading : Reading) × SpellsWord text reading
-    × ShowOutcome (explanation reading) Wrote before flushes end
+WordOutcome word Wrote before flushes (Err fault.BadWord)
+    = ((m : Meaning) → SpellsWord word.kind word.text.now m → ⊥) × Wrote []
+    × (flushes ≡ before)
+WordOutcome word Wrote before flushes end = (m : Meaning) × SpellsWord word.kind word.text.now m
+    × ShowOutcome (explanation m) Wrote before flushes end
 
 -- ---- a load
 
@@ -71,18 +76,16 @@ abbrev pub IsFaultOfLoad : Shape → ℕ → ProgramFault → Type 0
 IsFaultOfLoad shape commands f = (why : LoadFault) × IsLoadFault shape commands lets_all_through why
     × (f ≡ fault_of_load why)
 
--- The totals were shown of a load of this shape, in which each pass made so many commands over so many keys,
--- drawn with this seed. Or there are no totals, and nothing was written.
-abbrev pub LoadOutcome : Shape → ℕ → ℕ → ℕ → (List ℕ → Type 0) → ℕ → ℕ
-    → Result (Unit {0}) ProgramFault → Type 0
-LoadOutcome shape seed keys commands Wrote before flushes (Ok _) =
-    (totals : Totals) × IsLoad shape seed keys commands totals
-    × ShowOutcome (totals_text totals) Wrote before flushes (Ok tt)
-LoadOutcome shape seed keys commands Wrote before flushes (Err fault.Write) =
-    (totals : Totals) × IsLoad shape seed keys commands totals
-    × ShowOutcome (totals_text totals) Wrote before flushes (Err fault.Write)
-LoadOutcome shape seed keys commands Wrote before flushes (Err f) =
-    IsFaultOfLoad shape commands f × Wrote [] × (flushes ≡ before)
+-- The totals were shown of this load, in its format. Or there are no totals, and nothing was written.
+abbrev pub LoadOutcome : Load → (List ℕ → Type 0) → ℕ → ℕ → Result (Unit {0}) ProgramFault → Type 0
+LoadOutcome load Wrote before flushes (Ok _) =
+    (totals : Totals) × IsLoad load.shape load.seed (non_zero_u32_get load.keys) load.commands totals
+    × ShowOutcome (text_in load.format totals) Wrote before flushes (Ok tt)
+LoadOutcome load Wrote before flushes (Err fault.Write) =
+    (totals : Totals) × IsLoad load.shape load.seed (non_zero_u32_get load.keys) load.commands totals
+    × ShowOutcome (text_in load.format totals) Wrote before flushes (Err fault.Write)
+LoadOutcome load Wrote before flushes (Err f) =
+    IsFaultOfLoad load.shape load.commands f × Wrote [] × (flushes ≡ before)
 
 -- ---- commands
 
@@ -94,30 +97,30 @@ CommandOutcome hands is_at_end read_failed ends takes write_failed flushes
     ScriptOutcome hands is_at_end read_failed ends takes write_failed flushes shape reader reader'
     writer writer' end
 CommandOutcome hands is_at_end read_failed ends takes write_failed flushes
-    (command.Load shape seed commands keys progress) reader reader' writer writer' end =
+    (command.Load load) reader reader' writer writer' end =
     (reader' ≡ reader) × (write_failed writer' ≡ is_write_end end)
-    × LoadOutcome shape seed (non_zero_u32_get keys) commands (λ part. takes writer part writer')
-    (flushes writer) (flushes writer') end
-CommandOutcome hands is_at_end read_failed ends takes write_failed flushes (command.Word text)
+    × LoadOutcome load (λ part. takes writer part writer') (flushes writer) (flushes writer') end
+CommandOutcome hands is_at_end read_failed ends takes write_failed flushes (command.Word word)
     reader reader' writer writer' end =
     (reader' ≡ reader) × (write_failed writer' ≡ is_write_end end)
-    × WordOutcome text.now (λ part. takes writer part writer') (flushes writer) (flushes writer')
-    end
+    × WordOutcome word (λ part. takes writer part writer') (flushes writer) (flushes writer') end
 CommandOutcome hands is_at_end read_failed ends takes write_failed flushes (command.Show text)
     reader reader' writer writer' end =
     (reader' ≡ reader) × (write_failed writer' ≡ is_write_end end)
     × ShowOutcome (string_bytes text) (λ part. takes writer part writer') (flushes writer)
     (flushes writer') end
 
--- What follows a command that ended so. A success has status 0, and nothing more is written.
--- For a fault the writer is flushed, and the fault's line is printed to the error writer.
+-- What follows this command if it ended so. A success has status 0, and nothing more is written.
+-- For a fault the writer is flushed, and the fault's line is printed to the error writer,
+-- with what the command has explained of the fault.
 abbrev pub Concludes : {W E : Type 0} → (W → List ℕ → W → Type 0) → (W → ℕ)
-    → (E → List ℕ → E → Type 0) → (E → Bool) → (E → ℕ) → Result (Unit {0}) ProgramFault → W → W → E
-    → E → ℕ → Type 0
-Concludes takes flushes error_takes error_failed error_flushes (Ok _) writer writer' errors errors'
-    status =
+    → (E → List ℕ → E → Type 0) → (E → Bool) → (E → ℕ) → Command → Result (Unit {0}) ProgramFault
+    → W → W → E → E → ℕ → Type 0
+Concludes takes flushes error_takes error_failed error_flushes command (Ok _) writer writer' errors
+    errors' status =
     (status ≡ 0) × (writer' ≡ writer) × (errors' ≡ errors)
-Concludes takes flushes error_takes error_failed error_flushes (Err f) writer writer' errors errors'
-    status =
+Concludes takes flushes error_takes error_failed error_flushes command (Err f) writer writer' errors
+    errors' status =
     (status ≡ fault_status f) × IsFlushed takes flushes writer writer'
-    × IsPrinted error_takes error_failed error_flushes (fault_line f) errors errors'
+    × IsPrinted error_takes error_failed error_flushes (fault_line f ++ note_of command f) errors
+    errors'

@@ -5,7 +5,9 @@ pub mod Commands
 pub mod Explained
 pub mod Faults
 pub mod Given
+pub mod Notes
 pub mod Printing
 pub mod Program
 pub mod Progress
+pub mod Stats
 pub mod Totals

@@ -30,8 +30,8 @@ ProgramOutcome {R} {W} hands is_at_end read_failed ends takes write_failed flush
     (there : W) × (end : Result (Unit {0}) ProgramFault)
     × CommandOutcome hands is_at_end read_failed ends takes write_failed flushes command reader
     reader' writer there end
-    × Concludes takes flushes error_takes error_failed error_flushes end there writer' errors
-    errors' status
+    × Concludes takes flushes error_takes error_failed error_flushes command end there writer'
+    errors errors' status
 ProgramOutcome hands is_at_end read_failed ends takes write_failed flushes error_takes error_failed
     error_flushes (Err why) reader reader' writer writer' errors errors' status =
     (status ≡ refusal_status why) × (reader' ≡ reader) × IsFlushed takes flushes writer writer'

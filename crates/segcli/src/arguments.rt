@@ -1,13 +1,18 @@
 //! Reads the words of the command line.
-ghost use Rattle.std.specs.Prelude.{◌≡◌, string_bytes, map, max, false, None};
+ghost use Rattle.std.specs.Prelude.{◌≡◌, string_bytes, map, max, false, None, IfSome, codes};
 ghost use Rattle.std.specs.Int.NonZero.{non_zero_u32_get};
 ghost use Rattle.std.specs.Option.{option_map};
 ghost use Rattle.clap.specs.Walk.{first_of};
 ghost use Rattle.clap.specs.Words.{found_of, kind_of, rows_of};
-ghost use Rattle.segcli.specs.CommandLine.{default_shape, explain_flag, keys_option, script_file};
-ghost use Rattle.segcli.specs.Asked.{IsAsked, IsCommandName, IsReadAsCommand, IsRefused, is_given};
-ghost use Rattle.segcli.specs.Asked.{number_given, shape_given};
+ghost use Rattle.segcli.specs.CommandLine.{default_shape, explain_flag, for_keys_option};
+ghost use Rattle.segcli.specs.CommandLine.{format_choice, keys_option, kind_choice, passes_option};
+ghost use Rattle.segcli.specs.CommandLine.{script_file};
+ghost use Rattle.segcli.specs.Asked.{IsAsked, IsBase, IsCommandName, IsLoadAsked, IsMisnamed};
+ghost use Rattle.segcli.specs.Asked.{IsReadAsCommand, IsReadByClap, IsRefused, IsShapeGiven};
+ghost use Rattle.segcli.specs.Asked.{IsSized, IsWordAsked, asks_help_twice, format_named, is_given};
+ghost use Rattle.segcli.specs.Asked.{kind_named, number_found, number_given, plain_words};
 
+use crate::asked::{Format, Load, Word, WordKind};
 use crate::command::Command;
 use crate::command_line::program;
 use clap::ArgMatches;
@@ -58,9 +63,42 @@ pub fn read_command<'a>(alloc: Global, words: &'a [String]) -> Result<Command<'a
     if words.is_empty() {
         return Ok(script_alone());
     }
+    read_words(alloc, plain_words(words))
+}
+
+// Whether help is asked for of the command `help`.
+fn asks_help_twice(words: &[String]) -> bool
+    ensures { result ≡ asks_help_twice (map (λ word. string_bytes word) words.now) }
+{
+    if words.len() != 2 {
+        return false;
+    }
+    let flag = words[1].as_str();
+    words[0].as_str() == "help" && (flag == "-h" || flag == "--help")
+}
+
+// The words without a second word that asks for help of the command `help`.
+fn plain_words<'a>(words: &'a [String]) -> &'a [String]
+    ensures { map (λ word. string_bytes word) result.now
+        ≡ plain_words (map (λ word. string_bytes word) words.entry.now) }
+{
+    if asks_help_twice(words) {
+        &words[..1]
+    } else {
+        words
+    }
+}
+
+// Reads these words by `clap`.
+fn read_words<'a>(alloc: Global, words: &'a [String]) -> Result<Command<'a>, Refusal>
+    ensures { IsReadByClap (map (λ word. string_bytes word) words.entry.now) result }
+{
     match program(alloc)?.try_get_matches_from(words) {
         Ok(matches) => match matches.subcommand() {
-            Some((name, matches)) => Ok(command_of(name, matches)),
+            Some((name, matches)) => match command_of(name, matches) {
+                Some(command) => Ok(command),
+                None => Err(Refusal::Usage(misnamed(alloc, name, matches)?)),
+            },
             None => Ok(script_alone()),
         },
         Err(error) => refused(alloc, &error),
@@ -91,25 +129,106 @@ fn refused<'a>(alloc: Global, error: &Error) -> Result<Command<'a>, Refusal>
     }
 }
 
-// The command of this name.
-fn command_of<'a>(name: &str, matches: &ArgMatches<'a>) -> Command<'a>
+// The text for a format or a kind that is none.
+fn misnamed(alloc: Global, name: &str, matches: &ArgMatches<'_>) -> Result<String, AllocError> {
+    let (option, values) = match name {
+        "load" => ("format", "text, json"),
+        _ => ("kind", "item, information, segment"),
+    };
+    let word = matches.get_str(option).unwrap_or("");
+    Ok(format!(in alloc;
+        "error: invalid value '{word}' for '--{option} <WORD>'
+  [possible values: {values}]
+
+For more information, try '--help'.
+"
+    )?)
+}
+
+// The command of this name. It is `None` if a format or a kind is none.
+fn command_of<'a>(name: &str, matches: &ArgMatches<'a>) -> Option<Command<'a>>
     requires { IsCommandName name.now }
-    ensures { IsAsked (name.now, rows_of (found_of matches.now)) result }
+    ensures some { IfSome result (IsAsked (name.now, rows_of (found_of matches.now))) }
+    ensures none { result ≡ None → IsMisnamed (name.now, rows_of (found_of matches.now)) }
 {
     match name {
-        "load" => Command::Load {
-            shape: shape_of(matches),
-            seed: matches.get_one("seed").unwrap_or(SEED),
-            commands: matches.get_one("commands").unwrap_or(COMMANDS),
-            keys: keys_of(matches),
-            progress: matches.get_one("progress").unwrap_or(false),
-        },
-        "word" => Command::Word(matches.get_str("HEX").unwrap_or("")),
-        _ => Command::Script {
-            shape: shape_of(matches),
-            explain: explain_of(matches),
-            file: file_of(matches),
-        },
+        "load" => Some(Command::Load(load_of(matches)?)),
+        "word" => Some(Command::Word(word_of(matches)?)),
+        _ => Some(script_of(matches)),
+    }
+}
+
+fn script_of<'a>(matches: &ArgMatches<'a>) -> Command<'a>
+    ensures { IsAsked (codes "script", rows_of (found_of matches.now)) result }
+{
+    Command::Script {
+        shape: shape_of(matches),
+        explain: explain_of(matches),
+        file: file_of(matches),
+    }
+}
+
+fn load_of(matches: &ArgMatches<'_>) -> Option<Load>
+    ensures some { IfSome result (IsLoadAsked (rows_of (found_of matches.now))) }
+    ensures none { result ≡ None
+        → format_named (first_of format_choice (rows_of (found_of matches.now))) ≡ None }
+{
+    let format = format_of(matches)?;
+    Some(Load {
+        shape: shape_of(matches),
+        seed: matches.get_one("seed").unwrap_or(SEED),
+        commands: matches.get_one("commands").unwrap_or(COMMANDS),
+        keys: keys_of(matches),
+        format,
+        stats: matches.get_one("stats").unwrap_or(false),
+        progress: matches.get_one("progress").unwrap_or(false),
+        explain: explain_of(matches),
+    })
+}
+
+fn word_of<'a>(matches: &ArgMatches<'a>) -> Option<Word<'a>>
+    ensures some { IfSome result (IsWordAsked (rows_of (found_of matches.now))) }
+    ensures none { result ≡ None
+        → kind_named (first_of kind_choice (rows_of (found_of matches.now))) ≡ None }
+{
+    let kind = kind_of_word(matches)?;
+    Some(Word {
+        text: matches.get_str("HEX").unwrap_or(""),
+        kind,
+        explain: explain_of(matches),
+    })
+}
+
+fn format_of(matches: &ArgMatches<'_>) -> Option<Format>
+    ensures { result ≡ format_named (first_of format_choice (rows_of (found_of matches.now))) }
+{
+    format_named(matches.get_str("format"))
+}
+
+fn format_named(word: Option<&str>) -> Option<Format>
+    ensures { result ≡ format_named (option_map (λ text. text.now) word.entry) }
+{
+    match word {
+        None | Some("text") => Some(Format::Text),
+        Some("json") => Some(Format::Json),
+        Some(_) => None,
+    }
+}
+
+fn kind_of_word(matches: &ArgMatches<'_>) -> Option<WordKind>
+    ensures { result ≡ kind_named (first_of kind_choice (rows_of (found_of matches.now))) }
+{
+    kind_named(matches.get_str("kind"))
+}
+
+fn kind_named(word: Option<&str>) -> Option<WordKind>
+    ensures { result ≡ kind_named (option_map (λ text. text.now) word.entry) }
+{
+    match word {
+        None | Some("item") => Some(WordKind::Item),
+        Some("information") => Some(WordKind::Information),
+        Some("segment") => Some(WordKind::Segment),
+        Some(_) => None,
     }
 }
 
@@ -135,18 +254,41 @@ fn keys_of(matches: &ArgMatches<'_>) -> NonZeroU32
     NonZeroU32::new(matches.get_one("keys").unwrap_or(KEYS)).unwrap_or(NonZeroU32::MIN)
 }
 
-// The shape that the options give. An option that isn't there leaves the default.
+// The shape that the options give. An option that isn't there leaves its part as it is before them.
 fn shape_of(matches: &ArgMatches<'_>) -> Shape
-    ensures { result ≡ shape_given (rows_of (found_of matches.now)) }
+    ensures { IsShapeGiven (rows_of (found_of matches.now)) result }
 {
+    let base = base_of(matches);
     Shape {
-        buckets: matches.get_one("buckets").unwrap_or(SHAPE.buckets),
-        overflow: matches.get_one("overflow").unwrap_or(SHAPE.overflow),
-        passes: matches.get_one("passes").unwrap_or(SHAPE.passes),
-        segments_each: matches.get_one("segments").unwrap_or(SHAPE.segments_each),
-        rows: matches.get_one("rows").unwrap_or(SHAPE.rows),
+        buckets: matches.get_one("buckets").unwrap_or(base.buckets),
+        overflow: matches.get_one("overflow").unwrap_or(base.overflow),
+        passes: matches.get_one("passes").unwrap_or(base.passes),
+        segments_each: matches.get_one("segments").unwrap_or(base.segments_each),
+        rows: matches.get_one("rows").unwrap_or(base.rows),
         first_version: matches
             .get_one("first-version")
-            .unwrap_or(SHAPE.first_version),
+            .unwrap_or(base.first_version),
+    }
+}
+
+// The shape before the options for its parts.
+fn base_of(matches: &ArgMatches<'_>) -> Shape
+    ensures { IsBase (number_found for_keys_option (rows_of (found_of matches.now)))
+        (number_given passes_option (rows_of (found_of matches.now))) result }
+{
+    let passes = matches.get_one("passes").unwrap_or(SHAPE.passes);
+    match matches.get_one("for-keys") {
+        Some(keys) => sized(keys, passes),
+        None => SHAPE,
+    }
+}
+
+// A shape with room for so many keys, or one that is as bad.
+fn sized(keys: u32, passes: u32) -> Shape
+    ensures { IsSized keys passes result }
+{
+    match Shape::for_keys(keys, passes) {
+        Ok(shape) => shape,
+        Err(_) => Shape { passes, ..SHAPE },
     }
 }

@@ -5,18 +5,20 @@ ghost use Rattle.segload.specs.declared.totals.Totals.{Totals};
 ghost use Rattle.segload.specs.Words.{IsLoad, IsLoadFault, lets_all_through};
 ghost use Rattle.segcli.specs.declared.fault.ProgramFault.{ProgramFault};
 ghost use Rattle.segcli.specs.Faults.{is_write_end};
-ghost use Rattle.segcli.specs.Totals.{totals_text};
-ghost use Rattle.segcli.specs.Commands.{ScriptOutcome, IsFaultOfLoad, LoadOutcome, WordOutcome, ShowOutcome, CommandOutcome, Concludes};
+ghost use Rattle.segcli.specs.Totals.{text_in};
+ghost use Rattle.segcli.specs.Commands.{ScriptOutcome, IsFaultOfLoad, LoadOutcome, WordOutcome};
+ghost use Rattle.segcli.specs.Commands.{ShowOutcome, CommandOutcome, Concludes};
 
-use crate::explanation::{explain, reading_of};
-use crate::fault::{ProgramFault, print, report};
+use crate::asked::{Load, Word};
+use crate::explanation::{explain, meaning_of};
+use crate::fault::{ProgramFault, print};
+use crate::note::report_explained;
 use crate::progress::{Watch, Watched};
-use crate::totals::text_of;
+use crate::totals::text_in;
 use segload::{LoadFault, OpenGate, Totals, run_crowd};
 use segscript::{Failed, Sink, Source, run_script};
 use segword::Shape;
 use std::alloc::{AllocError, AllocGlobal, Global};
-use std::num::NonZeroU32;
 use std::sync::Wait;
 use std::thread::Threads;
 
@@ -24,32 +26,27 @@ use std::thread::Threads;
 #[derive(Debug, Drop)]
 pub enum Command<'a> {
     /// Runs the script of the reader over an index of this shape.
-    /// Who calls the program opens the file, and says why a line is bad if `explain` is true.
+    /// If `explain` is true, it is said why the shape is bad.
+    /// Who calls the program opens the file, and says then why a line is bad.
     Script {
         shape: Shape,
         explain: bool,
         file: Option<&'a str>,
     },
-    /// Runs a load over an index of this shape: each pass makes so many commands over so many keys, drawn with this seed.
-    /// If `progress` is true, a watch looks on.
-    Load {
-        shape: Shape,
-        seed: u64,
-        commands: u32,
-        keys: NonZeroU32,
-        progress: bool,
-    },
-    /// Explains the item word of these hexadecimal digits.
-    Word(&'a str),
+    /// Runs a load.
+    Load(Load),
+    /// Explains a word of the table.
+    Word(Word<'a>),
     /// Prints a text, as help.
     Show(String),
 }
 
 /// Carries out a command, and returns the exit status.
 /// Replies, totals and explanations go to the writer.
-/// For a fault the writer is asked to flush, and then one line goes to the error writer.
-/// (That order is a condition of `print_after`.)
-/// The watch looks on at a load if the command says so.
+/// For a fault the writer is asked to flush, and then one line goes to the error writer,
+/// with a second one if the command is to be explained.
+/// (That order is a condition of `print_both_after`.)
+/// The watch looks on at a load, and hears of its end, if the command says so.
 ///
 /// A load waits for its threads. What the contract says holds if this returns.
 pub fn run_command<R: Threads + Wait + AllocGlobal + Sync, S: Source, W: Sink, E: Sink, V: Watch>(
@@ -69,11 +66,11 @@ pub fn run_command<R: Threads + Wait + AllocGlobal + Sync, S: Source, W: Sink, E
     ensures outcome { (there : W) × (end : Result (Unit {0}) ProgramFault)
         × CommandOutcome S.hands S.is_at_end S.has_failed S.ends W.takes W.has_failed W.flushes
         command.now source.old source.new writer.old there end
-        × Concludes W.takes W.flushes E.takes E.has_failed E.flushes end there writer.new
-        errors.old errors.new result }
+        × Concludes W.takes W.flushes E.takes E.has_failed E.flushes command.now end there
+        writer.new errors.old errors.new result }
 {
     let end = perform(rt, alloc, command, source, writer, watch);
-    conclude(end, writer, errors)
+    conclude(command, end, writer, errors)
 }
 
 fn perform<R: Threads + Wait + AllocGlobal + Sync, S: Source, W: Sink, V: Watch>(
@@ -91,17 +88,8 @@ fn perform<R: Threads + Wait + AllocGlobal + Sync, S: Source, W: Sink, V: Watch>
 {
     match command {
         Command::Script { shape, .. } => perform_script(alloc, *shape, source, writer),
-        Command::Load {
-            shape,
-            seed,
-            commands,
-            keys,
-            progress,
-        } => {
-            let watch = progress.then_some(watch);
-            perform_load(rt, alloc, *shape, *seed, *commands, *keys, watch, writer)
-        }
-        Command::Word(text) => perform_word(text, writer),
+        Command::Load(load) => perform_load(rt, alloc, load, watch, writer),
+        Command::Word(word) => perform_word(word, writer),
         Command::Show(text) => show(text.as_bytes(), writer),
     }
 }
@@ -126,20 +114,16 @@ fn perform_script<S: Source, W: Sink>(
 fn perform_load<R: Threads + Wait + AllocGlobal + Sync, W: Sink, V: Watch>(
     rt: &R,
     alloc: Global,
-    shape: Shape,
-    seed: u64,
-    commands: u32,
-    keys: NonZeroU32,
-    watch: Option<&V>,
+    load: &Load,
+    watch: &V,
     writer: &mut W,
 ) -> Result<(), ProgramFault>
     requires writer_works { W.has_failed writer.old ≡ false }
-    ensures outcome { LoadOutcome shape seed (non_zero_u32_get keys) commands
-        (λ part. W.takes writer.old part writer.new)
+    ensures outcome { LoadOutcome load.now (λ part. W.takes writer.old part writer.new)
         (W.flushes writer.old) (W.flushes writer.new) result }
     ensures failed { W.has_failed writer.new ≡ is_write_end result }
 {
-    match load_text(rt, alloc, shape, seed, commands, keys, watch) {
+    match load_text(rt, alloc, load, watch) {
         Ok(text) => show(text.as_slice(), writer),
         Err(fault) => Err(fault),
     }
@@ -149,57 +133,63 @@ fn perform_load<R: Threads + Wait + AllocGlobal + Sync, W: Sink, V: Watch>(
 fn load_text<R: Threads + Wait + AllocGlobal + Sync, V: Watch>(
     rt: &R,
     alloc: Global,
-    shape: Shape,
-    seed: u64,
-    commands: u32,
-    keys: NonZeroU32,
-    watch: Option<&V>,
+    load: &Load,
+    watch: &V,
 ) -> Result<Vec<u8>, ProgramFault>
     ensures text { IfOk result (λ text. (totals : Totals)
-        × IsLoad shape seed (non_zero_u32_get keys) commands totals
-        × (text.items ≡ totals_text totals)) }
-    ensures fault { IfErr result (IsFaultOfLoad shape commands) }
+        × IsLoad load.now.shape load.now.seed (non_zero_u32_get load.now.keys)
+        load.now.commands totals
+        × (text.items ≡ text_in load.now.format totals)) }
+    ensures fault { IfErr result (IsFaultOfLoad load.now.shape load.now.commands) }
 {
-    let totals = match totals_of(rt, alloc, shape, seed, commands, keys, watch) {
+    let totals = match totals_of(rt, alloc, load, watch) {
         Ok(totals) => totals,
         Err(fault) => return Err(ProgramFault::of_load(fault)),
     };
-    match text_of(alloc, &totals) {
+    if load.stats {
+        watch.ended(&totals);
+    }
+    match text_in(alloc, load.format, &totals) {
         Ok(text) => Ok(text),
         Err(AllocError) => Err(ProgramFault::OutOfMemory),
     }
 }
 
-// Runs a load, at which the watch looks on if there is one.
+// Runs a load, at which the watch looks on if it is asked to.
 fn totals_of<R: Threads + Wait + AllocGlobal + Sync, V: Watch>(
     rt: &R,
     alloc: Global,
-    shape: Shape,
-    seed: u64,
-    commands: u32,
-    keys: NonZeroU32,
-    watch: Option<&V>,
+    load: &Load,
+    watch: &V,
 ) -> Result<Totals, LoadFault>
-    ensures load { IfOk result (IsLoad shape seed (non_zero_u32_get keys) commands) }
-    ensures fault { IfErr result (IsLoadFault shape commands lets_all_through) }
+    ensures load { IfOk result (IsLoad load.now.shape load.now.seed
+        (non_zero_u32_get load.now.keys) load.now.commands) }
+    ensures fault { IfErr result (IsLoadFault load.now.shape load.now.commands
+        lets_all_through) }
 {
-    match watch {
-        Some(watch) => {
-            let gate = Watched::new(watch, shape.passes, commands);
-            run_crowd(rt, alloc, shape, seed, commands, keys, &gate)
-        }
-        None => run_crowd(rt, alloc, shape, seed, commands, keys, &OpenGate),
+    let Load {
+        shape,
+        seed,
+        commands,
+        keys,
+        ..
+    } = *load;
+    if load.progress {
+        let gate = Watched::new(watch, shape.passes, commands);
+        run_crowd(rt, alloc, shape, seed, commands, keys, &gate)
+    } else {
+        run_crowd(rt, alloc, shape, seed, commands, keys, &OpenGate)
     }
 }
 
-fn perform_word<W: Sink>(text: &str, writer: &mut W) -> Result<(), ProgramFault>
+fn perform_word<W: Sink>(word: &Word<'_>, writer: &mut W) -> Result<(), ProgramFault>
     requires writer_works { W.has_failed writer.old ≡ false }
-    ensures outcome { WordOutcome text.now (λ part. W.takes writer.old part writer.new)
+    ensures outcome { WordOutcome word.now (λ part. W.takes writer.old part writer.new)
         (W.flushes writer.old) (W.flushes writer.new) result }
     ensures failed { W.has_failed writer.new ≡ is_write_end result }
 {
-    match reading_of(text) {
-        Some(reading) => show(explain(reading).as_slice(), writer),
+    match meaning_of(word.kind, word.text) {
+        Some(meaning) => show(explain(meaning).as_slice(), writer),
         None => Err(ProgramFault::BadWord),
     }
 }
@@ -218,13 +208,18 @@ fn show<W: Sink>(text: &[u8], writer: &mut W) -> Result<(), ProgramFault>
 }
 
 // Returns the status of a command that ended so. A fault is reported.
-fn conclude<W: Sink, E: Sink>(end: Result<(), ProgramFault>, writer: &mut W, errors: &mut E) -> u8
+fn conclude<W: Sink, E: Sink>(
+    command: &Command<'_>,
+    end: Result<(), ProgramFault>,
+    writer: &mut W,
+    errors: &mut E,
+) -> u8
     requires errors_work { E.has_failed errors.old ≡ false }
-    ensures { Concludes W.takes W.flushes E.takes E.has_failed E.flushes end
+    ensures { Concludes W.takes W.flushes E.takes E.has_failed E.flushes command.now end
         writer.old writer.new errors.old errors.new result }
 {
     match end {
         Ok(()) => 0,
-        Err(fault) => report(fault, writer, errors),
+        Err(fault) => report_explained(command, fault, writer, errors),
     }
 }

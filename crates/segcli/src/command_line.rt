@@ -1,7 +1,11 @@
 //! The command line of the program: its commands and options with their texts, as `clap` takes them.
 ghost use Rattle.std.specs.Prelude.{◌≡◌, false, IfOk};
 ghost use Rattle.clap.specs.Words.{App, rule_of};
-ghost use Rattle.segcli.specs.CommandLine.{Builds, alone, with_options, shape_options, file_rule, option_rule, flag_rule, number_parser, keys_option, program_rules, script_rules, load_rules, word_rules, command_line};
+ghost use Rattle.segcli.specs.CommandLine.{Builds, alone, with_parts, shape_options, file_rule};
+ghost use Rattle.segcli.specs.CommandLine.{choice_rule, flag_rule, option_rule, part_rule};
+ghost use Rattle.segcli.specs.CommandLine.{for_keys_option, keys_option, number_parser};
+ghost use Rattle.segcli.specs.CommandLine.{program_rules, script_rules, load_rules, word_rules};
+ghost use Rattle.segcli.specs.CommandLine.{command_line};
 
 use clap::builder::{ValueParser, ValueParserFactory};
 use clap::{Arg, ArgAction, Command, value_parser};
@@ -22,13 +26,14 @@ Exit status:
   2  a bad line, a bad word, or a bad command line
   3  any other fault
 
-A shape is bad for the first of these that applies, and the line has its number:
-  1  the number of buckets is not a power of two, or is over 65536
-  2  the number of overflow buckets is over 65536
-  3  the number of passes is not 1 to 64
-  4  the number of segments of a pass is not 1 to 1024
-  5  the number of rows of a segment is not 1 to 4096
-  6  the table would have over 67108864 words";
+A shape is bad for the first of these that does not hold. The line has its number, and with
+--explain a second line has the range:
+  1  --buckets: a power of two, 1 to 65536
+  2  --overflow: 0 to 65536
+  3  --passes: 1 to 64
+  4  --segments: 1 to 1024
+  5  --rows: 1 to 4096
+  6  the table: at most 67108864 words of 8 bytes";
 
 const SCRIPT: &str = "Runs a script, and writes the reply of each line";
 
@@ -65,10 +70,10 @@ all, with how many keys stand at the end. What they count, each command once:
                another pass was reading there, or at work in the bucket of a key of it
   bucketfull   sets and adds of a new key that found no word left in its bucket
   busy         commands in whose bucket others were at work 64 times meanwhile
-With one pass nothing is counted as noroom or busy. One bucket holds 7 keys: give more to a load.
+With one pass nothing is counted as noroom or busy. One bucket holds 7 keys: a load wants more.
 
 Examples:
-  segrun load --buckets 16 --segments 2 --rows 128
+  segrun load --for-keys 64
 has room for the 64 keys, and writes the lines of p0 and total.
   segrun load --keys 1000000 --buckets 65536 --segments 64 --rows 4096
 does the same over a million keys.
@@ -76,17 +81,22 @@ does the same over a million keys.
 writes to standard error, about twice a second, a line as
   41231360 of 100000000, 41 %, 17023488 a second";
 
-const WORD: &str = "Explains an item word, one of the words in which the index keeps its items";
+const WORD: &str = "Explains a word of the table of an index";
 
 const AFTER_WORD: &str =
-    "An item word is empty, says in which row of which segment an item lies, or leads on to an overflow
-bucket. The word of a segment can look like one.
+    "A bucket has an information word, with its version and its writer bit, and seven item words. An item
+word is empty, says in which row of which segment an item lies, or leads on to an overflow bucket. The
+word of a segment has its deadline, and how many passes read there; it can look like an item word.
 
-Example:
+Examples:
   segrun word af60100000200003
 writes item tag=af6 freq=1 seg=2 row=3.
+  segrun word --kind information 0000000700000001
+writes information version=7 bit=1.
+  segrun word --kind segment ffffffff00000002
+writes segment deadline=4294967295 readers=2.
 
-Any other word is a bad word, with status 2.";
+Any other word is a bad word, with status 2; --explain says what is wrong with it.";
 
 /// The command line, of which a parse reads the words after the program's name.
 pub fn program<'a>(alloc: Global) -> Result<Command<'a>, AllocError>
@@ -118,7 +128,11 @@ fn script<'a>(alloc: Global) -> Result<Command<'a>, AllocError>
     let command = Command::new(alloc, "script")
         .about(SCRIPT)
         .after_help(AFTER_SCRIPT);
-    let explain = flag(alloc, "explain", "Says on standard error why a line is bad");
+    let explain = flag(
+        alloc,
+        "explain",
+        "Says on standard error why a line or a shape is bad",
+    );
     with_shape(alloc, command)?
         .arg(script_file(alloc))?
         .arg(explain)
@@ -153,10 +167,26 @@ fn load<'a>(alloc: Global) -> Result<Command<'a>, AllocError>
         "64",
         "Keys that the commands are over: 1 to 1000000",
     );
+    let format = choice(
+        alloc,
+        "format",
+        "FORMAT",
+        "How totals are written: text or json [default: text]",
+    );
+    let stats = flag(
+        alloc,
+        "stats",
+        "Tells on standard error what the load did to the table",
+    );
     let progress = flag(
         alloc,
         "progress",
         "Tells on standard error, about twice a second, how far the load is",
+    );
+    let explain = flag(
+        alloc,
+        "explain",
+        "Says on standard error why a shape is bad",
     );
     let command = Command::new(alloc, "load")
         .about(LOAD)
@@ -165,7 +195,10 @@ fn load<'a>(alloc: Global) -> Result<Command<'a>, AllocError>
         .arg(seed)?
         .arg(commands)?
         .arg(keys)?
-        .arg(progress)
+        .arg(format)?
+        .arg(stats)?
+        .arg(progress)?
+        .arg(explain)
 }
 
 fn keys_parser<'a>() -> ValueParser<'a>
@@ -180,42 +213,61 @@ fn word<'a>(alloc: Global) -> Result<Command<'a>, AllocError>
     let digits = Arg::new(alloc, "HEX")
         .required(true)
         .help("The word, in 16 hexadecimal digits");
+    let kind = choice(
+        alloc,
+        "kind",
+        "KIND",
+        "Which word it is: item, information or segment [default: item]",
+    );
+    let explain = flag(
+        alloc,
+        "explain",
+        "Says on standard error what is wrong with a bad word",
+    );
     Command::new(alloc, "word")
         .about(WORD)
         .after_help(AFTER_WORD)
-        .arg(digits)
+        .arg(digits)?
+        .arg(kind)?
+        .arg(explain)
 }
 
 // Gives a command the options of a shape.
 fn with_shape<'a>(alloc: Global, command: Command<'a>) -> Result<Command<'a>, AllocError>
     ensures { (app : App) → Builds app command.entry
-        → IfOk result (Builds (with_options app shape_options)) }
+        → IfOk result (Builds (with_parts app shape_options)) }
 {
-    let buckets = number::<u32>(
+    let buckets = part::<u32>(
         alloc,
         "buckets",
-        "1",
-        "Buckets: a power of two, at most 65536",
+        "Buckets: a power of two, 1 to 65536 [default: 1]",
     );
-    let overflow = number::<u32>(alloc, "overflow", "0", "Overflow buckets: at most 65536");
-    let passes = number::<u32>(alloc, "passes", "1", "Passes: 1 to 64");
-    let segments = number::<u32>(
+    let overflow = part::<u32>(
+        alloc,
+        "overflow",
+        "Overflow buckets: 0 to 65536 [default: 0]",
+    );
+    let passes = part::<u32>(alloc, "passes", "Passes: 1 to 64 [default: 1]");
+    let segments = part::<u32>(
         alloc,
         "segments",
-        "1",
-        "Segments that each pass owns: 1 to 1024",
+        "Segments that each pass owns: 1 to 1024 [default: 1]",
     );
-    let rows = number::<u32>(
+    let rows = part::<u32>(
         alloc,
         "rows",
-        "8",
-        "Rows of each segment, one for an item: 1 to 4096",
+        "Rows of each segment, one for an item: 1 to 4096 [default: 8]",
     );
-    let version = number::<u32>(
+    let version = part::<u32>(
         alloc,
         "first-version",
-        "0",
-        "The version with which each bucket begins",
+        "The version with which each bucket begins [default: 0]",
+    );
+    let keys = part_taking(
+        alloc,
+        "for-keys",
+        for_keys_parser(),
+        "In place of these: room to spare for N keys, 1 to 425984",
     );
     command
         .arg(buckets)?
@@ -223,7 +275,41 @@ fn with_shape<'a>(alloc: Global, command: Command<'a>) -> Result<Command<'a>, Al
         .arg(passes)?
         .arg(segments)?
         .arg(rows)?
-        .arg(version)
+        .arg(version)?
+        .arg(keys)
+}
+
+fn for_keys_parser<'a>() -> ValueParser<'a>
+    ensures { result ≡ number_parser for_keys_option }
+{
+    value_parser!(u32).range(1..=425_984)
+}
+
+// An option with a number of any value of its type, which has none if it isn't given.
+fn part<'a, T: ValueParserFactory>(alloc: Global, name: &'a str, help: &'a str) -> Arg<'a>
+    ensures rule { rule_of result ≡ part_rule name.entry.now T.parser }
+    ensures local { result.global ≡ false }
+{
+    part_taking(alloc, name, T::value_parser(), help)
+}
+
+// An option with a number that the parser takes, which has none if it isn't given.
+fn part_taking<'a>(alloc: Global, name: &'a str, parser: ValueParser<'a>, help: &'a str) -> Arg<'a>
+    ensures rule { rule_of result ≡ part_rule name.entry.now parser.entry }
+    ensures local { result.global ≡ false }
+{
+    choice(alloc, name, "N", help).value_parser(parser)
+}
+
+// An option with a word, which has none if it isn't given.
+fn choice<'a>(alloc: Global, name: &'a str, value: &'a str, help: &'a str) -> Arg<'a>
+    ensures rule { rule_of result ≡ choice_rule name.entry.now }
+    ensures local { result.global ≡ false }
+{
+    Arg::new(alloc, name)
+        .long(name)
+        .value_name(value)
+        .help(help)
 }
 
 // An option with a number of any value of its type.

@@ -1,13 +1,35 @@
-//! Explains an item word that is given in hexadecimal digits.
-ghost use Rattle.std.specs.Prelude.{◌≡◌, ◌<◌, Some, IfSome};
+//! Explains a word of the table that is given in hexadecimal digits.
+ghost use Rattle.std.specs.Prelude.{◌≡◌, ◌<◌, ◌+◌, ◌*◌, ◌^◌, None, Some, IfSome};
 ghost use Rattle.std.specs.Str.Parse.{digits_value};
 ghost use Rattle.segword.specs.declared.reading.Reading.{Reading};
-ghost use Rattle.segcli.specs.Explained.{IsHexWord, SpellsWord, tag_digits, explanation};
+ghost use Rattle.segcli.specs.declared.explanation.Meaning.{Meaning};
+ghost use Rattle.segcli.specs.Explained.{IsHexWord, Means, SpellsWord, explanation, information_line};
+ghost use Rattle.segcli.specs.Explained.{reading_line, segment_line, tag_digits};
 
+use crate::asked::WordKind;
 use segscript::{Line, line_of, put, put_number};
-use segword::{Item, Reading};
+use segword::{Info, Item, Reading};
 
 const DIGITS: [u8; 16] = *b"0123456789abcdef";
+
+/// What the word of a segment says.
+#[derive(Clone, Copy, Debug, PartialEq, Eq)]
+pub struct SegmentWord {
+    pub deadline: u32,
+    /// How many passes read in the segment.
+    pub readers: u32,
+}
+
+/// What a word of the table says.
+#[derive(Clone, Copy, Debug, PartialEq, Eq)]
+pub enum Meaning {
+    /// A word 1 to 7 of a bucket.
+    Item(Reading),
+    /// The first word of a bucket.
+    Information(Info),
+    /// The word of a segment.
+    Segment(SegmentWord),
+}
 
 // The word of exactly 16 hexadecimal digits, of either case.
 fn word_of(text: &str) -> Option<u64>
@@ -20,18 +42,44 @@ fn word_of(text: &str) -> Option<u64>
     u64::from_str_radix(text, 16).ok()
 }
 
-/// The reading of the word that the text writes in 16 hexadecimal digits.
-/// It is `None` if the text isn't 16 such digits, or if the word has no reading.
-pub fn reading_of(text: &str) -> Option<Reading>
-    ensures some { IfSome result (SpellsWord text.now) }
-    ensures all { (reading : Reading) → SpellsWord text.now reading → result ≡ Some reading }
+// What a word of this kind says.
+fn unpack(kind: WordKind, word: u64) -> Option<Meaning>
+    ensures some { IfSome result (Means kind word) }
+    ensures all { (meaning : Meaning) → Means kind word meaning → result ≡ Some meaning }
 {
-    Reading::unpack(word_of(text)?)
+    match kind {
+        WordKind::Item => Some(Meaning::Item(Reading::unpack(word)?)),
+        WordKind::Information => Some(Meaning::Information(Info::unpack(word)?)),
+        WordKind::Segment => Some(Meaning::Segment(SegmentWord {
+            deadline: (word >> 32) as u32,
+            readers: (word & 0xffff_ffff) as u32,
+        })),
+    }
 }
 
-/// The line that explains a reading.
-pub fn explain(reading: Reading) -> Line
-    ensures { result.items ≡ explanation reading }
+/// The meaning of the word of this kind that the text writes in 16 hexadecimal digits.
+/// It is `None` if the text isn't 16 such digits, or if no word of this kind is the one that it writes.
+pub fn meaning_of(kind: WordKind, text: &str) -> Option<Meaning>
+    ensures some { IfSome result (SpellsWord kind text.now) }
+    ensures all { (meaning : Meaning) → SpellsWord kind text.now meaning
+        → result ≡ Some meaning }
+{
+    unpack(kind, word_of(text)?)
+}
+
+/// The line that explains a meaning.
+pub fn explain(meaning: Meaning) -> Line
+    ensures { result.items ≡ explanation meaning }
+{
+    match meaning {
+        Meaning::Item(reading) => explain_reading(reading),
+        Meaning::Information(info) => explain_information(info),
+        Meaning::Segment(word) => explain_segment(word),
+    }
+}
+
+fn explain_reading(reading: Reading) -> Line
+    ensures { result.items ≡ reading_line reading }
 {
     match reading {
         Reading::Empty => line_of(b"empty\n"),
@@ -46,7 +94,7 @@ pub fn explain(reading: Reading) -> Line
 }
 
 fn explain_item(item: Item) -> Line
-    ensures { result.items ≡ explanation (Reading.Item item) }
+    ensures { result.items ≡ reading_line (Reading.Item item) }
 {
     let mut text = line_of(b"item tag=");
     put(&mut text, &tag_text(item.tag));
@@ -56,6 +104,26 @@ fn explain_item(item: Item) -> Line
     put_number(&mut text, item.seg);
     put(&mut text, b" row=");
     put_number(&mut text, item.row);
+    put(&mut text, b"\n");
+    text
+}
+
+fn explain_information(info: Info) -> Line
+    ensures { result.items ≡ information_line info }
+{
+    let mut text = line_of(b"information version=");
+    put_number(&mut text, info.version);
+    put(&mut text, if info.held { b" bit=1\n" } else { b" bit=0\n" });
+    text
+}
+
+fn explain_segment(word: SegmentWord) -> Line
+    ensures { result.items ≡ segment_line word }
+{
+    let mut text = line_of(b"segment deadline=");
+    put_number(&mut text, word.deadline);
+    put(&mut text, b" readers=");
+    put_number(&mut text, word.readers);
     put(&mut text, b"\n");
     text
 }

@@ -2,21 +2,28 @@
 #![tactic(auto)]
 
 mod arguments;
+mod asked;
 mod bad_line;
 mod command;
 mod command_line;
 mod explanation;
 mod fault;
 mod given;
+mod json;
+mod note;
 mod program;
 mod progress;
+mod stats;
 mod totals;
 
 pub use arguments::{Refusal, read_command};
+pub use asked::{Format, Load, Word, WordKind};
 pub use bad_line::bad_line_text;
 pub use command::{Command, run_command};
-pub use explanation::{explain, reading_of};
+pub use explanation::{Meaning, SegmentWord, explain, meaning_of};
 pub use fault::{ProgramFault, print, report};
 pub use given::{run_given, words_of};
 pub use program::{run_program, run_watched};
 pub use progress::{Nobody, Watch, progress_line};
+pub use segload::Totals;
+pub use stats::{Pace, stats_text};

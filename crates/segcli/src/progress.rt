@@ -4,7 +4,7 @@ ghost use Rattle.segload.specs.Words.{lets_all_through};
 ghost use Rattle.segcli.specs.Progress.{rate_text, progress_text};
 
 use crate::totals::{put, put_count};
-use segload::Gate;
+use segload::{Gate, Totals};
 use std::alloc::{AllocError, Global};
 use std::sync::atomic::{AtomicU64, Ordering};
 
@@ -12,6 +12,9 @@ use std::sync::atomic::{AtomicU64, Ordering};
 pub trait Watch: Sync {
     /// So many commands of the load were made, of so many in all. The thread of pass 0 makes this call.
     fn saw(&self, made: u64, of: u64);
+
+    /// The load has ended with these totals. The call is made if the load is asked for its stats.
+    fn ended(&self, _totals: &Totals) {}
 }
 
 /// A watch that does nothing.

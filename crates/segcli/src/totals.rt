@@ -1,7 +1,9 @@
 //! What the program prints of a load.
 ghost use Rattle.std.specs.Prelude.{◌≡◌, ◌++◌, IfOk};
-ghost use Rattle.segcli.specs.Totals.{pass_line, tallies_text, total_line, totals_text};
+ghost use Rattle.segcli.specs.Totals.{pass_line, tallies_text, total_line, totals_text, text_in};
 
+use crate::asked::Format;
+use crate::json::json_of;
 use itoa::{Buffer, Integer};
 use segload::{PassTotals, Tallies, Totals};
 use std::alloc::{AllocError, Global};
@@ -58,6 +60,16 @@ fn put_total(text: &mut Vec<u8>, commands: u128, keys: u32) -> Result<(), AllocE
     put_count(text, b"total commands=", commands)?;
     put_count(text, b" keys=", keys)?;
     put(text, b"\n")
+}
+
+/// The totals of a load in this format.
+pub fn text_in(alloc: Global, format: Format, totals: &Totals) -> Result<Vec<u8>, AllocError>
+    ensures text { IfOk result (λ text. text.items ≡ text_in format totals.now) }
+{
+    match format {
+        Format::Text => text_of(alloc, totals),
+        Format::Json => json_of(alloc, totals),
+    }
 }
 
 /// The text of a load's totals: a line for each pass, in the order of their numbers, and one for all.

@@ -4,6 +4,6 @@ use Rattle.segcli.proofs.command.perform_word.Goals as goal
 
 pub returns-in-Some-clause-outcome : goal.returns-in-Some-clause-outcome
 returns-in-Some-clause-outcome g c =
-    word_shown c.args.text.now c.in-Some.reading (λ part. g.W.Sink.takes c.args.writer.now part c.show.new.writer)
+    word_shown c.args.word.now c.in-Some.meaning (λ part. g.W.Sink.takes c.args.writer.now part c.show.new.writer)
     (g.W.Sink.flushes c.args.writer.now) (g.W.Sink.flushes c.show.new.writer) c.show.result
     c.in-Some.ensures.some (c.as_slice.ensures.value ∙ c.explain.ensures) c.show.ensures.outcome

@@ -1,0 +1,52 @@
+//! What a load and a word are asked for with.
+use segword::Shape;
+use std::num::NonZeroU32;
+
+/// In which form the totals of a load are written.
+#[derive(Clone, Copy, Debug, PartialEq, Eq)]
+pub enum Format {
+    /// A line for each pass, and one for all.
+    Text,
+    /// One JSON object, on one line.
+    Json,
+}
+
+/// A load over an index of this shape.
+#[derive(Clone, Copy, Debug)]
+pub struct Load {
+    pub shape: Shape,
+    /// The number from which the commands are drawn.
+    pub seed: u64,
+    /// How many commands each pass makes.
+    pub commands: u32,
+    /// Over how many keys.
+    pub keys: NonZeroU32,
+    pub format: Format,
+    /// Whether a watch is told what the load did to the table.
+    pub stats: bool,
+    /// Whether a watch looks on.
+    pub progress: bool,
+    /// Whether it is said why the shape is bad.
+    pub explain: bool,
+}
+
+/// Which words of the table a word is one of.
+#[derive(Clone, Copy, Debug, PartialEq, Eq)]
+pub enum WordKind {
+    /// Words 1 to 7 of a bucket.
+    Item,
+    /// The first word of a bucket.
+    Information,
+    /// The word of a segment.
+    Segment,
+}
+
+/// A word of the table that is to be explained.
+#[derive(Clone, Copy, Debug)]
+pub struct Word<'a> {
+    /// Its hexadecimal digits.
+    pub text: &'a str,
+    pub kind: WordKind,
+    /// Whether it is said what is wrong with a bad one.
+    pub explain: bool,
+}
