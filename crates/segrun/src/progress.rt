@@ -1,5 +1,6 @@
 //! How far a load has come: a line on standard error, at most twice a second if there is a clock.
-use segcli::{Watch, progress_line};
+//! And what it did to the table, at its end.
+use segcli::{Pace, Totals, Watch, progress_line, stats_text};
 use std::io::Write;
 use std::sync::atomic::{AtomicU64, Ordering};
 use std::time::Instant;
@@ -38,6 +39,15 @@ impl<'r> Teller<'r> {
         u64::try_from(since.as_millis()).ok()
     }
 
+    // How long a load with so many commands took, if there is a clock.
+    fn pace(&self, commands: u128) -> Option<Pace> {
+        let milliseconds = self.now()?;
+        Some(Pace {
+            milliseconds,
+            each_second: commands.saturating_mul(1000) / u128::from(milliseconds.max(1)),
+        })
+    }
+
     // Writes a line. One that can't be written is left out.
     fn tell(&self, made: u64, of: u64, each_second: Option<u128>) {
         if let Ok(line) = progress_line(self.rt.alloc(), made, of, each_second) {
@@ -72,6 +82,12 @@ impl Watch for Teller<'_> {
         self.time.store(time, Ordering::SeqCst);
         if before != 0 {
             self.tell(made, of, each_second);
+        }
+    }
+
+    fn ended(&self, totals: &Totals) {
+        if let Ok(text) = stats_text(self.rt.alloc(), totals, self.pace(totals.commands())) {
+            let _ = self.rt.stderr().write_all(text.as_slice());
         }
     }
 }
