@@ -14,15 +14,15 @@ const PROGRAM: [&str; 13] = [
     "word",
     "printf 'p0 refill 0 4294967295\\np0 set a 1 @0\\np0 get a @0\\n' | segrun",
     "Exit status",
-    "\n  1  the number of buckets is not a power of two, or is over 65536\n",
-    "\n  2  the number of overflow buckets is over 65536\n",
-    "\n  3  the number of passes is not 1 to 64\n",
-    "\n  4  the number of segments of a pass is not 1 to 1024\n",
-    "\n  5  the number of rows of a segment is not 1 to 4096\n",
-    "\n  6  the table would have over 67108864 words",
+    "\n  1  --buckets: a power of two, 1 to 65536\n",
+    "\n  2  --overflow: 0 to 65536\n",
+    "\n  3  --passes: 1 to 64\n",
+    "\n  4  --segments: 1 to 1024\n",
+    "\n  5  --rows: 1 to 4096\n",
+    "\n  6  the table: at most 67108864 words",
 ];
 
-const SCRIPTS: [&str; 21] = [
+const SCRIPTS: [&str; 22] = [
     "Usage: segrun script",
     "[FILE]",
     "--buckets <N>",
@@ -34,6 +34,7 @@ const SCRIPTS: [&str; 21] = [
     "--rows <N>",
     "[default: 8]",
     "--first-version <N>",
+    "--for-keys <N>",
     "--explain",
     "p0 refill SEGMENT DEADLINE        REFILLED",
     "p0 keep SEGMENT CUTOFF            KEPT, NOROOM",
@@ -46,7 +47,7 @@ const SCRIPTS: [&str; 21] = [
     "with status 2",
 ];
 
-const LOADS: [&str; 20] = [
+const LOADS: [&str; 24] = [
     "Usage: segrun load",
     "--passes <N>",
     "--first-version <N>",
@@ -58,7 +59,11 @@ const LOADS: [&str; 20] = [
     "[default: 1000]",
     "--keys <N>",
     "[default: 64]",
-    "segrun load --buckets 16 --segments 2 --rows 128",
+    "--for-keys <N>",
+    "--format <FORMAT>",
+    "\n      --stats",
+    "\n      --explain",
+    "segrun load --for-keys 64",
     "segrun load --keys 1000000",
     "\n      --progress",
     "about twice a second",
@@ -69,9 +74,13 @@ const LOADS: [&str; 20] = [
     "\n  busy         ",
 ];
 
-const WORDS: [&str; 3] = [
-    "Usage: segrun word <HEX>",
+const WORDS: [&str; 7] = [
+    "Usage: segrun word [OPTIONS] <HEX>",
+    "--kind <KIND>",
+    "it can look like an item word",
     "item tag=af6 freq=1 seg=2 row=3",
+    "information version=7 bit=1",
+    "segment deadline=4294967295 readers=2",
     "with status 2",
 ];
 
@@ -97,6 +106,8 @@ fn help_tells_a_newcomer_what_to_do(rt: HostRuntime) -> Result<(), Fail> {
         (["--help"].as_slice(), PROGRAM.as_slice()),
         (["-h"].as_slice(), PROGRAM.as_slice()),
         (["help"].as_slice(), PROGRAM.as_slice()),
+        (["help", "-h"].as_slice(), PROGRAM.as_slice()),
+        (["help", "--help"].as_slice(), PROGRAM.as_slice()),
         (["script", "--help"].as_slice(), SCRIPTS.as_slice()),
         (["script", "-h"].as_slice(), SCRIPTS.as_slice()),
         (["help", "script"].as_slice(), SCRIPTS.as_slice()),

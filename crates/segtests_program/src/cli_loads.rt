@@ -111,6 +111,54 @@ fn one_pass_counts_as_a_plain_map(rt: HostRuntime) -> Result<(), Fail> {
     Ok(())
 }
 
+#[test]
+fn totals_are_one_object(rt: HostRuntime) -> Result<(), Fail> {
+    for (words, totals) in [
+        (
+            ["load", "--format=json", "--seed=7", "--commands=500"].as_slice(),
+            b"{\"passes\":[{\"pass\":0,\"commands\":500,\"hit\":24,\"miss\":293,\"stored\":63,\"not_stored\":24,\"exists\":0,\"not_found\":72,\"deleted\":3,\"noroom\":0,\"bucketfull\":21,\"busy\":0}],\"total\":{\"commands\":500,\"keys\":6}}\n".as_slice(),
+        ),
+        (
+            ["load", "--format", "json", "--passes=2", "--commands=0"].as_slice(),
+            b"{\"passes\":[{\"pass\":0,\"commands\":0,\"hit\":0,\"miss\":0,\"stored\":0,\"not_stored\":0,\"exists\":0,\"not_found\":0,\"deleted\":0,\"noroom\":0,\"bucketfull\":0,\"busy\":0},{\"pass\":1,\"commands\":0,\"hit\":0,\"miss\":0,\"stored\":0,\"not_stored\":0,\"exists\":0,\"not_found\":0,\"deleted\":0,\"noroom\":0,\"bucketfull\":0,\"busy\":0}],\"total\":{\"commands\":0,\"keys\":0}}\n",
+        ),
+        (
+            ["load", "--format=text", "--commands=0"].as_slice(),
+            NO_TOTALS,
+        ),
+    ] {
+        check_program(&rt, words, b"", 0, totals, b"")?;
+    }
+    Ok(())
+}
+
+// With room for its keys a load of one pass counts as a plain map.
+#[test]
+fn a_load_has_a_shape_for_its_keys(rt: HostRuntime) -> Result<(), Fail> {
+    let totals =
+        "p0 commands=500 hit=113 miss=204 stored=85 not_stored=25 exists=6 not_found=45 deleted=22 noroom=0 bucketfull=0 busy=0\ntotal commands=500 keys=36\n";
+    check_load(
+        &rt,
+        &["load", "--for-keys=64", "--seed=7", "--commands=500"],
+        500,
+        totals,
+    )?;
+    check_program(
+        &rt,
+        &[
+            "load",
+            "--for-keys=64",
+            "--seed=7",
+            "--commands=500",
+            "--format=json",
+        ],
+        b"",
+        0,
+        b"{\"passes\":[{\"pass\":0,\"commands\":500,\"hit\":113,\"miss\":204,\"stored\":85,\"not_stored\":25,\"exists\":6,\"not_found\":45,\"deleted\":22,\"noroom\":0,\"bucketfull\":0,\"busy\":0}],\"total\":{\"commands\":500,\"keys\":36}}\n",
+        b"",
+    )
+}
+
 // Checks that the lines begin so.
 fn check_starts(rt: &impl Abort, text: &str, starts: &[&str]) {
     let mut lines = text.lines();

@@ -78,6 +78,8 @@ fn an_option_stands_once_and_has_a_number(rt: HostRuntime) -> Result<(), Fail> {
         ("load", "--seed", "18446744073709551616"),
         ("load", "--commands", "4294967296"),
         ("load", "--keys", "1000001"),
+        ("load", "--for-keys", "425985"),
+        ("script", "--for-keys", "425985"),
     ] {
         check_numbers(&rt, command, option, above)?;
     }
@@ -240,6 +242,59 @@ fn more_than_65536_overflow_buckets_are_refused(rt: HostRuntime) -> Result<(), F
     Ok(())
 }
 
+// Two passes have eight segments each, and each has room for an eighth of the keys.
+#[test]
+fn a_shape_is_for_its_keys(rt: HostRuntime) -> Result<(), Fail> {
+    let script =
+        b"p0 refill 7 4294967295\np1 refill 15 4294967295\np1 refill 16 4294967295\np0 set a 1 @0\np0 set b 1 @0\np0 set c 1 @0\n";
+    for (words, replies) in [
+        (
+            ["script", "--for-keys=10", "--passes=2"].as_slice(),
+            b"REFILLED\nREFILLED\nNOT_YOURS\nSTORED\nSTORED\nNOROOM\n".as_slice(),
+        ),
+        // An option of its own changes its part alone.
+        (
+            ["script", "--for-keys=10", "--passes=2", "--rows=1"].as_slice(),
+            b"REFILLED\nREFILLED\nNOT_YOURS\nSTORED\nNOROOM\nNOROOM\n".as_slice(),
+        ),
+    ] {
+        check_program(&rt, words, script, 0, replies, b"")?;
+    }
+    for passes in ["--passes=0", "--passes=65"] {
+        let words = ["script", "--for-keys=10", passes];
+        check_program(&rt, &words, script, 3, b"", b"bad shape 3\n")?;
+    }
+    Ok(())
+}
+
+#[test]
+fn a_bad_shape_has_a_reason(rt: HostRuntime) -> Result<(), Fail> {
+    for (option, printed) in [
+        (
+            "--buckets=3",
+            b"bad shape 1\nbuckets: a power of two, 1 to 65536\n".as_slice(),
+        ),
+        ("--overflow=65537", b"bad shape 2\noverflow: 0 to 65536\n"),
+        ("--passes=65", b"bad shape 3\npasses: 1 to 64\n"),
+        ("--segments=0", b"bad shape 4\nsegments: 1 to 1024\n"),
+        ("--rows=0", b"bad shape 5\nrows: 1 to 4096\n"),
+    ] {
+        for command in ["script", "load"] {
+            let words = [command, "--explain", option];
+            check_program(&rt, &words, SCRIPT, 3, b"", printed)?;
+        }
+    }
+    let words = [
+        "load",
+        "--explain",
+        "--passes=64",
+        "--segments=1024",
+        "--rows=128",
+    ];
+    let printed = b"bad shape 6\nthe table: at most 67108864 words of 8 bytes\n";
+    check_program(&rt, &words, SCRIPT, 3, b"", printed)
+}
+
 #[test]
 fn a_bad_command_line_says_what_is_wrong(rt: HostRuntime) -> Result<(), Fail> {
     for (words, part) in [
@@ -247,7 +302,19 @@ fn a_bad_command_line_says_what_is_wrong(rt: HostRuntime) -> Result<(), Fail> {
         (["scrpt"].as_slice(), "script"),
         (["script", "file", "more"].as_slice(), "more"),
         (["script", "--explain=1"].as_slice(), "--explain"),
-        (["load", "--explain"].as_slice(), "--explain"),
+        (["load", "--explain=1"].as_slice(), "--explain"),
+        (["load", "--stats=1"].as_slice(), "--stats"),
+        (["script", "--stats"].as_slice(), "--stats"),
+        (
+            ["load", "--format", "xml"].as_slice(),
+            "invalid value 'xml' for '--format <WORD>'\n  [possible values: text, json]\n",
+        ),
+        (["load", "--format"].as_slice(), "--format"),
+        (["script", "--format=json"].as_slice(), "--format"),
+        (
+            ["word", "0", "--kind="].as_slice(),
+            "invalid value '' for '--kind <WORD>'\n  [possible values: item, information, segment]\n",
+        ),
         (["script", "--row", "4"].as_slice(), "--rows"),
         (["word"].as_slice(), "HEX"),
         (["word", "0000000000000000", "more"].as_slice(), "more"),
@@ -257,6 +324,7 @@ fn a_bad_command_line_says_what_is_wrong(rt: HostRuntime) -> Result<(), Fail> {
         ([""].as_slice(), "segrun"),
         (["--"].as_slice(), "segrun"),
         (["help", "lode"].as_slice(), "lode"),
+        (["help", "-x"].as_slice(), "segrun"),
     ] {
         check_refused(&rt, words, part)?;
     }

@@ -67,3 +67,95 @@ fn other_words_are_bad(rt: HostRuntime) -> Result<(), Fail> {
     }
     Ok(())
 }
+
+#[test]
+fn a_word_has_a_kind(rt: HostRuntime) -> Result<(), Fail> {
+    for (words, explanation) in [
+        (
+            ["word", "--kind=item", "af60100000200003"].as_slice(),
+            b"item tag=af6 freq=1 seg=2 row=3\n".as_slice(),
+        ),
+        (
+            ["word", "--kind", "information", "0000000700000001"].as_slice(),
+            b"information version=7 bit=1\n",
+        ),
+        (
+            ["word", "--kind=information", "ffffffff00000000"].as_slice(),
+            b"information version=4294967295 bit=0\n",
+        ),
+        (
+            ["word", "--kind", "segment", "ffffffff00000002"].as_slice(),
+            b"segment deadline=4294967295 readers=2\n",
+        ),
+        (
+            ["word", "--explain", "00000000FFFFFFFF", "--kind=segment"].as_slice(),
+            b"segment deadline=0 readers=4294967295\n",
+        ),
+    ] {
+        check_program(&rt, words, b"", 0, explanation, b"")?;
+    }
+    Ok(())
+}
+
+#[test]
+fn a_prefix_is_told(rt: HostRuntime) -> Result<(), Fail> {
+    check_program(
+        &rt,
+        &["word", "--explain", "0xaf6"],
+        b"",
+        2,
+        b"",
+        b"bad word\nHEX: the digits stand without 0x\n",
+    )
+}
+
+#[test]
+fn a_bad_word_has_a_reason(rt: HostRuntime) -> Result<(), Fail> {
+    for (kind, word, reason) in [
+        (
+            "--kind=item",
+            "0xaf60100000200003",
+            "HEX: the digits stand without 0x",
+        ),
+        ("--kind=item", "0X", "HEX: the digits stand without 0x"),
+        ("--kind=item", "af6", "HEX: it has 3 digits, not 16"),
+        ("--kind=item", "", "HEX: it has 0 digits, not 16"),
+        (
+            "--kind=segment",
+            "00000000000000000",
+            "HEX: it has 17 digits, not 16",
+        ),
+        (
+            "--kind=item",
+            "000000000000000g",
+            "HEX: character 16 is not a hexadecimal digit",
+        ),
+        (
+            "--kind=item",
+            "+000000000000000",
+            "HEX: character 1 is not a hexadecimal digit",
+        ),
+        (
+            "--kind=information",
+            "00 0",
+            "HEX: character 3 is not a hexadecimal digit",
+        ),
+        (
+            "--kind=item",
+            "0000000000010001",
+            "HEX: tag 0, and over 65536: no item, no chain (see --kind)",
+        ),
+        (
+            "--kind=information",
+            "0000000000000002",
+            "HEX: one of its bits 1 to 31 is set",
+        ),
+    ] {
+        let text = format!(in rt.alloc(); "bad word\n{reason}\n")?;
+        let words = ["word", "--explain", kind, word];
+        check_program(&rt, &words, b"", 2, b"", text.as_bytes())?;
+        let words = ["word", kind, word];
+        check_program(&rt, &words, b"", 2, b"", b"bad word\n")?;
+    }
+    Ok(())
+}

@@ -22,6 +22,8 @@ mod cli_runs;
 #[cfg(test)]
 mod cli_scripts;
 #[cfg(test)]
+mod cli_stats;
+#[cfg(test)]
 mod cli_words;
 #[cfg(test)]
 mod load_alone;
