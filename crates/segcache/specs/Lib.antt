@@ -1,6 +1,13 @@
+pub mod Calls
+pub mod Exports
+pub mod Made
 pub mod Member
 pub mod Owned
 pub mod Places
+pub mod Reading
+pub mod Setting
 pub mod Sharing
 pub mod Status
+pub mod Telling
 pub mod Token
+pub mod Writing

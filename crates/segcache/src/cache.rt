@@ -18,7 +18,8 @@ use std::sync::Arc;
 pub struct Cache {
     index: Arc<Index, Global>,
     places: Vec<Option<Pass>>,
-    ghost places_are: { AreItsPlaces index.value places.items } by { AreItsPlaces-prop index.value places.items },
+    ghost places_are: { AreItsPlaces index.value
+        places.items } by { AreItsPlaces-prop index.value places.items },
 }
 
 /// How the end of a cache went.

@@ -3,14 +3,19 @@
 #![tactic(auto)]
 
 mod cache;
+mod calls;
 mod client;
 mod closing;
 mod cursor;
 mod handle;
+mod holding;
+mod holds;
 mod kept;
 mod loose;
 mod opening;
 mod reading;
 mod settings;
 mod status;
+mod telling;
+mod when;
 mod writing;

@@ -1,5 +1,6 @@
 //! The exports that open a cache.
-ghost use Rattle.std.specs.Prelude.{All};
+ghost use Rattle.std.specs.Prelude.{◌≡◌, All};
+ghost use Rattle.segbase.specs.Words.{holding};
 ghost use Rattle.segindex.specs.Words.{board_of};
 ghost use Rattle.segpass.specs.Words.{IsQuiet};
 
@@ -104,6 +105,7 @@ fn guests(
     passes: Vec<Pass>,
 ) -> Result<Vec<Box<Kept, Global>>, AllocError>
     requires quiet { All (IsQuiet (board_of index.now.value)) passes.items }
+    requires bare { All (λ p. holding p ≡ None) passes.items }
 {
     let clients = clients(alloc, index, passes)?;
     let mut guests = Vec::with_capacity(alloc, clients.len())?;

@@ -1,4 +1,8 @@
 //! The exports that read.
+ghost use Rattle.std.specs.Prelude.{◌≡◌, Some};
+ghost use Rattle.segcache.specs.Exports.{Answers, CopiesOut};
+ghost use Rattle.segcache.specs.Reading.{Got, GotVersion, TellsGet, TellsGets};
+
 use crate::handle::Handle;
 use crate::kept::Kept;
 use crate::status::Status;
@@ -15,7 +19,10 @@ pub extern "C" fn segcache_raw_get(
     value: &mut [u8],
     value_len: &mut usize,
     now: u32,
-) -> u32 {
+) -> u32
+    ensures { Answers result (Got key.now now client.old.value client.new.value
+        (value.old, value_len.old) (value.new, value_len.new)) }
+{
     let Some(mut kept) = client.take(alloc) else {
         return Status::NoHandle.number();
     };
@@ -34,7 +41,10 @@ pub extern "C" fn segcache_raw_gets(
     value_len: &mut usize,
     version: &mut u32,
     now: u32,
-) -> u32 {
+) -> u32
+    ensures { Answers result (GotVersion key.now now client.old.value client.new.value
+        (value.old, value_len.old) (value.new, value_len.new) version.old version.new) }
+{
     let Some(mut kept) = client.take(alloc) else {
         return Status::NoHandle.number();
     };
@@ -44,7 +54,9 @@ pub extern "C" fn segcache_raw_gets(
 }
 
 // Copies a value to the buffer, if it has room for it.
-pub(crate) fn copy_out(found: &Value, value: &mut [u8], value_len: &mut usize) -> Status {
+pub(crate) fn copy_out(found: &Value, value: &mut [u8], value_len: &mut usize) -> Status
+    ensures { CopiesOut found.now result (value.old, value_len.old) (value.new, value_len.new) }
+{
     let bytes = found.as_bytes();
     let len = bytes.len();
     *value_len = len;
@@ -55,14 +67,24 @@ pub(crate) fn copy_out(found: &Value, value: &mut [u8], value_len: &mut usize) -
     Status::Ok
 }
 
-fn get(kept: &mut Kept, key: &[u8], value: &mut [u8], value_len: &mut usize, now: u32) -> Status {
+fn get(kept: &mut Kept, key: &[u8], value: &mut [u8], value_len: &mut usize, now: u32) -> Status
+    ensures { Got key.now now (Some kept.old) (Some kept.new)
+        (value.old, value_len.old) (value.new, value_len.new) result }
+{
     let Kept::Client(client) = kept else {
         return Status::NoHandle;
     };
     let Some(key) = Key::new(key) else {
         return Status::BadKey;
     };
-    match client.get(&key, now) {
+    tell_get(client.get(&key, now), value, value_len)
+}
+
+// Tells what a get answered.
+fn tell_get(told: GetAnswer, value: &mut [u8], value_len: &mut usize) -> Status
+    ensures { TellsGet told result (value.old, value_len.old) (value.new, value_len.new) }
+{
+    match told {
         GetAnswer::Found(found) => copy_out(&found, value, value_len),
         GetAnswer::Miss => Status::Miss,
         GetAnswer::Busy => Status::Busy,
@@ -76,14 +98,25 @@ fn gets(
     value_len: &mut usize,
     version: &mut u32,
     now: u32,
-) -> Status {
+) -> Status
+    ensures { GotVersion key.now now (Some kept.old) (Some kept.new)
+        (value.old, value_len.old) (value.new, value_len.new) version.old version.new result }
+{
     let Kept::Client(client) = kept else {
         return Status::NoHandle;
     };
     let Some(key) = Key::new(key) else {
         return Status::BadKey;
     };
-    match client.gets(&key, now) {
+    tell_gets(client.gets(&key, now), value, value_len, version)
+}
+
+// Tells what a gets answered.
+fn tell_gets(told: GetsAnswer, value: &mut [u8], value_len: &mut usize, version: &mut u32) -> Status
+    ensures { TellsGets told result (value.old, value_len.old) (value.new, value_len.new)
+        version.old version.new }
+{
+    match told {
         GetsAnswer::Found(found, of) => {
             *version = of;
             copy_out(&found, value, value_len)

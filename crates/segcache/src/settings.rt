@@ -1,4 +1,9 @@
 //! The exports that set how a client puts, and that count.
+ghost use Rattle.std.specs.Prelude.{◌≡◌, Some};
+ghost use Rattle.segcache.specs.Exports.{Answers};
+ghost use Rattle.segcache.specs.Setting.{Counted, CountedTable, cutoff_of, KeptFrom, MadeRoom};
+ghost use Rattle.segcache.specs.Setting.{SetTimeToLive};
+
 use crate::handle::Handle;
 use crate::kept::Kept;
 use crate::status::Status;
@@ -38,7 +43,9 @@ pub extern "C" fn segcache_raw_set_time_to_live(
     alloc: Global,
     client: &mut Handle,
     seconds: u32,
-) -> u32 {
+) -> u32
+    ensures { Answers result (SetTimeToLive seconds client.old.value client.new.value) }
+{
     let Some(mut kept) = client.take(alloc) else {
         return Status::NoHandle.number();
     };
@@ -50,7 +57,9 @@ pub extern "C" fn segcache_raw_set_time_to_live(
 /// Sets the least frequency of an item that a put keeps. With 0 it keeps nothing.
 /// A frequency has 8 bits, so what is higher counts as 255.
 #[unsafe(no_mangle)]
-pub extern "C" fn segcache_raw_keep_from(alloc: Global, client: &mut Handle, cutoff: u32) -> u32 {
+pub extern "C" fn segcache_raw_keep_from(alloc: Global, client: &mut Handle, cutoff: u32) -> u32
+    ensures { Answers result (KeptFrom cutoff client.old.value client.new.value) }
+{
     let Some(mut kept) = client.take(alloc) else {
         return Status::NoHandle.number();
     };
@@ -61,7 +70,9 @@ pub extern "C" fn segcache_raw_keep_from(alloc: Global, client: &mut Handle, cut
 
 /// Makes room for a write.
 #[unsafe(no_mangle)]
-pub extern "C" fn segcache_raw_make_room(alloc: Global, client: &mut Handle, now: u32) -> u32 {
+pub extern "C" fn segcache_raw_make_room(alloc: Global, client: &mut Handle, now: u32) -> u32
+    ensures { Answers result (MadeRoom now client.old.value client.new.value) }
+{
     let Some(mut kept) = client.take(alloc) else {
         return Status::NoHandle.number();
     };
@@ -76,7 +87,9 @@ pub extern "C" fn segcache_raw_stats(
     alloc: Global,
     client: &mut Handle,
     counts: &mut ClientStats,
-) -> u32 {
+) -> u32
+    ensures { Answers result (Counted client.old.value client.new.value counts.old counts.new) }
+{
     let Some(mut kept) = client.take(alloc) else {
         return Status::NoHandle.number();
     };
@@ -91,7 +104,10 @@ pub extern "C" fn segcache_raw_index_stats(
     alloc: Global,
     client: &mut Handle,
     counts: &mut TableStats,
-) -> u32 {
+) -> u32
+    ensures { Answers result (CountedTable client.old.value client.new.value
+        counts.old counts.new) }
+{
     let Some(mut kept) = client.take(alloc) else {
         return Status::NoHandle.number();
     };
@@ -100,7 +116,9 @@ pub extern "C" fn segcache_raw_index_stats(
     told.number()
 }
 
-fn set_time_to_live(kept: &mut Kept, seconds: u32) -> Status {
+fn set_time_to_live(kept: &mut Kept, seconds: u32) -> Status
+    ensures { SetTimeToLive seconds (Some kept.old) (Some kept.new) result }
+{
     let Kept::Client(client) = kept else {
         return Status::NoHandle;
     };
@@ -108,7 +126,9 @@ fn set_time_to_live(kept: &mut Kept, seconds: u32) -> Status {
     Status::Ok
 }
 
-fn keep_from(kept: &mut Kept, cutoff: u32) -> Status {
+fn keep_from(kept: &mut Kept, cutoff: u32) -> Status
+    ensures { KeptFrom cutoff (Some kept.old) (Some kept.new) result }
+{
     let Kept::Client(client) = kept else {
         return Status::NoHandle;
     };
@@ -117,14 +137,18 @@ fn keep_from(kept: &mut Kept, cutoff: u32) -> Status {
 }
 
 // The cutoff of a number: none for 0, and at most 255.
-fn cutoff_of(number: u32) -> Option<u8> {
+fn cutoff_of(number: u32) -> Option<u8>
+    ensures { result ≡ cutoff_of number }
+{
     if number == 0 {
         return None;
     }
-    Some(u8::try_from(number).unwrap_or(u8::MAX))
+    Some(number.min(255) as u8)
 }
 
-fn make_room(kept: &mut Kept, now: u32) -> Status {
+fn make_room(kept: &mut Kept, now: u32) -> Status
+    ensures { MadeRoom now (Some kept.old) (Some kept.new) result }
+{
     let Kept::Client(client) = kept else {
         return Status::NoHandle;
     };
@@ -135,7 +159,9 @@ fn make_room(kept: &mut Kept, now: u32) -> Status {
     }
 }
 
-fn stats(kept: &mut Kept, counts: &mut ClientStats) -> Status {
+fn stats(kept: &mut Kept, counts: &mut ClientStats) -> Status
+    ensures { Counted (Some kept.old) (Some kept.new) counts.old counts.new result }
+{
     let Kept::Client(client) = kept else {
         return Status::NoHandle;
     };
@@ -158,7 +184,9 @@ fn stats(kept: &mut Kept, counts: &mut ClientStats) -> Status {
     Status::Ok
 }
 
-fn index_stats(kept: &mut Kept, counts: &mut TableStats) -> Status {
+fn index_stats(kept: &mut Kept, counts: &mut TableStats) -> Status
+    ensures { CountedTable (Some kept.old) (Some kept.new) counts.old counts.new result }
+{
     let Kept::Client(client) = kept else {
         return Status::NoHandle;
     };

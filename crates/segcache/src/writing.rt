@@ -1,12 +1,20 @@
 //! The exports that write.
+ghost use Rattle.std.specs.Prelude.{◌≡◌, Some};
+ghost use Rattle.segcache.specs.Exports.{Answers};
+ghost use Rattle.segcache.specs.Writing.{delete_status, Deleted, Put, put_status};
+ghost use Rattle.segcache.specs.Writing.{write_status, Wrote};
+
 use crate::handle::Handle;
 use crate::kept::Kept;
 use crate::status::Status;
+use crate::when::When;
 use segclient::{DeleteAnswer, Key, PutAnswer, Value, WriteAnswer};
 use std::alloc::Global;
 
 // The status of an answer to a put.
-fn of_put(told: PutAnswer) -> Status {
+fn of_put(told: PutAnswer) -> Status
+    ensures { result ≡ put_status told }
+{
     match told {
         PutAnswer::Stored => Status::Ok,
         PutAnswer::NoRoom => Status::NoRoom,
@@ -16,7 +24,9 @@ fn of_put(told: PutAnswer) -> Status {
 }
 
 // The status of an answer to a write.
-fn of_write(told: WriteAnswer) -> Status {
+fn of_write(told: WriteAnswer) -> Status
+    ensures { result ≡ write_status told }
+{
     match told {
         WriteAnswer::Stored => Status::Ok,
         WriteAnswer::NotStored => Status::NotStored,
@@ -29,7 +39,9 @@ fn of_write(told: WriteAnswer) -> Status {
 }
 
 // The status of an answer to a delete.
-fn of_delete(told: DeleteAnswer) -> Status {
+fn of_delete(told: DeleteAnswer) -> Status
+    ensures { result ≡ delete_status told }
+{
     match told {
         DeleteAnswer::Deleted => Status::Ok,
         DeleteAnswer::NotFound => Status::NotFound,
@@ -45,7 +57,9 @@ pub extern "C" fn segcache_raw_put(
     key: &[u8],
     value: &[u8],
     now: u32,
-) -> u32 {
+) -> u32
+    ensures { Answers result (Put key.now value.now now client.old.value client.new.value) }
+{
     let Some(mut kept) = client.take(alloc) else {
         return Status::NoHandle.number();
     };
@@ -54,7 +68,9 @@ pub extern "C" fn segcache_raw_put(
     told.number()
 }
 
-fn put(kept: &mut Kept, key: &[u8], value: &[u8], now: u32) -> Status {
+fn put(kept: &mut Kept, key: &[u8], value: &[u8], now: u32) -> Status
+    ensures { Put key.now value.now now (Some kept.old) (Some kept.new) result }
+{
     let Kept::Client(client) = kept else {
         return Status::NoHandle;
     };
@@ -75,26 +91,16 @@ pub extern "C" fn segcache_raw_set(
     key: &[u8],
     value: &[u8],
     now: u32,
-) -> u32 {
+) -> u32
+    ensures { Answers result (Wrote When.Always key.now value.now now
+        client.old.value client.new.value) }
+{
     let Some(mut kept) = client.take(alloc) else {
         return Status::NoHandle.number();
     };
-    let told = set(&mut kept, key, value, now);
+    let told = write(&mut kept, When::Always, key, value, now);
     client.fill(alloc, kept);
     told.number()
-}
-
-fn set(kept: &mut Kept, key: &[u8], value: &[u8], now: u32) -> Status {
-    let Kept::Client(client) = kept else {
-        return Status::NoHandle;
-    };
-    let Some(key) = Key::new(key) else {
-        return Status::BadKey;
-    };
-    let Some(value) = Value::new(value) else {
-        return Status::BadValue;
-    };
-    of_write(client.set(&key, &value, now))
 }
 
 /// Stores a value if the key is absent.
@@ -105,26 +111,16 @@ pub extern "C" fn segcache_raw_add(
     key: &[u8],
     value: &[u8],
     now: u32,
-) -> u32 {
+) -> u32
+    ensures { Answers result (Wrote When.IfAbsent key.now value.now now
+        client.old.value client.new.value) }
+{
     let Some(mut kept) = client.take(alloc) else {
         return Status::NoHandle.number();
     };
-    let told = add(&mut kept, key, value, now);
+    let told = write(&mut kept, When::IfAbsent, key, value, now);
     client.fill(alloc, kept);
     told.number()
-}
-
-fn add(kept: &mut Kept, key: &[u8], value: &[u8], now: u32) -> Status {
-    let Kept::Client(client) = kept else {
-        return Status::NoHandle;
-    };
-    let Some(key) = Key::new(key) else {
-        return Status::BadKey;
-    };
-    let Some(value) = Value::new(value) else {
-        return Status::BadValue;
-    };
-    of_write(client.add(&key, &value, now))
 }
 
 /// Stores a value if the key is present.
@@ -135,26 +131,16 @@ pub extern "C" fn segcache_raw_replace(
     key: &[u8],
     value: &[u8],
     now: u32,
-) -> u32 {
+) -> u32
+    ensures { Answers result (Wrote When.IfPresent key.now value.now now
+        client.old.value client.new.value) }
+{
     let Some(mut kept) = client.take(alloc) else {
         return Status::NoHandle.number();
     };
-    let told = replace(&mut kept, key, value, now);
+    let told = write(&mut kept, When::IfPresent, key, value, now);
     client.fill(alloc, kept);
     told.number()
-}
-
-fn replace(kept: &mut Kept, key: &[u8], value: &[u8], now: u32) -> Status {
-    let Kept::Client(client) = kept else {
-        return Status::NoHandle;
-    };
-    let Some(key) = Key::new(key) else {
-        return Status::BadKey;
-    };
-    let Some(value) = Value::new(value) else {
-        return Status::BadValue;
-    };
-    of_write(client.replace(&key, &value, now))
 }
 
 /// Stores a value if the key is present and its bucket has the version.
@@ -166,16 +152,23 @@ pub extern "C" fn segcache_raw_cas(
     value: &[u8],
     version: u32,
     now: u32,
-) -> u32 {
+) -> u32
+    ensures { Answers result (Wrote (When.IfVersion version) key.now value.now now
+        client.old.value client.new.value) }
+{
     let Some(mut kept) = client.take(alloc) else {
         return Status::NoHandle.number();
     };
-    let told = cas(&mut kept, key, value, version, now);
+    let told = write(&mut kept, When::IfVersion(version), key, value, now);
     client.fill(alloc, kept);
     told.number()
 }
 
-fn cas(kept: &mut Kept, key: &[u8], value: &[u8], version: u32, now: u32) -> Status {
+// A set, an add, a replace or a compare-and-swap.
+#[inline(always)]
+fn write(kept: &mut Kept, when: When, key: &[u8], value: &[u8], now: u32) -> Status
+    ensures { Wrote when key.now value.now now (Some kept.old) (Some kept.new) result }
+{
     let Kept::Client(client) = kept else {
         return Status::NoHandle;
     };
@@ -185,7 +178,7 @@ fn cas(kept: &mut Kept, key: &[u8], value: &[u8], version: u32, now: u32) -> Sta
     let Some(value) = Value::new(value) else {
         return Status::BadValue;
     };
-    of_write(client.cas(&key, &value, version, now))
+    of_write(client.write(when, &key, &value, now))
 }
 
 /// Takes a key out.
@@ -195,7 +188,9 @@ pub extern "C" fn segcache_raw_delete(
     client: &mut Handle,
     key: &[u8],
     now: u32,
-) -> u32 {
+) -> u32
+    ensures { Answers result (Deleted key.now now client.old.value client.new.value) }
+{
     let Some(mut kept) = client.take(alloc) else {
         return Status::NoHandle.number();
     };
@@ -204,7 +199,9 @@ pub extern "C" fn segcache_raw_delete(
     told.number()
 }
 
-fn delete(kept: &mut Kept, key: &[u8], now: u32) -> Status {
+fn delete(kept: &mut Kept, key: &[u8], now: u32) -> Status
+    ensures { Deleted key.now now (Some kept.old) (Some kept.new) result }
+{
     let Kept::Client(client) = kept else {
         return Status::NoHandle;
     };

@@ -14,5 +14,5 @@ invariant_of-self c =
     record {
       places_are = put_place cache.index.value cache.places.items number pass cache.places_are
           (subst (λ i. IsQuiet (board_of i) pass) c.requires.same c.into_pass-pass.ensures.quiet)
-          (same_number client.index.value client.resting number pass client.member c.number-place.ensures c.into_pass-pass.ensures.pass);
+          (same_number client number pass c.number-place.ensures c.into_pass-pass.ensures.pass);
     }

@@ -1,0 +1,12 @@
+use Rattle.std.proofs.Common.{rules, refl}
+use Rattle.segcache.specs.declared.kept.Kept.{Kept}
+use Rattle.segcache.specs.declared.status.Status.{Status}
+use Rattle.std.proofs.Common.{Option}
+use Rattle.segcache.specs.Reading.{GotHeld}
+use Rattle.segcache.proofs.Answering.{unanswered}
+use Rattle.segcache.proofs.holding.segcache_raw_held_value.Goals as goal
+
+pub returns-in_default : goal.returns-in_default
+returns-in_default c =
+    unanswered (λ (b a : Option Kept) (told : Status). GotHeld b a (c.args.value.now, c.args.value_len.now) (c.args.value.now, c.args.value_len.now) told) _ _ _
+    c.in_default.ensures.taken c.take.ensures.none c.number.ensures ((refl, refl), refl)

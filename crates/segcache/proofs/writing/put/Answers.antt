@@ -1,0 +1,47 @@
+use Rattle.std.proofs.Common.{◌≡◌, ℕ, List, refl, subst}
+use Rattle.std.proofs.lemmas.Bool.{false≢true}
+use Rattle.segcache.specs.declared.client.SharedClient.{SharedClient}
+use Rattle.segcache.specs.declared.kept.Kept.TheVariants as kept
+use Rattle.segcache.specs.declared.status.Status.{Status}
+use Rattle.segcache.specs.declared.status.Status.TheVariants as status
+use Rattle.segcache.specs.Exports.{ByKey, ByValue, Tells}
+use Rattle.segcache.specs.Calls.{At, MakesCall}
+use Rattle.segcache.specs.Made.{PutsValue}
+use Rattle.segcache.specs.Writing.{MakesPut}
+use Rattle.segcache.proofs.Answering.{bad_key, bad_value, by_client, good_key, good_value}
+use Rattle.segcache.proofs.writing.put.Goals as goal
+
+pub returns-in_default-new : goal.returns-in_default-new
+returns-in_default-new c =
+    let R : Status → Type 0 = Tells status.BadKey in
+    let Makes : SharedClient → SharedClient → Type 0 = MakesPut c.args.key.now c.args.value.now c.args.now status.BadKey in
+    let Valued : SharedClient → SharedClient → Type 0 = ByValue R c.args.value.now Makes in
+    let Keyed : SharedClient → SharedClient → Type 0 = ByKey R c.args.key.now Valued in
+    by_client R Keyed c.args.kept.now (kept.Client c.in-Client.client) c.in-Client.client c.in-Client.client c.in-Client.is refl
+    (bad_key R c.args.key.now Valued c.in-Client.client (λ is. false≢true (c.in_default-new.ensures.variant.1 is)) refl)
+
+pub returns-in_default-new-2 : goal.returns-in_default-new-2
+returns-in_default-new-2 c =
+    let R : Status → Type 0 = Tells status.BadValue in
+    let Makes : SharedClient → SharedClient → Type 0 = MakesPut c.args.key.now c.args.value.now c.args.now status.BadValue in
+    let Valued : SharedClient → SharedClient → Type 0 = ByValue R c.args.value.now Makes in
+    let Keyed : SharedClient → SharedClient → Type 0 = ByKey R c.args.key.now Valued in
+    by_client R Keyed c.args.kept.now (kept.Client c.in-Client.client) c.in-Client.client c.in-Client.client c.in-Client.is refl
+    (good_key R c.args.key.now Valued c.in-Client.client c.in-Client.client (c.in-Some.ensures.variant.0 refl)
+    (bad_value R c.args.value.now Makes c.in-Client.client (λ is. false≢true (c.in_default-new-2.ensures.variant.1 is)) refl))
+
+pub returns : goal.returns
+returns c =
+    let R : Status → Type 0 = Tells c.of_put.result in
+    let Makes : SharedClient → SharedClient → Type 0 = MakesPut c.args.key.now c.args.value.now c.args.now c.of_put.result in
+    let Valued : SharedClient → SharedClient → Type 0 = ByValue R c.args.value.now Makes in
+    let Keyed : SharedClient → SharedClient → Type 0 = ByKey R c.args.key.now Valued in
+    by_client R Keyed c.args.kept.now (kept.Client c.put.new.self) c.in-Client.client c.put.new.self c.in-Client.is refl
+    (good_key R c.args.key.now Valued c.in-Client.client c.put.new.self (c.in-Some.ensures.variant.0 refl)
+    (good_value R c.args.value.now Makes c.in-Client.client c.put.new.self (c.in-Some-new.ensures.variant.0 refl)
+    (record {
+      answer = c.put.result;
+      calls = subst (λ (k : List ℕ). MakesCall (At c.args.now (PutsValue k c.args.value.now c.put.result)) c.in-Client.client c.put.new.self) c.in-Some.ensures.some
+          (subst (λ (v : List ℕ). MakesCall (At c.args.now (PutsValue c.in-Some.key v c.put.result)) c.in-Client.client c.put.new.self) c.in-Some-new.ensures.some c.put.ensures);
+      tells = c.of_put.ensures;
+    })))

@@ -1,0 +1,61 @@
+-- What an export answers, and what it does with a handle, a key and a value.
+use Rattle.std.specs.Prelude.{◌≡◌, ℕ, ◌≤◌, List, length, ◌++◌, drop, Option, Some}
+use Rattle.segcache.specs.declared.client.SharedClient.{SharedClient}
+use Rattle.segcache.specs.declared.kept.Kept.{Kept}
+use Rattle.segcache.specs.declared.kept.Kept.TheVariants as kept
+use Rattle.segcache.specs.declared.status.Status.{Status}
+use Rattle.segcache.specs.declared.status.Status.TheVariants as status
+use Rattle.segcache.specs.Status.{number_of}
+
+-- the answer is the number of a status of which this is so
+abbrev pub Answers : ℕ → (Status → Type 0) → Type 0
+Answers number IsSo = (told : Status) × (number ≡ number_of told) × IsSo told
+
+-- ---- refusals
+
+abbrev pub Tells : Status → Status → Type 0
+Tells told why = told ≡ why
+
+-- the bytes of a buffer of C's, and a length of C's
+abbrev pub Out : Type 0
+Out = List ℕ × ℕ
+
+-- nothing was written
+abbrev pub WritesNothing : Out → Out → Status → Status → Type 0
+WritesNothing out next told why = (told ≡ why) × (next ≡ out)
+
+-- ---- by a handle, a key and a value
+
+-- A handle with a client has it afterwards too, and the client did this.
+-- Any other handle is as it was, and the call is refused by NoHandle.
+abbrev pub ByClient : (Status → Type 0) → (SharedClient → SharedClient → Type 0)
+    → Option Kept → Option Kept → Type 0
+ByClient Refuses Does (Some (kept.Client old)) after =
+    (new : SharedClient) × (after ≡ Some (kept.Client new)) × Does old new
+ByClient Refuses Does before after = Refuses status.NoHandle × (after ≡ before)
+
+abbrev pub HasKeyLength : List ℕ → Type 0
+HasKeyLength bytes = (1 ≤ length bytes) × (length bytes ≤ 24)
+
+-- With a key of 1 to 24 bytes the client did this. Any other is refused by BadKey.
+pub record ByKey (Refuses : Status → Type 0) (key : List ℕ)
+    (Does : SharedClient → SharedClient → Type 0) (old new : SharedClient) : Type 0 where
+  pub good : HasKeyLength key → Does old new
+  pub bad : ¬ (HasKeyLength key) → Refuses status.BadKey × (new ≡ old)
+
+-- With a value of at most 32 bytes the client did this. Any other is refused by BadValue.
+pub record ByValue (Refuses : Status → Type 0) (value : List ℕ)
+    (Does : SharedClient → SharedClient → Type 0) (old new : SharedClient) : Type 0 where
+  pub good : length value ≤ 32 → Does old new
+  pub bad : ¬ (length value ≤ 32) → Refuses status.BadValue × (new ≡ old)
+
+-- ---- what is written
+
+-- The length of the bytes was written. Where the buffer has room for them, they were copied
+-- to its front, and what is behind them is as it was. A shorter buffer is as it was.
+pub record CopiesOut (bytes : List ℕ) (told : Status) (out next : Out) : Type 0 where
+  pub len : next.1 ≡ length bytes
+  pub fits : length bytes ≤ length out.0
+      → (told ≡ status.Ok) × (next.0 ≡ bytes ++ drop (length bytes) out.0)
+  pub short : ¬ (length bytes ≤ length out.0)
+      → (told ≡ status.ShortBuffer) × (next.0 ≡ out.0)

@@ -1,0 +1,73 @@
+-- What the exports that write do.
+use Rattle.std.specs.Prelude.{◌≡◌, ℕ, List, Option}
+use Rattle.segmodel.specs.Words.{DeleteAnswer, WriteAnswer}
+use Rattle.segmodel.specs.declared.answer.DeleteAnswer.TheVariants as delete
+use Rattle.segmodel.specs.declared.answer.WriteAnswer.TheVariants as write
+use Rattle.segclient.specs.declared.put.PutAnswer.{PutAnswer}
+use Rattle.segclient.specs.declared.put.PutAnswer.TheVariants as put
+use Rattle.segcache.specs.declared.client.SharedClient.{SharedClient}
+use Rattle.segcache.specs.declared.kept.Kept.{Kept}
+use Rattle.segcache.specs.declared.status.Status.{Status}
+use Rattle.segcache.specs.declared.status.Status.TheVariants as status
+use Rattle.segcache.specs.declared.when.When.{When}
+use Rattle.segcache.specs.Calls.{At, MakesCall}
+use Rattle.segcache.specs.Exports.{ByClient, ByKey, ByValue, Tells}
+use Rattle.segcache.specs.Made.{DeletesKey, PutsValue, WritesWhen}
+
+-- the status of each answer
+abbrev pub put_status : PutAnswer → Status
+put_status put.Stored = status.Ok
+put_status put.NoRoom = status.NoRoom
+put_status put.BucketFull = status.BucketFull
+put_status put.Busy = status.Busy
+
+abbrev pub write_status : WriteAnswer → Status
+write_status write.Stored = status.Ok
+write_status write.NotStored = status.NotStored
+write_status write.Exists = status.Exists
+write_status write.NotFound = status.NotFound
+write_status write.NoRoom = status.NoRoom
+write_status write.BucketFull = status.BucketFull
+write_status write.Busy = status.Busy
+
+abbrev pub delete_status : DeleteAnswer → Status
+delete_status delete.Deleted = status.Ok
+delete_status delete.NotFound = status.NotFound
+delete_status delete.Busy = status.Busy
+
+-- the client's put of the value had the answer of this status
+pub record MakesPut (key value : List ℕ) (now : ℕ) (told : Status) (old new : SharedClient)
+    : Type 0 where
+  pub answer : PutAnswer
+  pub calls : MakesCall (At now (PutsValue key value answer)) old new
+  pub tells : told ≡ put_status answer
+
+abbrev pub Put : List ℕ → List ℕ → ℕ → Option Kept → Option Kept → Status → Type 0
+Put key value now before after told =
+    ByClient (Tells told)
+    (ByKey (Tells told) key (ByValue (Tells told) value (MakesPut key value now told)))
+    before after
+
+-- the client's write of the value had the answer of this status
+pub record MakesWrite (when : When) (key value : List ℕ) (now : ℕ) (told : Status)
+    (old new : SharedClient) : Type 0 where
+  pub answer : WriteAnswer
+  pub calls : MakesCall (At now (WritesWhen when key value answer)) old new
+  pub tells : told ≡ write_status answer
+
+abbrev pub Wrote : When → List ℕ → List ℕ → ℕ → Option Kept → Option Kept → Status → Type 0
+Wrote when key value now before after told =
+    ByClient (Tells told)
+    (ByKey (Tells told) key (ByValue (Tells told) value (MakesWrite when key value now told)))
+    before after
+
+-- the client's delete of the key had the answer of this status
+pub record MakesDelete (key : List ℕ) (now : ℕ) (told : Status) (old new : SharedClient)
+    : Type 0 where
+  pub answer : DeleteAnswer
+  pub calls : MakesCall (At now (DeletesKey key answer)) old new
+  pub tells : told ≡ delete_status answer
+
+abbrev pub Deleted : List ℕ → ℕ → Option Kept → Option Kept → Status → Type 0
+Deleted key now before after told =
+    ByClient (Tells told) (ByKey (Tells told) key (MakesDelete key now told)) before after

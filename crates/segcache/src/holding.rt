@@ -1,0 +1,94 @@
+//! The exports of holds: a value that is read again and again until it is released.
+ghost use Rattle.std.specs.Prelude.{◌≡◌, Some};
+ghost use Rattle.segcache.specs.Exports.{Answers};
+ghost use Rattle.segcache.specs.Reading.{GotHeld, Held, Released};
+
+use crate::handle::Handle;
+use crate::kept::Kept;
+use crate::reading::copy_out;
+use crate::status::Status;
+use segclient::Key;
+use std::alloc::Global;
+
+/// Holds the item of a key. A client holds one item at most.
+#[unsafe(no_mangle)]
+pub extern "C" fn segcache_raw_hold(alloc: Global, client: &mut Handle, key: &[u8], now: u32) -> u32
+    ensures { Answers result (Held key.now now client.old.value client.new.value) }
+{
+    let Some(mut kept) = client.take(alloc) else {
+        return Status::NoHandle.number();
+    };
+    let told = hold(&mut kept, key, now);
+    client.fill(alloc, kept);
+    told.number()
+}
+
+/// Copies the value that is held to the buffer, as a get does.
+#[unsafe(no_mangle)]
+pub extern "C" fn segcache_raw_held_value(
+    alloc: Global,
+    client: &mut Handle,
+    value: &mut [u8],
+    value_len: &mut usize,
+) -> u32
+    ensures { Answers result (GotHeld client.old.value client.new.value
+        (value.old, value_len.old) (value.new, value_len.new)) }
+{
+    let Some(mut kept) = client.take(alloc) else {
+        return Status::NoHandle.number();
+    };
+    let told = held_value(&mut kept, value, value_len);
+    client.fill(alloc, kept);
+    told.number()
+}
+
+/// Ends a hold.
+#[unsafe(no_mangle)]
+pub extern "C" fn segcache_raw_release(alloc: Global, client: &mut Handle) -> u32
+    ensures { Answers result (Released client.old.value client.new.value) }
+{
+    let Some(mut kept) = client.take(alloc) else {
+        return Status::NoHandle.number();
+    };
+    let told = release(&mut kept);
+    client.fill(alloc, kept);
+    told.number()
+}
+
+fn hold(kept: &mut Kept, key: &[u8], now: u32) -> Status
+    ensures { Held key.now now (Some kept.old) (Some kept.new) result }
+{
+    let Kept::Client(client) = kept else {
+        return Status::NoHandle;
+    };
+    let Some(key) = Key::new(key) else {
+        return Status::BadKey;
+    };
+    client.hold(&key, now)
+}
+
+fn held_value(kept: &mut Kept, value: &mut [u8], value_len: &mut usize) -> Status
+    ensures { GotHeld (Some kept.old) (Some kept.new)
+        (value.old, value_len.old) (value.new, value_len.new) result }
+{
+    let Kept::Client(client) = kept else {
+        return Status::NoHandle;
+    };
+    match client.held_value() {
+        Some(found) => copy_out(&found, value, value_len),
+        None => Status::NotHolding,
+    }
+}
+
+fn release(kept: &mut Kept) -> Status
+    ensures { Released (Some kept.old) (Some kept.new) result }
+{
+    let Kept::Client(client) = kept else {
+        return Status::NoHandle;
+    };
+    if client.release() {
+        Status::Ok
+    } else {
+        Status::NotHolding
+    }
+}
