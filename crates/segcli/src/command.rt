@@ -15,7 +15,7 @@ use crate::fault::{ProgramFault, print};
 use crate::note::report_explained;
 use crate::progress::{Watch, Watched};
 use crate::totals::text_in;
-use segload::{LoadFault, OpenGate, Totals, run_crowd};
+use segload::{LoadFault, OpenGate, Plan, Totals, run_crowd};
 use segscript::{Failed, Sink, Source, run_script};
 use segword::Shape;
 use std::alloc::{AllocError, AllocGlobal, Global};
@@ -167,18 +167,17 @@ fn totals_of<R: Threads + Wait + AllocGlobal + Sync, V: Watch>(
     ensures fault { IfErr result (IsLoadFault load.now.shape load.now.commands
         lets_all_through) }
 {
-    let Load {
-        shape,
-        seed,
-        commands,
-        keys,
-        ..
-    } = *load;
+    let shape = load.shape;
+    let plan = Plan {
+        seed: load.seed,
+        commands: load.commands,
+        keys: load.keys,
+    };
     if load.progress {
-        let gate = Watched::new(watch, shape.passes, commands);
-        run_crowd(rt, alloc, shape, seed, commands, keys, &gate)
+        let gate = Watched::new(watch, shape.passes, plan.commands);
+        run_crowd(rt, alloc, shape, plan, &gate)
     } else {
-        run_crowd(rt, alloc, shape, seed, commands, keys, &OpenGate)
+        run_crowd(rt, alloc, shape, plan, &OpenGate)
     }
 }
 
