@@ -1,4 +1,5 @@
 pub mod Answering
+pub mod Ended
 pub mod Made
 pub mod Members
 pub mod Noted

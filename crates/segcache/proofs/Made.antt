@@ -1,5 +1,5 @@
 -- A client that rests made a call.
-use Rattle.std.proofs.Common.{◌≡◌, Option, Some, None, IfSome, IsSomeAnd, refl, sym, ap, ◌∙◌, subst}
+use Rattle.std.proofs.Common.{◌≡◌, Option, Some, None, IfSome, IsSomeAnd, sym, ◌∙◌, subst}
 use Rattle.segindex.specs.Words.{Index}
 use Rattle.segclient.specs.declared.client.Client.{Client}
 use Rattle.segclient.specs.declared.rest.Resting.{Resting}

@@ -1,5 +1,5 @@
 -- A handle with a note, and one with anything else.
-use Rattle.std.proofs.Common.{◌≡◌, Bool, true, false, Option, Some, None, refl, sym, ◌∙◌, subst}
+use Rattle.std.proofs.Common.{◌≡◌, true, false, Option, Some, None, refl, sym, subst}
 use Rattle.std.proofs.lemmas.Bool.{false≢true}
 use Rattle.segindex.specs.Words.{Note}
 use Rattle.segcache.specs.declared.client.SharedClient.{SharedClient}

@@ -1,9 +1,9 @@
 -- A client whose hold has ended.
-use Rattle.std.proofs.Common.{◌≡◌, Bool, true, false, is_some, Option, Some, None, IfSome, IsSomeAnd, refl, sym, ap, ◌∙◌, subst}
+use Rattle.std.proofs.Common.{◌≡◌, Bool, true, false, is_some, Option, Some, None, IsSomeAnd, refl, sym, ap, ◌∙◌, subst}
 use Rattle.std.proofs.lemmas.Bool.{false≢true}
 use Rattle.segbase.specs.Words.{holding, Pass}
 use Rattle.segindex.specs.Words.{board_of, Index}
-use Rattle.segpass.specs.Words.{IsQuiet, memo}
+use Rattle.segpass.specs.Words.{IsQuiet}
 use Rattle.segread.specs.Words.{HeldRow, ReleasesHold}
 use Rattle.segbase.specs.Words.{Board, Memo}
 use Rattle.segclient.specs.declared.client.Client.{Client}

@@ -1,11 +1,11 @@
 -- What a client holds stays held, whatever call it makes.
-use Rattle.std.proofs.Common.{◌≡◌, ◌<◌, ℕ, List, Option, Some, None, IfSome, IsSomeAnd, refl, sym, ap, ◌∙◌, subst}
+use Rattle.std.proofs.Common.{◌≡◌, ◌<◌, ℕ, List, Option, Some, None, IfSome, IsSomeAnd, sym, ap, ◌∙◌, subst}
 use Rattle.segword.specs.Words.{Shape}
 use Rattle.segmodel.specs.Words.{DeleteAnswer, Request, WriteAnswer}
 use Rattle.segmodel.specs.declared.answer.DeleteAnswer.TheVariants as delete
 use Rattle.segmodel.specs.declared.answer.WriteAnswer.TheVariants as write
 use Rattle.segcore.specs.Words.{Holds, IsSegment, row_after}
-use Rattle.segbase.specs.Words.{Board, holding, Memo, Pass}
+use Rattle.segbase.specs.Words.{Board, Memo, Pass}
 use Rattle.segpass.specs.Words.{memo}
 use Rattle.segread.specs.declared.held.HoldAnswer.{HoldAnswer}
 use Rattle.segread.specs.declared.held.HoldAnswer.TheVariants as hold_answer

@@ -1,4 +1,5 @@
 pub mod Calls
+pub mod Ending
 pub mod Exports
 pub mod Made
 pub mod Member

@@ -3,15 +3,14 @@ use Rattle.std.specs.Prelude.{◌≡◌, ℕ, Bool, List}
 use Rattle.segmodel.specs.Words.{DeleteAnswer, GetAnswer, GetsAnswer, Request, WriteAnswer}
 use Rattle.segmodel.specs.declared.request.Request.TheVariants.{Set, Add, Replace, Cas}
 use Rattle.segread.specs.declared.held.HoldAnswer.{HoldAnswer}
-use Rattle.segread.specs.Words.{Hold, HoldsItem, IsHoldOf, IsOfRow, HeldRow, ReadsHeld}
+use Rattle.segread.specs.Words.{Hold, HoldsItem, IsOfRow, HeldRow, ReadsHeld}
 use Rattle.segread.specs.Words.{ReadsKey, ReadsVersion, ReleasesHold}
 use Rattle.segwrite.specs.Words.{Deletes, IsSetAnswer, Writes}
-use Rattle.segindex.specs.Words.{IsNoteOf, LearnsNote, MakesNote, Note, TellsStats}
+use Rattle.segindex.specs.Words.{LearnsNote, MakesNote, Note, TellsStats}
 use Rattle.segindex.specs.declared.table_stats.IndexStats.{IndexStats}
 use Rattle.segclient.specs.declared.client.Client.{Client}
 use Rattle.segclient.specs.declared.put.PutAnswer.{PutAnswer}
 use Rattle.segclient.specs.Client.{board_of, draw_of, DrawsOnce, Keeps, KeepsDraws, KeepsSettings}
-use Rattle.segclient.specs.Client.{shape_of}
 use Rattle.segclient.specs.Counting.{counted, delete_tally, get_tally, gets_tally, write_tally}
 use Rattle.segclient.specs.Puts.{MakesRoomFor, Puts}
 use Rattle.segcache.specs.declared.when.When.{When}

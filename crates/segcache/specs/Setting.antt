@@ -4,7 +4,6 @@ use Rattle.std.specs.Prelude.{Option, Some, None}
 use Rattle.segindex.specs.declared.table_stats.IndexStats.{IndexStats}
 use Rattle.segclient.specs.declared.stats.Stats.{Stats}
 use Rattle.segclient.specs.Client.{SetsCutoff, SetsTimeToLive}
-use Rattle.segcache.specs.declared.client.SharedClient.{SharedClient}
 use Rattle.segcache.specs.declared.kept.Kept.{Kept}
 use Rattle.segcache.specs.declared.settings.ClientStats.{ClientStats}
 use Rattle.segcache.specs.declared.settings.TableStats.{TableStats}

@@ -1,4 +1,7 @@
-//! The exports that give clients back, close the cache, and list its content.
+//! The exports that give clients back, and close or free the cache.
+ghost use Rattle.std.specs.Prelude.{◌≡◌};
+ghost use Rattle.segcache.specs.Ending.{Freed};
+ghost use Rattle.segcache.specs.Exports.{Answers};
 ghost use Rattle.segcache.specs.Sharing.{AreOfOneIndex, IsOfIndex};
 
 use crate::cache::End;
@@ -8,50 +11,6 @@ use crate::kept::Kept;
 use crate::status::Status;
 use std::alloc::Global;
 use std::mem;
-
-/// Copies the next pair of a closed cache to the two buffers.
-#[unsafe(no_mangle)]
-pub extern "C" fn segcache_raw_next(
-    alloc: Global,
-    cursor: &mut Handle,
-    key: &mut [u8],
-    key_len: &mut usize,
-    value: &mut [u8],
-    value_len: &mut usize,
-) -> u32 {
-    let Some(mut kept) = cursor.take(alloc) else {
-        return Status::NoHandle.number();
-    };
-    let told = next(&mut kept, key, key_len, value, value_len);
-    cursor.fill(alloc, kept);
-    told.number()
-}
-
-/// Frees a cursor.
-#[unsafe(no_mangle)]
-pub extern "C" fn segcache_raw_cursor_free(alloc: Global, cursor: &mut Handle) -> u32 {
-    let Some(kept) = cursor.take(alloc) else {
-        return Status::NoHandle.number();
-    };
-    if let Kept::Cursor(_) = &*kept {
-        return Status::Ok.number();
-    }
-    cursor.fill(alloc, kept);
-    Status::NoHandle.number()
-}
-
-fn next(
-    kept: &mut Kept,
-    key: &mut [u8],
-    key_len: &mut usize,
-    value: &mut [u8],
-    value_len: &mut usize,
-) -> Status {
-    let Kept::Cursor(cursor) = kept else {
-        return Status::NoHandle;
-    };
-    cursor.next(key, key_len, value, value_len)
-}
 
 /// Gives a client back to its cache: its hold ends, and its pass goes to its place.
 /// The client is of this cache, which no number shows.
@@ -106,15 +65,21 @@ pub extern "C" fn segcache_raw_close(
 
 /// Gives a cache's memory back once all clients are back.
 #[unsafe(no_mangle)]
-pub extern "C" fn segcache_raw_free(alloc: Global, cache: &mut Handle) -> u32 {
+pub extern "C" fn segcache_raw_free(alloc: Global, cache: &mut Handle) -> u32
+    ensures { Answers result (Freed cache.old.value cache.new.value) }
+{
     let Some(kept) = cache.take(alloc) else {
         return Status::NoHandle.number();
     };
-    let told = freeing(&kept);
-    if told != Status::Ok {
+    if !kept.is_cache() {
         cache.fill(alloc, kept);
+        return Status::NoHandle.number();
     }
-    told.number()
+    if !kept.has_all_back() {
+        cache.fill(alloc, kept);
+        return Status::ClientOut.number();
+    }
+    Status::Ok.number()
 }
 
 // How a close went.
@@ -146,18 +111,6 @@ fn close(alloc: Global, kept: &mut Kept) -> Closing {
             *kept = other;
             Closing::Refused(Status::NoHandle)
         }
-    }
-}
-
-// Whether a cache may go.
-fn freeing(kept: &Kept) -> Status {
-    let Kept::Cache(cache) = kept else {
-        return Status::NoHandle;
-    };
-    if cache.has_all() {
-        Status::Ok
-    } else {
-        Status::ClientOut
     }
 }
 

@@ -1,4 +1,6 @@
 //! The content of a closed cache, pair by pair.
+ghost use Rattle.std.specs.Prelude.{◌≡◌};
+
 use crate::status::Status;
 use segclient::{Key, Value};
 
@@ -10,8 +12,13 @@ pub struct Cursor {
 }
 
 impl Cursor {
+    ghost use Rattle.std.specs.Prelude.{slice_get};
+    ghost use Rattle.segcache.specs.Ending.{TellsNext};
+
     /// Before the first pair.
-    pub(crate) fn new(pairs: Vec<(Key, Value)>) -> Cursor {
+    pub(crate) fn new(pairs: Vec<(Key, Value)>) -> Cursor
+        ensures { result ≡ record { pairs = pairs; told = 0 } }
+    {
         Cursor { pairs, told: 0 }
     }
 
@@ -22,7 +29,11 @@ impl Cursor {
         key_len: &mut usize,
         value: &mut [u8],
         value_len: &mut usize,
-    ) -> Status {
+    ) -> Status
+        ensures { TellsNext (slice_get self.old.pairs.items self.old.told) self.old self.new
+            (key.old, key_len.old) (key.new, key_len.new)
+            (value.old, value_len.old) (value.new, value_len.new) result }
+    {
         let Some((next_key, next_value)) = self.pairs.get(self.told) else {
             return Status::End;
         };

@@ -19,7 +19,8 @@ fn may_cross<T: Send>(value: T) -> T {
 }
 
 impl Kept {
-    ghost use Rattle.std.specs.Prelude.{◌≡◌};
+    ghost use Rattle.std.specs.Prelude.{◌≡◌, ◌↔◌, true};
+    ghost use Rattle.segcache.specs.Ending.{AreAllBack, is_cache, is_cursor};
     ghost use Rattle.segcache.specs.Telling.{is_note};
 
     /// Whether it is a note.
@@ -27,6 +28,30 @@ impl Kept {
         ensures { result ≡ is_note self.now }
     {
         matches!(self, Kept::Note(_))
+    }
+
+    /// Whether it is a cache.
+    pub(crate) fn is_cache(&self) -> bool
+        ensures { result ≡ is_cache self.now }
+    {
+        matches!(self, Kept::Cache(_))
+    }
+
+    /// Whether it is a cache with all its clients back.
+    pub(crate) fn has_all_back(&self) -> bool
+        ensures { result ≡ true ↔ AreAllBack self.now }
+    {
+        match self {
+            Kept::Cache(cache) => cache.has_all(),
+            Kept::Client(_) | Kept::Cursor(_) | Kept::Note(_) => false,
+        }
+    }
+
+    /// Whether it is a cursor.
+    pub(crate) fn is_cursor(&self) -> bool
+        ensures { result ≡ is_cursor self.now }
+    {
+        matches!(self, Kept::Cursor(_))
     }
 
     // C may hand a handle to another thread.

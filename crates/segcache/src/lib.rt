@@ -11,6 +11,7 @@ mod handle;
 mod holding;
 mod holds;
 mod kept;
+mod listing;
 mod loose;
 mod opening;
 mod reading;

@@ -1,4 +1,4 @@
-use Rattle.std.proofs.Common.{◌≡◌, Some, None, refl}
+use Rattle.std.proofs.Common.{Some, None, refl}
 use Rattle.segcache.specs.declared.client.SharedClient.{SharedClient}
 use Rattle.segcache.specs.declared.kept.Kept.TheVariants as kept
 use Rattle.segcache.specs.declared.status.Status.{Status}

@@ -1,4 +1,4 @@
-use Rattle.std.proofs.Common.{◌≡◌, ℕ, rules, Option, Some, true, false, refl}
+use Rattle.std.proofs.Common.{◌≡◌, rules, Option, true, false, refl}
 use Rattle.segcache.specs.declared.kept.Kept.{Kept}
 use Rattle.segcache.specs.declared.status.Status.{Status}
 use Rattle.segcache.specs.declared.status.Status.TheVariants as status

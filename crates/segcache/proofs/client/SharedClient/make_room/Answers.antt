@@ -1,4 +1,4 @@
-use Rattle.std.proofs.Common.{◌≡◌, refl, ap, ◌∙◌}
+use Rattle.std.proofs.Common.{refl, ap, ◌∙◌}
 use Rattle.segpass.specs.Words.{memo}
 use Rattle.segcache.specs.Calls.{At}
 use Rattle.segcache.specs.Made.{GetsRoom}

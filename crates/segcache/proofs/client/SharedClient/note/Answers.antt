@@ -1,5 +1,4 @@
-use Rattle.std.proofs.Common.{◌≡◌, refl, ap, ◌∙◌}
-use Rattle.segpass.specs.Words.{memo}
+use Rattle.std.proofs.Common.{refl, ◌∙◌}
 use Rattle.segcache.specs.Made.{Notes}
 use Rattle.segcache.proofs.Made.{makes_call}
 use Rattle.segcache.proofs.Rows.{row_on}

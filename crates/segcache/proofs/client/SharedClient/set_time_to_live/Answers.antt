@@ -1,4 +1,4 @@
-use Rattle.std.proofs.Common.{◌≡◌, refl, ap, ◌∙◌}
+use Rattle.std.proofs.Common.{refl, ap, ◌∙◌}
 use Rattle.segpass.specs.Words.{memo}
 use Rattle.segclient.specs.Client.{SetsTimeToLive}
 use Rattle.segcache.proofs.Made.{makes_call}

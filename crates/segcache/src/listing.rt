@@ -1,0 +1,63 @@
+//! The exports that list the content of a closed cache.
+ghost use Rattle.std.specs.Prelude.{◌≡◌, Some};
+ghost use Rattle.segcache.specs.Ending.{FreesCursor, Listed};
+ghost use Rattle.segcache.specs.Exports.{Answers};
+
+use crate::handle::Handle;
+use crate::kept::Kept;
+use crate::status::Status;
+use std::alloc::Global;
+
+/// Copies the next pair of a closed cache to the two buffers.
+#[unsafe(no_mangle)]
+pub extern "C" fn segcache_raw_next(
+    alloc: Global,
+    cursor: &mut Handle,
+    key: &mut [u8],
+    key_len: &mut usize,
+    value: &mut [u8],
+    value_len: &mut usize,
+) -> u32
+    ensures { Answers result (Listed cursor.old.value cursor.new.value
+        (key.old, key_len.old) (key.new, key_len.new)
+        (value.old, value_len.old) (value.new, value_len.new)) }
+{
+    let Some(mut kept) = cursor.take(alloc) else {
+        return Status::NoHandle.number();
+    };
+    let told = next(&mut kept, key, key_len, value, value_len);
+    cursor.fill(alloc, kept);
+    told.number()
+}
+
+/// Frees a cursor.
+#[unsafe(no_mangle)]
+pub extern "C" fn segcache_raw_cursor_free(alloc: Global, cursor: &mut Handle) -> u32
+    ensures { Answers result (FreesCursor cursor.old.value cursor.new.value) }
+{
+    let Some(kept) = cursor.take(alloc) else {
+        return Status::NoHandle.number();
+    };
+    if !kept.is_cursor() {
+        cursor.fill(alloc, kept);
+        return Status::NoHandle.number();
+    }
+    Status::Ok.number()
+}
+
+fn next(
+    kept: &mut Kept,
+    key: &mut [u8],
+    key_len: &mut usize,
+    value: &mut [u8],
+    value_len: &mut usize,
+) -> Status
+    ensures { Listed (Some kept.old) (Some kept.new)
+        (key.old, key_len.old) (key.new, key_len.new)
+        (value.old, value_len.old) (value.new, value_len.new) result }
+{
+    let Kept::Cursor(cursor) = kept else {
+        return Status::NoHandle;
+    };
+    cursor.next(key, key_len, value, value_len)
+}
