@@ -14,8 +14,10 @@
  * handle, a key or value of a bad length and a short buffer are answers, and the call did nothing else.
  *
  * WHAT IS PROVED, and under which conditions. The functions behind these (segcache_raw_..) are proved
- * under Rattle to be safe and to return, over a proved cache. Which status each gives is tested.
- * The proof takes for granted what no prover checks of C. Keep all of these:
+ * under Rattle to be safe and to return, over a proved cache. Of each but open, give_back and close it is
+ * proved what it did for which status: of a client's the client's own call, for the key, the value and
+ * the moment that it was given, and what it wrote where. What open, give_back and close answer is tested.
+ * The proofs take for granted what no prover checks of C. Keep all of these:
  *   1. A client serves one call at a time. Another thread may take it over by a lock, or at the start or
  *      the end (join) of a thread. The same goes for a cache, a cursor and a note. Different clients of a
  *      cache may be called at the same time; that is what they are for.
