@@ -138,7 +138,8 @@ impl Client {
         done(self.write(raw::segcache_raw_put, key.as_ref(), value.as_ref()))
     }
 
-    /// Stores a value, and makes no room: [`Error::NoRoom`] where a put would recycle a segment.
+    /// Stores a value, and makes no room: [`Error::NoRoom`] where a put would recycle a segment, as a
+    /// client's first set. Then [`Client::make_room`], and set again.
     ///
     /// # Errors
     /// As [`Client::put`].
@@ -235,7 +236,8 @@ impl Client {
         unsafe { raw::segcache_raw_keep_from(self.handle(), cutoff) };
     }
 
-    /// Begins another segment, and says whether one could be had.
+    /// Begins another segment of this client's, and returns whether one could be had. It may evict keys
+    /// that this client stored.
     ///
     /// # Errors
     /// None that is known.

@@ -35,16 +35,21 @@
 //! # Ok::<(), segcache::Error>(())
 //! ```
 //!
-//! A number is raised by [`Client::gets`] and [`Client::cas`]:
+//! A number is raised by [`Client::gets`] and [`Client::cas`]. A call that is [`Error::Busy`] was disturbed by others:
+//! make it again. Of the calls that store only [`Client::put`] makes room by itself; for the others there is
+//! [`Client::make_room`], which may evict keys that this client stored:
 //!
 //! ```
 //! use segcache::{Cas, Client, Error};
 //!
 //! fn count(client: &Client, page: &str) -> Result<Option<u8>, Error> {
 //!     while let Some((value, version)) = client.gets(page)? {
-//!         let next = value[0] + 1;
-//!         if client.cas(page, [next], version)? == Cas::Stored {
-//!             return Ok(Some(next));
+//!         let next = value[0].wrapping_add(1);
+//!         match client.cas(page, [next], version) {
+//!             Ok(Cas::Stored) => return Ok(Some(next)),
+//!             Err(Error::NoRoom) if !client.make_room()? => return Err(Error::NoRoom),
+//!             Ok(_) | Err(Error::NoRoom | Error::Busy) => {}
+//!             Err(error) => return Err(error),
 //!         }
 //!     }
 //!     Ok(None)
