@@ -11,7 +11,8 @@
  * (seconds since the start, say); with no time to live set, any number below 4294967295 will do.
  *
  * ANSWERS. Each function returns a status, SEGCACHE_OK or another of the list below. A null or freed
- * handle, a key or value of a bad length and a short buffer are answers, and the call did nothing else.
+ * handle and a key or value of a bad length are answers, and the call did nothing. With a short buffer the
+ * read was made and counted, and the length is written.
  *
  * WHAT IS PROVED, and under which conditions. The functions behind these (segcache_raw_..) are proved
  * under Rattle to be safe and to return, over a proved cache. Of each but open, give_back and close it is
@@ -331,7 +332,8 @@ static inline uint32_t segcache_release(segcache_client *client) {
 
 /* Makes a note of all that the client has seen, its own puts among it. Send it to another thread beside what you
    tell that one; a client there learns it, and its gets then read what this client has put, or what was stored
-   since. That is proved. Without notes gets read the same, as tests show; so a program needs none.
+   since, or are Busy; or miss it, if it was deleted, evicted or expired since. That is proved. Without notes gets
+   read the same, as tests show; so a program needs none.
    The note is written, and what it was before is lost: learn or free each note once. It may outlive its cache.
    Answers: OK; OUT_OF_MEMORY, NO_HANDLE, and the note is zeroed. */
 static inline uint32_t segcache_note(segcache_client *client, segcache_note_t *note) {

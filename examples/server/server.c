@@ -63,7 +63,6 @@ struct connection {
   size_t swallow; /* bytes of a refused value that are still to come */
   struct worker *worker;
 };
-
 struct word { const char *at; size_t length; };
 
 /* The first words of a line, how many it has, and what has come behind it. */
@@ -76,7 +75,6 @@ struct request {
 /* An item as it is stored: memcached's flags stand in front of its data. */
 struct value { uint32_t flags; char data[SEGCACHE_MAX_VALUE - sizeof(uint32_t)]; };
 struct item { struct word key; struct value value; size_t length; uint32_t version; }; /* length: of the whole value */
-
 enum kind { SET, ADD, REPLACE, CAS };
 
 static struct word next_word(struct word *line) {
@@ -90,7 +88,6 @@ static struct word next_word(struct word *line) {
 static bool is(struct word word, const char *text) {
   return word.length == strlen(text) && memcmp(word.at, text, word.length) == 0;
 }
-
 static bool is_key(struct word word) { return word.length >= 1 && word.length <= SEGCACHE_MAX_KEY; }
 
 static bool read_number(struct word word, uint64_t most, uint64_t *number) {
@@ -102,14 +99,12 @@ static bool read_number(struct word word, uint64_t most, uint64_t *number) {
   }
   return word.length > 0;
 }
-
 static size_t write_number(char *to, uint64_t number) {
   size_t length = 1;
   for (uint64_t rest = number; rest >= 10; rest /= 10) length++;
   for (size_t i = length; i > 0; number /= 10) to[--i] = (char)('0' + number % 10);
   return length;
 }
-
 static int64_t seconds(void) {
   struct timespec time;
   return clock_gettime(CLOCK_MONOTONIC, &time), time.tv_sec;
@@ -151,21 +146,26 @@ static const char *text_of(uint32_t status) {
                                          : "SERVER_ERROR out of memory storing object";
 }
 
+/* Whether a call is made, and after the first only when a preempted thread had a moment to go on. */
+static bool once_more(int *tries) {
+  if (*tries > 0) nanosleep(&(struct timespec){.tv_nsec = 50000}, NULL);
+  return (*tries)++ < TRIES;
+}
+
 /* What the key reads, also with its version if that is wanted. A key that stays Busy is a miss. */
 static bool find(struct worker *worker, struct item *item, bool with_version) {
   const struct word *key = &item->key;
   uint32_t status = SEGCACHE_BUSY;
-  for (int tries = 0; status == SEGCACHE_BUSY && tries < TRIES; tries++)
+  for (int tries = 0; status == SEGCACHE_BUSY && once_more(&tries);)
     status = with_version ? segcache_gets(&worker->client, key->at, key->length, worker->now, &item->value,
                                         sizeof item->value, &item->length, &item->version)
                         : segcache_get(&worker->client, key->at, key->length, worker->now, &item->value,
                                        sizeof item->value, &item->length);
   return status == SEGCACHE_OK;
 }
-
 static uint32_t take_out(struct worker *worker, struct word key) {
   uint32_t status = SEGCACHE_BUSY;
-  for (int tries = 0; status == SEGCACHE_BUSY && tries < TRIES; tries++)
+  for (int tries = 0; status == SEGCACHE_BUSY && once_more(&tries);)
     status = segcache_delete(&worker->client, key.at, key.length, worker->now);
   return status;
 }
@@ -185,7 +185,7 @@ static uint32_t store(struct worker *worker, enum kind kind, const struct item *
   struct word key = item->key;
   uint32_t status = SEGCACHE_BUSY, now = worker->now;
   renew(worker);
-  for (int tries = 0; tries < TRIES; tries++) {
+  for (int tries = 0; once_more(&tries);) {
     status = kind == CAS ? segcache_cas(client, key.at, key.length, &item->value, item->length, item->version, now)
                        : calls[kind](client, key.at, key.length, &item->value, item->length, now);
     bool made_room = status == SEGCACHE_NO_ROOM && kind != SET && segcache_make_room(client, now) == SEGCACHE_OK;
@@ -259,7 +259,7 @@ static bool serve_count(struct connection *connection, const struct request *req
   if (!read_number(request->words[2], UINT64_MAX, &by))
     return say(connection, false, "CLIENT_ERROR invalid numeric delta argument");
   uint32_t status = SEGCACHE_EXISTS;
-  for (int tries = 0; (status == SEGCACHE_BUSY || status == SEGCACHE_EXISTS) && tries < TRIES; tries++) {
+  for (int tries = 0; (status == SEGCACHE_BUSY || status == SEGCACHE_EXISTS) && once_more(&tries);) {
     if (!find(connection->worker, &item, true)) return say(connection, request->quiet, "NOT_FOUND");
     struct word digits = {item.value.data, item.length - sizeof item.value.flags};
     if (!read_number(digits, UINT64_MAX, &number) || digits.length > 20)
