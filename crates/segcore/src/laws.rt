@@ -13,9 +13,10 @@ ghost use Rattle.segcore.specs.Standing.{cached};
 ghost use Rattle.segcore.specs.World.{Reaches};
 ghost use Rattle.segcore.specs.Example.{shape, a, two, stored, bumped, moved, replaced};
 ghost use Rattle.segcore.specs.Example.{relinked, read};
-ghost use Rattle.segcore.specs.Example.{evicted, refilled, elsewhere, looks, view_of, after_steps};
+ghost use Rattle.segcore.specs.Example.{evicted, refilled, elsewhere, looks, view_in, after_steps};
 ghost use Rattle.segcore.specs.Example.{to_refilled};
 ghost use Rattle.segcore.specs.Laws.{EveryScheduleIsLawful, SightOnlyGrows, EveryScheduleSaysAll};
+ghost use Rattle.segcore.specs.Laws.{StepSeesAll, CallsAreInOrder};
 ghost use Rattle.segcore.specs.Laws.{ScanPassesAMiss, SeenHistoryIsLegal, MarksArePlaced};
 ghost use Rattle.segcore.specs.Laws.{MarksAreOrderly, MarksLeaveTheHistory, MarksCountTheChain};
 ghost use Rattle.segcore.specs.Laws.{LawfulKeyFacts, LawfulBucketFacts, LawfulSegmentFacts};
@@ -33,10 +34,14 @@ ghost use Rattle.segcore.specs.Laws.{FullChainHasAllItsKeys, ChainIsAsLongAsWide
 ghost use Rattle.segcore.specs.Laws.{FilledWordHasContent};
 
 /// Whatever steps the passes take, in whatever order, the world that they reach is lawful, and says
-/// all that a lawful world says. What each pass has seen only grows.
+/// all that a lawful world says. What each pass has seen only grows, and each step sees all that has
+/// happened. If all steps of one call come before all steps of another, of any passes, the other
+/// has seen from its first step on what the one had seen.
 pub fn every_schedule()
     ensures lawful { EveryScheduleIsLawful }
     ensures seen { SightOnlyGrows }
+    ensures whole { StepSeesAll }
+    ensures in_order { CallsAreInOrder }
     ensures says { EveryScheduleSaysAll }
 {}
 
@@ -164,6 +169,6 @@ pub fn example()
     ensures traced { (after_steps to_refilled).trace ≡ refilled }
     ensures waited { (word shape read (OfSegment 0) ≡ 0x9_0000_0001)
         × (word shape elsewhere (OfSegment 0) ≡ 0x9_0000_0000) }
-    ensures different { (after_steps to_refilled).views
-        ≡ view_of 0 refilled ∷ view_of 1 elsewhere ∷ [] }
+    ensures different { ((view_in (after_steps to_refilled) 0).trace ≡ refilled)
+        × ((view_in (after_steps to_refilled) 1).trace ≡ elsewhere) }
 {}

@@ -19,5 +19,5 @@ returns c = record {
   reached = reached;
   traced = refl;
   waited = (refl, refl);
-  different = refl;
+  different = (refl, refl);
 }
