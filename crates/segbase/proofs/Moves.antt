@@ -1,14 +1,14 @@
 -- Calls one after another: what a pass adds by itself adds up, and a reader is where it was before.
-use Rattle.std.proofs.Common.{◌≡◌, ℕ, ◌+◌, ◌-◌, ◌<◌, Bool, true, false, cond, eqb, ◌&&◌, List, [], ◌∷◌, ◌++◌, Option, Some, None, refl, sym, ap, ◌∙◌, subst, inl, inr, ⊎_elim, append_assoc, arith}
+use Rattle.std.proofs.Common.{◌≡◌, ℕ, ◌+◌, ◌-◌, ◌<◌, Bool, true, false, cond, eqb, ◌&&◌, List, [], ◌∷◌, ◌++◌, Option, Some, None, refl, sym, ap, ◌∙◌, subst, inr, append_assoc, arith}
 use Rattle.std.proofs.lemmas.Bool.{cond-true, eq-eqb}
 use Rattle.segmodel.specs.Words.{Begins, Entry, mine}
 use Rattle.segcore.specs.declared.event.Event.TheVariants.{Entered, Left}
 use Rattle.segcore.specs.Words.{bounced, bucket_after, drew, entered, entry_of, Event, glanced}
-use Rattle.segcore.specs.Words.{HasBit, inside, May, NoneBy, raised, release, seen, taken, with_entry}
+use Rattle.segcore.specs.Words.{HasBit, inside, May, raised, release, seen, taken, with_entry}
 use Rattle.segbase.specs.Words.{Board, Pass}
 use Rattle.segbase.specs.Traces.{own_of, StaysIn, OnlyReads}
-use Rattle.segbase.specs.Passes.{number, trace, IsPassOf, AddsEvents, AddsAtOnce, Reads, ReadsIn, StartsAt, TakesSteps}
-use Rattle.segbase.proofs.Begun.{begins_then}
+use Rattle.segbase.specs.Passes.{number, trace, IsPassOf, AddsEvents, AddsAtOnce, Reads, ReadsIn}
+use Rattle.segbase.proofs.Starting.{steps_then}
 use Rattle.segbase.specs.Passes as passes
 use Rattle.segbase.specs.Steps.{Takes}
 use Rattle.segcore.proofs.Quiet.{quiet}
@@ -62,39 +62,6 @@ moved_seen b own p q m = (seen m.more, ap seen m.goes_on ∙ seen_both m.more (t
 
 -- ---- one after the other
 
--- the first step of two calls is that of the first which took one
-pub starts_on : (b : Board) (own : List Event) (p q r : Pass) (start : List Event) → StartsAt p q start → AddsEvents b own q r → StartsAt p r start
-starts_on b own p q r start s k = record {
-  later = (looked_on k.steps).0 ++ s.later;
-  looked = (looked_on k.steps).1 ∙ (ap (λ l. (looked_on k.steps).0 ++ l) s.looked ∙ sym (append_assoc (looked_on k.steps).0 s.later (start ∷ passes.looks p)));
-  others = s.others;
-  since = s.since;
-  none = s.none;
-  until = begins_then start (trace q) (trace r) s.until (k.more, k.goes_on);
-}
-  where
-    looked_on : TakesSteps q r → (news : List (List Event)) × (passes.looks r ≡ news ++ passes.looks q)
-    looked_on (inl t) = (t.1.later ++ t.0 ∷ [], t.1.looked ∙ sym (append_assoc t.1.later (t.0 ∷ []) (passes.looks q)))
-    looked_on (inr t) = ([], t.0)
-
--- if the first took none, the second begins where the first began
-pub starts_same : (p q r : Pass) (start : List Event) → number q ≡ number p → passes.looks q ≡ passes.looks p → trace q ≡ trace p → StartsAt q r start → StartsAt p r start
-starts_same p q r start same looked seen s = record {
-  later = s.later;
-  looked = s.looked ∙ ap (λ l. s.later ++ start ∷ l) looked;
-  others = s.others;
-  since = s.since ∙ ap (λ h. s.others ++ h) seen;
-  none = subst (λ n. NoneBy n s.others) same s.none;
-  until = s.until;
-}
-
-steps_then : (b : Board) (own : List Event) (p q r : Pass) → number q ≡ number p → TakesSteps p q → AddsEvents b own q r → TakesSteps p r
-steps_then b own p q r same (inl t) k = inl (t.0, starts_on b own p q r t.0 t.1 k)
-steps_then b own p q r same (inr t) k = ⊎_elim
-    (λ s. inl (s.0, starts_same p q r s.0 same t.0 t.1 s.1))
-    (λ s. inr (s.0 ∙ t.0, s.1 ∙ t.1))
-    k.steps
-
 pub moved_then : (b : Board) (first second : List Event) (p q r : Pass) → AddsEvents b first p q → AddsEvents b second q r → AddsEvents b (second ++ first) p r
 moved_then b first second p q r m k = record {
   pass = k.pass;
@@ -102,7 +69,7 @@ moved_then b first second p q r m k = record {
   more = k.more ++ m.more;
   goes_on = k.goes_on ∙ (ap (λ h. k.more ++ h) m.goes_on ∙ sym (append_assoc k.more m.more (trace p)));
   adds = own_both (number p) k.more m.more ∙ (ap (λ es. es ++ own_of (number p) m.more) (ap (λ n. own_of n k.more) (sym m.same) ∙ k.adds) ∙ ap (λ es. second ++ es) m.adds);
-  steps = steps_then b second p q r m.same m.steps k;
+  steps = steps_then p q r m.same m.steps k.steps;
   kept = λ s stay. none_both s k.more m.more
       (k.kept s (subst (λ n. StaysIn second (trace q) n s) (sym m.same) (stays_last second first (trace p) (trace q) (number p) s (moved_inside b first p q s m) stay)))
       (m.kept s (stays_first second first (trace p) (number p) s stay));

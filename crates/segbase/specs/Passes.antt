@@ -125,6 +125,10 @@ abbrev pub TakesSteps : Pass → Pass → Type 0
 TakesSteps p q =
     ((start : List Event) × StartsAt p q start) ⊎ ((looks q ≡ looks p) × (trace q ≡ trace p))
 
+-- this is so from what the first step of a call saw; so the call has a step
+abbrev pub SinceFirst : Pass → Pass → (List Event → Type 0) → Type 0
+SinceFirst p q Is = (start : List Event) × StartsAt p q start × Is start
+
 -- A call: the pass added these events of its own, newest first, beside what others did meanwhile.
 pub record AddsEvents (b : Board) (own : List Event) (p q : Pass) : Type 0 where
   pub pass : IsPassOf b q
