@@ -76,7 +76,7 @@ settles_still b own p q m still memo plain = record {
 }
 
 -- what the pass keeps in mind is no step
-steps_to : (p r q : Pass) → view q ≡ view r → TakesSteps p r → TakesSteps p q
+pub steps_to : (p r q : Pass) → view q ≡ view r → TakesSteps p r → TakesSteps p q
 steps_to p r q same = subst (λ (v : View). ((start : List Event) × StartsFrom (view p) v start) ⊎ ((v.looks ≡ looks p) × (v.trace ≡ trace p))) (sym same)
 
 -- what the pass then keeps in mind is no event
