@@ -1,9 +1,10 @@
 -- The first step of a call, and of two calls after one another: that of the first which took one.
-use Rattle.std.proofs.Common.{◌≡◌, List, [], ◌∷◌, ◌++◌, sym, ap, ◌∙◌, subst, inl, inr, append_assoc}
+use Rattle.std.proofs.Common.{◌≡◌, ◌≢◌, List, [], ◌∷◌, ◌++◌, sym, ap, ◌∙◌, subst, inl, inr, append_assoc}
 use Rattle.segmodel.specs.Words.{Begins}
 use Rattle.segcore.specs.Words.{Event, NoneBy}
-use Rattle.segbase.specs.Words.{Pass}
-use Rattle.segbase.specs.Passes.{number, trace, looks, SinceFirst, StartsAt, TakesSteps}
+use Rattle.std.proofs.lemmas.List.{append_cancel_right}
+use Rattle.segbase.specs.Words.{Board, own_of, Pass}
+use Rattle.segbase.specs.Passes.{number, trace, looks, AddsEvents, HasStep, SinceFirst, StartsAt, TakesSteps}
 use Rattle.segbase.proofs.Begun.{begins_then}
 
 -- what a pass had seen begins what its first step saw
@@ -44,6 +45,25 @@ pub steps_then : (p q r : Pass) → number q ≡ number p → TakesSteps p q →
 steps_then p q r same (inl t) more = inl (t.0, starts_on p q r t.0 t.1 more)
 steps_then p q r same (inr t) (inl s) = inl (s.0, starts_same p q r s.0 same t.0 t.1 s.1)
 steps_then p q r same (inr t) (inr s) = inr (s.0 ∙ t.0, s.1 ∙ t.1)
+
+-- two calls have a step if one has
+pub has_later : (p q r : Pass) → number q ≡ number p → TakesSteps p q → HasStep q r → HasStep p r
+has_later p q r same (inl t) s = (t.0, starts_on p q r t.0 t.1 (inl s))
+has_later p q r same (inr t) s = (s.0, starts_same p q r s.0 same t.0 t.1 s.1)
+
+pub has_still : (p q r : Pass) → HasStep p q → TakesSteps q r → HasStep p r
+has_still p q r s more = (s.0, starts_on p q r s.0 s.1 more)
+
+no_cons : (e : Event) (own : List Event) → e ∷ own ≢ []
+no_cons e own same = cc
+
+-- a call that adds an event has one
+pub has_added : (b : Board) (e : Event) (own : List Event) (p q : Pass) → AddsEvents b (e ∷ own) p q → HasStep p q
+has_added b e own p q m = by m.steps
+  where
+    by : TakesSteps p q → HasStep p q
+    by (inl t) = t
+    by (inr t) = let none : m.more ≡ [] = append_cancel_right m.more [] (trace p) (sym m.goes_on ∙ t.1) in absurd (no_cons e own (sym m.adds ∙ ap (own_of (number p)) none))
 
 -- what is so from the first step on, is so of a longer call
 pub since_then : (p q r : Pass) (Is Is' : List Event → Type 0) → TakesSteps q r → ((start : List Event) → Is start → Is' start) → SinceFirst p q Is → SinceFirst p r Is'

@@ -120,10 +120,13 @@ pub record StartsFrom (old new : View) (start : List Event) : Type 0 where
 abbrev pub StartsAt : Pass → Pass → List Event → Type 0
 StartsAt p q start = StartsFrom (view p) (view q) start
 
--- a call has a first step; or it takes no step, and the pass has seen what it had
+-- a call has a first step
+abbrev pub HasStep : Pass → Pass → Type 0
+HasStep p q = (start : List Event) × StartsAt p q start
+
+-- it has one; or it takes no step, and the pass has seen what it had
 abbrev pub TakesSteps : Pass → Pass → Type 0
-TakesSteps p q =
-    ((start : List Event) × StartsAt p q start) ⊎ ((looks q ≡ looks p) × (trace q ≡ trace p))
+TakesSteps p q = HasStep p q ⊎ ((looks q ≡ looks p) × (trace q ≡ trace p))
 
 -- this is so from what the first step of a call saw; so the call has a step
 abbrev pub SinceFirst : Pass → Pass → (List Event → Type 0) → Type 0
