@@ -35,9 +35,10 @@ ghost use Rattle.segcore.specs.Laws.{FullChainHasAllItsKeys, ChainIsAsLongAsWide
 ghost use Rattle.segcore.specs.Laws.{FilledWordHasContent};
 
 /// Whatever steps the passes take, in whatever order, the world that they reach is lawful, and says
-/// all that a lawful world says. What each pass has seen only grows, and each step sees all that has
-/// happened. If all steps of one call come before all steps of another, of any passes, the other
-/// has seen from its first step on what the one had seen.
+/// all that a lawful world says. What each pass has seen only grows,
+/// and each step sees all that has happened.
+/// If all steps of one call come before all steps of another, of any passes,
+/// the other has seen from its first step on what the one had seen.
 pub fn every_schedule()
     ensures lawful { EveryScheduleIsLawful }
     ensures seen { SightOnlyGrows }
@@ -141,8 +142,9 @@ pub fn keys_of_bucket()
 
 /// The example is lawful, and its words are those of the format. A scan for a key that moves on,
 /// and then goes, finds the key nowhere, and no word of it that names a row. Two passes reach the
-/// example by steps of each kind, and have then seen it up to different points. One call of it begins
-/// where others ended, and its two steps look at all that had happened by then.
+/// example by steps of each kind, and have then seen it up to different points.
+/// One call of it begins where others ended,
+/// and its two steps look at all that had happened by then.
 pub fn example()
     ensures lawful { IsLawful shape refilled }
     ensures item { (word shape stored (OfBucket 0 7) ≡ 0xaf60_1000_0000_0000)

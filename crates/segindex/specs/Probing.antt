@@ -30,8 +30,8 @@ IsReadSince shape key value now get.Miss stored old new =
     CameBetween (TakesKeyOut key) stored new ⊎ ExpiredBetween shape key now stored new
 IsReadSince shape key value now get.Busy stored old new = 64 ≤ stirred shape key old new
 
--- The set came in at a moment of its call,
--- and the get, which leads from `between` to `q`, answers as one that was made since the set's entry.
+-- The set came in at a moment of its call.
+-- The get, which leads from `between` to `q`, answers as one that was made since the set's entry.
 pub record ReadsStored (shape : Shape) (pass : ℕ) (key value : List ℕ) (now : ℕ) (told : GetAnswer)
     (old : List Entry) (between q : Pass) : Type 0 where
   pub segment : Option ℕ

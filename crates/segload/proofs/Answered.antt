@@ -37,9 +37,9 @@ use Rattle.segsolo.proofs.Grown.{entries_begin}
 use Rattle.segindex.proofs.Meeting.{mine_begins}
 use Rattle.segindex.proofs.OnePass.{nobody_inside, busy_by_lock, none_stirred}
 use Rattle.segindex.proofs.QuietPass.{owned}
+use Rattle.segindex.proofs.Since.{full_since, get_since, gets_since}
 use Rattle.segpolicy.specs.declared.load.Kind.TheVariants as kind
 use Rattle.segpolicy.specs.Words.{Cycle, Kind, Load, next_of}
-use Rattle.segindex.proofs.Since.{full_since, get_since, gets_since}
 use Rattle.segload.specs.declared.totals.Tally.{Tally}
 use Rattle.segload.specs.declared.totals.Tally.TheVariants as tally
 use Rattle.segload.specs.Making.{ClientState, load_deadline, load_moment, turned_on, AtMoment, ReadsWhen, IsReadAs, IsVersionReadAs, IsFullFor, IsWrittenAs, Empties, IsStoredAs, CameTo}

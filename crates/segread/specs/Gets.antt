@@ -94,7 +94,8 @@ Disturbs shape key now some more p q =
     Begins (seen p) (seen q)
     × (entries_of shape bucket (seen p) + glanced p bucket + more
     ≤ entries_of shape bucket (seen q) + glanced q bucket + some)
-    × (CountsTries shape key some more (trace p) (trace q) ⊎ PresentBetween shape key now (seen p) (seen q))
+    × (CountsTries shape key some more (trace p) (trace q)
+    ⊎ PresentBetween shape key now (seen p) (seen q))
 
 -- The pass came into segments no more often than that, and raised no frequency.
 -- Words and tries together are no fewer than before. Beside that it may have found a bit set.

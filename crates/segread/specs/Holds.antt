@@ -55,7 +55,8 @@ IsHoldAnswer shape key now hold_answer.Miss p q =
     ChangesNothing p q
     × SinceFirst p q (λ start. ReadsBetween shape key now (event.seen start) (seen q) None)
 IsHoldAnswer shape key now hold_answer.Busy p q =
-    ChangesNothing p q × SinceFirst p q (λ start. 64 ≤ stirred shape key (event.seen start) (seen q))
+    ChangesNothing p q
+    × SinceFirst p q (λ start. 64 ≤ stirred shape key (event.seen start) (seen q))
 IsHoldAnswer shape key now hold_answer.AlreadyHolding p q = q ≡ p
 
 -- a hold of a key has this answer, which is AlreadyHolding exactly if the pass holds an item

@@ -32,5 +32,6 @@ pub record ReadsKey (b : Board) (key : List ℕ) (draw now : ℕ) (told : GetAns
     : Type 0 where
   pub on : GoesOn b p q
   pub keeps : ChangesNothing p q
-  pub answer : SinceFirst p q (λ start. IsGetAnswer b.shape key now told (event.seen start) (seen q))
+  pub answer : SinceFirst p q
+      (λ start. IsGetAnswer b.shape key now told (event.seen start) (seen q))
   pub costs : CostsOfGet b.shape key draw told p q
