@@ -8,6 +8,7 @@ ghost use Rattle.segindex.specs.Laws.{NoLookGlanced, NobodyIsInside, BusyIsLocke
 ghost use Rattle.segindex.specs.Laws.{KeptAllLeavesNone, NothingIsStirred, WritesAtAMoment, DeletesAtAMoment};
 ghost use Rattle.segindex.specs.Laws.{CasFailsWhereWrittenSince, CasCalledLaterFails};
 ghost use Rattle.segindex.specs.LaterReads.{NotedIsRead, SeenIsRead, StoodIsRead, StoredStands};
+ghost use Rattle.segindex.specs.Order.{PointsAreInOrder};
 
 /// What a quiet pass has seen is a history of a cache of one thread, with marks.
 /// The pass knows just its own segments,
@@ -57,6 +58,14 @@ pub fn one_pass()
 pub fn replies_at_a_moment()
     ensures writes { WritesAtAMoment }
     ensures deletes { DeletesAtAMoment }
+{}
+
+/// If all steps of one call come before all steps of another, of any passes,
+/// then no moment for which the one is answered is later than any for which the other is.
+/// So calls that are one entry or one read have an order that fits their order in time:
+/// an entry comes where it stands in the history, and a read right after its moment.
+pub fn calls_are_in_order()
+    ensures points { PointsAreInOrder }
 {}
 
 /// A cas that expects the version that a gets of its key gave, and that is entered later,
