@@ -128,7 +128,7 @@ impl Client {
     {
         let draw = load.draw;
         let command = command_of(load, self.version);
-        let answer = index.serve(&mut self.pass, &command, draw);
+        let answer = self.ask(index, &command, draw);
         if answer != Answer::Write(WriteAnswer::NoRoom) {
             self.remember(&answer);
             return tally_of(&answer);
@@ -136,7 +136,18 @@ impl Client {
         if !self.make_room(index) {
             return Tally::NoRoom;
         }
-        tally_of(&index.serve(&mut self.pass, &command, draw))
+        tally_of(&self.ask(index, &command, draw))
+    }
+
+    // Makes one call of the index.
+    fn ask(&mut self, index: &Index, command: &Command, draw: u32) -> Answer
+        requires quiet { IsQuiet (board_of index.now) self.old.pass }
+        ensures on { GoesOn (board_of index.now) self.old.pass self.new.pass }
+        ensures answers { AnswersCommand (board_of index.now) command.now draw
+            result self.old.pass self.new.pass }
+        ensures course { course_of self.new ≡ course_of self.old }
+    {
+        index.serve(&mut self.pass, command, draw)
     }
 
     // Keeps, for the next cas, the version that a gets found.

@@ -1,55 +1,58 @@
-use Rattle.std.proofs.Common.{◌≡◌, ◌≢◌, refl, sym, subst, inl, inr, rules}
+use Rattle.std.proofs.Common.{◌≡◌, ◌≢◌, true, false, refl, sym, ap, ◌∙◌, subst, inl, inr, rules}
 use Rattle.segmodel.specs.declared.answer.Answer.TheVariants.{Write}
 use Rattle.segmodel.specs.declared.answer.WriteAnswer.TheVariants.{NoRoom}
 use Rattle.segevict.proofs.RowsOut.{goes_then}
 use Rattle.segindex.specs.Words.{AnswersCommand}
-use Rattle.segload.specs.Calls.{command_of}
+use Rattle.segpolicy.specs.Words.{next_of}
+use Rattle.segload.specs.Making.{ClientState, turned_on}
+use Rattle.segload.specs.Calls.{command_of, course_after, TriesForRoom}
 use Rattle.segload.proofs.client.Client.serve.Goals as goal
 
 pub returns-then-ne-clause-serves : goal.returns-then-ne-clause-serves
 returns-then-ne-clause-serves c =
-    let b = c.args.index.now.board in let p = c.args.self.now.pass in let q = c.serve-answer.new.pass in let load = c.args.load in let told = c.serve-answer.result in
-    let asked = subst (λ x. AnswersCommand b x load.draw told p q) c.command_of-command.ensures c.serve-answer.ensures.answers in
+    let b = c.args.index.now.board in let p = c.args.self.now.pass in let q = c.ask-answer.new.self.pass in let load = c.args.load in let told = c.ask-answer.result in
+    let asked = subst (λ x. AnswersCommand b x load.draw told p q) c.command_of-command.ensures c.ask-answer.ensures.answers in
     let other : told ≢ Write NoRoom = search rules in
     inl (record {
       given = told;
       answers = subst (AnswersCommand b (command_of c.args.self.now.version load) load.draw told p) (sym c.remember.ensures.pass) asked;
       had_room = other;
       counted = c.tally_of.ensures;
-      course = c.remember.ensures.course;
+      course = c.remember.ensures.course ∙ ap (course_after told) c.ask-answer.ensures.course;
     })
 
 pub returns-then-not-make_room-clause-serves : goal.returns-then-not-make_room-clause-serves
 returns-then-not-make_room-clause-serves c =
-    let b = c.args.index.now.board in let p = c.args.self.now.pass in let q = c.serve-answer.new.pass in let load = c.args.load in let told = c.serve-answer.result in
-    let asked = subst (λ x. AnswersCommand b x load.draw told p q) c.command_of-command.ensures c.serve-answer.ensures.answers in
+    let b = c.args.index.now.board in let p = c.args.self.now.pass in let q = c.ask-answer.new.self.pass in let r = c.make_room.new.self.pass in let load = c.args.load in let told = c.ask-answer.result in
+    let asked = subst (λ x. AnswersCommand b x load.draw told p q) c.command_of-command.ensures c.ask-answer.ensures.answers in
     let full : told ≡ Write NoRoom = search rules in
+    let room = c.if-not-make_room.ensures in
     inr (inr (record {
       full = q;
       found_none = subst (λ t. AnswersCommand b (command_of c.args.self.now.version load) load.draw t p q) full asked;
-      no_room = c.if-not-make_room.ensures.room;
+      no_room = subst (λ (k : ClientState). TriesForRoom (AnswersCommand b) (next_of k.segments) false q r) c.ask-answer.ensures.course room.room;
       counted = refl;
-      course = c.if-not-make_room.ensures.course;
+      course = room.course ∙ ap turned_on c.ask-answer.ensures.course;
     }))
 
 pub returns-clause-on : goal.returns-clause-on
 returns-clause-on c =
-    let b = c.args.index.now.board in let p = c.args.self.now.pass in let q = c.serve-answer.new.pass in let r = c.make_room.new.self.pass in let s = c.serve.new.pass in
-    goes_then b p q s c.serve-answer.ensures.on (goes_then b q r s c.make_room.ensures.on c.serve.ensures.on)
+    let b = c.args.index.now.board in let p = c.args.self.now.pass in let q = c.ask-answer.new.self.pass in let r = c.make_room.new.self.pass in let s = c.ask.new.self.pass in
+    goes_then b p q s c.ask-answer.ensures.on (goes_then b q r s c.make_room.ensures.on c.ask.ensures.on)
 
 pub returns-clause-serves : goal.returns-clause-serves
 returns-clause-serves c =
-    let b = c.args.index.now.board in let p = c.args.self.now.pass in let q = c.serve-answer.new.pass in let r = c.make_room.new.self.pass in let s = c.serve.new.pass in
-    let load = c.args.load in let told = c.serve-answer.result in let room = c.if-not-make_room.ensures in
-    let asked = subst (λ x. AnswersCommand b x load.draw told p q) c.command_of-command.ensures c.serve-answer.ensures.answers in
+    let b = c.args.index.now.board in let p = c.args.self.now.pass in let q = c.ask-answer.new.self.pass in let r = c.make_room.new.self.pass in let s = c.ask.new.self.pass in
+    let load = c.args.load in let told = c.ask-answer.result in let room = c.if-not-make_room.ensures in
+    let asked = subst (λ x. AnswersCommand b x load.draw told p q) c.command_of-command.ensures c.ask-answer.ensures.answers in
     let full : told ≡ Write NoRoom = search rules in
     inr (inl (record {
       full = q;
       filled = r;
-      given = c.serve.result;
+      given = c.ask.result;
       found_none = subst (λ t. AnswersCommand b (command_of c.args.self.now.version load) load.draw t p q) full asked;
-      room = room.room;
-      again = subst (λ x. AnswersCommand b x load.draw c.serve.result r s) c.command_of-command.ensures c.serve.ensures.answers;
+      room = subst (λ (k : ClientState). TriesForRoom (AnswersCommand b) (next_of k.segments) true q r) c.ask-answer.ensures.course room.room;
+      again = subst (λ x. AnswersCommand b x load.draw c.ask.result r s) c.command_of-command.ensures c.ask.ensures.answers;
       counted = c.tally_of-2.ensures;
-      course = room.course;
+      course = c.ask.ensures.course ∙ (room.course ∙ ap turned_on c.ask-answer.ensures.course);
     }))
