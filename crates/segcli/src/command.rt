@@ -12,7 +12,7 @@ use crate::explanation::{explain, reading_of};
 use crate::fault::{ProgramFault, print, report};
 use crate::progress::{Watch, Watched};
 use crate::totals::text_of;
-use segload::{LoadFault, OpenGate, Totals, run_crowd};
+use segload::{LoadFault, OpenGate, Plan, Totals, run_crowd};
 use segscript::{Failed, Sink, Source, run_script};
 use segword::Shape;
 use std::alloc::{AllocError, AllocGlobal, Global};
@@ -183,12 +183,17 @@ fn totals_of<R: Threads + Wait + AllocGlobal + Sync, V: Watch>(
     ensures load { IfOk result (IsLoad shape seed (non_zero_u32_get keys) commands) }
     ensures fault { IfErr result (IsLoadFault shape commands lets_all_through) }
 {
+    let plan = Plan {
+        seed,
+        commands,
+        keys,
+    };
     match watch {
         Some(watch) => {
             let gate = Watched::new(watch, shape.passes, commands);
-            run_crowd(rt, alloc, shape, seed, commands, keys, &gate)
+            run_crowd(rt, alloc, shape, plan, &gate)
         }
-        None => run_crowd(rt, alloc, shape, seed, commands, keys, &OpenGate),
+        None => run_crowd(rt, alloc, shape, plan, &OpenGate),
     }
 }
 

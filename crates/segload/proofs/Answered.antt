@@ -22,7 +22,7 @@ use Rattle.segmodel.proofs.Written.{first_owner}
 use Rattle.segcore.specs.Words.{entries, Mark}
 use Rattle.segcore.proofs.Marked.{entries_marked}
 use Rattle.segbase.specs.declared.pass.Plain.{Plain}
-use Rattle.segbase.specs.Words.{Board, locked_of, marked, mine, number, Pass, seen, state_of, trace}
+use Rattle.segbase.specs.Words.{Board, holding, locked_of, marked, mine, number, Pass, seen, state_of, trace}
 use Rattle.segbase.specs.Words.{used_of}
 use Rattle.segbase.proofs.Alone.{bounced_alone, glanced_alone}
 use Rattle.segstore.specs.Words.{has_room, is_below}
@@ -40,11 +40,24 @@ use Rattle.segindex.proofs.QuietPass.{owned}
 use Rattle.segindex.proofs.Since.{full_since, get_since, gets_since}
 use Rattle.segpolicy.specs.declared.load.Kind.TheVariants as kind
 use Rattle.segpolicy.specs.Words.{Cycle, Kind, Load, next_of}
-use Rattle.segload.specs.declared.totals.Tally.{Tally}
 use Rattle.segload.specs.declared.totals.Tally.TheVariants as tally
 use Rattle.segload.specs.Making.{ClientState, load_deadline, load_moment, turned_on, AtMoment, ReadsWhen, IsReadAs, IsVersionReadAs, IsFullFor, IsWrittenAs, Empties, IsStoredAs, CameTo}
-use Rattle.segload.specs.Working.{asked_by, tally_of, write_tally, delete_tally, course_after, IsOfLoad, HoldsNothing, IsOwnRing, GivesUpSegment, ReadsWithDraw}
+use Rattle.segload.specs.Calls.{asked_by, tally_of, write_tally, delete_tally, course_after}
 use Rattle.segload.proofs.Lists.{both_begin}
+
+-- The pass has no bucket locked, and holds nothing.
+abbrev pub HoldsNothing : Pass → Type 0
+HoldsNothing p = (locked_of p ≡ None) × (holding p ≡ None)
+
+-- The ring has the segments of the pass.
+abbrev pub IsOwnRing : Shape → ℕ → Cycle → Type 0
+IsOwnRing shape pass ring = (ring.first ≡ pass * shape.segments_each) × (ring.count ≡ shape.segments_each) × (ring.given < ring.count)
+
+-- The pass emptied and refilled a segment, up to the load's deadline, and now there is room. Or it couldn't, but only if there are other passes.
+abbrev pub GivesUpSegment : Shape → ℕ → Bool → Pass → Pass → Type 0
+GivesUpSegment shape segment true p q =
+    (room : List Entry) × Empties (number p) segment (mine p) room × (mine q ≡ Refilled (number p) segment load_deadline ∷ room) × (has_room shape q ≡ true)
+GivesUpSegment shape segment false p q = Empties (number p) segment (mine p) (mine q) × (shape.passes ≢ 1)
 
 -- ---- one pass
 
@@ -112,17 +125,6 @@ command_free b kind.Replace version load draw (answer.Write told) p q is free = 
 command_free b kind.Cas version load draw (answer.Write told) p q is free = write_free b (request.Cas load.key load.value version load_moment) told p q is free
 command_free b kind.Delete version load draw (answer.Delete told) p q is free = delete_free b load.key told p q is free
 command_free b of version load draw told p q is free = absurd is
-
--- no command of a load is an evict or a refill
-pub of_load : (b : Board) (of : Kind) (version : ℕ) (load : Load) (draw : ℕ) (told : Answer) (p q : Pass) → AnswersCommand b (asked_by of version load) draw told p q → IsOfLoad told
-of_load b kind.Get version load draw (answer.Get told) p q is = tt
-of_load b kind.Gets version load draw (answer.Gets told) p q is = tt
-of_load b kind.Set version load draw (answer.Write told) p q is = tt
-of_load b kind.Add version load draw (answer.Write told) p q is = tt
-of_load b kind.Replace version load draw (answer.Write told) p q is = tt
-of_load b kind.Cas version load draw (answer.Write told) p q is = tt
-of_load b kind.Delete version load draw (answer.Delete told) p q is = tt
-of_load b of version load draw told p q is = absurd is
 
 -- ---- reads
 
@@ -303,27 +305,3 @@ came_again b kind.Add load draw told from to p q r s is on free made turned agai
 came_again b kind.Replace load draw told from to p q r s is on free made turned again = absurd again
 came_again b kind.Cas load draw told from to p q r s is on free made turned again = absurd again
 came_again b of load draw told from to p q r s is on free made turned again = absurd is
-
--- ---- draws
-
--- a read was made with its draw
-pub with_draw : (b : Board) (of : Kind) (version : ℕ) (load : Load) (told : Answer) (p q : Pass) → AnswersCommand b (asked_by of version load) load.draw told p q → ReadsWithDraw b of load (tally_of told) p q
-with_draw b kind.Get version load (answer.Get told) p q is = (told, refl, is)
-with_draw b kind.Gets version load (answer.Gets told) p q is = (told, refl, is)
-with_draw b kind.Get version load _ p q is = absurd is
-with_draw b kind.Gets version load _ p q is = absurd is
-with_draw b kind.Set version load told p q is = tt
-with_draw b kind.Add version load told p q is = tt
-with_draw b kind.Replace version load told p q is = tt
-with_draw b kind.Cas version load told p q is = tt
-with_draw b kind.Delete version load told p q is = tt
-
--- what finds no room is no read
-pub no_read : (b : Board) (of : Kind) (version : ℕ) (load : Load) (told : Tally) (p q r s : Pass) → AnswersCommand b (asked_by of version load) load.draw (answer.Write write.NoRoom) p q → ReadsWithDraw b of load told r s
-no_read b kind.Get version load told p q r s is = absurd is
-no_read b kind.Gets version load told p q r s is = absurd is
-no_read b kind.Set version load told p q r s is = tt
-no_read b kind.Add version load told p q r s is = tt
-no_read b kind.Replace version load told p q r s is = tt
-no_read b kind.Cas version load told p q r s is = tt
-no_read b kind.Delete version load told p q r s is = tt

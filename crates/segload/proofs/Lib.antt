@@ -1,6 +1,9 @@
 pub mod Lists
 pub mod Counted
 pub mod Answered
+pub mod Served
 pub mod Made
 pub mod Starting
 pub mod Loaded
+pub mod Alike
+pub mod Modelled

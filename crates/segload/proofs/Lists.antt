@@ -11,13 +11,6 @@ all_pushed P xs x all here n y at = ⊎_elim (λ was. all n y was) (λ e. subst 
 pub all_none : {A : Type 0} {P : Type 0} (n : ℕ) (x : A) → slice_get [] n ≡ Some x → P
 all_none n x at = absurd (none-some x at)
 
--- what has an element at a place has one in each list as long
-pub is_there : {A B : Type 0} (xs : List A) (ys : List B) (n : ℕ) (x : A) → length ys ≡ length xs → slice_get xs n ≡ Some x → (y : B) × (slice_get ys n ≡ Some y)
-is_there [] ys n x same at = absurd (none-some x at)
-is_there (x ∷ xs) [] n y same at = absurd (omega (arith, same))
-is_there (x ∷ xs) (z ∷ zs) zero y same at = (z, refl)
-is_there (x ∷ xs) (z ∷ zs) (suc n) y same at = is_there xs zs n y (omega (arith, same)) at
-
 -- what a list is made of stands at the same place, and so does what is made of it
 pub made_of : {A B : Type 0} (f : A → B) (xs : List A) (n : ℕ) (y : B) → slice_get (map f xs) n ≡ Some y → (x : A) × (slice_get xs n ≡ Some x) × (f x ≡ y)
 made_of f [] n y at = absurd (none-some y at)

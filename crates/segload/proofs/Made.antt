@@ -1,12 +1,15 @@
 -- What holds of the commands that a pass made so far, as it goes on and as a history grows.
-use Rattle.std.proofs.Common.{◌≡◌, ℕ, zero, suc, ◌+◌, List, ◌∷◌, Some, None, refl, sym, ap, ◌∙◌, subst, inl, inr, arith}
+use Rattle.std.proofs.Common.{◌≡◌, ℕ, zero, suc, ◌+◌, ◌<◌, List, ◌∷◌, Some, None, refl, sym, ap, ◌∙◌, subst, inl, inr, arith}
 use Rattle.segword.specs.Words.{Shape}
 use Rattle.segmodel.specs.declared.request.Request.TheVariants as request
 use Rattle.segmodel.specs.declared.entry.Entry.TheVariants.{Refilled}
+use Rattle.segmodel.specs.History as histories
 use Rattle.segmodel.specs.Words.{after, Begins, Cache, Entry, key_of, reads, reads_version, Request}
+use Rattle.segcore.specs.Event as event
 use Rattle.segcore.proofs.Moments.{begins_on}
-use Rattle.segbase.specs.Words.{Board, mine, number, Pass, seen}
-use Rattle.segpass.specs.Words.{GoesOn}
+use Rattle.segbase.specs.Words.{Board, IsNewPass, mine, number, Pass, seen}
+use Rattle.segpass.specs.Words.{GoesOn, IsQuiet}
+use Rattle.segindex.specs.Words.{AnswersCommand}
 use Rattle.segpolicy.specs.declared.load.Kind.TheVariants as kind
 use Rattle.segpolicy.specs.Words.{after_load, Draws, Kind, Load, next_load, next_of}
 use Rattle.segload.specs.declared.totals.Tally.{Tally}
@@ -14,8 +17,11 @@ use Rattle.segload.specs.declared.totals.Tally.TheVariants as tally
 use Rattle.segload.specs.declared.totals.Tallies.{Tallies}
 use Rattle.segload.specs.Words.{Worker}
 use Rattle.segload.specs.Counting.{with_one_more, all_of}
-use Rattle.segload.specs.Making.{ClientState, load_deadline, load_moment, AtMoment, IsReadAs, IsVersionReadAs, IsFullFor, IsWrittenAs, IsStoredAs, CameTo, ComesTo, draws_after, Makes}
-use Rattle.segload.specs.Working.{course_of, HoldsNothing, IsOwnRing, IsAtWork, HandsInDraws, ReadsWithDraw}
+use Rattle.segload.specs.Making.{ClientState, load_deadline, load_moment, AtMoment, IsReadAs, IsVersionReadAs, IsFullFor, IsWrittenAs, IsStoredAs, CameTo, ComesTo, draws_after, Makes, start_of}
+use Rattle.segload.specs.Calls.{MakesCalls, ServesLoad}
+use Rattle.segload.specs.Working.{course_of, IsAtWork}
+use Rattle.segload.proofs.Answered.{HoldsNothing, IsOwnRing}
+use Rattle.segload.proofs.Served.{serves_came, serves_own}
 
 -- what holds of all commands so far holds of a longer history
 moment_later : (shape : Shape) (history later : List Entry) (pass : ℕ) (own : List Entry) (IsSo : Cache → Type 0) → Begins history later → AtMoment shape history pass own IsSo → AtMoment shape later pass own IsSo
@@ -64,32 +70,6 @@ makes_later shape history later pass draws (suc made) t course own more (told, b
     let load = next_load (draws_after draws made) in
     (told, before, from, own_before, makes_later shape history later pass draws made before from own_before more makes, came_later shape history later pass load.kind load told from course own_before own more came, counts)
 
--- the ring is that of the pass's own segments all the time
-stored_own : (shape : Shape) (history : List Entry) (pass : ℕ) (asked : Request) (told : Tally) (from to : ClientState) (before now : List Entry) → IsStoredAs shape history pass asked told from to before now → IsOwnRing shape pass from.segments → IsOwnRing shape pass to.segments
-stored_own shape history pass asked told from to before now (inl (written, kept)) own = subst (λ c. IsOwnRing shape pass c.segments) (sym kept) own
-stored_own shape history pass asked told from to before now (inr (after, turned)) own = subst (λ c. IsOwnRing shape pass c.segments) (sym turned) own
-
-version_own : (shape : Shape) (history : List Entry) (pass : ℕ) (own : List Entry) (key : List ℕ) (told : Tally) (from to : ClientState) → IsVersionReadAs shape history pass own key told from to → to.segments ≡ from.segments
-version_own shape history pass own key tally.Hit from to read = read.2
-version_own shape history pass own key tally.Miss from to read = ap (λ c. c.segments) read.1
-version_own shape history pass own key tally.Busy from to read = ap (λ c. c.segments) read.1
-version_own shape history pass own key _ from to read = absurd read.0
-
-came_own : (shape : Shape) (history : List Entry) (pass : ℕ) (of : Kind) (load : Load) (told : Tally) (from to : ClientState) (before now : List Entry) → CameTo shape history pass of load told from to before now → IsOwnRing shape pass from.segments → IsOwnRing shape pass to.segments
-came_own shape history pass kind.Get load told from to before now came own = subst (λ c. IsOwnRing shape pass c.segments) (sym came.2) own
-came_own shape history pass kind.Gets load told from to before now came own = subst (IsOwnRing shape pass) (sym (version_own shape history pass before load.key told from to came.0)) own
-came_own shape history pass kind.Set load told from to before now came own = stored_own shape history pass (request.Set load.key load.value load_moment) told from to before now came own
-came_own shape history pass kind.Add load told from to before now came own = stored_own shape history pass (request.Add load.key load.value load_moment) told from to before now came own
-came_own shape history pass kind.Replace load told from to before now came own = stored_own shape history pass (request.Replace load.key load.value load_moment) told from to before now came own
-came_own shape history pass kind.Cas load told from to before now came own = stored_own shape history pass (request.Cas load.key load.value from.version load_moment) told from to before now came own
-came_own shape history pass kind.Delete load told from to before now came own = subst (λ c. IsOwnRing shape pass c.segments) (sym came.1) own
-
-pub makes_own : (shape : Shape) (history : List Entry) (pass : ℕ) (draws : Draws) (made : ℕ) (t : Tallies) (course : ClientState) (own : List Entry) → Makes shape history pass draws made t course own → IsOwnRing shape pass course.segments
-makes_own shape history pass draws zero t course own makes = subst (λ c. IsOwnRing shape pass c.segments) (sym makes.1) (refl, refl)
-makes_own shape history pass draws (suc made) t course own (told, before, from, own_before, makes, came, counts) =
-    let load = next_load (draws_after draws made) in
-    came_own shape history pass load.kind load told from course own_before own came (makes_own shape history pass draws made before from own_before makes)
-
 all_counted : (told : Tally) (t : Tallies) → all_of (with_one_more told t) ≡ all_of t + 1
 all_counted tally.Hit t = omega arith
 all_counted tally.Miss t = omega arith
@@ -102,36 +82,71 @@ all_counted tally.NoRoom t = omega arith
 all_counted tally.BucketFull t = omega arith
 all_counted tally.Busy t = omega arith
 
+-- ---- the calls of all commands
+
+-- what the calls of the commands so far came to
+pub record CameSoFar (b : Board) (n : ℕ) (draws : Draws) (made : ℕ) (t : Tallies) (course : ClientState) (q : Pass) : Type 0 where
+  pub quiet : IsQuiet b q
+  pub same : number q ≡ n
+  pub free : HoldsNothing q
+  pub makes : Makes b.shape (seen q) n draws made t course (mine q)
+  pub own : IsOwnRing b.shape n course.segments
+
+module _ (b : Board) (n : ℕ) (draws : Draws) (first : Pass) (new : IsNewPass b n first) (quiet : IsQuiet b first) where
+  some : 0 < b.shape.segments_each
+  some = quiet.pass.valid.0.0.1.0
+
+  came_so_far : (made : ℕ) (t : Tallies) (course : ClientState) (q : Pass) → MakesCalls (AnswersCommand b) draws (start_of b.shape n) first made t course q → CameSoFar b n draws made t course q
+  came_so_far zero t course q calls = record {
+    quiet = subst (IsQuiet b) (sym calls.2) quiet;
+    same = ap number calls.2 ∙ new.number;
+    free = subst HoldsNothing (sym calls.2) (new.plain.locked, new.holding);
+    makes = (calls.0, calls.1, ap mine calls.2 ∙ ap (λ t. histories.mine (number first) (event.seen t)) new.nothing);
+    own = subst (λ c. IsOwnRing b.shape n c.segments) (sym calls.1) (refl, refl, some);
+  }
+  came_so_far (suc made) t course q (told, before, from, last, calls, served, counts) =
+      let load = next_load (draws_after draws made) in
+      let was = came_so_far made before from last calls in
+      let one = serves_came b load told from course last q was.quiet was.free (subst (λ m. IsOwnRing b.shape m from.segments) (sym was.same) was.own) served in record {
+        quiet = one.on.quiet;
+        same = one.on.same ∙ was.same;
+        free = one.free;
+        makes = (
+          told,
+          before,
+          from,
+          mine last,
+          makes_later b.shape (seen last) (seen q) n draws made before from (mine last) one.on.seen was.makes,
+          subst (λ m. ComesTo b.shape (seen q) m load told from course (mine last) (mine q)) was.same one.came,
+          counts,
+        );
+        own = serves_own b n load told from course last q some served was.own;
+      }
+
+  pub calls_make : (made : ℕ) (t : Tallies) (course : ClientState) (q : Pass) → MakesCalls (AnswersCommand b) draws (start_of b.shape n) first made t course q → Makes b.shape (seen q) n draws made t course (mine q)
+  calls_make made t course q calls = (came_so_far made t course q calls).makes
+
 -- a pass at its load that makes the next command of its workload, and counts what it came to
-pub works_on : (b : Board) (draws : Draws) (made : ℕ) (told : Tally) (worker later : Worker) → IsAtWork b draws made worker → GoesOn b worker.client.pass later.client.pass → HoldsNothing later.client.pass
-    → ComesTo b.shape (seen later.client.pass) (number worker.client.pass) (next_load worker.workload) told (course_of worker.client) (course_of later.client) (mine worker.client.pass) (mine later.client.pass)
-    → ReadsWithDraw b (next_load worker.workload).kind (next_load worker.workload) told worker.client.pass later.client.pass
-    → later.workload ≡ after_load worker.workload → later.tallies ≡ with_one_more told worker.tallies → IsAtWork b draws (made + 1) later
-works_on b draws made told worker later was on free came reads after counts = record {
+pub works_on : (b : Board) (draws : Draws) (first : Pass) (made : ℕ) (told : Tally) (worker later : Worker) → IsAtWork b draws first made worker → GoesOn b worker.client.pass later.client.pass
+    → ServesLoad (AnswersCommand b) (next_load worker.workload) told (course_of worker.client) (course_of later.client) worker.client.pass later.client.pass
+    → later.workload ≡ after_load worker.workload → later.tallies ≡ with_one_more told worker.tallies → IsAtWork b draws first (made + 1) later
+works_on b draws first made told worker later was on serves after counts = record {
   quiet = on.quiet;
-  free = free;
   workload = subst (λ n. later.workload ≡ draws_after draws n) one (after ∙ ap after_load was.workload);
-  makes = subst (λ n. Makes b.shape (seen q) (number q) draws n later.tallies (course_of later.client) (mine q)) one (subst (λ n. Makes b.shape (seen q) n draws (suc made) later.tallies (course_of later.client) (mine q)) (sym on.same) more);
-  reads = subst (λ n. HandsInDraws b draws n q) one (p, told, was.reads, subst (λ d. ReadsWithDraw b (next_load d).kind (next_load d) told p q) was.workload reads);
+  calls = subst (λ n. MakesCalls (AnswersCommand b) draws (start_of b.shape (number first)) first n later.tallies (course_of later.client) later.client.pass) one more;
   all = ap all_of counts ∙ (all_counted told worker.tallies ∙ ap (λ n. n + 1) was.all);
 }
   where
-    p : Pass
-    p = worker.client.pass
-
-    q : Pass
-    q = later.client.pass
-
     one : suc made ≡ made + 1
     one = omega arith
 
-    more : Makes b.shape (seen q) (number p) draws (suc made) later.tallies (course_of later.client) (mine q)
+    more : MakesCalls (AnswersCommand b) draws (start_of b.shape (number first)) first (suc made) later.tallies (course_of later.client) later.client.pass
     more = (
       told,
       worker.tallies,
       course_of worker.client,
-      mine p,
-      makes_later b.shape (seen p) (seen q) (number p) draws made worker.tallies (course_of worker.client) (mine p) on.seen was.makes,
-      subst (λ d. ComesTo b.shape (seen q) (number p) (next_load d) told (course_of worker.client) (course_of later.client) (mine p) (mine q)) was.workload came,
+      worker.client.pass,
+      was.calls,
+      subst (λ d. ServesLoad (AnswersCommand b) (next_load d) told (course_of worker.client) (course_of later.client) worker.client.pass later.client.pass) was.workload serves,
       counts,
     )

@@ -1,6 +1,6 @@
 -- Workers that begin one after the other, and what their threads give back.
-use Rattle.std.proofs.Common.{◌≡◌, ℕ, suc, ◌+◌, Bool, List, ◌∷◌, slice_get, refl, sym, ap, ◌∙◌, subst, arith}
-use Rattle.segbase.specs.Words.{Board, number}
+use Rattle.std.proofs.Common.{◌≡◌, ℕ, suc, ◌+◌, Bool, List, ◌∷◌, slice_get, sym, ap, ◌∙◌, subst, arith}
+use Rattle.segbase.specs.Words.{Board, IsNewPass, number}
 use Rattle.segload.specs.Words.{Plan, Worker}
 use Rattle.segload.specs.Working.{draws_for, IsAtWork, BeginsLoad, BeginsPlan, HasMadePlan}
 use Rattle.segload.specs.Lists.{AllAt}
@@ -14,12 +14,16 @@ module _ (b : Board) (plan : Plan) where
   pub first_begins : (gone : ℕ) (worker : Worker) (rest all : List Worker) → all ≡ worker ∷ rest → Wait gone all → BeginsLoad b worker.workload (number worker.client.pass) worker × (worker.workload ≡ draws_for plan (number worker.client.pass))
   first_begins gone worker rest all is wait =
       let begins = wait 0 worker (ap (λ l. slice_get l 0) is) in (
-        record { at_work = subst (λ d. IsAtWork b d 0 worker) (sym begins.at_work.workload) begins.at_work; is = refl; runs = begins.runs },
-        begins.at_work.workload ∙ ap (draws_for plan) (sym begins.is),
+        record {
+          new = subst (λ n. IsNewPass b n worker.client.pass) (sym begins.new.number) begins.new;
+          at_work = subst (λ d. IsAtWork b d worker.client.pass 0 worker) (sym begins.at_work.workload) begins.at_work;
+          runs = begins.runs;
+        },
+        begins.at_work.workload ∙ ap (draws_for plan) (sym begins.new.number),
       )
 
   pub first_numbered : (gone : ℕ) (worker : Worker) (rest all : List Worker) → all ≡ worker ∷ rest → Wait gone all → number worker.client.pass ≡ gone
-  first_numbered gone worker rest all is wait = let n = (wait 0 worker (ap (λ l. slice_get l 0) is)).is in omega (arith, n)
+  first_numbered gone worker rest all is wait = let n = (wait 0 worker (ap (λ l. slice_get l 0) is)).new.number in omega (arith, n)
 
   pub rest_begin : (gone now : ℕ) (worker : Worker) (rest all : List Worker) → all ≡ worker ∷ rest → now ≡ gone + 1 → Wait gone all → Wait now rest
   rest_begin gone now worker rest all is one wait n w at = subst (λ m. BeginsPlan b plan m w) (omega (arith, one)) (wait (suc n) w (ap (λ l. slice_get l (suc n)) is ∙ at))

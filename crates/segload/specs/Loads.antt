@@ -1,8 +1,9 @@
 -- What a load returns.
-use Rattle.std.specs.Prelude.{◌≡◌, ℕ, ◌<◌, ◌≤◌, Bool, List, [], length, slice_get, Some}
+use Rattle.std.specs.Prelude.{◌≡◌, ℕ, ◌<◌, Bool, List, length, slice_get, Some}
 use Rattle.segword.specs.Words.{IsValid, Shape}
-use Rattle.segmodel.specs.Words.{after, Cache, Entry, IsLegal, mine}
-use Rattle.segbase.specs.Words.{IsMakeFault}
+use Rattle.segmodel.specs.Words.{after, Cache, Entry, mine}
+use Rattle.segbase.specs.Words.{Board, IsMakeFault, IsNewPass, Pass}
+use Rattle.segindex.specs.Words.{AnswersCommand, IsEndOfAll}
 use Rattle.segpolicy.specs.Words.{draws_of}
 use Rattle.segload.specs.declared.fault.LoadFault.{LoadFault}
 use Rattle.segload.specs.declared.fault.LoadFault.TheVariants.{Make, Stopped, OutOfMemory}
@@ -10,39 +11,52 @@ use Rattle.segload.specs.declared.totals.PassTotals.{PassTotals}
 use Rattle.segload.specs.declared.totals.Totals.{Totals}
 use Rattle.segload.specs.Gates.{IsToldOf, LetsThrough, RanToEnd, Stops}
 use Rattle.segload.specs.Counting.{all_of, CountsReplies}
-use Rattle.segload.specs.Making.{ClientState, Makes}
+use Rattle.segload.specs.Making.{ClientState, Makes, start_of}
+use Rattle.segload.specs.Calls.{MakesCalls}
 
 -- The tallies of a pass count `asked` commands, each once.
 -- These are the first ones of the pass's workload.
 -- The workload is drawn with the seed from the stream of the pass's number, over so many keys.
+-- Each command is the calls of the index that it names. They lead from a new pass to this one.
 -- The commands make the tallies and the pass's own entries in the history.
 -- The five tallies of replies count the pass's own writes there.
-pub record CountsCommands (shape : Shape) (seed keys asked pass : ℕ) (history : List Entry)
-    (totals : PassTotals) : Type 0 where
+pub record CountsCommands (b : Board) (seed keys asked pass : ℕ) (history : List Entry)
+    (last : Pass) (totals : PassTotals) : Type 0 where
   pub commands : totals.commands ≡ asked
   pub all : all_of totals.tallies ≡ asked
   pub replies : CountsReplies totals.tallies (mine pass history)
+  pub first : Pass
+  pub new : IsNewPass b pass first
   pub course : ClientState
-  pub made : Makes shape history pass (draws_of seed pass keys) asked totals.tallies course
+  pub calls : MakesCalls (AnswersCommand b) (draws_of seed pass keys) (start_of b.shape pass) first
+      asked totals.tallies course last
+  pub made : Makes b.shape history pass (draws_of seed pass keys) asked totals.tallies course
       (mine pass history)
 
 -- how many keys stand
 abbrev pub keys_of : Cache → ℕ
 keys_of cache = length cache.items
 
--- One legal history has the entries of all passes, and none of anyone else.
--- The entries of each pass are those that its commands make,
+-- What was done to a new board of this shape, by all its passes.
+-- At the end they are these, in the order of their numbers.
+-- The history is the longest that any of them has seen. It is legal.
+-- It has the entries of all passes, and none of anyone else.
+-- The calls of each pass are those of its commands,
 -- which are drawn with this seed over so many keys.
 -- The totals count these commands, and how many keys stand after the history.
 pub record IsLoad (shape : Shape) (seed keys commands : ℕ) (totals : Totals) : Type 0 where
   pub valid : IsValid shape
   pub long : length totals.passes.items ≡ shape.passes
+  pub board : Board
+  pub of : board.shape ≡ shape
+  pub passes : List Pass
+  pub all : length passes ≡ shape.passes
   pub history : List Entry
-  pub legal : IsLegal shape history
-  pub each : (pass : ℕ) (of : PassTotals)
-      → slice_get totals.passes.items pass ≡ Some of
-      → CountsCommands shape seed keys commands pass history of
-  pub among : (pass : ℕ) → shape.passes ≤ pass → mine pass history ≡ []
+  pub ends : IsEndOfAll shape passes history
+  pub each : (pass : ℕ) (last : Pass) (counted : PassTotals)
+      → slice_get passes pass ≡ Some last
+      → slice_get totals.passes.items pass ≡ Some counted
+      → CountsCommands board seed keys commands pass history last counted
   pub stand : totals.keys ≡ keys_of (after shape history)
 
 -- The gate may let each command of each pass through. When it was asked isn't said.

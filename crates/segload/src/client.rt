@@ -1,6 +1,6 @@
 //! A pass of an index, which makes the commands of a load.
 ghost use Rattle.std.specs.Prelude.{◌≡◌};
-ghost use Rattle.segload.specs.Working.{command_of, tally_of, write_tally, delete_tally, IsOfLoad};
+ghost use Rattle.segload.specs.Calls.{command_of, tally_of, write_tally, delete_tally, IsOfLoad};
 
 use crate::totals::Tally;
 use segindex::{Index, Pass};
@@ -87,12 +87,12 @@ fn tally_of_delete(answer: DeleteAnswer) -> Tally
 }
 
 impl Client {
-    ghost use Rattle.segbase.specs.Words.{mine, number, seen};
-    ghost use Rattle.segindex.specs.Words.{board_of, shape_of};
+    ghost use Rattle.segindex.specs.Words.{AnswersCommand, board_of};
     ghost use Rattle.segpass.specs.Words.{GoesOn, IsQuiet};
-    ghost use Rattle.segpolicy.specs.Words.{Cycle, next_of};
-    ghost use Rattle.segload.specs.Making.{turned_on, ComesTo};
-    ghost use Rattle.segload.specs.Working.{course_of, course_after, HoldsNothing, IsOwnRing, GivesUpSegment, ReadsWithDraw};
+    ghost use Rattle.segpolicy.specs.Words.{next_of};
+    ghost use Rattle.segload.specs.Making.{turned_on};
+    ghost use Rattle.segload.specs.Calls.{course_after, ServesLoad, TriesForRoom};
+    ghost use Rattle.segload.specs.Working.{course_of};
 
     /// A client whose pass made no command yet.
     pub(crate) fn new(pass: Pass, segments: Ring) -> Client
@@ -122,19 +122,13 @@ impl Client {
     /// A write that finds no room is made once more, if room could be made.
     pub(crate) fn serve(&mut self, index: &Index, load: Load) -> Tally
         requires quiet { IsQuiet (board_of index.now) self.old.pass }
-        requires free { HoldsNothing self.old.pass }
-        requires own { IsOwnRing (shape_of index.now) (number self.old.pass) self.old.segments }
-        ensures free { HoldsNothing self.new.pass }
         ensures on { GoesOn (board_of index.now) self.old.pass self.new.pass }
-        ensures came { ComesTo (shape_of index.now) (seen self.new.pass) (number self.old.pass)
-            load result (course_of self.old) (course_of self.new)
-            (mine self.old.pass) (mine self.new.pass) }
-        ensures draws { ReadsWithDraw (board_of index.now) load.kind load result
-            self.old.pass self.new.pass }
+        ensures serves { ServesLoad (AnswersCommand (board_of index.now)) load result
+            (course_of self.old) (course_of self.new) self.old.pass self.new.pass }
     {
         let draw = load.draw;
         let command = command_of(load, self.version);
-        let answer = index.serve(&mut self.pass, &command, draw);
+        let answer = self.ask(index, &command, draw);
         if answer != Answer::Write(WriteAnswer::NoRoom) {
             self.remember(&answer);
             return tally_of(&answer);
@@ -142,7 +136,18 @@ impl Client {
         if !self.make_room(index) {
             return Tally::NoRoom;
         }
-        tally_of(&index.serve(&mut self.pass, &command, draw))
+        tally_of(&self.ask(index, &command, draw))
+    }
+
+    // Makes one call of the index.
+    fn ask(&mut self, index: &Index, command: &Command, draw: u32) -> Answer
+        requires quiet { IsQuiet (board_of index.now) self.old.pass }
+        ensures on { GoesOn (board_of index.now) self.old.pass self.new.pass }
+        ensures answers { AnswersCommand (board_of index.now) command.now draw
+            result self.old.pass self.new.pass }
+        ensures course { course_of self.new ≡ course_of self.old }
+    {
+        index.serve(&mut self.pass, command, draw)
     }
 
     // Keeps, for the next cas, the version that a gets found.
@@ -155,16 +160,13 @@ impl Client {
         }
     }
 
-    // Gives up the next of the pass's segments for new keys, and returns whether there is room then.
+    // Evicts and refills the next of the pass's segments, and returns whether there is room then.
     // If there is, the segment has the load's deadline.
     fn make_room(&mut self, index: &Index) -> bool
         requires quiet { IsQuiet (board_of index.now) self.old.pass }
-        requires free { HoldsNothing self.old.pass }
-        requires own { IsOwnRing (shape_of index.now) (number self.old.pass) self.old.segments }
-        ensures free { HoldsNothing self.new.pass }
         ensures on { GoesOn (board_of index.now) self.old.pass self.new.pass }
-        ensures room { GivesUpSegment (shape_of index.now) (next_of self.old.segments) result
-            self.old.pass self.new.pass }
+        ensures room { TriesForRoom (AnswersCommand (board_of index.now))
+            (next_of self.old.segments) result self.old.pass self.new.pass }
         ensures course { course_of self.new ≡ turned_on (course_of self.old) }
     {
         let segment = self.segments.next();

@@ -1,9 +1,10 @@
 //! The gate: what lets the commands of a load through.
 ghost use Rattle.std.specs.Prelude.{ℕ, Bool, true, ⊤};
-ghost use Rattle.segload.specs.Gates.{lets_all_through};
+ghost use Rattle.segload.specs.Gates.{IsToldOf, lets_all_through};
 
 /// A load asks the gate once before each command of a pass, from the pass's own thread,
-/// and tells the gate when the command was answered. Tests show that; no contract says it.
+/// and tells the gate when the command was answered.
+/// The contracts say in which order; that it is once, tests show.
 /// The commands of a pass are numbered from 0.
 pub trait Gate: Sync {
     /// What the gate may answer before a command of a pass.
@@ -13,7 +14,9 @@ pub trait Gate: Sync {
     ghost told: { Self → ℕ → ℕ → Type 0 } = { λ gate pass call. ⊤ };
 
     /// Whether the pass may make the command. If it may not, the pass stops.
+    /// The gate was told of all earlier commands of the pass.
     fn enter(&self, pass: u32, call: u32) -> bool
+        requires { IsToldOf (told self.now) call pass }
         ensures { may_answer self.now pass call result };
 
     /// Tells the gate that a command was answered. It is a command that the gate may let through.

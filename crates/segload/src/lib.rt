@@ -5,6 +5,7 @@
 mod client;
 mod fault;
 mod gate;
+mod laws;
 mod load;
 mod plan;
 mod totals;
@@ -12,5 +13,7 @@ mod worker;
 
 pub use fault::LoadFault;
 pub use gate::{Gate, OpenGate};
-pub use load::{run_crowd, run_load};
+pub use laws::one_pass_is_modelled;
+pub use load::run_crowd;
+pub use plan::Plan;
 pub use totals::{PassTotals, Tallies, Tally, Totals};

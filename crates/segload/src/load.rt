@@ -17,10 +17,8 @@ use crate::plan::Plan;
 use crate::totals::{PassTotals, Totals};
 use crate::worker::Worker;
 use segindex::{Index, Pass};
-use segpolicy::Workload;
 use segword::Shape;
 use std::alloc::{AllocError, AllocGlobal, Global};
-use std::num::NonZeroU32;
 use std::sync::Wait;
 use std::thread;
 use std::thread::{Promise, Threads};
@@ -82,8 +80,8 @@ fn work_at_once<R: Threads + Wait + Sync, G: Gate>(
                     requires { IsSync G.row × BeginsLoad (board_of index.now)
                         worker.workload (number worker.client.pass) worker }
                     ensures { HasWorked (board_of index.entry.now) (G.may_answer gate.entry.now)
-                        (G.told gate.entry.now) worker.workload (number worker.client.pass)
-                        plan.commands result }
+                        (G.told gate.entry.now) worker.workload worker.client.pass
+                        (number worker.client.pass) plan.commands result }
                 { worker.work(index, gate, plan.commands) };
                 if let Ok(thread) = scope.spawn_with(worked, work) {
                     threads.push_reserved(thread);
@@ -172,31 +170,26 @@ fn count_keys(alloc: Global, index: Index, passes: Vec<Pass>) -> Option<u32>
     Some(content.len() as u32)
 }
 
-/// Runs a load over this many keys: so many commands for each pass of a new index,
-/// drawn with this seed. The totals count how the commands were answered.
+/// Runs a load on a new index: each pass makes the commands of the plan.
+/// The totals count how the commands were answered.
 ///
 /// The call waits for its threads, one for each pass. What its contract says holds if it returns.
-/// The contract says nothing of threads, of when the gate is asked,
+/// The contract says nothing of threads, of how often the gate is asked,
 /// or of what the other passes do if the gate stops one. Tests do.
 pub fn run_crowd<R: Threads + Wait + AllocGlobal + Sync, G: Gate>(
     rt: &R,
     alloc: Global,
     shape: Shape,
-    seed: u64,
-    commands: u32,
-    keys: NonZeroU32,
+    plan: Plan,
     gate: &G,
 ) -> Result<Totals, LoadFault>
-    ensures load { IfOk result (IsLoad shape seed (non_zero_u32_get keys) commands) }
-    ensures let_through { IfOk result (λ _. IsLetThrough shape commands (G.may_answer gate.now)) }
-    ensures told { IfOk result (λ _. IsToldOfAll shape commands (G.told gate.now)) }
-    ensures fault { IfErr result (IsLoadFault shape commands (G.may_answer gate.now)) }
+    ensures load { IfOk result
+        (IsLoad shape plan.seed (non_zero_u32_get plan.keys) plan.commands) }
+    ensures let_through { IfOk result
+        (λ _. IsLetThrough shape plan.commands (G.may_answer gate.now)) }
+    ensures told { IfOk result (λ _. IsToldOfAll shape plan.commands (G.told gate.now)) }
+    ensures fault { IfErr result (IsLoadFault shape plan.commands (G.may_answer gate.now)) }
 {
-    let plan = Plan {
-        seed,
-        commands,
-        keys,
-    };
     let (index, passes) = match Index::new(alloc, shape) {
         Ok(made) => made,
         Err(fault) => return Err(LoadFault::Make(fault)),
@@ -210,7 +203,7 @@ pub fn run_crowd<R: Threads + Wait + AllocGlobal + Sync, G: Gate>(
     if let Some(pass) = first_stopped(&workers) {
         return Err(LoadFault::Stopped(pass));
     }
-    let Ok(counted) = count_all(alloc, commands, &workers) else {
+    let Ok(counted) = count_all(alloc, plan.commands, &workers) else {
         return Err(LoadFault::OutOfMemory);
     };
     let Ok(passes) = all_passes(alloc, workers) else {
@@ -223,22 +216,4 @@ pub fn run_crowd<R: Threads + Wait + AllocGlobal + Sync, G: Gate>(
         passes: counted,
         keys: standing,
     })
-}
-
-/// Runs a load over 64 keys, and waits as `run_crowd` does.
-pub fn run_load<R: Threads + Wait + AllocGlobal + Sync, G: Gate>(
-    rt: &R,
-    alloc: Global,
-    shape: Shape,
-    seed: u64,
-    commands: u32,
-    gate: &G,
-) -> Result<Totals, LoadFault>
-    ensures load { IfOk result (IsLoad shape seed 64 commands) }
-    ensures let_through { IfOk result (λ _. IsLetThrough shape commands (G.may_answer gate.now)) }
-    ensures told { IfOk result (λ _. IsToldOfAll shape commands (G.told gate.now)) }
-    ensures fault { IfErr result (IsLoadFault shape commands (G.may_answer gate.now)) }
-{
-    let keys = NonZeroU32::new(Workload::KEYS).unwrap();
-    run_crowd(rt, alloc, shape, seed, commands, keys, gate)
 }

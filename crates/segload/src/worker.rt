@@ -1,5 +1,5 @@
 //! A pass that makes its commands of a load.
-ghost use Rattle.std.specs.Prelude.{◌≡◌, []};
+ghost use Rattle.std.specs.Prelude.{◌≡◌};
 ghost use Rattle.segindex.specs.Words.{board_of};
 
 use crate::client::Client;
@@ -19,15 +19,14 @@ pub(crate) struct Worker {
 }
 
 impl Worker {
-    ghost use Rattle.segbase.specs.Words.{mine, number, number_of};
+    ghost use Rattle.segbase.specs.Words.{IsNewPass, number, number_of};
     ghost use Rattle.segpass.specs.Words.{IsQuiet};
-    ghost use Rattle.segload.specs.Working.{HoldsNothing, BeginsLoad, BeginsPlan, HasWorked};
+    ghost use Rattle.segload.specs.Working.{BeginsLoad, BeginsPlan, HasWorked};
 
     /// A worker whose pass made no command yet.
     pub(crate) fn new(index: &Index, plan: Plan, pass: Pass) -> Worker
         requires quiet { IsQuiet (board_of index.now) pass }
-        requires nothing { mine pass ≡ [] }
-        requires free { HoldsNothing pass }
+        requires new { IsNewPass (board_of index.now) (number pass) pass }
         ensures { BeginsPlan (board_of index.now) plan (number pass) result }
     {
         let number = pass.number();
@@ -52,7 +51,7 @@ impl Worker {
         requires begins { BeginsLoad (board_of index.now)
             self.workload (number self.client.pass) self }
         ensures { HasWorked (board_of index.now) (G.may_answer gate.now) (G.told gate.now)
-            self.workload (number self.client.pass) commands result }
+            self.workload self.client.pass (number self.client.pass) commands result }
     {
         let pass = self.client.pass.number();
         for call in 0..commands {

@@ -42,7 +42,7 @@ module _ (b : Board) (p q : Pass) (key : List ℕ) (now : ℕ) (was : IsAlone b 
 
   -- ---- get
 
-  got : (told : GetAnswer) → IsGetAnswer b.shape key now told (seen p) (seen q) → told ≡ get_answer (reads (after b.shape (seen p)) now key)
+  pub got : (told : GetAnswer) → IsGetAnswer b.shape key now told (seen p) (seen q) → told ≡ get_answer (reads (after b.shape (seen p)) now key)
   got (get.Found value) is = sym (ap get_answer (read_then (Some value) is))
   got get.Miss is = sym (ap get_answer (read_then None is))
   got get.Busy many = absurd (never_stirred many)
@@ -57,7 +57,7 @@ module _ (b : Board) (p q : Pass) (key : List ℕ) (now : ℕ) (was : IsAlone b 
   some_read version None value is = absurd (none-some value is)
   some_read version (Some item) value is = refl
 
-  versioned : (told : GetsAnswer) → ((value : List ℕ) (version : ℕ) → told ≡ gets.Found value version → locked_of p ≢ Some (bucket_of b.shape key)) → IsGetsAnswer b.shape key now told (seen p) p q
+  pub versioned : (told : GetsAnswer) → ((value : List ℕ) (version : ℕ) → told ≡ gets.Found value version → locked_of p ≢ Some (bucket_of b.shape key)) → IsGetsAnswer b.shape key now told (seen p) p q
       → told ≡ gets_answer (is_locked b.shape (state_at b.shape p) key) (reads_version b.shape (after b.shape (seen p)) now key)
   versioned (gets.Found value version) unlocked is = sym (λ i. gets_answer (free_here b.shape p key (unlocked value version refl) i) (version_then (Some (value, version)) is i))
   versioned gets.Miss unlocked is = sym (none_read (is_locked b.shape (state_at b.shape p) key) ((after b.shape (seen p)).version (bucket_of b.shape key)) (present (after b.shape (seen p)) now key) (read_then None is))

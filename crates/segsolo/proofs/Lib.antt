@@ -20,3 +20,4 @@ pub mod AloneEvicts
 pub mod AloneMoves
 pub mod AloneKeeps
 pub mod AloneCommands
+pub mod AloneDraws

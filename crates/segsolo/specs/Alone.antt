@@ -109,6 +109,26 @@ abbrev pub TurnsAlone : Board → Turn → Outcome → Pass → Pass → Type 0
 TurnsAlone b turn given p q =
     IsAlone b q × Turns b.shape (state_at b.shape p) turn given (state_at b.shape q)
 
+-- a state in which the items have these frequencies
+abbrev pub with_frequencies : (ℕ → List ℕ) → State → State
+with_frequencies frequencies state = record state {
+  filling = λ segment. record (state.filling segment) { frequencies = frequencies segment };
+}
+
+-- The two states differ in the frequencies of items alone.
+abbrev pub IsSameButFrequencies : State → State → Type 0
+IsSameButFrequencies old new =
+    (frequencies : ℕ → List ℕ) × (new ≡ with_frequencies frequencies old)
+
+-- The pass is still alone. The command was served as the model says, but for frequencies:
+-- in the model each hit raises one if it may, and in a call only if the draw says so.
+abbrev pub ServesButFrequencies : Board → Command → Answer → Pass → Pass → Type 0
+ServesButFrequencies b command given p q =
+    IsAlone b q
+    × (state : State)
+    × Serves b.shape (state_at b.shape p) command given state
+    × IsSameButFrequencies state (state_at b.shape q)
+
 -- the outcomes of the turns that lock, unlock and hold, by what the calls answer
 abbrev pub outcome_of_lock : LockAnswer → Outcome
 outcome_of_lock lock.Locked = outcome.Locked

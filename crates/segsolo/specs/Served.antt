@@ -1,5 +1,5 @@
 -- If an index has one pass, each of its calls is served as the model says,
--- a command if the draw is 0.
+-- a command if the draw is 0, and but for frequencies with any draw.
 -- What the call's contract says is enough for this.
 use Rattle.std.specs.Prelude.{◌≡◌, ℕ, Bool, false, List, Some, slice_get}
 use Rattle.segword.specs.Words.{Shape}
@@ -11,7 +11,8 @@ use Rattle.segbase.specs.Words.{Board, is_holding_of, Pass}
 use Rattle.segpass.specs.Words.{LockAnswer, LocksBucket, UnlocksBucket}
 use Rattle.segread.specs.Words.{Hold, HoldAnswer, HoldsItem, IsHoldOf, ReadsHeld, ReleasesHold}
 use Rattle.segindex.specs.Words.{AnswersCommand, board_of, Index, IsNew}
-use Rattle.segsolo.specs.Alone.{state_at, IsAlone, ServesAlone, TurnsAlone, outcome_of_lock, outcome_of_unlock, outcome_of_hold}
+use Rattle.segsolo.specs.Alone.{state_at, IsAlone, ServesAlone, ServesButFrequencies}
+use Rattle.segsolo.specs.Alone.{TurnsAlone, outcome_of_lock, outcome_of_unlock, outcome_of_hold}
 
 -- The pass of a new index that has one pass is alone, and is at the start state.
 abbrev pub StartsAlone : Type 0
@@ -27,6 +28,13 @@ StartsAlone = (shape : Shape) (index : Index) (passes : List Pass) (p : Pass)
 abbrev pub CommandIsServed : Type 0
 CommandIsServed = (b : Board) (p q : Pass) (command : Command) (told : Answer) → IsAlone b p
     → AnswersCommand b command 0 told p q → ServesAlone b command told p q
+
+-- With any other draw the command is served so too, but for frequencies.
+abbrev pub AnyDrawIsServed : Type 0
+AnyDrawIsServed = (b : Board) (p q : Pass) (command : Command) (draw : ℕ) (told : Answer)
+    → IsAlone b p
+    → AnswersCommand b command draw told p q
+    → ServesButFrequencies b command told p q
 
 -- ---- locks
 

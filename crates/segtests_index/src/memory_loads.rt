@@ -1,7 +1,7 @@
 //! Loads out of memory: each request is refused in turn, first those for lists and then those for threads.
 use crate::hoard::{RUNS, STEP, hoard, leave};
 use segindex::MakeFault;
-use segload::{Gate, LoadFault, Totals, run_crowd, run_load};
+use segload::{Gate, LoadFault, Plan, Totals, run_crowd};
 use segword::Shape;
 use std::alloc::AllocGlobal;
 use std::num::NonZeroU32;
@@ -104,10 +104,11 @@ fn load<R: Threads + Wait + AllocGlobal + Sync>(
     keys: Option<NonZeroU32>,
     gate: &Counter,
 ) -> Result<Totals, LoadFault> {
-    match keys {
-        Some(keys) => run_crowd(rt, rt.alloc(), SHAPE, 7, COMMANDS, keys, gate),
-        None => run_load(rt, rt.alloc(), SHAPE, 7, COMMANDS, gate),
+    let mut plan = Plan::new(7, COMMANDS);
+    if let Some(keys) = keys {
+        plan.keys = keys;
     }
+    run_crowd(rt, rt.alloc(), SHAPE, plan, gate)
 }
 
 // How many runs were refused, by how many of their passes ran to their end.

@@ -1,6 +1,6 @@
 //! Loads as the tests run them.
 //! These functions have no contract, so that the proof of a test needn't read that of a load.
-use segload::{Gate, LoadFault, Totals, run_crowd, run_load};
+use segload::{Gate, LoadFault, Plan, Totals, run_crowd};
 use segword::Shape;
 use std::alloc::AllocGlobal;
 use std::num::NonZeroU32;
@@ -25,7 +25,7 @@ pub fn run<R: Threads + Wait + AllocGlobal + Sync, G: Gate>(
     commands: u32,
     gate: &G,
 ) -> Result<Totals, LoadFault> {
-    run_load(rt, rt.alloc(), shape, seed, commands, gate)
+    run_crowd(rt, rt.alloc(), shape, Plan::new(seed, commands), gate)
 }
 
 /// Runs a load over so many keys.
@@ -37,5 +37,10 @@ pub fn run_over<R: Threads + Wait + AllocGlobal + Sync, G: Gate>(
     keys: NonZeroU32,
     gate: &G,
 ) -> Result<Totals, LoadFault> {
-    run_crowd(rt, rt.alloc(), shape, seed, commands, keys, gate)
+    let plan = Plan {
+        seed,
+        commands,
+        keys,
+    };
+    run_crowd(rt, rt.alloc(), shape, plan, gate)
 }

@@ -2,8 +2,6 @@ use Rattle.std.proofs.Common.{◌≡◌, suc, length, slice_get, sym, ap, subst,
 use Rattle.segbase.specs.Words.{IsNewPass, number}
 use Rattle.segindex.specs.Words.{shape_of}
 use Rattle.segindex.proofs.Made.{each_new}
-use Rattle.segcore.specs.Words.{seen}
-use Rattle.segmodel.specs.Words.{mine}
 use Rattle.segload.specs.Working.{BeginsPlan}
 use Rattle.segload.specs.Lists.{AllAt}
 use Rattle.segload.proofs.Lists.{all_pushed, all_none}
@@ -28,15 +26,10 @@ loop-pass-init c =
 pub new-requires-clause-quiet : goal.new-requires-clause-quiet
 new-requires-clause-quiet c = (c.loop-pass.invariant.rest 0 c.in-Some.pass (ap (λ l. slice_get l 0) c.in-Some.ensures.steps.0)).1
 
-pub new-requires-clause-nothing : goal.new-requires-clause-nothing
-new-requires-clause-nothing c =
+pub new-requires-clause-new : goal.new-requires-clause-new
+new-requires-clause-new c =
     let new = (c.loop-pass.invariant.rest 0 c.in-Some.pass (ap (λ l. slice_get l 0) c.in-Some.ensures.steps.0)).0 in
-    ap (λ t. mine (number c.in-Some.pass) (seen t)) new.nothing
-
-pub new-requires-clause-free : goal.new-requires-clause-free
-new-requires-clause-free c =
-    let new = (c.loop-pass.invariant.rest 0 c.in-Some.pass (ap (λ l. slice_get l 0) c.in-Some.ensures.steps.0)).0 in
-    (new.plain.locked, new.holding)
+    subst (λ n. IsNewPass c.args.index.now.board n c.in-Some.pass) (sym new.number) new
 
 pub loop-pass-preserved : goal.loop-pass-preserved
 loop-pass-preserved c =

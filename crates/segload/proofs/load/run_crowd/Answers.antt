@@ -2,26 +2,26 @@ use Rattle.std.proofs.Common.{◌≡◌, length, refl, sym, subst, ◌∙◌}
 use Rattle.std.specs.Int.NonZero.{non_zero_u32_get}
 use Rattle.segword.specs.Words.{IsValid}
 use Rattle.segindex.specs.Words.{AreAllQuiet, IsEndOfAll}
-use Rattle.segload.specs.Words.{Plan, Totals}
+use Rattle.segload.specs.Words.{Totals}
 use Rattle.segload.specs.Loads.{IsLoad, IsLetThrough, IsToldOfAll, IsStopped}
 use Rattle.segload.proofs.Loaded.{are_all, all_let_through, told_of_all, stopped_first, loaded}
 use Rattle.segload.proofs.load.run_crowd.Goals as goal
 
 pub returns-in-Some-clause-fault : goal.returns-in-Some-clause-fault
 returns-in-Some-clause-fault g c =
-    let plan : Plan = record { seed = c.args.seed; commands = c.args.commands; keys = c.args.keys } in
+    let plan = c.args.plan in
     let new = c.in-Ok.ensures.made in
     let b = c.in-Ok.made.0.board in
     let may_answer = g.G.Gate.may_answer c.args.gate.now in
     let told = g.G.Gate.told c.args.gate.now in
     let workers = c.in-Ok-work_at_once.workers in
     let long : length workers.items ≡ b.shape.passes = sym workers.ok.0 ∙ (c.in-Ok-work_at_once.ensures.long ∙ c.in-Ok-begin_all.ensures.long) in
-    subst (λ shape. IsStopped shape c.args.commands may_answer c.in-Some.pass) new.made.of
+    subst (λ shape. IsStopped shape c.args.plan.commands may_answer c.in-Some.pass) new.made.of
     (stopped_first b may_answer told plan workers.items c.in-Some.pass (subst IsValid (sym new.made.of) new.made.valid) long c.in-Ok-work_at_once.ensures.each c.in-Some.ensures.some)
 
 pub count_keys-requires : goal.count_keys-requires
 count_keys-requires g c =
-    let plan : Plan = record { seed = c.args.seed; commands = c.args.commands; keys = c.args.keys } in
+    let plan = c.args.plan in
     let b = c.in-Ok.made.0.board in
     let workers = c.in-Ok-work_at_once.workers in
     let long : length workers.items ≡ b.shape.passes = sym workers.ok.0 ∙ (c.in-Ok-work_at_once.ensures.long ∙ c.in-Ok-begin_all.ensures.long) in
@@ -30,7 +30,7 @@ count_keys-requires g c =
 
 pub returns : goal.returns
 returns g c =
-    let plan : Plan = record { seed = c.args.seed; commands = c.args.commands; keys = c.args.keys } in
+    let plan = c.args.plan in
     let new = c.in-Ok.ensures.made in
     let b = c.in-Ok.made.0.board in
     let may_answer = g.G.Gate.may_answer c.args.gate.now in
@@ -42,11 +42,11 @@ returns g c =
     let none = c.in_default-first_stopped.ensures.none refl in
     let long : length workers.items ≡ b.shape.passes = sym workers.ok.0 ∙ (c.in-Ok-work_at_once.ensures.long ∙ c.in-Ok-begin_all.ensures.long) in
     let each : length workers.items ≡ length totals.passes.items = sym workers.ok.0 ∙ (sym c.in-Ok-count_all.ensures.long ∙ totals.passes.ok.0) in record {
-      load = subst (λ shape. IsLoad shape c.args.seed (non_zero_u32_get c.args.keys) c.args.commands totals) new.made.of
+      load = subst (λ shape. IsLoad shape c.args.plan.seed (non_zero_u32_get c.args.plan.keys) c.args.plan.commands totals) new.made.of
           (loaded b may_answer told plan workers.items totals worked none each c.in-Ok-count_all.ensures.each content.0
           (subst (λ passes. IsEndOfAll b.shape passes content.0) c.in-Ok-all_passes.ensures content.1)
           (subst IsValid (sym new.made.of) new.made.valid) long content.2);
-      let_through = subst (λ shape. IsLetThrough shape c.args.commands may_answer) new.made.of (all_let_through b may_answer told plan workers.items long worked none);
-      told = subst (λ shape. IsToldOfAll shape c.args.commands told) new.made.of (told_of_all b may_answer told plan workers.items long worked none);
+      let_through = subst (λ shape. IsLetThrough shape c.args.plan.commands may_answer) new.made.of (all_let_through b may_answer told plan workers.items long worked none);
+      told = subst (λ shape. IsToldOfAll shape c.args.plan.commands told) new.made.of (told_of_all b may_answer told plan workers.items long worked none);
       fault = tt;
     }

@@ -1,43 +1,35 @@
-use Rattle.std.proofs.Common.{◌≡◌, ℕ, false, refl, sym, ap, ◌∙◌, subst}
+use Rattle.std.proofs.Common.{◌≡◌, ◌≢◌, ℕ, false, refl, sym, ap, ◌∙◌, subst, inl, inr}
 use Rattle.segmodel.specs.Words.{RefillAnswer}
 use Rattle.segmodel.specs.declared.answer.RefillAnswer.TheVariants as refill
+use Rattle.segmodel.specs.declared.answer.EvictAnswer.TheVariants as evict
 use Rattle.segbase.specs.Words.{Board, Pass}
-use Rattle.segevict.specs.Words.{IsEvictAnswer}
 use Rattle.segevict.proofs.RowsOut.{goes_then}
-use Rattle.segload.specs.Working.{GivesUpSegment}
-use Rattle.segload.specs.Making.{ClientState}
-use Rattle.segload.proofs.Answered.{empties, not_evicted, evict_free, refill_free, is_refilled, room_made}
+use Rattle.segevict.specs.Words.{EvictsSegment}
+use Rattle.segindex.specs.Refilling.{RefillsSegment}
+use Rattle.segindex.specs.Words.{AnswersCommand}
+use Rattle.segload.specs.Making.{ClientState, load_deadline}
+use Rattle.segload.specs.Calls.{TriesForRoom}
+use Rattle.segload.proofs.Answered.{is_refilled}
 use Rattle.segload.proofs.client.Client.make_room.Goals as goal
 
 pub returns-in_default : goal.returns-in_default
 returns-in_default c =
     let b = c.args.index.now.board in
-    let p = c.args.self.now.pass in
-    let segment = c.next-segment.result in
-    let told = c.evict.ensures.evicts in
-    record {
-      free = evict_free b.shape segment c.evict.result p c.evict.new.pass told.answer c.requires.free;
-      on = told.on;
-      room = subst (λ n. GivesUpSegment b.shape n false p c.evict.new.pass) c.next-segment.ensures.value (
-        empties b.shape segment c.evict.result p c.evict.new.pass told.answer,
-        not_evicted b c.args.self.now.segments segment c.evict.result p c.evict.new.pass c.requires.quiet c.requires.free c.requires.own c.next-segment.ensures.in_range.1 told.on told.not_yours told.answer c.in_default.not-Evicted,
-      );
+    let p = c.args.self.now.pass in record {
+      on = c.evict.ensures.evicts.on;
+      room = subst (λ n. TriesForRoom (AnswersCommand b) n false p c.evict.new.pass) c.next-segment.ensures.value (inl (record {
+        told = c.evict.result;
+        refused = c.in_default.not-Evicted;
+        evicts = c.evict.ensures.evicts;
+      }));
       course = ap {B = ClientState} (λ s. record { segments = s; version = c.args.self.now.version }) c.next-segment.ensures.turned;
     }
 
 pub returns-clause-on : goal.returns-clause-on
 returns-clause-on c = goes_then c.args.index.now.board c.args.self.now.pass c.evict.new.pass c.refill.new.pass c.evict.ensures.evicts.on c.refill.ensures.refills.on
 
-pub returns-clause-free : goal.returns-clause-free
-returns-clause-free c = refill_free c.next-segment.result _ c.refill.result c.evict.new.pass c.refill.new.pass c.refill.ensures.refills.answer
-    (evict_free c.args.index.now.board.shape c.next-segment.result c.evict.result c.args.self.now.pass c.evict.new.pass c.evict.ensures.evicts.answer c.requires.free)
-
 pub returns-clause-room : goal.returns-clause-room
-returns-clause-room c = subst (λ n. GivesUpSegment b.shape n c.eq.result p c.refill.new.pass) c.next-segment.ensures.value
-    (subst (λ made. GivesUpSegment b.shape segment made p c.refill.new.pass) (sym (made c.refill.result refl))
-    (room_made b c.args.self.now.segments segment c.in-Evicted.field-0 c.refill.result p c.evict.new.pass c.refill.new.pass c.requires.quiet
-    (evict_free b.shape segment c.evict.result p c.evict.new.pass c.evict.ensures.evicts.answer c.requires.free) c.requires.own c.next-segment.ensures.in_range.1
-    c.evict.ensures.evicts.on c.refill.ensures.refills.on (subst (λ told. IsEvictAnswer b.shape segment told p c.evict.new.pass) c.in-Evicted.is c.evict.ensures.evicts.answer) c.refill.ensures.refills.not_yours c.refill.ensures.refills.in_use c.refill.ensures.refills.answer))
+returns-clause-room c = subst (λ n. TriesForRoom (AnswersCommand b) n c.eq.result p q) c.next-segment.ensures.value (tried c.refill.result refl)
   where
     b : Board
     b = c.args.index.now.board
@@ -45,11 +37,38 @@ returns-clause-room c = subst (λ n. GivesUpSegment b.shape n c.eq.result p c.re
     p : Pass
     p = c.args.self.now.pass
 
+    out : Pass
+    out = c.evict.new.pass
+
+    q : Pass
+    q = c.refill.new.pass
+
     segment : ℕ
     segment = c.next-segment.result
 
-    made : (told : RefillAnswer) → c.refill.result ≡ told → c.eq.result ≡ is_refilled told
-    made refill.Refilled is = c.eq.ensures ∙ (rw is refl)
-    made refill.NotYours is = c.eq.ensures ∙ (rw is refl)
-    made refill.NotEvicted is = c.eq.ensures ∙ (rw is refl)
-    made refill.Held is = c.eq.ensures ∙ (rw is refl)
+    count : ℕ
+    count = c.in-Evicted.field-0
+
+    evicts : EvictsSegment b segment (evict.Evicted count) p out
+    evicts = subst (λ told. EvictsSegment b segment told p out) c.in-Evicted.is c.evict.ensures.evicts
+
+    asked : (told : RefillAnswer) → c.refill.result ≡ told → RefillsSegment b segment load_deadline told out q
+    asked told is = subst (λ t. RefillsSegment b segment load_deadline t out q) is c.refill.ensures.refills
+
+    in_all : (told : RefillAnswer) → c.refill.result ≡ told → TriesForRoom (AnswersCommand b) segment (is_refilled told) p q → TriesForRoom (AnswersCommand b) segment c.eq.result p q
+    in_all told is tried = subst (λ made. TriesForRoom (AnswersCommand b) segment made p q) (sym (made told is)) tried
+      where
+        made : (t : RefillAnswer) → c.refill.result ≡ t → c.eq.result ≡ is_refilled t
+        made refill.Refilled is = c.eq.ensures ∙ (rw is refl)
+        made refill.NotYours is = c.eq.ensures ∙ (rw is refl)
+        made refill.NotEvicted is = c.eq.ensures ∙ (rw is refl)
+        made refill.Held is = c.eq.ensures ∙ (rw is refl)
+
+    not : (told : RefillAnswer) → told ≢ refill.Refilled → c.refill.result ≡ told → TriesForRoom (AnswersCommand b) segment false p q
+    not told ne is = inr (record { emptied = out; count = count; told = told; refused = ne; evicts = evicts; refills = asked told is })
+
+    tried : (told : RefillAnswer) → c.refill.result ≡ told → TriesForRoom (AnswersCommand b) segment c.eq.result p q
+    tried refill.Refilled is = in_all refill.Refilled is (record { emptied = out; count = count; evicts = evicts; refills = asked refill.Refilled is })
+    tried refill.NotYours is = in_all refill.NotYours is (not refill.NotYours (λ e. cc) is)
+    tried refill.NotEvicted is = in_all refill.NotEvicted is (not refill.NotEvicted (λ e. cc) is)
+    tried refill.Held is = in_all refill.Held is (not refill.Held (λ e. cc) is)

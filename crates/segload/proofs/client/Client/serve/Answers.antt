@@ -1,66 +1,62 @@
-use Rattle.std.proofs.Common.{◌≡◌, ◌≢◌, subst, rules}
+use Rattle.std.proofs.Common.{◌≡◌, ◌≢◌, true, false, refl, sym, ap, ◌∙◌, subst, inl, inr, rules}
 use Rattle.segmodel.specs.declared.answer.Answer.TheVariants.{Write}
 use Rattle.segmodel.specs.declared.answer.WriteAnswer.TheVariants.{NoRoom}
 use Rattle.segevict.proofs.RowsOut.{goes_then}
-use Rattle.segload.specs.declared.totals.Tally.TheVariants as tally
 use Rattle.segindex.specs.Words.{AnswersCommand}
-use Rattle.segload.specs.Working.{command_of, course_of}
-use Rattle.segload.proofs.Answered.{came, came_nowhere, came_again, command_free, with_draw, no_read}
+use Rattle.segpolicy.specs.Words.{next_of}
+use Rattle.segload.specs.Making.{ClientState, turned_on}
+use Rattle.segload.specs.Calls.{command_of, course_after, TriesForRoom}
 use Rattle.segload.proofs.client.Client.serve.Goals as goal
 
-pub returns-then-ne-clause-came : goal.returns-then-ne-clause-came
-returns-then-ne-clause-came c =
-    let b = c.args.index.now.board in let p = c.args.self.now.pass in let q = c.serve-answer.new.pass in let load = c.args.load in let told = c.serve-answer.result in
-    let asked = subst (λ x. AnswersCommand b x load.draw told p q) c.command_of-command.ensures c.serve-answer.ensures.answers in
+pub returns-then-ne-clause-serves : goal.returns-then-ne-clause-serves
+returns-then-ne-clause-serves c =
+    let b = c.args.index.now.board in let p = c.args.self.now.pass in let q = c.ask-answer.new.self.pass in let load = c.args.load in let told = c.ask-answer.result in
+    let asked = subst (λ x. AnswersCommand b x load.draw told p q) c.command_of-command.ensures c.ask-answer.ensures.answers in
     let other : told ≢ Write NoRoom = search rules in
-    rw c.remember.ensures.pass (rw c.remember.ensures.course (rw c.tally_of.ensures (came b load.kind load load.draw told (course_of c.args.self.now) p q other c.requires.quiet c.requires.free c.serve-answer.ensures.on asked)))
+    inl (record {
+      given = told;
+      answers = subst (AnswersCommand b (command_of c.args.self.now.version load) load.draw told p) (sym c.remember.ensures.pass) asked;
+      had_room = other;
+      counted = c.tally_of.ensures;
+      course = c.remember.ensures.course ∙ ap (course_after told) c.ask-answer.ensures.course;
+    })
 
-pub returns-then-not-make_room-clause-came : goal.returns-then-not-make_room-clause-came
-returns-then-not-make_room-clause-came c =
-    let b = c.args.index.now.board in let p = c.args.self.now.pass in let q = c.serve-answer.new.pass in let load = c.args.load in let told = c.serve-answer.result in
-    let asked = subst (λ x. AnswersCommand b x load.draw told p q) c.command_of-command.ensures c.serve-answer.ensures.answers in
+pub returns-then-not-make_room-clause-on : goal.returns-then-not-make_room-clause-on
+returns-then-not-make_room-clause-on c =
+    goes_then c.args.index.now.board c.args.self.now.pass c.ask-answer.new.self.pass c.make_room.new.self.pass c.ask-answer.ensures.on c.make_room.ensures.on
+
+pub returns-then-not-make_room-clause-serves : goal.returns-then-not-make_room-clause-serves
+returns-then-not-make_room-clause-serves c =
+    let b = c.args.index.now.board in let p = c.args.self.now.pass in let q = c.ask-answer.new.self.pass in let r = c.make_room.new.self.pass in let load = c.args.load in let told = c.ask-answer.result in
+    let asked = subst (λ x. AnswersCommand b x load.draw told p q) c.command_of-command.ensures c.ask-answer.ensures.answers in
     let full : told ≡ Write NoRoom = search rules in
     let room = c.if-not-make_room.ensures in
-    came_nowhere b load.kind load load.draw (course_of c.args.self.now) (course_of c.make_room.new.self) p q c.make_room.new.self.pass
-    (subst (λ t. AnswersCommand b (command_of c.args.self.now.version load) load.draw t p q) full asked) room.room room.course
-
-pub returns-clause-free : goal.returns-clause-free
-returns-clause-free c =
-    let b = c.args.index.now.board in let r = c.make_room.new.self.pass in let s = c.serve.new.pass in let load = c.args.load in
-    let again = subst (λ x. AnswersCommand b x load.draw c.serve.result r s) c.command_of-command.ensures c.serve.ensures.answers in
-    command_free b load.kind c.args.self.now.version load load.draw c.serve.result r s again c.make_room.ensures.free
+    inr (inr (record {
+      full = q;
+      found_none = subst (λ t. AnswersCommand b (command_of c.args.self.now.version load) load.draw t p q) full asked;
+      no_room = subst (λ (k : ClientState). TriesForRoom (AnswersCommand b) (next_of k.segments) false q r) c.ask-answer.ensures.course room.room;
+      counted = refl;
+      course = room.course ∙ ap turned_on c.ask-answer.ensures.course;
+    }))
 
 pub returns-clause-on : goal.returns-clause-on
 returns-clause-on c =
-    let b = c.args.index.now.board in let p = c.args.self.now.pass in let q = c.serve-answer.new.pass in let r = c.make_room.new.self.pass in let s = c.serve.new.pass in
-    goes_then b p q s c.serve-answer.ensures.on (goes_then b q r s c.make_room.ensures.on c.serve.ensures.on)
+    let b = c.args.index.now.board in let p = c.args.self.now.pass in let q = c.ask-answer.new.self.pass in let r = c.make_room.new.self.pass in let s = c.ask.new.self.pass in
+    goes_then b p q s c.ask-answer.ensures.on (goes_then b q r s c.make_room.ensures.on c.ask.ensures.on)
 
-pub returns-clause-came : goal.returns-clause-came
-returns-clause-came c =
-    let b = c.args.index.now.board in let p = c.args.self.now.pass in let q = c.serve-answer.new.pass in let r = c.make_room.new.self.pass in let s = c.serve.new.pass in
-    let load = c.args.load in let told = c.serve-answer.result in let room = c.if-not-make_room.ensures in
-    let asked = subst (λ x. AnswersCommand b x load.draw told p q) c.command_of-command.ensures c.serve-answer.ensures.answers in
-    let again = subst (λ x. AnswersCommand b x load.draw c.serve.result r s) c.command_of-command.ensures c.serve.ensures.answers in
+pub returns-clause-serves : goal.returns-clause-serves
+returns-clause-serves c =
+    let b = c.args.index.now.board in let p = c.args.self.now.pass in let q = c.ask-answer.new.self.pass in let r = c.make_room.new.self.pass in let s = c.ask.new.self.pass in
+    let load = c.args.load in let told = c.ask-answer.result in let room = c.if-not-make_room.ensures in
+    let asked = subst (λ x. AnswersCommand b x load.draw told p q) c.command_of-command.ensures c.ask-answer.ensures.answers in
     let full : told ≡ Write NoRoom = search rules in
-    rw c.tally_of-2.ensures (came_again b load.kind load load.draw c.serve.result (course_of c.args.self.now) (course_of c.make_room.new.self) p q r s
-    (subst (λ t. AnswersCommand b (command_of c.args.self.now.version load) load.draw t p q) full asked) room.on room.free room.room room.course again)
-
-pub returns-then-ne-clause-draws : goal.returns-then-ne-clause-draws
-returns-then-ne-clause-draws c =
-    let b = c.args.index.now.board in let p = c.args.self.now.pass in let q = c.serve-answer.new.pass in let load = c.args.load in let told = c.serve-answer.result in
-    let asked = subst (λ x. AnswersCommand b x load.draw told p q) c.command_of-command.ensures c.serve-answer.ensures.answers in
-    rw c.remember.ensures.pass (rw c.tally_of.ensures (with_draw b load.kind c.args.self.now.version load told p q asked))
-
-pub returns-then-not-make_room-clause-draws : goal.returns-then-not-make_room-clause-draws
-returns-then-not-make_room-clause-draws c =
-    let b = c.args.index.now.board in let p = c.args.self.now.pass in let q = c.serve-answer.new.pass in let load = c.args.load in let told = c.serve-answer.result in
-    let asked = subst (λ x. AnswersCommand b x load.draw told p q) c.command_of-command.ensures c.serve-answer.ensures.answers in
-    let full : told ≡ Write NoRoom = search rules in
-    no_read b load.kind c.args.self.now.version load tally.NoRoom p q p c.make_room.new.self.pass (subst (λ t. AnswersCommand b (command_of c.args.self.now.version load) load.draw t p q) full asked)
-
-pub returns-clause-draws : goal.returns-clause-draws
-returns-clause-draws c =
-    let b = c.args.index.now.board in let p = c.args.self.now.pass in let q = c.serve-answer.new.pass in let load = c.args.load in let told = c.serve-answer.result in
-    let asked = subst (λ x. AnswersCommand b x load.draw told p q) c.command_of-command.ensures c.serve-answer.ensures.answers in
-    let full : told ≡ Write NoRoom = search rules in
-    no_read b load.kind c.args.self.now.version load c.tally_of-2.result p q p c.serve.new.pass (subst (λ t. AnswersCommand b (command_of c.args.self.now.version load) load.draw t p q) full asked)
+    inr (inl (record {
+      full = q;
+      filled = r;
+      given = c.ask.result;
+      found_none = subst (λ t. AnswersCommand b (command_of c.args.self.now.version load) load.draw t p q) full asked;
+      room = subst (λ (k : ClientState). TriesForRoom (AnswersCommand b) (next_of k.segments) true q r) c.ask-answer.ensures.course room.room;
+      again = subst (λ x. AnswersCommand b x load.draw c.ask.result r s) c.command_of-command.ensures c.ask.ensures.answers;
+      counted = c.tally_of-2.ensures;
+      course = c.ask.ensures.course ∙ (room.course ∙ ap turned_on c.ask-answer.ensures.course);
+    }))

@@ -1,11 +1,12 @@
 use Rattle.std.proofs.Common.{◌≡◌, true, false, subst, ◌∙◌, below_more}
 use Rattle.std.proofs.lemmas.Bool.{true≢false}
-use Rattle.segbase.specs.Words.{mine, number, seen}
+use Rattle.segbase.specs.Words.{number}
+use Rattle.segindex.specs.Words.{AnswersCommand}
 use Rattle.segload.specs.Words.{Worker}
 use Rattle.segload.specs.Gates.{IsToldOf, LetsThrough}
-use Rattle.segload.specs.Making.{ComesTo}
-use Rattle.segload.specs.Working.{course_of, ReadsWithDraw}
-use Rattle.segload.proofs.Made.{makes_own, works_on}
+use Rattle.segload.specs.Calls.{ServesLoad}
+use Rattle.segload.specs.Working.{course_of}
+use Rattle.segload.proofs.Made.{works_on}
 use Rattle.segload.proofs.worker.Worker.work.Goals as goal
 
 pub loop-call-preserved : goal.loop-call-preserved
@@ -18,9 +19,8 @@ loop-call-preserved g c =
     let q = c.serve-tally.new.self.pass in
     let later : Worker = record worker { client = c.serve-tally.new.self; workload = c.next-load.new.self; tallies = c.count.new.self } in
     record {
-      at_work = works_on b c.args.self.workload c.loop-call.call c.serve-tally.result worker later was.at_work served.on served.free
-          (subst (λ load. ComesTo b.shape (seen q) (number p) load c.serve-tally.result (course_of worker.client) (course_of later.client) (mine p) (mine q)) c.next-load.ensures.value served.came)
-          (subst (λ load. ReadsWithDraw b load.kind load c.serve-tally.result p q) c.next-load.ensures.value served.draws)
+      at_work = works_on b c.args.self.workload c.args.self.client.pass c.loop-call.call c.serve-tally.result worker later was.at_work served.on
+          (subst (λ load. ServesLoad (AnswersCommand b) load c.serve-tally.result (course_of worker.client) (course_of later.client) p q) c.next-load.ensures.value served.serves)
           c.next-load.ensures.after c.count.ensures.counted;
       same = served.on.same ∙ was.same;
       let_through = below_more (λ call. g.G.Gate.may_answer c.args.gate.now c.number-pass.result call true) c.loop-call.call was.let_through
@@ -28,11 +28,6 @@ loop-call-preserved g c =
       told_of = below_more (λ call. g.G.Gate.told c.args.gate.now c.number-pass.result call) c.loop-call.call was.told_of c.answered.ensures;
       runs = was.runs;
     }
-
-pub serve-tally-requires-clause-own : goal.serve-tally-requires-clause-own
-serve-tally-requires-clause-own g c =
-    let worker = c.loop-call.self in
-    makes_own c.args.index.now.board.shape (seen worker.client.pass) (number worker.client.pass) c.args.self.workload c.loop-call.call worker.tallies (course_of worker.client) (mine worker.client.pass) c.loop-call.invariant.at_work.makes
 
 pub returns-then-not-enter : goal.returns-then-not-enter
 returns-then-not-enter g c =
@@ -51,7 +46,7 @@ returns-then-not-enter g c =
           until = subst (LetsThrough (g.G.Gate.may_answer c.args.gate.now) c.loop-call.call) pass was.let_through;
           stopped = subst (λ n. g.G.Gate.may_answer c.args.gate.now n c.loop-call.call false) pass (subst (g.G.Gate.may_answer c.args.gate.now c.number-pass.result c.loop-call.call) c.if-not-enter.true c.enter.ensures);
         },
-        record { quiet = was.at_work.quiet; free = was.at_work.free; workload = was.at_work.workload; makes = was.at_work.makes; reads = was.at_work.reads; all = was.at_work.all },
+        record { quiet = was.at_work.quiet; workload = was.at_work.workload; calls = was.at_work.calls; all = was.at_work.all },
         subst (IsToldOf (g.G.Gate.told c.args.gate.now) c.loop-call.call) pass was.told_of,
       );
     }

@@ -7,7 +7,7 @@ use Rattle.segload.proofs.worker.Worker.work.Given as goal
 
 abbrev pub invariant-loop-call : goal.invariant-loop-call
 invariant-loop-call g l = record {
-  at_work : IsAtWork (board_of l.index) l.fn.self.workload l.call l.self;
+  at_work : IsAtWork (board_of l.index) l.fn.self.workload l.fn.self.client.pass l.call l.self;
   same : number l.self.client.pass ≡ number l.fn.self.client.pass;
   let_through : LetsThrough (g.G.Gate.may_answer l.gate) l.call l.pass;
   told_of : IsToldOf (g.G.Gate.told l.gate) l.call l.pass;

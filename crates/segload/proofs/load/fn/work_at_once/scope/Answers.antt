@@ -49,8 +49,11 @@ spawn_with-requires-clause-keeps g c =
     let is = c.number.ensures ∙ begins.0.at_work.quiet.pass.numbered in
     let may_answer = g.G.Gate.may_answer c.captures.gate.now in
     let told = g.G.Gate.told c.captures.gate.now in
-    λ κs h r worked. subst (λ n. HasMadePlan b may_answer told c.captures.plan n r) (sym is)
-    (subst (λ d. HasWorked b may_answer told d (number c.in-Some.worker.client.pass) c.captures.plan.commands r) begins.1 worked)
+    λ κs h r worked. subst (λ n. HasMadePlan b may_answer told c.captures.plan n r) (sym is) (record {
+      first = c.in-Some.worker.client.pass;
+      new = begins.0.new;
+      worked = subst (λ d. HasWorked b may_answer told d c.in-Some.worker.client.pass (number c.in-Some.worker.client.pass) c.captures.plan.commands r) begins.1 worked;
+    })
 
 pub loop-worker-preserved-in-Ok : goal.loop-worker-preserved-in-Ok
 loop-worker-preserved-in-Ok g c =
