@@ -1,5 +1,6 @@
 //! Each caller once.
 use crate::client_caller::client_caller;
+use crate::first_cache::first_cache;
 use crate::index_caller::index_caller;
 use crate::readme_lines::readme_lines;
 use segclient::{DeleteAnswer, GetAnswer, Key, PutAnswer, Value};
@@ -43,4 +44,9 @@ fn the_lines_of_the_readme_answer_as_they_say(rt: HostRuntime) -> Result<(), Fai
     );
     assert_eq!(rt; answers, Some(wanted));
     Ok(())
+}
+
+#[test]
+fn a_first_cache_serves_four_threads(rt: HostRuntime) -> Result<(), Fail> {
+    Ok(first_cache(&rt)?)
 }

@@ -13,6 +13,8 @@ mod closing;
 #[cfg(test)]
 mod counting;
 #[cfg(test)]
+mod first_cache;
+#[cfg(test)]
 mod index_caller;
 #[cfg(test)]
 mod keeping;
