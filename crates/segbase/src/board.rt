@@ -1,6 +1,6 @@
 //! The board: the table of the index's words, and how it is created.
 ghost use Rattle.std.specs.Prelude.{◌≡◌, ◌<◌, ◌≤◌, ◌^◌, [], IfOk, IfErr};
-ghost use Rattle.segword.specs.Words.{word_count};
+ghost use Rattle.segword.specs.Words.{IsValid, IsValid-prop, word_count};
 ghost use Rattle.segbase.specs.Spots.{IsLayoutOf};
 
 use crate::fault::MakeFault;
@@ -23,11 +23,11 @@ pub struct Board {
     ghost long: { table.shared.table_id.words ≡ word_count shape },
     ghost slots: { table.shared.table_id.slots ≡ 0 },
     ghost small: { word_count shape ≤ 2 ^ 26 },
+    ghost valid: { IsValid shape } by { IsValid-prop shape },
     ghost laid: { IsLayoutOf shape layout },
 }
 
 impl Board {
-    ghost use Rattle.segword.specs.Words.{IsValid};
     ghost use Rattle.segbase.specs.Ruled.{first_sight};
     ghost use Rattle.segbase.specs.Made.{IsDealt, IsNewPlain, IsMade, IsMakeFault};
 

@@ -2,6 +2,7 @@ pub mod Client
 pub mod Clients
 pub mod Counting
 pub mod Entries
+pub mod Many
 pub mod PutCalls
 pub mod PutParts
 pub mod Putting

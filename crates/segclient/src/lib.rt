@@ -5,6 +5,7 @@
 mod all;
 mod client;
 mod hold;
+mod many;
 mod note;
 mod put;
 mod rest;
