@@ -15,3 +15,4 @@ pub mod Reasons
 pub mod Servers
 pub mod Turning
 pub mod WordLemmas
+pub mod WordReasons
