@@ -16,3 +16,5 @@ pub mod Servers
 pub mod Turning
 pub mod WordLemmas
 pub mod WordReasons
+pub mod Looking
+pub mod Reported
