@@ -8,11 +8,11 @@ use Rattle.segmodel.specs.Words.{Begins, Entry, mine, pass_of}
 use Rattle.segmodel.proofs.LawLemmas.{earlier_legal}
 use Rattle.segcore.proofs.Standing.{legal}
 use Rattle.segbase.specs.Words.{number, seen, trace}
-use Rattle.segindex.specs.Words.{StoresBetween}
+use Rattle.segindex.specs.Words.{board_of, Index, shape_of, StoresBetween}
 use Rattle.segindex.proofs.LaterReads.{stored_stands}
-use Rattle.segclient.specs.declared.client.Client.{Client}
+use Rattle.segclient.specs.declared.member.Member.{Member}
 use Rattle.segclient.specs.declared.put.PutAnswer.TheVariants as put
-use Rattle.segclient.specs.Client.{board_of, shape_of}
+use Rattle.segclient.specs.Member.{IsMember}
 use Rattle.segclient.specs.Putting.{most_for_put}
 use Rattle.segclient.specs.Puts.{plan_for, Puts}
 use Rattle.segclient.proofs.Ways.{put_comes}
@@ -37,15 +37,15 @@ came_last pass entry others (e ∷ more) old all = ⊎_elim
     first [] = entry
     first (e ∷ l) = e
 
-pub put_stands : (key value : List ℕ) (old new : Client) → Puts key value put.Stored old new
-    → StoresBetween (shape_of old) (number old.pass) (Set key value old.clock) (seen old.pass) (seen new.pass)
-put_stands key value old new puts =
-    let z = shape_of old in let n = number old.pass in let request = Set key value old.clock in
-    let on = (put_comes (board_of old) (plan_for key value old) request refl (most_for_put z) put.Stored puts.effort old.pass new.pass old.quiet puts.puts).on in
+pub put_stands : (i : Index) (key value : List ℕ) (old new : Member) → IsMember i old → Puts key value put.Stored (board_of i) old new
+    → StoresBetween (shape_of i) (number old.pass) (Set key value old.clock) (seen old.pass) (seen new.pass)
+put_stands i key value old new member puts =
+    let z = shape_of i in let n = number old.pass in let request = Set key value old.clock in
+    let on = (put_comes (board_of i) (plan_for key value old) request refl (most_for_put z) put.Stored puts.effort old.pass new.pass member.0 puts.puts).on in
     let room = puts.adds.1 in let segment = puts.adds.2.0 in
     let entry = Wrote n request Stored (Some segment) in
     let added : mine n (seen new.pass) ≡ entry ∷ (room.more ++ mine n (seen old.pass)) =
-    ap (λ i. mine i (seen new.pass)) (sym on.same) ∙ puts.adds.2.1 ∙ ap (λ l. entry ∷ l) room.entries in
+    ap (λ m. mine m (seen new.pass)) (sym on.same) ∙ puts.adds.2.1 ∙ ap (λ l. entry ∷ l) room.entries in
     let came = came_last n entry room.more on.seen.0 (seen old.pass) (ap (mine n) (sym on.seen.1) ∙ added) in
     let entered = subst (Begins (entry ∷ came.0)) (sym on.seen.1) came.2 in
     record {

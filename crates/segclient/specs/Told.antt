@@ -2,15 +2,16 @@
 use Rattle.std.specs.Prelude.{ℕ, List}
 use Rattle.segmodel.specs.declared.request.Request.TheVariants.{Set}
 use Rattle.segbase.specs.Words.{number, seen}
-use Rattle.segindex.specs.Words.{StoresBetween}
-use Rattle.segclient.specs.declared.client.Client.{Client}
+use Rattle.segindex.specs.Words.{board_of, Index, shape_of, StoresBetween}
+use Rattle.segclient.specs.declared.member.Member.{Member}
 use Rattle.segclient.specs.declared.put.PutAnswer.TheVariants as put
-use Rattle.segclient.specs.Client.{shape_of}
+use Rattle.segclient.specs.Member.{IsMember}
 use Rattle.segclient.specs.Puts.{Puts}
 
 -- A put that is Stored came in at a moment of its call, and its value stood right after it.
 abbrev pub PutStands : Type 0
-PutStands = (key value : List ℕ) (old new : Client)
-    → Puts key value put.Stored old new
-    → StoresBetween (shape_of old) (number old.pass) (Set key value old.clock)
+PutStands = (i : Index) (key value : List ℕ) (old new : Member)
+    → IsMember i old
+    → Puts key value put.Stored (board_of i) old new
+    → StoresBetween (shape_of i) (number old.pass) (Set key value old.clock)
     (seen old.pass) (seen new.pass)
