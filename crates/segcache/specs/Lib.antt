@@ -2,10 +2,10 @@ pub mod Calls
 pub mod Ending
 pub mod Exports
 pub mod Made
-pub mod Member
 pub mod Owned
 pub mod Places
 pub mod Reading
+pub mod Row
 pub mod Setting
 pub mod Sharing
 pub mod Status
