@@ -1,10 +1,12 @@
 pub mod Calls
+pub mod Closing
 pub mod Ending
 pub mod Exports
 pub mod Made
 pub mod Owned
 pub mod Places
 pub mod Reading
+pub mod Returning
 pub mod Row
 pub mod Setting
 pub mod Sharing
