@@ -46,7 +46,8 @@ impl<'i> Client<'i> {
     }
 }
 
-/// A put that is Stored has a moment of its call right after which its value stood.
+/// A put that is Stored has a moment after the first step of its call,
+/// right after which its value stood.
 /// So what `what_stood_is_read` says of later gets is said of puts too.
 /// This function does nothing: its contract is the law.
 pub fn what_is_put_stands()

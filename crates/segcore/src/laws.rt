@@ -1,5 +1,5 @@
 //! The theorems of the core. Each function does nothing: its contract is the law.
-ghost use Rattle.std.specs.Prelude.{◌≡◌, ◌∷◌, ◌++◌, ℕ, List, [], Option, Some, None};
+ghost use Rattle.std.specs.Prelude.{◌≡◌, ◌∷◌, ◌++◌, ℕ, List, [], Option, Some, None, false};
 ghost use Rattle.segmodel.specs.Words.{after, present, standing};
 ghost use Rattle.segcore.specs.declared.cell.Cell.TheVariants.{OfCounter, OfBucket, OfOverflow};
 ghost use Rattle.segcore.specs.declared.cell.Cell.TheVariants.{OfSegment};
@@ -10,12 +10,14 @@ ghost use Rattle.segcore.specs.Word.{word};
 ghost use Rattle.segcore.specs.Mark.{marked};
 ghost use Rattle.segcore.specs.Scan.{IsScanOf};
 ghost use Rattle.segcore.specs.Standing.{cached};
-ghost use Rattle.segcore.specs.World.{Reaches};
+ghost use Rattle.segcore.specs.World.{Reaches, ReachesOn};
 ghost use Rattle.segcore.specs.Example.{shape, a, two, stored, bumped, moved, replaced};
 ghost use Rattle.segcore.specs.Example.{relinked, read};
-ghost use Rattle.segcore.specs.Example.{evicted, refilled, elsewhere, looks, view_of, after_steps};
-ghost use Rattle.segcore.specs.Example.{to_refilled};
+ghost use Rattle.segcore.specs.Example.{evicted, refilled, elsewhere, looks, view_in, after_steps};
+ghost use Rattle.segcore.specs.Example.{refusing, to_added, to_refilled, to_refused};
+ghost use Rattle.segcore.specs.Kind.{take};
 ghost use Rattle.segcore.specs.Laws.{EveryScheduleIsLawful, SightOnlyGrows, EveryScheduleSaysAll};
+ghost use Rattle.segcore.specs.Laws.{StepSeesAll, CallsAreInOrder};
 ghost use Rattle.segcore.specs.Laws.{ScanPassesAMiss, SeenHistoryIsLegal, MarksArePlaced};
 ghost use Rattle.segcore.specs.Laws.{MarksAreOrderly, MarksLeaveTheHistory, MarksCountTheChain};
 ghost use Rattle.segcore.specs.Laws.{LawfulKeyFacts, LawfulBucketFacts, LawfulSegmentFacts};
@@ -33,10 +35,15 @@ ghost use Rattle.segcore.specs.Laws.{FullChainHasAllItsKeys, ChainIsAsLongAsWide
 ghost use Rattle.segcore.specs.Laws.{FilledWordHasContent};
 
 /// Whatever steps the passes take, in whatever order, the world that they reach is lawful, and says
-/// all that a lawful world says. What each pass has seen only grows.
+/// all that a lawful world says. What each pass has seen only grows,
+/// and each step sees all that has happened.
+/// If all steps of one call come before all steps of another, of any passes,
+/// the other has seen from its first step on what the one had seen.
 pub fn every_schedule()
     ensures lawful { EveryScheduleIsLawful }
     ensures seen { SightOnlyGrows }
+    ensures whole { StepSeesAll }
+    ensures in_order { CallsAreInOrder }
     ensures says { EveryScheduleSaysAll }
 {}
 
@@ -136,6 +143,8 @@ pub fn keys_of_bucket()
 /// The example is lawful, and its words are those of the format. A scan for a key that moves on,
 /// and then goes, finds the key nowhere, and no word of it that names a row. Two passes reach the
 /// example by steps of each kind, and have then seen it up to different points.
+/// One call of it begins where others ended,
+/// and its two steps look at all that had happened by then.
 pub fn example()
     ensures lawful { IsLawful shape refilled }
     ensures item { (word shape stored (OfBucket 0 7) ≡ 0xaf60_1000_0000_0000)
@@ -164,6 +173,10 @@ pub fn example()
     ensures traced { (after_steps to_refilled).trace ≡ refilled }
     ensures waited { (word shape read (OfSegment 0) ≡ 0x9_0000_0001)
         × (word shape elsewhere (OfSegment 0) ≡ 0x9_0000_0000) }
-    ensures different { (after_steps to_refilled).views
-        ≡ view_of 0 refilled ∷ view_of 1 elsewhere ∷ [] }
+    ensures in_order { ReachesOn shape (after_steps to_added) refusing (after_steps to_refused)
+        × ((view_in (after_steps to_refused) 1).looks
+        ≡ (after_steps ((1, take 0 false) ∷ to_added)).trace ∷ (after_steps to_added).trace
+        ∷ (view_in (after_steps to_added) 1).looks) }
+    ensures different { ((view_in (after_steps to_refilled) 0).trace ≡ refilled)
+        × ((view_in (after_steps to_refilled) 1).trace ≡ elsewhere) }
 {}

@@ -7,7 +7,8 @@ use Rattle.segmodel.specs.Words.{bucket_of}
 use Rattle.segcore.specs.declared.event.Event.TheVariants.{Freed, Relinked, Took}
 use Rattle.segcore.specs.Words.{bucket_after, Event, frequency_of, item, row_after, RowGone, slot}
 use Rattle.segword.specs.Words.{Item}
-use Rattle.segbase.specs.Words.{AddsEvents, Board, number, Pass, trace, used_of, with_own}
+use Rattle.segbase.specs.Words.{AddsEvents, Board, HasStep, number, Pass, trace, used_of}
+use Rattle.segbase.specs.Words.{with_own}
 use Rattle.segstore.specs.Words.{fills, has_room, Idles, KeepsSegments}
 use Rattle.segpass.specs.Words.{AddsEntry, bounces, ChangesNothing, DrawsNothing, GoesOn, HasCleanBit}
 use Rattle.segpass.specs.Words.{IsBusy, memo, ReadsNothing}
@@ -24,6 +25,7 @@ use Rattle.segevict.specs.Tries.{TriesFor}
 -- The row's item has a frequency of which this is so.
 pub record SeesRow (b : Board) (segment row : ℕ) (IsSo : ℕ → Type 0) (p q : Pass) : Type 0 where
   pub idles : Idles b p q
+  pub looks : HasStep p q
   pub key : List ℕ
   pub linked : (row_after (trace q) segment row).linked ≡ Some key
   pub position : ℕ

@@ -1,6 +1,6 @@
 //! How many rows of a pass's own segments are used, and how many of these items name.
 ghost use Rattle.std.specs.Prelude.{◌≡◌, ◌≤◌, Some};
-ghost use Rattle.segbase.specs.Words.{used_of};
+ghost use Rattle.segbase.specs.Words.{HasStep, used_of};
 ghost use Rattle.segstore.specs.Words.{Idles};
 ghost use Rattle.segpass.specs.Words.{IsQuiet};
 ghost use Rattle.segevict.specs.Rows.{IsUsedRow};
@@ -23,6 +23,7 @@ fn is_named(board: &Board, pass: &mut Pass, segment: u32, row: u32) -> bool
     requires quiet { IsQuiet board.now pass.old }
     requires used { IsUsedRow segment row pass.old }
     ensures idles { Idles board.now pass.old pass.new }
+    ensures looks { HasStep pass.old pass.new }
     ensures told { TellsNamed board.now.shape segment row result pass.new }
 {
     let (bucket, item) = item_of_row(board, pass, segment, row);

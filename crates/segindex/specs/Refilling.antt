@@ -5,7 +5,7 @@ use Rattle.segmodel.specs.Words.{RefillAnswer}
 use Rattle.segmodel.specs.declared.answer.RefillAnswer.TheVariants as refill
 use Rattle.segmodel.specs.declared.answer.SegState.TheVariants.{InUse, Evicted}
 use Rattle.segcore.specs.Words.{inside}
-use Rattle.segbase.specs.Words.{Board, holding, number, Pass, state_of, trace}
+use Rattle.segbase.specs.Words.{Board, HasStep, holding, number, Pass, state_of, trace}
 use Rattle.segstore.specs.Words.{refilled}
 use Rattle.segpass.specs.Words.{AddsEntry, ChangesNothing, CostsNothing, GoesOn, is_held_in, memo}
 
@@ -25,11 +25,13 @@ IsBeingRead segment p =
     ((other : ℕ) × (other ≢ number p) × (0 < inside (trace p) other segment))
     ⊎ (is_held_in (holding p) segment ≡ true)
 
+-- It is Held only if the pass tried.
 abbrev pub IsRefillAnswer : ℕ → ℕ → RefillAnswer → Pass → Pass → Type 0
 IsRefillAnswer segment deadline refill.Refilled p q = Refills segment deadline p q
 IsRefillAnswer segment deadline refill.NotYours p q = q ≡ p
 IsRefillAnswer segment deadline refill.NotEvicted p q = q ≡ p
-IsRefillAnswer segment deadline refill.Held p q = ChangesNothing p q × IsBeingRead segment q
+IsRefillAnswer segment deadline refill.Held p q =
+    ChangesNothing p q × IsBeingRead segment q × HasStep p q
 
 -- A refill is answered so: NotYours exactly if the segment isn't one of the pass's own,
 -- and NotEvicted exactly if it is in use.

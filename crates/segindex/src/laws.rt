@@ -7,7 +7,8 @@ ghost use Rattle.segindex.specs.Laws.{KeysAreFew, ChainsAreShort, AllAreOwn, NoT
 ghost use Rattle.segindex.specs.Laws.{NoLookGlanced, NobodyIsInside, BusyIsLocked, DrawnHaveJoined};
 ghost use Rattle.segindex.specs.Laws.{KeptAllLeavesNone, NothingIsStirred, WritesAtAMoment, DeletesAtAMoment};
 ghost use Rattle.segindex.specs.Laws.{CasFailsWhereWrittenSince, CasCalledLaterFails};
-ghost use Rattle.segindex.specs.LaterReads.{NotedIsRead, StoodIsRead, StoredStands};
+ghost use Rattle.segindex.specs.LaterReads.{NotedIsRead, SeenIsRead, StoodIsRead, StoredStands};
+ghost use Rattle.segindex.specs.Order.{PointsAreInOrder};
 
 /// What a quiet pass has seen is a history of a cache of one thread, with marks.
 /// The pass knows just its own segments,
@@ -59,6 +60,14 @@ pub fn replies_at_a_moment()
     ensures deletes { DeletesAtAMoment }
 {}
 
+/// If all steps of one call come before all steps of another, of any passes,
+/// then no moment for which the one is answered is later than any for which the other is.
+/// So calls that are one entry or one read have an order that fits their order in time:
+/// an entry comes where it stands in the history, and a read right after its moment.
+pub fn calls_are_in_order()
+    ensures points { PointsAreInOrder }
+{}
+
 /// A cas that expects the version that a gets of its key gave, and that is entered later,
 /// is NotFound if the key is absent then.
 /// Otherwise the cas is Exists exactly if the numbers of its bucket's writes
@@ -70,12 +79,13 @@ pub fn cas_fails_where_written()
 {}
 
 /// A write that is Stored has a moment of its call right after which its value stood.
-/// If a pass had seen such a moment when it called, its get of the key finds this value,
-/// or another one that was stored since.
+/// If the first step of a get of the key saw such a moment, or the pass had seen it when it called,
+/// the get finds this value, or another one that was stored since.
 /// It is a Miss only if the key was deleted or evicted since, or its deadline had come.
 /// A pass has seen such a moment also if it learned a note that has the moment.
 pub fn what_stood_is_read()
     ensures stored { StoredStands }
+    ensures seen { SeenIsRead }
     ensures stood { StoodIsRead }
     ensures noted { NotedIsRead }
 {}

@@ -22,8 +22,8 @@ mod write;
 pub use close::OutOfMemory;
 pub use index::Index;
 pub use laws::{
-    cas_fails_where_written, keep_of_all, one_pass, quiet_pass, replies_at_a_moment,
-    what_stood_is_read,
+    calls_are_in_order, cas_fails_where_written, keep_of_all, one_pass, quiet_pass,
+    replies_at_a_moment, what_stood_is_read,
 };
 pub use segbase::{MakeFault, Note, Pass};
 pub use segmodel::{

@@ -6,7 +6,7 @@ use Rattle.segmodel.specs.declared.answer.SegState.TheVariants.{InUse}
 use Rattle.segcore.specs.declared.event.Event.TheVariants as event
 use Rattle.segcore.specs.Words.{inside}
 use Rattle.segbase.specs.declared.pass.Plain.{Plain}
-use Rattle.segbase.specs.Words.{AddsEvents, Board, number, Pass, sight, state_of, trace}
+use Rattle.segbase.specs.Words.{AddsEvents, Board, HasStep, number, Pass, sight, state_of, trace}
 use Rattle.segbase.specs.Words.{with_current, with_deadline, with_state, with_used}
 
 -- the pass did nothing, and keeps what it kept
@@ -29,10 +29,10 @@ pub record FillsAnew (b : Board) (segment deadline : ℕ) (p q : Pass) : Type 0 
   pub memo : (sight q).memo ≡ (sight p).memo
 
 -- A segment of another pass, or one in use, is left as it is, without a step.
--- If the answer is Held, some pass is in the segment at that moment.
+-- If the answer is Held, the refilling was tried, and some pass is in the segment at that moment.
 abbrev pub IsOutcome : Board → ℕ → ℕ → RefillAnswer → Pass → Pass → Type 0
 IsOutcome b segment deadline Refilled p q = FillsAnew b segment deadline p q
 IsOutcome b segment deadline NotYours p q = q ≡ p
 IsOutcome b segment deadline NotEvicted p q = q ≡ p
 IsOutcome b segment deadline Held p q =
-    Idles b p q × ((other : ℕ) × (0 < inside (trace q) other segment))
+    Idles b p q × ((other : ℕ) × (0 < inside (trace q) other segment)) × HasStep p q

@@ -21,6 +21,10 @@ returns-then-ne-clause-serves c =
       course = c.remember.ensures.course ∙ ap (course_after told) c.ask-answer.ensures.course;
     })
 
+pub returns-then-not-make_room-clause-on : goal.returns-then-not-make_room-clause-on
+returns-then-not-make_room-clause-on c =
+    goes_then c.args.index.now.board c.args.self.now.pass c.ask-answer.new.self.pass c.make_room.new.self.pass c.ask-answer.ensures.on c.make_room.ensures.on
+
 pub returns-then-not-make_room-clause-serves : goal.returns-then-not-make_room-clause-serves
 returns-then-not-make_room-clause-serves c =
     let b = c.args.index.now.board in let p = c.args.self.now.pass in let q = c.ask-answer.new.self.pass in let r = c.make_room.new.self.pass in let load = c.args.load in let told = c.ask-answer.result in
