@@ -3,33 +3,38 @@ use Rattle.std.specs.Prelude.{◌≡◌, ℕ, ◌<◌, Bool, List, length, slice
 use Rattle.segword.specs.Words.{IsValid, Shape}
 use Rattle.segmodel.specs.Words.{after, Cache, Entry, mine}
 use Rattle.segbase.specs.Words.{Board, IsMakeFault, IsNewPass, Pass}
-use Rattle.segindex.specs.Words.{AnswersCommand, IsEndOfAll}
+use Rattle.segindex.specs.Words.{AnswersCommand, IsEndOfAll, TellsStats}
 use Rattle.segpolicy.specs.Words.{draws_of}
 use Rattle.segload.specs.declared.fault.LoadFault.{LoadFault}
 use Rattle.segload.specs.declared.fault.LoadFault.TheVariants.{Make, Stopped, OutOfMemory}
 use Rattle.segload.specs.declared.totals.PassTotals.{PassTotals}
 use Rattle.segload.specs.declared.totals.Totals.{Totals}
 use Rattle.segload.specs.Gates.{IsToldOf, LetsThrough, RanToEnd, Stops}
-use Rattle.segload.specs.Counting.{all_of, CountsReplies}
+use Rattle.segload.specs.Counting.{all_of, CountsRecycled, CountsReplies}
 use Rattle.segload.specs.Making.{ClientState, Makes, start_of}
 use Rattle.segload.specs.Calls.{MakesCalls}
 
 -- The tallies of a pass count `asked` commands, each once.
 -- These are the first ones of the pass's workload.
 -- The workload is drawn with the seed from the stream of the pass's number, over so many keys.
--- Each command is the calls of the index that it names. They lead from a new pass to this one.
+-- Each command is the calls of the index that it names.
+-- They lead from a new pass to the pass `done`. One look at the table leads from there to this one.
 -- The commands make the tallies and the pass's own entries in the history.
 -- The five tallies of replies count the pass's own writes there.
+-- Evictions and refillings are as many as the pass's own entries of these kinds.
 pub record CountsCommands (b : Board) (seed keys asked pass : ℕ) (history : List Entry)
     (last : Pass) (totals : PassTotals) : Type 0 where
   pub commands : totals.commands ≡ asked
   pub all : all_of totals.tallies ≡ asked
   pub replies : CountsReplies totals.tallies (mine pass history)
+  pub recycled : CountsRecycled totals.recycled (mine pass history)
   pub first : Pass
   pub new : IsNewPass b pass first
   pub course : ClientState
+  pub done : Pass
   pub calls : MakesCalls (AnswersCommand b) (draws_of seed pass keys) (start_of b.shape pass) first
-      asked totals.tallies course last
+      asked totals.tallies course done
+  pub table : TellsStats b totals.table done last
   pub made : Makes b.shape history pass (draws_of seed pass keys) asked totals.tallies course
       (mine pass history)
 

@@ -128,7 +128,7 @@ fn command_line<'a>(alloc: Global) -> Result<Command<'a>, AllocError> {
     let gets = gets.value_parser(value_parser!(u32));
     let retention = Command::new(alloc, "retention").about(RETENTION).arg(gets)?;
     let mut command = Command::new(alloc, "segtime")
-        .version("0.1.0")
+        .version("0.2.0")
         .about(ABOUT)
         .after_help(AFTER)
         .no_binary_name(true)
