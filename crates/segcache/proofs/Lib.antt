@@ -5,5 +5,6 @@ pub mod Members
 pub mod Noted
 pub mod Placed
 pub mod Released
+pub mod Returned
 pub mod Rows
 pub mod Values

@@ -1,11 +1,13 @@
 pub mod Calls
+pub mod Closing
 pub mod Ending
 pub mod Exports
 pub mod Made
-pub mod Member
 pub mod Owned
 pub mod Places
 pub mod Reading
+pub mod Returning
+pub mod Row
 pub mod Setting
 pub mod Sharing
 pub mod Status

@@ -4,13 +4,13 @@ use Rattle.segmodel.specs.Words.{GetAnswer, GetsAnswer}
 use Rattle.segmodel.specs.declared.answer.GetAnswer.TheVariants as get
 use Rattle.segmodel.specs.declared.answer.GetsAnswer.TheVariants as gets
 use Rattle.segread.specs.Words.{HeldRow}
+use Rattle.segclient.specs.Made.{Gets, GetsVersion}
 use Rattle.segcache.specs.declared.client.SharedClient.{SharedClient}
 use Rattle.segcache.specs.declared.kept.Kept.{Kept}
 use Rattle.segcache.specs.declared.status.Status.{Status}
 use Rattle.segcache.specs.declared.status.Status.TheVariants as status
 use Rattle.segcache.specs.Calls.{At, EndsItsHold, HoldsAt, MakesCall, ReadsHeld}
 use Rattle.segcache.specs.Exports.{ByClient, ByKey, CopiesOut, Out, Tells, WritesNothing}
-use Rattle.segcache.specs.Made.{Gets, GetsVersion}
 
 -- a value that was found is copied out
 abbrev pub TellsGet : GetAnswer → Status → Out → Out → Type 0

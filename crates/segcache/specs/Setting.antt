@@ -3,20 +3,21 @@ use Rattle.std.specs.Prelude.{◌≡◌, ◌==◌, ℕ, min, if◌then◌else◌
 use Rattle.std.specs.Prelude.{Option, Some, None}
 use Rattle.segindex.specs.declared.table_stats.IndexStats.{IndexStats}
 use Rattle.segclient.specs.declared.stats.Stats.{Stats}
-use Rattle.segclient.specs.Client.{SetsCutoff, SetsTimeToLive}
+use Rattle.segclient.specs.Made.{TellsTable}
+use Rattle.segclient.specs.Member.{SetsCutoff, SetsTimeToLive}
+use Rattle.segclient.specs.Puts.{MakesRoomFor}
 use Rattle.segcache.specs.declared.kept.Kept.{Kept}
 use Rattle.segcache.specs.declared.settings.ClientStats.{ClientStats}
 use Rattle.segcache.specs.declared.settings.TableStats.{TableStats}
 use Rattle.segcache.specs.declared.status.Status.{Status}
 use Rattle.segcache.specs.declared.status.Status.TheVariants as status
-use Rattle.segcache.specs.Calls.{At, MakesCall, TellsStats}
+use Rattle.segcache.specs.Calls.{At, MakesCall}
 use Rattle.segcache.specs.Exports.{ByClient, Tells}
-use Rattle.segcache.specs.Made.{GetsRoom, TellsTable}
 
 abbrev pub SetTimeToLive : ℕ → Option Kept → Option Kept → Status → Type 0
 SetTimeToLive seconds before after told =
     ByClient (Tells told)
-    (λ old new. (told ≡ status.Ok) × MakesCall (SetsTimeToLive seconds) old new) before after
+    (λ old new. (told ≡ status.Ok) × MakesCall (λ b. SetsTimeToLive seconds) old new) before after
 
 -- a number of C's as a cutoff: 0 keeps nothing, and what has no 8 bits counts as 255
 abbrev pub cutoff_of : ℕ → Option ℕ
@@ -25,7 +26,7 @@ cutoff_of number = if number == 0 then None else Some (min number 255)
 abbrev pub KeptFrom : ℕ → Option Kept → Option Kept → Status → Type 0
 KeptFrom number before after told =
     ByClient (Tells told)
-    (λ old new. (told ≡ status.Ok) × MakesCall (SetsCutoff (cutoff_of number)) old new)
+    (λ old new. (told ≡ status.Ok) × MakesCall (λ b. SetsCutoff (cutoff_of number)) old new)
     before after
 
 abbrev pub room_status : Bool → Status
@@ -35,7 +36,7 @@ room_status false = status.NoRoom
 abbrev pub MadeRoom : ℕ → Option Kept → Option Kept → Status → Type 0
 MadeRoom now before after told =
     ByClient (Tells told)
-    (λ old new. (made : Bool) × MakesCall (At now (GetsRoom made)) old new
+    (λ old new. (made : Bool) × MakesCall (At now (MakesRoomFor made)) old new
     × (told ≡ room_status made)) before after
 
 -- the counts as C has them
@@ -59,8 +60,8 @@ counts_of stats = record {
 abbrev pub Counted : Option Kept → Option Kept → ClientStats → ClientStats → Status → Type 0
 Counted before after counts next told =
     ByClient (λ why. Tells told why × (next ≡ counts))
-    (λ old new. (stats : Stats) × TellsStats stats old new × (next ≡ counts_of stats)
-    × (told ≡ status.Ok)) before after
+    (λ old new. (next ≡ counts_of old.member.stats) × (new ≡ old) × (told ≡ status.Ok))
+    before after
 
 abbrev pub table_of : IndexStats → TableStats
 table_of stats = record {

@@ -1,6 +1,7 @@
 -- What the exports of notes do.
 use Rattle.std.specs.Prelude.{◌≡◌, ◌⊎◌, Bool, true, false, Option, Some, None}
 use Rattle.segindex.specs.Words.{board_of, IsNoteOf, Note}
+use Rattle.segclient.specs.Made.{Learns, Notes}
 use Rattle.segcache.specs.declared.client.SharedClient.{SharedClient}
 use Rattle.segcache.specs.declared.kept.Kept.{Kept}
 use Rattle.segcache.specs.declared.kept.Kept.TheVariants as kept
@@ -8,7 +9,6 @@ use Rattle.segcache.specs.declared.status.Status.{Status}
 use Rattle.segcache.specs.declared.status.Status.TheVariants as status
 use Rattle.segcache.specs.Calls.{MakesCall}
 use Rattle.segcache.specs.Exports.{ByClient, Tells}
-use Rattle.segcache.specs.Made.{Learns, Notes}
 
 -- the note stands in its handle, unless the memory for it was refused
 abbrev pub KeepsNote : Note → Status → Option Kept → Option Kept → Type 0

@@ -5,6 +5,8 @@ use Rattle.segmodel.specs.declared.answer.DeleteAnswer.TheVariants as delete
 use Rattle.segmodel.specs.declared.answer.WriteAnswer.TheVariants as write
 use Rattle.segclient.specs.declared.put.PutAnswer.{PutAnswer}
 use Rattle.segclient.specs.declared.put.PutAnswer.TheVariants as put
+use Rattle.segclient.specs.Made.{DeletesKey}
+use Rattle.segclient.specs.Puts.{Puts}
 use Rattle.segcache.specs.declared.client.SharedClient.{SharedClient}
 use Rattle.segcache.specs.declared.kept.Kept.{Kept}
 use Rattle.segcache.specs.declared.status.Status.{Status}
@@ -12,7 +14,7 @@ use Rattle.segcache.specs.declared.status.Status.TheVariants as status
 use Rattle.segcache.specs.declared.when.When.{When}
 use Rattle.segcache.specs.Calls.{At, MakesCall}
 use Rattle.segcache.specs.Exports.{ByClient, ByKey, ByValue, Tells}
-use Rattle.segcache.specs.Made.{DeletesKey, PutsValue, WritesWhen}
+use Rattle.segcache.specs.Made.{WritesWhen}
 
 -- the status of each answer
 abbrev pub put_status : PutAnswer → Status
@@ -39,7 +41,7 @@ delete_status delete.Busy = status.Busy
 pub record MakesPut (key value : List ℕ) (now : ℕ) (told : Status) (old new : SharedClient)
     : Type 0 where
   pub answer : PutAnswer
-  pub calls : MakesCall (At now (PutsValue key value answer)) old new
+  pub calls : MakesCall (At now (Puts key value answer)) old new
   pub tells : told ≡ put_status answer
 
 abbrev pub Put : List ℕ → List ℕ → ℕ → Option Kept → Option Kept → Status → Type 0

@@ -9,7 +9,7 @@ use crate::client::SharedClient;
 use crate::handle::Handle;
 use crate::kept::Kept;
 use crate::status::Status;
-use segclient::{Index, MakeFault, Pass, Shape, clients};
+use segclient::{Index, MakeFault, Member, Pass, Shape};
 use std::alloc::{AllocError, Global};
 use std::sync::Arc;
 
@@ -107,10 +107,9 @@ fn guests(
     requires quiet { All (IsQuiet (board_of index.now.value)) passes.items }
     requires bare { All (λ p. holding p ≡ None) passes.items }
 {
-    let clients = clients(alloc, index, passes)?;
-    let mut guests = Vec::with_capacity(alloc, clients.len())?;
-    for client in clients {
-        let guest = SharedClient::new(Arc::try_clone(index)?, client.rest());
+    let mut guests = Vec::with_capacity(alloc, passes.len())?;
+    for pass in passes {
+        let guest = SharedClient::new(Arc::try_clone(index)?, Member::new(index, pass));
         let Ok(boxed) = Box::new(alloc, Kept::Client(guest)) else {
             return Err(AllocError);
         };

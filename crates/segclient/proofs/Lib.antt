@@ -1,4 +1,5 @@
 pub mod Calls
+pub mod Members
 pub mod Order
 pub mod Places
 pub mod Rooms

@@ -12,11 +12,11 @@ use Rattle.segcore.proofs.Moments.{seen_begins}
 use Rattle.segcore.proofs.Standing.{legal}
 use Rattle.segbase.specs.Words.{number, seen, SinceFirst, TakesSteps, trace}
 use Rattle.segpass.specs.Words.{GoesOn}
-use Rattle.segindex.specs.Words.{StoresBetween}
+use Rattle.segindex.specs.Words.{board_of, Index, shape_of, StoresBetween}
 use Rattle.segindex.proofs.LaterReads.{stored_stands}
-use Rattle.segclient.specs.declared.client.Client.{Client}
+use Rattle.segclient.specs.declared.member.Member.{Member}
 use Rattle.segclient.specs.declared.put.PutAnswer.TheVariants as put
-use Rattle.segclient.specs.Client.{board_of, shape_of}
+use Rattle.segclient.specs.Member.{IsMember}
 use Rattle.segclient.specs.Putting.{most_for_put}
 use Rattle.segclient.specs.Puts.{plan_for, Puts}
 use Rattle.segclient.proofs.Ways.{put_comes}
@@ -41,12 +41,12 @@ came_last pass entry others (e ∷ more) old all = ⊎_elim
     first [] = entry
     first (e ∷ l) = e
 
-pub put_stands : (key value : List ℕ) (old new : Client) → Puts key value put.Stored old new
-    → SinceFirst old.pass new.pass (λ start. StoresBetween (shape_of old) (number old.pass) (Set key value old.clock) (event.seen start) (seen new.pass))
-put_stands key value old new puts = by on.steps
+pub put_stands : (i : Index) (key value : List ℕ) (old new : Member) → IsMember i old → Puts key value put.Stored (board_of i) old new
+    → SinceFirst old.pass new.pass (λ start. StoresBetween (shape_of i) (number old.pass) (Set key value old.clock) (event.seen start) (seen new.pass))
+put_stands i key value old new member puts = by on.steps
   where
-    on : GoesOn (board_of old) old.pass new.pass
-    on = (put_comes (board_of old) (plan_for key value old) (Set key value old.clock) refl (most_for_put (shape_of old)) put.Stored puts.effort old.pass new.pass old.quiet puts.puts).on
+    on : GoesOn (board_of i) old.pass new.pass
+    on = (put_comes (board_of i) (plan_for key value old) (Set key value old.clock) refl (most_for_put (shape_of i)) put.Stored puts.effort old.pass new.pass member.0 puts.puts).on
 
     n : ℕ
     n = number old.pass
@@ -60,9 +60,9 @@ put_stands key value old new puts = by on.steps
     added : mine n (seen new.pass) ≡ stored ∷ (others ++ mine n (seen old.pass))
     added = ap (λ i. mine i (seen new.pass)) (sym on.same) ∙ puts.adds.2.1 ∙ ap (λ l. stored ∷ l) puts.adds.1.entries
 
-    by : TakesSteps old.pass new.pass → SinceFirst old.pass new.pass (λ start. StoresBetween (shape_of old) n (Set key value old.clock) (event.seen start) (seen new.pass))
+    by : TakesSteps old.pass new.pass → SinceFirst old.pass new.pass (λ start. StoresBetween (shape_of i) n (Set key value old.clock) (event.seen start) (seen new.pass))
     by (inl (start, s)) =
-        let z = shape_of old in let first = event.seen start in
+        let z = shape_of i in let first = event.seen start in
         let up : Begins first (seen new.pass) = seen_begins start (trace new.pass) s.until in
         let before : mine n first ≡ mine n (seen old.pass) = ap (λ h. mine n (event.seen h)) s.since ∙ mine_others n s.others (trace old.pass) s.none in
         let came = came_last n stored others up.0 first (ap (mine n) (sym up.1) ∙ (added ∙ ap (λ l. stored ∷ (others ++ l)) (sym before))) in

@@ -56,7 +56,7 @@ pub fn into_passes(
     requires all { AreAllClients index.now clients.items }
     ensures all { IfOk result (λ passes. AreAllQuiet (board_of index.now) passes.items) }
     ensures passes { IfOk result (λ passes.
-        passes.items ≡ map (λ client. client.pass) clients.entry.items) }
+        passes.items ≡ map (λ client. client.member.pass) clients.entry.items) }
 {
     let mut passes = Vec::with_capacity(alloc, clients.len())?;
     for client in clients {

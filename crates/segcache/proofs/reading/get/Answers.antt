@@ -6,7 +6,7 @@ use Rattle.segcache.specs.declared.status.Status.{Status}
 use Rattle.segcache.specs.declared.status.Status.TheVariants as status
 use Rattle.segcache.specs.Exports.{ByKey, WritesNothing}
 use Rattle.segcache.specs.Calls.{At, MakesCall}
-use Rattle.segcache.specs.Made.{Gets}
+use Rattle.segclient.specs.Made.{Gets}
 use Rattle.segcache.specs.Reading.{MakesGet}
 use Rattle.segcache.proofs.Answering.{bad_key, by_client, good_key}
 use Rattle.segcache.proofs.reading.get.Goals as goal

@@ -6,7 +6,7 @@ use Rattle.segcache.specs.declared.status.Status.TheVariants as status
 use Rattle.segcache.specs.Exports.{Tells}
 use Rattle.segindex.specs.declared.table_stats.IndexStats.{IndexStats}
 use Rattle.segcache.specs.Calls.{MakesCall}
-use Rattle.segcache.specs.Made.{TellsTable}
+use Rattle.segclient.specs.Made.{TellsTable}
 use Rattle.segcache.specs.Setting.{table_of}
 use Rattle.segcache.proofs.Answering.{by_client}
 use Rattle.segcache.proofs.settings.index_stats.Goals as goal

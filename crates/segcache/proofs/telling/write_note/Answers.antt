@@ -7,7 +7,7 @@ use Rattle.segcache.specs.declared.status.Status.TheVariants as status
 use Rattle.segcache.specs.declared.kept.Kept.{Kept}
 use Rattle.segcache.specs.Calls.{MakesCall}
 use Rattle.segcache.specs.Exports.{Tells}
-use Rattle.segcache.specs.Made.{Notes}
+use Rattle.segclient.specs.Made.{Notes}
 use Rattle.segcache.specs.Telling.{KeepsNote}
 use Rattle.segcache.proofs.Answering.{by_client}
 use Rattle.segcache.proofs.telling.write_note.Goals as goal

@@ -6,7 +6,7 @@ use Rattle.segcache.specs.declared.status.Status.{Status}
 use Rattle.segcache.specs.declared.status.Status.TheVariants as status
 use Rattle.segcache.specs.Exports.{ByKey, Tells}
 use Rattle.segcache.specs.Calls.{At, MakesCall}
-use Rattle.segcache.specs.Made.{DeletesKey}
+use Rattle.segclient.specs.Made.{DeletesKey}
 use Rattle.segcache.specs.Writing.{MakesDelete}
 use Rattle.segcache.proofs.Answering.{bad_key, by_client, good_key}
 use Rattle.segcache.proofs.writing.delete.Goals as goal

@@ -6,7 +6,7 @@ use Rattle.segcache.specs.declared.status.Status.{Status}
 use Rattle.segcache.specs.declared.status.Status.TheVariants as status
 use Rattle.segcache.specs.Exports.{ByKey, ByValue, Tells}
 use Rattle.segcache.specs.Calls.{At, MakesCall}
-use Rattle.segcache.specs.Made.{PutsValue}
+use Rattle.segclient.specs.Puts.{Puts}
 use Rattle.segcache.specs.Writing.{MakesPut}
 use Rattle.segcache.proofs.Answering.{bad_key, bad_value, by_client, good_key, good_value}
 use Rattle.segcache.proofs.writing.put.Goals as goal
@@ -41,7 +41,7 @@ returns c =
     (good_value R c.args.value.now Makes c.in-Client.client c.put.new.self (c.in-Some-new.ensures.variant.0 refl)
     (record {
       answer = c.put.result;
-      calls = subst (λ (k : List ℕ). MakesCall (At c.args.now (PutsValue k c.args.value.now c.put.result)) c.in-Client.client c.put.new.self) c.in-Some.ensures.some
-          (subst (λ (v : List ℕ). MakesCall (At c.args.now (PutsValue c.in-Some.key v c.put.result)) c.in-Client.client c.put.new.self) c.in-Some-new.ensures.some c.put.ensures);
+      calls = subst (λ (k : List ℕ). MakesCall (At c.args.now (Puts k c.args.value.now c.put.result)) c.in-Client.client c.put.new.self) c.in-Some.ensures.some
+          (subst (λ (v : List ℕ). MakesCall (At c.args.now (Puts c.in-Some.key v c.put.result)) c.in-Client.client c.put.new.self) c.in-Some-new.ensures.some c.put.ensures);
       tells = c.of_put.ensures;
     })))

@@ -1,0 +1,70 @@
+-- How a cache closes: with its content listed, refused, or gone.
+use Rattle.std.specs.Prelude.{◌≡◌, ◌⊎◌, ℕ, List, map, All, IsSome, Option, Some, None}
+use Rattle.segbase.specs.Words.{Pass}
+use Rattle.segindex.specs.Words.{IsContentOfAll, shape_of}
+use Rattle.segcache.specs.declared.cache.Cache.{Cache}
+use Rattle.segcache.specs.declared.cache.End.{End}
+use Rattle.segcache.specs.declared.cache.End.TheVariants as end
+use Rattle.segcache.specs.declared.closing.Closing.{Closing}
+use Rattle.segcache.specs.declared.closing.Closing.TheVariants as closing
+use Rattle.segcache.specs.declared.cursor.Cursor.{Cursor}
+use Rattle.segcache.specs.declared.kept.Kept.{Kept}
+use Rattle.segcache.specs.declared.kept.Kept.TheVariants as kept
+use Rattle.segcache.specs.declared.status.Status.{Status}
+use Rattle.segcache.specs.declared.status.Status.TheVariants as status
+use Rattle.segcache.specs.Ending.{AreAllBack}
+
+-- each client is back, and this is the content of the index that its passes close
+pub record ListsContent (home : Cache) (pairs : List (List ℕ × List ℕ)) : Type 0 where
+  pub passes : List Pass
+  pub all : map Some passes ≡ home.places.items
+  pub content : IsContentOfAll (shape_of home.index.value) passes pairs
+
+-- it is the cache that it was
+pub record IsSameCache (old new : Cache) : Type 0 where
+  pub index : new.index ≡ old.index
+  pub places : new.places ≡ old.places
+
+-- A client is out, or was copied while it was out. Or each is back, and memory was refused.
+abbrev pub IsRefusal : Cache → Status → Type 0
+IsRefusal home why =
+    (why ≡ status.ClientOut) ⊎ ((why ≡ status.OutOfMemory) × All IsSome home.places.items)
+
+abbrev pub EndsAs : Cache → End → Type 0
+EndsAs home (end.Content pairs) = ListsContent home pairs.items
+EndsAs home (end.Refused cache why) = IsSameCache home cache × IsRefusal home why
+EndsAs home end.Gone = All IsSome home.places.items
+
+-- ---- by what a handle keeps
+
+-- the cache became a cursor before the first pair of its content
+abbrev pub IsListOf : Kept → Kept → Type 0
+IsListOf (kept.Cache home) now =
+    (list : Cursor) × (now ≡ kept.Cursor list) × (list.told ≡ 0) × ListsContent home list.pairs.items
+IsListOf was now = ⊥
+
+-- the cache is as it was, and so is what is none
+abbrev pub IsRefused : Kept → Kept → Status → Type 0
+IsRefused (kept.Cache home) now why =
+    (cache : Cache) × (now ≡ kept.Cache cache) × IsSameCache home cache × IsRefusal home why
+IsRefused was now why = (why ≡ status.NoHandle) × (now ≡ was)
+
+abbrev pub ClosesAs : Kept → Kept → Closing → Type 0
+ClosesAs was now closing.Listed = IsListOf was now
+ClosesAs was now (closing.Refused why) = IsRefused was now why
+ClosesAs was now closing.Gone = AreAllBack was
+
+-- ---- by both handles
+
+-- Ok: the handle of the cache is empty, and that of the cursor has the list.
+-- Else the cursor's is as it was. Refused: the cache's too. Or memory for the list was refused,
+-- and the cache is gone.
+abbrev pub Closes : Kept → Option Kept → Option Kept → Option Kept → Status → Type 0
+Closes was after cursor next told =
+    ((told ≡ status.Ok) × (after ≡ None) × ((now : Kept) × (next ≡ Some now) × IsListOf was now))
+    ⊎ ((next ≡ cursor) × ((now : Kept) × (after ≡ Some now) × IsRefused was now told))
+    ⊎ ((told ≡ status.OutOfMemory) × (after ≡ None) × (next ≡ cursor) × AreAllBack was)
+
+abbrev pub Closed : Option Kept → Option Kept → Option Kept → Option Kept → Status → Type 0
+Closed (Some was) after cursor next told = Closes was after cursor next told
+Closed None after cursor next told = (told ≡ status.NoHandle) × (after ≡ None) × (next ≡ cursor)
