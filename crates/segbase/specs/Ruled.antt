@@ -118,7 +118,7 @@ abbrev pub IsStepOutcome : {S : Type 0} → Shape → Step → TableStep S → M
 IsStepOutcome shape step _ me found me' = Learns shape step found me.0 me'.0 × (me'.1 ≡ me.1)
 
 -- a store isn't told what it found
-abbrev pub TellsStored : {S : Type 0} → Shape → Step → TableStep S → Me S Sight → ℕ → Me S Sight
+abbrev pub ReturnsStored : {S : Type 0} → Shape → Step → TableStep S → Me S Sight → ℕ → Me S Sight
     → Type 0
-TellsStored shape step _ me _ me' =
+ReturnsStored shape step _ me _ me' =
     ((found : ℕ) × Learns shape step found me.0 me'.0) × (me'.1 ≡ me.1)

@@ -6,7 +6,7 @@ use Rattle.segcache.specs.declared.kept.Kept.{Kept}
 use Rattle.segcache.specs.declared.kept.Kept.TheVariants as kept
 use Rattle.segcache.specs.declared.status.Status.{Status}
 use Rattle.segcache.specs.declared.status.Status.TheVariants as status
-use Rattle.segcache.specs.Ending.{Freed, FreesCache, FreesCursor, is_cursor, Listed, TellsNext}
+use Rattle.segcache.specs.Ending.{Freed, FreesCache, FreesCursor, is_cursor, Listed, ReturnsNext}
 use Rattle.segcache.specs.Exports.{Out}
 
 frees : (was : Kept) → is_cursor was ≡ true → FreesCursor (Some was) None status.Ok
@@ -36,6 +36,6 @@ freed_cache before after was told from frees = subst (λ (b : Option Kept). Free
 
 -- a cursor told its next pair
 pub listed : (was is : Kept) (old new : Cursor) (key key' value value' : Out) (told : Status) → was ≡ kept.Cursor old → is ≡ kept.Cursor new
-    → TellsNext (slice_get old.pairs.items old.told) old new key key' value value' told → Listed (Some was) (Some is) key key' value value' told
+    → ReturnsNext (slice_get old.pairs.items old.told) old new key key' value value' told → Listed (Some was) (Some is) key key' value value' told
 listed was is old new key key' value value' told from into tells =
     subst (λ (k : Kept). Listed (Some k) (Some is) key key' value value' told) (sym from) (new, ap (λ (k : Kept). Some k) into, tells)

@@ -13,7 +13,7 @@ use Rattle.segread.specs.Words.{HeldRow, Hold, HoldsItem, IsHoldOf, IsOfRow}
 use Rattle.segread.proofs.HoldCalls.{stays}
 use Rattle.segwrite.specs.Words.{Deletes, IsDeleteAnswer, IsWriteAnswer, Writes}
 use Rattle.segcache.specs.declared.status.Status.{Status}
-use Rattle.segcache.specs.Calls.{TellsHold}
+use Rattle.segcache.specs.Calls.{ReturnsHold}
 use Rattle.segcache.specs.Row.{IsRowHeld}
 
 -- ---- which calls keep what is held
@@ -67,7 +67,7 @@ of_row shape p row hold other of also is = record {
 
 -- the row after a hold: of what is held now, or the one before
 pub row_taken : (b : Board) (key : List ℕ) (now : ℕ) (answer : HoldAnswer) (told : Status) (row next : Option HeldRow) (p q : Pass)
-    → HoldsItem b key now answer p q → TellsHold answer told row next → IsRowHeld b.shape p row → IsRowHeld b.shape q next
+    → HoldsItem b key now answer p q → ReturnsHold answer told row next → IsRowHeld b.shape p row → IsRowHeld b.shape q next
 row_taken b key now (hold_answer.Holding hold) told row next p q holds tells is = taken next tells.1
   where
     taken : (r : Option HeldRow) → IsSomeAnd r (λ r. IsOfRow r hold) → IsRowHeld b.shape q r

@@ -33,12 +33,12 @@ pub record At (now : ℕ) (Made : Board → Member → Member → Type 0) (b : B
 -- ---- holds
 
 -- the status of an answer to a hold, and the row that the client holds from then on
-abbrev pub TellsHold : HoldAnswer → Status → Option HeldRow → Option HeldRow → Type 0
-TellsHold (hold_answer.Holding hold) told row next =
+abbrev pub ReturnsHold : HoldAnswer → Status → Option HeldRow → Option HeldRow → Type 0
+ReturnsHold (hold_answer.Holding hold) told row next =
     (told ≡ status.Ok) × IsSomeAnd next (λ r. IsOfRow r hold)
-TellsHold hold_answer.Miss told row next = (told ≡ status.Miss) × (next ≡ row)
-TellsHold hold_answer.Busy told row next = (told ≡ status.Busy) × (next ≡ row)
-TellsHold hold_answer.AlreadyHolding told row next =
+ReturnsHold hold_answer.Miss told row next = (told ≡ status.Miss) × (next ≡ row)
+ReturnsHold hold_answer.Busy told row next = (told ≡ status.Busy) × (next ≡ row)
+ReturnsHold hold_answer.AlreadyHolding told row next =
     (told ≡ status.AlreadyHolding) × (next ≡ row)
 
 -- a hold of the key had this status, and the client holds this row from then on
@@ -46,7 +46,7 @@ pub record TakesHold (key : List ℕ) (told : Status) (row next : Option HeldRow
     (old new : Member) : Type 0 where
   pub answer : HoldAnswer
   pub holds : HoldsKey key answer b old new
-  pub tells : TellsHold answer told row next
+  pub tells : ReturnsHold answer told row next
 
 abbrev pub HoldsAt : List ℕ → ℕ → Status → SharedClient → SharedClient → Type 0
 HoldsAt key now told old new = Calls (At now (TakesHold key told old.held new.held)) old new

@@ -44,7 +44,7 @@ HaveRoom pair key value = (length pair.0 ≤ length key.0) × (length pair.1 ≤
 
 -- The lengths of the next pair were written, and the pair, if both buffers have room for it.
 -- Then the one behind it is next.
-pub record TellsPair (pair : List ℕ × List ℕ) (old new : Cursor) (key key' value value' : Out)
+pub record ReturnsPair (pair : List ℕ × List ℕ) (old new : Cursor) (key key' value value' : Out)
     (told : Status) : Type 0 where
   pub key_len : key'.1 ≡ length pair.0
   pub value_len : value'.1 ≡ length pair.1
@@ -58,17 +58,17 @@ pub record TellsPair (pair : List ℕ × List ℕ) (old new : Cursor) (key key' 
 abbrev pub WritesNone : Status → Out → Out → Out → Out → Status → Type 0
 WritesNone why key key' value value' told = (told ≡ why) × (key' ≡ key) × (value' ≡ value)
 
-abbrev pub TellsNext : Option (List ℕ × List ℕ) → Cursor → Cursor → Out → Out → Out → Out
+abbrev pub ReturnsNext : Option (List ℕ × List ℕ) → Cursor → Cursor → Out → Out → Out → Out
     → Status → Type 0
-TellsNext (Some pair) old new key key' value value' told =
-    TellsPair pair old new key key' value value' told
-TellsNext None old new key key' value value' told =
+ReturnsNext (Some pair) old new key key' value value' told =
+    ReturnsPair pair old new key key' value value' told
+ReturnsNext None old new key key' value value' told =
     WritesNone status.End key key' value value' told × (new ≡ old)
 
 abbrev pub Listed : Option Kept → Option Kept → Out → Out → Out → Out → Status → Type 0
 Listed (Some (kept.Cursor old)) after key key' value value' told =
     (new : Cursor) × (after ≡ Some (kept.Cursor new))
-    × TellsNext (slice_get old.pairs.items old.told) old new key key' value value' told
+    × ReturnsNext (slice_get old.pairs.items old.told) old new key key' value value' told
 Listed before after key key' value value' told =
     WritesNone status.NoHandle key key' value value' told × (after ≡ before)
 

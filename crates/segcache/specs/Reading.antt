@@ -13,17 +13,17 @@ use Rattle.segcache.specs.Calls.{At, EndsItsHold, HoldsAt, MakesCall, ReadsHeld}
 use Rattle.segcache.specs.Exports.{ByClient, ByKey, CopiesOut, Out, Tells, WritesNothing}
 
 -- a value that was found is copied out
-abbrev pub TellsGet : GetAnswer → Status → Out → Out → Type 0
-TellsGet (get.Found value) told out next = CopiesOut value told out next
-TellsGet get.Miss told out next = WritesNothing out next told status.Miss
-TellsGet get.Busy told out next = WritesNothing out next told status.Busy
+abbrev pub ReturnsGet : GetAnswer → Status → Out → Out → Type 0
+ReturnsGet (get.Found value) told out next = CopiesOut value told out next
+ReturnsGet get.Miss told out next = WritesNothing out next told status.Miss
+ReturnsGet get.Busy told out next = WritesNothing out next told status.Busy
 
 -- the client's get of the key had an answer, and this was told of it
 pub record MakesGet (key : List ℕ) (now : ℕ) (out next : Out) (told : Status)
     (old new : SharedClient) : Type 0 where
   pub answer : GetAnswer
   pub calls : MakesCall (At now (Gets key answer)) old new
-  pub tells : TellsGet answer told out next
+  pub tells : ReturnsGet answer told out next
 
 abbrev pub Got : List ℕ → ℕ → Option Kept → Option Kept → Out → Out → Status → Type 0
 Got key now before after out next told =
@@ -36,19 +36,19 @@ WritesNoVersion out next version next_version told why =
     WritesNothing out next told why × (next_version ≡ version)
 
 -- the version is written too, where a value was found
-abbrev pub TellsGets : GetsAnswer → Status → Out → Out → ℕ → ℕ → Type 0
-TellsGets (gets.Found value of) told out next version next_version =
+abbrev pub ReturnsGets : GetsAnswer → Status → Out → Out → ℕ → ℕ → Type 0
+ReturnsGets (gets.Found value of) told out next version next_version =
     CopiesOut value told out next × (next_version ≡ of)
-TellsGets gets.Miss told out next version next_version =
+ReturnsGets gets.Miss told out next version next_version =
     WritesNoVersion out next version next_version told status.Miss
-TellsGets gets.Busy told out next version next_version =
+ReturnsGets gets.Busy told out next version next_version =
     WritesNoVersion out next version next_version told status.Busy
 
 pub record MakesGets (key : List ℕ) (now : ℕ) (out next : Out) (version next_version : ℕ)
     (told : Status) (old new : SharedClient) : Type 0 where
   pub answer : GetsAnswer
   pub calls : MakesCall (At now (GetsVersion key answer)) old new
-  pub tells : TellsGets answer told out next version next_version
+  pub tells : ReturnsGets answer told out next version next_version
 
 abbrev pub GotVersion : List ℕ → ℕ → Option Kept → Option Kept → Out → Out → ℕ → ℕ → Status
     → Type 0
@@ -63,15 +63,15 @@ abbrev pub Held : List ℕ → ℕ → Option Kept → Option Kept → Status �
 Held key now before after told =
     ByClient (Tells told) (ByKey (Tells told) key (HoldsAt key now told)) before after
 
-abbrev pub TellsHeld : Option (List ℕ) → Status → Out → Out → Type 0
-TellsHeld (Some value) told out next = CopiesOut value told out next
-TellsHeld None told out next = WritesNothing out next told status.NotHolding
+abbrev pub ReturnsHeld : Option (List ℕ) → Status → Out → Out → Type 0
+ReturnsHeld (Some value) told out next = CopiesOut value told out next
+ReturnsHeld None told out next = WritesNothing out next told status.NotHolding
 
 -- the client read what it holds, and this was told of it
 pub record MakesHeldRead (out next : Out) (told : Status) (old new : SharedClient) : Type 0 where
   pub value : Option (List ℕ)
   pub reads : ReadsHeld value old new
-  pub tells : TellsHeld value told out next
+  pub tells : ReturnsHeld value told out next
 
 abbrev pub GotHeld : Option Kept → Option Kept → Out → Out → Status → Type 0
 GotHeld before after out next told =

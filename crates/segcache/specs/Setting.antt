@@ -3,7 +3,7 @@ use Rattle.std.specs.Prelude.{◌≡◌, ◌==◌, ℕ, min, if◌then◌else◌
 use Rattle.std.specs.Prelude.{Option, Some, None}
 use Rattle.segindex.specs.declared.table_stats.IndexStats.{IndexStats}
 use Rattle.segclient.specs.declared.stats.Stats.{Stats}
-use Rattle.segclient.specs.Made.{TellsTable}
+use Rattle.segclient.specs.Made.{ReturnsTable}
 use Rattle.segclient.specs.Member.{SetsCutoff, SetsTimeToLive}
 use Rattle.segclient.specs.Puts.{MakesRoomFor}
 use Rattle.segcache.specs.declared.kept.Kept.{Kept}
@@ -73,5 +73,5 @@ table_of stats = record {
 abbrev pub CountedTable : Option Kept → Option Kept → TableStats → TableStats → Status → Type 0
 CountedTable before after counts next told =
     ByClient (λ why. Tells told why × (next ≡ counts))
-    (λ old new. (stats : IndexStats) × MakesCall (TellsTable stats) old new
+    (λ old new. (stats : IndexStats) × MakesCall (ReturnsTable stats) old new
     × (next ≡ table_of stats) × (told ≡ status.Ok)) before after

@@ -23,7 +23,7 @@ pub struct SharedClient {
 }
 
 impl SharedClient {
-    ghost use Rattle.segclient.specs.Made.{TellsTable};
+    ghost use Rattle.segclient.specs.Made.{ReturnsTable};
     ghost use Rattle.segclient.specs.Member.{SetsCutoff, SetsTimeToLive};
     ghost use Rattle.segclient.specs.Puts.{MakesRoomFor};
     ghost use Rattle.segcache.specs.Calls.{At, IsPassOfGuest, MakesCall};
@@ -74,7 +74,7 @@ impl SharedClient {
 
     /// What it sees of the table.
     pub(crate) fn index_stats(&mut self) -> IndexStats
-        ensures { MakesCall (TellsTable result) self.old self.new }
+        ensures { MakesCall (ReturnsTable result) self.old self.new }
     {
         self.member.index_stats(&self.index)
     }

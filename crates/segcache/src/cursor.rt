@@ -13,7 +13,7 @@ pub struct Cursor {
 
 impl Cursor {
     ghost use Rattle.std.specs.Prelude.{slice_get};
-    ghost use Rattle.segcache.specs.Ending.{TellsNext};
+    ghost use Rattle.segcache.specs.Ending.{ReturnsNext};
 
     /// Before the first pair.
     pub(crate) fn new(pairs: Vec<(Key, Value)>) -> Cursor
@@ -30,7 +30,7 @@ impl Cursor {
         value: &mut [u8],
         value_len: &mut usize,
     ) -> Status
-        ensures { TellsNext (slice_get self.old.pairs.items self.old.told) self.old self.new
+        ensures { ReturnsNext (slice_get self.old.pairs.items self.old.told) self.old self.new
             (key.old, key_len.old) (key.new, key_len.new)
             (value.old, value_len.old) (value.new, value_len.new) result }
     {

@@ -1,7 +1,7 @@
 //! The exports that read.
 ghost use Rattle.std.specs.Prelude.{◌≡◌, Some};
 ghost use Rattle.segcache.specs.Exports.{Answers, CopiesOut};
-ghost use Rattle.segcache.specs.Reading.{Got, GotVersion, TellsGet, TellsGets};
+ghost use Rattle.segcache.specs.Reading.{Got, GotVersion, ReturnsGet, ReturnsGets};
 
 use crate::handle::Handle;
 use crate::kept::Kept;
@@ -82,7 +82,7 @@ fn get(kept: &mut Kept, key: &[u8], value: &mut [u8], value_len: &mut usize, now
 
 // Tells what a get answered.
 fn tell_get(told: GetAnswer, value: &mut [u8], value_len: &mut usize) -> Status
-    ensures { TellsGet told result (value.old, value_len.old) (value.new, value_len.new) }
+    ensures { ReturnsGet told result (value.old, value_len.old) (value.new, value_len.new) }
 {
     match told {
         GetAnswer::Found(found) => copy_out(&found, value, value_len),
@@ -113,7 +113,7 @@ fn gets(
 
 // Tells what a gets answered.
 fn tell_gets(told: GetsAnswer, value: &mut [u8], value_len: &mut usize, version: &mut u32) -> Status
-    ensures { TellsGets told result (value.old, value_len.old) (value.new, value_len.new)
+    ensures { ReturnsGets told result (value.old, value_len.old) (value.new, value_len.new)
         version.old version.new }
 {
     match told {

@@ -6,7 +6,7 @@ use Rattle.segbase.specs.Words.{Board}
 use Rattle.segread.specs.declared.held.HoldAnswer.{HoldAnswer}
 use Rattle.segread.specs.Words.{Hold, HoldsItem, ReadsHeld, ReadsKey, ReadsVersion, ReleasesHold}
 use Rattle.segwrite.specs.Words.{Deletes, Writes}
-use Rattle.segindex.specs.Words.{LearnsNote, MakesNote, MeetsPass, Note, TellsStats}
+use Rattle.segindex.specs.Words.{LearnsNote, MakesNote, MeetsPass, Note, ReturnsStats}
 use Rattle.segindex.specs.declared.table_stats.IndexStats.{IndexStats}
 use Rattle.segclient.specs.declared.member.Member.{Member}
 use Rattle.segclient.specs.Counting.{counted, delete_tally, get_tally, gets_tally, write_tally}
@@ -74,8 +74,8 @@ pub record EndsHold (b : Board) (old new : Member) : Type 0 where
 -- ---- the rest
 
 -- what the client sees of the table was counted
-pub record TellsTable (told : IndexStats) (b : Board) (old new : Member) : Type 0 where
-  pub tells : TellsStats b told old.pass new.pass
+pub record ReturnsTable (told : IndexStats) (b : Board) (old new : Member) : Type 0 where
+  pub reads : ReturnsStats b told old.pass new.pass
   pub counts : KeepsCounts old new
 
 -- a note was made of what the client had seen

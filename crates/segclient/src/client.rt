@@ -27,7 +27,7 @@ impl<'i> Client<'i> {
     ghost use Rattle.segread.specs.Words.{IsOfRow};
     ghost use Rattle.segwrite.specs.Words.{IsSetAnswer};
     ghost use Rattle.segclient.specs.Client.{MakesCall, Starts};
-    ghost use Rattle.segclient.specs.Made.{DeletesKey, Gets, GetsVersion, MakesWrite, TellsTable};
+    ghost use Rattle.segclient.specs.Made.{DeletesKey, Gets, GetsVersion, MakesWrite, ReturnsTable};
     ghost use Rattle.segclient.specs.Member.{SetsCutoff, SetsNow, SetsTimeToLive};
     ghost use Rattle.segclient.specs.Puts.{MakesRoomFor, Puts};
 
@@ -68,7 +68,7 @@ impl<'i> Client<'i> {
     /// the used rows of its own segments, and how many of these an item names.
     /// The others are dead. It goes over all these rows, so it takes long.
     pub fn index_stats(&mut self) -> IndexStats
-        ensures tells { MakesCall (TellsTable result) self.old self.new }
+        ensures reads { MakesCall (ReturnsTable result) self.old self.new }
     {
         self.member.index_stats(self.index)
     }

@@ -42,7 +42,7 @@ impl Member {
     ghost use Rattle.segbase.specs.Words.{number_of};
     ghost use Rattle.segmodel.specs.declared.request.Request.TheVariants.{Set, Add, Replace, Cas};
     ghost use Rattle.segwrite.specs.Words.{IsSetAnswer};
-    ghost use Rattle.segclient.specs.Made.{DeletesKey, Gets, GetsVersion, MakesWrite, TellsTable};
+    ghost use Rattle.segclient.specs.Made.{DeletesKey, Gets, GetsVersion, MakesWrite, ReturnsTable};
     ghost use Rattle.segclient.specs.Member.{Begins, IsMember, SetsCutoff, SetsNow, SetsTimeToLive};
     ghost use Rattle.segclient.specs.Puts.{deadline_of, MakesRoomFor, Puts};
 
@@ -111,7 +111,7 @@ impl Member {
     pub fn index_stats(&mut self, index: &Index) -> IndexStats
         requires member { IsMember index.now self.old }
         ensures member { IsMember index.now self.new }
-        ensures tells { TellsTable result (board_of index.now) self.old self.new }
+        ensures reads { ReturnsTable result (board_of index.now) self.old self.new }
     {
         index.stats(&mut self.pass)
     }

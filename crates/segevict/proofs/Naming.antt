@@ -23,7 +23,7 @@ use Rattle.segpass.specs.Words.{IsQuiet}
 use Rattle.segpass.proofs.Idling.{goes_nowhere}
 use Rattle.segwrite.specs.Words.{Target}
 use Rattle.segwrite.proofs.Places.{idles_then}
-use Rattle.segevict.specs.Naming.{AreNamed, CountsRows, FindsNamed, IsNamed, or_zero, own_at, sum_below, SumsUp, Tallies, TellsNamed, used_at, WasNamed, WasNamedIn}
+use Rattle.segevict.specs.Naming.{AreNamed, CountsRows, FindsNamed, IsNamed, or_zero, own_at, sum_below, SumsUp, Tallies, ReturnsNamed, used_at, WasNamed, WasNamedIn}
 use Rattle.segevict.specs.Rows.{FindsRow, IsNamedAt, IsUsedRow}
 use Rattle.segevict.proofs.Unnamed.{gone_over}
 
@@ -51,13 +51,13 @@ unnamed z h segment row l gone is =
     same_Some (slot a.key a.segment a.row) (slot is.key segment row) (sym st.last ∙ ((λ t. last_at (mark.marked h) (there.3 t)) ∙ is.last)) in
     gone (bucket_of z is.key) there.0 a there.2 (ap (λ (x : Slot). x.segment) same) (ap (λ (x : Slot). x.row) same)
 
-tells : (b : Board) (bucket : ℕ) (sought : Item) (o : Option Target) (f : Pass) → IsPassOf b f → FindsRow b bucket sought o f → TellsNamed b.shape sought.seg sought.row (is_some o) f
+tells : (b : Board) (bucket : ℕ) (sought : Item) (o : Option Target) (f : Pass) → IsPassOf b f → FindsRow b bucket sought o f → ReturnsNamed b.shape sought.seg sought.row (is_some o) f
 tells b bucket sought None f is finds = finds
 tells b bucket sought (Some target) f is finds = named_now b bucket sought f is target finds
 
-pub tells_at : (b : Board) (bucket : ℕ) (sought : Item) (segment row : ℕ) (o : Option Target) (told : Bool) (f : Pass) → (sought.seg ≡ segment) × (sought.row ≡ row) → told ≡ is_some o → IsPassOf b f → FindsRow b bucket sought o f → TellsNamed b.shape segment row told f
+pub tells_at : (b : Board) (bucket : ℕ) (sought : Item) (segment row : ℕ) (o : Option Target) (told : Bool) (f : Pass) → (sought.seg ≡ segment) × (sought.row ≡ row) → told ≡ is_some o → IsPassOf b f → FindsRow b bucket sought o f → ReturnsNamed b.shape segment row told f
 tells_at b bucket sought segment row o told f at same is finds =
-    subst (λ t. TellsNamed b.shape segment row t f) (sym same) (subst (λ s. TellsNamed b.shape s row (is_some o) f) at.0 (subst (λ r. TellsNamed b.shape sought.seg r (is_some o) f) at.1 (tells b bucket sought o f is finds)))
+    subst (λ t. ReturnsNamed b.shape segment row t f) (sym same) (subst (λ s. ReturnsNamed b.shape s row (is_some o) f) at.0 (subst (λ r. ReturnsNamed b.shape sought.seg r (is_some o) f) at.1 (tells b bucket sought o f is finds)))
 
 was_before : (z : Shape) (s r : ℕ) (p f q : Pass) → number f ≡ number p → TakesSteps p f → WasNamedIn z s r f q → WasNamedIn z s r p q
 was_before z s r p f q same steps was = since_before p f q (λ start. WasNamed z s r (mark.marked start) (marked q)) same steps
@@ -120,7 +120,7 @@ module _ (b : Board) (s row count : ℕ) (p q r : Pass) (own : owner b.shape s �
   named_then : HasStep p r → IsNamed b.shape s row (marked r) → WasNamedIn b.shape s row p r
   named_then first named = (first.0, first.1, record { moment = marked r; from = marked_begins first.0 (trace r) first.1.until; to = ([], refl); named = named })
 
-  pub counting_one : HasStep q r → TellsNamed b.shape s row true r → Counting b s (row + 1) (count + 1) p r
+  pub counting_one : HasStep q r → ReturnsNamed b.shape s row true r → Counting b s (row + 1) (count + 1) p r
   counting_one first named = record {
     idles = onward;
     few = let few = c.few in omega arith;
@@ -128,7 +128,7 @@ module _ (b : Board) (s row count : ℕ) (p q r : Pass) (own : owner b.shape s �
         (inl (count, refl, finds_after b s row count p q r own i c.named, named_then (has_later p q r c.idles.moved.same c.idles.moved.steps first) named));
   }
 
-  pub counting_none : TellsNamed b.shape s row false r → Counting b s (row + 1) count p r
+  pub counting_none : ReturnsNamed b.shape s row false r → Counting b s (row + 1) count p r
   counting_none gone = record {
     idles = onward;
     few = let few = c.few in omega arith;

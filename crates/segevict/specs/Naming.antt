@@ -27,9 +27,9 @@ WasNamedIn shape segment row p q =
     SinceFirst p q (λ start. WasNamed shape segment row (mark.marked start) (marked q))
 
 -- a search along the chain of the row's key tells it: an item names the row now, or no word does
-abbrev pub TellsNamed : Shape → ℕ → ℕ → Bool → Pass → Type 0
-TellsNamed shape segment row true q = IsNamed shape segment row (marked q)
-TellsNamed shape segment row false q = RowGone shape segment row (trace q)
+abbrev pub ReturnsNamed : Shape → ℕ → ℕ → Bool → Pass → Type 0
+ReturnsNamed shape segment row true q = IsNamed shape segment row (marked q)
+ReturnsNamed shape segment row false q = RowGone shape segment row (trace q)
 
 -- ---- how many
 

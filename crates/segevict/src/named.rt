@@ -4,7 +4,7 @@ ghost use Rattle.segbase.specs.Words.{HasStep, used_of};
 ghost use Rattle.segstore.specs.Words.{Idles};
 ghost use Rattle.segpass.specs.Words.{IsQuiet};
 ghost use Rattle.segevict.specs.Rows.{IsUsedRow};
-ghost use Rattle.segevict.specs.Naming.{TellsNamed, FindsNamed, CountsRows};
+ghost use Rattle.segevict.specs.Naming.{ReturnsNamed, FindsNamed, CountsRows};
 
 use crate::row::{find_row, item_of_row};
 use segbase::{Board, Pass};
@@ -24,7 +24,7 @@ fn is_named(board: &Board, pass: &mut Pass, segment: u32, row: u32) -> bool
     requires used { IsUsedRow segment row pass.old }
     ensures idles { Idles board.now pass.old pass.new }
     ensures looks { HasStep pass.old pass.new }
-    ensures told { TellsNamed board.now.shape segment row result pass.new }
+    ensures told { ReturnsNamed board.now.shape segment row result pass.new }
 {
     let (bucket, item) = item_of_row(board, pass, segment, row);
     find_row(board, pass, bucket, item).is_some()

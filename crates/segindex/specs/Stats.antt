@@ -20,7 +20,7 @@ pub record WereDrawn (count : ℕ) (old new : List Mark) : Type 0 where
 -- So many of these were named by an item, each at a moment of the call,
 -- and at the return no item names any of the others.
 -- The pass added no entry, keeps all that it kept, and nothing of it costs.
-pub record TellsStats (b : Board) (told : IndexStats) (p q : Pass) : Type 0 where
+pub record ReturnsStats (b : Board) (told : IndexStats) (p q : Pass) : Type 0 where
   pub only : OnlyLearns b p q
   pub drawn : SinceFirst p q
       (λ start. WereDrawn told.overflow_buckets (mark.marked start) (marked q))

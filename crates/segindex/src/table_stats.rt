@@ -18,7 +18,7 @@ pub struct IndexStats {
 impl Index {
     ghost use Rattle.segpass.specs.Words.{IsQuiet};
     ghost use Rattle.segindex.specs.Index.{board_of};
-    ghost use Rattle.segindex.specs.Stats.{TellsStats};
+    ghost use Rattle.segindex.specs.Stats.{ReturnsStats};
 
     /// How many overflow buckets were drawn, at a moment of the call;
     /// how many rows of its own segments the pass has used;
@@ -27,7 +27,7 @@ impl Index {
     /// It goes over all these rows, and looks along the chain of each row's key.
     pub fn stats(&self, pass: &mut Pass) -> IndexStats
         requires quiet { IsQuiet (board_of self.now) pass.old }
-        ensures tells { TellsStats (board_of self.now) result pass.old pass.new }
+        ensures reads { ReturnsStats (board_of self.now) result pass.old pass.new }
     {
         let overflow_buckets = self.board.drawn_overflow(pass);
         let rows = segevict::count_rows(&self.board, pass);

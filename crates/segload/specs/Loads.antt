@@ -3,7 +3,7 @@ use Rattle.std.specs.Prelude.{◌≡◌, ℕ, ◌<◌, Bool, List, length, slice
 use Rattle.segword.specs.Words.{IsValid, Shape}
 use Rattle.segmodel.specs.Words.{after, Cache, Entry, mine}
 use Rattle.segbase.specs.Words.{Board, IsMakeFault, IsNewPass, Pass}
-use Rattle.segindex.specs.Words.{AnswersCommand, IsEndOfAll, TellsStats}
+use Rattle.segindex.specs.Words.{AnswersCommand, IsEndOfAll, ReturnsStats}
 use Rattle.segpolicy.specs.Words.{draws_of}
 use Rattle.segload.specs.declared.fault.LoadFault.{LoadFault}
 use Rattle.segload.specs.declared.fault.LoadFault.TheVariants.{Make, Stopped, OutOfMemory}
@@ -34,7 +34,7 @@ pub record CountsCommands (b : Board) (seed keys asked pass : ℕ) (history : Li
   pub done : Pass
   pub calls : MakesCalls (AnswersCommand b) (draws_of seed pass keys) (start_of b.shape pass) first
       asked totals.tallies course done
-  pub table : TellsStats b totals.table done last
+  pub table : ReturnsStats b totals.table done last
   pub made : Makes b.shape history pass (draws_of seed pass keys) asked totals.tallies course
       (mine pass history)
 

@@ -3,7 +3,7 @@ use Rattle.std.specs.Prelude.{◌≡◌, ℕ, ◌<◌, Bool, false, true, List, 
 use Rattle.std.specs.Int.NonZero.{non_zero_u32_get}
 use Rattle.segbase.specs.Words.{Board, IsNewPass, mine, number, number_of, Pass}
 use Rattle.segpass.specs.Words.{IsQuiet}
-use Rattle.segindex.specs.Words.{AnswersCommand, TellsStats}
+use Rattle.segindex.specs.Words.{AnswersCommand, ReturnsStats}
 use Rattle.segpolicy.specs.Words.{Draws, draws_of}
 use Rattle.segload.specs.Lists.{AllAt}
 use Rattle.segload.specs.declared.plan.Plan.{Plan}
@@ -78,7 +78,7 @@ pub record EndsWork (b : Board) (asked : ℕ) (worker : Worker) (totals : PassTo
   pub commands : totals.commands ≡ asked
   pub tallies : totals.tallies ≡ worker.tallies
   pub recycled : totals.recycled ≡ worker.client.recycled
-  pub table : TellsStats b totals.table worker.client.pass pass
+  pub table : ReturnsStats b totals.table worker.client.pass pass
 
 -- Each worker ended, with the totals and the pass at its place.
 pub record EndsAll (b : Board) (asked : ℕ) (workers : List Worker) (totals : List PassTotals)

@@ -72,11 +72,11 @@ abbrev pub HasDeadline : Shape → ℕ → ℕ → List Event → Type 0
 HasDeadline shape segment deadline trace = (after shape (seen trace)).deadline segment ≡ deadline
 
 -- if the item is the key's, the deadline is that of its segment
-abbrev pub TellsDeadline : Shape → Trial → List Event → Type 0
-TellsDeadline shape (trial.Same item header deadline) trace =
+abbrev pub ReturnsDeadline : Shape → Trial → List Event → Type 0
+ReturnsDeadline shape (trial.Same item header deadline) trace =
     HasDeadline shape item.seg deadline trace
-TellsDeadline shape (trial.Other item) trace = Unit {0}
-TellsDeadline shape (trial.Changed word) trace = Unit {0}
+ReturnsDeadline shape (trial.Other item) trace = Unit {0}
+ReturnsDeadline shape (trial.Changed word) trace = Unit {0}
 
 -- ---- tries
 

@@ -11,7 +11,7 @@ ghost use Rattle.segpass.specs.Words.{IsQuiet, MayEnterAny};
 ghost use Rattle.segread.specs.Looking.{AfterLook};
 ghost use Rattle.segread.specs.Scanning.{place_of, GoesAlong, IsPlaceOf, IsPlaceAfter, IsTrial};
 ghost use Rattle.segread.specs.Scanning.{IsOnWay, IsScanner, IsTry, ScansChain, ScansOn};
-ghost use Rattle.segread.specs.Scanning.{keyed_of, TellsDeadline};
+ghost use Rattle.segread.specs.Scanning.{keyed_of, ReturnsDeadline};
 
 use segbase::{Board, CHAIN_BUCKETS, Pass, Place};
 use segstore::{Keyed, enter_segment, leave_segment, read_keyed};
@@ -87,7 +87,7 @@ pub(crate) fn try_item(
     ensures once { IsTry pass.old pass.new }
     ensures keyed { IsKeyed board.now.shape place (item_word item) key.now (keyed_of result)
         (trace pass.old) (trace pass.new) }
-    ensures deadline { TellsDeadline board.now.shape result (trace pass.new) }
+    ensures deadline { ReturnsDeadline board.now.shape result (trace pass.new) }
 {
     let deadline = enter_segment(board, pass, item.seg);
     match read_keyed(board, pass, place, item.pack(), key) {
