@@ -8,7 +8,7 @@ use Rattle.segcache.specs.declared.kept.Kept.TheVariants as kept
 use Rattle.segcache.specs.declared.status.Status.TheVariants as status
 use Rattle.segcache.specs.Calls.{MakesCall}
 use Rattle.segclient.specs.Made.{Learns}
-use Rattle.segcache.specs.Telling.{FreesNote, is_note, LearnsFrom}
+use Rattle.segcache.specs.Noting.{FreesNote, is_note, LearnsFrom}
 
 frees : (was : Kept) → is_note was ≡ true → FreesNote (Some was) None status.Ok
 frees (kept.Note note) is = (refl, refl)

@@ -43,10 +43,10 @@ pub ends_row : (guest next : SharedClient) (row : HeldRow) → guest.held ≡ So
 ends_row guest next row is call none = subst (λ (r : Option HeldRow). EndsItsHold r guest next) (sym is) (call, none)
 
 -- the status of a release
-pub release_ok : (row : Option HeldRow) (told : Bool) → told ≡ is_some row → told ≡ true → status.Ok ≡ release_status row
-release_ok (Some row) told of is = refl
-release_ok None told of is = absurd (false≢true (sym of ∙ is))
+pub release_ok : (row : Option HeldRow) (returned : Bool) → returned ≡ is_some row → returned ≡ true → status.Ok ≡ release_status row
+release_ok (Some row) returned of is = refl
+release_ok None returned of is = absurd (false≢true (sym of ∙ is))
 
-pub release_none : (row : Option HeldRow) (told : Bool) → told ≡ is_some row → told ≡ false → status.NotHolding ≡ release_status row
-release_none (Some row) told of is = absurd (false≢true (sym is ∙ of))
-release_none None told of is = refl
+pub release_none : (row : Option HeldRow) (returned : Bool) → returned ≡ is_some row → returned ≡ false → status.NotHolding ≡ release_status row
+release_none (Some row) returned of is = absurd (false≢true (sym is ∙ of))
+release_none None returned of is = refl

@@ -24,7 +24,7 @@ Keeps p q = memo q ≡ memo p
 same_memo : (p q : Pass) → q ≡ p → Keeps p q
 same_memo p q e = ap memo e
 
-write_keeps : (shape : Shape) (request : Request) (told : WriteAnswer) (p q : Pass) → IsWriteAnswer shape request told p q → Keeps p q
+write_keeps : (shape : Shape) (request : Request) (returned : WriteAnswer) (p q : Pass) → IsWriteAnswer shape request returned p q → Keeps p q
 write_keeps shape request write.Stored p q is = is.2.memo
 write_keeps shape request write.NotStored p q is = is.2
 write_keeps shape request write.Exists p q is = is.2
@@ -33,16 +33,16 @@ write_keeps shape request write.NoRoom p q is = same_memo p q is
 write_keeps shape request write.BucketFull p q is = is.0.memo
 write_keeps shape request write.Busy p q is = is.0.memo
 
-pub writes_keep : (b : Board) (request : Request) (told : WriteAnswer) (p q : Pass) → Writes b request told p q → memo q ≡ memo p
-writes_keep b request told p q writes = write_keeps b.shape request told p q writes.answer
+pub writes_keep : (b : Board) (request : Request) (returned : WriteAnswer) (p q : Pass) → Writes b request returned p q → memo q ≡ memo p
+writes_keep b request returned p q writes = write_keeps b.shape request returned p q writes.answer
 
-delete_keeps : (shape : Shape) (key : List ℕ) (now : ℕ) (told : DeleteAnswer) (p q : Pass) → IsDeleteAnswer shape key now told p q → Keeps p q
+delete_keeps : (shape : Shape) (key : List ℕ) (now : ℕ) (returned : DeleteAnswer) (p q : Pass) → IsDeleteAnswer shape key now returned p q → Keeps p q
 delete_keeps shape key now delete.Deleted p q is = is.2
 delete_keeps shape key now delete.NotFound p q is = is.2
 delete_keeps shape key now delete.Busy p q is = is.0.memo
 
-pub deletes_keep : (b : Board) (key : List ℕ) (now : ℕ) (told : DeleteAnswer) (p q : Pass) → Deletes b key now told p q → memo q ≡ memo p
-deletes_keep b key now told p q deletes = delete_keeps b.shape key now told p q deletes.answer
+pub deletes_keep : (b : Board) (key : List ℕ) (now : ℕ) (returned : DeleteAnswer) (p q : Pass) → Deletes b key now returned p q → memo q ≡ memo p
+deletes_keep b key now returned p q deletes = delete_keeps b.shape key now returned p q deletes.answer
 
 -- ---- the row
 
@@ -66,19 +66,19 @@ of_row shape p row hold other of also is = record {
 }
 
 -- the row after a hold: of what is held now, or the one before
-pub row_taken : (b : Board) (key : List ℕ) (now : ℕ) (answer : HoldAnswer) (told : Status) (row next : Option HeldRow) (p q : Pass)
-    → HoldsItem b key now answer p q → ReturnsHold answer told row next → IsRowHeld b.shape p row → IsRowHeld b.shape q next
-row_taken b key now (hold_answer.Holding hold) told row next p q holds tells is = taken next tells.1
+pub row_taken : (b : Board) (key : List ℕ) (now : ℕ) (answer : HoldAnswer) (returned : Status) (row next : Option HeldRow) (p q : Pass)
+    → HoldsItem b key now answer p q → ReturnsHold answer returned row next → IsRowHeld b.shape p row → IsRowHeld b.shape q next
+row_taken b key now (hold_answer.Holding hold) returned row next p q holds returns is = taken next returns.1
   where
     taken : (r : Option HeldRow) → IsSomeAnd r (λ r. IsOfRow r hold) → IsRowHeld b.shape q r
     taken None of = absurd of
     taken (Some r) of = λ other also. of_row b.shape q r hold other of also holds.answer.is
-row_taken b key now hold_answer.Miss told row next p q holds tells is =
-    subst (IsRowHeld b.shape q) (sym tells.1) (row_stays b.shape p q row holds.answer.0.memo is)
-row_taken b key now hold_answer.Busy told row next p q holds tells is =
-    subst (IsRowHeld b.shape q) (sym tells.1) (row_stays b.shape p q row holds.answer.0.memo is)
-row_taken b key now hold_answer.AlreadyHolding told row next p q holds tells is =
-    subst (IsRowHeld b.shape q) (sym tells.1) (row_stays b.shape p q row (same_memo p q holds.answer) is)
+row_taken b key now hold_answer.Miss returned row next p q holds returns is =
+    subst (IsRowHeld b.shape q) (sym returns.1) (row_stays b.shape p q row holds.answer.0.memo is)
+row_taken b key now hold_answer.Busy returned row next p q holds returns is =
+    subst (IsRowHeld b.shape q) (sym returns.1) (row_stays b.shape p q row holds.answer.0.memo is)
+row_taken b key now hold_answer.AlreadyHolding returned row next p q holds returns is =
+    subst (IsRowHeld b.shape q) (sym returns.1) (row_stays b.shape p q row (same_memo p q holds.answer) is)
 
 -- what the pass holds is the row's
 pub hold_of : (shape : Shape) (p : Pass) (held : Option HeldRow) (row : HeldRow) (hold : Hold) → IsRowHeld shape p held → held ≡ Some row → IsOfRow row hold → IsHoldOf shape hold p

@@ -34,28 +34,28 @@ pub record At (now : ℕ) (Made : Board → Member → Member → Type 0) (b : B
 
 -- the status of an answer to a hold, and the row that the client holds from then on
 abbrev pub ReturnsHold : HoldAnswer → Status → Option HeldRow → Option HeldRow → Type 0
-ReturnsHold (hold_answer.Holding hold) told row next =
-    (told ≡ status.Ok) × IsSomeAnd next (λ r. IsOfRow r hold)
-ReturnsHold hold_answer.Miss told row next = (told ≡ status.Miss) × (next ≡ row)
-ReturnsHold hold_answer.Busy told row next = (told ≡ status.Busy) × (next ≡ row)
-ReturnsHold hold_answer.AlreadyHolding told row next =
-    (told ≡ status.AlreadyHolding) × (next ≡ row)
+ReturnsHold (hold_answer.Holding hold) returned row next =
+    (returned ≡ status.Ok) × IsSomeAnd next (λ r. IsOfRow r hold)
+ReturnsHold hold_answer.Miss returned row next = (returned ≡ status.Miss) × (next ≡ row)
+ReturnsHold hold_answer.Busy returned row next = (returned ≡ status.Busy) × (next ≡ row)
+ReturnsHold hold_answer.AlreadyHolding returned row next =
+    (returned ≡ status.AlreadyHolding) × (next ≡ row)
 
 -- a hold of the key had this status, and the client holds this row from then on
-pub record TakesHold (key : List ℕ) (told : Status) (row next : Option HeldRow) (b : Board)
+pub record TakesHold (key : List ℕ) (returned : Status) (row next : Option HeldRow) (b : Board)
     (old new : Member) : Type 0 where
   pub answer : HoldAnswer
   pub holds : HoldsKey key answer b old new
-  pub tells : ReturnsHold answer told row next
+  pub returns : ReturnsHold answer returned row next
 
 abbrev pub HoldsAt : List ℕ → ℕ → Status → SharedClient → SharedClient → Type 0
-HoldsAt key now told old new = Calls (At now (TakesHold key told old.held new.held)) old new
+HoldsAt key now returned old new = Calls (At now (TakesHold key returned old.held new.held)) old new
 
 -- the value that is held by the row was read
-pub record ReadsRow (row : HeldRow) (told : List ℕ) (b : Board) (old new : Member) : Type 0 where
+pub record ReadsRow (row : HeldRow) (returned : List ℕ) (b : Board) (old new : Member) : Type 0 where
   pub hold : Hold
   pub of : IsOfRow row hold
-  pub reads : ReadsHold hold told b old new
+  pub reads : ReadsHold hold returned b old new
 
 -- the value that is held was read, if there is one; without one nothing was done
 abbrev pub ReadsHeld : Option (List ℕ) → SharedClient → SharedClient → Type 0

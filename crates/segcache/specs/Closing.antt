@@ -40,7 +40,7 @@ EndsAs home end.Gone = All IsSome home.places.items
 -- the cache became a cursor before the first pair of its content
 abbrev pub IsListOf : Kept → Kept → Type 0
 IsListOf (kept.Cache home) now =
-    (list : Cursor) × (now ≡ kept.Cursor list) × (list.told ≡ 0) × ListsContent home list.pairs.items
+    (list : Cursor) × (now ≡ kept.Cursor list) × (list.next ≡ 0) × ListsContent home list.pairs.items
 IsListOf was now = ⊥
 
 -- the cache is as it was, and so is what is none
@@ -60,11 +60,11 @@ ClosesAs was now closing.Gone = AreAllBack was
 -- Else the cursor's is as it was. Refused: the cache's too. Or memory for the list was refused,
 -- and the cache is gone.
 abbrev pub Closes : Kept → Option Kept → Option Kept → Option Kept → Status → Type 0
-Closes was after cursor next told =
-    ((told ≡ status.Ok) × (after ≡ None) × ((now : Kept) × (next ≡ Some now) × IsListOf was now))
-    ⊎ ((next ≡ cursor) × ((now : Kept) × (after ≡ Some now) × IsRefused was now told))
-    ⊎ ((told ≡ status.OutOfMemory) × (after ≡ None) × (next ≡ cursor) × AreAllBack was)
+Closes was after cursor next returned =
+    ((returned ≡ status.Ok) × (after ≡ None) × ((now : Kept) × (next ≡ Some now) × IsListOf was now))
+    ⊎ ((next ≡ cursor) × ((now : Kept) × (after ≡ Some now) × IsRefused was now returned))
+    ⊎ ((returned ≡ status.OutOfMemory) × (after ≡ None) × (next ≡ cursor) × AreAllBack was)
 
 abbrev pub Closed : Option Kept → Option Kept → Option Kept → Option Kept → Status → Type 0
-Closed (Some was) after cursor next told = Closes was after cursor next told
-Closed None after cursor next told = (told ≡ status.NoHandle) × (after ≡ None) × (next ≡ cursor)
+Closed (Some was) after cursor next returned = Closes was after cursor next returned
+Closed None after cursor next returned = (returned ≡ status.NoHandle) × (after ≡ None) × (next ≡ cursor)

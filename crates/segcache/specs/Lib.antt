@@ -11,6 +11,6 @@ pub mod Row
 pub mod Setting
 pub mod Sharing
 pub mod Status
-pub mod Telling
+pub mod Noting
 pub mod Token
 pub mod Writing

@@ -18,11 +18,11 @@ request_of (when.IfVersion version) key value now = Cas key value version now
 
 -- one that always stores has the answers of a set
 abbrev pub IsAnswerWhen : When → WriteAnswer → Type 0
-IsAnswerWhen when.Always told = IsSetAnswer told
-IsAnswerWhen _ told = Unit {0}
+IsAnswerWhen when.Always returned = IsSetAnswer returned
+IsAnswerWhen _ returned = Unit {0}
 
 -- a set, an add, a replace or a cas had this answer
-pub record WritesWhen (when : When) (key value : List ℕ) (told : WriteAnswer) (b : Board)
+pub record WritesWhen (when : When) (key value : List ℕ) (returned : WriteAnswer) (b : Board)
     (old new : Member) : Type 0 where
-  pub writes : MakesWrite (request_of when key value) told b old new
-  pub answer : IsAnswerWhen when told
+  pub writes : MakesWrite (request_of when key value) returned b old new
+  pub answer : IsAnswerWhen when returned

@@ -28,8 +28,8 @@ pub record TakesBack (guest : SharedClient) (old new : Cache) : Type 0 where
 abbrev pub IsWelcome : Cache → Kept → Status → Type 0
 IsWelcome home (kept.Client guest) status.Ok = HasPlaceFor home guest
 IsWelcome home (kept.Client guest) status.Foreign = ¬ (HasPlaceFor home guest)
-IsWelcome home (kept.Client guest) told = ⊥
-IsWelcome home guest told = told ≡ status.NoHandle
+IsWelcome home (kept.Client guest) returned = ⊥
+IsWelcome home guest returned = returned ≡ status.NoHandle
 
 -- the same of what a handle kept
 abbrev pub TakesKept : Kept → Cache → Cache → Type 0
@@ -38,19 +38,19 @@ TakesKept guest old new = ⊥
 
 -- Ok: there was a client with a free place, it went back, and its handle is empty.
 -- Foreign: its place isn't free. NoHandle: it is no client. Then both are as they were.
-pub record GoesBack (guest : Kept) (next : Option Kept) (old new : Cache) (told : Status)
+pub record GoesBack (guest : Kept) (next : Option Kept) (old new : Cache) (returned : Status)
     : Type 0 where
-  pub welcome : IsWelcome old guest told
-  pub ok : told ≡ status.Ok → TakesKept guest old new × (next ≡ None)
-  pub other : ¬ (told ≡ status.Ok) → (new ≡ old) × (next ≡ Some guest)
+  pub welcome : IsWelcome old guest returned
+  pub ok : returned ≡ status.Ok → TakesKept guest old new × (next ≡ None)
+  pub other : ¬ (returned ≡ status.Ok) → (new ≡ old) × (next ≡ Some guest)
 
 abbrev pub GoesBackFrom : Option Kept → Option Kept → Cache → Cache → Status → Type 0
-GoesBackFrom (Some guest) next old new told = GoesBack guest next old new told
-GoesBackFrom None next old new told = (told ≡ status.NoHandle) × (new ≡ old) × (next ≡ None)
+GoesBackFrom (Some guest) next old new returned = GoesBack guest next old new returned
+GoesBackFrom None next old new returned = (returned ≡ status.NoHandle) × (new ≡ old) × (next ≡ None)
 
 -- a handle with no cache is as it was, and the client's too
 abbrev pub GivenBack : Option Kept → Option Kept → Option Kept → Option Kept → Status → Type 0
-GivenBack (Some (kept.Cache old)) after guest next told =
-    (new : Cache) × (after ≡ Some (kept.Cache new)) × GoesBackFrom guest next old new told
-GivenBack before after guest next told =
-    (told ≡ status.NoHandle) × (after ≡ before) × (next ≡ guest)
+GivenBack (Some (kept.Cache old)) after guest next returned =
+    (new : Cache) × (after ≡ Some (kept.Cache new)) × GoesBackFrom guest next old new returned
+GivenBack before after guest next returned =
+    (returned ≡ status.NoHandle) × (after ≡ before) × (next ≡ guest)

@@ -30,9 +30,9 @@ pub extern "C" fn segcache_raw_give_back(
     let Some(mut kept) = cache.take(alloc) else {
         return Status::NoHandle.number();
     };
-    let told = give_back(alloc, &mut kept, client);
+    let status = give_back(alloc, &mut kept, client);
     cache.fill(alloc, kept);
-    told.number()
+    status.number()
 }
 
 /// Closes a cache once all clients are back, and lists its content by a cursor.
@@ -134,10 +134,10 @@ fn welcome_back(alloc: Global, cache: &mut Cache, client: &mut Handle) -> Status
     let Some(guest) = client.take(alloc) else {
         return Status::NoHandle;
     };
-    let told = welcome(cache, &guest);
-    if told != Status::Ok {
+    let status = welcome(cache, &guest);
+    if status != Status::Ok {
         client.fill(alloc, guest);
-        return told;
+        return status;
     }
     take_back(cache, Box::into_inner(guest));
     Status::Ok

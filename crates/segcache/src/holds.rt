@@ -1,4 +1,4 @@
-//! The calls of a client that holds an item, and of one that tells another what it has seen.
+//! The calls of a client that holds an item, and of its notes.
 ghost use Rattle.std.specs.Prelude.{◌≡◌, is_some};
 ghost use Rattle.segbase.specs.Words.{IsNoteOf};
 ghost use Rattle.segindex.specs.Words.{board_of};
@@ -34,7 +34,7 @@ impl SharedClient {
 
     /// Ends its hold, and says whether there was one.
     pub(crate) fn release(&mut self) -> bool
-        ensures told { result ≡ is_some self.old.held }
+        ensures was_held { result ≡ is_some self.old.held }
         ensures ends { EndsItsHold self.old.held self.old self.new }
     {
         let Some(row) = self.held.take() else {

@@ -7,5 +7,5 @@ use Rattle.segcache.proofs.closing.segcache_raw_give_back.Goals as goal
 
 pub returns-in_default : goal.returns-in_default
 returns-in_default c =
-    unanswered (λ (b a : Option Kept) (told : Status). GivenBack b a c.args.client.now.value c.args.client.now.value told) _ _ _
+    unanswered (λ (b a : Option Kept) (returned : Status). GivenBack b a c.args.client.now.value c.args.client.now.value returned) _ _ _
     c.in_default.ensures.taken c.take.ensures.none c.number.ensures (refl, refl, refl)

@@ -6,26 +6,26 @@ pub returns-in-Holding-clause-holds : goal.returns-in-Holding-clause-holds
 returns-in-Holding-clause-holds c = record {
   answer = hold_answer.Holding c.in-Holding.hold;
   holds = c.in-Holding.ensures.holds;
-  tells = (refl, c.row_of_hold.ensures);
+  returns = (refl, c.row_of_hold.ensures);
 }
 
 pub returns-in-Miss-clause-holds : goal.returns-in-Miss-clause-holds
 returns-in-Miss-clause-holds c = record {
   answer = hold_answer.Miss;
   holds = c.in-Miss.ensures.holds;
-  tells = (refl, refl);
+  returns = (refl, refl);
 }
 
 pub returns-in-Busy-clause-holds : goal.returns-in-Busy-clause-holds
 returns-in-Busy-clause-holds c = record {
   answer = hold_answer.Busy;
   holds = c.in-Busy.ensures.holds;
-  tells = (refl, refl);
+  returns = (refl, refl);
 }
 
 pub returns-in-AlreadyHolding-clause-holds : goal.returns-in-AlreadyHolding-clause-holds
 returns-in-AlreadyHolding-clause-holds c = record {
   answer = hold_answer.AlreadyHolding;
   holds = c.in-AlreadyHolding.ensures.holds;
-  tells = (refl, refl);
+  returns = (refl, refl);
 }

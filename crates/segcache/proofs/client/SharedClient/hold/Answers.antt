@@ -15,7 +15,7 @@ invariant_of-self-clause-row c =
     let row : IsRowHeld (shape_of c.deref.result.now) before.pass self.held =
     subst (λ (i : Index). IsRowHeld (shape_of i) before.pass self.held) (sym c.deref.ensures) (subst (λ (p : Pass). IsRowHeld (shape_of self.index.value) p self.held) (sym c.set_now.ensures.sets.rest.pass) self.row) in
     subst (λ (i : Index). IsRowHeld (shape_of i) c.hold_row.new.member.pass c.hold_row.new.held) c.deref.ensures
-    (row_taken (board_of c.deref.result.now) c.args.key.now before.clock takes.answer c.hold_row.result self.held c.hold_row.new.held before.pass c.hold_row.new.member.pass takes.holds.holds takes.tells row)
+    (row_taken (board_of c.deref.result.now) c.args.key.now before.clock takes.answer c.hold_row.result self.held c.hold_row.new.held before.pass c.hold_row.new.member.pass takes.holds.holds takes.returns row)
 
 pub returns : goal.returns
 returns c =

@@ -1,7 +1,7 @@
 //! The exports of notes: what one client has seen, for another.
 ghost use Rattle.std.specs.Prelude.{◌≡◌, Some};
 ghost use Rattle.segcache.specs.Exports.{Answers};
-ghost use Rattle.segcache.specs.Telling.{FreesNote, IsNoteFor, Learned, Noted};
+ghost use Rattle.segcache.specs.Noting.{FreesNote, IsNoteFor, Learned, Noted};
 
 use crate::handle::Handle;
 use crate::kept::Kept;
@@ -17,9 +17,9 @@ pub extern "C" fn segcache_raw_note(alloc: Global, client: &mut Handle, note: &m
     let Some(mut kept) = client.take(alloc) else {
         return Status::NoHandle.number();
     };
-    let told = write_note(alloc, &mut kept, note);
+    let status = write_note(alloc, &mut kept, note);
     client.fill(alloc, kept);
-    told.number()
+    status.number()
 }
 
 /// The client has then seen all that the note has, and the note is used up.
@@ -33,9 +33,9 @@ pub extern "C" fn segcache_raw_learn(alloc: Global, client: &mut Handle, note: &
     let Some(mut kept) = client.take(alloc) else {
         return Status::NoHandle.number();
     };
-    let told = learn(alloc, &mut kept, note);
+    let status = learn(alloc, &mut kept, note);
     client.fill(alloc, kept);
-    told.number()
+    status.number()
 }
 
 /// Frees a note that nobody is to learn.

@@ -8,19 +8,19 @@ use Rattle.segcache.specs.declared.kept.Kept.TheVariants as kept
 use Rattle.segcache.specs.declared.status.Status.{Status}
 use Rattle.segcache.specs.declared.status.Status.TheVariants as status
 use Rattle.segcache.specs.Calls.{MakesCall}
-use Rattle.segcache.specs.Exports.{ByClient, Tells}
+use Rattle.segcache.specs.Exports.{ByClient, Returns}
 
 -- the note stands in its handle, unless the memory for it was refused
 abbrev pub KeepsNote : Note → Status → Option Kept → Option Kept → Type 0
-KeepsNote note told before after =
-    ((told ≡ status.Ok) × (after ≡ Some (kept.Note note)))
-    ⊎ ((told ≡ status.OutOfMemory) × (after ≡ before))
+KeepsNote note returned before after =
+    ((returned ≡ status.Ok) × (after ≡ Some (kept.Note note)))
+    ⊎ ((returned ≡ status.OutOfMemory) × (after ≡ before))
 
 -- the client made a note
 abbrev pub Noted : Option Kept → Option Kept → Option Kept → Option Kept → Status → Type 0
-Noted before after note next told =
-    ByClient (λ why. Tells told why × (next ≡ note))
-    (λ old new. (made : Note) × MakesCall (Notes made) old new × KeepsNote made told note next)
+Noted before after note next returned =
+    ByClient (λ why. Returns returned why × (next ≡ note))
+    (λ old new. (made : Note) × MakesCall (Notes made) old new × KeepsNote made returned note next)
     before after
 
 -- if these are a client and a note, the note was made by a client of the same index
@@ -31,13 +31,13 @@ IsNoteFor _ _ = Unit {0}
 
 -- the client learned the note of the handle, which is empty then; without one nothing was done
 abbrev pub LearnsFrom : Option Kept → Option Kept → Status → SharedClient → SharedClient → Type 0
-LearnsFrom (Some (kept.Note note)) next told old new =
-    (told ≡ status.Ok) × (next ≡ None) × MakesCall (Learns note) old new
-LearnsFrom note next told old new = (told ≡ status.NoHandle) × (next ≡ note) × (new ≡ old)
+LearnsFrom (Some (kept.Note note)) next returned old new =
+    (returned ≡ status.Ok) × (next ≡ None) × MakesCall (Learns note) old new
+LearnsFrom note next returned old new = (returned ≡ status.NoHandle) × (next ≡ note) × (new ≡ old)
 
 abbrev pub Learned : Option Kept → Option Kept → Option Kept → Option Kept → Status → Type 0
-Learned before after note next told =
-    ByClient (λ why. Tells told why × (next ≡ note)) (LearnsFrom note next told) before after
+Learned before after note next returned =
+    ByClient (λ why. Returns returned why × (next ≡ note)) (LearnsFrom note next returned) before after
 
 abbrev pub is_note : Kept → Bool
 is_note (kept.Note note) = true
@@ -45,5 +45,5 @@ is_note _ = false
 
 -- a handle with a note is empty then, and any other is as it was
 abbrev pub FreesNote : Option Kept → Option Kept → Status → Type 0
-FreesNote (Some (kept.Note note)) after told = (told ≡ status.Ok) × (after ≡ None)
-FreesNote before after told = (told ≡ status.NoHandle) × (after ≡ before)
+FreesNote (Some (kept.Note note)) after returned = (returned ≡ status.Ok) × (after ≡ None)
+FreesNote before after returned = (returned ≡ status.NoHandle) × (after ≡ before)
