@@ -3,6 +3,8 @@ pub mod Closing
 pub mod Ending
 pub mod Exports
 pub mod Made
+pub mod Noting
+pub mod Opening
 pub mod Owned
 pub mod Places
 pub mod Reading
@@ -11,6 +13,5 @@ pub mod Row
 pub mod Setting
 pub mod Sharing
 pub mod Status
-pub mod Noting
 pub mod Token
 pub mod Writing

@@ -11,16 +11,22 @@ use Rattle.segcache.specs.Calls.{MakesCall}
 use Rattle.segcache.specs.Exports.{ByClient, Returns}
 
 -- the note stands in its handle, unless the memory for it was refused
-abbrev pub KeepsNote : Note → Status → Option Kept → Option Kept → Type 0
-KeepsNote note returned before after =
-    ((returned ≡ status.Ok) × (after ≡ Some (kept.Note note)))
-    ⊎ ((returned ≡ status.OutOfMemory) × (after ≡ before))
+abbrev pub KeepsNote : Note → Status → Option Kept → Type 0
+KeepsNote note returned next =
+    ((returned ≡ status.Ok) × (next ≡ Some (kept.Note note)))
+    ⊎ ((returned ≡ status.OutOfMemory) × (next ≡ None))
 
--- the client made a note
+-- The client made a note for an empty handle. A handle in use is as it was,
+-- and nothing was done.
+abbrev pub NotesInto : Option Kept → Option Kept → Status → SharedClient → SharedClient → Type 0
+NotesInto None next returned old new =
+    (made : Note) × MakesCall (Notes made) old new × KeepsNote made returned next
+NotesInto (Some used) next returned old new =
+    (returned ≡ status.NoHandle) × (next ≡ Some used) × (new ≡ old)
+
 abbrev pub Noted : Option Kept → Option Kept → Option Kept → Option Kept → Status → Type 0
 Noted before after note next returned =
-    ByClient (λ why. Returns returned why × (next ≡ note))
-    (λ old new. (made : Note) × MakesCall (Notes made) old new × KeepsNote made returned note next)
+    ByClient (λ why. Returns returned why × (next ≡ note)) (NotesInto note next returned)
     before after
 
 -- if these are a client and a note, the note was made by a client of the same index

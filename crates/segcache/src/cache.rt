@@ -34,10 +34,13 @@ pub(crate) enum End {
 
 impl Cache {
     ghost use Rattle.segcache.specs.Closing.{EndsAs};
+    ghost use Rattle.segcache.specs.Opening.{IsNewHome};
     ghost use Rattle.segcache.specs.Returning.{HasPlaceFor, TakesBack};
 
     /// A cache with no pass in its places.
-    pub(crate) fn new(alloc: Global, index: Arc<Index, Global>) -> Result<Cache, AllocError> {
+    pub(crate) fn new(alloc: Global, index: Arc<Index, Global>) -> Result<Cache, AllocError>
+        ensures { IfOk result (IsNewHome index.value) }
+    {
         let places = no_passes(alloc, index.shape().passes)?;
         Ok(Cache { index, places })
     }
@@ -67,6 +70,7 @@ impl Cache {
     }
 
     /// Closes the index with all passes, if all are back, and lists its content.
+    /// It is Busy if somebody shares the index still, which no contract rules out.
     pub(crate) fn end(self, alloc: Global) -> End
         ensures { EndsAs self result }
     {
@@ -90,7 +94,7 @@ impl Cache {
             },
             Err(index) => End::Refused {
                 cache: Cache { index, places },
-                why: Status::ClientOut,
+                why: Status::Busy,
             },
         }
     }

@@ -5,8 +5,9 @@ ghost use Rattle.segcache.specs.Made.{WritesWhen};
 
 use crate::client::SharedClient;
 use crate::when::When;
-use segclient::{DeleteAnswer, GetAnswer, GetsAnswer, Index, Key, Member, PutAnswer};
-use segclient::{Value, WriteAnswer};
+use segclient::{
+    DeleteAnswer, GetAnswer, GetsAnswer, Index, Key, Member, PutAnswer, Value, WriteAnswer,
+};
 
 impl SharedClient {
     ghost use Rattle.segclient.specs.Made.{DeletesKey, Gets, GetsVersion};

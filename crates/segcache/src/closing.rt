@@ -35,17 +35,16 @@ pub extern "C" fn segcache_raw_give_back(
     status.number()
 }
 
-/// Closes a cache once all clients are back, and lists its content by a cursor.
+/// Closes a cache once all clients are back, and lists its content by a cursor in an empty handle.
 /// If memory for the list is refused, the cache is gone all the same.
 #[unsafe(no_mangle)]
-pub extern "C" fn segcache_raw_close(
-    alloc: Global,
-    cache: &mut Handle,
-    cursor: &mut Handle,
-) -> u32
+pub extern "C" fn segcache_raw_close(alloc: Global, cache: &mut Handle, cursor: &mut Handle) -> u32
     ensures { Answers result (Closed cache.old.value cache.new.value
         cursor.old.value cursor.new.value) }
 {
+    if !cursor.is_empty(alloc) {
+        return Status::NoHandle.number();
+    }
     let Some(mut kept) = cache.take(alloc) else {
         return Status::NoHandle.number();
     };

@@ -62,12 +62,7 @@ impl SharedClient {
 }
 
 // Holds the item of a key, and keeps its row.
-fn hold_row(
-    member: &mut Member,
-    index: &Index,
-    key: &Key,
-    held: &mut Option<HeldRow>,
-) -> Status
+fn hold_row(member: &mut Member, index: &Index, key: &Key, held: &mut Option<HeldRow>) -> Status
     requires member { IsMember index.now member.old }
     ensures member { IsMember index.now member.new }
     ensures holds { TakesHold key.now result held.old held.new

@@ -1,5 +1,5 @@
 //! The cache for C: exports on numbers, byte slices and handles, over clients that share an index.
-//! Each export makes one call of a client and answers with a status.
+//! An export by a client makes at most one call of it. Each export returns the number of a status.
 #![tactic(auto)]
 
 mod cache;

@@ -8,7 +8,7 @@ use crate::kept::Kept;
 use crate::status::Status;
 use std::alloc::Global;
 
-/// Makes a note of all that the client has seen, its own puts among it.
+/// Makes a note of all that the client has seen, its own puts among it, in an empty handle.
 #[unsafe(no_mangle)]
 pub extern "C" fn segcache_raw_note(alloc: Global, client: &mut Handle, note: &mut Handle) -> u32
     ensures { Answers result (Noted client.old.value client.new.value
@@ -60,6 +60,9 @@ fn write_note(alloc: Global, kept: &mut Kept, note: &mut Handle) -> Status
     let Kept::Client(client) = kept else {
         return Status::NoHandle;
     };
+    if !note.is_empty(alloc) {
+        return Status::NoHandle;
+    }
     let Ok(boxed) = Box::new(alloc, Kept::Note(client.note())) else {
         return Status::OutOfMemory;
     };

@@ -112,7 +112,12 @@ fn gets(
 }
 
 // The same of a gets, with the version.
-fn copy_gets(answer: GetsAnswer, value: &mut [u8], value_len: &mut usize, version: &mut u32) -> Status
+fn copy_gets(
+    answer: GetsAnswer,
+    value: &mut [u8],
+    value_len: &mut usize,
+    version: &mut u32,
+) -> Status
     ensures { ReturnsGets answer result (value.old, value_len.old) (value.new, value_len.new)
         version.old version.new }
 {

@@ -1,8 +1,4 @@
-use Rattle.std.proofs.Common.{◌≡◌, Option, refl, subst, rules}
-use Rattle.segcache.specs.declared.kept.Kept.{Kept}
-use Rattle.segcache.specs.declared.status.Status.TheVariants as status
-use Rattle.segcache.specs.Sharing.{MayBeGuest}
-use Rattle.segcache.proofs.Returned.{nobody_back, went_back}
+use Rattle.segcache.proofs.Returned.{nobody_back}
 use Rattle.segcache.proofs.closing.welcome_back.Goals as goal
 
 pub returns-in_default : goal.returns-in_default

@@ -1,9 +1,11 @@
-use Rattle.std.proofs.Common.{◌≡◌, ◌+◌, ◌≤◌, All, None}
+use Rattle.std.proofs.Common.{◌≡◌, ◌+◌, ◌≤◌, ◌++◌, map, All, None}
+use Rattle.std.specs.List.{AllZip}
 use Rattle.std.specs.Vec.{vec_capacity, vec_len}
 use Rattle.std.specs.Vec.Iter.{into_iter_items, into_iter_len}
 use Rattle.segbase.specs.Words.{holding}
 use Rattle.segindex.specs.Words.{board_of}
 use Rattle.segpass.specs.Words.{IsQuiet}
+use Rattle.segcache.specs.Opening.{in_box, IsGuest}
 use Rattle.segcache.proofs.opening.guests.Given as goal
 
 abbrev pub invariant-loop-pass : goal.invariant-loop-pass
@@ -13,4 +15,6 @@ invariant-loop-pass l = record {
   room : vec_len l.guests + into_iter_len l.pass-iterator ≤ vec_capacity l.guests;
   quiet : All (IsQuiet (board_of l.index.value)) (into_iter_items l.pass-iterator);
   bare : All (λ p. holding p ≡ None) (into_iter_items l.pass-iterator);
+  all : l.fn.passes.items ≡ l.yielded ++ into_iter_items l.pass-iterator;
+  made : AllZip (IsGuest l.index.value) l.yielded (map in_box l.guests.items);
 }

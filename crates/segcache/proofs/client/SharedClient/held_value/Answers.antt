@@ -1,4 +1,4 @@
-use Rattle.std.proofs.Common.{◌≡◌, rules, Some, refl, subst}
+use Rattle.std.proofs.Common.{◌≡◌, rules, Some, refl}
 use Rattle.segindex.specs.Words.{shape_of}
 use Rattle.segread.specs.Words.{HeldRow}
 use Rattle.segcache.specs.Calls.{MakesCall, ReadsRow}

@@ -1,4 +1,4 @@
-use Rattle.std.proofs.Common.{◌≡◌, refl, sym, ap, subst}
+use Rattle.std.proofs.Common.{refl, sym, subst}
 use Rattle.segbase.specs.Words.{Pass}
 use Rattle.segindex.specs.Words.{board_of, Index, shape_of}
 use Rattle.segcache.specs.Calls.{At, TakesHold}

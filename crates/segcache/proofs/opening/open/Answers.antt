@@ -1,0 +1,23 @@
+use Rattle.std.proofs.Common.{rules, ◌≡◌, length, map, sym, ◌∙◌}
+use Rattle.segcache.specs.Opening.{in_box}
+use Rattle.segcache.proofs.Opened.{opened_long, same_values}
+use Rattle.segcache.proofs.opening.open.Goals as goal
+
+pub hand_out-requires : goal.hand_out-requires
+hand_out-requires c =
+    let long : length c.args.handles.now ≡ c.args.shape.passes = search rules in
+    record { same = long ∙ sym (opened_long c.args.shape c.in-Ok.home.value c.in-Ok.guests.items c.in-Ok.ensures.opened) }
+
+pub returns-in-Ok : goal.returns-in-Ok
+returns-in-Ok c =
+    let long : length c.args.handles.now ≡ c.args.shape.passes = search rules in
+    let boxes = c.in-Ok.guests.items in (
+      long,
+      record {
+        home = c.in-Ok.home.value;
+        guests = map in_box boxes;
+        opened = c.in-Ok.ensures.opened;
+        cache_in = c.fill.ensures;
+        clients_in = c.hand_out.ensures ∙ same_values boxes;
+      },
+    )
