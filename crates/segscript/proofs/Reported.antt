@@ -1,20 +1,17 @@
 -- The bad line that is found in some bytes is the one that a run reports of them.
-use Rattle.std.proofs.Common.{◌≡◌, ℕ, ◌+◌, ◌<◌, ◌%◌, ◌^◌, ◌⊎◌, inl, inr, List, [], ◌∷◌, ◌++◌, length, Option, Some, None, refl, sym, ◌∙◌, ap, subst, arith, append_assoc, append-nil, length-append}
+use Rattle.std.proofs.Common.{◌≡◌, ℕ, ◌+◌, ◌%◌, ◌^◌, ◌⊎◌, inl, inr, List, [], ◌∷◌, ◌++◌, length, Option, Some, None, refl, sym, ◌∙◌, ap, subst, arith, append_assoc, append-nil, length-append}
 use Rattle.std.specs.Prelude.{is_some}
 use Rattle.std.specs.List.{flat_map, AllByRecursion}
 use Rattle.std.proofs.lemmas.Bool.{false≢true}
 use Rattle.std.proofs.lemmas.Grind.{flat_map-append}
-use Rattle.segword.specs.Words.{Shape}
-use Rattle.segmodel.specs.Words.{State}
 use Rattle.segscript.specs.Spelling.{PassTurn}
-use Rattle.segscript.specs.Script.{ended, IsBad, IsLine, Say, Steps}
-use Rattle.segscript.specs.Run.{IsSeenBad}
+use Rattle.segscript.specs.Script.{ended, IsBad, IsLine, Say}
 use Rattle.segscript.specs.Reasons.{line_fault}
-use Rattle.segscript.specs.Explaining.{AreFine, FindsBad, HasNoFault, IsFirstFault, number_after}
+use Rattle.segscript.specs.Explaining.{AreFine, FindsBad}
 use Rattle.segscript.specs.Laws.{ExplainedIsReported}
 use Rattle.segscript.specs.declared.explain.BadLine.{BadLine}
 use Rattle.segscript.proofs.LineLemmas.{IsLine-append, lines-append}
-use Rattle.segscript.proofs.OneBadLine.{Cut, cut, good_line, not_empty, one_line, says_rest, step}
+use Rattle.segscript.proofs.OneBadLine.{cut, good_line, not_empty, one_line, says_rest, step}
 use Rattle.segscript.proofs.Reasons.{has_fault, is_bad}
 
 module _ (passes : ℕ) where
@@ -108,8 +105,8 @@ explained shape start end seen text n found reported finds = by found finds
 
     by : (found : Option BadLine) → FindsBad passes seen found → (bad : BadLine) × (found ≡ Some bad) × (bad.number ≡ n % 2 ^ 64)
     by None none = absurd (goes_past passes (none.lines ++ none.rest ∷ []) reported.lines closed.bad closed.more
-    (lines-append none.lines (none.rest ∷ []) none.splits.each (none.splits.partial, tt)) (fine_good passes (none.lines ++ none.rest ∷ []) all)
-    reported.each closed.unbroken closed.is_bad (sym closed.whole ∙ ap (λ b. b ++ 10 ∷ []) none.splits.whole ∙ simp (flat_map-append, append_assoc, append-nil)))
+        (lines-append none.lines (none.rest ∷ []) none.splits.each (none.splits.partial, tt)) (fine_good passes (none.lines ++ none.rest ∷ []) all)
+        reported.each closed.unbroken closed.is_bad (sym closed.whole ∙ ap (λ b. b ++ 10 ∷ []) none.splits.whole ∙ simp (flat_map-append, append_assoc, append-nil)))
       where
         join : (xs : List (List ℕ)) → AreFine passes xs → AreFine passes (xs ++ none.rest ∷ [])
         join [] fine = (none.last, tt)

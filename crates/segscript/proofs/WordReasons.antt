@@ -1,38 +1,29 @@
 -- A word has a fault exactly if it is not what its place in a line asks for.
 use Rattle.std.proofs.Common.{◌≡◌, ◌≢◌, ℕ, ◌+◌, ◌<◌, ◌≤◌, ◌^◌, Bool, true, false, inl, inr, ◌⊎◌, List, [], ◌∷◌, length, drop, codes, refl, sym, ◌∙◌, ap, subst, arith, Option, Some, None, true≢false, get_or, map}
-use Rattle.std.specs.Prelude.{◌==◌, ◌&&◌, not, nat_lt, if◌then◌else◌, slice_index, is_some, IsSome, decimal}
+use Rattle.std.specs.Prelude.{◌==◌, ◌&&◌, not, nat_lt, if◌then◌else◌, slice_index, decimal}
 use Rattle.std.specs.List.{list_all, AllByRecursion}
 use Rattle.std.specs.Char.{is_ascii_digit}
 use Rattle.std.specs.Str.{all_ascii_digits, bytes_eq}
 use Rattle.std.specs.Str.Parse.{digits_value}
-use Rattle.std.proofs.lemmas.Bool.{eqb-true, eqb-false, eq-eqb, ne_eqb, ltb-true, ltb-false, lt-ltb, le-ltb, and_parts, and_cases, and_from, and_left, and_right, or_parts, or_from, not_from_true, cases_lt}
+use Rattle.std.proofs.lemmas.Bool.{eqb-true, eqb-false, ne_eqb, ltb-true, ltb-false, lt-ltb, le-ltb, and_parts, and_cases, and_from, and_left, and_right, or_parts, or_from, not_from_true}
 use Rattle.std.proofs.lemmas.Bool.Decides.{eqb_tells, not_from_Decides}
 use Rattle.std.proofs.lemmas.Slice.Eq.{bytes_eq-Decides}
 use Rattle.std.proofs.lemmas.Str.Parse.{IsNumeralModel, numerals_by_value, tells_all_ascii_digits}
 use Rattle.std.proofs.lemmas.Fmt.{decimal-digits_value, decimal_is_IsNumeral}
-use Rattle.segmodel.specs.declared.request.Request.TheVariants.{Set, Add, Replace, Cas, Delete}
-use Rattle.segmodel.specs.declared.answer.Command.TheVariants.{Write, Get, Gets, Evict, Keep, Refill}
-use Rattle.segmodel.specs.Words.{Turn}
-use Rattle.segmodel.specs.declared.answer.Turn.TheVariants.{Serve, Hold, Held, Release, Lock, Unlock}
-use Rattle.segscript.specs.Spelling.{PassTurn, IsWordByte, IsNumber, IsFrequency, IsKeyWord, IsValueWord, IsWritable, IsSayable, value_word, moment_word, pass_word, spelling}
-use Rattle.segscript.specs.Laws.{BadLinesHaveAFault}
-use Rattle.segscript.specs.Script.{IsBad}
+use Rattle.segscript.specs.Spelling.{IsWordByte, IsNumber, IsFrequency, IsKeyWord, IsValueWord, value_word, moment_word, pass_word}
 use Rattle.std.specs.Borrow.{Bor}
 use Rattle.std.proofs.lemmas.List.{drop_more}
 use Rattle.segscript.specs.Reading.{ReadsAs}
-use Rattle.segscript.specs.Verb.{IsVerb, verb, verb_word, arguments_of, IsTurnOf, IsPass, line_words}
-use Rattle.segscript.specs.Reasons.{is_word_byte, are_no_digits, has_leading_zero, or_else, number_fault, below_fault, bytes_fault, commands, named_among, command_fault, part_fault, word_fault, argument_parts, parts_behind, line_parts, at_place, words_fault, line_fault}
+use Rattle.segscript.specs.Verb.{IsVerb, verb_word, IsPass}
+use Rattle.segscript.specs.Reasons.{is_word_byte, are_no_digits, has_leading_zero, or_else, number_fault, below_fault, bytes_fault, commands, named_among, command_fault, part_fault, word_fault, parts_behind, line_parts, at_place, words_fault}
 use Rattle.segscript.specs.declared.reason.LineFault.{LineFault}
-use Rattle.segscript.specs.declared.reason.LineFault.TheVariants as fault
 use Rattle.segscript.specs.declared.reason.Part.{Part}
 use Rattle.segscript.specs.declared.reason.Part.TheVariants as part
 use Rattle.segscript.specs.declared.reason.WordFault.{WordFault}
 use Rattle.segscript.specs.declared.reason.WordFault.TheVariants as why
 use Rattle.segscript.specs.declared.verb.Verb.{Verb}
 use Rattle.segscript.specs.declared.verb.Verb.TheVariants as verbs
-use Rattle.segscript.proofs.Lines.{lines_fit}
 use Rattle.segscript.proofs.Numbers.{BeginsPlainly-decimal}
-use Rattle.segscript.proofs.WordLemmas.{spaces, spaces-spelling, ReadsAs-line, few_words}
 
 -- ---- tests that find no fault
 

@@ -1,7 +1,7 @@
 -- What a reader finds that looks for the first bad line in the bytes that it hands out.
 use Rattle.std.specs.Prelude.{◌≡◌, ◌⊎◌, ℕ, ◌+◌, ◌%◌, ◌^◌, ◌<◌, List, [], ◌∷◌, ◌++◌, length, take, Option, Some, None, refl}
 use Rattle.std.specs.List.{flat_map, AllByRecursion}
-use Rattle.std.proofs.Common.{append_assoc, append-nil, sym, ◌∙◌, ap, subst}
+use Rattle.std.proofs.Common.{append_assoc, append-nil, sym, ◌∙◌, subst}
 use Rattle.segscript.specs.Reasons.{line_fault}
 use Rattle.segscript.specs.Script.{ended, IsLine, Splits}
 use Rattle.segscript.specs.declared.explain.BadLine.{BadLine}

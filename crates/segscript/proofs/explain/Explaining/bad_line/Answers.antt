@@ -10,4 +10,4 @@ pub returns : goal.returns
 returns g c = λ seen looked.
     let own = c.args.self.now in
     finds_own own.passes own.line.items own.number c.fault_of_line.result seen c.fault_of_line.ensures
-    (subst (λ bad. HasLookedFor (look_at own.passes own.line.items own.number own.bad) bad seen) (none_there own.bad (sym c.if-is_some.ensures)) looked)
+    (subst (λ bad. HasLookedFor (look_at own.passes own.line.items own.number bad) bad seen) (none_there own.bad (sym c.if-is_some.ensures)) looked)
