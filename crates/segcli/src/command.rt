@@ -2,7 +2,7 @@
 ghost use Rattle.std.specs.Prelude.{◌≡◌, false, Result, IfOk, IfErr};
 ghost use Rattle.std.specs.Int.NonZero.{non_zero_u32_get};
 ghost use Rattle.segload.specs.declared.totals.Totals.{Totals};
-ghost use Rattle.segload.specs.Words.{IsLoad, IsLoadFault, lets_all_through};
+ghost use Rattle.segload.specs.Words.{IsLoad, IsLoadFault, knows_nothing, lets_all_through};
 ghost use Rattle.segcli.specs.declared.fault.ProgramFault.{ProgramFault};
 ghost use Rattle.segcli.specs.Faults.{is_write_end};
 ghost use Rattle.segcli.specs.Totals.{text_in};
@@ -165,7 +165,7 @@ fn totals_of<R: Threads + Wait + AllocGlobal + Sync, V: Watch>(
     ensures load { IfOk result (IsLoad load.now.shape load.now.seed
         (non_zero_u32_get load.now.keys) load.now.commands) }
     ensures fault { IfErr result (IsLoadFault load.now.shape load.now.commands
-        lets_all_through) }
+        lets_all_through knows_nothing) }
 {
     let shape = load.shape;
     let plan = Plan {
