@@ -7,7 +7,7 @@ use Rattle.std.specs.Prelude.{◌≡◌, ◌⊎◌, ℕ, ◌<◌, Bool, false, t
 abbrev pub lets_all_through : ℕ → ℕ → Bool → Type 0
 lets_all_through pass call answer = answer ≡ true
 
--- A gate that was told of a command knows nothing of it.
+-- By default nothing more is so of a gate once it was told of a command.
 abbrev pub knows_nothing : ℕ → ℕ → Type 0
 knows_nothing pass call = ⊤
 

@@ -1,8 +1,8 @@
-//! Why a load gave no totals.
+//! Why a load failed.
 use segindex::MakeFault;
 use thiserror::Error;
 
-/// Why a load gave no totals.
+/// Why a load failed.
 #[derive(Clone, Copy, Debug, PartialEq, Eq, Error)]
 pub enum LoadFault {
     /// The index couldn't be created, so no command was made either.

@@ -10,16 +10,16 @@ pub trait Gate: Sync {
     /// What the gate may answer before a command of a pass.
     ghost may_answer: { Self → ℕ → ℕ → Bool → Type 0 } = { λ gate pass call answer. ⊤ };
 
-    /// What the gate knows once it was told of a command of a pass.
+    /// What is so of the gate once `answered` was called for a command of a pass.
     ghost told: { Self → ℕ → ℕ → Type 0 } = { λ gate. knows_nothing };
 
     /// Whether the pass may make the command. If it may not, the pass stops.
-    /// The gate was told of all earlier commands of the pass.
+    /// `answered` was called for all earlier commands of the pass.
     fn enter(&self, pass: u32, call: u32) -> bool
         requires { IsToldOf (told self.now) call pass }
         ensures { may_answer self.now pass call result };
 
-    /// Tells the gate that a command was answered. It is a command that the gate may let through.
+    /// The command was answered. It is one that the gate may let through.
     fn answered(&self, pass: u32, call: u32)
         requires { may_answer self.now pass call true }
         ensures { told self.now pass call };

@@ -169,8 +169,8 @@ fn count_keys(alloc: Global, index: Index, passes: Vec<Pass>) -> Option<u32>
 /// Runs a load on a new index: each pass makes the commands of the plan.
 /// The totals count how the commands were answered.
 ///
-/// The call waits for its threads, one for each pass. What its contract says holds if it returns.
-/// The contract says nothing of threads, or of how often the gate is asked. Tests do.
+/// The call waits for its threads, one for each pass. Its contract holds if it returns.
+/// The contract doesn't cover threads, or how often the gate is asked. Tests do.
 pub fn run_crowd<R: Threads + Wait + AllocGlobal + Sync, G: Gate>(
     rt: &R,
     alloc: Global,
