@@ -62,12 +62,12 @@ module _ (b : Board) (may_answer : ℕ → ℕ → Bool → Type 0) (told : ℕ 
       let there = slice_get-get_or (worker ∷ more) pass worker (omega (arith, long, below)) in
       (worked pass _ there).worked.told_of (none pass _ there)
 
-  ran_to_end : (n : ℕ) (worker : Worker) (is_stopped : Bool) → worker.is_stopped ≡ is_stopped → HasMadePlan b may_answer told plan n worker → RanToEnd may_answer plan.commands n
+  ran_to_end : (n : ℕ) (worker : Worker) (is_stopped : Bool) → worker.is_stopped ≡ is_stopped → HasMadePlan b may_answer told plan n worker → RanToEnd may_answer told plan.commands n
   ran_to_end n worker true stopped worked = inr (worked.worked.stopped stopped).0
-  ran_to_end n worker false runs worked = inl (worked.worked.let_through runs)
+  ran_to_end n worker false runs worked = inl (worked.worked.let_through runs, worked.worked.told_of runs)
 
   -- the first that was stopped is the lowest of those that the gate stopped
-  pub stopped_first : (workers : List Worker) (pass : ℕ) → IsValid b.shape → length workers ≡ b.shape.passes → AllWorked workers → IsFirstStopped workers pass → IsStopped b.shape plan.commands may_answer pass
+  pub stopped_first : (workers : List Worker) (pass : ℕ) → IsValid b.shape → length workers ≡ b.shape.passes → AllWorked workers → IsFirstStopped workers pass → IsStopped b.shape plan.commands may_answer told pass
   stopped_first workers pass valid long worked first =
       let made = worked first.place first.worker first.there in
       let done = made.worked in
@@ -75,9 +75,11 @@ module _ (b : Board) (may_answer : ℕ → ℕ → Bool → Type 0) (told : ℕ 
       let within = slice_get_within workers first.place first.worker first.there in record {
         valid = valid;
         one_of = numbered first.place first.worker pass made first.of;
-        stops = subst (Stops may_answer plan.commands) (sym is) (done.stopped first.stopped).0;
+        stops = subst (Stops may_answer told plan.commands) (sym is) (done.stopped first.stopped).0;
         lowest = λ lower below. let there = slice_get-get_or workers lower first.worker (omega (arith, is, below, within)) in
-            (worked lower _ there).worked.let_through (first.first lower _ (omega (arith, is, below)) there);
+            let runs = first.first lower _ (omega (arith, is, below)) there in
+            let went = (worked lower _ there).worked in
+            (went.let_through runs, went.told_of runs);
         each = λ other below.
             let there = slice_get-get_or workers other first.worker (omega (arith, long, below)) in
             ran_to_end other _ _ refl (worked other _ there);

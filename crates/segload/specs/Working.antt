@@ -47,8 +47,7 @@ pub record HasWorked (b : Board) (may_answer : ℕ → ℕ → Bool → Type 0) 
   pub let_through : worker.is_stopped ≡ false → LetsThrough may_answer commands pass
   pub told_of : worker.is_stopped ≡ false → IsToldOf told commands pass
   pub stopped : worker.is_stopped ≡ true
-      → (stops : Stops may_answer commands pass) × IsAtWork b draws first stops.call worker
-      × IsToldOf told stops.call pass
+      → (stops : Stops may_answer told commands pass) × IsAtWork b draws first stops.call worker
 
 -- The worker is that of the pass of this number, which is new.
 pub record BeginsLoad (b : Board) (draws : Draws) (pass : ℕ) (worker : Worker) : Type 0 where

@@ -169,9 +169,8 @@ fn count_keys(alloc: Global, index: Index, passes: Vec<Pass>) -> Option<u32>
 /// Runs a load on a new index: each pass makes the commands of the plan.
 /// The totals count how the commands were answered.
 ///
-/// The call waits for its threads, one for each pass. What its contract says holds if it returns.
-/// The contract says nothing of threads, of how often the gate is asked,
-/// or of what the other passes do if the gate stops one. Tests do.
+/// The call waits for its threads, one for each pass. Its contract holds if it returns.
+/// The contract doesn't cover threads, or how often the gate is asked. Tests do.
 pub fn run_crowd<R: Threads + Wait + AllocGlobal + Sync, G: Gate>(
     rt: &R,
     alloc: Global,
@@ -184,7 +183,8 @@ pub fn run_crowd<R: Threads + Wait + AllocGlobal + Sync, G: Gate>(
     ensures let_through { IfOk result
         (λ _. IsLetThrough shape plan.commands (G.may_answer gate.now)) }
     ensures told { IfOk result (λ _. IsToldOfAll shape plan.commands (G.told gate.now)) }
-    ensures fault { IfErr result (IsLoadFault shape plan.commands (G.may_answer gate.now)) }
+    ensures fault { IfErr result (IsLoadFault shape plan.commands
+        (G.may_answer gate.now) (G.told gate.now)) }
 {
     let (index, passes) = match Index::new(alloc, shape) {
         Ok(made) => made,

@@ -97,6 +97,10 @@ LooksAt old bytes new =
 pub looks_none : (look : Look) → LooksAt look [] look
 looks_none look = (refl, λ seen looked. subst (HasLooked look) (sym (append-nil seen)) looked)
 
-pub looks_more : (s t u : Look) (a b : List ℕ) → LooksAt s a t → LooksAt t b u → LooksAt s (a ++ b) u
-looks_more s t u a b first then =
-    (then.0 ∙ first.0, λ seen looked. subst (HasLooked u) (append_assoc seen a b) (then.1 (seen ++ a) (first.1 seen looked)))
+pub looks_more : (s t u : Look) (a b : List ℕ) → LooksAt s a t → LooksAt t b u
+    → LooksAt s (a ++ b) u
+looks_more s t u a b first then = (
+  then.0 ∙ first.0,
+  λ seen looked. subst (HasLooked u) (append_assoc seen a b)
+      (then.1 (seen ++ a) (first.1 seen looked)),
+)

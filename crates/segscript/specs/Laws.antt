@@ -29,7 +29,8 @@ BadLinesHaveAFault = (passes : ℕ) (line : List ℕ)
 -- If a run reports a line of these bytes as bad, a bad line is found in them, and it has the number
 -- of the line that is reported, modulo 2^64. A run reports a line even before the bytes end.
 abbrev pub ExplainedIsReported : Type 0
-ExplainedIsReported = (shape : Shape) (start end : State) (seen text : List ℕ) (n : ℕ) (found : Option BadLine)
+ExplainedIsReported = (shape : Shape) (start end : State) (seen text : List ℕ) (n : ℕ)
+    (found : Option BadLine)
     → IsSeenBad shape.passes (Steps shape) start end (Unit {0}) seen text n
     → FindsBad shape.passes seen found
     → (bad : BadLine) × (found ≡ Some bad) × (bad.number ≡ n % 2 ^ 64)

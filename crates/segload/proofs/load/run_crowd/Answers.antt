@@ -15,7 +15,7 @@ returns-in-Some-clause-fault g c =
     let told = g.G.Gate.told c.args.gate.now in
     let workers = c.in-Ok-work_at_once.workers in
     let long : length workers.items ≡ b.shape.passes = sym workers.ok.0 ∙ (c.in-Ok-work_at_once.ensures.long ∙ c.in-Ok-begin_all.ensures.long) in
-    subst (λ shape. IsStopped shape c.args.plan.commands may_answer c.in-Some.pass) new.made.of
+    subst (λ shape. IsStopped shape c.args.plan.commands may_answer told c.in-Some.pass) new.made.of
     (stopped_first b may_answer told plan workers.items c.in-Some.pass (subst IsValid (sym new.made.of) new.made.valid) long c.in-Ok-work_at_once.ensures.each c.in-Some.ensures.some)
 
 pub end_all-requires : goal.end_all-requires
