@@ -1,5 +1,6 @@
 -- What the exports do that open a cache.
-use Rattle.std.specs.Prelude.{◌≡◌, ◌⊎◌, ℕ, List, length, map, replicate, Option, Some, None}
+use Rattle.std.specs.Prelude.{◌≡◌, ◌⊎◌, ℕ, Bool, true, false, List, [], ◌∷◌, length, map}
+use Rattle.std.specs.Prelude.{replicate, Option, Some, None, is_none}
 use Rattle.std.specs.Global.{Box}
 use Rattle.std.specs.List.{AllZip}
 use Rattle.segword.specs.Shape.{HasRoomFor, IsFaultOfKeys}
@@ -69,26 +70,45 @@ pub record Opens (shape : Shape) (cache : Option Kept) (clients : List Handle) :
   pub cache_in : cache ≡ Some home
   pub clients_in : values_of clients ≡ map Some guests
 
--- each handle is as it was
+-- each handle has what it had
 abbrev pub LeavesAll : Option Kept → Option Kept → List Handle → List Handle → Type 0
-LeavesAll before after clients next = (after ≡ before) × (next ≡ clients)
+LeavesAll before after clients next =
+    (after ≡ before) × (values_of next ≡ values_of clients)
 
--- there is no client for some handle, or no handle for some client
-abbrev pub AreTooFewOrMany : Shape → List Handle → Type 0
-AreTooFewOrMany shape clients = ¬ (length clients ≡ shape.passes)
+-- whether there is nothing in any of them
+abbrev pub are_empty : List (Option Kept) → Bool
+are_empty [] = true
+are_empty (None ∷ values) = are_empty values
+are_empty (Some used ∷ values) = false
 
--- Ok: the handles have a new cache and its clients. BadShape: the number of handles is not that
--- of the passes, or the shape has a fault. OutOfMemory comes only for a shape that can be.
--- Then each handle is as it was.
+-- each handle is empty, and there is one for each client
+pub record AreHandlesFor (shape : Shape) (before : Option Kept) (clients : List Handle)
+    : Type 0 where
+  pub count : length clients ≡ shape.passes
+  pub cache : before ≡ None
+  pub clients_empty : are_empty (values_of clients) ≡ true
+
+-- one of them is in use
+abbrev pub IsInUse : Option Kept → List Handle → Type 0
+IsInUse before clients =
+    (is_none before ≡ false) ⊎ (are_empty (values_of clients) ≡ false)
+
+-- Ok: the handles were empty, and have a new cache and its clients. BadShape: the number of handles
+-- is not that of the passes, or the shape has a fault. NoHandle: a handle is in use.
+-- OutOfMemory comes only for a shape that can be. Then each handle has what it had.
 abbrev pub OpensShape : Shape → Option Kept → Option Kept → List Handle → List Handle → Status
     → Type 0
 OpensShape shape before after clients next status.Ok =
-    (length clients ≡ shape.passes) × Opens shape after next
+    AreHandlesFor shape before clients × Opens shape after next
 OpensShape shape before after clients next status.BadShape =
-    (AreTooFewOrMany shape clients ⊎ ((fault : ShapeFault) × IsFirstFault shape fault))
+    (¬ (length clients ≡ shape.passes)
+    ⊎ (AreHandlesFor shape before clients × ((fault : ShapeFault) × IsFirstFault shape fault)))
+    × LeavesAll before after clients next
+OpensShape shape before after clients next status.NoHandle =
+    (length clients ≡ shape.passes) × IsInUse before clients
     × LeavesAll before after clients next
 OpensShape shape before after clients next status.OutOfMemory =
-    (length clients ≡ shape.passes) × IsValid shape × LeavesAll before after clients next
+    AreHandlesFor shape before clients × IsValid shape × LeavesAll before after clients next
 OpensShape shape before after clients next _ = ⊥
 
 abbrev pub shape_from : CacheShape → Shape

@@ -5,8 +5,8 @@ ghost use Rattle.segbase.specs.Words.{holding, IsMakeFault};
 ghost use Rattle.segindex.specs.Words.{board_of};
 ghost use Rattle.segpass.specs.Words.{IsQuiet};
 ghost use Rattle.segcache.specs.Exports.{Answers};
-ghost use Rattle.segcache.specs.Opening.{in_box, IsGuest, IsOpened, OpensKeys, OpensShape};
-ghost use Rattle.segcache.specs.Opening.{put_in, shape_from, values_of};
+ghost use Rattle.segcache.specs.Opening.{are_empty, in_box, IsGuest, IsOpened, OpensKeys};
+ghost use Rattle.segcache.specs.Opening.{OpensShape, put_in, shape_from, values_of};
 
 use crate::cache::Cache;
 use crate::client::SharedClient;
@@ -29,7 +29,7 @@ pub struct CacheShape {
     pub first_version: u32,
 }
 
-/// Opens a cache for so many keys, with a client for each thread.
+/// Opens a cache for so many keys, with a client for each thread, in empty handles.
 #[unsafe(no_mangle)]
 pub extern "C" fn segcache_raw_open(
     alloc: Global,
@@ -47,7 +47,7 @@ pub extern "C" fn segcache_raw_open(
     }
 }
 
-/// Opens a cache of this shape, with a client for each of its passes.
+/// Opens a cache of this shape, with a client for each of its passes, in empty handles.
 #[unsafe(no_mangle)]
 pub extern "C" fn segcache_raw_open_shape(
     alloc: Global,
@@ -69,12 +69,15 @@ pub extern "C" fn segcache_raw_open_shape(
     open(alloc, shape, cache, clients).number()
 }
 
-// A cache of the shape. Nothing is written if the answer isn't Ok.
+// A cache of the shape in empty handles. They stay empty unless it is Ok.
 fn open(alloc: Global, shape: Shape, cache: &mut Handle, handles: &mut [Handle]) -> Status
     ensures { OpensShape shape cache.old.value cache.new.value handles.old handles.new result }
 {
     if handles.len() != shape.passes as usize {
         return Status::BadShape;
+    }
+    if !cache.is_empty(alloc) || !are_empty(alloc, handles) {
+        return Status::NoHandle;
     }
     match make(alloc, shape) {
         Ok((home, guests)) => {
@@ -85,6 +88,19 @@ fn open(alloc: Global, shape: Shape, cache: &mut Handle, handles: &mut [Handle])
         Err(MakeFault::Shape(_)) => Status::BadShape,
         Err(MakeFault::OutOfMemory) => Status::OutOfMemory,
     }
+}
+
+// Whether no handle has a value.
+fn are_empty(alloc: Global, handles: &mut [Handle]) -> bool
+    ensures empty { result ≡ are_empty (values_of handles.old) }
+    ensures same { values_of handles.new ≡ values_of handles.old }
+{
+    for at in 0..handles.len() {
+        if !handles[at].is_empty(alloc) {
+            return false;
+        }
+    }
+    true
 }
 
 // Puts a client into each handle, in their order.
