@@ -12,7 +12,7 @@ use segword::{Key, Value};
 
 /// A pass of an index, for one thread at a time.
 ///
-/// It knows the segments of the pass, which `put` gives up in turn, draws the random numbers
+/// It knows the segments of the pass, which `put` recycles in turn, draws the random numbers
 /// that raise frequencies, and has a clock, which stands still until the caller sets it.
 #[derive(Drop)]
 pub struct Client<'i> {
@@ -57,7 +57,7 @@ impl<'i> Client<'i> {
         self.member.set_now(now);
     }
 
-    /// What its calls came to so far.
+    /// The counts of its calls so far.
     pub fn stats(&self) -> Stats
         ensures { result ≡ self.now.member.stats }
     {
@@ -65,8 +65,8 @@ impl<'i> Client<'i> {
     }
 
     /// What the client sees of the table: the overflow buckets in use,
-    /// the used rows of its own segments, and how many of these an item names.
-    /// The others are dead. It goes over all these rows, so it takes long.
+    /// the used rows of its own segments, and how many used rows an item names.
+    /// The others are dead. It goes over all used rows, so it takes long.
     pub fn index_stats(&mut self) -> IndexStats
         ensures reads { MakesCall (ReturnsTable result) self.old self.new }
     {
@@ -96,14 +96,14 @@ impl<'i> Client<'i> {
         self.member.set(self.index, key, value)
     }
 
-    /// Stores the value if the key is absent. Otherwise the answer is NotStored.
+    /// Stores the value if the key is absent. Otherwise it returns NotStored.
     pub fn add(&mut self, key: &Key, value: &Value) -> WriteAnswer
         ensures writes { MakesCall (MakesWrite (Add key.now value.now) result) self.old self.new }
     {
         self.member.add(self.index, key, value)
     }
 
-    /// Stores the value if the key is present. Otherwise the answer is NotStored.
+    /// Stores the value if the key is present. Otherwise it returns NotStored.
     pub fn replace(&mut self, key: &Key, value: &Value) -> WriteAnswer
         ensures writes { MakesCall (MakesWrite (Replace key.now value.now) result)
             self.old self.new }
@@ -112,7 +112,7 @@ impl<'i> Client<'i> {
     }
 
     /// Stores the value if the key is present and its bucket has the expected version.
-    /// Otherwise the answer is NotFound if the key is absent, and else Exists.
+    /// Otherwise it returns NotFound if the key is absent, and else Exists.
     pub fn cas(&mut self, key: &Key, value: &Value, expected: u32) -> WriteAnswer
         ensures writes { MakesCall (MakesWrite (Cas key.now value.now expected) result)
             self.old self.new }
@@ -152,8 +152,8 @@ impl<'i> Client<'i> {
         self.member.keep_from(cutoff);
     }
 
-    /// Makes room for a write that was answered NoRoom, as `put` does,
-    /// and says whether that came about.
+    /// Makes room for a write that returned NoRoom, as `put` does,
+    /// and returns whether there is room.
     pub fn make_room(&mut self) -> bool
         ensures makes { MakesCall (MakesRoomFor result) self.old self.new }
     {
@@ -163,13 +163,13 @@ impl<'i> Client<'i> {
     /// Stores the value under the key, and makes room for it if there is none.
     ///
     /// If no row is left, or the segment that it stores into has expired,
-    /// it gives up the one of its segments that was filled before the others:
+    /// it recycles the one of its segments that was filled before the others:
     /// it evicts it, and refills it to expire a time to live from now.
-    /// A segment that can't be given up is passed over until its next turn.
+    /// A segment that can't be recycled is passed over until its next turn.
     /// The one that it stores into comes last.
     /// If there is a cutoff, it then clears the segment that is next:
     /// it moves what was read often into the one that it stores into,
-    /// and evicts what is left, as far as each comes about.
+    /// and evicts what is left, as far as each succeeds.
     /// If that left no row, it makes room once more, and keeps nothing.
     /// If the key's bucket is full, it evicts the oldest of its segments and tries once more.
     /// A busy set is made again, 16 times in a row at most.
@@ -180,14 +180,14 @@ impl<'i> Client<'i> {
         self.member.put(self.index, key, value)
     }
 
-    /// Lets go of the index. `wake` has the client again.
+    /// Takes the client apart from its index. `wake` joins them again.
     pub fn rest(self) -> Member
         ensures { result ≡ self.entry.member }
     {
         self.member
     }
 
-    /// The client that let go of this index.
+    /// The client that `rest` took apart from this index.
     #[inline(always)]
     pub fn wake(index: &'i Index, member: Member) -> Client<'i>
         requires member { IsMember index.now member }

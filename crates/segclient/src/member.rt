@@ -17,7 +17,7 @@ use segword::{Key, Value};
 /// What a client has beside its index: a pass of it, the segments of the pass, its draws,
 /// its clock, its settings and its counts.
 ///
-/// Each call of a client is a call of this, which is handed the index.
+/// Each call of a client is a call of a `Member`, which takes the index.
 #[derive(Drop)]
 pub struct Member {
     pub(crate) pass: Pass,

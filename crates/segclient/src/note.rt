@@ -1,4 +1,4 @@
-//! What one client tells another.
+//! What one client hands to another by a note.
 ghost use Rattle.std.specs.Prelude.{◌≡◌};
 ghost use Rattle.segclient.specs.Told.{PutStands};
 
@@ -77,7 +77,7 @@ impl<'i> Client<'i> {
 
 /// A put that is Stored has a moment after the first step of its call,
 /// right after which its value stood.
-/// So what `what_stood_is_read` says of later gets is said of puts too.
+/// So `what_stood_is_read` is about what was put, too.
 /// This function does nothing: its contract is the law.
 pub fn what_is_put_stands()
     ensures { PutStands }

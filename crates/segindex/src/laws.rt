@@ -1,4 +1,4 @@
-//! Laws of quiet passes and of replies, beside what the contracts of the calls say.
+//! Laws of quiet passes and of replies, beside the contracts of the calls.
 //! These functions do nothing: their contracts are the theorems.
 ghost use Rattle.segindex.specs.Laws.{SeenIsLegal, MarksAreBeside, KnowsItsOwn, OwnAreInTable};
 ghost use Rattle.segindex.specs.Laws.{UsedAreLinked, CurrentIsInUse, UnusedIsEmpty, LockedIsStill};
@@ -33,7 +33,7 @@ pub fn quiet_pass()
     ensures few_chained { ChainsAreShort }
 {}
 
-/// A keep with the cutoff 0 that is told Kept leaves no key in the segment.
+/// A keep with the cutoff 0 that returns Kept leaves no key in the segment.
 pub fn keep_of_all()
     ensures { KeptAllLeavesNone }
 {}
@@ -41,7 +41,7 @@ pub fn keep_of_all()
 /// If an index has one pass, each entry that the pass has seen is its own.
 /// No bit that it met, by a take or a look, was another's, and nobody else is in a segment.
 /// Only the bucket that it has locked itself is Busy.
-/// Each overflow bucket that was drawn has joined its chain.
+/// Each overflow bucket that was allocated has joined its chain.
 /// While the pass adds no entry, nothing comes into a bucket.
 pub fn one_pass()
     ensures own { AllAreOwn }
@@ -61,14 +61,14 @@ pub fn replies_at_a_moment()
 {}
 
 /// If all steps of one call come before all steps of another, of any passes,
-/// then no moment for which the one is answered is later than any for which the other is.
+/// then no moment at which the answer of the one holds is later than any for that of the other.
 /// So calls that are one entry or one read have an order that fits their order in time:
 /// an entry comes where it stands in the history, and a read right after its moment.
 pub fn calls_are_in_order()
     ensures points { PointsAreInOrder }
 {}
 
-/// A cas that expects the version that a gets of its key gave, and that is entered later,
+/// A cas that expects the version that a gets of its key returned, and that is entered later,
 /// is NotFound if the key is absent then.
 /// Otherwise the cas is Exists exactly if the numbers of its bucket's writes
 /// at the moments of the two calls differ modulo 2^32, and else Stored.

@@ -1,6 +1,6 @@
 //! The object index: its calls, for many passes on threads of their own.
 //! What a call reads, and how a write or a delete is replied,
-//! is what a cache used by one thread alone would answer,
+//! is what a cache used by only one thread would return,
 //! after some part of the history that all passes share.
 #![tactic(auto)]
 

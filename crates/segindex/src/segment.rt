@@ -10,7 +10,7 @@ impl Index {
     ghost use Rattle.segindex.specs.Refilling.{RefillsSegment};
 
     /// Takes every key out of a segment of the pass's own, so that it can be refilled.
-    /// From then on nothing is stored there before a refill, even if the answer is Busy.
+    /// From then on nothing is stored there before a refill, even if the evict is Busy.
     /// After a Busy, another evict takes out the keys that are left.
     pub fn evict(&self, pass: &mut Pass, segment: u32) -> EvictAnswer
         requires quiet { IsQuiet (board_of self.now) pass.old }
@@ -21,7 +21,7 @@ impl Index {
 
     /// Moves the items of a segment of the pass's own whose frequency is at least the cutoff.
     /// They go into another segment, the pass's current one, if both have the same deadline.
-    /// If the answer is NoRoom or Busy, what was moved stays moved,
+    /// If the keep is NoRoom or Busy, what was moved stays moved,
     /// and another keep goes on.
     pub fn keep(&self, pass: &mut Pass, segment: u32, cutoff: u8) -> KeepAnswer
         requires quiet { IsQuiet (board_of self.now) pass.old }

@@ -84,7 +84,7 @@ const WORDS: [&str; 7] = [
     "with status 2",
 ];
 
-/// Checks that the words are answered with a text that has these parts.
+/// Checks that for the words a text is printed that has these parts.
 fn check_shown<R: Threads + Wait + AllocGlobal + Abort + Sync>(
     rt: &R,
     words: &[&str],

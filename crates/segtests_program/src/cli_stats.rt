@@ -1,4 +1,4 @@
-//! What a load tells of the table at its end.
+//! What a load prints of the table at its end.
 use crate::cli_runs::{NO_TOTALS, SOUND, check_ended, check_same, run_watched};
 use segcli::{Pace, Totals, Watch, stats_text};
 use segindex::IndexStats;
