@@ -34,8 +34,8 @@ ghost use Rattle.segcore.specs.Laws.{KeysAreAsManyAsItems, KeysFitTheirChain};
 ghost use Rattle.segcore.specs.Laws.{FullChainHasAllItsKeys, ChainIsAsLongAsWide};
 ghost use Rattle.segcore.specs.Laws.{FilledWordHasContent};
 
-/// Whatever steps the passes take, in whatever order, the world that they reach is lawful, and says
-/// all that a lawful world says. What each pass has seen only grows,
+/// Whatever steps the passes take, in whatever order, the world that they reach is lawful, and has
+/// all that a lawful world has. What each pass has seen only grows,
 /// and each step sees all that has happened.
 /// If all steps of one call come before all steps of another, of any passes,
 /// the other has seen from its first step on what the one had seen.
@@ -49,12 +49,12 @@ pub fn every_schedule()
 
 /// A scan looks at all words of a chain. If it finds what it seeks in none of them, it passed a
 /// point at which that was nowhere.
-/// What a scan seeks is a key, or the word of the key that names a given row.
+/// What a scan seeks is a key, or the word of the key that names a row.
 pub fn miss_point()
     ensures { ScanPassesAMiss }
 {}
 
-/// What each lawful trace says; a pass has one at every moment.
+/// What holds of each lawful trace; a pass has one at every moment.
 pub fn lawful_trace()
     ensures legal { SeenHistoryIsLegal }
     ensures placed { MarksArePlaced }
@@ -66,13 +66,13 @@ pub fn lawful_trace()
     ensures segments { LawfulSegmentFacts }
 {}
 
-/// A step that a pass may take by what it has seen leaves words and trace as the rule wants them,
+/// A step that a pass can take by what it has seen leaves words and trace as the rule wants them,
 /// if only others added to the trace since.
 pub fn step_keeps_law()
     ensures { AllowedStepKeepsTheRule }
 {}
 
-/// What others leave alone while a pass does nothing, and what a step of its own adds to its
+/// What others don't change while a pass does nothing, and what a step of its own adds to its
 /// counts.
 pub fn between_steps()
     ensures others { OthersLeaveItAlone }
@@ -99,7 +99,7 @@ pub fn place_of_key()
     ensures there { PlaceHasTheKey }
 {}
 
-/// What the words of a chain say to one who has no bit. A word with another tag isn't the key's, and
+/// What a chain's words show to one who has no bit. A word with another tag isn't the key's, and
 /// one that names another row isn't the row's. The last word of a bucket leads on to the next or
 /// ends the chain. A chain only grows, and its places stay where they are.
 pub fn chain_words()

@@ -47,7 +47,7 @@ fn named_rows(board: &Board, pass: &mut Pass, segment: u32, used: u32) -> u32
     named
 }
 
-/// How many rows of its own segments the pass has used, and how many of these items named,
+/// How many rows of its own segments the pass has used, and how many used rows items named,
 /// each at a moment of the call. At its end no item names any of the others.
 pub fn count_rows(board: &Board, pass: &mut Pass) -> RowCounts
     requires quiet { IsQuiet board.now pass.old }

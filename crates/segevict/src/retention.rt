@@ -34,7 +34,7 @@ pub(crate) enum KeptRow {
 
 /// Moves the items of a segment of the pass's own whose frequency is the cutoff or over it
 /// into the pass's current segment. If no other segment with the same deadline is current,
-/// the answer is NoRoom(0). If the answer is NoRoom or Busy, what was moved stays moved,
+/// the keep is NoRoom(0). If it is NoRoom or Busy, what was moved stays moved,
 /// and another keep goes on.
 pub fn keep(board: &Board, pass: &mut Pass, segment: u32, cutoff: u8) -> KeepAnswer
     requires quiet { IsQuiet board.now pass.old }

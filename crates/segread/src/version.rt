@@ -40,8 +40,8 @@ enum Attempt {
 
 /// The value under a key at a moment with the version of the key's bucket,
 /// for a later compare-and-swap.
-/// The answer is Busy if the pass itself has the bucket locked and the key is present.
-/// A hit raises the frequency of the key's item if the draw, a random number, says so.
+/// It is Busy if the pass itself has the bucket locked and the key is present.
+/// A hit raises the frequency of the key's item if the draw, a random number, counts.
 pub fn gets(board: &Board, pass: &mut Pass, key: &Key, draw: u32, now: u32) -> GetsAnswer
     requires pass { IsQuiet board.now pass.old }
     ensures reads { ReadsVersion board.now key.now draw now result pass.old pass.new }
