@@ -11,7 +11,6 @@ use Rattle.segcore.specs.declared.event.Event.TheVariants.{Bounced}
 use Rattle.segcore.specs.Count as count
 use Rattle.segcore.specs.Words.{cached, Event, row_after, RowGone}
 use Rattle.segcore.proofs.Caches.{stands as standing_at, has_value}
-use Rattle.segcore.proofs.Moments.{begins_on}
 use Rattle.segcore.proofs.Standing.{coherent}
 use Rattle.segbase.specs.declared.pass.Plain.{Plain}
 use Rattle.segbase.specs.Words.{Board, bounced, current_of, mine, number, own_segment, Pass, seen}

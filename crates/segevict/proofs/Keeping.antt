@@ -5,7 +5,7 @@ use Rattle.std.proofs.lemmas.Option.{none-some, same_Some}
 use Rattle.segmodel.specs.declared.entry.Entry.TheVariants as entry
 use Rattle.segmodel.specs.declared.answer.KeepAnswer.TheVariants as keep
 use Rattle.segmodel.specs.declared.answer.SegState.TheVariants.{InUse}
-use Rattle.segmodel.specs.Words.{Begins, bucket_of, Cached, Entry, owner}
+use Rattle.segmodel.specs.Words.{bucket_of, Cached, Entry, owner}
 use Rattle.segcore.specs.Words.{cached, Event, row_after, RowGone}
 use Rattle.segcore.proofs.Caches.{has_value, stands as standing_at}
 use Rattle.segcore.proofs.Standing.{coherent}
@@ -24,7 +24,7 @@ use Rattle.segpass.proofs.Draws.{draws_none_then}
 use Rattle.segpass.proofs.Idling.{does_nothing}
 use Rattle.segwrite.specs.Words.{one_more}
 use Rattle.segwrite.proofs.Filling.{fills_calm}
-use Rattle.segevict.specs.declared.retention.KeptRow.TheVariants as kept
+use Rattle.segevict.specs.declared.retention.KeepRowAnswer.TheVariants as kept
 use Rattle.segevict.specs.Frequencies.{WasOften, WasSeldom}
 use Rattle.segevict.specs.Keeping.{AreMoves, AreSeldom, IsKeepTarget, KeepsItems, MovesAway, UsesRows}
 use Rattle.segevict.specs.Moving.{GoesInOrder, GoesOver, KeepsRow, moves, under_bit}
@@ -125,10 +125,10 @@ module _ (b : Board) (segment row into cutoff : ℕ) (q r : Pass) (own : owner b
       k.answer
 
 -- nothing but looks
-idle_changes : (b : Board) (q f : Pass) → IsQuiet b q → Idles b q f → ChangesNothing q f
+pub idle_changes : (b : Board) (q f : Pass) → IsQuiet b q → Idles b q f → ChangesNothing q f
 idle_changes b q f quiet i = does_nothing b q f quiet i.moved i.plain i.memo
 
-left_changes : (b : Board) (segment row into cutoff : ℕ) (q r : Pass) → IsQuiet b q → KeepsRow b segment row into cutoff kept.Left q r → ChangesNothing q r
+pub left_changes : (b : Board) (segment row into cutoff : ℕ) (q r : Pass) → IsQuiet b q → KeepsRow b segment row into cutoff kept.Left q r → ChangesNothing q r
 left_changes b segment row into cutoff q r quiet k = ⊎_elim
     (λ none. idle_changes b q r quiet none.0)
     (λ some. ⊎_elim (λ seldom. idle_changes b q r quiet seldom.idles) (λ went. went.4) some)

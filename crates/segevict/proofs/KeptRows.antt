@@ -4,7 +4,7 @@ use Rattle.std.proofs.lemmas.Bool.{cases_Bool, cond-true, eq-eqb, ne_eqb}
 use Rattle.std.proofs.lemmas.Option.{same_Some}
 use Rattle.segword.specs.Words.{Item, item_word}
 use Rattle.segmodel.specs.declared.entry.Entry.TheVariants.{Moved}
-use Rattle.segmodel.specs.Words.{Begins, bucket_of, Entry, tag_of}
+use Rattle.segmodel.specs.Words.{bucket_of, Entry, tag_of}
 use Rattle.segcore.specs.declared.event.Event.TheVariants.{Freed}
 use Rattle.segcore.specs.Event as event
 use Rattle.segcore.specs.Words.{bucket_after, content_word, Event, frequency_of, item, NoneAt, packed, RowGone}
@@ -14,7 +14,7 @@ use Rattle.segcore.proofs.Exact.{content_at}
 use Rattle.segcore.proofs.Limits.{low_frequency, low_row, low_segment}
 use Rattle.segcore.proofs.Standing.{coherent}
 use Rattle.segbase.specs.declared.pass.Plain.{Plain}
-use Rattle.segbase.specs.Words.{HasStep, TakesSteps, AddsAtOnce, AddsEvents, Board, bounced, cell_at, current_of, IsPassOf, marked, mine, number}
+use Rattle.segbase.specs.Words.{HasStep, TakesSteps, AddsAtOnce, AddsEvents, Board, bounced, cell_at, current_of, IsPassOf, mine, number}
 use Rattle.segbase.specs.Words.{deadline_in, own_segment, Pass, position, taken, trace, used_of, with_own}
 use Rattle.segbase.proofs.Moves.{moved_then}
 use Rattle.segbase.proofs.Standing.{place_of_word, tag_of_word}
@@ -32,8 +32,8 @@ use Rattle.segpass.proofs.UnderWrite.{begun, HasBegun, took_keeps, took_moved, t
 use Rattle.segpass.proofs.UnderWrite.{write_peeking, write_takes, write_undrawn}
 use Rattle.segwrite.specs.Words.{IsNextRow, one_more, Target}
 use Rattle.segwrite.proofs.Filling.{fills_nowhere, fills_seen, fills_still, fills_undrawn, fills_untried}
-use Rattle.segevict.specs.declared.retention.KeptRow.{KeptRow}
-use Rattle.segevict.specs.declared.retention.KeptRow.TheVariants as kept
+use Rattle.segevict.specs.declared.retention.KeepRowAnswer.{KeepRowAnswer}
+use Rattle.segevict.specs.declared.retention.KeepRowAnswer.TheVariants as kept
 use Rattle.segevict.specs.Frequencies.{WasOften}
 use Rattle.segevict.specs.Keeping.{IsKeepTarget}
 use Rattle.segevict.specs.Moving.{IsKeptRow, KeepsRow, moves, MovesRow, SeesRow, under_bit}
@@ -68,11 +68,11 @@ module _ (b : Board) (bucket : ℕ) (sought : Item) (into cutoff : ℕ) (p f : P
   unread_f : ReadsNothing p f
   unread_f = no_reader b [] p f i.moved tt
 
-  abbrev Kept : KeptRow → Pass → Type 0
+  abbrev Kept : KeepRowAnswer → Pass → Type 0
   Kept told q = KeepsRow b sought.seg sought.row into cutoff told p q
 
   -- looks were enough
-  only_looked : (told : KeptRow) → IsKeptRow b sought.seg sought.row into cutoff told p f → Kept told f
+  only_looked : (told : KeepRowAnswer) → IsKeptRow b sought.seg sought.row into cutoff told p f → Kept told f
   only_looked told answer = record {
     on = goes_f;
     memo = i.memo;
@@ -199,7 +199,7 @@ module _ (b : Board) (bucket : ℕ) (sought : Item) (into cutoff : ℕ) (p f : P
           events_f = moved_then b took_by (Freed (number f) bucket false ∷ own) f q s taking
               (subst (λ k. AddsEvents b (Freed k bucket false ∷ own) q s) (m.same ∙ taking.same) (moved_then b own (Freed (number r) bucket false ∷ []) q r s m freed.moved))
 
-          done : (told : KeptRow) → IsKeptRow b sought.seg sought.row into cutoff told p s → Kept told s
+          done : (told : KeepRowAnswer) → IsKeptRow b sought.seg sought.row into cutoff told p s → Kept told s
           done told answer =
               let takes = write_takes b bucket f q goes_f.quiet begins r s own added false m elsewhere still adds freed free none in
               let one = takes.taken in let met = takes.tries in record {
@@ -294,7 +294,7 @@ module _ (b : Board) (bucket : ℕ) (sought : Item) (into cutoff : ℕ) (p f : P
 
 -- ---- in the terms of the call
 
-pub kept_place : (b : Board) (sought : Item) (segment row into cutoff : ℕ) (told : KeptRow) (p q : Pass) → (sought.seg ≡ segment) × (sought.row ≡ row) → KeepsRow b sought.seg sought.row into cutoff told p q → KeepsRow b segment row into cutoff told p q
+pub kept_place : (b : Board) (sought : Item) (segment row into cutoff : ℕ) (told : KeepRowAnswer) (p q : Pass) → (sought.seg ≡ segment) × (sought.row ≡ row) → KeepsRow b sought.seg sought.row into cutoff told p q → KeepsRow b segment row into cutoff told p q
 kept_place b sought segment row into cutoff told p q place k = subst (λ s. KeepsRow b s row into cutoff told p q) place.0 (subst (λ r. KeepsRow b sought.seg r into cutoff told p q) place.1 k)
 
 pub target_place : (sought : Item) (segment into : ℕ) (p : Pass) → sought.seg ≡ segment → IsKeepTarget segment into p → IsKeepTarget sought.seg into p

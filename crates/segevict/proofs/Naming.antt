@@ -3,10 +3,10 @@ use Rattle.std.proofs.Common.{◌≡◌, ℕ, zero, suc, ◌+◌, ◌*◌, ◌<�
 use Rattle.std.proofs.lemmas.Nat.{div-mul-add}
 use Rattle.std.proofs.lemmas.Option.{same_Some}
 use Rattle.segword.specs.Words.{Item, Shape}
-use Rattle.segmodel.specs.Words.{after, Begins, bucket_of, owner, StandsIn}
+use Rattle.segmodel.specs.Words.{after, bucket_of, owner, StandsIn}
 use Rattle.segcore.specs.Event as event
 use Rattle.segcore.specs.Mark as mark
-use Rattle.segcore.specs.Words.{cached, Event, IsLawful, last_at, Mark, RowGone, Slot, slot}
+use Rattle.segcore.specs.Words.{cached, Event, IsLawful, last_at, RowGone, Slot, slot}
 use Rattle.segcore.proofs.Caches.{has_value, stands_in}
 use Rattle.segcore.proofs.Coherent.{IsStanding}
 use Rattle.segcore.proofs.Marked.{entries_marked}
@@ -41,7 +41,7 @@ named_now b bucket sought f is target n =
     }
 
 -- no word does, and so no item
-unnamed : (z : Shape) (h : List Event) (segment row : ℕ) → IsLawful z h → RowGone z segment row h → ¬ (IsNamed z segment row (mark.marked h))
+pub unnamed : (z : Shape) (h : List Event) (segment row : ℕ) → IsLawful z h → RowGone z segment row h → ¬ (IsNamed z segment row (mark.marked h))
 unnamed z h segment row l gone is =
     let c = coherent z h l in
     let value = has_value z (event.seen h) is.key segment (subst (λ entries. StandsIn (after z entries) is.key segment) (entries_marked h) is.stands) in

@@ -31,7 +31,26 @@ WasOften shape segment cutoff p q = HadThen shape segment (λ frequency. cutoff 
 abbrev pub WasSeldom : Shape → ℕ → ℕ → Pass → Pass → List ℕ → Type 0
 WasSeldom shape segment cutoff p q = HadThen shape segment (λ frequency. frequency < cutoff) p q
 
+-- so it was of the key's item, and the row that the item named is this one
+abbrev pub HadThenAt : Shape → ℕ → ℕ → (ℕ → Type 0) → Pass → Pass → List ℕ → Type 0
+HadThenAt shape segment row IsSo p q key =
+    SinceFirst p q (λ start.
+    (had : HadFrequency shape segment IsSo (mark.marked start) (marked q) key) × (had.row ≡ row))
+
+abbrev pub WasOftenAt : Shape → ℕ → ℕ → ℕ → Pass → Pass → List ℕ → Type 0
+WasOftenAt shape segment row cutoff p q =
+    HadThenAt shape segment row (λ frequency. cutoff ≤ frequency) p q
+
+abbrev pub WasSeldomAt : Shape → ℕ → ℕ → ℕ → Pass → Pass → List ℕ → Type 0
+WasSeldomAt shape segment row cutoff p q =
+    HadThenAt shape segment row (λ frequency. frequency < cutoff) p q
+
 -- at the return the key's item is in the segment, and its frequency is the cutoff or over it
 abbrev pub IsOften : Shape → ℕ → ℕ → Pass → List ℕ → Type 0
 IsOften shape segment cutoff q =
     HadFrequency shape segment (λ frequency. cutoff ≤ frequency) (marked q) (marked q)
+
+-- so it is, and the item names this row
+abbrev pub IsOftenAt : Shape → ℕ → ℕ → ℕ → Pass → List ℕ → Type 0
+IsOftenAt shape segment row cutoff q key =
+    (had : IsOften shape segment cutoff q key) × (had.row ≡ row)

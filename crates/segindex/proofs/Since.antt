@@ -1,5 +1,5 @@
 -- What is so from the first step of a call on, said from what the pass had seen.
-use Rattle.std.proofs.Common.{◌≡◌, ◌≤◌, ◌-◌, ℕ, List, [], ◌∷◌, ◌++◌, Option, Some, refl, sym, ap, ◌∙◌, subst, inl, inr, append_assoc, arith}
+use Rattle.std.proofs.Common.{◌≡◌, ◌≤◌, ℕ, List, [], ◌∷◌, ◌++◌, Option, Some, refl, sym, ◌∙◌, inl, inr, append_assoc, arith}
 use Rattle.std.proofs.lemmas.List.{append_cancel_right}
 use Rattle.segword.specs.Words.{Shape}
 use Rattle.segmodel.specs.declared.answer.GetAnswer.TheVariants as get
@@ -10,9 +10,9 @@ use Rattle.segcore.specs.Mark as mark
 use Rattle.segcore.specs.Words.{Event}
 use Rattle.segcore.proofs.Changed.{entries_begin}
 use Rattle.segcore.proofs.Moments.{begins_on, marked_begins, seen_begins}
-use Rattle.segbase.specs.Words.{Board, Pass, looks, marked, seen, SinceFirst, StartsAt, trace}
+use Rattle.segbase.specs.Words.{Pass, looks, marked, seen, SinceFirst, StartsAt, trace}
 use Rattle.segbase.proofs.Starting.{start_grew}
-use Rattle.segread.specs.Gets.{disturbed, IsDisturbed, PresentBetween, ReadsVersionBetween}
+use Rattle.segread.specs.Gets.{IsDisturbed, PresentBetween}
 use Rattle.segread.specs.Hits.{RaisesFrom, RaisesOne}
 use Rattle.segread.specs.Words.{IsGetAnswer, IsGetsAnswer, ReadsBetween}
 use Rattle.segread.proofs.Raising.{raises_after}

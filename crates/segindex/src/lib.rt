@@ -26,6 +26,7 @@ pub use laws::{
     replies_at_a_moment, what_stood_is_read,
 };
 pub use segbase::{MakeFault, Note, Pass};
+pub use segevict::KeepRowAnswer;
 pub use segmodel::{
     Answer, Command, DeleteAnswer, EvictAnswer, GetAnswer, GetsAnswer, KeepAnswer, RefillAnswer,
     Request, WriteAnswer,

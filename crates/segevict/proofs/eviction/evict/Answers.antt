@@ -1,6 +1,6 @@
 use Rattle.std.proofs.Common.{rules, ◌≡◌, ◌≢◌, Some, refl, sym, subst, inr}
 use Rattle.segmodel.specs.declared.answer.SegState.TheVariants.{InUse}
-use Rattle.segbase.specs.Words.{current_of, seen, state_of}
+use Rattle.segbase.specs.Words.{current_of, state_of}
 use Rattle.segbase.proofs.Moves.{stays}
 use Rattle.segpass.specs.Words.{GoesOn, IsQuiet}
 use Rattle.segevict.specs.Evicting.{CostsOfEvict, IsEvictAnswer}
