@@ -1,4 +1,5 @@
 pub mod Calls
+pub mod InTurn
 pub mod Members
 pub mod Order
 pub mod Places

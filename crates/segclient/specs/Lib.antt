@@ -3,6 +3,7 @@ pub mod Clients
 pub mod Counting
 pub mod Entries
 pub mod Made
+pub mod Many
 pub mod Member
 pub mod PutCalls
 pub mod PutParts

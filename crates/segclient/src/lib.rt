@@ -5,6 +5,7 @@
 mod all;
 mod client;
 mod hold;
+mod many;
 mod member;
 mod note;
 mod put;

@@ -4,6 +4,7 @@
 //! after some part of the history that all passes share.
 #![tactic(auto)]
 
+mod ahead;
 mod close;
 mod index;
 mod laws;
