@@ -8,7 +8,7 @@ ghost use Rattle.segindex.specs.Laws.{NoLookGlanced, NobodyIsInside, BusyIsLocke
 ghost use Rattle.segindex.specs.Laws.{KeptAllLeavesNone, NothingIsStirred, WritesAtAMoment, DeletesAtAMoment};
 ghost use Rattle.segindex.specs.Laws.{CasFailsWhereWrittenSince, CasCalledLaterFails};
 ghost use Rattle.segindex.specs.LaterReads.{NotedIsRead, SeenIsRead, StoodIsRead, StoredStands};
-ghost use Rattle.segindex.specs.Order.{PointsAreInOrder};
+ghost use Rattle.segindex.specs.Order.{CallsHaveAnOrder, PointsAreInOrder};
 
 /// What a quiet pass has seen is a history of a cache of one thread, with marks.
 /// The pass knows just its own segments,
@@ -66,6 +66,7 @@ pub fn replies_at_a_moment()
 /// an entry comes where it stands in the history, and a read right after its moment.
 pub fn calls_are_in_order()
     ensures points { PointsAreInOrder }
+    ensures order { CallsHaveAnOrder }
 {}
 
 /// A cas that expects the version that a gets of its key gave, and that is entered later,
