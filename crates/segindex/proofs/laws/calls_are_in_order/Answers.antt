@@ -1,4 +1,4 @@
-use Rattle.std.proofs.Common.{◌≡◌, ℕ, ◌<◌, ◌≤◌, List, ◌∷◌, ◌++◌, length, length-append, ap, ◌∙◌, arith}
+use Rattle.std.proofs.Common.{◌≤◌, List, ◌∷◌, length, length-append, ap, ◌∙◌, arith}
 use Rattle.segmodel.specs.Words.{Begins, Entry}
 use Rattle.segbase.specs.Words.{number, seen, trace, view}
 use Rattle.segcore.specs.Event as event
