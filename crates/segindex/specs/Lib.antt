@@ -9,4 +9,5 @@ pub mod Order
 pub mod Probing
 pub mod Refilling
 pub mod Stats
+pub mod Steps
 pub mod Words

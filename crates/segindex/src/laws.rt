@@ -8,7 +8,8 @@ ghost use Rattle.segindex.specs.Laws.{NoLookGlanced, NobodyIsInside, BusyIsLocke
 ghost use Rattle.segindex.specs.Laws.{KeptAllLeavesNone, NothingIsStirred, WritesAtAMoment, DeletesAtAMoment};
 ghost use Rattle.segindex.specs.Laws.{CasFailsWhereWrittenSince, CasCalledLaterFails};
 ghost use Rattle.segindex.specs.LaterReads.{NotedIsRead, SeenIsRead, StoodIsRead, StoredStands};
-ghost use Rattle.segindex.specs.Order.{PointsAreInOrder};
+ghost use Rattle.segindex.specs.Order.{CallsHaveAnOrder, PointsAreInOrder};
+ghost use Rattle.segindex.specs.Steps.{NoGetWithoutAStep, NoGetsWithoutAStep, NoHoldWithoutAStep};
 
 /// What a quiet pass has seen is a history of a cache of one thread, with marks.
 /// The pass knows just its own segments,
@@ -66,6 +67,15 @@ pub fn replies_at_a_moment()
 /// an entry comes where it stands in the history, and a read right after its moment.
 pub fn calls_are_in_order()
     ensures points { PointsAreInOrder }
+    ensures order { CallsHaveAnOrder }
+{}
+
+/// No get or gets returns without a step of its own, and no hold but one that is AlreadyHolding.
+/// So what a pass saw in an earlier call is never all that such an answer rests on.
+pub fn readers_take_a_step()
+    ensures get { NoGetWithoutAStep }
+    ensures gets { NoGetsWithoutAStep }
+    ensures hold { NoHoldWithoutAStep }
 {}
 
 /// A cas that expects the version that a gets of its key returned, and that is entered later,

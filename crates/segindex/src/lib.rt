@@ -24,7 +24,7 @@ pub use close::OutOfMemory;
 pub use index::Index;
 pub use laws::{
     calls_are_in_order, cas_fails_where_written, keep_of_all, one_pass, quiet_pass,
-    replies_at_a_moment, what_stood_is_read,
+    readers_take_a_step, replies_at_a_moment, what_stood_is_read,
 };
 pub use segbase::{MakeFault, Note, Pass};
 pub use segevict::KeepRowAnswer;
