@@ -1,7 +1,6 @@
 //! Gets of several keys at a time: the answers are those of one get after another.
 use segclient::{
-    Client, GetAnswer, GetsAnswer, Index, Key, Pass, PutAnswer, Shape, Value, WriteAnswer,
-    keep_back,
+    Client, GetAnswer, GetsAnswer, Index, Key, PutAnswer, Shape, Value, WriteAnswer, clients,
 };
 use std::alloc::{AllocError, Global};
 use std::test::Fail;
@@ -26,14 +25,8 @@ const EIGHT_ROWS: Shape = Shape {
     first_version: 0,
 };
 
-// A client of an index with one pass, which put each number below the count under itself.
-fn client_with<'i>(
-    index: &'i Index,
-    passes: &mut Vec<Pass>,
-    count: u32,
-) -> Result<Client<'i>, Fail> {
-    let pass = keep_back(index, passes).ok_or("no pass")?;
-    let mut client = Client::new(index, pass);
+// Puts each number below the count under itself.
+fn put_numbers(client: &mut Client<'_>, count: u32) -> Result<(), Fail> {
     for number in 0..count {
         let key = Key::new(&number.to_le_bytes()).ok_or("no key")?;
         let value = Value::new(&number.to_le_bytes()).ok_or("no value")?;
@@ -41,7 +34,7 @@ fn client_with<'i>(
             return Err(Fail::new("a put isn't stored"));
         }
     }
-    Ok(client)
+    Ok(())
 }
 
 // The keys of these numbers.
@@ -109,8 +102,11 @@ fn each_answer_has_the_place_of_its_key(rt: HostRuntime) -> Result<(), Fail> {
         1, 41, 2, 42, 4, 43, 5, 44, 6, 45, 8, 46, 9, 47, 10, 48, 11, 49, 12, 50, 13, 51, 14, 52,
         15, 53, 16, 54, 17, 55, 18, 56,
     ];
-    let (index, mut passes) = Index::new(rt.alloc(), ONE_CHAIN)?;
-    let mut client = client_with(&index, &mut passes, 25)?;
+    let (index, passes) = Index::new(rt.alloc(), ONE_CHAIN)?;
+    let mut client = clients(rt.alloc(), &index, passes)?
+        .pop()
+        .ok_or("no client")?;
+    put_numbers(&mut client, 25)?;
     let keys = keys_of(rt.alloc(), &numbers)?;
     let answers = get_many(rt.alloc(), &mut client, &keys)?;
     assert!(rt; are_in_place(&numbers, &answers, 25));
@@ -122,8 +118,11 @@ fn each_answer_has_the_place_of_its_key(rt: HostRuntime) -> Result<(), Fail> {
 // Forty keys were put where eight have room.
 #[test]
 fn keys_that_were_evicted_are_missed(rt: HostRuntime) -> Result<(), Fail> {
-    let (index, mut passes) = Index::new(rt.alloc(), EIGHT_ROWS)?;
-    let mut client = client_with(&index, &mut passes, 40)?;
+    let (index, passes) = Index::new(rt.alloc(), EIGHT_ROWS)?;
+    let mut client = clients(rt.alloc(), &index, passes)?
+        .pop()
+        .ok_or("no client")?;
+    put_numbers(&mut client, 40)?;
     let mut numbers = [0; 40];
     for number in 0..40u32 {
         numbers[number as usize] = number;
@@ -147,15 +146,18 @@ fn keys_that_were_evicted_are_missed(rt: HostRuntime) -> Result<(), Fail> {
 // Each version is the one of the key's bucket: a cas with it is stored, and only the first.
 #[test]
 fn versions_come_with_the_values(rt: HostRuntime) -> Result<(), Fail> {
-    let (index, mut passes) = Index::new(rt.alloc(), EIGHT_ROWS)?;
-    let mut client = client_with(&index, &mut passes, 2)?;
+    let (index, passes) = Index::new(rt.alloc(), EIGHT_ROWS)?;
+    let mut client = clients(rt.alloc(), &index, passes)?
+        .pop()
+        .ok_or("no client")?;
+    put_numbers(&mut client, 2)?;
     let keys = keys_of(rt.alloc(), &[1, 1, 0, 9])?;
     let answers = gets_many(rt.alloc(), &mut client, &keys)?;
     let value = Value::new(b"new").ok_or("no value")?;
     let mut told = [WriteAnswer::Busy; 4];
-    for (place, (key, answer)) in keys.iter().zip(answers.iter()).enumerate() {
+    for ((key, answer), told) in keys.iter().zip(answers.iter()).zip(told.iter_mut()) {
         if let GetsAnswer::Found(_, version) = answer {
-            told[place] = client.cas(key, &value, *version);
+            *told = client.cas(key, &value, *version);
         }
     }
     let wanted = [
@@ -170,8 +172,11 @@ fn versions_come_with_the_values(rt: HostRuntime) -> Result<(), Fail> {
 
 #[test]
 fn no_keys_have_no_answers(rt: HostRuntime) -> Result<(), Fail> {
-    let (index, mut passes) = Index::new(rt.alloc(), EIGHT_ROWS)?;
-    let mut client = client_with(&index, &mut passes, 8)?;
+    let (index, passes) = Index::new(rt.alloc(), EIGHT_ROWS)?;
+    let mut client = clients(rt.alloc(), &index, passes)?
+        .pop()
+        .ok_or("no client")?;
+    put_numbers(&mut client, 8)?;
     let before = client.stats();
     assert!(rt; get_many(rt.alloc(), &mut client, &[])?.is_empty());
     assert_eq!(rt; client.stats(), before);
@@ -182,8 +187,11 @@ fn no_keys_have_no_answers(rt: HostRuntime) -> Result<(), Fail> {
 #[test]
 fn a_look_ahead_changes_nothing(rt: HostRuntime) -> Result<(), Fail> {
     let numbers = [0, 24, 25, 99, 12, 0, 1, 2, 3, 4, 5, 6, 7, 8, 9, 10, 11, 13];
-    let (index, mut passes) = Index::new(rt.alloc(), ONE_CHAIN)?;
-    let mut client = client_with(&index, &mut passes, 25)?;
+    let (index, passes) = Index::new(rt.alloc(), ONE_CHAIN)?;
+    let mut client = clients(rt.alloc(), &index, passes)?
+        .pop()
+        .ok_or("no client")?;
+    put_numbers(&mut client, 25)?;
     let keys = keys_of(rt.alloc(), &numbers)?;
     let before = (client.stats(), client.index_stats());
     client.look_ahead(&keys);
