@@ -15,10 +15,10 @@
  * read was made and counted, and the length is written.
  *
  * WHAT IS PROVED, and under which conditions. The functions behind these (segcache_raw_..) are proved
- * under Rattle to be safe and to return, over a proved cache. Of each but open, give_back and close it is
- * proved what it did for which status: of a client's the client's own call, for the key, the value and
- * the moment that it was given, and what it wrote where. What open, give_back and close answer is tested.
- * The proofs take for granted what no prover checks of C. Keep all of these:
+ * under Rattle to be safe and to return, over a proved cache. Of each it is proved what it did for which
+ * status: of a client's the client's own call, for the key, the value and the moment that it was given, and
+ * what it wrote where; of open, which handles it wrote; of give_back, what went back where; of close, that the
+ * cursor has the content. That memory is given back is tested. The proofs take for granted what no prover checks of C. Keep all of these:
  *   1. A client serves one call at a time. Another thread may take it over by a lock, or at the start or
  *      the end (join) of a thread. The same goes for a cache, a cursor and a note. Different clients of a
  *      cache may be called at the same time; that is what they are for.
@@ -59,7 +59,7 @@ enum {
   SEGCACHE_SHORT_BUFFER = 10,    /* nothing was copied; the length says how much room is needed */
   SEGCACHE_BAD_SHAPE = 11,       /* a shape, or a number of keys or of threads, that cannot be */
   SEGCACHE_OUT_OF_MEMORY = 12,
-  SEGCACHE_NO_HANDLE = 13,       /* the handle is zeroed, given back or freed */
+  SEGCACHE_NO_HANDLE = 13,       /* the handle is zeroed, given back or freed; or that of a new note is in use */
   SEGCACHE_ALREADY_HOLDING = 14, /* the client holds an item: release that first */
   SEGCACHE_NOT_HOLDING = 15,     /* the client holds no item */
   SEGCACHE_CLIENT_OUT = 16,      /* a client of the cache was not given back */
@@ -334,11 +334,11 @@ static inline uint32_t segcache_release(segcache_client *client) {
    tell that one; a client there learns it, and its gets then read what this client has put, or what was stored
    since, or are Busy; or miss it, if it was deleted, evicted or expired since. That is proved. Without notes gets
    read the same, as tests show; so a program needs none.
-   The note is written, and what it was before is lost: learn or free each note once. It may outlive its cache.
-   Answers: OK; OUT_OF_MEMORY, NO_HANDLE, and the note is zeroed. */
+   The note is zeroed before, and is learned or freed once. It may outlive its cache.
+   Answers: OK; OUT_OF_MEMORY; NO_HANDLE, also if the note is in use. Unless OK, the note is as it was. */
 static inline uint32_t segcache_note(segcache_client *client, segcache_note_t *note) {
   uint32_t status;
-  memset(note, 0, sizeof *note);
+  if (note == NULL) return SEGCACHE_NO_HANDLE;
   status = SEGCACHE_CALL(client, segcache_raw_note(&client->raw, &note->raw));
   if (status != SEGCACHE_OK) return status;
   note->home = client->home;
@@ -420,7 +420,7 @@ static inline uint32_t segcache_give_back(segcache *cache, segcache_client *clie
 /* Closes a cache whose clients were all given back. The cursor lists its content, and has to be freed.
    The cache is none afterwards. Keys that have expired are listed until they are evicted.
    Answers: OK; CLIENT_OUT, and nothing changed; OUT_OF_MEMORY: the cache is as it was, or it is none and its
-   content is lost; NO_HANDLE. */
+   content is lost; NO_HANDLE. BUSY, with the cache as it was, comes only where a copy of a client is at work. */
 static inline uint32_t segcache_close(segcache *cache, segcache_cursor *cursor) {
   segcache_handle made;
   uint32_t status;

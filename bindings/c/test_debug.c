@@ -95,7 +95,7 @@ static const struct fault {
 };
 
 static void run(const struct fault *fault) {
-  struct handles all;
+  struct handles all = {0};
   if (freopen("/dev/null", "w", stderr) == NULL) _exit(2);
   if (segcache_open(100, 1, &all.cache, &all.client) || segcache_open(100, 1, &all.closed, &all.of_closed)) _exit(2);
   if (segcache_give_back(&all.closed, &all.of_closed) || segcache_close(&all.closed, &all.cursor)) _exit(2);

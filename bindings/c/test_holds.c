@@ -94,7 +94,7 @@ void test_holds(void) {
 
 /* Each allocation of a note is refused in turn. */
 static void test_memory_of_notes(segcache_client *client) {
-  segcache_note_t note;
+  segcache_note_t note = {0};
   long before = out, refused = 0;
   uint32_t status = SEGCACHE_OUT_OF_MEMORY;
   for (; status == SEGCACHE_OUT_OF_MEMORY; refused++) {
@@ -112,14 +112,15 @@ static void test_memory_of_notes(segcache_client *client) {
 void test_notes(void) {
   segcache cache, another;
   segcache_client clients[2], foreign, none;
-  segcache_note_t note, late, no_note;
+  segcache_note_t note = {0}, late = {0}, no_note = {0};
   long before = out;
   memset(&none, 0, sizeof none);
-  memset(&no_note, 0, sizeof no_note);
   EXPECT(segcache_open(1000, 2, &cache, clients), SEGCACHE_OK);
   EXPECT(segcache_open(1000, 1, &another, &foreign), SEGCACHE_OK);
   EXPECT(put(&clients[0], "k", "v", 0), SEGCACHE_OK);
   EXPECT(segcache_note(&clients[0], &note), SEGCACHE_OK);
+  EXPECT(segcache_note(&clients[1], &note), SEGCACHE_NO_HANDLE); /* in use */
+  EXPECT(segcache_note(&clients[0], NULL), SEGCACHE_NO_HANDLE);
   EXPECT(segcache_learn(&foreign, &note), SEGCACHE_FOREIGN);
   EXPECT(segcache_learn(&none, &note), SEGCACHE_NO_HANDLE);
   EXPECT(segcache_learn(NULL, &note), SEGCACHE_NO_HANDLE);

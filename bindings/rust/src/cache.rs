@@ -120,7 +120,7 @@ impl Cache {
     ///
     /// # Errors
     /// [`Error::ClientOut`], with the cache as it was. [`Error::OutOfMemory`], with the cache as it was, or
-    /// without it if the content is lost.
+    /// without it if the content is lost. A program without `unsafe` sees no other.
     pub fn close(self) -> Result<Content, Unclosed> {
         let mut cursor = Handle::none();
         // SAFETY: the handle is the cache's, and the cursor is none.

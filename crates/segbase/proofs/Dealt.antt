@@ -60,11 +60,11 @@ none_front p (e ∷ xs) ys n = (n.0, none_front p xs ys n.1)
 
 -- the views with one pass more
 more_views : (z : Shape) (words : List ℕ) (views : List View) (h : List Event) (v : View) → Lawful z words views h → get_elem? views 0 ≡ some v
-    → Lawful z words (set views 0 (record v { dealt = v.dealt + 1 }) ++ record { number = v.dealt; trace = v.trace; dealt = 0 } ∷ []) h
+    → Lawful z words (set views 0 (record v { dealt = v.dealt + 1 }) ++ record { number = v.dealt; trace = v.trace; looks = []; dealt = 0 } ∷ []) h
 more_views z words views h v l at =
     let k = l.knows 0 v at in
     let w : View = record v { dealt = v.dealt + 1 } in
-    let new : View = record { number = v.dealt; trace = v.trace; dealt = 0 } in
+    let new : View = record { number = v.dealt; trace = v.trace; looks = []; dealt = 0 } in
     let there = set views 0 w in
     let all : v.dealt ≡ length views = l.dealt v at in
     let long : length there ≡ length views = length-set views 0 w in
@@ -97,7 +97,7 @@ deals S z id x pass first fewer s rule at =
     let old = rule.sights id x at in
     let here : get_elem? rule.views 0 ≡ some v = subst (λ n. get_elem? rule.views n ≡ some v) first (old.own pass) in
     let w : View = record v { dealt = v.dealt + 1 } in
-    let new : View = record { number = v.dealt; trace = v.trace; dealt = 0 } in
+    let new : View = record { number = v.dealt; trace = v.trace; looks = []; dealt = 0 } in
     let all : v.dealt ≡ length rule.views = l.dealt v here in
     let there = set rule.views 0 w in
     let long : length there ≡ length rule.views = length-set rule.views 0 w in

@@ -10,6 +10,7 @@ pub mod GivenUp
 pub mod Known
 pub mod Minded
 pub mod Moves
+pub mod Starting
 pub mod Opened
 pub mod Owned
 pub mod Owning

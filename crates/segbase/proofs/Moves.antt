@@ -1,5 +1,5 @@
 -- Calls one after another: what a pass adds by itself adds up, and a reader is where it was before.
-use Rattle.std.proofs.Common.{◌≡◌, ℕ, ◌+◌, ◌-◌, ◌<◌, Bool, true, false, cond, eqb, ◌&&◌, List, [], ◌∷◌, ◌++◌, Option, Some, None, refl, sym, ap, ◌∙◌, subst, append_assoc, arith}
+use Rattle.std.proofs.Common.{◌≡◌, ℕ, ◌+◌, ◌-◌, ◌<◌, Bool, true, false, cond, eqb, ◌&&◌, List, [], ◌∷◌, ◌++◌, Option, Some, None, refl, sym, ap, ◌∙◌, subst, inr, append_assoc, arith}
 use Rattle.std.proofs.lemmas.Bool.{cond-true, eq-eqb}
 use Rattle.segmodel.specs.Words.{Begins, Entry, mine}
 use Rattle.segcore.specs.declared.event.Event.TheVariants.{Entered, Left}
@@ -8,6 +8,7 @@ use Rattle.segcore.specs.Words.{HasBit, inside, May, raised, release, seen, take
 use Rattle.segbase.specs.Words.{Board, Pass}
 use Rattle.segbase.specs.Traces.{own_of, StaysIn, OnlyReads}
 use Rattle.segbase.specs.Passes.{number, trace, IsPassOf, AddsEvents, AddsAtOnce, Reads, ReadsIn}
+use Rattle.segbase.proofs.Starting.{steps_then}
 use Rattle.segbase.specs.Passes as passes
 use Rattle.segbase.specs.Steps.{Takes}
 use Rattle.segcore.proofs.Quiet.{quiet}
@@ -16,7 +17,7 @@ use Rattle.segbase.proofs.Staying.{stays_now, stays_first, stays_last, stays_bot
 
 -- nothing was done
 pub stays : (b : Board) (p : Pass) → IsPassOf b p → AddsEvents b [] p p
-stays b p is = record { pass = is; same = refl; more = []; goes_on = refl; adds = refl; kept = λ s t. tt }
+stays b p is = record { pass = is; same = refl; more = []; goes_on = refl; adds = refl; steps = inr (refl, refl); kept = λ s t. tt }
 
 -- ---- what a call leaves of the pass's own
 
@@ -68,6 +69,7 @@ moved_then b first second p q r m k = record {
   more = k.more ++ m.more;
   goes_on = k.goes_on ∙ (ap (λ h. k.more ++ h) m.goes_on ∙ sym (append_assoc k.more m.more (trace p)));
   adds = own_both (number p) k.more m.more ∙ (ap (λ es. es ++ own_of (number p) m.more) (ap (λ n. own_of n k.more) (sym m.same) ∙ k.adds) ∙ ap (λ es. second ++ es) m.adds);
+  steps = steps_then p q r m.same m.steps k.steps;
   kept = λ s stay. none_both s k.more m.more
       (k.kept s (subst (λ n. StaysIn second (trace q) n s) (sym m.same) (stays_last second first (trace p) (trace q) (number p) s (moved_inside b first p q s m) stay)))
       (m.kept s (stays_first second first (trace p) (number p) s stay));

@@ -30,7 +30,7 @@ still_pass b p x is same = record {
 }
 
 pub moved_still : (b : Board) (own : List Event) (p q : Pass) (x : Plain) → AddsEvents b own p q → owner_of x ≡ owner_of q.plain → AddsEvents b own p (record q { plain = x })
-moved_still b own p q x m same = record { pass = still_pass b q x m.pass same; same = m.same; more = m.more; goes_on = m.goes_on; adds = m.adds; kept = m.kept }
+moved_still b own p q x m same = record { pass = still_pass b q x m.pass same; same = m.same; more = m.more; goes_on = m.goes_on; adds = m.adds; steps = m.steps; kept = m.kept }
 
 got_within : {A : Type 0} (l : List A) (i : ℕ) → is_some (slice_get l i) ≡ true → i < length l
 got_within [] i e = absurd (false≢true e)

@@ -1,5 +1,5 @@
 -- What a pass that took a step has done.
-use Rattle.std.proofs.Common.{◌≡◌, ℕ, ◌*◌, ◌≤◌, List, [], ◌++◌, length, sym, ap, ◌∙◌, subst, append_assoc, append-nil}
+use Rattle.std.proofs.Common.{◌≡◌, ℕ, ◌*◌, ◌≤◌, List, [], ◌++◌, length, inl, refl, sym, ap, ◌∙◌, subst, append_assoc, append-nil}
 use Rattle.segword.specs.Words.{Shape}
 use Rattle.segcore.specs.Words.{adds, AllBy, Event, IsCell, IsLawful, May, NoneBy, Step, Told, View}
 use Rattle.segcore.proofs.Quiet.{quiet_inside}
@@ -12,7 +12,7 @@ use Rattle.segbase.specs.Traces.{own_of, StaysIn}
 use Rattle.segbase.specs.Spots.{cell_of}
 use Rattle.segbase.specs.Minding.{Minds}
 use Rattle.segbase.specs.Ruled.{Learns}
-use Rattle.segbase.specs.Passes.{sight, view, number, trace, IsPassOf, CanStep, AddsEvents, Stepped}
+use Rattle.segbase.specs.Passes.{sight, view, number, trace, IsPassOf, CanStep, AddsEvents, StartsAt, Stepped}
 use Rattle.segbase.proofs.Alone.{only_by}
 use Rattle.segbase.proofs.Minded.{minded_on}
 use Rattle.segbase.proofs.Owning.{own_all, own_none, own_both}
@@ -28,6 +28,17 @@ own_adds b p q st found is may told = subst (λ n. AllBy (number p) (adds st (nu
 stays_before : (own h : List Event) (p s : ℕ) → StaysIn own h p s → StaysIn [] h p s
 stays_before own h p s t = stays_first own [] h p s (subst (λ x. StaysIn x h p s) (sym (append-nil own)) t)
 
+-- the one step is the first of the call
+pub starts : {z : Shape} (p q : Pass) (st : Step) (found : ℕ) (told : Told z st found (view p) (view q)) → StartsAt p q (told.more ++ trace p)
+starts p q st found told = record {
+  later = [];
+  looked = ap (λ (v : View). v.looks) told.now;
+  others = told.more;
+  since = refl;
+  none = told.others;
+  until = (adds st (number p) found, ap (λ (v : View). v.trace) told.now);
+}
+
 pub moved_by : (b : Board) (p q : Pass) (st : Step) (found : ℕ) → IsPassOf b p → IsPassOf b q → May b.shape (trace p) (number p) st → Told b.shape st found (view p) (view q) → AddsEvents b (adds st (number p) found) p q
 moved_by b p q st found is is' may told =
     let es : List Event = adds st (number p) found in
@@ -37,6 +48,7 @@ moved_by b p q st found is is' may told =
       more = es ++ told.more;
       goes_on = now ∙ sym (append_assoc es told.more (trace p));
       adds = own_both (number p) es told.more ∙ (ap (λ x. own_of (number p) es ++ x) (own_none (number p) told.more told.others) ∙ (append-nil (own_of (number p) es) ∙ own_all (number p) es (own_adds b p q st found is may told)));
+      steps = inl (told.more ++ trace p, starts p q st found told);
       kept = λ s stays. none_both s es told.more
           (none_refilled b.shape es (told.more ++ trace p) (trace p) (number p) s is.one_of (subst (λ (v : View). IsLawful b.shape v.trace) told.now told.legal) (quiet_inside told.more (trace p) (number p) s told.others) stays)
           (no_refill b.shape told.more (trace p) (number p) s is.one_of told.before told.others (stays_before es (trace p) (number p) s stays));

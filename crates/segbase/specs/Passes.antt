@@ -1,5 +1,5 @@
 -- A pass as contracts see it, and what its steps and calls do.
-use Rattle.std.specs.Prelude.{◌≡◌, ℕ, ◌+◌, ◌*◌, ◌<◌, ◌==◌, List, [], ◌++◌, length, Option, true, if◌then◌else◌}
+use Rattle.std.specs.Prelude.{◌≡◌, ℕ, ◌+◌, ◌*◌, ◌<◌, ◌==◌, ◌⊎◌, List, [], ◌∷◌, ◌++◌, length, Option, true, if◌then◌else◌}
 use Rattle.segword.specs.Words.{IsValid}
 use Rattle.segcore.specs.Words.{adds, AllBy, becomes, cell, Event, inside, IsLawful, Mark, May}
 use Rattle.segcore.specs.Words.{NoneBy, NoneRefills, Step, Told, View}
@@ -32,6 +32,10 @@ number p = (view p).number
 -- all events that the pass has seen, its own among them
 abbrev pub trace : Pass → List Event
 trace p = (view p).trace
+
+-- what each step of the pass saw: the trace just before it, the newest step's first
+abbrev pub looks : Pass → List (List Event)
+looks p = (view p).looks
 
 -- the history that the pass has seen, with marks and without
 abbrev pub marked : Pass → List Mark
@@ -102,6 +106,32 @@ pub record CanStep (b : Board) (p : Pass) (step : Step) (spot : Spot) (f : ℕ �
   pub by : becomes step ≡ f
   pub may : May b.shape (trace p) (number p) step
 
+-- This is what the first step between two views of a pass saw: others went on to it from what the
+-- pass had seen.
+pub record StartsFrom (old new : View) (start : List Event) : Type 0 where
+  pub later : List (List Event)
+  pub looked : new.looks ≡ later ++ start ∷ old.looks
+  pub others : List Event
+  pub since : start ≡ others ++ old.trace
+  pub none : NoneBy old.number others
+  pub until : Begins start new.trace
+
+-- this is what the first step of a call saw
+abbrev pub StartsAt : Pass → Pass → List Event → Type 0
+StartsAt p q start = StartsFrom (view p) (view q) start
+
+-- a call has a first step
+abbrev pub HasStep : Pass → Pass → Type 0
+HasStep p q = (start : List Event) × StartsAt p q start
+
+-- it has one; or it takes no step, and the pass has seen what it had
+abbrev pub TakesSteps : Pass → Pass → Type 0
+TakesSteps p q = HasStep p q ⊎ ((looks q ≡ looks p) × (trace q ≡ trace p))
+
+-- this is so from what the first step of a call saw; so the call has a step
+abbrev pub SinceFirst : Pass → Pass → (List Event → Type 0) → Type 0
+SinceFirst p q Is = (start : List Event) × StartsAt p q start × Is start
+
 -- A call: the pass added these events of its own, newest first, beside what others did meanwhile.
 pub record AddsEvents (b : Board) (own : List Event) (p q : Pass) : Type 0 where
   pub pass : IsPassOf b q
@@ -109,6 +139,7 @@ pub record AddsEvents (b : Board) (own : List Event) (p q : Pass) : Type 0 where
   pub more : List Event
   pub goes_on : trace q ≡ more ++ trace p
   pub adds : own_of (number p) more ≡ own
+  pub steps : TakesSteps p q
   -- a segment that the pass stayed in wasn't filled again
   pub kept : (s : ℕ) → StaysIn own (trace p) (number p) s → NoneRefills s more
 

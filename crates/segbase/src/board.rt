@@ -32,7 +32,7 @@ impl Board {
     ghost use Rattle.segbase.specs.Made.{IsDealt, IsNewPlain, IsMade, IsMakeFault};
 
     /// A board of this shape with its passes, in the order of their numbers.
-    /// The calls that use them are given no allocator.
+    /// The calls that use them take no allocator.
     pub fn new(alloc: Global, shape: Shape) -> Result<(Board, Vec<Pass>), MakeFault>
         ensures made { IfOk result (λ made. IsMade shape made.0 made.1.items) }
         ensures fault { IfErr result (IsMakeFault shape) }

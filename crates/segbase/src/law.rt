@@ -21,7 +21,7 @@ pub struct Locked {
     pub trace: LinkedList<Event>,
 }
 
-/// What a pass keeps in mind for contracts alone.
+/// What a pass keeps in mind, only for contracts.
 /// No word, rule or other pass depends on it, and no value of this type is made.
 pub struct Memo {
     pub holding: Option<Held>,
@@ -37,7 +37,7 @@ pub struct Sight {
     /// Whether the seat is that of a pass. Other seats only carry to a pass what another one has seen.
     pub is_pass: bool,
     pub memo: Memo,
-    /// What the passes knew that were given up to this seat. They take no more steps.
+    /// What the passes knew that were handed to this seat. They take no more steps.
     pub ended: LinkedList<View>,
 }
 

@@ -2,6 +2,7 @@
 //! each one atomic event of its kind on one word.
 #![tactic(auto)]
 
+mod ahead;
 mod board;
 mod bucket;
 mod closing;

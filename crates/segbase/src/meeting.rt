@@ -44,7 +44,7 @@ impl Board {
     }
 
     /// The pass keeps in mind what it holds and what it has locked,
-    /// each as it was at a moment that it has seen, for contracts alone.
+    /// each as it was at a moment that it has seen. It is only for contracts.
     pub fn remember(&self, pass: &mut Pass)
         ghost memo: { Memo }
         requires pass { IsPassOf self.now pass.old }

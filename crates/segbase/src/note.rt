@@ -7,7 +7,7 @@ use crate::law::{Carry, Copies, Sight, Tell};
 use crate::pass::Pass;
 use atomic_table::Seat;
 
-/// What a pass had seen when the note was made. A note takes no bytes, and may be dropped.
+/// What a pass had seen when the note was made. A note takes no bytes, and can be dropped.
 #[derive(Drop)]
 pub struct Note {
     pub(crate) seat: Seat<(), Sight>,

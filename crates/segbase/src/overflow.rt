@@ -20,7 +20,7 @@ impl Board {
     ghost use Rattle.segbase.specs.Steps.{exchanging, AddsOne, home_at, depth_to_draw, Missed};
     ghost use Rattle.segbase.specs.Steps.{counting, CounterMissed};
 
-    /// How many overflow buckets are drawn. None of them is ever given back.
+    /// How many overflow buckets are allocated. None of them is ever freed.
     pub fn drawn_overflow(&self, pass: &mut Pass) -> u32
         requires pass { IsPassOf self.now pass.old }
         ensures step { Stepped self.now counting result pass.old pass.new }

@@ -94,7 +94,7 @@ impl Board {
         self.load_index(pass, Spot::Row(segment, row, word), start + word as usize)
     }
 
-    /// One reader more. The answer is the segment's deadline, which stays as long as the reader.
+    /// One reader more. It returns the segment's deadline, which stays as long as the reader.
     pub fn enter(&self, pass: &mut Pass, segment: u32) -> u32
         requires pass { IsPassOf self.now pass.old }
         requires may { MayTake self.now pass.old (enter segment) }

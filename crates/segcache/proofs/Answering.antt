@@ -9,16 +9,16 @@ use Rattle.segcache.specs.Exports.{Answers, ByClient, ByKey, ByValue, HasKeyLeng
 use Rattle.segcache.specs.Status.{number_of}
 
 -- what stood in the handle before and afterwards
-pub answered : (IsSo : Option Kept → Option Kept → Status → Type 0) (before after : Option Kept) (was is : Kept) (number : ℕ) (told : Status)
-    → before ≡ Some was → after ≡ Some is → number ≡ number_of told → IsSo (Some was) (Some is) told → Answers number (IsSo before after)
-answered IsSo before after was is number told from into tells so =
-    (told, tells, subst (λ (b : Option Kept). IsSo b after told) (sym from) (subst (λ (a : Option Kept). IsSo (Some was) a told) (sym into) so))
+pub answered : (IsSo : Option Kept → Option Kept → Status → Type 0) (before after : Option Kept) (was is : Kept) (number : ℕ) (returned : Status)
+    → before ≡ Some was → after ≡ Some is → number ≡ number_of returned → IsSo (Some was) (Some is) returned → Answers number (IsSo before after)
+answered IsSo before after was is number returned from into returns so =
+    (returned, returns, subst (λ (b : Option Kept). IsSo b after returned) (sym from) (subst (λ (a : Option Kept). IsSo (Some was) a returned) (sym into) so))
 
 -- nothing stood there
 pub unanswered : (IsSo : Option Kept → Option Kept → Status → Type 0) (before after : Option Kept) (number : ℕ)
     → before ≡ None → after ≡ None → number ≡ number_of status.NoHandle → IsSo None None status.NoHandle → Answers number (IsSo before after)
-unanswered IsSo before after number from into tells so =
-    (status.NoHandle, tells, subst (λ (b : Option Kept). IsSo b after status.NoHandle) (sym from) (subst (λ (a : Option Kept). IsSo None a status.NoHandle) (sym into) so))
+unanswered IsSo before after number from into returns so =
+    (status.NoHandle, returns, subst (λ (b : Option Kept). IsSo b after status.NoHandle) (sym from) (subst (λ (a : Option Kept). IsSo None a status.NoHandle) (sym into) so))
 
 -- a client stood there
 pub by_client : (Refuses : Status → Type 0) (Does : SharedClient → SharedClient → Type 0) (was is : Kept) (old new : SharedClient)

@@ -6,7 +6,7 @@ use Rattle.segcache.specs.declared.kept.Kept.{Kept}
 use Rattle.segcache.specs.declared.kept.Kept.TheVariants as kept
 use Rattle.segcache.specs.declared.status.Status.{Status}
 use Rattle.segcache.specs.declared.status.Status.TheVariants as status
-use Rattle.segcache.specs.Ending.{Freed, FreesCache, FreesCursor, is_cursor, Listed, TellsNext}
+use Rattle.segcache.specs.Ending.{Freed, FreesCache, FreesCursor, is_cursor, Listed, ReturnsNext}
 use Rattle.segcache.specs.Exports.{Out}
 
 frees : (was : Kept) → is_cursor was ≡ true → FreesCursor (Some was) None status.Ok
@@ -31,11 +31,11 @@ left_cursor before after was from into is =
     subst (λ (b : Option Kept). FreesCursor b after status.NoHandle) (sym from) (subst (λ (a : Option Kept). FreesCursor (Some was) a status.NoHandle) (sym into) (leaves was is))
 
 -- a handle with something in it
-pub freed_cache : (before after : Option Kept) (was : Kept) (told : Status) → before ≡ Some was → FreesCache was after told → Freed before after told
-freed_cache before after was told from frees = subst (λ (b : Option Kept). Freed b after told) (sym from) frees
+pub freed_cache : (before after : Option Kept) (was : Kept) (returned : Status) → before ≡ Some was → FreesCache was after returned → Freed before after returned
+freed_cache before after was returned from frees = subst (λ (b : Option Kept). Freed b after returned) (sym from) frees
 
--- a cursor told its next pair
-pub listed : (was is : Kept) (old new : Cursor) (key key' value value' : Out) (told : Status) → was ≡ kept.Cursor old → is ≡ kept.Cursor new
-    → TellsNext (slice_get old.pairs.items old.told) old new key key' value value' told → Listed (Some was) (Some is) key key' value value' told
-listed was is old new key key' value value' told from into tells =
-    subst (λ (k : Kept). Listed (Some k) (Some is) key key' value value' told) (sym from) (new, ap (λ (k : Kept). Some k) into, tells)
+-- a cursor returned its next pair
+pub listed : (was is : Kept) (old new : Cursor) (key key' value value' : Out) (returned : Status) → was ≡ kept.Cursor old → is ≡ kept.Cursor new
+    → ReturnsNext (slice_get old.pairs.items old.next) old new key key' value value' returned → Listed (Some was) (Some is) key key' value value' returned
+listed was is old new key key' value value' returned from into returns =
+    subst (λ (k : Kept). Listed (Some k) (Some is) key key' value value' returned) (sym from) (new, ap (λ (k : Kept). Some k) into, returns)

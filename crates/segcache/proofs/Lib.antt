@@ -1,9 +1,12 @@
 pub mod Answering
+pub mod Closed
 pub mod Ended
 pub mod Made
 pub mod Members
 pub mod Noted
+pub mod Opened
 pub mod Placed
 pub mod Released
+pub mod Returned
 pub mod Rows
 pub mod Values

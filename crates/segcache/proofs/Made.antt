@@ -1,41 +1,20 @@
--- A client that rests made a call.
-use Rattle.std.proofs.Common.{◌≡◌, Option, Some, None, IfSome, IsSomeAnd, sym, ◌∙◌, subst}
-use Rattle.segindex.specs.Words.{Index}
-use Rattle.segclient.specs.declared.client.Client.{Client}
-use Rattle.segclient.specs.declared.rest.Resting.{Resting}
-use Rattle.segclient.specs.Resting.{IsRestOf}
+-- A client that shares its index made a call.
+use Rattle.std.proofs.Common.{◌≡◌, ℕ, subst}
+use Rattle.segbase.specs.Words.{Board}
+use Rattle.segindex.specs.Words.{board_of, Index}
+use Rattle.segclient.specs.declared.member.Member.{Member}
+use Rattle.segclient.specs.Member.{SetsNow}
 use Rattle.segcache.specs.declared.client.SharedClient.{SharedClient}
-use Rattle.segcache.specs.Calls.{Calls, IsGuest, MakesCall}
-use Rattle.segcache.specs.Member.{IsMember}
+use Rattle.segcache.specs.Calls.{At, Calls, MakesCall}
 
-there : (i : Index) (resting : Option Resting) (client : Client) → IsMember i resting → IfSome resting (IsRestOf client) → IsSomeAnd resting (IsRestOf client)
-there i None client member rest = absurd member
-there i (Some resting) client member rest = rest
+-- a call of this index
+pub calls : (Made : Board → Member → Member → Type 0) (i : Index) (old new : SharedClient) → i ≡ old.index.value → Made (board_of i) old.member new.member → new.index.value ≡ old.index.value → Calls Made old new
+calls Made i old new at made index = record { index = index; made = subst (λ (j : Index). Made (board_of j) old.member new.member) at made }
 
--- the client that woke up was the guest
-pub wakes : (guest : SharedClient) (client : Client) → client.index.now ≡ guest.index.value → IfSome guest.resting (IsRestOf client) → IsGuest guest client
-wakes guest client at rest = record { index = at; rest = there guest.index.value guest.resting client guest.member rest }
+-- and it holds what it held
+pub makes_call : (Made : Board → Member → Member → Type 0) (i : Index) (old new : SharedClient) → i ≡ old.index.value → Made (board_of i) old.member new.member → new.index.value ≡ old.index.value → new.held ≡ old.held → MakesCall Made old new
+makes_call Made i old new at made index held = record { calls = calls Made i old new at made index; held = held }
 
--- the client that rests is the guest
-pub rests : (guest : SharedClient) (client : Client) (rest : Resting) → client.index.now ≡ guest.index.value → guest.resting ≡ Some rest → IsRestOf client rest → IsGuest guest client
-rests guest client rest at is of = record { index = at; rest = subst (λ (r : Option Resting). IsSomeAnd r (IsRestOf client)) (sym is) of }
-
-pub calls : (Made : Client → Client → Type 0) (old new : SharedClient) (woken after : Client) (rest : Resting)
-    → woken.index.now ≡ old.index.value → IfSome old.resting (IsRestOf woken) → Made woken after → after.index.now ≡ woken.index.now
-    → new.index.value ≡ old.index.value → new.resting ≡ Some rest → IsRestOf after rest → Calls Made old new
-calls Made old new woken after rest at wakes_so made same index is rests_so = record {
-  before = woken;
-  after = after;
-  wakes = wakes old woken at wakes_so;
-  made = made;
-  rests = rests new after rest (same ∙ at ∙ sym index) is rests_so;
-}
-
--- and what it holds is as it was
-pub makes_call : (Made : Client → Client → Type 0) (old new : SharedClient) (woken after : Client) (rest : Resting)
-    → woken.index.now ≡ old.index.value → IfSome old.resting (IsRestOf woken) → Made woken after → after.index.now ≡ woken.index.now
-    → new.index.value ≡ old.index.value → new.resting ≡ Some rest → IsRestOf after rest → new.held ≡ old.held → MakesCall Made old new
-makes_call Made old new woken after rest at wakes_so made same index is rests_so held = record {
-  calls = calls Made old new woken after rest at wakes_so made same index is rests_so;
-  held = held;
-}
+-- at a moment
+pub at_moment : (now : ℕ) (Made : Board → Member → Member → Type 0) (b : Board) (old before new : Member) → SetsNow now old before → Made b before new → At now Made b old new
+at_moment now Made b old before new sets made = record { before = before; sets = sets; made = made }

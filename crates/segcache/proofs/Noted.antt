@@ -1,5 +1,5 @@
 -- A handle with a note, and one with anything else.
-use Rattle.std.proofs.Common.{◌≡◌, true, false, Option, Some, None, refl, sym, subst}
+use Rattle.std.proofs.Common.{◌≡◌, is_none, true, false, Option, Some, None, refl, sym, subst}
 use Rattle.std.proofs.lemmas.Bool.{false≢true}
 use Rattle.segindex.specs.Words.{Note}
 use Rattle.segcache.specs.declared.client.SharedClient.{SharedClient}
@@ -7,8 +7,9 @@ use Rattle.segcache.specs.declared.kept.Kept.{Kept}
 use Rattle.segcache.specs.declared.kept.Kept.TheVariants as kept
 use Rattle.segcache.specs.declared.status.Status.TheVariants as status
 use Rattle.segcache.specs.Calls.{MakesCall}
-use Rattle.segcache.specs.Made.{Learns}
-use Rattle.segcache.specs.Telling.{FreesNote, is_note, LearnsFrom}
+use Rattle.segcache.specs.declared.status.Status.{Status}
+use Rattle.segclient.specs.Made.{Learns, Notes}
+use Rattle.segcache.specs.Noting.{FreesNote, is_note, KeepsNote, LearnsFrom, NotesInto}
 
 frees : (was : Kept) → is_note was ≡ true → FreesNote (Some was) None status.Ok
 frees (kept.Note note) is = (refl, refl)
@@ -49,3 +50,12 @@ nothing_learned before after guest from into =
 pub learned : (before after : Option Kept) (was : Kept) (note : Note) (old new : SharedClient) → before ≡ Some was → was ≡ kept.Note note → after ≡ None → MakesCall (Learns note) old new → LearnsFrom before after status.Ok old new
 learned before after was note old new from is into learns =
     subst (λ (b : Option Kept). LearnsFrom b after status.Ok old new) (sym from) (subst (λ (k : Kept). LearnsFrom (Some k) after status.Ok old new) (sym is) (refl, into, learns))
+
+-- a note that was made for an empty handle, or wasn't for one in use
+pub noted : (before after : Option Kept) (returned : Status) (made : Note) (old new : SharedClient) → is_none before ≡ true → MakesCall (Notes made) old new → KeepsNote made returned after → NotesInto before after returned old new
+noted None after returned made old new is makes keeps = (made, makes, keeps)
+noted (Some used) after returned made old new is makes keeps = absurd (false≢true is)
+
+pub not_noted : (before after : Option Kept) (guest : SharedClient) → is_none before ≡ false → after ≡ before → NotesInto before after status.NoHandle guest guest
+not_noted None after guest is same = absurd (false≢true (sym is))
+not_noted (Some used) after guest is same = (refl, same, refl)

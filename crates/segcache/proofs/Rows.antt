@@ -1,5 +1,5 @@
 -- What a client holds stays held, whatever call it makes.
-use Rattle.std.proofs.Common.{◌≡◌, ◌<◌, ℕ, List, Option, Some, None, IfSome, IsSomeAnd, sym, ap, ◌∙◌, subst}
+use Rattle.std.proofs.Common.{◌≡◌, ◌<◌, ℕ, List, Option, Some, None, IsSomeAnd, sym, ap, ◌∙◌, subst}
 use Rattle.segword.specs.Words.{Shape}
 use Rattle.segmodel.specs.Words.{DeleteAnswer, Request, WriteAnswer}
 use Rattle.segmodel.specs.declared.answer.DeleteAnswer.TheVariants as delete
@@ -12,14 +12,9 @@ use Rattle.segread.specs.declared.held.HoldAnswer.TheVariants as hold_answer
 use Rattle.segread.specs.Words.{HeldRow, Hold, HoldsItem, IsHoldOf, IsOfRow}
 use Rattle.segread.proofs.HoldCalls.{stays}
 use Rattle.segwrite.specs.Words.{Deletes, IsDeleteAnswer, IsWriteAnswer, Writes}
-use Rattle.segindex.specs.Words.{Index, shape_of}
-use Rattle.segclient.specs.declared.client.Client.{Client}
-use Rattle.segclient.specs.declared.rest.Resting.{Resting}
-use Rattle.segclient.specs.Client.{board_of, shape_of as client_shape}
-use Rattle.segclient.specs.Resting.{IsRestOf}
 use Rattle.segcache.specs.declared.status.Status.{Status}
-use Rattle.segcache.specs.Calls.{TakesHold, TellsHold}
-use Rattle.segcache.specs.Member.{HasItsRow, IsMember, IsRowHeld}
+use Rattle.segcache.specs.Calls.{ReturnsHold}
+use Rattle.segcache.specs.Row.{IsRowHeld}
 
 -- ---- which calls keep what is held
 
@@ -29,7 +24,7 @@ Keeps p q = memo q ≡ memo p
 same_memo : (p q : Pass) → q ≡ p → Keeps p q
 same_memo p q e = ap memo e
 
-write_keeps : (shape : Shape) (request : Request) (told : WriteAnswer) (p q : Pass) → IsWriteAnswer shape request told p q → Keeps p q
+write_keeps : (shape : Shape) (request : Request) (returned : WriteAnswer) (p q : Pass) → IsWriteAnswer shape request returned p q → Keeps p q
 write_keeps shape request write.Stored p q is = is.2.memo
 write_keeps shape request write.NotStored p q is = is.2
 write_keeps shape request write.Exists p q is = is.2
@@ -38,30 +33,23 @@ write_keeps shape request write.NoRoom p q is = same_memo p q is
 write_keeps shape request write.BucketFull p q is = is.0.memo
 write_keeps shape request write.Busy p q is = is.0.memo
 
-pub writes_keep : (b : Board) (request : Request) (told : WriteAnswer) (p q : Pass) → Writes b request told p q → memo q ≡ memo p
-writes_keep b request told p q writes = write_keeps b.shape request told p q writes.answer
+pub writes_keep : (b : Board) (request : Request) (returned : WriteAnswer) (p q : Pass) → Writes b request returned p q → memo q ≡ memo p
+writes_keep b request returned p q writes = write_keeps b.shape request returned p q writes.answer
 
-delete_keeps : (shape : Shape) (key : List ℕ) (now : ℕ) (told : DeleteAnswer) (p q : Pass) → IsDeleteAnswer shape key now told p q → Keeps p q
+delete_keeps : (shape : Shape) (key : List ℕ) (now : ℕ) (returned : DeleteAnswer) (p q : Pass) → IsDeleteAnswer shape key now returned p q → Keeps p q
 delete_keeps shape key now delete.Deleted p q is = is.2
 delete_keeps shape key now delete.NotFound p q is = is.2
 delete_keeps shape key now delete.Busy p q is = is.0.memo
 
-pub deletes_keep : (b : Board) (key : List ℕ) (now : ℕ) (told : DeleteAnswer) (p q : Pass) → Deletes b key now told p q → memo q ≡ memo p
-deletes_keep b key now told p q deletes = delete_keeps b.shape key now told p q deletes.answer
+pub deletes_keep : (b : Board) (key : List ℕ) (now : ℕ) (returned : DeleteAnswer) (p q : Pass) → Deletes b key now returned p q → memo q ≡ memo p
+deletes_keep b key now returned p q deletes = delete_keeps b.shape key now returned p q deletes.answer
 
 -- ---- the row
 
 -- a row stays that of what is held
-row_stays : (shape : Shape) (p q : Pass) (row : Option HeldRow) → memo q ≡ memo p → IsRowHeld shape p row → IsRowHeld shape q row
+pub row_stays : (shape : Shape) (p q : Pass) (row : Option HeldRow) → memo q ≡ memo p → IsRowHeld shape p row → IsRowHeld shape q row
 row_stays shape p q None same is = ap (λ (m : Memo). m.holding) same ∙ is
 row_stays shape p q (Some row) same is = λ hold of. stays shape hold p q (is hold of) (ap (λ (m : Memo). m.holding) same)
-
--- over a call of the client that woke up, and rests again
-pub row_on : (i : Index) (resting : Option Resting) (row : Option HeldRow) (woken after : Client) (rest : Resting)
-    → IsMember i resting → HasItsRow i resting row → IfSome resting (IsRestOf woken) → memo after.pass ≡ memo woken.pass → IsRestOf after rest → HasItsRow i (Some rest) row
-row_on i None row woken after rest member has wakes same rests = absurd member
-row_on i (Some resting) row woken after rest member has wakes same rests =
-    row_stays (shape_of i) resting.pass rest.pass row (ap memo (sym rests.pass) ∙ same ∙ ap memo wakes.pass) has
 
 -- the holds of a row are alike
 of_row : (shape : Shape) (p : Pass) (row : HeldRow) (hold other : Hold) → IsOfRow row hold → IsOfRow row other → IsHoldOf shape hold p → IsHoldOf shape other p
@@ -78,37 +66,20 @@ of_row shape p row hold other of also is = record {
 }
 
 -- the row after a hold: of what is held now, or the one before
-row_taken : (b : Board) (key : List ℕ) (now : ℕ) (answer : HoldAnswer) (told : Status) (row next : Option HeldRow) (p q : Pass)
-    → HoldsItem b key now answer p q → TellsHold answer told row next → IsRowHeld b.shape p row → IsRowHeld b.shape q next
-row_taken b key now (hold_answer.Holding hold) told row next p q holds tells is = taken next tells.1
+pub row_taken : (b : Board) (key : List ℕ) (now : ℕ) (answer : HoldAnswer) (returned : Status) (row next : Option HeldRow) (p q : Pass)
+    → HoldsItem b key now answer p q → ReturnsHold answer returned row next → IsRowHeld b.shape p row → IsRowHeld b.shape q next
+row_taken b key now (hold_answer.Holding hold) returned row next p q holds returns is = taken next returns.1
   where
     taken : (r : Option HeldRow) → IsSomeAnd r (λ r. IsOfRow r hold) → IsRowHeld b.shape q r
     taken None of = absurd of
     taken (Some r) of = λ other also. of_row b.shape q r hold other of also holds.answer.is
-row_taken b key now hold_answer.Miss told row next p q holds tells is =
-    subst (IsRowHeld b.shape q) (sym tells.1) (row_stays b.shape p q row holds.answer.0.memo is)
-row_taken b key now hold_answer.Busy told row next p q holds tells is =
-    subst (IsRowHeld b.shape q) (sym tells.1) (row_stays b.shape p q row holds.answer.0.memo is)
-row_taken b key now hold_answer.AlreadyHolding told row next p q holds tells is =
-    subst (IsRowHeld b.shape q) (sym tells.1) (row_stays b.shape p q row (same_memo p q holds.answer) is)
+row_taken b key now hold_answer.Miss returned row next p q holds returns is =
+    subst (IsRowHeld b.shape q) (sym returns.1) (row_stays b.shape p q row holds.answer.0.memo is)
+row_taken b key now hold_answer.Busy returned row next p q holds returns is =
+    subst (IsRowHeld b.shape q) (sym returns.1) (row_stays b.shape p q row holds.answer.0.memo is)
+row_taken b key now hold_answer.AlreadyHolding returned row next p q holds returns is =
+    subst (IsRowHeld b.shape q) (sym returns.1) (row_stays b.shape p q row (same_memo p q holds.answer) is)
 
--- over a hold of the client that woke up, and rests again
-pub row_held : (i : Index) (resting : Option Resting) (row next : Option HeldRow) (key : List ℕ) (told : Status) (woken before after : Client) (rest : Resting)
-    → IsMember i resting → HasItsRow i resting row → IfSome resting (IsRestOf woken) → woken.index.now ≡ i → before.index.now ≡ woken.index.now → before.pass ≡ woken.pass
-    → TakesHold key told row next before after → IsRestOf after rest → HasItsRow i (Some rest) next
-row_held i None row next key told woken before after rest member has wakes at same pass takes rests = absurd member
-row_held i (Some resting) row next key told woken before after rest member has wakes at same pass takes rests =
-    let index = same ∙ at in
-    subst (λ (j : Index). IsRowHeld (shape_of j) rest.pass next) index
-    (subst (λ (p : Pass). IsRowHeld (shape_of before.index.now) p next) rests.pass
-    (row_taken (board_of before) key before.clock takes.answer told row next before.pass after.pass takes.holds.holds takes.tells
-    (subst (λ (p : Pass). IsRowHeld (shape_of before.index.now) p row) (sym wakes.pass ∙ sym pass)
-    (subst (λ (j : Index). IsRowHeld (shape_of j) resting.pass row) (sym index) has))))
-
--- what the client holds is the row's, as the client that woke up sees it
-pub hold_of : (i : Index) (resting : Option Resting) (row : HeldRow) (hold : Hold) (woken : Client)
-    → IsMember i resting → HasItsRow i resting (Some row) → IfSome resting (IsRestOf woken) → woken.index.now ≡ i → IsOfRow row hold → IsHoldOf (client_shape woken) hold woken.pass
-hold_of i None row hold woken member has wakes at of = absurd member
-hold_of i (Some resting) row hold woken member has wakes at of =
-    subst (λ (p : Pass). IsHoldOf (client_shape woken) hold p) (sym wakes.pass)
-    (subst (λ (j : Index). IsHoldOf (shape_of j) hold resting.pass) (sym at) (has hold of))
+-- what the pass holds is the row's
+pub hold_of : (shape : Shape) (p : Pass) (held : Option HeldRow) (row : HeldRow) (hold : Hold) → IsRowHeld shape p held → held ≡ Some row → IsOfRow row hold → IsHoldOf shape hold p
+hold_of shape p held row hold has is of = subst (IsRowHeld shape p) is has hold of

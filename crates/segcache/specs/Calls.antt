@@ -1,67 +1,61 @@
--- What a client that rests did: it woke up, made one call, and rests again.
+-- What a client that shares its index did: a call of the index, and what it holds from then on.
 use Rattle.std.specs.Prelude.{◌≡◌, ℕ, List, Option, Some, None, IsSomeAnd}
-use Rattle.segbase.specs.Words.{holding, Pass}
+use Rattle.segbase.specs.Words.{Board, holding, Pass}
+use Rattle.segindex.specs.Words.{board_of}
 use Rattle.segread.specs.declared.held.HoldAnswer.{HoldAnswer}
 use Rattle.segread.specs.declared.held.HoldAnswer.TheVariants as hold_answer
-use Rattle.segread.specs.Words.{HeldRow, IsOfRow}
-use Rattle.segclient.specs.declared.client.Client.{Client}
-use Rattle.segclient.specs.declared.stats.Stats.{Stats}
-use Rattle.segclient.specs.Client.{SetsNow}
-use Rattle.segclient.specs.Resting.{IsRestOf}
+use Rattle.segread.specs.Words.{HeldRow, Hold, IsOfRow}
+use Rattle.segclient.specs.declared.member.Member.{Member}
+use Rattle.segclient.specs.Made.{EndsHold, HoldsKey, ReadsHold}
+use Rattle.segclient.specs.Member.{SetsNow}
 use Rattle.segcache.specs.declared.client.SharedClient.{SharedClient}
 use Rattle.segcache.specs.declared.status.Status.{Status}
 use Rattle.segcache.specs.declared.status.Status.TheVariants as status
-use Rattle.segcache.specs.Made.{EndsHold, HoldsKey, ReadsRow}
 
--- the client at rest is this one
-pub record IsGuest (guest : SharedClient) (client : Client) : Type 0 where
-  pub index : client.index.now ≡ guest.index.value
-  pub rest : IsSomeAnd guest.resting (IsRestOf client)
-
--- the client that rests made this call
-pub record Calls (Made : Client → Client → Type 0) (old new : SharedClient) : Type 0 where
-  pub before : Client
-  pub after : Client
-  pub wakes : IsGuest old before
-  pub made : Made before after
-  pub rests : IsGuest new after
+-- the client made this call of its index
+pub record Calls (Made : Board → Member → Member → Type 0) (old new : SharedClient) : Type 0 where
+  pub index : new.index.value ≡ old.index.value
+  pub made : Made (board_of old.index.value) old.member new.member
 
 -- the client made this call, and holds what it held
-pub record MakesCall (Made : Client → Client → Type 0) (old new : SharedClient) : Type 0 where
+pub record MakesCall (Made : Board → Member → Member → Type 0) (old new : SharedClient)
+    : Type 0 where
   pub calls : Calls Made old new
   pub held : new.held ≡ old.held
 
--- the client's clock was set to this moment, and then it made the call
-pub record At (now : ℕ) (Made : Client → Client → Type 0) (woken after : Client) : Type 0 where
-  pub before : Client
-  pub sets : SetsNow now woken before
-  pub made : Made before after
-
--- these are the client's counts
-abbrev pub TellsStats : Stats → SharedClient → SharedClient → Type 0
-TellsStats told old new =
-    MakesCall (λ before after. (told ≡ before.stats) × (after ≡ before)) old new
+-- the clock was set to this moment, and then the call was made
+pub record At (now : ℕ) (Made : Board → Member → Member → Type 0) (b : Board)
+    (old new : Member) : Type 0 where
+  pub before : Member
+  pub sets : SetsNow now old before
+  pub made : Made b before new
 
 -- ---- holds
 
 -- the status of an answer to a hold, and the row that the client holds from then on
-abbrev pub TellsHold : HoldAnswer → Status → Option HeldRow → Option HeldRow → Type 0
-TellsHold (hold_answer.Holding hold) told row next =
-    (told ≡ status.Ok) × IsSomeAnd next (λ r. IsOfRow r hold)
-TellsHold hold_answer.Miss told row next = (told ≡ status.Miss) × (next ≡ row)
-TellsHold hold_answer.Busy told row next = (told ≡ status.Busy) × (next ≡ row)
-TellsHold hold_answer.AlreadyHolding told row next =
-    (told ≡ status.AlreadyHolding) × (next ≡ row)
+abbrev pub ReturnsHold : HoldAnswer → Status → Option HeldRow → Option HeldRow → Type 0
+ReturnsHold (hold_answer.Holding hold) returned row next =
+    (returned ≡ status.Ok) × IsSomeAnd next (λ r. IsOfRow r hold)
+ReturnsHold hold_answer.Miss returned row next = (returned ≡ status.Miss) × (next ≡ row)
+ReturnsHold hold_answer.Busy returned row next = (returned ≡ status.Busy) × (next ≡ row)
+ReturnsHold hold_answer.AlreadyHolding returned row next =
+    (returned ≡ status.AlreadyHolding) × (next ≡ row)
 
 -- a hold of the key had this status, and the client holds this row from then on
-pub record TakesHold (key : List ℕ) (told : Status) (row next : Option HeldRow)
-    (old new : Client) : Type 0 where
+pub record TakesHold (key : List ℕ) (returned : Status) (row next : Option HeldRow) (b : Board)
+    (old new : Member) : Type 0 where
   pub answer : HoldAnswer
-  pub holds : HoldsKey key answer old new
-  pub tells : TellsHold answer told row next
+  pub holds : HoldsKey key answer b old new
+  pub returns : ReturnsHold answer returned row next
 
 abbrev pub HoldsAt : List ℕ → ℕ → Status → SharedClient → SharedClient → Type 0
-HoldsAt key now told old new = Calls (At now (TakesHold key told old.held new.held)) old new
+HoldsAt key now returned old new = Calls (At now (TakesHold key returned old.held new.held)) old new
+
+-- the value that is held by the row was read
+pub record ReadsRow (row : HeldRow) (returned : List ℕ) (b : Board) (old new : Member) : Type 0 where
+  pub hold : Hold
+  pub of : IsOfRow row hold
+  pub reads : ReadsHold hold returned b old new
 
 -- the value that is held was read, if there is one; without one nothing was done
 abbrev pub ReadsHeld : Option (List ℕ) → SharedClient → SharedClient → Type 0
@@ -78,5 +72,5 @@ EndsItsHold None old new = new ≡ old
 pub record IsPassOfGuest (guest : SharedClient) (left : Pass) : Type 0 where
   pub next : SharedClient
   pub ends : EndsItsHold guest.held guest next
-  pub pass : IsSomeAnd next.resting (λ resting. left ≡ resting.pass)
+  pub pass : left ≡ next.member.pass
   pub free : holding left ≡ None

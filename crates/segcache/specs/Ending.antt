@@ -29,8 +29,8 @@ FreesCache was after status.NoHandle = (is_cache was ≡ false) × (after ≡ So
 FreesCache was after _ = ⊥
 
 abbrev pub Freed : Option Kept → Option Kept → Status → Type 0
-Freed (Some was) after told = FreesCache was after told
-Freed None after told = (told ≡ status.NoHandle) × (after ≡ None)
+Freed (Some was) after returned = FreesCache was after returned
+Freed None after returned = (returned ≡ status.NoHandle) × (after ≡ None)
 
 -- ---- the content
 
@@ -44,33 +44,33 @@ HaveRoom pair key value = (length pair.0 ≤ length key.0) × (length pair.1 ≤
 
 -- The lengths of the next pair were written, and the pair, if both buffers have room for it.
 -- Then the one behind it is next.
-pub record TellsPair (pair : List ℕ × List ℕ) (old new : Cursor) (key key' value value' : Out)
-    (told : Status) : Type 0 where
+pub record ReturnsPair (pair : List ℕ × List ℕ) (old new : Cursor) (key key' value value' : Out)
+    (returned : Status) : Type 0 where
   pub key_len : key'.1 ≡ length pair.0
   pub value_len : value'.1 ≡ length pair.1
   pub fits : HaveRoom pair key value
-      → (told ≡ status.Ok) × Fronts pair.0 key.0 key'.0 × Fronts pair.1 value.0 value'.0
-      × (new ≡ record old { told = old.told + 1 })
+      → (returned ≡ status.Ok) × Fronts pair.0 key.0 key'.0 × Fronts pair.1 value.0 value'.0
+      × (new ≡ record old { next = old.next + 1 })
   pub short : ¬ (HaveRoom pair key value)
-      → (told ≡ status.ShortBuffer) × (key'.0 ≡ key.0) × (value'.0 ≡ value.0) × (new ≡ old)
+      → (returned ≡ status.ShortBuffer) × (key'.0 ≡ key.0) × (value'.0 ≡ value.0) × (new ≡ old)
 
 -- nothing was written
 abbrev pub WritesNone : Status → Out → Out → Out → Out → Status → Type 0
-WritesNone why key key' value value' told = (told ≡ why) × (key' ≡ key) × (value' ≡ value)
+WritesNone why key key' value value' returned = (returned ≡ why) × (key' ≡ key) × (value' ≡ value)
 
-abbrev pub TellsNext : Option (List ℕ × List ℕ) → Cursor → Cursor → Out → Out → Out → Out
+abbrev pub ReturnsNext : Option (List ℕ × List ℕ) → Cursor → Cursor → Out → Out → Out → Out
     → Status → Type 0
-TellsNext (Some pair) old new key key' value value' told =
-    TellsPair pair old new key key' value value' told
-TellsNext None old new key key' value value' told =
-    WritesNone status.End key key' value value' told × (new ≡ old)
+ReturnsNext (Some pair) old new key key' value value' returned =
+    ReturnsPair pair old new key key' value value' returned
+ReturnsNext None old new key key' value value' returned =
+    WritesNone status.End key key' value value' returned × (new ≡ old)
 
 abbrev pub Listed : Option Kept → Option Kept → Out → Out → Out → Out → Status → Type 0
-Listed (Some (kept.Cursor old)) after key key' value value' told =
+Listed (Some (kept.Cursor old)) after key key' value value' returned =
     (new : Cursor) × (after ≡ Some (kept.Cursor new))
-    × TellsNext (slice_get old.pairs.items old.told) old new key key' value value' told
-Listed before after key key' value value' told =
-    WritesNone status.NoHandle key key' value value' told × (after ≡ before)
+    × ReturnsNext (slice_get old.pairs.items old.next) old new key key' value value' returned
+Listed before after key key' value value' returned =
+    WritesNone status.NoHandle key key' value value' returned × (after ≡ before)
 
 abbrev pub is_cursor : Kept → Bool
 is_cursor (kept.Cursor cursor) = true
@@ -78,5 +78,5 @@ is_cursor _ = false
 
 -- a handle with a cursor is empty then, and any other is as it was
 abbrev pub FreesCursor : Option Kept → Option Kept → Status → Type 0
-FreesCursor (Some (kept.Cursor cursor)) after told = (told ≡ status.Ok) × (after ≡ None)
-FreesCursor before after told = (told ≡ status.NoHandle) × (after ≡ before)
+FreesCursor (Some (kept.Cursor cursor)) after returned = (returned ≡ status.Ok) × (after ≡ None)
+FreesCursor before after returned = (returned ≡ status.NoHandle) × (after ≡ before)

@@ -9,12 +9,12 @@ use Rattle.segcache.specs.Status.{number_of}
 
 -- the answer is the number of a status of which this is so
 abbrev pub Answers : ℕ → (Status → Type 0) → Type 0
-Answers number IsSo = (told : Status) × (number ≡ number_of told) × IsSo told
+Answers number IsSo = (returned : Status) × (number ≡ number_of returned) × IsSo returned
 
 -- ---- refusals
 
-abbrev pub Tells : Status → Status → Type 0
-Tells told why = told ≡ why
+abbrev pub Returns : Status → Status → Type 0
+Returns returned why = returned ≡ why
 
 -- the bytes of a buffer of C's, and a length of C's
 abbrev pub Out : Type 0
@@ -22,7 +22,7 @@ Out = List ℕ × ℕ
 
 -- nothing was written
 abbrev pub WritesNothing : Out → Out → Status → Status → Type 0
-WritesNothing out next told why = (told ≡ why) × (next ≡ out)
+WritesNothing out next returned why = (returned ≡ why) × (next ≡ out)
 
 -- ---- by a handle, a key and a value
 
@@ -53,9 +53,9 @@ pub record ByValue (Refuses : Status → Type 0) (value : List ℕ)
 
 -- The length of the bytes was written. Where the buffer has room for them, they were copied
 -- to its front, and what is behind them is as it was. A shorter buffer is as it was.
-pub record CopiesOut (bytes : List ℕ) (told : Status) (out next : Out) : Type 0 where
+pub record CopiesOut (bytes : List ℕ) (returned : Status) (out next : Out) : Type 0 where
   pub len : next.1 ≡ length bytes
   pub fits : length bytes ≤ length out.0
-      → (told ≡ status.Ok) × (next.0 ≡ bytes ++ drop (length bytes) out.0)
+      → (returned ≡ status.Ok) × (next.0 ≡ bytes ++ drop (length bytes) out.0)
   pub short : ¬ (length bytes ≤ length out.0)
-      → (told ≡ status.ShortBuffer) × (next.0 ≡ out.0)
+      → (returned ≡ status.ShortBuffer) × (next.0 ≡ out.0)

@@ -4,84 +4,84 @@ use Rattle.segmodel.specs.Words.{GetAnswer, GetsAnswer}
 use Rattle.segmodel.specs.declared.answer.GetAnswer.TheVariants as get
 use Rattle.segmodel.specs.declared.answer.GetsAnswer.TheVariants as gets
 use Rattle.segread.specs.Words.{HeldRow}
+use Rattle.segclient.specs.Made.{Gets, GetsVersion}
 use Rattle.segcache.specs.declared.client.SharedClient.{SharedClient}
 use Rattle.segcache.specs.declared.kept.Kept.{Kept}
 use Rattle.segcache.specs.declared.status.Status.{Status}
 use Rattle.segcache.specs.declared.status.Status.TheVariants as status
 use Rattle.segcache.specs.Calls.{At, EndsItsHold, HoldsAt, MakesCall, ReadsHeld}
-use Rattle.segcache.specs.Exports.{ByClient, ByKey, CopiesOut, Out, Tells, WritesNothing}
-use Rattle.segcache.specs.Made.{Gets, GetsVersion}
+use Rattle.segcache.specs.Exports.{ByClient, ByKey, CopiesOut, Out, Returns, WritesNothing}
 
 -- a value that was found is copied out
-abbrev pub TellsGet : GetAnswer → Status → Out → Out → Type 0
-TellsGet (get.Found value) told out next = CopiesOut value told out next
-TellsGet get.Miss told out next = WritesNothing out next told status.Miss
-TellsGet get.Busy told out next = WritesNothing out next told status.Busy
+abbrev pub ReturnsGet : GetAnswer → Status → Out → Out → Type 0
+ReturnsGet (get.Found value) returned out next = CopiesOut value returned out next
+ReturnsGet get.Miss returned out next = WritesNothing out next returned status.Miss
+ReturnsGet get.Busy returned out next = WritesNothing out next returned status.Busy
 
--- the client's get of the key had an answer, and this was told of it
-pub record MakesGet (key : List ℕ) (now : ℕ) (out next : Out) (told : Status)
+-- the client's get of the key had an answer, and this status was returned
+pub record MakesGet (key : List ℕ) (now : ℕ) (out next : Out) (returned : Status)
     (old new : SharedClient) : Type 0 where
   pub answer : GetAnswer
   pub calls : MakesCall (At now (Gets key answer)) old new
-  pub tells : TellsGet answer told out next
+  pub returns : ReturnsGet answer returned out next
 
 abbrev pub Got : List ℕ → ℕ → Option Kept → Option Kept → Out → Out → Status → Type 0
-Got key now before after out next told =
-    let Refuses = WritesNothing out next told in
-    ByClient Refuses (ByKey Refuses key (MakesGet key now out next told)) before after
+Got key now before after out next returned =
+    let Refuses = WritesNothing out next returned in
+    ByClient Refuses (ByKey Refuses key (MakesGet key now out next returned)) before after
 
 -- nothing was written, and no version
 abbrev pub WritesNoVersion : Out → Out → ℕ → ℕ → Status → Status → Type 0
-WritesNoVersion out next version next_version told why =
-    WritesNothing out next told why × (next_version ≡ version)
+WritesNoVersion out next version next_version returned why =
+    WritesNothing out next returned why × (next_version ≡ version)
 
 -- the version is written too, where a value was found
-abbrev pub TellsGets : GetsAnswer → Status → Out → Out → ℕ → ℕ → Type 0
-TellsGets (gets.Found value of) told out next version next_version =
-    CopiesOut value told out next × (next_version ≡ of)
-TellsGets gets.Miss told out next version next_version =
-    WritesNoVersion out next version next_version told status.Miss
-TellsGets gets.Busy told out next version next_version =
-    WritesNoVersion out next version next_version told status.Busy
+abbrev pub ReturnsGets : GetsAnswer → Status → Out → Out → ℕ → ℕ → Type 0
+ReturnsGets (gets.Found value of) returned out next version next_version =
+    CopiesOut value returned out next × (next_version ≡ of)
+ReturnsGets gets.Miss returned out next version next_version =
+    WritesNoVersion out next version next_version returned status.Miss
+ReturnsGets gets.Busy returned out next version next_version =
+    WritesNoVersion out next version next_version returned status.Busy
 
 pub record MakesGets (key : List ℕ) (now : ℕ) (out next : Out) (version next_version : ℕ)
-    (told : Status) (old new : SharedClient) : Type 0 where
+    (returned : Status) (old new : SharedClient) : Type 0 where
   pub answer : GetsAnswer
   pub calls : MakesCall (At now (GetsVersion key answer)) old new
-  pub tells : TellsGets answer told out next version next_version
+  pub returns : ReturnsGets answer returned out next version next_version
 
 abbrev pub GotVersion : List ℕ → ℕ → Option Kept → Option Kept → Out → Out → ℕ → ℕ → Status
     → Type 0
-GotVersion key now before after out next version next_version told =
-    let Refuses = WritesNoVersion out next version next_version told in
+GotVersion key now before after out next version next_version returned =
+    let Refuses = WritesNoVersion out next version next_version returned in
     ByClient Refuses
-    (ByKey Refuses key (MakesGets key now out next version next_version told)) before after
+    (ByKey Refuses key (MakesGets key now out next version next_version returned)) before after
 
 -- ---- holds
 
 abbrev pub Held : List ℕ → ℕ → Option Kept → Option Kept → Status → Type 0
-Held key now before after told =
-    ByClient (Tells told) (ByKey (Tells told) key (HoldsAt key now told)) before after
+Held key now before after returned =
+    ByClient (Returns returned) (ByKey (Returns returned) key (HoldsAt key now returned)) before after
 
-abbrev pub TellsHeld : Option (List ℕ) → Status → Out → Out → Type 0
-TellsHeld (Some value) told out next = CopiesOut value told out next
-TellsHeld None told out next = WritesNothing out next told status.NotHolding
+abbrev pub ReturnsHeld : Option (List ℕ) → Status → Out → Out → Type 0
+ReturnsHeld (Some value) returned out next = CopiesOut value returned out next
+ReturnsHeld None returned out next = WritesNothing out next returned status.NotHolding
 
--- the client read what it holds, and this was told of it
-pub record MakesHeldRead (out next : Out) (told : Status) (old new : SharedClient) : Type 0 where
+-- the client read what it holds, and this status was returned
+pub record MakesHeldRead (out next : Out) (returned : Status) (old new : SharedClient) : Type 0 where
   pub value : Option (List ℕ)
   pub reads : ReadsHeld value old new
-  pub tells : TellsHeld value told out next
+  pub returns : ReturnsHeld value returned out next
 
 abbrev pub GotHeld : Option Kept → Option Kept → Out → Out → Status → Type 0
-GotHeld before after out next told =
-    ByClient (WritesNothing out next told) (MakesHeldRead out next told) before after
+GotHeld before after out next returned =
+    ByClient (WritesNothing out next returned) (MakesHeldRead out next returned) before after
 
 abbrev pub release_status : Option HeldRow → Status
 release_status (Some row) = status.Ok
 release_status None = status.NotHolding
 
 abbrev pub Released : Option Kept → Option Kept → Status → Type 0
-Released before after told =
-    ByClient (Tells told)
-    (λ old new. EndsItsHold old.held old new × (told ≡ release_status old.held)) before after
+Released before after returned =
+    ByClient (Returns returned)
+    (λ old new. EndsItsHold old.held old new × (returned ≡ release_status old.held)) before after

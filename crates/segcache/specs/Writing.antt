@@ -5,14 +5,16 @@ use Rattle.segmodel.specs.declared.answer.DeleteAnswer.TheVariants as delete
 use Rattle.segmodel.specs.declared.answer.WriteAnswer.TheVariants as write
 use Rattle.segclient.specs.declared.put.PutAnswer.{PutAnswer}
 use Rattle.segclient.specs.declared.put.PutAnswer.TheVariants as put
+use Rattle.segclient.specs.Made.{DeletesKey}
+use Rattle.segclient.specs.Puts.{Puts}
 use Rattle.segcache.specs.declared.client.SharedClient.{SharedClient}
 use Rattle.segcache.specs.declared.kept.Kept.{Kept}
 use Rattle.segcache.specs.declared.status.Status.{Status}
 use Rattle.segcache.specs.declared.status.Status.TheVariants as status
 use Rattle.segcache.specs.declared.when.When.{When}
 use Rattle.segcache.specs.Calls.{At, MakesCall}
-use Rattle.segcache.specs.Exports.{ByClient, ByKey, ByValue, Tells}
-use Rattle.segcache.specs.Made.{DeletesKey, PutsValue, WritesWhen}
+use Rattle.segcache.specs.Exports.{ByClient, ByKey, ByValue, Returns}
+use Rattle.segcache.specs.Made.{WritesWhen}
 
 -- the status of each answer
 abbrev pub put_status : PutAnswer → Status
@@ -36,38 +38,38 @@ delete_status delete.NotFound = status.NotFound
 delete_status delete.Busy = status.Busy
 
 -- the client's put of the value had the answer of this status
-pub record MakesPut (key value : List ℕ) (now : ℕ) (told : Status) (old new : SharedClient)
+pub record MakesPut (key value : List ℕ) (now : ℕ) (returned : Status) (old new : SharedClient)
     : Type 0 where
   pub answer : PutAnswer
-  pub calls : MakesCall (At now (PutsValue key value answer)) old new
-  pub tells : told ≡ put_status answer
+  pub calls : MakesCall (At now (Puts key value answer)) old new
+  pub returns : returned ≡ put_status answer
 
 abbrev pub Put : List ℕ → List ℕ → ℕ → Option Kept → Option Kept → Status → Type 0
-Put key value now before after told =
-    ByClient (Tells told)
-    (ByKey (Tells told) key (ByValue (Tells told) value (MakesPut key value now told)))
+Put key value now before after returned =
+    ByClient (Returns returned)
+    (ByKey (Returns returned) key (ByValue (Returns returned) value (MakesPut key value now returned)))
     before after
 
 -- the client's write of the value had the answer of this status
-pub record MakesWrite (when : When) (key value : List ℕ) (now : ℕ) (told : Status)
+pub record MakesWrite (when : When) (key value : List ℕ) (now : ℕ) (returned : Status)
     (old new : SharedClient) : Type 0 where
   pub answer : WriteAnswer
   pub calls : MakesCall (At now (WritesWhen when key value answer)) old new
-  pub tells : told ≡ write_status answer
+  pub returns : returned ≡ write_status answer
 
 abbrev pub Wrote : When → List ℕ → List ℕ → ℕ → Option Kept → Option Kept → Status → Type 0
-Wrote when key value now before after told =
-    ByClient (Tells told)
-    (ByKey (Tells told) key (ByValue (Tells told) value (MakesWrite when key value now told)))
+Wrote when key value now before after returned =
+    ByClient (Returns returned)
+    (ByKey (Returns returned) key (ByValue (Returns returned) value (MakesWrite when key value now returned)))
     before after
 
 -- the client's delete of the key had the answer of this status
-pub record MakesDelete (key : List ℕ) (now : ℕ) (told : Status) (old new : SharedClient)
+pub record MakesDelete (key : List ℕ) (now : ℕ) (returned : Status) (old new : SharedClient)
     : Type 0 where
   pub answer : DeleteAnswer
   pub calls : MakesCall (At now (DeletesKey key answer)) old new
-  pub tells : told ≡ delete_status answer
+  pub returns : returned ≡ delete_status answer
 
 abbrev pub Deleted : List ℕ → ℕ → Option Kept → Option Kept → Status → Type 0
-Deleted key now before after told =
-    ByClient (Tells told) (ByKey (Tells told) key (MakesDelete key now told)) before after
+Deleted key now before after returned =
+    ByClient (Returns returned) (ByKey (Returns returned) key (MakesDelete key now returned)) before after

@@ -33,8 +33,14 @@ pub(crate) enum End {
 }
 
 impl Cache {
+    ghost use Rattle.segcache.specs.Closing.{EndsAs};
+    ghost use Rattle.segcache.specs.Opening.{IsNewHome};
+    ghost use Rattle.segcache.specs.Returning.{HasPlaceFor, TakesBack};
+
     /// A cache with no pass in its places.
-    pub(crate) fn new(alloc: Global, index: Arc<Index, Global>) -> Result<Cache, AllocError> {
+    pub(crate) fn new(alloc: Global, index: Arc<Index, Global>) -> Result<Cache, AllocError>
+        ensures { IfOk result (IsNewHome index.value) }
+    {
         let places = no_passes(alloc, index.shape().passes)?;
         Ok(Cache { index, places })
     }
@@ -47,23 +53,27 @@ impl Cache {
     }
 
     /// Whether the place of the client is free.
-    pub(crate) fn has_place_for(&self, client: &SharedClient) -> bool {
+    pub(crate) fn has_place_for(&self, client: &SharedClient) -> bool
+        ensures { result ≡ true ↔ HasPlaceFor self.now client.now }
+    {
         matches!(self.places.get(client.number() as usize), Some(None))
     }
 
     /// Ends the hold of a client of this index, and puts its pass into its place.
     pub(crate) fn take_back(&mut self, client: SharedClient)
         requires same { client.index.value ≡ self.old.index.value }
+        requires place { HasPlaceFor self.old client }
+        ensures { TakesBack client self.old self.new }
     {
         let place = client.number() as usize;
-        let pass = client.into_pass();
-        if place < self.places.len() {
-            self.places[place] = Some(pass);
-        }
+        self.places[place] = Some(client.into_pass());
     }
 
     /// Closes the index with all passes, if all are back, and lists its content.
-    pub(crate) fn end(self, alloc: Global) -> End {
+    /// It is Busy if somebody shares the index still, which no contract rules out.
+    pub(crate) fn end(self, alloc: Global) -> End
+        ensures { EndsAs self result }
+    {
         if !self.has_all() {
             return End::Refused {
                 cache: self,
@@ -84,7 +94,7 @@ impl Cache {
             },
             Err(index) => End::Refused {
                 cache: Cache { index, places },
-                why: Status::ClientOut,
+                why: Status::Busy,
             },
         }
     }

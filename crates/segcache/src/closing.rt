@@ -1,10 +1,13 @@
 //! The exports that give clients back, and close or free the cache.
-ghost use Rattle.std.specs.Prelude.{◌≡◌};
+ghost use Rattle.std.specs.Prelude.{◌≡◌, Some};
+ghost use Rattle.segcache.specs.declared.status.Status.TheVariants.{Ok};
+ghost use Rattle.segcache.specs.Closing.{Closed, ClosesAs};
 ghost use Rattle.segcache.specs.Ending.{Freed};
 ghost use Rattle.segcache.specs.Exports.{Answers};
-ghost use Rattle.segcache.specs.Sharing.{AreOfOneIndex, IsOfIndex};
+ghost use Rattle.segcache.specs.Returning.{GivenBack, GoesBackFrom, IsWelcome, TakesKept};
+ghost use Rattle.segcache.specs.Sharing.{AreOfOneIndex, IsGuestOf, MayBeGuest};
 
-use crate::cache::End;
+use crate::cache::{Cache, End};
 use crate::cursor::Cursor;
 use crate::handle::Handle;
 use crate::kept::Kept;
@@ -21,32 +24,27 @@ pub extern "C" fn segcache_raw_give_back(
     client: &mut Handle,
 ) -> u32
     requires same { AreOfOneIndex cache.old.value client.old.value }
+    ensures { Answers result (GivenBack cache.old.value cache.new.value
+        client.old.value client.new.value) }
 {
-    let Some(mut home) = cache.take(alloc) else {
+    let Some(mut kept) = cache.take(alloc) else {
         return Status::NoHandle.number();
     };
-    let Some(guest) = client.take(alloc) else {
-        cache.fill(alloc, home);
-        return Status::NoHandle.number();
-    };
-    let told = welcome(&home, &guest);
-    if told == Status::Ok {
-        take_back(&mut home, Box::into_inner(guest));
-    } else {
-        client.fill(alloc, guest);
-    }
-    cache.fill(alloc, home);
-    told.number()
+    let status = give_back(alloc, &mut kept, client);
+    cache.fill(alloc, kept);
+    status.number()
 }
 
-/// Closes a cache once all clients are back, and lists its content by a cursor.
+/// Closes a cache once all clients are back, and lists its content by a cursor in an empty handle.
 /// If memory for the list is refused, the cache is gone all the same.
 #[unsafe(no_mangle)]
-pub extern "C" fn segcache_raw_close(
-    alloc: Global,
-    cache: &mut Handle,
-    cursor: &mut Handle,
-) -> u32 {
+pub extern "C" fn segcache_raw_close(alloc: Global, cache: &mut Handle, cursor: &mut Handle) -> u32
+    ensures { Answers result (Closed cache.old.value cache.new.value
+        cursor.old.value cursor.new.value) }
+{
+    if !cursor.is_empty(alloc) {
+        return Status::NoHandle.number();
+    }
     let Some(mut kept) = cache.take(alloc) else {
         return Status::NoHandle.number();
     };
@@ -93,7 +91,9 @@ enum Closing {
 }
 
 // Turns a cache into a cursor of its content.
-fn close(alloc: Global, kept: &mut Kept) -> Closing {
+fn close(alloc: Global, kept: &mut Kept) -> Closing
+    ensures { ClosesAs kept.old kept.new result }
+{
     let nothing = Kept::Cursor(Cursor::new(Vec::new(alloc)));
     match mem::replace(kept, nothing) {
         Kept::Cache(cache) => match cache.end(alloc) {
@@ -114,9 +114,39 @@ fn close(alloc: Global, kept: &mut Kept) -> Closing {
     }
 }
 
+// Gives a client back to the cache that is kept.
+fn give_back(alloc: Global, kept: &mut Kept, client: &mut Handle) -> Status
+    requires same { AreOfOneIndex (Some kept.old) client.old.value }
+    ensures { GivenBack (Some kept.old) (Some kept.new) client.old.value client.new.value result }
+{
+    let Kept::Cache(cache) = kept else {
+        return Status::NoHandle;
+    };
+    welcome_back(alloc, cache, client)
+}
+
+// Gives a client back to its cache.
+fn welcome_back(alloc: Global, cache: &mut Cache, client: &mut Handle) -> Status
+    requires same { MayBeGuest cache.old client.old.value }
+    ensures { GoesBackFrom client.old.value client.new.value cache.old cache.new result }
+{
+    let Some(guest) = client.take(alloc) else {
+        return Status::NoHandle;
+    };
+    let status = welcome(cache, &guest);
+    if status != Status::Ok {
+        client.fill(alloc, guest);
+        return status;
+    }
+    take_back(cache, Box::into_inner(guest));
+    Status::Ok
+}
+
 // Whether the cache has a place for the client.
-fn welcome(home: &Kept, guest: &Kept) -> Status {
-    let (Kept::Cache(cache), Kept::Client(client)) = (home, guest) else {
+fn welcome(cache: &Cache, guest: &Kept) -> Status
+    ensures { IsWelcome cache.now guest.now result }
+{
+    let Kept::Client(client) = guest else {
         return Status::NoHandle;
     };
     if cache.has_place_for(client) {
@@ -127,13 +157,13 @@ fn welcome(home: &Kept, guest: &Kept) -> Status {
 }
 
 // Puts the client's pass into its place.
-fn take_back(home: &mut Kept, guest: Kept)
-    requires same { IsOfIndex home.old guest }
+fn take_back(cache: &mut Cache, guest: Kept)
+    requires same { IsGuestOf cache.old guest }
+    requires welcome { IsWelcome cache.old guest Ok }
+    ensures { TakesKept guest cache.old cache.new }
 {
-    let Kept::Cache(cache) = home else {
-        return;
+    let Kept::Client(client) = guest else {
+        unreachable!()
     };
-    if let Kept::Client(client) = guest {
-        cache.take_back(client);
-    }
+    cache.take_back(client);
 }

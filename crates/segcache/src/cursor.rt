@@ -4,22 +4,22 @@ ghost use Rattle.std.specs.Prelude.{◌≡◌};
 use crate::status::Status;
 use segclient::{Key, Value};
 
-/// A list of pairs, and how many of them were told.
+/// A list of pairs, and the place of the next one.
 #[derive(Drop)]
 pub struct Cursor {
     pairs: Vec<(Key, Value)>,
-    told: usize,
+    next: usize,
 }
 
 impl Cursor {
     ghost use Rattle.std.specs.Prelude.{slice_get};
-    ghost use Rattle.segcache.specs.Ending.{TellsNext};
+    ghost use Rattle.segcache.specs.Ending.{ReturnsNext};
 
     /// Before the first pair.
     pub(crate) fn new(pairs: Vec<(Key, Value)>) -> Cursor
-        ensures { result ≡ record { pairs = pairs; told = 0 } }
+        ensures { result ≡ record { pairs = pairs; next = 0 } }
     {
-        Cursor { pairs, told: 0 }
+        Cursor { pairs, next: 0 }
     }
 
     /// Copies the next pair out. If one of the buffers is too short, the next pair stays the next.
@@ -30,11 +30,11 @@ impl Cursor {
         value: &mut [u8],
         value_len: &mut usize,
     ) -> Status
-        ensures { TellsNext (slice_get self.old.pairs.items self.old.told) self.old self.new
+        ensures { ReturnsNext (slice_get self.old.pairs.items self.old.next) self.old self.new
             (key.old, key_len.old) (key.new, key_len.new)
             (value.old, value_len.old) (value.new, value_len.new) result }
     {
-        let Some((next_key, next_value)) = self.pairs.get(self.told) else {
+        let Some((next_key, next_value)) = self.pairs.get(self.next) else {
             return Status::End;
         };
         let key_bytes = next_key.as_bytes();
@@ -46,7 +46,7 @@ impl Cursor {
         }
         key[..key_bytes.len()].copy_from_slice(key_bytes);
         value[..value_bytes.len()].copy_from_slice(value_bytes);
-        self.told += 1;
+        self.next += 1;
         Status::Ok
     }
 }

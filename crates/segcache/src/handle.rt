@@ -1,5 +1,5 @@
 //! What C has of a value here: a pointer to a box of it, or none.
-ghost use Rattle.std.specs.Prelude.{◌≡◌, Bool, true, false, Option, None, Some, MatchOption};
+ghost use Rattle.std.specs.Prelude.{◌≡◌, Bool, true, false, Option, None, Some, is_none, MatchOption};
 ghost use Rattle.std.specs.Coded.{coded_option};
 ghost use Rattle.segcache.specs.Token.{token};
 ghost use Rattle.segcache.specs.Owned.{owns_if};
@@ -81,5 +81,16 @@ impl Handle {
         if let Some(loose) = before.loose(alloc) {
             drop(loose.into_box());
         }
+    }
+    /// Whether it has no value.
+    pub(crate) fn is_empty(&mut self, alloc: Global) -> bool
+        ensures empty { result ≡ is_none self.old.value }
+        ensures same { self.new.value ≡ self.old.value }
+    {
+        let Some(boxed) = self.take(alloc) else {
+            return true;
+        };
+        self.fill(alloc, boxed);
+        false
     }
 }

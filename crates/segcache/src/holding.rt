@@ -18,9 +18,9 @@ pub extern "C" fn segcache_raw_hold(alloc: Global, client: &mut Handle, key: &[u
     let Some(mut kept) = client.take(alloc) else {
         return Status::NoHandle.number();
     };
-    let told = hold(&mut kept, key, now);
+    let status = hold(&mut kept, key, now);
     client.fill(alloc, kept);
-    told.number()
+    status.number()
 }
 
 /// Copies the value that is held to the buffer, as a get does.
@@ -37,9 +37,9 @@ pub extern "C" fn segcache_raw_held_value(
     let Some(mut kept) = client.take(alloc) else {
         return Status::NoHandle.number();
     };
-    let told = held_value(&mut kept, value, value_len);
+    let status = held_value(&mut kept, value, value_len);
     client.fill(alloc, kept);
-    told.number()
+    status.number()
 }
 
 /// Ends a hold.
@@ -50,9 +50,9 @@ pub extern "C" fn segcache_raw_release(alloc: Global, client: &mut Handle) -> u3
     let Some(mut kept) = client.take(alloc) else {
         return Status::NoHandle.number();
     };
-    let told = release(&mut kept);
+    let status = release(&mut kept);
     client.fill(alloc, kept);
-    told.number()
+    status.number()
 }
 
 fn hold(kept: &mut Kept, key: &[u8], now: u32) -> Status

@@ -1,26 +1,24 @@
-//! The calls of a client that holds an item, and of one that tells another what it has seen.
+//! The calls of a client that holds an item, and of its notes.
 ghost use Rattle.std.specs.Prelude.{◌≡◌, is_some};
 ghost use Rattle.segbase.specs.Words.{IsNoteOf};
 ghost use Rattle.segindex.specs.Words.{board_of};
+ghost use Rattle.segclient.specs.Member.{IsMember};
 ghost use Rattle.segcache.specs.Calls.{TakesHold};
 
-use crate::client::{SharedClient, wake};
+use crate::client::SharedClient;
 use crate::status::Status;
-use segclient::{Client, HeldRow, HoldAnswer, Key, Note, Value, row_of_hold};
+use segclient::{HeldRow, HoldAnswer, Index, Key, Member, Note, Value, row_of_hold};
 
 impl SharedClient {
-    ghost use Rattle.segcache.specs.Made.{Learns, Notes};
+    ghost use Rattle.segclient.specs.Made.{Learns, Notes};
     ghost use Rattle.segcache.specs.Calls.{EndsItsHold, HoldsAt, MakesCall, ReadsHeld};
 
     /// Holds the item of a key.
     pub(crate) fn hold(&mut self, key: &Key, now: u32) -> Status
         ensures { HoldsAt key.now now result self.old self.new }
     {
-        let mut client = wake(&self.index, &mut self.resting);
-        client.set_now(now);
-        let told = hold_row(&mut client, key, &mut self.held);
-        self.resting = Some(client.rest());
-        told
+        self.member.set_now(now);
+        hold_row(&mut self.member, &self.index, key, &mut self.held)
     }
 
     /// A copy of the value that it holds.
@@ -28,26 +26,22 @@ impl SharedClient {
         ensures { ReadsHeld result self.old self.new }
     {
         let row = self.held?;
-        let mut client = wake(&self.index, &mut self.resting);
-        let hold = client.hold_of_row(row);
-        let value = client.held_value(&hold);
+        let hold = self.index.hold_of_row(row);
+        let value = self.member.held_value(&self.index, &hold);
         row_of_hold(hold);
-        self.resting = Some(client.rest());
         Some(value)
     }
 
     /// Ends its hold, and says whether there was one.
     pub(crate) fn release(&mut self) -> bool
-        ensures told { result ≡ is_some self.old.held }
+        ensures was_held { result ≡ is_some self.old.held }
         ensures ends { EndsItsHold self.old.held self.old self.new }
     {
         let Some(row) = self.held.take() else {
             return false;
         };
-        let mut client = wake(&self.index, &mut self.resting);
-        let hold = client.hold_of_row(row);
-        client.release(hold);
-        self.resting = Some(client.rest());
+        let hold = self.index.hold_of_row(row);
+        self.member.release(&self.index, hold);
         true
     }
 
@@ -55,10 +49,7 @@ impl SharedClient {
     pub(crate) fn note(&mut self) -> Note
         ensures { MakesCall (Notes result) self.old self.new }
     {
-        let mut client = wake(&self.index, &mut self.resting);
-        let note = client.note();
-        self.resting = Some(client.rest());
-        note
+        self.member.note(&self.index)
     }
 
     /// It has then seen all that the note has.
@@ -66,17 +57,18 @@ impl SharedClient {
         requires note { IsNoteOf (board_of self.old.index.value) note }
         ensures { MakesCall (Learns note) self.old self.new }
     {
-        let mut client = wake(&self.index, &mut self.resting);
-        client.learn(note);
-        self.resting = Some(client.rest());
+        self.member.learn(&self.index, note);
     }
 }
 
 // Holds the item of a key, and keeps its row.
-fn hold_row(client: &mut Client<'_>, key: &Key, held: &mut Option<HeldRow>) -> Status
-    ensures { TakesHold key.now result held.old held.new client.old client.new }
+fn hold_row(member: &mut Member, index: &Index, key: &Key, held: &mut Option<HeldRow>) -> Status
+    requires member { IsMember index.now member.old }
+    ensures member { IsMember index.now member.new }
+    ensures holds { TakesHold key.now result held.old held.new
+        (board_of index.now) member.old member.new }
 {
-    match client.hold(key) {
+    match member.hold(index, key) {
         HoldAnswer::Holding(hold) => {
             *held = Some(row_of_hold(hold));
             Status::Ok

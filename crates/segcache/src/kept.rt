@@ -21,7 +21,7 @@ fn may_cross<T: Send>(value: T) -> T {
 impl Kept {
     ghost use Rattle.std.specs.Prelude.{◌≡◌, ◌↔◌, true};
     ghost use Rattle.segcache.specs.Ending.{AreAllBack, is_cache, is_cursor};
-    ghost use Rattle.segcache.specs.Telling.{is_note};
+    ghost use Rattle.segcache.specs.Noting.{is_note};
 
     /// Whether it is a note.
     pub(crate) fn is_note(&self) -> bool

@@ -1,5 +1,5 @@
 //! The cache for C: exports on numbers, byte slices and handles, over clients that share an index.
-//! Each export makes one call of a client and answers with a status.
+//! An export by a client makes at most one call of it. Each export returns the number of a status.
 #![tactic(auto)]
 
 mod cache;
@@ -13,10 +13,10 @@ mod holds;
 mod kept;
 mod listing;
 mod loose;
+mod notes;
 mod opening;
 mod reading;
 mod settings;
 mod status;
-mod telling;
 mod when;
 mod writing;

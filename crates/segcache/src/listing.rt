@@ -25,9 +25,9 @@ pub extern "C" fn segcache_raw_next(
     let Some(mut kept) = cursor.take(alloc) else {
         return Status::NoHandle.number();
     };
-    let told = next(&mut kept, key, key_len, value, value_len);
+    let status = next(&mut kept, key, key_len, value, value_len);
     cursor.fill(alloc, kept);
-    told.number()
+    status.number()
 }
 
 /// Frees a cursor.

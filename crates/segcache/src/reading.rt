@@ -1,7 +1,7 @@
 //! The exports that read.
 ghost use Rattle.std.specs.Prelude.{◌≡◌, Some};
 ghost use Rattle.segcache.specs.Exports.{Answers, CopiesOut};
-ghost use Rattle.segcache.specs.Reading.{Got, GotVersion, TellsGet, TellsGets};
+ghost use Rattle.segcache.specs.Reading.{Got, GotVersion, ReturnsGet, ReturnsGets};
 
 use crate::handle::Handle;
 use crate::kept::Kept;
@@ -26,9 +26,9 @@ pub extern "C" fn segcache_raw_get(
     let Some(mut kept) = client.take(alloc) else {
         return Status::NoHandle.number();
     };
-    let told = get(&mut kept, key, value, value_len, now);
+    let status = get(&mut kept, key, value, value_len, now);
     client.fill(alloc, kept);
-    told.number()
+    status.number()
 }
 
 /// The same, with the version of the key's bucket, for a later compare-and-swap.
@@ -48,9 +48,9 @@ pub extern "C" fn segcache_raw_gets(
     let Some(mut kept) = client.take(alloc) else {
         return Status::NoHandle.number();
     };
-    let told = gets(&mut kept, key, value, value_len, version, now);
+    let status = gets(&mut kept, key, value, value_len, version, now);
     client.fill(alloc, kept);
-    told.number()
+    status.number()
 }
 
 // Copies a value to the buffer, if it has room for it.
@@ -77,14 +77,14 @@ fn get(kept: &mut Kept, key: &[u8], value: &mut [u8], value_len: &mut usize, now
     let Some(key) = Key::new(key) else {
         return Status::BadKey;
     };
-    tell_get(client.get(&key, now), value, value_len)
+    copy_get(client.get(&key, now), value, value_len)
 }
 
-// Tells what a get answered.
-fn tell_get(told: GetAnswer, value: &mut [u8], value_len: &mut usize) -> Status
-    ensures { TellsGet told result (value.old, value_len.old) (value.new, value_len.new) }
+// Copies out what a get found, and returns its status.
+fn copy_get(answer: GetAnswer, value: &mut [u8], value_len: &mut usize) -> Status
+    ensures { ReturnsGet answer result (value.old, value_len.old) (value.new, value_len.new) }
 {
-    match told {
+    match answer {
         GetAnswer::Found(found) => copy_out(&found, value, value_len),
         GetAnswer::Miss => Status::Miss,
         GetAnswer::Busy => Status::Busy,
@@ -108,15 +108,20 @@ fn gets(
     let Some(key) = Key::new(key) else {
         return Status::BadKey;
     };
-    tell_gets(client.gets(&key, now), value, value_len, version)
+    copy_gets(client.gets(&key, now), value, value_len, version)
 }
 
-// Tells what a gets answered.
-fn tell_gets(told: GetsAnswer, value: &mut [u8], value_len: &mut usize, version: &mut u32) -> Status
-    ensures { TellsGets told result (value.old, value_len.old) (value.new, value_len.new)
+// The same of a gets, with the version.
+fn copy_gets(
+    answer: GetsAnswer,
+    value: &mut [u8],
+    value_len: &mut usize,
+    version: &mut u32,
+) -> Status
+    ensures { ReturnsGets answer result (value.old, value_len.old) (value.new, value_len.new)
         version.old version.new }
 {
-    match told {
+    match answer {
         GetsAnswer::Found(found, of) => {
             *version = of;
             copy_out(&found, value, value_len)

@@ -49,9 +49,9 @@ pub extern "C" fn segcache_raw_set_time_to_live(
     let Some(mut kept) = client.take(alloc) else {
         return Status::NoHandle.number();
     };
-    let told = set_time_to_live(&mut kept, seconds);
+    let status = set_time_to_live(&mut kept, seconds);
     client.fill(alloc, kept);
-    told.number()
+    status.number()
 }
 
 /// Sets the least frequency of an item that a put keeps. With 0 it keeps nothing.
@@ -63,9 +63,9 @@ pub extern "C" fn segcache_raw_keep_from(alloc: Global, client: &mut Handle, cut
     let Some(mut kept) = client.take(alloc) else {
         return Status::NoHandle.number();
     };
-    let told = keep_from(&mut kept, cutoff);
+    let status = keep_from(&mut kept, cutoff);
     client.fill(alloc, kept);
-    told.number()
+    status.number()
 }
 
 /// Makes room for a write.
@@ -76,9 +76,9 @@ pub extern "C" fn segcache_raw_make_room(alloc: Global, client: &mut Handle, now
     let Some(mut kept) = client.take(alloc) else {
         return Status::NoHandle.number();
     };
-    let told = make_room(&mut kept, now);
+    let status = make_room(&mut kept, now);
     client.fill(alloc, kept);
-    told.number()
+    status.number()
 }
 
 /// Writes what the client's calls came to.
@@ -93,9 +93,9 @@ pub extern "C" fn segcache_raw_stats(
     let Some(mut kept) = client.take(alloc) else {
         return Status::NoHandle.number();
     };
-    let told = stats(&mut kept, counts);
+    let status = stats(&mut kept, counts);
     client.fill(alloc, kept);
-    told.number()
+    status.number()
 }
 
 /// Writes what the client sees of the table. It goes over all rows of the client.
@@ -111,9 +111,9 @@ pub extern "C" fn segcache_raw_index_stats(
     let Some(mut kept) = client.take(alloc) else {
         return Status::NoHandle.number();
     };
-    let told = index_stats(&mut kept, counts);
+    let status = index_stats(&mut kept, counts);
     client.fill(alloc, kept);
-    told.number()
+    status.number()
 }
 
 fn set_time_to_live(kept: &mut Kept, seconds: u32) -> Status

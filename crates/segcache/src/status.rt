@@ -1,8 +1,8 @@
-//! The answers of the exports, and the number of each.
+//! The statuses of the exports, and the number of each.
 ghost use Rattle.std.specs.Prelude.{◌≡◌};
 ghost use Rattle.segcache.specs.Status.{number_of};
 
-/// What an export answers.
+/// What an export returns.
 #[derive(Clone, Copy, Debug, PartialEq, Eq)]
 pub enum Status {
     Ok,
@@ -22,7 +22,7 @@ pub enum Status {
     ShortBuffer,
     BadShape,
     OutOfMemory,
-    /// The handle is empty, or of another kind.
+    /// The handle is empty, or of another kind; or one that has to be empty is in use.
     NoHandle,
     AlreadyHolding,
     NotHolding,

@@ -12,10 +12,10 @@ use segclient::{DeleteAnswer, Key, PutAnswer, Value, WriteAnswer};
 use std::alloc::Global;
 
 // The status of an answer to a put.
-fn of_put(told: PutAnswer) -> Status
-    ensures { result ≡ put_status told }
+fn of_put(answer: PutAnswer) -> Status
+    ensures { result ≡ put_status answer }
 {
-    match told {
+    match answer {
         PutAnswer::Stored => Status::Ok,
         PutAnswer::NoRoom => Status::NoRoom,
         PutAnswer::BucketFull => Status::BucketFull,
@@ -24,10 +24,10 @@ fn of_put(told: PutAnswer) -> Status
 }
 
 // The status of an answer to a write.
-fn of_write(told: WriteAnswer) -> Status
-    ensures { result ≡ write_status told }
+fn of_write(answer: WriteAnswer) -> Status
+    ensures { result ≡ write_status answer }
 {
-    match told {
+    match answer {
         WriteAnswer::Stored => Status::Ok,
         WriteAnswer::NotStored => Status::NotStored,
         WriteAnswer::Exists => Status::Exists,
@@ -39,10 +39,10 @@ fn of_write(told: WriteAnswer) -> Status
 }
 
 // The status of an answer to a delete.
-fn of_delete(told: DeleteAnswer) -> Status
-    ensures { result ≡ delete_status told }
+fn of_delete(answer: DeleteAnswer) -> Status
+    ensures { result ≡ delete_status answer }
 {
-    match told {
+    match answer {
         DeleteAnswer::Deleted => Status::Ok,
         DeleteAnswer::NotFound => Status::NotFound,
         DeleteAnswer::Busy => Status::Busy,
@@ -63,9 +63,9 @@ pub extern "C" fn segcache_raw_put(
     let Some(mut kept) = client.take(alloc) else {
         return Status::NoHandle.number();
     };
-    let told = put(&mut kept, key, value, now);
+    let status = put(&mut kept, key, value, now);
     client.fill(alloc, kept);
-    told.number()
+    status.number()
 }
 
 fn put(kept: &mut Kept, key: &[u8], value: &[u8], now: u32) -> Status
@@ -98,9 +98,9 @@ pub extern "C" fn segcache_raw_set(
     let Some(mut kept) = client.take(alloc) else {
         return Status::NoHandle.number();
     };
-    let told = write(&mut kept, When::Always, key, value, now);
+    let status = write(&mut kept, When::Always, key, value, now);
     client.fill(alloc, kept);
-    told.number()
+    status.number()
 }
 
 /// Stores a value if the key is absent.
@@ -118,9 +118,9 @@ pub extern "C" fn segcache_raw_add(
     let Some(mut kept) = client.take(alloc) else {
         return Status::NoHandle.number();
     };
-    let told = write(&mut kept, When::IfAbsent, key, value, now);
+    let status = write(&mut kept, When::IfAbsent, key, value, now);
     client.fill(alloc, kept);
-    told.number()
+    status.number()
 }
 
 /// Stores a value if the key is present.
@@ -138,9 +138,9 @@ pub extern "C" fn segcache_raw_replace(
     let Some(mut kept) = client.take(alloc) else {
         return Status::NoHandle.number();
     };
-    let told = write(&mut kept, When::IfPresent, key, value, now);
+    let status = write(&mut kept, When::IfPresent, key, value, now);
     client.fill(alloc, kept);
-    told.number()
+    status.number()
 }
 
 /// Stores a value if the key is present and its bucket has the version.
@@ -159,9 +159,9 @@ pub extern "C" fn segcache_raw_cas(
     let Some(mut kept) = client.take(alloc) else {
         return Status::NoHandle.number();
     };
-    let told = write(&mut kept, When::IfVersion(version), key, value, now);
+    let status = write(&mut kept, When::IfVersion(version), key, value, now);
     client.fill(alloc, kept);
-    told.number()
+    status.number()
 }
 
 // A set, an add, a replace or a compare-and-swap.
@@ -194,9 +194,9 @@ pub extern "C" fn segcache_raw_delete(
     let Some(mut kept) = client.take(alloc) else {
         return Status::NoHandle.number();
     };
-    let told = delete(&mut kept, key, now);
+    let status = delete(&mut kept, key, now);
     client.fill(alloc, kept);
-    told.number()
+    status.number()
 }
 
 fn delete(kept: &mut Kept, key: &[u8], now: u32) -> Status

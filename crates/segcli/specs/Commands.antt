@@ -9,7 +9,7 @@ use Rattle.segcli.specs.Notes.{note_of}
 use Rattle.segcli.specs.Totals.{text_in}
 use Rattle.segscript.specs.Words.{EachTurn, EndsOnce, is_make_fault, is_read_fault, is_write_fault, RunFault}
 use Rattle.segscript.specs.Words.{RunOutcome, ShapeIsAnswered}
-use Rattle.segload.specs.Words.{IsLoad, IsLoadFault, lets_all_through, Totals}
+use Rattle.segload.specs.Words.{IsLoad, IsLoadFault, knows_nothing, lets_all_through, Totals}
 use Rattle.segload.specs.declared.fault.LoadFault.{LoadFault}
 use Rattle.segcli.specs.declared.fault.ProgramFault.{ProgramFault}
 use Rattle.segcli.specs.declared.fault.ProgramFault.TheVariants as fault
@@ -73,7 +73,8 @@ WordOutcome word Wrote before flushes end = (m : Meaning) × SpellsWord word.kin
 
 -- This is a fault of a load of this shape, in which no pass is stopped.
 abbrev pub IsFaultOfLoad : Shape → ℕ → ProgramFault → Type 0
-IsFaultOfLoad shape commands f = (why : LoadFault) × IsLoadFault shape commands lets_all_through why
+IsFaultOfLoad shape commands f = (why : LoadFault)
+    × IsLoadFault shape commands lets_all_through knows_nothing why
     × (f ≡ fault_of_load why)
 
 -- The totals were shown of this load, in its format. Or there are no totals, and nothing was written.

@@ -1,5 +1,5 @@
--- What a load did to the table, as far as its totals say it.
-use Rattle.std.specs.Prelude.{ℕ, ◌==◌, List, [], ◌++◌, Option, Some, None, codes, decimal, if◌then◌else◌, sum_by}
+-- What a load did to the table, by its totals.
+use Rattle.std.specs.Prelude.{ℕ, ◌==◌, List, [], ◌++◌, Option, Some, None, codes, decimal, if◌then◌else◌, slice_get, sum_by}
 use Rattle.segload.specs.Words.{PassTotals, Totals}
 use Rattle.segcli.specs.declared.stats.Pace.{Pace}
 
@@ -9,6 +9,42 @@ pace_text None = codes " commands\n"
 pace_text (Some pace) =
     codes " commands in " ++ decimal pace.milliseconds ++ codes " ms, " ++ decimal pace.each_second
     ++ codes " a second\n"
+
+-- ---- the table
+
+-- the overflow buckets that a pass saw drawn at the end, if there is that pass
+abbrev pub overflow_seen : Option PassTotals → ℕ
+overflow_seen None = 0
+overflow_seen (Some of) = of.table.overflow_buckets
+
+abbrev pub overflow_buckets : Totals → ℕ
+overflow_buckets totals = overflow_seen (slice_get totals.passes.items 0)
+
+abbrev pub used_rows : Totals → ℕ
+used_rows totals = sum_by (λ (of : PassTotals). of.table.used_rows) totals.passes.items
+
+abbrev pub evictions : Totals → ℕ
+evictions totals = sum_by (λ (of : PassTotals). of.recycled.evictions) totals.passes.items
+
+abbrev pub refillings : Totals → ℕ
+refillings totals = sum_by (λ (of : PassTotals). of.recycled.refillings) totals.passes.items
+
+abbrev pub counted_line : List ℕ → ℕ → List ℕ
+counted_line name count = name ++ decimal count ++ codes "\n"
+
+-- Each key that stands is named by one row.
+abbrev pub table_text : Totals → List ℕ
+table_text totals =
+    counted_line (codes "overflow buckets: ") (overflow_buckets totals)
+    ++ counted_line (codes "used rows: ") (used_rows totals)
+    ++ counted_line (codes "rows that items name: ") totals.keys
+
+abbrev pub recycled_text : Totals → List ℕ
+recycled_text totals =
+    counted_line (codes "evictions: ") (evictions totals)
+    ++ counted_line (codes "refillings: ") (refillings totals)
+
+-- ---- refusals
 
 -- where there were refusals, which options to raise
 abbrev pub advice : List ℕ → ℕ → List ℕ → List ℕ
@@ -32,5 +68,4 @@ room_advice totals =
 abbrev pub stats_text : Totals → Option Pace → List ℕ
 stats_text totals pace =
     decimal (sum_by (λ (of : PassTotals). of.commands) totals.passes.items) ++ pace_text pace
-    ++ codes "rows that items name: " ++ decimal totals.keys ++ codes "\n"
-    ++ full_advice totals ++ room_advice totals
+    ++ table_text totals ++ recycled_text totals ++ full_advice totals ++ room_advice totals

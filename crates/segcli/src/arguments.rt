@@ -31,7 +31,7 @@ pub const SHAPE: Shape = Shape {
     first_version: 0,
 };
 
-/// The seed of a load, how many commands each of its passes makes, and over how many keys, if no option says it.
+/// The seed of a load, how many commands each of its passes makes, and over how many keys, if no option sets it.
 const SEED: u64 = 1;
 
 const COMMANDS: u32 = 1000;
@@ -41,7 +41,7 @@ const KEYS: u32 = 64;
 /// Why no command was read.
 #[derive(Debug, Drop)]
 pub enum Refusal {
-    /// The words are no command; the text says why.
+    /// The words are no command; the text has the reason.
     Usage(String),
     OutOfMemory,
 }

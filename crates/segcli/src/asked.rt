@@ -22,11 +22,11 @@ pub struct Load {
     /// Over how many keys.
     pub keys: NonZeroU32,
     pub format: Format,
-    /// Whether a watch is told what the load did to the table.
+    /// Whether a watch is called with the totals at the load's end.
     pub stats: bool,
     /// Whether a watch looks on.
     pub progress: bool,
-    /// Whether it is said why the shape is bad.
+    /// Whether the fault of a bad shape is explained.
     pub explain: bool,
 }
 
@@ -47,6 +47,6 @@ pub struct Word<'a> {
     /// Its hexadecimal digits.
     pub text: &'a str,
     pub kind: WordKind,
-    /// Whether it is said what is wrong with a bad one.
+    /// Whether a bad one is explained.
     pub explain: bool,
 }

@@ -97,7 +97,7 @@ fn put_fault(text: &mut Vec<u8>, fault: LineFault) -> Result<(), AllocError>
     }
 }
 
-/// The line that says why a line of a script is bad.
+/// The line that explains why a line of a script is bad.
 pub fn bad_line_text(alloc: Global, bad: BadLine) -> Result<Vec<u8>, AllocError>
     ensures text { IfOk result (λ text. text.items ≡ bad_line_text bad.number bad.fault) }
 {

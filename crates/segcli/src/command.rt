@@ -2,7 +2,7 @@
 ghost use Rattle.std.specs.Prelude.{◌≡◌, false, Result, IfOk, IfErr};
 ghost use Rattle.std.specs.Int.NonZero.{non_zero_u32_get};
 ghost use Rattle.segload.specs.declared.totals.Totals.{Totals};
-ghost use Rattle.segload.specs.Words.{IsLoad, IsLoadFault, lets_all_through};
+ghost use Rattle.segload.specs.Words.{IsLoad, IsLoadFault, knows_nothing, lets_all_through};
 ghost use Rattle.segcli.specs.declared.fault.ProgramFault.{ProgramFault};
 ghost use Rattle.segcli.specs.Faults.{is_write_end};
 ghost use Rattle.segcli.specs.Totals.{text_in};
@@ -26,8 +26,8 @@ use std::thread::Threads;
 #[derive(Debug, Drop)]
 pub enum Command<'a> {
     /// Runs the script of the reader over an index of this shape.
-    /// If `explain` is true, it is said why the shape is bad.
-    /// Who calls the program opens the file, and says then why a line is bad.
+    /// If `explain` is true, the fault of a bad shape is explained.
+    /// Who calls the program opens the file, and explains a bad line.
     Script {
         shape: Shape,
         explain: bool,
@@ -46,9 +46,9 @@ pub enum Command<'a> {
 /// For a fault the writer is asked to flush, and then one line goes to the error writer,
 /// with a second one if the command is to be explained.
 /// (That order is a condition of `print_both_after`.)
-/// The watch looks on at a load, and hears of its end, if the command says so.
+/// If the command asks for it, the watch looks on at a load, and is called at its end.
 ///
-/// A load waits for its threads. What the contract says holds if this returns.
+/// A load waits for its threads. The contract holds if this returns.
 pub fn run_command<R: Threads + Wait + AllocGlobal + Sync, S: Source, W: Sink, E: Sink, V: Watch>(
     rt: &R,
     alloc: Global,
@@ -165,7 +165,7 @@ fn totals_of<R: Threads + Wait + AllocGlobal + Sync, V: Watch>(
     ensures load { IfOk result (IsLoad load.now.shape load.now.seed
         (non_zero_u32_get load.now.keys) load.now.commands) }
     ensures fault { IfErr result (IsLoadFault load.now.shape load.now.commands
-        lets_all_through) }
+        lets_all_through knows_nothing) }
 {
     let shape = load.shape;
     let plan = Plan {

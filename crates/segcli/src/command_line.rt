@@ -113,7 +113,7 @@ fn named<'a>(alloc: Global) -> Result<Command<'a>, AllocError>
     ensures { IfOk result (Builds (alone program_rules)) }
 {
     Command::new(alloc, "segrun")
-        .version("0.1.0")
+        .version("0.2.0")
         .about(ABOUT)
         .after_help(AFTER)
         .override_usage("segrun [COMMAND]")

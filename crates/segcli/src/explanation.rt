@@ -1,4 +1,4 @@
-//! Explains a word of the table that is given in hexadecimal digits.
+//! Explains a word of the table, written in hexadecimal digits.
 ghost use Rattle.std.specs.Prelude.{◌≡◌, ◌<◌, ◌+◌, ◌*◌, ◌^◌, None, Some, IfSome};
 ghost use Rattle.std.specs.Str.Parse.{digits_value};
 ghost use Rattle.segword.specs.declared.reading.Reading.{Reading};
@@ -12,7 +12,7 @@ use segword::{Info, Item, Reading};
 
 const DIGITS: [u8; 16] = *b"0123456789abcdef";
 
-/// What the word of a segment says.
+/// What the word of a segment holds.
 #[derive(Clone, Copy, Debug, PartialEq, Eq)]
 pub struct SegmentWord {
     pub deadline: u32,
@@ -20,7 +20,7 @@ pub struct SegmentWord {
     pub readers: u32,
 }
 
-/// What a word of the table says.
+/// What a word of the table holds.
 #[derive(Clone, Copy, Debug, PartialEq, Eq)]
 pub enum Meaning {
     /// A word 1 to 7 of a bucket.
@@ -42,7 +42,7 @@ fn word_of(text: &str) -> Option<u64>
     u64::from_str_radix(text, 16).ok()
 }
 
-// What a word of this kind says.
+// What a word of this kind holds.
 fn unpack(kind: WordKind, word: u64) -> Option<Meaning>
     ensures some { IfSome result (Means kind word) }
     ensures all { (meaning : Meaning) → Means kind word meaning → result ≡ Some meaning }

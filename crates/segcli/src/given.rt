@@ -1,4 +1,4 @@
-//! The program over its words as std gives them: what `main` calls.
+//! The program over the words that std returns: what `main` calls.
 ghost use Rattle.std.specs.Prelude.{◌≡◌, false, drop, IfOk};
 ghost use Rattle.std.specs.IoError.{error_kind};
 ghost use Rattle.std.specs.Vec.Iter.{into_iter_items};
@@ -15,11 +15,11 @@ use std::io::ErrorKind;
 use std::sync::Wait;
 use std::thread::Threads;
 
-/// Does what the program is asked for by the words that std gives, the first of which is its name.
-/// Std gives no words if one of them isn't UTF-8. Then the fault is BadArguments.
+/// Carries out what the words ask for that std returns, the first of which is the program's name.
+/// Std returns no words if one of them isn't UTF-8. Then the fault is BadArguments.
 /// It returns the exit status, as `run_watched` does.
 ///
-/// A load waits for its threads. What the contract says holds if this returns.
+/// A load waits for its threads. The contract holds if this returns.
 pub fn run_given<R: Threads + Wait + AllocGlobal + Sync, S: Source, W: Sink, E: Sink, V: Watch>(
     rt: &R,
     alloc: Global,
@@ -63,7 +63,7 @@ pub fn words_of(alloc: Global, given: Args) -> Result<Vec<String>, AllocError>
     Ok(words)
 }
 
-// Why std gives no words.
+// Why std returns no words.
 fn fault_of_words(error: &io::Error) -> ProgramFault
     ensures { result ≡ fault_of_words (error_kind error.now) }
 {

@@ -1,4 +1,4 @@
-//! What `--explain` says behind the line of a fault.
+//! What `--explain` adds behind the line of a fault.
 ghost use Rattle.std.specs.Prelude.{◌≡◌, ◌++◌, [], false, is_err, length};
 ghost use Rattle.segcli.specs.Faults.{fault_line, fault_status};
 ghost use Rattle.segcli.specs.Notes.{explains, has_prefix, kind_note, length_note, letter_from};
@@ -119,7 +119,7 @@ fn explains(command: &Command<'_>) -> bool
     }
 }
 
-// What is said behind the line of a fault.
+// What is added behind the line of a fault.
 fn note_of(command: &Command<'_>, fault: ProgramFault) -> Line
     ensures { result.items ≡ note_of command.now fault }
 {

@@ -23,7 +23,7 @@ const BAD_USAGE: u8 = 2;
 /// 2 for a bad line, a bad word or a bad command line, and else 3.
 /// Faults are printed to the error writer. Nobody looks on at a load.
 ///
-/// A load waits for its threads. What the contract says holds if this returns.
+/// A load waits for its threads. The contract holds if this returns.
 pub fn run_program<R: Threads + Wait + AllocGlobal + Sync, S: Source, W: Sink, E: Sink>(
     rt: &R,
     alloc: Global,
@@ -46,9 +46,9 @@ pub fn run_program<R: Threads + Wait + AllocGlobal + Sync, S: Source, W: Sink, E
     run_watched(rt, alloc, words, source, writer, errors, &Nobody)
 }
 
-/// Does what `run_program` does. The watch looks on at a load if the words say so.
+/// Does what `run_program` does. If the words ask for it, the watch looks on at a load.
 ///
-/// A load waits for its threads. What the contract says holds if this returns.
+/// A load waits for its threads. The contract holds if this returns.
 pub fn run_watched<R: Threads + Wait + AllocGlobal + Sync, S: Source, W: Sink, E: Sink, V: Watch>(
     rt: &R,
     alloc: Global,

@@ -1,4 +1,4 @@
-//! How far a load has come: a gate that reports it to a watch, and the line that tells it.
+//! How far a load has come: a gate that reports it to a watch, and the text of a progress line.
 ghost use Rattle.std.specs.Prelude.{◌≡◌, ◌*◌, ◌/◌, ◌++◌, max, IfOk};
 ghost use Rattle.segload.specs.Words.{lets_all_through};
 ghost use Rattle.segcli.specs.Progress.{rate_text, progress_text};

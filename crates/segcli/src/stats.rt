@@ -1,7 +1,8 @@
-//! What a load did to the table, as far as its totals say it.
+//! What a load did to the table, by its totals.
 ghost use Rattle.std.specs.Prelude.{◌≡◌, ◌++◌, IfOk};
-ghost use Rattle.segcli.specs.Stats.{advice, full_advice, full_buckets, pace_text, room_advice};
-ghost use Rattle.segcli.specs.Stats.{stats_text, without_room};
+ghost use Rattle.segcli.specs.Stats.{advice, counted_line, evictions, full_advice, full_buckets};
+ghost use Rattle.segcli.specs.Stats.{overflow_buckets, pace_text, recycled_text, refillings};
+ghost use Rattle.segcli.specs.Stats.{room_advice, stats_text, table_text, used_rows, without_room};
 
 use crate::totals::{put, put_count};
 use segload::Totals;
@@ -36,6 +37,49 @@ fn without_room(totals: &Totals) -> u128
     refused
 }
 
+// How many overflow buckets were drawn, as pass 0 saw it at the end.
+fn overflow_buckets(totals: &Totals) -> u128
+    ensures { result ≡ overflow_buckets totals.now }
+{
+    match totals.passes.first() {
+        Some(pass) => u128::from(pass.table.overflow_buckets),
+        None => 0,
+    }
+}
+
+// How many rows of their segments the passes have used.
+fn used_rows(totals: &Totals) -> u128
+    ensures { result ≡ used_rows totals.now }
+{
+    let mut used = 0;
+    for pass in totals.passes.iter() {
+        used += u128::from(pass.table.used_rows);
+    }
+    used
+}
+
+// How many keys the passes evicted.
+fn evictions(totals: &Totals) -> u128
+    ensures { result ≡ evictions totals.now }
+{
+    let mut evicted = 0;
+    for pass in totals.passes.iter() {
+        evicted += u128::from(pass.recycled.evictions);
+    }
+    evicted
+}
+
+// How many segments the passes refilled.
+fn refillings(totals: &Totals) -> u128
+    ensures { result ≡ refillings totals.now }
+{
+    let mut refilled = 0;
+    for pass in totals.passes.iter() {
+        refilled += u128::from(pass.recycled.refillings);
+    }
+    refilled
+}
+
 // Puts how long the load took at the end of the text, if there is a clock.
 fn put_pace(text: &mut Vec<u8>, pace: Option<Pace>) -> Result<(), AllocError>
     ensures text { IfOk result (λ _. text.new.items ≡ text.old.items ++ pace_text pace) }
@@ -46,6 +90,32 @@ fn put_pace(text: &mut Vec<u8>, pace: Option<Pace>) -> Result<(), AllocError>
     put_count(text, b" commands in ", pace.milliseconds)?;
     put_count(text, b" ms, ", pace.each_second)?;
     put(text, b" a second\n")
+}
+
+// Puts a line with a name and a number at the end of the text.
+fn put_line(text: &mut Vec<u8>, name: &[u8], count: u128) -> Result<(), AllocError>
+    ensures text { IfOk result (λ _. text.new.items
+        ≡ text.old.items ++ counted_line name.now count) }
+{
+    put_count(text, name, count)?;
+    put(text, b"\n")
+}
+
+// Puts what the table has at the end of the load.
+fn put_table(text: &mut Vec<u8>, totals: &Totals) -> Result<(), AllocError>
+    ensures text { IfOk result (λ _. text.new.items ≡ text.old.items ++ table_text totals.now) }
+{
+    put_line(text, b"overflow buckets: ", overflow_buckets(totals))?;
+    put_line(text, b"used rows: ", used_rows(totals))?;
+    put_line(text, b"rows that items name: ", u128::from(totals.keys))
+}
+
+// Puts what the passes recycled to make room.
+fn put_recycled(text: &mut Vec<u8>, totals: &Totals) -> Result<(), AllocError>
+    ensures text { IfOk result (λ _. text.new.items ≡ text.old.items ++ recycled_text totals.now) }
+{
+    put_line(text, b"evictions: ", evictions(totals))?;
+    put_line(text, b"refillings: ", refillings(totals))
 }
 
 // Puts at the end of the text which options to raise, if anything was refused.
@@ -86,8 +156,8 @@ pub fn stats_text(alloc: Global, totals: &Totals, pace: Option<Pace>) -> Result<
     let mut text = Vec::new(alloc);
     put_count(&mut text, b"", totals.commands())?;
     put_pace(&mut text, pace)?;
-    put_count(&mut text, b"rows that items name: ", totals.keys)?;
-    put(&mut text, b"\n")?;
+    put_table(&mut text, totals)?;
+    put_recycled(&mut text, totals)?;
     put_full(&mut text, totals)?;
     put_without_room(&mut text, totals)?;
     Ok(text)

@@ -1,4 +1,6 @@
 pub mod Calls
+pub mod InTurn
+pub mod Members
 pub mod Order
 pub mod Places
 pub mod Rooms

@@ -28,7 +28,7 @@ all_clients shape i passes clients new zip = record {
   all = λ n below.
       let there = is_there clients n (subst (λ count. n < count) (sym long) below) in
       let one = zip_at (Starts i) passes clients n there.0 zip there.1 in
-      (n, there.0, there.1, ap number one.2.pass ∙ (new.made.dealt.each n one.0 one.1).number);
+      (n, there.0, there.1, ap number one.2.member.pass ∙ (new.made.dealt.each n one.0 one.1).number);
 }
   where
     long : length clients ≡ (board_of i).shape.passes
@@ -53,16 +53,16 @@ still_all i old new long same all = record {
 }
 
 abbrev pub pass_of : Client → Pass
-pass_of client = client.pass
+pass_of client = client.member.pass
 
 -- their passes are those of the index, all of them
 pub passes_quiet : (i : Index) (clients : List Client) → AreAllClients i clients → AreAllQuiet (board_of i) (map pass_of clients)
 passes_quiet i clients are = record {
   quiet = λ n p at.
       let one = made_of pass_of clients n p at in
-      let of_index = subst (λ j. IsQuiet (board_of j) one.0.pass) (are.of n one.0 one.1) one.0.quiet in
+      let of_index = subst (λ j. IsQuiet (board_of j) one.0.member.pass) (are.of n one.0 one.1) one.0.is_member.0 in
       subst (IsQuiet (board_of i)) one.2 of_index;
   all = λ n below.
       let one = are.all n below in
-      (one.0, one.1.pass, slice_get-map pass_of clients one.0 ∙ ap (λ client. option_map pass_of client) one.2, one.3);
+      (one.0, one.1.member.pass, slice_get-map pass_of clients one.0 ∙ ap (λ client. option_map pass_of client) one.2, one.3);
 }

@@ -1,18 +1,22 @@
 -- The entry of a put that is Stored came in during the put.
-use Rattle.std.proofs.Common.{◌≡◌, ℕ, suc, ◌==◌, List, [], ◌∷◌, ◌++◌, length, Some, refl, sym, ap, ◌∙◌, subst, ⊎_elim, arith, length-append}
+use Rattle.std.proofs.Common.{◌≡◌, ℕ, suc, ◌==◌, List, [], ◌∷◌, ◌++◌, length, Some, inl, inr, refl, sym, ap, ◌∙◌, subst, ⊎_elim, arith, length-append}
 use Rattle.std.proofs.lemmas.Bool.{cases_Bool, cond-true, cond-false}
 use Rattle.segmodel.specs.declared.entry.Entry.TheVariants.{Wrote}
 use Rattle.segmodel.specs.declared.request.Request.TheVariants.{Set}
 use Rattle.segmodel.specs.declared.request.Reply.TheVariants.{Stored}
 use Rattle.segmodel.specs.Words.{Begins, Entry, mine, pass_of}
 use Rattle.segmodel.proofs.LawLemmas.{earlier_legal}
+use Rattle.segcore.specs.Event as event
+use Rattle.segcore.proofs.Counts.{mine_others}
+use Rattle.segcore.proofs.Moments.{seen_begins}
 use Rattle.segcore.proofs.Standing.{legal}
-use Rattle.segbase.specs.Words.{number, seen, trace}
-use Rattle.segindex.specs.Words.{StoresBetween}
+use Rattle.segbase.specs.Words.{number, seen, SinceFirst, TakesSteps, trace}
+use Rattle.segpass.specs.Words.{GoesOn}
+use Rattle.segindex.specs.Words.{board_of, Index, shape_of, StoresBetween}
 use Rattle.segindex.proofs.LaterReads.{stored_stands}
-use Rattle.segclient.specs.declared.client.Client.{Client}
+use Rattle.segclient.specs.declared.member.Member.{Member}
 use Rattle.segclient.specs.declared.put.PutAnswer.TheVariants as put
-use Rattle.segclient.specs.Client.{board_of, shape_of}
+use Rattle.segclient.specs.Member.{IsMember}
 use Rattle.segclient.specs.Putting.{most_for_put}
 use Rattle.segclient.specs.Puts.{plan_for, Puts}
 use Rattle.segclient.proofs.Ways.{put_comes}
@@ -37,24 +41,46 @@ came_last pass entry others (e ∷ more) old all = ⊎_elim
     first [] = entry
     first (e ∷ l) = e
 
-pub put_stands : (key value : List ℕ) (old new : Client) → Puts key value put.Stored old new
-    → StoresBetween (shape_of old) (number old.pass) (Set key value old.clock) (seen old.pass) (seen new.pass)
-put_stands key value old new puts =
-    let z = shape_of old in let n = number old.pass in let request = Set key value old.clock in
-    let on = (put_comes (board_of old) (plan_for key value old) request refl (most_for_put z) put.Stored puts.effort old.pass new.pass old.quiet puts.puts).on in
-    let room = puts.adds.1 in let segment = puts.adds.2.0 in
-    let entry = Wrote n request Stored (Some segment) in
-    let added : mine n (seen new.pass) ≡ entry ∷ (room.more ++ mine n (seen old.pass)) =
-    ap (λ i. mine i (seen new.pass)) (sym on.same) ∙ puts.adds.2.1 ∙ ap (λ l. entry ∷ l) room.entries in
-    let came = came_last n entry room.more on.seen.0 (seen old.pass) (ap (mine n) (sym on.seen.1) ∙ added) in
-    let entered = subst (Begins (entry ∷ came.0)) (sym on.seen.1) came.2 in
-    record {
-      segment = segment;
-      history = came.0;
-      told = record {
-        since = came.1;
-        entered = entered;
-        replied = (earlier_legal z (entry ∷ came.0) (seen new.pass) entered (legal z (trace new.pass) on.quiet.pass.lawful)).1.0;
-      };
-      stood = stored_stands z n request segment came.0;
-    }
+pub put_stands : (i : Index) (key value : List ℕ) (old new : Member) → IsMember i old → Puts key value put.Stored (board_of i) old new
+    → SinceFirst old.pass new.pass (λ start. StoresBetween (shape_of i) (number old.pass) (Set key value old.clock) (event.seen start) (seen new.pass))
+put_stands i key value old new member puts = by on.steps
+  where
+    on : GoesOn (board_of i) old.pass new.pass
+    on = (put_comes (board_of i) (plan_for key value old) (Set key value old.clock) refl (most_for_put (shape_of i)) put.Stored puts.effort old.pass new.pass member.0 puts.puts).on
+
+    n : ℕ
+    n = number old.pass
+
+    stored : Entry
+    stored = Wrote n (Set key value old.clock) Stored (Some puts.adds.2.0)
+
+    others : List Entry
+    others = puts.adds.1.more
+
+    added : mine n (seen new.pass) ≡ stored ∷ (others ++ mine n (seen old.pass))
+    added = ap (λ i. mine i (seen new.pass)) (sym on.same) ∙ puts.adds.2.1 ∙ ap (λ l. stored ∷ l) puts.adds.1.entries
+
+    by : TakesSteps old.pass new.pass → SinceFirst old.pass new.pass (λ start. StoresBetween (shape_of i) n (Set key value old.clock) (event.seen start) (seen new.pass))
+    by (inl (start, s)) =
+        let z = shape_of i in let first = event.seen start in
+        let up : Begins first (seen new.pass) = seen_begins start (trace new.pass) s.until in
+        let before : mine n first ≡ mine n (seen old.pass) = ap (λ h. mine n (event.seen h)) s.since ∙ mine_others n s.others (trace old.pass) s.none in
+        let came = came_last n stored others up.0 first (ap (mine n) (sym up.1) ∙ (added ∙ ap (λ l. stored ∷ (others ++ l)) (sym before))) in
+        let entered = subst (Begins (stored ∷ came.0)) (sym up.1) came.2 in (
+          start,
+          s,
+          record {
+            segment = puts.adds.2.0;
+            history = came.0;
+            told = record {
+              since = came.1;
+              entered = entered;
+              replied = (earlier_legal z (stored ∷ came.0) (seen new.pass) entered (legal z (trace new.pass) on.quiet.pass.lawful)).1.0;
+            };
+            stood = stored_stands z n (Set key value old.clock) puts.adds.2.0 came.0;
+          },
+        )
+    by (inr t) = absurd (
+        let same : length (mine n (seen old.pass)) ≡ suc (length (others ++ mine n (seen old.pass))) = ap length (ap (λ h. mine n (event.seen h)) (sym t.1) ∙ added) in
+        let both = length-append others (mine n (seen old.pass)) in
+        omega (arith, same, both))

@@ -12,4 +12,4 @@ pub record AreAllClients (i : Index) (clients : List Client) : Type 0 where
   pub all : (n : ℕ)
       → n < (board_of i).shape.passes
       → (place : ℕ) × (client : Client)
-      × (slice_get clients place ≡ Some client) × (number client.pass ≡ n)
+      × (slice_get clients place ≡ Some client) × (number client.member.pass ≡ n)

@@ -2,10 +2,12 @@ pub mod Client
 pub mod Clients
 pub mod Counting
 pub mod Entries
+pub mod Made
+pub mod Many
+pub mod Member
 pub mod PutCalls
 pub mod PutParts
 pub mod Putting
 pub mod Puts
-pub mod Resting
 pub mod Rings
 pub mod Told

@@ -11,11 +11,11 @@ use crate::client::Client;
 use segindex::{Index, Pass};
 use std::alloc::{AllocError, Global};
 
-/// A client for each of these passes, in their order. No later call of a client is given
+/// A client for each pass, in their order. No later call of a client takes
 /// an allocator. If the memory for the list is refused, the passes are gone.
 ///
 /// Once they are done, `into_passes` has the passes back for a close with all of them.
-/// A pass that was kept back can close the index alone.
+/// A pass that was kept back can close the index by itself.
 pub fn clients<'i>(
     alloc: Global,
     index: &'i Index,
@@ -56,7 +56,7 @@ pub fn into_passes(
     requires all { AreAllClients index.now clients.items }
     ensures all { IfOk result (λ passes. AreAllQuiet (board_of index.now) passes.items) }
     ensures passes { IfOk result (λ passes.
-        passes.items ≡ map (λ client. client.pass) clients.entry.items) }
+        passes.items ≡ map (λ client. client.member.pass) clients.entry.items) }
 {
     let mut passes = Vec::with_capacity(alloc, clients.len())?;
     for client in clients {

@@ -1,46 +1,72 @@
 //! Items held by a client.
 use crate::client::Client;
-use segindex::{Hold, HoldAnswer};
+use crate::member::Member;
+use segindex::{Hold, HoldAnswer, Index};
 use segword::{Key, Value};
 
+impl Member {
+    ghost use Rattle.segindex.specs.Words.{board_of, shape_of};
+    ghost use Rattle.segread.specs.Words.{IsHoldOf};
+    ghost use Rattle.segclient.specs.Made.{EndsHold, HoldsKey, ReadsHold};
+    ghost use Rattle.segclient.specs.Member.{IsMember};
+
+    /// As `Client::hold`.
+    pub fn hold<'i>(&mut self, index: &'i Index, key: &Key) -> HoldAnswer<'i>
+        requires member { IsMember index.now self.old }
+        ensures member { IsMember index.now self.new }
+        ensures holds { HoldsKey key.now result (board_of index.now) self.old self.new }
+    {
+        index.hold(&mut self.pass, key, self.clock)
+    }
+
+    /// As `Client::held_value`.
+    pub fn held_value(&mut self, index: &Index, hold: &Hold<'_>) -> Value
+        requires member { IsMember index.now self.old }
+        requires hold { IsHoldOf (shape_of index.now) hold.now self.old.pass }
+        ensures member { IsMember index.now self.new }
+        ensures reads { ReadsHold hold.now result (board_of index.now) self.old self.new }
+    {
+        index.held_value(&mut self.pass, hold)
+    }
+
+    /// As `Client::release`.
+    pub fn release(&mut self, index: &Index, hold: Hold<'_>)
+        requires member { IsMember index.now self.old }
+        requires hold { IsHoldOf (shape_of index.now) hold self.old.pass }
+        ensures member { IsMember index.now self.new }
+        ensures releases { EndsHold (board_of index.now) self.old self.new }
+    {
+        index.release(&mut self.pass, hold);
+    }
+}
+
 impl<'i> Client<'i> {
-    ghost use Rattle.std.specs.Prelude.{◌≡◌};
-    ghost use Rattle.segread.specs.Words.{HoldsItem, IsHoldOf, ReadsHeld, ReleasesHold};
-    ghost use Rattle.segclient.specs.Client.{board_of, shape_of, Keeps, KeepsDraws};
+    ghost use Rattle.segread.specs.Words.{IsHoldOf};
+    ghost use Rattle.segclient.specs.Client.{MakesCall, shape_of};
+    ghost use Rattle.segclient.specs.Made.{EndsHold, HoldsKey, ReadsHold};
 
     /// Holds the item of a key. Its value can be read until the hold is spent by `release`,
     /// whatever becomes of the key, and up to then its segment isn't refilled.
     /// A client holds one item at most.
     pub fn hold(&mut self, key: &Key) -> HoldAnswer<'i>
-        ensures holds { HoldsItem (board_of self.old) key.now self.old.clock result
-            self.old.pass self.new.pass }
-        ensures stats { self.new.stats ≡ self.old.stats }
-        ensures draws { KeepsDraws self.old self.new }
-        ensures keeps { Keeps self.old self.new }
+        ensures holds { MakesCall (HoldsKey key.now result) self.old self.new }
     {
-        self.index.hold(&mut self.pass, key, self.clock)
+        self.member.hold(self.index, key)
     }
 
     /// A copy of the value that is held: the one that stood under the key when it was held.
     pub fn held_value(&mut self, hold: &Hold<'_>) -> Value
-        requires hold { IsHoldOf (shape_of self.old) hold.now self.old.pass }
-        ensures reads { ReadsHeld (board_of self.old) hold.now result
-            self.old.pass self.new.pass }
-        ensures stats { self.new.stats ≡ self.old.stats }
-        ensures draws { KeepsDraws self.old self.new }
-        ensures keeps { Keeps self.old self.new }
+        requires hold { IsHoldOf (shape_of self.old) hold.now self.old.member.pass }
+        ensures reads { MakesCall (ReadsHold hold.now result) self.old self.new }
     {
-        self.index.held_value(&mut self.pass, hold)
+        self.member.held_value(self.index, hold)
     }
 
     /// Ends a hold.
     pub fn release(&mut self, hold: Hold<'_>)
-        requires hold { IsHoldOf (shape_of self.old) hold self.old.pass }
-        ensures releases { ReleasesHold (board_of self.old) self.old.pass self.new.pass }
-        ensures stats { self.new.stats ≡ self.old.stats }
-        ensures draws { KeepsDraws self.old self.new }
-        ensures keeps { Keeps self.old self.new }
+        requires hold { IsHoldOf (shape_of self.old) hold self.old.member.pass }
+        ensures releases { MakesCall EndsHold self.old self.new }
     {
-        self.index.release(&mut self.pass, hold);
+        self.member.release(self.index, hold);
     }
 }

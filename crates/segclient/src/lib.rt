@@ -5,17 +5,18 @@
 mod all;
 mod client;
 mod hold;
+mod many;
+mod member;
 mod note;
 mod put;
-mod rest;
 mod room;
 mod stats;
 
 pub use all::{clients, into_passes, keep_back};
 pub use client::Client;
+pub use member::Member;
 pub use note::what_is_put_stands;
 pub use put::PutAnswer;
-pub use rest::Resting;
 pub use segindex::{
     DeleteAnswer, GetAnswer, GetsAnswer, HeldRow, Hold, HoldAnswer, Index, IndexStats, Key,
     MakeFault, Note, OutOfMemory, Pass, Shape, ShapeFault, Value, WriteAnswer, hold_stays,

@@ -1,53 +1,83 @@
-//! What one client tells another.
+//! What one client hands to another by a note.
 ghost use Rattle.std.specs.Prelude.{◌≡◌};
 ghost use Rattle.segclient.specs.Told.{PutStands};
 
 use crate::client::Client;
-use segindex::Note;
+use crate::member::Member;
+use segindex::{Index, Note};
+
+impl Member {
+    ghost use Rattle.segindex.specs.Words.{board_of, IsNoteOf};
+    ghost use Rattle.segclient.specs.Made.{Learns, Meet, Notes};
+    ghost use Rattle.segclient.specs.Member.{IsMember};
+
+    /// As `Client::note`.
+    pub fn note(&mut self, index: &Index) -> Note
+        requires member { IsMember index.now self.old }
+        ensures member { IsMember index.now self.new }
+        ensures notes { Notes result (board_of index.now) self.old self.new }
+    {
+        index.note(&mut self.pass)
+    }
+
+    /// As `Client::learn`.
+    pub fn learn(&mut self, index: &Index, note: Note)
+        requires member { IsMember index.now self.old }
+        requires note { IsNoteOf (board_of index.now) note }
+        ensures member { IsMember index.now self.new }
+        ensures learns { Learns note (board_of index.now) self.old self.new }
+    {
+        index.learn(&mut self.pass, note);
+    }
+
+    /// As `Client::meet`.
+    pub fn meet(&mut self, index: &Index, other: &mut Member)
+        requires member { IsMember index.now self.old }
+        requires other { IsMember index.now other.old }
+        ensures member { IsMember index.now self.new }
+        ensures other { IsMember index.now other.new }
+        ensures meets { Meet (board_of index.now) self.old other.old self.new other.new }
+    {
+        index.meet(&mut self.pass, &mut other.pass);
+    }
+}
 
 impl<'i> Client<'i> {
     ghost use Rattle.segbase.specs.Words.{IsNoteOf};
-    ghost use Rattle.segindex.specs.Words.{LearnsNote, MakesNote, MeetsPass};
-    ghost use Rattle.segclient.specs.Client.{board_of, Keeps, KeepsDraws};
+    ghost use Rattle.segclient.specs.Client.{board_of, IsSame, MakesCall};
+    ghost use Rattle.segclient.specs.Made.{Learns, Meet, Notes};
 
     /// A note of what the client has seen, its own puts among it. It takes no bytes.
     /// Send it to another thread by any means, or drop it.
     pub fn note(&mut self) -> Note
-        ensures notes { MakesNote (board_of self.old) result self.old.pass self.new.pass }
-        ensures stats { self.new.stats ≡ self.old.stats }
-        ensures draws { KeepsDraws self.old self.new }
-        ensures keeps { Keeps self.old self.new }
+        ensures notes { MakesCall (Notes result) self.old self.new }
     {
-        self.index.note(&mut self.pass)
+        self.member.note(self.index)
     }
 
     /// The client has then seen all that the note has. The note has to be of the client's index.
     pub fn learn(&mut self, note: Note)
         requires note { IsNoteOf (board_of self.old) note }
-        ensures learns { LearnsNote (board_of self.old) note self.old.pass self.new.pass }
-        ensures stats { self.new.stats ≡ self.old.stats }
-        ensures draws { KeepsDraws self.old self.new }
-        ensures keeps { Keeps self.old self.new }
+        ensures learns { MakesCall (Learns note) self.old self.new }
     {
-        self.index.learn(&mut self.pass, note);
+        self.member.learn(self.index, note);
     }
 
     /// Afterwards each of the two clients has seen what either had seen,
     /// and the other one has seen all that this one has. Both have to be of one index.
     pub fn meet(&mut self, other: &mut Client<'_>)
         requires same { other.old.index.now ≡ self.old.index.now }
-        ensures meets { MeetsPass (board_of self.old)
-            self.old.pass other.old.pass self.new.pass other.new.pass }
-        ensures stats { (self.new.stats ≡ self.old.stats) × (other.new.stats ≡ other.old.stats) }
-        ensures draws { KeepsDraws self.old self.new × KeepsDraws other.old other.new }
-        ensures keeps { Keeps self.old self.new × Keeps other.old other.new }
+        ensures same { IsSame self.old self.new × IsSame other.old other.new }
+        ensures meets { Meet (board_of self.old)
+            self.old.member other.old.member self.new.member other.new.member }
     {
-        self.index.meet(&mut self.pass, &mut other.pass);
+        self.member.meet(self.index, &mut other.member);
     }
 }
 
-/// A put that is Stored has a moment of its call right after which its value stood.
-/// So what `what_stood_is_read` says of later gets is said of puts too.
+/// A put that is Stored has a moment after the first step of its call,
+/// right after which its value stood.
+/// So `what_stood_is_read` is about what was put, too.
 /// This function does nothing: its contract is the law.
 pub fn what_is_put_stands()
     ensures { PutStands }

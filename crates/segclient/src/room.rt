@@ -1,4 +1,4 @@
-//! How a put makes room: it gives up segments of its own in the order in which they were filled.
+//! How a put makes room: it recycles segments of its own in the order in which they were filled.
 ghost use Rattle.std.specs.Prelude.{◌≡◌, ◌≢◌, ◌+◌, ◌*◌, ◌<◌, ◌≤◌, ◌^◌, ℕ, Some, None};
 ghost use Rattle.segmodel.specs.Words.{owner};
 ghost use Rattle.segbase.specs.Words.{current_of, number};

@@ -1,4 +1,4 @@
-//! What the calls of a client came to, in numbers.
+//! The outcomes of a client's calls, counted.
 ghost use Rattle.std.specs.Prelude.{◌≡◌};
 ghost use Rattle.segclient.specs.Counting.{no_stats, with_more, counted, given_up_too};
 ghost use Rattle.segclient.specs.Counting.{get_tally, gets_tally, write_tally, delete_tally, put_tally};
@@ -7,7 +7,7 @@ use crate::put::PutAnswer;
 use crate::room::Effort;
 use segmodel::{DeleteAnswer, GetAnswer, GetsAnswer, WriteAnswer};
 
-/// What a call came to.
+/// The outcome of a call.
 #[derive(Clone, Copy, Debug, PartialEq, Eq)]
 pub(crate) enum Tally {
     Hit,
@@ -22,13 +22,13 @@ pub(crate) enum Tally {
     Busy,
 }
 
-/// How many calls of a client came to what, and what its puts gave up and kept.
+/// How often each outcome occurred in a client's calls, and what its puts recycled and kept.
 /// Each number stays at its largest once it is there.
 #[derive(Clone, Copy, Debug, PartialEq, Eq)]
 pub struct Stats {
     /// Gets and gets with a version that found their key.
     pub hits: u64,
-    /// Those that missed it.
+    /// Gets and gets with a version that missed it.
     pub misses: u64,
     pub stored: u64,
     pub not_stored: u64,
@@ -41,9 +41,9 @@ pub struct Stats {
     pub busy: u64,
     /// Segments that puts and `make_room` refilled.
     pub segments_refilled: u64,
-    /// Items that these moved out of a segment before they evicted it.
+    /// Items that puts and `make_room` moved out of a segment before they evicted it.
     pub items_kept: u64,
-    /// Keys that these evicted.
+    /// Keys that puts and `make_room` evicted.
     pub keys_evicted: u64,
 }
 

@@ -31,11 +31,11 @@ each_word z ws F G d x here long each words c is = ⊎_elim
     (cases_Bool (same_cell d c))
 
 pub steps : (z : Shape) (ws : List ℕ) (views : List View) (h : List Event) (p : ℕ) (v : View) (st : Step) → Lawful z ws views h → get_elem? views p ≡ some v → KeepsLaw z st p h
-    → let found = get_or ws (address z (cell st)) 0 in Lawful z (set ws (address z (cell st)) (becomes st found)) (set views p (record v { trace = adds st p found ++ h })) (adds st p found ++ h)
+    → let found = get_or ws (address z (cell st)) 0 in Lawful z (set ws (address z (cell st)) (becomes st found)) (set views p (record v { trace = adds st p found ++ h; looks = h ∷ v.looks })) (adds st p found ++ h)
 steps z ws views h p v st l at k =
     let found = get_or ws (address z (cell st)) 0 in
     let f : word z h (cell st) ≡ found = sym (l.each (cell st) k.inside) in
-    let w : View = record v { trace = adds st p found ++ h } in
+    let w : View = record v { trace = adds st p found ++ h; looks = h ∷ v.looks } in
     let own : AllBy p (adds st p found) = rw (← f) k.own in
     record {
       valid = l.valid;

@@ -13,6 +13,7 @@ pub mod KeepsLaw
 pub mod Limits
 pub mod StepKinds
 pub mod Schedules
+pub mod InOrder
 pub mod Versions
 pub mod Scans
 pub mod Marked

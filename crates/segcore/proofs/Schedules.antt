@@ -47,7 +47,7 @@ sees_more z ss s w r p v at =
     let b = r.0 in
     let k = (lawful z ss b r.2).knows s.0 r.1 r.3 in
     let es = adds s.1 s.0 (get_or b.words (address z (cell s.1)) 0) in
-    let u : View = record r.1 { trace = es ++ b.trace } in ⊎_elim
+    let u : View = record r.1 { trace = es ++ b.trace; looks = b.trace ∷ r.1.looks } in ⊎_elim
     (λ e. let same : v ≡ r.1 = some-injective v r.1 (sym at ∙ subst (λ x. get_elem? b.views x ≡ some r.1) (sym e) r.3) in (
       u,
       subst (λ x. get_elem? x.views p ≡ some u) (sym r.5) (subst (λ x. get_elem? (set b.views s.0 u) x ≡ some u) (sym e) (set_here b.views s.0 u (inside_list b.views s.0 r.1 r.3))),

@@ -112,7 +112,7 @@ looks = replicate 5 (marked stored) ++ marked moved ∷ replicate 7 (marked evic
 -- ---- a schedule
 
 abbrev pub view_of : ℕ → List Event → View
-view_of pass trace = record { number = pass; trace = trace; dealt = 2 }
+view_of pass trace = record { number = pass; trace = trace; looks = []; dealt = 2 }
 
 -- every word is 0, as the first version is
 abbrev pub opening : World
@@ -160,8 +160,12 @@ to_added =
     ∷ (1, row_store 2 0 4 50) ∷ (1, row_store 2 0 1 98) ∷ (1, row_store 2 0 0 257)
     ∷ (0, glance 0 false) ∷ (0, take 0 false) ∷ (1, take 0 false) ∷ to_moved
 
+-- one call of pass 1: an add that is refused
+abbrev pub refusing : List (ℕ × Step)
+refusing = (1, release 0 false (Some (Add a two 3, NotStored))) ∷ (1, take 0 false) ∷ []
+
 abbrev pub to_refused : List (ℕ × Step)
-to_refused = (1, release 0 false (Some (Add a two 3, NotStored))) ∷ (1, take 0 false) ∷ to_added
+to_refused = refusing ++ to_added
 
 abbrev pub to_replaced : List (ℕ × Step)
 to_replaced =

@@ -25,7 +25,9 @@ use Rattle.segcore.specs.Count.{CountsStep}
 use Rattle.segcore.specs.Filled.{items_below, HasNoEmptyWord}
 use Rattle.segcore.specs.Kind.{Step, May, KeepsLaw}
 use Rattle.segcore.specs.Meanwhile.{Meanwhile}
-use Rattle.segcore.specs.World.{Told, World, SeeMore, Reaches, IsLawfulWorld}
+use Rattle.segcore.specs.World.{Told, World, SeeMore, Reaches, ReachesOn, IsLawfulWorld}
+use mathlib.Core.Option.{some}
+use lib.ListN.{get_elem?}
 
 -- ---- schedules
 
@@ -43,6 +45,27 @@ SightOnlyGrows = (shape : Shape) (steps : List (ℕ × Step)) (taken : ℕ × St
 abbrev pub EveryScheduleSaysAll : Type 0
 EveryScheduleSaysAll = (shape : Shape) (steps : List (ℕ × Step)) (world : World)
     → Reaches shape steps world → WorldFacts shape world
+
+-- Whoever takes a step sees all that has happened by then, and looks at just that.
+abbrev pub StepSeesAll : Type 0
+StepSeesAll = (shape : Shape) (steps : List (ℕ × Step)) (taken : ℕ × Step) (world : World)
+    (reached : Reaches shape (taken ∷ steps) world)
+    → (view : View) × (get_elem? world.views taken.0 ≡ some view)
+    × (view.trace ≡ world.trace)
+    × (view.looks ≡ reached.0.trace ∷ reached.1.looks)
+
+-- Of two calls of any passes, all steps of the one come before all steps of the other. So there is
+-- a world in between, which the one pass reached with all its steps, and the other with none yet.
+-- What the one has seen by then begins what the other looks at by its first step.
+abbrev pub CallsAreInOrder : Type 0
+CallsAreInOrder = (shape : Shape) (before after : List (ℕ × Step)) (between world : World)
+    (one other : ℕ) (had from to : View) (later : List (List Event)) (first : List Event)
+    → Reaches shape before between → ReachesOn shape between after world
+    → get_elem? between.views one ≡ some had
+    → get_elem? between.views other ≡ some from
+    → get_elem? world.views other ≡ some to
+    → to.looks ≡ later ++ first ∷ from.looks
+    → Begins had.trace first
 
 -- ---- scans
 

@@ -38,14 +38,18 @@ pub record Lawful (shape : Shape) (words : List ℕ) (views : List View) (trace 
   pub later : (pass : ℕ) → length views ≤ pass → NoneBy pass trace
   pub dealt : (view : View) → get_elem? views 0 ≡ some view → view.dealt ≡ length views
 
--- what a step tells its pass: what others did meanwhile, what it found,
--- and that it added just its own events
+-- What a step tells its pass: what others did meanwhile, what it found,
+-- and that it added just its own events. The pass looked at the trace just before them.
 pub record Told (shape : Shape) (step : Step) (found : ℕ) (old new : View) : Type 0 where
   pub more : List Event
   pub others : NoneBy old.number more
   pub before : IsLawful shape (more ++ old.trace)
   pub found_is : found ≡ word shape (more ++ old.trace) (cell step)
-  pub now : new ≡ record old { trace = adds step old.number found ++ (more ++ old.trace) }
+  pub now : new
+      ≡ record old {
+        trace = adds step old.number found ++ (more ++ old.trace);
+        looks = (more ++ old.trace) ∷ old.looks;
+      }
   pub legal : IsLawful shape new.trace
 
 -- ---- schedules
@@ -58,6 +62,7 @@ pub record World : Type 0 where
 pub record IsFresh (passes pass : ℕ) (view : View) : Type 0 where
   pub number : view.number ≡ pass
   pub unseen : view.trace ≡ []
+  pub unlooked : view.looks ≡ []
   pub dealt : view.dealt ≡ passes
 
 -- no event yet, and each word as at the start
@@ -79,7 +84,9 @@ after_step shape pass view step world =
     let trace = adds step pass found ++ world.trace in
     record {
       words = slice_set world.words (address shape (cell step)) (becomes step found);
-      views = slice_set world.views pass (record view { trace = trace });
+      views =
+          slice_set world.views pass
+          (record view { trace = trace; looks = world.trace ∷ view.looks });
       trace = trace;
     }
 
@@ -90,6 +97,16 @@ Reaches shape [] world = IsOpening shape world
 Reaches shape (taken ∷ steps) world =
     (old : World) × (view : View)
     × Reaches shape steps old
+    × (get_elem? old.views taken.0 ≡ some view)
+    × May shape view.trace taken.0 taken.1
+    × (world ≡ after_step shape taken.0 view taken.1 old)
+
+-- the world is reached from an earlier one by these further steps
+abbrev pub ReachesOn : Shape → World → List (ℕ × Step) → World → Type 0
+ReachesOn shape start [] world = world ≡ start
+ReachesOn shape start (taken ∷ steps) world =
+    (old : World) × (view : View)
+    × ReachesOn shape start steps old
     × (get_elem? old.views taken.0 ≡ some view)
     × May shape view.trace taken.0 taken.1
     × (world ≡ after_step shape taken.0 view taken.1 old)

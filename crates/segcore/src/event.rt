@@ -12,7 +12,7 @@ pub enum Event {
     Bounced(u32, u32),
     /// A look of `gets` at the bucket found the bit of another pass.
     Glanced(u32, u32),
-    /// The bucket's bit was given back; whether the version went up.
+    /// The bucket's bit was cleared; whether the version went up.
     Freed(u32, u32, bool),
     /// A cache of one thread refuses the write: request and reply.
     Replied(u32, Request, Reply),

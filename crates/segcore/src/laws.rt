@@ -1,5 +1,5 @@
 //! The theorems of the core. Each function does nothing: its contract is the law.
-ghost use Rattle.std.specs.Prelude.{◌≡◌, ◌∷◌, ◌++◌, ℕ, List, [], Option, Some, None};
+ghost use Rattle.std.specs.Prelude.{◌≡◌, ◌∷◌, ◌++◌, ℕ, List, [], Option, Some, None, false};
 ghost use Rattle.segmodel.specs.Words.{after, present, standing};
 ghost use Rattle.segcore.specs.declared.cell.Cell.TheVariants.{OfCounter, OfBucket, OfOverflow};
 ghost use Rattle.segcore.specs.declared.cell.Cell.TheVariants.{OfSegment};
@@ -10,12 +10,14 @@ ghost use Rattle.segcore.specs.Word.{word};
 ghost use Rattle.segcore.specs.Mark.{marked};
 ghost use Rattle.segcore.specs.Scan.{IsScanOf};
 ghost use Rattle.segcore.specs.Standing.{cached};
-ghost use Rattle.segcore.specs.World.{Reaches};
+ghost use Rattle.segcore.specs.World.{Reaches, ReachesOn};
 ghost use Rattle.segcore.specs.Example.{shape, a, two, stored, bumped, moved, replaced};
 ghost use Rattle.segcore.specs.Example.{relinked, read};
-ghost use Rattle.segcore.specs.Example.{evicted, refilled, elsewhere, looks, view_of, after_steps};
-ghost use Rattle.segcore.specs.Example.{to_refilled};
+ghost use Rattle.segcore.specs.Example.{evicted, refilled, elsewhere, looks, view_in, after_steps};
+ghost use Rattle.segcore.specs.Example.{refusing, to_added, to_refilled, to_refused};
+ghost use Rattle.segcore.specs.Kind.{take};
 ghost use Rattle.segcore.specs.Laws.{EveryScheduleIsLawful, SightOnlyGrows, EveryScheduleSaysAll};
+ghost use Rattle.segcore.specs.Laws.{StepSeesAll, CallsAreInOrder};
 ghost use Rattle.segcore.specs.Laws.{ScanPassesAMiss, SeenHistoryIsLegal, MarksArePlaced};
 ghost use Rattle.segcore.specs.Laws.{MarksAreOrderly, MarksLeaveTheHistory, MarksCountTheChain};
 ghost use Rattle.segcore.specs.Laws.{LawfulKeyFacts, LawfulBucketFacts, LawfulSegmentFacts};
@@ -32,22 +34,27 @@ ghost use Rattle.segcore.specs.Laws.{KeysAreAsManyAsItems, KeysFitTheirChain};
 ghost use Rattle.segcore.specs.Laws.{FullChainHasAllItsKeys, ChainIsAsLongAsWide};
 ghost use Rattle.segcore.specs.Laws.{FilledWordHasContent};
 
-/// Whatever steps the passes take, in whatever order, the world that they reach is lawful, and says
-/// all that a lawful world says. What each pass has seen only grows.
+/// Whatever steps the passes take, in whatever order, the world that they reach is lawful, and has
+/// all that a lawful world has. What each pass has seen only grows,
+/// and each step sees all that has happened.
+/// If all steps of one call come before all steps of another, of any passes,
+/// the other has seen from its first step on what the one had seen.
 pub fn every_schedule()
     ensures lawful { EveryScheduleIsLawful }
     ensures seen { SightOnlyGrows }
+    ensures whole { StepSeesAll }
+    ensures in_order { CallsAreInOrder }
     ensures says { EveryScheduleSaysAll }
 {}
 
 /// A scan looks at all words of a chain. If it finds what it seeks in none of them, it passed a
 /// point at which that was nowhere.
-/// What a scan seeks is a key, or the word of the key that names a given row.
+/// What a scan seeks is a key, or the word of the key that names a row.
 pub fn miss_point()
     ensures { ScanPassesAMiss }
 {}
 
-/// What each lawful trace says; a pass has one at every moment.
+/// What holds of each lawful trace; a pass has one at every moment.
 pub fn lawful_trace()
     ensures legal { SeenHistoryIsLegal }
     ensures placed { MarksArePlaced }
@@ -59,13 +66,13 @@ pub fn lawful_trace()
     ensures segments { LawfulSegmentFacts }
 {}
 
-/// A step that a pass may take by what it has seen leaves words and trace as the rule wants them,
+/// A step that a pass can take by what it has seen leaves words and trace as the rule wants them,
 /// if only others added to the trace since.
 pub fn step_keeps_law()
     ensures { AllowedStepKeepsTheRule }
 {}
 
-/// What others leave alone while a pass does nothing, and what a step of its own adds to its
+/// What others don't change while a pass does nothing, and what a step of its own adds to its
 /// counts.
 pub fn between_steps()
     ensures others { OthersLeaveItAlone }
@@ -92,7 +99,7 @@ pub fn place_of_key()
     ensures there { PlaceHasTheKey }
 {}
 
-/// What the words of a chain say to one who has no bit. A word with another tag isn't the key's, and
+/// What a chain's words show to one who has no bit. A word with another tag isn't the key's, and
 /// one that names another row isn't the row's. The last word of a bucket leads on to the next or
 /// ends the chain. A chain only grows, and its places stay where they are.
 pub fn chain_words()
@@ -136,6 +143,8 @@ pub fn keys_of_bucket()
 /// The example is lawful, and its words are those of the format. A scan for a key that moves on,
 /// and then goes, finds the key nowhere, and no word of it that names a row. Two passes reach the
 /// example by steps of each kind, and have then seen it up to different points.
+/// One call of it begins where others ended,
+/// and its two steps look at all that had happened by then.
 pub fn example()
     ensures lawful { IsLawful shape refilled }
     ensures item { (word shape stored (OfBucket 0 7) ≡ 0xaf60_1000_0000_0000)
@@ -164,6 +173,10 @@ pub fn example()
     ensures traced { (after_steps to_refilled).trace ≡ refilled }
     ensures waited { (word shape read (OfSegment 0) ≡ 0x9_0000_0001)
         × (word shape elsewhere (OfSegment 0) ≡ 0x9_0000_0000) }
-    ensures different { (after_steps to_refilled).views
-        ≡ view_of 0 refilled ∷ view_of 1 elsewhere ∷ [] }
+    ensures in_order { ReachesOn shape (after_steps to_added) refusing (after_steps to_refused)
+        × ((view_in (after_steps to_refused) 1).looks
+        ≡ (after_steps ((1, take 0 false) ∷ to_added)).trace ∷ (after_steps to_added).trace
+        ∷ (view_in (after_steps to_added) 1).looks) }
+    ensures different { ((view_in (after_steps to_refilled) 0).trace ≡ refilled)
+        × ((view_in (after_steps to_refilled) 1).trace ≡ elsewhere) }
 {}

@@ -8,6 +8,8 @@ pub struct View {
     pub number: u32,
     /// The trace that the pass has seen, the newest event first.
     pub trace: LinkedList<Event>,
+    /// What each step of the pass saw: the trace just before it, the newest step's first.
+    pub looks: LinkedList<LinkedList<Event>>,
     /// In the view of pass 0, how many passes there are.
     pub dealt: u32,
 }

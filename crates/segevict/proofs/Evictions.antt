@@ -11,7 +11,6 @@ use Rattle.segcore.specs.declared.event.Event.TheVariants.{Bounced}
 use Rattle.segcore.specs.Count as count
 use Rattle.segcore.specs.Words.{cached, Event, row_after, RowGone}
 use Rattle.segcore.proofs.Caches.{stands as standing_at, has_value}
-use Rattle.segcore.proofs.Moments.{begins_on}
 use Rattle.segcore.proofs.Standing.{coherent}
 use Rattle.segbase.specs.declared.pass.Plain.{Plain}
 use Rattle.segbase.specs.Words.{Board, bounced, current_of, mine, number, own_segment, Pass, seen}
@@ -28,7 +27,7 @@ use Rattle.segevict.specs.Rows.{KeepsGone}
 use Rattle.segevict.specs.Tries.{IsBarred, StoodIn, TriesForKeys}
 use Rattle.segevict.specs.Unlinking.{EvictsRow}
 use Rattle.segpass.proofs.Draws.{draws_none_then}
-use Rattle.segevict.proofs.KeyTries.{no_tries, of_row, rows_tried_then}
+use Rattle.segevict.proofs.KeyTries.{no_tries, of_row, rows_tried_then, stood_before}
 use Rattle.segevict.proofs.RowsOut.{goes_then, keeps_gone_then}
 
 -- ---- a change of the plain part alone
@@ -49,6 +48,7 @@ module _ (b : Board) (p : Pass) (x : Plain) (quiet : IsQuiet b p) (same : owner_
     same = refl;
     marked = ([], refl);
     seen = ([], refl);
+    steps = inr (refl, refl);
   }
 
 -- ---- counts only grow
@@ -87,7 +87,7 @@ pub record Evicting (b : Board) (segment row taken : ℕ) (p q : Pass) : Type 0 
 -- before the first row
 pub evicting_first : (b : Board) (segment : ℕ) (p : Pass) → IsQuiet b p → Evicting b segment 0 0 p p
 evicting_first b segment p quiet = record {
-  on = record { quiet = quiet; same = refl; marked = ([], refl); seen = ([], refl) };
+  on = record { quiet = quiet; same = refl; marked = ([], refl); seen = ([], refl); steps = inr (refl, refl) };
   keeps = record { grew = ([], refl); linked = λ row. refl; lasts = λ row gone. gone };
   plain = refl;
   memo = refl;
@@ -99,7 +99,7 @@ evicting_first b segment p quiet = record {
   entries = refl;
   below = λ r lt. absurd (omega (arith, lt));
   few = omega arith;
-  tries = no_tries b (λ key. StoodIn b.shape segment key (seen p) (seen p)) 0 p p (stays b p quiet.pass);
+  tries = no_tries b (λ key. StoodIn b.shape segment key p p) 0 p p (stays b p quiet.pass);
   order = (refl, refl);
 }
 
@@ -130,7 +130,7 @@ module _ (b : Board) (segment row taken : ℕ) (p q r : Pass) (e : Evicting b se
         entries = one.answer.2.1 ∙ (λ t. entry.Evicted (e.on.same t) key segment ∷ e.entries t);
         below = gone_below one.answer.0 one.answer.1;
         few = omega arith;
-        tries = rows_tried_then b.shape segment row 1 (row + 1) p q r e.on.seen one.on.seen (omega arith) e.tries (of_row b.shape segment row 1 q r one.tries);
+        tries = rows_tried_then b segment row 1 (row + 1) p q r e.on one.on (omega arith) e.tries (of_row b.shape segment row 1 q r one.tries);
         order = one_row_on b segment row (taken + 1) p r (q, inl (taken, refl, e.order, one));
       }
 
@@ -149,7 +149,7 @@ module _ (b : Board) (segment row taken : ℕ) (p q r : Pass) (e : Evicting b se
     entries = one.answer.2 ∙ e.entries;
     below = gone_below one.answer.0 one.answer.1;
     few = omega arith;
-    tries = rows_tried_then b.shape segment row 1 (row + 1) p q r e.on.seen one.on.seen (omega arith) e.tries (of_row b.shape segment row 1 q r one.tries);
+    tries = rows_tried_then b segment row 1 (row + 1) p q r e.on one.on (omega arith) e.tries (of_row b.shape segment row 1 q r one.tries);
     order = one_row_on b segment row taken p r (q, inr (e.order, one));
   }
 
@@ -185,7 +185,7 @@ module _ (b : Board) (segment row taken : ℕ) (p q : Pass) (in_use : state_of p
     pub barred_costs : (used : ℕ) → used_of p segment ≡ Some used → row < used → CostsOfEvict b segment (evict.Busy taken) p r
     barred_costs used is_used within = record {
       order = λ again. (used, row, q, is_used, within, over_order taken e.order, busy);
-      tries = λ rows is. rows_tried_then b.shape segment row 1 rows p q r e.on.seen busy.on.seen (let same : used ≡ rows = same_Some used rows (sym is_used ∙ is) in omega arith) e.tries (of_row b.shape segment row 1 q r busy.tries);
+      tries = λ rows is. rows_tried_then b segment row 1 rows p q r e.on busy.on (let same : used ≡ rows = same_Some used rows (sym is_used ∙ is) in omega arith) e.tries (of_row b.shape segment row 1 q r busy.tries);
       draws_nothing = draws_none_then p q r e.draws_nothing busy.draws_nothing;
       reads_nothing = busy.reads_nothing ∙ e.reads_nothing;
     }
@@ -194,7 +194,7 @@ module _ (b : Board) (segment row taken : ℕ) (p q : Pass) (in_use : state_of p
     barred_by =
         let by = busy.answer.1 in let stood = by.1.0 in (
           by.0,
-          (stood.0, (begins_on (seen p) (seen q) stood.0 e.on.seen stood.1.0, stood.1.1), stood.2),
+          stood_before b.shape segment by.0 p q r e.on.same e.on.steps stood,
           ⊎_elim
               (λ locked. inl (sym (ap (λ (x : Plain). x.locked) e.plain) ∙ locked))
               (λ tried. let grew = bounced_grows p q (bucket_of b.shape by.0) e.on.same e.keeps.grew in inr (let t = tried in omega arith))

@@ -5,14 +5,14 @@ use Rattle.std.proofs.lemmas.Option.{none-some, same_Some}
 use Rattle.segmodel.specs.declared.entry.Entry.TheVariants as entry
 use Rattle.segmodel.specs.declared.answer.KeepAnswer.TheVariants as keep
 use Rattle.segmodel.specs.declared.answer.SegState.TheVariants.{InUse}
-use Rattle.segmodel.specs.Words.{Begins, bucket_of, Cached, Entry, owner}
+use Rattle.segmodel.specs.Words.{bucket_of, Cached, Entry, owner}
 use Rattle.segcore.specs.Words.{cached, Event, row_after, RowGone}
 use Rattle.segcore.proofs.Caches.{has_value, stands as standing_at}
 use Rattle.segcore.proofs.Standing.{coherent}
 use Rattle.segbase.specs.declared.pass.Plain.{Plain}
 use Rattle.segbase.specs.Words.{AddsEvents, Board, bounced, deadline_in, marked, mine, number}
 use Rattle.segbase.specs.Words.{own_segment, OwnSegment, Pass, seen, state_in, state_of, trace, used_in}
-use Rattle.segbase.specs.Words.{used_of, with_own}
+use Rattle.segbase.specs.Words.{TakesSteps, used_of, with_own}
 use Rattle.segbase.proofs.Known.{own_apart, own_here, own_kept}
 use Rattle.segbase.proofs.Moves.{moved_bounced, stays}
 use Rattle.segstore.specs.Words.{fills, has_room, Idles}
@@ -24,7 +24,7 @@ use Rattle.segpass.proofs.Draws.{draws_none_then}
 use Rattle.segpass.proofs.Idling.{does_nothing}
 use Rattle.segwrite.specs.Words.{one_more}
 use Rattle.segwrite.proofs.Filling.{fills_calm}
-use Rattle.segevict.specs.declared.retention.KeptRow.TheVariants as kept
+use Rattle.segevict.specs.declared.retention.KeepRowAnswer.TheVariants as kept
 use Rattle.segevict.specs.Frequencies.{WasOften, WasSeldom}
 use Rattle.segevict.specs.Keeping.{AreMoves, AreSeldom, IsKeepTarget, KeepsItems, MovesAway, UsesRows}
 use Rattle.segevict.specs.Moving.{GoesInOrder, GoesOver, KeepsRow, moves, under_bit}
@@ -125,10 +125,10 @@ module _ (b : Board) (segment row into cutoff : ℕ) (q r : Pass) (own : owner b
       k.answer
 
 -- nothing but looks
-idle_changes : (b : Board) (q f : Pass) → IsQuiet b q → Idles b q f → ChangesNothing q f
+pub idle_changes : (b : Board) (q f : Pass) → IsQuiet b q → Idles b q f → ChangesNothing q f
 idle_changes b q f quiet i = does_nothing b q f quiet i.moved i.plain i.memo
 
-left_changes : (b : Board) (segment row into cutoff : ℕ) (q r : Pass) → IsQuiet b q → KeepsRow b segment row into cutoff kept.Left q r → ChangesNothing q r
+pub left_changes : (b : Board) (segment row into cutoff : ℕ) (q r : Pass) → IsQuiet b q → KeepsRow b segment row into cutoff kept.Left q r → ChangesNothing q r
 left_changes b segment row into cutoff q r quiet k = ⊎_elim
     (λ none. idle_changes b q r quiet none.0)
     (λ some. ⊎_elim (λ seldom. idle_changes b q r quiet seldom.idles) (λ went. went.4) some)
@@ -159,7 +159,7 @@ pub record Keeping (b : Board) (segment into cutoff row count : ℕ) (p q : Pass
 -- before the first row
 pub keeping_first : (b : Board) (segment into cutoff : ℕ) (p : Pass) → IsQuiet b p → Keeping b segment into cutoff 0 0 p p
 keeping_first b segment into cutoff p quiet = record {
-  on = record { quiet = quiet; same = refl; marked = ([], refl); seen = ([], refl) };
+  on = record { quiet = quiet; same = refl; marked = ([], refl); seen = ([], refl); steps = inr (refl, refl) };
   keeps = record { grew = ([], refl); linked = λ row. refl; lasts = λ row gone. gone };
   uses = uses_none into p p refl refl;
   draws_nothing = λ bucket. refl;
@@ -183,21 +183,21 @@ module _ (b : Board) (segment into cutoff row count : ℕ) (p q r : Pass) (own :
   own_q = own ∙ sym e.on.same
 
   -- what was so of moments before the row, and at the row, was so of moments of the whole
-  often_then : Begins (marked q) (marked r) → (key : List ℕ) → WasOften b.shape segment cutoff p q key → WasOften b.shape segment cutoff p r key
-  often_then later key = had_after b.shape segment (λ n. cutoff ≤ n) key (marked p) (marked q) (marked r) later
+  often_then : TakesSteps q r → (key : List ℕ) → WasOften b.shape segment cutoff p q key → WasOften b.shape segment cutoff p r key
+  often_then later key = had_after b.shape segment (λ n. cutoff ≤ n) key p q r later
 
   often_now : (key : List ℕ) → WasOften b.shape segment cutoff q r key → WasOften b.shape segment cutoff p r key
-  often_now key = had_before b.shape segment (λ n. cutoff ≤ n) key (marked p) (marked q) (marked r) e.on.marked
+  often_now key = had_before b.shape segment (λ n. cutoff ≤ n) key p q r e.on.same e.on.steps
 
-  tries_all : (most : ℕ) → Begins (marked q) (marked r) → row + 1 ≤ most → TriesFor b.shape (WasOften b.shape segment cutoff q r) 1 q r → TriesFor b.shape (WasOften b.shape segment cutoff p r) most p r
+  tries_all : (most : ℕ) → TakesSteps q r → row + 1 ≤ most → TriesFor b.shape (WasOften b.shape segment cutoff q r) 1 q r → TriesFor b.shape (WasOften b.shape segment cutoff p r) most p r
   tries_all most later within tries = tries_then b.shape (WasOften b.shape segment cutoff p q) (WasOften b.shape segment cutoff q r) (WasOften b.shape segment cutoff p r) row 1 most p q r (often_then later) often_now within e.tries tries
 
-  settled_below : KeepsGone b segment q r → Begins (marked q) (marked r) → IsSettled b segment cutoff row p r → (n : ℕ) → n < row + 1 → IsSettled b segment cutoff n p r
+  settled_below : KeepsGone b segment q r → TakesSteps q r → IsSettled b segment cutoff row p r → (n : ℕ) → n < row + 1 → IsSettled b segment cutoff n p r
   settled_below keeps later now n lt = ⊎_elim
       (λ same. subst (λ m. IsSettled b segment cutoff m p r) (sym same) now)
       (λ other. ⊎_elim
       (λ gone. inl (keeps.lasts n gone))
-      (λ seldom. inr (seldom.0, keeps.linked n ∙ seldom.1, had_after b.shape segment (λ n. n < cutoff) seldom.0 (marked p) (marked q) (marked r) later seldom.2))
+      (λ seldom. inr (seldom.0, keeps.linked n ∙ seldom.1, had_after b.shape segment (λ n. n < cutoff) seldom.0 p q r later seldom.2))
       (e.below n (omega (arith, lt, other))))
       (cases_eq n row)
 
@@ -206,7 +206,7 @@ module _ (b : Board) (segment into cutoff row count : ℕ) (p q r : Pass) (own :
   keeping_moved apart k =
       let a = k.answer in let key = a.1.key in let few = e.few in let counted = e.counted in
       let keeps = moved_gone b segment row into cutoff q r own_q apart k in
-      let often = often_now key (had_seen b segment row (λ n. cutoff ≤ n) q a.0 r e.on.quiet a.1 a.2.marked) in record {
+      let often = often_now key (had_seen b segment row (λ n. cutoff ≤ n) q a.0 r a.1 a.2.steps) in record {
         on = goes_then b p q r e.on k.on;
         keeps = keeps_gone_then b segment p q r e.keeps keeps;
         uses = uses_then into count 1 (count + 1) p q r refl e.uses (uses_one into q r a.11 k.memo);
@@ -214,11 +214,11 @@ module _ (b : Board) (segment into cutoff row count : ℕ) (p q r : Pass) (own :
         reads_nothing = k.reads_nothing ∙ e.reads_nothing;
         moves = entry.Moved (number p) key segment into ∷ e.moves;
         counted = omega arith;
-        all = ((key, refl, often), moves_weaker (number p) segment into (WasOften b.shape segment cutoff p q) (WasOften b.shape segment cutoff p r) (often_then k.on.marked) e.moves e.all);
+        all = ((key, refl, often), moves_weaker (number p) segment into (WasOften b.shape segment cutoff p q) (WasOften b.shape segment cutoff p r) (often_then k.on.steps) e.moves e.all);
         entries = a.10 ∙ (λ t. entry.Moved (e.on.same t) key segment into ∷ e.entries t);
-        below = settled_below keeps k.on.marked (inl a.12);
+        below = settled_below keeps k.on.steps (inl a.12);
         few = omega arith;
-        tries = tries_all (row + 1) k.on.marked (omega arith) k.tries;
+        tries = tries_all (row + 1) k.on.steps (omega arith) k.tries;
         order = one_row_on b segment into cutoff row (count + 1) p r (q, inl (count, refl, e.order, k));
       }
 
@@ -226,7 +226,7 @@ module _ (b : Board) (segment into cutoff row count : ℕ) (p q r : Pass) (own :
   settled_left k = ⊎_elim
       (λ none. inl none.1)
       (λ some. ⊎_elim
-      (λ seldom. inr (seldom.key, seldom.linked, had_before b.shape segment (λ n. n < cutoff) seldom.key (marked p) (marked q) (marked r) e.on.marked (had_seen b segment row (λ n. n < cutoff) q r r e.on.quiet seldom ([], refl))))
+      (λ seldom. inr (seldom.key, seldom.linked, had_before b.shape segment (λ n. n < cutoff) seldom.key p q r e.on.same e.on.steps (had_seen b segment row (λ n. n < cutoff) q r r seldom (inr (refl, refl)))))
       (λ went. inl went.5)
       some)
       k.answer
@@ -244,11 +244,11 @@ module _ (b : Board) (segment into cutoff row count : ℕ) (p q r : Pass) (own :
         reads_nothing = k.reads_nothing ∙ e.reads_nothing;
         moves = e.moves;
         counted = e.counted;
-        all = moves_weaker (number p) segment into (WasOften b.shape segment cutoff p q) (WasOften b.shape segment cutoff p r) (often_then k.on.marked) e.moves e.all;
+        all = moves_weaker (number p) segment into (WasOften b.shape segment cutoff p q) (WasOften b.shape segment cutoff p r) (often_then k.on.steps) e.moves e.all;
         entries = none.entries ∙ e.entries;
-        below = settled_below keeps k.on.marked (settled_left k);
+        below = settled_below keeps k.on.steps (settled_left k);
         few = omega arith;
-        tries = tries_all (row + 1) k.on.marked (omega arith) k.tries;
+        tries = tries_all (row + 1) k.on.steps (omega arith) k.tries;
         order = one_row_on b segment into cutoff row count p r (q, inr (e.order, k));
       }
 
@@ -263,7 +263,7 @@ module _ (b : Board) (segment into cutoff row count : ℕ) (p q : Pass) (quiet :
     own : owner b.shape segment ≡ number p
     own = owns_used b p segment used quiet.pass is_used
 
-    module _ (r : Pass) (later : Begins (marked q) (marked r)) (none : ChangesNothing q r) (within : row < used) (tries : TriesFor b.shape (WasOften b.shape segment cutoff q r) 1 q r) where
+    module _ (r : Pass) (later : TakesSteps q r) (none : ChangesNothing q r) (within : row < used) (tries : TriesFor b.shape (WasOften b.shape segment cutoff q r) 1 q r) where
       moved_away : MovesAway b.shape segment cutoff count p r
       moved_away = (
         in_use,
@@ -290,14 +290,14 @@ module _ (b : Board) (segment into cutoff row count : ℕ) (p q : Pass) (quiet :
         let none = idle_changes b q r e.on.quiet s.idles in record {
           on = goes_then b p q r e.on k.on;
           answer = inr (
-            moved_away r k.on.marked none within k.tries,
+            moved_away r k.on.steps none within k.tries,
             subst (λ (x : Plain). has_room b.shape (record q { plain = x }) ≡ false) (sym none.plain) k.answer.1,
             (s.key, had_then b segment row (λ n. cutoff ≤ n) q r s (marked r) (marked r) ([], refl) ([], refl)),
           );
           not_yours = ((λ other. absurd (not_so other)), (λ nobody. absurd (none-some InUse (sym nobody ∙ in_use))));
           costs = record {
             order = λ other used_too t. subst (λ o. GoesInOrder b segment o cutoff (keep.NoRoom count) p r) (only_into other t) (row, used, is_used, within, q, e.order, k);
-            tries = tries_few r k.on.marked none within k.tries;
+            tries = tries_few r k.on.steps none within k.tries;
             draws_nothing = draws_none_then p q r e.draws_nothing k.draws_nothing;
             reads_nothing = k.reads_nothing ∙ e.reads_nothing;
           };
@@ -314,11 +314,11 @@ module _ (b : Board) (segment into cutoff row count : ℕ) (p q : Pass) (quiet :
         let none : ChangesNothing q r = record { entries = a.4.entries ∙ looked.entries; plain = a.4.plain ∙ looked.plain; memo = a.4.memo ∙ looked.memo } in record {
           on = goes_then b p q r e.on k.on;
           answer = (
-            moved_away r k.on.marked none within k.tries,
+            moved_away r k.on.steps none within k.tries,
             subst (λ (x : Plain). has_room b.shape (record q { plain = x }) ≡ true) (sym none.plain) a.3,
             (
               s.key,
-              often_now b segment into cutoff row count p q r own e s.key (had_seen b segment row (λ n. cutoff ≤ n) q f r e.on.quiet s a.2.marked),
+              often_now b segment into cutoff row count p q r own e s.key (had_seen b segment row (λ n. cutoff ≤ n) q f r s a.2.steps),
               ⊎_elim
                   (λ locked. inl (sym (ap (λ (x : Plain). x.locked) s.idles.plain ∙ e.uses.locked) ∙ locked.0))
                   (λ tried.
@@ -330,7 +330,7 @@ module _ (b : Board) (segment into cutoff row count : ℕ) (p q : Pass) (quiet :
           not_yours = ((λ other. absurd (not_so other)), (λ nobody. absurd (none-some InUse (sym nobody ∙ in_use))));
           costs = record {
             order = λ other used_too t. subst (λ o. GoesInOrder b segment o cutoff (keep.Busy count) p r) (only_into other t) (row, used, is_used, within, q, e.order, k);
-            tries = tries_few r k.on.marked none within k.tries;
+            tries = tries_few r k.on.steps none within k.tries;
             draws_nothing = draws_none_then p q r e.draws_nothing k.draws_nothing;
             reads_nothing = k.reads_nothing ∙ e.reads_nothing;
           };

@@ -4,7 +4,7 @@ use Rattle.std.proofs.lemmas.Bool.{cases_Bool, cond-true, eq-eqb, ne_eqb}
 use Rattle.std.proofs.lemmas.Option.{same_Some}
 use Rattle.segword.specs.Words.{Item, item_word}
 use Rattle.segmodel.specs.declared.entry.Entry.TheVariants.{Moved}
-use Rattle.segmodel.specs.Words.{Begins, bucket_of, Entry, tag_of}
+use Rattle.segmodel.specs.Words.{bucket_of, Entry, tag_of}
 use Rattle.segcore.specs.declared.event.Event.TheVariants.{Freed}
 use Rattle.segcore.specs.Event as event
 use Rattle.segcore.specs.Words.{bucket_after, content_word, Event, frequency_of, item, NoneAt, packed, RowGone}
@@ -14,7 +14,7 @@ use Rattle.segcore.proofs.Exact.{content_at}
 use Rattle.segcore.proofs.Limits.{low_frequency, low_row, low_segment}
 use Rattle.segcore.proofs.Standing.{coherent}
 use Rattle.segbase.specs.declared.pass.Plain.{Plain}
-use Rattle.segbase.specs.Words.{AddsAtOnce, AddsEvents, Board, bounced, cell_at, current_of, IsPassOf, marked, mine, number}
+use Rattle.segbase.specs.Words.{HasStep, TakesSteps, AddsAtOnce, AddsEvents, Board, bounced, cell_at, current_of, IsPassOf, mine, number}
 use Rattle.segbase.specs.Words.{deadline_in, own_segment, Pass, position, taken, trace, used_of, with_own}
 use Rattle.segbase.proofs.Moves.{moved_then}
 use Rattle.segbase.proofs.Standing.{place_of_word, tag_of_word}
@@ -32,8 +32,8 @@ use Rattle.segpass.proofs.UnderWrite.{begun, HasBegun, took_keeps, took_moved, t
 use Rattle.segpass.proofs.UnderWrite.{write_peeking, write_takes, write_undrawn}
 use Rattle.segwrite.specs.Words.{IsNextRow, one_more, Target}
 use Rattle.segwrite.proofs.Filling.{fills_nowhere, fills_seen, fills_still, fills_undrawn, fills_untried}
-use Rattle.segevict.specs.declared.retention.KeptRow.{KeptRow}
-use Rattle.segevict.specs.declared.retention.KeptRow.TheVariants as kept
+use Rattle.segevict.specs.declared.retention.KeepRowAnswer.{KeepRowAnswer}
+use Rattle.segevict.specs.declared.retention.KeepRowAnswer.TheVariants as kept
 use Rattle.segevict.specs.Frequencies.{WasOften}
 use Rattle.segevict.specs.Keeping.{IsKeepTarget}
 use Rattle.segevict.specs.Moving.{IsKeptRow, KeepsRow, moves, MovesRow, SeesRow, under_bit}
@@ -58,7 +58,7 @@ pub has_row : (b : Board) (p : Pass) → ¬ (has_room b.shape p ≡ false) → h
 has_row b p some = ⊎_elim (λ t. t) (λ f. absurd (some f)) (cases_Bool (has_room b.shape p))
 
 -- with f the pass after the search without the bit
-module _ (b : Board) (bucket : ℕ) (sought : Item) (into cutoff : ℕ) (p f : Pass) (quiet : IsQuiet b p) (i : Idles b p f) (stored : IsStoredIn b bucket sought f) where
+module _ (b : Board) (bucket : ℕ) (sought : Item) (into cutoff : ℕ) (p f : Pass) (quiet : IsQuiet b p) (i : Idles b p f) (first : HasStep p f) (stored : IsStoredIn b bucket sought f) where
   goes_f : GoesOn b p f
   goes_f = goes_nowhere b p f quiet i.moved i.plain i.memo
 
@@ -68,11 +68,11 @@ module _ (b : Board) (bucket : ℕ) (sought : Item) (into cutoff : ℕ) (p f : P
   unread_f : ReadsNothing p f
   unread_f = no_reader b [] p f i.moved tt
 
-  abbrev Kept : KeptRow → Pass → Type 0
+  abbrev Kept : KeepRowAnswer → Pass → Type 0
   Kept told q = KeepsRow b sought.seg sought.row into cutoff told p q
 
   -- looks were enough
-  only_looked : (told : KeptRow) → IsKeptRow b sought.seg sought.row into cutoff told p f → Kept told f
+  only_looked : (told : KeepRowAnswer) → IsKeptRow b sought.seg sought.row into cutoff told p f → Kept told f
   only_looked told answer = record {
     on = goes_f;
     memo = i.memo;
@@ -115,7 +115,7 @@ module _ (b : Board) (bucket : ℕ) (sought : Item) (into cutoff : ℕ) (p f : P
         ∙ (λ u. frequency_of (trace f) (n.named.2.0 u) (n.named.2.1 u))
 
     abbrev sees : (IsSo : ℕ → Type 0) → IsSo x.freq → SeesRow b sought.seg sought.row IsSo p f
-    sees IsSo so = record { idles = i; key = stored.key; linked = stored.linked; position = at; named = here; is = subst IsSo frequency so }
+    sees IsSo so = record { idles = i; looks = first; key = stored.key; linked = stored.linked; position = at; named = here; is = subst IsSo frequency so }
 
     pub row_seldom : x.freq < cutoff → Kept kept.Left f
     row_seldom lt = only_looked kept.Left (inr (inl (sees (λ n. n < cutoff) lt)))
@@ -129,13 +129,13 @@ module _ (b : Board) (bucket : ℕ) (sought : Item) (into cutoff : ℕ) (p f : P
       pub row_no_room : has_room b.shape f ≡ false → Kept kept.NoRoom f
       row_no_room full = only_looked kept.NoRoom (seen_often, subst (λ (y : Plain). has_room b.shape (record f { plain = y }) ≡ false) i.plain full)
 
-      had : (q : Pass) → Begins (marked f) (marked q) → WasOften b.shape sought.seg cutoff p q stored.key
-      had q later = had_seen b sought.seg sought.row (λ n. cutoff ≤ n) p f q quiet seen_often later
+      had : (q : Pass) → TakesSteps f q → WasOften b.shape sought.seg cutoff p q stored.key
+      had q steps = had_seen b sought.seg sought.row (λ n. cutoff ≤ n) p f q seen_often steps
 
       -- the bit was tried for
-      tries_one : (q : Pass) → Begins (marked f) (marked q) → taken q ≤ taken f + 1 → bounced q bucket ≤ bounced f bucket + 64 → ((other : ℕ) → other ≢ bucket → bounced q other ≡ bounced f other) → TriesFor b.shape (WasOften b.shape sought.seg cutoff p q) 1 p q
-      tries_one q later took met others = tries_after b (WasOften b.shape sought.seg cutoff p q) (WasOften b.shape sought.seg cutoff p q) 1 p f q i.moved (λ key s. s)
-          (one_try b.shape (WasOften b.shape sought.seg cutoff p q) stored.key f q (had q later) took (subst (λ k. bounced q k ≤ bounced f k + 64) stored.home met)
+      tries_one : (q : Pass) → TakesSteps f q → taken q ≤ taken f + 1 → bounced q bucket ≤ bounced f bucket + 64 → ((other : ℕ) → other ≢ bucket → bounced q other ≡ bounced f other) → TriesFor b.shape (WasOften b.shape sought.seg cutoff p q) 1 p q
+      tries_one q steps took met others = tries_after b (WasOften b.shape sought.seg cutoff p q) (WasOften b.shape sought.seg cutoff p q) 1 p f q i.moved (λ key s. s)
+          (one_try b.shape (WasOften b.shape sought.seg cutoff p q) stored.key f q (had q steps) took (subst (λ k. bounced q k ≤ bounced f k + 64) stored.home met)
           (λ other apart. others other (λ same. apart (same ∙ stored.home))))
 
       pub row_busy : (q : Pass) → has_room b.shape f ≡ true → GoesOn b f q × ChangesNothing f q × IsBusy bucket f q × DrawsNothing f q × ReadsNothing f q → Kept kept.Busy q
@@ -145,8 +145,8 @@ module _ (b : Board) (bucket : ℕ) (sought : Item) (into cutoff : ℕ) (p f : P
         draws_nothing = draws_none_then p f q undrawn_f busy.3;
         reads_nothing = busy.4 ∙ unread_f;
         tries = ⊎_elim
-            (λ own. let same = own.1.taken in let met = own.1.bounced bucket in tries_one q busy.0.marked (omega arith) (omega arith) (λ other apart. own.1.bounced other))
-            (λ tried. let same = tried.taken in let met = tried.tries in tries_one q busy.0.marked (omega arith) (omega arith) tried.others)
+            (λ own. let same = own.1.taken in let met = own.1.bounced bucket in tries_one q busy.0.steps (omega arith) (omega arith) (λ other apart. own.1.bounced other))
+            (λ tried. let same = tried.taken in let met = tried.tries in tries_one q busy.0.steps (omega arith) (omega arith) tried.others)
             busy.2;
         answer = (f, seen_often, busy.0, subst (λ (y : Plain). has_room b.shape (record f { plain = y }) ≡ true) i.plain room, busy.1, subst (λ k. IsBusy k f q) stored.home busy.2);
       }
@@ -199,7 +199,7 @@ module _ (b : Board) (bucket : ℕ) (sought : Item) (into cutoff : ℕ) (p f : P
           events_f = moved_then b took_by (Freed (number f) bucket false ∷ own) f q s taking
               (subst (λ k. AddsEvents b (Freed k bucket false ∷ own) q s) (m.same ∙ taking.same) (moved_then b own (Freed (number r) bucket false ∷ []) q r s m freed.moved))
 
-          done : (told : KeptRow) → IsKeptRow b sought.seg sought.row into cutoff told p s → Kept told s
+          done : (told : KeepRowAnswer) → IsKeptRow b sought.seg sought.row into cutoff told p s → Kept told s
           done told answer =
               let takes = write_takes b bucket f q goes_f.quiet begins r s own added false m elsewhere still adds freed free none in
               let one = takes.taken in let met = takes.tries in record {
@@ -207,7 +207,7 @@ module _ (b : Board) (bucket : ℕ) (sought : Item) (into cutoff : ℕ) (p f : P
                 memo = same' ∙ (same ∙ (took.memo ∙ i.memo));
                 draws_nothing = draws_none_then p f s undrawn_f (write_undrawn b bucket f q goes_f.quiet begins r s own added false m elsewhere still adds freed free undrawn);
                 reads_nothing = unread f s (write_peeking b bucket f q goes_f.quiet begins r s own added false m elsewhere still adds freed free) ∙ unread_f;
-                tries = tries_one s goes_s.marked (omega arith) (omega arith) takes.others;
+                tries = tries_one s goes_s.steps (omega arith) (omega arith) takes.others;
                 answer = answer;
               }
 
@@ -294,7 +294,7 @@ module _ (b : Board) (bucket : ℕ) (sought : Item) (into cutoff : ℕ) (p f : P
 
 -- ---- in the terms of the call
 
-pub kept_place : (b : Board) (sought : Item) (segment row into cutoff : ℕ) (told : KeptRow) (p q : Pass) → (sought.seg ≡ segment) × (sought.row ≡ row) → KeepsRow b sought.seg sought.row into cutoff told p q → KeepsRow b segment row into cutoff told p q
+pub kept_place : (b : Board) (sought : Item) (segment row into cutoff : ℕ) (told : KeepRowAnswer) (p q : Pass) → (sought.seg ≡ segment) × (sought.row ≡ row) → KeepsRow b sought.seg sought.row into cutoff told p q → KeepsRow b segment row into cutoff told p q
 kept_place b sought segment row into cutoff told p q place k = subst (λ s. KeepsRow b s row into cutoff told p q) place.0 (subst (λ r. KeepsRow b sought.seg r into cutoff told p q) place.1 k)
 
 pub target_place : (sought : Item) (segment into : ℕ) (p : Pass) → sought.seg ≡ segment → IsKeepTarget segment into p → IsKeepTarget sought.seg into p

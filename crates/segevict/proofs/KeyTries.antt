@@ -3,13 +3,16 @@ use Rattle.std.proofs.Common.{◌≡◌, ◌≢◌, ℕ, ◌+◌, ◌*◌, ◌�
 use Rattle.std.proofs.lemmas.Bool.{cases_eq, eq-eqb}
 use Rattle.std.proofs.lemmas.List.Elements.{All-nil, All-cons, All-append, All-weaker}
 use Rattle.segword.specs.Words.{Shape}
-use Rattle.segmodel.specs.Words.{Begins, bucket_of, Entry}
+use Rattle.segmodel.specs.Words.{bucket_of}
 use Rattle.segmodel.proofs.Counts.{count_by-cons}
 use Rattle.segmodel.proofs.LawLemmas.{count_by-append}
-use Rattle.segcore.proofs.Moments.{begins_on}
-use Rattle.segbase.specs.Words.{AddsEvents, Board, bounced, Pass, seen, taken}
+use Rattle.segcore.specs.Event as event
+use Rattle.segcore.proofs.Moments.{begins_on, seen_begins}
+use Rattle.segbase.specs.Words.{AddsEvents, Board, bounced, number, Pass, seen, taken, TakesSteps, trace}
+use Rattle.segbase.proofs.Starting.{since_before, since_then, steps_grew}
+use Rattle.segpass.specs.Words.{GoesOn}
 use Rattle.segbase.proofs.Moves.{moved_taken, moved_bounced}
-use Rattle.segevict.specs.Tries.{StoodAtRow, StoodIn, TriesFor, TriesForKeys}
+use Rattle.segevict.specs.Tries.{StoodAtRow, StoodBetween, StoodIn, TriesFor, TriesForKeys}
 
 pub no_tries : (b : Board) (IsSo : List ℕ → Type 0) (most : ℕ) (p q : Pass) → AddsEvents b [] p q → TriesFor b.shape IsSo most p q
 no_tries b IsSo most p q m = record {
@@ -61,25 +64,27 @@ tries_after b Second Both most p q r m second t = record {
 
 -- ---- of an eviction
 
--- what stood between two moments did so between an earlier one and the second, and between the first and a later one
-pub stood_before : (shape : Shape) (segment : ℕ) (key : List ℕ) (old middle new : List Entry) → Begins old middle → StoodIn shape segment key middle new → StoodIn shape segment key old new
-stood_before shape segment key old middle new first s = (s.0, (begins_on old middle s.0 first s.1.0, s.1.1), s.2)
+-- what stood in a call stood in a longer one: one that began earlier, or one that ends later
+pub stood_before : (shape : Shape) (segment : ℕ) (key : List ℕ) (p q r : Pass) → number q ≡ number p → TakesSteps p q → StoodIn shape segment key q r → StoodIn shape segment key p r
+stood_before shape segment key p q r same steps s = since_before p q r (λ start. StoodBetween shape segment key (event.seen start) (seen r)) same steps
+    (λ start later up is. (is.0, (begins_on (event.seen start) (event.seen later) is.0 (seen_begins start later up) is.1.0, is.1.1), is.2)) s
 
-pub stood_after : (shape : Shape) (segment : ℕ) (key : List ℕ) (old middle new : List Entry) → Begins middle new → StoodIn shape segment key old middle → StoodIn shape segment key old new
-stood_after shape segment key old middle new second s = (s.0, (s.1.0, begins_on s.0 middle new s.1.1 second), s.2)
+pub stood_after : (shape : Shape) (segment : ℕ) (key : List ℕ) (p q r : Pass) → TakesSteps q r → StoodIn shape segment key p q → StoodIn shape segment key p r
+stood_after shape segment key p q r steps s = since_then p q r (λ start. StoodBetween shape segment key (event.seen start) (seen q)) (λ start. StoodBetween shape segment key (event.seen start) (seen r)) steps
+    (λ start is. (is.0, (is.1.0, begins_on is.0 (seen q) (seen r) is.1.1 (seen_begins (trace q) (trace r) (steps_grew q r steps))), is.2)) s
 
-pub rows_tried_then : (shape : Shape) (segment m n most : ℕ) (p q r : Pass) → Begins (seen p) (seen q) → Begins (seen q) (seen r) → m + n ≤ most
-    → TriesForKeys shape segment m p q → TriesForKeys shape segment n q r → TriesForKeys shape segment most p r
-rows_tried_then shape segment m n most p q r first second within i j =
-    let stood : List Entry → List Entry → List ℕ → Type 0 = λ old new key. StoodIn shape segment key old new in
-    tries_then shape (stood (seen p) (seen q)) (stood (seen q) (seen r)) (stood (seen p) (seen r)) m n most p q r (λ key. stood_after shape segment key (seen p) (seen q) (seen r) second) (λ key. stood_before shape segment key (seen p) (seen q) (seen r) first) within i j
+pub rows_tried_then : (b : Board) (segment m n most : ℕ) (p q r : Pass) → GoesOn b p q → GoesOn b q r → m + n ≤ most
+    → TriesForKeys b.shape segment m p q → TriesForKeys b.shape segment n q r → TriesForKeys b.shape segment most p r
+rows_tried_then b segment m n most p q r first second within i j =
+    let stood : Pass → Pass → List ℕ → Type 0 = λ from to key. StoodIn b.shape segment key from to in
+    tries_then b.shape (stood p q) (stood q r) (stood p r) m n most p q r (λ key. stood_after b.shape segment key p q r second.steps) (λ key. stood_before b.shape segment key p q r first.same first.steps) within i j
 
 -- the key of a row is one that stood in the segment
 pub of_row : (shape : Shape) (segment row most : ℕ) (p q : Pass) → TriesFor shape (StoodAtRow shape segment row p q) most p q → TriesForKeys shape segment most p q
 of_row shape segment row most p q t = record {
   keys = t.keys;
   few = t.few;
-  stood = All-weaker (StoodAtRow shape segment row p q) (λ key. StoodIn shape segment key (seen p) (seen q)) (λ key s. s.0) t.keys t.stood;
+  stood = All-weaker (StoodAtRow shape segment row p q) (λ key. StoodIn shape segment key p q) (λ key s. s.0) t.keys t.stood;
   taken = t.taken;
   bounced = t.bounced;
 }

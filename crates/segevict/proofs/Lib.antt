@@ -11,3 +11,4 @@ pub mod Moving
 pub mod KeptRows
 pub mod Keeping
 pub mod Naming
+pub mod OneRow

@@ -3,18 +3,19 @@ use Rattle.std.proofs.Common.{◌≡◌, ℕ, zero, suc, ◌+◌, ◌*◌, ◌<�
 use Rattle.std.proofs.lemmas.Nat.{div-mul-add}
 use Rattle.std.proofs.lemmas.Option.{same_Some}
 use Rattle.segword.specs.Words.{Item, Shape}
-use Rattle.segmodel.specs.Words.{after, Begins, bucket_of, owner, StandsIn}
+use Rattle.segmodel.specs.Words.{after, bucket_of, owner, StandsIn}
 use Rattle.segcore.specs.Event as event
 use Rattle.segcore.specs.Mark as mark
-use Rattle.segcore.specs.Words.{cached, Event, IsLawful, last_at, Mark, RowGone, Slot, slot}
+use Rattle.segcore.specs.Words.{cached, Event, IsLawful, last_at, RowGone, Slot, slot}
 use Rattle.segcore.proofs.Caches.{has_value, stands_in}
 use Rattle.segcore.proofs.Coherent.{IsStanding}
 use Rattle.segcore.proofs.Marked.{entries_marked}
 use Rattle.segcore.proofs.Moments.{begins_on, marked_begins}
 use Rattle.segcore.proofs.Standing.{coherent}
 use Rattle.segbase.specs.Words.{Board, IsPassOf, marked, number, number_of, own_segment, Pass, position, trace}
-use Rattle.segbase.specs.Words.{used_in, used_of}
-use Rattle.segbase.proofs.Moves.{moved_on, stays}
+use Rattle.segbase.specs.Words.{HasStep, TakesSteps, used_in, used_of}
+use Rattle.segbase.proofs.Starting.{has_later, since_before, since_then, steps_grew}
+use Rattle.segbase.proofs.Moves.{stays}
 use Rattle.segbase.proofs.Owned.{state_owned, state_there, used_there}
 use Rattle.segstore.specs.Words.{Idles}
 use Rattle.segstore.proofs.Keeping.{same_used}
@@ -22,7 +23,7 @@ use Rattle.segpass.specs.Words.{IsQuiet}
 use Rattle.segpass.proofs.Idling.{goes_nowhere}
 use Rattle.segwrite.specs.Words.{Target}
 use Rattle.segwrite.proofs.Places.{idles_then}
-use Rattle.segevict.specs.Naming.{AreNamed, CountsRows, FindsNamed, IsNamed, or_zero, own_at, sum_below, SumsUp, Tallies, TellsNamed, used_at, WasNamed}
+use Rattle.segevict.specs.Naming.{AreNamed, CountsRows, FindsNamed, IsNamed, or_zero, own_at, sum_below, SumsUp, Tallies, ReturnsNamed, used_at, WasNamed, WasNamedIn}
 use Rattle.segevict.specs.Rows.{FindsRow, IsNamedAt, IsUsedRow}
 use Rattle.segevict.proofs.Unnamed.{gone_over}
 
@@ -40,7 +41,7 @@ named_now b bucket sought f is target n =
     }
 
 -- no word does, and so no item
-unnamed : (z : Shape) (h : List Event) (segment row : ℕ) → IsLawful z h → RowGone z segment row h → ¬ (IsNamed z segment row (mark.marked h))
+pub unnamed : (z : Shape) (h : List Event) (segment row : ℕ) → IsLawful z h → RowGone z segment row h → ¬ (IsNamed z segment row (mark.marked h))
 unnamed z h segment row l gone is =
     let c = coherent z h l in
     let value = has_value z (event.seen h) is.key segment (subst (λ entries. StandsIn (after z entries) is.key segment) (entries_marked h) is.stands) in
@@ -50,19 +51,21 @@ unnamed z h segment row l gone is =
     same_Some (slot a.key a.segment a.row) (slot is.key segment row) (sym st.last ∙ ((λ t. last_at (mark.marked h) (there.3 t)) ∙ is.last)) in
     gone (bucket_of z is.key) there.0 a there.2 (ap (λ (x : Slot). x.segment) same) (ap (λ (x : Slot). x.row) same)
 
-tells : (b : Board) (bucket : ℕ) (sought : Item) (o : Option Target) (f : Pass) → IsPassOf b f → FindsRow b bucket sought o f → TellsNamed b.shape sought.seg sought.row (is_some o) f
+tells : (b : Board) (bucket : ℕ) (sought : Item) (o : Option Target) (f : Pass) → IsPassOf b f → FindsRow b bucket sought o f → ReturnsNamed b.shape sought.seg sought.row (is_some o) f
 tells b bucket sought None f is finds = finds
 tells b bucket sought (Some target) f is finds = named_now b bucket sought f is target finds
 
-pub tells_at : (b : Board) (bucket : ℕ) (sought : Item) (segment row : ℕ) (o : Option Target) (told : Bool) (f : Pass) → (sought.seg ≡ segment) × (sought.row ≡ row) → told ≡ is_some o → IsPassOf b f → FindsRow b bucket sought o f → TellsNamed b.shape segment row told f
+pub tells_at : (b : Board) (bucket : ℕ) (sought : Item) (segment row : ℕ) (o : Option Target) (told : Bool) (f : Pass) → (sought.seg ≡ segment) × (sought.row ≡ row) → told ≡ is_some o → IsPassOf b f → FindsRow b bucket sought o f → ReturnsNamed b.shape segment row told f
 tells_at b bucket sought segment row o told f at same is finds =
-    subst (λ t. TellsNamed b.shape segment row t f) (sym same) (subst (λ s. TellsNamed b.shape s row (is_some o) f) at.0 (subst (λ r. TellsNamed b.shape sought.seg r (is_some o) f) at.1 (tells b bucket sought o f is finds)))
+    subst (λ t. ReturnsNamed b.shape segment row t f) (sym same) (subst (λ s. ReturnsNamed b.shape s row (is_some o) f) at.0 (subst (λ r. ReturnsNamed b.shape sought.seg r (is_some o) f) at.1 (tells b bucket sought o f is finds)))
 
-was_before : (z : Shape) (s r : ℕ) (old middle new : List Mark) → Begins old middle → WasNamed z s r middle new → WasNamed z s r old new
-was_before z s r old middle new first was = record { moment = was.moment; from = begins_on old middle was.moment first was.from; to = was.to; named = was.named }
+was_before : (z : Shape) (s r : ℕ) (p f q : Pass) → number f ≡ number p → TakesSteps p f → WasNamedIn z s r f q → WasNamedIn z s r p q
+was_before z s r p f q same steps was = since_before p f q (λ start. WasNamed z s r (mark.marked start) (marked q)) same steps
+    (λ start later up x. record { moment = x.moment; from = begins_on (mark.marked start) (mark.marked later) x.moment (marked_begins start later up) x.from; to = x.to; named = x.named }) was
 
-was_after : (z : Shape) (s r : ℕ) (old middle new : List Mark) → Begins middle new → WasNamed z s r old middle → WasNamed z s r old new
-was_after z s r old middle new second was = record { moment = was.moment; from = was.from; to = begins_on was.moment middle new was.to second; named = was.named }
+was_after : (z : Shape) (s r : ℕ) (p q f : Pass) → TakesSteps q f → WasNamedIn z s r p q → WasNamedIn z s r p f
+was_after z s r p q f steps was = since_then p q f (λ start. WasNamed z s r (mark.marked start) (marked q)) (λ start. WasNamed z s r (mark.marked start) (marked f)) steps
+    (λ start x. record { moment = x.moment; from = x.from; to = begins_on x.moment (marked q) (marked f) x.to (marked_begins (trace q) (trace f) (steps_grew q f steps)); named = x.named }) was
 
 -- ---- how many
 
@@ -75,18 +78,15 @@ sums_map : (A B : ℕ → ℕ → Type 0) (most : ℕ) → ((at one : ℕ) → a
 sums_map A B most f zero sum le is = is
 sums_map A B most f (suc n) sum le (before, one, adds, rest, so) = (before, one, adds, sums_map A B most f n before (omega (arith, le)) rest, f n one (omega (arith, le)) so)
 
-marks_grow : (b : Board) (p q : Pass) → Idles b p q → Begins (marked p) (marked q)
-marks_grow b p q i = marked_begins (trace p) (trace q) (moved_on b [] p q i.moved)
-
 finds_before : (b : Board) (s rows count : ℕ) (p f q : Pass) → Idles b p f → FindsNamed b.shape s rows count f q → FindsNamed b.shape s rows count p q
-finds_before b s rows count p f q i is = tallies_map _ _ _ _ (λ r was. was_before b.shape s r (marked p) (marked f) (marked q) (marks_grow b p f i) was) (λ r gone. gone) rows count is
+finds_before b s rows count p f q i is = tallies_map _ _ _ _ (λ r was. was_before b.shape s r p f q i.moved.same i.moved.steps was) (λ r gone. gone) rows count is
 
 are_before : (b : Board) (s rows count : ℕ) (p f q : Pass) → Idles b p f → AreNamed b.shape s rows count f q → AreNamed b.shape s rows count p q
-are_before b s rows count p f q i is = tallies_map _ _ _ _ (λ r was. was_before b.shape s r (marked p) (marked f) (marked q) (marks_grow b p f i) was) (λ r none. none) rows count is
+are_before b s rows count p f q i is = tallies_map _ _ _ _ (λ r was. was_before b.shape s r p f q i.moved.same i.moved.steps was) (λ r none. none) rows count is
 
 finds_after : (b : Board) (s rows count : ℕ) (p q r : Pass) → owner b.shape s ≡ number q → Idles b q r → FindsNamed b.shape s rows count p q → FindsNamed b.shape s rows count p r
 finds_after b s rows count p q r own i is =
-    tallies_map _ _ _ _ (λ row was. was_after b.shape s row (marked p) (marked q) (marked r) (marks_grow b q r i) was) (λ row gone. gone_over b [] q r s row i.moved tt own gone) rows count is
+    tallies_map _ _ _ _ (λ row was. was_after b.shape s row p q r i.moved.steps was) (λ row gone. gone_over b [] q r s row i.moved tt own gone) rows count is
 
 finds_none : (b : Board) (s rows count : ℕ) (p q : Pass) → IsPassOf b q → FindsNamed b.shape s rows count p q → AreNamed b.shape s rows count p q
 finds_none b s rows count p q pass is = tallies_map _ _ _ _ (λ row was. was) (λ row gone. unnamed b.shape (trace q) s row pass.lawful gone) rows count is
@@ -117,15 +117,18 @@ module _ (b : Board) (s row count : ℕ) (p q r : Pass) (own : owner b.shape s �
   next : suc row ≡ row + 1
   next = omega arith
 
-  pub counting_one : TellsNamed b.shape s row true r → Counting b s (row + 1) (count + 1) p r
-  counting_one named = record {
+  named_then : HasStep p r → IsNamed b.shape s row (marked r) → WasNamedIn b.shape s row p r
+  named_then first named = (first.0, first.1, record { moment = marked r; from = marked_begins first.0 (trace r) first.1.until; to = ([], refl); named = named })
+
+  pub counting_one : HasStep q r → ReturnsNamed b.shape s row true r → Counting b s (row + 1) (count + 1) p r
+  counting_one first named = record {
     idles = onward;
     few = let few = c.few in omega arith;
     named = subst (λ n. FindsNamed b.shape s n (count + 1) p r) next
-        (inl (count, refl, finds_after b s row count p q r own i c.named, record { moment = marked r; from = marks_grow b p r onward; to = ([], refl); named = named }));
+        (inl (count, refl, finds_after b s row count p q r own i c.named, named_then (has_later p q r c.idles.moved.same c.idles.moved.steps first) named));
   }
 
-  pub counting_none : TellsNamed b.shape s row false r → Counting b s (row + 1) count p r
+  pub counting_none : ReturnsNamed b.shape s row false r → Counting b s (row + 1) count p r
   counting_none gone = record {
     idles = onward;
     few = let few = c.few in omega arith;

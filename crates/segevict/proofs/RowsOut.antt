@@ -8,11 +8,12 @@ use Rattle.segcore.specs.declared.event.Event.TheVariants.{Freed, Unlinked}
 use Rattle.segcore.specs.Event as event
 use Rattle.segcore.specs.Words.{bucket_after, Event, IsLawful, NoneAt, row_after, RowGone}
 use Rattle.segcore.specs.declared.event.Leaving.TheVariants.{Evicts}
-use Rattle.segcore.proofs.Moments.{begins_on}
+use Rattle.segcore.proofs.Moments.{begins_on, seen_begins}
 use Rattle.segbase.specs.declared.pass.Plain.{Plain}
 use Rattle.segbase.specs.Words.{AddsAtOnce, AddsEvents, Board, bounced, mine, number, Pass, seen}
-use Rattle.segbase.specs.Words.{taken, trace}
+use Rattle.segbase.specs.Words.{HasStep, taken, TakesSteps, trace}
 use Rattle.segbase.proofs.Moves.{moved_on, moved_bounced}
+use Rattle.segbase.proofs.Starting.{starts_on, steps_then}
 use Rattle.segstore.specs.Words.{Idles, KeepsSegments}
 use Rattle.segstore.proofs.Keeping.{AreCalm, AreCalmIn, calm_in, keeps_plain, own_linked}
 use Rattle.segwrite.specs.Words.{Target}
@@ -21,12 +22,12 @@ use Rattle.segevict.specs.declared.eviction.RowAnswer.TheVariants as row_answer
 use Rattle.segpass.specs.Words.{ChangesNothing, DrawsNothing, GoesOn, IsBusy, IsQuiet, memo}
 use Rattle.segpass.specs.Words.{ReadsNothing, TookToWrite}
 use Rattle.segevict.specs.Rows.{IsStoredIn, IsNamedAt, FindsRow, KeepsGone}
-use Rattle.segevict.specs.Tries.{StoodAtRow, StoodIn, TriesFor}
+use Rattle.segevict.specs.Tries.{StoodAtRow, TriesFor}
 use Rattle.segevict.specs.Unlinking.{TakesRow, EvictsRow}
 use Rattle.segpass.proofs.Bounces.{bounces_calm}
 use Rattle.segpass.proofs.Draws.{AreUndrawn, moved_undrawn, draws_none_then}
 use Rattle.segpass.proofs.Idling.{goes_nowhere, does_nothing}
-use Rattle.segevict.proofs.KeyTries.{no_tries, one_try, stood_before, tries_after}
+use Rattle.segevict.proofs.KeyTries.{no_tries, one_try, tries_after}
 use Rattle.segevict.proofs.Seeking.{stored_over}
 use Rattle.segpass.proofs.Still.{AreStill, no_reader}
 use Rattle.segpass.proofs.TakenBits.{AreNoTries}
@@ -43,6 +44,7 @@ goes_then b p q r i j = record {
   same = j.same ∙ i.same;
   marked = begins_on _ _ _ i.marked j.marked;
   seen = begins_on (seen p) (seen q) (seen r) i.seen j.seen;
+  steps = steps_then p q r i.same i.steps j.steps;
 }
 
 -- nothing is linked in the segment, or moved there
@@ -66,7 +68,7 @@ keeps_gone_then b s p q r i j = record {
 
 -- ---- before the bit is taken
 
-module _ (b : Board) (bucket : ℕ) (sought : Item) (p f : Pass) (quiet : IsQuiet b p) (i : Idles b p f) (stored : IsStoredIn b bucket sought f) where
+module _ (b : Board) (bucket : ℕ) (sought : Item) (p f : Pass) (quiet : IsQuiet b p) (i : Idles b p f) (first : HasStep p f) (stored : IsStoredIn b bucket sought f) where
   goes_looking : GoesOn b p f
   goes_looking = goes_nowhere b p f quiet i.moved i.plain i.memo
 
@@ -85,13 +87,23 @@ module _ (b : Board) (bucket : ℕ) (sought : Item) (p f : Pass) (quiet : IsQuie
   gone_looking : KeepsGone b sought.seg p f
   gone_looking = keeps_gone b sought.seg [] p f i.moved tt own_before
 
+  -- the row's key stood then, and the row is the key's
+  stood_here : (target : Target) (q : Pass) → IsNamedAt b bucket sought target f → Begins (seen f) (seen q) → TakesSteps f q → StoodAtRow b.shape sought.seg sought.row p q stored.key
+  stood_here target q n later steps = (
+    (
+      first.0,
+      starts_on p f q first.0 first.1 steps,
+      (seen f, (seen_begins first.0 (trace f) first.1.until, later), named_stands b bucket sought f i.moved.pass stored target n),
+    ),
+    sym (gone_looking.linked sought.row) ∙ stored.linked,
+  )
+
   -- the bit was tried for, since the key stood then
-  tries_one : (target : Target) (q : Pass) → IsNamedAt b bucket sought target f → Begins (seen f) (seen q) → taken q ≤ taken f + 1 → bounced q bucket ≤ bounced f bucket + 64 → ((other : ℕ) → other ≢ bucket → bounced q other ≡ bounced f other) → TriesFor b.shape (StoodAtRow b.shape sought.seg sought.row p q) 1 p q
-  tries_one target q n later took met others =
-      let row : List ℕ → Type 0 = λ key. (row_after (trace p) sought.seg sought.row).linked ≡ Some key in
-      let now : List ℕ → Type 0 = λ key. StoodIn b.shape sought.seg key (seen f) (seen q) × row key in
-      tries_after b now (StoodAtRow b.shape sought.seg sought.row p q) 1 p f q i.moved (λ key s. (stood_before b.shape sought.seg key (seen p) (seen f) (seen q) goes_looking.seen s.0, s.1)) (one_try b.shape now stored.key f q
-      ((seen f, (([], refl), later), named_stands b bucket sought f i.moved.pass stored target n), sym (gone_looking.linked sought.row) ∙ stored.linked) took
+  tries_one : (target : Target) (q : Pass) → IsNamedAt b bucket sought target f → Begins (seen f) (seen q) → TakesSteps f q → taken q ≤ taken f + 1 → bounced q bucket ≤ bounced f bucket + 64 → ((other : ℕ) → other ≢ bucket → bounced q other ≡ bounced f other)
+      → TriesFor b.shape (StoodAtRow b.shape sought.seg sought.row p q) 1 p q
+  tries_one target q n later steps took met others =
+      let IsSo = StoodAtRow b.shape sought.seg sought.row p q in
+      tries_after b IsSo IsSo 1 p f q i.moved (λ key s. s) (one_try b.shape IsSo stored.key f q (stood_here target q n later steps) took
       (subst (λ k. bounced q k ≤ bounced f k + 64) stored.home met) (λ other apart. others other (λ same. apart (same ∙ stored.home))))
 
   -- no word names the row
@@ -115,14 +127,14 @@ module _ (b : Board) (bucket : ℕ) (sought : Item) (p f : Pass) (quiet : IsQuie
     draws_nothing = draws_none_then p f q undrawn_looking busy.3;
     reads_nothing = busy.4 ∙ unread_looking;
     tries = ⊎_elim
-        (λ own. let same = own.1.taken in let met = own.1.bounced bucket in tries_one target q n busy.0.seen (omega arith) (omega arith) (λ other apart. own.1.bounced other))
-        (λ tried. let same = tried.taken in let met = tried.tries in tries_one target q n busy.0.seen (omega arith) (omega arith) tried.others)
+        (λ own. let same = own.1.taken in let met = own.1.bounced bucket in tries_one target q n busy.0.seen busy.0.steps (omega arith) (omega arith) (λ other apart. own.1.bounced other))
+        (λ tried. let same = tried.taken in let met = tried.tries in tries_one target q n busy.0.seen busy.0.steps (omega arith) (omega arith) tried.others)
         busy.2;
     answer = (
       busy.1.entries ∙ (does_nothing b p f quiet i.moved i.plain i.memo).entries,
       (
         stored.key,
-        ((seen f, (goes_looking.seen, busy.0.seen), named_stands b bucket sought f i.moved.pass stored target n), sym (gone_looking.linked sought.row) ∙ stored.linked),
+        stood_here target q n busy.0.seen busy.0.steps,
         ⊎_elim
             (λ own. inl (sym (ap (λ (x : Plain). x.locked) i.plain) ∙ (own.0 ∙ ap Some stored.home)))
             (λ tried.
@@ -176,7 +188,7 @@ module _ (b : Board) (bucket : ℕ) (sought : Item) (p f : Pass) (quiet : IsQuie
           let on : GoesOn b f s = write_goes_on b bucket f q quiet_looking begins r s own added false m elsewhere still adds freed free
           (same' ∙ (same ∙ took.memo)) (ap (λ (x : Plain). x.locked) (plain' ∙ (plain ∙ took.plain))) (ap (λ (x : Plain). x.is_holding) (plain' ∙ (plain ∙ took.plain))) keeps_all in
           let takes = write_takes b bucket f q quiet_looking begins r s own added false m elsewhere still adds freed free none in
-          let one = takes.taken in let met = takes.tries in tries_one target s n on.seen (omega arith) (omega arith) takes.others
+          let one = takes.taken in let met = takes.tries in tries_one target s n on.seen on.steps (omega arith) (omega arith) takes.others
 
       unread_all : ReadsNothing p s
       unread_all = unread f s (write_peeking b bucket f q quiet_looking begins r s own added false m elsewhere still adds freed free) ∙ unread_looking

@@ -1,8 +1,7 @@
--- What a keep did with a row, by names for the crates above:
--- the answer for a row is private to this crate.
+-- What a keep did with a row, by names for the crates above.
 use Rattle.std.specs.Prelude.{ℕ}
 use Rattle.segbase.specs.Words.{Board, Pass}
-use Rattle.segevict.specs.declared.retention.KeptRow.TheVariants as kept
+use Rattle.segevict.specs.declared.retention.KeepRowAnswer.TheVariants as kept
 use Rattle.segevict.specs.Moving.{KeepsRow}
 
 -- the row's item was moved

@@ -4,6 +4,7 @@ pub mod Keeping
 pub mod KeptRows
 pub mod Moving
 pub mod Naming
+pub mod OneRow
 pub mod Relinking
 pub mod Rows
 pub mod Tries

@@ -7,13 +7,14 @@ use Rattle.segmodel.specs.Words.{bucket_of}
 use Rattle.segcore.specs.declared.event.Event.TheVariants.{Freed, Relinked, Took}
 use Rattle.segcore.specs.Words.{bucket_after, Event, frequency_of, item, row_after, RowGone, slot}
 use Rattle.segword.specs.Words.{Item}
-use Rattle.segbase.specs.Words.{AddsEvents, Board, number, Pass, trace, used_of, with_own}
+use Rattle.segbase.specs.Words.{AddsEvents, Board, HasStep, number, Pass, trace, used_of}
+use Rattle.segbase.specs.Words.{with_own}
 use Rattle.segstore.specs.Words.{fills, has_room, Idles, KeepsSegments}
 use Rattle.segpass.specs.Words.{AddsEntry, bounces, ChangesNothing, DrawsNothing, GoesOn, HasCleanBit}
 use Rattle.segpass.specs.Words.{IsBusy, memo, ReadsNothing}
 use Rattle.segwrite.specs.Words.{one_more}
-use Rattle.segevict.specs.declared.retention.KeptRow.{KeptRow}
-use Rattle.segevict.specs.declared.retention.KeptRow.TheVariants as kept
+use Rattle.segevict.specs.declared.retention.KeepRowAnswer.{KeepRowAnswer}
+use Rattle.segevict.specs.declared.retention.KeepRowAnswer.TheVariants as kept
 use Rattle.segevict.specs.Frequencies.{WasOften}
 use Rattle.segevict.specs.Tries.{TriesFor}
 
@@ -24,6 +25,7 @@ use Rattle.segevict.specs.Tries.{TriesFor}
 -- The row's item has a frequency of which this is so.
 pub record SeesRow (b : Board) (segment row : ℕ) (IsSo : ℕ → Type 0) (p q : Pass) : Type 0 where
   pub idles : Idles b p q
+  pub looks : HasStep p q
   pub key : List ℕ
   pub linked : (row_after (trace q) segment row).linked ≡ Some key
   pub position : ℕ
@@ -70,7 +72,7 @@ pub record MovesRow (b : Board) (bucket : ℕ) (sought : Item) (into to : ℕ) (
 -- Or the row is passed over: no word names it, its item is below the cutoff,
 -- or under the bit no word names it any more. Or there is no row left for the item.
 -- Or the bit of the item's bucket can't be taken.
-abbrev pub IsKeptRow : Board → ℕ → ℕ → ℕ → ℕ → KeptRow → Pass → Pass → Type 0
+abbrev pub IsKeptRow : Board → ℕ → ℕ → ℕ → ℕ → KeepRowAnswer → Pass → Pass → Type 0
 IsKeptRow b segment row into cutoff kept.Moved p q =
     (f : Pass) × (s : SeesRow b segment row (λ frequency. cutoff ≤ frequency) p f)
     × GoesOn b f q
@@ -98,10 +100,11 @@ IsKeptRow b segment row into cutoff kept.Busy p q =
     × (has_room b.shape p ≡ true)
     × ChangesNothing f q
     × IsBusy (bucket_of b.shape s.key) f q
+IsKeptRow b segment row into cutoff _ p q = ⊥
 
 -- A row of the segment is gone over.
 -- The pass tries for the bit only if the row's item had the cutoff's frequency or a higher one.
-pub record KeepsRow (b : Board) (segment row into cutoff : ℕ) (told : KeptRow) (p q : Pass)
+pub record KeepsRow (b : Board) (segment row into cutoff : ℕ) (told : KeepRowAnswer) (p q : Pass)
     : Type 0 where
   pub on : GoesOn b p q
   pub memo : memo q ≡ memo p
@@ -123,7 +126,7 @@ GoesOver b segment into cutoff (suc row) count p q =
     × KeepsRow b segment row into cutoff kept.Left middle q))
 
 -- the rows before one were gone over, and that one has this answer
-abbrev pub StopsAt : Board → ℕ → ℕ → ℕ → KeptRow → ℕ → Pass → Pass → Type 0
+abbrev pub StopsAt : Board → ℕ → ℕ → ℕ → KeepRowAnswer → ℕ → Pass → Pass → Type 0
 StopsAt b segment into cutoff told count p q =
     (row : ℕ) × (used : ℕ)
     × (used_of p segment ≡ Some used)

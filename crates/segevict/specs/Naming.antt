@@ -3,7 +3,8 @@ use Rattle.std.specs.Prelude.{◌≡◌, ◌⊎◌, ℕ, zero, suc, ◌+◌, ◌
 use Rattle.segword.specs.Words.{Shape}
 use Rattle.segmodel.specs.Words.{after, Begins, StandsIn}
 use Rattle.segcore.specs.Words.{entries, last_at, Mark, RowGone, slot}
-use Rattle.segbase.specs.Words.{marked, number, Pass, trace, used_of}
+use Rattle.segcore.specs.Mark as mark
+use Rattle.segbase.specs.Words.{marked, number, Pass, SinceFirst, trace, used_of}
 
 -- ---- a row
 
@@ -20,10 +21,15 @@ pub record WasNamed (shape : Shape) (segment row : ℕ) (old new : List Mark) : 
   pub to : Begins moment new
   pub named : IsNamed shape segment row moment
 
+-- so it was at a moment after the first step of the call
+abbrev pub WasNamedIn : Shape → ℕ → ℕ → Pass → Pass → Type 0
+WasNamedIn shape segment row p q =
+    SinceFirst p q (λ start. WasNamed shape segment row (mark.marked start) (marked q))
+
 -- a search along the chain of the row's key tells it: an item names the row now, or no word does
-abbrev pub TellsNamed : Shape → ℕ → ℕ → Bool → Pass → Type 0
-TellsNamed shape segment row true q = IsNamed shape segment row (marked q)
-TellsNamed shape segment row false q = RowGone shape segment row (trace q)
+abbrev pub ReturnsNamed : Shape → ℕ → ℕ → Bool → Pass → Type 0
+ReturnsNamed shape segment row true q = IsNamed shape segment row (marked q)
+ReturnsNamed shape segment row false q = RowGone shape segment row (trace q)
 
 -- ---- how many
 
@@ -34,18 +40,18 @@ Tallies IsSo IsNot (suc row) count =
     ((before : ℕ) × (count ≡ before + 1) × Tallies IsSo IsNot row before × IsSo row)
     ⊎ (Tallies IsSo IsNot row count × IsNot row)
 
--- of the first rows so many were named, each at a moment of the call,
+-- of the first rows so many were named, each at a moment after the call's first step,
 -- and no word names any of the others
 abbrev pub FindsNamed : Shape → ℕ → ℕ → ℕ → Pass → Pass → Type 0
 FindsNamed shape segment rows count p q =
-    Tallies (λ row. WasNamed shape segment row (marked p) (marked q))
+    Tallies (λ row. WasNamedIn shape segment row p q)
     (λ row. RowGone shape segment row (trace q)) rows count
 
--- of the first rows so many were named, each at a moment of the call,
+-- of the first rows so many were named, each at a moment after the call's first step,
 -- and at its end no item names any of the others
 abbrev pub AreNamed : Shape → ℕ → ℕ → ℕ → Pass → Pass → Type 0
 AreNamed shape segment rows count p q =
-    Tallies (λ row. WasNamed shape segment row (marked p) (marked q))
+    Tallies (λ row. WasNamedIn shape segment row p q)
     (λ row. ¬ (IsNamed shape segment row (marked q))) rows count
 
 -- ---- in all segments of the pass's own

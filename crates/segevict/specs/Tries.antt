@@ -3,7 +3,8 @@ use Rattle.std.specs.Prelude.{◌≡◌, ◌⊎◌, ℕ, ◌+◌, ◌*◌, ◌�
 use Rattle.segword.specs.Words.{Shape}
 use Rattle.segmodel.specs.Words.{after, bucket_of, Entry, IsBetween, StandsIn}
 use Rattle.segcore.specs.Words.{row_after}
-use Rattle.segbase.specs.Words.{bounced, locked_of, Pass, seen, taken, trace}
+use Rattle.segcore.specs.Event as event
+use Rattle.segbase.specs.Words.{bounced, locked_of, Pass, seen, SinceFirst, taken, trace}
 
 -- The pass tried for bits for at most `most` keys, of each of which this is so.
 -- For each key it took at most one bit,
@@ -28,25 +29,30 @@ IsInTheWay shape IsSo p q =
 
 -- ---- of an eviction
 
--- the key stood in the segment at some moment of the call
-abbrev pub StoodIn : Shape → ℕ → List ℕ → List Entry → List Entry → Type 0
-StoodIn shape segment key old new =
+-- the key stood in the segment at some moment between these two
+abbrev pub StoodBetween : Shape → ℕ → List ℕ → List Entry → List Entry → Type 0
+StoodBetween shape segment key old new =
     (history : List Entry) × IsBetween old new history × StandsIn (after shape history) key segment
 
+-- the key stood in the segment at some moment after the first step of the call
+abbrev pub StoodIn : Shape → ℕ → List ℕ → Pass → Pass → Type 0
+StoodIn shape segment key p q =
+    SinceFirst p q (λ start. StoodBetween shape segment key (event.seen start) (seen q))
+
 -- the pass tried for bits for at most `most` keys,
--- each of which stood in the segment at some moment of the call
+-- each of which stood in the segment at some moment after the call's first step
 abbrev pub TriesForKeys : Shape → ℕ → ℕ → Pass → Pass → Type 0
 TriesForKeys shape segment most p q =
-    TriesFor shape (λ key. StoodIn shape segment key (seen p) (seen q)) most p q
+    TriesFor shape (λ key. StoodIn shape segment key p q) most p q
 
 -- the key stood so, and it is the one that was stored in this row, or moved there
 abbrev pub StoodAtRow : Shape → ℕ → ℕ → Pass → Pass → List ℕ → Type 0
 StoodAtRow shape segment row p q key =
-    StoodIn shape segment key (seen p) (seen q)
+    StoodIn shape segment key p q
     × ((row_after (trace p) segment row).linked ≡ Some key)
 
 -- A key stood in the segment whose bucket the pass itself has locked.
 -- Or the pass found the bit of that bucket set by another 64 times or more.
 abbrev pub IsBarred : Shape → ℕ → Pass → Pass → Type 0
 IsBarred shape segment p q =
-    IsInTheWay shape (λ key. StoodIn shape segment key (seen p) (seen q)) p q
+    IsInTheWay shape (λ key. StoodIn shape segment key p q) p q

@@ -9,4 +9,5 @@ pub use Rattle.segevict.specs.Moving.{GoesInOrder, GoesOver, IsKeptRow, KeepsRow
 pub use Rattle.segevict.specs.Moving.{StopsAt, under_bit}
 pub use Rattle.segevict.specs.Naming.{AreNamed, CountsRows, IsNamed, own_at, sum_below, SumsUp}
 pub use Rattle.segevict.specs.Naming.{Tallies, used_at, WasNamed}
+pub use Rattle.segevict.specs.OneRow.{HasRow, IsKeepRowAnswer, KeepsItem}
 pub use Rattle.segevict.specs.Tries.{IsBarred}

@@ -36,7 +36,7 @@ fn end_storing(pass: &mut Pass, segment: u32)
 }
 
 /// Takes out every key that stands in a segment of the pass's own, so that it can be refilled.
-/// Nothing is stored there from then on, even if the answer is Busy.
+/// Nothing is stored there from then on, even if the evict is Busy.
 /// Then another evict takes out the keys that are left.
 pub fn evict(board: &Board, pass: &mut Pass, segment: u32) -> EvictAnswer
     requires quiet { IsQuiet board.now pass.old }

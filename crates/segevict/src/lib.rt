@@ -10,4 +10,4 @@ mod row;
 
 pub use eviction::evict;
 pub use named::{RowCounts, count_rows};
-pub use retention::keep;
+pub use retention::{KeepRowAnswer, keep, keep_row};

@@ -1,10 +1,10 @@
 //! How many rows of a pass's own segments are used, and how many of these items name.
 ghost use Rattle.std.specs.Prelude.{◌≡◌, ◌≤◌, Some};
-ghost use Rattle.segbase.specs.Words.{used_of};
+ghost use Rattle.segbase.specs.Words.{HasStep, used_of};
 ghost use Rattle.segstore.specs.Words.{Idles};
 ghost use Rattle.segpass.specs.Words.{IsQuiet};
 ghost use Rattle.segevict.specs.Rows.{IsUsedRow};
-ghost use Rattle.segevict.specs.Naming.{TellsNamed, FindsNamed, CountsRows};
+ghost use Rattle.segevict.specs.Naming.{ReturnsNamed, FindsNamed, CountsRows};
 
 use crate::row::{find_row, item_of_row};
 use segbase::{Board, Pass};
@@ -23,7 +23,8 @@ fn is_named(board: &Board, pass: &mut Pass, segment: u32, row: u32) -> bool
     requires quiet { IsQuiet board.now pass.old }
     requires used { IsUsedRow segment row pass.old }
     ensures idles { Idles board.now pass.old pass.new }
-    ensures told { TellsNamed board.now.shape segment row result pass.new }
+    ensures looks { HasStep pass.old pass.new }
+    ensures told { ReturnsNamed board.now.shape segment row result pass.new }
 {
     let (bucket, item) = item_of_row(board, pass, segment, row);
     find_row(board, pass, bucket, item).is_some()
@@ -46,7 +47,7 @@ fn named_rows(board: &Board, pass: &mut Pass, segment: u32, used: u32) -> u32
     named
 }
 
-/// How many rows of its own segments the pass has used, and how many of these items named,
+/// How many rows of its own segments the pass has used, and how many used rows items named,
 /// each at a moment of the call. At its end no item names any of the others.
 pub fn count_rows(board: &Board, pass: &mut Pass) -> RowCounts
     requires quiet { IsQuiet board.now pass.old }

@@ -1,6 +1,6 @@
 //! Items kept over an eviction to come: those of a segment that were read often
 //! are moved into the segment that the pass stores into.
-ghost use Rattle.std.specs.Prelude.{◌≡◌, ℕ, MatchOption, Some};
+ghost use Rattle.std.specs.Prelude.{◌≡◌, ℕ, MatchOption, Some, true, false};
 ghost use Rattle.segmodel.specs.declared.answer.SegState.TheVariants.{InUse};
 ghost use Rattle.segcore.specs.Words.{Slot};
 ghost use Rattle.segbase.specs.Words.{IsPassOf, state_of};
@@ -9,6 +9,7 @@ ghost use Rattle.segpass.specs.Words.{HasCleanBit, IsQuiet};
 ghost use Rattle.segwrite.specs.Words.{IsNextRow};
 ghost use Rattle.segevict.specs.Keeping.{IsKeepTarget, KeepsItems};
 ghost use Rattle.segevict.specs.Moving.{KeepsRow, MovesRow};
+ghost use Rattle.segevict.specs.OneRow.{HasRow, KeepsItem};
 ghost use Rattle.segevict.specs.Relinking.{HasRelinked, Relinks, TriesToRelink};
 ghost use Rattle.segevict.specs.Rows.{IsUsedRow, IsStoredIn};
 
@@ -20,21 +21,26 @@ use segstore::{copy_row, next_row};
 use segword::Item;
 use segwrite::Target;
 
-// What became of the item of a row.
-pub(crate) enum KeptRow {
-    // The item was moved.
+/// What became of the item of a row.
+#[derive(Clone, Copy, Debug, PartialEq, Eq)]
+pub enum KeepRowAnswer {
+    /// The item was moved.
     Moved,
-    // The item was read too seldom, or doesn't stand there any more.
+    /// The item was read too seldom, or doesn't stand there any more.
     Left,
-    // The segment to move into has no row left.
+    /// No other segment with the same deadline is current, or it has no row left.
     NoRoom,
-    // The bit of the item's bucket was found set at each try, or the pass itself has the bucket locked.
+    /// The bit of the item's bucket was found set at each try, or the pass itself has the bucket locked.
     Busy,
+    /// The segment isn't one of the pass's own.
+    NotYours,
+    /// The segment isn't in use, or the row isn't one of its used rows.
+    NotUsed,
 }
 
 /// Moves the items of a segment of the pass's own whose frequency is the cutoff or over it
 /// into the pass's current segment. If no other segment with the same deadline is current,
-/// the answer is NoRoom(0). If the answer is NoRoom or Busy, what was moved stays moved,
+/// the keep is NoRoom(0). If it is NoRoom or Busy, what was moved stays moved,
 /// and another keep goes on.
 pub fn keep(board: &Board, pass: &mut Pass, segment: u32, cutoff: u8) -> KeepAnswer
     requires quiet { IsQuiet board.now pass.old }
@@ -50,6 +56,35 @@ pub fn keep(board: &Board, pass: &mut Pass, segment: u32, cutoff: u8) -> KeepAns
         Some(into) => keep_rows(board, pass, segment, into, cutoff),
         None => KeepAnswer::NoRoom(0),
     }
+}
+
+/// Moves the item of one row of a segment of the pass's own, as a keep does with each row:
+/// if its frequency is the cutoff or over it, into the pass's current segment.
+pub fn keep_row(board: &Board, pass: &mut Pass, segment: u32, row: u32, cutoff: u8) -> KeepRowAnswer
+    requires quiet { IsQuiet board.now pass.old }
+    ensures keeps { KeepsItem board.now segment row cutoff result pass.old pass.new }
+{
+    if pass.state(segment).is_none() {
+        return KeepRowAnswer::NotYours;
+    }
+    if !has_row(pass, segment, row) {
+        return KeepRowAnswer::NotUsed;
+    }
+    match keep_target(pass, segment) {
+        Some(into) => keep_row_into(board, pass, segment, row, into, cutoff),
+        None => KeepRowAnswer::NoRoom,
+    }
+}
+
+// Whether the segment is in use, and the row is one of its used rows.
+fn has_row(pass: &Pass, segment: u32, row: u32) -> bool
+    ensures yes { result ≡ true → HasRow segment row pass.now }
+    ensures no { result ≡ false → ¬ (HasRow segment row pass.now) }
+{
+    let Some(used) = pass.used(segment) else {
+        return false;
+    };
+    pass.state(segment) == Some(SegState::InUse) && row < used
 }
 
 // The current segment, if items of this one can be moved into it.
@@ -72,25 +107,27 @@ fn keep_rows(board: &Board, pass: &mut Pass, segment: u32, into: u32, cutoff: u8
     let used = pass.used(segment).unwrap();
     let mut kept = 0;
     for row in 0..used {
-        match keep_row(board, pass, segment, row, into, cutoff) {
-            KeptRow::Moved => kept += 1,
-            KeptRow::Left => {}
-            KeptRow::NoRoom => return KeepAnswer::NoRoom(kept),
-            KeptRow::Busy => return KeepAnswer::Busy(kept),
+        match keep_row_into(board, pass, segment, row, into, cutoff) {
+            KeepRowAnswer::Moved => kept += 1,
+            KeepRowAnswer::Left => {}
+            KeepRowAnswer::NoRoom => return KeepAnswer::NoRoom(kept),
+            KeepRowAnswer::Busy => return KeepAnswer::Busy(kept),
+            KeepRowAnswer::NotYours | KeepRowAnswer::NotUsed => unreachable!(),
         }
     }
     KeepAnswer::Kept(kept)
 }
 
-// Moves the item of a row, if it was read often enough. The bit of the item's bucket is taken only then.
-fn keep_row(
+// Moves the item of a used row into this segment, if it was read often enough.
+// The bit of the item's bucket is taken only then.
+fn keep_row_into(
     board: &Board,
     pass: &mut Pass,
     segment: u32,
     row: u32,
     into: u32,
     cutoff: u8,
-) -> KeptRow
+) -> KeepRowAnswer
     requires quiet { IsQuiet board.now pass.old }
     requires used { IsUsedRow segment row pass.old }
     requires target { IsKeepTarget segment into pass.old }
@@ -98,23 +135,23 @@ fn keep_row(
 {
     let (bucket, item) = item_of_row(board, pass, segment, row);
     let Some(seen) = find_row(board, pass, bucket, item) else {
-        return KeptRow::Left;
+        return KeepRowAnswer::Left;
     };
     if Item::unpack(seen.word).unwrap().freq < cutoff {
-        return KeptRow::Left;
+        return KeepRowAnswer::Left;
     }
     let Ok((_, to)) = next_row(board, pass) else {
-        return KeptRow::NoRoom;
+        return KeepRowAnswer::NoRoom;
     };
     if !take_to_write(board, pass, bucket) {
-        return KeptRow::Busy;
+        return KeepRowAnswer::Busy;
     }
     let is_moved = move_row(board, pass, bucket, item, into, to);
     board.release(pass, bucket, false);
     if is_moved {
-        KeptRow::Moved
+        KeepRowAnswer::Moved
     } else {
-        KeptRow::Left
+        KeepRowAnswer::Left
     }
 }
 

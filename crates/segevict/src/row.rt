@@ -1,6 +1,6 @@
 //! Rows of a segment of the pass's own: whose key was stored in each, and which word names it.
 ghost use Rattle.std.specs.Prelude.{◌≡◌, ◌<◌, Option};
-ghost use Rattle.segbase.specs.Words.{IsPassOf};
+ghost use Rattle.segbase.specs.Words.{HasStep, IsPassOf};
 ghost use Rattle.segstore.specs.Words.{Idles};
 ghost use Rattle.segpass.specs.Words.{IsQuiet};
 ghost use Rattle.segevict.specs.Rows.{IsUsedRow, IsStoredIn, FindsRow};
@@ -34,6 +34,7 @@ pub(crate) fn find_row(board: &Board, pass: &mut Pass, bucket: u32, item: Item) 
     requires pass { IsPassOf board.now pass.old }
     requires stored { IsStoredIn board.now bucket item pass.old }
     ensures idles { Idles board.now pass.old pass.new }
+    ensures looks { HasStep pass.old pass.new }
     ensures finds { FindsRow board.now bucket item result pass.new }
 {
     let sought = item.pack();

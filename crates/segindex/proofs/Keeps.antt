@@ -11,6 +11,6 @@ pub none_kept : (b : Board) (segment count : ℕ) (p q : Pass) → IsQuiet b p �
 none_kept b segment count p q quiet is = by (state_of p segment) refl is.answer
   where
     by : (state : Option SegState) → state_of p segment ≡ state → IsKeepAnswer b.shape segment 0 (keep.Kept count) p q → NoneStandsIn (after b.shape (seen q)) segment
-    by state at (inl kept) = λ key stands. let low = (kept.1 key stands).is in absurd (omega arith)
+    by state at (inl kept) = λ key stands. let low = (kept.1 key stands).2.is in absurd (omega arith)
     by None at (inr none) = let no : keep.Kept count ≡ keep.NotYours = is.not_yours.1 at in cc
     by (Some state) at (inr none) = subst (λ r. NoneStandsIn (after b.shape (seen r)) segment) (sym none.2) (quiet.segments.unused segment state at (λ in_use. none.0 (at ∙ ap Some in_use)))

@@ -13,10 +13,11 @@ use Rattle.segmodel.specs.Words.{StoresValue, TakesKeyOut, value_of}
 use Rattle.segmodel.proofs.Keys.{at_self}
 use Rattle.segmodel.proofs.HistoryLemmas.{standing-put}
 use Rattle.segcore.proofs.Moments.{begins_on}
-use Rattle.segbase.specs.Words.{Board, number, Pass, seen}
+use Rattle.segcore.specs.Event as event
+use Rattle.segbase.specs.Words.{Board, number, Pass, seen, SinceFirst}
 use Rattle.segread.specs.Words.{IsGetAnswer}
 use Rattle.segwrite.specs.Words.{Writes}
-use Rattle.segwrite.proofs.Told.{told_at}
+use Rattle.segwrite.proofs.Told.{told_at, told_since}
 use Rattle.segindex.specs.LaterReads.{Stood, StoresBetween}
 use Rattle.segindex.specs.Probing.{ExpiredBetween, IsReadSince}
 
@@ -36,6 +37,21 @@ stores_between b request p q writes =
       told = told.1;
       stood = stored_stands b.shape (number p) request segment told.0;
     }
+
+-- the same from the first step of the call on
+pub stores_since : (b : Board) (request : Request) (p q : Pass) → Writes b request write.Stored p q → SinceFirst p q (λ start. StoresBetween b.shape (number p) request (event.seen start) (seen q))
+stores_since b request p q writes =
+    let segment = writes.answer.0 in
+    let told = told_since b request Stored (Some segment) p q writes.on writes.answer.1 in (
+      told.0,
+      told.1,
+      record {
+        segment = segment;
+        history = told.2.0;
+        told = told.2.1;
+        stood = stored_stands b.shape (number p) request segment told.2.0;
+      },
+    )
 
 -- what was stored before an earlier moment was stored before a later one
 pub stored_by : (shape : Shape) (pass : ℕ) (request : Request) (old at new : List Entry) → Begins at new → StoresBetween shape pass request old at → StoresBetween shape pass request old new

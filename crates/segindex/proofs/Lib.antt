@@ -2,6 +2,7 @@ pub mod Made
 pub mod Refills
 pub mod Meeting
 pub mod Noting
+pub mod Since
 pub mod LaterReads
 pub mod Stats
 pub mod OnePass

@@ -14,11 +14,11 @@ use Rattle.segindex.specs.Words.{Index}
 use Rattle.segindex.specs.Index.{board_of, IsNew}
 
 -- what is told of a segment that was never filled is 0, be it the rows used or the deadline
-record TellsZero (told : Option OwnSegment → Option ℕ) : Type 0 where
+record ReturnsZero (told : Option OwnSegment → Option ℕ) : Type 0 where
   none : told None ≡ None
   zero_of : told (Some unfilled) ≡ Some 0
 
-module _ (told : Option OwnSegment → Option ℕ) (tells : TellsZero told) where
+module _ (told : Option OwnSegment → Option ℕ) (tells : ReturnsZero told) where
   unused : (n k count : ℕ) → told (slice_get (replicate n unfilled) k) ≡ Some count → count ≡ 0
   unused zero k count e = absurd (none-some count (sym tells.none ∙ e))
   unused (suc n) zero count e = sym (same_Some 0 count (sym tells.zero_of ∙ e))

@@ -1,5 +1,5 @@
 -- A pass that a note was made of, and one that learned a note.
-use Rattle.std.proofs.Common.{◌≡◌, [], refl, ap}
+use Rattle.std.proofs.Common.{◌≡◌, [], inr, refl, ap}
 use Rattle.segmodel.specs.Words.{Begins}
 use Rattle.segcore.specs.Event as event
 use Rattle.segcore.specs.Mark as mark
@@ -20,6 +20,7 @@ looked_at b p q is same = record {
   more = [];
   goes_on = ap (λ (x : Sight). x.view.trace) same;
   adds = refl;
+  steps = inr (ap (λ (x : Sight). x.view.looks) same, ap (λ (x : Sight). x.view.trace) same);
   kept = λ s stays. tt;
 }
 

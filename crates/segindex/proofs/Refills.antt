@@ -64,10 +64,11 @@ refill_answers b s d refill.Refilled p q quiet is = record {
   own = is.own;
   plain = is.plain;
   memo = is.memo;
+  once = is.once;
 }
 refill_answers b s d refill.NotYours p q quiet is = is
 refill_answers b s d refill.NotEvicted p q quiet is = is
-refill_answers b s d refill.Held p q quiet is = (does_nothing b p q quiet is.0.moved is.0.plain is.0.memo, is_read b s is.1.0 p q quiet is.0 is.1.1)
+refill_answers b s d refill.Held p q quiet is = (does_nothing b p q quiet is.0.moved is.0.plain is.0.memo, is_read b s is.1.0 p q quiet is.0 is.1.1, is.2, is.3)
 
 pub refill_costs_nothing : (b : Board) (s d : ℕ) (r : RefillAnswer) (p q : Pass) → IsOutcome b s d r p q → CostsNothing p q
 refill_costs_nothing b s d refill.Refilled p q is = let own = Refilled (number p) s d ∷ [] in

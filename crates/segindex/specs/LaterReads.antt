@@ -7,7 +7,9 @@ use Rattle.segmodel.specs.declared.request.Reply.TheVariants as reply
 use Rattle.segmodel.specs.declared.answer.WriteAnswer.TheVariants as write
 use Rattle.segmodel.specs.Words.{after, Begins, Entry, GetAnswer, key_of, Request, value_of}
 use Rattle.segmodel.specs.Words.{value_under}
-use Rattle.segbase.specs.Words.{Board, Note, number, Pass, seen, seen_of}
+use Rattle.segcore.specs.Event as event
+use Rattle.segcore.specs.Words.{Event}
+use Rattle.segbase.specs.Words.{Board, Note, number, Pass, seen, seen_of, SinceFirst, StartsAt}
 use Rattle.segread.specs.Words.{ReadsKey}
 use Rattle.segwrite.specs.Words.{IsTold, Writes}
 use Rattle.segindex.specs.Noting.{LearnsNote}
@@ -27,11 +29,12 @@ pub record StoresBetween (shape : Shape) (pass : ℕ) (request : Request) (old n
   pub stood : Stood shape (key_of request) (value_of request)
       (Wrote pass request reply.Stored (Some segment) ∷ history)
 
--- A write that is Stored came in at a moment of its call, and its value stood right after it.
+-- A write that is Stored came in after the first step of its call, and its value stood right after.
 abbrev pub StoredStands : Type 0
 StoredStands = (b : Board) (request : Request) (p q : Pass)
     → Writes b request write.Stored p q
-    → StoresBetween b.shape (number p) request (seen p) (seen q)
+    → SinceFirst p q
+    (λ start. StoresBetween b.shape (number p) request (event.seen start) (seen q))
 
 -- What stood at a moment that a pass had seen is what its get reads, or a later value.
 -- Or the key was taken out, or has expired, or the get is Busy.
@@ -42,6 +45,17 @@ StoodIsRead = (b : Board) (key value : List ℕ) (draw now : ℕ) (told : GetAns
     → Begins stood (seen p)
     → ReadsKey b key draw now told p q
     → IsReadSince b.shape key value now told stood (seen p) (seen q)
+
+-- The same is so of what stood at a moment that the get's first step saw, whoever knew of it.
+-- By `every_schedule` that step has seen all that any call had seen which ended before.
+abbrev pub SeenIsRead : Type 0
+SeenIsRead = (b : Board) (key value : List ℕ) (draw now : ℕ) (told : GetAnswer)
+    (stood : List Entry) (start : List Event) (p q : Pass)
+    → Stood b.shape key value stood
+    → StartsAt p q start
+    → Begins stood (event.seen start)
+    → ReadsKey b key draw now told p q
+    → IsReadSince b.shape key value now told stood (event.seen start) (seen q)
 
 -- The same is so of what stood at a moment that a note has, once the pass has learned the note.
 abbrev pub NotedIsRead : Type 0

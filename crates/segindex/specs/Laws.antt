@@ -9,7 +9,9 @@ use Rattle.segmodel.specs.Words.{owner, Reply, reply_of_delete, reply_of_write, 
 use Rattle.segmodel.specs.Words.{stirred, WriteAnswer}
 use Rattle.segcore.specs.Words.{chained_to, entries, inside, IsSegment, linked_in, width}
 use Rattle.segbase.specs.Words.{Board, bounced, current_of, deadline_of, glanced, Locked, locked, locked_of}
-use Rattle.segbase.specs.Words.{marked, mine, number, Pass, seen, state_of, trace, used_of}
+use Rattle.segcore.specs.Event as event
+use Rattle.segbase.specs.Words.{marked, mine, number, Pass, seen, SinceFirst, state_of, trace}
+use Rattle.segbase.specs.Words.{used_of}
 use Rattle.segpass.specs.Words.{IsBusy, IsQuiet, NoneSince}
 use Rattle.segwrite.specs.Words.{cas_reply, Deletes, WasTold, Writes}
 use Rattle.segread.specs.Words.{IsGetsAnswer}
@@ -125,12 +127,13 @@ NothingIsStirred = OfOnlyTwice
 
 -- ---- replies
 
--- A reply to a write is that of a cache of one thread at one moment of the call.
+-- A reply to a write is that of a cache of one thread at one moment after the call's first step.
 -- At that moment the write's entry came into the history.
 abbrev pub WritesAtAMoment : Type 0
 WritesAtAMoment = (b : Board) (p q : Pass) (request : Request) (told : WriteAnswer) (said : Reply)
     → Writes b request told p q → reply_of_write told ≡ Some said
-    → WasTold b.shape (number p) request said (seen p) (seen q)
+    → SinceFirst p q
+    (λ start. WasTold b.shape (number p) request said (event.seen start) (seen q))
 
 -- The same is so of a reply to a delete.
 abbrev pub DeletesAtAMoment : Type 0
@@ -138,9 +141,10 @@ DeletesAtAMoment =
     (b : Board) (p q : Pass) (key : List ℕ) (now : ℕ) (told : DeleteAnswer) (said : Reply)
     → Deletes b key now told p q
     → reply_of_delete told ≡ Some said
-    → WasTold b.shape (number p) (Delete key now) said (seen p) (seen q)
+    → SinceFirst p q
+    (λ start. WasTold b.shape (number p) (Delete key now) said (event.seen start) (seen q))
 
--- A gets of one pass, from `reader` to `found`, gave a version.
+-- A gets of one pass, from `reader` to `found`, gave a version, of a moment since a history.
 -- A cas of any pass, from `p` to `q`, expects this version, and was replied.
 -- `Is` holds of any such two calls, with the history at the gets (`got.0`),
 -- the history at the cas (`was.1.0`), and the cas's `now`.
@@ -148,9 +152,9 @@ abbrev pub OfGetsAndCas : ((b : Board) → List ℕ → (now : ℕ) → (found p
     → (read entered : List Entry) → Type 0) → Type 0
 OfGetsAndCas Is =
     (b : Board) (reader found p q : Pass) (key read value : List ℕ) (version before now : ℕ)
-    (told : WriteAnswer) (said : Reply)
+    (told : WriteAnswer) (said : Reply) (old : List Entry)
     → b.shape.first_version < 2 ^ 32
-    → (got : IsGetsAnswer b.shape key before (Found read version) reader found)
+    → (got : IsGetsAnswer b.shape key before (Found read version) old reader found)
     → Writes b (Cas key value version now) told p q
     → reply_of_write told ≡ Some said
     → (was : WasTold b.shape (number p) (Cas key value version now) said (seen p) (seen q))

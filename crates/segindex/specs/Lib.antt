@@ -5,7 +5,9 @@ pub mod LaterReads
 pub mod Laws
 pub mod Meeting
 pub mod Noting
+pub mod Order
 pub mod Probing
 pub mod Refilling
 pub mod Stats
+pub mod Steps
 pub mod Words

@@ -8,7 +8,8 @@ use Rattle.segmodel.specs.declared.answer.GetAnswer.TheVariants as get
 use Rattle.segmodel.specs.declared.answer.WriteAnswer.TheVariants as write
 use Rattle.segmodel.specs.Words.{after, CameBetween, Entry, GetAnswer, IsBetween, IsExpired, stirred, StoresValue, TakesKeyOut}
 use Rattle.segmodel.specs.Words.{WriteAnswer}
-use Rattle.segbase.specs.Words.{Board, number, Pass, seen}
+use Rattle.segcore.specs.Event as event
+use Rattle.segbase.specs.Words.{Board, number, Pass, seen, SinceFirst}
 use Rattle.segread.specs.Words.{ReadsKey}
 use Rattle.segwrite.specs.Words.{IsSetAnswer, IsTold, Writes}
 
@@ -29,15 +30,16 @@ IsReadSince shape key value now get.Miss stored old new =
     CameBetween (TakesKeyOut key) stored new ⊎ ExpiredBetween shape key now stored new
 IsReadSince shape key value now get.Busy stored old new = 64 ≤ stirred shape key old new
 
--- The set came in at a moment of its call,
--- and the get answers as one that was made since the set's entry.
+-- The set came in at a moment of its call.
+-- The get, which leads from `between` to `q`, answers as one that was made since the set's entry.
 pub record ReadsStored (shape : Shape) (pass : ℕ) (key value : List ℕ) (now : ℕ) (told : GetAnswer)
-    (old between new : List Entry) : Type 0 where
+    (old : List Entry) (between q : Pass) : Type 0 where
   pub segment : Option ℕ
   pub history : List Entry
-  pub stored : IsTold shape pass (Set key value now) Stored segment old between history
-  pub read : IsReadSince shape key value now told
-      (Wrote pass (Set key value now) Stored segment ∷ history) between new
+  pub stored : IsTold shape pass (Set key value now) Stored segment old (seen between) history
+  pub read : SinceFirst between q
+      (λ start. IsReadSince shape key value now told
+      (Wrote pass (Set key value now) Stored segment ∷ history) (event.seen start) (seen q))
 
 -- The set and the get are handed the same `now`.
 -- The set comes first, and leaves the pass as `between`.
@@ -50,4 +52,4 @@ pub record Probes (b : Board) (key value : List ℕ) (draw now : ℕ) (told : Wr
   pub refused : told.0 ≢ write.Stored → (told.1 ≡ get.Busy) × (q ≡ between)
   pub reads : told.0 ≡ write.Stored → ReadsKey b key draw now told.1 between q
   pub stored : told.0 ≡ write.Stored
-      → ReadsStored b.shape (number p) key value now told.1 (seen p) (seen between) (seen q)
+      → ReadsStored b.shape (number p) key value now told.1 (seen p) between q

@@ -5,19 +5,21 @@ use Rattle.segmodel.specs.Words.{RefillAnswer}
 use Rattle.segmodel.specs.declared.answer.RefillAnswer.TheVariants as refill
 use Rattle.segmodel.specs.declared.answer.SegState.TheVariants.{InUse, Evicted}
 use Rattle.segcore.specs.Words.{inside}
-use Rattle.segbase.specs.Words.{Board, holding, number, Pass, state_of, trace}
-use Rattle.segstore.specs.Words.{refilled}
+use Rattle.segbase.specs.Words.{Board, HasStep, holding, number, Pass, state_of, trace}
+use Rattle.segstore.specs.Words.{refilled, TakesOneStep}
 use Rattle.segpass.specs.Words.{AddsEntry, ChangesNothing, CostsNothing, GoesOn, is_held_in, memo}
 
 -- ---- refilling
 
 -- The refilling was entered. The segment, one of the pass's own, is in use and current.
 -- No row of it is used, and it has this deadline. All else that the pass keeps is as it was.
+-- The call is one step.
 pub record Refills (segment deadline : ℕ) (p q : Pass) : Type 0 where
   pub entry : AddsEntry (Refilled (number p) segment deadline) p q
   pub own : IsSome (state_of p segment)
   pub plain : q.plain ≡ refilled segment deadline p.plain
   pub memo : memo q ≡ memo p
+  pub once : TakesOneStep p q
 
 -- Another pass is in the segment, or this one holds an item there.
 abbrev pub IsBeingRead : ℕ → Pass → Type 0
@@ -25,11 +27,13 @@ IsBeingRead segment p =
     ((other : ℕ) × (other ≢ number p) × (0 < inside (trace p) other segment))
     ⊎ (is_held_in (holding p) segment ≡ true)
 
+-- It is Held only if the pass tried, and the pass tries once.
 abbrev pub IsRefillAnswer : ℕ → ℕ → RefillAnswer → Pass → Pass → Type 0
 IsRefillAnswer segment deadline refill.Refilled p q = Refills segment deadline p q
 IsRefillAnswer segment deadline refill.NotYours p q = q ≡ p
 IsRefillAnswer segment deadline refill.NotEvicted p q = q ≡ p
-IsRefillAnswer segment deadline refill.Held p q = ChangesNothing p q × IsBeingRead segment q
+IsRefillAnswer segment deadline refill.Held p q =
+    ChangesNothing p q × IsBeingRead segment q × HasStep p q × TakesOneStep p q
 
 -- A refill is answered so: NotYours exactly if the segment isn't one of the pass's own,
 -- and NotEvicted exactly if it is in use.

@@ -2,7 +2,8 @@
 use Rattle.std.specs.Prelude.{◌≡◌, ℕ, ◌≤◌, List}
 use Rattle.segmodel.specs.Words.{Begins}
 use Rattle.segcore.specs.Words.{all_drawn, Mark}
-use Rattle.segbase.specs.Words.{Board, marked, Pass}
+use Rattle.segcore.specs.Mark as mark
+use Rattle.segbase.specs.Words.{Board, marked, Pass, SinceFirst}
 use Rattle.segevict.specs.Words.{CountsRows}
 use Rattle.segindex.specs.declared.table_stats.IndexStats.{IndexStats}
 use Rattle.segindex.specs.Meeting.{OnlyLearns}
@@ -14,13 +15,14 @@ pub record WereDrawn (count : ℕ) (old new : List Mark) : Type 0 where
   pub to : Begins moment new
   pub drawn : all_drawn moment ≡ count
 
--- So many overflow buckets were drawn at a moment of the call.
+-- So many overflow buckets were drawn at a moment after the call's first step.
 -- So many rows of the pass's own segments are used.
 -- So many of these were named by an item, each at a moment of the call,
 -- and at the return no item names any of the others.
 -- The pass added no entry, keeps all that it kept, and nothing of it costs.
-pub record TellsStats (b : Board) (told : IndexStats) (p q : Pass) : Type 0 where
+pub record ReturnsStats (b : Board) (told : IndexStats) (p q : Pass) : Type 0 where
   pub only : OnlyLearns b p q
-  pub drawn : WereDrawn told.overflow_buckets (marked p) (marked q)
+  pub drawn : SinceFirst p q
+      (λ start. WereDrawn told.overflow_buckets (mark.marked start) (marked q))
   pub most : told.overflow_buckets ≤ b.shape.overflow
   pub rows : CountsRows b.shape told.used_rows told.named_rows p q

@@ -7,7 +7,7 @@ pub use Rattle.segindex.specs.Meeting.{Meets, MeetsPass}
 pub use Rattle.segindex.specs.Noting.{CopiesNote, LearnsNote, MakesNote}
 pub use Rattle.segindex.specs.Probing.{IsReadSince}
 pub use Rattle.segindex.specs.Refilling.{IsBeingRead, IsRefillAnswer, Refills}
-pub use Rattle.segindex.specs.Stats.{TellsStats}
+pub use Rattle.segindex.specs.Stats.{ReturnsStats}
 pub use Rattle.segbase.specs.Words.{IsNoteOf, IsNoteOf-prop, Note, number, Pass, seen, seen_of}
 pub use Rattle.segpass.specs.Words.{IsQuiet, IsQuiet-prop}
 pub use Rattle.segread.specs.Words.{IsHoldOf, IsHoldOf-prop}

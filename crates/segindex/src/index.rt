@@ -17,7 +17,7 @@ impl Index {
     ghost use Rattle.segindex.specs.Index.{IsNew};
 
     /// An index of this shape with its passes, in the order of their numbers.
-    /// Of the later calls only those that close it are given an allocator.
+    /// Of the later calls only those that close it take an allocator.
     pub fn new(alloc: Global, shape: Shape) -> Result<(Index, Vec<Pass>), MakeFault>
         ensures made { IfOk result (λ made. IsNew shape made.0 made.1.items) }
         ensures fault { IfErr result (IsMakeFault shape) }

@@ -1,4 +1,4 @@
-//! Laws of quiet passes and of replies, beside what the contracts of the calls say.
+//! Laws of quiet passes and of replies, beside the contracts of the calls.
 //! These functions do nothing: their contracts are the theorems.
 ghost use Rattle.segindex.specs.Laws.{SeenIsLegal, MarksAreBeside, KnowsItsOwn, OwnAreInTable};
 ghost use Rattle.segindex.specs.Laws.{UsedAreLinked, CurrentIsInUse, UnusedIsEmpty, LockedIsStill};
@@ -7,7 +7,9 @@ ghost use Rattle.segindex.specs.Laws.{KeysAreFew, ChainsAreShort, AllAreOwn, NoT
 ghost use Rattle.segindex.specs.Laws.{NoLookGlanced, NobodyIsInside, BusyIsLocked, DrawnHaveJoined};
 ghost use Rattle.segindex.specs.Laws.{KeptAllLeavesNone, NothingIsStirred, WritesAtAMoment, DeletesAtAMoment};
 ghost use Rattle.segindex.specs.Laws.{CasFailsWhereWrittenSince, CasCalledLaterFails};
-ghost use Rattle.segindex.specs.LaterReads.{NotedIsRead, StoodIsRead, StoredStands};
+ghost use Rattle.segindex.specs.LaterReads.{NotedIsRead, SeenIsRead, StoodIsRead, StoredStands};
+ghost use Rattle.segindex.specs.Order.{CallsHaveAnOrder, PointsAreInOrder};
+ghost use Rattle.segindex.specs.Steps.{NoGetWithoutAStep, NoGetsWithoutAStep, NoHoldWithoutAStep};
 
 /// What a quiet pass has seen is a history of a cache of one thread, with marks.
 /// The pass knows just its own segments,
@@ -32,7 +34,7 @@ pub fn quiet_pass()
     ensures few_chained { ChainsAreShort }
 {}
 
-/// A keep with the cutoff 0 that is told Kept leaves no key in the segment.
+/// A keep with the cutoff 0 that returns Kept leaves no key in the segment.
 pub fn keep_of_all()
     ensures { KeptAllLeavesNone }
 {}
@@ -40,7 +42,7 @@ pub fn keep_of_all()
 /// If an index has one pass, each entry that the pass has seen is its own.
 /// No bit that it met, by a take or a look, was another's, and nobody else is in a segment.
 /// Only the bucket that it has locked itself is Busy.
-/// Each overflow bucket that was drawn has joined its chain.
+/// Each overflow bucket that was allocated has joined its chain.
 /// While the pass adds no entry, nothing comes into a bucket.
 pub fn one_pass()
     ensures own { AllAreOwn }
@@ -59,7 +61,24 @@ pub fn replies_at_a_moment()
     ensures deletes { DeletesAtAMoment }
 {}
 
-/// A cas that expects the version that a gets of its key gave, and that is entered later,
+/// If all steps of one call come before all steps of another, of any passes,
+/// then no moment at which the answer of the one holds is later than any for that of the other.
+/// So calls that are one entry or one read have an order that fits their order in time:
+/// an entry comes where it stands in the history, and a read right after its moment.
+pub fn calls_are_in_order()
+    ensures points { PointsAreInOrder }
+    ensures order { CallsHaveAnOrder }
+{}
+
+/// No get or gets returns without a step of its own, and no hold but one that is AlreadyHolding.
+/// So what a pass saw in an earlier call is never all that such an answer rests on.
+pub fn readers_take_a_step()
+    ensures get { NoGetWithoutAStep }
+    ensures gets { NoGetsWithoutAStep }
+    ensures hold { NoHoldWithoutAStep }
+{}
+
+/// A cas that expects the version that a gets of its key returned, and that is entered later,
 /// is NotFound if the key is absent then.
 /// Otherwise the cas is Exists exactly if the numbers of its bucket's writes
 /// at the moments of the two calls differ modulo 2^32, and else Stored.
@@ -70,12 +89,13 @@ pub fn cas_fails_where_written()
 {}
 
 /// A write that is Stored has a moment of its call right after which its value stood.
-/// If a pass had seen such a moment when it called, its get of the key finds this value,
-/// or another one that was stored since.
+/// If the first step of a get of the key saw such a moment, or the pass had seen it when it called,
+/// the get finds this value, or another one that was stored since.
 /// It is a Miss only if the key was deleted or evicted since, or its deadline had come.
 /// A pass has seen such a moment also if it learned a note that has the moment.
 pub fn what_stood_is_read()
     ensures stored { StoredStands }
+    ensures seen { SeenIsRead }
     ensures stood { StoodIsRead }
     ensures noted { NotedIsRead }
 {}

@@ -1,9 +1,10 @@
 //! The object index: its calls, for many passes on threads of their own.
 //! What a call reads, and how a write or a delete is replied,
-//! is what a cache used by one thread alone would answer,
+//! is what a cache used by only one thread would return,
 //! after some part of the history that all passes share.
 #![tactic(auto)]
 
+mod ahead;
 mod close;
 mod index;
 mod laws;
@@ -22,10 +23,11 @@ mod write;
 pub use close::OutOfMemory;
 pub use index::Index;
 pub use laws::{
-    cas_fails_where_written, keep_of_all, one_pass, quiet_pass, replies_at_a_moment,
-    what_stood_is_read,
+    calls_are_in_order, cas_fails_where_written, keep_of_all, one_pass, quiet_pass,
+    readers_take_a_step, replies_at_a_moment, what_stood_is_read,
 };
 pub use segbase::{MakeFault, Note, Pass};
+pub use segevict::KeepRowAnswer;
 pub use segmodel::{
     Answer, Command, DeleteAnswer, EvictAnswer, GetAnswer, GetsAnswer, KeepAnswer, RefillAnswer,
     Request, WriteAnswer,

@@ -10,7 +10,7 @@ impl Index {
 
     /// Locks the bucket of a key.
     /// Until the bucket is unlocked, no other pass writes in it,
-    /// and a delete and every write that has room are answered Busy.
+    /// and a delete and every write that has room are Busy.
     pub fn lock_bucket(&self, pass: &mut Pass, key: &Key) -> LockAnswer
         requires quiet { IsQuiet (board_of self.now) pass.old }
         ensures locks { LocksBucket (board_of self.now) key.now result pass.old pass.new }

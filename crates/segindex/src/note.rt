@@ -1,4 +1,4 @@
-//! What a pass tells another one that isn't in the same hand.
+//! What a pass hands to another one by a note.
 use crate::index::Index;
 use segbase::{Note, Pass};
 

@@ -1,5 +1,5 @@
 //! A set and a get of one key.
-//! The contract of the probe is proved from the contracts of these two calls and from laws alone.
+//! The contract of the probe is proved only from the contracts of the two calls and from laws.
 use crate::index::Index;
 use crate::laws::{quiet_pass, replies_at_a_moment};
 use segbase::Pass;
@@ -13,7 +13,7 @@ impl Index {
     ghost use Rattle.segindex.specs.Probing.{Probes};
 
     /// Stores the value under the key and, if it was stored, reads the key.
-    /// If the set was refused, the key isn't read and the second answer is Busy.
+    /// If the set was refused, the key isn't read and the second result is Busy.
     pub fn probe(
         &self,
         pass: &mut Pass,

@@ -12,7 +12,7 @@ impl Index {
     ghost use Rattle.segindex.specs.Index.{board_of, shape_of};
 
     /// The value under a key at a moment.
-    /// A hit raises the frequency of the key's item if the draw, a random number, says so.
+    /// A hit raises the frequency of the key's item if the draw, a random number, counts.
     #[inline(always)]
     pub fn get(&self, pass: &mut Pass, key: &Key, draw: u32, now: u32) -> GetAnswer
         requires pass { IsQuiet (board_of self.now) pass.old }
@@ -23,8 +23,8 @@ impl Index {
 
     /// The value under a key at a moment, with the version of the key's bucket,
     /// for a later compare-and-swap.
-    /// The answer is Busy if the key is present and this pass holds the lock of its bucket.
-    /// A hit raises the frequency of the key's item if the draw, a random number, says so.
+    /// It is Busy if the key is present and this pass holds the lock of its bucket.
+    /// A hit raises the frequency of the key's item if the draw, a random number, counts.
     pub fn gets(&self, pass: &mut Pass, key: &Key, draw: u32, now: u32) -> GetsAnswer
         requires pass { IsQuiet (board_of self.now) pass.old }
         ensures reads { ReadsVersion (board_of self.now) key.now draw now result

@@ -12,7 +12,7 @@ impl Index {
     ghost use Rattle.segpass.specs.Words.{GoesOn, IsQuiet};
 
     /// Makes the call that a command names.
-    /// A hit of a get or a gets raises a frequency if the draw, a random number, says so.
+    /// A hit of a get or a gets raises a frequency if the draw, a random number, counts.
     pub fn serve(&self, pass: &mut Pass, command: &Command, draw: u32) -> Answer
         requires quiet { IsQuiet (board_of self.now) pass.old }
         ensures on { GoesOn (board_of self.now) pass.old pass.new }

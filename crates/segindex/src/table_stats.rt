@@ -6,11 +6,11 @@ use segbase::Pass;
 /// and the rows of its own segments.
 #[derive(Clone, Copy, Debug, PartialEq, Eq)]
 pub struct IndexStats {
-    /// Overflow buckets that were drawn for chains. None is ever given back.
+    /// Overflow buckets that were allocated for chains. None is ever freed.
     pub overflow_buckets: u32,
     /// Rows of the pass's own segments that are used.
     pub used_rows: u32,
-    /// Of these, the rows that an item names. The others are dead:
+    /// The used rows that an item names. The others are dead:
     /// they come back with the refill of their segment.
     pub named_rows: u32,
 }
@@ -18,16 +18,16 @@ pub struct IndexStats {
 impl Index {
     ghost use Rattle.segpass.specs.Words.{IsQuiet};
     ghost use Rattle.segindex.specs.Index.{board_of};
-    ghost use Rattle.segindex.specs.Stats.{TellsStats};
+    ghost use Rattle.segindex.specs.Stats.{ReturnsStats};
 
-    /// How many overflow buckets were drawn, at a moment of the call;
+    /// How many overflow buckets were allocated, at a moment of the call;
     /// how many rows of its own segments the pass has used;
-    /// and how many of these rows were named by an item, each at a moment of the call.
+    /// and how many used rows were named by an item, each at a moment of the call.
     /// At the return no item names any of the other used rows.
     /// It goes over all these rows, and looks along the chain of each row's key.
     pub fn stats(&self, pass: &mut Pass) -> IndexStats
         requires quiet { IsQuiet (board_of self.now) pass.old }
-        ensures tells { TellsStats (board_of self.now) result pass.old pass.new }
+        ensures reads { ReturnsStats (board_of self.now) result pass.old pass.new }
     {
         let overflow_buckets = self.board.drawn_overflow(pass);
         let rows = segevict::count_rows(&self.board, pass);

@@ -1,5 +1,5 @@
 //! The words that calls leave in the table, which no public call shows.
-//! Tests of public calls alone are in crates of tests.
+//! Tests of only public calls are in crates of tests.
 ghost use Rattle.std.specs.Prelude.{All, IfSome};
 ghost use Rattle.segindex.specs.Index.{board_of};
 ghost use Rattle.segpass.specs.Words.{IsQuiet};

@@ -21,7 +21,7 @@ impl Index {
         segwrite::set(&self.board, pass, key, value, now)
     }
 
-    /// Stores the value if the key is absent. Otherwise the answer is NotStored.
+    /// Stores the value if the key is absent. Otherwise it returns NotStored.
     pub fn add(&self, pass: &mut Pass, key: &Key, value: &Value, now: u32) -> WriteAnswer
         requires quiet { IsQuiet (board_of self.now) pass.old }
         ensures writes { Writes (board_of self.now) (Add key.now value.now now) result
@@ -30,7 +30,7 @@ impl Index {
         segwrite::add(&self.board, pass, key, value, now)
     }
 
-    /// Stores the value if the key is present. Otherwise the answer is NotStored.
+    /// Stores the value if the key is present. Otherwise it returns NotStored.
     pub fn replace(&self, pass: &mut Pass, key: &Key, value: &Value, now: u32) -> WriteAnswer
         requires quiet { IsQuiet (board_of self.now) pass.old }
         ensures writes { Writes (board_of self.now) (Replace key.now value.now now) result
@@ -40,7 +40,7 @@ impl Index {
     }
 
     /// Stores the value if the key is present and its bucket has the expected version.
-    /// If the key is absent, the answer is NotFound. If only the version differs, it is Exists.
+    /// It returns NotFound if the key is absent, and Exists if only the version differs.
     pub fn cas(
         &self,
         pass: &mut Pass,

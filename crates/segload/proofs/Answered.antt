@@ -37,6 +37,7 @@ use Rattle.segsolo.proofs.Grown.{entries_begin}
 use Rattle.segindex.proofs.Meeting.{mine_begins}
 use Rattle.segindex.proofs.OnePass.{nobody_inside, busy_by_lock, none_stirred}
 use Rattle.segindex.proofs.QuietPass.{owned}
+use Rattle.segindex.proofs.Since.{full_since, get_since, gets_since}
 use Rattle.segpolicy.specs.declared.load.Kind.TheVariants as kind
 use Rattle.segpolicy.specs.Words.{Cycle, Kind, Load, next_of}
 use Rattle.segload.specs.declared.totals.Tally.TheVariants as tally
@@ -68,7 +69,7 @@ never_busy b p q bucket quiet on unlocked busy = λ one. none-some bucket (sym u
 never_stirred : (b : Board) (key : List ℕ) (p q : Pass) → IsQuiet b p → GoesOn b p q → mine q ≡ mine p → 64 ≤ stirred b.shape key (seen p) (seen q) → b.shape.passes ≢ 1
 never_stirred b key p q quiet on same many = λ one. let none = none_stirred b p q key quiet on.quiet one same in absurd (omega (arith, many, none))
 
-never_disturbed : (b : Board) (key : List ℕ) (p q : Pass) → IsQuiet b p → HoldsNothing p → GoesOn b p q → mine q ≡ mine p → IsDisturbed b.shape key load_moment p q ⊎ PresentLocked b.shape key load_moment p q → b.shape.passes ≢ 1
+never_disturbed : (b : Board) (key : List ℕ) (p q : Pass) → IsQuiet b p → HoldsNothing p → GoesOn b p q → mine q ≡ mine p → IsDisturbed b.shape key load_moment (seen p) p q ⊎ PresentLocked b.shape key load_moment (seen p) p q → b.shape.passes ≢ 1
 never_disturbed b key p q quiet free on same busy = λ one. ⊎_elim
     (λ many.
     let none = none_stirred b p q key quiet on.quiet one same in
@@ -148,7 +149,7 @@ read b key (get.Found value) p q quiet on same at = (value, read_when b key (Som
 read b key get.Miss p q quiet on same at = read_when b key None p q on same at
 read b key get.Busy p q quiet on same many = never_stirred b key p q quiet on same many
 
-version_read : (b : Board) (key : List ℕ) (told : GetsAnswer) (from : ClientState) (p q : Pass) → IsQuiet b p → HoldsNothing p → GoesOn b p q → mine q ≡ mine p → IsGetsAnswer b.shape key load_moment told p q
+version_read : (b : Board) (key : List ℕ) (told : GetsAnswer) (from : ClientState) (p q : Pass) → IsQuiet b p → HoldsNothing p → GoesOn b p q → mine q ≡ mine p → IsGetsAnswer b.shape key load_moment told (seen p) p q
     → IsVersionReadAs b.shape (seen q) (number p) (mine p) key (tally_of (answer.Gets told)) from (course_after (answer.Gets told) from)
 version_read b key (gets.Found value version) from p q quiet free on same at =
     (value, at_moment b p q at.0 (λ cache. reads_version b.shape cache load_moment key ≡ Some (value, version)) on same at.1 at.2, refl)
@@ -177,7 +178,7 @@ written b asked write.NotStored p q room quiet free writes = writes.answer.0
 written b asked write.Exists p q room quiet free writes = writes.answer.0
 written b asked write.NotFound p q room quiet free writes = writes.answer.0
 written b asked write.NoRoom p q room quiet free writes = absurd (room refl)
-written b asked write.BucketFull p q room quiet free writes = (writes.answer.0.entries, writes.answer.1, full_then b (key_of asked) p q writes.on writes.answer.0.entries writes.answer.2)
+written b asked write.BucketFull p q room quiet free writes = (writes.answer.0.entries, writes.answer.1, full_then b (key_of asked) p q writes.on writes.answer.0.entries (full_since b.shape (key_of asked) p q writes.answer.2))
 written b asked write.Busy p q room quiet free writes = (writes.answer.0.entries, never_busy b p q (bucket_of b.shape (key_of asked)) quiet writes.on free.0 writes.answer.1)
 
 deleted : (b : Board) (key : List ℕ) (told : DeleteAnswer) (p q : Pass) → IsQuiet b p → HoldsNothing p → Deletes b key load_moment told p q → IsWrittenAs b.shape (seen q) (number p) (request.Delete key load_moment) (delete_tally told) (mine p) (mine q)
@@ -190,8 +191,8 @@ deleted b key delete.Busy p q quiet free deletes = (deletes.answer.0.entries, ne
 -- it was made once, and found room if it needed any
 pub came : (b : Board) (of : Kind) (load : Load) (draw : ℕ) (told : Answer) (from : ClientState) (p q : Pass) → told ≢ answer.Write write.NoRoom → IsQuiet b p → HoldsNothing p → GoesOn b p q → AnswersCommand b (asked_by of from.version load) draw told p q
     → CameTo b.shape (seen q) (number p) of load (tally_of told) from (course_after told from) (mine p) (mine q)
-came b kind.Get load draw (answer.Get told) from p q other quiet free on is = (read b load.key told p q quiet on is.keeps.entries is.answer, is.keeps.entries, refl)
-came b kind.Gets load draw (answer.Gets told) from p q other quiet free on is = (version_read b load.key told from p q quiet free on is.keeps.entries is.answer, is.keeps.entries)
+came b kind.Get load draw (answer.Get told) from p q other quiet free on is = (read b load.key told p q quiet on is.keeps.entries (get_since b.shape load.key load_moment told p q is.answer), is.keeps.entries, refl)
+came b kind.Gets load draw (answer.Gets told) from p q other quiet free on is = (version_read b load.key told from p q quiet free on is.keeps.entries (gets_since b.shape load.key load_moment told p q is.answer), is.keeps.entries)
 came b kind.Set load draw (answer.Write told) from p q other quiet free on is = inl (written b (request.Set load.key load.value load_moment) told p q (λ e. other (ap answer.Write e)) quiet free is, refl)
 came b kind.Add load draw (answer.Write told) from p q other quiet free on is = inl (written b (request.Add load.key load.value load_moment) told p q (λ e. other (ap answer.Write e)) quiet free is, refl)
 came b kind.Replace load draw (answer.Write told) from p q other quiet free on is = inl (written b (request.Replace load.key load.value load_moment) told p q (λ e. other (ap answer.Write e)) quiet free is, refl)

@@ -1,5 +1,5 @@
--- Lists of which each element has a property at its place, as they grow by one; lists of one length, or of which one is made of the other; and lists that begin each other.
-use Rattle.std.proofs.Common.{◌≡◌, ℕ, zero, suc, List, [], ◌∷◌, ◌++◌, length, map, slice_get, Some, refl, sym, ap, subst, ⊎_elim, arith, length-append}
+-- Lists of which each element has a property at its place, as they grow by one, their elements, and lists that begin each other.
+use Rattle.std.proofs.Common.{◌≡◌, ℕ, zero, suc, List, [], ◌∷◌, ◌++◌, ◌<◌, length, slice_get, Some, refl, sym, ap, subst, ⊎_elim, arith, length-append}
 use Rattle.std.proofs.lemmas.Option.{none-some, same_Some}
 use Rattle.segmodel.specs.Words.{Begins}
 use Rattle.segload.specs.Lists.{AllAt}
@@ -11,16 +11,11 @@ all_pushed P xs x all here n y at = ⊎_elim (λ was. all n y was) (λ e. subst 
 pub all_none : {A : Type 0} {P : Type 0} (n : ℕ) (x : A) → slice_get [] n ≡ Some x → P
 all_none n x at = absurd (none-some x at)
 
--- what a list is made of stands at the same place, and so does what is made of it
-pub made_of : {A B : Type 0} (f : A → B) (xs : List A) (n : ℕ) (y : B) → slice_get (map f xs) n ≡ Some y → (x : A) × (slice_get xs n ≡ Some x) × (f x ≡ y)
-made_of f [] n y at = absurd (none-some y at)
-made_of f (x ∷ xs) zero y at = (x, refl, same_Some (f x) y at)
-made_of f (x ∷ xs) (suc n) y at = made_of f xs n y at
-
-pub made_there : {A B : Type 0} (f : A → B) (xs : List A) (n : ℕ) (x : A) → slice_get xs n ≡ Some x → slice_get (map f xs) n ≡ Some (f x)
-made_there f [] n x at = absurd (none-some x at)
-made_there f (y ∷ xs) zero x at = ap (λ a. Some (f a)) (same_Some y x at)
-made_there f (y ∷ xs) (suc n) x at = made_there f xs n x at
+-- a place within a list has an element
+pub element_at : {A : Type 0} (xs : List A) (n : ℕ) → n < length xs → (x : A) × (slice_get xs n ≡ Some x)
+element_at [] n below = absurd (omega (arith, below))
+element_at (x ∷ xs) zero below = (x, refl)
+element_at (x ∷ xs) (suc n) below = element_at xs n (omega (arith, below))
 
 -- two lists that begin each other are one
 pub both_begin : {A : Type 0} (xs ys : List A) → Begins xs ys → Begins ys xs → xs ≡ ys

@@ -16,10 +16,10 @@ use Rattle.segload.specs.declared.totals.Tally.{Tally}
 use Rattle.segload.specs.declared.totals.Tally.TheVariants as tally
 use Rattle.segload.specs.declared.totals.Tallies.{Tallies}
 use Rattle.segload.specs.Words.{Worker}
-use Rattle.segload.specs.Counting.{with_one_more, all_of}
+use Rattle.segload.specs.Counting.{with_one_more, all_of, IsFew, RecyclesFew}
 use Rattle.segload.specs.Making.{ClientState, load_deadline, load_moment, AtMoment, IsReadAs, IsVersionReadAs, IsFullFor, IsWrittenAs, IsStoredAs, CameTo, ComesTo, draws_after, Makes, start_of}
 use Rattle.segload.specs.Calls.{MakesCalls, ServesLoad}
-use Rattle.segload.specs.Working.{course_of, IsAtWork}
+use Rattle.segload.specs.Working.{course_of, HasCounted, IsAtWork}
 use Rattle.segload.proofs.Answered.{HoldsNothing, IsOwnRing}
 use Rattle.segload.proofs.Served.{serves_came, serves_own}
 
@@ -129,16 +129,28 @@ module _ (b : Board) (n : ℕ) (draws : Draws) (first : Pass) (new : IsNewPass b
 -- a pass at its load that makes the next command of its workload, and counts what it came to
 pub works_on : (b : Board) (draws : Draws) (first : Pass) (made : ℕ) (told : Tally) (worker later : Worker) → IsAtWork b draws first made worker → GoesOn b worker.client.pass later.client.pass
     → ServesLoad (AnswersCommand b) (next_load worker.workload) told (course_of worker.client) (course_of later.client) worker.client.pass later.client.pass
-    → later.workload ≡ after_load worker.workload → later.tallies ≡ with_one_more told worker.tallies → IsAtWork b draws first (made + 1) later
-works_on b draws first made told worker later was on serves after counts = record {
+    → later.workload ≡ after_load worker.workload → later.tallies ≡ with_one_more told worker.tallies → HasCounted later.client → RecyclesFew worker.client.recycled later.client.recycled → IsAtWork b draws first (made + 1) later
+works_on b draws first made told worker later was on serves after counts recycled few = record {
   quiet = on.quiet;
   workload = subst (λ n. later.workload ≡ draws_after draws n) one (after ∙ ap after_load was.workload);
   calls = subst (λ n. MakesCalls (AnswersCommand b) draws (start_of b.shape (number first)) first n later.tallies (course_of later.client) later.client.pass) one more;
   all = ap all_of counts ∙ (all_counted told worker.tallies ∙ ap (λ n. n + 1) was.all);
+  counts = recycled;
+  few = still_few;
 }
   where
     one : suc made ≡ made + 1
     one = omega arith
+
+    still_few : IsFew (made + 1) later.client.recycled
+    still_few =
+        let evicted = few.evictions in
+        let evictions = was.few.evictions in
+        let refilled = few.refillings in
+        let refillings = was.few.refillings in record {
+          evictions = omega (arith, evicted, evictions);
+          refillings = omega (arith, refilled, refillings);
+        }
 
     more : MakesCalls (AnswersCommand b) draws (start_of b.shape (number first)) first (suc made) later.tallies (course_of later.client) later.client.pass
     more = (

@@ -15,6 +15,7 @@ use Rattle.segpolicy.specs.declared.load.Kind.TheVariants as kind
 use Rattle.segpolicy.specs.Words.{Draws, draws_of, Kind, Load, next_load, next_of}
 use Rattle.segsolo.specs.Alone.{IsAlone, IsSameButFrequencies, state_at, with_frequencies}
 use Rattle.segsolo.specs.Served.{AnyDrawIsServed}
+use Rattle.segsolo.proofs.AlonePass.{same_seen}
 use Rattle.segsolo.proofs.AloneStarts.{starts_alone}
 use Rattle.segload.specs.declared.totals.Tally.{Tally}
 use Rattle.segload.specs.declared.totals.Tallies.{Tallies}
@@ -188,11 +189,12 @@ one_pass_is_modelled any_draw shape seed keys commands totals counted load one a
     starts : IsAlone b counts.first × (state_at b.shape counts.first ≡ fresh b.shape)
     starts = starts_alone b counts.first counts.new (ap (λ (z : Shape). z.passes) load.of ∙ one)
 
-    run : Modelled b (MakesCalls (ServedByModel b.shape) (draws_of seed 0 keys) (start_of b.shape 0) (fresh b.shape) commands counted.tallies counts.course) last
-    run = all_loads any_draw b (draws_of seed 0 keys) (start_of b.shape 0) counts.first (fresh b.shape) starts.0 ((λ segment. []), starts.1) commands counted.tallies counts.course last counts.calls
+    run : Modelled b (MakesCalls (ServedByModel b.shape) (draws_of seed 0 keys) (start_of b.shape 0) (fresh b.shape) commands counted.tallies counts.course) counts.done
+    run = all_loads any_draw b (draws_of seed 0 keys) (start_of b.shape 0) counts.first (fresh b.shape) starts.0 ((λ segment. []), starts.1) commands counted.tallies counts.course counts.done counts.calls
 
-    seen_all : seen last ≡ load.history
-    seen_all = ap seen (sym (lone.2 load.ends.place load.ends.pass load.ends.there)) ∙ load.ends.has_seen
+    -- a look at the table added nothing to what the pass had seen
+    seen_all : seen counts.done ≡ load.history
+    seen_all = sym (same_seen b counts.done last run.alone counts.table.only.on.quiet counts.table.only.keeps.entries) ∙ (ap seen (sym (lone.2 load.ends.place load.ends.pass load.ends.there)) ∙ load.ends.has_seen)
 
     stand : keys_of (after shape load.history) ≡ keys_of run.state.cache
     stand = ap (λ z. keys_of (after z load.history)) (sym load.of) ∙ (ap (λ h. keys_of (after b.shape h)) (sym seen_all) ∙ ap (λ (s : State). keys_of s.cache) run.same.1)

@@ -1,8 +1,11 @@
 -- How the commands of a pass are counted, and which entries of a history are counted so.
-use Rattle.std.specs.Prelude.{◌≡◌, ℕ, ◌+◌, Bool, true, false, List, count_by}
-use Rattle.segmodel.specs.Words.{Entry, Reply}
+use Rattle.std.specs.Prelude.{◌≡◌, ℕ, ◌+◌, ◌-◌, ◌*◌, ◌^◌, ◌<◌, ◌≤◌, Bool, true, false, List, count_by}
+use Rattle.segmodel.specs.Words.{Entry, EvictAnswer, RefillAnswer, Reply}
+use Rattle.segmodel.specs.declared.answer.EvictAnswer.TheVariants as evict
+use Rattle.segmodel.specs.declared.answer.RefillAnswer.TheVariants as refill
 use Rattle.segmodel.specs.declared.request.Reply.TheVariants as reply
-use Rattle.segmodel.specs.declared.entry.Entry.TheVariants.{Wrote}
+use Rattle.segmodel.specs.declared.entry.Entry.TheVariants.{Wrote, Evicted, Refilled}
+use Rattle.segload.specs.declared.totals.Recycled.{Recycled}
 use Rattle.segload.specs.declared.totals.Tally.{Tally}
 use Rattle.segload.specs.declared.totals.Tally.TheVariants as tally
 use Rattle.segload.specs.declared.totals.Tallies.{Tallies}
@@ -72,3 +75,47 @@ replies told history = count_by (tells told) history
 -- The five tallies of replies count the writes of these entries.
 abbrev pub CountsReplies : Tallies → List Entry → Type 0
 CountsReplies tallies entries = (told : Reply) → count_of_reply told tallies ≡ replies told entries
+
+-- ---- evictions and refillings
+
+abbrev pub none_recycled : Recycled
+none_recycled = record { evictions = 0; refillings = 0 }
+
+-- how many keys an evict that was answered so took out
+abbrev pub evicted_by : EvictAnswer → ℕ
+evicted_by (evict.Evicted count) = count
+evicted_by (evict.Busy count) = count
+evicted_by evict.NotYours = 0
+
+-- whether a refill that was answered so refilled the segment, as a number
+abbrev pub refilled_by : RefillAnswer → ℕ
+refilled_by refill.Refilled = 1
+refilled_by _ = 0
+
+abbrev pub is_eviction : Entry → Bool
+is_eviction (Evicted pass key segment) = true
+is_eviction _ = false
+
+abbrev pub is_refilling : Entry → Bool
+is_refilling (Refilled pass segment deadline) = true
+is_refilling _ = false
+
+-- The counts are those of the evictions and of the refillings among these entries.
+pub record CountsRecycled (recycled : Recycled) (entries : List Entry) : Type 0 where
+  pub evictions : recycled.evictions ≡ count_by is_eviction entries
+  pub refillings : recycled.refillings ≡ count_by is_refilling entries
+
+-- what so many commands may recycle at most: each evicts one segment, and refills it
+pub record IsFew (made : ℕ) (recycled : Recycled) : Type 0 where
+  pub evictions : recycled.evictions ≤ made * (2 ^ 32 - 1)
+  pub refillings : recycled.refillings ≤ made
+
+-- The counts have space for what one command more recycles.
+pub record CanCountMore (recycled : Recycled) : Type 0 where
+  pub evictions : recycled.evictions + 2 ^ 32 ≤ 2 ^ 64
+  pub refillings : recycled.refillings + 1 < 2 ^ 32
+
+-- what one command recycled
+pub record RecyclesFew (old new : Recycled) : Type 0 where
+  pub evictions : new.evictions < old.evictions + 2 ^ 32
+  pub refillings : new.refillings ≤ old.refillings + 1

@@ -1,5 +1,5 @@
 -- The words of this crate that others use, from one place.
-pub use Rattle.segload.specs.Gates.{lets_all_through}
+pub use Rattle.segload.specs.Gates.{knows_nothing, lets_all_through}
 pub use Rattle.segload.specs.Loads.{IsLoad, IsLoadFault}
 use Rattle.segload.specs.declared.totals.PassTotals as declared_pass_totals
 use Rattle.segload.specs.declared.plan.Plan as declared_plan

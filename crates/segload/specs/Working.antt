@@ -1,22 +1,27 @@
 -- What a pass does in a load.
-use Rattle.std.specs.Prelude.{◌≡◌, ℕ, ◌<◌, Bool, false, true, List, slice_get, Some}
+use Rattle.std.specs.Prelude.{◌≡◌, ℕ, ◌<◌, Bool, false, true, List, length, slice_get, Some}
 use Rattle.std.specs.Int.NonZero.{non_zero_u32_get}
-use Rattle.segbase.specs.Words.{Board, IsNewPass, number, number_of, Pass}
+use Rattle.segbase.specs.Words.{Board, IsNewPass, mine, number, number_of, Pass}
 use Rattle.segpass.specs.Words.{IsQuiet}
-use Rattle.segindex.specs.Words.{AnswersCommand}
+use Rattle.segindex.specs.Words.{AnswersCommand, ReturnsStats}
 use Rattle.segpolicy.specs.Words.{Draws, draws_of}
 use Rattle.segload.specs.Lists.{AllAt}
 use Rattle.segload.specs.declared.plan.Plan.{Plan}
 use Rattle.segload.specs.declared.client.Client.{Client}
+use Rattle.segload.specs.declared.totals.PassTotals.{PassTotals}
 use Rattle.segload.specs.declared.worker.Worker.{Worker}
 use Rattle.segload.specs.Gates.{IsToldOf, LetsThrough, Stops}
-use Rattle.segload.specs.Counting.{all_of}
+use Rattle.segload.specs.Counting.{all_of, CountsRecycled, IsFew}
 use Rattle.segload.specs.Making.{ClientState, draws_after, start_of}
 use Rattle.segload.specs.Calls.{MakesCalls}
 
 -- what the next commands of a client depend on
 abbrev pub course_of : Client → ClientState
 course_of client = record { segments = client.segments; version = client.version }
+
+-- The client has counted the evictions and the refillings of its pass.
+abbrev pub HasCounted : Client → Type 0
+HasCounted client = CountsRecycled client.recycled (mine client.pass)
 
 -- The worker's pass made so many commands of a workload since it was this one,
 -- by calls of the index. It is quiet.
@@ -27,6 +32,8 @@ pub record IsAtWork (b : Board) (draws : Draws) (first : Pass) (made : ℕ) (wor
   pub calls : MakesCalls (AnswersCommand b) draws (start_of b.shape (number first)) first made
       worker.tallies (course_of worker.client) worker.client.pass
   pub all : all_of worker.tallies ≡ made
+  pub counts : HasCounted worker.client
+  pub few : IsFew made worker.client.recycled
 
 -- The worker is that of the pass of this number. At the start the pass was this one.
 -- If the gate didn't stop it, it made all its commands.
@@ -40,8 +47,7 @@ pub record HasWorked (b : Board) (may_answer : ℕ → ℕ → Bool → Type 0) 
   pub let_through : worker.is_stopped ≡ false → LetsThrough may_answer commands pass
   pub told_of : worker.is_stopped ≡ false → IsToldOf told commands pass
   pub stopped : worker.is_stopped ≡ true
-      → (stops : Stops may_answer commands pass) × IsAtWork b draws first stops.call worker
-      × IsToldOf told stops.call pass
+      → (stops : Stops may_answer told commands pass) × IsAtWork b draws first stops.call worker
 
 -- The worker is that of the pass of this number, which is new.
 pub record BeginsLoad (b : Board) (draws : Draws) (pass : ℕ) (worker : Worker) : Type 0 where
@@ -64,9 +70,29 @@ pub record HasMadePlan (b : Board) (may_answer : ℕ → ℕ → Bool → Type 0
   pub new : IsNewPass b pass first
   pub worked : HasWorked b may_answer told (draws_for plan pass) first pass plan.commands worker
 
--- the pass of a worker
-abbrev pub pass_of : Worker → Pass
-pass_of worker = worker.client.pass
+-- The worker ended: these are its totals, and its pass is this one now.
+-- It was told of the table once, and added no entry.
+pub record EndsWork (b : Board) (asked : ℕ) (worker : Worker) (totals : PassTotals) (pass : Pass)
+    : Type 0 where
+  pub commands : totals.commands ≡ asked
+  pub tallies : totals.tallies ≡ worker.tallies
+  pub recycled : totals.recycled ≡ worker.client.recycled
+  pub table : ReturnsStats b totals.table worker.client.pass pass
+
+-- Each worker ended, with the totals and the pass at its place.
+pub record EndsAll (b : Board) (asked : ℕ) (workers : List Worker) (totals : List PassTotals)
+    (passes : List Pass) : Type 0 where
+  pub counted : length totals ≡ length workers
+  pub all : length passes ≡ length workers
+  pub each : (n : ℕ) (worker : Worker) (of : PassTotals) (pass : Pass)
+      → slice_get workers n ≡ Some worker
+      → slice_get totals n ≡ Some of
+      → slice_get passes n ≡ Some pass
+      → EndsWork b asked worker of pass
+
+-- The passes of the workers are quiet.
+abbrev pub AreQuiet : Board → List Worker → Type 0
+AreQuiet b workers = AllAt (λ n worker. IsQuiet b worker.client.pass) workers
 
 -- The gate stopped none of the workers.
 abbrev pub NoneStopped : List Worker → Type 0

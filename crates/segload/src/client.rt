@@ -1,8 +1,9 @@
 //! A pass of an index, which makes the commands of a load.
-ghost use Rattle.std.specs.Prelude.{◌≡◌};
+ghost use Rattle.std.specs.Prelude.{◌≡◌, ◌+◌, ◌≤◌, ◌<◌, ◌^◌};
 ghost use Rattle.segload.specs.Calls.{command_of, tally_of, write_tally, delete_tally, IsOfLoad};
+ghost use Rattle.segload.specs.Counting.{evicted_by, refilled_by};
 
-use crate::totals::Tally;
+use crate::totals::{Recycled, Tally};
 use segindex::{Index, Pass};
 use segmodel::{
     Answer, Command, DeleteAnswer, EvictAnswer, GetAnswer, GetsAnswer, RefillAnswer, Request,
@@ -24,6 +25,8 @@ pub(crate) struct Client {
     segments: Ring,
     // The version that the pass's last gets found.
     version: u32,
+    // What the pass recycled so far.
+    pub(crate) recycled: Recycled,
 }
 
 // The call of the index for a command of the load, at the load's moment. A cas expects the version.
@@ -86,23 +89,49 @@ fn tally_of_delete(answer: DeleteAnswer) -> Tally
     }
 }
 
+// How many keys an evict took out that has this answer.
+fn evicted_by(answer: EvictAnswer) -> u32
+    ensures { result ≡ evicted_by answer }
+{
+    match answer {
+        EvictAnswer::Evicted(count) | EvictAnswer::Busy(count) => count,
+        EvictAnswer::NotYours => 0,
+    }
+}
+
+// How many segments a refill refilled that has this answer.
+fn refilled_by(answer: RefillAnswer) -> u32
+    ensures value { result ≡ refilled_by answer }
+    ensures most { result ≤ 1 }
+{
+    match answer {
+        RefillAnswer::Refilled => 1,
+        RefillAnswer::NotYours | RefillAnswer::NotEvicted | RefillAnswer::Held => 0,
+    }
+}
+
 impl Client {
     ghost use Rattle.segindex.specs.Words.{AnswersCommand, board_of};
     ghost use Rattle.segpass.specs.Words.{GoesOn, IsQuiet};
     ghost use Rattle.segpolicy.specs.Words.{next_of};
-    ghost use Rattle.segload.specs.Making.{turned_on};
+    ghost use Rattle.segevict.specs.Words.{EvictsSegment};
+    ghost use Rattle.segindex.specs.Refilling.{RefillsSegment};
+    ghost use Rattle.segload.specs.Counting.{CanCountMore, none_recycled, RecyclesFew};
+    ghost use Rattle.segload.specs.Making.{load_deadline, turned_on};
     ghost use Rattle.segload.specs.Calls.{course_after, ServesLoad, TriesForRoom};
-    ghost use Rattle.segload.specs.Working.{course_of};
+    ghost use Rattle.segload.specs.Working.{course_of, HasCounted};
 
     /// A client whose pass made no command yet.
     pub(crate) fn new(pass: Pass, segments: Ring) -> Client
         ensures pass { result.pass ≡ pass }
         ensures course { course_of result ≡ record { segments = segments; version = 0 } }
+        ensures recycled { result.recycled ≡ none_recycled }
     {
         Client {
             pass,
             segments,
             version: 0,
+            recycled: Recycled::new(),
         }
     }
 
@@ -114,6 +143,7 @@ impl Client {
             pass,
             segments: _,
             version: _,
+            recycled: _,
         } = self;
         pass
     }
@@ -122,9 +152,13 @@ impl Client {
     /// A write that finds no room is made once more, if room could be made.
     pub(crate) fn serve(&mut self, index: &Index, load: Load) -> Tally
         requires quiet { IsQuiet (board_of index.now) self.old.pass }
+        requires counts { HasCounted self.old }
+        requires fits { CanCountMore self.old.recycled }
         ensures on { GoesOn (board_of index.now) self.old.pass self.new.pass }
         ensures serves { ServesLoad (AnswersCommand (board_of index.now)) load result
             (course_of self.old) (course_of self.new) self.old.pass self.new.pass }
+        ensures counts { HasCounted self.new }
+        ensures few { RecyclesFew self.old.recycled self.new.recycled }
     {
         let draw = load.draw;
         let command = command_of(load, self.version);
@@ -146,6 +180,7 @@ impl Client {
         ensures answers { AnswersCommand (board_of index.now) command.now draw
             result self.old.pass self.new.pass }
         ensures course { course_of self.new ≡ course_of self.old }
+        ensures recycled { self.new.recycled ≡ self.old.recycled }
     {
         index.serve(&mut self.pass, command, draw)
     }
@@ -154,6 +189,7 @@ impl Client {
     fn remember(&mut self, answer: &Answer)
         ensures pass { self.new.pass ≡ self.old.pass }
         ensures course { course_of self.new ≡ course_after answer.now (course_of self.old) }
+        ensures recycled { self.new.recycled ≡ self.old.recycled }
     {
         if let Answer::Gets(GetsAnswer::Found(_, version)) = answer {
             self.version = *version;
@@ -164,15 +200,53 @@ impl Client {
     // If there is, the segment has the load's deadline.
     fn make_room(&mut self, index: &Index) -> bool
         requires quiet { IsQuiet (board_of index.now) self.old.pass }
+        requires counts { HasCounted self.old }
+        requires fits { CanCountMore self.old.recycled }
         ensures on { GoesOn (board_of index.now) self.old.pass self.new.pass }
         ensures room { TriesForRoom (AnswersCommand (board_of index.now))
             (next_of self.old.segments) result self.old.pass self.new.pass }
         ensures course { course_of self.new ≡ turned_on (course_of self.old) }
+        ensures counts { HasCounted self.new }
+        ensures few { RecyclesFew self.old.recycled self.new.recycled }
     {
         let segment = self.segments.next();
-        let EvictAnswer::Evicted(_) = index.evict(&mut self.pass, segment) else {
+        let EvictAnswer::Evicted(_) = self.evict(index, segment) else {
             return false;
         };
-        index.refill(&mut self.pass, segment, DEADLINE) == RefillAnswer::Refilled
+        self.refill(index, segment) == RefillAnswer::Refilled
+    }
+
+    // Evicts a segment, and counts the keys that were taken out.
+    fn evict(&mut self, index: &Index, segment: u32) -> EvictAnswer
+        requires quiet { IsQuiet (board_of index.now) self.old.pass }
+        requires counts { HasCounted self.old }
+        requires fits { self.old.recycled.evictions + 2 ^ 32 ≤ 2 ^ 64 }
+        ensures evicts { EvictsSegment (board_of index.now) segment result
+            self.old.pass self.new.pass }
+        ensures course { course_of self.new ≡ course_of self.old }
+        ensures counts { HasCounted self.new }
+        ensures few { self.new.recycled.evictions < self.old.recycled.evictions + 2 ^ 32 }
+        ensures refillings { self.new.recycled.refillings ≡ self.old.recycled.refillings }
+    {
+        let answer = index.evict(&mut self.pass, segment);
+        self.recycled.evictions += u64::from(evicted_by(answer));
+        answer
+    }
+
+    // Refills a segment up to the load's deadline, and counts it.
+    fn refill(&mut self, index: &Index, segment: u32) -> RefillAnswer
+        requires quiet { IsQuiet (board_of index.now) self.old.pass }
+        requires counts { HasCounted self.old }
+        requires fits { self.old.recycled.refillings + 1 < 2 ^ 32 }
+        ensures refills { RefillsSegment (board_of index.now) segment load_deadline result
+            self.old.pass self.new.pass }
+        ensures course { course_of self.new ≡ course_of self.old }
+        ensures counts { HasCounted self.new }
+        ensures evictions { self.new.recycled.evictions ≡ self.old.recycled.evictions }
+        ensures few { self.new.recycled.refillings ≤ self.old.recycled.refillings + 1 }
+    {
+        let answer = index.refill(&mut self.pass, segment, DEADLINE);
+        self.recycled.refillings += refilled_by(answer);
+        answer
     }
 }

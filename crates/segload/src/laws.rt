@@ -5,7 +5,7 @@ use segsolo::one_pass_is_served;
 
 /// With one pass the totals of a load are those of the model, and as many keys stand.
 /// The model serves the load's commands, one after the other, from its start on.
-/// What a load's contract says (`IsLoad`) is enough for this.
+/// A load's contract (`IsLoad`) suffices for this.
 pub fn one_pass_is_modelled()
     ensures { OnePassIsModelled }
 {

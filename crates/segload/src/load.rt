@@ -1,5 +1,5 @@
 //! How a load is run: a thread for each pass.
-ghost use Rattle.std.specs.Prelude.{◌≡◌, ℕ, List, slice_get, Some, None, IfOk, IfErr, IfSome, map, vec_len};
+ghost use Rattle.std.specs.Prelude.{◌≡◌, ℕ, List, None, IfOk, IfErr, IfSome, vec_len};
 ghost use Rattle.std.specs.Int.NonZero.{non_zero_u32_get};
 ghost use Rattle.std.specs.Thread.{IsSync};
 ghost use Rattle.segmodel.specs.declared.entry.Entry.{Entry};
@@ -7,7 +7,7 @@ ghost use Rattle.segmodel.specs.Words.{after};
 ghost use Rattle.segbase.specs.Words.{number};
 ghost use Rattle.segindex.specs.Words.{AreAllQuiet, board_of, IsEndOfAll, IsNew, shape_of};
 ghost use Rattle.segload.specs.Working.{BeginsLoad, BeginsPlan, HasMadePlan, HasWorked};
-ghost use Rattle.segload.specs.Working.{IsFirstStopped, NoneStopped, pass_of};
+ghost use Rattle.segload.specs.Working.{AreQuiet, EndsAll, IsFirstStopped, NoneStopped};
 ghost use Rattle.segload.specs.Lists.{AllAt};
 ghost use Rattle.segload.specs.Loads.{keys_of, IsLoad, IsLetThrough, IsToldOfAll, IsLoadFault};
 
@@ -127,36 +127,32 @@ fn first_stopped(workers: &Vec<Worker>) -> Option<u32>
     None
 }
 
-// What each of the workers counted, in the same order.
-fn count_all(
-    alloc: Global,
-    commands: u32,
-    workers: &Vec<Worker>,
-) -> Result<Vec<PassTotals>, AllocError>
-    ensures long { IfOk result (λ totals. vec_len totals ≡ vec_len workers.now) }
-    ensures each { IfOk result (λ totals. (n : ℕ) (of : PassTotals) (worker : Worker)
-        → slice_get totals.items n ≡ Some of → slice_get workers.now.items n ≡ Some worker
-        → (of.commands ≡ commands) × (of.tallies ≡ worker.tallies)) }
-{
-    let mut totals = Vec::with_capacity(alloc, workers.len())?;
-    for worker in workers.iter() {
-        totals.push_reserved(PassTotals {
-            commands,
-            tallies: worker.tallies,
-        });
-    }
-    Ok(totals)
+// The totals of passes, and these passes, in the order of their numbers.
+#[derive(Drop)]
+struct AllEnded {
+    totals: Vec<PassTotals>,
+    passes: Vec<Pass>,
 }
 
-// The passes of the workers, in the same order.
-fn all_passes(alloc: Global, workers: Vec<Worker>) -> Result<Vec<Pass>, AllocError>
-    ensures { IfOk result (λ passes. passes.items ≡ map pass_of workers.items) }
+// Ends each of the workers, one after the other.
+fn end_all(
+    alloc: Global,
+    index: &Index,
+    commands: u32,
+    workers: Vec<Worker>,
+) -> Result<AllEnded, AllocError>
+    requires quiet { AreQuiet (board_of index.now) workers.items }
+    ensures { IfOk result (λ all. EndsAll (board_of index.now) commands workers.items
+        all.totals.items all.passes.items) }
 {
+    let mut totals = Vec::with_capacity(alloc, workers.len())?;
     let mut passes = Vec::with_capacity(alloc, workers.len())?;
     for worker in workers {
-        passes.push_reserved(worker.client.into_pass());
+        let ended = worker.end(index, commands);
+        totals.push_reserved(ended.totals);
+        passes.push_reserved(ended.pass);
     }
-    Ok(passes)
+    Ok(AllEnded { totals, passes })
 }
 
 // Ends the index, and returns how many keys stand then.
@@ -173,9 +169,8 @@ fn count_keys(alloc: Global, index: Index, passes: Vec<Pass>) -> Option<u32>
 /// Runs a load on a new index: each pass makes the commands of the plan.
 /// The totals count how the commands were answered.
 ///
-/// The call waits for its threads, one for each pass. What its contract says holds if it returns.
-/// The contract says nothing of threads, of how often the gate is asked,
-/// or of what the other passes do if the gate stops one. Tests do.
+/// The call waits for its threads, one for each pass. Its contract holds if it returns.
+/// The contract doesn't cover threads, or how often the gate is asked. Tests do.
 pub fn run_crowd<R: Threads + Wait + AllocGlobal + Sync, G: Gate>(
     rt: &R,
     alloc: Global,
@@ -188,7 +183,8 @@ pub fn run_crowd<R: Threads + Wait + AllocGlobal + Sync, G: Gate>(
     ensures let_through { IfOk result
         (λ _. IsLetThrough shape plan.commands (G.may_answer gate.now)) }
     ensures told { IfOk result (λ _. IsToldOfAll shape plan.commands (G.told gate.now)) }
-    ensures fault { IfErr result (IsLoadFault shape plan.commands (G.may_answer gate.now)) }
+    ensures fault { IfErr result (IsLoadFault shape plan.commands
+        (G.may_answer gate.now) (G.told gate.now)) }
 {
     let (index, passes) = match Index::new(alloc, shape) {
         Ok(made) => made,
@@ -203,17 +199,14 @@ pub fn run_crowd<R: Threads + Wait + AllocGlobal + Sync, G: Gate>(
     if let Some(pass) = first_stopped(&workers) {
         return Err(LoadFault::Stopped(pass));
     }
-    let Ok(counted) = count_all(alloc, plan.commands, &workers) else {
+    let Ok(ended) = end_all(alloc, &index, plan.commands, workers) else {
         return Err(LoadFault::OutOfMemory);
     };
-    let Ok(passes) = all_passes(alloc, workers) else {
-        return Err(LoadFault::OutOfMemory);
-    };
-    let Some(standing) = count_keys(alloc, index, passes) else {
+    let Some(standing) = count_keys(alloc, index, ended.passes) else {
         return Err(LoadFault::OutOfMemory);
     };
     Ok(Totals {
-        passes: counted,
+        passes: ended.totals,
         keys: standing,
     })
 }

@@ -1,7 +1,9 @@
 //! What a load counts.
 ghost use Rattle.std.specs.Prelude.{◌≡◌, ◌+◌, ◌^◌, ◌<◌, sum_by};
 ghost use Rattle.segload.specs.declared.totals.PassTotals.{PassTotals};
-ghost use Rattle.segload.specs.Counting.{no_tallies, with_one_more, all_of};
+ghost use Rattle.segload.specs.Counting.{no_tallies, none_recycled, with_one_more, all_of};
+
+use segindex::IndexStats;
 
 /// How a command is counted.
 #[derive(Clone, Copy, Debug, PartialEq, Eq)]
@@ -75,11 +77,35 @@ impl Tallies {
     }
 }
 
+/// What a pass recycled to make room, counted as it was done.
+#[derive(Clone, Copy, Debug, PartialEq, Eq)]
+pub struct Recycled {
+    /// Keys that were evicted.
+    pub evictions: u64,
+    /// Segments that were refilled.
+    pub refillings: u32,
+}
+
+impl Recycled {
+    /// Nothing is counted yet.
+    pub fn new() -> Recycled
+        ensures { result ≡ none_recycled }
+    {
+        Recycled {
+            evictions: 0,
+            refillings: 0,
+        }
+    }
+}
+
 /// How many commands one pass made, and how they are counted.
 #[derive(Debug, Drop, PartialEq, Eq)]
 pub struct PassTotals {
     pub commands: u32,
     pub tallies: Tallies,
+    pub recycled: Recycled,
+    /// The stats of the table, as the pass saw it at the end of the load.
+    pub table: IndexStats,
 }
 
 /// What a load counts: the totals of each pass, in the order of their numbers,

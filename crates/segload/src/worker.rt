@@ -5,7 +5,7 @@ ghost use Rattle.segindex.specs.Words.{board_of};
 use crate::client::Client;
 use crate::gate::Gate;
 use crate::plan::Plan;
-use crate::totals::Tallies;
+use crate::totals::{PassTotals, Tallies};
 use segindex::{Index, Pass};
 use segpolicy::{Ring, Workload};
 
@@ -18,10 +18,17 @@ pub(crate) struct Worker {
     pub(crate) is_stopped: bool,
 }
 
+/// What a worker comes to: its totals, and its pass.
+#[derive(Drop)]
+pub(crate) struct Ended {
+    pub(crate) totals: PassTotals,
+    pub(crate) pass: Pass,
+}
+
 impl Worker {
     ghost use Rattle.segbase.specs.Words.{IsNewPass, number, number_of};
     ghost use Rattle.segpass.specs.Words.{IsQuiet};
-    ghost use Rattle.segload.specs.Working.{BeginsLoad, BeginsPlan, HasWorked};
+    ghost use Rattle.segload.specs.Working.{BeginsLoad, BeginsPlan, EndsWork, HasWorked};
 
     /// A worker whose pass made no command yet.
     pub(crate) fn new(index: &Index, plan: Plan, pass: Pass) -> Worker
@@ -65,5 +72,23 @@ impl Worker {
             gate.answered(pass, call);
         }
         self
+    }
+
+    /// Looks at the table, and ends with what was counted of so many commands.
+    pub(crate) fn end(self, index: &Index, commands: u32) -> Ended
+        requires quiet { IsQuiet (board_of index.now) self.client.pass }
+        ensures { EndsWork (board_of index.now) commands self result.totals result.pass }
+    {
+        let recycled = self.client.recycled;
+        let tallies = self.tallies;
+        let mut pass = self.client.into_pass();
+        let table = index.stats(&mut pass);
+        let totals = PassTotals {
+            commands,
+            tallies,
+            recycled,
+            table,
+        };
+        Ended { totals, pass }
     }
 }

@@ -65,7 +65,7 @@ pub fn versions_count_writes()
     ensures unwritten { UnwrittenKeepsCache }
 {}
 
-/// A cas with the version that a gets of its key gave at an earlier moment
+/// A cas with the version that a gets of its key returned at an earlier moment
 /// is NotFound if the key is absent.
 /// Otherwise the cas is Exists exactly if the numbers of its bucket's writes differ, modulo 2^32,
 /// at the two moments, else Stored.
@@ -99,7 +99,7 @@ pub fn serving_keeps()
     ensures held { HeldIsNotRefilled }
 {}
 
-/// A write or delete that is served with a reply is an entry that may come next,
+/// A write or delete that is served with a reply is an entry that can come next,
 /// and leaves the cache that this entry leaves.
 pub fn served_writes_are_entries()
     ensures store { StoreIsAnEntry }
@@ -112,7 +112,7 @@ pub fn turns_are_answered()
     ensures one { OnlyEvictChooses }
 {}
 
-/// Serving a command adds the entries that its answer tells to the history,
+/// Serving a command adds the entries that its answer implies to the history,
 /// and leaves the cache that the longer history leaves.
 pub fn serving_is_history()
     ensures { ServingIsHistory }

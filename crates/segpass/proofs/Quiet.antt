@@ -118,6 +118,7 @@ goes_on b own p q m quiet = record {
   same = m.same;
   marked = marked_begins (trace p) (trace q) (moved_on b own p q m);
   seen = moved_seen b own p q m;
+  steps = m.steps;
 }
 
 -- ---- readers

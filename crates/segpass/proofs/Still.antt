@@ -1,9 +1,10 @@
 -- Calls that enter and leave no segment, raise no frequency and look at no bit: the pass is where it was.
-use Rattle.std.proofs.Common.{◌≡◌, ℕ, ◌<◌, List, [], ◌∷◌, ◌++◌, sym, refl, ap, ◌∙◌, subst}
+use Rattle.std.proofs.Common.{◌≡◌, ℕ, ◌<◌, ◌⊎◌, List, [], ◌∷◌, ◌++◌, sym, refl, ap, ◌∙◌, subst}
 use Rattle.segcore.specs.declared.event.Event.TheVariants.{Glanced, Bumped, Entered, Left}
 use Rattle.segcore.specs.Words.{entered, Event, glanced, inside, raised, View}
 use Rattle.segbase.specs.Words.{AddsEvents, Board, holding, is_holding_of, IsPassOf, number, Pass}
-use Rattle.segbase.specs.Words.{StaysIn, trace, view}
+use Rattle.segbase.specs.Words.{looks, StaysIn, TakesSteps, trace, view}
+use Rattle.segbase.specs.Passes.{StartsFrom}
 use Rattle.segbase.proofs.Moves.{moved_inside, moved_raised, moved_entered, moved_glanced}
 use Rattle.segpass.specs.Calls.{ReadsNothing}
 use Rattle.segpass.proofs.Quiet.{SettlesIn}
@@ -74,6 +75,10 @@ settles_still b own p q m still memo plain = record {
   stays = λ s there. still_stays own (trace p) (number p) s still there;
 }
 
+-- what the pass keeps in mind is no step
+pub steps_to : (p r q : Pass) → view q ≡ view r → TakesSteps p r → TakesSteps p q
+steps_to p r q same = subst (λ (v : View). ((start : List Event) × StartsFrom (view p) v start) ⊎ ((v.looks ≡ looks p) × (v.trace ≡ trace p))) (sym same)
+
 -- what the pass then keeps in mind is no event
 pub then_minds : (b : Board) (own : List Event) (p r q : Pass) → AddsEvents b own p r → view q ≡ view r → IsPassOf b q → AddsEvents b own p q
 then_minds b own p r q m same is = record {
@@ -82,5 +87,6 @@ then_minds b own p r q m same is = record {
   more = m.more;
   goes_on = ap (λ (v : View). v.trace) same ∙ m.goes_on;
   adds = m.adds;
+  steps = steps_to p r q same m.steps;
   kept = m.kept;
 }

@@ -9,7 +9,8 @@ use Rattle.segcore.specs.Event as event
 use Rattle.segcore.specs.Count as count
 use Rattle.segcore.specs.Words.{bucket_after, Event, HasBit, NoneAt}
 use Rattle.segbase.specs.Words.{AddsAtOnce, AddsEvents, Board, drew, is_holding_of, Locked, locked}
-use Rattle.segbase.specs.Words.{locked_of, mine, number, Pass, seen, trace}
+use Rattle.segbase.specs.Words.{HasStep, locked_of, mine, number, Pass, seen, trace}
+use Rattle.segbase.proofs.Starting.{has_added}
 use Rattle.segbase.proofs.Moves.{moved_then, moved_mine, moved_drew, moved_inside}
 use Rattle.segstore.specs.Words.{KeepsSegments}
 use Rattle.segstore.proofs.Keeping.{AreCalm, keeps_plain}
@@ -70,6 +71,14 @@ module _ (b : Board) (bucket : ℕ) (p q : Pass) (quiet : IsQuiet b p) {into : O
 
   pub took_moved : AddsEvents b tries p q
   took_moved = took.moved
+
+  -- it has a step, that of the first try
+  has_by : (look : Option ℕ) → AddsEvents b (peek (number p) look ++ taking) p q → HasStep p q
+  has_by None m = has_added b _ _ p q m
+  has_by (Some segment) m = has_added b _ _ p q m
+
+  pub took_has : HasStep p q
+  took_has = has_by into took.moved
 
   pub took_clean : HasCleanBit b q bucket
   took_clean = took.clean

@@ -2,15 +2,16 @@
 use Rattle.std.specs.Prelude.{◌≡◌, ◌≢◌, ◌⊎◌, ℕ, ◌+◌, ◌<◌, ◌∷◌, Some}
 use Rattle.segmodel.specs.Words.{Begins, Entry}
 use Rattle.segbase.specs.Words.{Board, bounced, drew, entered, glanced, locked_of, marked, Memo}
-use Rattle.segbase.specs.Words.{mine, number, Pass, raised, seen, sight, taken}
+use Rattle.segbase.specs.Words.{mine, number, Pass, raised, seen, sight, taken, TakesSteps}
 use Rattle.segpass.specs.Quiet.{IsQuiet}
 
--- the pass is the same one, quiet again, and what it has seen only grew
+-- the pass is the same one, quiet again, and what it has seen only grew, by its steps
 pub record GoesOn (b : Board) (p q : Pass) : Type 0 where
   pub quiet : IsQuiet b q
   pub same : number q ≡ number p
   pub marked : Begins (marked p) (marked q)
   pub seen : Begins (seen p) (seen q)
+  pub steps : TakesSteps p q
 
 abbrev pub memo : Pass → Memo
 memo p = (sight p).memo

@@ -26,7 +26,7 @@ pub enum LockAnswer {
 const TRIES: u32 = 64;
 
 /// Locks the bucket of a key. Until the bucket is unlocked no other pass writes in it.
-/// The pass's own deletes in it, and its own writes that have room, are answered Busy.
+/// The pass's own deletes in it, and its own writes that have room, are Busy.
 pub fn lock_bucket(board: &Board, pass: &mut Pass, key: &Key) -> LockAnswer
     requires quiet { IsQuiet board.now pass.old }
     ensures locks { LocksBucket board.now key.now result pass.old pass.new }

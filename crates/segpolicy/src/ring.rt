@@ -24,7 +24,7 @@ impl Model for Ring {
 }
 
 impl Ring {
-    /// The ring of `count` numbers from `first` on, which is the first to be given.
+    /// The ring of `count` numbers from `first` on, which is returned first.
     pub fn new(first: u32, count: u32) -> Ring
         requires not_empty { 1 ≤ count }
         requires fits { first + count < 2 ^ 32 }
@@ -63,8 +63,8 @@ impl Ring {
 }
 
 /// The law of rings.
-/// Call `i` from now on, counted from 0, answers the number `i` places on,
-/// and of as many calls in a row as the ring has numbers, exactly one answers each number.
+/// Call `i` from now on, counted from 0, returns the number `i` places on,
+/// and of as many calls in a row as the ring has numbers, exactly one returns each number.
 pub fn each_number_comes_once(ring: &Ring)
     ensures in_order { (n i : ℕ) → i < n
         → slice_index (answers n ring.now) i

@@ -27,7 +27,7 @@ impl Model for Workload {
 }
 
 impl Workload {
-    /// How many keys a workload has if nothing else is said: `k0` to `k63`.
+    /// How many keys a workload has by default: `k0` to `k63`.
     pub const KEYS: u32 = 64;
 
     /// The commands of a pass over the keys `k0` to `k63`.

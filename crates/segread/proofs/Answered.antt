@@ -1,6 +1,7 @@
 -- What readers make of a scan: their answers by the history, and that they changed nothing.
-use Rattle.std.proofs.Common.{◌≡◌, ℕ, Bool, true, false, cond, List, [], ◌∷◌, ◌++◌, ◌≢◌, Some, None, option_map, refl, ap, ◌∙◌}
+use Rattle.std.proofs.Common.{◌≡◌, ℕ, Bool, true, false, cond, List, [], ◌∷◌, ◌++◌, ◌≢◌, Some, None, option_map, inl, inr, refl, sym, ap, ◌∙◌, arith}
 use Rattle.segword.specs.Words.{Shape}
+use Rattle.segmodel.specs.declared.answer.GetAnswer.TheVariants as get
 use Rattle.segmodel.specs.declared.answer.GetsAnswer.TheVariants as gets
 use Rattle.segmodel.specs.Words.{after, unless_expired, bucket_of, Cached, GetAnswer, GetsAnswer}
 use Rattle.segcore.specs.declared.event.Event.TheVariants.{Glanced, Bumped, Entered, Left}
@@ -8,6 +9,7 @@ use Rattle.segcore.specs.Event as event
 use Rattle.segcore.specs.Count as count
 use Rattle.segcore.specs.Words.{Event, IsLawful, KeyGone, WasGone}
 use Rattle.segcore.proofs.Moments.{seen_begins}
+use Rattle.segbase.specs.declared.pass.Plain.{Plain}
 use Rattle.segbase.specs.Words.{AddsAtOnce, AddsEvents, Board, locked_of, number, OnlyReads, Pass}
 use Rattle.segbase.specs.Words.{Place, seen, sight, taken, trace}
 use Rattle.segbase.proofs.Moves.{moved_inside, moved_taken, moved_bounced}
@@ -18,8 +20,12 @@ use Rattle.segpass.specs.Words.{IsQuiet, RaisesNothing, TakesNoBit}
 use Rattle.segpass.proofs.Draws.{reader_draws_none}
 use Rattle.segread.specs.Costs.{CostsOfLooks}
 use Rattle.segread.specs.Reads.{ReadsBetween, IsGetAnswer, ReadsKey}
-use Rattle.segread.specs.Gets.{IsGetsAnswer, ReadsVersion}
-use Rattle.segread.specs.Hits.{GetRaises, GetsRaises, GlancesFew, GlancesNothing, TriesFew}
+use Rattle.segread.specs.Looking.{LooksFirst}
+use Rattle.segread.specs.Gets.{IsDisturbed, IsGetsAnswer, ReadsVersion}
+use Rattle.segread.specs.Hits.{GetRaises, GetsRaises, GetsRaisesFrom, GlancesFew, GlancesNothing, RaisesFrom, RaisesOne, TriesFew}
+use Rattle.segread.proofs.ComingIn.{glances_none, raises_none}
+use Rattle.segread.proofs.Looking.{out, reads_from, since_look}
+use Rattle.segread.proofs.Raising.{raises_after}
 use Rattle.segread.proofs.Reading.{read_on}
 
 -- ---- the answer
@@ -85,26 +91,75 @@ reads_no_bit b p q i = record {
 pub costs_of_looks : (b : Board) (p q : Pass) → IsReader b p q → TriesFew p q → CostsOfLooks p q
 costs_of_looks b p q i few = record { takes_no_bit = reads_no_bit b p q i; draws_nothing = reader_draws_none b p q i.reads; tries = few }
 
-pub reads_key : (b : Board) (key : List ℕ) (draw now : ℕ) (told : GetAnswer) (p q : Pass) → IsQuiet b p → IsReader b p q → TriesFew p q → GlancesNothing p q → GetRaises b.shape key draw told p q → IsGetAnswer b.shape key now told (seen p) (seen q) → ReadsKey b key draw now told p q
-reads_key b key draw now told p q quiet i few unset raised answer = let on = read_on b p q quiet i.reads i.plain i.memo in record {
-  on = on.0;
-  keeps = on.1;
-  answer = answer;
-  costs = record { looks = costs_of_looks b p q i few; glances_nothing = unset; raises = raised };
-}
+-- what a get raises, from what the pass had seen
+abbrev pub GetRaisesFrom : Shape → List ℕ → ℕ → GetAnswer → Pass → Pass → Type 0
+GetRaisesFrom z key draw (get.Found value) p q = RaisesFrom z key value draw (trace p) p q
+GetRaisesFrom z key draw _ p q = RaisesNothing p q
 
-pub reads_version : (b : Board) (key : List ℕ) (draw now : ℕ) (told : GetsAnswer) (p q : Pass) → IsQuiet b p → IsReader b p q → TriesFew p q → GlancesFew p q → GetsRaises b.shape key draw told p q → IsGetsAnswer b.shape key now told p q
-    → ((value : List ℕ) (version : ℕ) → told ≡ gets.Found value version → locked_of p ≢ Some (bucket_of b.shape key)) → ReadsVersion b key draw now told p q
-reads_version b key draw now told p q quiet i few glances raised answer unlocked = let on = read_on b p q quiet i.reads i.plain i.memo in record {
-  on = on.0;
-  keeps = on.1;
-  answer = answer;
-  unlocked = unlocked;
-  costs = record { looks = costs_of_looks b p q i few; glances = glances; raises = raised };
-}
+-- with p before the call, m right after its first look, and q at its end
+module _ (b : Board) (key : List ℕ) (p m q : Pass) (l : LooksFirst b p m) (i : IsReader b m q) where
+  whole : IsReader b p q
+  whole = reads_from b key p m l q i
+
+  few_from : TriesFew m q → TriesFew p q
+  few_from few = let same = (out b key p m l).0 in omega (arith, few, same)
+
+  raises_from : (value : List ℕ) (draw : ℕ) → RaisesFrom b.shape key value draw (trace m) m q → RaisesOne b.shape key value draw p q
+  raises_from value draw raised = since_look b p m q (λ start. RaisesFrom b.shape key value draw start p q) l i
+      (raises_after b.shape key value draw (trace m) (trace m) p m q l.look.did.moved.same ([], refl) (raises_none p m (out b key p m l).1) raised)
+
+  none_from : RaisesNothing m q → RaisesNothing p q
+  none_from none = none ∙ raises_none p m (out b key p m l).1
+
+  get_raises : (draw : ℕ) (told : GetAnswer) → GetRaisesFrom b.shape key draw told m q → GetRaises b.shape key draw told p q
+  get_raises draw (get.Found value) raised = raises_from value draw raised
+  get_raises draw get.Miss none = none_from none
+  get_raises draw get.Busy none = none_from none
+
+  gets_raises : (draw : ℕ) (told : GetsAnswer) → GetsRaisesFrom b.shape key draw told m q → GetsRaises b.shape key draw told p q
+  gets_raises draw (gets.Found value version) raised = raises_from value draw raised
+  gets_raises draw gets.Miss none = none_from none
+  gets_raises draw gets.Busy none = none_from none
+
+  pub unset_from : GlancesNothing m q → GlancesNothing p q
+  unset_from unset bucket = unset bucket ∙ glances_none p m (out b key p m l).1 bucket
+
+  glances_from : GlancesFew m q → GlancesFew p q
+  glances_from few bucket = let some = few bucket in let same = glances_none p m (out b key p m l).1 bucket in omega arith
+
+  pub costs_from : TriesFew m q → CostsOfLooks p q
+  costs_from few = costs_of_looks b p q whole (few_from few)
+
+  disturbed_from : (now : ℕ) → IsDisturbed b.shape key now (seen m) m q → IsDisturbed b.shape key now (seen m) p q
+  disturbed_from now (inl many) = inl many
+  disturbed_from now (inr some) = inr ((let all = some.0 in let same = glances_none p m (out b key p m l).1 (bucket_of b.shape key) in omega arith), some.1)
+
+  gets_answer : (now : ℕ) (told : GetsAnswer) → IsGetsAnswer b.shape key now told (seen m) m q → IsGetsAnswer b.shape key now told (seen m) p q
+  gets_answer now (gets.Found value version) x = x
+  gets_answer now gets.Miss x = x
+  gets_answer now gets.Busy (inl x) = inl (disturbed_from now x)
+  gets_answer now gets.Busy (inr x) = inr (ap (λ (y : Plain). y.locked) (sym l.look.plain) ∙ x.0, x.1)
+
+  pub reads_key : (draw now : ℕ) (told : GetAnswer) → IsQuiet b p → TriesFew m q → GlancesNothing m q → GetRaisesFrom b.shape key draw told m q → IsGetAnswer b.shape key now told (seen m) (seen q) → ReadsKey b key draw now told p q
+  reads_key draw now told quiet few unset raised answer = let on = read_on b p q quiet whole.reads whole.plain whole.memo in record {
+    on = on.0;
+    keeps = on.1;
+    answer = since_look b p m q (λ start. IsGetAnswer b.shape key now told (event.seen start) (seen q)) l i answer;
+    costs = record { looks = costs_from few; glances_nothing = unset_from unset; raises = get_raises draw told raised };
+  }
+
+  pub reads_version : (draw now : ℕ) (told : GetsAnswer) → IsQuiet b p → TriesFew m q → GlancesFew m q → GetsRaisesFrom b.shape key draw told m q → IsGetsAnswer b.shape key now told (seen m) m q
+      → ((value : List ℕ) (version : ℕ) → told ≡ gets.Found value version → locked_of p ≢ Some (bucket_of b.shape key)) → ReadsVersion b key draw now told p q
+  reads_version draw now told quiet few glances raised answer unlocked = let on = read_on b p q quiet whole.reads whole.plain whole.memo in record {
+    on = on.0;
+    keeps = on.1;
+    answer = since_look b p m q (λ start. IsGetsAnswer b.shape key now told (event.seen start) p q) l i (gets_answer now told answer);
+    unlocked = unlocked;
+    costs = record { looks = costs_from few; glances = glances_from glances; raises = gets_raises draw told raised };
+  }
 
 -- an answer that isn't a hit
-pub unfound_raises : (z : Shape) (key : List ℕ) (draw : ℕ) (told : GetsAnswer) (p q : Pass) → ((value : List ℕ) (version : ℕ) → told ≢ gets.Found value version) → RaisesNothing p q → GetsRaises z key draw told p q
+pub unfound_raises : (z : Shape) (key : List ℕ) (draw : ℕ) (told : GetsAnswer) (p q : Pass) → ((value : List ℕ) (version : ℕ) → told ≢ gets.Found value version) → RaisesNothing p q → GetsRaisesFrom z key draw told p q
 unfound_raises z key draw (gets.Found value version) p q ne none = absurd (ne value version refl)
 unfound_raises z key draw gets.Miss p q ne none = none
 unfound_raises z key draw gets.Busy p q ne none = none

@@ -80,14 +80,14 @@ clear_reads b c p q info g clear plain memo = (looks b p q (record { did = (g.0 
 pub disturbs_none : (b : Board) (key : List ℕ) (now : ℕ) (n : ℕ) (p q : Pass) → IsReader b p q → Disturbs b.shape key now n n p q
 disturbs_none b key now n p q i = let up = moved_on b i.reads.own p q i.reads.moved in let e = entries_begin b.shape (bucket_of b.shape key) (trace p) (trace q) up in let g = glances_grow b i.reads.own p q (bucket_of b.shape key) i.reads.moved in (seen_begins (trace p) (trace q) up, omega arith, inl (omega arith))
 
-stood_from : (z : Shape) (key : List ℕ) (now : ℕ) (p q r : Pass) → Begins (seen p) (seen q) → PresentBetween z key now q r → PresentBetween z key now p r
+stood_from : (z : Shape) (key : List ℕ) (now : ℕ) (p q r : Pass) → Begins (seen p) (seen q) → PresentBetween z key now (seen q) (seen r) → PresentBetween z key now (seen p) (seen r)
 stood_from z key now p q r up (value, (history, between, is)) = (value, (history, (begins_on (seen p) (seen q) history up between.0, between.1), is))
 
-stood_to : (z : Shape) (key : List ℕ) (now : ℕ) (p q r : Pass) → Begins (seen q) (seen r) → PresentBetween z key now p q → PresentBetween z key now p r
+stood_to : (z : Shape) (key : List ℕ) (now : ℕ) (p q r : Pass) → Begins (seen q) (seen r) → PresentBetween z key now (seen p) (seen q) → PresentBetween z key now (seen p) (seen r)
 stood_to z key now p q r up (value, (history, between, is)) = (value, (history, (between.0, begins_on history (seen q) (seen r) between.1 up), is))
 
 -- by entries, or where the key stood
-by_both : (z : Shape) (key : List ℕ) (now : ℕ) (some more most : ℕ) (p q r : Pass) → Begins (seen p) (seen q) → Begins (seen q) (seen r) → CountsTries z key some more (trace p) (trace q) ⊎ PresentBetween z key now p q → CountsTries z key more most (trace q) (trace r) ⊎ PresentBetween z key now q r → CountsTries z key some most (trace p) (trace r) ⊎ PresentBetween z key now p r
+by_both : (z : Shape) (key : List ℕ) (now : ℕ) (some more most : ℕ) (p q r : Pass) → Begins (seen p) (seen q) → Begins (seen q) (seen r) → CountsTries z key some more (trace p) (trace q) ⊎ PresentBetween z key now (seen p) (seen q) → CountsTries z key more most (trace q) (trace r) ⊎ PresentBetween z key now (seen q) (seen r) → CountsTries z key some most (trace p) (trace r) ⊎ PresentBetween z key now (seen p) (seen r)
 by_both z key now some more most p q r up on (inl a) (inl b) = inl (omega (arith, a, b))
 by_both z key now some more most p q r up on (inl a) (inr s) = inr (stood_from z key now p q r up s)
 by_both z key now some more most p q r up on (inr s) b = inr (stood_to z key now p q r on s)
@@ -100,15 +100,15 @@ pub by_entries : (b : Board) (key : List ℕ) (now : ℕ) (some more : ℕ) (p q
 by_entries b key now some more p q i c = let g = glances_grow b i.reads.own p q (bucket_of b.shape key) i.reads.moved in (moved_seen b i.reads.own p q i.reads.moved, omega (arith, c, g), inl c)
 
 -- and one more by the bit, which was found set
-pub by_bit : (b : Board) (key : List ℕ) (now : ℕ) (some more : ℕ) (p q : Pass) → IsReader b p q → CountsTries b.shape key some more (trace p) (trace q) → glanced p (bucket_of b.shape key) + 1 ≤ glanced q (bucket_of b.shape key) → PresentBetween b.shape key now p q → Disturbs b.shape key now some (more + 1) p q
+pub by_bit : (b : Board) (key : List ℕ) (now : ℕ) (some more : ℕ) (p q : Pass) → IsReader b p q → CountsTries b.shape key some more (trace p) (trace q) → glanced p (bucket_of b.shape key) + 1 ≤ glanced q (bucket_of b.shape key) → PresentBetween b.shape key now (seen p) (seen q) → Disturbs b.shape key now some (more + 1) p q
 by_bit b key now some more p q i c g stood = (moved_seen b i.reads.own p q i.reads.moved, omega (arith, c, g), inr stood)
 
 -- 64 tries: so often the pass was disturbed
-is_disturbed_by : (z : Shape) (key : List ℕ) (now : ℕ) (p q : Pass) → 64 ≤ disturbed z key p q → CountsTries z key 0 64 (trace p) (trace q) ⊎ PresentBetween z key now p q → IsDisturbed z key now p q
+is_disturbed_by : (z : Shape) (key : List ℕ) (now : ℕ) (p q : Pass) → 64 ≤ disturbed z key (seen p) p q → CountsTries z key 0 64 (trace p) (trace q) ⊎ PresentBetween z key now (seen p) (seen q) → IsDisturbed z key now (seen p) p q
 is_disturbed_by z key now p q all (inl a) = inl (omega (arith, a))
 is_disturbed_by z key now p q all (inr s) = inr (all, s)
 
-pub is_disturbed : (b : Board) (key : List ℕ) (now : ℕ) (p q : Pass) → IsReader b p q → Disturbs b.shape key now 0 64 p q → IsDisturbed b.shape key now p q
+pub is_disturbed : (b : Board) (key : List ℕ) (now : ℕ) (p q : Pass) → IsReader b p q → Disturbs b.shape key now 0 64 p q → IsDisturbed b.shape key now (seen p) p q
 is_disturbed b key now p q i x =
     let e = entries_begin b.shape (bucket_of b.shape key) (trace p) (trace q) (moved_on b i.reads.own p q i.reads.moved) in let g = glances_grow b i.reads.own p q (bucket_of b.shape key) i.reads.moved in let c = x.1 in
     is_disturbed_by b.shape key now p q (omega (arith, e, g, c)) x.2

@@ -1,5 +1,5 @@
 -- Scans for a value with its version, one after another: what they add up to, and the answer.
-use Rattle.std.proofs.Common.{◌≡◌, ℕ, ◌+◌, ◌-◌, ◌<◌, ◌≤◌, List, refl, sym, ◌∙◌, subst, inl, arith}
+use Rattle.std.proofs.Common.{◌≡◌, ℕ, ◌+◌, ◌-◌, ◌<◌, ◌≤◌, ◌⊎◌, List, refl, sym, ◌∙◌, subst, inl, inr, arith}
 use Rattle.segmodel.specs.declared.answer.GetsAnswer.TheVariants as gets
 use Rattle.segmodel.specs.Words.{Begins, bucket_of, GetsAnswer}
 use Rattle.segcore.specs.Words.{KeyAhead}
@@ -10,9 +10,11 @@ use Rattle.segbase.proofs.Moves.{moved_on, moved_seen}
 use Rattle.segstore.specs.Words.{IsReader}
 use Rattle.segstore.proofs.Readers.{stays, reader_then}
 use Rattle.segread.specs.declared.version.Attempt.TheVariants.{Told}
-use Rattle.segread.specs.Hits.{GetsRaises, GlancesFew, GlancesOnce, TriesFew}
+use Rattle.segread.specs.Hits.{GetsRaisesFrom, GlancesFew, GlancesOnce, TriesFew}
 use Rattle.segread.specs.Scanning.{ComesIn, place_of, words_below, IsPlaceOf}
-use Rattle.segread.specs.Gets.{Attempts, IsGetsAnswer, Disturbs, MovesOn, IsAttempt}
+use Rattle.segread.specs.Looking.{AfterLook, LooksFirst}
+use Rattle.segread.specs.Gets.{Attempts, FindsVersion, IsGetsAnswer, Disturbs, MovesOn, IsAttempt}
+use Rattle.segread.proofs.Looking.{reads_from, same_at}
 use Rattle.segread.proofs.ComingIn.{attempts, attempts_then, tries_none, words_few}
 use Rattle.segread.proofs.Disturbing.{disturbs_none, disturbs_then, is_disturbed}
 use Rattle.segread.proofs.Raising.{raises_later}
@@ -27,6 +29,13 @@ pub record HasTried (b : Board) (key : List ℕ) (now : ℕ) (next : Place) (tri
   pub glances : (bucket : ℕ) → glanced q bucket ≤ glanced p bucket + tries
   pub tried : Attempts 1 (position b.shape (trace q) next) 0 tries p q
   pub ahead : KeyAhead b.shape key (position b.shape (trace q) next) (trace p) (trace q)
+
+-- the scans of a loop: none yet, or some, of which the first looked first
+pub record HasBegun (b : Board) (key : List ℕ) (now home : ℕ) (next : Place) (tries : ℕ) (p q : Pass) : Type 0 where
+  pub reads : IsReader b p q
+  pub few : tries ≤ 64
+  pub place : IsPlaceOf b.shape (trace q) key next
+  pub so : ((q ≡ p) × (next ≡ place_of home 1) × (tries ≡ 0)) ⊎ ((first : Pass) × LooksFirst b p first × HasTried b key now next tries first q)
 
 -- how many words are left to pass, and tries to count
 abbrev pub left_of : Board → Place → ℕ → Pass → ℕ
@@ -76,7 +85,7 @@ module _ (b : Board) (key : List ℕ) (now : ℕ) (next : Place) (tries : ℕ) (
   few_glances : tries < 64 → GlancesOnce q r → GlancesFew p r
   few_glances few one bucket = let before = t.glances bucket in let more = one bucket in omega arith
 
-  pub told_by : (draw : ℕ) (told : GetsAnswer) → tries < 64 → IsAttempt b.shape key now draw at tries (Told told) q r → TriesFew p r × GetsRaises b.shape key draw told p r × IsGetsAnswer b.shape key now told p r × GlancesFew p r
+  pub told_by : (draw : ℕ) (told : GetsAnswer) → tries < 64 → IsAttempt b.shape key now draw at tries (Told told) q r → TriesFew p r × GetsRaisesFrom b.shape key draw told p r × IsGetsAnswer b.shape key now told (seen p) p r × GlancesFew p r
   told_by draw (gets.Found value version) more x = (
     (let before = t.tried.comes_in in let then = x.2 in omega (arith, before, then)),
     raises_later b.shape key value draw p q r t.reads.reads.moved.same up t.tried.raises_nothing x.1,
@@ -97,7 +106,7 @@ module _ (b : Board) (key : List ℕ) (now : ℕ) (next : Place) (tries : ℕ) (
   )
 
 -- all tries are counted
-pub tried_all : (b : Board) (key : List ℕ) (now : ℕ) (next : Place) (tries draw : ℕ) (p q : Pass) → HasTried b key now next tries p q → 64 ≤ tries → TriesFew p q × GetsRaises b.shape key draw gets.Busy p q × IsGetsAnswer b.shape key now gets.Busy p q × GlancesFew p q
+pub tried_all : (b : Board) (key : List ℕ) (now : ℕ) (next : Place) (tries draw : ℕ) (p q : Pass) → HasTried b key now next tries p q → 64 ≤ tries → TriesFew p q × GetsRaisesFrom b.shape key draw gets.Busy p q × IsGetsAnswer b.shape key now gets.Busy (seen p) p q × GlancesFew p q
 tried_all b key now next tries draw p q t all =
     let few = t.few in let most = words_few (position b.shape (trace q) next) (in_chain b.shape (trace q) next t.reads.reads.moved.pass.lawful t.place.0).1 in (
       few_attempts 1 (position b.shape (trace q) next) tries p q refl (omega (arith, few, most)) t.tried,
@@ -105,3 +114,43 @@ tried_all b key now next tries draw p q t all =
       inl (is_disturbed b key now p q t.reads (subst (λ n. Disturbs b.shape key now 0 n p q) (let e : tries ≡ 64 = omega (arith, few, all) in e) t.disturbs)),
       (λ bucket. let looks = t.glances bucket in omega (arith, few, looks)),
     )
+
+-- ---- from the first look on
+
+pub begun_none : (b : Board) (key : List ℕ) (now home : ℕ) (p : Pass) → IsPassOf b p → home ≡ bucket_of b.shape key → HasBegun b key now home (place_of home 1) 0 p p
+begun_none b key now home p is at = record { reads = stays b p is; few = omega arith; place = (first_place b.shape key home (trace p) is.valid at).0; so = inl (refl, refl, refl) }
+
+-- after one more scan, which brought the pass from its first look or from `middle` to where it is
+pub record Scanned (b : Board) (key : List ℕ) (now : ℕ) (next : Place) (tries : ℕ) (p q : Pass) (Is : Pass → Type 0) : Type 0 where
+  pub first : Pass
+  pub look : LooksFirst b p first
+  pub middle : Pass
+  pub at : position b.shape (trace middle) next ≡ position b.shape (trace q) next
+  pub tried : HasTried b key now next tries first middle
+  pub is : Is middle
+
+module _ (b : Board) (key : List ℕ) (now home : ℕ) (next : Place) (tries : ℕ) (p q : Pass) (home_is : home ≡ bucket_of b.shape key) (place : IsPlaceOf b.shape (trace q) key next) where
+  scanned_by : (Is : Pass → Type 0) → ((q ≡ p) × (next ≡ place_of home 1) × (tries ≡ 0)) ⊎ ((first : Pass) × LooksFirst b p first × HasTried b key now next tries first q) → ((m : Pass) → LooksFirst b q m → Is m → Is q) → AfterLook b q Is → Scanned b key now next tries p q Is
+  scanned_by Is (inl none) wider x = let m = x.0 in let l = x.1 in record {
+    first = m;
+    look = subst (λ y. LooksFirst b y m) none.0 l;
+    middle = m;
+    at = same_at b key q m l next place;
+    tried = subst (λ t. HasTried b key now next t m m) (sym none.2) (subst (λ n. HasTried b key now n 0 m m) (sym none.1) (tried_none b key now home m l.look.did.moved.pass home_is));
+    is = x.2;
+  }
+  scanned_by Is (inr s) wider x = record { first = s.0; look = s.1; middle = q; at = refl; tried = s.2; is = wider x.0 x.1 x.2 }
+
+  pub scanned : (Is : Pass → Type 0) → HasBegun b key now home next tries p q → ((m : Pass) → LooksFirst b q m → Is m → Is q) → AfterLook b q Is → Scanned b key now next tries p q Is
+  scanned Is s wider x = scanned_by Is s.so wider x
+
+-- with more scans after the first look
+pub begun_by : (b : Board) (key : List ℕ) (now home : ℕ) (next : Place) (tries : ℕ) (p first q : Pass) → LooksFirst b p first → HasTried b key now next tries first q → HasBegun b key now home next tries p q
+begun_by b key now home next tries p first q l t = record { reads = reads_from b key p first l q t.reads; few = t.few; place = t.place; so = inr (first, l, t) }
+
+pub find_none : (b : Board) (key : List ℕ) (now home : ℕ) (next : Place) (tries draw : ℕ) (p q : Pass) → HasBegun b key now home next tries p q → 64 ≤ tries → AfterLook b p (λ first. FindsVersion b key draw now gets.Busy first q)
+find_none b key now home next tries draw p q s all = found_by s.so
+  where
+    found_by : ((q ≡ p) × (next ≡ place_of home 1) × (tries ≡ 0)) ⊎ ((first : Pass) × LooksFirst b p first × HasTried b key now next tries first q) → AfterLook b p (λ first. FindsVersion b key draw now gets.Busy first q)
+    found_by (inl none) = absurd (let zero = none.2 in omega (arith, zero, all))
+    found_by (inr t) = let told = tried_all b key now next tries draw t.0 q t.2 all in (t.0, t.1, record { reads = t.2.reads; tries = told.0; glances = told.3; raises = told.1; answer = told.2 })

@@ -14,7 +14,7 @@ use Rattle.segstore.specs.Words.{LeavesSegment, ReadsRow, row_part, segment_part
 use Rattle.segstore.proofs.Readers.{looks, then_reader, leave_then}
 use Rattle.segstore.proofs.Seconds.{segment_of_item, found_readable, found_value}
 use Rattle.segpass.specs.Words.{RaisesNothing}
-use Rattle.segread.specs.Hits.{RaisesFrom, RaisesOne}
+use Rattle.segread.specs.Hits.{RaisesFrom}
 use Rattle.segread.proofs.Raising.{raises_after, raises_sooner}
 
 -- with p the pass before the scan, q in the item's segment, and v after its row was read
@@ -46,5 +46,5 @@ found_on b p q place item key value h there m f =
 -- ---- what a hit raises
 
 -- with p before the call, v before the frequency was raised, t after it, and r at the end
-pub hit_raises : (b : Board) (key value : List ℕ) (draw : ℕ) (p v t r : Pass) → number v ≡ number p → Begins (trace p) (trace v) → Begins (trace t) (trace r) → RaisesNothing p v → RaisesFrom b.shape key value draw (trace p) v t → RaisesNothing t r → RaisesOne b.shape key value draw p r
+pub hit_raises : (b : Board) (key value : List ℕ) (draw : ℕ) (p v t r : Pass) → number v ≡ number p → Begins (trace p) (trace v) → Begins (trace t) (trace r) → RaisesNothing p v → RaisesFrom b.shape key value draw (trace p) v t → RaisesNothing t r → RaisesFrom b.shape key value draw (trace p) p r
 hit_raises b key value draw p v t r same from to before one then = raises_sooner b.shape key value draw (trace p) p t r to (raises_after b.shape key value draw (trace p) (trace p) p v t same ([], refl) before one) then

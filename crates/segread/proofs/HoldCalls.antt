@@ -16,7 +16,7 @@ use Rattle.segcore.proofs.Moments.{begins_on, seen_begins}
 use Rattle.segbase.specs.declared.pass.Plain.{Plain}
 use Rattle.segbase.specs.Words.{AddsAtOnce, AddsEvents, Board, HasHeld, Held, holding}
 use Rattle.segbase.specs.Words.{is_holding_of, IsMemo, IsPassOf, Locked, locked, locked_of, Memo}
-use Rattle.segbase.specs.Words.{mine, number, OnlyReads, Pass, Place, seen, trace, view}
+use Rattle.segbase.specs.Words.{mine, number, OnlyReads, Pass, Place, seen, StartsAt, trace, view}
 use Rattle.segbase.specs.Words.{with_holding}
 use Rattle.segbase.proofs.Owned.{still_pass}
 use Rattle.segbase.proofs.Staying.{none_both}
@@ -35,7 +35,9 @@ use Rattle.segpass.proofs.Still.{then_minds}
 use Rattle.segpass.proofs.Bits.{none_at_both, bit_before}
 use Rattle.segpass.proofs.Draws.{moved_undrawn, reads_undrawn}
 use Rattle.segread.proofs.ComingIn.{glances_none, raises_none}
-use Rattle.segread.proofs.Answered.{costs_of_looks, reads_set_none, reads_try_none}
+use Rattle.segread.specs.Looking.{LooksFirst}
+use Rattle.segread.proofs.Looking.{out, reads_from}
+use Rattle.segread.proofs.Answered.{costs_from, reads_set_none, reads_try_none, unset_from}
 use Rattle.segpass.proofs.Idling.{took_none}
 use Rattle.segread.proofs.Holding.{held_at, held_from, held_past, held_deadline, held_stood, has_held, is_hold, held_row, row_of_hold}
 use Rattle.segpass.proofs.Quiet.{has_lock, goes_on, reads_none}
@@ -190,8 +192,8 @@ module _ (b : Board) (p r q : Pass) (place : Place) (item : Item) (key value : L
   readings : (s : ℕ) → inside (trace q) (number p) s ≡ (let n : ℕ = cond (eqb item.seg s) 1 0 in n)
   readings s = ap (λ (v : View). inside v.trace (number p) s) view_is ∙ (reads.reads.inside s ∙ ap (λ n. cond (eqb item.seg s) (n + 1) n) (in_no_segment s))
 
-  pub takes_hold : (now deadline : ℕ) → HasDeadline z item.seg deadline (trace r) → now < deadline → GoesOn b p q × TakesHold z key now hold p q
-  takes_hold now deadline had before = (
+  pub takes_hold : (now deadline : ℕ) → HasDeadline z item.seg deadline (trace r) → now < deadline → (start : List Event) → StartsAt p q start → Begins start at → GoesOn b p q × TakesHold z key now hold p q
+  takes_hold now deadline had before start first since = (
     goes_on_holding b reads.reads.own (Some held) p r q quiet reads.reads.moved reads.reads.only reads.plain reads.memo is view_is sets readings
         (λ x here. subst (IsHold z (trace r)) (same_Some held x here) (is_hold z key value item.seg item.row at (trace r) lawful kept stands)),
     record {
@@ -201,21 +203,25 @@ module _ (b : Board) (p r q : Pass) (place : Place) (item : Item) (key value : L
       finds = stands_present (after z (event.seen held.trace)) key value item.seg deadline now (held_stood z key value item.seg item.row at (trace r) lawful kept stands).stands
           (held_deadline z key value item.seg item.row at (trace r) lawful kept stands deadline had) before;
       between = (
-        seen_begins (trace p) held.trace (begins_on (trace p) at held.trace found.saw.between.0 (held_from z key value item.seg item.row at (trace r) lawful kept stands)),
-        seen_begins held.trace (trace q) (subst (λ (v : View). Begins held.trace v.trace) (sym view_is) (held_past z key value item.seg item.row at (trace r) lawful kept stands)),
+        start,
+        first,
+        (
+          seen_begins start held.trace (begins_on start at held.trace since (held_from z key value item.seg item.row at (trace r) lawful kept stands)),
+          seen_begins held.trace (trace q) (subst (λ (v : View). Begins held.trace v.trace) (sym view_is) (held_past z key value item.seg item.row at (trace r) lawful kept stands)),
+        ),
       );
       entries = entries_stay b reads.reads.own (Some held) p r q quiet reads.reads.moved reads.reads.only reads.plain reads.memo is view_is sets;
       sets = sets_hold b reads.reads.own (Some held) p r q quiet reads.reads.moved reads.reads.only reads.plain reads.memo is view_is sets;
     },
   )
 
--- no item was found
-pub holds_none : (b : Board) (key : List ℕ) (now : ℕ) (told : HoldAnswer) (p q : Pass) → IsQuiet b p → IsReader b p q → TriesFew p q → OnlyScans p q → (ChangesNothing p q → IsHoldAnswer b.shape key now told p q) → ((told ≡ answer.AlreadyHolding) ↔ (is_holding_of p ≡ true)) → HoldsItem b key now told p q
-holds_none b key now told p q quiet i few only then already = let on = read_on b p q quiet i.reads i.plain i.memo in record {
+-- no item was found; with m right after the first look
+pub holds_none : (b : Board) (key : List ℕ) (now : ℕ) (told : HoldAnswer) (p m q : Pass) → IsQuiet b p → LooksFirst b p m → IsReader b m q → TriesFew m q → OnlyScans m q → (ChangesNothing p q → IsHoldAnswer b.shape key now told p q) → ((told ≡ answer.AlreadyHolding) ↔ (is_holding_of p ≡ true)) → HoldsItem b key now told p q
+holds_none b key now told p m q quiet l i few only then already = let on = read_on b p q quiet (reads_from b key p m l q i).reads (reads_from b key p m l q i).plain (reads_from b key p m l q i).memo in record {
   on = on.0;
   answer = then on.1;
   already = already;
-  costs = record { looks = costs_of_looks b p q i few; glances_nothing = glances_none p q only; raises_nothing = raises_none p q only };
+  costs = record { looks = costs_from b key p m q l i few; glances_nothing = unset_from b key p m q l i (glances_none m q only); raises_nothing = raises_none p q (only ∙ (out b key p m l).1) };
 }
 
 -- what the pass may keep in mind of what it found

@@ -3,12 +3,14 @@ pub mod ComingIn
 pub mod Tries
 pub mod Raising
 pub mod Scans
+pub mod Looking
 pub mod Answered
 pub mod Deadlines
 pub mod Disturbing
 pub mod OneMoment
 pub mod Versions
 pub mod Finding
+pub mod Attempts
 pub mod Holding
 pub mod Hits
 pub mod HoldCalls

@@ -28,7 +28,7 @@ use Rattle.segstore.specs.Words.{FoundItem, IsChained, row_part, segment_part, W
 use Rattle.segstore.proofs.Words.{chained_later, same_place, stood_item}
 use Rattle.segstore.proofs.Seconds.{segment_of_item, row_of_item}
 use Rattle.segpass.specs.Words.{RaisesNothing}
-use Rattle.segread.specs.Hits.{HasFrequency, CountsHit, GlancesNothing, IsItemAtPosition, PassesHit, IsOvertaken, RaisesFrom, RaisesOne}
+use Rattle.segread.specs.Hits.{HasFrequency, CountsHit, GlancesNothing, IsItemAtPosition, PassesHit, IsOvertaken, RaisesFrom}
 use Rattle.segread.proofs.Tries.{has_tag}
 
 -- an item whose word stands at a place is its key's, and has the word's frequency
@@ -251,7 +251,7 @@ pub raises_after : (z : Shape) (key value : List ℕ) (draw : ℕ) (h g : List E
 raises_after z key value draw h g p q r same up none (inl i) = inl (i.0 ∙ ap (λ n. n + 1) none, subst (λ n. CountsHit z key value draw n h (trace r)) same (counts_wider z key value draw (number q) h g (trace r) (trace r) up ([], refl) i.1))
 raises_after z key value draw h g p q r same up none (inr i) = inr (i.0 ∙ none, none_wider z key value draw h g (trace r) (trace r) up ([], refl) i.1)
 
-pub raises_later : (z : Shape) (key value : List ℕ) (draw : ℕ) (p q r : Pass) → number q ≡ number p → Begins (trace p) (trace q) → RaisesNothing p q → RaisesOne z key value draw q r → RaisesOne z key value draw p r
+pub raises_later : (z : Shape) (key value : List ℕ) (draw : ℕ) (p q r : Pass) → number q ≡ number p → Begins (trace p) (trace q) → RaisesNothing p q → RaisesFrom z key value draw (trace q) q r → RaisesFrom z key value draw (trace p) p r
 raises_later z key value draw p q r same up none i = raises_after z key value draw (trace p) (trace q) p q r same up none i
 
 pub raises_sooner : (z : Shape) (key value : List ℕ) (draw : ℕ) (h : List Event) (p q r : Pass) → Begins (trace q) (trace r) → RaisesFrom z key value draw h p q → RaisesNothing q r → RaisesFrom z key value draw h p r

@@ -161,8 +161,9 @@ tried z key place tries item count h g f up y = counts_later z key tries count h
 
 -- ---- what a visit passes
 
-pub saw_now : (b : Board) (p q : Pass) (place : Place) (w : ℕ) → AddsAtOnce b [] p q → w ≡ word_of_place b.shape (trace q) place → SawWord b.shape place w (trace p) (trace q)
-saw_now b p q place w d is = record { at = trace q; between = (moved_on b [] p q d.moved, ([], refl)); lawful = d.moved.pass.lawful; stood = sym is }
+-- by a look, of which nothing came before
+pub saw_here : (b : Board) (p q : Pass) (place : Place) (w : ℕ) → AddsAtOnce b [] p q → w ≡ word_of_place b.shape (trace q) place → SawWord b.shape place w (trace q) (trace q)
+saw_here b p q place w d is = record { at = trace q; between = (([], refl), ([], refl)); lawful = d.moved.pass.lawful; stood = sym is }
 
 pub passed_word : (z : Shape) (key : List ℕ) (place : Place) (w tag : ℕ) (h g f : List Event) → IsValid z → IsPlaceOf z h key place → Begins h g → SawWord z place w g f → tag ≡ tag_of key → w / 2 ^ 52 ≢ tag → HasPassed z key (position z h place) (position z h place + 1) place w h f
 passed_word z key place w tag h g f v of up s is ne =

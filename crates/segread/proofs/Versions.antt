@@ -16,7 +16,7 @@ use Rattle.segstore.proofs.Words.{same_place, chained_later}
 use Rattle.segstore.proofs.Seconds.{segment_of_item}
 use Rattle.segstore.proofs.Readers.{looks, reader_then, then_reader, leave_then}
 use Rattle.segread.specs.declared.scan.Hit.{Hit}
-use Rattle.segread.specs.Hits.{GlancesNothing, GlancesOnce, RaisesFrom, RaisesOne}
+use Rattle.segread.specs.Hits.{GlancesNothing, GlancesOnce, RaisesFrom}
 use Rattle.segread.specs.Scanning.{HasDeadline, words_below, IsPlaceOf, IsPlaceAfter, ComesIn, CountsTries, AdvancesSearch, HasPassed, IsHit, IsEnded}
 use Rattle.segread.specs.Gets.{Attempts, ReadsVersionBetween, HasNoBit, Disturbs, IsMissed, IsSeen, MovesOn}
 use Rattle.segread.proofs.Answered.{gone_reads}
@@ -239,7 +239,7 @@ module _ (b : Board) (key : List ℕ) (now from tries draw : ℕ) (hit : Hit) (v
   to_end : Begins (trace l) (trace r)
   to_end = begins_on (trace l) (trace t) (trace r) (moved_on b counted.reads.own l t counted.reads.moved) (moved_on b _ t r gone.moved)
 
-  pub hit_told : ReadsVersionBetween b.shape key now (seen p) (seen r) (Some (value, info.version)) × RaisesOne b.shape key value draw p r × ComesIn from 32 tries 63 p r
+  pub hit_told : ReadsVersionBetween b.shape key now (seen p) (seen r) (Some (value, info.version)) × RaisesFrom b.shape key value draw (trace p) p r × ComesIn from 32 tries 63 p r
       × GlancesOnce p r
   hit_told = let x = s.version clear same in let away = leaves b hit.item.seg t r gone.moved in (
     (x.0, (x.1.0, begins_on x.0 (seen l) (seen r) x.1.1 (seen_begins (trace l) (trace r) to_end)), x.2),

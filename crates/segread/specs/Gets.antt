@@ -8,7 +8,7 @@ use Rattle.segmodel.specs.Words.{reads_version, stirred}
 use Rattle.segcore.specs.Event as event
 use Rattle.segcore.specs.Words.{Event, HasBit, IsSegment, KeyAhead}
 use Rattle.segbase.specs.Words.{Board, glanced, locked_of, number, Pass, Place, position, seen}
-use Rattle.segbase.specs.Words.{trace}
+use Rattle.segbase.specs.Words.{SinceFirst, trace}
 use Rattle.segstore.specs.Words.{FoundItem, IsReader, IsReaderIn, word_of_place}
 use Rattle.segread.specs.declared.scan.Hit.{Hit}
 use Rattle.segread.specs.declared.version.Sight.{Sight}
@@ -18,7 +18,8 @@ use Rattle.segread.specs.declared.version.Attempt.TheVariants as attempt
 use Rattle.segpass.specs.Words.{ChangesNothing, GoesOn, RaisesNothing}
 use Rattle.segread.specs.Costs.{CostsOfGets}
 use Rattle.segread.specs.Reads.{ReadsBetween}
-use Rattle.segread.specs.Hits.{GlancesNothing, GlancesOnce, RaisesOne}
+use Rattle.segread.specs.Hits.{GetsRaisesFrom, GlancesFew, GlancesNothing, GlancesOnce, OnlyScans}
+use Rattle.segread.specs.Hits.{RaisesFrom, TriesFew}
 use Rattle.segread.specs.Scanning.{IsPlaceOf, words_below, ComesIn, CountsTries, AdvancesSearch, GivesUp}
 
 -- ---- the answer
@@ -32,47 +33,48 @@ ReadsVersionBetween shape key now old new read =
     × IsBetween old new history
     × (reads_version shape (after shape history) now key ≡ read)
 
--- How often the pass was disturbed at the key's bucket: by entries of the bucket that came in,
--- and by looks of the pass that found the bucket's bit set by another.
-abbrev pub disturbed : Shape → List ℕ → Pass → Pass → ℕ
-disturbed shape key p q =
-    stirred shape key (seen p) (seen q)
+-- How often the pass was disturbed at the key's bucket: by entries of the bucket that came in since
+-- a history, and by looks of the pass that found the bucket's bit set by another.
+abbrev pub disturbed : Shape → List ℕ → List Entry → Pass → Pass → ℕ
+disturbed shape key old p q =
+    stirred shape key old (seen q)
     + (glanced q (bucket_of shape key) - glanced p (bucket_of shape key))
 
--- the key was present at some moment from the one pass to the other
-abbrev pub PresentBetween : Shape → List ℕ → ℕ → Pass → Pass → Type 0
-PresentBetween shape key now p q =
-    (value : List ℕ) × ReadsBetween shape key now (seen p) (seen q) (Some value)
+-- the key was present at some moment from one history to a longer one
+abbrev pub PresentBetween : Shape → List ℕ → ℕ → List Entry → List Entry → Type 0
+PresentBetween shape key now old new =
+    (value : List ℕ) × ReadsBetween shape key now old new (Some value)
 
 -- 64 entries of the key's bucket came in; or the key was present,
 -- and with the looks that found the bit they are 64
-abbrev pub IsDisturbed : Shape → List ℕ → ℕ → Pass → Pass → Type 0
-IsDisturbed shape key now p q =
-    (64 ≤ stirred shape key (seen p) (seen q))
-    ⊎ ((64 ≤ disturbed shape key p q) × PresentBetween shape key now p q)
+abbrev pub IsDisturbed : Shape → List ℕ → ℕ → List Entry → Pass → Pass → Type 0
+IsDisturbed shape key now old p q =
+    (64 ≤ stirred shape key old (seen q))
+    ⊎ ((64 ≤ disturbed shape key old p q) × PresentBetween shape key now old (seen q))
 
 -- the key was present, and its bucket is locked by the pass itself
-abbrev pub PresentLocked : Shape → List ℕ → ℕ → Pass → Pass → Type 0
-PresentLocked shape key now p q =
-    (locked_of p ≡ Some (bucket_of shape key)) × PresentBetween shape key now p q
+abbrev pub PresentLocked : Shape → List ℕ → ℕ → List Entry → Pass → Pass → Type 0
+PresentLocked shape key now old p q =
+    (locked_of p ≡ Some (bucket_of shape key)) × PresentBetween shape key now old (seen q)
 
--- A gets answers as a cache of one thread does at some moment of the call.
+-- A gets answers as a cache of one thread does at some moment from this history on.
 -- It is Busy only if the pass was disturbed
 -- 64 times, or if the key was present and the pass itself has its bucket locked.
-abbrev pub IsGetsAnswer : Shape → List ℕ → ℕ → GetsAnswer → Pass → Pass → Type 0
-IsGetsAnswer shape key now (gets.Found value version) p q =
-    ReadsVersionBetween shape key now (seen p) (seen q) (Some (value, version))
-IsGetsAnswer shape key now gets.Miss p q = ReadsBetween shape key now (seen p) (seen q) None
-IsGetsAnswer shape key now gets.Busy p q =
-    IsDisturbed shape key now p q ⊎ PresentLocked shape key now p q
+abbrev pub IsGetsAnswer : Shape → List ℕ → ℕ → GetsAnswer → List Entry → Pass → Pass → Type 0
+IsGetsAnswer shape key now (gets.Found value version) old p q =
+    ReadsVersionBetween shape key now old (seen q) (Some (value, version))
+IsGetsAnswer shape key now gets.Miss old p q = ReadsBetween shape key now old (seen q) None
+IsGetsAnswer shape key now gets.Busy old p q =
+    IsDisturbed shape key now old p q ⊎ PresentLocked shape key now old p q
 
 -- A gets of a key has this answer, and changes nothing.
+-- All that the answer says of moments and entries is so after the call's first step.
 -- It finds nothing in a bucket that the pass itself has locked.
 pub record ReadsVersion (b : Board) (key : List ℕ) (draw now : ℕ) (told : GetsAnswer) (p q : Pass)
     : Type 0 where
   pub on : GoesOn b p q
   pub keeps : ChangesNothing p q
-  pub answer : IsGetsAnswer b.shape key now told p q
+  pub answer : SinceFirst p q (λ start. IsGetsAnswer b.shape key now told (event.seen start) p q)
   pub unlocked : (value : List ℕ) (version : ℕ) → told ≡ gets.Found value version
       → locked_of p ≢ Some (bucket_of b.shape key)
   pub costs : CostsOfGets b.shape key draw told p q
@@ -92,7 +94,8 @@ Disturbs shape key now some more p q =
     Begins (seen p) (seen q)
     × (entries_of shape bucket (seen p) + glanced p bucket + more
     ≤ entries_of shape bucket (seen q) + glanced q bucket + some)
-    × (CountsTries shape key some more (trace p) (trace q) ⊎ PresentBetween shape key now p q)
+    × (CountsTries shape key some more (trace p) (trace q)
+    ⊎ PresentBetween shape key now (seen p) (seen q))
 
 -- The pass came into segments no more often than that, and raised no frequency.
 -- Words and tries together are no fewer than before. Beside that it may have found a bit set.
@@ -129,7 +132,7 @@ pub record IsSeen (b : Board) (key : List ℕ) (now from tries : ℕ) (hit : Hit
   pub brings : AdvancesSearch b.shape key from (position b.shape (trace q) hit.place) (trace p)
       (trace q)
   pub counted : CountsTries b.shape key tries hit.tries (trace p) (trace q)
-  pub stood : PresentBetween b.shape key now p q
+  pub stood : PresentBetween b.shape key now (seen p) (seen q)
   pub stands : word ≡ word_of_place b.shape (trace q) hit.place
   -- the bit was set
   pub glanced : info.held ≡ true
@@ -167,7 +170,7 @@ pub record MovesOn (shape : Shape) (key : List ℕ) (now from tries : ℕ) (next
 abbrev pub IsAttempt : Shape → List ℕ → ℕ → ℕ → ℕ → ℕ → Attempt → Pass → Pass → Type 0
 IsAttempt shape key now draw from tries (attempt.Told (gets.Found value version)) p q =
     ReadsVersionBetween shape key now (seen p) (seen q) (Some (value, version))
-    × RaisesOne shape key value draw p q × ComesIn from 32 tries 63 p q
+    × RaisesFrom shape key value draw (trace p) p q × ComesIn from 32 tries 63 p q
     × GlancesOnce p q
 IsAttempt shape key now draw from tries (attempt.Told gets.Miss) p q =
     IsMissed shape key now from tries p q
@@ -175,3 +178,33 @@ IsAttempt shape key now draw from tries (attempt.Told gets.Busy) p q =
     Disturbs shape key now tries 64 p q × Attempts from 32 tries 63 p q × GlancesOnce p q
 IsAttempt shape key now draw from tries (attempt.GoesOn place counted) p q =
     MovesOn shape key now from tries place counted p q
+
+-- one scan from a place on
+abbrev pub Attempted : Board → List ℕ → ℕ → ℕ → Place → ℕ → Attempt → Pass → Pass → Type 0
+Attempted b key now draw from tries told p q =
+    IsReader b p q
+    × IsAttempt b.shape key now draw (position b.shape (trace p) from) tries told p q
+
+-- what one scan from a place on saw
+abbrev pub Sees : Board → List ℕ → ℕ → Place → ℕ → Sight → Pass → Pass → Type 0
+Sees b key now from tries told p q =
+    IsVersionSight b key now (position b.shape (trace p) from) tries told p q
+
+-- ---- all scans
+
+-- a scan for a key whose bucket the pass itself has locked
+pub record FindsLocked (b : Board) (key : List ℕ) (now : ℕ) (told : GetsAnswer) (p q : Pass)
+    : Type 0 where
+  pub reads : IsReader b p q
+  pub tries : TriesFew p q
+  pub only_scans : OnlyScans p q
+  pub answer : IsGetsAnswer b.shape key now told (seen p) p q
+
+-- scans for a key and its version, from the first word of the chain on
+pub record FindsVersion (b : Board) (key : List ℕ) (draw now : ℕ) (told : GetsAnswer) (p q : Pass)
+    : Type 0 where
+  pub reads : IsReader b p q
+  pub tries : TriesFew p q
+  pub glances : GlancesFew p q
+  pub raises : GetsRaisesFrom b.shape key draw told p q
+  pub answer : IsGetsAnswer b.shape key now told (seen p) p q

@@ -9,7 +9,8 @@ use Rattle.segcore.specs.declared.event.Event.TheVariants.{Bumped}
 use Rattle.segcore.specs.Mark.{place}
 use Rattle.segcore.specs.Words.{cached, Event, frequency_in, inside, last_at, marked, seen, slot}
 use Rattle.segpolicy.specs.Words.{draw_raises}
-use Rattle.segbase.specs.Words.{Board, entered, glanced, number, Pass, Place, raised, trace}
+use Rattle.segbase.specs.Words.{Board, entered, glanced, number, Pass, Place, raised, SinceFirst}
+use Rattle.segbase.specs.Words.{trace}
 use Rattle.segstore.specs.Words.{FoundItem}
 use Rattle.segpass.specs.Words.{RaisesNothing}
 
@@ -99,8 +100,10 @@ RaisesFrom shape key value draw before p q =
     × (PassesHit shape key value draw before (trace q)
     ⊎ ((1 < shape.passes) × IsOvertaken shape key value before (trace q))))
 
+-- the same from what the first step of a call saw
 abbrev pub RaisesOne : Shape → List ℕ → List ℕ → ℕ → Pass → Pass → Type 0
-RaisesOne shape key value draw p q = RaisesFrom shape key value draw (trace p) p q
+RaisesOne shape key value draw p q =
+    SinceFirst p q (λ start. RaisesFrom shape key value draw start p q)
 
 -- The pass does so with the item at a place,
 -- from a moment on at which the item was found for a key.
@@ -115,6 +118,12 @@ RaisesFound b place item draw p q = (key value : List ℕ) (before : List Event)
 abbrev pub GetRaises : Shape → List ℕ → ℕ → GetAnswer → Pass → Pass → Type 0
 GetRaises shape key draw (get.Found value) p q = RaisesOne shape key value draw p q
 GetRaises shape key draw _ p q = RaisesNothing p q
+
+-- on the way a gets does so from what the pass had seen
+abbrev pub GetsRaisesFrom : Shape → List ℕ → ℕ → GetsAnswer → Pass → Pass → Type 0
+GetsRaisesFrom shape key draw (gets.Found value version) p q =
+    RaisesFrom shape key value draw (trace p) p q
+GetsRaisesFrom shape key draw _ p q = RaisesNothing p q
 
 abbrev pub GetsRaises : Shape → List ℕ → ℕ → GetsAnswer → Pass → Pass → Type 0
 GetsRaises shape key draw (gets.Found value version) p q = RaisesOne shape key value draw p q

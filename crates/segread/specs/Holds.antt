@@ -5,7 +5,8 @@ use Rattle.segmodel.specs.declared.entry.Entry.TheVariants.{Refilled}
 use Rattle.segmodel.specs.Words.{after, Entry, IsBetween, IsStanding, present, stirred}
 use Rattle.segcore.specs.Event as event
 use Rattle.segcore.specs.Words.{Event, Holds, IsSegment, row_after}
-use Rattle.segbase.specs.Words.{Board, Held, holding, is_holding_of, mine, Pass, seen, with_holding}
+use Rattle.segbase.specs.Words.{Board, Held, holding, is_holding_of, mine, Pass, seen, SinceFirst}
+use Rattle.segbase.specs.Words.{with_holding}
 use Rattle.segread.specs.declared.held.Hold.{Hold}
 use Rattle.segread.specs.declared.held.HoldAnswer.{HoldAnswer}
 use Rattle.segread.specs.declared.held.HoldAnswer.TheVariants as hold_answer
@@ -34,7 +35,7 @@ pub record SetsHold (held : Option Held) (p q : Pass) : Type 0 where
   pub memo : memo q ≡ record (memo p) { holding = held }
 
 -- The pass holds an item of the key.
--- The item stood at some moment of the call, and was then present at `now`.
+-- The item stood at some moment after the call's first step, and was then present at `now`.
 pub record TakesHold (shape : Shape) (key : List ℕ) (now : ℕ) (hold : Hold) (p q : Pass)
     : Type 0 where
   pub is : IsHoldOf shape hold q
@@ -42,7 +43,8 @@ pub record TakesHold (shape : Shape) (key : List ℕ) (now : ℕ) (hold : Hold) 
   pub stood : IsStanding shape (event.seen is.held.trace) is.held.key is.held.value is.held.segment
   pub finds : present (after shape (event.seen is.held.trace)) now is.held.key
       ≡ Some (record { value = is.held.value; segment = is.held.segment })
-  pub between : IsBetween (seen p) (seen q) (event.seen is.held.trace)
+  pub between : SinceFirst p q
+      (λ start. IsBetween (event.seen start) (seen q) (event.seen is.held.trace))
   pub entries : mine q ≡ mine p
   pub sets : SetsHold (Some is.held) p q
 
@@ -50,9 +52,11 @@ pub record TakesHold (shape : Shape) (key : List ℕ) (now : ℕ) (hold : Hold) 
 abbrev pub IsHoldAnswer : Shape → List ℕ → ℕ → HoldAnswer → Pass → Pass → Type 0
 IsHoldAnswer shape key now (hold_answer.Holding hold) p q = TakesHold shape key now hold p q
 IsHoldAnswer shape key now hold_answer.Miss p q =
-    ChangesNothing p q × ReadsBetween shape key now (seen p) (seen q) None
+    ChangesNothing p q
+    × SinceFirst p q (λ start. ReadsBetween shape key now (event.seen start) (seen q) None)
 IsHoldAnswer shape key now hold_answer.Busy p q =
-    ChangesNothing p q × (64 ≤ stirred shape key (seen p) (seen q))
+    ChangesNothing p q
+    × SinceFirst p q (λ start. 64 ≤ stirred shape key (event.seen start) (seen q))
 IsHoldAnswer shape key now hold_answer.AlreadyHolding p q = q ≡ p
 
 -- a hold of a key has this answer, which is AlreadyHolding exactly if the pass holds an item

@@ -2,6 +2,7 @@ pub mod Costs
 pub mod Gets
 pub mod Hits
 pub mod Holds
+pub mod Looking
 pub mod Props
 pub mod Reads
 pub mod Rows

@@ -15,7 +15,7 @@ use Rattle.segread.specs.declared.scan.Way.{Way}
 use Rattle.segread.specs.declared.scan.Way.TheVariants as way
 use Rattle.segread.specs.declared.scan.Scan.{Scan}
 use Rattle.segread.specs.declared.scan.Scan.TheVariants as scan
-use Rattle.segread.specs.Hits.{OnlyScans}
+use Rattle.segread.specs.Hits.{OnlyScans, TriesFew}
 
 -- ---- chains
 
@@ -72,11 +72,11 @@ abbrev pub HasDeadline : Shape → ℕ → ℕ → List Event → Type 0
 HasDeadline shape segment deadline trace = (after shape (seen trace)).deadline segment ≡ deadline
 
 -- if the item is the key's, the deadline is that of its segment
-abbrev pub TellsDeadline : Shape → Trial → List Event → Type 0
-TellsDeadline shape (trial.Same item header deadline) trace =
+abbrev pub ReturnsDeadline : Shape → Trial → List Event → Type 0
+ReturnsDeadline shape (trial.Same item header deadline) trace =
     HasDeadline shape item.seg deadline trace
-TellsDeadline shape (trial.Other item) trace = Unit {0}
-TellsDeadline shape (trial.Changed word) trace = Unit {0}
+ReturnsDeadline shape (trial.Other item) trace = Unit {0}
+ReturnsDeadline shape (trial.Changed word) trace = Unit {0}
 
 -- ---- tries
 
@@ -181,3 +181,25 @@ IsScanAnswer shape key (scan.Found hit) old new =
     × HasDeadline shape hit.item.seg hit.deadline new
 IsScanAnswer shape key scan.Absent old new = WasGone (KeyGone shape key) old new
 IsScanAnswer shape key scan.Busy old new = CountsTries shape key 0 64 old new
+
+-- ---- from one pass to another
+
+-- looks from one place up to another
+abbrev pub GoesAlong : Board → List ℕ → Place → Place → ℕ → Way → Pass → Pass → Type 0
+GoesAlong b key from last tries told p q =
+    IsOnWay b told p q
+    × IsWay b.shape key (position b.shape (trace p) from) (position b.shape (trace p) last + 1) last
+    tries told p q
+
+-- looks from a place up to the chain's end
+abbrev pub ScansOn : Board → List ℕ → Place → ℕ → Scan → Pass → Pass → Type 0
+ScansOn b key from tries told p q =
+    IsScanner b told p q
+    × IsScanFrom b.shape key (position b.shape (trace p) from) tries told p q
+
+-- a scan of the whole chain
+pub record ScansChain (b : Board) (key : List ℕ) (told : Scan) (p q : Pass) : Type 0 where
+  pub reads : IsScanner b told p q
+  pub tries : TriesFew p q
+  pub only_scans : OnlyScans p q
+  pub answer : IsScanAnswer b.shape key told (trace p) (trace q)

@@ -13,8 +13,8 @@ use segpolicy::next_frequency;
 use segstore::{leave_segment, value_of_row};
 use segword::{Item, Key};
 
-/// The value under a key at a moment. From the deadline of the key's segment on the answer is Miss.
-/// A hit raises the frequency of the key's item if the draw, a random number, says so.
+/// The value under a key at a moment. From the deadline of the key's segment on it is a Miss.
+/// A hit raises the frequency of the key's item if the draw, a random number, counts.
 #[inline(always)]
 pub fn get(board: &Board, pass: &mut Pass, key: &Key, draw: u32, now: u32) -> GetAnswer
     requires pass { IsQuiet board.now pass.old }

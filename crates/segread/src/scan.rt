@@ -1,17 +1,17 @@
 //! A reader's way along the chain of a key, without the bucket's bit. It looks at each word, and at
 //! a word with the key's tag it looks a second time, from within the item's segment.
 //! A scan can begin at any place of the chain.
-ghost use Rattle.std.specs.Prelude.{◌≡◌, ◌≢◌, ◌+◌, ◌<◌, ◌≤◌, IfSome, IsNone};
+ghost use Rattle.std.specs.Prelude.{◌≡◌, ◌≢◌, ◌<◌, ◌≤◌, IfSome, IsNone};
 ghost use Rattle.segword.specs.Words.{IsValid, item_word, tag_part};
 ghost use Rattle.segmodel.specs.Words.{tag_of};
 ghost use Rattle.segcore.specs.Words.{enter, May};
-ghost use Rattle.segbase.specs.Words.{IsPassOf, number, position, trace};
+ghost use Rattle.segbase.specs.Words.{IsPassOf, number, trace};
 ghost use Rattle.segstore.specs.Words.{IsChained, IsKeyed};
 ghost use Rattle.segpass.specs.Words.{IsQuiet, MayEnterAny};
-ghost use Rattle.segread.specs.Hits.{OnlyScans, TriesFew};
-ghost use Rattle.segread.specs.Scanning.{place_of, IsPlaceOf, IsPlaceAfter, IsTrial};
-ghost use Rattle.segread.specs.Scanning.{IsOnWay, IsScanner, IsTry, IsWay, IsScanFrom};
-ghost use Rattle.segread.specs.Scanning.{IsScanAnswer, keyed_of, TellsDeadline};
+ghost use Rattle.segread.specs.Looking.{AfterLook};
+ghost use Rattle.segread.specs.Scanning.{place_of, GoesAlong, IsPlaceOf, IsPlaceAfter, IsTrial};
+ghost use Rattle.segread.specs.Scanning.{IsOnWay, IsScanner, IsTry, ScansChain, ScansOn};
+ghost use Rattle.segread.specs.Scanning.{keyed_of, ReturnsDeadline};
 
 use segbase::{Board, CHAIN_BUCKETS, Pass, Place};
 use segstore::{Keyed, enter_segment, leave_segment, read_keyed};
@@ -87,7 +87,7 @@ pub(crate) fn try_item(
     ensures once { IsTry pass.old pass.new }
     ensures keyed { IsKeyed board.now.shape place (item_word item) key.now (keyed_of result)
         (trace pass.old) (trace pass.new) }
-    ensures deadline { TellsDeadline board.now.shape result (trace pass.new) }
+    ensures deadline { ReturnsDeadline board.now.shape result (trace pass.new) }
 {
     let deadline = enter_segment(board, pass, item.seg);
     match read_keyed(board, pass, place, item.pack(), key) {
@@ -119,8 +119,8 @@ fn visit_word(
     requires tag { tag ≡ tag_of key.now }
     requires tries { tries < 64 }
     ensures reads { IsOnWay board.now result pass.old pass.new }
-    ensures way { let at = position board.now.shape (trace pass.old) place in
-        IsWay board.now.shape key.now at (at + 1) place tries result pass.old pass.new }
+    ensures way { AfterLook board.now pass.old
+        (λ first. GoesAlong board.now key.now place place tries result first pass.new) }
 {
     let word = board.look(pass, place);
     let Some(mut item) = item_of_tag(word, tag) else {
@@ -163,9 +163,9 @@ fn visit_bucket(
     requires tag { tag ≡ tag_of key.now }
     requires tries { tries < 64 }
     ensures reads { IsOnWay board.now result pass.old pass.new }
-    ensures way { let last = place_of start.bucket 7 in
-        let at = position board.now.shape (trace pass.old) in
-        IsWay board.now.shape key.now (at start) (at last + 1) last tries result pass.old pass.new }
+    ensures way { AfterLook board.now pass.old
+        (λ first. GoesAlong board.now key.now start (place_of start.bucket 7) tries result
+        first pass.new) }
 {
     for word in start.word..7 {
         match visit_word(
@@ -235,8 +235,8 @@ pub(crate) fn scan_from(
     requires tag { tag ≡ tag_of key.now }
     requires tries { tries < 64 }
     ensures reads { IsScanner board.now result pass.old pass.new }
-    ensures scan { let at = position board.now.shape (trace pass.old) place in
-        IsScanFrom board.now.shape key.now at tries result pass.old pass.new }
+    ensures scan { AfterLook board.now pass.old
+        (λ first. ScansOn board.now key.now place tries result first pass.new) }
 {
     for depth in 0..CHAIN_BUCKETS {
         match visit_bucket(board, pass, place, key, tag, tries) {
@@ -263,9 +263,8 @@ pub(crate) fn scan_from(
 pub(crate) fn scan_for(board: &Board, pass: &mut Pass, key: &Key) -> Scan
     requires pass { IsQuiet board.now pass.old }
     ensures reads { IsScanner board.now result pass.old pass.new }
-    ensures tries { TriesFew pass.old pass.new }
-    ensures only_scans { OnlyScans pass.old pass.new }
-    ensures scan { IsScanAnswer board.now.shape key.now result (trace pass.old) (trace pass.new) }
+    ensures scan { AfterLook board.now pass.old
+        (λ first. ScansChain board.now key.now result first pass.new) }
 {
     let hash = hash(key);
     let start = Place {

@@ -2,13 +2,13 @@
 ghost use Rattle.std.specs.Prelude.{◌≡◌, ◌≢◌, ℕ, ◌^◌, ◌<◌, List, Some};
 ghost use Rattle.segmodel.specs.declared.answer.GetsAnswer.TheVariants as gets;
 ghost use Rattle.segmodel.specs.Words.{bucket_of, tag_of};
-ghost use Rattle.segbase.specs.Words.{IsPassOf, locked_of, position, trace};
+ghost use Rattle.segbase.specs.Words.{IsPassOf, locked_of, trace};
 ghost use Rattle.segstore.specs.Words.{IsReader};
 ghost use Rattle.segpass.specs.Words.{IsQuiet, MayEnterAny};
 ghost use Rattle.segread.specs.Scanning.{IsPlaceOf};
-ghost use Rattle.segread.specs.Hits.{GetsRaises, GlancesFew, OnlyScans, TriesFew};
-ghost use Rattle.segread.specs.Gets.{ReadsVersion, IsGetsAnswer, HasNoBit, IsVersionSight};
-ghost use Rattle.segread.specs.Gets.{IsAttempt};
+ghost use Rattle.segread.specs.Looking.{AfterLook};
+ghost use Rattle.segread.specs.Gets.{ReadsVersion, HasNoBit, Attempted, FindsLocked, FindsVersion};
+ghost use Rattle.segread.specs.Gets.{Sees};
 
 use crate::read::count_hit;
 use crate::scan::{Hit, Scan, TRIES, item_of_tag, place_after, scan_for, scan_from};
@@ -40,8 +40,8 @@ enum Attempt {
 
 /// The value under a key at a moment with the version of the key's bucket,
 /// for a later compare-and-swap.
-/// The answer is Busy if the pass itself has the bucket locked and the key is present.
-/// A hit raises the frequency of the key's item if the draw, a random number, says so.
+/// It is Busy if the pass itself has the bucket locked and the key is present.
+/// A hit raises the frequency of the key's item if the draw, a random number, counts.
 pub fn gets(board: &Board, pass: &mut Pass, key: &Key, draw: u32, now: u32) -> GetsAnswer
     requires pass { IsQuiet board.now pass.old }
     ensures reads { ReadsVersion board.now key.now draw now result pass.old pass.new }
@@ -67,10 +67,8 @@ pub fn gets(board: &Board, pass: &mut Pass, key: &Key, draw: u32, now: u32) -> G
 fn find_locked(board: &Board, pass: &mut Pass, key: &Key, now: u32) -> GetsAnswer
     requires pass { IsQuiet board.now pass.old }
     requires locked { locked_of pass.old ≡ Some (bucket_of board.now.shape key.now) }
-    ensures reads { IsReader board.now pass.old pass.new }
-    ensures tries { TriesFew pass.old pass.new }
-    ensures only_scans { OnlyScans pass.old pass.new }
-    ensures answer { IsGetsAnswer board.now.shape key.now now result pass.old pass.new }
+    ensures answer { AfterLook board.now pass.old
+        (λ first. FindsLocked board.now key.now now result first pass.new) }
     ensures none { (value : List ℕ) (version : ℕ) → result ≢ gets.Found value version }
 {
     match scan_for(board, pass, key) {
@@ -104,11 +102,8 @@ fn find_version(
     requires tag { tag ≡ tag_of key.now }
     requires free { HasNoBit board.now.shape key.now pass.old }
     requires versions { board.now.shape.first_version < 2 ^ 32 }
-    ensures reads { IsReader board.now pass.old pass.new }
-    ensures tries { TriesFew pass.old pass.new }
-    ensures glances { GlancesFew pass.old pass.new }
-    ensures raises { GetsRaises board.now.shape key.now draw result pass.old pass.new }
-    ensures answer { IsGetsAnswer board.now.shape key.now now result pass.old pass.new }
+    ensures answer { AfterLook board.now pass.old
+        (λ first. FindsVersion board.now key.now draw now result first pass.new) }
 {
     let mut place = Place {
         bucket: home,
@@ -149,8 +144,8 @@ fn try_version(
     requires versions { board.now.shape.first_version < 2 ^ 32 }
     requires tries { tries < 64 }
     ensures reads { IsReader board.now pass.old pass.new }
-    ensures attempt { let at = position board.now.shape (trace pass.old) place in
-        IsAttempt board.now.shape key.now now draw at tries result pass.old pass.new }
+    ensures attempt { AfterLook board.now pass.old
+        (λ first. Attempted board.now key.now now draw place tries result first pass.new) }
 {
     match see_version(board, pass, home, place, key, tag, tries, now) {
         Sight::Found(hit, value, info, word) => {
@@ -198,8 +193,8 @@ fn see_version(
     requires free { HasNoBit board.now.shape key.now pass.old }
     requires versions { board.now.shape.first_version < 2 ^ 32 }
     requires tries { tries < 64 }
-    ensures sight { let at = position board.now.shape (trace pass.old) place in
-        IsVersionSight board.now key.now now at tries result pass.old pass.new }
+    ensures sight { AfterLook board.now pass.old
+        (λ first. Sees board.now key.now now place tries result first pass.new) }
 {
     match scan_from(board, pass, place, key, tag, tries) {
         Scan::Found(hit) => {

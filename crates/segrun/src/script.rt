@@ -1,4 +1,4 @@
-//! Where the program reads its script from, and what it says of it on standard error.
+//! Where the program reads its script from, and what it prints of it on standard error.
 ghost use Rattle.std.specs.Prelude.{◌≡◌, false};
 
 use crate::progress::Teller;
@@ -43,7 +43,7 @@ pub fn run<T: Threads + Wait + AllocGlobal + Sync>(threads: &T, rt: &HostRuntime
     }
 }
 
-// Runs a script of a file or of standard input. With passes it says why a line is bad.
+// Runs a script of a file or of standard input. With passes it explains a bad line.
 fn run_script<T: Threads + Wait + AllocGlobal + Sync>(
     threads: &T,
     rt: &HostRuntime,
@@ -67,7 +67,7 @@ fn run_script<T: Threads + Wait + AllocGlobal + Sync>(
     }
 }
 
-// Says why a file can't be read, behind the line of the fault.
+// Prints why a file can't be read, behind the line of the fault.
 fn tell_why(rt: &HostRuntime, path: &str, error: &io::Error) -> io::Result<()> {
     let text = format!(in rt.alloc(); "read failed\n{path}: {error}\n")?;
     rt.stderr().write_all(text.as_bytes())
@@ -90,7 +90,7 @@ fn run_from<T: Threads + Wait + AllocGlobal + Sync, R: Read + Drop>(
     status
 }
 
-// Says why the first bad line is bad. A text that can't be written is left out.
+// Explains the first bad line. A text that can't be written is left out.
 fn explain<S: Source>(rt: &HostRuntime, source: &Explaining<S>) {
     let Some(bad) = source.bad_line() else {
         return;

@@ -15,3 +15,6 @@ pub mod Reasons
 pub mod Servers
 pub mod Turning
 pub mod WordLemmas
+pub mod WordReasons
+pub mod Looking
+pub mod Reported

@@ -34,7 +34,7 @@ lines-append [] ys first more = more
 lines-append (x ∷ xs) ys first more = (first.0, lines-append xs ys first.1 more)
 
 -- one byte more of the line
-Splits-byte : (bytes : List ℕ) (lines : List (List ℕ)) (rest : List ℕ) (b : ℕ) → Splits bytes lines rest → b ≢ 10 → Splits (bytes ++ b ∷ []) lines (rest ++ b ∷ [])
+pub Splits-byte : (bytes : List ℕ) (lines : List (List ℕ)) (rest : List ℕ) (b : ℕ) → Splits bytes lines rest → b ≢ 10 → Splits (bytes ++ b ∷ []) lines (rest ++ b ∷ [])
 Splits-byte bytes lines rest b splits other = record {
   whole = rw splits.whole (append_assoc (flat_map ended lines) rest (b ∷ []));
   each = splits.each;
@@ -42,7 +42,7 @@ Splits-byte bytes lines rest b splits other = record {
 }
 
 -- the end of the line
-Splits-end : (bytes : List ℕ) (lines : List (List ℕ)) (rest : List ℕ) → Splits bytes lines rest → Splits (bytes ++ 10 ∷ []) (lines ++ rest ∷ []) []
+pub Splits-end : (bytes : List ℕ) (lines : List (List ℕ)) (rest : List ℕ) → Splits bytes lines rest → Splits (bytes ++ 10 ∷ []) (lines ++ rest ∷ []) []
 Splits-end bytes lines rest splits = record {
   whole = rw splits.whole (simp (flat_map-append, append_assoc, append-nil));
   each = lines-append lines (rest ∷ []) splits.each (splits.partial, tt);

@@ -52,7 +52,7 @@ quiet_of b passes all n p at = subst (IsQuiet b) (get_or_from_slice_get passes n
 
 pub learns_nothing : (b : Board) (p : Pass) → IsQuiet b p → OnlyLearns b p p
 learns_nothing b p quiet = record {
-  on = record { quiet = quiet; same = refl; marked = ([], refl); seen = ([], refl) };
+  on = record { quiet = quiet; same = refl; marked = ([], refl); seen = ([], refl); steps = inr (refl, refl) };
   keeps = record { entries = refl; plain = refl; memo = refl };
   costs_nothing = refl;
 }

@@ -19,14 +19,14 @@ use Rattle.segscript.proofs.Lines.{lines_fit}
 -- ---- lines that are cut in two ways
 
 -- the bytes up to the first byte 10, and the rest
-record Cut (bytes : List ℕ) : Type 0 where
-  front : List ℕ
-  back : List ℕ
-  whole : bytes ≡ front ++ back
-  unbroken : IsLine front
-  ends : ((more : List ℕ) × (back ≡ 10 ∷ more)) ⊎ (back ≡ [])
+pub record Cut (bytes : List ℕ) : Type 0 where
+  pub front : List ℕ
+  pub back : List ℕ
+  pub whole : bytes ≡ front ++ back
+  pub unbroken : IsLine front
+  pub ends : ((more : List ℕ) × (back ≡ 10 ∷ more)) ⊎ (back ≡ [])
 
-cut : (bytes : List ℕ) → Cut bytes
+pub cut : (bytes : List ℕ) → Cut bytes
 cut [] = record { front = []; back = []; whole = refl; unbroken = tt; ends = inr refl }
 cut (b ∷ bytes) = elim (eqb_tells b 10) [
   | inl same ↦ record { front = []; back = b ∷ bytes; whole = refl; unbroken = tt; ends = inl (bytes, ap (λ a. a ∷ bytes) same.1) }
@@ -42,7 +42,7 @@ tail-is : (a b : ℕ) (x y : List ℕ) → a ∷ x ≡ b ∷ y → x ≡ y
 tail-is a b x y same = cc
 
 -- two lines at one place are one
-one_line : (x p y q : List ℕ) → IsLine x → IsLine y → x ++ 10 ∷ p ≡ y ++ 10 ∷ q → (x ≡ y) × (p ≡ q)
+pub one_line : (x p y q : List ℕ) → IsLine x → IsLine y → x ++ 10 ∷ p ≡ y ++ 10 ∷ q → (x ≡ y) × (p ≡ q)
 one_line [] p [] q lx ly same = (refl, tail-is 10 10 p q same)
 one_line [] p (b ∷ y) q lx ly same = absurd (ly.0 (sym (head-is 10 b p (y ++ 10 ∷ q) same)))
 one_line (a ∷ x) p [] q lx ly same = absurd (lx.0 (head-is a 10 (x ++ 10 ∷ p) q same))
@@ -51,23 +51,23 @@ one_line (a ∷ x) p (b ∷ y) q lx ly same =
     let more = one_line x p y q lx.1 ly.1 (tail-is a b (x ++ 10 ∷ p) (y ++ 10 ∷ q) same) in
     (ap (λ l. a ∷ l) more.0 ∙ ap (λ c. c ∷ y) h, more.1)
 
-not_empty : (x p : List ℕ) → x ++ 10 ∷ p ≡ [] → ⊥
+pub not_empty : (x p : List ℕ) → x ++ 10 ∷ p ≡ [] → ⊥
 not_empty [] p same = cc
 not_empty (a ∷ x) p same = cc
 
-step : (x : List ℕ) (xs : List (List ℕ)) (r : List ℕ) → flat_map ended (x ∷ xs) ++ r ≡ x ++ 10 ∷ (flat_map ended xs ++ r)
+pub step : (x : List ℕ) (xs : List (List ℕ)) (r : List ℕ) → flat_map ended (x ∷ xs) ++ r ≡ x ++ 10 ∷ (flat_map ended xs ++ r)
 step x xs r = simp append_assoc
 
 module _ (passes : ℕ) where
   -- a line that is served isn't bad
-  good_line : (x : List ℕ) (xs : List (List ℕ)) (ts : List PassTurn) → Say passes (x ∷ xs) ts → IsBad passes x → ⊥
+  pub good_line : (x : List ℕ) (xs : List (List ℕ)) (ts : List PassTurn) → Say passes (x ∷ xs) ts → IsBad passes x → ⊥
   good_line [] xs ts says (inl long) = omega arith
   good_line [] xs ts says (inr bad) = omega (arith, bad.0)
   good_line (b ∷ bs) xs [] says bad = says
   good_line (b ∷ bs) xs (t ∷ ts) says (inl long) = let short = lines_fit passes t says.0 in let same = ap length says.1 in omega arith
   good_line (b ∷ bs) xs (t ∷ ts) says (inr bad) = bad.1 t says.0 says.1
 
-  says_rest : (x : List ℕ) (xs : List (List ℕ)) (ts : List PassTurn) → Say passes (x ∷ xs) ts → (us : List PassTurn) × Say passes xs us
+  pub says_rest : (x : List ℕ) (xs : List (List ℕ)) (ts : List PassTurn) → Say passes (x ∷ xs) ts → (us : List PassTurn) × Say passes xs us
   says_rest [] xs ts says = (ts, says)
   says_rest (b ∷ bs) xs [] says = absurd says
   says_rest (b ∷ bs) xs (t ∷ ts) says = (ts, says.2)

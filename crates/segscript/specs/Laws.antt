@@ -1,8 +1,13 @@
 -- Laws of the text of scripts. Each is proved as the contract of a function in src/laws.rt.
-use Rattle.std.specs.Prelude.{◌≡◌, ◌↔◌, ℕ, ◌≤◌, List, length, IsSome}
+use Rattle.std.specs.Prelude.{◌≡◌, ◌↔◌, ℕ, ◌%◌, ◌^◌, ◌≤◌, List, length, Option, Some, IsSome}
+use Rattle.segword.specs.Words.{Shape}
+use Rattle.segmodel.specs.Words.{State}
+use Rattle.segscript.specs.Explaining.{FindsBad}
 use Rattle.segscript.specs.Reasons.{line_fault}
-use Rattle.segscript.specs.Script.{IsBad}
+use Rattle.segscript.specs.Run.{IsSeenBad}
+use Rattle.segscript.specs.Script.{IsBad, Steps}
 use Rattle.segscript.specs.Spelling.{PassTurn, IsSayable, spelling}
+use Rattle.segscript.specs.declared.explain.BadLine.{BadLine}
 
 -- A line that spells a turn has at most 128 bytes.
 abbrev pub LinesFit : Type 0
@@ -20,3 +25,12 @@ LineSpellsOneTurn = (passes : ℕ) (left right : PassTurn)
 abbrev pub BadLinesHaveAFault : Type 0
 BadLinesHaveAFault = (passes : ℕ) (line : List ℕ)
     → IsSome (line_fault passes line) ↔ IsBad passes line
+
+-- If a run reports a line of these bytes as bad, a bad line is found in them, and it has the number
+-- of the line that is reported, modulo 2^64. A run reports a line even before the bytes end.
+abbrev pub ExplainedIsReported : Type 0
+ExplainedIsReported = (shape : Shape) (start end : State) (seen text : List ℕ) (n : ℕ)
+    (found : Option BadLine)
+    → IsSeenBad shape.passes (Steps shape) start end (Unit {0}) seen text n
+    → FindsBad shape.passes seen found
+    → (bad : BadLine) × (found ≡ Some bad) × (bad.number ≡ n % 2 ^ 64)

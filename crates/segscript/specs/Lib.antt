@@ -1,5 +1,6 @@
 pub mod Device
 pub mod EachTurn
+pub mod Explaining
 pub mod Known
 pub mod Laws
 pub mod Memory

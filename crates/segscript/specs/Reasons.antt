@@ -39,9 +39,9 @@ number_fault digits =
     else (if nat_lt (digits_value 10 digits) (2 ^ 32) then None else Some why.LargeNumber))
 
 -- These digits write the number, or this is their fault.
-abbrev pub TellsNumber : List ℕ → Result ℕ WordFault → Type 0
-TellsNumber digits (Ok n) = (number_fault digits ≡ None) × (digits_value 10 digits ≡ n)
-TellsNumber digits (Err f) = number_fault digits ≡ Some f
+abbrev pub ReturnsNumber : List ℕ → Result ℕ WordFault → Type 0
+ReturnsNumber digits (Ok n) = (number_fault digits ≡ None) × (digits_value 10 digits ≡ n)
+ReturnsNumber digits (Err f) = number_fault digits ≡ Some f
 
 -- the fault of a number that is to be below `limit`
 abbrev pub below_fault : ℕ → WordFault → List ℕ → Option WordFault

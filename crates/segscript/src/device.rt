@@ -1,4 +1,4 @@
-//! Readers and writers whose contracts tell the bytes that went through them.
+//! Readers and writers whose contracts state the bytes that went through them.
 ghost use Rattle.std.specs.Prelude.{◌≡◌, ◌+◌, ◌%◌, ◌^◌, ◌<◌, ◌≤◌, ◌||◌, ◌++◌, [], Bool, false, ℕ};
 ghost use Rattle.std.specs.Prelude.{List, length, take, IfOk, OnOk, OnErr, is_err};
 ghost use Rattle.segscript.specs.Device.{ends_after, took_nothing, TakesPart};
@@ -45,7 +45,7 @@ pub trait Sink {
     ghost takes: { Self → List ℕ → Self → Type 0 };
 
     /// A call of the writer has failed, or a write took none of its bytes.
-    /// Such a writer is not asked to write again; it may still be flushed.
+    /// Such a writer is not asked to write again; it can still be flushed.
     ghost has_failed: { Self → Bool };
 
     /// How many flushes were asked for, modulo 2^64.

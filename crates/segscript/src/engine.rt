@@ -6,7 +6,7 @@ ghost use Rattle.segscript.specs.Spelling.{PassTurn};
 
 use segmodel::{Outcome, Turn};
 
-/// Takes the turns of the passes of a script, and gives their outcomes.
+/// Takes the turns of the passes of a script, and returns their outcomes.
 pub trait Engine {
     ghost shape: { Self → Shape };
 

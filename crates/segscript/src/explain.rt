@@ -1,5 +1,8 @@
 //! A reader that looks at what it hands out, for the first bad line of a script.
-ghost use Rattle.std.specs.Prelude.{◌≡◌, false, None};
+ghost use Rattle.std.specs.Prelude.{◌≡◌, ◌++◌, ◌∷◌, [], ℕ, List, None, MatchOption};
+ghost use Rattle.segscript.specs.Explaining.{FindsBad, HasLooked, KeepsByte, look_at};
+ghost use Rattle.segscript.specs.Explaining.{looks_more, looks_none, LooksAt};
+ghost use Rattle.segscript.specs.Reasons.{line_fault};
 
 use crate::device::{Failed, Source};
 use crate::reason::{LineFault, line_fault};
@@ -27,7 +30,9 @@ impl<R: Source> Explaining<R> {
     /// A reader over this one, for a script with so many passes.
     pub fn new(inner: R, passes: u32) -> Explaining<R>
         ensures inner { result.inner ≡ inner }
-        ensures none { result.bad ≡ None }
+        ensures passes { result.passes ≡ passes }
+        ensures looked { HasLooked
+            (look_at result.passes result.line.items result.number result.bad) [] }
     {
         Explaining {
             inner,
@@ -39,12 +44,24 @@ impl<R: Source> Explaining<R> {
     }
 
     /// The first bad line of what was handed out. What has no end yet counts as a line.
-    pub fn bad_line(&self) -> Option<BadLine> {
-        self.bad.or(self.fault_of_line())
+    pub fn bad_line(&self) -> Option<BadLine>
+        ensures { (seen : List ℕ) → HasLooked
+            (look_at self.now.passes self.now.line.items self.now.number self.now.bad) seen
+            → FindsBad self.now.passes seen result }
+    {
+        if self.bad.is_some() {
+            return self.bad;
+        }
+        self.fault_of_line()
     }
 
     // The fault of the line that has no end yet, as if it ended here.
-    fn fault_of_line(&self) -> Option<BadLine> {
+    fn fault_of_line(&self) -> Option<BadLine>
+        ensures { MatchOption result
+            (line_fault self.now.passes self.now.line.items ≡ None)
+            (λ bad. (line_fault self.now.passes self.now.line.items ≡ Some bad.fault)
+            × (bad.number ≡ self.now.number)) }
+    {
         let fault = line_fault(self.line.as_slice(), self.passes)?;
         Some(BadLine {
             number: self.number,
@@ -54,22 +71,43 @@ impl<R: Source> Explaining<R> {
 
     // Looks at the next byte of the script.
     fn look(&mut self, byte: u8)
-        ensures { self.new.inner ≡ self.old.inner }
+        requires none { self.old.bad ≡ None }
+        ensures inner { self.new.inner ≡ self.old.inner }
+        ensures looks { LooksAt
+            (look_at self.old.passes self.old.line.items self.old.number self.old.bad)
+            (byte ∷ [])
+            (look_at self.new.passes self.new.line.items self.new.number self.new.bad) }
     {
         if byte != b'\n' {
-            if !self.line.is_full() {
-                self.line.push(byte);
-            }
+            self.keep(byte);
             return;
         }
-        self.bad = self.bad_line();
+        self.bad = self.fault_of_line();
         self.line.clear();
         self.number = self.number.wrapping_add(1);
     }
 
+    // Keeps a byte of the line, if it is one of the first 129.
+    fn keep(&mut self, byte: u8)
+        ensures inner { self.new.inner ≡ self.old.inner }
+        ensures passes { self.new.passes ≡ self.old.passes }
+        ensures number { self.new.number ≡ self.old.number }
+        ensures bad { self.new.bad ≡ self.old.bad }
+        ensures line { KeepsByte byte self.old.line.items self.new.line.items }
+    {
+        if self.line.is_full() {
+            return;
+        }
+        self.line.push(byte);
+    }
+
     // Looks at the next bytes of the script, until a bad line is found.
     fn look_at_all(&mut self, bytes: &[u8])
-        ensures { self.new.inner ≡ self.old.inner }
+        ensures inner { self.new.inner ≡ self.old.inner }
+        ensures looks { LooksAt
+            (look_at self.old.passes self.old.line.items self.old.number self.old.bad)
+            bytes.now
+            (look_at self.new.passes self.new.line.items self.new.number self.new.bad) }
     {
         for byte in bytes {
             if self.bad.is_some() {
@@ -81,7 +119,9 @@ impl<R: Source> Explaining<R> {
 }
 
 impl<R: Source> Source for Explaining<R> {
-    ghost hands = { λ old bytes new. R.hands old.inner bytes new.inner };
+    ghost hands = { λ old bytes new. R.hands old.inner bytes new.inner
+        × LooksAt (look_at old.passes old.line.items old.number old.bad) bytes
+        (look_at new.passes new.line.items new.number new.bad) };
 
     ghost is_at_end = { λ s. R.is_at_end s.inner };
 
@@ -99,7 +139,15 @@ impl<R: Source> Source for Explaining<R> {
         }
     }
 
-    ghost hands_none = { λ s. R.hands_none s.inner };
+    ghost hands_none = { λ s. (
+      R.hands_none s.inner,
+      looks_none (look_at s.passes s.line.items s.number s.bad),
+    ) };
 
-    ghost hands_more = { λ s t u a b. R.hands_more s.inner t.inner u.inner a b };
+    ghost hands_more = { λ s t u a b first then. (
+      R.hands_more s.inner t.inner u.inner a b first.0 then.0,
+      looks_more (look_at s.passes s.line.items s.number s.bad)
+          (look_at t.passes t.line.items t.number t.bad)
+          (look_at u.passes u.line.items u.number u.bad) a b first.1 then.1,
+    ) };
 }

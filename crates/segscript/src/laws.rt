@@ -1,5 +1,6 @@
 //! The laws of the text of scripts. Each function does nothing: its contract is the law.
-ghost use Rattle.segscript.specs.Laws.{BadLinesHaveAFault, LinesFit, LineSpellsOneTurn};
+ghost use Rattle.segscript.specs.Laws.{BadLinesHaveAFault, ExplainedIsReported, LinesFit};
+ghost use Rattle.segscript.specs.Laws.{LineSpellsOneTurn};
 
 /// Every line that spells a turn has at most 128 bytes.
 pub fn lines_fit()
@@ -14,4 +15,9 @@ pub fn one_turn()
 /// A line has a fault exactly if it is bad.
 pub fn bad_lines_have_a_fault()
     ensures { BadLinesHaveAFault }
+{}
+
+/// The bad line that is explained is the one that a run reports.
+pub fn explained_is_reported()
+    ensures { ExplainedIsReported }
 {}

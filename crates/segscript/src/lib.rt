@@ -1,5 +1,5 @@
 //! Scripts of cache commands over the object index: read from a source, served line by line,
-//! and answered to a sink.
+//! with the replies written to a sink.
 #![tactic(auto)]
 
 mod device;

@@ -26,7 +26,7 @@ pub struct MemSource<'a> {
 }
 
 impl<'a> MemSource<'a> {
-    /// A reader of these bytes, which hands out as many at a time as are asked for,
+    /// A reader of the bytes, which hands out as many at a time as are asked for,
     /// and doesn't fail.
     pub fn new(bytes: &'a [u8]) -> MemSource<'a>
         ensures bytes { result.left.now ≡ bytes.now }

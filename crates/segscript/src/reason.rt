@@ -4,7 +4,7 @@ ghost use Rattle.std.specs.Char.{is_ascii_digit};
 ghost use Rattle.std.specs.List.{list_all};
 ghost use Rattle.segscript.specs.Reasons.{is_word_byte, are_no_digits, has_leading_zero};
 ghost use Rattle.segscript.specs.Reasons.{or_else, number_fault, below_fault};
-ghost use Rattle.segscript.specs.Reasons.{TellsNumber, bytes_fault, part_fault, command_fault};
+ghost use Rattle.segscript.specs.Reasons.{ReturnsNumber, bytes_fault, part_fault, command_fault};
 ghost use Rattle.segscript.specs.Reasons.{word_fault, commands, named_among, parts_behind};
 ghost use Rattle.segscript.specs.Reasons.{line_parts, words_fault, line_fault, extra_fault};
 
@@ -96,7 +96,7 @@ fn are_printable(word: &[u8]) -> bool
 
 // The number that the digits write, or their fault.
 fn number_of(digits: &[u8]) -> Result<u32, WordFault>
-    ensures { TellsNumber digits.now result }
+    ensures { ReturnsNumber digits.now result }
 {
     if are_no_digits(digits) {
         return Err(WordFault::NoNumber);

@@ -13,7 +13,7 @@ use crate::line::read_line;
 use crate::reply::reply_of;
 use arrayvec::ArrayVec;
 
-/// One more than the number of bytes that a script may have.
+/// One more than the number of bytes that a script can have.
 const LIMIT: u64 = 1 << 63;
 
 /// How many bytes are read at a time, at most.

@@ -18,9 +18,9 @@ use segword::Shape;
 use std::alloc::Global;
 
 /// Runs the script that the reader hands out over an index and its passes, and writes the replies.
-/// The run is given no allocator.
+/// The run takes no allocator.
 ///
-/// If the index has one pass, the text is the one that the cache of one thread gives,
+/// If the index has one pass, the text is that of the cache of one thread,
 /// from the state that the pass is at. The pass is then at the state to which the lines led.
 /// If the index has several, they take turns on this thread, and each turn has a reply.
 /// No pass takes a turn after the last line that is served.
@@ -63,7 +63,7 @@ pub fn serve_script<R: Source, W: Sink>(
 
 /// Creates an index of this shape, runs the script that the reader hands out, and writes the replies.
 ///
-/// If the shape has one pass, the text is the one that the cache of one thread gives.
+/// If the shape has one pass, the text is that of the cache of one thread.
 /// If the shape has several, they take turns on this thread, and each turn has a reply.
 /// Once the index and the list of its holds are created, `serve_script` does the rest.
 pub fn run_script<R: Source, W: Sink>(

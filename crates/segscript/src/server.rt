@@ -77,7 +77,7 @@ impl<'i> Server<'i> {
     }
 
     /// Ends the turns: each hold is released, and each bucket unlocked.
-    /// The passes stand in the order of their numbers, and may make further calls.
+    /// The passes are in the order of their numbers, and can make further calls.
     pub fn end(self) -> Vec<Pass>
         requires ready { IsReady self }
         ensures all { length result.items ≡ (shape_of self.entry.index.now).passes }

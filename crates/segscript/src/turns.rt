@@ -10,7 +10,7 @@ use segindex::{Hold, HoldAnswer, Index, LockAnswer, Pass};
 use segmodel::{Outcome, Turn};
 use segword::Key;
 
-/// The draw of each hit. With this draw a hit raises the frequency if it may, as in the model.
+/// The draw of each hit. With this draw a hit raises the frequency if it can, as in the model.
 const DRAW: u32 = 0;
 
 /// Takes one turn of a pass, whose hold is kept in `held`.

@@ -8,6 +8,7 @@ use Rattle.segmodel.specs.declared.request.Request.TheVariants as request
 use Rattle.segbase.specs.Words.{Board, Pass}
 use Rattle.segindex.specs.Words.{AnswersCommand}
 use Rattle.segpass.proofs.Costs.{draws_nothing, reads_nothing}
+use Rattle.segindex.proofs.Since.{get_since, gets_since}
 use Rattle.segsolo.specs.Alone.{IsAlone, ServesAlone}
 use Rattle.segsolo.proofs.AloneDeletes.{serves_delete}
 use Rattle.segsolo.proofs.AloneEvicts.{serves_evict}
@@ -22,8 +23,8 @@ serves_command b p q (command.Write (request.Add key value now)) (answer.Write t
 serves_command b p q (command.Write (request.Replace key value now)) (answer.Write told) was is = serves_write b p q (request.Replace key value now) told refl was is
 serves_command b p q (command.Write (request.Cas key value version now)) (answer.Write told) was is = serves_write b p q (request.Cas key value version now) told refl was is
 serves_command b p q (command.Write (request.Delete key now)) (answer.Delete told) was is = serves_delete b p q key now told was is
-serves_command b p q (command.Get key now) (answer.Get told) was is = serves_get b p q key now told was is.on is.costs.looks.draws_nothing is.keeps is.costs.raises is.answer
-serves_command b p q (command.Gets key now) (answer.Gets told) was is = serves_gets b p q key now told was is.on is.costs.looks.draws_nothing is.keeps is.costs.raises is.answer is.unlocked
+serves_command b p q (command.Get key now) (answer.Get told) was is = serves_get b p q key now told was is.on is.costs.looks.draws_nothing is.keeps is.costs.raises (get_since b.shape key now told p q is.answer)
+serves_command b p q (command.Gets key now) (answer.Gets told) was is = serves_gets b p q key now told was is.on is.costs.looks.draws_nothing is.keeps is.costs.raises (gets_since b.shape key now told p q is.answer) is.unlocked
 serves_command b p q (command.Keep segment cutoff) (answer.Keep told) was is = serves_keep b p q segment cutoff told was is
 serves_command b p q (command.Evict segment) (answer.Evict told) was is = serves_evict b p q segment told was is.on is.costs.draws_nothing (ap (λ r. r.0) is.costs.reads_nothing) is.answer is.not_yours
 serves_command b p q (command.Refill segment deadline) (answer.Refill told) was is =

@@ -10,6 +10,7 @@ use Rattle.segmodel.specs.Words.{after, after_hit, Answer, Cached, Filling, GetA
 use Rattle.segbase.specs.Words.{Board, Memo, Pass, seen, state_in, own_segment}
 use Rattle.segbase.specs.declared.pass.Plain.{Plain}
 use Rattle.segindex.specs.Words.{AnswersCommand}
+use Rattle.segindex.proofs.Since.{get_since, gets_since}
 use Rattle.segpass.specs.Words.{ChangesNothing, DrawsNothing, GoesOn}
 use Rattle.segread.specs.Words.{ReadsKey, ReadsVersion}
 use Rattle.segstore.proofs.Keeping.{stored_in}
@@ -92,7 +93,7 @@ get_served b p q key draw now told was is =
     let found = present (after b.shape (seen p)) now key in (
       still_alone b p q was is.on is.costs.looks.draws_nothing is.keeps,
       after_hit key found (state_at b.shape p),
-      (ap answer.Get (got b p q key now was is.on is.keeps told is.answer), refl),
+      (ap answer.Get (got b p q key now was is.on is.keeps told (get_since b.shape key now told p q is.answer)), refl),
       (frequencies_in q, at_frequencies b p q was is.on is.costs.looks.draws_nothing is.keeps ∙ sym (hit_with (frequencies_in q) key found (state_at b.shape p))),
     )
 
@@ -102,7 +103,7 @@ gets_served b p q key draw now told was is =
     let locked = is_locked b.shape (state_at b.shape p) key in (
       still_alone b p q was is.on is.costs.looks.draws_nothing is.keeps,
       cond locked (state_at b.shape p) (after_hit key found (state_at b.shape p)),
-      (ap answer.Gets (versioned b p q key now was is.on is.keeps told is.unlocked is.answer), refl),
+      (ap answer.Gets (versioned b p q key now was is.on is.keeps told is.unlocked (gets_since b.shape key now told p q is.answer)), refl),
       (frequencies_in q, at_frequencies b p q was is.on is.costs.looks.draws_nothing is.keeps ∙ sym (if_hit_with (frequencies_in q) locked key found (state_at b.shape p))),
     )
 

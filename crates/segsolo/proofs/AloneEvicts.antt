@@ -26,6 +26,7 @@ use Rattle.segbase.proofs.Known.{state_apart, used_kept}
 use Rattle.segevict.proofs.Evictions.{emptied_state}
 use Rattle.segpass.specs.Words.{DrawsNothing, GoesOn, RaisesNothing}
 use Rattle.segevict.specs.Words.{ended, IsBarred, IsEvictAnswer, TakesOut}
+use Rattle.segindex.proofs.Since.{between_since}
 use Rattle.segsolo.specs.Alone.{frequencies_in, keys_stored_in, or_empty, item_of, state_at, CountsRows, IsAlone, ServesAlone, NamesLastRows}
 use Rattle.segindex.proofs.QuietPass.{none_since}
 use Rattle.segsolo.proofs.AlonePass.{frequencies_as, more_seen, at_state, not_own, own_is, locked_here}
@@ -186,9 +187,9 @@ module _ (b : Board) (p q : Pass) (segment count : ℕ) (was : IsAlone b p) (on 
     -- a key of it stood in the segment, and was stored there
     stood : StandsIn (after b.shape (seen p)) barred.0 segment
     stood =
-        let way = barred.1.1 in let history = barred.1.0 in
+        let at = barred.1 in let history = at.2.0 in let way = between_since p q history (at.0, at.1, at.2.1) in
         let earlier = on_the_way (number p) segment takes.evictions way.1.0 way.0.0 (seen p) takes.all (sym more ∙ (way.1.1 ∙ ap (λ h. way.1.0 ++ h) way.0.1)) in
-        (stood_before b.shape (number p) segment (seen p) barred.0 way.0.0 earlier (subst (λ h. StandsIn (after b.shape h) barred.0 segment) way.0.1 barred.1.2)).1
+        (stood_before b.shape (number p) segment (seen p) barred.0 way.0.0 earlier (subst (λ h. StandsIn (after b.shape h) barred.0 segment) way.0.1 at.2.2)).1
 
     was_stored : list_any (is_at (key_cmp barred.0)) (keys_stored_in (seen p) segment) ≡ true
     was_stored =

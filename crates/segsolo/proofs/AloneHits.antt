@@ -16,7 +16,8 @@ use Rattle.segcore.proofs.Moments.{marked_begins, seen_begins}
 use Rattle.segbase.specs.declared.pass.Plain.{Plain}
 use Rattle.segbase.specs.Words.{Board, marked, Memo, number, own_segment, Pass, raised as pass_raised, seen, state_in, state_of, trace}
 use Rattle.segpass.specs.Words.{ChangesNothing, DrawsNothing, GoesOn, RaisesNothing}
-use Rattle.segread.specs.Hits.{CountsHit, PassesHit, RaisesOne}
+use Rattle.segread.specs.Hits.{CountsHit, PassesHit, RaisesFrom, RaisesOne}
+use Rattle.segindex.proofs.Since.{raises_since}
 use Rattle.segsolo.specs.Alone.{frequencies_in, item_of, IsAlone, keys_stored_in, of_rows, or_empty, state_at}
 use Rattle.segsolo.proofs.AlonePass.{at_state, left, same_moment, same_seen}
 use Rattle.segsolo.proofs.AloneRefills.{by_segment, with_at-other, with_at-same}
@@ -183,7 +184,7 @@ module _ (b : Board) (p q : Pass) (was : IsAlone b p) (on : GoesOn b p q) (nothi
           let a : all_raised (marked q) ≡ all_raised second.0 + all_raised (mark.marked hit.at) = ap all_raised second.1 ∙ raised_joined second.0 (mark.marked hit.at) in
           let old = raised_alone b p was.quiet was.one in let new = raised_alone b q on.quiet was.one in omega (arith, still)
 
-  raises_item : (key value : List ℕ) → RaisesOne b.shape key value 0 p q → RaisesItem b.shape key value p q
+  raises_item : (key value : List ℕ) → RaisesFrom b.shape key value 0 (trace p) p q → RaisesItem b.shape key value p q
   raises_item key value (inl (one, hit)) = counts_item key value one hit
   raises_item key value (inr (still, inl hit)) = passes_item key value still hit
   raises_item key value (inr (still, inr (several, over))) = absurd (omega (arith, was.one, several))
@@ -242,7 +243,7 @@ hit_leaves b p q key value now was on undrawn nothing raises is = by (present (a
     by : (found : Option Cached) → present (after b.shape (seen p)) now key ≡ found → option_map (λ (item : Cached). item.value) found ≡ Some value → state_at b.shape q ≡ after_hit key found (state_at b.shape p)
     by None found none = absurd (none-some value none)
     by (Some x) found read =
-        let item = raises_item b p q was on nothing key value raises in
+        let item = raises_item b p q was on nothing key value (raises_since b.shape key value 0 p q raises) in
         let one : x ≡ cached value item.segment = same_Some x (cached value item.segment) (sym (stood (after b.shape (seen p)).deadline now (standing (after b.shape (seen p)) key) x found) ∙ item.stands) in
         at_hit b p q was on nothing undrawn key value item ∙ sym (ap (λ y. after_hit key (Some y) (state_at b.shape p)) one)
 

@@ -35,7 +35,7 @@ module _ (b : Board) (p q : Pass) (key : List ℕ) (now : ℕ) (was : IsAlone b 
   pub never_stirred : 64 ≤ stirred b.shape key (seen p) (seen q) → ⊥
   never_stirred many = let still = none_stirred b p q key was.quiet on.quiet was.one nothing.entries in absurd (omega arith)
 
-  never_disturbed : 64 ≤ disturbed b.shape key p q → ⊥
+  never_disturbed : 64 ≤ disturbed b.shape key (seen p) p q → ⊥
   never_disturbed many =
       let still = none_stirred b p q key was.quiet on.quiet was.one nothing.entries in
       let free = glanced_alone b q (bucket_of b.shape key) on.quiet.pass was.one in absurd (omega arith)
@@ -57,7 +57,7 @@ module _ (b : Board) (p q : Pass) (key : List ℕ) (now : ℕ) (was : IsAlone b 
   some_read version None value is = absurd (none-some value is)
   some_read version (Some item) value is = refl
 
-  pub versioned : (told : GetsAnswer) → ((value : List ℕ) (version : ℕ) → told ≡ gets.Found value version → locked_of p ≢ Some (bucket_of b.shape key)) → IsGetsAnswer b.shape key now told p q
+  pub versioned : (told : GetsAnswer) → ((value : List ℕ) (version : ℕ) → told ≡ gets.Found value version → locked_of p ≢ Some (bucket_of b.shape key)) → IsGetsAnswer b.shape key now told (seen p) p q
       → told ≡ gets_answer (is_locked b.shape (state_at b.shape p) key) (reads_version b.shape (after b.shape (seen p)) now key)
   versioned (gets.Found value version) unlocked is = sym (λ i. gets_answer (free_here b.shape p key (unlocked value version refl) i) (version_then (Some (value, version)) is i))
   versioned gets.Miss unlocked is = sym (none_read (is_locked b.shape (state_at b.shape p) key) ((after b.shape (seen p)).version (bucket_of b.shape key)) (present (after b.shape (seen p)) now key) (read_then None is))
@@ -79,7 +79,7 @@ serves_get b p q key now told was on undrawn nothing raises is = served_still b 
     left_by get.Busy unraised many = absurd (never_stirred b p q key now was on nothing many)
 
 pub serves_gets : (b : Board) (p q : Pass) (key : List ℕ) (now : ℕ) (told : GetsAnswer) → IsAlone b p → GoesOn b p q → DrawsNothing p q → ChangesNothing p q
-    → GetsRaises b.shape key 0 told p q → IsGetsAnswer b.shape key now told p q → ((value : List ℕ) (version : ℕ) → told ≡ gets.Found value version → locked_of p ≢ Some (bucket_of b.shape key))
+    → GetsRaises b.shape key 0 told p q → IsGetsAnswer b.shape key now told (seen p) p q → ((value : List ℕ) (version : ℕ) → told ≡ gets.Found value version → locked_of p ≢ Some (bucket_of b.shape key))
     → ServesAlone b (command.Gets key now) (answer.Gets told) p q
 serves_gets b p q key now told was on undrawn nothing raises is unlocked = served_still b (command.Gets key now) (answer.Gets told) p q was on nothing
     (ap answer.Gets (versioned b p q key now was on nothing told unlocked is), left_by told raises unlocked is)
@@ -95,7 +95,7 @@ serves_gets b p q key now told was on undrawn nothing raises is unlocked = serve
     either true (Some item) none = absurd (none-some item.value (sym none))
     either false found none = refl
 
-    left_by : (told : GetsAnswer) → GetsRaises b.shape key 0 told p q → ((value : List ℕ) (version : ℕ) → told ≡ gets.Found value version → locked_of p ≢ Some (bucket_of b.shape key)) → IsGetsAnswer b.shape key now told p q
+    left_by : (told : GetsAnswer) → GetsRaises b.shape key 0 told p q → ((value : List ℕ) (version : ℕ) → told ≡ gets.Found value version → locked_of p ≢ Some (bucket_of b.shape key)) → IsGetsAnswer b.shape key now told (seen p) p q
         → state_at b.shape q ≡ cond (is_locked b.shape (state_at b.shape p) key) (state_at b.shape p) (after_hit key (present (after b.shape (seen p)) now key) (state_at b.shape p))
     left_by (gets.Found value version) raises unlocked is =
         hit_leaves b p q key value now was on undrawn nothing raises (value_read (present (after b.shape (seen p)) now key) value version (version_then b p q key now was on nothing (Some (value, version)) is))

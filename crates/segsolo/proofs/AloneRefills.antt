@@ -125,7 +125,7 @@ module _ (b : Board) (p q : Pass) (segment deadline : ℕ) (was : IsAlone b p) (
       → (state_of p segment ≡ Some Evicted → is_held_in (holding p) segment ≡ true → given ≡ refill.Held) → ServesAlone b (command.Refill segment deadline) (answer.Refill given) p q
   refill_serves refill.NotYours same not_yours_where in_use held = still_serves refill.NotYours (not_yours (not_yours_where.0 refl)) (unchanged p q same) refl
   refill_serves refill.NotEvicted same not_yours_where in_use held = still_serves refill.NotEvicted (of_own InUse (in_use.0 refl)) (unchanged p q same) refl
-  refill_serves refill.Held (nothing, read) not_yours_where in_use held = by (state_of p segment) refl
+  refill_serves refill.Held (nothing, read, tried, once) not_yours_where in_use held = by (state_of p segment) refl
     where
       by : (kept : Option SegState) → state_of p segment ≡ kept → ServesAlone b (command.Refill segment deadline) (answer.Refill refill.Held) p q
       by None e = let no : refill.Held ≡ refill.NotYours = not_yours_where.1 e in cc

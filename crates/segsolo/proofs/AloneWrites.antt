@@ -28,6 +28,7 @@ use Rattle.segstore.specs.Words.{has_room}
 use Rattle.segpass.specs.Words.{AddsEntry, ChangesNothing, DrawsNothing, GoesOn, RaisesNothing}
 use Rattle.segpass.proofs.Idling.{unchanged}
 use Rattle.segwrite.specs.Words.{AddsReply, UsesRow, Writes}
+use Rattle.segindex.proofs.Since.{full_since}
 use Rattle.segsolo.specs.Alone.{frequencies_in, keys_stored_in, item_of, state_at, CountsRows, IsAlone, NamesLastRows, ServesAlone}
 use Rattle.segindex.proofs.OnePass.{busy_by_lock}
 use Rattle.segsolo.proofs.AloneBrought.{counts as brought_counts, frequencies_then, keys_then, named, state_then, used_more}
@@ -194,7 +195,7 @@ module _ (b : Board) (p q : Pass) (request : Request) (store : is_store request 
   write_serves write.NoRoom is = refused write.NoRoom is (λ e. cc) (unchanged p q is.answer) (refused_rows (out_of_rows b p was ∙ ap not (is.no_room.0 refl)))
   write_serves write.BucketFull is =
       refused write.BucketFull is (λ e. cc) is.answer.0 (refused_word (has_rows write.BucketFull is (λ e. cc)) (unlocked write.BucketFull is (λ e. cc) (λ e. cc))
-      (none_left b.shape p q request (same_seen b p q was is.on.quiet is.answer.0.entries) (same_widths b p q was is.on (undrawn write.BucketFull is (λ e. cc))) is.answer.2 is.answer.1))
+      (none_left b.shape p q request (same_seen b p q was is.on.quiet is.answer.0.entries) (same_widths b p q was is.on (undrawn write.BucketFull is (λ e. cc))) (full_since b.shape (key_of request) p q is.answer.2) is.answer.1))
   write_serves write.Busy is =
       refused write.Busy is (λ e. cc) is.answer.0 (refused_lock (has_rows write.Busy is (λ e. cc)) (locked_here b.shape p (key_of request) (busy_by_lock b p q (bucket_of b.shape (key_of request)) was.quiet is.on.quiet was.one is.answer.1)))
 

@@ -3,10 +3,10 @@ ghost use Rattle.segsolo.specs.Served.{StartsAlone, CommandIsServed, AnyDrawIsSe
 ghost use Rattle.segsolo.specs.Served.{LockIsServed, UnlockIsServed};
 ghost use Rattle.segsolo.specs.Served.{HoldIsServed, HeldIsServed, ReleaseIsServed, NothingIsHeld};
 
-/// If an index has one pass, each call is served as the model says, a command if the draw is 0.
+/// If an index has one pass, each call is served as in the model, a command if the draw is 0.
 /// With another draw a command is served so but for the frequencies of items.
 /// The call leads from the model's state that the pass was at to the one that it is at then.
-/// What the call's contract says is enough for this.
+/// The call's contract is enough for this.
 /// What the pass has seen and keeps determines the state. A new index is at the start state.
 pub fn one_pass_is_served()
     ensures start { StartsAlone }

@@ -27,7 +27,7 @@ impl Solo {
     ghost use Rattle.segsolo.specs.Solo.{board_of, shape_of, state_of, pass_of};
 
     /// An index of this shape, which has one pass, with nothing stored.
-    /// No later call is given an allocator.
+    /// No later call takes an allocator.
     pub fn new(alloc: Global, shape: Shape) -> Result<Solo, MakeFault>
         requires one_pass { shape.passes ≡ 1 }
         ensures shape { IfOk result (λ solo. shape_of solo ≡ shape) }

@@ -9,11 +9,12 @@ use Rattle.segcore.specs.Segment.{deadline_of as deadline_of_trace}
 use Rattle.segcore.proofs.Readers.{some_reader}
 use Rattle.segcore.proofs.Quiet.{own_deadline}
 use Rattle.segcore.proofs.Deadlines.{deadline_seen}
-use Rattle.segbase.specs.Words.{AddsAtOnce, AddsEvents, Board, IsPassOf, deadline_of, number, Pass, state_of}
+use Rattle.segbase.specs.Words.{AddsAtOnce, AddsEvents, Board, HasStep, IsPassOf, deadline_of, number, Pass, state_of}
 use Rattle.segbase.specs.Words.{Stepped, trace, with_current, with_deadline, with_state, with_used}
 use Rattle.segbase.proofs.Moves.{stays}
+use Rattle.segbase.proofs.Stepping.{starts}
 use Rattle.segstore.specs.Segments.{KeepsSegments}
-use Rattle.segstore.specs.Refilling.{Idles, refilled}
+use Rattle.segstore.specs.Refilling.{Idles, refilled, TakesOneStep}
 use Rattle.segstore.proofs.Keeping.{in_table, owns_stated, owns_lasting}
 
 pub idles : (b : Board) (p : Pass) → IsPassOf b p → Idles b p p
@@ -29,7 +30,7 @@ some_counted deadline count other = omega (arith, other)
 
 -- an exchange that failed found a reader, and nothing was done
 pub is_read : (b : Board) (p q : Pass) (s old deadline found : ℕ) (t : Bool) → IsPassOf b p → KeepsSegments b p → deadline_of p s ≡ Some old
-    → Stepped b (none_reading s old deadline) found p q → t ≡ eqb found (old * 2 ^ 32) → t ≡ false → Idles b p q × ((other : ℕ) × (0 < inside (trace q) other s))
+    → Stepped b (none_reading s old deadline) found p q → t ≡ eqb found (old * 2 ^ 32) → t ≡ false → Idles b p q × ((other : ℕ) × (0 < inside (trace q) other s)) × HasStep p q × TakesOneStep p q
 is_read b p q s old deadline found t is k knows step at f =
     let h : List Event = step.told.more ++ trace p in
     let none : eqb found (old * 2 ^ 32) ≡ false = sym at ∙ f in
@@ -46,6 +47,8 @@ is_read b p q s old deadline found t is k knows step at f =
         memo = step.memo;
       },
       (reader.0, subst (λ g. 0 < inside g reader.0 s) (sym now) reader.1),
+      (h, starts p q (none_reading s old deadline) found step.told),
+      (h, ap (λ (v : View). v.looks) step.told.now),
     )
 
 pub did_refill : (b : Board) (p q : Pass) (s deadline : ℕ) (t : Bool) → t ≡ true → AddsAtOnce b (cond t (Refilled (number p) s deadline ∷ []) []) p q → AddsAtOnce b (Refilled (number p) s deadline ∷ []) p q

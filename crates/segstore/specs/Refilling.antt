@@ -1,12 +1,13 @@
 -- What a refill answers and leaves.
-use Rattle.std.specs.Prelude.{◌≡◌, ℕ, ◌<◌, [], ◌∷◌, Some, IsSome}
+use Rattle.std.specs.Prelude.{◌≡◌, ℕ, ◌<◌, List, [], ◌∷◌, Some, IsSome}
 use Rattle.segmodel.specs.Words.{RefillAnswer}
 use Rattle.segmodel.specs.declared.answer.RefillAnswer.TheVariants.{Refilled, NotYours, NotEvicted, Held}
 use Rattle.segmodel.specs.declared.answer.SegState.TheVariants.{InUse}
 use Rattle.segcore.specs.declared.event.Event.TheVariants as event
-use Rattle.segcore.specs.Words.{inside}
+use Rattle.segcore.specs.Words.{Event, inside}
 use Rattle.segbase.specs.declared.pass.Plain.{Plain}
-use Rattle.segbase.specs.Words.{AddsEvents, Board, number, Pass, sight, state_of, trace}
+use Rattle.segbase.specs.Words.{AddsEvents, Board, HasStep, looks, number, Pass, sight, state_of}
+use Rattle.segbase.specs.Words.{trace}
 use Rattle.segbase.specs.Words.{with_current, with_deadline, with_state, with_used}
 
 -- the pass did nothing, and keeps what it kept
@@ -14,6 +15,10 @@ pub record Idles (b : Board) (p q : Pass) : Type 0 where
   pub moved : AddsEvents b [] p q
   pub plain : q.plain ≡ p.plain
   pub memo : (sight q).memo ≡ (sight p).memo
+
+-- the call is one step
+abbrev pub TakesOneStep : Pass → Pass → Type 0
+TakesOneStep p q = (start : List Event) × (looks q ≡ start ∷ looks p)
 
 -- the segment is in use and current, with no row used and with this deadline; the rest is as it was
 abbrev pub refilled : ℕ → ℕ → Plain → Plain
@@ -27,12 +32,14 @@ pub record FillsAnew (b : Board) (segment deadline : ℕ) (p q : Pass) : Type 0 
   pub moved : AddsEvents b (event.Refilled (number p) segment deadline ∷ []) p q
   pub plain : q.plain ≡ refilled segment deadline p.plain
   pub memo : (sight q).memo ≡ (sight p).memo
+  pub once : TakesOneStep p q
 
 -- A segment of another pass, or one in use, is left as it is, without a step.
--- If the answer is Held, some pass is in the segment at that moment.
+-- If it is Held, the refilling was tried once, and some pass is in the segment at that moment.
 abbrev pub IsOutcome : Board → ℕ → ℕ → RefillAnswer → Pass → Pass → Type 0
 IsOutcome b segment deadline Refilled p q = FillsAnew b segment deadline p q
 IsOutcome b segment deadline NotYours p q = q ≡ p
 IsOutcome b segment deadline NotEvicted p q = q ≡ p
 IsOutcome b segment deadline Held p q =
-    Idles b p q × ((other : ℕ) × (0 < inside (trace q) other segment))
+    Idles b p q × ((other : ℕ) × (0 < inside (trace q) other segment)) × HasStep p q
+    × TakesOneStep p q

@@ -26,7 +26,7 @@ fn key_of(gate: u8, ticket: u8) -> Option<Key> {
     Key::new(&[b'a'.saturating_add(gate), b'0'.saturating_add(ticket)])
 }
 
-/// Stores a ticket, and says whether it is stored.
+/// Stores a ticket, and returns whether it is stored.
 fn store(client: &mut Client<'_>, gate: u8, ticket: u8) -> bool
     ensures { IsSame client.old client.new }
 {

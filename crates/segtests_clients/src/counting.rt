@@ -36,7 +36,7 @@ fn next_of(value: &Value) -> Option<Value> {
     value_of(number_of(value)?.checked_add(1)?)
 }
 
-/// Counts one visit, and says whether it is counted.
+/// Counts one visit, and returns whether it is counted.
 fn count_visit(client: &mut Client<'_>, page: &Key) -> bool {
     for _ in 0..TRIES {
         let (value, version) = match client.gets(page) {
@@ -64,7 +64,7 @@ fn count_visit(client: &mut Client<'_>, page: &Key) -> bool {
     false
 }
 
-/// Counts all visits of one thread, and says whether each is counted.
+/// Counts all visits of one thread, and returns whether each is counted.
 fn count_visits(client: &mut Client<'_>, page: &Key) -> bool {
     for _ in 0..VISITS {
         if !count_visit(client, page) {

@@ -1,4 +1,4 @@
-//! A cache by the index itself, with one pass, which gives up its segments in turn.
+//! A cache by the index itself, with one pass, which recycles its segments in turn.
 ghost use Rattle.std.specs.Prelude.{All, IfSome};
 ghost use Rattle.segindex.specs.Words.{board_of, IsQuiet};
 

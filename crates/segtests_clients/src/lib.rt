@@ -21,6 +21,8 @@ mod keeping;
 #[cfg(test)]
 mod keeping_at_once;
 #[cfg(test)]
+mod many_keys;
+#[cfg(test)]
 mod passing_over;
 #[cfg(test)]
 mod reading_at_once;

@@ -1,5 +1,5 @@
 //! A segment in which an item is held is passed over, and gets its turn when the ring has come
-//! round: what was put last is never given up for it.
+//! round: what was put last is never recycled for it.
 use segclient::{Client, GetAnswer, HoldAnswer, Index, Key, PutAnswer, Shape, Value, clients};
 use std::alloc::Global;
 use std::test::Fail;

@@ -3,7 +3,7 @@ use anyhow::Result;
 use segclient::{DeleteAnswer, GetAnswer, Index, Key, PutAnswer, Shape, Value, clients};
 use std::alloc::Global;
 
-/// What the calls answer.
+/// What the calls return.
 pub type Answers = (PutAnswer, GetAnswer, DeleteAnswer);
 
 /// The README shows the lines between the braces, but for the last one.

@@ -27,12 +27,12 @@ impl<'i> Sessions<'i> {
         Sessions { client }
     }
 
-    /// Says what the clock shows, in seconds.
+    /// Sets what the clock shows, in seconds.
     fn tick(&mut self, now: u32) {
         self.client.set_now(now);
     }
 
-    /// Begins a session of this user, and says whether the session is stored.
+    /// Begins a session of this user, and returns whether the session is stored.
     fn sign_in(&mut self, token: &str, user: &str) -> bool {
         let (Some(token), Some(user)) = (Key::new(token.as_bytes()), Value::new(user.as_bytes()))
         else {

@@ -1,5 +1,5 @@
 //! The index with its one pass beside the plain cache:
-//! over commands drawn at random both answer alike.
+//! over commands drawn at random both return the same.
 //! Their moments and deadlines are small numbers, so that many keys are expired.
 use rand_core::utils::NextWord;
 use rand_pcg::Lcg64Xsh32;

@@ -1,4 +1,4 @@
-//! The calls of the index with contracts that say only that the pass stays quiet.
+//! The calls of the index with contracts by which the pass only stays quiet.
 //! At a call of the index itself the proof of a test would have to read the whole contract.
 ghost use Rattle.std.specs.Prelude.{◌≡◌, ◌∷◌, [], IfOk};
 ghost use Rattle.segindex.specs.Words.{board_of};

@@ -2,7 +2,7 @@
 //! All memory that the process could get is taken, and from run to run a little more of it is left.
 use std::alloc::{AllocError, Global};
 
-/// How many bytes more are left from run to run. The C library gives no fewer.
+/// How many bytes more are left from run to run. The C library allocates no fewer.
 pub const STEP: usize = 16;
 
 /// How many runs there are at most.

@@ -1,4 +1,4 @@
-//! Holds, with contracts that say only that the pass stays quiet and that the hold is its own.
+//! Holds, with contracts by which only the pass stays quiet and the hold is its own.
 ghost use Rattle.std.specs.Prelude.{IfSome};
 ghost use Rattle.segindex.specs.Words.{board_of, shape_of};
 ghost use Rattle.segpass.specs.Words.{IsQuiet};
@@ -58,7 +58,7 @@ pub fn hold_over_a_set(
 }
 
 /// Holds the key while its segment is evicted.
-/// Returns what the hold reads after that, and what the eviction answered.
+/// Returns what the hold reads after that, and what the eviction returned.
 pub fn hold_over_an_eviction(
     index: &Index,
     pass: &mut Pass,

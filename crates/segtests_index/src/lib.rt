@@ -1,5 +1,5 @@
 //! Tests of the index: calls of one thread, passes on threads of their own, and too little memory.
-//! The tests of memory are for `rt test` alone: the heap of `rt try` can't be taken whole.
+//! The tests of memory are only for `rt test`: the heap of `rt try` can't be taken whole.
 #![tactic(auto)]
 
 #[cfg(test)]

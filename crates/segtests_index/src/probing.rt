@@ -1,4 +1,4 @@
-//! What a probe answers: a set, and a get after a set that was stored.
+//! What a probe returns: of a set, and of a get after a set that was stored.
 use crate::passes::SHAPE;
 use crate::tables::answers;
 use segword::Shape;

@@ -20,12 +20,12 @@ use segword::{Key, Value};
 /// Beside those of a script there are the calls "used", "state", "deadline", "current" and
 /// "holding", of what the pass keeps, and "set_held" and "evict_held": the key is held, this value
 /// is set or this segment evicted, and the answer has what the hold reads then.
-/// A "stats" is answered as "1 8 7", for 1 overflow bucket, 8 used rows and 7 named ones.
+/// A "stats" has the answer "1 8 7", for 1 overflow bucket, 8 used rows and 7 named ones.
 /// A "probe" has both of its answers, as "STORED VALUE 1".
 /// A call that reads or writes a key ends with its moment, as "@0".
 pub type Row<'t> = (&'t str, &'t str);
 
-/// The call of the first row that is answered otherwise, or that is no call.
+/// The call of the first row that has another answer, or that is no call.
 pub fn first_wrong<'t>(
     index: &Index,
     first: &mut Pass,
@@ -43,7 +43,7 @@ pub fn first_wrong<'t>(
     None
 }
 
-/// The first line of a script that is answered otherwise, or that is no call.
+/// The first line of a script that has another answer, or that is no call.
 /// A line has a call and its answer, as "p0 set a 1 @0 -> STORED".
 /// Empty lines and comments are passed over.
 pub fn first_wrong_line<'t>(
@@ -67,7 +67,7 @@ pub fn first_wrong_line<'t>(
     None
 }
 
-/// The same for a script that this pass serves alone, whatever pass a line names.
+/// The same for a script that only this pass serves, whatever pass a line names.
 pub fn first_wrong_alone<'t>(index: &Index, pass: &mut Pass, script: &'t str) -> Option<&'t str>
     requires { IsQuiet (board_of index.now) pass.old }
     ensures { IsQuiet (board_of index.now) pass.new }

@@ -1,5 +1,5 @@
-//! What a pass sees of the table in numbers: overflow buckets that were drawn,
-//! used rows of its own segments, and of these the ones that items name.
+//! What a pass sees of the table in numbers: overflow buckets that were allocated,
+//! used rows of its own segments, and how many used rows items name.
 use crate::passes::SHAPE;
 use crate::tables::answers;
 use segword::Shape;

@@ -14,7 +14,11 @@ use segword::{Key, Shape};
 use std::test::Fail;
 use std::thread::yield_now;
 
+// How many rounds each mover makes at least.
 const ROUNDS: u32 = 1_000;
+
+// How often a mover tries what another pass may bar that has no processor.
+const PATIENCE: u32 = 1 << 22;
 
 // How often each reader reads.
 const READS: u32 = 20_000;
@@ -30,6 +34,8 @@ fn key_of(number: u32) -> Option<Key> {
 
 // In each round the mover sets a key, and then fills its other segment.
 // It moves all items there, and evicts what is left in the first segment, which is nothing.
+// It goes on after its rounds until items were moved. On a busy machine the other mover may lose
+// its processor in the middle of a write, and bars each set of this one meanwhile.
 #[derive(Drop)]
 struct Mover {
     rounds: u32,
@@ -37,7 +43,7 @@ struct Mover {
     stored: u32,
     // How many items were moved.
     moved: u32,
-    // How many keys were evicted.
+    // How many keys were evicted, or could not be moved.
     lost: u32,
 }
 
@@ -45,9 +51,11 @@ impl Work for Mover {
     fn turn(&mut self, index: &Index, pass: &mut Pass, turn: u32) -> bool {
         if is_stored(index, pass, turn) {
             self.stored = self.stored.saturating_add(1);
+        } else {
+            yield_now();
         }
         self.change_segments(index, pass);
-        self.rounds < ROUNDS
+        self.lost == 0 && (self.rounds < ROUNDS || (self.moved == 0 && turn < PATIENCE))
     }
 }
 
@@ -73,12 +81,15 @@ impl Mover {
             return;
         }
         self.rounds = self.rounds.saturating_add(1);
-        self.moved = self.moved.saturating_add(keep_all(index, pass, segment));
-        let lost = match evict(index, pass, segment) {
-            EvictAnswer::Evicted(keys) | EvictAnswer::Busy(keys) => keys,
-            EvictAnswer::NotYours => KEYS,
+        let Some(moved) = keep_all(index, pass, segment) else {
+            self.lost = KEYS;
+            return;
         };
-        self.lost = self.lost.saturating_add(lost);
+        self.moved = self.moved.saturating_add(moved);
+        self.lost = match evict(index, pass, segment) {
+            EvictAnswer::Evicted(keys) => keys,
+            EvictAnswer::Busy(_) | EvictAnswer::NotYours => KEYS,
+        };
     }
 
     // Whether items were moved, and no key was lost.
@@ -87,23 +98,21 @@ impl Mover {
     }
 }
 
-// Moves all items of a segment into the current one, and counts them.
-fn keep_all(index: &Index, pass: &mut Pass, segment: u32) -> u32
+// Moves all items of a segment into the current one, and counts them, if none is left.
+fn keep_all(index: &Index, pass: &mut Pass, segment: u32) -> Option<u32>
     requires { IsQuiet (board_of index.now) pass.old }
     ensures { IsQuiet (board_of index.now) pass.new }
 {
     let mut moved = 0u32;
-    for _ in 0..ROUNDS {
+    for _ in 0..PATIENCE {
         match keep(index, pass, segment, 0) {
             KeepAnswer::Busy(items) => moved = moved.saturating_add(items),
-            KeepAnswer::Kept(items) | KeepAnswer::NoRoom(items) => {
-                return moved.saturating_add(items);
-            }
-            KeepAnswer::NotYours => return moved,
+            KeepAnswer::Kept(items) => return Some(moved.saturating_add(items)),
+            KeepAnswer::NoRoom(_) | KeepAnswer::NotYours => return None,
         }
         yield_now();
     }
-    moved
+    None
 }
 
 // Sets a key to a number.

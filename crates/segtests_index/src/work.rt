@@ -1,5 +1,5 @@
 //! What a thread does with its pass, turn after turn.
-//! A test has only its turns to give: that the pass stays quiet over them is proved once, here.
+//! A test has only its turns: that the pass stays quiet over them is proved once, here.
 ghost use Rattle.segindex.specs.Words.{board_of};
 ghost use Rattle.segpass.specs.Words.{IsQuiet};
 

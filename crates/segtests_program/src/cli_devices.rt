@@ -64,7 +64,7 @@ fn a_writer_that_fails_is_told(rt: HostRuntime) -> Result<(), Fail> {
             b"item tag=af6 freq=1 seg=2 row=3\n".as_slice(),
         ),
         (["load", "--commands", "0"].as_slice(), NO_TOTALS),
-        (["--version"].as_slice(), b"segrun 0.1.0\n".as_slice()),
+        (["--version"].as_slice(), b"segrun 0.2.0\n".as_slice()),
     ] {
         for room in 0..whole.len() {
             check_failing(
@@ -134,7 +134,7 @@ fn a_flush_that_fails_is_a_fault_of_the_writer(rt: HostRuntime) -> Result<(), Fa
             b"empty\n".as_slice(),
         ),
         (["load", "--commands", "0"].as_slice(), NO_TOTALS),
-        (["--version"].as_slice(), b"segrun 0.1.0\n".as_slice()),
+        (["--version"].as_slice(), b"segrun 0.2.0\n".as_slice()),
     ] {
         let ended = run_with(&rt, words, SCRIPT, devices)?;
         check_ended(&rt, words, &ended, 3, written, b"write failed\n");

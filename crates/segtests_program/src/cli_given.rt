@@ -1,4 +1,4 @@
-//! The program over its words as std gives them.
+//! The program over its words as std returns them.
 use crate::cli_runs::{REPLIES, SCRIPT, check_same, words_of};
 use segcli::{Nobody, run_given};
 use segscript::{MemSink, MemSource};

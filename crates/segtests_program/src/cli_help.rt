@@ -84,7 +84,7 @@ const WORDS: [&str; 7] = [
     "with status 2",
 ];
 
-/// Checks that the words are answered with a text that has these parts.
+/// Checks that for the words a text is printed that has these parts.
 fn check_shown<R: Threads + Wait + AllocGlobal + Abort + Sync>(
     rt: &R,
     words: &[&str],
@@ -141,7 +141,7 @@ fn help_fits_forty_lines(rt: HostRuntime) -> Result<(), Fail> {
 #[test]
 fn the_version_is_told(rt: HostRuntime) -> Result<(), Fail> {
     for word in ["--version", "-V"] {
-        check_program(&rt, &[word], b"", 0, b"segrun 0.1.0\n", b"")?;
+        check_program(&rt, &[word], b"", 0, b"segrun 0.2.0\n", b"")?;
     }
     Ok(())
 }

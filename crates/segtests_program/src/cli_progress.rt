@@ -1,4 +1,4 @@
-//! What a watch sees of a load, and the line that tells it.
+//! What a watch sees of a load, and its line of progress.
 use crate::cli_runs::{Ended, SOUND, check_ended, check_same, run_watched};
 use segcli::{Watch, progress_line};
 use std::alloc::{AllocError, AllocGlobal, Global};
@@ -12,8 +12,8 @@ use std::thread::{Threads, yield_now};
 // How often the first call of a watch lets other threads go first.
 const YIELDS: u32 = 100_000;
 
-/// A watch that keeps how often it was called, and what it was told in the first calls.
-/// At the first call it gives the passes that are not watched time for their commands.
+/// A watch that keeps how often it was called, and the arguments of the first calls.
+/// At the first call it leaves the passes that are not watched time for their commands.
 #[derive(Drop)]
 struct Seen {
     calls: AtomicU64,

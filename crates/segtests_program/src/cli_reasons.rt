@@ -1,4 +1,4 @@
-//! Why a line is bad: what the program says of the first bad line of a script.
+//! Why a line is bad: what the program prints of the first bad line of a script.
 use crate::cli_runs::{check_same, run_over};
 use segcli::bad_line_text;
 use segscript::{Explaining, MemSink, MemSource};

@@ -1,7 +1,8 @@
-//! What a load tells of the table at its end.
+//! What a load prints of the table at its end.
 use crate::cli_runs::{NO_TOTALS, SOUND, check_ended, check_same, run_watched};
 use segcli::{Pace, Totals, Watch, stats_text};
-use segload::{PassTotals, Tallies};
+use segindex::IndexStats;
+use segload::{PassTotals, Recycled, Tallies};
 use std::alloc::{AllocError, AllocGlobal, Global};
 use std::process::Abort;
 use std::sync::Wait;
@@ -63,6 +64,7 @@ fn a_watch_hears_of_the_end_if_it_is_asked_for(rt: HostRuntime) -> Result<(), Fa
 }
 
 // The totals of two passes with so many full buckets and writes without room.
+// Each of them evicted 40 keys, refilled 12 segments and has used 14 rows. 3 overflow buckets are drawn.
 fn totals_of(alloc: Global, full: [u32; 2], refused: [u32; 2]) -> Result<Totals, AllocError> {
     let mut passes = Vec::new(alloc);
     for (bucket_full, no_room) in full.into_iter().zip(refused) {
@@ -72,6 +74,15 @@ fn totals_of(alloc: Global, full: [u32; 2], refused: [u32; 2]) -> Result<Totals,
         passes.push(PassTotals {
             commands: 500,
             tallies,
+            recycled: Recycled {
+                evictions: 40,
+                refillings: 12,
+            },
+            table: IndexStats {
+                overflow_buckets: 3,
+                used_rows: 14,
+                named_rows: 13,
+            },
         })?;
     }
     Ok(Totals { passes, keys: 25 })
@@ -101,20 +112,20 @@ fn stats_name_the_options_to_raise(rt: HostRuntime) -> Result<(), Fail> {
         alloc,
         &totals_of(alloc, [0, 0], [0, 0])?,
         None,
-        "1000 commands\nrows that items name: 25\n",
+        "1000 commands\noverflow buckets: 3\nused rows: 28\nrows that items name: 25\nevictions: 80\nrefillings: 24\n",
     )?;
     check_stats(
         &rt,
         alloc,
         &totals_of(alloc, [2, 19], [0, 0])?,
         pace,
-        "1000 commands in 4 ms, 250000 a second\nrows that items name: 25\nbucketfull: 21, raise --buckets or --overflow\n",
+        "1000 commands in 4 ms, 250000 a second\noverflow buckets: 3\nused rows: 28\nrows that items name: 25\nevictions: 80\nrefillings: 24\nbucketfull: 21, raise --buckets or --overflow\n",
     )?;
     check_stats(
         &rt,
         alloc,
         &totals_of(alloc, [1, 0], [0, 3])?,
         pace,
-        "1000 commands in 4 ms, 250000 a second\nrows that items name: 25\nbucketfull: 1, raise --buckets or --overflow\nnoroom: 3, raise --segments or --rows\n",
+        "1000 commands in 4 ms, 250000 a second\noverflow buckets: 3\nused rows: 28\nrows that items name: 25\nevictions: 80\nrefillings: 24\nbucketfull: 1, raise --buckets or --overflow\nnoroom: 3, raise --segments or --rows\n",
     )
 }

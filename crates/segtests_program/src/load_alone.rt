@@ -2,7 +2,7 @@
 ghost use Rattle.std.specs.Prelude.{◌≡◌, ◌<◌, ◌≤◌, ◌^◌};
 
 use crate::load_runs::{SHAPE, run, run_over};
-use segload::{OpenGate, PassTotals, Tallies};
+use segload::{OpenGate, PassTotals, Recycled, Tallies};
 use segmodel::{
     Answer, Command, DeleteAnswer, EvictAnswer, GetAnswer, GetsAnswer, RefillAnswer, Request,
     WriteAnswer,
@@ -37,11 +37,23 @@ const WIDE: Shape = Shape {
 fn no_commands(rt: HostRuntime) -> Result<(), Fail> {
     let totals = run(&rt, SHAPE, 1, 0, &OpenGate)?;
     assert_eq!(rt; totals.keys, 0);
-    let &[PassTotals { commands, tallies }] = totals.passes.as_slice() else {
+    let &[
+        PassTotals {
+            commands,
+            tallies,
+            recycled,
+            table,
+        },
+    ] = totals.passes.as_slice()
+    else {
         return Err("one pass".into());
     };
     assert_eq!(rt; commands, 0);
     assert_eq!(rt; tallies, Tallies::new());
+    assert_eq!(rt; recycled, Recycled::new());
+    assert_eq!(rt; table.overflow_buckets, 0);
+    assert_eq!(rt; table.used_rows, 0);
+    assert_eq!(rt; table.named_rows, 0);
     Ok(())
 }
 
@@ -83,21 +95,29 @@ fn command_of(load: Load, version: u32) -> Command {
     }
 }
 
-// Takes every key out of a segment and makes it current.
-fn renews(solo: &mut Solo, segment: u32) -> bool {
-    matches!(
-        solo.answer(&Command::Evict(segment)),
-        Answer::Evict(EvictAnswer::Evicted(_))
-    ) && matches!(
-        solo.answer(&Command::Refill(segment, u32::MAX)),
-        Answer::Refill(RefillAnswer::Refilled)
-    )
+// Takes every key out of a segment and makes it current. It counts what it recycles.
+fn renews(solo: &mut Solo, segment: u32, recycled: &mut Recycled) -> bool {
+    let Answer::Evict(EvictAnswer::Evicted(keys)) = solo.answer(&Command::Evict(segment)) else {
+        return false;
+    };
+    recycled.evictions = recycled.evictions.saturating_add(u64::from(keys));
+    let Answer::Refill(RefillAnswer::Refilled) = solo.answer(&Command::Refill(segment, u32::MAX))
+    else {
+        return false;
+    };
+    recycled.refillings = recycled.refillings.saturating_add(1);
+    true
 }
 
 // Serves a command. If it finds no room and room could be made, it is served once more.
-fn serve(solo: &mut Solo, segments: &mut Ring, command: &Command) -> Answer {
+fn serve(
+    solo: &mut Solo,
+    segments: &mut Ring,
+    command: &Command,
+    recycled: &mut Recycled,
+) -> Answer {
     let answer = solo.answer(command);
-    if answer == Answer::Write(WriteAnswer::NoRoom) && renews(solo, segments.next()) {
+    if answer == Answer::Write(WriteAnswer::NoRoom) && renews(solo, segments.next(), recycled) {
         return solo.answer(command);
     }
     answer
@@ -121,6 +141,14 @@ fn keys_of(solo: &mut Solo, mut workload: Workload, commands: u32) -> u32 {
     keys
 }
 
+// What a plain loop comes to.
+#[derive(Clone, Copy)]
+struct Plain {
+    counts: [u32; PLACES],
+    recycled: Recycled,
+    keys: u32,
+}
+
 // What a plain loop counts over the commands of pass 0 of so many keys, and how many of these stand then.
 fn plain_loop(
     alloc: Global,
@@ -128,7 +156,7 @@ fn plain_loop(
     seed: u64,
     commands: u32,
     keys: NonZeroU32,
-) -> Result<([u32; PLACES], u32), Fail>
+) -> Result<Plain, Fail>
     requires one_pass { shape.passes ≡ 1 }
     requires some { (1 ≤ shape.segments_each) × (shape.segments_each < 2 ^ 32) }
 {
@@ -137,9 +165,10 @@ fn plain_loop(
     let mut segments = Ring::new(0, shape.segments_each);
     let mut version = 0;
     let mut counts = [0u32; PLACES];
+    let mut recycled = Recycled::new();
     for _ in 0..commands {
         let command = command_of(workload.next(), version);
-        let answer = serve(&mut solo, &mut segments, &command);
+        let answer = serve(&mut solo, &mut segments, &command, &mut recycled);
         if let Answer::Gets(GetsAnswer::Found(_, found)) = &answer {
             version = *found;
         }
@@ -147,7 +176,11 @@ fn plain_loop(
         counts[place] = counts[place].saturating_add(1);
     }
     let again = Workload::with_keys(seed, 0, keys.get());
-    Ok((counts, keys_of(&mut solo, again, commands)))
+    Ok(Plain {
+        counts,
+        recycled,
+        keys: keys_of(&mut solo, again, commands),
+    })
 }
 
 /// The tallies, in the order in which a load is printed.
@@ -181,16 +214,18 @@ fn counts_as_plain<R: Threads + Wait + AllocGlobal + Abort + Sync>(
     let first = run_over(rt, shape, SEED, commands, keys, &OpenGate)?;
     let second = run_over(rt, shape, SEED, commands, keys, &OpenGate)?;
     assert_eq!(rt; first, second);
-    let (counts, standing) = plain_loop(rt.alloc(), shape, SEED, commands, keys)?;
-    assert_eq!(rt; first.keys, standing);
+    let plain = plain_loop(rt.alloc(), shape, SEED, commands, keys)?;
+    assert_eq!(rt; first.keys, plain.keys);
     let [totals] = first.passes.as_slice() else {
         return Err("one pass".into());
     };
     assert_eq!(rt; totals.commands, commands);
-    assert_eq!(rt; counts_of(&totals.tallies), counts);
+    assert_eq!(rt; counts_of(&totals.tallies), plain.counts);
+    assert_eq!(rt; totals.recycled, plain.recycled);
+    assert_eq!(rt; totals.table.named_rows, plain.keys);
     assert_eq!(rt; totals.tallies.busy, 0);
     let mut sum = 0u32;
-    for count in counts {
+    for count in plain.counts {
         sum = sum.saturating_add(count);
     }
     assert_eq!(rt; sum, commands);

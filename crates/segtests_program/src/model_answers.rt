@@ -1,4 +1,4 @@
-//! Checks that the worked cases are answered as they should be.
+//! Checks that the worked cases have the answers that they should have.
 use crate::model_cases::{answer, check, command, plain};
 use segmodel::run;
 use std::test::Fail;

@@ -178,7 +178,7 @@ fn write_answer(text: &str) -> Result<WriteAnswer, Fail> {
     }
 }
 
-/// Checks that the cache answers each command of the case as the case says.
+/// Checks that the cache returns for each command of the case what the case wants.
 pub fn check_case(rt: &impl Abort, plain: &mut Plain, case: &str) -> Result<(), Fail> {
     let (keys, case) = case.split_once(": ").unwrap_or(("*", case));
     let (asked, told) = case.split_once(" = ").ok_or("no case")?;
@@ -190,7 +190,7 @@ pub fn check_case(rt: &impl Abort, plain: &mut Plain, case: &str) -> Result<(), 
     Ok(())
 }
 
-/// Checks that a cache of this shape answers each command as the cases say.
+/// Checks that a cache of this shape returns for each command what the cases want.
 pub fn check(
     rt: &impl Abort,
     alloc: Global,

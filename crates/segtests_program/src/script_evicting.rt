@@ -1,4 +1,4 @@
-//! What scripts of evictions and refillings are answered.
+//! The replies to scripts of evictions and refillings.
 use crate::script_runs::check_turns;
 use std::test::Fail;
 

@@ -1,4 +1,4 @@
-//! What scripts with moments and deadlines are answered: each line stands beside its reply.
+//! The replies to scripts with moments and deadlines: each line stands beside its reply.
 use crate::script_lines::{Line, check_lines};
 use crate::script_runs::check_script;
 use segscript::RunFault;

@@ -1,4 +1,4 @@
-//! What scripts of holds are answered.
+//! The replies to scripts of holds.
 use crate::script_runs::{check_script, check_turns};
 use segscript::RunFault;
 use std::test::Fail;

@@ -1,4 +1,4 @@
-//! What scripts of keeps are answered: which items move, into which rows, and when none may.
+//! The replies to scripts of keeps: which items move, into which rows, and when none can.
 use crate::script_lines::{Line, check_lines};
 use std::test::Fail;
 

@@ -42,7 +42,7 @@ pub fn run_over<S: Source, W: Sink>(
     run_script(alloc, reader, writer, shape)
 }
 
-/// A reader of the script in pieces, which may fail after some bytes.
+/// A reader of the script in pieces, which can fail after some bytes.
 pub fn reader_of(script: &[u8], step: usize, good: Option<usize>) -> MemSource<'_>
     ensures { result.failed ≡ false }
 {

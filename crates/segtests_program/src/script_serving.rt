@@ -1,4 +1,4 @@
-//! What scripts of good lines are answered.
+//! The replies to scripts of good lines.
 use crate::script_runs::{REPLIES, SCRIPT, SOUND, check, check_script, check_turns, shape_of};
 use segword::Shape;
 use std::test::Fail;

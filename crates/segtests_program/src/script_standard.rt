@@ -1,5 +1,5 @@
 //! Readers and writers of std.
-//! No contract tells how often a reader or a writer of std was called, so these count their calls.
+//! No contract states how often a reader or a writer of std was called, so these count their calls.
 use crate::script_runs::{REPLIES, SCRIPT, run_over, shape_of};
 use segscript::{Failed, ReadSource, RunFault, Sink, Source, WriteSink};
 use std::alloc::Global;

@@ -1,4 +1,4 @@
-//! What scripts of writes and deletes are answered, and the versions that they leave.
+//! The replies to scripts of writes and deletes, and the versions that they leave.
 use crate::script_runs::check_turns;
 use std::test::Fail;
 

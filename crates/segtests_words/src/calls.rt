@@ -1,4 +1,4 @@
-//! Boards with quiet passes, and calls on them with contracts that say only that a pass stays quiet.
+//! Boards with quiet passes, and calls on them with contracts by which a pass only stays quiet.
 ghost use Rattle.std.specs.Prelude.{◌≡◌, All, IfOk, IfSome};
 ghost use Rattle.segpass.specs.Words.{IsQuiet};
 

@@ -1,5 +1,5 @@
-//! What no contract says of words, frequencies, workloads and the table: values that are known from
-//! outside. This crate has tests alone.
+//! What no contract states of words, frequencies, workloads and the table:
+//! values that are known from outside. This crate has only tests.
 #![tactic(auto)]
 
 #[cfg(test)]

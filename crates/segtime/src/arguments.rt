@@ -65,7 +65,7 @@ const FLAGS: [(&str, &str); 2] = [
     ("wait", "Waits for input before a round, and in it"),
 ];
 
-/// What the program is to do: what is measured, and how it is told.
+/// What the program is to do: what is measured, and how it is printed.
 #[derive(Clone, Copy)]
 pub struct Options {
     pub mix: Mix,
@@ -82,7 +82,7 @@ pub struct Options {
     pub has_times: bool,
     /// Whether each round is asked for by lines of input.
     pub waits: bool,
-    /// Where nothing is timed: by how many gets ways of giving up segments are compared.
+    /// Where nothing is timed: by how many gets ways of recycling segments are compared.
     pub gets: Option<u32>,
 }
 
@@ -128,7 +128,7 @@ fn command_line<'a>(alloc: Global) -> Result<Command<'a>, AllocError> {
     let gets = gets.value_parser(value_parser!(u32));
     let retention = Command::new(alloc, "retention").about(RETENTION).arg(gets)?;
     let mut command = Command::new(alloc, "segtime")
-        .version("0.1.0")
+        .version("0.2.0")
         .about(ABOUT)
         .after_help(AFTER)
         .no_binary_name(true)

@@ -1,5 +1,5 @@
-//! Times the index, on so many threads over so many keys, or tells for several ways of giving up segments
-//! how many gets hit.
+//! Times the index, on so many threads over so many keys, or prints for several ways of recycling
+//! segments how many gets hit.
 #![tactic(auto)]
 
 mod arguments;

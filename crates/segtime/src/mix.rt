@@ -3,7 +3,7 @@
 /// The names of the mixes. Those of one letter are YCSB's.
 pub const MIXES: &[&str] = &["sets", "replaces", "gets", "mixed", "a", "b", "c", "f"];
 
-/// A mix. The help of the program tells of each.
+/// A mix. The help of the program explains each.
 #[derive(Clone, Copy)]
 pub enum Mix {
     Sets,

@@ -6,7 +6,7 @@ use std::io::Print;
 use std::time::Duration;
 use std::{fmt, io};
 
-/// What a round came to.
+/// The outcome of a round.
 #[derive(Drop)]
 pub struct Round {
     pub wall: Duration,

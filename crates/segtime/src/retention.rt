@@ -1,4 +1,4 @@
-//! Compares ways of giving up segments, by the gets that hit: evicting the oldest one,
+//! Compares ways of recycling segments, by the gets that hit: evicting the oldest one,
 //! and moving what was read often into a new one before.
 //! The gets are of more keys than the index has rows, and a key that is missed is set.
 ghost use Rattle.segindex.specs.Words.{board_of};
@@ -96,7 +96,7 @@ fn moved_by(answer: KeepAnswer) -> u32 {
     }
 }
 
-/// Tells for each way of giving up segments how many of so many gets hit.
+/// Prints for each way of recycling segments how many of so many gets hit.
 pub fn tell_retention<R: AllocGlobal + Print>(rt: &R, times: u32) -> io::Result<()> {
     for cutoff in CUTOFFS.iter().copied() {
         let Some((hits, moved)) = compare(rt.alloc(), cutoff, times) else {

@@ -1,4 +1,4 @@
-//! Rounds: all threads make commands at once, and a line tells what they came to.
+//! Rounds: all threads make commands at once, and a line prints what they came to.
 ghost use Rattle.std.specs.Prelude.{All};
 ghost use Rattle.segindex.specs.Words.{board_of};
 ghost use Rattle.segpass.specs.Words.{IsQuiet};
@@ -22,7 +22,7 @@ use std::{io, thread};
 /// The value that is stored under each key.
 const VALUE: &[u8] = b"0123456789abcdef";
 
-/// How many segments all threads have together, where no option says it.
+/// How many segments all threads have together, where no option sets it.
 const SEGMENTS: u32 = 1024;
 
 /// How often it is looked whether all threads are there. Then they begin without those that aren't.
@@ -85,7 +85,7 @@ fn fill(workers: &mut Vec<Worker<'_>>, keys: &Vec<Key>, value: &Value) {
     }
 }
 
-/// Makes the index, and then the rounds, each of which it tells.
+/// Makes the index, and then the rounds, each of which it prints.
 pub fn measure<R: Threads + Wait + Sync + AllocGlobal + Input + Print + Clock + CpuClock>(
     rt: &R,
     options: &Options,

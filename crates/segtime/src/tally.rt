@@ -2,12 +2,12 @@
 use segclient::PutAnswer;
 use segmodel::{Answer, DeleteAnswer, GetAnswer, GetsAnswer, WriteAnswer};
 
-/// How many commands came to what.
+/// How many commands had which outcome.
 #[derive(Clone, Copy, Default)]
 pub struct Tally {
     /// Those that found their key or were done.
     hits: u64,
-    /// Those that were answered otherwise.
+    /// Those that returned anything else.
     misses: u64,
     busy: u64,
     /// Those that found no room, or no word for a new key.

@@ -28,7 +28,7 @@ pub struct Worker<'i> {
     version: u32,
     /// The numbers of the keys of its next round.
     numbers: Vec<u32>,
-    /// What its last round came to.
+    /// The outcome of its last round.
     pub tally: Tally,
     /// The processor time of its last round.
     pub spent: Duration,

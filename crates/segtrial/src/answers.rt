@@ -1,4 +1,4 @@
-//! What an answer says of the cache, as the checker takes it.
+//! What an answer means for the cache, as the checker takes it.
 use crate::call::{Access, CasReply, Item, Operation};
 use crate::keys::Place;
 use crate::values::number_of;
@@ -7,17 +7,17 @@ use segmodel::{
     Request, WriteAnswer,
 };
 
-/// What an answer says.
+/// What an answer means.
 #[derive(Drop)]
 pub enum Said {
     Operation(Operation),
-    /// The call was refused, which says nothing of the cache.
+    /// The call was refused, which shows nothing of the cache.
     Nothing,
-    /// No such call is answered so.
+    /// No such call returns this.
     Wrong,
 }
 
-/// What the answer to a command on a key says. The item is what the command would store.
+/// What the answer to a command on a key means. The item is what the command would store.
 pub fn said_by(command: &Command, answer: &Answer, place: Place, item: Item) -> Said {
     if is_refusal(answer) {
         return Said::Nothing;
@@ -28,7 +28,7 @@ pub fn said_by(command: &Command, answer: &Answer, place: Place, item: Item) -> 
     }
 }
 
-/// What the answer to an evict says.
+/// What the answer to an evict means.
 pub fn said_by_evict(segment: u32, answer: EvictAnswer) -> Said {
     let (taken, is_whole) = match answer {
         EvictAnswer::Evicted(taken) => (taken, true),
@@ -42,7 +42,7 @@ pub fn said_by_evict(segment: u32, answer: EvictAnswer) -> Said {
     })
 }
 
-/// What the answer to a keep of all items, whatever their frequency, says.
+/// What the answer to a keep of all items, whatever their frequency, means.
 /// They move into another segment, and a keep that isn't refused leaves no key in the old one.
 pub fn said_by_keep(segment: u32, into: u32, answer: KeepAnswer) -> Said {
     let (taken, is_whole) = match answer {
@@ -58,7 +58,7 @@ pub fn said_by_keep(segment: u32, into: u32, answer: KeepAnswer) -> Said {
     })
 }
 
-/// What the answer to a refill of an own segment says.
+/// What the answer to a refill of an own segment means.
 pub fn said_by_refill(segment: u32, answer: RefillAnswer) -> Said {
     match answer {
         RefillAnswer::Refilled => Said::Operation(Operation::Refill { segment }),

@@ -1,4 +1,4 @@
-//! All the states in which a bucket may be, by what was answered so far.
+//! All the states in which a bucket can be, by the answers so far.
 //! A call is taken at the latest when it returns, and only in a state that allows its answer.
 use crate::call::Operation;
 use crate::replay::Fault;
@@ -17,7 +17,7 @@ pub type Pending = [Option<Operation>; THREADS];
 pub struct Bucket {
     number: usize,
     states: Vec<State>,
-    /// The states that the search for an answer reached. The list is kept for its memory alone.
+    /// The states that the search for an answer reached. The list is kept only for its memory.
     seen: Vec<State>,
 }
 
@@ -33,7 +33,7 @@ impl Bucket {
         })
     }
 
-    /// Which numbers of keys the thread's evict or keep may have taken out: bit n for n.
+    /// Which numbers of keys the thread's evict or keep can have taken out: bit n for n.
     pub fn counts(&self, thread: usize) -> u64 {
         let mut counts = 0;
         for state in self.states.iter() {
@@ -60,9 +60,9 @@ impl Bucket {
         Ok(())
     }
 
-    /// The thread's operation returns. Then the bucket may be in those states
+    /// The thread's operation returns. Then the bucket can be in those states
     /// that the calls under way lead to, the thread's among them.
-    /// Each of these calls is taken in a state that allows it.
+    /// Each call is taken in a state that allows it.
     /// Returns whether there is any such state.
     pub fn answer(&mut self, thread: usize, pending: &Pending) -> Result<bool, Fault> {
         let is_cut_off = matches!(pending.get(thread), Some(Some(it)) if it.is_cut_off());

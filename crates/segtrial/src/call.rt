@@ -38,8 +38,8 @@ pub enum CasReply {
 }
 
 /// What a call asked, and its answer. Buckets are numbered from 0, and so are the keys of each.
-/// A call that was refused says nothing of the cache and isn't noted.
-/// But an evict or a keep that ended early is noted, since it may have taken keys out before.
+/// A call that was refused shows nothing of the cache and isn't noted.
+/// But an evict or a keep that ended early is noted, since it can have taken keys out before.
 #[derive(Clone, Copy, Debug, PartialEq, Eq)]
 pub enum Operation {
     /// A call on a key, at the moment `now`.
@@ -133,7 +133,7 @@ impl Operation {
         }
     }
 
-    /// Whether the operation may return though keys still stand in its segment.
+    /// Whether the operation can return though keys still stand in its segment.
     pub(crate) fn is_cut_off(&self) -> bool {
         match self {
             Operation::Evict { is_whole, .. } | Operation::Keep { is_whole, .. } => !*is_whole,

@@ -1,4 +1,4 @@
-//! A pass that makes calls at random, and notes what each was answered.
+//! A pass that makes calls at random, and notes what each returned.
 ghost use Rattle.std.specs.Prelude.{◌≡◌};
 ghost use Rattle.segbase.specs.Words.{holding};
 ghost use Rattle.segindex.specs.Words.{board_of, shape_of};

@@ -1,4 +1,4 @@
-//! What a pass does next, drawn at random so that the same seed gives the same draws.
+//! What a pass does next, drawn at random so that the same seed makes the same draws.
 use crate::keys::{BUCKETS, EACH, Place};
 use rand_core::utils::NextWord;
 use rand_pcg::Lcg64Xsh32;

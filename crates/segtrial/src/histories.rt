@@ -3,10 +3,10 @@ use crate::call::{Access, Call, Item, Operation};
 use crate::replay::{Fault, check};
 use std::alloc::{AllocError, Global};
 
-/// The version with which the buckets of these histories begin.
+/// The version with which the buckets of the histories begin.
 pub const FIRST_VERSION: u32 = 7;
 
-/// A deadline after the moments of all calls of these histories, unless a call is said to come at it.
+/// A deadline after the moments of all calls of the histories, unless a call comes right at it.
 pub const DEADLINE: u32 = 100;
 
 /// The stamps of a call and of its return, and the call.

@@ -1,4 +1,4 @@
-//! Locks, holds, deadlines and evictions over two buckets: a legal history, and what may and may not
+//! Locks, holds, deadlines and evictions over two buckets: a legal history, and what can and can't
 //! stand there in its place.
 use crate::call::{Access, Operation};
 use crate::histories::{Change, DEADLINE, Line, item, on_key, on_key_at, verdict};

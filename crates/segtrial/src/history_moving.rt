@@ -1,4 +1,4 @@
-//! Items that move from a segment into another: a legal history, and what may and may not stand there
+//! Items that move from a segment into another: a legal history, and what can and can't stand there
 //! in its place.
 use crate::call::{Access, Operation};
 use crate::histories::{Change, Line, item, on_key, verdict};

@@ -1,4 +1,4 @@
-//! Keys that are hard to tell apart: their tags are the same, and many of them share a bucket.
+//! Keys that are hard to distinguish: their tags are the same, and many of them share a bucket.
 use crate::answers::Said;
 use crate::call::{Access, Operation};
 use segword::{Key, bucket_of, hash, tag_of};
@@ -37,7 +37,7 @@ impl Place {
         self.bucket.saturating_mul(EACH).saturating_add(self.key)
     }
 
-    /// What a call on this key says.
+    /// What a call on this key means.
     pub fn says(self, now: u32, access: Access) -> Said {
         Said::Operation(Operation::OnKey {
             bucket: self.bucket,

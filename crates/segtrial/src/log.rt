@@ -10,9 +10,9 @@ pub struct Log<'a> {
     /// The counter from which all passes draw their stamps.
     clock: &'a AtomicU64,
     pub calls: Vec<Call>,
-    /// How many answers say nothing.
+    /// How many calls were refused.
     pub refusals: u32,
-    /// Whether an answer was one that no such call gives.
+    /// Whether an answer was one that no such call returns.
     pub is_wrong: bool,
     /// Whether there was no memory to note a call.
     pub is_short: bool,
@@ -34,7 +34,7 @@ impl<'a> Log<'a> {
         self.clock.fetch_add(1, Ordering::SeqCst)
     }
 
-    /// Notes what a call's answer says, with the call's stamps.
+    /// Notes what a call's answer means, with the call's stamps.
     pub fn note(&mut self, called: u64, returned: u64, said: Said) {
         match said {
             Said::Operation(operation) => {

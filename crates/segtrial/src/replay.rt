@@ -37,12 +37,12 @@ struct Replay {
     stamp: u64,
 }
 
-/// Looks for an order of the calls in which a cache of one thread gives each of these answers.
+/// Looks for an order of the calls in which a cache of one thread returns each of their answers.
 /// Every call stands in the order between its two stamps. The calls of each thread come one after the other.
 ///
 /// An evict or a keep takes out each of its keys at a moment of its own.
 /// How many keys it took out of all buckets together is checked when it returns.
-/// What is answered later of one bucket doesn't bear on the others.
+/// Later answers of one bucket don't bear on the others.
 pub fn check(
     alloc: Global,
     buckets: usize,

@@ -31,7 +31,7 @@ pub struct Counts {
     pub answers: u64,
     /// Those of them between whose stamps another pass drew one.
     pub beside: u64,
-    /// Those that say nothing.
+    /// The refusals among them.
     pub refusals: u64,
     /// The items that were moved.
     pub moved: u64,

@@ -2,7 +2,7 @@
 use std::sync::atomic::{AtomicU64, Ordering};
 use std::thread::yield_now;
 
-/// How often a pass looks for the others. Then it goes on without them: one may have got no thread.
+/// How often a pass looks for the others. Then it goes on without them: one can have got no thread.
 const LOOKS: u32 = 1 << 20;
 
 /// How many passes are there.

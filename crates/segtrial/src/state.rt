@@ -19,7 +19,7 @@ struct Hand {
     held: Option<Item>,
 }
 
-/// A bucket as it may be at one moment.
+/// A bucket as it can be at one moment.
 #[derive(Clone, Copy, PartialEq, Eq)]
 pub struct State {
     items: [Option<Item>; KEYS],
@@ -104,7 +104,7 @@ impl State {
     }
 
     /// The state after a thread's evict or keep took this key out of its segment, if the key stands there.
-    /// It took out no more keys than it was answered.
+    /// It took out no more keys than it returned.
     /// A keep moves the key's item into another segment.
     pub fn without(&self, thread: usize, key: usize, operation: &Operation) -> Option<State> {
         let (segment, most, into) = match operation {

@@ -1,4 +1,4 @@
-//! Values that tell whether they were read as a whole: a number, repeated one to eight times.
+//! Values that show whether they were read as a whole: a number, repeated one to eight times.
 use segword::Value;
 
 /// The number of what is no such value.

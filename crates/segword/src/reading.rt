@@ -3,7 +3,7 @@ ghost use Rattle.std.specs.Prelude.{◌≡◌, ◌↔◌, IsSome, IfSome, Some};
 
 use crate::{Chain, Item};
 
-/// How a word 1 to 7 of a bucket is read. A bucket chains by its word 7 alone.
+/// How a word 1 to 7 of a bucket is read. A bucket chains only by its word 7.
 #[derive(Clone, Copy, Debug, PartialEq, Eq)]
 pub enum Reading {
     /// No item stands here: the word is 0.

@@ -4,7 +4,7 @@ use Rattle.std.proofs.lemmas.Bool.{cond-true, eq-eqb, ne_eqb}
 use Rattle.segword.specs.Words.{row_of}
 use Rattle.segmodel.specs.declared.entry.Entry.TheVariants.{Wrote}
 use Rattle.segmodel.specs.declared.request.Reply.TheVariants.{Stored}
-use Rattle.segmodel.specs.Words.{adds_key, after, bucket_of, Entry, key_of, Request, standing}
+use Rattle.segmodel.specs.Words.{adds_key, after, Begins, bucket_of, Entry, key_of, Request, standing}
 use Rattle.segmodel.specs.Words.{value_of}
 use Rattle.segcore.specs.declared.event.Event.TheVariants.{Freed}
 use Rattle.segcore.specs.Event as event
@@ -14,9 +14,11 @@ use Rattle.segcore.proofs.Orderly.{all_drawn_marked}
 use Rattle.segcore.proofs.Moments.{begins_on, marked_begins}
 use Rattle.segbase.specs.declared.pass.Plain.{Plain}
 use Rattle.segbase.specs.Words.{AddsAtOnce, AddsEvents, Board, IsPassOf, marked, number, Pass}
-use Rattle.segbase.specs.Words.{trace, with_own}
+use Rattle.segbase.specs.Words.{SinceFirst, trace, with_own}
+use Rattle.segcore.specs.Mark as mark
 use Rattle.segbase.specs.Passes as passes
 use Rattle.segbase.proofs.Moves.{moved_on, moved_then}
+use Rattle.segbase.proofs.Starting.{starts_on, steps_then}
 use Rattle.segstore.specs.Words.{fills, Idles, KeepsSegments}
 use Rattle.segstore.proofs.Keeping.{keeps_plain}
 use Rattle.segpass.specs.Words.{AddsEntry, ChangesNothing, DrawsNothing, GoesOn, HasCleanBit}
@@ -38,7 +40,7 @@ use Rattle.segpass.proofs.TakenBits.{both_no_tries}
 use Rattle.segwrite.proofs.FirstEmpty.{first_wider}
 use Rattle.segwrite.proofs.Filling.{fills_nowhere, fills_still, fills_undrawn, fills_untried, fills_seen}
 use Rattle.segpass.proofs.UnderBit.{moved_bucket, moved_bit}
-use Rattle.segpass.proofs.UnderWrite.{HasBegun, took_moved, took_clean, took_keeps, tries, tries_undrawn, write_goes_on, write_adds, write_drew, write_undrawn, write_peeking, write_takes, still_both}
+use Rattle.segpass.proofs.UnderWrite.{HasBegun, took_has, took_moved, took_clean, took_keeps, tries, tries_undrawn, write_goes_on, write_adds, write_drew, write_undrawn, write_peeking, write_takes, still_both}
 
 -- ---- after the search
 
@@ -91,18 +93,25 @@ module _ (b : Board) (key : List ℕ) (p q f s : Pass) (quiet : IsQuiet b p) {in
   pub full_takes : TakesOneBit k p s
   full_takes = write_takes b k p q quiet took f s [] [] false idles.moved (λ other apart. tt) tt (λ h. refl) freed free tt
 
-  pub full_answer : ChangesNothing p s × WasFull b.shape key (marked p) (marked s)
-  full_answer = (
-    record { entries = write_adds b k p q quiet took f s [] [] false idles.moved (λ other apart. tt) tt (λ h. refl) freed free; plain = plain_back; memo = memo_back },
-    (
-      marked f,
-      (
-        marked_begins (trace p) (trace f) (moved_on b (tries b k p q quiet took) p f (moved_then b (tries b k p q quiet took) [] p q f (took_moved b k p q quiet took) idles.moved)),
-        marked_begins (trace f) (trace s) (moved_on b (Freed (number f) k false ∷ []) f s freed.moved),
-      ),
-      is_full b key f idles.moved.pass (found_clean b k p q f quiet took idles) none why,
-    ),
-  )
+  pub full_answer : ChangesNothing p s × SinceFirst p s (λ start. WasFull b.shape key (mark.marked start) (marked s))
+  full_answer =
+      let took_step = took_has b k p q quiet took in let later = freed.moved in
+      let start = took_step.0 in
+      let to_f : Begins start (trace f) = begins_on start (trace q) (trace f) took_step.1.until (moved_on b [] q f idles.moved) in (
+        record { entries = write_adds b k p q quiet took f s [] [] false idles.moved (λ other apart. tt) tt (λ h. refl) freed free; plain = plain_back; memo = memo_back },
+        (
+          start,
+          starts_on p q s start took_step.1 (steps_then q f s idles.moved.same idles.moved.steps later.steps),
+          (
+            marked f,
+            (
+              marked_begins start (trace f) to_f,
+              marked_begins (trace f) (trace s) (moved_on b (Freed (number f) k false ∷ []) f s later),
+            ),
+            is_full b key f idles.moved.pass (found_clean b k p q f quiet took idles) none why,
+          ),
+        ),
+      )
 
 -- ---- stored
 

@@ -1,5 +1,5 @@
 -- What a reply tells: that of a cache of one thread, at the moment of the call at which its entry came into the history.
-use Rattle.std.proofs.Common.{◌≡◌, ℕ, suc, ◌^◌, ◌<◌, ◌==◌, List, [], ◌∷◌, ◌++◌, length, Option, Some, None, refl, sym, ap, ◌∙◌, subst, ⊎_elim, arith}
+use Rattle.std.proofs.Common.{◌≡◌, ℕ, suc, ◌^◌, ◌<◌, ◌==◌, List, [], ◌∷◌, ◌++◌, length, Option, Some, None, refl, sym, ap, ◌∙◌, subst, inl, inr, ⊎_elim, arith}
 use Rattle.std.proofs.lemmas.Bool.{cases_Bool, cond-true, cond-false}
 use Rattle.std.proofs.lemmas.Option.{same_Some, none-some}
 use Rattle.segmodel.specs.declared.request.Request.TheVariants.{Set, Cas, Delete}
@@ -11,8 +11,11 @@ use Rattle.segmodel.specs.Words.{after, Begins, DeleteAnswer, Entry, IsLegal, mi
 use Rattle.segmodel.specs.Words.{reads_version, Reply, reply_of_delete, reply_of_write, Request}
 use Rattle.segmodel.specs.Words.{WriteAnswer}
 use Rattle.segmodel.proofs.LawLemmas.{earlier_legal, cas_fails}
+use Rattle.segcore.specs.Event as event
+use Rattle.segcore.proofs.Counts.{mine_others}
+use Rattle.segcore.proofs.Moments.{seen_begins}
 use Rattle.segcore.proofs.Standing.{legal}
-use Rattle.segbase.specs.Words.{Board, number, Pass, seen, trace}
+use Rattle.segbase.specs.Words.{Board, number, Pass, seen, SinceFirst, TakesSteps, trace}
 use Rattle.segpass.specs.Words.{AddsEntry, GoesOn}
 use Rattle.segwrite.specs.Writes.{IsWriteAnswer, IsSetAnswer, IsDeleteAnswer, Writes, Deletes}
 use Rattle.segwrite.specs.Telling.{IsTold, WasTold, cas_reply}
@@ -47,6 +50,24 @@ told_at b request said segment p q on adds =
     let lawful = legal z (trace q) on.quiet.pass.lawful in
     (came.0, record { since = came.1; entered = now; replied = (earlier_legal z (entry ∷ came.0) (seen q) now lawful).1.0 })
 
+-- the same from the first step of the call on
+pub told_since : (b : Board) (request : Request) (said : Reply) (segment : Option ℕ) (p q : Pass) → GoesOn b p q → AddsEntry (Wrote (number p) request said segment) p q
+    → SinceFirst p q (λ start. (history : List Entry) × IsTold b.shape (number p) request said segment (event.seen start) (seen q) history)
+told_since b request said segment p q on adds = by on.steps
+  where
+    by : TakesSteps p q → SinceFirst p q (λ start. (history : List Entry) × IsTold b.shape (number p) request said segment (event.seen start) (seen q) history)
+    by (inl (start, s)) =
+        let z = b.shape in let n = number p in let entry = Wrote n request said segment in let old = event.seen start in
+        let up : Begins old (seen q) = seen_begins start (trace q) s.until in
+        let before : mine n old ≡ mine n (seen p) = ap (λ h. mine n (event.seen h)) s.since ∙ mine_others n s.others (trace p) s.none in
+        let one : mine n (up.0 ++ old) ≡ entry ∷ mine n old = ap (mine n) (sym up.1) ∙ (subst (λ m. mine m (seen q) ≡ entry ∷ mine n (seen p)) on.same adds ∙ ap (λ l. entry ∷ l) (sym before)) in
+        let came = came_in n entry up.0 old one in
+        let now = subst (Begins (entry ∷ came.0)) (sym up.1) came.2 in
+        (start, s, (came.0, record { since = came.1; entered = now; replied = (earlier_legal z (entry ∷ came.0) (seen q) now (legal z (trace q) on.quiet.pass.lawful)).1.0 }))
+    by (inr t) =
+        let same : mine (number q) (seen q) ≡ mine (number p) (seen p) = λ i. mine (on.same i) (event.seen (t.1 i)) in
+        absurd (let longer : length (mine (number p) (seen p)) ≡ suc (length (mine (number p) (seen p))) = ap length (sym same ∙ adds) in omega (arith, longer))
+
 -- a set is replied Stored alone
 pub stores_always : (b : Board) (key value : List ℕ) (now : ℕ) (told : WriteAnswer) (p q : Pass) → Writes b (Set key value now) told p q → IsSetAnswer told
 stores_always b key value now told p q w = by told w.answer
@@ -76,13 +97,19 @@ adds_reply b request write.Busy said p q answer is = absurd (none-some said is)
 pub write_told : (b : Board) (request : Request) (told : WriteAnswer) (said : Reply) (p q : Pass) → Writes b request told p q → reply_of_write told ≡ Some said → WasTold b.shape (number p) request said (seen p) (seen q)
 write_told b request told said p q w is = let added = adds_reply b request told said p q w.answer is in (added.0, told_at b request said added.0 p q w.on added.1)
 
+pub write_since : (b : Board) (request : Request) (told : WriteAnswer) (said : Reply) (p q : Pass) → Writes b request told p q → reply_of_write told ≡ Some said → SinceFirst p q (λ start. WasTold b.shape (number p) request said (event.seen start) (seen q))
+write_since b request told said p q w is = let added = adds_reply b request told said p q w.answer is in let t = told_since b request said added.0 p q w.on added.1 in (t.0, t.1, (added.0, t.2))
+
+delete_adds : (b : Board) (key : List ℕ) (now : ℕ) (told : DeleteAnswer) (said : Reply) (p q : Pass) → IsDeleteAnswer b.shape key now told p q → reply_of_delete told ≡ Some said → AddsEntry (Wrote (number p) (Delete key now) said None) p q
+delete_adds b key now delete.Deleted said p q answer is = subst (λ r. AddsEntry (Wrote (number p) (Delete key now) r None) p q) (same_Some reply.Deleted said is) answer.0
+delete_adds b key now delete.NotFound said p q answer is = subst (λ r. AddsEntry (Wrote (number p) (Delete key now) r None) p q) (same_Some reply.NotFound said is) answer.0
+delete_adds b key now delete.Busy said p q answer is = absurd (none-some said is)
+
+pub delete_since : (b : Board) (key : List ℕ) (now : ℕ) (told : DeleteAnswer) (said : Reply) (p q : Pass) → Deletes b key now told p q → reply_of_delete told ≡ Some said → SinceFirst p q (λ start. WasTold b.shape (number p) (Delete key now) said (event.seen start) (seen q))
+delete_since b key now told said p q d is = let t = told_since b (Delete key now) said None p q d.on (delete_adds b key now told said p q d.answer is) in (t.0, t.1, (None, t.2))
+
 pub delete_told : (b : Board) (key : List ℕ) (now : ℕ) (told : DeleteAnswer) (said : Reply) (p q : Pass) → Deletes b key now told p q → reply_of_delete told ≡ Some said → WasTold b.shape (number p) (Delete key now) said (seen p) (seen q)
-delete_told b key now told said p q d is = (None, told_at b (Delete key now) said None p q d.on (by told d.answer is))
-  where
-    by : (told : DeleteAnswer) → IsDeleteAnswer b.shape key now told p q → reply_of_delete told ≡ Some said → AddsEntry (Wrote (number p) (Delete key now) said None) p q
-    by delete.Deleted answer is = subst (λ r. AddsEntry (Wrote (number p) (Delete key now) r None) p q) (same_Some reply.Deleted said is) answer.0
-    by delete.NotFound answer is = subst (λ r. AddsEntry (Wrote (number p) (Delete key now) r None) p q) (same_Some reply.NotFound said is) answer.0
-    by delete.Busy answer is = absurd (none-some said is)
+delete_told b key now told said p q d is = (None, told_at b (Delete key now) said None p q d.on (delete_adds b key now told said p q d.answer is))
 
 -- ---- the version law
 

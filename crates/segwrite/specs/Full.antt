@@ -22,7 +22,7 @@ pub record IsFull (shape : Shape) (marks : List Mark) (key : List ℕ) : Type 0 
   pub no_word : HasNoWord shape marks key
   pub last : (width marks (bucket_of shape key) ≡ 4) ⊎ (all_drawn marks ≡ shape.overflow)
 
--- at a moment of the call a new key found no empty word, and the chain couldn't grow
+-- at a moment between these two a new key found no empty word, and the chain couldn't grow
 abbrev pub WasFull : Shape → List ℕ → List Mark → List Mark → Type 0
 WasFull shape key old new = (marks : List Mark) × IsBetween old new marks × IsFull shape marks key
 

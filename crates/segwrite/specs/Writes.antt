@@ -9,7 +9,8 @@ use Rattle.segmodel.specs.declared.answer.DeleteAnswer.TheVariants as delete
 use Rattle.segmodel.specs.Words.{adds_key, bucket_of, DeleteAnswer, key_of, Reply, Request}
 use Rattle.segmodel.specs.Words.{WriteAnswer}
 use Rattle.segbase.specs.Words.{Board, current_of, entered, glanced, locked_of, marked, number, OwnSegment, Pass}
-use Rattle.segbase.specs.Words.{trace, with_own}
+use Rattle.segbase.specs.Words.{SinceFirst, trace, with_own}
+use Rattle.segcore.specs.Mark as mark
 use Rattle.segstore.specs.Words.{has_room}
 use Rattle.segpass.specs.Words.{AddsEntry, ChangesNothing, DrawsNothing, GoesOn, IsBusy, memo}
 use Rattle.segpass.specs.Words.{RaisesNothing, ReadsNothing, TakesOneBit}
@@ -38,7 +39,7 @@ AddsReply request told p q =
 -- A request to store was stored in the current segment, or the cache refused it with a reply.
 -- Each is one entry.
 -- Without an entry it was refused for lack of a row, of a word, or of the bit.
--- A word is lacking only for a set or an add of a new key.
+-- A word is lacking only for a set or an add of a new key, at a moment after the first step.
 abbrev pub IsWriteAnswer : Shape → Request → WriteAnswer → Pass → Pass → Type 0
 IsWriteAnswer shape request write.Stored p q =
     (segment : ℕ)
@@ -51,7 +52,7 @@ IsWriteAnswer shape request write.NoRoom p q = q ≡ p
 IsWriteAnswer shape request write.BucketFull p q =
     ChangesNothing p q
     × (adds_key request false ≡ true)
-    × WasFull shape (key_of request) (marked p) (marked q)
+    × SinceFirst p q (λ start. WasFull shape (key_of request) (mark.marked start) (marked q))
 IsWriteAnswer shape request write.Busy p q =
     ChangesNothing p q × IsBusy (bucket_of shape (key_of request)) p q
 

@@ -44,7 +44,7 @@ pub fn set(board: &Board, pass: &mut Pass, key: &Key, value: &Value, now: u32) -
     write(board, pass, key, value, When::Always, now)
 }
 
-/// Stores the value under the key if the key is absent: else the answer is NotStored.
+/// Stores the value under the key if the key is absent. Else it returns NotStored.
 pub fn add(board: &Board, pass: &mut Pass, key: &Key, value: &Value, now: u32) -> WriteAnswer
     requires quiet { IsQuiet board.now pass.old }
     ensures writes { Writes board.now (Add key.now value.now now) result pass.old pass.new }
@@ -52,7 +52,7 @@ pub fn add(board: &Board, pass: &mut Pass, key: &Key, value: &Value, now: u32) -
     write(board, pass, key, value, When::Absent, now)
 }
 
-/// Stores the value under the key if the key is present: else the answer is NotStored.
+/// Stores the value under the key if the key is present. Else it returns NotStored.
 pub fn replace(board: &Board, pass: &mut Pass, key: &Key, value: &Value, now: u32) -> WriteAnswer
     requires quiet { IsQuiet board.now pass.old }
     ensures writes { Writes board.now (Replace key.now value.now now) result pass.old pass.new }
@@ -60,7 +60,7 @@ pub fn replace(board: &Board, pass: &mut Pass, key: &Key, value: &Value, now: u3
     write(board, pass, key, value, When::Present, now)
 }
 
-/// Stores the value under the key if the key's bucket has the expected version. Else the answer is
+/// Stores the value under the key if the key's bucket has the expected version. Else it returns
 /// Exists, or NotFound if the key is absent.
 pub fn cas(
     board: &Board,

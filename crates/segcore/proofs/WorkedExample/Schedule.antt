@@ -1,5 +1,5 @@
 -- The example's schedule: each step is allowed at what its pass has seen, so the world after all of them is reached.
-use Rattle.std.proofs.Common.{◌≡◌, ℕ, zero, suc, List, [], ◌∷◌, sym, refl, ◌∙◌, subst, inl, inr, arith}
+use Rattle.std.proofs.Common.{◌≡◌, ℕ, zero, suc, false, List, [], ◌∷◌, sym, refl, ◌∙◌, subst, inl, inr, arith}
 use Rattle.std.proofs.lemmas.List.{get_or-replicate, length-replicate}
 use mathlib.Core.Option.{some, some-injective, some-ne-none}
 use lib.ListN.{get_elem?}
@@ -7,10 +7,10 @@ use Rattle.segword.specs.Words.{IsValid}
 use Rattle.segcore.specs.declared.event.Event.TheVariants.{Took}
 use Rattle.segcore.specs.Words.{Cell, View}
 use Rattle.segcore.specs.declared.cell.Cell.TheVariants.{OfCounter, OfBucket, OfOverflow, OfSegment, OfRow}
-use Rattle.segcore.specs.Kind.{Step, May}
+use Rattle.segcore.specs.Kind.{Step, May, take}
 use Rattle.segcore.specs.Word.{address, word}
-use Rattle.segcore.specs.World.{IsFresh, IsOpening, Reaches}
-use Rattle.segcore.specs.Example.{shape, a, b, moved, view_of, opening, view_in, after_steps, to_opened, to_stored, to_bumped, to_moved, to_added, to_refused, to_replaced, to_relinked, to_evicted, to_refilled}
+use Rattle.segcore.specs.World.{IsFresh, IsOpening, Reaches, ReachesOn}
+use Rattle.segcore.specs.Example.{shape, a, b, moved, view_of, opening, view_in, after_steps, to_opened, to_stored, to_bumped, to_moved, to_added, refusing, to_refused, to_replaced, to_relinked, to_evicted, to_refilled}
 use Rattle.segcore.proofs.Addresses.{in_count}
 use Rattle.segcore.proofs.WorkedExample.Trace.{filled, stored_first, bumped_next, moved_next, added_next, refused_next, replaced_next, move_fits, relinked_next, evicted_next, elsewhere_next}
 
@@ -28,8 +28,8 @@ start_word (OfSegment s) = refl
 start_word (OfRow s r j) = refl
 
 first_view : (p : ℕ) (v : View) → get_elem? opening.views p ≡ some v → IsFresh 2 p v
-first_view zero v e = subst (IsFresh 2 0) (some-injective (view_of 0 []) v e) (record { number = refl; unseen = refl; dealt = refl })
-first_view (suc zero) v e = subst (IsFresh 2 1) (some-injective (view_of 1 []) v e) (record { number = refl; unseen = refl; dealt = refl })
+first_view zero v e = subst (IsFresh 2 0) (some-injective (view_of 0 []) v e) (record { number = refl; unseen = refl; unlooked = refl; dealt = refl })
+first_view (suc zero) v e = subst (IsFresh 2 1) (some-injective (view_of 1 []) v e) (record { number = refl; unseen = refl; unlooked = refl; dealt = refl })
 first_view (suc (suc p)) v e = absurd (some-ne-none v (sym e))
 
 opens : IsOpening shape opening
@@ -278,6 +278,17 @@ refilled_so = (
   ),
   refl,
   (omega arith, ((λ k i. i), refl), omega arith),
+)
+
+-- the refused add is a call by itself
+pub refusing_on : ReachesOn shape (after_steps to_added) refusing (after_steps to_refused)
+refusing_on = let taken = after_steps ((1, take 0 false) ∷ to_added) in let start = after_steps to_added in (
+  taken,
+  view_in taken 1,
+  (start, view_in start 1, refl, refused_so.0.1, refused_so.0.2, refl),
+  refused_so.1,
+  refused_so.2,
+  refl,
 )
 
 -- two passes step, and have then seen different ends of one trace

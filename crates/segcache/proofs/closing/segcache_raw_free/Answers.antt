@@ -10,7 +10,7 @@ use Rattle.segcache.proofs.closing.segcache_raw_free.Goals as goal
 
 pub returns-in_default : goal.returns-in_default
 returns-in_default c =
-    unanswered (λ (b a : Option Kept) (told : Status). Freed b a told) _ _ _
+    unanswered (λ (b a : Option Kept) (returned : Status). Freed b a returned) _ _ _
     c.in_default.ensures.taken c.take.ensures.none c.number.ensures (refl, refl)
 
 pub returns-then-not-is_cache : goal.returns-then-not-is_cache

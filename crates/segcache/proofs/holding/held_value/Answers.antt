@@ -13,11 +13,11 @@ returns-in-Some c =
     let R : Status → Type 0 = WritesNothing (c.args.value.now, c.args.value_len.now) (c.copy_out.new.value, c.copy_out.new.value_len) c.copy_out.result in
     let Does : SharedClient → SharedClient → Type 0 = MakesHeldRead (c.args.value.now, c.args.value_len.now) (c.copy_out.new.value, c.copy_out.new.value_len) c.copy_out.result in
     by_client R Does c.args.kept.now (kept.Client c.held_value.new.self) c.in-Client.client c.held_value.new.self c.in-Client.is refl
-    (record { value = Some c.in-Some.found; reads = c.in-Some.ensures; tells = c.copy_out.ensures })
+    (record { value = Some c.in-Some.found; reads = c.in-Some.ensures; returns = c.copy_out.ensures })
 
 pub returns-in-None : goal.returns-in-None
 returns-in-None c =
     let R : Status → Type 0 = WritesNothing (c.args.value.now, c.args.value_len.now) (c.args.value.now, c.args.value_len.now) status.NotHolding in
     let Does : SharedClient → SharedClient → Type 0 = MakesHeldRead (c.args.value.now, c.args.value_len.now) (c.args.value.now, c.args.value_len.now) status.NotHolding in
     by_client R Does c.args.kept.now (kept.Client c.held_value.new.self) c.in-Client.client c.held_value.new.self c.in-Client.is refl
-    (record { value = None; reads = c.in-None.ensures; tells = (refl, refl) })
+    (record { value = None; reads = c.in-None.ensures; returns = (refl, refl) })

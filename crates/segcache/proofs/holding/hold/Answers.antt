@@ -4,14 +4,14 @@ use Rattle.segcache.specs.declared.client.SharedClient.{SharedClient}
 use Rattle.segcache.specs.declared.kept.Kept.TheVariants as kept
 use Rattle.segcache.specs.declared.status.Status.{Status}
 use Rattle.segcache.specs.declared.status.Status.TheVariants as status
-use Rattle.segcache.specs.Exports.{ByKey, Tells}
+use Rattle.segcache.specs.Exports.{ByKey, Returns}
 use Rattle.segcache.specs.Calls.{HoldsAt}
 use Rattle.segcache.proofs.Answering.{bad_key, by_client, good_key}
 use Rattle.segcache.proofs.holding.hold.Goals as goal
 
 pub returns-in_default-new : goal.returns-in_default-new
 returns-in_default-new c =
-    let R : Status → Type 0 = Tells status.BadKey in
+    let R : Status → Type 0 = Returns status.BadKey in
     let Makes : SharedClient → SharedClient → Type 0 = HoldsAt c.args.key.now c.args.now status.BadKey in
     let Keyed : SharedClient → SharedClient → Type 0 = ByKey R c.args.key.now Makes in
     by_client R Keyed c.args.kept.now (kept.Client c.in-Client.client) c.in-Client.client c.in-Client.client c.in-Client.is refl
@@ -19,7 +19,7 @@ returns-in_default-new c =
 
 pub returns : goal.returns
 returns c =
-    let R : Status → Type 0 = Tells c.hold.result in
+    let R : Status → Type 0 = Returns c.hold.result in
     let Makes : SharedClient → SharedClient → Type 0 = HoldsAt c.args.key.now c.args.now c.hold.result in
     let Keyed : SharedClient → SharedClient → Type 0 = ByKey R c.args.key.now Makes in
     by_client R Keyed c.args.kept.now (kept.Client c.hold.new.self) c.in-Client.client c.hold.new.self c.in-Client.is refl

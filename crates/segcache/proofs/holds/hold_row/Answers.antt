@@ -2,42 +2,30 @@ use Rattle.std.proofs.Common.{refl}
 use Rattle.segread.specs.declared.held.HoldAnswer.TheVariants as hold_answer
 use Rattle.segcache.proofs.holds.hold_row.Goals as goal
 
-pub returns-in-Holding : goal.returns-in-Holding
-returns-in-Holding c = record {
+pub returns-in-Holding-clause-holds : goal.returns-in-Holding-clause-holds
+returns-in-Holding-clause-holds c = record {
   answer = hold_answer.Holding c.in-Holding.hold;
-  holds = record {
-    holds = c.in-Holding.ensures.holds;
-    counts = record { stats = c.in-Holding.ensures.stats; draws = c.in-Holding.ensures.draws; keeps = c.in-Holding.ensures.keeps };
-  };
-  tells = (refl, c.row_of_hold.ensures);
+  holds = c.in-Holding.ensures.holds;
+  returns = (refl, c.row_of_hold.ensures);
 }
 
-pub returns-in-Miss : goal.returns-in-Miss
-returns-in-Miss c = record {
+pub returns-in-Miss-clause-holds : goal.returns-in-Miss-clause-holds
+returns-in-Miss-clause-holds c = record {
   answer = hold_answer.Miss;
-  holds = record {
-    holds = c.in-Miss.ensures.holds;
-    counts = record { stats = c.in-Miss.ensures.stats; draws = c.in-Miss.ensures.draws; keeps = c.in-Miss.ensures.keeps };
-  };
-  tells = (refl, refl);
+  holds = c.in-Miss.ensures.holds;
+  returns = (refl, refl);
 }
 
-pub returns-in-Busy : goal.returns-in-Busy
-returns-in-Busy c = record {
+pub returns-in-Busy-clause-holds : goal.returns-in-Busy-clause-holds
+returns-in-Busy-clause-holds c = record {
   answer = hold_answer.Busy;
-  holds = record {
-    holds = c.in-Busy.ensures.holds;
-    counts = record { stats = c.in-Busy.ensures.stats; draws = c.in-Busy.ensures.draws; keeps = c.in-Busy.ensures.keeps };
-  };
-  tells = (refl, refl);
+  holds = c.in-Busy.ensures.holds;
+  returns = (refl, refl);
 }
 
-pub returns-in-AlreadyHolding : goal.returns-in-AlreadyHolding
-returns-in-AlreadyHolding c = record {
+pub returns-in-AlreadyHolding-clause-holds : goal.returns-in-AlreadyHolding-clause-holds
+returns-in-AlreadyHolding-clause-holds c = record {
   answer = hold_answer.AlreadyHolding;
-  holds = record {
-    holds = c.in-AlreadyHolding.ensures.holds;
-    counts = record { stats = c.in-AlreadyHolding.ensures.stats; draws = c.in-AlreadyHolding.ensures.draws; keeps = c.in-AlreadyHolding.ensures.keeps };
-  };
-  tells = (refl, refl);
+  holds = c.in-AlreadyHolding.ensures.holds;
+  returns = (refl, refl);
 }

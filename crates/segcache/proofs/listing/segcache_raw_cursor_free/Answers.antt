@@ -9,7 +9,7 @@ use Rattle.segcache.proofs.listing.segcache_raw_cursor_free.Goals as goal
 
 pub returns-in_default : goal.returns-in_default
 returns-in_default c =
-    unanswered (λ (b a : Option Kept) (told : Status). FreesCursor b a told) _ _ _
+    unanswered (λ (b a : Option Kept) (returned : Status). FreesCursor b a returned) _ _ _
     c.in_default.ensures.taken c.take.ensures.none c.number.ensures (refl, refl)
 
 pub returns-then-not-is_cursor : goal.returns-then-not-is_cursor

@@ -7,5 +7,5 @@ use Rattle.segcache.proofs.listing.segcache_raw_next.Goals as goal
 
 pub returns-in_default : goal.returns-in_default
 returns-in_default c =
-    unanswered (λ (b a : Option Kept) (told : Status). Listed b a (c.args.key.now, c.args.key_len.now) (c.args.key.now, c.args.key_len.now) (c.args.value.now, c.args.value_len.now) (c.args.value.now, c.args.value_len.now) told) _ _ _
+    unanswered (λ (b a : Option Kept) (returned : Status). Listed b a (c.args.key.now, c.args.key_len.now) (c.args.key.now, c.args.key_len.now) (c.args.value.now, c.args.value_len.now) (c.args.value.now, c.args.value_len.now) returned) _ _ _
     c.in_default.ensures.taken c.take.ensures.none c.number.ensures ((refl, refl, refl), refl)

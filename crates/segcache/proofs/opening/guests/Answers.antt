@@ -1,51 +1,74 @@
-use Rattle.std.proofs.Common.{rules, ◌≡◌, Some, None, sym, ap, ◌∙◌, subst, arith}
+use Rattle.std.proofs.Common.{rules, ◌≡◌, [], ◌∷◌, ◌++◌, List, map, None, sym, ap, ◌∙◌, subst, append_assoc, arith}
 use Rattle.std.specs.List.{AllZip}
+use Rattle.std.specs.Vec.Iter.{into_iter_items}
+use Rattle.std.proofs.lemmas.List.{append-nil, map-append, nil_from_length}
 use Rattle.std.proofs.lemmas.List.Elements.{All-head, All-same, All-rest}
-use Rattle.segbase.specs.Words.{holding}
-use Rattle.segindex.specs.Words.{Index}
-use Rattle.segclient.specs.declared.client.Client.{Client}
-use Rattle.segclient.specs.Client.{Starts}
-use Rattle.segcache.specs.Member.{IsMember}
-use Rattle.segcache.proofs.Members.{of_bare, of_index, rested}
+use Rattle.segbase.specs.Words.{holding, Pass}
+use Rattle.segindex.specs.Words.{board_of, Index, shape_of}
+use Rattle.segpass.specs.Words.{IsQuiet}
+use Rattle.segclient.specs.declared.member.Member.{Member}
+use Rattle.segclient.specs.Member.{Begins, IsMember}
+use Rattle.segclient.proofs.Places.{zip_push}
+use Rattle.segcache.specs.declared.kept.Kept.TheVariants as kept
+use Rattle.segcache.specs.Opening.{in_box, IsGuest}
+use Rattle.segcache.proofs.Opened.{is_guest}
 use Rattle.segcache.proofs.opening.guests.Goals as goal
 
-pub loop-client-init : goal.loop-client-init
-loop-client-init c =
+pub loop-pass-init : goal.loop-pass-init
+loop-pass-init c =
     let index = c.args.index.now.value in
-    let gives = c.into_iter-client-iterator.ensures.into_iter_gives in
-    let passes = c.args.passes.items in
-    let clients = c.in_ok-clients.clients.items in
+    let gives = c.into_iter-pass-iterator.ensures.into_iter_gives in
     record {
       can = tt;
       finite = tt;
       room = search rules;
-      of = All-same (λ (client : Client). client.index.now ≡ index) _ _ gives.0
-          (of_index index passes clients (subst (λ (i : Index). AllZip (Starts i) passes clients) c.deref.ensures c.in_ok-clients.ensures.each));
-      bare = All-same (λ (client : Client). holding client.pass ≡ None) _ _ gives.0
-          (of_bare index passes clients (subst (λ (i : Index). AllZip (Starts i) passes clients) c.deref.ensures c.in_ok-clients.ensures.each) c.requires.bare);
+      quiet = All-same (IsQuiet (board_of index)) _ _ gives.0 c.requires.quiet;
+      bare = All-same (λ (p : Pass). holding p ≡ None) _ _ gives.0 c.requires.bare;
+      all = sym gives.0;
+      made = search rules;
     }
 
 pub new-guest-requires : goal.new-guest-requires
 new-guest-requires c =
-    let index = c.args.index.now.value in
-    let client = c.in-Some.client in
-    let at = All-head (λ (client : Client). client.index.now ≡ index) client _ (All-same (λ (client : Client). client.index.now ≡ index) _ _ (sym c.in-Some.ensures.steps.0) c.loop-client.invariant.of) in
-    let free = All-head (λ (client : Client). holding client.pass ≡ None) client _ (All-same (λ (client : Client). holding client.pass ≡ None) _ _ (sym c.in-Some.ensures.steps.0) c.loop-client.invariant.bare) in
+    let free = All-head (λ (p : Pass). holding p ≡ None) c.in-Some.pass _ (All-same (λ (p : Pass). holding p ≡ None) _ _ (sym c.in-Some.ensures.steps.0) c.loop-pass.invariant.bare) in
     record {
-      member = subst (λ (i : Index). IsMember i (Some c.rest.result)) (sym c.in_ok-try_clone.ensures) (rested index client c.rest.result at c.rest.ensures);
-      row = ap holding (sym c.rest.ensures.pass) ∙ free;
+      member = subst (λ (i : Index). IsMember i c.new.result) (c.deref.ensures ∙ sym c.in_ok-try_clone.ensures) c.new.ensures.member;
+      row = ap holding c.new.ensures.begins.pass ∙ free;
     }
 
-pub loop-client-preserved : goal.loop-client-preserved
-loop-client-preserved c =
+pub loop-pass-preserved : goal.loop-pass-preserved
+loop-pass-preserved c =
     let index = c.args.index.now.value in
+    let was = c.loop-pass.invariant in
     let steps = c.in-Some.ensures.steps in
     let pushed = c.push_reserved.ensures in
-    let room = c.loop-client.invariant.room in
+    let pass = c.in-Some.pass in
+    let yielded = c.loop-pass.yielded in
+    let before = c.loop-pass.guests.items in
+    let rest = into_iter_items c.next.new.self in
+    let boxed = c.in-Ok.boxed in
+    let room = was.room in
+    let is : boxed.value ≡ kept.Client c.new-guest.result = search rules in
+    let guest : IsGuest index pass boxed.value = is_guest index pass boxed.value c.new-guest.result is (record {
+      index = c.new-guest.ensures.index ∙ c.in_ok-try_clone.ensures;
+      member = subst (λ (m : Member). Begins (shape_of index) pass m) (sym c.new-guest.ensures.member) (subst (λ (i : Index). Begins (shape_of i) pass c.new.result) c.deref.ensures c.new.ensures.begins);
+      held = c.new-guest.ensures.held;
+    }) in
+    let pushes : map in_box c.push_reserved.new.self.items ≡ map in_box before ++ boxed.value ∷ [] = ap (map in_box) pushed.items ∙ map-append in_box before (boxed ∷ []) in
     record {
       can = tt;
       finite = tt;
       room = omega (arith, steps.1, pushed.len, pushed.capacity, room);
-      of = All-rest (λ (client : Client). client.index.now ≡ index) c.in-Some.client _ _ steps.0 c.loop-client.invariant.of;
-      bare = All-rest (λ (client : Client). holding client.pass ≡ None) c.in-Some.client _ _ steps.0 c.loop-client.invariant.bare;
+      quiet = All-rest (IsQuiet (board_of index)) pass _ _ steps.0 was.quiet;
+      bare = All-rest (λ (p : Pass). holding p ≡ None) pass _ _ steps.0 was.bare;
+      all = was.all ∙ ap (λ l. yielded ++ l) steps.0 ∙ sym (append_assoc yielded (pass ∷ []) rest);
+      made = subst (AllZip (IsGuest index) (yielded ++ pass ∷ [])) (sym pushes) (zip_push (IsGuest index) yielded (map in_box before) pass boxed.value was.made guest);
     }
+
+pub returns : goal.returns
+returns c =
+    let was = c.loop-pass.invariant in
+    let rest = c.loop-pass.pass-iterator.rest in
+    let none = nil_from_length rest.items (sym rest.ok.0 ∙ c.in-None.ensures.steps.0) in
+    let all = was.all ∙ ap (λ l. c.loop-pass.yielded ++ l) none ∙ append-nil c.loop-pass.yielded in
+    subst (λ (l : List Pass). AllZip (IsGuest c.args.index.now.value) l (map in_box c.loop-pass.guests.items)) (sym all) was.made

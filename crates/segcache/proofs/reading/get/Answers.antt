@@ -6,7 +6,7 @@ use Rattle.segcache.specs.declared.status.Status.{Status}
 use Rattle.segcache.specs.declared.status.Status.TheVariants as status
 use Rattle.segcache.specs.Exports.{ByKey, WritesNothing}
 use Rattle.segcache.specs.Calls.{At, MakesCall}
-use Rattle.segcache.specs.Made.{Gets}
+use Rattle.segclient.specs.Made.{Gets}
 use Rattle.segcache.specs.Reading.{MakesGet}
 use Rattle.segcache.proofs.Answering.{bad_key, by_client, good_key}
 use Rattle.segcache.proofs.reading.get.Goals as goal
@@ -21,13 +21,13 @@ returns-in_default-new c =
 
 pub returns : goal.returns
 returns c =
-    let R : Status → Type 0 = WritesNothing (c.args.value.now, c.args.value_len.now) (c.tell_get.new.value, c.tell_get.new.value_len) c.tell_get.result in
-    let Makes : SharedClient → SharedClient → Type 0 = MakesGet c.args.key.now c.args.now (c.args.value.now, c.args.value_len.now) (c.tell_get.new.value, c.tell_get.new.value_len) c.tell_get.result in
+    let R : Status → Type 0 = WritesNothing (c.args.value.now, c.args.value_len.now) (c.copy_get.new.value, c.copy_get.new.value_len) c.copy_get.result in
+    let Makes : SharedClient → SharedClient → Type 0 = MakesGet c.args.key.now c.args.now (c.args.value.now, c.args.value_len.now) (c.copy_get.new.value, c.copy_get.new.value_len) c.copy_get.result in
     let Keyed : SharedClient → SharedClient → Type 0 = ByKey R c.args.key.now Makes in
     by_client R Keyed c.args.kept.now (kept.Client c.get.new.self) c.in-Client.client c.get.new.self c.in-Client.is refl
     (good_key R c.args.key.now Makes c.in-Client.client c.get.new.self (c.in-Some.ensures.variant.0 refl)
     (record {
       answer = c.get.result;
       calls = subst (λ (k : List ℕ). MakesCall (At c.args.now (Gets k c.get.result)) c.in-Client.client c.get.new.self) c.in-Some.ensures.some c.get.ensures;
-      tells = c.tell_get.ensures;
+      returns = c.copy_get.ensures;
     }))

@@ -6,7 +6,7 @@ use Rattle.segcache.specs.declared.status.Status.{Status}
 use Rattle.segcache.specs.declared.status.Status.TheVariants as status
 use Rattle.segcache.specs.Exports.{ByKey}
 use Rattle.segcache.specs.Calls.{At, MakesCall}
-use Rattle.segcache.specs.Made.{GetsVersion}
+use Rattle.segclient.specs.Made.{GetsVersion}
 use Rattle.segcache.specs.Reading.{MakesGets, WritesNoVersion}
 use Rattle.segcache.proofs.Answering.{bad_key, by_client, good_key}
 use Rattle.segcache.proofs.reading.gets.Goals as goal
@@ -21,13 +21,13 @@ returns-in_default-new c =
 
 pub returns : goal.returns
 returns c =
-    let R : Status → Type 0 = WritesNoVersion (c.args.value.now, c.args.value_len.now) (c.tell_gets.new.value, c.tell_gets.new.value_len) c.args.version.now c.tell_gets.new.version c.tell_gets.result in
-    let Makes : SharedClient → SharedClient → Type 0 = MakesGets c.args.key.now c.args.now (c.args.value.now, c.args.value_len.now) (c.tell_gets.new.value, c.tell_gets.new.value_len) c.args.version.now c.tell_gets.new.version c.tell_gets.result in
+    let R : Status → Type 0 = WritesNoVersion (c.args.value.now, c.args.value_len.now) (c.copy_gets.new.value, c.copy_gets.new.value_len) c.args.version.now c.copy_gets.new.version c.copy_gets.result in
+    let Makes : SharedClient → SharedClient → Type 0 = MakesGets c.args.key.now c.args.now (c.args.value.now, c.args.value_len.now) (c.copy_gets.new.value, c.copy_gets.new.value_len) c.args.version.now c.copy_gets.new.version c.copy_gets.result in
     let Keyed : SharedClient → SharedClient → Type 0 = ByKey R c.args.key.now Makes in
     by_client R Keyed c.args.kept.now (kept.Client c.gets.new.self) c.in-Client.client c.gets.new.self c.in-Client.is refl
     (good_key R c.args.key.now Makes c.in-Client.client c.gets.new.self (c.in-Some.ensures.variant.0 refl)
     (record {
       answer = c.gets.result;
       calls = subst (λ (k : List ℕ). MakesCall (At c.args.now (GetsVersion k c.gets.result)) c.in-Client.client c.gets.new.self) c.in-Some.ensures.some c.gets.ensures;
-      tells = c.tell_gets.ensures;
+      returns = c.copy_gets.ensures;
     }))

@@ -8,5 +8,5 @@ use Rattle.segcache.proofs.settings.segcache_raw_index_stats.Goals as goal
 
 pub returns-in_default : goal.returns-in_default
 returns-in_default c =
-    unanswered (λ (b a : Option Kept) (told : Status). CountedTable b a c.args.counts.now c.args.counts.now told) _ _ _
+    unanswered (λ (b a : Option Kept) (returned : Status). CountedTable b a c.args.counts.now c.args.counts.now returned) _ _ _
     c.in_default.ensures.taken c.take.ensures.none c.number.ensures ((refl, refl), refl)

@@ -8,5 +8,5 @@ use Rattle.segcache.proofs.settings.segcache_raw_keep_from.Goals as goal
 
 pub returns-in_default : goal.returns-in_default
 returns-in_default c =
-    unanswered (λ (b a : Option Kept) (told : Status). KeptFrom c.args.cutoff b a told) _ _ _
+    unanswered (λ (b a : Option Kept) (returned : Status). KeptFrom c.args.cutoff b a returned) _ _ _
     c.in_default.ensures.taken c.take.ensures.none c.number.ensures (refl, refl)

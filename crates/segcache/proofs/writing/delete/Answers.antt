@@ -4,16 +4,16 @@ use Rattle.segcache.specs.declared.client.SharedClient.{SharedClient}
 use Rattle.segcache.specs.declared.kept.Kept.TheVariants as kept
 use Rattle.segcache.specs.declared.status.Status.{Status}
 use Rattle.segcache.specs.declared.status.Status.TheVariants as status
-use Rattle.segcache.specs.Exports.{ByKey, Tells}
+use Rattle.segcache.specs.Exports.{ByKey, Returns}
 use Rattle.segcache.specs.Calls.{At, MakesCall}
-use Rattle.segcache.specs.Made.{DeletesKey}
+use Rattle.segclient.specs.Made.{DeletesKey}
 use Rattle.segcache.specs.Writing.{MakesDelete}
 use Rattle.segcache.proofs.Answering.{bad_key, by_client, good_key}
 use Rattle.segcache.proofs.writing.delete.Goals as goal
 
 pub returns-in_default-new : goal.returns-in_default-new
 returns-in_default-new c =
-    let R : Status → Type 0 = Tells status.BadKey in
+    let R : Status → Type 0 = Returns status.BadKey in
     let Makes : SharedClient → SharedClient → Type 0 = MakesDelete c.args.key.now c.args.now status.BadKey in
     let Keyed : SharedClient → SharedClient → Type 0 = ByKey R c.args.key.now Makes in
     by_client R Keyed c.args.kept.now (kept.Client c.in-Client.client) c.in-Client.client c.in-Client.client c.in-Client.is refl
@@ -21,7 +21,7 @@ returns-in_default-new c =
 
 pub returns : goal.returns
 returns c =
-    let R : Status → Type 0 = Tells c.of_delete.result in
+    let R : Status → Type 0 = Returns c.of_delete.result in
     let Makes : SharedClient → SharedClient → Type 0 = MakesDelete c.args.key.now c.args.now c.of_delete.result in
     let Keyed : SharedClient → SharedClient → Type 0 = ByKey R c.args.key.now Makes in
     by_client R Keyed c.args.kept.now (kept.Client c.delete.new.self) c.in-Client.client c.delete.new.self c.in-Client.is refl
@@ -29,5 +29,5 @@ returns c =
     (record {
       answer = c.delete.result;
       calls = subst (λ (k : List ℕ). MakesCall (At c.args.now (DeletesKey k c.delete.result)) c.in-Client.client c.delete.new.self) c.in-Some.ensures.some c.delete.ensures;
-      tells = c.of_delete.ensures;
+      returns = c.of_delete.ensures;
     }))

@@ -4,16 +4,16 @@ use Rattle.segcache.specs.declared.client.SharedClient.{SharedClient}
 use Rattle.segcache.specs.declared.kept.Kept.TheVariants as kept
 use Rattle.segcache.specs.declared.status.Status.{Status}
 use Rattle.segcache.specs.declared.status.Status.TheVariants as status
-use Rattle.segcache.specs.Exports.{ByKey, ByValue, Tells}
+use Rattle.segcache.specs.Exports.{ByKey, ByValue, Returns}
 use Rattle.segcache.specs.Calls.{At, MakesCall}
-use Rattle.segcache.specs.Made.{PutsValue}
+use Rattle.segclient.specs.Puts.{Puts}
 use Rattle.segcache.specs.Writing.{MakesPut}
 use Rattle.segcache.proofs.Answering.{bad_key, bad_value, by_client, good_key, good_value}
 use Rattle.segcache.proofs.writing.put.Goals as goal
 
 pub returns-in_default-new : goal.returns-in_default-new
 returns-in_default-new c =
-    let R : Status → Type 0 = Tells status.BadKey in
+    let R : Status → Type 0 = Returns status.BadKey in
     let Makes : SharedClient → SharedClient → Type 0 = MakesPut c.args.key.now c.args.value.now c.args.now status.BadKey in
     let Valued : SharedClient → SharedClient → Type 0 = ByValue R c.args.value.now Makes in
     let Keyed : SharedClient → SharedClient → Type 0 = ByKey R c.args.key.now Valued in
@@ -22,7 +22,7 @@ returns-in_default-new c =
 
 pub returns-in_default-new-2 : goal.returns-in_default-new-2
 returns-in_default-new-2 c =
-    let R : Status → Type 0 = Tells status.BadValue in
+    let R : Status → Type 0 = Returns status.BadValue in
     let Makes : SharedClient → SharedClient → Type 0 = MakesPut c.args.key.now c.args.value.now c.args.now status.BadValue in
     let Valued : SharedClient → SharedClient → Type 0 = ByValue R c.args.value.now Makes in
     let Keyed : SharedClient → SharedClient → Type 0 = ByKey R c.args.key.now Valued in
@@ -32,7 +32,7 @@ returns-in_default-new-2 c =
 
 pub returns : goal.returns
 returns c =
-    let R : Status → Type 0 = Tells c.of_put.result in
+    let R : Status → Type 0 = Returns c.of_put.result in
     let Makes : SharedClient → SharedClient → Type 0 = MakesPut c.args.key.now c.args.value.now c.args.now c.of_put.result in
     let Valued : SharedClient → SharedClient → Type 0 = ByValue R c.args.value.now Makes in
     let Keyed : SharedClient → SharedClient → Type 0 = ByKey R c.args.key.now Valued in
@@ -41,7 +41,7 @@ returns c =
     (good_value R c.args.value.now Makes c.in-Client.client c.put.new.self (c.in-Some-new.ensures.variant.0 refl)
     (record {
       answer = c.put.result;
-      calls = subst (λ (k : List ℕ). MakesCall (At c.args.now (PutsValue k c.args.value.now c.put.result)) c.in-Client.client c.put.new.self) c.in-Some.ensures.some
-          (subst (λ (v : List ℕ). MakesCall (At c.args.now (PutsValue c.in-Some.key v c.put.result)) c.in-Client.client c.put.new.self) c.in-Some-new.ensures.some c.put.ensures);
-      tells = c.of_put.ensures;
+      calls = subst (λ (k : List ℕ). MakesCall (At c.args.now (Puts k c.args.value.now c.put.result)) c.in-Client.client c.put.new.self) c.in-Some.ensures.some
+          (subst (λ (v : List ℕ). MakesCall (At c.args.now (Puts c.in-Some.key v c.put.result)) c.in-Client.client c.put.new.self) c.in-Some-new.ensures.some c.put.ensures);
+      returns = c.of_put.ensures;
     })))

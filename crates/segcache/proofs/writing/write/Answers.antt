@@ -4,7 +4,7 @@ use Rattle.segcache.specs.declared.client.SharedClient.{SharedClient}
 use Rattle.segcache.specs.declared.kept.Kept.TheVariants as kept
 use Rattle.segcache.specs.declared.status.Status.{Status}
 use Rattle.segcache.specs.declared.status.Status.TheVariants as status
-use Rattle.segcache.specs.Exports.{ByKey, ByValue, Tells}
+use Rattle.segcache.specs.Exports.{ByKey, ByValue, Returns}
 use Rattle.segcache.specs.Calls.{At, MakesCall}
 use Rattle.segcache.specs.Made.{WritesWhen}
 use Rattle.segcache.specs.Writing.{MakesWrite}
@@ -13,7 +13,7 @@ use Rattle.segcache.proofs.writing.write.Goals as goal
 
 pub returns-in_default-new : goal.returns-in_default-new
 returns-in_default-new c =
-    let R : Status → Type 0 = Tells status.BadKey in
+    let R : Status → Type 0 = Returns status.BadKey in
     let Makes : SharedClient → SharedClient → Type 0 = MakesWrite c.args.when c.args.key.now c.args.value.now c.args.now status.BadKey in
     let Valued : SharedClient → SharedClient → Type 0 = ByValue R c.args.value.now Makes in
     let Keyed : SharedClient → SharedClient → Type 0 = ByKey R c.args.key.now Valued in
@@ -22,7 +22,7 @@ returns-in_default-new c =
 
 pub returns-in_default-new-2 : goal.returns-in_default-new-2
 returns-in_default-new-2 c =
-    let R : Status → Type 0 = Tells status.BadValue in
+    let R : Status → Type 0 = Returns status.BadValue in
     let Makes : SharedClient → SharedClient → Type 0 = MakesWrite c.args.when c.args.key.now c.args.value.now c.args.now status.BadValue in
     let Valued : SharedClient → SharedClient → Type 0 = ByValue R c.args.value.now Makes in
     let Keyed : SharedClient → SharedClient → Type 0 = ByKey R c.args.key.now Valued in
@@ -32,7 +32,7 @@ returns-in_default-new-2 c =
 
 pub returns : goal.returns
 returns c =
-    let R : Status → Type 0 = Tells c.of_write.result in
+    let R : Status → Type 0 = Returns c.of_write.result in
     let Makes : SharedClient → SharedClient → Type 0 = MakesWrite c.args.when c.args.key.now c.args.value.now c.args.now c.of_write.result in
     let Valued : SharedClient → SharedClient → Type 0 = ByValue R c.args.value.now Makes in
     let Keyed : SharedClient → SharedClient → Type 0 = ByKey R c.args.key.now Valued in
@@ -43,5 +43,5 @@ returns c =
       answer = c.write.result;
       calls = subst (λ (k : List ℕ). MakesCall (At c.args.now (WritesWhen c.args.when k c.args.value.now c.write.result)) c.in-Client.client c.write.new.self) c.in-Some.ensures.some
           (subst (λ (v : List ℕ). MakesCall (At c.args.now (WritesWhen c.args.when c.in-Some.key v c.write.result)) c.in-Client.client c.write.new.self) c.in-Some-new.ensures.some c.write.ensures);
-      tells = c.of_write.ensures;
+      returns = c.of_write.ensures;
     })))

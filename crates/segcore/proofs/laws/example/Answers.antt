@@ -1,7 +1,7 @@
 use Rattle.std.proofs.Common.{refl}
 use Rattle.segcore.proofs.WorkedExample.Trace as it
 use Rattle.segcore.proofs.WorkedExample.Scan.{scanned}
-use Rattle.segcore.proofs.WorkedExample.Schedule.{reached}
+use Rattle.segcore.proofs.WorkedExample.Schedule.{reached, refusing_on}
 use Rattle.segcore.proofs.laws.example.Goals as goal
 
 pub returns : goal.returns
@@ -19,5 +19,6 @@ returns c = record {
   reached = reached;
   traced = refl;
   waited = (refl, refl);
-  different = refl;
+  in_order = (refusing_on, refl);
+  different = (refl, refl);
 }

@@ -1,6 +1,6 @@
 use Rattle.std.proofs.Common.{rules, ◌≡◌, ◌≢◌, Some, refl, sym, subst, inr}
 use Rattle.segmodel.specs.declared.answer.SegState.TheVariants.{InUse}
-use Rattle.segbase.specs.Words.{current_of, seen, state_of}
+use Rattle.segbase.specs.Words.{current_of, state_of}
 use Rattle.segbase.proofs.Moves.{stays}
 use Rattle.segpass.specs.Words.{GoesOn, IsQuiet}
 use Rattle.segevict.specs.Evicting.{CostsOfEvict, IsEvictAnswer}
@@ -34,7 +34,7 @@ returns-in_default c = record {
     not_yours = search rules;
     costs = record {
       order = λ in_use. search (rules, in_use);
-      tries = λ rows is. no_tries c.args.board.now (λ key. StoodIn c.args.board.now.shape c.args.segment key (seen c.args.pass.now) (seen c.args.pass.now)) rows c.args.pass.now c.args.pass.now (stays c.args.board.now c.args.pass.now c.requires.quiet.pass);
+      tries = λ rows is. no_tries c.args.board.now (λ key. StoodIn c.args.board.now.shape c.args.segment key c.args.pass.now c.args.pass.now) rows c.args.pass.now c.args.pass.now (stays c.args.board.now c.args.pass.now c.requires.quiet.pass);
       draws_nothing = λ bucket. refl;
       reads_nothing = refl;
     };
@@ -49,7 +49,7 @@ returns-then-ne c = record {
     not_yours = search rules;
     costs = record {
       order = λ in_use. search (rules, in_use);
-      tries = λ rows is. no_tries c.args.board.now (λ key. StoodIn c.args.board.now.shape c.args.segment key (seen c.args.pass.now) (seen c.args.pass.now)) rows c.args.pass.now c.args.pass.now (stays c.args.board.now c.args.pass.now c.requires.quiet.pass);
+      tries = λ rows is. no_tries c.args.board.now (λ key. StoodIn c.args.board.now.shape c.args.segment key c.args.pass.now c.args.pass.now) rows c.args.pass.now c.args.pass.now (stays c.args.board.now c.args.pass.now c.requires.quiet.pass);
       draws_nothing = λ bucket. refl;
       reads_nothing = refl;
     };

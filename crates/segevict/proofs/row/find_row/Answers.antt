@@ -1,6 +1,8 @@
 use Rattle.std.proofs.Common.{sym, subst}
 use Rattle.std.proofs.lemmas.Bool.{both_ways}
 use Rattle.segword.specs.Words.{IsSameItem}
+use Rattle.segbase.proofs.Starting.{has_later}
+use Rattle.segbase.proofs.Stepping.{starts}
 use Rattle.segwrite.proofs.Places.{step_idles}
 use Rattle.segevict.proofs.Seeking.{seeking_first, idles_looked, chain_looked, named_here, seeking_on, less_left, gone_at_end}
 use Rattle.segevict.proofs.row.find_row.Goals as goal
@@ -40,3 +42,9 @@ pub returns-in-None-clause-finds : goal.returns-in-None-clause-finds
 returns-in-None-clause-finds c = let l = c.look-word in let b = c.args.board.now in
     gone_at_end b c.args.bucket c.args.item _ _ _ _ l.result c.loop-place.invariant (step_idles b _ _ _ _ l.ensures.step l.ensures.did) l.ensures.reads c.next_place.result
     (λ same. both_ways _ c.if-same_item.false (c.same_item.ensures.1 (subst (IsSameItem l.result) (sym c.pack-sought.ensures) same))) c.next_place.ensures c.in-None.is
+
+pub returns-then-same_item-clause-looks : goal.returns-then-same_item-clause-looks
+returns-then-same_item-clause-looks c = let l = c.look-word in let q = c.loop-place.pass in let i = c.loop-place.invariant.idles.moved in has_later c.args.pass.now q l.new.pass i.same i.steps (_, starts q l.new.pass _ _ l.ensures.step.told)
+
+pub returns-in-None-clause-looks : goal.returns-in-None-clause-looks
+returns-in-None-clause-looks c = let l = c.look-word in let q = c.loop-place.pass in let i = c.loop-place.invariant.idles.moved in has_later c.args.pass.now q l.new.pass i.same i.steps (_, starts q l.new.pass _ _ l.ensures.step.told)

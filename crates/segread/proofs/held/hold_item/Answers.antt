@@ -1,8 +1,17 @@
 use Rattle.segbase.proofs.Moves.{is_inside}
-use Rattle.segstore.proofs.Readers.{leave_then}
+use Rattle.segmodel.specs.Words.{stirred}
+use Rattle.segword.specs.Words.{item_word}
+use Rattle.segcore.specs.Event as event
+use Rattle.segbase.proofs.Starting.{starts_on}
+use Rattle.segpass.proofs.Still.{steps_to}
+use Rattle.segstore.proofs.Readers.{enter_then, leave_then, looks}
+use Rattle.segread.specs.declared.held.HoldAnswer.TheVariants.{Busy, Miss}
+use Rattle.segread.specs.Reads.{ReadsBetween}
+use Rattle.segread.proofs.Looking.{look_starts, out, since_look, up}
+use Rattle.segread.proofs.Tries.{found_from}
 use Rattle.segread.proofs.Deadlines.{expired_reads, deadline_lasts}
-use Rattle.std.proofs.Common.{Some, refl, ◌∙◌, arith, rules}
-use Rattle.segbase.specs.Words.{trace}
+use Rattle.std.proofs.Common.{◌≤◌, None, Some, refl, ◌∙◌, arith, rules}
+use Rattle.segbase.specs.Words.{seen, trace}
 use Rattle.segpass.proofs.Idling.{goes_same}
 use Rattle.segread.proofs.Answered.{gone_reads}
 use Rattle.segread.proofs.ComingIn.{glances_none, leaves, looked, raises_none, same_view, out_then, few_out}
@@ -12,17 +21,17 @@ use Rattle.segread.proofs.Holding.{held_at}
 use Rattle.segread.proofs.held.hold_item.Goals as goal
 
 pub value_of_row-value-requires-clause-readable : goal.value_of_row-value-requires-clause-readable
-value_of_row-value-requires-clause-readable c = let f = c.in-Found in let hit = f.hit in
-    hit_readable c.args.board.now c.args.pass.now c.scan_for.new.pass hit.place hit.item hit.header c.args.key.now f.ensures.reads f.ensures.scan.0
+value_of_row-value-requires-clause-readable c = let f = c.in-Found in let hit = f.hit in let m = f.ensures.scan.0 in let x = f.ensures.scan.2 in
+    hit_readable c.args.board.now m c.scan_for.new.pass hit.place hit.item hit.header c.args.key.now x.reads x.answer.0
 
 pub value_of_row-value-requires-clause-header : goal.value_of_row-value-requires-clause-header
-value_of_row-value-requires-clause-header c = c.in-Found.ensures.scan.0.begins
+value_of_row-value-requires-clause-header c = c.in-Found.ensures.scan.2.answer.0.begins
 
 pub set_hold-requires : goal.set_hold-requires
-set_hold-requires c = let b = c.args.board.now in let p = c.args.pass.now in let f = c.in-Found in let hit = f.hit in let v = c.value_of_row-value in
-    let read = read_in b p c.scan_for.new.pass v.new.pass hit.item.seg hit.item.row f.ensures.reads v.ensures.reads in
-    let found = read_value b p c.scan_for.new.pass v.new.pass hit.place hit.item hit.header c.args.key.now v.result f.ensures.reads f.ensures.scan.0 v.ensures.reads v.ensures.value in
-    (read.reads.moved.pass, (has_found b p v.new.pass hit.place hit.item c.args.key.now v.result read found, refl))
+set_hold-requires c = let b = c.args.board.now in let f = c.in-Found in let hit = f.hit in let m = f.ensures.scan.0 in let x = f.ensures.scan.2 in let v = c.value_of_row-value in
+    let read = read_in b m c.scan_for.new.pass v.new.pass hit.item.seg hit.item.row x.reads v.ensures.reads in
+    let found = read_value b m c.scan_for.new.pass v.new.pass hit.place hit.item hit.header c.args.key.now v.result x.reads x.answer.0 v.ensures.reads v.ensures.value in
+    (read.reads.moved.pass, (has_found b m v.new.pass hit.place hit.item c.args.key.now v.result read found, refl))
 
 pub returns-then-is_holding : goal.returns-then-is_holding
 returns-then-is_holding c = record {
@@ -39,22 +48,26 @@ returns-then-is_holding c = record {
 }
 
 pub returns-then-hit-now : goal.returns-then-hit-now
-returns-then-hit-now c = let b = c.args.board.now in let p = c.args.pass.now in let q = c.scan_for.new.pass in let r = c.leave_segment.new.pass in let f = c.in-Found in let hit = f.hit in
-    let out = leaves b hit.item.seg q r c.leave_segment.ensures.moved in record {
-      holds = holds_none b c.args.key.now c.args.now _ p r c.requires.pass (leave_then b p q r hit.item.seg f.ensures.reads c.leave_segment.ensures) (few_out p q r f.ensures.tries out) (out.1 ∙ f.ensures.only_scans)
-          (λ keeps. (keeps, expired_reads b c.args.key.now hit p q r c.args.now f.ensures.scan c.leave_segment.ensures (let past = c.if-hit-now.true in omega arith))) (search rules);
+returns-then-hit-now c = let b = c.args.board.now in let p = c.args.pass.now in let q = c.scan_for.new.pass in let r = c.leave_segment.new.pass in let f = c.in-Found in let hit = f.hit in let s = f.ensures.scan in let m = s.0 in let x = s.2 in
+    let left = leaves b hit.item.seg q r c.leave_segment.ensures.moved in let reads = leave_then b m q r hit.item.seg x.reads c.leave_segment.ensures in record {
+      holds = holds_none b c.args.key.now c.args.now Miss p m r c.requires.pass s.1 reads (few_out m q r x.tries left) (left.1 ∙ x.only_scans)
+          (λ keeps. (keeps, since_look b p m r (λ start. ReadsBetween b.shape c.args.key.now c.args.now (event.seen start) (seen r) None) s.1 reads (expired_reads b c.args.key.now hit m q r c.args.now x.answer c.leave_segment.ensures (let past = c.if-hit-now.true in omega arith)))) (search rules);
     }
 
 pub returns-else-hit-now : goal.returns-else-hit-now
 returns-else-hit-now c =
     let b = c.args.board.now in let p = c.args.pass.now in let q = c.scan_for.new.pass in let v = c.value_of_row-value in let t = v.new.pass in let r = c.set_hold.new.pass in
-    let f = c.in-Found in let hit = f.hit in let key = c.args.key.now in let set = c.set_hold.ensures in
-    let read = read_in b p q t hit.item.seg hit.item.row f.ensures.reads v.ensures.reads in
-    let found = read_value b p q t hit.place hit.item hit.header key v.result f.ensures.reads f.ensures.scan.0 v.ensures.reads v.ensures.value in
+    let f = c.in-Found in let hit = f.hit in let key = c.args.key.now in let set = c.set_hold.ensures in let s = f.ensures.scan in let m = s.0 in let x = s.2 in
+    let late = read_in b m q t hit.item.seg hit.item.row x.reads v.ensures.reads in
+    let later = read_value b m q t hit.place hit.item hit.header key v.result x.reads x.answer.0 v.ensures.reads v.ensures.value in
+    let read = enter_then b p m t hit.item.seg (looks b p m s.1.look) late in
+    let found = found_from b.shape hit.place (item_word hit.item) key v.result (trace m) (trace t) (trace p) (up b key p m s.1) later in
+    let starts = starts_on p m r (trace m) (look_starts b p m s.1) (steps_to m t r set.view late.reads.moved.steps) in
     let holds = takes_hold b p t r hit.place hit.item key v.result (record { board = c.args.board; segment = hit.item.seg; row = hit.item.row }) c.requires.pass c.if-is_holding.ensures read found refl refl set.pass set.view set.sets c.args.now hit.deadline
-    (deadline_lasts b q t hit.item.seg hit.deadline v.ensures.reads.looked.did.moved (is_inside b p q hit.item.seg f.ensures.reads.reads) f.ensures.scan.1) c.if-hit-now.false in
+    (deadline_lasts b q t hit.item.seg hit.deadline v.ensures.reads.looked.did.moved (is_inside b m q hit.item.seg x.reads.reads) x.answer.1) c.if-hit-now.false (trace m) starts later.saw.between.0 in
     let held = Some (held_at b.shape (trace t) key v.result hit.item.seg) in
-    let still = out_then q t r (looked b q t v.ensures.reads.looked.did.moved) (same_view t r set.view) in record {
+    let still = out_then q t r (looked b q t v.ensures.reads.looked.did.moved) (same_view t r set.view) in
+    let first = out b key p m s.1 in record {
       holds = record {
         on = holds.0;
         answer = holds.1;
@@ -63,20 +76,22 @@ returns-else-hit-now c =
           looks = record {
             takes_no_bit = takes_no_bit b read.reads.own held p t r c.requires.pass read.reads.moved read.reads.only read.plain read.memo set.pass set.view set.sets;
             draws_nothing = draws_nothing b read.reads.own held p t r c.requires.pass read.reads.moved read.reads.only read.plain read.memo set.pass set.view set.sets;
-            tries = few_out p q r f.ensures.tries still;
+            tries = let few = few_out m q r x.tries still in let same = first.0 in omega (arith, few, same);
           };
-          glances_nothing = glances_none p r (still.1 ∙ f.ensures.only_scans);
-          raises_nothing = raises_none p r (still.1 ∙ f.ensures.only_scans);
+          glances_nothing = glances_none p r (still.1 ∙ (x.only_scans ∙ first.1));
+          raises_nothing = raises_none p r (still.1 ∙ (x.only_scans ∙ first.1));
         };
       };
     }
 
 pub returns-in-Absent : goal.returns-in-Absent
-returns-in-Absent c = let b = c.args.board.now in let p = c.args.pass.now in let q = c.scan_for.new.pass in let x = c.in-Absent.ensures in record {
-  holds = holds_none b c.args.key.now c.args.now _ p q c.requires.pass x.reads x.tries x.only_scans (λ keeps. (keeps, gone_reads b.shape c.args.key.now c.args.now (trace p) (trace q) x.scan)) (search rules);
+returns-in-Absent c = let b = c.args.board.now in let p = c.args.pass.now in let q = c.scan_for.new.pass in let s = c.in-Absent.ensures.scan in let m = s.0 in let x = s.2 in record {
+  holds = holds_none b c.args.key.now c.args.now Miss p m q c.requires.pass s.1 x.reads x.tries x.only_scans
+      (λ keeps. (keeps, since_look b p m q (λ start. ReadsBetween b.shape c.args.key.now c.args.now (event.seen start) (seen q) None) s.1 x.reads (gone_reads b.shape c.args.key.now c.args.now (trace m) (trace q) x.answer))) (search rules);
 }
 
 pub returns-in-Busy : goal.returns-in-Busy
-returns-in-Busy c = let x = c.in-Busy.ensures in record {
-  holds = holds_none c.args.board.now c.args.key.now c.args.now _ c.args.pass.now c.scan_for.new.pass c.requires.pass x.reads x.tries x.only_scans (λ keeps. (keeps, (let more = x.scan in omega arith))) (search rules);
+returns-in-Busy c = let b = c.args.board.now in let p = c.args.pass.now in let q = c.scan_for.new.pass in let s = c.in-Busy.ensures.scan in let m = s.0 in let x = s.2 in record {
+  holds = holds_none b c.args.key.now c.args.now Busy p m q c.requires.pass s.1 x.reads x.tries x.only_scans
+      (λ keeps. (keeps, since_look b p m q (λ start. 64 ≤ stirred b.shape c.args.key.now (event.seen start) (seen q)) s.1 x.reads (let more = x.answer in omega (arith, more)))) (search rules);
 }

@@ -1,35 +1,45 @@
 use Rattle.std.proofs.Common.{◌≡◌, ◌+◌, refl, subst, inl, arith}
 use Rattle.segbase.specs.Words.{position, trace}
-use Rattle.segread.specs.Scanning.{place_of, IsPlaceOf, IsWay}
-use Rattle.segread.proofs.Scans.{HasScanned, last_of, on_way, scanned_none, scanned_next, way_then, way_else, next_of}
+use Rattle.segstore.proofs.Readers.{stays}
+use Rattle.segread.specs.declared.scan.Way.TheVariants.{Passed}
+use Rattle.segread.specs.Scanning.{place_of, IsPlaceOf}
+use Rattle.segread.proofs.Looking.{HasBegun, along_from, along_to, begun_none, begun_by, last_there, went}
+use Rattle.segread.proofs.Scans.{on_way, scanned_next, way_then, way_else, next_of}
 use Rattle.segread.proofs.scan.visit_bucket.Goals as goal
 
 pub loop-word-init : goal.loop-word-init
 loop-word-init c = let b = c.args.board.now in let p = c.args.pass.now in record {
-  scanned = scanned_none b c.args.key.now (position b.shape (trace p) c.args.start) c.args.tries p c.requires.pass c.requires.tries;
+  begun = begun_none b c.args.key.now (position b.shape (trace p) c.args.start) c.args.tries p (stays b p c.requires.pass) c.requires.tries;
   place = c.requires.start;
 }
 
-pub returns-in_default : goal.returns-in_default
-returns-in_default c =
-    let b = c.args.board.now in let z = b.shape in let key = c.args.key.now in let p = c.args.pass.now in let q = c.loop-word.pass in let v = c.visit_word in let s = c.loop-word.invariant.scanned in
-    let here = place_of c.args.start.bucket c.loop-word.word in let last = place_of c.args.start.bucket 7 in let from = position z (trace p) c.args.start in let mid = position z (trace q) here in record {
-      reads = on_way b v.result p q v.new.pass s.reads v.ensures.reads;
-      way = way_else z key from (mid + 1) (position z (trace p) last + 1) here last c.args.tries v.result p v.new.pass c.in_default.not-Passed
-          (way_then b key from mid c.args.tries c.loop-word.tries p q v.new.pass s (mid + 1) here v.result v.ensures.way);
-    }
+pub returns-in_default-clause-reads : goal.returns-in_default-clause-reads
+returns-in_default-clause-reads c = let v = c.visit_word in on_way c.args.board.now v.result c.args.pass.now c.loop-word.pass v.new.pass c.loop-word.invariant.begun.reads v.ensures.reads
+
+pub returns-in_default-clause-way : goal.returns-in_default-clause-way
+returns-in_default-clause-way c =
+    let b = c.args.board.now in let z = b.shape in let key = c.args.key.now in let p = c.args.pass.now in let q = c.loop-word.pass in let v = c.visit_word in let i = c.loop-word.invariant in
+    let here = place_of c.args.start.bucket c.loop-word.word in let from = position z (trace p) c.args.start in
+    let w = went b key from c.args.tries c.loop-word.tries here p q _ i.begun i.place (λ m l. along_from b key q m l here here c.loop-word.tries v.result v.new.pass i.place i.place) v.ensures.way in
+    let mid = position z (trace w.middle) here in
+    along_to b key c.args.start c.args.tries v.result p w.first v.new.pass w.look c.requires.start
+    (on_way b v.result w.first w.middle v.new.pass w.scanned.reads w.is.0)
+    (way_else z key from (mid + 1) _ here (place_of c.args.start.bucket 7) c.args.tries v.result w.first v.new.pass c.in_default.not-Passed
+    (way_then b key from mid c.args.tries c.loop-word.tries w.first w.middle v.new.pass w.scanned (mid + 1) here v.result w.is.1))
 
 pub loop-word-preserved : goal.loop-word-preserved
 loop-word-preserved c =
-    let b = c.args.board.now in let z = b.shape in let key = c.args.key.now in let p = c.args.pass.now in let q = c.loop-word.pass in let r = c.visit_word.new.pass in let i = c.loop-word.invariant in let x = c.in-Passed in
-    let here = place_of c.args.start.bucket c.loop-word.word in let next = place_of c.args.start.bucket (c.loop-word.word + 1) in let mid = position z (trace q) here in
-    let n = next_of z key here mid x.field-0 (trace q) (trace r) c.requires.pass.valid x.ensures.reads.reads.moved.pass.lawful i.place x.ensures.way.passed next (inl (c.loop-word-test.true, refl)) in record {
-      scanned = scanned_next b key (position z (trace p) c.args.start) mid c.args.tries c.loop-word.tries p q r i.scanned (mid + 1) x.counted here next x.field-0 x.ensures.reads x.ensures.way n;
+    let b = c.args.board.now in let z = b.shape in let key = c.args.key.now in let p = c.args.pass.now in let q = c.loop-word.pass in let v = c.visit_word in let r = v.new.pass in let i = c.loop-word.invariant in let x = c.in-Passed in
+    let here = place_of c.args.start.bucket c.loop-word.word in let next = place_of c.args.start.bucket (c.loop-word.word + 1) in let from = position z (trace p) c.args.start in
+    let w = went b key from c.args.tries c.loop-word.tries here p q _ i.begun i.place (λ m l. along_from b key q m l here here c.loop-word.tries (Passed x.field-0 x.counted) r i.place i.place) x.ensures.way in
+    let mid = position z (trace w.middle) here in
+    let n = next_of z key here mid x.field-0 (trace w.middle) (trace r) c.requires.pass.valid x.ensures.reads.reads.moved.pass.lawful w.place w.is.1.passed next (inl (c.loop-word-test.true, refl)) in record {
+      begun = begun_by b key from (position z (trace r) next) c.args.tries x.counted p w.first r w.look (scanned_next b key from mid c.args.tries c.loop-word.tries w.first w.middle r w.scanned (mid + 1) x.counted here next x.field-0 w.is.0 w.is.1 n);
       place = n.place;
     }
 
 pub returns-clause-reads : goal.returns-clause-reads
-returns-clause-reads c = let v = c.visit_word-2 in on_way c.args.board.now v.result c.args.pass.now c.loop-word.pass v.new.pass c.loop-word.invariant.scanned.reads v.ensures.reads
+returns-clause-reads c = let v = c.visit_word-2 in on_way c.args.board.now v.result c.args.pass.now c.loop-word.pass v.new.pass c.loop-word.invariant.begun.reads v.ensures.reads
 
 pub visit_word-requires-2-clause-place : goal.visit_word-requires-2-clause-place
 visit_word-requires-2-clause-place c = let i = c.loop-word.invariant in let most = i.place.0.in_table.2 in let over = c.loop-word-test.false in
@@ -38,8 +48,13 @@ visit_word-requires-2-clause-place c = let i = c.loop-word.invariant in let most
 pub returns-clause-way : goal.returns-clause-way
 returns-clause-way c =
     let b = c.args.board.now in let z = b.shape in let key = c.args.key.now in let p = c.args.pass.now in let q = c.loop-word.pass in let v = c.visit_word-2 in let i = c.loop-word.invariant in
-    let last = place_of c.args.start.bucket 7 in let from = position z (trace p) c.args.start in let mid = position z (trace q) last in
+    let last = place_of c.args.start.bucket 7 in let from = position z (trace p) c.args.start in
     let seven : c.loop-word.word ≡ 7 = let most = i.place.0.in_table.2 in let over = c.loop-word-test.false in omega arith in
-    let s = subst (λ w. HasScanned b key from (position z (trace q) (place_of c.args.start.bucket w)) c.args.tries c.loop-word.tries p q) seven i.scanned in
-    subst (λ n. IsWay z key from (n + 1) last c.args.tries v.result p v.new.pass) (last_of b key c.args.start p q s.reads c.requires.start).1
-    (way_then b key from mid c.args.tries c.loop-word.tries p q v.new.pass s (mid + 1) last v.result v.ensures.way)
+    let begun = subst (λ w. HasBegun b key from (position z (trace q) (place_of c.args.start.bucket w)) c.args.tries c.loop-word.tries p q) seven i.begun in
+    let place = subst (λ w. IsPlaceOf z (trace q) key (place_of c.args.start.bucket w)) seven i.place in
+    let w = went b key from c.args.tries c.loop-word.tries last p q _ begun place (λ m l. along_from b key q m l last last c.loop-word.tries v.result v.new.pass place place) v.ensures.way in
+    let mid = position z (trace w.middle) last in
+    along_to b key c.args.start c.args.tries v.result p w.first v.new.pass w.look c.requires.start
+    (on_way b v.result w.first w.middle v.new.pass w.scanned.reads w.is.0)
+    (last_there b key c.args.start p w.first w.middle from c.args.tries v.result v.new.pass w.look w.scanned.reads c.requires.start
+    (way_then b key from mid c.args.tries c.loop-word.tries w.first w.middle v.new.pass w.scanned (mid + 1) last v.result w.is.1))

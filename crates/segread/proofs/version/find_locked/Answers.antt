@@ -1,6 +1,7 @@
 use Rattle.segread.proofs.Deadlines.{by_word, found_reads, expired_reads}
-use Rattle.std.proofs.Common.{◌∙◌, inl, inr, arith}
+use Rattle.std.proofs.Common.{◌∙◌, inl, inr, ap, arith}
 use Rattle.segword.specs.Words.{item_word}
+use Rattle.segbase.specs.declared.pass.Plain.{Plain}
 use Rattle.segbase.specs.Words.{trace}
 use Rattle.segbase.proofs.Moves.{moved_on}
 use Rattle.segstore.proofs.Readers.{leave_then}
@@ -8,47 +9,47 @@ use Rattle.segread.proofs.ComingIn.{leaves, few_out}
 use Rattle.segread.proofs.Answered.{gone_reads}
 use Rattle.segread.proofs.version.find_locked.Goals as goal
 
-pub returns-then-hit-now-clause-reads : goal.returns-then-hit-now-clause-reads
-returns-then-hit-now-clause-reads c = let b = c.args.board.now in let p = c.args.pass.now in let f = c.in-Found in let q = c.scan_for.new.pass in let r = c.leave_segment.new.pass in let out = leaves b f.hit.item.seg q r c.leave_segment.ensures.moved in
-    leave_then b p q r f.hit.item.seg f.ensures.reads c.leave_segment.ensures
-
-pub returns-then-hit-now-clause-tries : goal.returns-then-hit-now-clause-tries
-returns-then-hit-now-clause-tries c = let b = c.args.board.now in let p = c.args.pass.now in let f = c.in-Found in let q = c.scan_for.new.pass in let r = c.leave_segment.new.pass in let out = leaves b f.hit.item.seg q r c.leave_segment.ensures.moved in
-    few_out p q r f.ensures.tries out
-
-pub returns-then-hit-now-clause-only_scans : goal.returns-then-hit-now-clause-only_scans
-returns-then-hit-now-clause-only_scans c = let b = c.args.board.now in let p = c.args.pass.now in let f = c.in-Found in let q = c.scan_for.new.pass in let r = c.leave_segment.new.pass in let out = leaves b f.hit.item.seg q r c.leave_segment.ensures.moved in
-    out.1 ∙ f.ensures.only_scans
-
 pub returns-then-hit-now-clause-answer : goal.returns-then-hit-now-clause-answer
-returns-then-hit-now-clause-answer c = let b = c.args.board.now in let p = c.args.pass.now in let f = c.in-Found in let q = c.scan_for.new.pass in let r = c.leave_segment.new.pass in let out = leaves b f.hit.item.seg q r c.leave_segment.ensures.moved in
-    expired_reads b c.args.key.now f.hit p q r c.args.now f.ensures.scan c.leave_segment.ensures (let past = c.if-hit-now.true in omega arith)
-
-pub returns-else-hit-now-clause-reads : goal.returns-else-hit-now-clause-reads
-returns-else-hit-now-clause-reads c = let b = c.args.board.now in let p = c.args.pass.now in let f = c.in-Found in let q = c.scan_for.new.pass in let r = c.leave_segment.new.pass in let out = leaves b f.hit.item.seg q r c.leave_segment.ensures.moved in
-    leave_then b p q r f.hit.item.seg f.ensures.reads c.leave_segment.ensures
-
-pub returns-else-hit-now-clause-tries : goal.returns-else-hit-now-clause-tries
-returns-else-hit-now-clause-tries c = let b = c.args.board.now in let p = c.args.pass.now in let f = c.in-Found in let q = c.scan_for.new.pass in let r = c.leave_segment.new.pass in let out = leaves b f.hit.item.seg q r c.leave_segment.ensures.moved in
-    few_out p q r f.ensures.tries out
-
-pub returns-else-hit-now-clause-only_scans : goal.returns-else-hit-now-clause-only_scans
-returns-else-hit-now-clause-only_scans c = let b = c.args.board.now in let p = c.args.pass.now in let f = c.in-Found in let q = c.scan_for.new.pass in let r = c.leave_segment.new.pass in let out = leaves b f.hit.item.seg q r c.leave_segment.ensures.moved in
-    out.1 ∙ f.ensures.only_scans
+returns-then-hit-now-clause-answer c = let b = c.args.board.now in let f = c.in-Found in let s = f.ensures.scan in let m = s.0 in let x = s.2 in let q = c.scan_for.new.pass in let r = c.leave_segment.new.pass in let out = leaves b f.hit.item.seg q r c.leave_segment.ensures.moved in (
+  m,
+  s.1,
+  record {
+    reads = leave_then b m q r f.hit.item.seg x.reads c.leave_segment.ensures;
+    tries = few_out m q r x.tries out;
+    only_scans = out.1 ∙ x.only_scans;
+    answer = expired_reads b c.args.key.now f.hit m q r c.args.now x.answer c.leave_segment.ensures (let past = c.if-hit-now.true in omega arith);
+  },
+)
 
 pub returns-else-hit-now-clause-answer : goal.returns-else-hit-now-clause-answer
-returns-else-hit-now-clause-answer c = let b = c.args.board.now in let p = c.args.pass.now in let f = c.in-Found in let q = c.scan_for.new.pass in let r = c.leave_segment.new.pass in let out = leaves b f.hit.item.seg q r c.leave_segment.ensures.moved in
-    inr (
-      c.requires.locked,
+returns-else-hit-now-clause-answer c = let b = c.args.board.now in let f = c.in-Found in let s = f.ensures.scan in let m = s.0 in let x = s.2 in let q = c.scan_for.new.pass in let r = c.leave_segment.new.pass in let out = leaves b f.hit.item.seg q r c.leave_segment.ensures.moved in (
+  m,
+  s.1,
+  record {
+    reads = leave_then b m q r f.hit.item.seg x.reads c.leave_segment.ensures;
+    tries = few_out m q r x.tries out;
+    only_scans = out.1 ∙ x.only_scans;
+    answer = inr (
+      ap (λ (y : Plain). y.locked) s.1.look.plain ∙ c.requires.locked,
       (
-        f.ensures.scan.0.value,
-        found_reads b.shape f.hit.place (item_word f.hit.item) c.args.key.now f.ensures.scan.0.value (trace p) (trace q) f.ensures.scan.0.found f.hit.deadline
-            (by_word b.shape f.hit.item f.hit.deadline (trace q) f.ensures.scan.1) (trace r) (moved_on b _ q r c.leave_segment.ensures.moved) c.args.now c.if-hit-now.false,
+        x.answer.0.value,
+        found_reads b.shape f.hit.place (item_word f.hit.item) c.args.key.now x.answer.0.value (trace m) (trace q) x.answer.0.found f.hit.deadline
+            (by_word b.shape f.hit.item f.hit.deadline (trace q) x.answer.1) (trace r) (moved_on b _ q r c.leave_segment.ensures.moved) c.args.now c.if-hit-now.false,
       ),
-    )
+    );
+  },
+)
 
 pub returns-in-Absent-clause-answer : goal.returns-in-Absent-clause-answer
-returns-in-Absent-clause-answer c = gone_reads c.args.board.now.shape c.args.key.now c.args.now (trace c.args.pass.now) (trace c.scan_for.new.pass) c.in-Absent.ensures.scan
+returns-in-Absent-clause-answer c = let s = c.in-Absent.ensures.scan in let m = s.0 in let x = s.2 in (
+  m,
+  s.1,
+  record { reads = x.reads; tries = x.tries; only_scans = x.only_scans; answer = gone_reads c.args.board.now.shape c.args.key.now c.args.now (trace m) (trace c.scan_for.new.pass) x.answer },
+)
 
 pub returns-in-Busy-clause-answer : goal.returns-in-Busy-clause-answer
-returns-in-Busy-clause-answer c = inl (inl (let many = c.in-Busy.ensures.scan in omega (arith, many)))
+returns-in-Busy-clause-answer c = let s = c.in-Busy.ensures.scan in let m = s.0 in let x = s.2 in (
+  m,
+  s.1,
+  record { reads = x.reads; tries = x.tries; only_scans = x.only_scans; answer = inl (inl (let many = x.answer in omega (arith, many))) },
+)

@@ -1,37 +1,38 @@
+use Rattle.std.proofs.Common.{◌<◌, ◌+◌, ◌-◌, subst}
+use Rattle.segread.specs.declared.version.Attempt.TheVariants as attempt
+use Rattle.segread.specs.Scanning.{words_below}
+use Rattle.segread.proofs.Attempts.{attempt_from}
 use Rattle.segread.proofs.Disturbing.{still_no_bit}
-use Rattle.segread.proofs.Finding.{tried_none, reads_on, tried_on, fewer_left, told_by, tried_all}
+use Rattle.segread.proofs.Finding.{begun_none, begun_by, left_of, scanned, reads_on, tried_on, fewer_left, told_by, find_none}
 use Rattle.segread.proofs.version.find_version.Goals as goal
 
 pub loop-tries-init : goal.loop-tries-init
-loop-tries-init c = tried_none c.args.board.now c.args.key.now c.args.now c.args.home c.args.pass.now c.requires.pass c.requires.home
+loop-tries-init c = begun_none c.args.board.now c.args.key.now c.args.now c.args.home c.args.pass.now c.requires.pass c.requires.home
 
 pub try_version-requires-clause-free : goal.try_version-requires-clause-free
 try_version-requires-clause-free c = let i = c.loop-tries.invariant.reads.reads in still_no_bit c.args.board.now c.args.key.now i.own c.args.pass.now c.loop-tries.pass i.moved i.only c.requires.free
 
 pub returns-in-Told : goal.returns-in-Told
 returns-in-Told c =
-    let b = c.args.board.now in let key = c.args.key.now in let l = c.loop-tries in let p = c.args.pass.now in let r = c.try_version.new.pass in let x = c.in-Told in
-    let told = told_by b key c.args.now l.place l.tries p l.pass r l.invariant x.ensures.reads c.args.draw x.answer c.loop-tries-test.true x.ensures.attempt in record {
-      reads = reads_on b key c.args.now l.place l.tries p l.pass r l.invariant x.ensures.reads;
-      tries = told.0;
-      glances = told.3;
-      raises = told.1;
-      answer = told.2;
+    let b = c.args.board.now in let key = c.args.key.now in let now = c.args.now in let draw = c.args.draw in let l = c.loop-tries in let p = c.args.pass.now in let q = l.pass in let r = c.try_version.new.pass in let x = c.in-Told in let i = l.invariant in
+    let w = scanned b key now c.args.home l.place l.tries p q c.requires.home i.place _ i (λ m k. attempt_from b key now draw q m r k l.place l.tries (attempt.Told x.answer) i.place) x.ensures.attempt in
+    let told = told_by b key now l.place l.tries w.first w.middle r w.tried w.is.0 draw x.answer c.loop-tries-test.true w.is.1 in record {
+      answer = (w.first, w.look, record { reads = reads_on b key now l.place l.tries w.first w.middle r w.tried w.is.0; tries = told.0; glances = told.3; raises = told.1; answer = told.2 });
     }
 
 pub loop-tries-preserved : goal.loop-tries-preserved
-loop-tries-preserved c = let l = c.loop-tries in let x = c.in-GoesOn in
-    tried_on c.args.board.now c.args.key.now c.args.now l.place l.tries c.args.pass.now l.pass c.try_version.new.pass l.invariant x.ensures.reads x.next x.counted x.ensures.attempt
+loop-tries-preserved c =
+    let b = c.args.board.now in let key = c.args.key.now in let now = c.args.now in let draw = c.args.draw in let l = c.loop-tries in let p = c.args.pass.now in let q = l.pass in let r = c.try_version.new.pass in let x = c.in-GoesOn in let i = l.invariant in
+    let w = scanned b key now c.args.home l.place l.tries p q c.requires.home i.place _ i (λ m k. attempt_from b key now draw q m r k l.place l.tries (attempt.GoesOn x.next x.counted) i.place) x.ensures.attempt in
+    begun_by b key now c.args.home x.next x.counted p w.first r w.look (tried_on b key now l.place l.tries w.first w.middle r w.tried w.is.0 x.next x.counted w.is.1)
 
 pub loop-tries-smaller : goal.loop-tries-smaller
-loop-tries-smaller c = let l = c.loop-tries in let x = c.in-GoesOn in
-    fewer_left c.args.board.now c.args.key.now c.args.now l.place l.tries c.args.pass.now l.pass c.try_version.new.pass l.invariant x.ensures.reads x.next x.counted x.ensures.attempt
+loop-tries-smaller c =
+    let b = c.args.board.now in let key = c.args.key.now in let now = c.args.now in let draw = c.args.draw in let l = c.loop-tries in let p = c.args.pass.now in let q = l.pass in let r = c.try_version.new.pass in let x = c.in-GoesOn in let i = l.invariant in
+    let w = scanned b key now c.args.home l.place l.tries p q c.requires.home i.place _ i (λ m k. attempt_from b key now draw q m r k l.place l.tries (attempt.GoesOn x.next x.counted) i.place) x.ensures.attempt in
+    subst (λ n. left_of b x.next x.counted r < 92 - (l.tries + words_below n)) w.at (fewer_left b key now l.place l.tries w.first w.middle r w.tried w.is.0 x.next x.counted w.is.1)
 
 pub returns : goal.returns
-returns c = let l = c.loop-tries in let told = tried_all c.args.board.now c.args.key.now c.args.now l.place l.tries c.args.draw c.args.pass.now l.pass l.invariant c.loop-tries-test.false in record {
-  reads = l.invariant.reads;
-  tries = told.0;
-  glances = told.3;
-  raises = told.1;
-  answer = told.2;
+returns c = let l = c.loop-tries in record {
+  answer = find_none c.args.board.now c.args.key.now c.args.now c.args.home l.place l.tries c.args.draw c.args.pass.now l.pass l.invariant c.loop-tries-test.false;
 }

@@ -1,4 +1,4 @@
-use Rattle.segscript.proofs.Reasons.{no_command}
+use Rattle.segscript.proofs.WordReasons.{no_command}
 use Rattle.segscript.proofs.reason.command_fault.Goals as goal
 
 pub returns-in-None : goal.returns-in-None

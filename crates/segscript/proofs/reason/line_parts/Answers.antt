@@ -1,5 +1,5 @@
 use Rattle.std.proofs.Common.{◌∙◌, arith}
-use Rattle.segscript.proofs.Reasons.{parts_of_words}
+use Rattle.segscript.proofs.WordReasons.{parts_of_words}
 use Rattle.segscript.proofs.reason.line_parts.Goals as goal
 
 pub returns : goal.returns

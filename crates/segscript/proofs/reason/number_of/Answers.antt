@@ -1,4 +1,4 @@
-use Rattle.segscript.proofs.Reasons.{read_some, read_none}
+use Rattle.segscript.proofs.WordReasons.{read_some, read_none}
 use Rattle.segscript.proofs.reason.number_of.Goals as goal
 
 pub returns-in-Some : goal.returns-in-Some

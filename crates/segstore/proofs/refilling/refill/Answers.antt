@@ -1,8 +1,9 @@
-use Rattle.std.proofs.Common.{◌≢◌, is_some, refl, ap, ◌∙◌, sym, subst}
+use Rattle.std.proofs.Common.{◌++◌, ◌≢◌, is_some, refl, ap, ◌∙◌, sym, subst}
 use Rattle.std.proofs.lemmas.Bool.{false≢true}
 use Rattle.segmodel.specs.declared.answer.SegState.TheVariants.{InUse}
 use Rattle.std.proofs.Common.{unwrap_or, Some, ◌≡◌}
-use Rattle.segbase.specs.Words.{deadline_of}
+use Rattle.segcore.specs.Words.{View}
+use Rattle.segbase.specs.Words.{deadline_of, trace}
 use Rattle.segbase.proofs.Owned.{moved_still}
 use Rattle.segstore.specs.Refilling.{FillsAnew, refilled}
 use Rattle.segstore.specs.Segments.{KeepsSegments}
@@ -41,6 +42,7 @@ returns-clause-outcome c =
       moved = moved_still _ _ p r (refilled s c.args.deadline r.plain) d.moved (refilled_owner r.plain s c.args.deadline);
       plain = ap (refilled s c.args.deadline) step.plain;
       memo = step.memo;
+      once = (step.told.more ++ trace p, ap (λ (v : View). v.looks) step.told.now);
     })
 
 pub returns-clause-segments : goal.returns-clause-segments

@@ -1,5 +1,5 @@
-use Rattle.segbase.specs.Ruled.{TellsStored}
+use Rattle.segbase.specs.Ruled.{ReturnsStored}
 use Rattle.segbase.proofs.board.Board.store_index.Given as goal
 
 abbrev pub ghosts-store : goal.ghosts-store
-ghosts-store g a = record { then = TellsStored a.self.now.key g.step }
+ghosts-store g a = record { then = ReturnsStored a.self.now.key g.step }

@@ -1,4 +1,4 @@
-use Rattle.std.proofs.Common.{subst}
+use Rattle.std.proofs.Common.{Some, slice_set, refl, ap, subst}
 use Rattle.segindex.specs.Words.{board_of}
 use Rattle.segpass.specs.Words.{IsQuiet}
 use Rattle.segcache.proofs.Members.{same_number}
@@ -10,9 +10,20 @@ invariant_of-self c =
     let cache = c.args.self.now in
     let client = c.args.client in
     let number = c.number-place.result in
-    let pass = c.into_pass-pass.result in
+    let pass = c.into_pass.result in
     record {
       places_are = put_place cache.index.value cache.places.items number pass cache.places_are
-          (subst (λ i. IsQuiet (board_of i) pass) c.requires.same c.into_pass-pass.ensures.quiet)
-          (same_number client number pass c.number-place.ensures c.into_pass-pass.ensures.pass);
+          (subst (λ i. IsQuiet (board_of i) pass) c.requires.same c.into_pass.ensures.quiet)
+          (same_number client number pass c.number-place.ensures c.into_pass.ensures.pass);
+    }
+
+pub returns : goal.returns
+returns c =
+    let old = c.args.self.now in
+    let left = c.into_pass.result in
+    record {
+      left = left;
+      of = c.into_pass.ensures.pass;
+      index = refl;
+      places = ap (λ n. slice_set old.places.items n (Some left)) c.number-place.ensures;
     }

@@ -1,20 +1,19 @@
 use Rattle.std.proofs.Common.{refl, ap, ◌∙◌}
+use Rattle.segindex.specs.Words.{shape_of}
 use Rattle.segpass.specs.Words.{memo}
+use Rattle.segclient.specs.Puts.{MakesRoomFor}
 use Rattle.segcache.specs.Calls.{At}
-use Rattle.segcache.specs.Made.{GetsRoom}
-use Rattle.segcache.proofs.Made.{makes_call}
-use Rattle.segcache.proofs.Rows.{row_on}
+use Rattle.segcache.proofs.Made.{at_moment, makes_call}
+use Rattle.segcache.proofs.Rows.{row_stays}
 use Rattle.segcache.proofs.client.SharedClient.make_room.Goals as goal
 
 pub invariant_of-self-clause-row : goal.invariant_of-self-clause-row
 invariant_of-self-clause-row c =
     let self = c.args.self.now in
-    row_on self.index.value self.resting self.held c.wake-client.result c.make_room-made.new.self c.rest.result self.member self.row c.wake-client.ensures.rest
-    (c.make_room-made.ensures.makes.memo ∙ ap memo c.set_now.ensures.sets.rest.pass) c.rest.ensures
+    row_stays (shape_of self.index.value) self.member.pass c.make_room.new.self.pass self.held (c.make_room.ensures.makes.memo ∙ ap memo c.set_now.ensures.sets.rest.pass) self.row
 
 pub returns : goal.returns
 returns c =
-    makes_call (At c.args.now (GetsRoom c.make_room-made.result)) c.args.self.now _ c.wake-client.result c.make_room-made.new.self c.rest.result
-    (c.wake-client.ensures.index ∙ c.deref.ensures) c.wake-client.ensures.rest
-    (record { before = c.set_now.new.self; sets = c.set_now.ensures.sets; made = record { makes = c.make_room-made.ensures.makes; draws = c.make_room-made.ensures.draws; settings = c.make_room-made.ensures.settings } })
-    (c.make_room-made.ensures.settings.same.index ∙ c.set_now.ensures.sets.rest.same.index) refl refl c.rest.ensures refl
+    let Made = MakesRoomFor c.make_room.result in
+    makes_call (At c.args.now Made) _ c.args.self.now _ c.deref.ensures
+    (at_moment c.args.now Made _ c.args.self.now.member c.set_now.new.self c.make_room.new.self c.set_now.ensures.sets c.make_room.ensures.makes) refl refl

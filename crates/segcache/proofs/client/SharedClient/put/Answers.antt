@@ -1,25 +1,19 @@
 use Rattle.std.proofs.Common.{refl, ap, ◌∙◌}
+use Rattle.segindex.specs.Words.{shape_of}
 use Rattle.segpass.specs.Words.{memo}
+use Rattle.segclient.specs.Puts.{Puts}
 use Rattle.segcache.specs.Calls.{At}
-use Rattle.segcache.specs.Made.{PutsValue}
-use Rattle.segcache.proofs.Made.{makes_call}
-use Rattle.segcache.proofs.Rows.{row_on}
+use Rattle.segcache.proofs.Made.{at_moment, makes_call}
+use Rattle.segcache.proofs.Rows.{row_stays}
 use Rattle.segcache.proofs.client.SharedClient.put.Goals as goal
 
 pub invariant_of-self-clause-row : goal.invariant_of-self-clause-row
 invariant_of-self-clause-row c =
     let self = c.args.self.now in
-    row_on self.index.value self.resting self.held c.wake-client.result c.put-told.new.self c.rest.result self.member self.row c.wake-client.ensures.rest
-    (c.put-told.ensures.puts.memo ∙ ap memo c.set_now.ensures.sets.rest.pass) c.rest.ensures
+    row_stays (shape_of self.index.value) self.member.pass c.put.new.self.pass self.held (c.put.ensures.puts.memo ∙ ap memo c.set_now.ensures.sets.rest.pass) self.row
 
 pub returns : goal.returns
 returns c =
-    let told = c.put-told.result in
-    makes_call (At c.args.now (PutsValue c.args.key.now c.args.value.now told)) c.args.self.now _ c.wake-client.result c.put-told.new.self c.rest.result
-    (c.wake-client.ensures.index ∙ c.deref.ensures) c.wake-client.ensures.rest
-    (record {
-      before = c.set_now.new.self;
-      sets = c.set_now.ensures.sets;
-      made = record { puts = c.put-told.ensures.puts; draws = c.put-told.ensures.draws; settings = c.put-told.ensures.settings };
-    })
-    (c.put-told.ensures.settings.same.index ∙ c.set_now.ensures.sets.rest.same.index) refl refl c.rest.ensures refl
+    let Made = Puts c.args.key.now c.args.value.now c.put.result in
+    makes_call (At c.args.now Made) _ c.args.self.now _ c.deref.ensures
+    (at_moment c.args.now Made _ c.args.self.now.member c.set_now.new.self c.put.new.self c.set_now.ensures.sets c.put.ensures.puts) refl refl

@@ -1,25 +1,19 @@
 use Rattle.std.proofs.Common.{refl, ap, ◌∙◌}
+use Rattle.segindex.specs.Words.{shape_of}
 use Rattle.segpass.specs.Words.{memo}
-use Rattle.segcache.specs.Calls.{At}
 use Rattle.segcache.specs.Made.{WritesWhen}
-use Rattle.segcache.proofs.Made.{makes_call}
-use Rattle.segcache.proofs.Rows.{row_on, writes_keep}
+use Rattle.segcache.specs.Calls.{At}
+use Rattle.segcache.proofs.Made.{at_moment, makes_call}
+use Rattle.segcache.proofs.Rows.{row_stays, writes_keep}
 use Rattle.segcache.proofs.client.SharedClient.write.Goals as goal
 
 pub invariant_of-self-clause-row : goal.invariant_of-self-clause-row
 invariant_of-self-clause-row c =
     let self = c.args.self.now in
-    row_on self.index.value self.resting self.held c.wake-client.result c.write_when-told.new.client c.rest.result self.member self.row c.wake-client.ensures.rest
-    (writes_keep _ _ _ _ _ c.write_when-told.ensures.writes ∙ ap memo c.set_now.ensures.sets.rest.pass) c.rest.ensures
+    row_stays (shape_of self.index.value) self.member.pass c.write_when.new.member.pass self.held (writes_keep _ _ _ _ _ c.write_when.ensures.writes.writes.writes ∙ ap memo c.set_now.ensures.sets.rest.pass) self.row
 
 pub returns : goal.returns
 returns c =
-    let told = c.write_when-told.result in
-    makes_call (At c.args.now (WritesWhen c.args.when c.args.key.now c.args.value.now told)) c.args.self.now _ c.wake-client.result c.write_when-told.new.client c.rest.result
-    (c.wake-client.ensures.index ∙ c.deref.ensures) c.wake-client.ensures.rest
-    (record {
-      before = c.set_now.new.self;
-      sets = c.set_now.ensures.sets;
-      made = c.write_when-told.ensures;
-    })
-    (c.write_when-told.ensures.keeps.settings.same.index ∙ c.set_now.ensures.sets.rest.same.index) refl refl c.rest.ensures refl
+    let Made = WritesWhen c.args.when c.args.key.now c.args.value.now c.write_when.result in
+    makes_call (At c.args.now Made) _ c.args.self.now _ c.deref.ensures
+    (at_moment c.args.now Made _ c.args.self.now.member c.set_now.new.self c.write_when.new.member c.set_now.ensures.sets c.write_when.ensures.writes) refl refl

@@ -1,4 +1,4 @@
-use Rattle.std.proofs.Common.{◌≡◌, ◌≢◌, ℕ, false, refl, sym, ap, ◌∙◌, subst, inl, inr}
+use Rattle.std.proofs.Common.{◌≡◌, ◌≢◌, ℕ, false, refl, sym, ap, ◌∙◌, subst, inl, inr, arith}
 use Rattle.segmodel.specs.Words.{RefillAnswer}
 use Rattle.segmodel.specs.declared.answer.RefillAnswer.TheVariants as refill
 use Rattle.segmodel.specs.declared.answer.EvictAnswer.TheVariants as evict
@@ -17,16 +17,18 @@ returns-in_default c =
     let b = c.args.index.now.board in
     let p = c.args.self.now.pass in record {
       on = c.evict.ensures.evicts.on;
-      room = subst (λ n. TriesForRoom (AnswersCommand b) n false p c.evict.new.pass) c.next-segment.ensures.value (inl (record {
+      room = subst (λ n. TriesForRoom (AnswersCommand b) n false p c.evict.new.self.pass) c.next-segment.ensures.value (inl (record {
         told = c.evict.result;
         refused = c.in_default.not-Evicted;
         evicts = c.evict.ensures.evicts;
       }));
-      course = ap {B = ClientState} (λ s. record { segments = s; version = c.args.self.now.version }) c.next-segment.ensures.turned;
+      course = c.evict.ensures.course ∙ ap {B = ClientState} (λ s. record { segments = s; version = c.args.self.now.version }) c.next-segment.ensures.turned;
+      counts = c.evict.ensures.counts;
+      few = record { evictions = c.evict.ensures.few; refillings = (let same = c.evict.ensures.refillings in omega (arith, same)) };
     }
 
 pub returns-clause-on : goal.returns-clause-on
-returns-clause-on c = goes_then c.args.index.now.board c.args.self.now.pass c.evict.new.pass c.refill.new.pass c.evict.ensures.evicts.on c.refill.ensures.refills.on
+returns-clause-on c = goes_then c.args.index.now.board c.args.self.now.pass c.evict.new.self.pass c.refill.new.self.pass c.evict.ensures.evicts.on c.refill.ensures.refills.on
 
 pub returns-clause-room : goal.returns-clause-room
 returns-clause-room c = subst (λ n. TriesForRoom (AnswersCommand b) n c.eq.result p q) c.next-segment.ensures.value (tried c.refill.result refl)
@@ -38,10 +40,10 @@ returns-clause-room c = subst (λ n. TriesForRoom (AnswersCommand b) n c.eq.resu
     p = c.args.self.now.pass
 
     out : Pass
-    out = c.evict.new.pass
+    out = c.evict.new.self.pass
 
     q : Pass
-    q = c.refill.new.pass
+    q = c.refill.new.self.pass
 
     segment : ℕ
     segment = c.next-segment.result
@@ -72,3 +74,20 @@ returns-clause-room c = subst (λ n. TriesForRoom (AnswersCommand b) n c.eq.resu
     tried refill.NotYours is = in_all refill.NotYours is (not refill.NotYours (λ e. cc) is)
     tried refill.NotEvicted is = in_all refill.NotEvicted is (not refill.NotEvicted (λ e. cc) is)
     tried refill.Held is = in_all refill.Held is (not refill.Held (λ e. cc) is)
+
+pub evict-requires-clause-fits : goal.evict-requires-clause-fits
+evict-requires-clause-fits c = c.requires.fits.evictions
+
+pub refill-requires-clause-fits : goal.refill-requires-clause-fits
+refill-requires-clause-fits c = let same = c.evict.ensures.refillings in let fits = c.requires.fits.refillings in omega (arith, same, fits)
+
+pub returns-clause-course : goal.returns-clause-course
+returns-clause-course c = c.refill.ensures.course ∙ (c.evict.ensures.course ∙ ap {B = ClientState} (λ s. record { segments = s; version = c.args.self.now.version }) c.next-segment.ensures.turned)
+
+pub returns-clause-few : goal.returns-clause-few
+returns-clause-few c =
+    let same = c.refill.ensures.evictions in
+    let evicted = c.evict.ensures.few in
+    let was = c.evict.ensures.refillings in
+    let refilled = c.refill.ensures.few in
+    record { evictions = omega (arith, same, evicted); refillings = omega (arith, was, refilled) }

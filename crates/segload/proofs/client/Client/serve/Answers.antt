@@ -6,6 +6,9 @@ use Rattle.segindex.specs.Words.{AnswersCommand}
 use Rattle.segpolicy.specs.Words.{next_of}
 use Rattle.segload.specs.Making.{ClientState, turned_on}
 use Rattle.segload.specs.Calls.{command_of, course_after, TriesForRoom}
+use Rattle.segbase.specs.Words.{mine}
+use Rattle.segload.specs.Counting.{CanCountMore, CountsRecycled, RecyclesFew}
+use Rattle.segload.proofs.Recycling.{command_recycles, recycles_between, recycles_none}
 use Rattle.segload.proofs.client.Client.serve.Goals as goal
 
 pub returns-then-ne-clause-serves : goal.returns-then-ne-clause-serves
@@ -20,6 +23,10 @@ returns-then-ne-clause-serves c =
       counted = c.tally_of.ensures;
       course = c.remember.ensures.course ∙ ap (course_after told) c.ask-answer.ensures.course;
     })
+
+pub returns-then-not-make_room-clause-on : goal.returns-then-not-make_room-clause-on
+returns-then-not-make_room-clause-on c =
+    goes_then c.args.index.now.board c.args.self.now.pass c.ask-answer.new.self.pass c.make_room.new.self.pass c.ask-answer.ensures.on c.make_room.ensures.on
 
 pub returns-then-not-make_room-clause-serves : goal.returns-then-not-make_room-clause-serves
 returns-then-not-make_room-clause-serves c =
@@ -56,3 +63,38 @@ returns-clause-serves c =
       counted = c.tally_of-2.ensures;
       course = c.ask.ensures.course ∙ (room.course ∙ ap turned_on c.ask-answer.ensures.course);
     }))
+
+pub returns-then-ne-clause-counts : goal.returns-then-ne-clause-counts
+returns-then-ne-clause-counts c =
+    let b = c.args.index.now.board in let old = c.args.self.now in let q = c.ask-answer.new.self.pass in let load = c.args.load in let told = c.ask-answer.result in
+    let asked = subst (λ x. AnswersCommand b x load.draw told old.pass q) c.command_of-command.ensures c.ask-answer.ensures.answers in
+    let counts = command_recycles b load.kind old.version load load.draw told old.pass q old.recycled asked c.requires.counts in
+    subst (λ r. CountsRecycled r (mine c.remember.new.self.pass)) (sym (c.remember.ensures.recycled ∙ c.ask-answer.ensures.recycled))
+    (subst (λ x. CountsRecycled old.recycled (mine x)) (sym c.remember.ensures.pass) counts)
+
+pub returns-then-ne-clause-few : goal.returns-then-ne-clause-few
+returns-then-ne-clause-few c = recycles_none c.args.self.now.recycled c.remember.new.self.recycled (c.remember.ensures.recycled ∙ c.ask-answer.ensures.recycled)
+
+pub make_room-requires-clause-counts : goal.make_room-requires-clause-counts
+make_room-requires-clause-counts c =
+    let b = c.args.index.now.board in let old = c.args.self.now in let q = c.ask-answer.new.self.pass in let load = c.args.load in let told = c.ask-answer.result in
+    let asked = subst (λ x. AnswersCommand b x load.draw told old.pass q) c.command_of-command.ensures c.ask-answer.ensures.answers in
+    subst (λ r. CountsRecycled r (mine q)) (sym c.ask-answer.ensures.recycled)
+    (command_recycles b load.kind old.version load load.draw told old.pass q old.recycled asked c.requires.counts)
+
+pub make_room-requires-clause-fits : goal.make_room-requires-clause-fits
+make_room-requires-clause-fits c = subst CanCountMore (sym c.ask-answer.ensures.recycled) c.requires.fits
+
+pub returns-then-not-make_room-clause-few : goal.returns-then-not-make_room-clause-few
+returns-then-not-make_room-clause-few c = subst (λ r. RecyclesFew r c.make_room.new.self.recycled) c.ask-answer.ensures.recycled c.make_room.ensures.few
+
+pub returns-clause-counts : goal.returns-clause-counts
+returns-clause-counts c =
+    let b = c.args.index.now.board in let r = c.make_room.new.self in let s = c.ask.new.self.pass in let load = c.args.load in let told = c.ask.result in
+    let asked = subst (λ x. AnswersCommand b x load.draw told r.pass s) c.command_of-command.ensures c.ask.ensures.answers in
+    subst (λ x. CountsRecycled x (mine s)) (sym c.ask.ensures.recycled)
+    (command_recycles b load.kind c.args.self.now.version load load.draw told r.pass s r.recycled asked c.make_room.ensures.counts)
+
+pub returns-clause-few : goal.returns-clause-few
+returns-clause-few c =
+    recycles_between c.args.self.now.recycled c.ask-answer.new.self.recycled c.make_room.new.self.recycled c.ask.new.self.recycled c.ask-answer.ensures.recycled c.make_room.ensures.few c.ask.ensures.recycled

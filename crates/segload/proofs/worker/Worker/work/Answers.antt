@@ -21,7 +21,7 @@ loop-call-preserved g c =
     record {
       at_work = works_on b c.args.self.workload c.args.self.client.pass c.loop-call.call c.serve-tally.result worker later was.at_work served.on
           (subst (λ load. ServesLoad (AnswersCommand b) load c.serve-tally.result (course_of worker.client) (course_of later.client) p q) c.next-load.ensures.value served.serves)
-          c.next-load.ensures.after c.count.ensures.counted;
+          c.next-load.ensures.after c.count.ensures.counted served.counts served.few;
       same = served.on.same ∙ was.same;
       let_through = below_more (λ call. g.G.Gate.may_answer c.args.gate.now c.number-pass.result call true) c.loop-call.call was.let_through
           (subst (g.G.Gate.may_answer c.args.gate.now c.number-pass.result c.loop-call.call) c.if-not-enter.false c.enter.ensures);
@@ -44,10 +44,10 @@ returns-then-not-enter g c =
           call = c.loop-call.call;
           below = c.loop-call-test.true;
           until = subst (LetsThrough (g.G.Gate.may_answer c.args.gate.now) c.loop-call.call) pass was.let_through;
+          told_of = subst (IsToldOf (g.G.Gate.told c.args.gate.now) c.loop-call.call) pass was.told_of;
           stopped = subst (λ n. g.G.Gate.may_answer c.args.gate.now n c.loop-call.call false) pass (subst (g.G.Gate.may_answer c.args.gate.now c.number-pass.result c.loop-call.call) c.if-not-enter.true c.enter.ensures);
         },
-        record { quiet = was.at_work.quiet; workload = was.at_work.workload; calls = was.at_work.calls; all = was.at_work.all },
-        subst (IsToldOf (g.G.Gate.told c.args.gate.now) c.loop-call.call) pass was.told_of,
+        record { quiet = was.at_work.quiet; workload = was.at_work.workload; calls = was.at_work.calls; all = was.at_work.all; counts = was.at_work.counts; few = was.at_work.few },
       );
     }
 

@@ -1,0 +1,85 @@
+-- A cache and its clients, as they begin, in boxes and in handles.
+use Rattle.std.proofs.Common.{◌≡◌, ◌<◌, ℕ, suc, List, [], ◌∷◌, ◌++◌, length, map, take, set, Option, Some, refl, sym, ap, ◌∙◌, subst, arith, zero, true, false, is_none, drop, get_or, None}
+use Rattle.std.proofs.lemmas.Bool.{false≢true}
+use lib.Seq.{take-length, take-suc-set}
+use Rattle.std.specs.Global.{Box}
+use Rattle.std.proofs.lemmas.List.{length-map, map-append}
+use Rattle.segword.specs.Words.{Shape}
+use Rattle.segbase.specs.Words.{Pass}
+use Rattle.segindex.specs.Words.{Index}
+use Rattle.segclient.proofs.Places.{zip_long}
+use Rattle.segcache.specs.declared.cache.Cache.{Cache}
+use Rattle.segcache.specs.declared.client.SharedClient.{SharedClient}
+use Rattle.segcache.specs.declared.handle.Handle.{Handle}
+use Rattle.segcache.specs.declared.kept.Kept.{Kept}
+use Rattle.segcache.specs.declared.kept.Kept.TheVariants as kept
+use Rattle.segcache.specs.Opening.{are_empty, in_box, IsGuest, IsHome, IsNewGuest, IsNewHome, IsOpened, put_in, value_of, values_of}
+
+pub is_guest : (i : Index) (p : Pass) (k : Kept) (guest : SharedClient) → k ≡ kept.Client guest → IsNewGuest i p guest → IsGuest i p k
+is_guest i p k guest from is = subst (IsGuest i p) (sym from) is
+
+pub is_home : (i : Index) (k : Kept) (home : Cache) → k ≡ kept.Cache home → IsNewHome i home → IsHome i k
+is_home i k home from is = subst (IsHome i) (sym from) is
+
+-- what the boxes have is what the handles have
+pub same_values : (boxes : List (Box Kept)) → map put_in boxes ≡ map Some (map in_box boxes)
+same_values [] = refl
+same_values (b ∷ boxes) = ap (λ (l : List (Option Kept)). Some b.value ∷ l) (same_values boxes)
+
+-- there is one for each pass
+pub opened_long : (shape : Shape) (home : Kept) (boxes : List (Box Kept)) → IsOpened shape home (map in_box boxes) → length boxes ≡ shape.passes
+opened_long shape home boxes is = sym (length-map boxes in_box) ∙ zip_long (IsGuest is.index) is.passes (map in_box boxes) is.clients ∙ is.new.made.dealt.long
+
+-- as many handles have as many values
+pub same_long : (handles others : List Handle) → values_of handles ≡ values_of others → length handles ≡ length others
+same_long handles others same = sym (length-map handles value_of) ∙ ap length same ∙ length-map others value_of
+
+-- one handle more has the value of one box more
+pub one_more : (handles : List Handle) (at : ℕ) (handle : Handle) (boxes : List (Box Kept)) (boxed : Box Kept) → at < length handles → values_of (take at handles) ≡ map put_in boxes → handle.value ≡ Some boxed.value
+    → values_of (take (suc at) (set handles at handle)) ≡ map put_in (boxes ++ boxed ∷ [])
+one_more handles at handle boxes boxed below were is =
+    ap values_of (take-suc-set handles at handle below) ∙ map-append value_of (take at handles) (handle ∷ [])
+    ∙ ap (λ (l : List (Option Kept)). l ++ value_of handle ∷ []) were ∙ ap (λ (v : Option Kept). map put_in boxes ++ v ∷ []) is
+    ∙ sym (map-append put_in boxes (boxed ∷ []))
+
+-- all of them
+pub all_values : (handles : List Handle) (at : ℕ) (boxes : List (Box Kept)) → at ≡ length handles → values_of (take at handles) ≡ map put_in boxes → values_of handles ≡ map put_in boxes
+all_values handles at boxes end were = ap values_of (sym (take-length handles) ∙ ap (λ (n : ℕ). take n handles) (sym end)) ∙ were
+
+-- ---- empty handles
+
+-- a handle that has what it had
+pub still_there : (handles : List Handle) (at : ℕ) (handle default : Handle) → handle.value ≡ value_of (get_or handles at default) → values_of (set handles at handle) ≡ values_of handles
+still_there [] at handle default is = refl
+still_there (h ∷ handles) zero handle default is = ap (λ (v : Option Kept). v ∷ values_of handles) is
+still_there (h ∷ handles) (suc at) handle default is = ap (λ (l : List (Option Kept)). value_of h ∷ l) (still_there handles at handle default is)
+
+one_empty : (v : Option Kept) (values : List (Option Kept)) → is_none v ≡ true → are_empty (v ∷ values) ≡ are_empty values
+one_empty None values is = refl
+one_empty (Some used) values is = absurd (false≢true is)
+
+one_used : (v : Option Kept) (values : List (Option Kept)) → is_none v ≡ false → are_empty (v ∷ values) ≡ false
+one_used None values is = absurd (false≢true (sym is))
+one_used (Some used) values is = refl
+
+-- one handle more is empty, or is in use
+pub next_empty : (handles : List Handle) (at : ℕ) (default : Handle) → at < length handles → is_none (value_of (get_or handles at default)) ≡ true
+    → are_empty (drop at (values_of handles)) ≡ are_empty (drop (suc at) (values_of handles))
+next_empty [] at default below is = absurd (omega (arith, below))
+next_empty (h ∷ handles) zero default below is = one_empty (value_of h) (values_of handles) is
+next_empty (h ∷ handles) (suc at) default below is = next_empty handles at default (omega (arith, below)) is
+
+pub next_used : (handles : List Handle) (at : ℕ) (default : Handle) → at < length handles → is_none (value_of (get_or handles at default)) ≡ false → are_empty (drop at (values_of handles)) ≡ false
+next_used [] at default below is = absurd (omega (arith, below))
+next_used (h ∷ handles) zero default below is = one_used (value_of h) (values_of handles) is
+next_used (h ∷ handles) (suc at) default below is = next_used handles at default (omega (arith, below)) is
+
+-- all of them are
+pub none_left : (handles : List Handle) (at : ℕ) → at ≡ length handles → are_empty (drop at (values_of handles)) ≡ true
+none_left [] at end = drop_none at
+  where
+    drop_none : (n : ℕ) → are_empty (drop n []) ≡ true
+    drop_none zero = refl
+    drop_none (suc n) = refl
+none_left (h ∷ handles) zero end = absurd (omega (arith, end))
+none_left (h ∷ handles) (suc at) end = none_left handles at (omega (arith, end))

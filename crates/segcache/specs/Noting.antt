@@ -1,0 +1,55 @@
+-- What the exports of notes do.
+use Rattle.std.specs.Prelude.{◌≡◌, ◌⊎◌, Bool, true, false, Option, Some, None}
+use Rattle.segindex.specs.Words.{board_of, IsNoteOf, Note}
+use Rattle.segclient.specs.Made.{Learns, Notes}
+use Rattle.segcache.specs.declared.client.SharedClient.{SharedClient}
+use Rattle.segcache.specs.declared.kept.Kept.{Kept}
+use Rattle.segcache.specs.declared.kept.Kept.TheVariants as kept
+use Rattle.segcache.specs.declared.status.Status.{Status}
+use Rattle.segcache.specs.declared.status.Status.TheVariants as status
+use Rattle.segcache.specs.Calls.{MakesCall}
+use Rattle.segcache.specs.Exports.{ByClient, Returns}
+
+-- the note stands in its handle, unless the memory for it was refused
+abbrev pub KeepsNote : Note → Status → Option Kept → Type 0
+KeepsNote note returned next =
+    ((returned ≡ status.Ok) × (next ≡ Some (kept.Note note)))
+    ⊎ ((returned ≡ status.OutOfMemory) × (next ≡ None))
+
+-- The client made a note for an empty handle. A handle in use is as it was,
+-- and nothing was done.
+abbrev pub NotesInto : Option Kept → Option Kept → Status → SharedClient → SharedClient → Type 0
+NotesInto None next returned old new =
+    (made : Note) × MakesCall (Notes made) old new × KeepsNote made returned next
+NotesInto (Some used) next returned old new =
+    (returned ≡ status.NoHandle) × (next ≡ Some used) × (new ≡ old)
+
+abbrev pub Noted : Option Kept → Option Kept → Option Kept → Option Kept → Status → Type 0
+Noted before after note next returned =
+    ByClient (λ why. Returns returned why × (next ≡ note)) (NotesInto note next returned)
+    before after
+
+-- if these are a client and a note, the note was made by a client of the same index
+abbrev pub IsNoteFor : Option Kept → Option Kept → Type 0
+IsNoteFor (Some (kept.Client client)) (Some (kept.Note note)) =
+    IsNoteOf (board_of client.index.value) note
+IsNoteFor _ _ = Unit {0}
+
+-- the client learned the note of the handle, which is empty then; without one nothing was done
+abbrev pub LearnsFrom : Option Kept → Option Kept → Status → SharedClient → SharedClient → Type 0
+LearnsFrom (Some (kept.Note note)) next returned old new =
+    (returned ≡ status.Ok) × (next ≡ None) × MakesCall (Learns note) old new
+LearnsFrom note next returned old new = (returned ≡ status.NoHandle) × (next ≡ note) × (new ≡ old)
+
+abbrev pub Learned : Option Kept → Option Kept → Option Kept → Option Kept → Status → Type 0
+Learned before after note next returned =
+    ByClient (λ why. Returns returned why × (next ≡ note)) (LearnsFrom note next returned) before after
+
+abbrev pub is_note : Kept → Bool
+is_note (kept.Note note) = true
+is_note _ = false
+
+-- a handle with a note is empty then, and any other is as it was
+abbrev pub FreesNote : Option Kept → Option Kept → Status → Type 0
+FreesNote (Some (kept.Note note)) after returned = (returned ≡ status.Ok) × (after ≡ None)
+FreesNote before after returned = (returned ≡ status.NoHandle) × (after ≡ before)

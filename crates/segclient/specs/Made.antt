@@ -1,0 +1,95 @@
+-- What each call of a client is, in one record: over the index's board and what it has
+-- beside the index.
+use Rattle.std.specs.Prelude.{◌≡◌, ℕ, List}
+use Rattle.segmodel.specs.Words.{DeleteAnswer, GetAnswer, GetsAnswer, Request, WriteAnswer}
+use Rattle.segbase.specs.Words.{Board}
+use Rattle.segread.specs.declared.held.HoldAnswer.{HoldAnswer}
+use Rattle.segread.specs.Words.{Hold, HoldsItem, ReadsHeld, ReadsKey, ReadsVersion, ReleasesHold}
+use Rattle.segwrite.specs.Words.{Deletes, Writes}
+use Rattle.segindex.specs.Words.{LearnsNote, MakesNote, MeetsPass, Note, ReturnsStats}
+use Rattle.segindex.specs.declared.table_stats.IndexStats.{IndexStats}
+use Rattle.segclient.specs.declared.member.Member.{Member}
+use Rattle.segclient.specs.Counting.{counted, delete_tally, get_tally, gets_tally, write_tally}
+use Rattle.segclient.specs.Member.{draw_of, DrawsOnce, Keeps, KeepsDraws}
+
+-- it counts nothing, draws nothing, and keeps its settings and its segments
+pub record KeepsCounts (old new : Member) : Type 0 where
+  pub stats : new.stats ≡ old.stats
+  pub draws : KeepsDraws old new
+  pub keeps : Keeps old new
+
+-- ---- calls that read
+
+-- a get of the key had this answer
+pub record Gets (key : List ℕ) (told : GetAnswer) (b : Board) (old new : Member) : Type 0 where
+  pub reads : ReadsKey b key (draw_of old) old.clock told old.pass new.pass
+  pub counts : new.stats ≡ counted (get_tally told) old.stats
+  pub draws : DrawsOnce old new
+  pub keeps : Keeps old new
+
+-- a get of the key with its version had this answer
+pub record GetsVersion (key : List ℕ) (told : GetsAnswer) (b : Board) (old new : Member)
+    : Type 0 where
+  pub reads : ReadsVersion b key (draw_of old) old.clock told old.pass new.pass
+  pub counts : new.stats ≡ counted (gets_tally told) old.stats
+  pub draws : DrawsOnce old new
+  pub keeps : Keeps old new
+
+-- ---- calls that write
+
+-- what is asked at this moment had this answer
+pub record MakesWrite (request : ℕ → Request) (told : WriteAnswer) (b : Board)
+    (old new : Member) : Type 0 where
+  pub writes : Writes b (request old.clock) told old.pass new.pass
+  pub counts : new.stats ≡ counted (write_tally told) old.stats
+  pub draws : KeepsDraws old new
+  pub keeps : Keeps old new
+
+-- a delete of the key had this answer
+pub record DeletesKey (key : List ℕ) (told : DeleteAnswer) (b : Board) (old new : Member)
+    : Type 0 where
+  pub deletes : Deletes b key old.clock told old.pass new.pass
+  pub counts : new.stats ≡ counted (delete_tally told) old.stats
+  pub draws : KeepsDraws old new
+  pub keeps : Keeps old new
+
+-- ---- holds
+
+-- a hold of the key had this answer
+pub record HoldsKey (key : List ℕ) (told : HoldAnswer) (b : Board) (old new : Member)
+    : Type 0 where
+  pub holds : HoldsItem b key old.clock told old.pass new.pass
+  pub counts : KeepsCounts old new
+
+-- the value that is held was read
+pub record ReadsHold (hold : Hold) (told : List ℕ) (b : Board) (old new : Member) : Type 0 where
+  pub reads : ReadsHeld b hold told old.pass new.pass
+  pub counts : KeepsCounts old new
+
+-- the hold ended
+pub record EndsHold (b : Board) (old new : Member) : Type 0 where
+  pub releases : ReleasesHold b old.pass new.pass
+  pub counts : KeepsCounts old new
+
+-- ---- the rest
+
+-- what the client sees of the table was counted
+pub record ReturnsTable (told : IndexStats) (b : Board) (old new : Member) : Type 0 where
+  pub reads : ReturnsStats b told old.pass new.pass
+  pub counts : KeepsCounts old new
+
+-- a note was made of what the client had seen
+pub record Notes (note : Note) (b : Board) (old new : Member) : Type 0 where
+  pub notes : MakesNote b note old.pass new.pass
+  pub counts : KeepsCounts old new
+
+-- the client learned what the note has
+pub record Learns (note : Note) (b : Board) (old new : Member) : Type 0 where
+  pub learns : LearnsNote b note old.pass new.pass
+  pub counts : KeepsCounts old new
+
+-- two of one index met
+pub record Meet (b : Board) (old other new next : Member) : Type 0 where
+  pub meets : MeetsPass b old.pass other.pass new.pass next.pass
+  pub counts : KeepsCounts old new
+  pub other_counts : KeepsCounts other next

@@ -1,0 +1,89 @@
+-- What a client has beside its index, as contracts see it, and what its calls leave as it was.
+use Rattle.std.specs.Prelude.{◌≡◌, ℕ, ◌+◌, ◌*◌, ◌/◌, ◌%◌, ◌^◌, ◌-◌, Option, None}
+use Rattle.segword.specs.Words.{Shape}
+use Rattle.segbase.specs.Words.{number, Pass}
+use Rattle.segindex.specs.Words.{board_of, Index, shape_of}
+use Rattle.segpass.specs.Words.{IsQuiet, IsQuiet-prop}
+use Rattle.segclient.specs.declared.member.Member.{Member}
+use Rattle.segclient.specs.Counting.{no_stats}
+use Rattle.segclient.specs.Rings.{first_ring, IsOwnRing, IsOwnRing-prop}
+
+-- its pass is between two calls of this index, and its segments are the pass's own
+abbrev pub IsMember : Index → Member → Type 0
+IsMember i member =
+    IsQuiet (board_of i) member.pass
+    × IsOwnRing (shape_of i) (number member.pass) member.segments
+
+pub IsMember-prop : (i : Index) (member : Member) → IsProp (IsMember i member)
+IsMember-prop i member = λ x y j. (
+  IsQuiet-prop (board_of i) member.pass x.0 y.0 j,
+  IsOwnRing-prop (shape_of i) (number member.pass) member.segments x.1 y.1 j,
+)
+
+-- the numbers at random: the state after the next one, and the one that it gives
+abbrev pub next_draws : ℕ → ℕ
+next_draws draws = (draws * 1664525 % 2 ^ 32 + 1013904223) % 2 ^ 32
+
+abbrev pub draw_of : Member → ℕ
+draw_of member = next_draws member.draws / 256
+
+-- a new one of the pass: it gives up its first segment first, its draws begin with the pass's
+-- number, its clock shows 0, what it puts expires at the largest moment, its puts keep nothing,
+-- and it counted nothing
+pub record Begins (shape : Shape) (p : Pass) (member : Member) : Type 0 where
+  pub pass : member.pass ≡ p
+  pub segments : member.segments ≡ first_ring shape (number p)
+  pub draws : member.draws ≡ number p
+  pub clock : member.clock ≡ 0
+  pub time_to_live : member.time_to_live ≡ 2 ^ 32 - 1
+  pub cutoff : member.cutoff ≡ None
+  pub stats : member.stats ≡ no_stats
+
+-- it has the same pass, with the same clock; what it puts expires as before,
+-- and its puts keep what they kept before
+pub record KeepsSettings (old new : Member) : Type 0 where
+  pub number : number new.pass ≡ number old.pass
+  pub clock : new.clock ≡ old.clock
+  pub time_to_live : new.time_to_live ≡ old.time_to_live
+  pub cutoff : new.cutoff ≡ old.cutoff
+
+-- and it gives up the same segment next
+pub record Keeps (old new : Member) : Type 0 where
+  pub settings : KeepsSettings old new
+  pub segments : new.segments ≡ old.segments
+
+-- no number was drawn
+abbrev pub KeepsDraws : Member → Member → Type 0
+KeepsDraws old new = new.draws ≡ old.draws
+
+-- one number was drawn
+abbrev pub DrawsOnce : Member → Member → Type 0
+DrawsOnce old new = new.draws ≡ next_draws old.draws
+
+-- all but its settings is as it was
+pub record KeepsRest (old new : Member) : Type 0 where
+  pub pass : new.pass ≡ old.pass
+  pub segments : new.segments ≡ old.segments
+  pub draws : new.draws ≡ old.draws
+  pub stats : new.stats ≡ old.stats
+
+-- its clock shows this moment, and nothing else is changed
+pub record SetsNow (now : ℕ) (old new : Member) : Type 0 where
+  pub rest : KeepsRest old new
+  pub clock : new.clock ≡ now
+  pub time_to_live : new.time_to_live ≡ old.time_to_live
+  pub cutoff : new.cutoff ≡ old.cutoff
+
+-- what it puts expires so much later, and nothing else is changed
+pub record SetsTimeToLive (time : ℕ) (old new : Member) : Type 0 where
+  pub rest : KeepsRest old new
+  pub clock : new.clock ≡ old.clock
+  pub time_to_live : new.time_to_live ≡ time
+  pub cutoff : new.cutoff ≡ old.cutoff
+
+-- its puts keep what has this frequency or a higher one, or nothing, and nothing else is changed
+pub record SetsCutoff (least : Option ℕ) (old new : Member) : Type 0 where
+  pub rest : KeepsRest old new
+  pub clock : new.clock ≡ old.clock
+  pub time_to_live : new.time_to_live ≡ old.time_to_live
+  pub cutoff : new.cutoff ≡ least

@@ -1,0 +1,253 @@
+//! What a client has beside its index, as whoever shares the index has it.
+ghost use Rattle.std.specs.Prelude.{◌≡◌};
+ghost use Rattle.segindex.specs.Words.{board_of, shape_of};
+ghost use Rattle.segpass.specs.Words.{IsQuiet};
+ghost use Rattle.segclient.specs.Member.{next_draws};
+
+use crate::put::{Order, PutAnswer, put_at_last, set_if_fresh};
+use crate::room::make_room_keeping;
+use crate::stats::{
+    Stats, tally_of_delete, tally_of_get, tally_of_gets, tally_of_put, tally_of_write,
+};
+use segindex::{Index, IndexStats, Pass};
+use segmodel::{DeleteAnswer, GetAnswer, GetsAnswer, WriteAnswer};
+use segpolicy::Ring;
+use segword::{Key, Value};
+
+/// What a client has beside its index: a pass of it, the segments of the pass, its draws,
+/// its clock, its settings and its counts.
+///
+/// Each call of a client is a call of a `Member`, which takes the index.
+#[derive(Drop)]
+pub struct Member {
+    pub(crate) pass: Pass,
+    // Its segments, in the order in which they are given up.
+    pub(crate) segments: Ring,
+    pub(crate) draws: u32,
+    pub(crate) clock: u32,
+    pub(crate) time_to_live: u32,
+    // The least frequency of an item that a put keeps. None: it keeps nothing.
+    pub(crate) cutoff: Option<u8>,
+    pub(crate) stats: Stats,
+}
+
+// The state of the draws after the next one.
+fn drawn(draws: u32) -> u32
+    ensures { result ≡ next_draws draws }
+{
+    draws.wrapping_mul(1_664_525).wrapping_add(1_013_904_223)
+}
+
+impl Member {
+    ghost use Rattle.segbase.specs.Words.{number_of};
+    ghost use Rattle.segmodel.specs.declared.request.Request.TheVariants.{Set, Add, Replace, Cas};
+    ghost use Rattle.segwrite.specs.Words.{IsSetAnswer};
+    ghost use Rattle.segclient.specs.Made.{DeletesKey, Gets, GetsVersion, MakesWrite, ReturnsTable};
+    ghost use Rattle.segclient.specs.Member.{Begins, IsMember, SetsCutoff, SetsNow, SetsTimeToLive};
+    ghost use Rattle.segclient.specs.Puts.{deadline_of, MakesRoomFor, Puts};
+
+    /// As `Client::new`.
+    pub fn new(index: &Index, pass: Pass) -> Member
+        requires quiet { IsQuiet (board_of index.now) pass }
+        ensures member { IsMember index.now result }
+        ensures begins { Begins (shape_of index.now) pass result }
+    {
+        let number = pass.number();
+        let segments = index.shape().segments_each;
+        Member {
+            pass,
+            segments: Ring::new(number * segments, segments),
+            draws: number,
+            clock: 0,
+            time_to_live: u32::MAX,
+            cutoff: None,
+            stats: Stats::new(),
+        }
+    }
+
+    /// The number of its pass.
+    pub fn number(&self) -> u32
+        ensures { result ≡ number_of self.now.pass }
+    {
+        self.pass.number()
+    }
+
+    /// Its pass, as for the close of the index.
+    pub fn into_pass(self) -> Pass
+        ensures { result ≡ self.pass }
+    {
+        self.pass
+    }
+
+    /// As `Client::set_now`.
+    pub fn set_now(&mut self, now: u32)
+        ensures sets { SetsNow now self.old self.new }
+    {
+        self.clock = now;
+    }
+
+    /// As `Client::set_time_to_live`.
+    pub fn set_time_to_live(&mut self, time_to_live: u32)
+        ensures sets { SetsTimeToLive time_to_live self.old self.new }
+    {
+        self.time_to_live = time_to_live;
+    }
+
+    /// As `Client::keep_from`.
+    pub fn keep_from(&mut self, cutoff: Option<u8>)
+        ensures sets { SetsCutoff cutoff self.old self.new }
+    {
+        self.cutoff = cutoff;
+    }
+
+    /// As `Client::stats`.
+    pub fn stats(&self) -> Stats
+        ensures { result ≡ self.now.stats }
+    {
+        self.stats
+    }
+
+    /// As `Client::index_stats`.
+    pub fn index_stats(&mut self, index: &Index) -> IndexStats
+        requires member { IsMember index.now self.old }
+        ensures member { IsMember index.now self.new }
+        ensures reads { ReturnsTable result (board_of index.now) self.old self.new }
+    {
+        index.stats(&mut self.pass)
+    }
+
+    /// As `Client::get`.
+    #[inline(always)]
+    pub fn get(&mut self, index: &Index, key: &Key) -> GetAnswer
+        requires member { IsMember index.now self.old }
+        ensures member { IsMember index.now self.new }
+        ensures reads { Gets key.now result (board_of index.now) self.old self.new }
+    {
+        self.draws = drawn(self.draws);
+        let told = index.get(&mut self.pass, key, self.draws / 256, self.clock);
+        self.stats.count(tally_of_get(&told));
+        told
+    }
+
+    /// As `Client::gets`.
+    pub fn gets(&mut self, index: &Index, key: &Key) -> GetsAnswer
+        requires member { IsMember index.now self.old }
+        ensures member { IsMember index.now self.new }
+        ensures reads { GetsVersion key.now result (board_of index.now) self.old self.new }
+    {
+        self.draws = drawn(self.draws);
+        let told = index.gets(&mut self.pass, key, self.draws / 256, self.clock);
+        self.stats.count(tally_of_gets(&told));
+        told
+    }
+
+    /// As `Client::set`.
+    pub fn set(&mut self, index: &Index, key: &Key, value: &Value) -> WriteAnswer
+        requires member { IsMember index.now self.old }
+        ensures member { IsMember index.now self.new }
+        ensures writes { MakesWrite (Set key.now value.now) result
+            (board_of index.now) self.old self.new }
+        ensures set { IsSetAnswer result }
+    {
+        let told = index.set(&mut self.pass, key, value, self.clock);
+        self.stats.count(tally_of_write(told));
+        told
+    }
+
+    /// As `Client::add`.
+    pub fn add(&mut self, index: &Index, key: &Key, value: &Value) -> WriteAnswer
+        requires member { IsMember index.now self.old }
+        ensures member { IsMember index.now self.new }
+        ensures writes { MakesWrite (Add key.now value.now) result
+            (board_of index.now) self.old self.new }
+    {
+        let told = index.add(&mut self.pass, key, value, self.clock);
+        self.stats.count(tally_of_write(told));
+        told
+    }
+
+    /// As `Client::replace`.
+    pub fn replace(&mut self, index: &Index, key: &Key, value: &Value) -> WriteAnswer
+        requires member { IsMember index.now self.old }
+        ensures member { IsMember index.now self.new }
+        ensures writes { MakesWrite (Replace key.now value.now) result
+            (board_of index.now) self.old self.new }
+    {
+        let told = index.replace(&mut self.pass, key, value, self.clock);
+        self.stats.count(tally_of_write(told));
+        told
+    }
+
+    /// As `Client::cas`.
+    pub fn cas(&mut self, index: &Index, key: &Key, value: &Value, expected: u32) -> WriteAnswer
+        requires member { IsMember index.now self.old }
+        ensures member { IsMember index.now self.new }
+        ensures writes { MakesWrite (Cas key.now value.now expected) result
+            (board_of index.now) self.old self.new }
+    {
+        let told = index.cas(&mut self.pass, key, value, expected, self.clock);
+        self.stats.count(tally_of_write(told));
+        told
+    }
+
+    /// As `Client::delete`.
+    pub fn delete(&mut self, index: &Index, key: &Key) -> DeleteAnswer
+        requires member { IsMember index.now self.old }
+        ensures member { IsMember index.now self.new }
+        ensures deletes { DeletesKey key.now result (board_of index.now) self.old self.new }
+    {
+        let told = index.delete(&mut self.pass, key, self.clock);
+        self.stats.count(tally_of_delete(told));
+        told
+    }
+
+    // How room is made now: the deadline of what is refilled.
+    fn deadline(&self) -> u32
+        ensures { result ≡ deadline_of self.now }
+    {
+        self.clock.saturating_add(self.time_to_live)
+    }
+
+    /// As `Client::make_room`.
+    pub fn make_room(&mut self, index: &Index) -> bool
+        requires member { IsMember index.now self.old }
+        ensures member { IsMember index.now self.new }
+        ensures makes { MakesRoomFor result (board_of index.now) self.old self.new }
+    {
+        let deadline = self.deadline();
+        let (is_made, effort) = make_room_keeping(
+            index,
+            &mut self.pass,
+            &mut self.segments,
+            self.cutoff,
+            deadline,
+        );
+        self.stats.count_effort(effort);
+        is_made
+    }
+
+    /// As `Client::put`.
+    #[inline(always)]
+    pub fn put(&mut self, index: &Index, key: &Key, value: &Value) -> PutAnswer
+        requires member { IsMember index.now self.old }
+        ensures member { IsMember index.now self.new }
+        ensures puts { Puts key.now value.now result (board_of index.now) self.old self.new }
+    {
+        let order = Order {
+            key,
+            value,
+            moment: self.clock,
+            cutoff: self.cutoff,
+            deadline: self.deadline(),
+        };
+        let first = set_if_fresh(index, &mut self.pass, order);
+        if let PutAnswer::Stored = first {
+            self.stats.count(tally_of_put(first));
+            return first;
+        }
+        let (told, effort) = put_at_last(index, &mut self.pass, &mut self.segments, order, first);
+        self.stats.count_effort(effort);
+        self.stats.count(tally_of_put(told));
+        told
+    }
+}

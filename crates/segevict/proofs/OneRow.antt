@@ -1,0 +1,142 @@
+-- A keep of one row: the answer for a used row in the call's terms, and refusals before any step.
+use Rattle.std.proofs.Common.{◌≡◌, ℕ, ◌≤◌, ◌<◌, true, false, None, IsSome, [], refl, sym, ap, ◌∙◌, subst, inl, inr, ⊎_elim, arith}
+use Rattle.std.proofs.lemmas.Bool.{false≢true}
+use Rattle.std.proofs.lemmas.Option.{none-some, same_Some}
+use Rattle.segmodel.specs.declared.answer.SegState.TheVariants.{InUse}
+use Rattle.segmodel.specs.Words.{bucket_of}
+use Rattle.segbase.specs.declared.pass.Plain.{Plain}
+use Rattle.segbase.specs.Words.{Board, bounced, marked, Pass, state_of, trace}
+use Rattle.segbase.proofs.Moves.{moved_bounced, stays}
+use Rattle.segstore.specs.Words.{has_room}
+use Rattle.segpass.specs.Words.{ChangesNothing, IsQuiet}
+use Rattle.segpass.proofs.Idling.{goes_same}
+use Rattle.segevict.specs.declared.retention.KeepRowAnswer.{KeepRowAnswer}
+use Rattle.segevict.specs.declared.retention.KeepRowAnswer.TheVariants as kept
+use Rattle.segevict.specs.Frequencies.{WasOften}
+use Rattle.segevict.specs.Keeping.{IsKeepTarget}
+use Rattle.segevict.specs.Moving.{IsKeptRow, KeepsRow}
+use Rattle.segevict.specs.OneRow.{CostsOfKeepRow, HasRow, IsKeepRowAnswer, KeepsItem}
+use Rattle.segevict.proofs.Frequencies.{had_at, had_seen_at}
+use Rattle.segevict.proofs.Keeping.{idle_changes, left_changes, uses_one}
+use Rattle.segevict.proofs.KeyTries.{no_tries}
+use Rattle.segevict.proofs.Naming.{unnamed}
+
+-- ---- a used row
+
+module _ (b : Board) (segment row into cutoff : ℕ) (p r : Pass) (quiet : IsQuiet b p) (has : HasRow segment row p) (target : IsKeepTarget segment into p) where
+  answers : (told : KeepRowAnswer) → KeepsRow b segment row into cutoff told p r → IsKeepRowAnswer b.shape segment row cutoff told p r
+  answers kept.Moved k = let a = k.answer in
+      (into, target, uses_one into p r a.11 k.memo, (a.1.key, had_seen_at b segment row (λ n. cutoff ≤ n) p a.0 r a.1 a.2.steps, a.10))
+  answers kept.Left k = (
+    into,
+    target,
+    left_changes b segment row into cutoff p r quiet k,
+    ⊎_elim
+        (λ none. inl (unnamed b.shape (trace r) segment row k.on.quiet.pass.lawful none.1))
+        (λ some. ⊎_elim
+        (λ seldom. inr (seldom.key, had_seen_at b segment row (λ n. n < cutoff) p r r seldom (inr (refl, refl))))
+        (λ went. inl (unnamed b.shape (trace r) segment row k.on.quiet.pass.lawful went.5))
+        some)
+        k.answer,
+  )
+  answers kept.NoRoom k =
+      let s = k.answer.0 in
+      let none = idle_changes b p r quiet s.idles in inr (
+        into,
+        target,
+        none,
+        subst (λ (x : Plain). has_room b.shape (record p { plain = x }) ≡ false) (sym none.plain) k.answer.1,
+        (s.key, had_at b segment row (λ n. cutoff ≤ n) p r s (marked r) (marked r) ([], refl) ([], refl)),
+      )
+  answers kept.Busy k =
+      let a = k.answer in let f = a.0 in let s = a.1 in let bucket = bucket_of b.shape s.key in
+      let looked = idle_changes b p f quiet s.idles in
+      let none : ChangesNothing p r = record { entries = a.4.entries ∙ looked.entries; plain = a.4.plain ∙ looked.plain; memo = a.4.memo ∙ looked.memo } in (
+        into,
+        target,
+        none,
+        subst (λ (x : Plain). has_room b.shape (record p { plain = x }) ≡ true) (sym none.plain) a.3,
+        (
+          s.key,
+          had_seen_at b segment row (λ n. cutoff ≤ n) p f r s a.2.steps,
+          ⊎_elim
+              (λ locked. inl (sym (ap (λ (x : Plain). x.locked) s.idles.plain) ∙ locked.0))
+              (λ tried. let same : bounced f bucket ≡ bounced p bucket = moved_bounced b [] p f bucket s.idles.moved in let met = tried.tries in inr (omega arith))
+              a.5,
+        ),
+      )
+  answers kept.NotYours k = absurd k.answer
+  answers kept.NotUsed k = absurd k.answer
+
+  only_into : (other : ℕ) → IsKeepTarget segment other p → into ≡ other
+  only_into other t = same_Some into other (sym target.current ∙ t.current)
+
+  pub row_answered : (told : KeepRowAnswer) → KeepsRow b segment row into cutoff told p r → KeepsItem b segment row cutoff told p r
+  row_answered told k = record {
+    on = k.on;
+    answer = answers told k;
+    not_yours = (
+      (λ is. absurd (subst (λ t. IsKeptRow b segment row into cutoff t p r) is k.answer)),
+      (λ none. absurd (none-some InUse (sym none ∙ has.0))),
+    );
+    not_used = (
+      (λ is. absurd (subst (λ t. IsKeptRow b segment row into cutoff t p r) is k.answer)),
+      (λ without. absurd (without.1 has)),
+    );
+    costs = record {
+      goes_over = λ other in_row t. subst (λ o. KeepsRow b segment row o cutoff told p r) (only_into other t) k;
+      tries = k.tries;
+      draws_nothing = k.draws_nothing;
+      reads_nothing = k.reads_nothing;
+    };
+  }
+
+-- ---- refused before any step
+
+module _ (b : Board) (segment row cutoff : ℕ) (p : Pass) (quiet : IsQuiet b p) where
+  costs_none : (told : KeepRowAnswer) → ((into : ℕ) → HasRow segment row p → IsKeepTarget segment into p → KeepsRow b segment row into cutoff told p p) → CostsOfKeepRow b segment row cutoff told p p
+  costs_none told over = record {
+    goes_over = over;
+    tries = no_tries b (WasOften b.shape segment cutoff p p) 1 p p (stays b p quiet.pass);
+    draws_nothing = λ bucket. refl;
+    reads_nothing = refl;
+  }
+
+  pub row_not_yours : state_of p segment ≡ None → KeepsItem b segment row cutoff kept.NotYours p p
+  row_not_yours none = record {
+    on = goes_same b p quiet;
+    answer = refl;
+    not_yours = ((λ is. none), (λ nobody. refl));
+    not_used = (
+      (λ is. let no : kept.NotYours ≡ kept.NotUsed = is in cc),
+      (λ without. absurd (false≢true (subst IsSome none without.0))),
+    );
+    costs = costs_none kept.NotYours (λ into has t. absurd (none-some InUse (sym none ∙ has.0)));
+  }
+
+  pub row_not_used : IsSome (state_of p segment) → ¬ (HasRow segment row p) → KeepsItem b segment row cutoff kept.NotUsed p p
+  row_not_used some without = record {
+    on = goes_same b p quiet;
+    answer = refl;
+    not_yours = (
+      (λ is. let no : kept.NotUsed ≡ kept.NotYours = is in cc),
+      (λ none. absurd (false≢true (subst IsSome none some))),
+    );
+    not_used = ((λ is. (some, without)), (λ all. refl));
+    costs = costs_none kept.NotUsed (λ into has t. absurd (without has));
+  }
+
+  pub row_no_target : HasRow segment row p → ((into : ℕ) → ¬ (IsKeepTarget segment into p)) → KeepsItem b segment row cutoff kept.NoRoom p p
+  row_no_target has nowhere = record {
+    on = goes_same b p quiet;
+    answer = inl (nowhere, refl);
+    not_yours = (
+      (λ is. let no : kept.NoRoom ≡ kept.NotYours = is in cc),
+      (λ none. absurd (none-some InUse (sym none ∙ has.0))),
+    );
+    not_used = (
+      (λ is. let no : kept.NoRoom ≡ kept.NotUsed = is in cc),
+      (λ without. absurd (without.1 has)),
+    );
+    costs = costs_none kept.NoRoom (λ into in_row t. absurd (nowhere into t));
+  }
