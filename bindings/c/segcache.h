@@ -126,6 +126,13 @@ typedef struct segcache_index_stats_t {
   uint32_t named_rows;       /* those of them that a key stands for; the others are dead */
 } segcache_index_stats_t;
 
+/* A key of segcache_get_many or segcache_gets_many, and what came of it. */
+typedef struct segcache_lookup {
+  size_t key_at, key_len, value_len; /* the key's bytes are those from keys + key_at on */
+  uint32_t status, version;          /* version: of segcache_gets_many alone */
+  uint8_t value[32];
+} segcache_lookup;
+
 /* --- The exports of the library. Programs call the functions below these. ---------------------------- */
 
 uint32_t segcache_raw_open(uint32_t keys, uint32_t threads, segcache_handle *cache, segcache_handle *clients,
@@ -136,6 +143,10 @@ uint32_t segcache_raw_get(segcache_handle *client, const uint8_t *key, size_t ke
                           size_t *value_len, uint32_t now);
 uint32_t segcache_raw_gets(segcache_handle *client, const uint8_t *key, size_t key_len, uint8_t *value, size_t room,
                            size_t *value_len, uint32_t *version, uint32_t now);
+uint32_t segcache_raw_get_many(segcache_handle *client, const uint8_t *keys, size_t keys_len,
+                               segcache_lookup *lookups, size_t count, uint32_t now);
+uint32_t segcache_raw_gets_many(segcache_handle *client, const uint8_t *keys, size_t keys_len,
+                                segcache_lookup *lookups, size_t count, uint32_t now);
 uint32_t segcache_raw_put(segcache_handle *client, const uint8_t *key, size_t key_len, const uint8_t *value,
                           size_t value_len, uint32_t now);
 uint32_t segcache_raw_set(segcache_handle *client, const uint8_t *key, size_t key_len, const uint8_t *value,
@@ -244,6 +255,25 @@ static inline uint32_t segcache_gets(segcache_client *client, const void *key, s
   SEGCACHE_APART(value, room, value_len, sizeof *value_len);
   return SEGCACHE_CALL(client, segcache_raw_gets(&client->raw, (const uint8_t *)key, key_len, (uint8_t *)value,
                                                  room, value_len, version, now));
+}
+
+/* Gets of several keys, one after another, whose waits for memory overlap: from 8 keys on less time than single ones.
+   Each lookup names its key by key_at and key_len, among the `len` bytes of `keys`. Afterwards it has a status of its
+   own, OK, MISS, BUSY or BAD_KEY (also where its bytes aren't all in `keys`), and with OK value and value_len.
+   Answers: OK, whatever the lookups have; NO_HANDLE, and they are as they were. */
+static inline uint32_t segcache_get_many(segcache_client *client, const void *keys, size_t len, uint32_t now,
+                                         segcache_lookup *lookups, size_t count) {
+  SEGCACHE_BYTES(keys, len), SEGCACHE_BYTES(lookups, count);
+  SEGCACHE_APART(lookups, count * sizeof *lookups, keys, len);
+  return SEGCACHE_CALL(client, segcache_raw_get_many(&client->raw, (const uint8_t *)keys, len, lookups, count, now));
+}
+
+/* The same with the version of each key's bucket, for segcache_cas. Answers as segcache_get_many. */
+static inline uint32_t segcache_gets_many(segcache_client *client, const void *keys, size_t len, uint32_t now,
+                                          segcache_lookup *lookups, size_t count) {
+  SEGCACHE_BYTES(keys, len), SEGCACHE_BYTES(lookups, count);
+  SEGCACHE_APART(lookups, count * sizeof *lookups, keys, len);
+  return SEGCACHE_CALL(client, segcache_raw_gets_many(&client->raw, (const uint8_t *)keys, len, lookups, count, now));
 }
 
 /* --- Writing ---------------------------------------------------------------------------------------- */
@@ -454,25 +484,11 @@ static inline uint32_t segcache_free(segcache *cache) {
 /* A status in words. */
 static inline const char *segcache_text(uint32_t status) {
   static const char *const texts[] = {
-      "ok",
-      "the key is absent",
-      "busy: others worked on the key's bucket",
-      "no room: no segment can be had",
-      "the key's bucket is full",
-      "not stored",
-      "the bucket was written since the gets",
-      "the key is not found",
-      "a key has 1 to 24 bytes",
-      "a value has 32 bytes at most",
-      "the buffer is too short",
-      "such a shape cannot be",
-      "out of memory",
-      "no handle: zeroed, given back or freed",
-      "the client holds an item already",
-      "the client holds no item",
-      "a client is still out",
-      "the client is of another cache",
-      "the end",
+      "ok", "the key is absent", "busy: others worked on the key's bucket", "no room: no segment can be had",
+      "the key's bucket is full", "not stored", "the bucket was written since the gets", "the key is not found",
+      "a key has 1 to 24 bytes", "a value has 32 bytes at most", "the buffer is too short", "such a shape cannot be",
+      "out of memory", "no handle: zeroed, given back or freed", "the client holds an item already",
+      "the client holds no item", "a client is still out", "the client is of another cache", "the end",
   };
   return status < sizeof texts / sizeof *texts ? texts[status] : "no such status";
 }

@@ -124,6 +124,38 @@ static void test_reading_and_writing(segcache_client *one, segcache_client *othe
   EXPECT(segcache_get(other, key, 23, 0, value, 32, &length), SEGCACHE_MISS);
 }
 
+/* Each key has its own answer, whatever the others have. */
+static void test_many(segcache_client *one, segcache_client *other) {
+  char keys[80] = "", value[3] = "v";
+  segcache_lookup lookups[40];
+  segcache_stats_t before, after;
+  size_t length;
+  EXPECT(segcache_stats(other, &before), SEGCACHE_OK);
+  for (uint8_t i = 0; i < 40; i++) {
+    keys[2 * i] = 'm', keys[2 * i + 1] = (char)i, value[1] = (char)i;
+    if (i % 2 == 0) EXPECT(segcache_put(one, &keys[2 * i], 2, value, 2, 0), SEGCACHE_OK);
+    lookups[i] = (segcache_lookup){.key_at = 2 * i, .key_len = 2, .value_len = 99, .status = 99, .version = 99, .value = "????"};
+  }
+  lookups[3].key_len = 0, lookups[5].key_len = 25, lookups[39].key_len = 3, lookups[38].key_at = SIZE_MAX;
+  EXPECT(segcache_get_many(other, keys, sizeof keys, 0, lookups, 40), SEGCACHE_OK);
+  for (uint8_t i = 0; i < 40; i++) {
+    const segcache_lookup *it = &lookups[i];
+    int is_bad = i == 3 || i == 5 || i >= 38, is_there = i % 2 == 0 && !is_bad;
+    EXPECT(it->status, is_bad ? SEGCACHE_BAD_KEY : is_there ? SEGCACHE_OK : SEGCACHE_MISS);
+    CHECK(it->value_len == (is_there ? 2 : 99) && it->version == 99);
+    CHECK(is_there ? it->value[0] == 'v' && it->value[1] == i && it->value[2] == '?' : it->value[0] == '?');
+  }
+  EXPECT(segcache_stats(other, &after), SEGCACHE_OK);
+  CHECK(after.hits == before.hits + 19 && after.misses == before.misses + 17);
+  EXPECT(segcache_get_many(other, NULL, 0, 0, NULL, 0), SEGCACHE_OK);
+  EXPECT(segcache_gets_many(other, keys, sizeof keys, 0, lookups, 40), SEGCACHE_OK);
+  for (int i = 0; i < 40; i++) {
+    uint32_t version = 99, status = segcache_gets(other, keys + 2 * i, 2, 0, value, 3, &length, &version);
+    int is_bad = lookups[i].status == SEGCACHE_BAD_KEY;
+    CHECK(is_bad ? lookups[i].version == 99 : lookups[i].status == status && lookups[i].version == version);
+  }
+}
+
 static void test_bad_arguments(segcache_client *client) {
   char key[25] = "k", value[33] = "v";
   size_t length = 7;
@@ -239,6 +271,7 @@ static void test_no_handles(void) {
   segcache_cursor cursor = {{0}};
   segcache_stats_t stats;
   segcache_index_stats_t table;
+  segcache_lookup lookup = {.key_len = 1};
   char key[24] = "k", value[32] = "v";
   size_t length, key_length;
   uint32_t version;
@@ -248,6 +281,8 @@ static void test_no_handles(void) {
     segcache_client *no = clients[i];
     EXPECT(segcache_get(no, key, 1, 0, value, 32, &length), SEGCACHE_NO_HANDLE);
     EXPECT(segcache_gets(no, key, 1, 0, value, 32, &length, &version), SEGCACHE_NO_HANDLE);
+    EXPECT(segcache_get_many(no, key, 1, 0, &lookup, 1), SEGCACHE_NO_HANDLE);
+    EXPECT(segcache_gets_many(no, key, 1, 0, &lookup, 1), SEGCACHE_NO_HANDLE);
     EXPECT(segcache_put(no, key, 1, value, 1, 0), SEGCACHE_NO_HANDLE);
     EXPECT(segcache_set(no, key, 1, value, 1, 0), SEGCACHE_NO_HANDLE);
     EXPECT(segcache_add(no, key, 1, value, 1, 0), SEGCACHE_NO_HANDLE);
@@ -371,6 +406,7 @@ int main(void) {
   test_opening();
   EXPECT(segcache_open(1000, 2, &cache, clients), SEGCACHE_OK);
   test_reading_and_writing(&clients[0], &clients[1]);
+  test_many(&clients[0], &clients[1]);
   test_bad_arguments(&clients[0]);
   test_time(&clients[0]);
   for (int i = 0; i < 2; i++) EXPECT(segcache_give_back(&cache, &clients[i]), SEGCACHE_OK);

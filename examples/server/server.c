@@ -2,6 +2,7 @@
  * client of the cache of its own, and serves many connections. README.md says what it answers. */
 #define _GNU_SOURCE
 #include "segcache.h"
+#include "words.h"
 #include <arpa/inet.h>
 #include <errno.h>
 #include <netinet/tcp.h>
@@ -27,6 +28,7 @@ enum {
   ROOM = 16 * 1024,       /* of a buffer, at first */
   MOST_LINE = 64 * 1024,  /* a longer line ends the connection */
   MOST_REPLY = 64 * 1024, /* with so much unsent, no further command is served */
+  PIECE = 16,             /* keys that are looked up at a time */
   TRIES = 64,             /* of a call that is Busy, and of a gets and cas that another write came between */
 };
 
@@ -63,7 +65,6 @@ struct connection {
   size_t swallow; /* bytes of a refused value that are still to come */
   struct worker *worker;
 };
-struct word { const char *at; size_t length; };
 
 /* The first words of a line, how many it has, and what has come behind it. */
 struct request {
@@ -77,34 +78,6 @@ struct value { uint32_t flags; char data[SEGCACHE_MAX_VALUE - sizeof(uint32_t)];
 struct item { struct word key; struct value value; size_t length; uint32_t version; }; /* length: of the whole value */
 enum kind { SET, ADD, REPLACE, CAS };
 
-static struct word next_word(struct word *line) {
-  while (line->length > 0 && *line->at == ' ') line->at++, line->length--;
-  struct word word = {line->at, 0};
-  while (word.length < line->length && word.at[word.length] != ' ') word.length++;
-  line->at += word.length, line->length -= word.length;
-  return word;
-}
-
-static bool is(struct word word, const char *text) {
-  return word.length == strlen(text) && memcmp(word.at, text, word.length) == 0;
-}
-static bool is_key(struct word word) { return word.length >= 1 && word.length <= SEGCACHE_MAX_KEY; }
-
-static bool read_number(struct word word, uint64_t most, uint64_t *number) {
-  *number = 0;
-  for (size_t i = 0; i < word.length; i++) {
-    uint64_t digit = (uint64_t)(unsigned char)word.at[i] - '0';
-    if (digit > 9 || *number > (most - digit) / 10) return false;
-    *number = *number * 10 + digit;
-  }
-  return word.length > 0;
-}
-static size_t write_number(char *to, uint64_t number) {
-  size_t length = 1;
-  for (uint64_t rest = number; rest >= 10; rest /= 10) length++;
-  for (size_t i = length; i > 0; number /= 10) to[--i] = (char)('0' + number % 10);
-  return length;
-}
 static int64_t seconds(void) {
   struct timespec time;
   return clock_gettime(CLOCK_MONOTONIC, &time), time.tv_sec;
@@ -195,21 +168,38 @@ static uint32_t store(struct worker *worker, enum kind kind, const struct item *
   return status;
 }
 
-/* get and gets: a VALUE for each key that is there. */
+/* The VALUE of an item that is there. */
+static void reply_value(struct connection *connection, const struct item *item, bool with_version) {
+  size_t length = item->length - sizeof item->value.flags;
+  char text[128] = "VALUE ", *at = text + 6;
+  memcpy(at, item->key.at, item->key.length), at += item->key.length;
+  *at++ = ' ', at += write_number(at, item->value.flags), *at++ = ' ', at += write_number(at, length);
+  if (with_version) *at++ = ' ', at += write_number(at, UNIQUE + item->version);
+  *at++ = '\r', *at++ = '\n';
+  memcpy(at, item->value.data, length), at += length, *at++ = '\r', *at++ = '\n';
+  reply(connection, text, (size_t)(at - text));
+}
+
+/* get and gets: a VALUE for each key that is there. The keys are looked up by pieces. */
 static bool serve_get(struct connection *connection, struct word line, bool with_version) {
-  struct item item = {.key = next_word(&line)};
-  if (item.key.length == 0) return say(connection, false, "ERROR");
-  for (; item.key.length > 0; item.key = next_word(&line)) {
-    if (!is_key(item.key)) return say(connection, false, BAD_LINE);
-    if (!find(connection->worker, &item, with_version)) continue;
-    size_t length = item.length - sizeof item.value.flags;
-    char text[128] = "VALUE ", *at = text + 6;
-    memcpy(at, item.key.at, item.key.length), at += item.key.length;
-    *at++ = ' ', at += write_number(at, item.value.flags), *at++ = ' ', at += write_number(at, length);
-    if (with_version) *at++ = ' ', at += write_number(at, UNIQUE + item.version);
-    *at++ = '\r', *at++ = '\n';
-    memcpy(at, item.value.data, length), at += length, *at++ = '\r', *at++ = '\n';
-    reply(connection, text, (size_t)(at - text));
+  struct worker *worker = connection->worker;
+  struct word keys = line, key = next_word(&line);
+  segcache_lookup lookups[PIECE];
+  uint32_t (*look_up)(segcache_client *, const void *, size_t, uint32_t, segcache_lookup *, size_t) =
+      with_version ? segcache_gets_many : segcache_get_many;
+  if (key.length == 0) return say(connection, false, "ERROR");
+  while (key.length > 0) {
+    size_t count = 0;
+    for (; count < PIECE && key.length > 0; key = next_word(&line))
+      lookups[count++] = (segcache_lookup){.key_at = (size_t)(key.at - keys.at), .key_len = key.length};
+    look_up(&worker->client, keys.at, keys.length, worker->now, lookups, count);
+    for (const segcache_lookup *it = lookups; it < lookups + count; it++) {
+      struct item item = {{keys.at + it->key_at, it->key_len}, {0}, it->value_len, it->version};
+      memcpy(&item.value, it->value, sizeof item.value);
+      if (it->status == SEGCACHE_BAD_KEY) return say(connection, false, BAD_LINE);
+      if (it->status == SEGCACHE_OK || (it->status == SEGCACHE_BUSY && find(worker, &item, with_version)))
+        reply_value(connection, &item, with_version);
+    }
   }
   return say(connection, false, "END");
 }

@@ -15,8 +15,12 @@ impl<const N: usize> Bytes<N> {
     pub(crate) fn written<T>(write: impl FnOnce(*mut u8, usize, &mut usize) -> T) -> (T, Bytes<N>) {
         let (mut bytes, mut length) = ([0; N], 0);
         let status = write(bytes.as_mut_ptr(), N, &mut length);
-        let length = length.min(N);
-        (status, Bytes { bytes, length })
+        (status, Bytes::of(bytes, length))
+    }
+
+    /// The first of these bytes, of which the others are zeros.
+    pub(crate) fn of(bytes: [u8; N], length: usize) -> Bytes<N> {
+        Bytes { bytes, length: length.min(N) }
     }
 
     /// The bytes.

@@ -1,6 +1,6 @@
 //! A client: what one thread reads and writes the cache by.
 use crate::cache::Shared;
-use crate::raw::{self, Handle};
+use crate::raw::{self, Handle, Lookup};
 use crate::{Bytes, Error, Hold, Note, Value};
 use std::cell::{Cell, UnsafeCell};
 use std::num::NonZeroU8;
@@ -71,6 +71,7 @@ pub struct Client {
     now: Cell<u32>,
 }
 
+type ReadMany = unsafe extern "C" fn(*mut Handle, *const u8, usize, *mut Lookup, usize, u32) -> u32;
 type Write = unsafe extern "C" fn(*mut Handle, *const u8, usize, *const u8, usize, u32) -> u32;
 
 impl Client {
@@ -112,6 +113,26 @@ impl Client {
             raw::segcache_raw_gets(self.handle(), at, len, value, room, length, &mut version, now)
         });
         Ok(found(status, value)?.map(|value| (value, Version(version))))
+    }
+
+    /// The value of each key, in their order: gets whose waits for memory overlap.
+    ///
+    /// # Errors
+    /// Of each key, as [`Client::get`].
+    pub fn get_many<K: AsRef<[u8]>>(&self, keys: &[K]) -> Vec<Result<Option<Value>, Error>> {
+        let lookups = self.look_up(raw::segcache_raw_get_many, keys);
+        lookups.iter().map(Lookup::value).collect()
+    }
+
+    /// The value of each key with its version, in their order, for [`Client::cas`].
+    ///
+    /// # Errors
+    /// Of each key, as [`Client::get`].
+    #[allow(clippy::type_complexity)]
+    pub fn gets_many<K: AsRef<[u8]>>(&self, keys: &[K]) -> Vec<Result<Option<(Value, Version)>, Error>> {
+        let lookups = self.look_up(raw::segcache_raw_gets_many, keys);
+        let versioned = |it: &Lookup| Ok(it.value()?.map(|value| (value, Version(it.version))));
+        lookups.iter().map(versioned).collect()
     }
 
     /// Holds the value of a key, or `None` if it is absent: until the hold is dropped it reads the same, also
@@ -262,10 +283,32 @@ impl Client {
         stats
     }
 
+    // The keys' bytes stand one behind another.
+    fn look_up<K: AsRef<[u8]>>(&self, read: ReadMany, keys: &[K]) -> Vec<Lookup> {
+        let (mut bytes, mut lookups) = (Vec::new(), Vec::with_capacity(keys.len()));
+        for key in keys.iter().map(AsRef::as_ref) {
+            lookups.push(Lookup { key_at: bytes.len(), key_len: key.len(), ..Lookup::default() });
+            bytes.extend_from_slice(key);
+        }
+        let (at, count, now) = (lookups.as_mut_ptr(), lookups.len(), self.now.get());
+        // SAFETY: the handle is this client's, and both lists are this call's own.
+        let status = unsafe { read(self.handle(), bytes.as_ptr(), bytes.len(), at, count, now) };
+        if status != OK {
+            lookups.iter_mut().for_each(|lookup| lookup.status = status);
+        }
+        lookups
+    }
+
     fn write(&self, write: Write, key: &[u8], value: &[u8]) -> u32 {
         let now = self.now.get();
         // SAFETY: the handle is this client's, and the slices are borrowed.
         unsafe { write(self.handle(), key.as_ptr(), key.len(), value.as_ptr(), value.len(), now) }
+    }
+}
+
+impl Lookup {
+    fn value(&self) -> Result<Option<Value>, Error> {
+        found(self.status, Value::of(self.value, self.value_len))
     }
 }
 

@@ -60,6 +60,8 @@
 //! # Ok::<(), Error>(())
 //! ```
 //!
+//! [`Client::get_many`] gets several keys in less time than one by one.
+//!
 //! A value that is held reads the same until the hold is dropped, whatever becomes of its key:
 //!
 //! ```

@@ -21,12 +21,26 @@ impl Handle {
     }
 }
 
+/// The place of a key among the bytes of a call, and what came of it.
+#[repr(C)]
+#[derive(Clone, Copy, Default)]
+pub(crate) struct Lookup {
+    pub(crate) key_at: usize,
+    pub(crate) key_len: usize,
+    pub(crate) value_len: usize,
+    pub(crate) status: u32,
+    pub(crate) version: u32,
+    pub(crate) value: [u8; 32],
+}
+
 #[rustfmt::skip]
 extern "C" {
     pub(crate) fn segcache_raw_open(keys: u32, threads: u32, cache: *mut Handle, clients: *mut Handle, clients_len: usize) -> u32;
     pub(crate) fn segcache_raw_open_shape(shape: *const crate::Shape, cache: *mut Handle, clients: *mut Handle, clients_len: usize) -> u32;
     pub(crate) fn segcache_raw_get(client: *mut Handle, key: *const u8, key_len: usize, value: *mut u8, room: usize, value_len: *mut usize, now: u32) -> u32;
     pub(crate) fn segcache_raw_gets(client: *mut Handle, key: *const u8, key_len: usize, value: *mut u8, room: usize, value_len: *mut usize, version: *mut u32, now: u32) -> u32;
+    pub(crate) fn segcache_raw_get_many(client: *mut Handle, keys: *const u8, keys_len: usize, lookups: *mut Lookup, count: usize, now: u32) -> u32;
+    pub(crate) fn segcache_raw_gets_many(client: *mut Handle, keys: *const u8, keys_len: usize, lookups: *mut Lookup, count: usize, now: u32) -> u32;
     pub(crate) fn segcache_raw_put(client: *mut Handle, key: *const u8, key_len: usize, value: *const u8, value_len: usize, now: u32) -> u32;
     pub(crate) fn segcache_raw_set(client: *mut Handle, key: *const u8, key_len: usize, value: *const u8, value_len: usize, now: u32) -> u32;
     pub(crate) fn segcache_raw_add(client: *mut Handle, key: *const u8, key_len: usize, value: *const u8, value_len: usize, now: u32) -> u32;

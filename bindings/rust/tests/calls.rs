@@ -35,6 +35,29 @@ fn a_key_reads_what_was_put() {
 }
 
 #[test]
+fn many_keys_have_their_answers_in_their_order() {
+    let (_cache, client, other) = two();
+    let mut keys: Vec<Vec<u8>> = (0..40).map(|number: u8| vec![b'k', number]).collect();
+    for key in keys.iter().step_by(2) {
+        client.put(key, [&b"of "[..], key].concat()).unwrap();
+    }
+    keys[3] = vec![];
+    keys[19] = vec![b'k'; 25];
+    keys[39] = vec![b'k'; 500];
+    let answers = other.get_many(&keys);
+    assert_eq!(answers.len(), 40);
+    let versioned = other.gets_many(&keys);
+    for ((key, answer), with_version) in keys.iter().zip(&answers).zip(&versioned) {
+        assert_eq!(*answer, other.get(key));
+        assert_eq!(*with_version, other.gets(key));
+    }
+    assert_eq!(answers[2].unwrap().unwrap(), b"of k\x02");
+    assert_eq!((answers[1], answers[19]), (Ok(None), Err(Error::BadKey)));
+    assert_eq!(other.stats().hits, 80);
+    assert_eq!(other.get_many::<&str>(&[]), []);
+}
+
+#[test]
 fn lengths_are_judged() {
     let (_cache, client, _other) = two();
     assert_eq!(client.get(""), Err(Error::BadKey));

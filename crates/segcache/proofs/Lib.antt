@@ -1,6 +1,7 @@
 pub mod Answering
 pub mod Closed
 pub mod Ended
+pub mod InTurn
 pub mod Made
 pub mod Members
 pub mod Noted

@@ -3,6 +3,7 @@ pub mod Closing
 pub mod Ending
 pub mod Exports
 pub mod Made
+pub mod Many
 pub mod Noting
 pub mod Opening
 pub mod Owned

@@ -25,10 +25,14 @@ pub record MakesGet (key : List ℕ) (now : ℕ) (out next : Out) (returned : St
   pub calls : MakesCall (At now (Gets key answer)) old new
   pub returns : ReturnsGet answer returned out next
 
+-- the same of any key: one of a bad length is refused
+abbrev pub GotKey : List ℕ → ℕ → Out → Out → Status → SharedClient → SharedClient → Type 0
+GotKey key now out next returned =
+    ByKey (WritesNothing out next returned) key (MakesGet key now out next returned)
+
 abbrev pub Got : List ℕ → ℕ → Option Kept → Option Kept → Out → Out → Status → Type 0
 Got key now before after out next returned =
-    let Refuses = WritesNothing out next returned in
-    ByClient Refuses (ByKey Refuses key (MakesGet key now out next returned)) before after
+    ByClient (WritesNothing out next returned) (GotKey key now out next returned) before after
 
 -- nothing was written, and no version
 abbrev pub WritesNoVersion : Out → Out → ℕ → ℕ → Status → Status → Type 0
@@ -50,12 +54,17 @@ pub record MakesGets (key : List ℕ) (now : ℕ) (out next : Out) (version next
   pub calls : MakesCall (At now (GetsVersion key answer)) old new
   pub returns : ReturnsGets answer returned out next version next_version
 
+abbrev pub GotKeyVersion : List ℕ → ℕ → Out → Out → ℕ → ℕ → Status
+    → SharedClient → SharedClient → Type 0
+GotKeyVersion key now out next version next_version returned =
+    ByKey (WritesNoVersion out next version next_version returned) key
+    (MakesGets key now out next version next_version returned)
+
 abbrev pub GotVersion : List ℕ → ℕ → Option Kept → Option Kept → Out → Out → ℕ → ℕ → Status
     → Type 0
 GotVersion key now before after out next version next_version returned =
-    let Refuses = WritesNoVersion out next version next_version returned in
-    ByClient Refuses
-    (ByKey Refuses key (MakesGets key now out next version next_version returned)) before after
+    ByClient (WritesNoVersion out next version next_version returned)
+    (GotKeyVersion key now out next version next_version returned) before after
 
 -- ---- holds
 

@@ -1,5 +1,5 @@
 //! The cache for C: exports on numbers, byte slices and handles, over clients that share an index.
-//! An export by a client makes at most one call of it. Each export returns the number of a status.
+//! An export by a client makes at most one call of it for each key. It returns a status's number.
 #![tactic(auto)]
 
 mod cache;
@@ -13,6 +13,7 @@ mod holds;
 mod kept;
 mod listing;
 mod loose;
+mod many;
 mod notes;
 mod opening;
 mod reading;

@@ -1,8 +1,10 @@
 //! The exports that read.
 ghost use Rattle.std.specs.Prelude.{◌≡◌, Some};
 ghost use Rattle.segcache.specs.Exports.{Answers, CopiesOut};
-ghost use Rattle.segcache.specs.Reading.{Got, GotVersion, ReturnsGet, ReturnsGets};
+ghost use Rattle.segcache.specs.Reading.{Got, GotKey, GotKeyVersion, GotVersion};
+ghost use Rattle.segcache.specs.Reading.{ReturnsGet, ReturnsGets};
 
+use crate::client::SharedClient;
 use crate::handle::Handle;
 use crate::kept::Kept;
 use crate::status::Status;
@@ -74,6 +76,21 @@ fn get(kept: &mut Kept, key: &[u8], value: &mut [u8], value_len: &mut usize, now
     let Kept::Client(client) = kept else {
         return Status::NoHandle;
     };
+    get_key(client, key, value, value_len, now)
+}
+
+// A client's get of a key, if it is one.
+#[inline(always)]
+pub(crate) fn get_key(
+    client: &mut SharedClient,
+    key: &[u8],
+    value: &mut [u8],
+    value_len: &mut usize,
+    now: u32,
+) -> Status
+    ensures { GotKey key.now now (value.old, value_len.old) (value.new, value_len.new) result
+        client.old client.new }
+{
     let Some(key) = Key::new(key) else {
         return Status::BadKey;
     };
@@ -105,13 +122,29 @@ fn gets(
     let Kept::Client(client) = kept else {
         return Status::NoHandle;
     };
+    gets_key(client, key, value, value_len, version, now)
+}
+
+// The same of a gets, with the version.
+#[inline(always)]
+pub(crate) fn gets_key(
+    client: &mut SharedClient,
+    key: &[u8],
+    value: &mut [u8],
+    value_len: &mut usize,
+    version: &mut u32,
+    now: u32,
+) -> Status
+    ensures { GotKeyVersion key.now now (value.old, value_len.old) (value.new, value_len.new)
+        version.old version.new result client.old client.new }
+{
     let Some(key) = Key::new(key) else {
         return Status::BadKey;
     };
     copy_gets(client.gets(&key, now), value, value_len, version)
 }
 
-// The same of a gets, with the version.
+// Copies out what a gets found, with the version.
 fn copy_gets(
     answer: GetsAnswer,
     value: &mut [u8],

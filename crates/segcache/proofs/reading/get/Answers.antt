@@ -1,33 +1,16 @@
-use Rattle.std.proofs.Common.{ℕ, List, refl, subst}
-use Rattle.std.proofs.lemmas.Bool.{false≢true}
+use Rattle.std.proofs.Common.{refl}
 use Rattle.segcache.specs.declared.client.SharedClient.{SharedClient}
 use Rattle.segcache.specs.declared.kept.Kept.TheVariants as kept
 use Rattle.segcache.specs.declared.status.Status.{Status}
-use Rattle.segcache.specs.declared.status.Status.TheVariants as status
-use Rattle.segcache.specs.Exports.{ByKey, WritesNothing}
-use Rattle.segcache.specs.Calls.{At, MakesCall}
-use Rattle.segclient.specs.Made.{Gets}
-use Rattle.segcache.specs.Reading.{MakesGet}
-use Rattle.segcache.proofs.Answering.{bad_key, by_client, good_key}
+use Rattle.segcache.specs.Exports.{Out, WritesNothing}
+use Rattle.segcache.specs.Reading.{GotKey}
+use Rattle.segcache.proofs.Answering.{by_client}
 use Rattle.segcache.proofs.reading.get.Goals as goal
-
-pub returns-in_default-new : goal.returns-in_default-new
-returns-in_default-new c =
-    let R : Status → Type 0 = WritesNothing (c.args.value.now, c.args.value_len.now) (c.args.value.now, c.args.value_len.now) status.BadKey in
-    let Makes : SharedClient → SharedClient → Type 0 = MakesGet c.args.key.now c.args.now (c.args.value.now, c.args.value_len.now) (c.args.value.now, c.args.value_len.now) status.BadKey in
-    let Keyed : SharedClient → SharedClient → Type 0 = ByKey R c.args.key.now Makes in
-    by_client R Keyed c.args.kept.now (kept.Client c.in-Client.client) c.in-Client.client c.in-Client.client c.in-Client.is refl
-    (bad_key R c.args.key.now Makes c.in-Client.client (λ is. false≢true (c.in_default-new.ensures.variant.1 is)) (refl, refl))
 
 pub returns : goal.returns
 returns c =
-    let R : Status → Type 0 = WritesNothing (c.args.value.now, c.args.value_len.now) (c.copy_get.new.value, c.copy_get.new.value_len) c.copy_get.result in
-    let Makes : SharedClient → SharedClient → Type 0 = MakesGet c.args.key.now c.args.now (c.args.value.now, c.args.value_len.now) (c.copy_get.new.value, c.copy_get.new.value_len) c.copy_get.result in
-    let Keyed : SharedClient → SharedClient → Type 0 = ByKey R c.args.key.now Makes in
-    by_client R Keyed c.args.kept.now (kept.Client c.get.new.self) c.in-Client.client c.get.new.self c.in-Client.is refl
-    (good_key R c.args.key.now Makes c.in-Client.client c.get.new.self (c.in-Some.ensures.variant.0 refl)
-    (record {
-      answer = c.get.result;
-      calls = subst (λ (k : List ℕ). MakesCall (At c.args.now (Gets k c.get.result)) c.in-Client.client c.get.new.self) c.in-Some.ensures.some c.get.ensures;
-      returns = c.copy_get.ensures;
-    }))
+    let out : Out = (c.args.value.now, c.args.value_len.now) in
+    let next : Out = (c.get_key.new.value, c.get_key.new.value_len) in
+    let R : Status → Type 0 = WritesNothing out next c.get_key.result in
+    let Keyed : SharedClient → SharedClient → Type 0 = GotKey c.args.key.now c.args.now out next c.get_key.result in
+    by_client R Keyed c.args.kept.now (kept.Client c.get_key.new.client) c.in-Client.client c.get_key.new.client c.in-Client.is refl c.get_key.ensures

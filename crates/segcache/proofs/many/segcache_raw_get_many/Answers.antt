@@ -1,0 +1,12 @@
+use Rattle.std.proofs.Common.{false, refl}
+use Rattle.segcache.specs.declared.kept.Kept.{Kept}
+use Rattle.segcache.specs.declared.status.Status.{Status}
+use Rattle.std.proofs.Common.{Option}
+use Rattle.segcache.specs.Many.{GotMany}
+use Rattle.segcache.proofs.Answering.{unanswered}
+use Rattle.segcache.proofs.many.segcache_raw_get_many.Goals as goal
+
+pub returns-in_default : goal.returns-in_default
+returns-in_default c =
+    unanswered (λ (b a : Option Kept) (returned : Status). GotMany false c.args.keys.now c.args.now c.args.lookups.now c.args.lookups.now b a returned) _ _ _
+    c.in_default.ensures.taken c.take.ensures.none c.number.ensures ((refl, refl), refl)

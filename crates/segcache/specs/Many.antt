@@ -1,0 +1,56 @@
+-- What the exports do that look up several keys at a time.
+use Rattle.std.specs.Prelude.{◌≡◌, ◌+◌, ◌≤◌, ℕ, Bool, true, false, List, [], ◌∷◌, length}
+use Rattle.std.specs.Prelude.{Option, slice_range}
+use Rattle.segcache.specs.declared.client.SharedClient.{SharedClient}
+use Rattle.segcache.specs.declared.kept.Kept.{Kept}
+use Rattle.segcache.specs.declared.many.Lookup.{Lookup}
+use Rattle.segcache.specs.declared.status.Status.{Status}
+use Rattle.segcache.specs.declared.status.Status.TheVariants as status
+use Rattle.segcache.specs.Exports.{Answers, ByClient, Out}
+use Rattle.segcache.specs.Reading.{GotKey, GotKeyVersion}
+
+-- the key of a lookup: its bytes among those of the call, and none if they aren't all among them
+pub record IsKeyOf (keys : List ℕ) (lookup : Lookup) (key : List ℕ) : Type 0 where
+  pub inside : lookup.key_at + lookup.key_len ≤ length keys
+      → key ≡ slice_range keys lookup.key_at (lookup.key_at + lookup.key_len)
+  pub outside : ¬ (lookup.key_at + lookup.key_len ≤ length keys) → key ≡ []
+
+-- the place of its key stays
+pub record KeepsKey (was is : Lookup) : Type 0 where
+  pub at : is.key_at ≡ was.key_at
+  pub len : is.key_len ≡ was.key_len
+
+abbrev pub out_of : Lookup → Out
+out_of lookup = (lookup.value, lookup.value_len)
+
+-- a get of the key, or a gets, which alone writes a version
+abbrev pub Reads : Bool → List ℕ → ℕ → Out → Out → ℕ → ℕ → Status
+    → SharedClient → SharedClient → Type 0
+Reads false key now out next version next_version returned old new =
+    GotKey key now out next returned old new × (next_version ≡ version)
+Reads true key now out next version next_version returned old new =
+    GotKeyVersion key now out next version next_version returned old new
+
+-- the lookup's key was read with this status, and what was found was written into the lookup
+pub record LooksUp (versioned : Bool) (keys : List ℕ) (now : ℕ) (was is : Lookup)
+    (old new : SharedClient) : Type 0 where
+  pub key : List ℕ
+  pub of : IsKeyOf keys was key
+  pub answers : Answers is.status (λ returned.
+      Reads versioned key now (out_of was) (out_of is) was.version is.version returned old new)
+  pub keeps : KeepsKey was is
+
+-- each lookup, one after another, in their order
+unfoldable pub InTurn : (Lookup → Lookup → SharedClient → SharedClient → Type 0)
+    → List Lookup → List Lookup → SharedClient → SharedClient → Type 0
+InTurn Does [] [] old new = new ≡ old
+InTurn Does (was ∷ rest) (is ∷ after) old new =
+    (next : SharedClient) × Does was is old next × InTurn Does rest after next new
+InTurn Does _ _ old new = ⊥
+
+abbrev pub GotMany : Bool → List ℕ → ℕ → List Lookup → List Lookup → Option Kept → Option Kept
+    → Status → Type 0
+GotMany versioned keys now was is before after returned =
+    ByClient (λ why. (returned ≡ why) × (is ≡ was))
+    (λ old new. (returned ≡ status.Ok) × InTurn (LooksUp versioned keys now) was is old new)
+    before after

@@ -1,0 +1,172 @@
+//! The exports that look up several keys at a time, so that their waits for memory overlap.
+ghost use Rattle.std.specs.Prelude.{◌≡◌, ◌<◌, false, length, Some, true};
+ghost use Rattle.segcache.specs.Exports.{Answers};
+ghost use Rattle.segcache.specs.Many.{GotMany, InTurn, IsKeyOf, KeepsKey, LooksUp};
+ghost use Rattle.segcache.specs.Many.{out_of, Reads};
+
+use crate::client::SharedClient;
+use crate::handle::Handle;
+use crate::kept::Kept;
+use crate::reading::{get_key, gets_key};
+use crate::status::Status;
+use segclient::Key;
+use std::alloc::Global;
+
+// So many keys are looked ahead for at a time.
+const PIECE: usize = 16;
+
+// For fewer keys a look ahead costs more than it spares.
+const LEAST: usize = 8;
+
+/// The place of a key among the bytes of a call, and what its lookup came to.
+#[repr(C)]
+#[derive(Clone, Copy, Drop)]
+pub struct Lookup {
+    pub key_at: usize,
+    pub key_len: usize,
+    pub value_len: usize,
+    pub status: u32,
+    pub version: u32,
+    pub value: [u8; 32],
+}
+
+/// Looks up each key at a moment, one after another, and writes value and status into its lookup.
+/// The call itself is Ok, whatever the lookups came to.
+#[unsafe(no_mangle)]
+pub extern "C" fn segcache_raw_get_many(
+    alloc: Global,
+    client: &mut Handle,
+    keys: &[u8],
+    lookups: &mut [Lookup],
+    now: u32,
+) -> u32
+    ensures { Answers result (GotMany false keys.now now lookups.old lookups.new
+        client.old.value client.new.value) }
+{
+    let Some(mut kept) = client.take(alloc) else {
+        return Status::NoHandle.number();
+    };
+    let status = get_many(&mut kept, keys, lookups, false, now);
+    client.fill(alloc, kept);
+    status.number()
+}
+
+/// The same, with the version of each key's bucket, for later compare-and-swaps.
+#[unsafe(no_mangle)]
+pub extern "C" fn segcache_raw_gets_many(
+    alloc: Global,
+    client: &mut Handle,
+    keys: &[u8],
+    lookups: &mut [Lookup],
+    now: u32,
+) -> u32
+    ensures { Answers result (GotMany true keys.now now lookups.old lookups.new
+        client.old.value client.new.value) }
+{
+    let Some(mut kept) = client.take(alloc) else {
+        return Status::NoHandle.number();
+    };
+    let status = get_many(&mut kept, keys, lookups, true, now);
+    client.fill(alloc, kept);
+    status.number()
+}
+
+// Looks up the keys, with their versions or without.
+fn get_many(
+    kept: &mut Kept,
+    keys: &[u8],
+    lookups: &mut [Lookup],
+    versioned: bool,
+    now: u32,
+) -> Status
+    ensures { GotMany versioned keys.now now lookups.old lookups.new
+        (Some kept.old) (Some kept.new) result }
+{
+    let Kept::Client(client) = kept else {
+        return Status::NoHandle;
+    };
+    look_up_all(client, keys, lookups, versioned, now);
+    Status::Ok
+}
+
+fn look_up_all(
+    client: &mut SharedClient,
+    keys: &[u8],
+    lookups: &mut [Lookup],
+    versioned: bool,
+    now: u32,
+)
+    ensures { InTurn (LooksUp versioned keys.now now) lookups.old lookups.new
+        client.old client.new }
+{
+    for place in 0..lookups.len() {
+        look_ahead_from(client, keys, lookups, place);
+        look_up(client, keys, &mut lookups[place], versioned, now);
+    }
+}
+
+fn look_up(client: &mut SharedClient, keys: &[u8], lookup: &mut Lookup, versioned: bool, now: u32)
+    ensures { LooksUp versioned keys.now now lookup.old lookup.new client.old client.new }
+{
+    let key = key_of(keys, lookup);
+    let status = read_into(client, key, lookup, versioned, now);
+    lookup.status = status.number();
+}
+
+fn read_into(
+    client: &mut SharedClient,
+    key: &[u8],
+    lookup: &mut Lookup,
+    versioned: bool,
+    now: u32,
+) -> Status
+    ensures reads { Reads versioned key.now now (out_of lookup.old) (out_of lookup.new)
+        lookup.old.version lookup.new.version result client.old client.new }
+    ensures keeps { KeepsKey lookup.old lookup.new }
+{
+    let value = &mut lookup.value;
+    let value_len = &mut lookup.value_len;
+    if versioned {
+        gets_key(client, key, value, value_len, &mut lookup.version, now)
+    } else {
+        get_key(client, key, value, value_len, now)
+    }
+}
+
+// The key of a lookup: no bytes, unless all are among the bytes of the call.
+fn key_of<'k>(keys: &'k [u8], lookup: &Lookup) -> &'k [u8]
+    ensures { IsKeyOf keys.now lookup.now result.now }
+{
+    let at = lookup.key_at;
+    let len = lookup.key_len;
+    if at > keys.len() || len > keys.len() - at {
+        return &[];
+    }
+    &keys[at..at + len]
+}
+
+// Looks ahead for a piece of the keys, if one begins at this place.
+fn look_ahead_from(client: &SharedClient, keys: &[u8], lookups: &[Lookup], place: usize)
+    requires { place < length lookups.now }
+{
+    let end = lookups.len().min(place + PIECE);
+    if place % PIECE == 0 && end - place >= LEAST {
+        look_ahead(client, keys, &lookups[place..end]);
+    }
+}
+
+// Loads what the gets of a piece will read. No answer depends on it.
+fn look_ahead(client: &SharedClient, keys: &[u8], piece: &[Lookup]) {
+    let ahead: [Key; PIECE] = std::array::from_fn(|number| key_or_any(keys, piece, number));
+    client.index.look_ahead(&ahead[..piece.len().min(PIECE)]);
+}
+
+// The key of the lookup at this place, or any key where it has none.
+fn key_or_any(keys: &[u8], piece: &[Lookup], number: usize) -> Key {
+    if let Some(lookup) = piece.get(number) {
+        if let Some(key) = Key::new(key_of(keys, lookup)) {
+            return key;
+        }
+    }
+    Key::new(b"0").unwrap()
+}
