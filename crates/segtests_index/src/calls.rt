@@ -4,7 +4,7 @@ ghost use Rattle.std.specs.Prelude.{◌≡◌, ◌∷◌, [], IfOk};
 ghost use Rattle.segindex.specs.Words.{board_of};
 ghost use Rattle.segpass.specs.Words.{IsQuiet};
 
-use segindex::{Index, IndexStats, LockAnswer, OutOfMemory, Pass};
+use segindex::{Index, IndexStats, KeepRowAnswer, LockAnswer, OutOfMemory, Pass};
 use segmodel::{
     DeleteAnswer, EvictAnswer, GetAnswer, GetsAnswer, KeepAnswer, RefillAnswer, WriteAnswer,
 };
@@ -106,6 +106,14 @@ pub fn keep(index: &Index, pass: &mut Pass, segment: u32, cutoff: u8) -> KeepAns
     ensures { IsQuiet (board_of index.now) pass.new }
 {
     index.keep(pass, segment, cutoff)
+}
+
+/// Moves the item of one row, if its frequency is at least the cutoff.
+pub fn keep_row(index: &Index, pass: &mut Pass, segment: u32, row: u32, cutoff: u8) -> KeepRowAnswer
+    requires { IsQuiet (board_of index.now) pass.old }
+    ensures { IsQuiet (board_of index.now) pass.new }
+{
+    index.keep_row(pass, segment, row, cutoff)
 }
 
 /// Makes a segment current, up to a deadline.

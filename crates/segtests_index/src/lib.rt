@@ -37,6 +37,8 @@ mod memory_solo;
 #[cfg(test)]
 mod memory_tables;
 #[cfg(test)]
+mod one_row;
+#[cfg(test)]
 mod owner;
 #[cfg(test)]
 mod passes;

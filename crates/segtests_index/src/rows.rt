@@ -4,11 +4,11 @@ ghost use Rattle.segindex.specs.Words.{board_of};
 ghost use Rattle.segpass.specs.Words.{IsQuiet};
 
 use crate::calls::{
-    add, cas, delete, evict, get, gets, index_stats, keep, lock, probe, refill, replace, set,
-    unlock,
+    add, cas, delete, evict, get, gets, index_stats, keep, keep_row, lock, probe, refill, replace,
+    set, unlock,
 };
 use crate::holds::{hold_over_a_set, hold_over_an_eviction};
-use segindex::{Index, IndexStats, LockAnswer, Pass};
+use segindex::{Index, IndexStats, KeepRowAnswer, LockAnswer, Pass};
 use segmodel::{
     DeleteAnswer, EvictAnswer, GetAnswer, GetsAnswer, KeepAnswer, RefillAnswer, SegState,
     WriteAnswer,
@@ -20,6 +20,7 @@ use segword::{Key, Value};
 /// Beside those of a script there are the calls "used", "state", "deadline", "current" and
 /// "holding", of what the pass keeps, and "set_held" and "evict_held": the key is held, this value
 /// is set or this segment evicted, and the answer has what the hold reads then.
+/// A "keep_row" has a segment, a row and a cutoff.
 /// A "stats" is answered as "1 8 7", for 1 overflow bucket, 8 used rows and 7 named ones.
 /// A "probe" has both of its answers, as "STORED VALUE 1".
 /// A call that reads or writes a key ends with its moment, as "@0".
@@ -232,6 +233,12 @@ fn is_done(index: &Index, pass: &mut Pass, call: Call<'_>, segment: u32, wanted:
             Ok(cutoff) => is_kept(wanted, keep(index, pass, segment, cutoff)),
             Err(_) => false,
         },
+        "keep_row" => match (call.second.parse(), call.third.parse()) {
+            (Ok(row), Ok(cutoff)) => {
+                kept_row(keep_row(index, pass, segment, row, cutoff)) == wanted
+            }
+            _ => false,
+        },
         "refill" => match call.second.parse() {
             Ok(deadline) => refilled(refill(index, pass, segment, deadline)) == wanted,
             Err(_) => false,
@@ -269,6 +276,17 @@ pub(crate) fn refilled(answer: RefillAnswer) -> &'static str {
         RefillAnswer::NotYours => "NOT_YOURS",
         RefillAnswer::NotEvicted => "NOT_EVICTED",
         RefillAnswer::Held => "HELD",
+    }
+}
+
+fn kept_row(answer: KeepRowAnswer) -> &'static str {
+    match answer {
+        KeepRowAnswer::Moved => "MOVED",
+        KeepRowAnswer::Left => "LEFT",
+        KeepRowAnswer::NoRoom => "NOROOM",
+        KeepRowAnswer::Busy => "BUSY",
+        KeepRowAnswer::NotYours => "NOT_YOURS",
+        KeepRowAnswer::NotUsed => "NOT_USED",
     }
 }
 
