@@ -7,7 +7,7 @@ use Rattle.segmodel.specs.Words.{Request}
 use Rattle.segbase.specs.Words.{Board, number, Pass}
 use Rattle.segindex.specs.Refilling.{RefillsSegment}
 use Rattle.segclient.specs.declared.room.Effort.{Effort}
-use Rattle.segclient.specs.PutCalls.{PutCall, sets, evicts, keeps, refills, Plan, refilled_by, kept_by, evicted_by, IsRefused, IsCall, Makes}
+use Rattle.segclient.specs.PutCalls.{PutCall, sets, evicts, keeps, keeps_row, refills, Plan, refilled_by, kept_by, evicted_by, IsRefused, IsCall, Makes}
 use Rattle.segclient.specs.Putting.{IsEffort, room_plan}
 
 -- ---- some calls and then more
@@ -39,6 +39,7 @@ module _ (b : Board) (plan : Plan) where
   call_then (sets told) later earlier p q is = is
   call_then (evicts segment told) later earlier p q is = (is.0, (λ current other own apart. refused_then other later earlier (is.1 current other own apart)), is.2)
   call_then (keeps segment cutoff told) later earlier p q is = is
+  call_then (keeps_row segment row cutoff told) later earlier p q is = is
   call_then (refills segment told) later earlier p q is = is
 
   pub makes_then : (later earlier : List PutCall) (p q r : Pass) → Makes b plan earlier p q → Makes b plan later q r → Makes b plan (later ++ earlier) p r
@@ -50,6 +51,7 @@ module _ (b : Board) (plan : Plan) where
   call_same (sets told) earlier p q is = is.4.on.same
   call_same (evicts segment told) earlier p q is = is.2.on.same
   call_same (keeps segment cutoff told) earlier p q is = is.2.on.same
+  call_same (keeps_row segment row cutoff told) earlier p q is = is.2.on.same
   call_same (refills segment told) earlier p q is = is.1.on.same
 
   -- the pass is the same one
@@ -85,6 +87,7 @@ module _ (b : Board) (from to : Plan) (within : IsWithin from to) where
   call_within (sets told) earlier p q (request, is, fresh, set, writes) = (request, within.request request is, (λ stale. fresh stale ∙ ap Some within.deadline), set, writes)
   call_within (evicts segment told) earlier p q is = is
   call_within (keeps segment cutoff told) earlier p q is = (is.0, within.cutoff cutoff is.1, is.2)
+  call_within (keeps_row segment row cutoff told) earlier p q is = (is.0, (is.1.0, within.cutoff is.1.0 is.1.1, is.1.2), is.2)
   call_within (refills segment told) earlier p q is = (is.0, subst (λ deadline. RefillsSegment b segment deadline told p q) within.deadline is.1)
 
   pub makes_within : (calls : List PutCall) (p q : Pass) → Makes b from calls p q → Makes b to calls p q

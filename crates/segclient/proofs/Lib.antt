@@ -1,3 +1,4 @@
+pub mod Arranging
 pub mod Calls
 pub mod Members
 pub mod Order

@@ -12,7 +12,7 @@ use Rattle.segbase.specs.Words.{Board, number, Pass}
 use Rattle.segclient.specs.declared.put.PutAnswer.{PutAnswer}
 use Rattle.segclient.specs.declared.put.PutAnswer.TheVariants as put
 use Rattle.segclient.specs.declared.room.Effort.{Effort}
-use Rattle.segclient.specs.PutCalls.{PutCall, sets, evicts, keeps, refills, Plan, IsRefused, Makes}
+use Rattle.segclient.specs.PutCalls.{PutCall, sets, evicts, keeps, keeps_row, refills, Plan, IsRefused, Makes}
 use Rattle.segclient.specs.Putting.{IsEffort, is_stored, IsOpen, LacksRoom, MayFollow, IsOrdered, busy_sets, AreRefused, IsPutAnswer, is_late, MakesPut, MakesRoom, room_plan, WasEmptied}
 use Rattle.segclient.specs.PutParts.{AreSets, Empties, Sets, SetsIfFresh}
 use Rattle.segclient.proofs.Calls.{both, effort_from, effort_more, effort_then, no_effort, made_same, makes_same, makes_then, makes_within, one_more, refused_then, room_within, last_of}
@@ -25,6 +25,7 @@ lacks_then stale late (sets write.BucketFull) later earlier is = tt
 lacks_then stale late (sets told) later earlier is = is
 lacks_then stale late (evicts segment told) later earlier is = tt
 lacks_then stale late (keeps segment cutoff told) later earlier is = tt
+lacks_then stale late (keeps_row segment row cutoff told) later earlier is = tt
 lacks_then stale late (refills segment told) later earlier is = tt
 
 -- what follows a call goes by that call alone
@@ -32,12 +33,14 @@ follows_then : (stale late : Bool) (call before : PutCall) (later earlier : List
 follows_then stale late (sets told) before later earlier is = is
 follows_then stale late (evicts segment told) before later earlier is = lacks_then stale late before later earlier is
 follows_then stale late (keeps segment cutoff told) before later earlier is = lacks_then stale late before later earlier is
+follows_then stale late (keeps_row segment row cutoff told) before later earlier is = lacks_then stale late before later earlier is
 follows_then stale late (refills segment told) before later earlier is = lacks_then stale late before later earlier is
 
 first_follows : (stale late : Bool) (call : PutCall) (earlier : List PutCall) → (late ≡ true → LacksRoom stale earlier) → IsOpen earlier → MayFollow late [] call → MayFollow stale earlier call
 first_follows stale late (sets told) earlier lacks goes is = goes
 first_follows stale late (evicts segment told) earlier lacks goes is = lacks is
 first_follows stale late (keeps segment cutoff told) earlier lacks goes is = lacks is
+first_follows stale late (keeps_row segment row cutoff told) earlier lacks goes is = lacks is
 first_follows stale late (refills segment told) earlier lacks goes is = lacks is
 
 pub ordered_then : (stale late : Bool) (later earlier : List PutCall) → (late ≡ true → LacksRoom stale earlier) → IsOpen earlier → IsOrdered late later → IsOrdered stale earlier → IsOrdered stale (later ++ earlier)
@@ -105,6 +108,7 @@ module _ (b : Board) (plan : Plan) (none : plan.request ≡ None) where
   lacks_any stale (sets told ∷ earlier) p q from makes = let last = last_of b plan (sets told) earlier p q makes in absurd (none-some last.2.0 (sym none ∙ last.2.1))
   lacks_any stale (evicts segment told ∷ earlier) p q from makes = tt
   lacks_any stale (keeps segment cutoff told ∷ earlier) p q from makes = tt
+  lacks_any stale (keeps_row segment row cutoff told ∷ earlier) p q from makes = tt
   lacks_any stale (refills segment told ∷ earlier) p q from makes = tt
 
   pub room_ordered : (calls : List PutCall) (p q : Pass) → Makes b plan calls p q → IsOrdered true calls
@@ -113,6 +117,7 @@ module _ (b : Board) (plan : Plan) (none : plan.request ≡ None) where
   room_ordered (sets told ∷ earlier) p q makes = let last = last_of b plan (sets told) earlier p q makes in absurd (none-some last.2.0 (sym none ∙ last.2.1))
   room_ordered (evicts segment told ∷ earlier) p q makes = let last = last_of b plan (evicts segment told) earlier p q makes in (lacks_any true earlier p last.0 (λ e. refl) last.1, room_ordered earlier p last.0 last.1)
   room_ordered (keeps segment cutoff told ∷ earlier) p q makes = let last = last_of b plan (keeps segment cutoff told) earlier p q makes in (lacks_any true earlier p last.0 (λ e. refl) last.1, room_ordered earlier p last.0 last.1)
+  room_ordered (keeps_row segment row cutoff told ∷ earlier) p q makes = let last = last_of b plan (keeps_row segment row cutoff told) earlier p q makes in (lacks_any true earlier p last.0 (λ e. refl) last.1, room_ordered earlier p last.0 last.1)
   room_ordered (refills segment told ∷ earlier) p q makes = let last = last_of b plan (refills segment told) earlier p q makes in (lacks_any true earlier p last.0 (λ e. refl) last.1, room_ordered earlier p last.0 last.1)
 
   -- after room was made it may be made again, and a set may follow
@@ -125,6 +130,7 @@ module _ (b : Board) (plan : Plan) (none : plan.request ≡ None) where
   open_on (sets told ∷ later) earlier p q goes makes = let last = last_of b plan (sets told) later p q makes in absurd (none-some last.2.0 (sym none ∙ last.2.1))
   open_on (evicts segment told ∷ later) earlier p q goes makes = refl
   open_on (keeps segment cutoff told ∷ later) earlier p q goes makes = refl
+  open_on (keeps_row segment row cutoff told ∷ later) earlier p q goes makes = refl
   open_on (refills segment told ∷ later) earlier p q goes makes = refl
 
 -- the same with other numbers

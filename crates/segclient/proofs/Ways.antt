@@ -20,7 +20,9 @@ use Rattle.segbase.specs.Words.{Board, mine, number, Pass, state_of}
 use Rattle.segpass.specs.Words.{ChangesNothing, GoesOn, IsQuiet, memo}
 use Rattle.segpass.proofs.Idling.{goes_same, unchanged}
 use Rattle.segwrite.specs.Words.{IsSetAnswer, Writes}
-use Rattle.segevict.specs.Words.{AreEvictions, AreMoves, EvictsSegment, IsEvictAnswer, IsKeepAnswer, KeepsItems, MovesAway, WasOften}
+use Rattle.segevict.specs.Words.{AreEvictions, AreMoves, EvictsSegment, IsEvictAnswer, IsKeepAnswer, IsKeepRowAnswer, KeepsItem, KeepsItems, MovesAway, WasOften}
+use Rattle.segevict.specs.declared.retention.KeepRowAnswer.{KeepRowAnswer}
+use Rattle.segevict.specs.declared.retention.KeepRowAnswer.TheVariants as kept
 use Rattle.segevict.proofs.RowsOut.{goes_then}
 use Rattle.segindex.specs.Refilling.{RefillsSegment}
 use Rattle.segindex.proofs.QuietPass.{owned}
@@ -28,7 +30,7 @@ use Rattle.segclient.specs.declared.put.PutAnswer.{PutAnswer}
 use Rattle.segclient.specs.declared.put.PutAnswer.TheVariants as put
 use Rattle.segclient.specs.declared.room.Effort.{Effort}
 use Rattle.segclient.specs.Entries.{IsOfRoom, is_eviction, is_move, is_refilling, AddsRoom, AddsForPut}
-use Rattle.segclient.specs.PutCalls.{PutCall, sets, evicts, keeps, refills, Plan, moved_by, refilled_by, kept_by, taken_by, evicted_by, IsCall, IsRefused, Makes}
+use Rattle.segclient.specs.PutCalls.{PutCall, sets, evicts, keeps, keeps_row, refills, Plan, moved_by, row_by, refilled_by, kept_by, taken_by, evicted_by, IsCall, IsRefused, Makes}
 use Rattle.segclient.specs.Putting.{IsEffort, is_stored, IsOpen, LacksRoom, MayFollow, IsOrdered, busy_sets, IsPutAnswer, is_late, MakesPut, MakesRoom, room_plan}
 use Rattle.segclient.proofs.Calls.{last_of}
 use Rattle.segclient.proofs.Turns.{own_at}
@@ -205,6 +207,23 @@ module _ (b : Board) (cutoff : Option ℕ) (deadline : ℕ) where
       by (inr out) = moved_away segment least kept p q asked quiet stayed.on out.0
   items_kept segment least (keep.Busy kept) p q asked quiet stayed = moved_away segment least kept p q asked quiet stayed.on stayed.answer.0
 
+  row_kept : (segment row least : ℕ) (told : KeepRowAnswer) (p q : Pass) → IsSome cutoff → IsQuiet b p → owner b.shape segment ≡ number p → KeepsItem b segment row least told p q → Comes 0 (row_by told) 0 p q
+  row_kept segment row least kept.Moved p q asked quiet from stayed = let a = stayed.answer in record {
+    on = stayed.on;
+    memo = a.2.memo;
+    adds = moves_added (number p) segment a.0 (λ key. Unit {0}) b.shape cutoff deadline 1 (Moved (number p) a.3.0 segment a.0 ∷ []) (mine p) (mine q) asked from
+        (in_use_own p a.0 quiet (quiet.segments.in_use a.0 a.1.current)) ((a.3.0, refl, tt), tt) refl a.3.2;
+  }
+  row_kept segment row least kept.Left p q asked quiet from stayed = unchanged_none p q stayed.on stayed.answer.2
+  row_kept segment row least kept.NoRoom p q asked quiet from stayed = by stayed.answer
+    where
+      by : IsKeepRowAnswer b.shape segment row least kept.NoRoom p q → Comes 0 0 0 p q
+      by (inl none) = same_none p q quiet none.1
+      by (inr out) = unchanged_none p q stayed.on out.2
+  row_kept segment row least kept.Busy p q asked quiet from stayed = unchanged_none p q stayed.on stayed.answer.2
+  row_kept segment row least kept.NotYours p q asked quiet from stayed = same_none p q quiet stayed.answer
+  row_kept segment row least kept.NotUsed p q asked quiet from stayed = same_none p q quiet stayed.answer
+
   pub refilled : (segment : ℕ) (p q : Pass) → IsQuiet b p → RefillsSegment b segment deadline refill.Refilled p q → Comes 1 0 0 p q
   refilled segment p q quiet filled = record {
     on = filled.on;
@@ -250,6 +269,7 @@ module _ (b : Board) (plan : Plan) where
   call_comes (sets told) earlier p q quiet other (request, is, fresh, set, writes) = set_lacks b plan.cutoff plan.deadline request told p q set other writes
   call_comes (evicts segment told) earlier p q quiet other is = evicted_some b plan.cutoff plan.deadline segment told p q quiet is.2
   call_comes (keeps segment least told) earlier p q quiet other is = items_kept b plan.cutoff plan.deadline segment least told p q (ap is_some is.1) quiet is.2
+  call_comes (keeps_row segment row least told) earlier p q quiet other is = row_kept b plan.cutoff plan.deadline segment row least told p q (ap is_some is.1.1) quiet is.0 is.2
   call_comes (refills segment told) earlier p q quiet other is = some_refilled b plan.cutoff plan.deadline segment told p q quiet is.1
 
   calls_come : (calls : List PutCall) (p q : Pass) → IsQuiet b p → AreOpen calls → Makes b plan calls p q → Came (sum_by refilled_by calls) (sum_by kept_by calls) (sum_by evicted_by calls) p q
@@ -276,6 +296,7 @@ module _ (b : Board) (plan : Plan) where
   room_open none (sets told ∷ earlier) p q makes = let last = last_of b plan (sets told) earlier p q makes in absurd (none-some last.2.0 (sym none ∙ last.2.1))
   room_open none (evicts segment told ∷ earlier) p q makes = let last = last_of b plan (evicts segment told) earlier p q makes in (refl, room_open none earlier p last.0 last.1)
   room_open none (keeps segment least told ∷ earlier) p q makes = let last = last_of b plan (keeps segment least told) earlier p q makes in (refl, room_open none earlier p last.0 last.1)
+  room_open none (keeps_row segment row least told ∷ earlier) p q makes = let last = last_of b plan (keeps_row segment row least told) earlier p q makes in (refl, room_open none earlier p last.0 last.1)
   room_open none (refills segment told ∷ earlier) p q makes = let last = last_of b plan (refills segment told) earlier p q makes in (refl, room_open none earlier p last.0 last.1)
 
   pub room_comes : plan.request ≡ None → (most : ℕ) (made : Bool) (effort : Effort) (p q : Pass) → IsQuiet b p → MakesRoom b plan most made effort p q → Came effort.refilled effort.kept effort.keys p q
@@ -289,12 +310,14 @@ lacks_open stale (sets write.Stored ∷ earlier) is = absurd is
 lacks_open stale (sets told ∷ earlier) is = refl
 lacks_open stale (evicts segment told ∷ earlier) is = refl
 lacks_open stale (keeps segment least told ∷ earlier) is = refl
+lacks_open stale (keeps_row segment row least told ∷ earlier) is = refl
 lacks_open stale (refills segment told ∷ earlier) is = refl
 
 open_before : (stale : Bool) (call : PutCall) (earlier : List PutCall) → MayFollow stale earlier call → IsOpen earlier
 open_before stale (sets told) earlier is = is
 open_before stale (evicts segment told) earlier is = lacks_open stale earlier is
 open_before stale (keeps segment least told) earlier is = lacks_open stale earlier is
+open_before stale (keeps_row segment row least told) earlier is = lacks_open stale earlier is
 open_before stale (refills segment told) earlier is = lacks_open stale earlier is
 
 -- but for the last call, none of a put was a set that was Stored
@@ -314,6 +337,7 @@ refused_open segment (sets told ∷ earlier) (inl here) = absurd here
 refused_open segment (sets told ∷ earlier) (inr before) = absurd (false≢true (sym before.0))
 refused_open segment (evicts other told ∷ earlier) is = refl
 refused_open segment (keeps other least told ∷ earlier) is = refl
+refused_open segment (keeps_row other row least told ∷ earlier) is = refl
 refused_open segment (refills other told ∷ earlier) is = refl
 
 busy_open : (earlier : List PutCall) → IsOpen (busy_sets 16 ++ earlier)

@@ -1,6 +1,6 @@
 -- The calls of the index that a put makes, the newest first.
 -- Which call comes next is left open, since no caller can observe it.
-use Rattle.std.specs.Prelude.{◌≡◌, ◌≢◌, ◌⊎◌, ℕ, nat_le, Bool, true, false, List, [], ◌∷◌, Option, Some, None, sum_by}
+use Rattle.std.specs.Prelude.{◌≡◌, ◌≢◌, ◌⊎◌, ℕ, ◌≤◌, nat_le, Bool, true, false, List, [], ◌∷◌, Option, Some, None, sum_by}
 use Rattle.segmodel.specs.declared.answer.EvictAnswer.TheVariants as evict
 use Rattle.segmodel.specs.declared.answer.KeepAnswer.TheVariants as keep
 use Rattle.segmodel.specs.declared.answer.RefillAnswer.TheVariants as refill
@@ -8,19 +8,22 @@ use Rattle.segmodel.specs.Words.{EvictAnswer, KeepAnswer, moment_of, owner, Refi
 use Rattle.segmodel.specs.Words.{WriteAnswer}
 use Rattle.segbase.specs.Words.{Board, current_of, deadline_of, number, Pass}
 use Rattle.segwrite.specs.Words.{IsSetAnswer, Writes}
-use Rattle.segevict.specs.Words.{EvictsSegment, KeepsItems}
+use Rattle.segevict.specs.declared.retention.KeepRowAnswer.{KeepRowAnswer}
+use Rattle.segevict.specs.declared.retention.KeepRowAnswer.TheVariants as kept
+use Rattle.segevict.specs.Words.{EvictsSegment, KeepsItem, KeepsItems}
 use Rattle.segindex.specs.Refilling.{RefillsSegment}
 
--- A call: for which segment it was made, by which cutoff, and its answer.
+-- A call: for which segment it was made, for which row, by which cutoff, and its answer.
 -- A set is one of the put's request, and a refill one up to the deadline that is asked.
 pub data PutCall : Type 0 where
   sets : WriteAnswer → PutCall
   evicts : ℕ → EvictAnswer → PutCall
   keeps : ℕ → ℕ → KeepAnswer → PutCall
+  keeps_row : ℕ → ℕ → ℕ → KeepRowAnswer → PutCall
   refills : ℕ → RefillAnswer → PutCall
 
 -- what the calls are made for: the request of a put, or none if room is made alone;
--- the cutoff, if anything is kept; and the deadline of what is refilled
+-- the least cutoff, if anything is kept; and the deadline of what is refilled
 pub record Plan : Type 0 where
   pub request : Option Request
   pub cutoff : Option ℕ
@@ -39,8 +42,13 @@ moved_by (keep.NoRoom count) = count
 moved_by (keep.Busy count) = count
 moved_by keep.NotYours = 0
 
+abbrev pub row_by : KeepRowAnswer → ℕ
+row_by kept.Moved = 1
+row_by _ = 0
+
 abbrev pub kept_by : PutCall → ℕ
 kept_by (keeps segment cutoff told) = moved_by told
+kept_by (keeps_row segment row cutoff told) = row_by told
 kept_by _ = 0
 
 -- how many keys an answer says were evicted
@@ -101,7 +109,8 @@ is_stale now p = is_over now (current_deadline p)
 -- A call, which came after these, had its answer.
 -- A set isn't made in a segment whose deadline has come, unless that deadline is asked.
 -- Segments are the pass's own. The current one is evicted only if each other was refused.
--- A keep is made by the cutoff, and only if there is one.
+-- A keep is made by the cutoff, and only if there is one. That of one row is made by it
+-- or a higher one.
 abbrev pub IsCall : Board → Plan → List PutCall → PutCall → Pass → Pass → Type 0
 IsCall b plan earlier (sets told) p q =
     (request : Request) × (plan.request ≡ Some request)
@@ -114,6 +123,10 @@ IsCall b plan earlier (evicts segment told) p q =
 IsCall b plan earlier (keeps segment cutoff told) p q =
     (owner b.shape segment ≡ number p) × (plan.cutoff ≡ Some cutoff)
     × KeepsItems b segment cutoff told p q
+IsCall b plan earlier (keeps_row segment row cutoff told) p q =
+    (owner b.shape segment ≡ number p)
+    × ((least : ℕ) × (plan.cutoff ≡ Some least) × (least ≤ cutoff))
+    × KeepsItem b segment row cutoff told p q
 IsCall b plan earlier (refills segment told) p q =
     (owner b.shape segment ≡ number p) × RefillsSegment b segment plan.deadline told p q
 

@@ -1,5 +1,6 @@
 -- What the parts of a put come to, for the functions that make them.
-use Rattle.std.specs.Prelude.{◌≡◌, ◌≢◌, ◌⊎◌, ℕ, ◌≤◌, Bool, true, false, List, [], ◌∷◌, length, Option, Some}
+use Rattle.std.specs.Prelude.{◌≡◌, ◌≢◌, ◌⊎◌, ℕ, ◌+◌, ◌*◌, ◌≤◌, Bool, true, false, List, [], ◌∷◌, length, Option, Some}
+use Rattle.segword.specs.Words.{Shape}
 use Rattle.segmodel.specs.declared.answer.EvictAnswer.TheVariants as evict
 use Rattle.segmodel.specs.declared.answer.RefillAnswer.TheVariants as refill
 use Rattle.segmodel.specs.declared.answer.WriteAnswer.TheVariants as write
@@ -80,3 +81,19 @@ abbrev pub PutsAtLast : Board → Plan → PutAnswer → Effort → Pass → Pas
 PutsAtLast b plan told effort p q =
     (puts : MakesPut b plan (most_for_put b.shape) told effort p q)
     × (told ≡ put.BucketFull → WasEmptied puts.calls)
+
+-- ---- segments kept in queues
+
+-- Calls that arrange segments: evicts, keeps of one row by the least cutoff or a higher one,
+-- and refills up to the deadline. They are at most so many, and came to these numbers.
+pub record Arranges (b : Board) (least deadline most refilled kept keys : ℕ) (p q : Pass)
+    : Type 0 where
+  pub calls : List PutCall
+  pub makes : (plan : Plan) → plan.cutoff ≡ Some least → plan.deadline ≡ deadline
+      → Makes b plan calls p q
+  pub few : length calls ≤ most
+  pub comes : IsEffort calls (record { refilled = refilled; kept = kept; keys = keys })
+
+-- at most so many: three for each segment, each of which goes over its rows, and two more
+abbrev pub most_for_queues : Shape → ℕ
+most_for_queues shape = 3 * shape.segments_each * (shape.rows + 1) + 2

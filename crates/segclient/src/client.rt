@@ -9,6 +9,7 @@ use crate::stats::Stats;
 use segindex::{HeldRow, Hold, Index, IndexStats, Pass};
 use segmodel::{DeleteAnswer, GetAnswer, GetsAnswer, WriteAnswer};
 use segword::{Key, Value};
+use std::alloc::{AllocError, Global};
 
 /// A pass of an index, for one thread at a time.
 ///
@@ -150,6 +151,11 @@ impl<'i> Client<'i> {
         ensures sets { MakesCall (λ board. SetsCutoff cutoff) self.old self.new }
     {
         self.member.keep_from(cutoff);
+    }
+
+    /// Lets puts keep what was read by two queues of segments.
+    pub fn keep_by_queues(&mut self, alloc: Global) -> Result<(), AllocError> {
+        self.member.keep_by_queues(alloc, self.index)
     }
 
     /// Makes room for a write that was answered NoRoom, as `put` does,

@@ -3,12 +3,15 @@
 #![tactic(auto)]
 
 mod all;
+mod arranging;
 mod client;
 mod hold;
 mod member;
 mod note;
 mod put;
+mod queues;
 mod room;
+mod standing;
 mod stats;
 
 pub use all::{clients, into_passes, keep_back};

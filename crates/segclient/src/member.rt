@@ -5,7 +5,9 @@ ghost use Rattle.segpass.specs.Words.{IsQuiet};
 ghost use Rattle.segclient.specs.Member.{next_draws};
 
 use crate::put::{Order, PutAnswer, put_at_last, set_if_fresh};
-use crate::room::make_room_keeping;
+use crate::queues::Queues;
+use crate::room::make_room_by;
+use crate::standing::{after_stored, is_present};
 use crate::stats::{
     Stats, tally_of_delete, tally_of_get, tally_of_gets, tally_of_put, tally_of_write,
 };
@@ -13,6 +15,7 @@ use segindex::{Index, IndexStats, Pass};
 use segmodel::{DeleteAnswer, GetAnswer, GetsAnswer, WriteAnswer};
 use segpolicy::Ring;
 use segword::{Key, Value};
+use std::alloc::{AllocError, Global};
 
 /// What a client has beside its index: a pass of it, the segments of the pass, its draws,
 /// its clock, its settings and its counts.
@@ -28,6 +31,8 @@ pub struct Member {
     pub(crate) time_to_live: u32,
     // The least frequency of an item that a put keeps. None: it keeps nothing.
     pub(crate) cutoff: Option<u8>,
+    // How its segments are kept by queues, if they are.
+    pub(crate) queues: Option<Queues>,
     pub(crate) stats: Stats,
 }
 
@@ -61,6 +66,7 @@ impl Member {
             clock: 0,
             time_to_live: u32::MAX,
             cutoff: None,
+            queues: None,
             stats: Stats::new(),
         }
     }
@@ -98,6 +104,13 @@ impl Member {
         ensures sets { SetsCutoff cutoff self.old self.new }
     {
         self.cutoff = cutoff;
+        self.queues = None;
+    }
+
+    /// As `Client::keep_by_queues`.
+    pub fn keep_by_queues(&mut self, alloc: Global, index: &Index) -> Result<(), AllocError> {
+        self.queues = Some(Queues::new(alloc, index.shape(), self.pass.number())?);
+        Ok(())
     }
 
     /// As `Client::stats`.
@@ -205,7 +218,11 @@ impl Member {
     fn deadline(&self) -> u32
         ensures { result ≡ deadline_of self.now }
     {
-        self.clock.saturating_add(self.time_to_live)
+        let until = self.clock.saturating_add(self.time_to_live);
+        if self.queues.is_none() || until == u32::MAX {
+            return until;
+        }
+        until - until % (self.time_to_live / 2).max(1)
     }
 
     /// As `Client::make_room`.
@@ -215,12 +232,14 @@ impl Member {
         ensures makes { MakesRoomFor result (board_of index.now) self.old self.new }
     {
         let deadline = self.deadline();
-        let (is_made, effort) = make_room_keeping(
+        let (is_made, effort) = make_room_by(
             index,
             &mut self.pass,
             &mut self.segments,
+            &mut self.queues,
             self.cutoff,
             deadline,
+            self.clock,
         );
         self.stats.count_effort(effort);
         is_made
@@ -240,13 +259,26 @@ impl Member {
             cutoff: self.cutoff,
             deadline: self.deadline(),
         };
+        let is_update = self.queues.is_some() && is_present(index, &mut self.pass, key, self.clock);
         let first = set_if_fresh(index, &mut self.pass, order);
-        if let PutAnswer::Stored = first {
-            self.stats.count(tally_of_put(first));
-            return first;
+        let mut told = first;
+        if first != PutAnswer::Stored {
+            let (last, effort) = put_at_last(
+                index,
+                &mut self.pass,
+                &mut self.segments,
+                &mut self.queues,
+                order,
+                first,
+            );
+            self.stats.count_effort(effort);
+            told = last;
         }
-        let (told, effort) = put_at_last(index, &mut self.pass, &mut self.segments, order, first);
-        self.stats.count_effort(effort);
+        if told == PutAnswer::Stored {
+            if let Some(queues) = self.queues.as_mut() {
+                after_stored(index, &mut self.pass, queues, key, self.clock, is_update);
+            }
+        }
         self.stats.count(tally_of_put(told));
         told
     }

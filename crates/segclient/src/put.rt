@@ -8,7 +8,8 @@ ghost use Rattle.segclient.specs.Putting.{MakesPut, most_for_set};
 ghost use Rattle.segclient.specs.PutParts.{plan_of, PutsAtLast, Sets, SetsIfFresh};
 ghost use Rattle.segclient.specs.Rings.{IsOwnRing};
 
-use crate::room::{Effort, evict_oldest, make_room_keeping};
+use crate::queues::Queues;
+use crate::room::{Effort, evict_oldest, make_room_by};
 use segindex::{Index, Pass};
 use segmodel::WriteAnswer;
 use segpolicy::Ring;
@@ -94,6 +95,7 @@ fn set_in_room(
     index: &Index,
     pass: &mut Pass,
     ring: &mut Ring,
+    queues: &mut Option<Queues>,
     order: Order<'_>,
     told: PutAnswer,
 ) -> (PutAnswer, Effort)
@@ -110,7 +112,15 @@ fn set_in_room(
     let PutAnswer::NoRoom = told else {
         return (told, Effort::none());
     };
-    let (is_made, effort) = make_room_keeping(index, pass, ring, order.cutoff, order.deadline);
+    let (is_made, effort) = make_room_by(
+        index,
+        pass,
+        ring,
+        queues,
+        order.cutoff,
+        order.deadline,
+        order.moment,
+    );
     if !is_made {
         return (PutAnswer::NoRoom, effort);
     }
@@ -125,6 +135,7 @@ pub(crate) fn put_at_last(
     index: &Index,
     pass: &mut Pass,
     ring: &mut Ring,
+    queues: &mut Option<Queues>,
     order: Order<'_>,
     told: PutAnswer,
 ) -> (PutAnswer, Effort)
@@ -136,12 +147,12 @@ pub(crate) fn put_at_last(
         → SetsIfFresh (board_of index.now) (plan_of order.entry) told start pass.old
         → PutsAtLast (board_of index.now) (plan_of order.entry) result.0 result.1 start pass.new }
 {
-    let (told, first) = set_in_room(index, pass, ring, order, told);
+    let (told, first) = set_in_room(index, pass, ring, queues, order, told);
     let PutAnswer::BucketFull = told else {
         return (told, first);
     };
     let emptied = first.plus(evict_oldest(index, pass, ring));
     let told = set_if_fresh(index, pass, order);
-    let (told, last) = set_in_room(index, pass, ring, order, told);
+    let (told, last) = set_in_room(index, pass, ring, queues, order, told);
     (told, emptied.plus(last))
 }

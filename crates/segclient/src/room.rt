@@ -10,6 +10,8 @@ ghost use Rattle.segclient.specs.Putting.{room_plan, MakesRoom, most_for_room};
 ghost use Rattle.segclient.specs.PutParts.{GivesUp, Clears, Empties};
 ghost use Rattle.segclient.specs.Rings.{IsOwnRing};
 
+use crate::arranging::arrange;
+use crate::queues::Queues;
 use segindex::{Index, Pass};
 use segmodel::{EvictAnswer, KeepAnswer, RefillAnswer, SegState};
 use segpolicy::Ring;
@@ -134,7 +136,7 @@ fn moved_by(answer: KeepAnswer) -> u32
 }
 
 // How many keys an answer says were evicted.
-fn taken_by(answer: EvictAnswer) -> u32
+pub(crate) fn taken_by(answer: EvictAnswer) -> u32
     ensures { result ≡ taken_by answer }
 {
     match answer {
@@ -179,7 +181,7 @@ fn clear_next(index: &Index, pass: &mut Pass, ring: &Ring, cutoff: u8) -> Effort
 }
 
 // Whether the segment that the pass stores into has a row left.
-fn has_room(index: &Index, pass: &Pass) -> bool
+pub(crate) fn has_room(index: &Index, pass: &Pass) -> bool
     ensures { result ≡ has_room (shape_of index.now) pass.now }
 {
     let Some(segment) = pass.current() else {
@@ -219,6 +221,40 @@ pub(crate) fn make_room_keeping(
     }
     let effort = first.plus(clear_next(index, pass, ring, cutoff));
     if has_room(index, pass) {
+        return (true, effort);
+    }
+    let (is_made, last) = make_room(index, pass, ring, deadline);
+    (is_made, effort.plus(last))
+}
+
+// Whether the segment that the pass stores into has a row left, and this deadline.
+fn has_room_until(index: &Index, pass: &Pass, deadline: u32) -> bool {
+    let Some(segment) = pass.current() else {
+        return false;
+    };
+    pass.deadline(segment) == Some(deadline) && has_room(index, pass)
+}
+
+// Makes room by the queues, if there are any. If that left no row, it gives up segments in turn.
+#[cold]
+#[inline(never)]
+pub(crate) fn make_room_by(
+    index: &Index,
+    pass: &mut Pass,
+    ring: &mut Ring,
+    queues: &mut Option<Queues>,
+    cutoff: Option<u8>,
+    deadline: u32,
+    now: u32,
+) -> (bool, Effort)
+    requires quiet { IsQuiet (board_of index.now) pass.old }
+    ensures on { GoesOn (board_of index.now) pass.old pass.new }
+{
+    let Some(queues) = queues.as_mut() else {
+        return make_room_keeping(index, pass, ring, cutoff, deadline);
+    };
+    let effort = arrange(index, pass, queues, deadline, now);
+    if has_room_until(index, pass, deadline) {
         return (true, effort);
     }
     let (is_made, last) = make_room(index, pass, ring, deadline);
