@@ -1,5 +1,5 @@
 //! The command line.
-use crate::mix::{MIXES, Mix, mix_named};
+use crate::mix::{MIXES, Mix, Way, mix_named, way_named};
 use clap::error::Error;
 use clap::{Arg, ArgAction, ArgMatches, Command, value_parser};
 use std::alloc::{AllocError, Global};
@@ -69,6 +69,7 @@ const FLAGS: [(&str, &str); 2] = [
 #[derive(Clone, Copy)]
 pub struct Options {
     pub mix: Mix,
+    pub way: Way,
     pub is_zipf: bool,
     pub keys: u32,
     pub threads: u32,
@@ -95,6 +96,7 @@ pub fn read_options(alloc: Global, words: &[String]) -> Result<Options, Error> {
 fn options_of(matches: &ArgMatches<'_>) -> Options {
     Options {
         mix: mix_named(matches.get_str("mix").unwrap_or("mixed")),
+        way: way_named(matches.get_str("mix").unwrap_or("mixed")),
         is_zipf: matches.get_str("draws") == Some("zipf"),
         keys: number_of(matches, "keys"),
         threads: number_of(matches, "threads"),

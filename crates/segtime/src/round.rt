@@ -103,6 +103,7 @@ pub fn measure<R: Threads + Wait + Sync + AllocGlobal + Input + Print + Clock + 
     fill(&mut workers, &keys, &value);
     let task = Task {
         mix: options.mix,
+        way: options.way,
         sample: options.sample,
         keys: &keys,
         value: &value,
