@@ -2,7 +2,7 @@
 use Rattle.std.proofs.Common.{sym, subst}
 use Rattle.segbase.specs.Words.{number}
 use Rattle.segindex.specs.Words.{board_of, Index, shape_of}
-use Rattle.segpass.specs.Words.{IsQuiet}
+use Rattle.segstore.specs.Words.{IsQuiet}
 use Rattle.segclient.specs.declared.member.Member.{Member}
 use Rattle.segclient.specs.Member.{IsMember, KeepsRest}
 use Rattle.segclient.specs.Rings.{IsOwnRing}

@@ -11,9 +11,8 @@ use Rattle.segbase.specs.declared.pass.Plain.{Plain}
 use Rattle.segbase.specs.Words.{Board, current_of, deadline_in, deadline_of, number, own_segment, Pass, state_of, used_in, used_of}
 use Rattle.segbase.proofs.Known.{deadline_stated}
 use Rattle.segbase.proofs.Owned.{state_there}
-use Rattle.segstore.specs.Words.{has_room, is_below}
+use Rattle.segstore.specs.Words.{GoesOn, has_room, is_below, IsQuiet}
 use Rattle.segstore.proofs.Keeping.{refilled_used, refilled_deadline}
-use Rattle.segpass.specs.Words.{GoesOn, IsQuiet}
 use Rattle.segevict.specs.Evicting.{ended}
 use Rattle.segevict.specs.Words.{EvictsSegment, IsEvictAnswer, IsKeepAnswer, KeepsItems, MovesAway}
 use Rattle.segevict.proofs.Evictions.{but_other}

@@ -4,7 +4,7 @@ use Rattle.std.specs.List.{AllZip}
 use Rattle.std.proofs.lemmas.Option.{get_or_from_slice_get, slice_get-get_or, slice_get-map, slice_get_within}
 use Rattle.segword.specs.Words.{Shape}
 use Rattle.segbase.specs.Words.{number, Pass}
-use Rattle.segpass.specs.Words.{IsQuiet}
+use Rattle.segstore.specs.Words.{IsQuiet}
 use Rattle.segindex.specs.Words.{AreAllQuiet, board_of, Index, IsNew}
 use Rattle.segclient.specs.declared.client.Client.{Client}
 use Rattle.segclient.specs.Client.{IsSame, Starts}

@@ -11,7 +11,7 @@ use Rattle.segcore.proofs.Counts.{mine_others}
 use Rattle.segcore.proofs.Moments.{seen_begins}
 use Rattle.segcore.proofs.Standing.{legal}
 use Rattle.segbase.specs.Words.{number, seen, SinceFirst, TakesSteps, trace}
-use Rattle.segpass.specs.Words.{GoesOn}
+use Rattle.segstore.specs.Words.{GoesOn}
 use Rattle.segindex.specs.Words.{board_of, Index, shape_of, StoresBetween}
 use Rattle.segindex.proofs.LaterReads.{stored_stands}
 use Rattle.segclient.specs.declared.member.Member.{Member}

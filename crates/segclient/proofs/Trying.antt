@@ -5,7 +5,7 @@ use Rattle.std.proofs.lemmas.Bool.{false≢true, cases_eq}
 use Rattle.std.proofs.lemmas.Option.{none-some, same_Some}
 use Rattle.segmodel.specs.Words.{owner}
 use Rattle.segbase.specs.Words.{Board, current_of, number, Pass}
-use Rattle.segpass.specs.Words.{GoesOn, IsQuiet}
+use Rattle.segstore.specs.Words.{GoesOn, IsQuiet}
 use Rattle.segpolicy.specs.Words.{Cycle, next_of, turned}
 use Rattle.segclient.specs.PutCalls.{IsRefused, AreOthersRefused}
 use Rattle.segclient.specs.Putting.{MakesRoom, room_plan}

@@ -17,8 +17,8 @@ use Rattle.segmodel.specs.declared.answer.SegState.TheVariants.{InUse}
 use Rattle.segmodel.specs.declared.answer.WriteAnswer.TheVariants as write
 use Rattle.segmodel.specs.Words.{Entry, EvictAnswer, KeepAnswer, owner, RefillAnswer, Request, WriteAnswer}
 use Rattle.segbase.specs.Words.{Board, mine, number, Pass, state_of}
-use Rattle.segpass.specs.Words.{ChangesNothing, GoesOn, IsQuiet, memo}
-use Rattle.segpass.proofs.Idling.{goes_same, unchanged}
+use Rattle.segstore.specs.Words.{ChangesNothing, GoesOn, IsQuiet, memo}
+use Rattle.segstore.proofs.Idling.{goes_same, unchanged}
 use Rattle.segwrite.specs.Words.{IsSetAnswer, Writes}
 use Rattle.segevict.specs.Words.{AreEvictions, AreMoves, EvictsSegment, IsEvictAnswer, IsKeepAnswer, KeepsItems, MovesAway, WasOften}
 use Rattle.segevict.proofs.RowsOut.{goes_then}

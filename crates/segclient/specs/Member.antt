@@ -3,7 +3,7 @@ use Rattle.std.specs.Prelude.{◌≡◌, ℕ, ◌+◌, ◌*◌, ◌/◌, ◌%◌
 use Rattle.segword.specs.Words.{Shape}
 use Rattle.segbase.specs.Words.{number, Pass}
 use Rattle.segindex.specs.Words.{board_of, Index, shape_of}
-use Rattle.segpass.specs.Words.{IsQuiet, IsQuiet-prop}
+use Rattle.segstore.specs.Words.{IsQuiet, IsQuiet-prop}
 use Rattle.segclient.specs.declared.member.Member.{Member}
 use Rattle.segclient.specs.Counting.{no_stats}
 use Rattle.segclient.specs.Rings.{first_ring, IsOwnRing, IsOwnRing-prop}

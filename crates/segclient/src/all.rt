@@ -3,7 +3,7 @@ ghost use Rattle.std.specs.Prelude.{◌≡◌, ◌++◌, [], ◌∷◌, map, All
 ghost use Rattle.std.specs.List.{AllZip};
 ghost use Rattle.segword.specs.Words.{Shape};
 ghost use Rattle.segindex.specs.Words.{AreAllQuiet, board_of, IsNew};
-ghost use Rattle.segpass.specs.Words.{IsQuiet};
+ghost use Rattle.segstore.specs.Words.{IsQuiet};
 ghost use Rattle.segclient.specs.Client.{Starts};
 ghost use Rattle.segclient.specs.Clients.{AreAllClients};
 

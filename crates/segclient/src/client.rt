@@ -1,6 +1,6 @@
 //! One pass of an index with what it goes by from one call to the next.
 ghost use Rattle.segindex.specs.Words.{board_of};
-ghost use Rattle.segpass.specs.Words.{IsQuiet};
+ghost use Rattle.segstore.specs.Words.{IsQuiet};
 ghost use Rattle.segclient.specs.Member.{IsMember, IsMember-prop};
 
 use crate::member::Member;

@@ -1,7 +1,7 @@
 //! What a client has beside its index, as whoever shares the index has it.
 ghost use Rattle.std.specs.Prelude.{◌≡◌};
 ghost use Rattle.segindex.specs.Words.{board_of, shape_of};
-ghost use Rattle.segpass.specs.Words.{IsQuiet};
+ghost use Rattle.segstore.specs.Words.{IsQuiet};
 ghost use Rattle.segclient.specs.Member.{next_draws};
 
 use crate::put::{Order, PutAnswer, put_at_last, set_if_fresh};

@@ -2,7 +2,7 @@
 ghost use Rattle.std.specs.Prelude.{◌≡◌, ◌<◌, ◌≤◌, ◌^◌, true};
 ghost use Rattle.segbase.specs.Words.{number, Pass as BasePass};
 ghost use Rattle.segindex.specs.Words.{board_of, shape_of};
-ghost use Rattle.segpass.specs.Words.{GoesOn, IsQuiet};
+ghost use Rattle.segstore.specs.Words.{GoesOn, IsQuiet};
 ghost use Rattle.segclient.specs.PutCalls.{current_deadline, is_stale};
 ghost use Rattle.segclient.specs.Putting.{MakesPut, most_for_set};
 ghost use Rattle.segclient.specs.PutParts.{plan_of, PutsAtLast, Sets, SetsIfFresh};

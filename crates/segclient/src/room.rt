@@ -2,9 +2,8 @@
 ghost use Rattle.std.specs.Prelude.{◌≡◌, ◌≢◌, ◌+◌, ◌*◌, ◌<◌, ◌≤◌, ◌^◌, ℕ, Some, None};
 ghost use Rattle.segmodel.specs.Words.{owner};
 ghost use Rattle.segbase.specs.Words.{current_of, number};
-ghost use Rattle.segstore.specs.Words.{has_room};
+ghost use Rattle.segstore.specs.Words.{GoesOn, has_room, IsQuiet};
 ghost use Rattle.segindex.specs.Words.{board_of, shape_of};
-ghost use Rattle.segpass.specs.Words.{GoesOn, IsQuiet};
 ghost use Rattle.segclient.specs.PutCalls.{moved_by, taken_by};
 ghost use Rattle.segclient.specs.Putting.{room_plan, MakesRoom, most_for_room};
 ghost use Rattle.segclient.specs.PutParts.{GivesUp, Clears, Empties};

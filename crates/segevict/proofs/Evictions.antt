@@ -18,15 +18,14 @@ use Rattle.segbase.specs.Words.{state_in, state_of, trace, used_of, with_current
 use Rattle.segbase.proofs.Known.{state_set, state_apart, used_kept, owner_stated, deadline_stated}
 use Rattle.segbase.proofs.Moves.{stays}
 use Rattle.segbase.proofs.Owned.{owner_of, state_there, still_pass}
-use Rattle.segstore.specs.Words.{KeepsSegments}
+use Rattle.segstore.specs.Words.{DrawsNothing, GoesOn, IsQuiet, KeepsSegments, memo, ReadsNothing}
 use Rattle.segstore.proofs.Keeping.{same_used}
 use Rattle.segevict.specs.declared.eviction.RowAnswer.TheVariants as row_answer
-use Rattle.segpass.specs.Words.{DrawsNothing, GoesOn, IsQuiet, memo, ReadsNothing}
 use Rattle.segevict.specs.Evicting.{AreEvictions, CostsOfEvict, ended, EvictsInOrder, EvictsOver, IsEvictAnswer, TakesOut}
 use Rattle.segevict.specs.Rows.{KeepsGone}
 use Rattle.segevict.specs.Tries.{IsBarred, StoodIn, TriesForKeys}
 use Rattle.segevict.specs.Unlinking.{EvictsRow}
-use Rattle.segpass.proofs.Draws.{draws_none_then}
+use Rattle.segstore.proofs.Draws.{draws_none_then}
 use Rattle.segevict.proofs.KeyTries.{no_tries, of_row, rows_tried_then, stood_before}
 use Rattle.segevict.proofs.RowsOut.{goes_then, keeps_gone_then}
 

@@ -15,13 +15,12 @@ use Rattle.segbase.specs.Words.{own_segment, OwnSegment, Pass, seen, state_in, s
 use Rattle.segbase.specs.Words.{TakesSteps, used_of, with_own}
 use Rattle.segbase.proofs.Known.{own_apart, own_here, own_kept}
 use Rattle.segbase.proofs.Moves.{moved_bounced, stays}
-use Rattle.segstore.specs.Words.{fills, has_room, Idles}
+use Rattle.segstore.specs.Words.{bounces, ChangesNothing, DrawsNothing, fills, GoesOn, has_room}
+use Rattle.segstore.specs.Words.{Idles, IsQuiet, memo, ReadsNothing}
 use Rattle.segstore.proofs.Keeping.{AreCalmIn, calm_in, owns_used}
-use Rattle.segpass.specs.Words.{bounces, ChangesNothing, DrawsNothing, GoesOn, IsQuiet, memo}
-use Rattle.segpass.specs.Words.{ReadsNothing}
-use Rattle.segpass.proofs.Bounces.{bounces_calm}
-use Rattle.segpass.proofs.Draws.{draws_none_then}
-use Rattle.segpass.proofs.Idling.{does_nothing}
+use Rattle.segstore.proofs.Bounces.{bounces_calm}
+use Rattle.segstore.proofs.Draws.{draws_none_then}
+use Rattle.segstore.proofs.Idling.{does_nothing}
 use Rattle.segwrite.specs.Words.{one_more}
 use Rattle.segwrite.proofs.Filling.{fills_calm}
 use Rattle.segevict.specs.declared.retention.KeepRowAnswer.TheVariants as kept

@@ -18,18 +18,17 @@ use Rattle.segbase.specs.Words.{HasStep, TakesSteps, AddsAtOnce, AddsEvents, Boa
 use Rattle.segbase.specs.Words.{deadline_in, own_segment, Pass, position, taken, trace, used_of, with_own}
 use Rattle.segbase.proofs.Moves.{moved_then}
 use Rattle.segbase.proofs.Standing.{place_of_word, tag_of_word}
-use Rattle.segstore.specs.Words.{has_room, Idles, KeepsSegments}
+use Rattle.segstore.specs.Words.{ChangesNothing, DrawsNothing, GoesOn, has_room, Idles, IsBusy}
+use Rattle.segstore.specs.Words.{IsQuiet, KeepsSegments, memo, ReadsNothing, TookToWrite}
 use Rattle.segstore.proofs.Keeping.{calm_in, keeps_plain, same_used}
-use Rattle.segpass.specs.Words.{ChangesNothing, DrawsNothing, GoesOn, IsBusy, IsQuiet, memo, ReadsNothing}
-use Rattle.segpass.specs.Words.{TookToWrite}
-use Rattle.segpass.proofs.Bounces.{bounces_calm}
-use Rattle.segpass.proofs.Draws.{AreUndrawn, draws_none_then, moved_undrawn}
-use Rattle.segpass.proofs.Idling.{does_nothing, goes_nowhere}
-use Rattle.segpass.proofs.Peeking.{unread}
-use Rattle.segpass.proofs.Still.{AreStill, no_reader}
-use Rattle.segpass.proofs.TakenBits.{AreNoTries}
-use Rattle.segpass.proofs.UnderWrite.{begun, HasBegun, took_keeps, took_moved, tries, write_adds, write_goes_on}
-use Rattle.segpass.proofs.UnderWrite.{write_peeking, write_takes, write_undrawn}
+use Rattle.segstore.proofs.Bounces.{bounces_calm}
+use Rattle.segstore.proofs.Draws.{AreUndrawn, draws_none_then, moved_undrawn}
+use Rattle.segstore.proofs.Idling.{does_nothing, goes_nowhere}
+use Rattle.segstore.proofs.Peeking.{unread}
+use Rattle.segstore.proofs.Still.{AreStill, no_reader}
+use Rattle.segstore.proofs.TakenBits.{AreNoTries}
+use Rattle.segstore.proofs.UnderWrite.{begun, HasBegun, took_keeps, took_moved, tries, write_adds, write_goes_on}
+use Rattle.segstore.proofs.UnderWrite.{write_peeking, write_takes, write_undrawn}
 use Rattle.segwrite.specs.Words.{IsNextRow, one_more, Target}
 use Rattle.segwrite.proofs.Filling.{fills_nowhere, fills_seen, fills_still, fills_undrawn, fills_untried}
 use Rattle.segevict.specs.declared.retention.KeepRowAnswer.{KeepRowAnswer}

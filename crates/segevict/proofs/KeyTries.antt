@@ -10,7 +10,7 @@ use Rattle.segcore.specs.Event as event
 use Rattle.segcore.proofs.Moments.{begins_on, seen_begins}
 use Rattle.segbase.specs.Words.{AddsEvents, Board, bounced, number, Pass, seen, taken, TakesSteps, trace}
 use Rattle.segbase.proofs.Starting.{since_before, since_then, steps_grew}
-use Rattle.segpass.specs.Words.{GoesOn}
+use Rattle.segstore.specs.Words.{GoesOn}
 use Rattle.segbase.proofs.Moves.{moved_taken, moved_bounced}
 use Rattle.segevict.specs.Tries.{StoodAtRow, StoodBetween, StoodIn, TriesFor, TriesForKeys}
 

@@ -18,12 +18,12 @@ use Rattle.segbase.specs.Words.{Pass, Place, position, trace, used_in, used_of, 
 use Rattle.segbase.proofs.Known.{counted, own_alike, owner_counted}
 use Rattle.segbase.proofs.Moves.{moved_then}
 use Rattle.segbase.proofs.Owned.{moved_still}
-use Rattle.segstore.specs.Words.{fills, Idles, IsReadable, KeepsSegments, StoresRow}
+use Rattle.segstore.specs.Words.{fills, HasCleanBit, Idles, IsReadable, KeepsSegments, memo}
+use Rattle.segstore.specs.Words.{StoresRow}
 use Rattle.segstore.proofs.Keeping.{AreCalmIn, calm_in, in_table, keeps_named, keeps_plain, next_is_own}
 use Rattle.segstore.proofs.Keeping.{own_linked, same_used}
 use Rattle.segstore.proofs.Words.{at_place}
-use Rattle.segpass.specs.Words.{HasCleanBit, memo}
-use Rattle.segpass.proofs.UnderBit.{did_acts, moved_at, moved_bucket}
+use Rattle.segstore.proofs.UnderBit.{did_acts, moved_at, moved_bucket}
 use Rattle.segwrite.specs.Words.{IsEarlier, IsInChain, IsNextRow, one_more, Target}
 use Rattle.segwrite.proofs.Filling.{fills_calm, fills_nowhere}
 use Rattle.segwrite.proofs.Places.{chain_later, same_position}

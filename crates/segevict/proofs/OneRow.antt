@@ -7,9 +7,8 @@ use Rattle.segmodel.specs.Words.{bucket_of}
 use Rattle.segbase.specs.declared.pass.Plain.{Plain}
 use Rattle.segbase.specs.Words.{Board, bounced, marked, Pass, state_of, trace}
 use Rattle.segbase.proofs.Moves.{moved_bounced, stays}
-use Rattle.segstore.specs.Words.{has_room}
-use Rattle.segpass.specs.Words.{ChangesNothing, IsQuiet}
-use Rattle.segpass.proofs.Idling.{goes_same}
+use Rattle.segstore.specs.Words.{ChangesNothing, has_room, IsQuiet}
+use Rattle.segstore.proofs.Idling.{goes_same}
 use Rattle.segevict.specs.declared.retention.KeepRowAnswer.{KeepRowAnswer}
 use Rattle.segevict.specs.declared.retention.KeepRowAnswer.TheVariants as kept
 use Rattle.segevict.specs.Frequencies.{WasOften}

@@ -14,25 +14,24 @@ use Rattle.segbase.specs.Words.{AddsAtOnce, AddsEvents, Board, bounced, mine, nu
 use Rattle.segbase.specs.Words.{HasStep, taken, TakesSteps, trace}
 use Rattle.segbase.proofs.Moves.{moved_on, moved_bounced}
 use Rattle.segbase.proofs.Starting.{starts_on, steps_then}
-use Rattle.segstore.specs.Words.{Idles, KeepsSegments}
+use Rattle.segstore.specs.Words.{ChangesNothing, DrawsNothing, GoesOn, Idles, IsBusy, IsQuiet}
+use Rattle.segstore.specs.Words.{KeepsSegments, memo, ReadsNothing, TookToWrite}
 use Rattle.segstore.proofs.Keeping.{AreCalm, AreCalmIn, calm_in, keeps_plain, own_linked}
 use Rattle.segwrite.specs.Words.{Target}
 use Rattle.segevict.specs.declared.eviction.RowAnswer.{RowAnswer}
 use Rattle.segevict.specs.declared.eviction.RowAnswer.TheVariants as row_answer
-use Rattle.segpass.specs.Words.{ChangesNothing, DrawsNothing, GoesOn, IsBusy, IsQuiet, memo}
-use Rattle.segpass.specs.Words.{ReadsNothing, TookToWrite}
 use Rattle.segevict.specs.Rows.{IsStoredIn, IsNamedAt, FindsRow, KeepsGone}
 use Rattle.segevict.specs.Tries.{StoodAtRow, TriesFor}
 use Rattle.segevict.specs.Unlinking.{TakesRow, EvictsRow}
-use Rattle.segpass.proofs.Bounces.{bounces_calm}
-use Rattle.segpass.proofs.Draws.{AreUndrawn, moved_undrawn, draws_none_then}
-use Rattle.segpass.proofs.Idling.{goes_nowhere, does_nothing}
+use Rattle.segstore.proofs.Bounces.{bounces_calm}
+use Rattle.segstore.proofs.Draws.{AreUndrawn, moved_undrawn, draws_none_then}
+use Rattle.segstore.proofs.Idling.{goes_nowhere, does_nothing}
 use Rattle.segevict.proofs.KeyTries.{no_tries, one_try, tries_after}
 use Rattle.segevict.proofs.Seeking.{stored_over}
-use Rattle.segpass.proofs.Still.{AreStill, no_reader}
-use Rattle.segpass.proofs.TakenBits.{AreNoTries}
-use Rattle.segpass.proofs.Peeking.{unread}
-use Rattle.segpass.proofs.UnderWrite.{HasBegun, begun, tries, took_moved, took_keeps, write_goes_on, write_adds, write_undrawn, write_peeking, write_takes}
+use Rattle.segstore.proofs.Still.{AreStill, no_reader}
+use Rattle.segstore.proofs.TakenBits.{AreNoTries}
+use Rattle.segstore.proofs.Peeking.{unread}
+use Rattle.segstore.proofs.UnderWrite.{HasBegun, begun, tries, took_moved, took_keeps, write_goes_on, write_adds, write_undrawn, write_peeking, write_takes}
 use Rattle.segevict.proofs.Unlinking.{named_stands}
 use Rattle.segevict.proofs.Unnamed.{gone_over}
 

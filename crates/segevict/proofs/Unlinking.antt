@@ -17,14 +17,13 @@ use Rattle.segcore.proofs.Standing.{coherent, gone}
 use Rattle.segbase.specs.Words.{AddsAtOnce, AddsEvents, Board, HasItemOf, home_bucket, IsPassOf}
 use Rattle.segbase.specs.Words.{number, Pass, Place, position, trace}
 use Rattle.segbase.proofs.Moves.{moved_then}
-use Rattle.segstore.specs.Words.{Idles}
+use Rattle.segstore.specs.Words.{HasCleanBit, Idles}
 use Rattle.segstore.proofs.Words.{at_place}
-use Rattle.segpass.specs.Words.{HasCleanBit}
 use Rattle.segwrite.specs.Words.{IsEarlier, IsInChain, Target}
 use Rattle.segevict.specs.Rows.{IsStoredIn, IsNamedAt}
 use Rattle.segevict.specs.Unlinking.{TakesRow}
 use Rattle.segevict.proofs.Seeking.{stored_over}
-use Rattle.segpass.proofs.UnderBit.{moved_bucket, moved_bit}
+use Rattle.segstore.proofs.UnderBit.{moved_bucket, moved_bit}
 
 pub clean_over : (b : Board) (own : List Event) (p q : Pass) (bucket : ℕ) → AddsEvents b own p q → NoneAt b.shape bucket own → HasCleanBit b p bucket → HasCleanBit b q bucket
 clean_over b own p q bucket m none clean = let same = moved_bucket b own p q bucket m clean.bit none in

@@ -9,7 +9,7 @@ use Rattle.segmodel.specs.Words.{after, but_for, Entry, EvictAnswer, NoneStandsI
 use Rattle.segbase.specs.declared.pass.Plain.{Plain}
 use Rattle.segbase.specs.Words.{Board, mine, number, Pass, seen, state_of}
 use Rattle.segbase.specs.Words.{used_of, with_current, with_state}
-use Rattle.segpass.specs.Words.{DrawsNothing, GoesOn, memo, ReadsNothing}
+use Rattle.segstore.specs.Words.{DrawsNothing, GoesOn, memo, ReadsNothing}
 use Rattle.segevict.specs.declared.eviction.RowAnswer.TheVariants as row_answer
 use Rattle.segevict.specs.Tries.{IsBarred, TriesForKeys}
 use Rattle.segevict.specs.Unlinking.{EvictsRow}

@@ -9,8 +9,7 @@ use Rattle.segmodel.specs.declared.answer.SegState.TheVariants.{InUse}
 use Rattle.segmodel.specs.Words.{after, Entry, StandsIn}
 use Rattle.segbase.specs.Words.{Board, current_of, deadline_of, is_holding_of, locked_of, mine, number}
 use Rattle.segbase.specs.Words.{Pass, seen, state_of, used_of}
-use Rattle.segstore.specs.Words.{has_room}
-use Rattle.segpass.specs.Words.{DrawsNothing, GoesOn, memo, ReadsNothing}
+use Rattle.segstore.specs.Words.{DrawsNothing, GoesOn, has_room, memo, ReadsNothing}
 use Rattle.segevict.specs.Frequencies.{IsOften, WasOften, WasSeldom}
 use Rattle.segevict.specs.Moving.{GoesInOrder}
 use Rattle.segevict.specs.Tries.{IsInTheWay, TriesFor}

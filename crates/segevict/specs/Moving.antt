@@ -9,9 +9,9 @@ use Rattle.segcore.specs.Words.{bucket_after, Event, frequency_of, item, row_aft
 use Rattle.segword.specs.Words.{Item}
 use Rattle.segbase.specs.Words.{AddsEvents, Board, HasStep, number, Pass, trace, used_of}
 use Rattle.segbase.specs.Words.{with_own}
-use Rattle.segstore.specs.Words.{fills, has_room, Idles, KeepsSegments}
-use Rattle.segpass.specs.Words.{AddsEntry, bounces, ChangesNothing, DrawsNothing, GoesOn, HasCleanBit}
-use Rattle.segpass.specs.Words.{IsBusy, memo, ReadsNothing}
+use Rattle.segstore.specs.Words.{AddsEntry, bounces, ChangesNothing, DrawsNothing, fills, GoesOn}
+use Rattle.segstore.specs.Words.{has_room, HasCleanBit, Idles, IsBusy, KeepsSegments, memo}
+use Rattle.segstore.specs.Words.{ReadsNothing}
 use Rattle.segwrite.specs.Words.{one_more}
 use Rattle.segevict.specs.declared.retention.KeepRowAnswer.{KeepRowAnswer}
 use Rattle.segevict.specs.declared.retention.KeepRowAnswer.TheVariants as kept

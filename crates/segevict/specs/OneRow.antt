@@ -4,8 +4,8 @@ use Rattle.segword.specs.Words.{Shape}
 use Rattle.segmodel.specs.declared.entry.Entry.TheVariants as entry
 use Rattle.segmodel.specs.declared.answer.SegState.TheVariants.{InUse}
 use Rattle.segbase.specs.Words.{Board, marked, number, Pass, state_of}
-use Rattle.segstore.specs.Words.{has_room}
-use Rattle.segpass.specs.Words.{AddsEntry, ChangesNothing, DrawsNothing, GoesOn, ReadsNothing}
+use Rattle.segstore.specs.Words.{AddsEntry, ChangesNothing, DrawsNothing, GoesOn, has_room}
+use Rattle.segstore.specs.Words.{ReadsNothing}
 use Rattle.segevict.specs.declared.retention.KeepRowAnswer.{KeepRowAnswer}
 use Rattle.segevict.specs.declared.retention.KeepRowAnswer.TheVariants as kept
 use Rattle.segevict.specs.Frequencies.{IsOftenAt, WasOften, WasOftenAt, WasSeldomAt}

@@ -9,7 +9,7 @@ use Rattle.segcore.specs.declared.event.Leaving.TheVariants.{Evicts}
 use Rattle.segbase.specs.Words.{AddsEvents, Board, mine, number, Pass, trace}
 use Rattle.segevict.specs.declared.eviction.RowAnswer.{RowAnswer}
 use Rattle.segevict.specs.declared.eviction.RowAnswer.TheVariants as row_answer
-use Rattle.segpass.specs.Words.{DrawsNothing, GoesOn, HasCleanBit, memo, ReadsNothing}
+use Rattle.segstore.specs.Words.{DrawsNothing, GoesOn, HasCleanBit, memo, ReadsNothing}
 use Rattle.segevict.specs.Rows.{KeepsGone}
 use Rattle.segevict.specs.Tries.{IsInTheWay, StoodAtRow, TriesFor}
 

@@ -4,8 +4,7 @@ ghost use Rattle.std.specs.Prelude.{◌≡◌, ℕ, MatchOption, Some, true, fal
 ghost use Rattle.segmodel.specs.declared.answer.SegState.TheVariants.{InUse};
 ghost use Rattle.segcore.specs.Words.{Slot};
 ghost use Rattle.segbase.specs.Words.{IsPassOf, state_of};
-ghost use Rattle.segstore.specs.Words.{KeepsSegments};
-ghost use Rattle.segpass.specs.Words.{HasCleanBit, IsQuiet};
+ghost use Rattle.segstore.specs.Words.{HasCleanBit, IsQuiet, KeepsSegments};
 ghost use Rattle.segwrite.specs.Words.{IsNextRow};
 ghost use Rattle.segevict.specs.Keeping.{IsKeepTarget, KeepsItems};
 ghost use Rattle.segevict.specs.Moving.{KeepsRow, MovesRow};
@@ -16,8 +15,7 @@ ghost use Rattle.segevict.specs.Rows.{IsUsedRow, IsStoredIn};
 use crate::row::{find_row, item_of_row};
 use segbase::{Board, Pass, Place};
 use segmodel::{KeepAnswer, SegState};
-use segpass::take_to_write;
-use segstore::{copy_row, next_row};
+use segstore::{copy_row, next_row, take_to_write};
 use segword::Item;
 use segwrite::Target;
 

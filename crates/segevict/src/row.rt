@@ -1,8 +1,7 @@
 //! Rows of a segment of the pass's own: whose key was stored in each, and which word names it.
 ghost use Rattle.std.specs.Prelude.{◌≡◌, ◌<◌, Option};
 ghost use Rattle.segbase.specs.Words.{HasStep, IsPassOf};
-ghost use Rattle.segstore.specs.Words.{Idles};
-ghost use Rattle.segpass.specs.Words.{IsQuiet};
+ghost use Rattle.segstore.specs.Words.{Idles, IsQuiet};
 ghost use Rattle.segevict.specs.Rows.{IsUsedRow, IsStoredIn, FindsRow};
 
 use segbase::{Board, Pass, Place};

@@ -3,7 +3,7 @@ use Rattle.std.proofs.Common.{◌≡◌, ℕ, Option, Some, None, inl, inr, refl
 use Rattle.segmodel.specs.declared.answer.KeepAnswer.TheVariants as keep
 use Rattle.segmodel.specs.Words.{after, NoneStandsIn, SegState}
 use Rattle.segbase.specs.Words.{Board, Pass, seen, state_of}
-use Rattle.segpass.specs.Words.{IsQuiet}
+use Rattle.segstore.specs.Words.{IsQuiet}
 use Rattle.segevict.specs.Words.{IsKeepAnswer, KeepsItems}
 
 -- no frequency is below 0, and no key stands in a segment that isn't in use

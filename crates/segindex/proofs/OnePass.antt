@@ -15,8 +15,8 @@ use Rattle.segcore.proofs.Marked.{chained_marked}
 use Rattle.segcore.proofs.Quiet.{quiet_inside}
 use Rattle.segbase.specs.Words.{Board, locked_of, number, Pass, trace}
 use Rattle.segbase.specs.Passes as passes
-use Rattle.segpass.specs.Words.{IsBusy, IsQuiet}
-use Rattle.segpass.proofs.Quiet.{has_locked}
+use Rattle.segstore.specs.Words.{IsBusy, IsQuiet}
+use Rattle.segstore.proofs.Quiet.{has_locked}
 use Rattle.segmodel.specs.Words.{bucket_of, entries_of, mine, stirred}
 use Rattle.segbase.proofs.Alone.{none_by}
 

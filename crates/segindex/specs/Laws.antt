@@ -12,7 +12,7 @@ use Rattle.segbase.specs.Words.{Board, bounced, current_of, deadline_of, glanced
 use Rattle.segcore.specs.Event as event
 use Rattle.segbase.specs.Words.{marked, mine, number, Pass, seen, SinceFirst, state_of, trace}
 use Rattle.segbase.specs.Words.{used_of}
-use Rattle.segpass.specs.Words.{IsBusy, IsQuiet, NoneSince}
+use Rattle.segstore.specs.Words.{IsBusy, IsQuiet, NoneSince}
 use Rattle.segwrite.specs.Words.{cas_reply, Deletes, WasTold, Writes}
 use Rattle.segread.specs.Words.{IsGetsAnswer}
 use Rattle.segevict.specs.Words.{KeepsItems}

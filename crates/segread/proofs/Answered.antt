@@ -13,11 +13,10 @@ use Rattle.segbase.specs.declared.pass.Plain.{Plain}
 use Rattle.segbase.specs.Words.{AddsAtOnce, AddsEvents, Board, locked_of, number, OnlyReads, Pass}
 use Rattle.segbase.specs.Words.{Place, seen, sight, taken, trace}
 use Rattle.segbase.proofs.Moves.{moved_inside, moved_taken, moved_bounced}
-use Rattle.segstore.specs.Words.{FoundItem, IsChained, IsReader}
+use Rattle.segstore.specs.Words.{FoundItem, IsChained, IsQuiet, IsReader, RaisesNothing, TakesNoBit}
 use Rattle.segstore.proofs.Words.{chained_later}
 use Rattle.segstore.proofs.Readers.{looks}
-use Rattle.segpass.specs.Words.{IsQuiet, RaisesNothing, TakesNoBit}
-use Rattle.segpass.proofs.Draws.{reader_draws_none}
+use Rattle.segstore.proofs.Draws.{reader_draws_none}
 use Rattle.segread.specs.Costs.{CostsOfLooks}
 use Rattle.segread.specs.Reads.{ReadsBetween, IsGetAnswer, ReadsKey}
 use Rattle.segread.specs.Looking.{LooksFirst}

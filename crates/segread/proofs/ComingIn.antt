@@ -8,7 +8,7 @@ use Rattle.segcore.specs.Words.{Event, unless_own, View}
 use Rattle.segbase.specs.Words.{AddsEvents, Board, entered, glanced, Glances, has_bit, number, Pass}
 use Rattle.segbase.specs.Words.{raised, trace, view}
 use Rattle.segbase.proofs.Moves.{moved_entered, moved_glanced, moved_raised}
-use Rattle.segpass.specs.Words.{RaisesNothing}
+use Rattle.segstore.specs.Words.{RaisesNothing}
 use Rattle.segread.specs.Gets.{Attempts}
 use Rattle.segread.specs.Hits.{GlancesNothing, GlancesOnce, OnlyScans, TriesFew}
 use Rattle.segread.specs.Scanning.{words_below, IsTry, Tries}

@@ -16,8 +16,8 @@ use Rattle.segstore.specs.Words.{IsReader}
 use Rattle.segstore.proofs.Readers.{looks}
 use Rattle.segread.specs.Scanning.{CountsTries}
 use Rattle.segread.specs.Gets.{disturbed, PresentBetween, IsDisturbed, HasNoBit, Disturbs}
-use Rattle.segpass.proofs.Bits.{bit_before}
-use Rattle.segpass.proofs.Quiet.{reads_none}
+use Rattle.segstore.proofs.Bits.{bit_before}
+use Rattle.segstore.proofs.Quiet.{reads_none}
 
 -- ---- the bit
 

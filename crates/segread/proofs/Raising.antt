@@ -24,10 +24,10 @@ use Rattle.segbase.specs.Words.{IsPassOf, number, Pass, Place, position, raised,
 use Rattle.segbase.proofs.Alone.{moved_alone}
 use Rattle.segbase.proofs.Moves.{moved_entered, moved_glanced}
 use Rattle.segbase.proofs.Standing.{tag_of_word}
-use Rattle.segstore.specs.Words.{FoundItem, IsChained, row_part, segment_part, WasLinked}
+use Rattle.segstore.specs.Words.{FoundItem, IsChained, RaisesNothing, row_part, segment_part}
+use Rattle.segstore.specs.Words.{WasLinked}
 use Rattle.segstore.proofs.Words.{chained_later, same_place, stood_item}
 use Rattle.segstore.proofs.Seconds.{segment_of_item, row_of_item}
-use Rattle.segpass.specs.Words.{RaisesNothing}
 use Rattle.segread.specs.Hits.{HasFrequency, CountsHit, GlancesNothing, IsItemAtPosition, PassesHit, IsOvertaken, RaisesFrom}
 use Rattle.segread.proofs.Tries.{has_tag}
 

@@ -18,13 +18,12 @@ use Rattle.segstore.proofs.Readers.{looks, enters, then_reader, leave_then}
 use Rattle.segread.proofs.ComingIn.{looked, leaves, came_in, try_out}
 use Rattle.segbase.proofs.Moves.{moved_on}
 use Rattle.segstore.specs.Reading.{LeavesSegment, Enters}
-use Rattle.segstore.specs.Words.{OnlyLooks, FoundItem, FoundKey, IsChained, IsKeyed, IsReader, SawItem}
-use Rattle.segstore.specs.Words.{SawWord, segment_part, word_of_place}
+use Rattle.segstore.specs.Words.{FoundItem, FoundKey, IsChained, IsKeyed, IsReader, MayEnterAny}
+use Rattle.segstore.specs.Words.{OnlyLooks, SawItem, SawWord, segment_part, word_of_place}
 use Rattle.segstore.specs.declared.read.Keyed.{Keyed}
 use Rattle.segstore.specs.declared.read.Keyed.TheVariants.{Same, Other, Changed}
 use Rattle.segstore.proofs.Words.{same_place, chained_later, names_in, stood_item, same_parts}
 use Rattle.segstore.proofs.Seconds.{segment_of_item}
-use Rattle.segpass.specs.Words.{MayEnterAny}
 use Rattle.segstore.proofs.Used.{linked_used}
 use Rattle.segread.specs.Scanning.{IsTry, IsPlaceOf, CountsTries, HasPassed}
 

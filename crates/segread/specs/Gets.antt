@@ -9,13 +9,13 @@ use Rattle.segcore.specs.Event as event
 use Rattle.segcore.specs.Words.{Event, HasBit, IsSegment, KeyAhead}
 use Rattle.segbase.specs.Words.{Board, glanced, locked_of, number, Pass, Place, position, seen}
 use Rattle.segbase.specs.Words.{SinceFirst, trace}
-use Rattle.segstore.specs.Words.{FoundItem, IsReader, IsReaderIn, word_of_place}
+use Rattle.segstore.specs.Words.{ChangesNothing, FoundItem, GoesOn, IsReader, IsReaderIn}
+use Rattle.segstore.specs.Words.{RaisesNothing, word_of_place}
 use Rattle.segread.specs.declared.scan.Hit.{Hit}
 use Rattle.segread.specs.declared.version.Sight.{Sight}
 use Rattle.segread.specs.declared.version.Sight.TheVariants as sight
 use Rattle.segread.specs.declared.version.Attempt.{Attempt}
 use Rattle.segread.specs.declared.version.Attempt.TheVariants as attempt
-use Rattle.segpass.specs.Words.{ChangesNothing, GoesOn, RaisesNothing}
 use Rattle.segread.specs.Costs.{CostsOfGets}
 use Rattle.segread.specs.Reads.{ReadsBetween}
 use Rattle.segread.specs.Hits.{GetsRaisesFrom, GlancesFew, GlancesNothing, GlancesOnce, OnlyScans}

@@ -11,8 +11,7 @@ use Rattle.segcore.specs.Words.{cached, Event, frequency_in, inside, last_at, ma
 use Rattle.segpolicy.specs.Words.{draw_raises}
 use Rattle.segbase.specs.Words.{Board, entered, glanced, number, Pass, Place, raised, SinceFirst}
 use Rattle.segbase.specs.Words.{trace}
-use Rattle.segstore.specs.Words.{FoundItem}
-use Rattle.segpass.specs.Words.{RaisesNothing}
+use Rattle.segstore.specs.Words.{FoundItem, RaisesNothing}
 
 -- The pass came into segments at most as often as a scan of a chain may try:
 -- for 63 tries that are counted, and once more at each of 28 words.

@@ -10,7 +10,7 @@ use Rattle.segbase.specs.Words.{with_holding}
 use Rattle.segread.specs.declared.held.Hold.{Hold}
 use Rattle.segread.specs.declared.held.HoldAnswer.{HoldAnswer}
 use Rattle.segread.specs.declared.held.HoldAnswer.TheVariants as hold_answer
-use Rattle.segpass.specs.Words.{ChangesNothing, CostsNothing, GoesOn, memo}
+use Rattle.segstore.specs.Words.{ChangesNothing, CostsNothing, GoesOn, memo}
 use Rattle.segread.specs.Costs.{CostsOfHold}
 use Rattle.segread.specs.Reads.{ReadsBetween}
 

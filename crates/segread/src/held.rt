@@ -7,7 +7,7 @@ ghost use Rattle.segbase.specs.Words.{HasHeld, holding, IsPassOf, trace, view};
 ghost use Rattle.segword.specs.declared.shape.Shape.{Shape};
 ghost use Rattle.segbase.specs.declared.board.Board.{Board};
 ghost use Rattle.segread.specs.declared.held.Hold.{Hold};
-ghost use Rattle.segpass.specs.Words.{IsQuiet};
+ghost use Rattle.segstore.specs.Words.{IsQuiet};
 ghost use Rattle.segread.specs.Holds.{IsHoldOf, IsRowOf, HoldsItem, ReadsHeld, ReleasesHold};
 ghost use Rattle.segread.specs.Holds.{SetsHold};
 ghost use Rattle.segread.specs.Rows.{IsOfRow};

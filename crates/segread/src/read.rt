@@ -1,8 +1,7 @@
 //! Values read without any bit.
 ghost use Rattle.std.specs.Prelude.{◌≡◌};
 ghost use Rattle.segbase.specs.Words.{entered, IsPassOf, trace};
-ghost use Rattle.segstore.specs.Words.{IsChained, IsReader};
-ghost use Rattle.segpass.specs.Words.{IsQuiet};
+ghost use Rattle.segstore.specs.Words.{IsChained, IsQuiet, IsReader};
 ghost use Rattle.segread.specs.Reads.{ReadsKey};
 ghost use Rattle.segread.specs.Hits.{GlancesNothing, RaisesFound};
 

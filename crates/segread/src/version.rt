@@ -3,8 +3,7 @@ ghost use Rattle.std.specs.Prelude.{◌≡◌, ◌≢◌, ℕ, ◌^◌, ◌<◌,
 ghost use Rattle.segmodel.specs.declared.answer.GetsAnswer.TheVariants as gets;
 ghost use Rattle.segmodel.specs.Words.{bucket_of, tag_of};
 ghost use Rattle.segbase.specs.Words.{IsPassOf, locked_of, trace};
-ghost use Rattle.segstore.specs.Words.{IsReader};
-ghost use Rattle.segpass.specs.Words.{IsQuiet, MayEnterAny};
+ghost use Rattle.segstore.specs.Words.{IsQuiet, IsReader, MayEnterAny};
 ghost use Rattle.segread.specs.Scanning.{IsPlaceOf};
 ghost use Rattle.segread.specs.Looking.{AfterLook};
 ghost use Rattle.segread.specs.Gets.{ReadsVersion, HasNoBit, Attempted, FindsLocked, FindsVersion};

@@ -9,7 +9,7 @@ use Rattle.segbase.specs.declared.pass.Plain.{Plain}
 use Rattle.segbase.specs.Words.{Board, marked, own_segment, OwnSegment, Pass, seen, state_in}
 use Rattle.segbase.specs.Words.{state_of, used_in, used_of, with_own}
 use Rattle.segbase.proofs.Known.{own_here, own_apart, own_kept}
-use Rattle.segpass.specs.Words.{IsQuiet}
+use Rattle.segstore.specs.Words.{IsQuiet}
 use Rattle.segwrite.specs.Words.{one_more}
 use Rattle.segsolo.specs.Alone.{frequencies_in, keys_stored_in, of_rows, or_empty, state_at, CountsRows, IsAlone, NamesLastRows}
 use Rattle.segsolo.proofs.AloneRefills.{with_at-same, with_at-other, by_segment}

@@ -24,7 +24,7 @@ use Rattle.segbase.specs.Words.{seen, state_in, state_of, trace, used_in, with_s
 use Rattle.segbase.proofs.Alone.{bounced_alone}
 use Rattle.segbase.proofs.Known.{state_apart, used_kept}
 use Rattle.segevict.proofs.Evictions.{emptied_state}
-use Rattle.segpass.specs.Words.{DrawsNothing, GoesOn, RaisesNothing}
+use Rattle.segstore.specs.Words.{DrawsNothing, GoesOn, RaisesNothing}
 use Rattle.segevict.specs.Words.{ended, IsBarred, IsEvictAnswer, TakesOut}
 use Rattle.segindex.proofs.Since.{between_since}
 use Rattle.segsolo.specs.Alone.{frequencies_in, keys_stored_in, or_empty, item_of, state_at, CountsRows, IsAlone, ServesAlone, NamesLastRows}

@@ -15,7 +15,7 @@ use Rattle.segcore.proofs.Marked.{entries_marked}
 use Rattle.segcore.proofs.Moments.{marked_begins, seen_begins}
 use Rattle.segbase.specs.declared.pass.Plain.{Plain}
 use Rattle.segbase.specs.Words.{Board, marked, Memo, number, own_segment, Pass, raised as pass_raised, seen, state_in, state_of, trace}
-use Rattle.segpass.specs.Words.{ChangesNothing, DrawsNothing, GoesOn, RaisesNothing}
+use Rattle.segstore.specs.Words.{ChangesNothing, DrawsNothing, GoesOn, RaisesNothing}
 use Rattle.segread.specs.Hits.{CountsHit, PassesHit, RaisesFrom, RaisesOne}
 use Rattle.segindex.proofs.Since.{raises_since}
 use Rattle.segsolo.specs.Alone.{frequencies_in, item_of, IsAlone, keys_stored_in, of_rows, or_empty, state_at}

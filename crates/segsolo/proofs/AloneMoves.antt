@@ -28,11 +28,10 @@ use Rattle.segbase.specs.declared.pass.Plain.{Plain}
 use Rattle.segbase.specs.Words.{AddsEvents, Board, current_of, Locked, locked, locked_of, marked, Memo}
 use Rattle.segbase.specs.Words.{number, Pass, seen, trace, used_of, with_own}
 use Rattle.segbase.proofs.Alone.{bounced_alone, moved_alone}
-use Rattle.segstore.specs.Words.{fills, has_room, Idles}
+use Rattle.segstore.specs.Words.{bounces, ChangesNothing, DrawsNothing, fills, GoesOn, has_room}
+use Rattle.segstore.specs.Words.{Idles, IsBusy, memo, RaisesNothing}
 use Rattle.segstore.proofs.Keeping.{stored_in}
-use Rattle.segpass.specs.Words.{bounces, ChangesNothing, DrawsNothing, GoesOn, IsBusy, memo}
-use Rattle.segpass.specs.Words.{RaisesNothing}
-use Rattle.segpass.proofs.Taking.{bounces_all}
+use Rattle.segstore.proofs.Taking.{bounces_all}
 use Rattle.segwrite.specs.Words.{one_more}
 use Rattle.segevict.specs.Words.{LacksBit, LacksRoom, LeavesItsItem, moves, MovesItsItem, SeesRow}
 use Rattle.segevict.specs.Words.{under_bit}

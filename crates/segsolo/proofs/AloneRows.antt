@@ -26,7 +26,7 @@ use Rattle.segcore.proofs.Orderly.{orderly}
 use Rattle.segcore.proofs.Standing.{legal}
 use Rattle.segbase.specs.Words.{Board, marked, mine, number, Pass, raised, seen, trace, used_of}
 use Rattle.segstore.proofs.Keeping.{stored_in}
-use Rattle.segpass.specs.Words.{ChangesNothing, GoesOn, IsQuiet, RaisesNothing}
+use Rattle.segstore.specs.Words.{ChangesNothing, GoesOn, IsQuiet, RaisesNothing}
 use Rattle.segsolo.specs.Alone.{keys_stored_in, CountsRows, IsAlone, IsLastRow, NamesLastRows, ServesAlone, state_at, TurnsAlone}
 use Rattle.segindex.proofs.QuietPass.{rows}
 use Rattle.segsolo.proofs.AlonePass.{counts_still, more_seen, same_seen, SameFrequencies}

@@ -21,7 +21,7 @@ use Rattle.segcore.proofs.Marked.{entries_marked, chained_marked, drawn_marked}
 use Rattle.segcore.proofs.Moments.{begins_on, marked_begins}
 use Rattle.segbase.specs.Words.{Board, drew, marked, number, Pass, seen, trace}
 use Rattle.segbase.proofs.Alone.{drew_alone}
-use Rattle.segpass.specs.Words.{DrawsNothing, GoesOn, IsQuiet}
+use Rattle.segstore.specs.Words.{DrawsNothing, GoesOn, IsQuiet}
 use Rattle.segwrite.specs.Words.{CanGrow, GrowsFor}
 use Rattle.segsolo.specs.Alone.{state_at, IsAlone}
 use Rattle.segindex.proofs.QuietPass.{keys_few}

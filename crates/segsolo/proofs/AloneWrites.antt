@@ -24,9 +24,9 @@ use Rattle.segcore.proofs.Keys.{same_true}
 use Rattle.segbase.specs.declared.pass.Plain.{Plain}
 use Rattle.segbase.specs.Words.{Board, drew, marked, Memo, number, Pass, seen}
 use Rattle.segbase.specs.Words.{used_of}
-use Rattle.segstore.specs.Words.{has_room}
-use Rattle.segpass.specs.Words.{AddsEntry, ChangesNothing, DrawsNothing, GoesOn, RaisesNothing}
-use Rattle.segpass.proofs.Idling.{unchanged}
+use Rattle.segstore.specs.Words.{AddsEntry, ChangesNothing, DrawsNothing, GoesOn, has_room}
+use Rattle.segstore.specs.Words.{RaisesNothing}
+use Rattle.segstore.proofs.Idling.{unchanged}
 use Rattle.segwrite.specs.Words.{AddsReply, UsesRow, Writes}
 use Rattle.segindex.proofs.Since.{full_since}
 use Rattle.segsolo.specs.Alone.{frequencies_in, keys_stored_in, item_of, state_at, CountsRows, IsAlone, NamesLastRows, ServesAlone}

@@ -5,3 +5,7 @@ pub mod Segments
 pub mod Rows
 pub mod Refilling
 pub mod Words
+pub mod Calls
+pub mod Locks
+pub mod Quiet
+pub mod Taking

@@ -1,6 +1,8 @@
-//! Rows of the segments: written, entered, read beneath writers, and refilled as a whole.
+//! What a pass keeps between calls, and the rows that it reads and writes. Segments are entered,
+//! left and refilled; writer bits of buckets are taken for a call, or locked for longer.
 #![tactic(auto)]
 
+mod bucket;
 mod enter;
 mod read;
 mod refilling;
@@ -8,6 +10,7 @@ mod room;
 mod row;
 mod write;
 
+pub use bucket::{LockAnswer, lock_bucket, take_bucket, take_to_write, unlock_bucket};
 pub use enter::{enter_segment, leave_segment};
 pub use read::{Keyed, Linked, read_keyed, read_linked};
 pub use refilling::refill;

@@ -2,7 +2,7 @@
 //! At a call of the index itself the proof of a test would have to read the whole contract.
 ghost use Rattle.std.specs.Prelude.{◌≡◌, ◌∷◌, [], IfOk};
 ghost use Rattle.segindex.specs.Words.{board_of};
-ghost use Rattle.segpass.specs.Words.{IsQuiet};
+ghost use Rattle.segstore.specs.Words.{IsQuiet};
 
 use segindex::{Index, IndexStats, LockAnswer, OutOfMemory, Pass};
 use segmodel::{

@@ -1,7 +1,7 @@
 //! Rows of calls in the words of a script, each with the answer that is wanted:
 //! a test of one thread is a table. They are texts, since a row of enums costs ten times the proof.
 ghost use Rattle.segindex.specs.Words.{board_of};
-ghost use Rattle.segpass.specs.Words.{IsQuiet};
+ghost use Rattle.segstore.specs.Words.{IsQuiet};
 
 use crate::calls::{
     add, cas, delete, evict, get, gets, index_stats, keep, lock, probe, refill, replace, set,

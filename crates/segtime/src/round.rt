@@ -1,7 +1,7 @@
 //! Rounds: all threads make commands at once, and a line prints what they came to.
 ghost use Rattle.std.specs.Prelude.{All};
 ghost use Rattle.segindex.specs.Words.{board_of};
-ghost use Rattle.segpass.specs.Words.{IsQuiet};
+ghost use Rattle.segstore.specs.Words.{IsQuiet};
 
 use crate::arguments::Options;
 use crate::draws::Draws;

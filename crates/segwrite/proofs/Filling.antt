@@ -6,9 +6,9 @@ use Rattle.segcore.specs.declared.event.Event.TheVariants.{Filled}
 use Rattle.segcore.specs.Words.{Event, NoneAt, seen}
 use Rattle.segstore.specs.Words.{fills}
 use Rattle.segstore.proofs.Keeping.{AreCalm}
-use Rattle.segpass.proofs.Draws.{AreUndrawn}
-use Rattle.segpass.proofs.Still.{AreStill}
-use Rattle.segpass.proofs.TakenBits.{AreNoTries}
+use Rattle.segstore.proofs.Draws.{AreUndrawn}
+use Rattle.segstore.proofs.Still.{AreStill}
+use Rattle.segstore.proofs.TakenBits.{AreNoTries}
 
 -- what goes on over one word more holds of so many
 fills_all : (P : List Event → Type 0) (p s r : ℕ) (words : List ℕ) (n : ℕ) → P [] → ((own : List Event) (place w : ℕ) → P own → P (Filled p s r place w ∷ own)) → P (fills p s r words n)

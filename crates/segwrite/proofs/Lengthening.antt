@@ -8,7 +8,7 @@ use Rattle.segcore.specs.Words.{drew, Event}
 use Rattle.segcore.proofs.Moments.{begins_on}
 use Rattle.segcore.proofs.Counts.{one_more}
 use Rattle.segbase.specs.Words.{Pass}
-use Rattle.segpass.specs.Words.{DrawsNothing}
+use Rattle.segstore.specs.Words.{DrawsNothing}
 use Rattle.segwrite.specs.Full.{DrewInNeed, GrowsFor}
 use Rattle.segwrite.specs.Growing.{puts, lengthens}
 

@@ -9,22 +9,21 @@ use Rattle.segcore.specs.Event as event
 use Rattle.segcore.specs.Words.{Bucket, drew, Event, HasBit, HasNoEmptyWord, last, NoneAt}
 use Rattle.segbase.specs.Words.{AddsEvents, Board, IsPassOf, number, Pass, Place, seen, trace}
 use Rattle.segbase.proofs.Moves.{moved_on, moved_then}
-use Rattle.segstore.specs.Words.{Idles}
+use Rattle.segstore.specs.Words.{HasCleanBit, Idles, memo}
 use Rattle.segstore.proofs.Keeping.{AreCalm}
 use Rattle.segwrite.specs.declared.find.Found.{Found}
 use Rattle.segwrite.specs.declared.find.Found.TheVariants.{Word, Full}
 use Rattle.segwrite.specs.Words.{Target}
-use Rattle.segpass.specs.Words.{HasCleanBit, memo}
 use Rattle.segwrite.specs.Full.{DrewInNeed}
 use Rattle.segwrite.specs.Writing.{IsTarget, HasFullChain, Finds}
 use Rattle.segwrite.specs.Growing.{bucket_seen, IsLast, Searches, target_of, puts, lengthens, CannotGrow, Lengthens, IsAsFound, MakesRoom}
 use Rattle.segwrite.proofs.Lengthening.{in_need_wider, longer_own, longer_other}
 use Rattle.segwrite.proofs.Places.{same_position, chain_later}
 use Rattle.segwrite.proofs.Rising.{earlier_yet, word_rose}
-use Rattle.segpass.proofs.Still.{AreStill}
-use Rattle.segpass.proofs.TakenBits.{AreNoTries}
+use Rattle.segstore.proofs.Still.{AreStill}
+use Rattle.segstore.proofs.TakenBits.{AreNoTries}
 use Rattle.segwrite.proofs.Storing.{target_later, clean_later}
-use Rattle.segpass.proofs.UnderBit.{moved_bucket, moved_at}
+use Rattle.segstore.proofs.UnderBit.{moved_bucket, moved_at}
 
 -- ---- what a search came to is so after more looks
 

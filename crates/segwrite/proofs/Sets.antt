@@ -19,28 +19,27 @@ use Rattle.segcore.specs.Mark as mark
 use Rattle.segbase.specs.Passes as passes
 use Rattle.segbase.proofs.Moves.{moved_on, moved_then}
 use Rattle.segbase.proofs.Starting.{starts_on, steps_then}
-use Rattle.segstore.specs.Words.{fills, Idles, KeepsSegments}
+use Rattle.segstore.specs.Words.{AddsEntry, ChangesNothing, DrawsNothing, fills, GoesOn}
+use Rattle.segstore.specs.Words.{HasCleanBit, Idles, IsQuiet, KeepsSegments, memo, TakesOneBit}
 use Rattle.segstore.proofs.Keeping.{keeps_plain}
-use Rattle.segpass.specs.Words.{AddsEntry, ChangesNothing, DrawsNothing, GoesOn, HasCleanBit}
-use Rattle.segpass.specs.Words.{IsQuiet, memo, TakesOneBit}
 use Rattle.segwrite.specs.Full.{IsFull, WasFull, GrowsFor}
 use Rattle.segwrite.specs.Writes.{one_more, UsesRow}
 use Rattle.segwrite.specs.FirstEmpty.{TookFirstEmpty}
 use Rattle.segwrite.specs.Writing.{HasFullChain}
 use Rattle.segwrite.specs.Storing.{StoresUnderBit, stores}
 use Rattle.segwrite.specs.Growing.{CannotGrow}
-use Rattle.segpass.proofs.Peeking.{PeeksInto}
-use Rattle.segpass.proofs.Bits.{none_at_both}
+use Rattle.segstore.proofs.Peeking.{PeeksInto}
+use Rattle.segstore.proofs.Bits.{none_at_both}
 use Rattle.segwrite.proofs.Growing.{no_word}
-use Rattle.segpass.proofs.Draws.{undrawn}
+use Rattle.segstore.proofs.Draws.{undrawn}
 use Rattle.segwrite.proofs.Lengthening.{in_need_wider}
 use Rattle.segwrite.proofs.Rooms.{IsReady, DrawsOnce}
-use Rattle.segpass.proofs.Still.{AreStill}
-use Rattle.segpass.proofs.TakenBits.{both_no_tries}
+use Rattle.segstore.proofs.Still.{AreStill}
+use Rattle.segstore.proofs.TakenBits.{both_no_tries}
 use Rattle.segwrite.proofs.FirstEmpty.{first_wider}
 use Rattle.segwrite.proofs.Filling.{fills_nowhere, fills_still, fills_undrawn, fills_untried, fills_seen}
-use Rattle.segpass.proofs.UnderBit.{moved_bucket, moved_bit}
-use Rattle.segpass.proofs.UnderWrite.{HasBegun, took_has, took_moved, took_clean, took_keeps, tries, tries_undrawn, write_goes_on, write_adds, write_drew, write_undrawn, write_peeking, write_takes, still_both}
+use Rattle.segstore.proofs.UnderBit.{moved_bucket, moved_bit}
+use Rattle.segstore.proofs.UnderWrite.{HasBegun, took_has, took_moved, took_clean, took_keeps, tries, tries_undrawn, write_goes_on, write_adds, write_drew, write_undrawn, write_peeking, write_takes, still_both}
 
 -- ---- after the search
 

@@ -17,11 +17,10 @@ use Rattle.segbase.specs.Words.{with_used}
 use Rattle.segbase.proofs.Moves.{moved_then}
 use Rattle.segbase.proofs.Known.{counted, own_alike, owner_counted}
 use Rattle.segbase.proofs.Owned.{moved_still}
-use Rattle.segstore.specs.Words.{fills, KeepsSegments}
+use Rattle.segstore.specs.Words.{fills, HasCleanBit, KeepsSegments, memo}
 use Rattle.segstore.proofs.Keeping.{same_used, keeps_plain, keeps_named}
 use Rattle.segwrite.specs.Words.{Target}
 use Rattle.segwrite.specs.FirstEmpty.{AreTakenBefore}
-use Rattle.segpass.specs.Words.{HasCleanBit, memo}
 use Rattle.segwrite.specs.Writes.{one_more, UsesRow}
 use Rattle.segwrite.specs.Writing.{IsTarget}
 use Rattle.segwrite.specs.Storing.{IsNextRow, StoresUnderBit, stores, HasWritten}
@@ -30,7 +29,7 @@ use Rattle.segwrite.proofs.FirstEmpty.{took_first}
 use Rattle.segwrite.proofs.Linking.{linked_by}
 use Rattle.segwrite.proofs.Places.{same_position, chain_later}
 use Rattle.segwrite.proofs.Rising.{earlier_later}
-use Rattle.segpass.proofs.UnderBit.{moved_bucket, moved_bit, moved_at, did_acts}
+use Rattle.segstore.proofs.UnderBit.{moved_bucket, moved_bit, moved_at, did_acts}
 
 -- ---- what stays so while the row is written
 

@@ -11,9 +11,8 @@ use Rattle.segmodel.specs.Words.{WriteAnswer}
 use Rattle.segbase.specs.Words.{Board, current_of, entered, glanced, locked_of, marked, number, OwnSegment, Pass}
 use Rattle.segbase.specs.Words.{SinceFirst, trace, with_own}
 use Rattle.segcore.specs.Mark as mark
-use Rattle.segstore.specs.Words.{has_room}
-use Rattle.segpass.specs.Words.{AddsEntry, ChangesNothing, DrawsNothing, GoesOn, IsBusy, memo}
-use Rattle.segpass.specs.Words.{RaisesNothing, ReadsNothing, TakesOneBit}
+use Rattle.segstore.specs.Words.{AddsEntry, ChangesNothing, DrawsNothing, GoesOn, has_room, IsBusy}
+use Rattle.segstore.specs.Words.{memo, RaisesNothing, ReadsNothing, TakesOneBit}
 use Rattle.segwrite.specs.Presence.{CameIn, depends_on_key}
 use Rattle.segwrite.specs.FirstEmpty.{TookFirstEmpty}
 use Rattle.segwrite.specs.Full.{WasFull, GrowsFor}

@@ -7,8 +7,7 @@ ghost use Rattle.segwrite.specs.Writing.{own_word, IsInChain, IsNext, Finds};
 ghost use Rattle.segword.specs.Words.{IsValid};
 ghost use Rattle.segbase.specs.Words.{content_for, HasItemOf, IsPassOf, IsWordOfContent};
 ghost use Rattle.segbase.specs.Words.{number, trace};
-ghost use Rattle.segstore.specs.Words.{Idles};
-ghost use Rattle.segpass.specs.Words.{MayEnterAny};
+ghost use Rattle.segstore.specs.Words.{Idles, MayEnterAny};
 ghost use Rattle.segwrite.specs.Presence.{IsPresentWord, Peeks};
 ghost use Rattle.segwrite.specs.Growing.{Searches};
 

@@ -6,7 +6,7 @@ ghost use Rattle.segmodel.specs.Words.{bucket_of, tag_of};
 ghost use Rattle.segcore.specs.declared.event.Event.TheVariants.{Unlinked};
 ghost use Rattle.segcore.specs.Words.{Fits, Leaving};
 ghost use Rattle.segbase.specs.Words.{AddsUnlink, HasItemOf, IsPassOf, number, position_at, trace};
-ghost use Rattle.segpass.specs.Words.{HasCleanBit, IsQuiet, MayEnterAny, memo};
+ghost use Rattle.segstore.specs.Words.{HasCleanBit, IsQuiet, MayEnterAny, memo};
 ghost use Rattle.segwrite.specs.Writing.{IsInChain, IsEarlier};
 ghost use Rattle.segwrite.specs.Writes.{Deletes};
 ghost use Rattle.segwrite.specs.Refusing.{Removes};
@@ -15,7 +15,7 @@ use crate::find::{Target, find, present_word};
 use crate::write::refuse;
 use segbase::{Board, Pass};
 use segmodel::DeleteAnswer;
-use segpass::take_to_write;
+use segstore::take_to_write;
 use segword::{Key, KeyWords, bucket_of, hash, tag_of};
 
 /// Takes the key out. A delete needs no row.

@@ -6,9 +6,9 @@ ghost use Rattle.segmodel.specs.declared.request.Request.TheVariants.{Set, Add, 
 ghost use Rattle.segmodel.specs.Words.{after, bucket_of, key_of, present, tag_of, value_of};
 ghost use Rattle.segcore.specs.declared.event.Event.TheVariants.{Linked};
 ghost use Rattle.segcore.specs.Words.{Fits, IsRefusal};
-ghost use Rattle.segstore.specs.Words.{Idles, KeepsSegments};
+ghost use Rattle.segstore.specs.Words.{HasCleanBit, Idles, IsQuiet, KeepsSegments, MayEnterAny};
+ghost use Rattle.segstore.specs.Words.{memo};
 ghost use Rattle.segbase.specs.Words.{AddsLink, IsPassOf, number, position_at, seen, trace};
-ghost use Rattle.segpass.specs.Words.{HasCleanBit, IsQuiet, MayEnterAny, memo};
 ghost use Rattle.segwrite.specs.Presence.{PeeksFor};
 ghost use Rattle.segwrite.specs.Writes.{UsesRow, IsSetAnswer, Writes};
 ghost use Rattle.segwrite.specs.Writing.{Finds, IsTarget};
@@ -19,7 +19,7 @@ use crate::find::{Target, present_word, search};
 use crate::grow::make_room;
 use segbase::{Board, Pass};
 use segmodel::WriteAnswer;
-use segpass::take_to_write;
+use segstore::take_to_write;
 use segword::{Item, Key, KeyWords, Value, bucket_of, hash, tag_of};
 
 // When a write stores.

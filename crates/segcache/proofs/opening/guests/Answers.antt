@@ -5,7 +5,7 @@ use Rattle.std.proofs.lemmas.List.{append-nil, map-append, nil_from_length}
 use Rattle.std.proofs.lemmas.List.Elements.{All-head, All-same, All-rest}
 use Rattle.segbase.specs.Words.{holding, Pass}
 use Rattle.segindex.specs.Words.{board_of, Index, shape_of}
-use Rattle.segpass.specs.Words.{IsQuiet}
+use Rattle.segstore.specs.Words.{IsQuiet}
 use Rattle.segclient.specs.declared.member.Member.{Member}
 use Rattle.segclient.specs.Member.{Begins, IsMember}
 use Rattle.segclient.proofs.Places.{zip_push}

@@ -4,7 +4,7 @@ use Rattle.std.specs.Vec.Iter.{into_iter_items}
 use Rattle.std.proofs.lemmas.List.{append-nil, nil_from_length}
 use Rattle.std.proofs.lemmas.List.Elements.{All-rest}
 use Rattle.segindex.specs.Words.{board_of, IsNew}
-use Rattle.segpass.specs.Words.{IsQuiet}
+use Rattle.segstore.specs.Words.{IsQuiet}
 use Rattle.segclient.specs.declared.client.Client.{Client}
 use Rattle.segclient.specs.Client.{Starts}
 use Rattle.segclient.proofs.Places.{zip_push}

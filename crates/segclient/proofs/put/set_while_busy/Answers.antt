@@ -1,7 +1,7 @@
 use Rattle.std.proofs.Common.{◌≡◌, ◌≢◌, ◌+◌, ◌<◌, ◌≤◌, ◌∷◌, refl, sym, ap, ◌∙◌, subst, arith}
 use Rattle.segmodel.specs.declared.answer.WriteAnswer.TheVariants as write
 use Rattle.segindex.specs.Words.{board_of}
-use Rattle.segpass.proofs.Idling.{goes_same}
+use Rattle.segstore.proofs.Idling.{goes_same}
 use Rattle.segevict.proofs.RowsOut.{goes_then}
 use Rattle.segclient.specs.declared.put.PutAnswer.TheVariants as put
 use Rattle.segclient.specs.PutCalls.{sets, Makes}

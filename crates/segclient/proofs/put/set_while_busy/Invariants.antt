@@ -1,7 +1,7 @@
 use Rattle.std.proofs.Common.{◌≡◌}
 use Rattle.segbase.specs.Words.{Pass}
 use Rattle.segindex.specs.Words.{board_of}
-use Rattle.segpass.specs.Words.{GoesOn}
+use Rattle.segstore.specs.Words.{GoesOn}
 use Rattle.segclient.specs.PutCalls.{Makes}
 use Rattle.segclient.specs.Putting.{busy_sets}
 use Rattle.segclient.specs.PutParts.{plan_of}

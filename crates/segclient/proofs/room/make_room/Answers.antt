@@ -1,8 +1,8 @@
 use Rattle.std.proofs.Common.{◌≡◌, ◌≢◌, ℕ, ◌+◌, ◌-◌, ◌*◌, ◌<◌, ◌≤◌, false, true, Some, refl, sym, ap, ◌∙◌, subst, arith, rules}
 use Rattle.segbase.specs.Words.{current_of, number}
 use Rattle.segindex.specs.Words.{board_of}
-use Rattle.segpass.specs.Words.{GoesOn}
-use Rattle.segpass.proofs.Idling.{goes_same}
+use Rattle.segstore.specs.Words.{GoesOn}
+use Rattle.segstore.proofs.Idling.{goes_same}
 use Rattle.segevict.proofs.RowsOut.{goes_then}
 use Rattle.segpolicy.specs.Words.{turned}
 use Rattle.segclient.specs.PutParts.{GivesUp}

@@ -1,5 +1,5 @@
 use Rattle.std.proofs.Common.{◌≡◌, ◌-◌, ◌^◌}
-use Rattle.segpass.specs.Words.{memo}
+use Rattle.segstore.specs.Words.{memo}
 use Rattle.segwrite.proofs.Linking.{Retrying}
 use Rattle.segevict.proofs.Relinking.{relink_event}
 use Rattle.segevict.proofs.retention.relink.Given as goal

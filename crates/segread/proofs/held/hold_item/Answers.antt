@@ -3,7 +3,7 @@ use Rattle.segmodel.specs.Words.{stirred}
 use Rattle.segword.specs.Words.{item_word}
 use Rattle.segcore.specs.Event as event
 use Rattle.segbase.proofs.Starting.{starts_on}
-use Rattle.segpass.proofs.Still.{steps_to}
+use Rattle.segstore.proofs.Still.{steps_to}
 use Rattle.segstore.proofs.Readers.{enter_then, leave_then, looks}
 use Rattle.segread.specs.declared.held.HoldAnswer.TheVariants.{Busy, Miss}
 use Rattle.segread.specs.Reads.{ReadsBetween}
@@ -12,7 +12,7 @@ use Rattle.segread.proofs.Tries.{found_from}
 use Rattle.segread.proofs.Deadlines.{expired_reads, deadline_lasts}
 use Rattle.std.proofs.Common.{◌≤◌, None, Some, refl, ◌∙◌, arith, rules}
 use Rattle.segbase.specs.Words.{seen, trace}
-use Rattle.segpass.proofs.Idling.{goes_same}
+use Rattle.segstore.proofs.Idling.{goes_same}
 use Rattle.segread.proofs.Answered.{gone_reads}
 use Rattle.segread.proofs.ComingIn.{glances_none, leaves, looked, raises_none, same_view, out_then, few_out}
 use Rattle.segread.proofs.Hits.{hit_readable, read_in, read_value}

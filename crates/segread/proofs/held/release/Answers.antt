@@ -2,7 +2,7 @@ use Rattle.std.proofs.Common.{None, [], ◌∷◌}
 use Rattle.segcore.specs.declared.event.Event.TheVariants.{Left}
 use Rattle.segbase.specs.Words.{number}
 use Rattle.segbase.proofs.Moves.{moved_raised, moved_entered, moved_glanced}
-use Rattle.segpass.proofs.Costs.{costs_nothing}
+use Rattle.segstore.proofs.Costs.{costs_nothing}
 use Rattle.segread.proofs.HoldCalls.{moved_to, releases, takes_no_bit, draws_nothing}
 use Rattle.segread.proofs.held.release.Goals as goal
 

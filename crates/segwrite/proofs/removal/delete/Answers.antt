@@ -2,7 +2,7 @@ use Rattle.std.proofs.Common.{◌≡◌, ◌%◌, false, refl, sym, ap, ◌∙�
 use Rattle.segword.specs.Words.{tag_from_hash}
 use Rattle.segmodel.specs.declared.request.Request.TheVariants.{Delete}
 use Rattle.segmodel.specs.Words.{bucket_of, tag_of}
-use Rattle.segpass.specs.Words.{TakesToWrite, TookToWrite}
+use Rattle.segstore.specs.Words.{TakesToWrite, TookToWrite}
 use Rattle.segwrite.specs.Refusing.{Removes}
 use Rattle.segwrite.proofs.Deleting.{deletes, deletes_nothing}
 use Rattle.segstore.proofs.Refills.{idles}

@@ -1,7 +1,7 @@
 use Rattle.std.proofs.Common.{◌∙◌}
 use Rattle.segmodel.specs.Words.{key_of, value_of}
 use Rattle.segbase.specs.Words.{number}
-use Rattle.segpass.specs.Words.{peek}
+use Rattle.segstore.specs.Words.{peek}
 use Rattle.segwrite.proofs.Presence.{clean_still, depends, peek_nowhere, peeks_for_none, peeks_then, word_tells}
 use Rattle.segwrite.proofs.write.refusal.Goals as goal
 

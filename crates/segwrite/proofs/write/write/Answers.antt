@@ -6,7 +6,7 @@ use Rattle.segwrite.specs.Storing.{HasWritten}
 use Rattle.segwrite.specs.Writing.{Finds}
 use Rattle.segwrite.proofs.Writes.{at_home, may_refuse, may_tell, may_make, may_end, may_store, ends_busy, ends_refused, ends_full, ends_stored}
 use Rattle.segwrite.proofs.Refused.{asks}
-use Rattle.segpass.specs.Words.{TakesToWrite}
+use Rattle.segstore.specs.Words.{TakesToWrite}
 use Rattle.segwrite.proofs.write.write.Goals as goal
 
 pub returns-then-not-take_to_write : goal.returns-then-not-take_to_write
