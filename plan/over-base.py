@@ -9,7 +9,7 @@ What changed below is built first: over-base.py build in that crate; its out/ove
 """
 import importlib.machinery, importlib.util, os, subprocess, sys
 sys.dont_write_bytecode = True
-KIT, BASE = "/opt/rattle", "/work/gate/base/crates"
+KIT, BASE = "/opt/rattle", os.environ.get("OVER_BASE", "/work/gate/final/crates")
 loader = importlib.machinery.SourceFileLoader("rtlib", f"{KIT}/bin/rtlib.py")
 rtlib = importlib.util.module_from_spec(importlib.util.spec_from_loader("rtlib", loader))
 sys.modules["rtlib"] = rtlib
