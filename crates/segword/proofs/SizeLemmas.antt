@@ -17,7 +17,7 @@ power_min n power = elim (cases_lt n 65536) [
 
 module _ (keys passes near each segments rows : ℕ) (few : keys ≤ 425984) (in_range : IsInRange 1 64 passes)
     (power : IsPowerOfTwo near) (over : div_ceil keys 4 ≤ near)
-    (is_each : each ≡ max (div_ceil (2 * keys) passes) 1) (is_segments : segments ≡ max (div_ceil each 4096) 8) (is_rows : rows ≡ div_ceil each segments) where
+    (is_each : each ≡ max (div_ceil (2 * keys) passes) 1) (is_segments : segments ≡ max (div_ceil each 4096) 64) (is_rows : rows ≡ div_ceil each segments) where
   abbrev pub made : Shape
   made = record { buckets = min near 65536; overflow = min near 65536; passes = passes; segments_each = segments; rows = rows; first_version = 0 }
 
@@ -44,7 +44,7 @@ module _ (keys passes near each segments rows : ℕ) (few : keys ≤ 425984) (in
           let more : each * 1 ≤ each * passes = mul-le-mul_left each in_range.0 in
           (omega (arith, share_times.0), omega (arith, share_times.1, in_range.1), omega arith, omega (arith, share_times.1, in_range.1))
 
-  segments_fit : (8 ≤ segments) × (segments ≤ 209) × (each ≤ segments * 4096)
+  segments_fit : (64 ≤ segments) × (segments ≤ 209) × (each ≤ segments * 4096)
   segments_fit =
       let times = div_ceil_times each 4096 (omega arith) in
       let few = each_fits.3 in
@@ -93,6 +93,7 @@ module _ (keys passes near each segments rows : ℕ) (few : keys ≤ 425984) (in
         let one : passes * segments * rows ≡ passes * (rows * segments) = omega arith in
         let other : passes * each ≡ each * passes = omega arith in
         omega (arith, each_fits.0);
+    segments = segments_fit.0;
   }
     where
       words : (near < 65536) ⊎ (65536 ≤ near) → 2 * keys ≤ 7 * min near 65536 + 6 * min near 65536

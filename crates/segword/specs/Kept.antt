@@ -1,19 +1,9 @@
--- The bytes in which keys and values are kept: their own, and others behind them.
-use Rattle.std.specs.Prelude.{◌≡◌, ◌≤◌, ℕ, List, take}
-use Rattle.segword.specs.Bytes.{IsKey, IsValue}
-use Rattle.segword.specs.Row.{bytes_of, words_from}
+-- What a key keeps beside its bytes.
+use Rattle.std.specs.Prelude.{◌≡◌, ℕ, List}
+use Rattle.segword.specs.Bytes.{IsKey}
+use Rattle.segword.specs.Row.{words_from}
 
--- a key's bytes, and 0 behind them up to 24
-abbrev pub key_bytes : List ℕ → List ℕ
-key_bytes key = bytes_of (words_from 3 key 0) 24
-
--- a key of this length is kept in these bytes
-pub record AreKeyBytes (len : ℕ) (bytes : List ℕ) : Type 0 where
-  pub fits : len ≤ 24
-  pub is_key : IsKey (take len bytes)
-  pub same_bytes : key_bytes (take len bytes) ≡ bytes
-
--- a value of this length is kept in these bytes
-pub record AreValueBytes (len : ℕ) (bytes : List ℕ) : Type 0 where
-  pub fits : len ≤ 32
-  pub is_value : IsValue (take len bytes)
+-- the bytes are a key, and the words are theirs
+pub record AreKeyParts (bytes words : List ℕ) : Type 0 where
+  pub is_key : IsKey bytes
+  pub same_words : words_from 3 bytes 0 ≡ words

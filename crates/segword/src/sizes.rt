@@ -6,14 +6,16 @@ use crate::{Shape, ShapeFault};
 // The most keys that a table has two words for each.
 const MOST_KEYS: u32 = 425_984;
 
-// How many segments each pass has at least, so that a pass gives up few keys with one.
-const LEAST_SEGMENTS: u32 = 8;
+// How many segments each pass has at least, so that a pass gives up few keys with one,
+// and can keep what was read in some of them.
+const LEAST_SEGMENTS: u32 = 64;
 
 impl Shape {
     ghost use Rattle.segword.specs.Shape.{HasRoomFor, IsFaultOfKeys, IsValid, word_count};
 
     /// A shape for this number of passes, in which this number of keys has room to spare:
     /// for each key its chains have two item words, and the segments of all passes two rows.
+    /// Each pass has 64 segments at least.
     /// There is one for up to 425,984 keys and 1 to 64 passes.
     pub fn for_keys(keys: u32, passes: u32) -> Result<Shape, ShapeFault>
         ensures ok { IfOk result (λ shape.
