@@ -5,15 +5,15 @@ use Rattle.std.proofs.lemmas.Option.{none-some}
 use Rattle.segword.specs.Words.{Shape}
 use Rattle.segmodel.specs.History as history
 use Rattle.segcore.specs.declared.event.Event.TheVariants.{Bounced, Glanced, Drew}
-use Rattle.segcore.specs.Words.{AllBy, bucket_after, by, drawn_for, Event, IsLawful, IsOther}
-use Rattle.segcore.specs.Words.{NoneBy}
+use Rattle.segcore.specs.Words.{AllBy, bounced, bucket_after, by, drawn_for, drew, Event, glanced}
+use Rattle.segcore.specs.Words.{IsLawful, IsOther, NoneBy}
 use Rattle.segcore.specs.Event as event
-use Rattle.segcore.specs.Count as count
+use Rattle.segcore.specs.Count as traces
 use Rattle.segcore.specs.Mark as mark
 use Rattle.segcore.proofs.Counts.{mine_own}
 use Rattle.segcore.proofs.Quiet.{not_mine}
 use Rattle.segbase.specs.Words.{Board, Pass}
-use Rattle.segbase.specs.Passes.{number, trace, marked, seen, mine, bounced, glanced, drew, IsPassOf, AddsEvents}
+use Rattle.segbase.specs.Passes.{number, trace, marked, seen, mine, count, IsPassOf, AddsEvents}
 use Rattle.segbase.proofs.Owning.{own_all}
 
 all_first : (h : List Event) → ((n : ℕ) → 1 ≤ n → NoneBy n h) → AllBy 0 h
@@ -32,21 +32,21 @@ none_by p q (e ∷ h) other all = ((λ is. other (sym is ∙ all.0)), none_by p 
 no_other : (z : Shape) (p a : ℕ) (h : List Event) → AllBy p h → ¬ (IsOther p (bucket_after z h a).holder)
 no_other z p a h all (q, held, other) = subst (λ g. (bucket_after z g a).holder ≢ Some q) (append-nil h) (not_mine z h [] q a (none_by p q h other all) (λ e. none-some q e)) held
 
-no_bounce : (z : Shape) (p b : ℕ) (h : List Event) → IsLawful z h → AllBy p h → count.bounced p b h ≡ 0
+no_bounce : (z : Shape) (p b : ℕ) (h : List Event) → IsLawful z h → AllBy p h → traces.count (bounced b) p h ≡ 0
 no_bounce z p b [] l all = refl
 no_bounce z p b (Bounced q a ∷ h) l all = absurd (no_other z p a h all.1 (subst (λ n. IsOther n (bucket_after z h a).holder) all.0 l.1.suits))
 no_bounce z p b (e ∷ h) l all = no_bounce z p b h l.0 all.1
 
-no_glance : (z : Shape) (p b : ℕ) (h : List Event) → IsLawful z h → AllBy p h → count.glanced p b h ≡ 0
+no_glance : (z : Shape) (p b : ℕ) (h : List Event) → IsLawful z h → AllBy p h → traces.count (glanced b) p h ≡ 0
 no_glance z p b [] l all = refl
 no_glance z p b (Glanced q a ∷ h) l all = absurd (no_other z p a h all.1 (subst (λ n. IsOther n (bucket_after z h a).holder) all.0 l.1.suits))
 no_glance z p b (e ∷ h) l all = no_glance z p b h l.0 all.1
 
 -- each overflow bucket of a bucket was drawn by it
-all_drew : (p b : ℕ) (h : List Event) → AllBy p h → drawn_for (mark.marked h) b ≡ count.drew p b h
+all_drew : (p b : ℕ) (h : List Event) → AllBy p h → drawn_for (mark.marked h) b ≡ traces.count (drew b) p h
 all_drew p b [] all = refl
 all_drew p b (Drew q a d m ∷ h) all = ap (λ n. cond (eqb a b) (n + 1) n) (all_drew p b h all.1)
-    ∙ sym (ap (λ t. cond (t && eqb a b) (count.drew p b h + 1) (count.drew p b h)) (eq-eqb q p all.0))
+    ∙ sym (ap (λ t. cond (t && eqb a b) (traces.count (drew b) p h + 1) (traces.count (drew b) p h)) (eq-eqb q p all.0))
 all_drew p b (e ∷ h) all = all_drew p b h all.1
 
 -- ---- of a pass
@@ -56,13 +56,13 @@ pub mine_alone : (b : Board) (p : Pass) → IsPassOf b p → b.shape.passes ≡ 
 mine_alone b p is one = let h = trace p in
     subst (λ g. history.mine (number p) (event.seen g) ≡ event.seen h) (append-nil h) (mine_own (number p) h [] (is.alone one) ∙ append-nil (event.seen h))
 
-pub bounced_alone : (b : Board) (p : Pass) (bucket : ℕ) → IsPassOf b p → b.shape.passes ≡ 1 → bounced p bucket ≡ 0
+pub bounced_alone : (b : Board) (p : Pass) (bucket : ℕ) → IsPassOf b p → b.shape.passes ≡ 1 → count (bounced bucket) p ≡ 0
 bounced_alone b p bucket is one = no_bounce b.shape (number p) bucket (trace p) is.lawful (is.alone one)
 
-pub glanced_alone : (b : Board) (p : Pass) (bucket : ℕ) → IsPassOf b p → b.shape.passes ≡ 1 → glanced p bucket ≡ 0
+pub glanced_alone : (b : Board) (p : Pass) (bucket : ℕ) → IsPassOf b p → b.shape.passes ≡ 1 → count (glanced bucket) p ≡ 0
 glanced_alone b p bucket is one = no_glance b.shape (number p) bucket (trace p) is.lawful (is.alone one)
 
-pub drew_alone : (b : Board) (p : Pass) (bucket : ℕ) → IsPassOf b p → b.shape.passes ≡ 1 → drawn_for (marked p) bucket ≡ drew p bucket
+pub drew_alone : (b : Board) (p : Pass) (bucket : ℕ) → IsPassOf b p → b.shape.passes ≡ 1 → drawn_for (marked p) bucket ≡ count (drew bucket) p
 drew_alone b p bucket is one = all_drew (number p) bucket (trace p) (is.alone one)
 
 all_front : (p : ℕ) (xs ys : List Event) → AllBy p (xs ++ ys) → AllBy p xs

@@ -3,8 +3,8 @@ use Rattle.std.proofs.Common.{◌≡◌, ℕ, ◌+◌, ◌-◌, ◌<◌, Bool, t
 use Rattle.std.proofs.lemmas.Bool.{cond-true, eq-eqb}
 use Rattle.segmodel.specs.Words.{Begins, Entry, mine}
 use Rattle.segcore.specs.declared.event.Event.TheVariants.{Entered, Left}
-use Rattle.segcore.specs.Words.{bounced, bucket_after, drew, entered, entry_of, Event, glanced}
-use Rattle.segcore.specs.Words.{HasBit, inside, May, raised, release, seen, taken, with_entry}
+use Rattle.segcore.specs.Words.{bucket_after, count, Counted, entry_of, Event, HasBit, inside, May}
+use Rattle.segcore.specs.Words.{release, seen, with_entry}
 use Rattle.segbase.specs.Words.{Board, Pass}
 use Rattle.segbase.specs.Traces.{own_of, StaysIn, OnlyReads}
 use Rattle.segbase.specs.Passes.{number, trace, IsPassOf, AddsEvents, AddsAtOnce, Reads, ReadsIn}
@@ -12,7 +12,7 @@ use Rattle.segbase.proofs.Starting.{steps_then}
 use Rattle.segbase.specs.Passes as passes
 use Rattle.segbase.specs.Steps.{Takes}
 use Rattle.segcore.proofs.Quiet.{quiet}
-use Rattle.segbase.proofs.Owning.{own_both, own_inside, own_mine, own_taken, own_bounced, own_glanced, own_drew, own_raised, own_entered}
+use Rattle.segbase.proofs.Owning.{own_both, own_inside, own_mine, own_count}
 use Rattle.segbase.proofs.Staying.{stays_now, stays_first, stays_last, stays_both, none_both}
 
 -- nothing was done
@@ -27,23 +27,8 @@ moved_inside b own p q s m = ap (λ h. inside h (number p) s) m.goes_on ∙ (own
 pub moved_mine : (b : Board) (own : List Event) (p q : Pass) → AddsEvents b own p q → passes.mine q ≡ mine (number p) (seen (own ++ trace p))
 moved_mine b own p q m = ap (λ n. mine n (seen (trace q))) m.same ∙ (ap (λ h. mine (number p) (seen h)) m.goes_on ∙ (own_mine m.more (trace p) (number p) ∙ ap (λ es. mine (number p) (seen (es ++ trace p))) m.adds))
 
-pub moved_taken : (b : Board) (own : List Event) (p q : Pass) → AddsEvents b own p q → passes.taken q ≡ taken (number p) (own ++ trace p)
-moved_taken b own p q m = ap (λ n. taken n (trace q)) m.same ∙ (ap (taken (number p)) m.goes_on ∙ (own_taken m.more (trace p) (number p) ∙ ap (λ es. taken (number p) (es ++ trace p)) m.adds))
-
-pub moved_bounced : (b : Board) (own : List Event) (p q : Pass) (c : ℕ) → AddsEvents b own p q → passes.bounced q c ≡ bounced (number p) c (own ++ trace p)
-moved_bounced b own p q c m = ap (λ n. bounced n c (trace q)) m.same ∙ (ap (bounced (number p) c) m.goes_on ∙ (own_bounced m.more (trace p) (number p) c ∙ ap (λ es. bounced (number p) c (es ++ trace p)) m.adds))
-
-pub moved_glanced : (b : Board) (own : List Event) (p q : Pass) (c : ℕ) → AddsEvents b own p q → passes.glanced q c ≡ glanced (number p) c (own ++ trace p)
-moved_glanced b own p q c m = ap (λ n. glanced n c (trace q)) m.same ∙ (ap (glanced (number p) c) m.goes_on ∙ (own_glanced m.more (trace p) (number p) c ∙ ap (λ es. glanced (number p) c (es ++ trace p)) m.adds))
-
-pub moved_drew : (b : Board) (own : List Event) (p q : Pass) (c : ℕ) → AddsEvents b own p q → passes.drew q c ≡ drew (number p) c (own ++ trace p)
-moved_drew b own p q c m = ap (λ n. drew n c (trace q)) m.same ∙ (ap (drew (number p) c) m.goes_on ∙ (own_drew m.more (trace p) (number p) c ∙ ap (λ es. drew (number p) c (es ++ trace p)) m.adds))
-
-pub moved_raised : (b : Board) (own : List Event) (p q : Pass) → AddsEvents b own p q → passes.raised q ≡ raised (number p) (own ++ trace p)
-moved_raised b own p q m = ap (λ n. raised n (trace q)) m.same ∙ (ap (raised (number p)) m.goes_on ∙ (own_raised m.more (trace p) (number p) ∙ ap (λ es. raised (number p) (es ++ trace p)) m.adds))
-
-pub moved_entered : (b : Board) (own : List Event) (p q : Pass) → AddsEvents b own p q → passes.entered q ≡ entered (number p) (own ++ trace p)
-moved_entered b own p q m = ap (λ n. entered n (trace q)) m.same ∙ (ap (entered (number p)) m.goes_on ∙ (own_entered m.more (trace p) (number p) ∙ ap (λ es. entered (number p) (es ++ trace p)) m.adds))
+pub moved_count : (b : Board) (own : List Event) (p q : Pass) (what : Counted) → AddsEvents b own p q → passes.count what q ≡ count what (number p) (own ++ trace p)
+moved_count b own p q what m = ap (λ n. count what n (trace q)) m.same ∙ (ap (count what (number p)) m.goes_on ∙ (own_count what m.more (trace p) (number p) ∙ ap (λ es. count what (number p) (es ++ trace p)) m.adds))
 
 -- what it has seen only grows
 pub moved_on : (b : Board) (own : List Event) (p q : Pass) → AddsEvents b own p q → Begins (trace p) (trace q)

@@ -1,11 +1,11 @@
 -- A pass's own events, picked from among all: whatever only they change is the same for them alone.
 use Rattle.std.proofs.Common.{◌≡◌, ◌≢◌, ℕ, ◌+◌, ◌-◌, cond, eqb, ◌&&◌, List, [], ◌∷◌, ◌++◌, Option, Some, None, refl, sym, ap, ◌∙◌, ⊎_elim}
 use Rattle.std.proofs.lemmas.Bool.{cases_Bool, eq-eqb, ne_eqb, false≢true}
-use Rattle.segcore.specs.declared.event.Event.TheVariants.{Took, Bounced, Glanced, Drew, Bumped, Entered, Left}
-use Rattle.segcore.specs.Words.{AllBy, bounced, by, drew, entered, entry_of, Event, glanced, inside}
-use Rattle.segcore.specs.Words.{NoneBy, raised, seen, taken, with_entry}
+use Rattle.segcore.specs.declared.event.Event.TheVariants.{Entered, Left}
+use Rattle.segcore.specs.Words.{AllBy, by, count, Counted, entry_of, Event, inside, is_counted}
+use Rattle.segcore.specs.Words.{NoneBy, seen, with_entry}
 use Rattle.segmodel.specs.Words.{Entry, mine, pass_of}
-use Rattle.segcore.proofs.Counts.{mine_others, taken_others, bounced_others, glanced_others, drew_others, raised_others, entered_others}
+use Rattle.segcore.proofs.Counts.{mine_others, count_others}
 use Rattle.segcore.proofs.Quiet.{quiet_inside}
 use Rattle.segbase.specs.Traces.{own_of}
 
@@ -51,17 +51,8 @@ mine_with p (Some added) h g same = ap (λ x. cond (eqb (pass_of added) p) (adde
 mine_follows : (p : ℕ) → Follows p (λ h. mine p (seen h))
 mine_follows p = record { again = λ e h g same. mine_with p (entry_of e) (seen h) (seen g) same; skips = λ e h n. mine_others p (e ∷ []) h (n, tt) }
 
-taken_again : (p : ℕ) (e : Event) (h g : List Event) → taken p h ≡ taken p g → taken p (e ∷ h) ≡ taken p (e ∷ g)
-taken_again p (Took q b) h g same = ap (λ n. cond (eqb q p) (n + 1) n) same
-taken_again p e h g same = same
-
-bounced_again : (p b : ℕ) (e : Event) (h g : List Event) → bounced p b h ≡ bounced p b g → bounced p b (e ∷ h) ≡ bounced p b (e ∷ g)
-bounced_again p b (Bounced q a) h g same = ap (λ n. cond (eqb q p && eqb a b) (n + 1) n) same
-bounced_again p b e h g same = same
-
-glanced_again : (p b : ℕ) (e : Event) (h g : List Event) → glanced p b h ≡ glanced p b g → glanced p b (e ∷ h) ≡ glanced p b (e ∷ g)
-glanced_again p b (Glanced q a) h g same = ap (λ n. cond (eqb q p && eqb a b) (n + 1) n) same
-glanced_again p b e h g same = same
+count_again : (what : Counted) (p : ℕ) (e : Event) (h g : List Event) → count what p h ≡ count what p g → count what p (e ∷ h) ≡ count what p (e ∷ g)
+count_again what p e h g same = ap (λ n. cond (is_counted what p e) (n + 1) n) same
 
 pub own_inside : (more h : List Event) (p s : ℕ) → inside (more ++ h) p s ≡ inside (own_of p more ++ h) p s
 own_inside more h p s = own_same p (λ g. inside g p s) (inside_follows p s) more h
@@ -69,32 +60,5 @@ own_inside more h p s = own_same p (λ g. inside g p s) (inside_follows p s) mor
 pub own_mine : (more h : List Event) (p : ℕ) → mine p (seen (more ++ h)) ≡ mine p (seen (own_of p more ++ h))
 own_mine more h p = own_same p (λ g. mine p (seen g)) (mine_follows p) more h
 
-pub own_taken : (more h : List Event) (p : ℕ) → taken p (more ++ h) ≡ taken p (own_of p more ++ h)
-own_taken more h p = own_same p (taken p) (record { again = taken_again p; skips = λ e h n. taken_others p (e ∷ []) h (n, tt) }) more h
-
-pub own_bounced : (more h : List Event) (p b : ℕ) → bounced p b (more ++ h) ≡ bounced p b (own_of p more ++ h)
-own_bounced more h p b = own_same p (bounced p b) (record { again = bounced_again p b; skips = λ e h n. bounced_others p b (e ∷ []) h (n, tt) }) more h
-
-pub own_glanced : (more h : List Event) (p b : ℕ) → glanced p b (more ++ h) ≡ glanced p b (own_of p more ++ h)
-own_glanced more h p b = own_same p (glanced p b) (record { again = glanced_again p b; skips = λ e h n. glanced_others p b (e ∷ []) h (n, tt) }) more h
-
-drew_again : (p b : ℕ) (e : Event) (h g : List Event) → drew p b h ≡ drew p b g → drew p b (e ∷ h) ≡ drew p b (e ∷ g)
-drew_again p b (Drew q a d m) h g same = ap (λ n. cond (eqb q p && eqb a b) (n + 1) n) same
-drew_again p b e h g same = same
-
-pub own_drew : (more h : List Event) (p b : ℕ) → drew p b (more ++ h) ≡ drew p b (own_of p more ++ h)
-own_drew more h p b = own_same p (drew p b) (record { again = drew_again p b; skips = λ e h n. drew_others p b (e ∷ []) h (n, tt) }) more h
-
-raised_again : (p : ℕ) (e : Event) (h g : List Event) → raised p h ≡ raised p g → raised p (e ∷ h) ≡ raised p (e ∷ g)
-raised_again p (Bumped q s r f) h g same = ap (λ n. cond (eqb q p) (n + 1) n) same
-raised_again p e h g same = same
-
-pub own_raised : (more h : List Event) (p : ℕ) → raised p (more ++ h) ≡ raised p (own_of p more ++ h)
-own_raised more h p = own_same p (raised p) (record { again = raised_again p; skips = λ e h n. raised_others p (e ∷ []) h (n, tt) }) more h
-
-entered_again : (p : ℕ) (e : Event) (h g : List Event) → entered p h ≡ entered p g → entered p (e ∷ h) ≡ entered p (e ∷ g)
-entered_again p (Entered q s) h g same = ap (λ n. cond (eqb q p) (n + 1) n) same
-entered_again p e h g same = same
-
-pub own_entered : (more h : List Event) (p : ℕ) → entered p (more ++ h) ≡ entered p (own_of p more ++ h)
-own_entered more h p = own_same p (entered p) (record { again = entered_again p; skips = λ e h n. entered_others p (e ∷ []) h (n, tt) }) more h
+pub own_count : (what : Counted) (more h : List Event) (p : ℕ) → count what p (more ++ h) ≡ count what p (own_of p more ++ h)
+own_count what more h p = own_same p (count what p) (record { again = count_again what p; skips = λ e h n. count_others what p (e ∷ []) h (n, tt) }) more h

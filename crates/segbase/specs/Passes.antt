@@ -1,9 +1,9 @@
 -- A pass as contracts see it, and what its steps and calls do.
 use Rattle.std.specs.Prelude.{◌≡◌, ℕ, ◌+◌, ◌*◌, ◌<◌, ◌==◌, ◌⊎◌, List, [], ◌∷◌, ◌++◌, length, Option, true, if◌then◌else◌}
 use Rattle.segword.specs.Words.{IsValid}
-use Rattle.segcore.specs.Words.{adds, AllBy, becomes, cell, Event, inside, IsLawful, Mark, May}
-use Rattle.segcore.specs.Words.{NoneBy, NoneRefills, Step, Told, View}
-use Rattle.segcore.specs.Count as count
+use Rattle.segcore.specs.Words.{adds, AllBy, becomes, cell, Counted, Event, inside, IsLawful, Mark}
+use Rattle.segcore.specs.Words.{May, NoneBy, NoneRefills, Step, Told, View}
+use Rattle.segcore.specs.Count as traces
 use Rattle.segcore.specs.Event as event
 use Rattle.segcore.specs.Mark as mark
 use Rattle.segcore.specs.Segment as segments
@@ -48,27 +48,9 @@ seen p = event.seen (trace p)
 abbrev pub mine : Pass → List Entry
 mine p = history.mine (number p) (seen p)
 
--- how often the pass set a bit, found the bit of a bucket set by a take, and by a glance
-abbrev pub taken : Pass → ℕ
-taken p = count.taken (number p) (trace p)
-
-abbrev pub bounced : Pass → ℕ → ℕ
-bounced p bucket = count.bounced (number p) bucket (trace p)
-
-abbrev pub glanced : Pass → ℕ → ℕ
-glanced p bucket = count.glanced (number p) bucket (trace p)
-
--- how many overflow buckets the pass drew for a bucket
-abbrev pub drew : Pass → ℕ → ℕ
-drew p bucket = count.drew (number p) bucket (trace p)
-
--- how often the pass raised the frequency of an item
-abbrev pub raised : Pass → ℕ
-raised p = count.raised (number p) (trace p)
-
--- how often the pass came into a segment
-abbrev pub entered : Pass → ℕ
-entered p = count.entered (number p) (trace p)
+-- how often the pass did what is counted
+abbrev pub count : Counted → Pass → ℕ
+count what p = traces.count what (number p) (trace p)
 
 -- what the pass holds and what it has locked
 abbrev pub holding : Pass → Option Held

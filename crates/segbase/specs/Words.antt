@@ -4,11 +4,10 @@ pub use Rattle.segbase.specs.Closing.{word_of_cell}
 pub use Rattle.segbase.specs.Made.{IsMade, IsMakeFault, IsNewPass, IsNewPlain, unfilled}
 pub use Rattle.segbase.specs.Minding.{HasHeld, HasLocked, Minds}
 pub use Rattle.segbase.specs.Notes.{IsNoteOf, marked_of, noted, seen_of}
-pub use Rattle.segbase.specs.Passes.{AddsAtOnce, AddsEvents, bounced, drew, entered, glanced}
-pub use Rattle.segbase.specs.Passes.{HasStep, holding, IsMemo, IsPassOf, locked, looks, marked}
-pub use Rattle.segbase.specs.Passes.{mine, number}
-pub use Rattle.segbase.specs.Passes.{raised, Reads, ReadsIn, seen, sight, SinceFirst, StartsAt}
-pub use Rattle.segbase.specs.Passes.{Stepped, taken, TakesSteps, trace, view}
+pub use Rattle.segbase.specs.Passes.{AddsAtOnce, AddsEvents, count, HasStep, holding, IsMemo}
+pub use Rattle.segbase.specs.Passes.{IsPassOf, locked, looks, marked, mine, number, Reads, ReadsIn}
+pub use Rattle.segbase.specs.Passes.{seen, sight, SinceFirst, StartsAt, Stepped, TakesSteps, trace}
+pub use Rattle.segbase.specs.Passes.{view}
 pub use Rattle.segbase.specs.Plain.{current_of, deadline_in, deadline_of, is_holding_of}
 pub use Rattle.segbase.specs.Plain.{locked_of, number_of, own_segment}
 pub use Rattle.segbase.specs.Plain.{state_in, state_of, used_in, used_of, with_current}

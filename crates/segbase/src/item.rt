@@ -5,7 +5,7 @@ ghost use Rattle.segword.specs.Words.{item_word};
 ghost use Rattle.segmodel.specs.Words.{key_of, tag_of};
 ghost use Rattle.segmodel.specs.declared.request.Request.{Request};
 ghost use Rattle.segcore.specs.declared.event.Event.TheVariants.{Bumped};
-ghost use Rattle.segcore.specs.Words.{Leaving, packed, Slot, Step};
+ghost use Rattle.segcore.specs.Words.{Leaving, packed, raised, Slot, Step};
 
 use crate::board::Board;
 use crate::pass::Pass;
@@ -13,7 +13,7 @@ use crate::place::{Place, Spot};
 use segword::Item;
 
 impl Board {
-    ghost use Rattle.segbase.specs.Passes.{number, raised, IsPassOf, CanStep, AddsAtOnce, Stepped};
+    ghost use Rattle.segbase.specs.Passes.{number, count, IsPassOf, CanStep, AddsAtOnce, Stepped};
     ghost use Rattle.segbase.specs.Spots.{item_spot, IsPlace};
     ghost use Rattle.segbase.specs.Steps.{MayTake, TakesStep, linking, unlinking, bumping, looking};
     ghost use Rattle.segbase.specs.Steps.{exchanging, relinking, AddsLink, AddsRelink, AddsUnlink};
@@ -110,6 +110,7 @@ impl Board {
 
     /// Raises the frequency of an item, without its bucket's bit.
     /// The exchange is tried once. Returns true if the frequency was raised.
+    #[inline(always)]
     pub fn bump(&self, pass: &mut Pass, place: Place, old: Item, new: Item) -> bool
         requires pass { IsPassOf self.now pass.old }
         requires item { (new.tag ≡ old.tag) × (new.seg ≡ old.seg) × (new.row ≡ old.row) }
@@ -122,7 +123,7 @@ impl Board {
         ensures did { AddsAtOnce self.now
             (if result then Bumped (number pass.old) old.seg old.row new.freq ∷ [] else [])
             pass.old pass.new }
-        ensures raises { raised pass.new ≡ (if result then 1 else 0) + raised pass.old }
+        ensures raises { count raised pass.new ≡ (if result then 1 else 0) + count raised pass.old }
     {
         let expected = old.pack();
         self.put(pass, place, expected, new) == expected

@@ -24,7 +24,7 @@ use Rattle.segcore.proofs.Entered.{no_refill}
 use Rattle.segcore.proofs.Readers.{empty_stays}
 use Rattle.segcore.proofs.Segments.{is_pass}
 use Rattle.segcore.proofs.Readable.{read_row, may_read}
-use Rattle.segcore.proofs.Counts.{mine_others, taken_others, bounced_others, glanced_others, drew_others, raised_others, entered_others, counted}
+use Rattle.segcore.proofs.Counts.{mine_others, count_others, counted}
 
 refilled_event : (e : Event) (h : List Event) (s : ℕ) → ((q d : ℕ) → e ≢ Refilled q s d) → refills (e ∷ h) s ≡ refills h s
 refilled_event (Refilled q t d) h s ne = cond-false (eqb t s) (refills h s + 1) (refills h s) (ne_eqb t s (λ e. ne q d (ap (λ x. Refilled q x d) e)))
@@ -89,12 +89,7 @@ meanwhile z p more h l n = let early = lawful_before z more h l in record {
   deadlines = λ s there. same_deadline more h s (no_refill z more h p s (is_pass z h p s early there) l n there);
   own_deadlines = λ s own. own_deadline z more h s l (subst (λ x. NoneBy x more) (sym own) n);
   entries = mine_others p more h n;
-  takes = taken_others p more h n;
-  bounces = λ b. bounced_others p b more h n;
-  glances = λ b. glanced_others p b more h n;
-  draws = λ b. drew_others p b more h n;
-  raises = raised_others p more h n;
-  enters = entered_others p more h n;
+  counts = λ what. count_others what p more h n;
   fits = λ e own now f. later z more h e l (subst (λ x. NoneBy x more) (sym own) n) now f;
 }
 

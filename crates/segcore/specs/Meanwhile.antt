@@ -9,7 +9,7 @@ use Rattle.segcore.specs.Bucket.{Slot, item, bucket_after}
 use Rattle.segcore.specs.Row.{row_after, frequency_of}
 use Rattle.segcore.specs.Segment.{inside, refills, NoneRefills, deadline_of}
 use Rattle.segcore.specs.Lawful.{Fits, is_of_now, NoneAt}
-use Rattle.segcore.specs.Count.{taken, bounced, glanced, drew, raised, entered}
+use Rattle.segcore.specs.Count.{Counted, count}
 use Rattle.segcore.specs.Kind.{Step, info_look, row_load, cell, HasBit, MayRead, May}
 use Rattle.segcore.specs.Word.{word}
 
@@ -68,12 +68,7 @@ pub record Meanwhile (shape : Shape) (pass : ℕ) (more old : List Event) : Type
       → refills (more ++ old) segment ≡ refills old segment
   -- the pass's own entries and counts stay
   pub entries : mine pass (seen (more ++ old)) ≡ mine pass (seen old)
-  pub takes : taken pass (more ++ old) ≡ taken pass old
-  pub bounces : (bucket : ℕ) → bounced pass bucket (more ++ old) ≡ bounced pass bucket old
-  pub glances : (bucket : ℕ) → glanced pass bucket (more ++ old) ≡ glanced pass bucket old
-  pub draws : (bucket : ℕ) → drew pass bucket (more ++ old) ≡ drew pass bucket old
-  pub raises : raised pass (more ++ old) ≡ raised pass old
-  pub enters : entered pass (more ++ old) ≡ entered pass old
+  pub counts : (what : Counted) → count what pass (more ++ old) ≡ count what pass old
   -- an event that the pass could add it still can,
   -- unless the event asks something of the moment itself
   pub fits : (event : Event)

@@ -3,7 +3,8 @@ pub use Rattle.segcore.specs.Ahead.{WasGone}
 pub use Rattle.segcore.specs.Bucket.{acts, Bucket, bucket_after, bucket_at, Content, copy}
 pub use Rattle.segcore.specs.Bucket.{fresh_position, is, IsPosition, item, last, next, nothing}
 pub use Rattle.segcore.specs.Bucket.{Slot, slot}
-pub use Rattle.segcore.specs.Count.{bounced, drew, entered, glanced, raised, taken}
+pub use Rattle.segcore.specs.Count.{bounced, count, Counted, drew, entered, glanced, is_counted}
+pub use Rattle.segcore.specs.Count.{raised, taken}
 pub use Rattle.segcore.specs.Event.{AllBy, by, entry_of, NoneBy, removal, seen, with_entry}
 pub use Rattle.segcore.specs.Filled.{HasNoEmptyWord}
 pub use Rattle.segcore.specs.ItemWord.{IsWordOf, packed}
