@@ -1,5 +1,5 @@
 -- The eviction of a segment, row by row: what was taken out so far, and that no key stands there when all its rows are gone.
-use Rattle.std.proofs.Common.{◌≡◌, ◌≢◌, ℕ, suc, ◌+◌, ◌<◌, ◌≤◌, Bool, true, false, cond, eqb, ◌&&◌, is_some, List, [], ◌∷◌, ◌++◌, length, Option, Some, None, refl, sym, ap, ◌∙◌, subst, inl, inr, ⊎_elim, arith}
+use Rattle.std.proofs.Common.{◌≡◌, ◌≢◌, ℕ, suc, ◌+◌, ◌<◌, ◌≤◌, Bool, true, false, cond, eqb, is_some, List, [], ◌∷◌, ◌++◌, length, Option, Some, None, refl, sym, ap, ◌∙◌, subst, inl, inr, ⊎_elim, arith}
 use Rattle.std.proofs.lemmas.Bool.{cases_eq, cases_Bool, cond-true, cond-false, eq-eqb, ne_eqb, ltb-true, false≢true}
 use Rattle.std.proofs.lemmas.Option.{none-some, same_Some}
 use Rattle.segmodel.specs.declared.entry.Entry.TheVariants as entry
@@ -7,26 +7,28 @@ use Rattle.segmodel.specs.declared.answer.EvictAnswer.TheVariants as evict
 use Rattle.segmodel.specs.declared.answer.SegState.TheVariants.{InUse, Evicted}
 use Rattle.segmodel.specs.Words.{after, Begins, bucket_of, but_for, Cached, Entry, EvictAnswer}
 use Rattle.segmodel.specs.Words.{NoneStandsIn}
-use Rattle.segcore.specs.declared.event.Event.TheVariants.{Bounced}
-use Rattle.segcore.specs.Count as count
-use Rattle.segcore.specs.Words.{cached, Event, row_after, RowGone}
+use Rattle.segcore.specs.Count as traces
+use Rattle.segcore.specs.Words.{bounced, cached, row_after, RowGone}
+use Rattle.segcore.proofs.Counts.{count_both}
 use Rattle.segcore.proofs.Caches.{stands as standing_at, has_value}
 use Rattle.segcore.proofs.Standing.{coherent}
 use Rattle.segbase.specs.declared.pass.Plain.{Plain}
-use Rattle.segbase.specs.Words.{Board, bounced, current_of, mine, number, own_segment, Pass, seen}
+use Rattle.segbase.specs.Words.{Board, count, current_of, mine, number, own_segment, Pass, seen}
 use Rattle.segbase.specs.Words.{state_in, state_of, trace, used_of, with_current, with_state}
 use Rattle.segbase.proofs.Known.{state_set, state_apart, used_kept, owner_stated, deadline_stated}
 use Rattle.segbase.proofs.Moves.{stays}
 use Rattle.segbase.proofs.Owned.{owner_of, state_there, still_pass}
-use Rattle.segstore.specs.Words.{KeepsSegments}
+use Rattle.segstore.specs.Words.{DrawsNothing, GoesOn, IsQuiet, KeepsSegments, memo, ReadsNothing}
 use Rattle.segstore.proofs.Keeping.{same_used}
+use Rattle.segevict.specs.declared.eviction.RowAnswer.{RowAnswer}
 use Rattle.segevict.specs.declared.eviction.RowAnswer.TheVariants as row_answer
-use Rattle.segpass.specs.Words.{DrawsNothing, GoesOn, IsQuiet, memo, ReadsNothing}
-use Rattle.segevict.specs.Evicting.{AreEvictions, CostsOfEvict, ended, EvictsInOrder, EvictsOver, IsEvictAnswer, TakesOut}
+use Rattle.segevict.specs.Evicting.{AreEvictions, CostsOfEvict, ended, EvictsInOrder, EvictsItem, EvictsOver}
+use Rattle.segevict.specs.Evicting.{IsEvictAnswer, IsRowOut, TakesOut}
 use Rattle.segevict.specs.Rows.{KeepsGone}
-use Rattle.segevict.specs.Tries.{IsBarred, StoodIn, TriesForKeys}
-use Rattle.segevict.specs.Unlinking.{EvictsRow}
-use Rattle.segpass.proofs.Draws.{draws_none_then}
+use Rattle.segevict.specs.Tries.{IsInTheWay, StoodIn, TriesFor}
+use Rattle.segevict.specs.Unlinking.{EvictsRow, IsRowAnswer}
+use Rattle.segstore.proofs.Draws.{draws_none_then}
+use Rattle.segevict.proofs.Naming.{unnamed}
 use Rattle.segevict.proofs.KeyTries.{no_tries, of_row, rows_tried_then, stood_before}
 use Rattle.segevict.proofs.RowsOut.{goes_then, keeps_gone_then}
 
@@ -53,18 +55,9 @@ module _ (b : Board) (p : Pass) (x : Plain) (quiet : IsQuiet b p) (same : owner_
 
 -- ---- counts only grow
 
-one_more : (t : Bool) (n : ℕ) → n ≤ cond t (n + 1) n
-one_more true n = omega arith
-one_more false n = omega arith
-
-more_bounced : (p b : ℕ) (more h : List Event) → count.bounced p b h ≤ count.bounced p b (more ++ h)
-more_bounced p b [] h = omega arith
-more_bounced p b (Bounced q a ∷ more) h = let old = more_bounced p b more h in let one = one_more (eqb q p && eqb a b) (count.bounced p b (more ++ h)) in omega arith
-more_bounced p b (e ∷ more) h = more_bounced p b more h
-
-pub bounced_grows : (p q : Pass) (k : ℕ) → number q ≡ number p → Begins (trace p) (trace q) → bounced p k ≤ bounced q k
+pub bounced_grows : (p q : Pass) (k : ℕ) → number q ≡ number p → Begins (trace p) (trace q) → count (bounced k) p ≤ count (bounced k) q
 bounced_grows p q k same grew =
-    subst (λ n. bounced p k ≤ count.bounced n k (trace q)) (sym same) (subst (λ h. bounced p k ≤ count.bounced (number p) k h) (sym grew.1) (more_bounced (number p) k grew.0 (trace p)))
+    subst (λ n. count (bounced k) p ≤ traces.count (bounced k) n (trace q)) (sym same) (subst (λ h. count (bounced k) p ≤ traces.count (bounced k) (number p) h) (sym grew.1) (let both = count_both (bounced k) (number p) grew.0 (trace p) in omega (arith, both)))
 
 -- ---- row by row
 
@@ -81,7 +74,7 @@ pub record Evicting (b : Board) (segment row taken : ℕ) (p q : Pass) : Type 0 
   pub entries : mine q ≡ evictions ++ mine p
   pub below : (r : ℕ) → r < row → RowGone b.shape segment r (trace q)
   pub few : taken ≤ row
-  pub tries : TriesForKeys b.shape segment row p q
+  pub tries : TriesFor b.shape (λ key. StoodIn b.shape segment key p q) row p q
   pub order : EvictsOver b segment row taken p q
 
 -- before the first row
@@ -107,6 +100,23 @@ evicting_first b segment p quiet = record {
 one_row_on : (b : Board) (segment row taken : ℕ) (p r : Pass) → EvictsOver b segment (suc row) taken p r → EvictsOver b segment (row + 1) taken p r
 one_row_on b segment row taken p r = subst (λ n. EvictsOver b segment n taken p r) (let e : suc row ≡ row + 1 = omega arith in e)
 
+-- a row in the terms of the call
+row_out : (b : Board) (segment row : ℕ) (told : RowAnswer) (p q : Pass) → EvictsRow b segment row told p q → EvictsItem b segment row told p q
+row_out b segment row told p q one = record {
+  on = one.on;
+  plain = one.plain;
+  memo = one.memo;
+  draws_nothing = one.draws_nothing;
+  reads_nothing = one.reads_nothing;
+  tries = one.tries;
+  answer = out told one.answer;
+}
+  where
+    out : (told : RowAnswer) → IsRowAnswer b segment row told p q → IsRowOut b.shape segment row told p q
+    out row_answer.Evicted a = (a.2, unnamed b.shape (trace q) segment row one.on.quiet.pass.lawful a.1)
+    out row_answer.Gone a = (a.2, unnamed b.shape (trace q) segment row one.on.quiet.pass.lawful a.1)
+    out row_answer.Busy a = a
+
 module _ (b : Board) (segment row taken : ℕ) (p q r : Pass) (e : Evicting b segment row taken p q) where
   gone_below : KeepsGone b segment q r → RowGone b.shape segment row (trace r) → (n : ℕ) → n < row + 1 → RowGone b.shape segment n (trace r)
   gone_below keeps gone n lt = ⊎_elim
@@ -127,11 +137,11 @@ module _ (b : Board) (segment row taken : ℕ) (p q r : Pass) (e : Evicting b se
         evictions = entry.Evicted (number p) key segment ∷ e.evictions;
         counted = omega arith;
         all = ((key, refl), e.all);
-        entries = one.answer.2.1 ∙ (λ t. entry.Evicted (e.on.same t) key segment ∷ e.entries t);
+        entries = one.answer.2.2 ∙ (λ t. entry.Evicted (e.on.same t) key segment ∷ e.entries t);
         below = gone_below one.answer.0 one.answer.1;
         few = omega arith;
         tries = rows_tried_then b segment row 1 (row + 1) p q r e.on one.on (omega arith) e.tries (of_row b.shape segment row 1 q r one.tries);
-        order = one_row_on b segment row (taken + 1) p r (q, inl (taken, refl, e.order, one));
+        order = one_row_on b segment row (taken + 1) p r (q, inl (taken, refl, e.order, row_out b segment row row_answer.Evicted q r one));
       }
 
   -- or was gone
@@ -150,7 +160,7 @@ module _ (b : Board) (segment row taken : ℕ) (p q r : Pass) (e : Evicting b se
     below = gone_below one.answer.0 one.answer.1;
     few = omega arith;
     tries = rows_tried_then b segment row 1 (row + 1) p q r e.on one.on (omega arith) e.tries (of_row b.shape segment row 1 q r one.tries);
-    order = one_row_on b segment row taken p r (q, inr (e.order, one));
+    order = one_row_on b segment row taken p r (q, inr (e.order, row_out b segment row row_answer.Gone q r one));
   }
 
 -- ---- the current segment
@@ -184,13 +194,13 @@ module _ (b : Board) (segment row taken : ℕ) (p q : Pass) (in_use : state_of p
 
     pub barred_costs : (used : ℕ) → used_of p segment ≡ Some used → row < used → CostsOfEvict b segment (evict.Busy taken) p r
     barred_costs used is_used within = record {
-      order = λ again. (used, row, q, is_used, within, over_order taken e.order, busy);
+      order = λ again. (used, row, q, is_used, within, over_order taken e.order, row_out b segment row row_answer.Busy q r busy);
       tries = λ rows is. rows_tried_then b segment row 1 rows p q r e.on busy.on (let same : used ≡ rows = same_Some used rows (sym is_used ∙ is) in omega arith) e.tries (of_row b.shape segment row 1 q r busy.tries);
       draws_nothing = draws_none_then p q r e.draws_nothing busy.draws_nothing;
       reads_nothing = busy.reads_nothing ∙ e.reads_nothing;
     }
 
-    barred_by : IsBarred b.shape segment p r
+    barred_by : IsInTheWay b.shape (λ key. StoodIn b.shape segment key p r) p r
     barred_by =
         let by = busy.answer.1 in let stood = by.1.0 in (
           by.0,
@@ -236,7 +246,7 @@ module _ (b : Board) (segment row taken : ℕ) (p q : Pass) (in_use : state_of p
     abbrev pub emptied : Pass
     emptied = record q { plain = with_state segment Evicted q.plain }
 
-    tries_alike : {most : ℕ} → TriesForKeys b.shape segment most p q → TriesForKeys b.shape segment most p emptied
+    tries_alike : {most : ℕ} → TriesFor b.shape (λ key. StoodIn b.shape segment key p q) most p q → TriesFor b.shape (λ key. StoodIn b.shape segment key p emptied) most p emptied
     tries_alike x = record { keys = x.keys; few = x.few; stood = x.stood; taken = x.taken; bounced = x.bounced }
 
     keeps_now : KeepsSegments b emptied
@@ -271,7 +281,7 @@ module _ (b : Board) (segment row taken : ℕ) (p q : Pass) (in_use : state_of p
     pub emptied_costs : CostsOfEvict b segment (evict.Evicted taken) p emptied
     emptied_costs = record {
       order = λ again. (row, q, all_rows, over_order taken e.order, refl);
-      tries = λ rows is. tries_alike (subst (λ n. TriesForKeys b.shape segment n p q) (same_Some row rows (sym all_rows ∙ is)) e.tries);
+      tries = λ rows is. tries_alike (subst (λ n. TriesFor b.shape (λ key. StoodIn b.shape segment key p q) n p q) (same_Some row rows (sym all_rows ∙ is)) e.tries);
       draws_nothing = e.draws_nothing;
       reads_nothing = e.reads_nothing;
     }

@@ -1,138 +1,43 @@
 -- A keep, row by row: what was moved so far, and that what stands in the segment was read too seldom once all its rows are gone over.
-use Rattle.std.proofs.Common.{◌≡◌, ◌≢◌, ◌⊎◌, ℕ, suc, option_map, ◌+◌, ◌<◌, ◌≤◌, true, false, is_some, List, [], ◌∷◌, ◌++◌, length, Option, Some, None, refl, sym, ap, ◌∙◌, subst, inl, inr, ⊎_elim, arith}
+use Rattle.std.proofs.Common.{◌≡◌, ◌≢◌, ◌⊎◌, ℕ, suc, ◌+◌, ◌<◌, ◌≤◌, true, false, is_some, List, [], ◌∷◌, ◌++◌, length, Option, Some, None, refl, sym, ap, ◌∙◌, subst, inl, inr, ⊎_elim, arith}
 use Rattle.std.proofs.lemmas.Bool.{cases_eq, ltb-true}
 use Rattle.std.proofs.lemmas.Option.{none-some, same_Some}
 use Rattle.segmodel.specs.declared.entry.Entry.TheVariants as entry
 use Rattle.segmodel.specs.declared.answer.KeepAnswer.TheVariants as keep
 use Rattle.segmodel.specs.declared.answer.SegState.TheVariants.{InUse}
 use Rattle.segmodel.specs.Words.{bucket_of, Cached, Entry, owner}
-use Rattle.segcore.specs.Words.{cached, Event, row_after, RowGone}
+use Rattle.segcore.specs.Words.{bounced, cached, row_after, RowGone}
 use Rattle.segcore.proofs.Caches.{has_value, stands as standing_at}
 use Rattle.segcore.proofs.Standing.{coherent}
 use Rattle.segbase.specs.declared.pass.Plain.{Plain}
-use Rattle.segbase.specs.Words.{AddsEvents, Board, bounced, deadline_in, marked, mine, number}
-use Rattle.segbase.specs.Words.{own_segment, OwnSegment, Pass, seen, state_in, state_of, trace, used_in}
-use Rattle.segbase.specs.Words.{TakesSteps, used_of, with_own}
-use Rattle.segbase.proofs.Known.{own_apart, own_here, own_kept}
-use Rattle.segbase.proofs.Moves.{moved_bounced, stays}
-use Rattle.segstore.specs.Words.{fills, has_room, Idles}
-use Rattle.segstore.proofs.Keeping.{AreCalmIn, calm_in, owns_used}
-use Rattle.segpass.specs.Words.{bounces, ChangesNothing, DrawsNothing, GoesOn, IsQuiet, memo}
-use Rattle.segpass.specs.Words.{ReadsNothing}
-use Rattle.segpass.proofs.Bounces.{bounces_calm}
-use Rattle.segpass.proofs.Draws.{draws_none_then}
-use Rattle.segpass.proofs.Idling.{does_nothing}
-use Rattle.segwrite.specs.Words.{one_more}
-use Rattle.segwrite.proofs.Filling.{fills_calm}
+use Rattle.segbase.specs.Words.{Board, marked, mine, number, Pass, seen, state_of, TakesSteps}
+use Rattle.segbase.specs.Words.{trace, used_of}
+use Rattle.segbase.proofs.Moves.{moved_count, stays}
+use Rattle.segstore.specs.Words.{ChangesNothing, DrawsNothing, GoesOn, has_room}
+use Rattle.segstore.specs.Words.{IsQuiet, ReadsNothing}
+use Rattle.segstore.proofs.Keeping.{owns_used}
+use Rattle.segstore.proofs.Draws.{draws_none_then}
+use Rattle.segevict.specs.declared.retention.KeepRowAnswer.{KeepRowAnswer}
 use Rattle.segevict.specs.declared.retention.KeepRowAnswer.TheVariants as kept
 use Rattle.segevict.specs.Frequencies.{WasOften, WasSeldom}
-use Rattle.segevict.specs.Keeping.{AreMoves, AreSeldom, IsKeepTarget, KeepsItems, MovesAway, UsesRows}
-use Rattle.segevict.specs.Moving.{GoesInOrder, GoesOver, KeepsRow, moves, under_bit}
+use Rattle.segevict.specs.Keeping.{AreMoves, AreSeldom, GoesOver, KeepsItems, MovesAway}
+use Rattle.segevict.specs.Moving.{KeepsRow}
+use Rattle.segevict.specs.OneRow.{HasRow, KeepsItem}
 use Rattle.segevict.specs.Rows.{KeepsGone}
+use Rattle.segevict.specs.Target.{IsKeepTarget, UsesRows}
 use Rattle.segevict.specs.Tries.{TriesFor}
+use Rattle.segevict.proofs.AfterRow.{idle_changes, left_changes, left_gone, moved_gone, uses_none, uses_one, uses_then}
 use Rattle.segevict.proofs.Evictions.{bounced_grows}
-use Rattle.segevict.proofs.Frequencies.{had_after, had_before, had_seen, had_then}
+use Rattle.segevict.proofs.Frequencies.{had_after, had_at, had_before, had_seen}
 use Rattle.segevict.proofs.KeyTries.{no_tries, tries_then}
-use Rattle.segevict.proofs.RowsOut.{calm_keeps_gone, goes_then, keeps_gone_then}
+use Rattle.segevict.proofs.OneRow.{row_answered}
+use Rattle.segevict.proofs.RowsOut.{goes_then, keeps_gone_then}
 
 -- ---- what was moved
 
 moves_weaker : (pass segment into : ℕ) (First Both : List ℕ → Type 0) → ((key : List ℕ) → First key → Both key) → (entries : List Entry) → AreMoves pass segment into First entries → AreMoves pass segment into Both entries
 moves_weaker pass segment into First Both weaker [] all = tt
 moves_weaker pass segment into First Both weaker (e ∷ entries) all = ((all.0.0, all.0.1, weaker all.0.0 all.0.2), moves_weaker pass segment into First Both weaker entries all.1)
-
--- ---- rows that are used
-
-used_more : (o : Option OwnSegment) (used : ℕ) → used_in o ≡ Some used → used_in (option_map one_more o) ≡ Some (used + 1)
-used_more None used is = absurd (none-some used is)
-used_more (Some own) used is = ap (λ n. Some (n + 1)) (same_Some own.used used is)
-
-same_state : (o : Option OwnSegment) → state_in (option_map one_more o) ≡ state_in o
-same_state None = refl
-same_state (Some own) = refl
-
-same_deadline : (o : Option OwnSegment) → deadline_in (option_map one_more o) ≡ deadline_in o
-same_deadline None = refl
-same_deadline (Some own) = refl
-
-module _ (into : ℕ) (p q : Pass) where
-  pub uses_none : q.plain ≡ p.plain → memo q ≡ memo p → UsesRows into 0 p q
-  uses_none plain same = record {
-    used = λ used is. ap (λ (x : Plain). used_in (own_segment x into)) plain ∙ (is ∙ ap Some (let e : used ≡ used + 0 = omega arith in e));
-    others = λ other apart. ap (λ (x : Plain). used_in (own_segment x other)) plain;
-    states = λ segment. ap (λ (x : Plain). state_in (own_segment x segment)) plain;
-    deadlines = λ segment. ap (λ (x : Plain). deadline_in (own_segment x segment)) plain;
-    current = ap (λ (x : Plain). x.current) plain;
-    locked = ap (λ (x : Plain). x.locked) plain;
-    holds = ap (λ (x : Plain). x.is_holding) plain;
-    memo = same;
-  }
-
-  pub uses_one : q.plain ≡ with_own into one_more p.plain → memo q ≡ memo p → UsesRows into 1 p q
-  uses_one plain same = record {
-    used = λ used is. ap (λ (x : Plain). used_in (own_segment x into)) plain ∙ (ap used_in (own_here p.plain into one_more) ∙ used_more (own_segment p.plain into) used is);
-    others = λ other apart. ap (λ (x : Plain). used_in (own_segment x other)) plain ∙ ap used_in (own_apart p.plain into one_more other apart);
-    states = λ segment. ap (λ (x : Plain). state_in (own_segment x segment)) plain ∙ own_kept p.plain into one_more state_in same_state segment;
-    deadlines = λ segment. ap (λ (x : Plain). deadline_in (own_segment x segment)) plain ∙ own_kept p.plain into one_more deadline_in same_deadline segment;
-    current = ap (λ (x : Plain). x.current) plain;
-    locked = ap (λ (x : Plain). x.locked) plain;
-    holds = ap (λ (x : Plain). x.is_holding) plain;
-    memo = same;
-  }
-
-pub uses_then : (into m n all : ℕ) (p q r : Pass) → m + n ≡ all → UsesRows into m p q → UsesRows into n q r → UsesRows into all p r
-uses_then into m n all p q r sum i j = record {
-  used = λ used is. j.used (used + m) (i.used used is) ∙ ap Some (let e : used + m + n ≡ used + all = omega arith in e);
-  others = λ other apart. j.others other apart ∙ i.others other apart;
-  states = λ segment. j.states segment ∙ i.states segment;
-  deadlines = λ segment. j.deadlines segment ∙ i.deadlines segment;
-  current = j.current ∙ i.current;
-  locked = j.locked ∙ i.locked;
-  holds = j.holds ∙ i.holds;
-  memo = j.memo ∙ i.memo;
-}
-
--- ---- what a row leaves
-
-calm_both : (s : ℕ) (xs ys : List Event) → AreCalmIn s xs → AreCalmIn s ys → AreCalmIn s (xs ++ ys)
-calm_both s [] ys i j = j
-calm_both s (e ∷ xs) ys i j = (i.0, calm_both s xs ys i.1 j)
-
-taking_calm : (s pass bucket times : ℕ) (own : List Event) → AreCalmIn s own → AreCalmIn s (under_bit pass bucket times own)
-taking_calm s pass bucket times own calm = (tt, calm_both s own _ calm (tt, calm_in s (bounces pass bucket times) (bounces_calm pass bucket times)))
-
-module _ (b : Board) (segment row into cutoff : ℕ) (q r : Pass) (own : owner b.shape segment ≡ number q) where
-  -- by looks alone
-  idle_gone : (f : Pass) → Idles b q f → KeepsGone b segment q f
-  idle_gone f i = calm_keeps_gone b segment [] q f i.moved tt own
-
-  under_gone : (f : Pass) (bucket times : ℕ) (did : List Event) → Idles b q f → AreCalmIn segment did → AddsEvents b (under_bit (number f) bucket times did) f r → KeepsGone b segment q r
-  under_gone f bucket times did i calm m =
-      keeps_gone_then b segment q f r (idle_gone f i) (calm_keeps_gone b segment (under_bit (number f) bucket times did) f r m (taking_calm segment (number f) bucket times did calm) (own ∙ sym i.moved.same))
-
-  pub moved_gone : segment ≢ into → KeepsRow b segment row into cutoff kept.Moved q r → KeepsGone b segment q r
-  moved_gone apart k = let a = k.answer in let f = a.0 in
-      under_gone f (bucket_of b.shape a.1.key) a.4 (moves (number f) a.1.key segment row into a.3 a.5 a.6) a.1.idles
-      ((λ same. apart (sym same)), calm_in segment (fills (number f) into a.3 a.6 8) (fills_calm (number f) into a.3 a.6 8)) a.9
-
-  pub left_gone : KeepsRow b segment row into cutoff kept.Left q r → KeepsGone b segment q r
-  left_gone k = ⊎_elim
-      (λ none. idle_gone r none.0)
-      (λ some. ⊎_elim
-      (λ seldom. idle_gone r seldom.idles)
-      (λ went. under_gone went.0 (bucket_of b.shape went.1.key) went.2 [] went.1.idles tt went.3)
-      some)
-      k.answer
-
--- nothing but looks
-pub idle_changes : (b : Board) (q f : Pass) → IsQuiet b q → Idles b q f → ChangesNothing q f
-idle_changes b q f quiet i = does_nothing b q f quiet i.moved i.plain i.memo
-
-pub left_changes : (b : Board) (segment row into cutoff : ℕ) (q r : Pass) → IsQuiet b q → KeepsRow b segment row into cutoff kept.Left q r → ChangesNothing q r
-left_changes b segment row into cutoff q r quiet k = ⊎_elim
-    (λ none. idle_changes b q r quiet none.0)
-    (λ some. ⊎_elim (λ seldom. idle_changes b q r quiet seldom.idles) (λ went. went.4) some)
-    k.answer
 
 -- ---- row by row
 
@@ -154,7 +59,7 @@ pub record Keeping (b : Board) (segment into cutoff row count : ℕ) (p q : Pass
   pub below : (r : ℕ) → r < row → IsSettled b segment cutoff r p q
   pub few : count ≤ row
   pub tries : TriesFor b.shape (WasOften b.shape segment cutoff p q) row p q
-  pub order : GoesOver b segment into cutoff row count p q
+  pub order : GoesOver b segment cutoff row count p q
 
 -- before the first row
 pub keeping_first : (b : Board) (segment into cutoff : ℕ) (p : Pass) → IsQuiet b p → Keeping b segment into cutoff 0 0 p p
@@ -175,8 +80,8 @@ keeping_first b segment into cutoff p quiet = record {
 }
 
 -- one row more was gone over
-one_row_on : (b : Board) (segment into cutoff row count : ℕ) (p r : Pass) → GoesOver b segment into cutoff (suc row) count p r → GoesOver b segment into cutoff (row + 1) count p r
-one_row_on b segment into cutoff row count p r = subst (λ n. GoesOver b segment into cutoff n count p r) (let e : suc row ≡ row + 1 = omega arith in e)
+one_row_on : (b : Board) (segment cutoff row count : ℕ) (p r : Pass) → GoesOver b segment cutoff (suc row) count p r → GoesOver b segment cutoff (row + 1) count p r
+one_row_on b segment cutoff row count p r = subst (λ n. GoesOver b segment cutoff n count p r) (let e : suc row ≡ row + 1 = omega arith in e)
 
 module _ (b : Board) (segment into cutoff row count : ℕ) (p q r : Pass) (own : owner b.shape segment ≡ number p) (e : Keeping b segment into cutoff row count p q) where
   own_q : owner b.shape segment ≡ number q
@@ -184,10 +89,10 @@ module _ (b : Board) (segment into cutoff row count : ℕ) (p q r : Pass) (own :
 
   -- what was so of moments before the row, and at the row, was so of moments of the whole
   often_then : TakesSteps q r → (key : List ℕ) → WasOften b.shape segment cutoff p q key → WasOften b.shape segment cutoff p r key
-  often_then later key = had_after b.shape segment (λ n. cutoff ≤ n) key p q r later
+  often_then later key often = (often.0, had_after b.shape segment often.0 (λ n. cutoff ≤ n) key p q r later often.1)
 
   often_now : (key : List ℕ) → WasOften b.shape segment cutoff q r key → WasOften b.shape segment cutoff p r key
-  often_now key = had_before b.shape segment (λ n. cutoff ≤ n) key p q r e.on.same e.on.steps
+  often_now key often = (often.0, had_before b.shape segment often.0 (λ n. cutoff ≤ n) key p q r e.on.same e.on.steps often.1)
 
   tries_all : (most : ℕ) → TakesSteps q r → row + 1 ≤ most → TriesFor b.shape (WasOften b.shape segment cutoff q r) 1 q r → TriesFor b.shape (WasOften b.shape segment cutoff p r) most p r
   tries_all most later within tries = tries_then b.shape (WasOften b.shape segment cutoff p q) (WasOften b.shape segment cutoff q r) (WasOften b.shape segment cutoff p r) row 1 most p q r (often_then later) often_now within e.tries tries
@@ -197,16 +102,16 @@ module _ (b : Board) (segment into cutoff row count : ℕ) (p q r : Pass) (own :
       (λ same. subst (λ m. IsSettled b segment cutoff m p r) (sym same) now)
       (λ other. ⊎_elim
       (λ gone. inl (keeps.lasts n gone))
-      (λ seldom. inr (seldom.0, keeps.linked n ∙ seldom.1, had_after b.shape segment (λ n. n < cutoff) seldom.0 p q r later seldom.2))
+      (λ seldom. inr (seldom.0, keeps.linked n ∙ seldom.1, (seldom.2.0, had_after b.shape segment seldom.2.0 (λ n. n < cutoff) seldom.0 p q r later seldom.2.1)))
       (e.below n (omega (arith, lt, other))))
       (cases_eq n row)
 
   -- the next row's item was moved
-  pub keeping_moved : segment ≢ into → KeepsRow b segment row into cutoff kept.Moved q r → Keeping b segment into cutoff (row + 1) (count + 1) p r
-  keeping_moved apart k =
+  pub keeping_moved : segment ≢ into → KeepsRow b segment row into cutoff kept.Moved q r → KeepsItem b segment row cutoff kept.Moved q r → Keeping b segment into cutoff (row + 1) (count + 1) p r
+  keeping_moved apart k item =
       let a = k.answer in let key = a.1.key in let few = e.few in let counted = e.counted in
       let keeps = moved_gone b segment row into cutoff q r own_q apart k in
-      let often = often_now key (had_seen b segment row (λ n. cutoff ≤ n) q a.0 r a.1 a.2.steps) in record {
+      let often = often_now key (row, had_seen b segment row (λ n. cutoff ≤ n) q a.0 r a.1 a.2.steps) in record {
         on = goes_then b p q r e.on k.on;
         keeps = keeps_gone_then b segment p q r e.keeps keeps;
         uses = uses_then into count 1 (count + 1) p q r refl e.uses (uses_one into q r a.11 k.memo);
@@ -219,21 +124,21 @@ module _ (b : Board) (segment into cutoff row count : ℕ) (p q r : Pass) (own :
         below = settled_below keeps k.on.steps (inl a.12);
         few = omega arith;
         tries = tries_all (row + 1) k.on.steps (omega arith) k.tries;
-        order = one_row_on b segment into cutoff row (count + 1) p r (q, inl (count, refl, e.order, k));
+        order = one_row_on b segment cutoff row (count + 1) p r (q, inl (count, refl, e.order, item));
       }
 
   settled_left : KeepsRow b segment row into cutoff kept.Left q r → IsSettled b segment cutoff row p r
   settled_left k = ⊎_elim
       (λ none. inl none.1)
       (λ some. ⊎_elim
-      (λ seldom. inr (seldom.key, seldom.linked, had_before b.shape segment (λ n. n < cutoff) seldom.key p q r e.on.same e.on.steps (had_seen b segment row (λ n. n < cutoff) q r r seldom (inr (refl, refl)))))
+      (λ seldom. inr (seldom.key, seldom.linked, (row, had_before b.shape segment row (λ n. n < cutoff) seldom.key p q r e.on.same e.on.steps (had_seen b segment row (λ n. n < cutoff) q r r seldom (inr (refl, refl))))))
       (λ went. inl went.5)
       some)
       k.answer
 
   -- or left where it is
-  pub keeping_left : KeepsRow b segment row into cutoff kept.Left q r → Keeping b segment into cutoff (row + 1) count p r
-  keeping_left k =
+  pub keeping_left : KeepsRow b segment row into cutoff kept.Left q r → KeepsItem b segment row cutoff kept.Left q r → Keeping b segment into cutoff (row + 1) count p r
+  keeping_left k item =
       let few = e.few in
       let keeps = left_gone b segment row into cutoff q r own_q k in
       let none = left_changes b segment row into cutoff q r e.on.quiet k in record {
@@ -249,19 +154,30 @@ module _ (b : Board) (segment into cutoff row count : ℕ) (p q r : Pass) (own :
         below = settled_below keeps k.on.steps (settled_left k);
         few = omega arith;
         tries = tries_all (row + 1) k.on.steps (omega arith) k.tries;
-        order = one_row_on b segment into cutoff row count p r (q, inr (e.order, k));
+        order = one_row_on b segment cutoff row count p r (q, inr (e.order, item));
       }
 
 -- ---- the answer
 
 module _ (b : Board) (segment into cutoff row count : ℕ) (p q : Pass) (quiet : IsQuiet b p) (in_use : state_of p segment ≡ Some InUse) (target : IsKeepTarget segment into p) (e : Keeping b segment into cutoff row count p q) where
-  only_into : (other : ℕ) → IsKeepTarget segment other p → into ≡ other
-  only_into other t = same_Some into other (sym target.current ∙ t.current)
-
-  -- the row is one of those that are used, and the walk stops at it
+  -- the row is one of those that are used
   module _ (used : ℕ) (is_used : used_of p segment ≡ Some used) where
     own : owner b.shape segment ≡ number p
     own = owns_used b p segment used quiet.pass is_used
+
+    -- the row is gone over as by a keep of one row
+    pub item_of : (r : Pass) → row < used → (told : KeepRowAnswer) → KeepsRow b segment row into cutoff told q r → KeepsItem b segment row cutoff told q r
+    item_of r within told k = row_answered b segment row into cutoff q r e.on.quiet has_row target_still told k
+      where
+        has_row : HasRow segment row q
+        has_row = (e.uses.states segment ∙ in_use, (used, e.uses.others segment target.other ∙ is_used, within))
+
+        target_still : IsKeepTarget segment into q
+        target_still = record {
+          current = e.uses.current ∙ target.current;
+          other = target.other;
+          deadlines = e.uses.deadlines segment ∙ (target.deadlines ∙ sym (e.uses.deadlines into));
+        }
 
     module _ (r : Pass) (later : TakesSteps q r) (none : ChangesNothing q r) (within : row < used) (tries : TriesFor b.shape (WasOften b.shape segment cutoff q r) 1 q r) where
       moved_away : MovesAway b.shape segment cutoff count p r
@@ -292,11 +208,11 @@ module _ (b : Board) (segment into cutoff row count : ℕ) (p q : Pass) (quiet :
           answer = inr (
             moved_away r k.on.steps none within k.tries,
             subst (λ (x : Plain). has_room b.shape (record q { plain = x }) ≡ false) (sym none.plain) k.answer.1,
-            (s.key, had_then b segment row (λ n. cutoff ≤ n) q r s (marked r) (marked r) ([], refl) ([], refl)),
+            (s.key, (row, had_at b segment row (λ n. cutoff ≤ n) q r s (marked r) (marked r) ([], refl) ([], refl))),
           );
           not_yours = ((λ other. absurd (not_so other)), (λ nobody. absurd (none-some InUse (sym nobody ∙ in_use))));
           costs = record {
-            order = λ other used_too t. subst (λ o. GoesInOrder b segment o cutoff (keep.NoRoom count) p r) (only_into other t) (row, used, is_used, within, q, e.order, k);
+            order = λ other used_too t. (row, used, is_used, within, q, e.order, item_of r within kept.NoRoom k);
             tries = tries_few r k.on.steps none within k.tries;
             draws_nothing = draws_none_then p q r e.draws_nothing k.draws_nothing;
             reads_nothing = k.reads_nothing ∙ e.reads_nothing;
@@ -318,18 +234,18 @@ module _ (b : Board) (segment into cutoff row count : ℕ) (p q : Pass) (quiet :
             subst (λ (x : Plain). has_room b.shape (record q { plain = x }) ≡ true) (sym none.plain) a.3,
             (
               s.key,
-              often_now b segment into cutoff row count p q r own e s.key (had_seen b segment row (λ n. cutoff ≤ n) q f r s a.2.steps),
+              often_now b segment into cutoff row count p q r own e s.key (row, had_seen b segment row (λ n. cutoff ≤ n) q f r s a.2.steps),
               ⊎_elim
                   (λ locked. inl (sym (ap (λ (x : Plain). x.locked) s.idles.plain ∙ e.uses.locked) ∙ locked.0))
                   (λ tried.
-                  let same : bounced f bucket ≡ bounced q bucket = moved_bounced b [] q f bucket s.idles.moved in
+                  let same = moved_count b [] q f (bounced bucket) s.idles.moved in
                   let grew = bounced_grows p q bucket e.on.same e.keeps.grew in let met = tried.tries in inr (omega arith))
                   a.5,
             ),
           );
           not_yours = ((λ other. absurd (not_so other)), (λ nobody. absurd (none-some InUse (sym nobody ∙ in_use))));
           costs = record {
-            order = λ other used_too t. subst (λ o. GoesInOrder b segment o cutoff (keep.Busy count) p r) (only_into other t) (row, used, is_used, within, q, e.order, k);
+            order = λ other used_too t. (row, used, is_used, within, q, e.order, item_of r within kept.Busy k);
             tries = tries_few r k.on.steps none within k.tries;
             draws_nothing = draws_none_then p q r e.draws_nothing k.draws_nothing;
             reads_nothing = k.reads_nothing ∙ e.reads_nothing;
@@ -382,7 +298,7 @@ module _ (b : Board) (segment into cutoff row count : ℕ) (p q : Pass) (quiet :
       );
       not_yours = ((λ other. absurd (not_so other)), (λ nobody. absurd (none-some InUse (sym nobody ∙ in_use))));
       costs = record {
-        order = λ other used_too t. subst (λ o. GoesInOrder b segment o cutoff (keep.Kept count) p q) (only_into other t) (row, all_rows, e.order);
+        order = λ other used_too t. (row, all_rows, e.order);
         tries = λ rows is. subst (λ n. TriesFor b.shape (WasOften b.shape segment cutoff p q) n p q) (same_Some row rows (sym all_rows ∙ is)) e.tries;
         draws_nothing = e.draws_nothing;
         reads_nothing = e.reads_nothing;

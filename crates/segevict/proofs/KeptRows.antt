@@ -7,40 +7,43 @@ use Rattle.segmodel.specs.declared.entry.Entry.TheVariants.{Moved}
 use Rattle.segmodel.specs.Words.{bucket_of, Entry, tag_of}
 use Rattle.segcore.specs.declared.event.Event.TheVariants.{Freed}
 use Rattle.segcore.specs.Event as event
-use Rattle.segcore.specs.Words.{bucket_after, content_word, Event, frequency_of, item, NoneAt, packed, RowGone}
-use Rattle.segcore.specs.Words.{Slot, slot}
+use Rattle.segcore.specs.Words.{bounced, bucket_after, content_word, Event, frequency_of, item}
+use Rattle.segcore.specs.Words.{NoneAt, packed, RowGone, Slot, slot, taken}
 use Rattle.segcore.proofs.Coherent.{IsStanding}
 use Rattle.segcore.proofs.Exact.{content_at}
 use Rattle.segcore.proofs.Limits.{low_frequency, low_row, low_segment}
 use Rattle.segcore.proofs.Standing.{coherent}
 use Rattle.segbase.specs.declared.pass.Plain.{Plain}
-use Rattle.segbase.specs.Words.{HasStep, TakesSteps, AddsAtOnce, AddsEvents, Board, bounced, cell_at, current_of, IsPassOf, mine, number}
-use Rattle.segbase.specs.Words.{deadline_in, own_segment, Pass, position, taken, trace, used_of, with_own}
-use Rattle.segbase.proofs.Moves.{moved_then}
+use Rattle.segbase.specs.Words.{AddsAtOnce, AddsEvents, Board, cell_at, count, current_of}
+use Rattle.segbase.specs.Words.{deadline_in, HasStep, IsPassOf, mine, number, own_segment, Pass}
+use Rattle.segbase.specs.Words.{position, TakesSteps, trace, used_of, with_own}
+use Rattle.segbase.proofs.Moves.{moved_count, moved_then}
 use Rattle.segbase.proofs.Standing.{place_of_word, tag_of_word}
-use Rattle.segstore.specs.Words.{has_room, Idles, KeepsSegments}
+use Rattle.segstore.specs.Words.{ChangesNothing, DrawsNothing, GoesOn, has_room, Idles, IsBusy}
+use Rattle.segstore.specs.Words.{IsQuiet, KeepsSegments, memo, ReadsNothing, TakesNoBit, TakesOneBit}
+use Rattle.segstore.specs.Words.{TookToWrite}
 use Rattle.segstore.proofs.Keeping.{calm_in, keeps_plain, same_used}
-use Rattle.segpass.specs.Words.{ChangesNothing, DrawsNothing, GoesOn, IsBusy, IsQuiet, memo, ReadsNothing}
-use Rattle.segpass.specs.Words.{TookToWrite}
-use Rattle.segpass.proofs.Bounces.{bounces_calm}
-use Rattle.segpass.proofs.Draws.{AreUndrawn, draws_none_then, moved_undrawn}
-use Rattle.segpass.proofs.Idling.{does_nothing, goes_nowhere}
-use Rattle.segpass.proofs.Peeking.{unread}
-use Rattle.segpass.proofs.Still.{AreStill, no_reader}
-use Rattle.segpass.proofs.TakenBits.{AreNoTries}
-use Rattle.segpass.proofs.UnderWrite.{begun, HasBegun, took_keeps, took_moved, tries, write_adds, write_goes_on}
-use Rattle.segpass.proofs.UnderWrite.{write_peeking, write_takes, write_undrawn}
+use Rattle.segstore.proofs.Bounces.{bounces_calm}
+use Rattle.segstore.proofs.Draws.{AreUndrawn, draws_none_then, moved_undrawn}
+use Rattle.segstore.proofs.Idling.{does_nothing, goes_nowhere}
+use Rattle.segstore.proofs.Peeking.{unread}
+use Rattle.segstore.proofs.Still.{AreStill, no_reader}
+use Rattle.segstore.proofs.TakenBits.{AreNoTries}
+use Rattle.segstore.proofs.UnderWrite.{begun, HasBegun, took_keeps, took_moved, tries, write_adds, write_goes_on}
+use Rattle.segstore.proofs.UnderWrite.{write_peeking, write_takes, write_undrawn}
 use Rattle.segwrite.specs.Words.{IsNextRow, one_more, Target}
 use Rattle.segwrite.proofs.Filling.{fills_nowhere, fills_seen, fills_still, fills_undrawn, fills_untried}
 use Rattle.segevict.specs.declared.retention.KeepRowAnswer.{KeepRowAnswer}
 use Rattle.segevict.specs.declared.retention.KeepRowAnswer.TheVariants as kept
 use Rattle.segevict.specs.Frequencies.{WasOften}
-use Rattle.segevict.specs.Keeping.{IsKeepTarget}
 use Rattle.segevict.specs.Moving.{IsKeptRow, KeepsRow, moves, MovesRow, SeesRow, under_bit}
+use Rattle.segevict.specs.OneRow.{AfterLooks, TriesForRow}
 use Rattle.segevict.specs.Rows.{IsNamedAt, IsStoredIn, KeepsGone}
+use Rattle.segevict.specs.Target.{IsKeepTarget}
 use Rattle.segevict.specs.Tries.{TriesFor}
 use Rattle.segevict.proofs.Frequencies.{had_seen}
 use Rattle.segevict.proofs.KeyTries.{no_tries, one_try, tries_after}
+use Rattle.segevict.proofs.Naming.{unnamed}
 use Rattle.segevict.proofs.RowsOut.{calm_keeps_gone, goes_then}
 use Rattle.segevict.proofs.Seeking.{stored_over}
 use Rattle.segevict.proofs.Unlinking.{named_key}
@@ -68,22 +71,26 @@ module _ (b : Board) (bucket : ℕ) (sought : Item) (into cutoff : ℕ) (p f : P
   unread_f : ReadsNothing p f
   unread_f = no_reader b [] p f i.moved tt
 
+  no_bit : TakesNoBit p f
+  no_bit = record { taken = moved_count b [] p f taken i.moved; bounced = λ other. moved_count b [] p f (bounced other) i.moved }
+
   abbrev Kept : KeepRowAnswer → Pass → Type 0
   Kept told q = KeepsRow b sought.seg sought.row into cutoff told p q
 
   -- looks were enough
-  only_looked : (told : KeepRowAnswer) → IsKeptRow b sought.seg sought.row into cutoff told p f → Kept told f
-  only_looked told answer = record {
+  only_looked : (told : KeepRowAnswer) → (TakesNoBit p f → TriesForRow b sought.seg sought.row cutoff told p f) → IsKeptRow b sought.seg sought.row into cutoff told p f → Kept told f
+  only_looked told tried answer = record {
     on = goes_f;
     memo = i.memo;
     draws_nothing = undrawn_f;
     reads_nothing = unread_f;
     tries = no_tries b (WasOften b.shape sought.seg cutoff p f) 1 p f i.moved;
+    tried = tried no_bit;
     answer = answer;
   }
 
   pub row_gone : RowGone b.shape sought.seg sought.row (trace f) → Kept kept.Left f
-  row_gone gone = only_looked kept.Left (inl (i, gone))
+  row_gone gone = only_looked kept.Left (λ none. inl none) (inl (i, gone))
 
   -- ---- a word names it
 
@@ -118,7 +125,7 @@ module _ (b : Board) (bucket : ℕ) (sought : Item) (into cutoff : ℕ) (p f : P
     sees IsSo so = record { idles = i; looks = first; key = stored.key; linked = stored.linked; position = at; named = here; is = subst IsSo frequency so }
 
     pub row_seldom : x.freq < cutoff → Kept kept.Left f
-    row_seldom lt = only_looked kept.Left (inr (inl (sees (λ n. n < cutoff) lt)))
+    row_seldom lt = only_looked kept.Left (λ none. inl none) (inr (inl (sees (λ n. n < cutoff) lt)))
 
     -- ---- it was read often enough
 
@@ -127,15 +134,27 @@ module _ (b : Board) (bucket : ℕ) (sought : Item) (into cutoff : ℕ) (p f : P
       seen_often = sees (λ n. cutoff ≤ n) often
 
       pub row_no_room : has_room b.shape f ≡ false → Kept kept.NoRoom f
-      row_no_room full = only_looked kept.NoRoom (seen_often, subst (λ (y : Plain). has_room b.shape (record f { plain = y }) ≡ false) i.plain full)
+      row_no_room full = only_looked kept.NoRoom (λ none. none) (seen_often, subst (λ (y : Plain). has_room b.shape (record f { plain = y }) ≡ false) i.plain full)
 
       had : (q : Pass) → TakesSteps f q → WasOften b.shape sought.seg cutoff p q stored.key
-      had q steps = had_seen b sought.seg sought.row (λ n. cutoff ≤ n) p f q seen_often steps
+      had q steps = (sought.row, had_seen b sought.seg sought.row (λ n. cutoff ≤ n) p f q seen_often steps)
+
+      -- what was done after the looks
+      looked : (Does : ℕ → Pass → Pass → Type 0) (q : Pass) → GoesOn b f q → Does bucket f q → AfterLooks b sought.seg sought.row cutoff Does p q
+      looked Does q on does = (
+        stored.key,
+        f,
+        goes_f,
+        had_seen b sought.seg sought.row (λ n. cutoff ≤ n) p f f seen_often (inr (refl, refl)),
+        no_bit,
+        on,
+        subst (λ k. Does k f q) stored.home does,
+      )
 
       -- the bit was tried for
-      tries_one : (q : Pass) → TakesSteps f q → taken q ≤ taken f + 1 → bounced q bucket ≤ bounced f bucket + 64 → ((other : ℕ) → other ≢ bucket → bounced q other ≡ bounced f other) → TriesFor b.shape (WasOften b.shape sought.seg cutoff p q) 1 p q
+      tries_one : (q : Pass) → TakesSteps f q → count taken q ≤ count taken f + 1 → count (bounced bucket) q ≤ count (bounced bucket) f + 64 → ((other : ℕ) → other ≢ bucket → count (bounced other) q ≡ count (bounced other) f) → TriesFor b.shape (WasOften b.shape sought.seg cutoff p q) 1 p q
       tries_one q steps took met others = tries_after b (WasOften b.shape sought.seg cutoff p q) (WasOften b.shape sought.seg cutoff p q) 1 p f q i.moved (λ key s. s)
-          (one_try b.shape (WasOften b.shape sought.seg cutoff p q) stored.key f q (had q steps) took (subst (λ k. bounced q k ≤ bounced f k + 64) stored.home met)
+          (one_try b.shape (WasOften b.shape sought.seg cutoff p q) stored.key f q (had q steps) took (subst (λ k. count (bounced k) q ≤ count (bounced k) f + 64) stored.home met)
           (λ other apart. others other (λ same. apart (same ∙ stored.home))))
 
       pub row_busy : (q : Pass) → has_room b.shape f ≡ true → GoesOn b f q × ChangesNothing f q × IsBusy bucket f q × DrawsNothing f q × ReadsNothing f q → Kept kept.Busy q
@@ -148,6 +167,7 @@ module _ (b : Board) (bucket : ℕ) (sought : Item) (into cutoff : ℕ) (p f : P
             (λ own. let same = own.1.taken in let met = own.1.bounced bucket in tries_one q busy.0.steps (omega arith) (omega arith) (λ other apart. own.1.bounced other))
             (λ tried. let same = tried.taken in let met = tried.tries in tries_one q busy.0.steps (omega arith) (omega arith) tried.others)
             busy.2;
+        tried = looked IsBusy q busy.0 busy.2;
         answer = (f, seen_often, busy.0, subst (λ (y : Plain). has_room b.shape (record f { plain = y }) ≡ true) i.plain room, busy.1, subst (λ k. IsBusy k f q) stored.home busy.2);
       }
 
@@ -199,8 +219,9 @@ module _ (b : Board) (bucket : ℕ) (sought : Item) (into cutoff : ℕ) (p f : P
           events_f = moved_then b took_by (Freed (number f) bucket false ∷ own) f q s taking
               (subst (λ k. AddsEvents b (Freed k bucket false ∷ own) q s) (m.same ∙ taking.same) (moved_then b own (Freed (number r) bucket false ∷ []) q r s m freed.moved))
 
-          done : (told : KeepRowAnswer) → IsKeptRow b sought.seg sought.row into cutoff told p s → Kept told s
-          done told answer =
+          done : (told : KeepRowAnswer) → (AfterLooks b sought.seg sought.row cutoff TakesOneBit p s → TriesForRow b sought.seg sought.row cutoff told p s)
+              → IsKeptRow b sought.seg sought.row into cutoff told p s → Kept told s
+          done told tried answer =
               let takes = write_takes b bucket f q goes_f.quiet begins r s own added false m elsewhere still adds freed free none in
               let one = takes.taken in let met = takes.tries in record {
                 on = goes_then b p f s goes_f goes_s;
@@ -208,6 +229,7 @@ module _ (b : Board) (bucket : ℕ) (sought : Item) (into cutoff : ℕ) (p f : P
                 draws_nothing = draws_none_then p f s undrawn_f (write_undrawn b bucket f q goes_f.quiet begins r s own added false m elsewhere still adds freed free undrawn);
                 reads_nothing = unread f s (write_peeking b bucket f q goes_f.quiet begins r s own added false m elsewhere still adds freed free) ∙ unread_f;
                 tries = tries_one s goes_s.steps (omega arith) (omega arith) takes.others;
+                tried = tried (looked TakesOneBit s goes_s takes);
                 answer = answer;
               }
 
@@ -215,7 +237,10 @@ module _ (b : Board) (bucket : ℕ) (sought : Item) (into cutoff : ℕ) (p f : P
         pub row_went : has_room b.shape f ≡ true → (to : ℕ) (r s : Pass) → MovesRow b bucket sought into to false q r → AddsAtOnce b (Freed (number r) bucket false ∷ []) r s → (bucket_after b.shape (trace s) bucket).holder ≡ None → s.plain ≡ r.plain → memo s ≡ memo r → Kept kept.Left s
         row_went room to r s t freed free plain' same' =
             let m = t.moves.0 in let plain = t.moves.1 in
+            let gone = gone_over b (Freed (number r) bucket false ∷ []) r s sought.seg sought.row freed.moved (tt, tt) (stored_q.own ∙ sym m.same) t.gone in
+            let room_p : has_room b.shape p ≡ true = subst (λ (y : Plain). has_room b.shape (record f { plain = y }) ≡ true) i.plain room in
             done r s [] [] m (λ other apart. tt) tt (λ h. refl) tt tt t.segments t.memo (ap (λ (y : Plain). y.locked) plain) (ap (λ (y : Plain). y.is_holding) plain) freed free plain' same' kept.Left
+            (λ bit. inr (bit, room_p, unnamed b.shape (trace s) sought.seg sought.row freed.moved.pass.lawful gone))
             (inr (inr (
               f,
               seen_often,
@@ -227,9 +252,9 @@ module _ (b : Board) (bucket : ℕ) (sought : Item) (into cutoff : ℕ) (p f : P
                 plain = plain' ∙ (plain ∙ (took.plain ∙ i.plain));
                 memo = same' ∙ (t.memo ∙ (took.memo ∙ i.memo));
               },
-              gone_over b (Freed (number r) bucket false ∷ []) r s sought.seg sought.row freed.moved (tt, tt) (stored_q.own ∙ sym m.same) t.gone,
+              gone,
               begins.few,
-              subst (λ (y : Plain). has_room b.shape (record f { plain = y }) ≡ true) i.plain room,
+              room_p,
             )))
 
         -- it was moved
@@ -237,8 +262,8 @@ module _ (b : Board) (bucket : ℕ) (sought : Item) (into cutoff : ℕ) (p f : P
           abbrev position_moved : ℕ
           position_moved = t.moves.1
 
-          abbrev words : List ℕ
-          words = t.moves.2
+          abbrev written : List ℕ × List ℕ
+          written = t.moves.2
 
           same_key : t.moves.0 ≡ stored.key
           same_key = same_Some t.moves.0 stored.key (sym t.moves.4 ∙ (kept_rows.linked sought.row ∙ stored.linked))
@@ -247,40 +272,40 @@ module _ (b : Board) (bucket : ℕ) (sought : Item) (into cutoff : ℕ) (p f : P
               kept_rows = calm_keeps_gone b sought.seg took_by f q taking (calm_in sought.seg took_by (tt, bounces_calm (number f) bucket begins.tries)) stored.own
 
           abbrev own : List Event
-          own = moves (number f) stored.key sought.seg sought.row into to position_moved words
+          own = moves (number f) stored.key sought.seg sought.row into to position_moved written
 
           m : AddsEvents b own q r
-          m = subst (λ k. AddsEvents b (moves k stored.key sought.seg sought.row into to position_moved words) q r) taking.same
-              (subst (λ k. AddsEvents b (moves (number q) k sought.seg sought.row into to position_moved words) q r) same_key t.moves.5)
+          m = subst (λ k. AddsEvents b (moves k stored.key sought.seg sought.row into to position_moved written) q r) taking.same
+              (subst (λ k. AddsEvents b (moves (number q) k sought.seg sought.row into to position_moved written) q r) same_key t.moves.5)
 
           elsewhere : (other : ℕ) → bucket ≢ other → NoneAt b.shape other own
-          elsewhere other apart = (ne_eqb (bucket_of b.shape stored.key) other (λ e. apart (stored.home ∙ e)), fills_nowhere b.shape other (number f) into to words 8)
+          elsewhere other apart = (ne_eqb (bucket_of b.shape stored.key) other (λ e. apart (stored.home ∙ e)), fills_nowhere b.shape other (number f) into to written.0 written.1)
 
           abbrev added : List Entry
           added = Moved (number f) stored.key sought.seg into ∷ []
 
           adds : (h : List Event) → event.seen (own ++ h) ≡ added ++ event.seen h
-          adds h = ap (λ e. Moved (number f) stored.key sought.seg into ∷ e) (fills_seen (number f) into to words 8 h)
+          adds h = ap (λ e. Moved (number f) stored.key sought.seg into ∷ e) (fills_seen (number f) into to written.0 written.1 h)
 
           abbrev plain : r.plain ≡ with_own into one_more q.plain
           plain = t.moves.6
 
           pub row_moved : AddsAtOnce b (Freed (number r) bucket false ∷ []) r s → (bucket_after b.shape (trace s) bucket).holder ≡ None → s.plain ≡ r.plain → memo s ≡ memo r → Kept kept.Moved s
           row_moved freed free plain' same' =
-              let still : AreStill own = (tt, fills_still (number f) into to words 8) in
-              let undrawn : AreUndrawn own = (tt, fills_undrawn (number f) into to words 8) in
-              let none : AreNoTries own = (tt, fills_untried (number f) into to words 8) in
+              let still : AreStill own = (tt, fills_still (number f) into to written.0 written.1) in
+              let undrawn : AreUndrawn own = (tt, fills_undrawn (number f) into to written.0 written.1) in
+              let none : AreNoTries own = (tt, fills_untried (number f) into to written.0 written.1) in
               let locks : r.plain.locked ≡ q.plain.locked = ap (λ (y : Plain). y.locked) plain in
               let holds : r.plain.is_holding ≡ q.plain.is_holding = ap (λ (y : Plain). y.is_holding) plain in
               let old = (does_nothing b p f quiet i.moved i.plain i.memo).entries in
-              done r s own added m elsewhere still adds undrawn none t.segments t.memo locks holds freed free plain' same' kept.Moved (
+              done r s own added m elsewhere still adds undrawn none t.segments t.memo locks holds freed free plain' same' kept.Moved (λ bit. bit) (
                 f,
                 seen_often,
                 goes_s r s own added m elsewhere still adds undrawn none t.segments t.memo locks holds freed free plain' same',
                 to,
                 begins.tries,
                 position_moved,
-                words,
+                written,
                 sym (same_used p f into i.plain) ∙ next.used,
                 next.fits,
                 subst (λ k. AddsEvents b (under_bit (number f) k begins.tries own) f s) stored.home (events_f r s own added m elsewhere still adds undrawn none t.segments t.memo locks holds freed free plain' same'),

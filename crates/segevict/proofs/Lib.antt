@@ -9,6 +9,9 @@ pub mod Frequencies
 pub mod Relinking
 pub mod Moving
 pub mod KeptRows
-pub mod Keeping
+pub mod AfterRow
 pub mod Naming
+pub mod Carrying
 pub mod OneRow
+pub mod Keeping
+pub mod StoodFacts

@@ -1,5 +1,5 @@
 -- The item of a row is moved under the bit: it may be, into the pair's copy, and after that no word names the row that it left.
-use Rattle.std.proofs.Common.{◌≡◌, ℕ, ◌+◌, ◌<◌, ◌≤◌, true, false, List, [], ◌∷◌, ◌++◌, Option, Some, None, option_map, refl, sym, ap, ◌∙◌, subst, inl, arith}
+use Rattle.std.proofs.Common.{◌≡◌, ℕ, ◌+◌, ◌<◌, ◌≤◌, true, false, List, [], ◌∷◌, ◌++◌, Option, Some, None, option_map, refl, sym, ap, ◌∙◌, subst, append-nil, inl, arith}
 use Rattle.std.proofs.lemmas.Bool.{eq-eqb}
 use Rattle.std.proofs.lemmas.Option.{none-some, same_Some}
 use Rattle.segword.specs.Words.{IsSameItem, Item}
@@ -18,18 +18,17 @@ use Rattle.segbase.specs.Words.{Pass, Place, position, trace, used_in, used_of, 
 use Rattle.segbase.proofs.Known.{counted, own_alike, owner_counted}
 use Rattle.segbase.proofs.Moves.{moved_then}
 use Rattle.segbase.proofs.Owned.{moved_still}
-use Rattle.segstore.specs.Words.{fills, Idles, IsReadable, KeepsSegments, StoresRow}
+use Rattle.segstore.specs.Words.{fills, HasCleanBit, Idles, IsReadable, KeepsSegments, memo}
 use Rattle.segstore.proofs.Keeping.{AreCalmIn, calm_in, in_table, keeps_named, keeps_plain, next_is_own}
 use Rattle.segstore.proofs.Keeping.{own_linked, same_used}
 use Rattle.segstore.proofs.Words.{at_place}
-use Rattle.segpass.specs.Words.{HasCleanBit, memo}
-use Rattle.segpass.proofs.UnderBit.{did_acts, moved_at, moved_bucket}
+use Rattle.segstore.proofs.UnderBit.{did_acts, moved_at, moved_bucket}
 use Rattle.segwrite.specs.Words.{IsEarlier, IsInChain, IsNextRow, one_more, Target}
 use Rattle.segwrite.proofs.Filling.{fills_calm, fills_nowhere}
 use Rattle.segwrite.proofs.Places.{chain_later, same_position}
 use Rattle.segwrite.proofs.Rising.{earlier_later}
-use Rattle.segevict.specs.Keeping.{IsKeepTarget}
 use Rattle.segevict.specs.Moving.{moves, MovesRow}
+use Rattle.segevict.specs.Target.{IsKeepTarget}
 use Rattle.segevict.specs.Relinking.{HasRelinked, relinked, Relinks}
 use Rattle.segevict.specs.Rows.{IsNamedAt, IsStoredIn}
 use Rattle.segevict.proofs.Relinking.{relinked_gone}
@@ -98,22 +97,22 @@ module _ (b : Board) (bucket : ℕ) (sought : Item) (into to : ℕ) (p f : Pass)
     readable = (in_table b f sought.seg i.moved.pass stored_f.own, subst (λ r. r < b.shape.rows) n.named.2.1 st.within.1, inl stored_f.own)
 
     -- with c the pass after the copy
-    module _ (c : Pass) (words : List ℕ) (m : StoresRow b into to words f c) (own : IsOwnRow b.shape (trace c) (number c) into to)
+    module _ (c : Pass) (words places : List ℕ) (m : AddsEvents b (fills (number f) into to words places) f c) (own : IsOwnRow b.shape (trace c) (number c) into to)
         (holds : (key value : List ℕ) → Holds (row_after (trace f) sought.seg sought.row) key value → Holds (row_after (trace c) into to) key value) (plain : c.plain ≡ f.plain) (same : memo c ≡ memo f) where
       abbrev written : List Event
-      written = fills (number f) into to words 8
+      written = fills (number f) into to words places
 
       nowhere : NoneAt b.shape bucket written
-      nowhere = fills_nowhere b.shape bucket (number f) into to words 8
+      nowhere = fills_nowhere b.shape bucket (number f) into to words places
 
       stored_c : IsStoredIn b bucket sought c
-      stored_c = stored_over b bucket sought written f c m (calm_in sought.seg written (fills_calm (number f) into to words 8)) stored_f
+      stored_c = stored_over b bucket sought written f c m (calm_in sought.seg written (fills_calm (number f) into to words places)) stored_f
 
       clean_c : HasCleanBit b c bucket
       clean_c = clean_over b written f c bucket m nowhere clean_f
 
       segments_c : KeepsSegments b c
-      segments_c = keeps_plain b written f c m (fills_calm (number f) into to words 8) plain segments_f
+      segments_c = keeps_plain b written f c m (fills_calm (number f) into to words places) plain segments_f
 
       used_c : used_of c into ≡ Some to
       used_c = same_used f c into plain ∙ used_f
@@ -130,7 +129,7 @@ module _ (b : Board) (bucket : ℕ) (sought : Item) (into to : ℕ) (p f : Pass)
         where
           stays : (row_after (m.more ++ trace f) sought.seg sought.row).linked ≡ (row_after (trace f) sought.seg sought.row).linked
           stays = own_linked b.shape m.more (trace f) (number f) sought.seg sought.row (subst (IsLawful b.shape) m.goes_on m.pass.lawful)
-              (subst (AreCalmIn sought.seg) (sym m.adds) (calm_in sought.seg written (fills_calm (number f) into to words 8))) stored_f.own
+              (subst (AreCalmIn sought.seg) (sym m.adds) (calm_in sought.seg written (fills_calm (number f) into to words places))) stored_f.own
 
       abbrev at_c : ℕ
       at_c = position b.shape (trace c) t.place
@@ -215,22 +214,21 @@ module _ (b : Board) (bucket : ℕ) (sought : Item) (into to : ℕ) (p f : Pass)
         bucket_now : bucket_after b.shape (trace r) bucket ≡ acts e (bucket_after b.shape (trace c) bucket)
         bucket_now = did_acts b e c r bucket done.did (eq-eqb (bucket_of b.shape key) bucket (sym stored_f.home)) clean_c.bit
 
-        events : AddsEvents b (moves (number p) key sought.seg sought.row into to at_c words) p r
-        unfolding fills
-        events = subst (λ k. AddsEvents b (moves k key sought.seg sought.row into to at_c words) p r) i.moved.same
+        events : AddsEvents b (moves (number p) key sought.seg sought.row into to at_c (words, places)) p r
+        events = subst (λ k. AddsEvents b (moves k key sought.seg sought.row into to at_c (words, places)) p r) i.moved.same
             (subst (λ k. AddsEvents b (Relinked k key sought.seg sought.row into to at_c ∷ written) p r) m.same
-            (moved_then b [] (e ∷ written) p f r i.moved (moved_then b written (e ∷ []) f c r m done.did.moved)))
+            (subst (λ es. AddsEvents b es p r) (append-nil (e ∷ written)) (moved_then b [] (e ∷ written) p f r i.moved (moved_then b written (e ∷ []) f c r m done.did.moved))))
 
         pub moves_one : MovesRow b bucket sought into to true p final
         moves_one = record {
           moves = (
             key,
             at_c,
-            words,
+            (words, places),
             stored_f.home,
             sym (ap (λ h. (row_after h sought.seg sought.row).linked) i.moved.goes_on ∙ own_linked b.shape i.moved.more (trace p) (number p) sought.seg sought.row
                 (subst (IsLawful b.shape) i.moved.goes_on i.moved.pass.lawful) (subst (AreCalmIn sought.seg) (sym i.moved.adds) tt) stored.own) ∙ stored_f.linked,
-            moved_still b (moves (number p) key sought.seg sought.row into to at_c words) p r final.plain events (owner_counted r.plain into (to + 1)),
+            moved_still b (moves (number p) key sought.seg sought.row into to at_c (words, places)) p r final.plain events (owner_counted r.plain into (to + 1)),
             one_used into to r.plain (same_used c r into done.plain ∙ used_c) ∙ ap (with_own into one_more) (done.plain ∙ (plain ∙ i.plain)),
           );
           gone = gone_now;

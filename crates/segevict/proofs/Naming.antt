@@ -17,10 +17,9 @@ use Rattle.segbase.specs.Words.{HasStep, TakesSteps, used_in, used_of}
 use Rattle.segbase.proofs.Starting.{has_later, since_before, since_then, steps_grew}
 use Rattle.segbase.proofs.Moves.{stays}
 use Rattle.segbase.proofs.Owned.{state_owned, state_there, used_there}
-use Rattle.segstore.specs.Words.{Idles}
+use Rattle.segstore.specs.Words.{Idles, IsQuiet}
 use Rattle.segstore.proofs.Keeping.{same_used}
-use Rattle.segpass.specs.Words.{IsQuiet}
-use Rattle.segpass.proofs.Idling.{goes_nowhere}
+use Rattle.segstore.proofs.Idling.{goes_nowhere}
 use Rattle.segwrite.specs.Words.{Target}
 use Rattle.segwrite.proofs.Places.{idles_then}
 use Rattle.segevict.specs.Naming.{AreNamed, CountsRows, FindsNamed, IsNamed, or_zero, own_at, sum_below, SumsUp, Tallies, ReturnsNamed, used_at, WasNamed, WasNamedIn}

@@ -17,7 +17,7 @@ use Rattle.segcore.proofs.Standing.{coherent}
 use Rattle.segbase.specs.Words.{AddsAtOnce, Board, cell_at, IsPassOf, Missed, number, Pass, Place}
 use Rattle.segbase.specs.Words.{position, position_at, trace}
 use Rattle.segbase.proofs.Standing.{tag_of_word, place_of_word}
-use Rattle.segpass.specs.Words.{memo}
+use Rattle.segstore.specs.Words.{memo}
 use Rattle.segwrite.specs.Words.{IsEarlier}
 use Rattle.segwrite.proofs.Linking.{IsExchange, retry_first, Retrying}
 use Rattle.segevict.specs.Relinking.{relinked, Relinks, TriesToRelink}

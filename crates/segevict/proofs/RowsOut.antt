@@ -6,33 +6,34 @@ use Rattle.segmodel.specs.declared.entry.Entry.TheVariants.{Evicted}
 use Rattle.segmodel.specs.Words.{Begins, bucket_of, Entry, owner}
 use Rattle.segcore.specs.declared.event.Event.TheVariants.{Freed, Unlinked}
 use Rattle.segcore.specs.Event as event
-use Rattle.segcore.specs.Words.{bucket_after, Event, IsLawful, NoneAt, row_after, RowGone}
+use Rattle.segcore.specs.Words.{bounced, bucket_after, Event, IsLawful, NoneAt, row_after, RowGone}
+use Rattle.segcore.specs.Words.{taken}
 use Rattle.segcore.specs.declared.event.Leaving.TheVariants.{Evicts}
+use Rattle.segcore.proofs.Orderly.{linked_marked}
 use Rattle.segcore.proofs.Moments.{begins_on, seen_begins}
 use Rattle.segbase.specs.declared.pass.Plain.{Plain}
-use Rattle.segbase.specs.Words.{AddsAtOnce, AddsEvents, Board, bounced, mine, number, Pass, seen}
-use Rattle.segbase.specs.Words.{HasStep, taken, TakesSteps, trace}
-use Rattle.segbase.proofs.Moves.{moved_on, moved_bounced}
+use Rattle.segbase.specs.Words.{AddsAtOnce, AddsEvents, Board, count, HasStep, mine, number, Pass}
+use Rattle.segbase.specs.Words.{seen, TakesSteps, trace}
+use Rattle.segbase.proofs.Moves.{moved_on, moved_count}
 use Rattle.segbase.proofs.Starting.{starts_on, steps_then}
-use Rattle.segstore.specs.Words.{Idles, KeepsSegments}
+use Rattle.segstore.specs.Words.{ChangesNothing, DrawsNothing, GoesOn, Idles, IsBusy, IsQuiet}
+use Rattle.segstore.specs.Words.{KeepsSegments, memo, ReadsNothing, TookToWrite}
 use Rattle.segstore.proofs.Keeping.{AreCalm, AreCalmIn, calm_in, keeps_plain, own_linked}
 use Rattle.segwrite.specs.Words.{Target}
 use Rattle.segevict.specs.declared.eviction.RowAnswer.{RowAnswer}
 use Rattle.segevict.specs.declared.eviction.RowAnswer.TheVariants as row_answer
-use Rattle.segpass.specs.Words.{ChangesNothing, DrawsNothing, GoesOn, IsBusy, IsQuiet, memo}
-use Rattle.segpass.specs.Words.{ReadsNothing, TookToWrite}
 use Rattle.segevict.specs.Rows.{IsStoredIn, IsNamedAt, FindsRow, KeepsGone}
 use Rattle.segevict.specs.Tries.{StoodAtRow, TriesFor}
 use Rattle.segevict.specs.Unlinking.{TakesRow, EvictsRow}
-use Rattle.segpass.proofs.Bounces.{bounces_calm}
-use Rattle.segpass.proofs.Draws.{AreUndrawn, moved_undrawn, draws_none_then}
-use Rattle.segpass.proofs.Idling.{goes_nowhere, does_nothing}
+use Rattle.segstore.proofs.Bounces.{bounces_calm}
+use Rattle.segstore.proofs.Draws.{AreUndrawn, moved_undrawn, draws_none_then}
+use Rattle.segstore.proofs.Idling.{goes_nowhere, does_nothing}
 use Rattle.segevict.proofs.KeyTries.{no_tries, one_try, tries_after}
 use Rattle.segevict.proofs.Seeking.{stored_over}
-use Rattle.segpass.proofs.Still.{AreStill, no_reader}
-use Rattle.segpass.proofs.TakenBits.{AreNoTries}
-use Rattle.segpass.proofs.Peeking.{unread}
-use Rattle.segpass.proofs.UnderWrite.{HasBegun, begun, tries, took_moved, took_keeps, write_goes_on, write_adds, write_undrawn, write_peeking, write_takes}
+use Rattle.segstore.proofs.Still.{AreStill, no_reader}
+use Rattle.segstore.proofs.TakenBits.{AreNoTries}
+use Rattle.segstore.proofs.Peeking.{unread}
+use Rattle.segstore.proofs.UnderWrite.{HasBegun, begun, tries, took_moved, took_keeps, write_goes_on, write_adds, write_undrawn, write_peeking, write_takes}
 use Rattle.segevict.proofs.Unlinking.{named_stands}
 use Rattle.segevict.proofs.Unnamed.{gone_over}
 
@@ -95,16 +96,16 @@ module _ (b : Board) (bucket : ℕ) (sought : Item) (p f : Pass) (quiet : IsQuie
       starts_on p f q first.0 first.1 steps,
       (seen f, (seen_begins first.0 (trace f) first.1.until, later), named_stands b bucket sought f i.moved.pass stored target n),
     ),
-    sym (gone_looking.linked sought.row) ∙ stored.linked,
+    linked_marked (trace p) sought.seg sought.row ∙ (sym (gone_looking.linked sought.row) ∙ stored.linked),
   )
 
   -- the bit was tried for, since the key stood then
-  tries_one : (target : Target) (q : Pass) → IsNamedAt b bucket sought target f → Begins (seen f) (seen q) → TakesSteps f q → taken q ≤ taken f + 1 → bounced q bucket ≤ bounced f bucket + 64 → ((other : ℕ) → other ≢ bucket → bounced q other ≡ bounced f other)
+  tries_one : (target : Target) (q : Pass) → IsNamedAt b bucket sought target f → Begins (seen f) (seen q) → TakesSteps f q → count taken q ≤ count taken f + 1 → count (bounced bucket) q ≤ count (bounced bucket) f + 64 → ((other : ℕ) → other ≢ bucket → count (bounced other) q ≡ count (bounced other) f)
       → TriesFor b.shape (StoodAtRow b.shape sought.seg sought.row p q) 1 p q
   tries_one target q n later steps took met others =
       let IsSo = StoodAtRow b.shape sought.seg sought.row p q in
       tries_after b IsSo IsSo 1 p f q i.moved (λ key s. s) (one_try b.shape IsSo stored.key f q (stood_here target q n later steps) took
-      (subst (λ k. bounced q k ≤ bounced f k + 64) stored.home met) (λ other apart. others other (λ same. apart (same ∙ stored.home))))
+      (subst (λ k. count (bounced k) q ≤ count (bounced k) f + 64) stored.home met) (λ other apart. others other (λ same. apart (same ∙ stored.home))))
 
   -- no word names the row
   pub row_is_gone : RowGone b.shape sought.seg sought.row (trace f) → EvictsRow b sought.seg sought.row row_answer.Gone p f
@@ -138,8 +139,8 @@ module _ (b : Board) (bucket : ℕ) (sought : Item) (p f : Pass) (quiet : IsQuie
         ⊎_elim
             (λ own. inl (sym (ap (λ (x : Plain). x.locked) i.plain) ∙ (own.0 ∙ ap Some stored.home)))
             (λ tried.
-            let same : bounced f bucket ≡ bounced p bucket = moved_bounced b [] p f bucket i.moved in
-            inr (subst (λ k. bounced p k + 64 ≤ bounced q k) stored.home (let e = tried.tries in omega arith)))
+            let same : count (bounced bucket) f ≡ count (bounced bucket) p = moved_count b [] p f (bounced bucket) i.moved in
+            inr (subst (λ k. count (bounced k) p + 64 ≤ count (bounced k) q) stored.home (let e = tried.tries in omega arith)))
             busy.2,
       ),
     );
@@ -216,6 +217,8 @@ module _ (b : Board) (bucket : ℕ) (sought : Item) (p f : Pass) (quiet : IsQuie
             gone_over b (Freed (number r) bucket false ∷ []) r s sought.seg sought.row freed.moved (tt, tt) (stored_taken.own ∙ sym t.takes.3.same) t.gone,
             (
               key,
+              linked_marked (trace p) sought.seg sought.row ∙ (sym (gone_taken.linked sought.row)
+                  ∙ (sym ((keeps_gone b sought.seg own q r t.takes.3 (tt, tt) stored_taken.own).linked sought.row) ∙ t.takes.4)),
               write_adds b bucket f q quiet_looking begins r s own added false t.takes.3 elsewhere (tt, tt) (λ h. refl) freed free
                   ∙ (cond-true (eqb (number q) (number f)) (Evicted (number q) key sought.seg ∷ mine f) (mine f) (eq-eqb (number q) (number f) at_take)
                   ∙ (λ u. Evicted ((at_take ∙ i.moved.same) u) key sought.seg ∷ old u)),

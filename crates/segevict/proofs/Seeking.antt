@@ -16,7 +16,8 @@ use Rattle.segbase.proofs.Standing.{tag_of_word, place_of_word}
 use Rattle.segstore.specs.Words.{Idles}
 use Rattle.segstore.proofs.Keeping.{AreCalmIn, own_linked}
 use Rattle.segstore.proofs.Refills.{idles}
-use Rattle.segwrite.specs.Words.{first_word, IsInChain, IsNext, LeadsNowhere, LeadsTo, next_word}
+use Rattle.segstore.specs.Words.{first_word, IsNext, LeadsNowhere, LeadsTo, next_word}
+use Rattle.segwrite.specs.Words.{IsInChain}
 use Rattle.segevict.specs.Rows.{IsStoredIn}
 use Rattle.segwrite.proofs.Items.{item_here}
 use Rattle.segwrite.proofs.Onward.{depth_of_place, next_at, leads_to, first_at, chain_ends}

@@ -4,10 +4,9 @@ use Rattle.std.proofs.lemmas.Bool.{lt-ltb, false≢true}
 use Rattle.segmodel.specs.Words.{owner}
 use Rattle.segcore.specs.Words.{Row, row_after}
 use Rattle.segbase.specs.Words.{Board, number, Pass, trace}
-use Rattle.segstore.specs.Words.{IsReadable, ReadsRow}
+use Rattle.segstore.specs.Words.{IsQuiet, IsReadable, ReadsRow}
 use Rattle.segstore.proofs.Held.{IsPairOf, linked_pair}
 use Rattle.segstore.proofs.Keeping.{in_table, owns_used}
-use Rattle.segpass.specs.Words.{IsQuiet}
 use Rattle.segevict.specs.Rows.{IsUsedRow}
 
 pub record OfRow (b : Board) (segment row : ℕ) (p : Pass) : Type 0 where

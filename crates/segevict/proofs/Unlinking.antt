@@ -17,14 +17,13 @@ use Rattle.segcore.proofs.Standing.{coherent, gone}
 use Rattle.segbase.specs.Words.{AddsAtOnce, AddsEvents, Board, HasItemOf, home_bucket, IsPassOf}
 use Rattle.segbase.specs.Words.{number, Pass, Place, position, trace}
 use Rattle.segbase.proofs.Moves.{moved_then}
-use Rattle.segstore.specs.Words.{Idles}
+use Rattle.segstore.specs.Words.{HasCleanBit, Idles}
 use Rattle.segstore.proofs.Words.{at_place}
-use Rattle.segpass.specs.Words.{HasCleanBit}
 use Rattle.segwrite.specs.Words.{IsEarlier, IsInChain, Target}
 use Rattle.segevict.specs.Rows.{IsStoredIn, IsNamedAt}
 use Rattle.segevict.specs.Unlinking.{TakesRow}
 use Rattle.segevict.proofs.Seeking.{stored_over}
-use Rattle.segpass.proofs.UnderBit.{moved_bucket, moved_bit}
+use Rattle.segstore.proofs.UnderBit.{moved_bucket, moved_bit}
 
 pub clean_over : (b : Board) (own : List Event) (p q : Pass) (bucket : ℕ) → AddsEvents b own p q → NoneAt b.shape bucket own → HasCleanBit b p bucket → HasCleanBit b q bucket
 clean_over b own p q bucket m none clean = let same = moved_bucket b own p q bucket m clean.bit none in
@@ -130,7 +129,7 @@ module _ (b : Board) (bucket : ℕ) (sought : Item) (p f : Pass) (stored : IsSto
 
       pub takes_one : TakesRow b bucket sought true p q
       takes_one = record {
-        takes = (k, there, stored_now.home, subst (λ m. AddsEvents b (Unlinked m k there (Evicts sought.seg) ∷ []) p q) i.moved.same (moved_then b [] (e ∷ []) p f q i.moved d.moved));
+        takes = (k, there, stored_now.home, subst (λ m. AddsEvents b (Unlinked m k there (Evicts sought.seg) ∷ []) p q) i.moved.same (moved_then b [] (e ∷ []) p f q i.moved d.moved), ap (λ h. (row_after h sought.seg sought.row).linked) d.now ∙ linked_before);
         gone = subst (RowGone b.shape sought.seg sought.row) (sym d.now) (evicted_gone b.shape (d.others ++ trace f) (number f) there sought.seg sought.row k (Evicts sought.seg) (subst (IsLawful b.shape) d.now d.moved.pass.lawful) linked_before);
         bit = record {
           bit = (clean_now.bit.0, ap (λ u. u.holder) bucket_now ∙ (clean_now.bit.1 ∙ ap Some (sym d.moved.same)));

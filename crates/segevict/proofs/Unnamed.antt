@@ -10,7 +10,7 @@ use Rattle.segcore.proofs.Searches.{row_first, row_moves}
 use Rattle.segcore.proofs.Standing.{coherent}
 use Rattle.segbase.specs.Words.{AddsEvents, Board, number, own_of, Pass, trace}
 use Rattle.segstore.proofs.Keeping.{AreCalmIn, calm_parts, calm_rest, own_linked}
-use Rattle.segpass.proofs.Before.{one_before}
+use Rattle.segstore.proofs.Before.{one_before}
 
 -- ---- none names it
 

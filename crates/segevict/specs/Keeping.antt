@@ -1,28 +1,20 @@
 -- What a keep answers: how many items it moved into the current segment, each by one entry.
 -- Either what is left was below the cutoff, or something was in the way. And what a keep costs.
-use Rattle.std.specs.Prelude.{◌≡◌, ◌≢◌, ◌↔◌, ◌⊎◌, ℕ, ◌+◌, List, [], ◌∷◌, ◌++◌, length, true, false, Some, None}
+use Rattle.std.specs.Prelude.{◌≡◌, ◌≢◌, ◌↔◌, ◌⊎◌, ℕ, zero, suc, ◌+◌, ◌<◌, List, [], ◌∷◌, ◌++◌, length, true, false, Some, None}
 use Rattle.segword.specs.Words.{Shape}
 use Rattle.segmodel.specs.declared.entry.Entry.TheVariants as entry
 use Rattle.segmodel.specs.declared.answer.KeepAnswer.{KeepAnswer}
 use Rattle.segmodel.specs.declared.answer.KeepAnswer.TheVariants as keep
 use Rattle.segmodel.specs.declared.answer.SegState.TheVariants.{InUse}
 use Rattle.segmodel.specs.Words.{after, Entry, StandsIn}
-use Rattle.segbase.specs.Words.{Board, current_of, deadline_of, is_holding_of, locked_of, mine, number}
-use Rattle.segbase.specs.Words.{Pass, seen, state_of, used_of}
-use Rattle.segstore.specs.Words.{has_room}
-use Rattle.segpass.specs.Words.{DrawsNothing, GoesOn, memo, ReadsNothing}
+use Rattle.segbase.specs.Words.{Board, mine, number, Pass, seen, state_of, used_of}
+use Rattle.segstore.specs.Words.{DrawsNothing, GoesOn, has_room, ReadsNothing}
+use Rattle.segevict.specs.declared.retention.KeepRowAnswer.{KeepRowAnswer}
+use Rattle.segevict.specs.declared.retention.KeepRowAnswer.TheVariants as kept
 use Rattle.segevict.specs.Frequencies.{IsOften, WasOften, WasSeldom}
-use Rattle.segevict.specs.Moving.{GoesInOrder}
+use Rattle.segevict.specs.OneRow.{KeepsItem}
+use Rattle.segevict.specs.Target.{IsKeepTarget, UsesRows}
 use Rattle.segevict.specs.Tries.{IsInTheWay, TriesFor}
-
--- ---- where it goes
-
--- items of the segment can be moved into this one: it is current, it is not the same,
--- and it has the same deadline
-pub record IsKeepTarget (segment into : ℕ) (p : Pass) : Type 0 where
-  pub current : current_of p ≡ Some into
-  pub other : segment ≢ into
-  pub deadlines : deadline_of p segment ≡ deadline_of p into
 
 -- ---- what is moved
 
@@ -33,18 +25,6 @@ AreMoves pass segment into IsSo [] = Unit {0}
 AreMoves pass segment into IsSo (added ∷ more) =
     ((key : List ℕ) × (added ≡ entry.Moved pass key segment into) × IsSo key)
     × AreMoves pass segment into IsSo more
-
--- This number of rows more is used of the segment.
--- Nothing else is changed of what the pass keeps of its segments, its lock and its hold.
-pub record UsesRows (into count : ℕ) (p q : Pass) : Type 0 where
-  pub used : (used : ℕ) → used_of p into ≡ Some used → used_of q into ≡ Some (used + count)
-  pub others : (other : ℕ) → other ≢ into → used_of q other ≡ used_of p other
-  pub states : (segment : ℕ) → state_of q segment ≡ state_of p segment
-  pub deadlines : (segment : ℕ) → deadline_of q segment ≡ deadline_of p segment
-  pub current : current_of q ≡ current_of p
-  pub locked : locked_of q ≡ locked_of p
-  pub holds : is_holding_of q ≡ is_holding_of p
-  pub memo : memo q ≡ memo p
 
 -- This number of items was moved, each by one entry and into a row of its own.
 -- Each had a frequency that was the cutoff or over it at a moment of the call.
@@ -90,6 +70,41 @@ IsKeepAnswer shape segment cutoff (keep.Busy count) p q =
     × (has_room shape q ≡ true)
     × IsInTheWay shape (WasOften shape segment cutoff p q) p q
 
+-- ---- rows in their order
+
+-- This number of rows was gone over, from the first on, each by a keep of one row.
+-- This number of their items was moved.
+abbrev pub GoesOver : Board → ℕ → ℕ → ℕ → ℕ → Pass → Pass → Type 0
+GoesOver b segment cutoff zero count p q = (count ≡ 0) × (q ≡ p)
+GoesOver b segment cutoff (suc row) count p q =
+    (middle : Pass)
+    × (((before : ℕ) × (count ≡ before + 1) × GoesOver b segment cutoff row before p middle
+    × KeepsItem b segment row cutoff kept.Moved middle q)
+    ⊎ (GoesOver b segment cutoff row count p middle
+    × KeepsItem b segment row cutoff kept.Left middle q))
+
+-- the rows before one were gone over, and that one has this answer
+abbrev pub StopsAt : Board → ℕ → ℕ → KeepRowAnswer → ℕ → Pass → Pass → Type 0
+StopsAt b segment cutoff told count p q =
+    (row : ℕ) × (used : ℕ)
+    × (used_of p segment ≡ Some used)
+    × (row < used)
+    × (middle : Pass)
+    × GoesOver b segment cutoff row count p middle
+    × KeepsItem b segment row cutoff told middle q
+
+-- all used rows of the segment are gone over, or those up to one that stops the keep
+abbrev pub GoesInOrder : Board → ℕ → ℕ → KeepAnswer → Pass → Pass → Type 0
+GoesInOrder b segment cutoff (keep.Kept count) p q =
+    (used : ℕ) × (used_of p segment ≡ Some used) × GoesOver b segment cutoff used count p q
+GoesInOrder b segment cutoff (keep.NoRoom count) p q =
+    StopsAt b segment cutoff kept.NoRoom count p q
+GoesInOrder b segment cutoff (keep.Busy count) p q =
+    StopsAt b segment cutoff kept.Busy count p q
+GoesInOrder b segment cutoff keep.NotYours p q = ⊥
+
+-- ---- what it costs
+
 -- The rows of the segment are gone over in their order.
 -- The pass tried for the bits of keys that were read often enough, and of no others.
 -- It tried for no more keys than the segment has used rows.
@@ -99,7 +114,7 @@ pub record CostsOfKeep (b : Board) (segment cutoff : ℕ) (told : KeepAnswer) (p
   pub order : (into : ℕ)
       → state_of p segment ≡ Some InUse
       → IsKeepTarget segment into p
-      → GoesInOrder b segment into cutoff told p q
+      → GoesInOrder b segment cutoff told p q
   pub tries : (rows : ℕ)
       → used_of p segment ≡ Some rows
       → TriesFor b.shape (WasOften b.shape segment cutoff p q) rows p q

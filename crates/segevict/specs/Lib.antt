@@ -7,6 +7,7 @@ pub mod Naming
 pub mod OneRow
 pub mod Relinking
 pub mod Rows
+pub mod Target
 pub mod Tries
 pub mod Unlinking
 pub mod Words

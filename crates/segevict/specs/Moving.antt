@@ -1,7 +1,5 @@
--- How the items of a segment's rows move into another one, row after row.
-use Rattle.std.specs.Prelude.{◌≡◌, ◌⊎◌, ℕ, zero, suc, ◌+◌, ◌<◌, ◌≤◌, false, List, [], ◌∷◌, ◌++◌, Some, Bool, true}
-use Rattle.segmodel.specs.declared.answer.KeepAnswer.{KeepAnswer}
-use Rattle.segmodel.specs.declared.answer.KeepAnswer.TheVariants as keep
+-- How the item of a segment's row moves into another one, step by step.
+use Rattle.std.specs.Prelude.{◌≡◌, ◌⊎◌, ℕ, ◌<◌, ◌≤◌, false, List, [], ◌∷◌, ◌++◌, Some, Bool, true}
 use Rattle.segmodel.specs.declared.entry.Entry.TheVariants as entry
 use Rattle.segmodel.specs.Words.{bucket_of}
 use Rattle.segcore.specs.declared.event.Event.TheVariants.{Freed, Relinked, Took}
@@ -9,13 +7,14 @@ use Rattle.segcore.specs.Words.{bucket_after, Event, frequency_of, item, row_aft
 use Rattle.segword.specs.Words.{Item}
 use Rattle.segbase.specs.Words.{AddsEvents, Board, HasStep, number, Pass, trace, used_of}
 use Rattle.segbase.specs.Words.{with_own}
-use Rattle.segstore.specs.Words.{fills, has_room, Idles, KeepsSegments}
-use Rattle.segpass.specs.Words.{AddsEntry, bounces, ChangesNothing, DrawsNothing, GoesOn, HasCleanBit}
-use Rattle.segpass.specs.Words.{IsBusy, memo, ReadsNothing}
+use Rattle.segstore.specs.Words.{AddsEntry, bounces, ChangesNothing, DrawsNothing, fills, GoesOn}
+use Rattle.segstore.specs.Words.{has_room, HasCleanBit, Idles, IsBusy, KeepsSegments, memo}
+use Rattle.segstore.specs.Words.{ReadsNothing}
 use Rattle.segwrite.specs.Words.{one_more}
 use Rattle.segevict.specs.declared.retention.KeepRowAnswer.{KeepRowAnswer}
 use Rattle.segevict.specs.declared.retention.KeepRowAnswer.TheVariants as kept
 use Rattle.segevict.specs.Frequencies.{WasOften}
+use Rattle.segevict.specs.OneRow.{TriesForRow}
 use Rattle.segevict.specs.Tries.{TriesFor}
 
 -- ---- what is seen of a row without the bit
@@ -41,18 +40,19 @@ abbrev pub under_bit : ℕ → ℕ → ℕ → List Event → List Event
 under_bit pass bucket times own =
     Freed pass bucket false ∷ (own ++ (Took pass bucket ∷ bounces pass bucket times))
 
--- the row of the other segment was written, and the item of the key came to name it
-abbrev pub moves : ℕ → List ℕ → ℕ → ℕ → ℕ → ℕ → ℕ → List ℕ → List Event
-moves pass key segment row into to position words =
-    Relinked pass key segment row into to position ∷ fills pass into to words 8
+-- the row of the other segment was written with these words, at these places,
+-- and the item of the key came to name it
+abbrev pub moves : ℕ → List ℕ → ℕ → ℕ → ℕ → ℕ → ℕ → List ℕ × List ℕ → List Event
+moves pass key segment row into to position written =
+    Relinked pass key segment row into to position ∷ fills pass into to written.0 written.1
 
 -- under the bit: the item was moved into this row, which is counted as used; or nothing was done
 abbrev pub MovesItem : Board → ℕ → Item → ℕ → ℕ → Bool → Pass → Pass → Type 0
 MovesItem b bucket sought into to true p q =
-    (key : List ℕ) × (position : ℕ) × (words : List ℕ)
+    (key : List ℕ) × (position : ℕ) × (written : List ℕ × List ℕ)
     × (bucket ≡ bucket_of b.shape key)
     × ((row_after (trace p) sought.seg sought.row).linked ≡ Some key)
-    × AddsEvents b (moves (number p) key sought.seg sought.row into to position words) p q
+    × AddsEvents b (moves (number p) key sought.seg sought.row into to position written) p q
     × (q.plain ≡ with_own into one_more p.plain)
 MovesItem b bucket sought into to false p q = AddsEvents b [] p q × (q.plain ≡ p.plain)
 
@@ -76,11 +76,11 @@ abbrev pub IsKeptRow : Board → ℕ → ℕ → ℕ → ℕ → KeepRowAnswer �
 IsKeptRow b segment row into cutoff kept.Moved p q =
     (f : Pass) × (s : SeesRow b segment row (λ frequency. cutoff ≤ frequency) p f)
     × GoesOn b f q
-    × (to : ℕ) × (times : ℕ) × (position : ℕ) × (words : List ℕ)
+    × (to : ℕ) × (times : ℕ) × (position : ℕ) × (written : List ℕ × List ℕ)
     × (used_of p into ≡ Some to)
     × (to < b.shape.rows)
     × AddsEvents b (under_bit (number f) (bucket_of b.shape s.key) times
-    (moves (number f) s.key segment row into to position words)) f q
+    (moves (number f) s.key segment row into to position written)) f q
     × AddsEntry (entry.Moved (number p) s.key segment into) p q
     × (q.plain ≡ with_own into one_more p.plain)
     × RowGone b.shape segment row (trace q)
@@ -111,36 +111,5 @@ pub record KeepsRow (b : Board) (segment row into cutoff : ℕ) (told : KeepRowA
   pub draws_nothing : DrawsNothing p q
   pub reads_nothing : ReadsNothing p q
   pub tries : TriesFor b.shape (WasOften b.shape segment cutoff p q) 1 p q
+  pub tried : TriesForRow b segment row cutoff told p q
   pub answer : IsKeptRow b segment row into cutoff told p q
-
--- ---- rows in their order
-
--- this number of rows was gone over, from the first on, and this number of their items was moved
-abbrev pub GoesOver : Board → ℕ → ℕ → ℕ → ℕ → ℕ → Pass → Pass → Type 0
-GoesOver b segment into cutoff zero count p q = (count ≡ 0) × (q ≡ p)
-GoesOver b segment into cutoff (suc row) count p q =
-    (middle : Pass)
-    × (((before : ℕ) × (count ≡ before + 1) × GoesOver b segment into cutoff row before p middle
-    × KeepsRow b segment row into cutoff kept.Moved middle q)
-    ⊎ (GoesOver b segment into cutoff row count p middle
-    × KeepsRow b segment row into cutoff kept.Left middle q))
-
--- the rows before one were gone over, and that one has this answer
-abbrev pub StopsAt : Board → ℕ → ℕ → ℕ → KeepRowAnswer → ℕ → Pass → Pass → Type 0
-StopsAt b segment into cutoff told count p q =
-    (row : ℕ) × (used : ℕ)
-    × (used_of p segment ≡ Some used)
-    × (row < used)
-    × (middle : Pass)
-    × GoesOver b segment into cutoff row count p middle
-    × KeepsRow b segment row into cutoff told middle q
-
--- all used rows of the segment are gone over, or those up to one that stops the keep
-abbrev pub GoesInOrder : Board → ℕ → ℕ → ℕ → KeepAnswer → Pass → Pass → Type 0
-GoesInOrder b segment into cutoff (keep.Kept count) p q =
-    (used : ℕ) × (used_of p segment ≡ Some used) × GoesOver b segment into cutoff used count p q
-GoesInOrder b segment into cutoff (keep.NoRoom count) p q =
-    StopsAt b segment into cutoff kept.NoRoom count p q
-GoesInOrder b segment into cutoff (keep.Busy count) p q =
-    StopsAt b segment into cutoff kept.Busy count p q
-GoesInOrder b segment into cutoff keep.NotYours p q = ⊥

@@ -1,60 +1,103 @@
 -- What a keep of one row answers: what became of the row's item, or what was in the way.
-use Rattle.std.specs.Prelude.{◌≡◌, ◌↔◌, ◌⊎◌, ℕ, List, true, false, Some, None, IsSome}
+use Rattle.std.specs.Prelude.{◌≡◌, ◌↔◌, ◌⊎◌, ℕ, ◌<◌, ◌≤◌, List, ◌∷◌, true, false, Some, None, IsSome}
 use Rattle.segword.specs.Words.{Shape}
 use Rattle.segmodel.specs.declared.entry.Entry.TheVariants as entry
 use Rattle.segmodel.specs.declared.answer.SegState.TheVariants.{InUse}
-use Rattle.segbase.specs.Words.{Board, marked, number, Pass, state_of}
-use Rattle.segstore.specs.Words.{has_room}
-use Rattle.segpass.specs.Words.{AddsEntry, ChangesNothing, DrawsNothing, GoesOn, ReadsNothing}
+use Rattle.segmodel.specs.Words.{Begins, bucket_of}
+use Rattle.segcore.specs.Mark.{at, enters}
+use Rattle.segcore.specs.Mark as mark
+use Rattle.segcore.specs.Words.{frequency_in, Mark}
+use Rattle.segbase.specs.Words.{Board, HasStep, marked, mine, number, Pass, SinceFirst}
+use Rattle.segbase.specs.Words.{state_of, used_of}
+use Rattle.segstore.specs.Words.{ChangesNothing, DrawsNothing, GoesOn, has_room, IsBusy, ReadsNothing}
+use Rattle.segstore.specs.Words.{TakesNoBit, TakesOneBit}
 use Rattle.segevict.specs.declared.retention.KeepRowAnswer.{KeepRowAnswer}
 use Rattle.segevict.specs.declared.retention.KeepRowAnswer.TheVariants as kept
-use Rattle.segevict.specs.Frequencies.{IsOftenAt, WasOften, WasOftenAt, WasSeldomAt}
-use Rattle.segevict.specs.Keeping.{IsKeepTarget, UsesRows}
-use Rattle.segevict.specs.Moving.{KeepsRow}
+use Rattle.segevict.specs.Frequencies.{HadFrequency, HadThen}
 use Rattle.segevict.specs.Naming.{IsNamed}
 use Rattle.segevict.specs.Rows.{IsUsedRow}
-use Rattle.segevict.specs.Tries.{IsInTheWay, TriesFor}
+use Rattle.segevict.specs.Target.{IsKeepTarget, UsesRows}
+use Rattle.segevict.specs.Tries.{IsInTheWay}
 
 -- the segment is in use, and the row is one of its used rows
 abbrev pub HasRow : ℕ → ℕ → Pass → Type 0
 HasRow segment row p = (state_of p segment ≡ Some InUse) × IsUsedRow segment row p
 
+-- At a moment after the call's first step the key's item named the row,
+-- and its frequency was the cutoff or over it.
+-- Later it came to name the next row of the other segment, by one entry.
+-- It has the frequency that it had just before.
+pub record CarriesItem (shape : Shape) (segment row cutoff into : ℕ) (p q : Pass) (key : List ℕ)
+    : Type 0 where
+  pub before : List Mark
+  pub often : SinceFirst p q (λ start.
+      HadFrequency shape segment row (λ frequency. cutoff ≤ frequency) (mark.marked start) before
+      key)
+  pub to : ℕ
+  pub next : used_of p into ≡ Some to
+  pub fits : to < shape.rows
+  pub position : ℕ
+  pub comes : Begins (enters (entry.Moved (number p) key segment into)
+      ∷ at key into to position (frequency_in before segment row) ∷ before) (marked q)
+  pub entries : mine q ≡ entry.Moved (number p) key segment into ∷ mine p
+
 -- Moved: the row named an item of the cutoff's frequency or a higher one,
 -- and by one entry the item came to name a new row of the current segment.
 -- Left: no item names the row, or its item was below the cutoff at a moment of the call.
--- NoRoom: there is no segment to move into; or no row of it is left, and the item is still there.
+-- NoRoom: there is no segment to move into;
+-- or by a look of the call the item is still there, and no row is left for it.
 -- Busy: there is a row, but the item's bucket was in the way.
 abbrev pub IsKeepRowAnswer : Shape → ℕ → ℕ → ℕ → KeepRowAnswer → Pass → Pass → Type 0
 IsKeepRowAnswer shape segment row cutoff kept.Moved p q =
     (into : ℕ) × IsKeepTarget segment into p × UsesRows into 1 p q
-    × ((key : List ℕ) × WasOftenAt shape segment row cutoff p q key
-    × AddsEntry (entry.Moved (number p) key segment into) p q)
+    × ((key : List ℕ) × CarriesItem shape segment row cutoff into p q key)
 IsKeepRowAnswer shape segment row cutoff kept.Left p q =
     (into : ℕ) × IsKeepTarget segment into p × ChangesNothing p q
     × (¬ (IsNamed shape segment row (marked q))
-    ⊎ ((key : List ℕ) × WasSeldomAt shape segment row cutoff p q key))
+    ⊎ ((key : List ℕ) × HadThen shape segment row (λ frequency. frequency < cutoff) p q key))
 IsKeepRowAnswer shape segment row cutoff kept.NoRoom p q =
     (((into : ℕ) → ¬ (IsKeepTarget segment into p)) × (q ≡ p))
     ⊎ ((into : ℕ) × IsKeepTarget segment into p × ChangesNothing p q
     × (has_room shape q ≡ false)
-    × ((key : List ℕ) × IsOftenAt shape segment row cutoff q key))
+    × ((key : List ℕ)
+    × HadFrequency shape segment row (λ frequency. cutoff ≤ frequency) (marked q) (marked q) key)
+    × HasStep p q)
 IsKeepRowAnswer shape segment row cutoff kept.Busy p q =
     (into : ℕ) × IsKeepTarget segment into p × ChangesNothing p q
     × (has_room shape q ≡ true)
-    × IsInTheWay shape (WasOftenAt shape segment row cutoff p q) p q
+    × IsInTheWay shape (HadThen shape segment row (λ frequency. cutoff ≤ frequency) p q) p q
 IsKeepRowAnswer shape segment row cutoff kept.NotYours p q = q ≡ p
 IsKeepRowAnswer shape segment row cutoff kept.NotUsed p q = q ≡ p
 
--- The row is gone over as one of a keep.
--- The pass tried for one bit at most, and only if the row's item was read often enough.
+-- ---- what it costs
+
+-- By looks, without a bit, the pass saw that the row's item had the cutoff's frequency
+-- or a higher one. Then it did this, with the bit of the bucket of the item's key.
+abbrev pub AfterLooks : Board → ℕ → ℕ → ℕ → (ℕ → Pass → Pass → Type 0) → Pass → Pass → Type 0
+AfterLooks b segment row cutoff Does p q =
+    (key : List ℕ) × (seen : Pass)
+    × GoesOn b p seen
+    × HadThen b.shape segment row (λ frequency. cutoff ≤ frequency) p seen key
+    × TakesNoBit p seen
+    × GoesOn b seen q
+    × Does (bucket_of b.shape key) seen q
+
+-- The pass tries for a bit only after such looks, and only if there is a row.
+-- If it took the bit and left the row, no item names the row any more.
+abbrev pub TriesForRow : Board → ℕ → ℕ → ℕ → KeepRowAnswer → Pass → Pass → Type 0
+TriesForRow b segment row cutoff kept.Moved p q = AfterLooks b segment row cutoff TakesOneBit p q
+TriesForRow b segment row cutoff kept.Left p q =
+    TakesNoBit p q
+    ⊎ (AfterLooks b segment row cutoff TakesOneBit p q
+    × (has_room b.shape p ≡ true) × ¬ (IsNamed b.shape segment row (marked q)))
+TriesForRow b segment row cutoff kept.Busy p q = AfterLooks b segment row cutoff IsBusy p q
+TriesForRow b segment row cutoff _ p q = TakesNoBit p q
+
+-- The pass tried for one bit at most.
 -- It draws no overflow bucket, and does nothing of what readers do.
 pub record CostsOfKeepRow (b : Board) (segment row cutoff : ℕ) (told : KeepRowAnswer) (p q : Pass)
     : Type 0 where
-  pub goes_over : (into : ℕ)
-      → HasRow segment row p
-      → IsKeepTarget segment into p
-      → KeepsRow b segment row into cutoff told p q
-  pub tries : TriesFor b.shape (WasOften b.shape segment cutoff p q) 1 p q
+  pub tries : TriesForRow b segment row cutoff told p q
   pub draws_nothing : DrawsNothing p q
   pub reads_nothing : ReadsNothing p q
 

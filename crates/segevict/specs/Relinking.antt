@@ -4,7 +4,7 @@ use Rattle.segmodel.specs.Words.{bucket_of}
 use Rattle.segcore.specs.declared.event.Event.TheVariants.{Relinked}
 use Rattle.segcore.specs.Words.{Event, Fits, HasBit, Slot}
 use Rattle.segbase.specs.Words.{AddsAtOnce, Board, Missed, number, Pass, Place, position_at, trace}
-use Rattle.segpass.specs.Words.{memo}
+use Rattle.segstore.specs.Words.{memo}
 use Rattle.segwrite.specs.Words.{IsEarlier, IsInChain}
 
 -- the item of the slot comes to name this row

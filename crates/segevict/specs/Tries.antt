@@ -2,9 +2,9 @@
 use Rattle.std.specs.Prelude.{◌≡◌, ◌⊎◌, ℕ, ◌+◌, ◌*◌, ◌≤◌, ◌==◌, List, length, Some, All, count_by}
 use Rattle.segword.specs.Words.{Shape}
 use Rattle.segmodel.specs.Words.{after, bucket_of, Entry, IsBetween, StandsIn}
-use Rattle.segcore.specs.Words.{row_after}
+use Rattle.segcore.specs.Words.{bounced, linked_in, taken}
 use Rattle.segcore.specs.Event as event
-use Rattle.segbase.specs.Words.{bounced, locked_of, Pass, seen, SinceFirst, taken, trace}
+use Rattle.segbase.specs.Words.{count, locked_of, marked, Pass, seen, SinceFirst}
 
 -- The pass tried for bits for at most `most` keys, of each of which this is so.
 -- For each key it took at most one bit,
@@ -13,9 +13,9 @@ pub record TriesFor (shape : Shape) (IsSo : List ℕ → Type 0) (most : ℕ) (p
   pub keys : List (List ℕ)
   pub few : length keys ≤ most
   pub stood : All IsSo keys
-  pub taken : taken q ≤ taken p + length keys
+  pub taken : count taken q ≤ count taken p + length keys
   pub bounced : (bucket : ℕ)
-      → bounced q bucket ≤ bounced p bucket
+      → count (bounced bucket) q ≤ count (bounced bucket) p
       + 64 * count_by (λ key. bucket_of shape key == bucket) keys
 
 -- There is a key of which this is so. The pass itself has the key's bucket locked,
@@ -25,7 +25,7 @@ IsInTheWay shape IsSo p q =
     (key : List ℕ)
     × IsSo key
     × ((locked_of p ≡ Some (bucket_of shape key))
-    ⊎ (bounced p (bucket_of shape key) + 64 ≤ bounced q (bucket_of shape key)))
+    ⊎ (count (bounced (bucket_of shape key)) p + 64 ≤ count (bounced (bucket_of shape key)) q))
 
 -- ---- of an eviction
 
@@ -39,20 +39,8 @@ abbrev pub StoodIn : Shape → ℕ → List ℕ → Pass → Pass → Type 0
 StoodIn shape segment key p q =
     SinceFirst p q (λ start. StoodBetween shape segment key (event.seen start) (seen q))
 
--- the pass tried for bits for at most `most` keys,
--- each of which stood in the segment at some moment after the call's first step
-abbrev pub TriesForKeys : Shape → ℕ → ℕ → Pass → Pass → Type 0
-TriesForKeys shape segment most p q =
-    TriesFor shape (λ key. StoodIn shape segment key p q) most p q
-
 -- the key stood so, and it is the one that was stored in this row, or moved there
 abbrev pub StoodAtRow : Shape → ℕ → ℕ → Pass → Pass → List ℕ → Type 0
 StoodAtRow shape segment row p q key =
     StoodIn shape segment key p q
-    × ((row_after (trace p) segment row).linked ≡ Some key)
-
--- A key stood in the segment whose bucket the pass itself has locked.
--- Or the pass found the bit of that bucket set by another 64 times or more.
-abbrev pub IsBarred : Shape → ℕ → Pass → Pass → Type 0
-IsBarred shape segment p q =
-    IsInTheWay shape (λ key. StoodIn shape segment key p q) p q
+    × (linked_in (marked p) segment row ≡ Some key)

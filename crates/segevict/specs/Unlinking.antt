@@ -1,26 +1,27 @@
 -- How the keys that were stored in a segment's rows leave their words.
-use Rattle.std.specs.Prelude.{◌≡◌, ℕ, Bool, true, false, List, [], ◌∷◌}
+use Rattle.std.specs.Prelude.{◌≡◌, ℕ, Bool, true, false, List, [], ◌∷◌, Some}
 use Rattle.segword.specs.Words.{Item}
 use Rattle.segmodel.specs.declared.entry.Entry.TheVariants as entry
 use Rattle.segmodel.specs.Words.{bucket_of}
 use Rattle.segcore.specs.declared.event.Event.TheVariants.{Unlinked}
-use Rattle.segcore.specs.Words.{RowGone}
+use Rattle.segcore.specs.Words.{linked_in, row_after, RowGone}
 use Rattle.segcore.specs.declared.event.Leaving.TheVariants.{Evicts}
-use Rattle.segbase.specs.Words.{AddsEvents, Board, mine, number, Pass, trace}
+use Rattle.segbase.specs.Words.{AddsEvents, Board, marked, mine, number, Pass, trace}
 use Rattle.segevict.specs.declared.eviction.RowAnswer.{RowAnswer}
 use Rattle.segevict.specs.declared.eviction.RowAnswer.TheVariants as row_answer
-use Rattle.segpass.specs.Words.{DrawsNothing, GoesOn, HasCleanBit, memo, ReadsNothing}
+use Rattle.segstore.specs.Words.{DrawsNothing, GoesOn, HasCleanBit, memo, ReadsNothing}
 use Rattle.segevict.specs.Rows.{KeepsGone}
 use Rattle.segevict.specs.Tries.{IsInTheWay, StoodAtRow, TriesFor}
 
 -- ---- the key goes
 
--- the word was cleared, which took its key out of the segment; or there was no such word
+-- the word was cleared, which took the row's key out of the segment; or there was no such word
 abbrev pub TakesKey : Board → ℕ → Item → Bool → Pass → Pass → Type 0
 TakesKey b bucket item true p q =
     (key : List ℕ) × (at : ℕ)
     × (bucket ≡ bucket_of b.shape key)
     × AddsEvents b (Unlinked (number p) key at (Evicts item.seg) ∷ []) p q
+    × ((row_after (trace q) item.seg item.row).linked ≡ Some key)
 TakesKey b bucket item false p q = AddsEvents b [] p q
 
 -- Under the bit, which the pass still has, the key was taken out, or there was no word of it.
@@ -36,7 +37,9 @@ abbrev pub IsRowAnswer : Board → ℕ → ℕ → RowAnswer → Pass → Pass �
 IsRowAnswer b segment row row_answer.Evicted p q =
     KeepsGone b segment p q
     × RowGone b.shape segment row (trace q)
-    × ((key : List ℕ) × (mine q ≡ entry.Evicted (number p) key segment ∷ mine p))
+    × ((key : List ℕ)
+    × (linked_in (marked p) segment row ≡ Some key)
+    × (mine q ≡ entry.Evicted (number p) key segment ∷ mine p))
 IsRowAnswer b segment row row_answer.Gone p q =
     KeepsGone b segment p q × RowGone b.shape segment row (trace q) × (mine q ≡ mine p)
 IsRowAnswer b segment row row_answer.Busy p q =

@@ -4,7 +4,7 @@ ghost use Rattle.std.specs.Prelude.{◌≡◌, ◌≢◌, Some};
 ghost use Rattle.segmodel.specs.declared.answer.SegState.TheVariants.{InUse};
 ghost use Rattle.segmodel.specs.declared.answer.EvictAnswer.TheVariants.{NotYours};
 ghost use Rattle.segbase.specs.Words.{current_of, IsPassOf, state_of};
-ghost use Rattle.segpass.specs.Words.{GoesOn, HasCleanBit, IsQuiet, memo};
+ghost use Rattle.segstore.specs.Words.{GoesOn, HasCleanBit, IsQuiet, memo};
 ghost use Rattle.segevict.specs.Evicting.{CostsOfEvict, ended, EvictsSegment, IsEvictAnswer};
 ghost use Rattle.segevict.specs.Rows.{IsUsedRow, IsStoredIn};
 ghost use Rattle.segevict.specs.Unlinking.{TakesRow, EvictsRow};
@@ -12,7 +12,7 @@ ghost use Rattle.segevict.specs.Unlinking.{TakesRow, EvictsRow};
 use crate::row::{find_row, item_of_row};
 use segbase::{Board, Pass};
 use segmodel::{EvictAnswer, SegState};
-use segpass::take_to_write;
+use segstore::take_to_write;
 use segword::Item;
 use segwrite::clear;
 

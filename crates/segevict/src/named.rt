@@ -1,8 +1,7 @@
 //! How many rows of a pass's own segments are used, and how many of these items name.
 ghost use Rattle.std.specs.Prelude.{◌≡◌, ◌≤◌, Some};
 ghost use Rattle.segbase.specs.Words.{HasStep, used_of};
-ghost use Rattle.segstore.specs.Words.{Idles};
-ghost use Rattle.segpass.specs.Words.{IsQuiet};
+ghost use Rattle.segstore.specs.Words.{Idles, IsQuiet};
 ghost use Rattle.segevict.specs.Rows.{IsUsedRow};
 ghost use Rattle.segevict.specs.Naming.{ReturnsNamed, FindsNamed, CountsRows};
 

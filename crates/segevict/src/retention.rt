@@ -4,20 +4,19 @@ ghost use Rattle.std.specs.Prelude.{◌≡◌, ℕ, MatchOption, Some, true, fal
 ghost use Rattle.segmodel.specs.declared.answer.SegState.TheVariants.{InUse};
 ghost use Rattle.segcore.specs.Words.{Slot};
 ghost use Rattle.segbase.specs.Words.{IsPassOf, state_of};
-ghost use Rattle.segstore.specs.Words.{KeepsSegments};
-ghost use Rattle.segpass.specs.Words.{HasCleanBit, IsQuiet};
+ghost use Rattle.segstore.specs.Words.{HasCleanBit, IsQuiet, KeepsSegments};
 ghost use Rattle.segwrite.specs.Words.{IsNextRow};
-ghost use Rattle.segevict.specs.Keeping.{IsKeepTarget, KeepsItems};
+ghost use Rattle.segevict.specs.Keeping.{KeepsItems};
 ghost use Rattle.segevict.specs.Moving.{KeepsRow, MovesRow};
 ghost use Rattle.segevict.specs.OneRow.{HasRow, KeepsItem};
 ghost use Rattle.segevict.specs.Relinking.{HasRelinked, Relinks, TriesToRelink};
 ghost use Rattle.segevict.specs.Rows.{IsUsedRow, IsStoredIn};
+ghost use Rattle.segevict.specs.Target.{IsKeepTarget};
 
 use crate::row::{find_row, item_of_row};
-use segbase::{Board, Pass, Place};
+use segbase::{Board, Pass};
 use segmodel::{KeepAnswer, SegState};
-use segpass::take_to_write;
-use segstore::{copy_row, next_row};
+use segstore::{RowRef, copy_row, next_row, take_to_write};
 use segword::Item;
 use segwrite::Target;
 
@@ -71,7 +70,7 @@ pub fn keep_row(board: &Board, pass: &mut Pass, segment: u32, row: u32, cutoff: 
         return KeepRowAnswer::NotUsed;
     }
     match keep_target(pass, segment) {
-        Some(into) => keep_row_into(board, pass, segment, row, into, cutoff),
+        Some(into) => keep_row_into(board, pass, RowRef { segment, row }, into, cutoff),
         None => KeepRowAnswer::NoRoom,
     }
 }
@@ -107,7 +106,7 @@ fn keep_rows(board: &Board, pass: &mut Pass, segment: u32, into: u32, cutoff: u8
     let used = pass.used(segment).unwrap();
     let mut kept = 0;
     for row in 0..used {
-        match keep_row_into(board, pass, segment, row, into, cutoff) {
+        match keep_row_into(board, pass, RowRef { segment, row }, into, cutoff) {
             KeepRowAnswer::Moved => kept += 1,
             KeepRowAnswer::Left => {}
             KeepRowAnswer::NoRoom => return KeepAnswer::NoRoom(kept),
@@ -123,30 +122,33 @@ fn keep_rows(board: &Board, pass: &mut Pass, segment: u32, into: u32, cutoff: u8
 fn keep_row_into(
     board: &Board,
     pass: &mut Pass,
-    segment: u32,
-    row: u32,
+    row: RowRef,
     into: u32,
     cutoff: u8,
 ) -> KeepRowAnswer
     requires quiet { IsQuiet board.now pass.old }
-    requires used { IsUsedRow segment row pass.old }
-    requires target { IsKeepTarget segment into pass.old }
-    ensures keeps { KeepsRow board.now segment row into cutoff result pass.old pass.new }
+    requires used { IsUsedRow row.segment row.row pass.old }
+    requires target { IsKeepTarget row.segment into pass.old }
+    ensures keeps { KeepsRow board.now row.segment row.row into cutoff result pass.old pass.new }
 {
-    let (bucket, item) = item_of_row(board, pass, segment, row);
+    let (bucket, item) = item_of_row(board, pass, row.segment, row.row);
     let Some(seen) = find_row(board, pass, bucket, item) else {
         return KeepRowAnswer::Left;
     };
     if Item::unpack(seen.word).unwrap().freq < cutoff {
         return KeepRowAnswer::Left;
     }
-    let Ok((_, to)) = next_row(board, pass) else {
+    let Ok(next) = next_row(board, pass) else {
         return KeepRowAnswer::NoRoom;
     };
     if !take_to_write(board, pass, bucket) {
         return KeepRowAnswer::Busy;
     }
-    let is_moved = move_row(board, pass, bucket, item, into, to);
+    let to = RowRef {
+        segment: into,
+        row: next.row,
+    };
+    let is_moved = move_row(board, pass, bucket, item, to);
     board.release(pass, bucket, false);
     if is_moved {
         KeepRowAnswer::Moved
@@ -157,59 +159,68 @@ fn keep_row_into(
 
 // Moves the item of a row into this row of another segment, under the bit of its bucket.
 // Returns false if no word names the row any more.
-fn move_row(board: &Board, pass: &mut Pass, bucket: u32, item: Item, into: u32, to: u32) -> bool
+fn move_row(board: &Board, pass: &mut Pass, bucket: u32, item: Item, to: RowRef) -> bool
     requires pass { IsPassOf board.now pass.old }
     requires segments { KeepsSegments board.now pass.old }
     requires stored { IsStoredIn board.now bucket item pass.old }
     requires bit { HasCleanBit board.now pass.old bucket }
-    requires target { IsKeepTarget item.seg into pass.old }
-    requires next { IsNextRow board.now into to pass.old }
-    ensures moves { MovesRow board.now bucket item into to result pass.old pass.new }
+    requires target { IsKeepTarget item.seg to.segment pass.old }
+    requires next { IsNextRow board.now to.segment to.row pass.old }
+    ensures moves { MovesRow board.now bucket item to.segment to.row result pass.old pass.new }
 {
     let Some(target) = find_row(board, pass, bucket, item) else {
         return false;
     };
-    copy_row(board, pass, item.seg, item.row, into, to);
-    relink(board, pass, target, into, to);
-    pass.set_used(into, to + 1);
+    let from = RowRef {
+        segment: item.seg,
+        row: item.row,
+    };
+    copy_row(board, pass, from, to);
+    relink(board, pass, target, to);
+    pass.set_used(to.segment, to.row + 1);
     true
 }
 
 // Lets the item of a word name another row, under the bit of its bucket.
 // If a hit raises the item's frequency meanwhile, the exchange is tried again with the higher one.
-fn relink(board: &Board, pass: &mut Pass, target: Target, into: u32, to: u32)
+fn relink(board: &Board, pass: &mut Pass, target: Target, to: RowRef)
     ghost named: { Slot }
     requires pass { IsPassOf board.now pass.old }
-    requires relinks { Relinks board.now named into to target.place target.word pass.old }
-    ensures relinks { HasRelinked board.now named into to target.place pass.old pass.new }
+    requires relinks { Relinks board.now named to.segment to.row target.place target.word
+        pass.old }
+    ensures relinks { HasRelinked board.now named to.segment to.row target.place
+        pass.old pass.new }
 {
     let mut old = target.word;
-    while let Err(found) = try_to_relink(board, pass, target.place, old, into, to) {
+    while let Err(found) = try_to_relink(
+        board,
+        pass,
+        Target {
+            word: old,
+            ..target
+        },
+        to,
+    ) {
         old = found;
     }
 }
 
 // Lets the item of a place name another row if this word still stands there.
 // `Err` has the word that stands there instead.
-fn try_to_relink(
-    board: &Board,
-    pass: &mut Pass,
-    place: Place,
-    word: u64,
-    into: u32,
-    to: u32,
-) -> Result<(), u64>
+fn try_to_relink(board: &Board, pass: &mut Pass, target: Target, to: RowRef) -> Result<(), u64>
     ghost named: { Slot }
     requires pass { IsPassOf board.now pass.old }
-    requires relinks { Relinks board.now named into to place word pass.old }
-    ensures tries { TriesToRelink board.now named into to place word result pass.old pass.new }
+    requires relinks { Relinks board.now named to.segment to.row target.place target.word
+        pass.old }
+    ensures tries { TriesToRelink board.now named to.segment to.row target.place target.word result
+        pass.old pass.new }
 {
-    let seen = Item::unpack(word).unwrap();
+    let seen = Item::unpack(target.word).unwrap();
     let item = Item {
         tag: seen.tag,
         freq: seen.freq,
-        seg: into,
-        row: to,
+        seg: to.segment,
+        row: to.row,
     };
-    board.move_item(pass, place, word, item)
+    board.move_item(pass, target.place, target.word, item)
 }

@@ -1,13 +1,13 @@
 //! Rows of a segment of the pass's own: whose key was stored in each, and which word names it.
 ghost use Rattle.std.specs.Prelude.{◌≡◌, ◌<◌, Option};
 ghost use Rattle.segbase.specs.Words.{HasStep, IsPassOf};
-ghost use Rattle.segstore.specs.Words.{Idles};
-ghost use Rattle.segpass.specs.Words.{IsQuiet};
+ghost use Rattle.segstore.specs.Words.{Idles, IsQuiet};
 ghost use Rattle.segevict.specs.Rows.{IsUsedRow, IsStoredIn, FindsRow};
 
 use segbase::{Board, Pass, Place};
-use segword::{Item, bucket_of, hash, same_item, tag_of};
-use segwrite::{Target, next_place};
+use segstore::next_place;
+use segword::{Item, hash, same_item, tag_of};
+use segwrite::Target;
 
 // The bucket and the item of the key that was stored in a row. The frequency is left open.
 pub(crate) fn item_of_row(board: &Board, pass: &mut Pass, segment: u32, row: u32) -> (u32, Item)
@@ -26,7 +26,7 @@ pub(crate) fn item_of_row(board: &Board, pass: &mut Pass, segment: u32, row: u32
         seg: segment,
         row,
     };
-    (bucket_of(hash, board.shape().buckets), item)
+    (board.shape().bucket_of(hash), item)
 }
 
 // The word of a bucket's chain that names the row of an item, under the bucket's bit or without it.

@@ -1,23 +1,22 @@
 -- What readers make of a scan: their answers by the history, and that they changed nothing.
-use Rattle.std.proofs.Common.{◌≡◌, ℕ, Bool, true, false, cond, List, [], ◌∷◌, ◌++◌, ◌≢◌, Some, None, option_map, inl, inr, refl, sym, ap, ◌∙◌, arith}
+use Rattle.std.proofs.Common.{◌≡◌, ℕ, Bool, true, false, cond, List, [], ◌∷◌, ◌≢◌, Some, None, option_map, inl, inr, refl, sym, ap, ◌∙◌, arith}
 use Rattle.segword.specs.Words.{Shape}
 use Rattle.segmodel.specs.declared.answer.GetAnswer.TheVariants as get
 use Rattle.segmodel.specs.declared.answer.GetsAnswer.TheVariants as gets
 use Rattle.segmodel.specs.Words.{after, unless_expired, bucket_of, Cached, GetAnswer, GetsAnswer}
-use Rattle.segcore.specs.declared.event.Event.TheVariants.{Glanced, Bumped, Entered, Left}
+use Rattle.segcore.specs.declared.event.Event.TheVariants.{Bumped}
 use Rattle.segcore.specs.Event as event
-use Rattle.segcore.specs.Count as count
 use Rattle.segcore.specs.Words.{Event, IsLawful, KeyGone, WasGone}
 use Rattle.segcore.proofs.Moments.{seen_begins}
 use Rattle.segbase.specs.declared.pass.Plain.{Plain}
-use Rattle.segbase.specs.Words.{AddsAtOnce, AddsEvents, Board, locked_of, number, OnlyReads, Pass}
-use Rattle.segbase.specs.Words.{Place, seen, sight, taken, trace}
-use Rattle.segbase.proofs.Moves.{moved_inside, moved_taken, moved_bounced}
-use Rattle.segstore.specs.Words.{FoundItem, IsChained, IsReader}
+use Rattle.segbase.specs.Words.{AddsAtOnce, AddsEvents, Board, locked_of, number, Pass}
+use Rattle.segbase.specs.Words.{Place, seen, sight, trace}
+use Rattle.segbase.proofs.Moves.{moved_inside}
+use Rattle.segstore.specs.Words.{FoundItem, IsChained, IsQuiet, IsReader, RaisesNothing, TakesNoBit}
 use Rattle.segstore.proofs.Words.{chained_later}
 use Rattle.segstore.proofs.Readers.{looks}
-use Rattle.segpass.specs.Words.{IsQuiet, RaisesNothing, TakesNoBit}
-use Rattle.segpass.proofs.Draws.{reader_draws_none}
+use Rattle.segstore.proofs.Draws.{reader_draws_none}
+use Rattle.segstore.proofs.TakenBits.{reader_takes_none}
 use Rattle.segread.specs.Costs.{CostsOfLooks}
 use Rattle.segread.specs.Reads.{ReadsBetween, IsGetAnswer, ReadsKey}
 use Rattle.segread.specs.Looking.{LooksFirst}
@@ -59,32 +58,8 @@ hits b p q segment row frequency false d plain memo = looks b p q (record { did 
 
 -- ---- bits
 
--- a reader sets none
-pub reads_set_none : (p : ℕ) (own h : List Event) → OnlyReads own → count.taken p (own ++ h) ≡ count.taken p h
-reads_set_none p [] h only = refl
-reads_set_none p (Glanced q b ∷ own) h only = reads_set_none p own h only.1
-reads_set_none p (Bumped q s r f ∷ own) h only = reads_set_none p own h only.1
-reads_set_none p (Entered q s ∷ own) h only = reads_set_none p own h only.1
-reads_set_none p (Left q s ∷ own) h only = reads_set_none p own h only.1
-reads_set_none p (e ∷ own) h only = absurd only.0
-
-pub takes_none : (b : Board) (p q : Pass) → IsReader b p q → taken q ≡ taken p
-takes_none b p q i = moved_taken b i.reads.own p q i.reads.moved ∙ reads_set_none (number p) i.reads.own (trace p) i.reads.only
-
--- and tries for none
-pub reads_try_none : (p b : ℕ) (own h : List Event) → OnlyReads own → count.bounced p b (own ++ h) ≡ count.bounced p b h
-reads_try_none p b [] h only = refl
-reads_try_none p b (Glanced q a ∷ own) h only = reads_try_none p b own h only.1
-reads_try_none p b (Bumped q s r f ∷ own) h only = reads_try_none p b own h only.1
-reads_try_none p b (Entered q s ∷ own) h only = reads_try_none p b own h only.1
-reads_try_none p b (Left q s ∷ own) h only = reads_try_none p b own h only.1
-reads_try_none p b (e ∷ own) h only = absurd only.0
-
 pub reads_no_bit : (b : Board) (p q : Pass) → IsReader b p q → TakesNoBit p q
-reads_no_bit b p q i = record {
-  taken = takes_none b p q i;
-  bounced = λ bucket. moved_bounced b i.reads.own p q bucket i.reads.moved ∙ reads_try_none (number p) bucket i.reads.own (trace p) i.reads.only;
-}
+reads_no_bit b p q i = reader_takes_none b i.reads.own p q i.reads.moved i.reads.only
 
 -- ---- whole calls
 

@@ -47,14 +47,14 @@ module _ (b : Board) (key : List ℕ) (now draw : ℕ) (p m q : Pass) (l : Looks
   }
 
   told_from : (from tries : ℕ) (told : Attempt) → IsAttempt b.shape key now draw from tries told m q → IsAttempt b.shape key now draw from tries told p q
-  told_from from tries (attempt.Told (gets.Found value version)) x = (
+  told_from from tries (attempt.Answered (gets.Found value version)) x = (
     (x.0.0, (begins_on (seen p) (seen m) x.0.0 (moved_seen b [] p m l.look.did.moved) x.0.1.0, x.0.1.1), x.0.2),
     raises_after b.shape key value draw (trace p) (trace m) p m q l.look.did.moved.same (up b key p m l) (raises_none p m (out b key p m l).1) x.1,
     comes_from b key p m l from 32 tries 63 q x.2,
     once_from x.3,
   )
-  told_from from tries (attempt.Told gets.Miss) x = missed_from from tries x
-  told_from from tries (attempt.Told gets.Busy) x = (disturbs_from tries 64 x.0, attempts_from from 32 tries 63 x.1, once_from x.2)
+  told_from from tries (attempt.Answered gets.Miss) x = missed_from from tries x
+  told_from from tries (attempt.Answered gets.Busy) x = (disturbs_from tries 64 x.0, attempts_from from 32 tries 63 x.1, once_from x.2)
   told_from from tries (attempt.GoesOn place counted) x = moves_from from tries place counted x
 
   pub attempt_from : (from : Place) (tries : ℕ) (told : Attempt) → IsPlaceOf b.shape (trace p) key from → Attempted b key now draw from tries told m q → Attempted b key now draw from tries told p q

@@ -3,23 +3,23 @@ use Rattle.std.proofs.Common.{◌≡◌, ℕ, ◌+◌, ◌%◌, ◌<◌, ◌≤�
 use Rattle.std.proofs.lemmas.Bool.{eq-eqb}
 use Rattle.segword.specs.Words.{Info}
 use Rattle.segcore.specs.declared.event.Event.TheVariants.{Glanced, Entered, Left}
-use Rattle.segcore.specs.Count as count
-use Rattle.segcore.specs.Words.{Event, unless_own, View}
-use Rattle.segbase.specs.Words.{AddsEvents, Board, entered, glanced, Glances, has_bit, number, Pass}
-use Rattle.segbase.specs.Words.{raised, trace, view}
-use Rattle.segbase.proofs.Moves.{moved_entered, moved_glanced, moved_raised}
-use Rattle.segpass.specs.Words.{RaisesNothing}
+use Rattle.segcore.specs.Count as traces
+use Rattle.segcore.specs.Words.{entered, Event, glanced, raised, unless_own, View}
+use Rattle.segbase.specs.Words.{AddsEvents, Board, count, Glances, has_bit, number, Pass, trace}
+use Rattle.segbase.specs.Words.{view}
+use Rattle.segbase.proofs.Moves.{moved_count}
+use Rattle.segstore.specs.Words.{RaisesNothing}
 use Rattle.segread.specs.Gets.{Attempts}
 use Rattle.segread.specs.Hits.{GlancesNothing, GlancesOnce, OnlyScans, TriesFew}
 use Rattle.segread.specs.Scanning.{words_below, IsTry, Tries}
 
 -- it came into no segment, and did nothing beside
 abbrev pub StaysOut : Pass → Pass → Type 0
-StaysOut p q = (entered q ≡ entered p) × OnlyScans p q
+StaysOut p q = (count entered q ≡ count entered p) × OnlyScans p q
 
 -- by one look at the information of a bucket it came into no segment, and may have found the bit set
 abbrev pub LooksOnce : Pass → Pass → Type 0
-LooksOnce p q = (entered q ≡ entered p) × RaisesNothing p q × GlancesOnce p q
+LooksOnce p q = (count entered q ≡ count entered p) × RaisesNothing p q × GlancesOnce p q
 
 pub raises_none : (p q : Pass) → OnlyScans p q → RaisesNothing p q
 raises_none p q only = ap (λ x. x.0) only
@@ -29,14 +29,14 @@ glances_none p q only bucket = ap (λ x. x.1 bucket) only
 
 -- ---- single calls
 
-only_scans : (b : Board) (own : List Event) (p q : Pass) → AddsEvents b own p q → count.raised (number p) (own ++ trace p) ≡ raised p → ((bucket : ℕ) → count.glanced (number p) bucket (own ++ trace p) ≡ glanced p bucket) → OnlyScans p q
-only_scans b own p q m raised glanced = λ i. ((moved_raised b own p q m ∙ raised) i, λ bucket. (moved_glanced b own p q bucket m ∙ glanced bucket) i)
+only_scans : (b : Board) (own : List Event) (p q : Pass) → AddsEvents b own p q → traces.count raised (number p) (own ++ trace p) ≡ count raised p → ((bucket : ℕ) → traces.count (glanced bucket) (number p) (own ++ trace p) ≡ count (glanced bucket) p) → OnlyScans p q
+only_scans b own p q m raises looks = λ i. ((moved_count b own p q raised m ∙ raises) i, λ bucket. (moved_count b own p q (glanced bucket) m ∙ looks bucket) i)
 
 pub looked : (b : Board) (p q : Pass) → AddsEvents b [] p q → StaysOut p q
-looked b p q m = (moved_entered b [] p q m, only_scans b [] p q m refl (λ bucket. refl))
+looked b p q m = (moved_count b [] p q entered m, only_scans b [] p q m refl (λ bucket. refl))
 
 pub leaves : (b : Board) (segment : ℕ) (p q : Pass) → AddsEvents b (Left (number p) segment ∷ []) p q → StaysOut p q
-leaves b segment p q m = (moved_entered b _ p q m, only_scans b (Left (number p) segment ∷ []) p q m refl (λ bucket. refl))
+leaves b segment p q m = (moved_count b _ p q entered m, only_scans b (Left (number p) segment ∷ []) p q m refl (λ bucket. refl))
 
 pub looked_once : (p q : Pass) → StaysOut p q → LooksOnce p q
 looked_once p q out = (out.0, raises_none p q out.1, λ bucket. let same = glances_none p q out.1 bucket in omega arith)
@@ -49,9 +49,9 @@ one_more false n = omega arith
 set_found : (b : Board) (bucket : ℕ) (own : Bool) (p q : Pass) → AddsEvents b (unless_own own (Glanced (number p) bucket)) p q → LooksOnce p q
 set_found b bucket true p q m = looked_once p q (looked b p q m)
 set_found b bucket false p q m = (
-  moved_entered b _ p q m,
-  moved_raised b _ p q m,
-  λ other. let now = moved_glanced b (Glanced (number p) bucket ∷ []) p q other m in let one = one_more (eqb (number p) (number p) && eqb bucket other) (glanced p other) in omega (arith, now, one),
+  moved_count b _ p q entered m,
+  moved_count b _ p q raised m,
+  λ other. let now = moved_count b (Glanced (number p) bucket ∷ []) p q (glanced other) m in let one = one_more (eqb (number p) (number p) && eqb bucket other) (count (glanced other) p) in omega (arith, now, one),
 )
 
 by_bit : (b : Board) (bucket : ℕ) (info : Info) (p q : Pass) (held : Bool) → info.held ≡ held → Glances b bucket info p q → LooksOnce p q
@@ -63,10 +63,10 @@ glance_once b bucket info p q g = by_bit b bucket info p q info.held refl g
 
 -- it keeps in mind what it holds
 pub same_view : (p q : Pass) → view q ≡ view p → StaysOut p q
-same_view p q same = (ap (λ (v : View). count.entered v.number v.trace) same, λ i. (count.raised (same i).number (same i).trace, λ bucket. count.glanced (same i).number bucket (same i).trace))
+same_view p q same = (ap (λ (v : View). traces.count entered v.number v.trace) same, λ i. (traces.count raised (same i).number (same i).trace, λ bucket. traces.count (glanced bucket) (same i).number (same i).trace))
 
 pub came_in : (b : Board) (segment : ℕ) (p q : Pass) → AddsEvents b (Entered (number p) segment ∷ []) p q → IsTry p q
-came_in b segment p q m = (moved_entered b _ p q m ∙ rw (eq-eqb (number p) (number p) refl) refl, only_scans b (Entered (number p) segment ∷ []) p q m refl (λ bucket. refl))
+came_in b segment p q m = (moved_count b _ p q entered m ∙ rw (eq-eqb (number p) (number p) refl) refl, only_scans b (Entered (number p) segment ∷ []) p q m refl (λ bucket. refl))
 
 -- ---- one after another
 

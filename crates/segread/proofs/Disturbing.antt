@@ -1,23 +1,23 @@
 -- What tries for a value with its version add up to: entries of the key's bucket, and its bit found set.
-use Rattle.std.proofs.Common.{◌≡◌, ◌≢◌, ℕ, ◌+◌, ◌≤◌, Bool, true, false, cond, eqb, ◌&&◌, List, [], ◌∷◌, ◌++◌, Option, Some, None, refl, sym, ap, ◌∙◌, subst, arith, ◌⊎◌, inl, inr}
+use Rattle.std.proofs.Common.{◌≡◌, ◌≢◌, ℕ, ◌+◌, ◌≤◌, true, false, cond, eqb, ◌&&◌, List, [], ◌∷◌, Option, Some, None, refl, ap, ◌∙◌, subst, arith, ◌⊎◌, inl, inr}
 use Rattle.std.proofs.lemmas.Bool.{cond-true, and_from, eq-eqb, eqb-true, false_from_ne_true}
 use Rattle.segword.specs.Words.{Info, IsValid, Shape}
 use Rattle.segmodel.specs.Words.{Begins, bucket_of}
 use Rattle.segcore.specs.declared.event.Event.TheVariants.{Glanced}
-use Rattle.segcore.specs.Count as count
-use Rattle.segcore.specs.Words.{bucket_after, Event, is, unless_own}
+use Rattle.segcore.specs.Words.{bucket_after, Event, glanced, is, unless_own}
+use Rattle.segcore.proofs.Counts.{count_both}
 use Rattle.segcore.proofs.Moments.{begins_on, seen_begins}
 use Rattle.segcore.proofs.Changed.{entries_begin}
 use Rattle.segcore.proofs.Limits.{bucket_in}
-use Rattle.segbase.specs.Words.{AddsAtOnce, AddsEvents, Board, glanced, Glances, has_bit, number}
+use Rattle.segbase.specs.Words.{AddsAtOnce, AddsEvents, Board, count, Glances, has_bit, number}
 use Rattle.segbase.specs.Words.{OnlyReads, Pass, seen, sight, trace}
-use Rattle.segbase.proofs.Moves.{moved_on, moved_seen, moved_inside, moved_glanced}
+use Rattle.segbase.proofs.Moves.{moved_on, moved_seen, moved_inside, moved_count}
 use Rattle.segstore.specs.Words.{IsReader}
 use Rattle.segstore.proofs.Readers.{looks}
 use Rattle.segread.specs.Scanning.{CountsTries}
 use Rattle.segread.specs.Gets.{disturbed, PresentBetween, IsDisturbed, HasNoBit, Disturbs}
-use Rattle.segpass.proofs.Bits.{bit_before}
-use Rattle.segpass.proofs.Quiet.{reads_none}
+use Rattle.segstore.proofs.Bits.{bit_before}
+use Rattle.segstore.proofs.Quiet.{reads_none}
 
 -- ---- the bit
 
@@ -34,17 +34,8 @@ no_bit b key p v none = not_the_holder (bucket_after b.shape (trace p) (bucket_o
 
 -- ---- looks at the information
 
-glanced_grows : (p c : ℕ) (own h : List Event) → count.glanced p c h ≤ count.glanced p c (own ++ h)
-glanced_grows p c [] h = omega arith
-glanced_grows p c (Glanced q d ∷ own) h = let a = glanced_grows p c own h in let u = up (eqb q p && eqb d c) (count.glanced p c (own ++ h)) in omega arith
-  where
-    up : (t : Bool) (n : ℕ) → n ≤ cond t (n + 1) n
-    up true n = omega arith
-    up false n = omega arith
-glanced_grows p c (e ∷ own) h = glanced_grows p c own h
-
-pub glances_grow : (b : Board) (own : List Event) (p q : Pass) (c : ℕ) → AddsEvents b own p q → glanced p c ≤ glanced q c
-glances_grow b own p q c m = subst (λ n. glanced p c ≤ n) (sym (moved_glanced b own p q c m)) (glanced_grows (number p) c own (trace p))
+pub glances_grow : (b : Board) (own : List Event) (p q : Pass) (c : ℕ) → AddsEvents b own p q → count (glanced c) p ≤ count (glanced c) q
+glances_grow b own p q c m = let now = moved_count b own p q (glanced c) m in let both = count_both (glanced c) (number p) own (trace p) in omega (arith, now, both)
 
 -- a look at the information that found another's bit set only reads, and counts
 glance_reads : (b : Board) (p q : Pass) (c : ℕ) → AddsEvents b (Glanced (number p) c ∷ []) p q → q.plain ≡ p.plain → (sight q).memo ≡ (sight p).memo → IsReader b p q
@@ -60,12 +51,12 @@ glance_reads b p q c m plain memo = record {
   memo = memo;
 }
 
-glance_counts : (b : Board) (p q : Pass) (c : ℕ) → AddsEvents b (Glanced (number p) c ∷ []) p q → glanced q c ≡ glanced p c + 1
-glance_counts b p q c m = moved_glanced b (Glanced (number p) c ∷ []) p q c m
-    ∙ cond-true (eqb (number p) (number p) && eqb c c) (glanced p c + 1) (glanced p c) (and_from (eqb (number p) (number p)) (eqb c c) (eq-eqb (number p) (number p) refl) (eq-eqb c c refl))
+glance_counts : (b : Board) (p q : Pass) (c : ℕ) → AddsEvents b (Glanced (number p) c ∷ []) p q → count (glanced c) q ≡ count (glanced c) p + 1
+glance_counts b p q c m = moved_count b (Glanced (number p) c ∷ []) p q (glanced c) m
+    ∙ cond-true (eqb (number p) (number p) && eqb c c) (count (glanced c) p + 1) (count (glanced c) p) (and_from (eqb (number p) (number p)) (eqb c c) (eq-eqb (number p) (number p) refl) (eq-eqb c c refl))
 
 pub set_reads : (b : Board) (key : List ℕ) (p q : Pass) (info : Info) → IsValid b.shape → HasNoBit b.shape key p → Glances b (bucket_of b.shape key) info p q → info.held ≡ true → q.plain ≡ p.plain → (sight q).memo ≡ (sight p).memo
-    → IsReader b p q × (glanced q (bucket_of b.shape key) ≡ glanced p (bucket_of b.shape key) + 1)
+    → IsReader b p q × (count (glanced (bucket_of b.shape key)) q ≡ count (glanced (bucket_of b.shape key)) p + 1)
 set_reads b key p q info v none g held plain memo =
     let c = bucket_of b.shape key in
     let d : AddsAtOnce b (Glanced (number p) c ∷ []) p q = subst (λ t. AddsAtOnce b (unless_own t (Glanced (number p) c)) p q) (no_bit b key p v none) (g.1 held) in
@@ -100,7 +91,7 @@ pub by_entries : (b : Board) (key : List ℕ) (now : ℕ) (some more : ℕ) (p q
 by_entries b key now some more p q i c = let g = glances_grow b i.reads.own p q (bucket_of b.shape key) i.reads.moved in (moved_seen b i.reads.own p q i.reads.moved, omega (arith, c, g), inl c)
 
 -- and one more by the bit, which was found set
-pub by_bit : (b : Board) (key : List ℕ) (now : ℕ) (some more : ℕ) (p q : Pass) → IsReader b p q → CountsTries b.shape key some more (trace p) (trace q) → glanced p (bucket_of b.shape key) + 1 ≤ glanced q (bucket_of b.shape key) → PresentBetween b.shape key now (seen p) (seen q) → Disturbs b.shape key now some (more + 1) p q
+pub by_bit : (b : Board) (key : List ℕ) (now : ℕ) (some more : ℕ) (p q : Pass) → IsReader b p q → CountsTries b.shape key some more (trace p) (trace q) → count (glanced (bucket_of b.shape key)) p + 1 ≤ count (glanced (bucket_of b.shape key)) q → PresentBetween b.shape key now (seen p) (seen q) → Disturbs b.shape key now some (more + 1) p q
 by_bit b key now some more p q i c g stood = (moved_seen b i.reads.own p q i.reads.moved, omega (arith, c, g), inr stood)
 
 -- 64 tries: so often the pass was disturbed

@@ -2,14 +2,14 @@
 use Rattle.std.proofs.Common.{◌≡◌, ℕ, ◌+◌, ◌-◌, ◌<◌, ◌≤◌, ◌⊎◌, List, refl, sym, ◌∙◌, subst, inl, inr, arith}
 use Rattle.segmodel.specs.declared.answer.GetsAnswer.TheVariants as gets
 use Rattle.segmodel.specs.Words.{Begins, bucket_of, GetsAnswer}
-use Rattle.segcore.specs.Words.{KeyAhead}
+use Rattle.segcore.specs.Words.{glanced, KeyAhead}
 use Rattle.segcore.proofs.Moments.{begins_on}
 use Rattle.segcore.proofs.Searches.{key_first}
-use Rattle.segbase.specs.Words.{Board, glanced, IsPassOf, Pass, Place, position, seen, trace}
+use Rattle.segbase.specs.Words.{Board, count, IsPassOf, Pass, Place, position, seen, trace}
 use Rattle.segbase.proofs.Moves.{moved_on, moved_seen}
 use Rattle.segstore.specs.Words.{IsReader}
 use Rattle.segstore.proofs.Readers.{stays, reader_then}
-use Rattle.segread.specs.declared.version.Attempt.TheVariants.{Told}
+use Rattle.segread.specs.declared.version.Attempt.TheVariants.{Answered}
 use Rattle.segread.specs.Hits.{GetsRaisesFrom, GlancesFew, GlancesOnce, TriesFew}
 use Rattle.segread.specs.Scanning.{ComesIn, place_of, words_below, IsPlaceOf}
 use Rattle.segread.specs.Looking.{AfterLook, LooksFirst}
@@ -26,7 +26,7 @@ pub record HasTried (b : Board) (key : List ℕ) (now : ℕ) (next : Place) (tri
   pub few : tries ≤ 64
   pub place : IsPlaceOf b.shape (trace q) key next
   pub disturbs : Disturbs b.shape key now 0 tries p q
-  pub glances : (bucket : ℕ) → glanced q bucket ≤ glanced p bucket + tries
+  pub glances : (bucket : ℕ) → count (glanced bucket) q ≤ count (glanced bucket) p + tries
   pub tried : Attempts 1 (position b.shape (trace q) next) 0 tries p q
   pub ahead : KeyAhead b.shape key (position b.shape (trace q) next) (trace p) (trace q)
 
@@ -85,7 +85,7 @@ module _ (b : Board) (key : List ℕ) (now : ℕ) (next : Place) (tries : ℕ) (
   few_glances : tries < 64 → GlancesOnce q r → GlancesFew p r
   few_glances few one bucket = let before = t.glances bucket in let more = one bucket in omega arith
 
-  pub told_by : (draw : ℕ) (told : GetsAnswer) → tries < 64 → IsAttempt b.shape key now draw at tries (Told told) q r → TriesFew p r × GetsRaisesFrom b.shape key draw told p r × IsGetsAnswer b.shape key now told (seen p) p r × GlancesFew p r
+  pub told_by : (draw : ℕ) (told : GetsAnswer) → tries < 64 → IsAttempt b.shape key now draw at tries (Answered told) q r → TriesFew p r × GetsRaisesFrom b.shape key draw told p r × IsGetsAnswer b.shape key now told (seen p) p r × GlancesFew p r
   told_by draw (gets.Found value version) more x = (
     (let before = t.tried.comes_in in let then = x.2 in omega (arith, before, then)),
     raises_later b.shape key value draw p q r t.reads.reads.moved.same up t.tried.raises_nothing x.1,

@@ -10,10 +10,9 @@ use Rattle.segbase.proofs.Alone.{moved_alone}
 use Rattle.segbase.proofs.Moves.{moved_on, is_inside}
 use Rattle.segbase.proofs.Staying.{none_both}
 use Rattle.segstore.specs.Words.{FoundItem, FoundKey, IsReadable, IsReader, IsReaderIn}
-use Rattle.segstore.specs.Words.{LeavesSegment, ReadsRow, row_part, segment_part}
+use Rattle.segstore.specs.Words.{LeavesSegment, RaisesNothing, ReadsRow, row_part, segment_part}
 use Rattle.segstore.proofs.Readers.{looks, then_reader, leave_then}
 use Rattle.segstore.proofs.Seconds.{segment_of_item, found_readable, found_value}
-use Rattle.segpass.specs.Words.{RaisesNothing}
 use Rattle.segread.specs.Hits.{RaisesFrom}
 use Rattle.segread.proofs.Raising.{raises_after, raises_sooner}
 

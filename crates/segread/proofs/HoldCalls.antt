@@ -21,28 +21,27 @@ use Rattle.segbase.specs.Words.{with_holding}
 use Rattle.segbase.proofs.Owned.{still_pass}
 use Rattle.segbase.proofs.Staying.{none_both}
 use Rattle.segbase.proofs.Moves.{moved_inside, moved_mine}
-use Rattle.segstore.specs.Words.{FoundItem, IsReadable, IsReader, IsReaderIn, row_part}
-use Rattle.segstore.specs.Words.{segment_part}
+use Rattle.segstore.specs.Words.{ChangesNothing, DrawsNothing, FoundItem, GoesOn, is_held_in}
+use Rattle.segstore.specs.Words.{IsHold, IsLock, IsQuiet, IsReadable, IsReader, IsReaderIn, memo}
+use Rattle.segstore.specs.Words.{row_part, segment_part, TakesNoBit}
 use Rattle.segstore.proofs.Keeping.{stored_in, keeps}
 use Rattle.segstore.proofs.Seconds.{segment_of_item, row_of_item}
 use Rattle.segread.specs.Words.{Hold, HoldAnswer}
 use Rattle.segread.specs.declared.held.HoldAnswer.TheVariants as answer
-use Rattle.segpass.specs.Words.{ChangesNothing, DrawsNothing, GoesOn, is_held_in, IsHold, IsLock}
-use Rattle.segpass.specs.Words.{IsQuiet, memo, TakesNoBit}
 use Rattle.segread.specs.Hits.{OnlyScans, TriesFew}
 use Rattle.segread.specs.Holds.{IsRowOf, IsHoldOf, TakesHold, IsHoldAnswer, HoldsItem, NoneFills, IsUnfilled, Releases, SetsHold}
-use Rattle.segpass.proofs.Still.{then_minds}
-use Rattle.segpass.proofs.Bits.{none_at_both, bit_before}
-use Rattle.segpass.proofs.Draws.{moved_undrawn, reads_undrawn}
+use Rattle.segstore.proofs.Still.{then_minds}
+use Rattle.segstore.proofs.Bits.{none_at_both, bit_before}
+use Rattle.segstore.proofs.Draws.{moved_undrawn, reads_undrawn}
 use Rattle.segread.proofs.ComingIn.{glances_none, raises_none}
 use Rattle.segread.specs.Looking.{LooksFirst}
 use Rattle.segread.proofs.Looking.{out, reads_from}
-use Rattle.segread.proofs.Answered.{costs_from, reads_set_none, reads_try_none, unset_from}
-use Rattle.segpass.proofs.Idling.{took_none}
+use Rattle.segread.proofs.Answered.{costs_from, unset_from}
+use Rattle.segstore.proofs.TakenBits.{reader_takes_none}
 use Rattle.segread.proofs.Holding.{held_at, held_from, held_past, held_deadline, held_stood, has_held, is_hold, held_row, row_of_hold}
-use Rattle.segpass.proofs.Quiet.{has_lock, goes_on, reads_none}
+use Rattle.segstore.proofs.Quiet.{has_lock, goes_on, reads_none}
 use Rattle.segread.proofs.Reading.{reads_calm, reads_unseen, read_on}
-use Rattle.segpass.proofs.UnderBit.{moved_none}
+use Rattle.segstore.proofs.UnderBit.{moved_none}
 use Rattle.segread.specs.Scanning.{HasDeadline}
 use Rattle.segmodel.proofs.HistoryLemmas.{stands_present}
 
@@ -138,7 +137,7 @@ module _ (b : Board) (own : List Event) (held : Option Held) (p r q : Pass) (qui
   })
 
   pub takes_no_bit : TakesNoBit p q
-  takes_no_bit = took_none b own p q moved_to (reads_set_none (number p) own (trace p) only) (λ bucket. reads_try_none (number p) bucket own (trace p) only)
+  takes_no_bit = reader_takes_none b own p q moved_to only
 
   pub draws_nothing : DrawsNothing p q
   draws_nothing = moved_undrawn b own p q moved_to (reads_undrawn own only)
@@ -199,7 +198,6 @@ module _ (b : Board) (p r q : Pass) (place : Place) (item : Item) (key value : L
     record {
       is = is_hold_of;
       of = refl;
-      stood = held_stood z key value item.seg item.row at (trace r) lawful kept stands;
       finds = stands_present (after z (event.seen held.trace)) key value item.seg deadline now (held_stood z key value item.seg item.row at (trace r) lawful kept stands).stands
           (held_deadline z key value item.seg item.row at (trace r) lawful kept stands deadline had) before;
       between = (

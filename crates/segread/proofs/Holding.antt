@@ -9,7 +9,7 @@ use Rattle.segcore.proofs.Moments.{lawful_before}
 use Rattle.segcore.proofs.Segments.{row_since}
 use Rattle.segcore.proofs.Standing.{legal}
 use Rattle.segbase.specs.Words.{HasHeld, Held}
-use Rattle.segpass.specs.Words.{IsHold}
+use Rattle.segstore.specs.Words.{IsHold}
 use Rattle.segread.specs.Scanning.{HasDeadline}
 use Rattle.segcore.proofs.Deadlines.{same_deadline}
 

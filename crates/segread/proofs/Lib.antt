@@ -14,3 +14,4 @@ pub mod Attempts
 pub mod Holding
 pub mod Hits
 pub mod HoldCalls
+pub mod ReadsFacts

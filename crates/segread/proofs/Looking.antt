@@ -14,12 +14,11 @@ use Rattle.segstore.proofs.Readers as readers
 use Rattle.segstore.proofs.Seconds.{looked_at}
 use Rattle.segstore.proofs.Words.{same_place}
 use Rattle.segread.specs.declared.scan.Scan.{Scan}
-use Rattle.segread.specs.declared.scan.Way.{Way}
-use Rattle.segread.specs.declared.scan.Way.TheVariants as way
+use Rattle.segread.specs.declared.scan.Scan.TheVariants as scan
 use Rattle.segread.specs.Looking.{AfterLook, LooksFirst}
-use Rattle.segread.specs.Scanning.{AdvancesSearch, ComesIn, CountsTries, GoesAlong, HasPassed, IsOnWay, IsPlaceOf, IsScanFrom, IsScanner, IsWay, place_of, ScansOn, Tries}
+use Rattle.segread.specs.Scanning.{AdvancesSearch, ComesIn, CountsTries, GoesAlong, HasPassed, IsPlaceOf, IsScanFrom, IsScanner, IsWay, place_of, ScansOn, Tries}
 use Rattle.segread.proofs.ComingIn.{StaysOut, looked}
-use Rattle.segread.proofs.Scans.{HasScanned, last_of, on_way, place_later, scanned_none}
+use Rattle.segread.proofs.Scans.{HasScanned, last_of, scan_later, place_later, scanned_none}
 use Rattle.segread.proofs.Tries.{hit_from, word_wider}
 
 -- ---- the first look
@@ -75,8 +74,8 @@ module _ (b : Board) (key : List ℕ) (p m : Pass) (l : LooksFirst b p m) where
     brings = ahead_from from to x.last.at x.brings;
   }
 
-  way_from : (from to : ℕ) (last : Place) (tries : ℕ) (w : Way) (q : Pass) → IsWay b.shape key from to last tries w m q → IsWay b.shape key from to last tries w p q
-  way_from from to last tries (way.Found hit) q x = record {
+  way_from : (from to : ℕ) (last : Place) (tries : ℕ) (w : Scan) (q : Pass) → IsWay b.shape key from to last tries w m q → IsWay b.shape key from to last tries w p q
+  way_from from to last tries (scan.Found hit) q x = record {
     found = hit_from b.shape hit.place hit.item hit.header key (trace m) (trace q) (trace p) up x.found;
     deadline = x.deadline;
     few = x.few;
@@ -86,19 +85,19 @@ module _ (b : Board) (key : List ℕ) (p m : Pass) (l : LooksFirst b p m) where
     onward = x.onward;
     brings = ahead_from from (position b.shape (trace q) hit.place) (trace q) x.brings;
   }
-  way_from from to last tries (way.Passed word counted) q x = record {
+  way_from from to last tries (scan.Passed word counted) q x = record {
     few = x.few;
     up = x.up;
     counts = counts_from tries counted (trace q) x.counts;
     tried = tries_from from to tries counted q x.tried;
     passed = passed_from from to last word (trace q) x.passed;
   }
-  way_from from to last tries way.Busy q x = record { counts = counts_from tries 64 (trace q) x.counts; tried = tries_from from 32 tries 63 q x.tried }
+  way_from from to last tries scan.Busy q x = record { counts = counts_from tries 64 (trace q) x.counts; tried = tries_from from 32 tries 63 q x.tried }
 
   -- looks along words
-  pub along_from : (from last : Place) (tries : ℕ) (w : Way) (q : Pass) → IsPlaceOf b.shape (trace p) key from → IsPlaceOf b.shape (trace p) key last → GoesAlong b key from last tries w m q → GoesAlong b key from last tries w p q
+  pub along_from : (from last : Place) (tries : ℕ) (w : Scan) (q : Pass) → IsPlaceOf b.shape (trace p) key from → IsPlaceOf b.shape (trace p) key last → GoesAlong b key from last tries w m q → GoesAlong b key from last tries w p q
   along_from from last tries w q at end x = (
-    on_way b w p m q (readers.looks b p m l.look) x.0,
+    scan_later b w p m q (readers.looks b p m l.look) x.0,
     subst (λ n. IsWay b.shape key n (position b.shape (trace p) last + 1) last tries w p q) (same_at from at)
         (subst (λ n. IsWay b.shape key (position b.shape (trace m) from) (n + 1) last tries w p q) (same_at last end) (way_from (position b.shape (trace m) from) (position b.shape (trace m) last + 1) last tries w q x.1)),
   )
@@ -161,7 +160,7 @@ module _ (b : Board) (key : List ℕ) where
 -- ---- what looks along a bucket come to
 
 -- with p before all looks, first right after the first, and r after all of them
-pub along_to : (b : Board) (key : List ℕ) (start : Place) (tries : ℕ) (w : Way) (p first r : Pass) → LooksFirst b p first → IsPlaceOf b.shape (trace p) key start → IsOnWay b w first r
+pub along_to : (b : Board) (key : List ℕ) (start : Place) (tries : ℕ) (w : Scan) (p first r : Pass) → LooksFirst b p first → IsPlaceOf b.shape (trace p) key start → IsScanner b w first r
     → IsWay b.shape key (position b.shape (trace p) start) (position b.shape (trace first) (place_of start.bucket 7) + 1) (place_of start.bucket 7) tries w first r
     → AfterLook b p (λ m. GoesAlong b key start (place_of start.bucket 7) tries w m r)
 along_to b key start tries w p first r l of reads x = (
@@ -171,7 +170,7 @@ along_to b key start tries w p first r l of reads x = (
 )
 
 -- the last word of a bucket is where it was
-pub last_there : (b : Board) (key : List ℕ) (start : Place) (p first middle : Pass) (from tries : ℕ) (w : Way) (r : Pass) → LooksFirst b p first → IsReader b first middle → IsPlaceOf b.shape (trace p) key start
+pub last_there : (b : Board) (key : List ℕ) (start : Place) (p first middle : Pass) (from tries : ℕ) (w : Scan) (r : Pass) → LooksFirst b p first → IsReader b first middle → IsPlaceOf b.shape (trace p) key start
     → IsWay b.shape key from (position b.shape (trace middle) (place_of start.bucket 7) + 1) (place_of start.bucket 7) tries w first r
     → IsWay b.shape key from (position b.shape (trace first) (place_of start.bucket 7) + 1) (place_of start.bucket 7) tries w first r
 last_there b key start p first middle from tries w r l i of = subst (λ n. IsWay b.shape key from (n + 1) (place_of start.bucket 7) tries w first r) (last_of b key start first middle i (still_of b key p first l start of)).1

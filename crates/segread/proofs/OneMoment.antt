@@ -17,7 +17,7 @@ use Rattle.segbase.specs.Words.{trace}
 use Rattle.segstore.specs.Words.{FoundItem, IsChained, IsReader, row_part, segment_part}
 use Rattle.segstore.specs.Words.{word_of_place}
 use Rattle.segstore.proofs.Words.{same_segment, names_in}
-use Rattle.segpass.proofs.Before.{stood_before}
+use Rattle.segstore.proofs.Before.{stood_before}
 use Rattle.segread.specs.Scanning.{HasDeadline}
 use Rattle.segmodel.proofs.HistoryLemmas.{stands_present}
 use Rattle.segread.proofs.Deadlines.{deadline_since}

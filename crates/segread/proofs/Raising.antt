@@ -6,9 +6,9 @@ use Rattle.std.proofs.lemmas.Option.{none-some, same_Some}
 use Rattle.segword.specs.Words.{IsValid, Item, item_word, Shape}
 use Rattle.segmodel.specs.Words.{after, Begins, bucket_of, standing, tag_of}
 use Rattle.segcore.specs.declared.event.Event.TheVariants.{Bumped}
-use Rattle.segcore.specs.Words.{bucket_after, bump, cached, content_word, Event, frequency_of}
-use Rattle.segcore.specs.Words.{Holds, inside, last_at, marked, packed, Row, row_after, seen, View}
-use Rattle.segcore.specs.Words.{word}
+use Rattle.segcore.specs.Words.{bucket_after, bump, cached, content_word, entered, Event}
+use Rattle.segcore.specs.Words.{frequency_of, glanced, Holds, inside, last_at, marked, packed}
+use Rattle.segcore.specs.Words.{raised, Row, row_after, seen, View, word}
 use Rattle.segcore.specs.Bucket as buckets
 use Rattle.segcore.proofs.Orderly.{frequency_marked}
 use Rattle.segcore.proofs.Entered.{no_refill}
@@ -19,15 +19,15 @@ use Rattle.segcore.proofs.Searches.{key_placed, placed_key}
 use Rattle.segcore.proofs.Segments.{row_since}
 use Rattle.segcore.proofs.Standing.{coherent}
 use Rattle.segpolicy.specs.Words.{draw_raises, frequency_after_hit}
-use Rattle.segbase.specs.Words.{AddsAtOnce, AddsEvents, Board, cell_at, entered, home_bucket}
-use Rattle.segbase.specs.Words.{IsPassOf, number, Pass, Place, position, raised, Stepped, trace}
+use Rattle.segbase.specs.Words.{AddsAtOnce, AddsEvents, Board, cell_at, count, home_bucket}
+use Rattle.segbase.specs.Words.{IsPassOf, number, Pass, Place, position, Stepped, trace}
 use Rattle.segbase.proofs.Alone.{moved_alone}
-use Rattle.segbase.proofs.Moves.{moved_entered, moved_glanced}
+use Rattle.segbase.proofs.Moves.{moved_count}
 use Rattle.segbase.proofs.Standing.{tag_of_word}
-use Rattle.segstore.specs.Words.{FoundItem, IsChained, row_part, segment_part, WasLinked}
+use Rattle.segstore.specs.Words.{FoundItem, IsChained, RaisesNothing, row_part, segment_part}
+use Rattle.segstore.specs.Words.{WasLinked}
 use Rattle.segstore.proofs.Words.{chained_later, same_place, stood_item}
 use Rattle.segstore.proofs.Seconds.{segment_of_item, row_of_item}
-use Rattle.segpass.specs.Words.{RaisesNothing}
 use Rattle.segread.specs.Hits.{HasFrequency, CountsHit, GlancesNothing, IsItemAtPosition, PassesHit, IsOvertaken, RaisesFrom}
 use Rattle.segread.proofs.Tries.{has_tag}
 
@@ -164,7 +164,7 @@ module _ (b : Board) (p q : Pass) (place : Place) (item : Item) (higher draw fou
 pub raised_by : (b : Board) (p q : Pass) (place : Place) (item : Item) (higher draw found : ℕ) (key value : List ℕ) (h : List Event) (result : Bool) → IsPassOf b p → IsChained b.shape (trace p) place → 0 < inside (trace p) (number p) item.seg
     → FoundItem b.shape place (item_word item) key value h (trace p)
     → Stepped b (bump (home_bucket b.shape (trace p) place) (position b.shape (trace p) place) (cell_at b.shape place) item.tag item.seg item.row item.freq higher) found p q → result ≡ eqb found (item_word item)
-    → AddsAtOnce b (cond result (Bumped (number p) item.seg item.row higher ∷ []) []) p q → raised q ≡ cond result 1 0 + raised p → higher ≡ frequency_after_hit item.freq draw → item.freq < higher → RaisesFrom b.shape key value draw h p q
+    → AddsAtOnce b (cond result (Bumped (number p) item.seg item.row higher ∷ []) []) p q → count raised q ≡ cond result 1 0 + count raised p → higher ≡ frequency_after_hit item.freq draw → item.freq < higher → RaisesFrom b.shape key value draw h p q
 raised_by b p q place item higher draw found key value h true is chained there saw step same did more by up =
     inl (omega (arith, more), counts_hit b p q place item higher draw found key value h is chained there saw step by up (eqb-true found (item_word item) (sym same)))
 raised_by b p q place item higher draw found key value h false is chained there saw step same did more by up =
@@ -191,14 +191,14 @@ raised_none b p place item higher draw key value h is saw by low = inr (
 )
 
 -- an exchange comes into no segment
-pub stays_out : (b : Board) (p q : Pass) (segment row frequency : ℕ) (result : Bool) → AddsEvents b (cond result (Bumped (number p) segment row frequency ∷ []) []) p q → entered q ≡ entered p
-stays_out b p q segment row frequency true m = moved_entered b _ p q m
-stays_out b p q segment row frequency false m = moved_entered b _ p q m
+pub stays_out : (b : Board) (p q : Pass) (segment row frequency : ℕ) (result : Bool) → AddsEvents b (cond result (Bumped (number p) segment row frequency ∷ []) []) p q → count entered q ≡ count entered p
+stays_out b p q segment row frequency true m = moved_count b _ p q entered m
+stays_out b p q segment row frequency false m = moved_count b _ p q entered m
 
 -- and looks at no bit
 pub glances_none : (b : Board) (p q : Pass) (segment row frequency : ℕ) (result : Bool) → AddsEvents b (cond result (Bumped (number p) segment row frequency ∷ []) []) p q → GlancesNothing p q
-glances_none b p q segment row frequency true m bucket = moved_glanced b _ p q bucket m
-glances_none b p q segment row frequency false m bucket = moved_glanced b _ p q bucket m
+glances_none b p q segment row frequency true m bucket = moved_count b _ p q (glanced bucket) m
+glances_none b p q segment row frequency false m bucket = moved_count b _ p q (glanced bucket) m
 
 -- ---- one after another
 

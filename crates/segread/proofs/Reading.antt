@@ -6,10 +6,9 @@ use Rattle.segcore.specs.declared.event.Event.TheVariants.{Glanced, Bumped, Ente
 use Rattle.segcore.specs.Event as event
 use Rattle.segbase.specs.Words.{Board, IsReaderEvent, number, OnlyReads, Pass, Reads, trace}
 use Rattle.segbase.proofs.Moves.{moved_mine}
-use Rattle.segstore.specs.Words.{KeepsSegments}
+use Rattle.segstore.specs.Words.{ChangesNothing, GoesOn, IsQuiet, KeepsSegments, memo}
 use Rattle.segstore.proofs.Keeping.{IsCalm, AreCalm, keeps_plain}
-use Rattle.segpass.specs.Words.{ChangesNothing, GoesOn, IsQuiet, memo}
-use Rattle.segpass.proofs.Quiet.{quiet_reads, goes_on}
+use Rattle.segstore.proofs.Quiet.{quiet_reads, goes_on}
 
 is_calm : (e : Event) → IsReaderEvent e → IsCalm e
 is_calm (Glanced p b) is = tt

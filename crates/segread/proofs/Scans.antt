@@ -1,6 +1,7 @@
 -- Looks at the words of a chain in turn, and what comes after each: the next word, or the next bucket, or the chain's end.
 use Rattle.std.proofs.Common.{◌≡◌, ◌≢◌, ℕ, ◌+◌, ◌-◌, ◌*◌, ◌%◌, ◌^◌, ◌<◌, ◌≤◌, Bool, true, false, cond, ltb, ◌⊎◌, List, [], Some, None, refl, sym, ap, ◌∙◌, subst, inl, inr, ⊎_elim, arith}
 use Rattle.std.proofs.lemmas.Bool.{cases_lt, lt-ltb, le-ltb}
+use Rattle.std.proofs.lemmas.Option.{none-some, same_Some}
 use Rattle.segword.specs.Words.{chain_word, IsChainWord, IsValid, Item, Shape}
 use Rattle.segmodel.specs.Words.{Begins, bucket_of}
 use Rattle.segcore.specs.declared.cell.Cell.TheVariants.{OfBucket, OfOverflow}
@@ -14,15 +15,13 @@ use Rattle.segcore.proofs.Searches.{key_first, key_later, key_skipped, key_ended
 use Rattle.segbase.specs.Words.{Board, cell_at, depth_of, home_bucket, IsPassOf, IsPlace, Pass}
 use Rattle.segbase.specs.Words.{Place, position, trace}
 use Rattle.segbase.proofs.Moves.{moved_on}
-use Rattle.segstore.specs.Words.{FoundKey, IsChained, IsReader, IsReaderIn, word_of_place}
+use Rattle.segstore.specs.Words.{FoundKey, IsChained, IsNext, IsReader, IsReaderIn, next_word, word_of_place}
 use Rattle.segstore.proofs.Words.{at_place, same_place, chained_later}
 use Rattle.segstore.proofs.Readers.{stays, reader_then, enter_then}
 use Rattle.segread.specs.declared.scan.Hit.{Hit}
 use Rattle.segread.specs.declared.scan.Scan.{Scan}
-use Rattle.segread.specs.declared.scan.Scan.TheVariants as scan
-use Rattle.segread.specs.declared.scan.Way.{Way}
-use Rattle.segread.specs.declared.scan.Way.TheVariants.{Found, Passed, Busy}
-use Rattle.segread.specs.Scanning.{HasDeadline, place_of, words_below, IsPlaceOf, IsPlaceAfter, IsOnWay, IsScanner, IsTry, ComesIn, Tries, CountsTries, AdvancesSearch, HasPassed, IsHit, IsPast, GivesUp, IsEnded, IsWay, IsScanFrom, IsScanAnswer}
+use Rattle.segread.specs.declared.scan.Scan.TheVariants.{Found, Passed, Busy}
+use Rattle.segread.specs.Scanning.{HasDeadline, place_of, words_below, IsPlaceOf, IsScanner, IsTry, ComesIn, Tries, CountsTries, AdvancesSearch, HasPassed, IsHit, IsPast, GivesUp, IsEnded, IsWay, IsScanFrom, IsScanAnswer}
 use Rattle.segread.specs.Hits.{OnlyScans, TriesFew}
 use Rattle.segread.proofs.ComingIn.{tries_none, tries_once, tries_then, at_most, word_more, words_few, words_most}
 use Rattle.segread.proofs.Tries.{Trying, hit_from, word_wider, counts_none, counts_later, counts_then}
@@ -54,10 +53,14 @@ first_place z key bucket h v is =
     let t : ltb bucket z.buckets ≡ true = let lt' : bucket < z.buckets = omega arith in lt-ltb bucket z.buckets lt' in
     place_at z key (place_of bucket 1) 1 h ((omega arith), (omega arith), (omega arith)) (((omega arith), (omega arith)), rw t (is, refl, (omega arith)))
 
+-- the next word of the same bucket
+pub inner_next : (z : Shape) (place : Place) (w : ℕ) → place.word < 7 → IsNext z place w (Some (next_word place))
+inner_next z place w lt = record { inner = λ more. refl; last = λ seven. absurd (omega arith) }
+
 -- the one that a chain word leads to
-next_place : (z : Shape) (key : List ℕ) (depth number : ℕ) (h : List Event) → number < z.overflow → depth < (bucket_after z h (bucket_of z key)).chained → home_of h number ≡ Some (home (bucket_of z key) (depth + 1))
+chained_place : (z : Shape) (key : List ℕ) (depth number : ℕ) (h : List Event) → number < z.overflow → depth < (bucket_after z h (bucket_of z key)).chained → home_of h number ≡ Some (home (bucket_of z key) (depth + 1))
     → IsPlaceOf z h key (place_of (z.buckets + number) 1) × (position z h (place_of (z.buckets + number) 1) ≡ 8 * (depth + 1) + 1)
-next_place z key depth number h few in' of =
+chained_place z key depth number h few in' of =
     let t : ltb (z.buckets + number) z.buckets ≡ false = le-ltb (z.buckets + number) z.buckets (omega arith) in
     let e : z.buckets + number - z.buckets ≡ number = omega arith in
     place_at z key (place_of (z.buckets + number) 1) (8 * (depth + 1) + 1) h ((omega arith), (omega arith), (omega arith)) (((omega arith), (omega arith)), rw (t, e) (depth + 1, of, refl, (omega arith)))
@@ -94,10 +97,10 @@ place_later z key place h g l up of = (chained_later z h g place l up of.0, (sam
 
 -- ---- one look after another
 
-pub on_way : (b : Board) (w : Way) (p q r : Pass) → IsReader b p q → IsOnWay b w q r → IsOnWay b w p r
-on_way b (Found hit) p q r i j = enter_then b p q r hit.item.seg i j
-on_way b (Passed word tries) p q r i j = reader_then b p q r i j
-on_way b Busy p q r i j = reader_then b p q r i j
+pub scan_later : (b : Board) (w : Scan) (p q r : Pass) → IsReader b p q → IsScanner b w q r → IsScanner b w p r
+scan_later b (Found hit) p q r i j = enter_then b p q r hit.item.seg i j
+scan_later b (Passed word tries) p q r i j = reader_then b p q r i j
+scan_later b Busy p q r i j = reader_then b p q r i j
 
 passed_then : (z : Shape) (key : List ℕ) (from mid to : ℕ) (place : Place) (w : ℕ) (h g f : List Event) → Begins h g → AdvancesSearch z key from mid h g → HasPassed z key mid to place w g f → HasPassed z key from to place w h f
 passed_then z key from mid to place w h g f up b p = record {
@@ -157,7 +160,7 @@ scanned_none b key at tries p is few = record {
 }
 
 -- the place after one that was passed, at which a search may go on
-pub record IsNext (z : Shape) (key : List ℕ) (from after : ℕ) (next : Place) (g f : List Event) : Type 0 where
+pub record CanGoOn (z : Shape) (key : List ℕ) (from after : ℕ) (next : Place) (g f : List Event) : Type 0 where
   pub place : IsPlaceOf z f key next
   pub brings : AdvancesSearch z key from (position z f next) g f
   pub words : words_below after ≡ words_below (position z f next)
@@ -167,7 +170,7 @@ module _ (b : Board) (key : List ℕ) (from mid some tries : ℕ) (p q r : Pass)
   up : Begins (trace p) (trace q)
   up = moved_on b s.reads.reads.own p q s.reads.reads.moved
 
-  pub scanned_next : (after counted : ℕ) (last next : Place) (w : ℕ) → IsReader b q r → IsPast b.shape key mid after tries counted last w q r → IsNext b.shape key mid after next (trace q) (trace r) → HasScanned b key from (position b.shape (trace r) next) some counted p r
+  pub scanned_next : (after counted : ℕ) (last next : Place) (w : ℕ) → IsReader b q r → IsPast b.shape key mid after tries counted last w q r → CanGoOn b.shape key mid after next (trace q) (trace r) → HasScanned b key from (position b.shape (trace r) next) some counted p r
   scanned_next after counted last next w i x n = record {
     reads = reader_then b p q r s.reads i;
     few = x.few;
@@ -202,7 +205,7 @@ module _ (b : Board) (key : List ℕ) (from mid some tries : ℕ) (p q r : Pass)
     tried = tries_then from mid 32 some tries 63 p q r s.tried x.tried;
   }
 
-  pub way_then : (to : ℕ) (last : Place) (w : Way) → IsWay b.shape key mid to last tries w q r → IsWay b.shape key from to last some w p r
+  pub way_then : (to : ℕ) (last : Place) (w : Scan) → IsWay b.shape key mid to last tries w q r → IsWay b.shape key from to last some w p r
   way_then to last (Found hit) x = hit_then hit x
   way_then to last (Passed word counted) x = record {
     few = x.few;
@@ -214,10 +217,16 @@ module _ (b : Board) (key : List ℕ) (from mid some tries : ℕ) (p q r : Pass)
   way_then to last Busy x = gives_up_then x
 
 -- looks that ended before the last place
-pub way_else : (z : Shape) (key : List ℕ) (from to to' : ℕ) (last last' : Place) (tries : ℕ) (w : Way) (p q : Pass) → ((word counted : ℕ) → w ≢ Passed word counted) → IsWay z key from to last tries w p q → IsWay z key from to' last' tries w p q
+pub way_else : (z : Shape) (key : List ℕ) (from to to' : ℕ) (last last' : Place) (tries : ℕ) (w : Scan) (p q : Pass) → ((word counted : ℕ) → w ≢ Passed word counted) → IsWay z key from to last tries w p q → IsWay z key from to' last' tries w p q
 way_else z key from to to' last last' tries (Found hit) p q ne x = x
 way_else z key from to to' last last' tries (Passed word counted) p q ne x = absurd (ne word counted refl)
 way_else z key from to to' last last' tries Busy p q ne x = x
+
+-- looks that ended before the chain did
+pub scan_else : (z : Shape) (key : List ℕ) (from to : ℕ) (last : Place) (tries : ℕ) (w : Scan) (p q : Pass) → ((word counted : ℕ) → w ≢ Passed word counted) → IsWay z key from to last tries w p q → IsScanFrom z key from tries w p q
+scan_else z key from to last tries (Found hit) p q ne x = x
+scan_else z key from to last tries (Passed word counted) p q ne x = absurd (ne word counted refl)
+scan_else z key from to last tries Busy p q ne x = x
 
 -- ---- the place after one that was passed
 
@@ -239,7 +248,7 @@ module _ (z : Shape) (key : List ℕ) (place : Place) (from w : ℕ) (g f : List
   moves : (n : ℕ) → ((start : List Event) → KeyAhead z key after start p.last.at → KeyAhead z key n start p.last.at) → AdvancesSearch z key from n g f
   moves n step start up ahead = key_later z key n start p.last.at f l (begins_on start g p.last.at up p.last.between.0) p.last.between.1 (step start (p.brings start up ahead))
 
-  in_bucket : place.word < 7 → IsNext z key from after (place_of place.bucket (place.word + 1)) g f
+  in_bucket : place.word < 7 → CanGoOn z key from after (place_of place.bucket (place.word + 1)) g f
   in_bucket more =
       let d = bucket_depth z g place.bucket in let next = place_of place.bucket (place.word + 1) in
       let x = other_place z key place (place.word + 1) g of (omega arith) (omega (arith, more)) in
@@ -271,13 +280,13 @@ module _ (z : Shape) (key : List ℕ) (place : Place) (from w : ℕ) (g f : List
     after_is = let same = (same_place z g p.last.at place p.last.lawful p.last.between.0 of.0).1 in let is = at_depth z p.last.at place in let e = is_seven in omega arith
 
     -- the last word leads on
-    in_next : (number : ℕ) → chain_word number ≡ w → number < 65536 → IsNext z key from after (place_of (z.buckets + number) 1) g f
+    in_next : (number : ℕ) → chain_word number ≡ w → number < 65536 → CanGoOn z key from after (place_of (z.buckets + number) 1) g f
     in_next number is few =
         let low : 0 < word_of_place z p.last.at (place_of place.bucket 7) = subst (λ n. 0 < n) (is ∙ sym stood) (omega arith) in
         let high : word_of_place z p.last.at (place_of place.bucket 7) < 2 ^ 52 = subst (λ n. n < 2 ^ 52) (is ∙ sym stood) (omega (arith, few)) in
         let on = leads_on z p.last.at (bucket_of z key) d cell v p.last.lawful (bucket_in z key v) here low high in
         let same : on.1.0 ≡ number = let a : chain_word on.1.0 ≡ chain_word number = sym on.1.1 ∙ (stood ∙ sym is) in omega arith in
-        let x = next_place z key d number p.last.at (subst (λ n. n < z.overflow) same on.1.3) on.0 (subst (λ n. home_of p.last.at n ≡ Some (home (bucket_of z key) (d + 1))) same on.1.2) in
+        let x = chained_place z key d number p.last.at (subst (λ n. n < z.overflow) same on.1.3) on.0 (subst (λ n. home_of p.last.at n ≡ Some (home (bucket_of z key) (d + 1))) same on.1.2) in
         let next = place_of (z.buckets + number) 1 in
         let e : position z f next ≡ 8 * (d + 1) + 1 = (same_place z p.last.at f next l p.last.between.1 x.0.0).1 ∙ x.1 in
         let ended = after_is in record {
@@ -305,12 +314,17 @@ module _ (z : Shape) (key : List ℕ) (place : Place) (from w : ℕ) (g f : List
         let gone = key_ended z key d start p.last.at p.last.lawful le (subst (λ n. KeyAhead z key n start p.last.at) after_is (p.brings start up ahead)) in
         (gone.0, gone.1, begins_on gone.0 p.last.at f gone.2 p.last.between.1, gone.3)
 
-  pub next_of : (next : Place) → IsPlaceAfter z place w (Some next) → IsNext z key from after next g f
-  next_of next (inl (more, is)) = subst (λ n. IsNext z key from after n g f) (sym is) (in_bucket more)
-  next_of next (inr (seven, (number, few, word, is))) = subst (λ n. IsNext z key from after n g f) (sym is) (in_next seven number word few)
+  pub next_of : (next : Place) → IsNext z place w (Some next) → CanGoOn z key from after next g f
+  next_of next x = ⊎_elim
+      (λ more. subst (λ n. CanGoOn z key from after n g f) (sym (same_Some next (next_word place) (x.inner more))) (in_bucket more))
+      (λ seven. let to = x.last seven in subst (λ n. CanGoOn z key from after n g f) (sym to.3) (in_next seven to.0 (sym to.2) to.1))
+      (cases_lt place.word 7)
 
-  pub end_of : IsPlaceAfter z place w None → (start : List Event) → Begins start g → KeyAhead z key from start g → WasGone (KeyGone z key) start f
-  end_of x = ended x.0 x.1
+  pub end_of : IsNext z place w None → (start : List Event) → Begins start g → KeyAhead z key from start g → WasGone (KeyGone z key) start f
+  end_of x = ⊎_elim
+      (λ more. absurd (none-some (next_word place) (x.inner more)))
+      (λ seven. ended seven (λ chain. x.last seven (w - 1) (let most = chain.1 in omega arith) (let least = chain.0 in let e : w ≡ chain_word (w - 1) = omega arith in e)))
+      (cases_lt place.word 7)
 
 -- ---- a whole chain
 
@@ -324,9 +338,9 @@ few_times : (from to tries : ℕ) (p q : Pass) → from ≡ 1 → words_below to
 few_times from to tries p q first most i = let few = subst (λ n. ComesIn n to 0 tries p q) first i.comes_in in omega (arith, few, most)
 
 pub whole_scan : (b : Board) (key : List ℕ) (from : ℕ) (w : Scan) (p q : Pass) → from ≡ 1 → IsPassOf b p → IsScanner b w p q → IsScanFrom b.shape key from 0 w p q → IsScanAnswer b.shape key w (trace p) (trace q) × TriesFew p q × OnlyScans p q
-whole_scan b key from (scan.Found hit) p q first is i x =
+whole_scan b key from (Found hit) p q first is i x =
     let l = i.reads.moved.pass.lawful in let in' = (in_chain b.shape (trace q) hit.place l (hit_place b.shape key from 0 hit p q l x).0).1 in
     ((x.found, x.deadline), few_times from (position b.shape (trace q) hit.place) (hit.tries + 1) p q first (let few = x.few in let most = words_few (position b.shape (trace q) hit.place) in' in omega (arith, few, most)) x.tried, x.tried.only_scans)
-whole_scan b key from scan.Absent p q first is i x =
+whole_scan b key from (Passed word counted) p q first is i x =
     (x.gone (trace p) ([], refl) (subst (λ n. KeyAhead b.shape key n (trace p) (trace p)) (sym first) (key_first b.shape key (trace p) is.lawful)), few_times from 32 63 p q first (omega arith) x.tried, x.tried.only_scans)
-whole_scan b key from scan.Busy p q first is i x = (x.counts, few_times from 32 63 p q first (omega arith) x.tried, x.tried.only_scans)
+whole_scan b key from Busy p q first is i x = (x.counts, few_times from 32 63 p q first (omega arith) x.tried, x.tried.only_scans)

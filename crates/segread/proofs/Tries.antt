@@ -18,15 +18,14 @@ use Rattle.segstore.proofs.Readers.{looks, enters, then_reader, leave_then}
 use Rattle.segread.proofs.ComingIn.{looked, leaves, came_in, try_out}
 use Rattle.segbase.proofs.Moves.{moved_on}
 use Rattle.segstore.specs.Reading.{LeavesSegment, Enters}
-use Rattle.segstore.specs.Words.{OnlyLooks, FoundItem, FoundKey, IsChained, IsKeyed, IsReader, SawItem}
-use Rattle.segstore.specs.Words.{SawWord, segment_part, word_of_place}
+use Rattle.segstore.specs.Words.{FoundItem, FoundKey, IsChained, IsKeyed, IsReader, MayEnterAny}
+use Rattle.segstore.specs.Words.{OnlyLooks, SawItem, SawWord, segment_part, word_of_place}
 use Rattle.segstore.specs.declared.read.Keyed.{Keyed}
 use Rattle.segstore.specs.declared.read.Keyed.TheVariants.{Same, Other, Changed}
 use Rattle.segstore.proofs.Words.{same_place, chained_later, names_in, stood_item, same_parts}
 use Rattle.segstore.proofs.Seconds.{segment_of_item}
-use Rattle.segpass.specs.Words.{MayEnterAny}
 use Rattle.segstore.proofs.Used.{linked_used}
-use Rattle.segread.specs.Scanning.{IsTry, IsPlaceOf, CountsTries, HasPassed}
+use Rattle.segread.specs.Scanning.{IsTrial, IsTry, IsPlaceOf, CountsTries, HasPassed, ReturnsDeadline, TriesItem}
 
 -- ---- seen between wider moments
 
@@ -55,11 +54,16 @@ keyed_left z place w key (Same item header) h g g' ne c x = absurd (ne item head
 keyed_left z place w key (Other same) h g g' ne c x = (x.0, (x.1.0, x.1.1, x.1.2, saw_wider z place (item_word same) x.1.0 x.1.1 h g h g' ([], refl) c x.1.3))
 keyed_left z place w key (Changed other) h g g' ne c x = (word_wider z place other h g h g' ([], refl) c x.0, x.1)
 
-pub is_other : (other item : Item) (header : ℕ) → Other other ≢ Same item header
-is_other other item header same = cc
+-- a try at whose end the pass is in no segment
+pub trial_out : (b : Board) (k : Keyed) (p q : Pass) → ((item : Item) (header : ℕ) → k ≢ Same item header) → IsReader b p q → IsTrial b k p q
+trial_out b (Same item header) p q ne i = absurd (ne item header refl)
+trial_out b (Other same) p q ne i = i
+trial_out b (Changed other) p q ne i = i
 
-pub is_changed : (word : ℕ) (item : Item) (header : ℕ) → Changed word ≢ Same item header
-is_changed word item header same = cc
+pub no_deadline : (z : Shape) (k : Keyed) (deadline : ℕ) (h : List Event) → ((item : Item) (header : ℕ) → k ≢ Same item header) → ReturnsDeadline z k deadline h
+no_deadline z (Same item header) deadline h ne = absurd (ne item header refl)
+no_deadline z (Other same) deadline h ne = tt
+no_deadline z (Changed other) deadline h ne = tt
 
 -- of passes: p before the try, e in the segment, r after the second look, and l after it left
 pub trial_gone : (b : Board) (place : Place) (item : Item) (key : List ℕ) (k : Keyed) (p e r l : Pass) → Enters b p e item.seg → OnlyLooks b e r → IsKeyed b.shape place (item_word item) key k (trace e) (trace r)
@@ -71,6 +75,10 @@ trial_gone b place item key k p e r l comes look saw other gone =
       keyed_left b.shape place (item_word item) key k (trace p) (trace r) (trace l) other (moved_on b _ r l gone.moved)
           (keyed_from b.shape place (item_word item) key k (trace e) (trace r) (trace p) (moved_on b _ p e comes.did.moved) saw),
     )
+
+-- what a try came to
+pub tried_as : (b : Board) (place : Place) (item : Item) (key : List ℕ) (p q : Pass) (k : Keyed) (deadline : ℕ) → TriesItem b place item key k deadline p q → (told : Keyed) → k ≡ told → TriesItem b place item key told deadline p q
+tried_as b place item key p q k deadline tries told is = subst (λ o. TriesItem b place item key o deadline p q) is tries
 
 -- ---- a word that wasn't the key's
 

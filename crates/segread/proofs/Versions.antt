@@ -4,20 +4,20 @@ use Rattle.segword.specs.Words.{Info, IsKey, IsSameItem, IsValid, IsValue, item_
 use Rattle.segword.specs.Words.{tag_part}
 use Rattle.segmodel.specs.Words.{Begins, bucket_of, entries_of, tag_of}
 use Rattle.segcore.specs.Event as event
-use Rattle.segcore.specs.Words.{bucket_after, Holds, inside, IsLawful, row_after}
+use Rattle.segcore.specs.Words.{bucket_after, entered, Holds, inside, IsLawful, row_after}
 use Rattle.segcore.proofs.Moments.{begins_on, seen_begins}
 use Rattle.segcore.proofs.Searches.{key_later}
-use Rattle.segbase.specs.Words.{Board, entered, Glances, number, Pass, Place, position, seen, sight}
+use Rattle.segbase.specs.Words.{Board, count, Glances, number, Pass, Place, position, seen, sight}
 use Rattle.segbase.specs.Words.{trace}
 use Rattle.segbase.proofs.Moves.{moved_on, is_inside}
 use Rattle.segstore.specs.Words.{segment_part, FoundItem, IsReader, IsReaderIn, LeavesSegment, OnlyLooks}
-use Rattle.segstore.specs.Words.{ReadsRow, word_of_place}
+use Rattle.segstore.specs.Words.{IsNext, ReadsRow, word_of_place}
 use Rattle.segstore.proofs.Words.{same_place, chained_later}
 use Rattle.segstore.proofs.Seconds.{segment_of_item}
 use Rattle.segstore.proofs.Readers.{looks, reader_then, then_reader, leave_then}
 use Rattle.segread.specs.declared.scan.Hit.{Hit}
 use Rattle.segread.specs.Hits.{GlancesNothing, GlancesOnce, RaisesFrom}
-use Rattle.segread.specs.Scanning.{HasDeadline, words_below, IsPlaceOf, IsPlaceAfter, ComesIn, CountsTries, AdvancesSearch, HasPassed, IsHit, IsEnded}
+use Rattle.segread.specs.Scanning.{HasDeadline, words_below, IsPlaceOf, ComesIn, CountsTries, AdvancesSearch, HasPassed, IsHit, IsEnded}
 use Rattle.segread.specs.Gets.{Attempts, ReadsVersionBetween, HasNoBit, Disturbs, IsMissed, IsSeen, MovesOn}
 use Rattle.segread.proofs.Answered.{gone_reads}
 use Rattle.segread.proofs.Deadlines.{by_word, read_deadline, found_reads, found_expired}
@@ -206,7 +206,7 @@ module _ (b : Board) (key : List ℕ) (now from tries : ℕ) (hit : Hit) (value 
     in' : (0 < at % 8) × (at < 32)
     in' = in_chain b.shape (trace l) hit.place s.reads.reads.moved.pass.lawful s.place.0
 
-    pub goes_past : (next : Place) → IsPlaceAfter b.shape hit.place third (Some next) → MovesOn b.shape key now from tries next hit.tries p r
+    pub goes_past : (next : Place) → IsNext b.shape hit.place third (Some next) → MovesOn b.shape key now from tries next hit.tries p r
     goes_past next after =
         let n = next_of b.shape key hit.place at third (trace l) (trace r) valid lawful_r s.place passed next after in
         let words : words_below (position b.shape (trace r) next) ≡ words_below at + 1 = sym n.words ∙ word_more at in'.0 in record {
@@ -219,7 +219,7 @@ module _ (b : Board) (key : List ℕ) (now from tries : ℕ) (hit : Hit) (value 
           onward = let on = s.onward in omega (arith, on, words);
         }
 
-    pub ends_past : IsPlaceAfter b.shape hit.place third None → IsMissed b.shape key now from tries p r
+    pub ends_past : IsNext b.shape hit.place third None → IsMissed b.shape key now from tries p r
     ends_past after = record {
       missed = λ start here ahead. gone_reads b.shape key now start (trace r)
           (end_of b.shape key hit.place at third (trace l) (trace r) valid lawful_r s.place passed after start (begins_on start (trace p) (trace l) here to_l) (s.brings start here ahead));
@@ -229,7 +229,7 @@ module _ (b : Board) (key : List ℕ) (now from tries : ℕ) (hit : Hit) (value 
 
 -- a hit: with l after the third look, t after it was counted, and r after the pass left the segment
 module _ (b : Board) (key : List ℕ) (now from tries draw : ℕ) (hit : Hit) (value : List ℕ) (info : Info) (third : ℕ) (p l t r : Pass) (s : IsSeen b key now from tries hit value info third p l) (clear : info.held ≡ false) (same : IsSameItem (item_word hit.item) third)
-    (counted : IsReader b l t) (out : entered t ≡ entered l) (unset : GlancesNothing l t) (raises : RaisesFrom b.shape key value draw (trace p) l t) (gone : LeavesSegment b t r hit.item.seg) where
+    (counted : IsReader b l t) (out : count entered t ≡ count entered l) (unset : GlancesNothing l t) (raises : RaisesFrom b.shape key value draw (trace p) l t) (gone : LeavesSegment b t r hit.item.seg) where
   in_t : IsReaderIn b p t hit.item.seg
   in_t = then_reader b p l t hit.item.seg s.reads counted
 

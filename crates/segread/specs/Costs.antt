@@ -4,7 +4,7 @@ use Rattle.std.specs.Prelude.{ℕ, List}
 use Rattle.segword.specs.Words.{Shape}
 use Rattle.segmodel.specs.Words.{GetAnswer, GetsAnswer}
 use Rattle.segbase.specs.Words.{Pass}
-use Rattle.segpass.specs.Words.{DrawsNothing, RaisesNothing, TakesNoBit}
+use Rattle.segstore.specs.Words.{DrawsNothing, RaisesNothing, TakesNoBit}
 use Rattle.segread.specs.Hits.{GetRaises, GetsRaises, GlancesFew, GlancesNothing, TriesFew}
 
 -- what each reader costs: no bit, no overflow bucket, and few comings into segments

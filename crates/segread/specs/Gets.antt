@@ -6,16 +6,16 @@ use Rattle.segmodel.specs.declared.answer.GetsAnswer.TheVariants as gets
 use Rattle.segmodel.specs.Words.{after, Begins, bucket_of, entries_of, Entry, GetsAnswer, IsBetween}
 use Rattle.segmodel.specs.Words.{reads_version, stirred}
 use Rattle.segcore.specs.Event as event
-use Rattle.segcore.specs.Words.{Event, HasBit, IsSegment, KeyAhead}
-use Rattle.segbase.specs.Words.{Board, glanced, locked_of, number, Pass, Place, position, seen}
+use Rattle.segcore.specs.Words.{Event, glanced, HasBit, IsSegment, KeyAhead}
+use Rattle.segbase.specs.Words.{Board, count, locked_of, number, Pass, Place, position, seen}
 use Rattle.segbase.specs.Words.{SinceFirst, trace}
-use Rattle.segstore.specs.Words.{FoundItem, IsReader, IsReaderIn, word_of_place}
+use Rattle.segstore.specs.Words.{ChangesNothing, FoundItem, GoesOn, IsReader, IsReaderIn}
+use Rattle.segstore.specs.Words.{RaisesNothing, word_of_place}
 use Rattle.segread.specs.declared.scan.Hit.{Hit}
-use Rattle.segread.specs.declared.version.Sight.{Sight}
-use Rattle.segread.specs.declared.version.Sight.TheVariants as sight
+use Rattle.segread.specs.declared.version.VersionLook.{VersionLook}
+use Rattle.segread.specs.declared.version.VersionLook.TheVariants as look
 use Rattle.segread.specs.declared.version.Attempt.{Attempt}
 use Rattle.segread.specs.declared.version.Attempt.TheVariants as attempt
-use Rattle.segpass.specs.Words.{ChangesNothing, GoesOn, RaisesNothing}
 use Rattle.segread.specs.Costs.{CostsOfGets}
 use Rattle.segread.specs.Reads.{ReadsBetween}
 use Rattle.segread.specs.Hits.{GetsRaisesFrom, GlancesFew, GlancesNothing, GlancesOnce, OnlyScans}
@@ -38,7 +38,7 @@ ReadsVersionBetween shape key now old new read =
 abbrev pub disturbed : Shape → List ℕ → List Entry → Pass → Pass → ℕ
 disturbed shape key old p q =
     stirred shape key old (seen q)
-    + (glanced q (bucket_of shape key) - glanced p (bucket_of shape key))
+    + (count (glanced (bucket_of shape key)) q - count (glanced (bucket_of shape key)) p)
 
 -- the key was present at some moment from one history to a longer one
 abbrev pub PresentBetween : Shape → List ℕ → ℕ → List Entry → List Entry → Type 0
@@ -92,8 +92,8 @@ abbrev pub Disturbs : Shape → List ℕ → ℕ → ℕ → ℕ → Pass → Pa
 Disturbs shape key now some more p q =
     let bucket = bucket_of shape key in
     Begins (seen p) (seen q)
-    × (entries_of shape bucket (seen p) + glanced p bucket + more
-    ≤ entries_of shape bucket (seen q) + glanced q bucket + some)
+    × (entries_of shape bucket (seen p) + count (glanced bucket) p + more
+    ≤ entries_of shape bucket (seen q) + count (glanced bucket) q + some)
     × (CountsTries shape key some more (trace p) (trace q)
     ⊎ PresentBetween shape key now (seen p) (seen q))
 
@@ -136,7 +136,7 @@ pub record IsSeen (b : Board) (key : List ℕ) (now from tries : ℕ) (hit : Hit
   pub stands : word ≡ word_of_place b.shape (trace q) hit.place
   -- the bit was set
   pub glanced : info.held ≡ true
-      → glanced p (bucket_of b.shape key) + 1 ≤ glanced q (bucket_of b.shape key)
+      → count (glanced (bucket_of b.shape key)) p + 1 ≤ count (glanced (bucket_of b.shape key)) q
   -- another item stood there
   pub changed : ¬ (IsSameItem (item_word hit.item) word) → 1 ≤ tag_part word
       → CountsTries b.shape key tries (hit.tries + 1) (trace p) (trace q)
@@ -146,12 +146,12 @@ pub record IsSeen (b : Board) (key : List ℕ) (now from tries : ℕ) (hit : Hit
   pub found : info.held ≡ false
       → FoundItem b.shape hit.place (item_word hit.item) key value (trace p) (trace q)
 
-abbrev pub IsVersionSight : Board → List ℕ → ℕ → ℕ → ℕ → Sight → Pass → Pass → Type 0
-IsVersionSight b key now from tries (sight.Found hit value info word) p q =
+abbrev pub IsVersionSight : Board → List ℕ → ℕ → ℕ → ℕ → VersionLook → Pass → Pass → Type 0
+IsVersionSight b key now from tries (look.Found hit value info word) p q =
     IsSeen b key now from tries hit value info word p q
-IsVersionSight b key now from tries sight.Absent p q =
+IsVersionSight b key now from tries look.Absent p q =
     IsReader b p q × IsMissed b.shape key now from tries p q
-IsVersionSight b key now from tries sight.Busy p q =
+IsVersionSight b key now from tries look.Busy p q =
     IsReader b p q × GivesUp b.shape key from tries p q
 
 -- The next scan goes on from this place, with this count of tries.
@@ -162,19 +162,19 @@ pub record MovesOn (shape : Shape) (key : List ℕ) (now from tries : ℕ) (next
   pub place : IsPlaceOf shape (trace q) key next
   pub disturbs : Disturbs shape key now tries counted p q
   pub tried : Attempts from (position shape (trace q) next) tries counted p q
-  pub glances : (bucket : ℕ) → glanced q bucket + tries ≤ glanced p bucket + counted
+  pub glances : (bucket : ℕ) → count (glanced bucket) q + tries ≤ count (glanced bucket) p + counted
   pub brings : AdvancesSearch shape key from (position shape (trace q) next) (trace p) (trace q)
   pub onward : words_below from + tries < words_below (position shape (trace q) next) + counted
 
 -- one scan gives an answer, or the place from which the next one goes on
 abbrev pub IsAttempt : Shape → List ℕ → ℕ → ℕ → ℕ → ℕ → Attempt → Pass → Pass → Type 0
-IsAttempt shape key now draw from tries (attempt.Told (gets.Found value version)) p q =
+IsAttempt shape key now draw from tries (attempt.Answered (gets.Found value version)) p q =
     ReadsVersionBetween shape key now (seen p) (seen q) (Some (value, version))
     × RaisesFrom shape key value draw (trace p) p q × ComesIn from 32 tries 63 p q
     × GlancesOnce p q
-IsAttempt shape key now draw from tries (attempt.Told gets.Miss) p q =
+IsAttempt shape key now draw from tries (attempt.Answered gets.Miss) p q =
     IsMissed shape key now from tries p q
-IsAttempt shape key now draw from tries (attempt.Told gets.Busy) p q =
+IsAttempt shape key now draw from tries (attempt.Answered gets.Busy) p q =
     Disturbs shape key now tries 64 p q × Attempts from 32 tries 63 p q × GlancesOnce p q
 IsAttempt shape key now draw from tries (attempt.GoesOn place counted) p q =
     MovesOn shape key now from tries place counted p q
@@ -186,7 +186,7 @@ Attempted b key now draw from tries told p q =
     × IsAttempt b.shape key now draw (position b.shape (trace p) from) tries told p q
 
 -- what one scan from a place on saw
-abbrev pub Sees : Board → List ℕ → ℕ → Place → ℕ → Sight → Pass → Pass → Type 0
+abbrev pub Sees : Board → List ℕ → ℕ → Place → ℕ → VersionLook → Pass → Pass → Type 0
 Sees b key now from tries told p q =
     IsVersionSight b key now (position b.shape (trace p) from) tries told p q
 

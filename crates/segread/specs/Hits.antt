@@ -7,32 +7,31 @@ use Rattle.segmodel.specs.declared.answer.GetsAnswer.TheVariants as gets
 use Rattle.segmodel.specs.Words.{after, Begins, GetAnswer, GetsAnswer, standing}
 use Rattle.segcore.specs.declared.event.Event.TheVariants.{Bumped}
 use Rattle.segcore.specs.Mark.{place}
-use Rattle.segcore.specs.Words.{cached, Event, frequency_in, inside, last_at, marked, seen, slot}
+use Rattle.segcore.specs.Words.{cached, entered, Event, frequency_in, glanced, inside, last_at}
+use Rattle.segcore.specs.Words.{marked, raised, seen, slot}
 use Rattle.segpolicy.specs.Words.{draw_raises}
-use Rattle.segbase.specs.Words.{Board, entered, glanced, number, Pass, Place, raised, SinceFirst}
-use Rattle.segbase.specs.Words.{trace}
-use Rattle.segstore.specs.Words.{FoundItem}
-use Rattle.segpass.specs.Words.{RaisesNothing}
+use Rattle.segbase.specs.Words.{Board, count, number, Pass, Place, SinceFirst, trace}
+use Rattle.segstore.specs.Words.{FoundItem, RaisesNothing}
 
 -- The pass came into segments at most as often as a scan of a chain may try:
 -- for 63 tries that are counted, and once more at each of 28 words.
 abbrev pub TriesFew : Pass → Pass → Type 0
-TriesFew p q = entered q ≤ entered p + 63 + 28
+TriesFew p q = count entered q ≤ count entered p + 63 + 28
 
 -- no look of the pass without a bit found a bucket's bit set
 abbrev pub GlancesNothing : Pass → Pass → Type 0
-GlancesNothing p q = (bucket : ℕ) → glanced q bucket ≡ glanced p bucket
+GlancesNothing p q = (bucket : ℕ) → count (glanced bucket) q ≡ count (glanced bucket) p
 
 -- at most one such look, or at most 64, found a bucket's bit set
 abbrev pub GlancesOnce : Pass → Pass → Type 0
-GlancesOnce p q = (bucket : ℕ) → glanced q bucket ≤ glanced p bucket + 1
+GlancesOnce p q = (bucket : ℕ) → count (glanced bucket) q ≤ count (glanced bucket) p + 1
 
 abbrev pub GlancesFew : Pass → Pass → Type 0
-GlancesFew p q = (bucket : ℕ) → glanced q bucket ≤ glanced p bucket + 64
+GlancesFew p q = (bucket : ℕ) → count (glanced bucket) q ≤ count (glanced bucket) p + 64
 
 -- how often the pass raised a frequency, and found a bucket's bit set by a look without it
 abbrev pub beside_scans : Pass → ℕ × (ℕ → ℕ)
-beside_scans p = (raised p, λ bucket. glanced p bucket)
+beside_scans p = (count raised p, λ bucket. count (glanced bucket) p)
 
 -- the pass raised no frequency, and no such look found a bit set
 abbrev pub OnlyScans : Pass → Pass → Type 0
@@ -95,7 +94,8 @@ pub record IsOvertaken (shape : Shape) (key value : List ℕ) (old new : List Ev
 -- or there are several passes and the item changed first.
 abbrev pub RaisesFrom : Shape → List ℕ → List ℕ → ℕ → List Event → Pass → Pass → Type 0
 RaisesFrom shape key value draw before p q =
-    ((raised q ≡ raised p + 1) × CountsHit shape key value draw (number p) before (trace q))
+    ((count raised q ≡ count raised p + 1)
+    × CountsHit shape key value draw (number p) before (trace q))
     ⊎ (RaisesNothing p q
     × (PassesHit shape key value draw before (trace q)
     ⊎ ((1 < shape.passes) × IsOvertaken shape key value before (trace q))))

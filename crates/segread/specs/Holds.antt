@@ -2,7 +2,7 @@
 use Rattle.std.specs.Prelude.{◌≡◌, ◌≢◌, ◌↔◌, ℕ, ◌<◌, ◌≤◌, true, is_some, List, [], ◌∷◌, ◌++◌, Option, Some, None, IfSome}
 use Rattle.segword.specs.Words.{IsKey, IsValue, Shape}
 use Rattle.segmodel.specs.declared.entry.Entry.TheVariants.{Refilled}
-use Rattle.segmodel.specs.Words.{after, Entry, IsBetween, IsStanding, present, stirred}
+use Rattle.segmodel.specs.Words.{after, Entry, IsBetween, present, stirred}
 use Rattle.segcore.specs.Event as event
 use Rattle.segcore.specs.Words.{Event, Holds, IsSegment, row_after}
 use Rattle.segbase.specs.Words.{Board, Held, holding, is_holding_of, mine, Pass, seen, SinceFirst}
@@ -10,7 +10,7 @@ use Rattle.segbase.specs.Words.{with_holding}
 use Rattle.segread.specs.declared.held.Hold.{Hold}
 use Rattle.segread.specs.declared.held.HoldAnswer.{HoldAnswer}
 use Rattle.segread.specs.declared.held.HoldAnswer.TheVariants as hold_answer
-use Rattle.segpass.specs.Words.{ChangesNothing, CostsNothing, GoesOn, memo}
+use Rattle.segstore.specs.Words.{ChangesNothing, CostsNothing, GoesOn, memo}
 use Rattle.segread.specs.Costs.{CostsOfHold}
 use Rattle.segread.specs.Reads.{ReadsBetween}
 
@@ -40,7 +40,6 @@ pub record TakesHold (shape : Shape) (key : List ℕ) (now : ℕ) (hold : Hold) 
     : Type 0 where
   pub is : IsHoldOf shape hold q
   pub of : is.held.key ≡ key
-  pub stood : IsStanding shape (event.seen is.held.trace) is.held.key is.held.value is.held.segment
   pub finds : present (after shape (event.seen is.held.trace)) now is.held.key
       ≡ Some (record { value = is.held.value; segment = is.held.segment })
   pub between : SinceFirst p q

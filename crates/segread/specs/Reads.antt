@@ -6,7 +6,7 @@ use Rattle.segmodel.specs.declared.answer.GetAnswer.TheVariants as get
 use Rattle.segmodel.specs.Words.{after, Entry, GetAnswer, IsBetween, reads, stirred}
 use Rattle.segcore.specs.Event as event
 use Rattle.segbase.specs.Words.{Board, Pass, seen, SinceFirst}
-use Rattle.segpass.specs.Words.{ChangesNothing, GoesOn}
+use Rattle.segstore.specs.Words.{ChangesNothing, GoesOn}
 use Rattle.segread.specs.Costs.{CostsOfGet}
 
 -- ---- readers

@@ -1,18 +1,14 @@
 -- A reader's way along the chain of a key, without the bucket's bit: what its looks found,
 -- how many tries it counted, and how often it came into segments.
-use Rattle.std.specs.Prelude.{◌≡◌, ◌⊎◌, ℕ, ◌+◌, ◌-◌, ◌/◌, ◌<◌, ◌≤◌, List, Option, Some, None}
-use Rattle.segword.specs.Words.{chain_word, IsChainWord, Shape}
+use Rattle.std.specs.Prelude.{◌≡◌, ℕ, ◌+◌, ◌-◌, ◌/◌, ◌<◌, ◌≤◌, List}
+use Rattle.segword.specs.Words.{Item, item_word, Shape}
 use Rattle.segmodel.specs.Words.{after, Begins, bucket_of, entries_of}
-use Rattle.segcore.specs.Words.{Event, KeyAhead, KeyGone, seen, WasGone}
-use Rattle.segbase.specs.Words.{Board, entered, home_bucket, Pass, Place, position, trace}
-use Rattle.segstore.specs.Words.{FoundKey, IsChained, IsReader, IsReaderIn, SawWord}
+use Rattle.segcore.specs.Words.{entered, Event, KeyAhead, KeyGone, seen, WasGone}
+use Rattle.segbase.specs.Words.{Board, count, home_bucket, Pass, Place, position, trace}
+use Rattle.segstore.specs.Words.{FoundKey, IsChained, IsKeyed, IsReader, IsReaderIn, SawWord}
 use Rattle.segstore.specs.declared.read.Keyed.{Keyed}
 use Rattle.segstore.specs.declared.read.Keyed.TheVariants as keyed
 use Rattle.segread.specs.declared.scan.Hit.{Hit}
-use Rattle.segread.specs.declared.scan.Trial.{Trial}
-use Rattle.segread.specs.declared.scan.Trial.TheVariants as trial
-use Rattle.segread.specs.declared.scan.Way.{Way}
-use Rattle.segread.specs.declared.scan.Way.TheVariants as way
 use Rattle.segread.specs.declared.scan.Scan.{Scan}
 use Rattle.segread.specs.declared.scan.Scan.TheVariants as scan
 use Rattle.segread.specs.Hits.{OnlyScans, TriesFew}
@@ -27,15 +23,6 @@ abbrev pub IsPlaceOf : Shape → List Event → List ℕ → Place → Type 0
 IsPlaceOf shape trace key place =
     IsChained shape trace place × (home_bucket shape trace place ≡ bucket_of shape key)
 
--- the place after one at which this word stood, if the chain has one
-abbrev pub IsPlaceAfter : Shape → Place → ℕ → Option Place → Type 0
-IsPlaceAfter shape place word (Some next) =
-    ((place.word < 7) × (next ≡ place_of place.bucket (place.word + 1)))
-    ⊎ ((7 ≤ place.word)
-    × ((number : ℕ) × (number < 65536) × (chain_word number ≡ word)
-    × (next ≡ place_of (shape.buckets + number) 1)))
-IsPlaceAfter shape place word None = (7 ≤ place.word) × ¬ (IsChainWord word)
-
 -- how many item words of a chain come before a position: seven of each bucket;
 -- every chain ends before position 32
 abbrev pub words_below : ℕ → ℕ
@@ -44,25 +31,14 @@ words_below at = at - 1 - (at - 1) / 8
 -- ---- readers
 
 -- after a try the pass is in the item's segment if the item is the key's
-abbrev pub IsTrial : Board → Trial → Pass → Pass → Type 0
-IsTrial b (trial.Same item header deadline) p q = IsReaderIn b p q item.seg
-IsTrial b (trial.Other item) p q = IsReader b p q
-IsTrial b (trial.Changed word) p q = IsReader b p q
-
--- what the second look found
-abbrev pub keyed_of : Trial → Keyed
-keyed_of (trial.Same item header deadline) = keyed.Same item header
-keyed_of (trial.Other item) = keyed.Other item
-keyed_of (trial.Changed word) = keyed.Changed word
-
-abbrev pub IsOnWay : Board → Way → Pass → Pass → Type 0
-IsOnWay b (way.Found hit) p q = IsReaderIn b p q hit.item.seg
-IsOnWay b (way.Passed word tries) p q = IsReader b p q
-IsOnWay b way.Busy p q = IsReader b p q
+abbrev pub IsTrial : Board → Keyed → Pass → Pass → Type 0
+IsTrial b (keyed.Same item header) p q = IsReaderIn b p q item.seg
+IsTrial b (keyed.Other item) p q = IsReader b p q
+IsTrial b (keyed.Changed word) p q = IsReader b p q
 
 abbrev pub IsScanner : Board → Scan → Pass → Pass → Type 0
 IsScanner b (scan.Found hit) p q = IsReaderIn b p q hit.item.seg
-IsScanner b scan.Absent p q = IsReader b p q
+IsScanner b (scan.Passed word tries) p q = IsReader b p q
 IsScanner b scan.Busy p q = IsReader b p q
 
 -- ---- deadlines
@@ -72,23 +48,31 @@ abbrev pub HasDeadline : Shape → ℕ → ℕ → List Event → Type 0
 HasDeadline shape segment deadline trace = (after shape (seen trace)).deadline segment ≡ deadline
 
 -- if the item is the key's, the deadline is that of its segment
-abbrev pub ReturnsDeadline : Shape → Trial → List Event → Type 0
-ReturnsDeadline shape (trial.Same item header deadline) trace =
+abbrev pub ReturnsDeadline : Shape → Keyed → ℕ → List Event → Type 0
+ReturnsDeadline shape (keyed.Same item header) deadline trace =
     HasDeadline shape item.seg deadline trace
-ReturnsDeadline shape (trial.Other item) trace = Unit {0}
-ReturnsDeadline shape (trial.Changed word) trace = Unit {0}
+ReturnsDeadline shape (keyed.Other item) deadline trace = Unit {0}
+ReturnsDeadline shape (keyed.Changed word) deadline trace = Unit {0}
 
 -- ---- tries
 
 -- the pass came into a segment once, and did nothing beside
 abbrev pub IsTry : Pass → Pass → Type 0
-IsTry p q = (entered q ≡ entered p + 1) × OnlyScans p q
+IsTry p q = (count entered q ≡ count entered p + 1) × OnlyScans p q
+
+-- A try at an item that stood at this place: what the second look found, and the deadline.
+pub record TriesItem (b : Board) (place : Place) (item : Item) (key : List ℕ) (told : Keyed)
+    (until : ℕ) (p q : Pass) : Type 0 where
+  pub reads : IsTrial b told p q
+  pub once : IsTry p q
+  pub keyed : IsKeyed b.shape place (item_word item) key told (trace p) (trace q)
+  pub deadline : ReturnsDeadline b.shape told until (trace q)
 
 -- The pass came into segments at most once for each try that was counted, from `some` to `more`,
 -- and once for each word from one position up to another.
 abbrev pub ComesIn : ℕ → ℕ → ℕ → ℕ → Pass → Pass → Type 0
 ComesIn from to some more p q =
-    entered q + words_below from + some ≤ entered p + words_below to + more
+    count entered q + words_below from + some ≤ count entered p + words_below to + more
 
 -- the pass came in no more often than that, and did nothing beside;
 -- words and tries together are no fewer than before
@@ -162,16 +146,16 @@ pub record IsEnded (shape : Shape) (key : List ℕ) (from tries : ℕ) (p q : Pa
   pub tried : Tries from 32 tries 63 p q
 
 -- looks from one position up to another
-abbrev pub IsWay : Shape → List ℕ → ℕ → ℕ → Place → ℕ → Way → Pass → Pass → Type 0
-IsWay shape key from to last tries (way.Found hit) p q = IsHit shape key from tries hit p q
-IsWay shape key from to last tries (way.Passed word counted) p q =
+abbrev pub IsWay : Shape → List ℕ → ℕ → ℕ → Place → ℕ → Scan → Pass → Pass → Type 0
+IsWay shape key from to last tries (scan.Found hit) p q = IsHit shape key from tries hit p q
+IsWay shape key from to last tries (scan.Passed word counted) p q =
     IsPast shape key from to tries counted last word p q
-IsWay shape key from to last tries way.Busy p q = GivesUp shape key from tries p q
+IsWay shape key from to last tries scan.Busy p q = GivesUp shape key from tries p q
 
 -- looks up to the chain's end
 abbrev pub IsScanFrom : Shape → List ℕ → ℕ → ℕ → Scan → Pass → Pass → Type 0
 IsScanFrom shape key from tries (scan.Found hit) p q = IsHit shape key from tries hit p q
-IsScanFrom shape key from tries scan.Absent p q = IsEnded shape key from tries p q
+IsScanFrom shape key from tries (scan.Passed word counted) p q = IsEnded shape key from tries p q
 IsScanFrom shape key from tries scan.Busy p q = GivesUp shape key from tries p q
 
 -- a scan of the whole chain
@@ -179,15 +163,15 @@ abbrev pub IsScanAnswer : Shape → List ℕ → Scan → List Event → List Ev
 IsScanAnswer shape key (scan.Found hit) old new =
     FoundKey shape hit.place hit.item hit.header key old new
     × HasDeadline shape hit.item.seg hit.deadline new
-IsScanAnswer shape key scan.Absent old new = WasGone (KeyGone shape key) old new
+IsScanAnswer shape key (scan.Passed word counted) old new = WasGone (KeyGone shape key) old new
 IsScanAnswer shape key scan.Busy old new = CountsTries shape key 0 64 old new
 
 -- ---- from one pass to another
 
 -- looks from one place up to another
-abbrev pub GoesAlong : Board → List ℕ → Place → Place → ℕ → Way → Pass → Pass → Type 0
+abbrev pub GoesAlong : Board → List ℕ → Place → Place → ℕ → Scan → Pass → Pass → Type 0
 GoesAlong b key from last tries told p q =
-    IsOnWay b told p q
+    IsScanner b told p q
     × IsWay b.shape key (position b.shape (trace p) from) (position b.shape (trace p) last + 1) last
     tries told p q
 

@@ -7,7 +7,7 @@ ghost use Rattle.segbase.specs.Words.{HasHeld, holding, IsPassOf, trace, view};
 ghost use Rattle.segword.specs.declared.shape.Shape.{Shape};
 ghost use Rattle.segbase.specs.declared.board.Board.{Board};
 ghost use Rattle.segread.specs.declared.held.Hold.{Hold};
-ghost use Rattle.segpass.specs.Words.{IsQuiet};
+ghost use Rattle.segstore.specs.Words.{IsQuiet};
 ghost use Rattle.segread.specs.Holds.{IsHoldOf, IsRowOf, HoldsItem, ReadsHeld, ReleasesHold};
 ghost use Rattle.segread.specs.Holds.{SetsHold};
 ghost use Rattle.segread.specs.Rows.{IsOfRow};
@@ -67,7 +67,7 @@ pub fn hold_item<'i>(board: &'i Board, pass: &mut Pass, key: &Key, now: u32) -> 
                 row: item.row,
             })
         }
-        Scan::Absent => HoldAnswer::Miss,
+        Scan::Passed { .. } => HoldAnswer::Miss,
         Scan::Busy => HoldAnswer::Busy,
     }
 }

@@ -1,8 +1,8 @@
 //! Values read without any bit.
 ghost use Rattle.std.specs.Prelude.{◌≡◌};
-ghost use Rattle.segbase.specs.Words.{entered, IsPassOf, trace};
-ghost use Rattle.segstore.specs.Words.{IsChained, IsReader};
-ghost use Rattle.segpass.specs.Words.{IsQuiet};
+ghost use Rattle.segcore.specs.Words.{entered};
+ghost use Rattle.segbase.specs.Words.{count, IsPassOf, trace};
+ghost use Rattle.segstore.specs.Words.{IsChained, IsQuiet, IsReader};
 ghost use Rattle.segread.specs.Reads.{ReadsKey};
 ghost use Rattle.segread.specs.Hits.{GlancesNothing, RaisesFound};
 
@@ -31,7 +31,7 @@ pub fn get(board: &Board, pass: &mut Pass, key: &Key, draw: u32, now: u32) -> Ge
             leave_segment(board, pass, hit.item.seg);
             GetAnswer::Found(value)
         }
-        Scan::Absent => GetAnswer::Miss,
+        Scan::Passed { .. } => GetAnswer::Miss,
         Scan::Busy => GetAnswer::Busy,
     }
 }
@@ -42,7 +42,7 @@ pub(crate) fn count_hit(board: &Board, pass: &mut Pass, place: Place, item: Item
     requires pass { IsPassOf board.now pass.old }
     requires place { IsChained board.now.shape (trace pass.old) place }
     ensures reads { IsReader board.now pass.old pass.new }
-    ensures stays_out { entered pass.new ≡ entered pass.old }
+    ensures stays_out { count entered pass.new ≡ count entered pass.old }
     ensures glances { GlancesNothing pass.old pass.new }
     ensures raises { RaisesFound board.now place item draw pass.old pass.new }
 {

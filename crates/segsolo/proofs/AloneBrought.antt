@@ -1,16 +1,14 @@
 -- With one pass, an item that an entry brings into a segment takes the next row there: the keys, the frequencies and the used rows are then those of the model.
-use Rattle.std.proofs.Common.{◌≡◌, ◌≢◌, ℕ, ◌+◌, ◌&&◌, Bool, true, false, cond, List, [], ◌∷◌, ◌++◌, length, Option, Some, None, option_map, refl, sym, ap, ◌∙◌, arith, eqb, eq-eqb}
+use Rattle.std.proofs.Common.{◌≡◌, ◌≢◌, ℕ, ◌+◌, ◌&&◌, Bool, true, false, cond, List, [], ◌∷◌, ◌++◌, length, Some, refl, sym, ap, ◌∙◌, arith, eqb, eq-eqb}
 use Rattle.std.proofs.lemmas.Bool.{cond-true, cond-false, ne_eqb, eqb-true, and_from, and_right}
 use Rattle.std.proofs.lemmas.List.{length_push}
-use Rattle.std.proofs.lemmas.Option.{none-some, same_Some}
+use Rattle.std.proofs.lemmas.Option.{same_Some}
 use Rattle.segmodel.specs.Words.{after, Filling, standing, with_at, with_key}
 use Rattle.segcore.specs.Words.{frequency_in}
-use Rattle.segbase.specs.declared.pass.Plain.{Plain}
-use Rattle.segbase.specs.Words.{Board, marked, own_segment, OwnSegment, Pass, seen, state_in}
-use Rattle.segbase.specs.Words.{state_of, used_in, used_of, with_own}
-use Rattle.segbase.proofs.Known.{own_here, own_apart, own_kept}
-use Rattle.segpass.specs.Words.{IsQuiet}
-use Rattle.segwrite.specs.Words.{one_more}
+use Rattle.segbase.specs.Words.{Board, marked, Pass, seen}
+use Rattle.segbase.specs.Words.{state_of, used_of}
+use Rattle.segstore.specs.Words.{IsQuiet}
+use Rattle.segevict.specs.Words.{UsesRows}
 use Rattle.segsolo.specs.Alone.{frequencies_in, keys_stored_in, of_rows, or_empty, state_at, CountsRows, IsAlone, NamesLastRows}
 use Rattle.segsolo.proofs.AloneRefills.{with_at-same, with_at-other, by_segment}
 use Rattle.segsolo.proofs.AloneRows.{brought_named}
@@ -20,7 +18,7 @@ use Rattle.segsolo.proofs.Rows.{pushed}
 module _ (b : Board) (p q : Pass) (key : List ℕ) (frequency segment : ℕ) (was : IsAlone b p)
     (stored : (s : ℕ) → keys_stored_in (seen q) s ≡ cond (eqb segment s) (keys_stored_in (seen p) s ++ key ∷ []) (keys_stored_in (seen p) s))
     (used : used_of p segment ≡ Some (length (keys_stored_in (seen p) segment)))
-    (plain : q.plain ≡ with_own segment one_more p.plain) where
+    (uses : UsesRows segment 1 p q) where
   abbrev old : ℕ → Filling
   old = (state_at b.shape p).filling
 
@@ -43,27 +41,13 @@ module _ (b : Board) (p q : Pass) (key : List ℕ) (frequency segment : ℕ) (wa
       (stored_here ∙ sym (ap (λ (f : Filling). f.keys) (with_at-same old segment segment longer refl)))
       (λ s ne. stored_elsewhere s ne ∙ sym (ap (λ (f : Filling). f.keys) (with_at-other old segment s longer ne)))
 
-  -- ---- the plain part
-
-  states_kept : (s : ℕ) → state_of q s ≡ state_of p s
-  states_kept s = ap (λ (x : Plain). state_in (own_segment x s)) plain ∙ own_kept p.plain segment one_more state_in same s
-    where
-      same : (o : Option OwnSegment) → state_in (option_map one_more o) ≡ state_in o
-      same None = refl
-      same (Some own) = refl
+  -- ---- what the pass keeps
 
   pub used_more : used_of q segment ≡ Some (length (keys_stored_in (seen p) segment) + 1)
-  used_more = ap (λ (x : Plain). used_in (own_segment x segment)) plain ∙ (ap used_in (own_here p.plain segment one_more) ∙ more_in (own_segment p.plain segment) used)
-    where
-      more_in : (o : Option OwnSegment) → used_in o ≡ Some (length (keys_stored_in (seen p) segment)) → used_in (option_map one_more o) ≡ Some (length (keys_stored_in (seen p) segment) + 1)
-      more_in None is = absurd (none-some (length (keys_stored_in (seen p) segment)) is)
-      more_in (Some own) is = ap (λ n. Some (n + 1)) (same_Some own.used (length (keys_stored_in (seen p) segment)) is)
-
-  used_elsewhere : (s : ℕ) → s ≢ segment → used_of q s ≡ used_of p s
-  used_elsewhere s ne = ap (λ (x : Plain). used_in (own_segment x s)) plain ∙ ap used_in (own_apart p.plain segment one_more s ne)
+  used_more = uses.used (length (keys_stored_in (seen p) segment)) used
 
   pub state_then : (s : ℕ) → or_empty (state_of q s) ≡ (filling s).state
-  state_then s = ap or_empty (states_kept s) ∙ by (eqb segment s) (eqb-true segment s)
+  state_then s = ap or_empty (uses.states s) ∙ by (eqb segment s) (eqb-true segment s)
     where
       by : (here : Bool) → (here ≡ true → segment ≡ s) → or_empty (state_of p s) ≡ (cond here longer (old s)).state
       by true same = ap (λ s. or_empty (state_of p s)) (sym (same refl))
@@ -73,7 +57,7 @@ module _ (b : Board) (p q : Pass) (key : List ℕ) (frequency segment : ℕ) (wa
   counts s count is = by_segment (λ s. used_of q s ≡ Some count → count ≡ length (filling s).keys) segment
       (λ is. same_Some count (length (keys_stored_in (seen p) segment) + 1) (sym is ∙ used_more)
       ∙ (sym (length_push (keys_stored_in (seen p) segment) key) ∙ sym (ap (λ (f : Filling). length f.keys) (with_at-same old segment segment longer refl))))
-      (λ s ne is. was.used s count (sym (used_elsewhere s (λ e. ne (sym e))) ∙ is) ∙ sym (ap (λ (f : Filling). length f.keys) (with_at-other old segment s longer ne)))
+      (λ s ne is. was.used s count (sym (uses.others s (λ e. ne (sym e))) ∙ is) ∙ sym (ap (λ (f : Filling). length f.keys) (with_at-other old segment s longer ne)))
       s is ∙ ap (λ (keys : List (List ℕ)). length keys) (sym (keys_then s))
 
   -- ---- the item names the row that was used

@@ -7,7 +7,7 @@ use Rattle.segmodel.specs.declared.answer.Command.TheVariants as command
 use Rattle.segmodel.specs.declared.request.Request.TheVariants as request
 use Rattle.segbase.specs.Words.{Board, Pass}
 use Rattle.segindex.specs.Words.{AnswersCommand}
-use Rattle.segpass.proofs.Costs.{draws_nothing, reads_nothing}
+use Rattle.segstore.proofs.Costs.{draws_nothing, reads_nothing}
 use Rattle.segindex.proofs.Since.{get_since, gets_since}
 use Rattle.segsolo.specs.Alone.{IsAlone, ServesAlone}
 use Rattle.segsolo.proofs.AloneDeletes.{serves_delete}

@@ -11,7 +11,7 @@ use Rattle.segbase.specs.Words.{Board, Memo, Pass, seen, state_in, own_segment}
 use Rattle.segbase.specs.declared.pass.Plain.{Plain}
 use Rattle.segindex.specs.Words.{AnswersCommand}
 use Rattle.segindex.proofs.Since.{get_since, gets_since}
-use Rattle.segpass.specs.Words.{ChangesNothing, DrawsNothing, GoesOn}
+use Rattle.segstore.specs.Words.{ChangesNothing, DrawsNothing, GoesOn}
 use Rattle.segread.specs.Words.{ReadsKey, ReadsVersion}
 use Rattle.segstore.proofs.Keeping.{stored_in}
 use Rattle.segsolo.specs.Alone.{frequencies_in, IsAlone, IsSameButFrequencies, item_of, keys_stored_in, of_rows, or_empty, ServesAlone, ServesButFrequencies, state_at, with_frequencies}

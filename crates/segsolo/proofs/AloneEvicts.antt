@@ -24,8 +24,8 @@ use Rattle.segbase.specs.Words.{seen, state_in, state_of, trace, used_in, with_s
 use Rattle.segbase.proofs.Alone.{bounced_alone}
 use Rattle.segbase.proofs.Known.{state_apart, used_kept}
 use Rattle.segevict.proofs.Evictions.{emptied_state}
-use Rattle.segpass.specs.Words.{DrawsNothing, GoesOn, RaisesNothing}
-use Rattle.segevict.specs.Words.{ended, IsBarred, IsEvictAnswer, TakesOut}
+use Rattle.segstore.specs.Words.{DrawsNothing, GoesOn, RaisesNothing}
+use Rattle.segevict.specs.Words.{ended, IsEvictAnswer, IsInTheWay, StoodIn, TakesOut}
 use Rattle.segindex.proofs.Since.{between_since}
 use Rattle.segsolo.specs.Alone.{frequencies_in, keys_stored_in, or_empty, item_of, state_at, CountsRows, IsAlone, ServesAlone, NamesLastRows}
 use Rattle.segindex.proofs.QuietPass.{none_since}
@@ -164,7 +164,7 @@ module _ (b : Board) (p q : Pass) (segment count : ℕ) (was : IsAlone b p) (on 
 
   -- ---- Busy
 
-  module _ (now : q.plain ≡ ended segment p.plain) (barred : IsBarred b.shape segment p q) where
+  module _ (now : q.plain ≡ ended segment p.plain) (barred : IsInTheWay b.shape (λ key. StoodIn b.shape segment key p q) p q) where
     abbrev goes : List ℕ × Cached → Bool
     goes = may_go b.shape (state_at b.shape p) segment (is_evicted takes.evictions)
 

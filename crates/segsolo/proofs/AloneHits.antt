@@ -10,12 +10,14 @@ use Rattle.segmodel.specs.Words.{reads, standing, unless_expired, with_at}
 use Rattle.segcore.specs.declared.event.Event.TheVariants.{Bumped}
 use Rattle.segcore.specs.Event as event
 use Rattle.segcore.specs.Mark as mark
-use Rattle.segcore.specs.Words.{cached, entries, Event, frequency_in, last_at, Mark, slot}
+use Rattle.segcore.specs.Words.{cached, entries, Event, frequency_in, last_at, Mark}
+use Rattle.segcore.specs.Words.{raised as pass_raised, slot}
 use Rattle.segcore.proofs.Marked.{entries_marked}
 use Rattle.segcore.proofs.Moments.{marked_begins, seen_begins}
 use Rattle.segbase.specs.declared.pass.Plain.{Plain}
-use Rattle.segbase.specs.Words.{Board, marked, Memo, number, own_segment, Pass, raised as pass_raised, seen, state_in, state_of, trace}
-use Rattle.segpass.specs.Words.{ChangesNothing, DrawsNothing, GoesOn, RaisesNothing}
+use Rattle.segbase.specs.Words.{Board, count, marked, Memo, number, own_segment, Pass, seen}
+use Rattle.segbase.specs.Words.{state_in, state_of, trace}
+use Rattle.segstore.specs.Words.{ChangesNothing, DrawsNothing, GoesOn, RaisesNothing}
 use Rattle.segread.specs.Hits.{CountsHit, PassesHit, RaisesFrom, RaisesOne}
 use Rattle.segindex.proofs.Since.{raises_since}
 use Rattle.segsolo.specs.Alone.{frequencies_in, item_of, IsAlone, keys_stored_in, of_rows, or_empty, state_at}
@@ -110,7 +112,7 @@ module _ (b : Board) (p q : Pass) (was : IsAlone b p) (on : GoesOn b p q) (nothi
     raised_first = ap all_raised first.1 ∙ raised_joined first.0 (marked p)
 
   -- a hit that counts
-  counts_item : (key value : List ℕ) → pass_raised q ≡ pass_raised p + 1 → CountsHit b.shape key value 0 (number p) (trace p) (trace q) → RaisesItem b.shape key value p q
+  counts_item : (key value : List ℕ) → count pass_raised q ≡ count pass_raised p + 1 → CountsHit b.shape key value 0 (number p) (trace p) (trace q) → RaisesItem b.shape key value p q
   counts_item key value one hit = record {
     segment = hit.segment;
     row = hit.row;

@@ -10,11 +10,11 @@ use Rattle.segmodel.specs.Turns as turns
 use Rattle.segcore.specs.Event as event
 use Rattle.segbase.specs.Words.{Board, Held, holding, is_holding_of, mine, Pass, seen}
 use Rattle.segread.specs.declared.held.HoldAnswer.TheVariants as answer
-use Rattle.segpass.specs.Words.{ChangesNothing, DrawsNothing, GoesOn, RaisesNothing}
+use Rattle.segstore.specs.Words.{ChangesNothing, DrawsNothing, GoesOn, RaisesNothing}
 use Rattle.segread.specs.Words.{Hold, HoldAnswer, HoldsItem, IsHoldAnswer, IsHoldOf, ReadsHeld}
 use Rattle.segread.specs.Words.{Releases, ReleasesHold, SetsHold}
 use Rattle.segstore.proofs.Keeping.{stored_in}
-use Rattle.segpass.proofs.Costs.{draws_nothing, reads_nothing}
+use Rattle.segstore.proofs.Costs.{draws_nothing, reads_nothing}
 use Rattle.segindex.proofs.Since.{between_since, reads_since, stirred_since}
 use Rattle.segsolo.specs.Alone.{item_of, state_at, IsAlone, TurnsAlone, outcome_of_hold}
 use Rattle.segsolo.proofs.AlonePass.{none_if, same_moment, same_seen, as_was, left}

@@ -21,29 +21,29 @@ use Rattle.segsolo.proofs.AloneMoves.{EndsAt, GoesOnTo, is_blocked, leaves, move
 -- the first rows were gone over: the rows after them come to what all rows came to at the start
 record HasGoneOver (b : Board) (segment into cutoff row count : ℕ) (p q : Pass) : Type 0 where
   alone : IsAlone b q
-  current : current_of q ≡ Some into
+  target : IsKeepTarget segment into q
   used : length (keys_stored_in (seen q) segment) ≡ length (keys_stored_in (seen p) segment)
   rest : rows_left b segment into cutoff 0 0 (state_at b.shape p) ≡ rows_left b segment into cutoff row count (state_at b.shape q)
 
-module _ (b : Board) (segment into cutoff : ℕ) (p : Pass) (was : IsAlone b p) (current : current_of p ≡ Some into) (apart : segment ≢ into) where
+module _ (b : Board) (segment into cutoff : ℕ) (p : Pass) (was : IsAlone b p) (target : IsKeepTarget segment into p) where
   one_more : (row count more : ℕ) (middle q : Pass) → HasGoneOver b segment into cutoff row count p middle → GoesOnTo b segment into cutoff row count more middle q
       → HasGoneOver b segment into cutoff (suc row) more p q
-  one_more row count more middle q far step = record { alone = step.alone; current = step.current ∙ far.current; used = step.used ∙ far.used; rest = far.rest ∙ step.rest }
+  one_more row count more middle q far step = record { alone = step.alone; target = step.target; used = step.used ∙ far.used; rest = far.rest ∙ step.rest }
 
   within : (row : ℕ) (middle : Pass) → row < length (keys_stored_in (seen p) segment) → length (keys_stored_in (seen middle) segment) ≡ length (keys_stored_in (seen p) segment)
       → row < length (keys_stored_in (seen middle) segment)
   within row middle few same = subst (λ n. row < n) (sym same) few
 
-  goes_over : (row count : ℕ) (q : Pass) → row ≤ length (keys_stored_in (seen p) segment) → GoesOver b segment into cutoff row count p q → HasGoneOver b segment into cutoff row count p q
+  goes_over : (row count : ℕ) (q : Pass) → row ≤ length (keys_stored_in (seen p) segment) → GoesOver b segment cutoff row count p q → HasGoneOver b segment into cutoff row count p q
   goes_over zero count q few (none, same) = subst (λ n. HasGoneOver b segment into cutoff 0 n p q) (sym none)
-      (subst (λ r. HasGoneOver b segment into cutoff 0 0 p r) (sym same) (record { alone = was; current = current; used = refl; rest = refl }))
+      (subst (λ r. HasGoneOver b segment into cutoff 0 0 p r) (sym same) (record { alone = was; target = target; used = refl; rest = refl }))
   goes_over (suc row) count q few (middle, inl (before, counted, earlier, moved)) =
       let far = goes_over row before middle (omega (arith, few)) earlier in
       subst (λ n. HasGoneOver b segment into cutoff (suc row) n p q) (sym counted) (one_more row before (before + 1) middle q far
-      (moves_item b segment into cutoff row before middle q far.alone far.current (within row middle (omega (arith, few)) far.used) apart moved))
+      (moves_item b segment into cutoff row before middle q far.alone far.target (within row middle (omega (arith, few)) far.used) moved))
   goes_over (suc row) count q few (middle, inr (earlier, left)) =
       let far = goes_over row count middle (omega (arith, few)) earlier in
-      one_more row count count middle q far (leaves b segment into cutoff row count middle q far.alone far.current (within row middle (omega (arith, few)) far.used) left)
+      one_more row count count middle q far (leaves b segment into cutoff row count middle q far.alone far.target (within row middle (omega (arith, few)) far.used) left)
 
   -- the pass is alone at the end, and all rows came to the answer
   abbrev ComesTo : KeepAnswer → Pass → Type 0
@@ -60,7 +60,7 @@ module _ (b : Board) (segment into cutoff : ℕ) (p : Pass) (was : IsAlone b p) 
         (drop_of_length-le (keys_stored_in (seen q) segment) (let same = far.used in omega arith)),
   )
 
-  in_order : (told : KeepAnswer) (q : Pass) → GoesInOrder b segment into cutoff told p q → ComesTo told q
+  in_order : (told : KeepAnswer) (q : Pass) → GoesInOrder b segment cutoff told p q → ComesTo told q
   in_order (keep.Kept count) q (used, is, over) =
       let all : used ≡ length (keys_stored_in (seen p) segment) = was.used segment used is in
       at_end used count q all (goes_over used count q (omega arith) over)
@@ -68,11 +68,11 @@ module _ (b : Board) (segment into cutoff : ℕ) (p : Pass) (was : IsAlone b p) 
   in_order (keep.NoRoom count) q (row, used, is, few, middle, over, out) =
       let all : used ≡ length (keys_stored_in (seen p) segment) = was.used segment used is in
       let far = goes_over row count middle (omega arith) over in
-      ended row count (keep.NoRoom count) middle q far (runs_out b segment into cutoff row count middle q far.alone far.current (within row middle (omega arith) far.used) out)
+      ended row count (keep.NoRoom count) middle q far (runs_out b segment into cutoff row count middle q far.alone far.target (within row middle (omega arith) far.used) out)
   in_order (keep.Busy count) q (row, used, is, few, middle, over, busy) =
       let all : used ≡ length (keys_stored_in (seen p) segment) = was.used segment used is in
       let far = goes_over row count middle (omega arith) over in
-      ended row count (keep.Busy count) middle q far (is_blocked b segment into cutoff row count middle q far.alone far.current (within row middle (omega arith) far.used) busy)
+      ended row count (keep.Busy count) middle q far (is_blocked b segment into cutoff row count middle q far.alone far.target (within row middle (omega arith) far.used) busy)
 
 -- ---- the answer
 
@@ -155,7 +155,7 @@ module _ (b : Board) (p q : Pass) (segment cutoff : ℕ) (told : KeepAnswer) (wa
       there : segment ≢ into → old.cache.deadline segment ≡ old.cache.deadline into → AnswersSo
       there apart same =
           let target : IsKeepTarget segment into p = record { current = current; other = apart; deadlines = deadline_is segment in_use ∙ (ap Some same ∙ sym deadline_into) } in
-          let came = in_order b segment into cutoff p was current apart told q (is.costs.order into in_use target) in (
+          let came = in_order b segment into cutoff p was target told q (is.costs.order into in_use target) in (
             came.0,
             into_is ∙ (ap (keep_into b.shape old segment cutoff) current
                 ∙ ((λ i. cond (not (ne_eqb segment into apart i) && eq-eqb (old.cache.deadline segment) (old.cache.deadline into) same i) (rows_left b segment into cutoff 0 0 old) (keep.NoRoom 0, old)) ∙ came.1)),

@@ -8,12 +8,12 @@ use Rattle.segmodel.specs.declared.answer.Outcome.TheVariants as outcome
 use Rattle.segmodel.specs.Words.{bucket_of}
 use Rattle.segmodel.specs.Turns as turns
 use Rattle.segbase.specs.Words.{Board, locked_of, mine, Pass}
-use Rattle.segpass.specs.declared.bucket.LockAnswer.TheVariants as lock
-use Rattle.segpass.specs.Words.{DrawsNothing, GoesOn, IsLockAnswer, IsUnlockAnswer, LockAnswer, RaisesNothing}
-use Rattle.segpass.specs.Words.{LocksBucket, SetsLock, UnlocksBucket}
+use Rattle.segstore.specs.declared.bucket.LockAnswer.TheVariants as lock
+use Rattle.segstore.specs.Words.{DrawsNothing, GoesOn, IsLockAnswer, IsUnlockAnswer, LockAnswer, RaisesNothing}
+use Rattle.segstore.specs.Words.{LocksBucket, SetsLock, UnlocksBucket}
 use Rattle.segstore.proofs.Keeping.{stored_in}
-use Rattle.segpass.proofs.Costs.{draws_nothing, reads_nothing}
-use Rattle.segpass.proofs.Idling.{unchanged}
+use Rattle.segstore.proofs.Costs.{draws_nothing, reads_nothing}
+use Rattle.segstore.proofs.Idling.{unchanged}
 use Rattle.segsolo.specs.Alone.{item_of, state_at, IsAlone, TurnsAlone, outcome_of_lock, outcome_of_unlock}
 use Rattle.segindex.proofs.OnePass.{busy_by_lock}
 use Rattle.segsolo.proofs.AlonePass.{none_if, same_seen, as_was, left}

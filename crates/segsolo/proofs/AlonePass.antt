@@ -13,7 +13,7 @@ use Rattle.segbase.specs.Words.{Board, current_of, holding, locked_of, marked, M
 use Rattle.segbase.specs.Words.{Pass, seen, state_in, state_of, trace, used_in}
 use Rattle.segbase.proofs.Alone.{mine_alone}
 use Rattle.segstore.proofs.Keeping.{same_states, same_used, stored_in}
-use Rattle.segpass.specs.Words.{AddsEntry, ChangesNothing, GoesOn, IsQuiet, memo}
+use Rattle.segstore.specs.Words.{AddsEntry, ChangesNothing, GoesOn, IsQuiet, memo}
 use Rattle.segsolo.specs.Alone.{frequencies_in, keys_stored_in, of_rows, or_empty, item_of, state_at, CountsRows, IsAlone}
 use Rattle.segindex.proofs.QuietPass.{owned}
 

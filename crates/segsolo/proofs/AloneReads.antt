@@ -9,7 +9,7 @@ use Rattle.segmodel.specs.Words.{after, after_hit, bucket_of, Cached, get_answer
 use Rattle.segmodel.specs.Words.{GetsAnswer, is_locked, present, reads, reads_version, stirred}
 use Rattle.segbase.specs.Words.{Board, locked_of, Pass, seen}
 use Rattle.segbase.proofs.Alone.{glanced_alone}
-use Rattle.segpass.specs.Words.{ChangesNothing, DrawsNothing, GoesOn}
+use Rattle.segstore.specs.Words.{ChangesNothing, DrawsNothing, GoesOn}
 use Rattle.segread.specs.Hits.{GetRaises, GetsRaises}
 use Rattle.segread.specs.Words.{disturbed, IsGetAnswer, IsGetsAnswer, ReadsBetween}
 use Rattle.segread.specs.Words.{ReadsVersionBetween}

@@ -14,8 +14,8 @@ use Rattle.segbase.specs.declared.pass.Plain.{Plain}
 use Rattle.segcore.specs.Words.{frequency_in}
 use Rattle.segbase.specs.Words.{Board, Held, holding, marked, Memo, number, Pass, seen, state_of, trace}
 use Rattle.segbase.specs.Words.{used_of}
-use Rattle.segpass.proofs.Idling.{unchanged}
-use Rattle.segpass.specs.Words.{ChangesNothing, DrawsNothing, GoesOn, is_held_in, RaisesNothing}
+use Rattle.segstore.proofs.Idling.{unchanged}
+use Rattle.segstore.specs.Words.{ChangesNothing, DrawsNothing, GoesOn, is_held_in, RaisesNothing}
 use Rattle.segindex.specs.Words.{IsBeingRead, IsRefillAnswer, Refills}
 use Rattle.segsolo.specs.Alone.{frequencies_in, keys_stored_in, of_rows, or_empty, item_of, state_at, CountsRows, IsAlone, ServesAlone}
 use Rattle.segindex.proofs.OnePass.{nobody_inside}

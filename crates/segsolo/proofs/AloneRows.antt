@@ -18,15 +18,15 @@ use Rattle.segmodel.proofs.ServingKeeps.{turns_keep}
 use Rattle.segcore.specs.Bucket.{Slot, slot}
 use Rattle.segcore.specs.Mark.{last_at, linked_in, frequency_in, Mark, same_key}
 use Rattle.segcore.specs.Mark as mark
-use Rattle.segcore.specs.Words.{cached, entries}
+use Rattle.segcore.specs.Words.{cached, entries, raised}
 use Rattle.segcore.proofs.Exact.{stands_at}
 use Rattle.segcore.proofs.Keys.{key_true, key_false}
 use Rattle.segcore.proofs.Marked.{entries_marked}
 use Rattle.segcore.proofs.Orderly.{orderly}
 use Rattle.segcore.proofs.Standing.{legal}
-use Rattle.segbase.specs.Words.{Board, marked, mine, number, Pass, raised, seen, trace, used_of}
+use Rattle.segbase.specs.Words.{Board, count, marked, mine, number, Pass, seen, trace, used_of}
 use Rattle.segstore.proofs.Keeping.{stored_in}
-use Rattle.segpass.specs.Words.{ChangesNothing, GoesOn, IsQuiet, RaisesNothing}
+use Rattle.segstore.specs.Words.{ChangesNothing, GoesOn, IsQuiet, RaisesNothing}
 use Rattle.segsolo.specs.Alone.{keys_stored_in, CountsRows, IsAlone, IsLastRow, NamesLastRows, ServesAlone, state_at, TurnsAlone}
 use Rattle.segindex.proofs.QuietPass.{rows}
 use Rattle.segsolo.proofs.AlonePass.{counts_still, more_seen, same_seen, SameFrequencies}
@@ -38,14 +38,14 @@ use Rattle.segsolo.proofs.Rows.{last_pushed, last_still}
 -- ---- the marks that a call adds
 
 -- as many frequencies were raised as the pass raised
-pub raised_alone : (b : Board) (p : Pass) → IsQuiet b p → b.shape.passes ≡ 1 → all_raised (marked p) ≡ raised p
+pub raised_alone : (b : Board) (p : Pass) → IsQuiet b p → b.shape.passes ≡ 1 → all_raised (marked p) ≡ count raised p
 raised_alone b p quiet one = all_its (number p) (trace p) (quiet.pass.alone one)
 
 module _ (b : Board) (p q : Pass) (was : IsAlone b p) (on : GoesOn b p q) where
   paired : IsPaired None (on.marked.0 ++ marked p)
   paired = subst (IsPaired None) on.marked.1 (marked_paired (trace q))
 
-  pub added_raised : all_raised on.marked.0 + raised p ≡ raised q
+  pub added_raised : all_raised on.marked.0 + count raised p ≡ count raised q
   added_raised =
       let before = raised_alone b p was.quiet was.one in
       let now = raised_alone b q on.quiet was.one in

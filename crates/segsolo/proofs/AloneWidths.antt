@@ -14,14 +14,14 @@ use Rattle.segmodel.proofs.HistoryLemmas.{standing-put}
 use Rattle.segmodel.proofs.Keys.{at_self}
 use Rattle.segmodel.proofs.Ordered.{sorted-after}
 use Rattle.segcore.specs.declared.event.Event.TheVariants.{Drew}
-use Rattle.segcore.specs.Words.{all_drawn, drawn_for, entries, Mark, width}
+use Rattle.segcore.specs.Words.{all_drawn, drawn_for, drew, entries, Mark, width}
 use Rattle.segcore.specs.Mark as mark
 use Rattle.segcore.proofs.KeyCounts.{count_put, if_there}
 use Rattle.segcore.proofs.Marked.{entries_marked, chained_marked, drawn_marked}
 use Rattle.segcore.proofs.Moments.{begins_on, marked_begins}
-use Rattle.segbase.specs.Words.{Board, drew, marked, number, Pass, seen, trace}
+use Rattle.segbase.specs.Words.{Board, count, marked, number, Pass, seen, trace}
 use Rattle.segbase.proofs.Alone.{drew_alone}
-use Rattle.segpass.specs.Words.{DrawsNothing, GoesOn, IsQuiet}
+use Rattle.segstore.specs.Words.{DrawsNothing, GoesOn, IsQuiet}
 use Rattle.segwrite.specs.Words.{CanGrow, GrowsFor}
 use Rattle.segsolo.specs.Alone.{state_at, IsAlone}
 use Rattle.segindex.proofs.QuietPass.{keys_few}
@@ -39,17 +39,17 @@ keys_fit b p bucket quiet =
 -- ---- chains grow by what the pass drew
 
 module _ (b : Board) (p q : Pass) (was : IsAlone b p) (on : GoesOn b p q) where
-  added_drew : (bucket : ℕ) → drawn_for on.marked.0 bucket + drew p bucket ≡ drew q bucket
+  added_drew : (bucket : ℕ) → drawn_for on.marked.0 bucket + count (drew bucket) p ≡ count (drew bucket) q
   added_drew bucket =
       let before = drew_alone b p bucket was.quiet.pass was.one in
       let now = drew_alone b q bucket on.quiet.pass was.one in
       let more = drawn_begin (marked p) (marked q) bucket on.marked in omega arith
 
-  width_drew : (bucket : ℕ) → width (marked q) bucket + drew p bucket ≡ width (marked p) bucket + drew q bucket
+  width_drew : (bucket : ℕ) → width (marked q) bucket + count (drew bucket) p ≡ width (marked p) bucket + count (drew bucket) q
   width_drew bucket = let more = drawn_begin (marked p) (marked q) bucket on.marked in let added = added_drew bucket in omega arith
 
   -- where it drew for one bucket alone
-  all_drew : (bucket : ℕ) → ((other : ℕ) → other ≢ bucket → drew q other ≡ drew p other) → all_drawn (marked q) + drew p bucket ≡ all_drawn (marked p) + drew q bucket
+  all_drew : (bucket : ℕ) → ((other : ℕ) → other ≢ bucket → count (drew other) q ≡ count (drew other) p) → all_drawn (marked q) + count (drew bucket) p ≡ all_drawn (marked p) + count (drew bucket) q
   all_drew bucket others =
       let alone = drawn_for_one on.marked.0 bucket (λ other ne. let none = others other ne in let added = added_drew other in omega arith) in
       let added = added_drew bucket in
@@ -57,8 +57,8 @@ module _ (b : Board) (p q : Pass) (was : IsAlone b p) (on : GoesOn b p q) where
 
   pub same_widths : DrawsNothing p q → SameWidths p q
   same_widths undrawn = record {
-    wide = λ bucket. let none = undrawn bucket in let drew = width_drew bucket in omega arith;
-    drawn = let none = undrawn 0 in let drew = all_drew 0 (λ other ne. undrawn other) in omega arith;
+    wide = λ bucket. let none = undrawn bucket in let draws = width_drew bucket in omega arith;
+    drawn = let none = undrawn 0 in let draws = all_drew 0 (λ other ne. undrawn other) in omega arith;
   }
 
 -- ---- a request that is stored
@@ -105,8 +105,8 @@ module _ (b : Board) (p q : Pass) (request : Request) (segment : ℕ) (was : IsA
       had = had_word b.shape (state_at b.shape p) request segment (sorted-after b.shape (seen p)) (let wide = same.wide (bucket_of b.shape (key_of request)) in let most = few in omega arith)
 
   -- One was drawn: at a moment of the call the key was new and found no word, and so it was from the start, since no entry came between.
-  module _ (others : (bucket : ℕ) → bucket ≢ bucket_of b.shape (key_of request) → drew q bucket ≡ drew p bucket)
-      (one : drew q (bucket_of b.shape (key_of request)) ≡ drew p (bucket_of b.shape (key_of request)) + 1) (adds : adds_key request false ≡ true)
+  module _ (others : (bucket : ℕ) → bucket ≢ bucket_of b.shape (key_of request) → count (drew bucket) q ≡ count (drew bucket) p)
+      (one : count (drew (bucket_of b.shape (key_of request))) q ≡ count (drew (bucket_of b.shape (key_of request))) p + 1) (adds : adds_key request false ≡ true)
       (marks : List Mark) (between : IsBetween (marked p) (marked q) marks) (can : CanGrow b.shape marks (key_of request)) where
     abbrev bucket : ℕ
     bucket = bucket_of b.shape (key_of request)
@@ -158,7 +158,7 @@ module _ (b : Board) (p q : Pass) (request : Request) (segment : ℕ) (was : IsA
     grown_one : Grows b.shape p q request
     grown_one = record {
       wide = λ other. by other (eqb bucket other) refl ∙ sym (ap (λ t. (chained bucket t (state_at b.shape p)).width other) lacks);
-      drawn = (let drew = all_drew b p q was on bucket others in let grew = one in omega arith) ∙ sym (ap (λ t. (chained bucket t (state_at b.shape p)).drawn) lacks);
+      drawn = (let draws = all_drew b p q was on bucket others in let grew = one in omega arith) ∙ sym (ap (λ t. (chained bucket t (state_at b.shape p)).drawn) lacks);
       fits = and_right (lacks_word b.shape (state_at b.shape p) request) (not (may_chain b.shape (state_at b.shape p) bucket)) (ap not may_grow);
     }
       where
@@ -172,7 +172,7 @@ module _ (b : Board) (p q : Pass) (request : Request) (segment : ℕ) (was : IsA
   pub grown : GrowsFor b.shape request p q → Grows b.shape p q request
   grown grows = ⊎_elim
       (λ none. grown_none (λ bucket. elim (cases_eq bucket (bucket_of b.shape (key_of request))) [
-        | inl same ↦ subst (λ n. drew q n ≡ drew p n) (sym same) none
+        | inl same ↦ subst (λ n. count (drew n) q ≡ count (drew n) p) (sym same) none
         | inr other ↦ grows.others bucket other
       ]))
       (λ (one, adds, need). grown_one grows.others one adds (mark.marked need.at)

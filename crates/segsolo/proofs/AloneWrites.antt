@@ -19,16 +19,17 @@ use Rattle.segmodel.proofs.Keys.{at_self}
 use Rattle.segmodel.proofs.Stores.{serves_replied}
 use Rattle.segmodel.proofs.Stores as stores
 use Rattle.segcore.specs.Mark.{last_at, same_key}
-use Rattle.segcore.specs.Words.{cached, slot}
+use Rattle.segcore.specs.Words.{cached, drew, slot}
 use Rattle.segcore.proofs.Keys.{same_true}
 use Rattle.segbase.specs.declared.pass.Plain.{Plain}
-use Rattle.segbase.specs.Words.{Board, drew, marked, Memo, number, Pass, seen}
-use Rattle.segbase.specs.Words.{used_of}
-use Rattle.segstore.specs.Words.{has_room}
-use Rattle.segpass.specs.Words.{AddsEntry, ChangesNothing, DrawsNothing, GoesOn, RaisesNothing}
-use Rattle.segpass.proofs.Idling.{unchanged}
+use Rattle.segbase.specs.Words.{Board, count, marked, Memo, number, Pass, seen, used_of}
+use Rattle.segstore.specs.Words.{AddsEntry, ChangesNothing, DrawsNothing, GoesOn, has_room}
+use Rattle.segstore.specs.Words.{RaisesNothing}
+use Rattle.segstore.proofs.Idling.{unchanged}
 use Rattle.segwrite.specs.Words.{AddsReply, UsesRow, Writes}
 use Rattle.segindex.proofs.Since.{full_since}
+use Rattle.segevict.specs.Words.{UsesRows}
+use Rattle.segevict.proofs.AfterRow.{uses_one}
 use Rattle.segsolo.specs.Alone.{frequencies_in, keys_stored_in, item_of, state_at, CountsRows, IsAlone, NamesLastRows, ServesAlone}
 use Rattle.segindex.proofs.OnePass.{busy_by_lock}
 use Rattle.segsolo.proofs.AloneBrought.{counts as brought_counts, frequencies_then, keys_then, named, state_then, used_more}
@@ -58,11 +59,14 @@ module _ (b : Board) (p q : Pass) (request : Request) (segment : ℕ) (was : IsA
   used : used_of p segment ≡ Some (length (keys_stored_in (seen p) segment))
   used = rows_of b p segment was uses.current
 
+  row_used : UsesRows segment 1 p q
+  row_used = uses_one segment p q uses.plain uses.memo
+
   abbrev filling : ℕ → Filling
   filling = with_at (state_at b.shape p).filling segment (with_key (key_of request) 1 ((state_at b.shape p).filling segment))
 
   counts : CountsRows q
-  counts = brought_counts b p q (key_of request) 1 segment was stored_so used uses.plain
+  counts = brought_counts b p q (key_of request) 1 segment was stored_so used row_used
 
   -- the item names the row that was used
   module _ (on : GoesOn b p q) (adds : AddsEntry (Wrote (number p) request reply.Stored (Some segment)) p q) (unraised : RaisesNothing p q) where
@@ -77,13 +81,13 @@ module _ (b : Board) (p q : Pass) (request : Request) (segment : ℕ) (was : IsA
         (row_in b q (key_of request) (value_of request) segment brought.row on.quiet
         (stands_now (key_of request) ∙ cond-true (is_at (key_cmp (key_of request)) (key_of request)) (Some (cached (value_of request) segment)) (standing (after b.shape (seen p)) (key_of request)) (at_self (key_of request)))
         (brought.lasts (key_of request) ∙ cond-true (same_key (key_of request) (key_of request)) (Some (slot (key_of request) segment brought.row)) (last_at (marked p) (key_of request)) (same_true (key_of request) (key_of request) refl)))
-        used (used_more b p q (key_of request) 1 segment was stored_so used uses.plain) brought.unlinked brought.linked
+        used (used_more b p q (key_of request) 1 segment was stored_so used row_used) brought.unlinked brought.linked
 
     frequencies_as_model : (s : ℕ) → frequencies_in q s ≡ (filling s).frequencies
-    frequencies_as_model = frequencies_then b p q (key_of request) 1 segment was stored_so used uses.plain on.quiet brought row_is
+    frequencies_as_model = frequencies_then b p q (key_of request) 1 segment was stored_so used row_used on.quiet brought row_is
 
     stored_named : NamesLastRows b.shape q
-    stored_named = named b p q (key_of request) 1 segment was stored_so used uses.plain on.quiet brought row_is
+    stored_named = named b p q (key_of request) 1 segment was stored_so used row_used on.quiet brought row_is
         (λ other ne. stands_now other ∙ cond-false (is_at (key_cmp other) (key_of request)) (Some (cached (value_of request) segment)) (standing (after b.shape (seen p)) other) (at_other other (key_of request) (λ e. ne (sym e))))
 
   -- the state with one bucket more in the chain, where a word lacks
@@ -109,7 +113,7 @@ module _ (b : Board) (p q : Pass) (request : Request) (segment : ℕ) (was : IsA
         width = (longer (lacks_word b.shape (state_at b.shape p) request)).width;
         drawn = (longer (lacks_word b.shape (state_at b.shape p) request)).drawn;
       })
-      (ap (after b.shape) more) (state_then b p q (key_of request) 1 segment was stored_so used uses.plain) (keys_then b p q (key_of request) 1 segment was stored_so used uses.plain) frequencies (ap (λ (x : Plain). x.current) uses.plain) grows.wide grows.drawn
+      (ap (after b.shape) more) (state_then b p q (key_of request) 1 segment was stored_so used row_used) (keys_then b p q (key_of request) 1 segment was stored_so used row_used) frequencies (ap (λ (x : Plain). x.current) uses.plain) grows.wide grows.drawn
       (ap (λ (m : Memo). option_map item_of m.holding) uses.memo) (ap (λ (x : Plain). x.locked) uses.plain)
       ∙ (placed_alike (lacks_word b.shape (state_at b.shape p) request) ∙ sym (ap (λ current. stored b.shape request current (state_at b.shape p)) uses.current))
 
@@ -135,7 +139,7 @@ module _ (b : Board) (p q : Pass) (request : Request) (store : is_store request 
   undrawn write.NotStored is unstored = is.costs.of_answer.1
   undrawn write.Exists is unstored = is.costs.of_answer.1
   undrawn write.NotFound is unstored = is.costs.of_answer.1
-  undrawn write.NoRoom is unstored = λ bucket. ap (λ x. drew x bucket) is.answer
+  undrawn write.NoRoom is unstored = λ bucket. ap (λ x. count (drew bucket) x) is.answer
   undrawn write.BucketFull is unstored = is.costs.of_answer.1
   undrawn write.Busy is unstored = is.costs.of_answer.0
 

@@ -17,6 +17,7 @@ pub mod AloneWrites
 pub mod AloneDeletes
 pub mod AloneEvictions
 pub mod AloneEvicts
+pub mod AloneMoments
 pub mod AloneMoves
 pub mod AloneKeeps
 pub mod AloneCommands

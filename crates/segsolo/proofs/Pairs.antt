@@ -6,9 +6,9 @@ use Rattle.segmodel.specs.declared.request.Reply.TheVariants as reply
 use Rattle.segmodel.specs.Words.{Entry, key_of, Reply, Request}
 use Rattle.segcore.specs.declared.event.Event.TheVariants.{Replied, Linked, Relinked, Unlinked, Bumped}
 use Rattle.segcore.specs.declared.event.Leaving.TheVariants.{Deletes, Evicts}
-use Rattle.segcore.specs.Count as count
+use Rattle.segcore.specs.Count as traces
 use Rattle.segcore.specs.Mark.{at, bumped, enters, Mark, marked}
-use Rattle.segcore.specs.Words.{AllBy, Event}
+use Rattle.segcore.specs.Words.{AllBy, Event, raised}
 
 -- ---- pairs
 
@@ -63,10 +63,10 @@ raised_joined (bumped segment row frequency ∷ more) old = let rest = raised_jo
 raised_joined (mark ∷ more) old = raised_joined more old
 
 -- all of them by the one pass
-pub all_its : (pass : ℕ) (trace : List Event) → AllBy pass trace → all_raised (marked trace) ≡ count.raised pass trace
+pub all_its : (pass : ℕ) (trace : List Event) → AllBy pass trace → all_raised (marked trace) ≡ traces.count raised pass trace
 all_its pass [] all = refl
 all_its pass (Bumped by segment row frequency ∷ trace) all = ap (λ n. n + 1) (all_its pass trace all.1)
-    ∙ sym (ap (λ t. cond t (count.raised pass trace + 1) (count.raised pass trace)) (eq-eqb by pass all.0))
+    ∙ sym (ap (λ t. cond t (traces.count raised pass trace + 1) (traces.count raised pass trace)) (eq-eqb by pass all.0))
 all_its pass (Unlinked by key position (Deletes now) ∷ trace) all = all_its pass trace all.1
 all_its pass (Unlinked by key position (Evicts segment) ∷ trace) all = all_its pass trace all.1
 all_its pass (event ∷ trace) all = all_its pass trace all.1

@@ -14,10 +14,10 @@ use Rattle.segmodel.specs.Words.{Serves, State, Turn, Turns}
 use Rattle.segcore.specs.Words.{all_drawn, cached, frequency_in, last_at, slot, width}
 use Rattle.segbase.specs.Words.{Board, current_of, Held, holding, locked_of, marked, Pass, seen}
 use Rattle.segbase.specs.Words.{state_of, used_of}
-use Rattle.segpass.specs.declared.bucket.LockAnswer.TheVariants as lock
+use Rattle.segstore.specs.declared.bucket.LockAnswer.TheVariants as lock
 use Rattle.segread.specs.Words.{HoldAnswer}
 use Rattle.segread.specs.declared.held.HoldAnswer.TheVariants as hold
-use Rattle.segpass.specs.Words.{IsQuiet, LockAnswer}
+use Rattle.segstore.specs.Words.{IsQuiet, LockAnswer}
 
 -- the keys that were stored in a segment, or moved there, since it was last refilled, oldest first
 abbrev pub keys_stored_in : List Entry → ℕ → List (List ℕ)

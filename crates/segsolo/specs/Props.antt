@@ -3,7 +3,7 @@
 use Rattle.std.specs.Prelude.{ℕ, zero, suc, List, [], ◌∷◌}
 use Rattle.std.proofs.Props.{props}
 use Rattle.segbase.specs.Words.{Board, Pass}
-use Rattle.segpass.specs.Words.{IsQuiet-prop}
+use Rattle.segstore.specs.Words.{IsQuiet-prop}
 use Rattle.segsolo.specs.Alone.{IsAlone, IsLastRow}
 
 IsLastRow-prop : (key : List ℕ) (keys : List (List ℕ)) (row : ℕ) → IsProp (IsLastRow key keys row)

@@ -8,7 +8,7 @@ use Rattle.segmodel.specs.declared.answer.Turn.TheVariants as turn
 use Rattle.segmodel.specs.declared.answer.Outcome.TheVariants as outcome
 use Rattle.segmodel.specs.Words.{Answer, fresh}
 use Rattle.segbase.specs.Words.{Board, is_holding_of, Pass}
-use Rattle.segpass.specs.Words.{LockAnswer, LocksBucket, UnlocksBucket}
+use Rattle.segstore.specs.Words.{LockAnswer, LocksBucket, UnlocksBucket}
 use Rattle.segread.specs.Words.{Hold, HoldAnswer, HoldsItem, IsHoldOf, ReadsHeld, ReleasesHold}
 use Rattle.segindex.specs.Words.{AnswersCommand, board_of, Index, IsNew}
 use Rattle.segsolo.specs.Alone.{state_at, IsAlone, ServesAlone, ServesButFrequencies}

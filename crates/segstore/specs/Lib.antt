@@ -1,7 +1,13 @@
+pub mod Chains
 pub mod Linked
 pub mod Props
 pub mod Reading
 pub mod Segments
+pub mod Sought
 pub mod Rows
 pub mod Refilling
 pub mod Words
+pub mod Calls
+pub mod Locks
+pub mod Quiet
+pub mod Taking

@@ -1,20 +1,21 @@
 -- What the writing of a row adds to a trace.
-use Rattle.std.specs.Prelude.{ℕ, zero, suc, List, [], ◌∷◌, slice_index}
+use Rattle.std.specs.Prelude.{ℕ, List, [], ◌∷◌, slice_index}
 use Rattle.segcore.specs.Words.{Event}
 use Rattle.segcore.specs.declared.event.Event.TheVariants.{Filled}
 use Rattle.segword.specs.Words.{row_of}
 use Rattle.segbase.specs.Words.{AddsEvents, Board, number, Pass}
 
--- the pass stored the first words into the row, one after another
-unfoldable pub fills : ℕ → ℕ → ℕ → List ℕ → ℕ → List Event
-fills pass segment row words zero = []
-fills pass segment row words (suc place) =
-    Filled pass segment row place (slice_index words place) ∷ fills pass segment row words place
+-- the pass stored words into these places of the row, the last place first
+unfoldable pub fills : ℕ → ℕ → ℕ → List ℕ → List ℕ → List Event
+fills pass segment row words [] = []
+fills pass segment row words (place ∷ places) =
+    Filled pass segment row place (slice_index words place) ∷ fills pass segment row words places
 
--- the pass stored these eight words into the row, and did nothing else
+-- the pass stored some of these words into the row, and did nothing else
 abbrev pub StoresRow : Board → ℕ → ℕ → List ℕ → Pass → Pass → Type 0
-StoresRow b segment row words p q = AddsEvents b (fills (number p) segment row words 8) p q
+StoresRow b segment row words p q =
+    (places : List ℕ) × AddsEvents b (fills (number p) segment row words places) p q
 
--- the pass stored the words of the pair into the row
+-- the pass stored words of the pair into the row
 abbrev pub FillsRow : Board → ℕ → ℕ → List ℕ → List ℕ → Pass → Pass → Type 0
 FillsRow b segment row key value p q = StoresRow b segment row (row_of key value) p q

@@ -1,6 +1,9 @@
-//! Rows of the segments: written, entered, read beneath writers, and refilled as a whole.
+//! What a pass keeps between calls, and the rows that it reads and writes. Segments are entered,
+//! left and refilled; writer bits of buckets are taken for a call, or locked for longer.
 #![tactic(auto)]
 
+mod bucket;
+mod chain;
 mod enter;
 mod read;
 mod refilling;
@@ -8,9 +11,11 @@ mod room;
 mod row;
 mod write;
 
+pub use bucket::{LockAnswer, lock_bucket, take_bucket, take_to_write, unlock_bucket};
+pub use chain::{LAST_WORD, Sought, next_place};
 pub use enter::{enter_segment, leave_segment};
 pub use read::{Keyed, Linked, read_keyed, read_linked};
 pub use refilling::refill;
 pub use room::{NoRoom, has_room, next_row};
-pub use row::{key_of_row, pair_of_row, row_of_key, value_of_row};
+pub use row::{RowRef, key_of_row, pair_of_row, row_of_key, value_of_row};
 pub use write::{copy_row, fill_row, write_row};

@@ -25,7 +25,7 @@ pub enum Linked {
 pub enum Keyed {
     /// The same item, its frequency aside, and the key's: the item as it stands now,
     /// and word 0 of its row.
-    Same(Item, u64),
+    Same { item: Item, header: u64 },
     /// The same item, and another key's: the item as it stands now.
     Other(Item),
     /// Another word.
@@ -63,7 +63,7 @@ pub fn read_keyed(board: &Board, pass: &mut Pass, place: Place, word: u64, key: 
 {
     match look_again(board, pass, place, word) {
         Ok(item) => match row_of_key(board, pass, item.seg, item.row, key) {
-            Some(header) => Keyed::Same(item, header),
+            Some(header) => Keyed::Same { item, header },
             None => Keyed::Other(item),
         },
         Err(now) => Keyed::Changed(now),

@@ -3,6 +3,7 @@ ghost use Rattle.std.specs.Prelude.{◌≡◌, ◌↔◌, ◌<◌, Some, false, 
 ghost use Rattle.segbase.specs.Words.{current_of, used_of};
 ghost use Rattle.segstore.specs.Segments.{has_room};
 
+use crate::row::RowRef;
 use segbase::{Board, Pass};
 
 /// No segment is current, or all rows of the current one are used.
@@ -17,15 +18,15 @@ pub fn has_room(board: &Board, pass: &Pass) -> bool
 }
 
 /// The row that the pass stores into next: the first of its current segment that isn't used.
-pub fn next_row(board: &Board, pass: &Pass) -> Result<(u32, u32), NoRoom>
+pub fn next_row(board: &Board, pass: &Pass) -> Result<RowRef, NoRoom>
     ensures next { IfOk result (λ next.
-        (current_of pass.now ≡ Some next.0) × (used_of pass.now next.0 ≡ Some next.1)
-        × (next.1 < board.now.shape.rows)) }
+        (current_of pass.now ≡ Some next.segment) × (used_of pass.now next.segment ≡ Some next.row)
+        × (next.row < board.now.shape.rows)) }
     ensures no_room { IsErr result ↔ (has_room board.now.shape pass.now ≡ false) }
 {
     let segment = pass.current().ok_or(NoRoom)?;
     match pass.used(segment) {
-        Some(used) if used < board.shape().rows => Ok((segment, used)),
+        Some(row) if row < board.shape().rows => Ok(RowRef { segment, row }),
         _ => Err(NoRoom),
     }
 }

@@ -8,6 +8,13 @@ ghost use Rattle.segstore.specs.Reading.{IsReadable, ReadsRow, four_words};
 use segbase::{Board, Pass};
 use segword::{Key, KeyWords, Value, read_key, read_row, read_value};
 
+/// A row of a segment.
+#[derive(Clone, Copy, Debug, PartialEq, Eq)]
+pub struct RowRef {
+    pub segment: u32,
+    pub row: u32,
+}
+
 // Four words of a row.
 pub(crate) fn load_words(
     board: &Board,

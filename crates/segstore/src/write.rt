@@ -1,88 +1,79 @@
 //! Rows written before an item names them.
-ghost use Rattle.std.specs.Prelude.{◌≡◌, ◌<◌, ◌↔◌, ℕ, List, slice_index, Some, false, IfOk, IsErr};
+ghost use Rattle.std.specs.Prelude.{◌≡◌, ◌≢◌, ◌<◌, ◌↔◌, ℕ, List, slice_index, Some, false, IfOk, IsErr};
 ghost use Rattle.segword.specs.Words.{IsValue};
 ghost use Rattle.segcore.specs.Words.{Holds, IsOwnRow, row_after};
 ghost use Rattle.segbase.specs.Words.{current_of, IsPassOf, number, sight, trace, used_of};
+ghost use Rattle.segbase.specs.Spots.{IsRowAt};
 ghost use Rattle.segstore.specs.Reading.{IsReadable};
 ghost use Rattle.segstore.specs.Rows.{FillsRow, StoresRow};
 ghost use Rattle.segstore.specs.Segments.{KeepsSegments, has_room};
 
 use crate::room::{NoRoom, next_row};
-use crate::row::load_words;
-use segbase::{Board, Pass};
+use crate::row::{RowRef, load_words};
+use segbase::{Board, Pass, RowPlace};
 use segword::{Key, KeyWords, Value};
 
-/// Writes a key and a value into the row that the pass stores into next, and returns the row's
-/// segment and number. The call doesn't count the row as used.
-pub fn write_row(
-    board: &Board,
-    pass: &mut Pass,
-    key: &Key,
-    value: &Value,
-) -> Result<(u32, u32), NoRoom>
+/// Writes a key and a value into the row that the pass stores into next, and returns that row.
+/// The call doesn't count the row as used.
+pub fn write_row(board: &Board, pass: &mut Pass, key: &Key, value: &Value) -> Result<RowRef, NoRoom>
     requires pass { IsPassOf board.now pass.old }
     requires segments { KeepsSegments board.now pass.old }
     ensures next { IfOk result (λ row.
-        (current_of pass.old ≡ Some row.0) × (used_of pass.old row.0 ≡ Some row.1)) }
+        (current_of pass.old ≡ Some row.segment) × (used_of pass.old row.segment ≡ Some row.row)) }
     ensures moved { IfOk result (λ row.
-        FillsRow board.now row.0 row.1 key.now value.now pass.old pass.new) }
+        FillsRow board.now row.segment row.row key.now value.now pass.old pass.new) }
     ensures own { IfOk result (λ row.
-        IsOwnRow board.now.shape (trace pass.new) (number pass.new) row.0 row.1) }
+        IsOwnRow board.now.shape (trace pass.new) (number pass.new) row.segment row.row) }
     ensures holds { IfOk result (λ row.
-        Holds (row_after (trace pass.new) row.0 row.1) key.now value.now) }
+        Holds (row_after (trace pass.new) row.segment row.row) key.now value.now) }
     ensures plain { pass.new.plain ≡ pass.old.plain }
     ensures memo { (sight pass.new).memo ≡ (sight pass.old).memo }
     ensures no_room { IsErr result ↔ (has_room board.now.shape pass.old ≡ false) }
     ensures untouched { IsErr result → pass.new ≡ pass.old }
 {
-    let (segment, row) = next_row(board, pass)?;
-    fill_row(board, pass, segment, row, &KeyWords::new(key), value);
-    Ok((segment, row))
+    let row = next_row(board, pass)?;
+    fill_row(board, pass, row, &KeyWords::new(key), value);
+    Ok(row)
 }
 
 /// Writes a key and a value into a row of the pass's own that no item named in this filling.
 /// The call doesn't count the row as used.
-pub fn fill_row(
-    board: &Board,
-    pass: &mut Pass,
-    segment: u32,
-    row: u32,
-    key: &KeyWords,
-    value: &Value,
-)
+pub fn fill_row(board: &Board, pass: &mut Pass, row: RowRef, key: &KeyWords, value: &Value)
     requires pass { IsPassOf board.now pass.old }
-    requires own { IsOwnRow board.now.shape (trace pass.old) (number pass.old) segment row }
-    ensures moved { FillsRow board.now segment row key.now value.now pass.old pass.new }
-    ensures own { IsOwnRow board.now.shape (trace pass.new) (number pass.new) segment row }
-    ensures holds { Holds (row_after (trace pass.new) segment row) key.now value.now }
+    requires own { IsOwnRow board.now.shape (trace pass.old) (number pass.old) row.segment row.row }
+    ensures moved { FillsRow board.now row.segment row.row key.now value.now pass.old pass.new }
+    ensures own { IsOwnRow board.now.shape (trace pass.new) (number pass.new) row.segment row.row }
+    ensures holds { Holds (row_after (trace pass.new) row.segment row.row) key.now value.now }
     ensures valid { IsValue value.now }
     ensures plain { pass.new.plain ≡ pass.old.plain }
     ensures memo { (sight pass.new).memo ≡ (sight pass.old).memo }
 {
-    store_words(board, pass, segment, row, &key.row(value));
+    store_words(board, pass, row.segment, row.row, &key.row(value));
 }
 
 /// Writes into a row of the pass's own, that no item named in this filling, the pair that another
 /// row has. The call doesn't count the row as used.
-pub fn copy_row(board: &Board, pass: &mut Pass, from: u32, from_row: u32, segment: u32, row: u32)
+pub fn copy_row(board: &Board, pass: &mut Pass, from: RowRef, to: RowRef)
     requires pass { IsPassOf board.now pass.old }
-    requires readable { IsReadable board.now pass.old from from_row }
-    requires own { IsOwnRow board.now.shape (trace pass.old) (number pass.old) segment row }
-    ensures moved { (words : List ℕ) × StoresRow board.now segment row words pass.old pass.new }
-    ensures own { IsOwnRow board.now.shape (trace pass.new) (number pass.new) segment row }
+    requires readable { IsReadable board.now pass.old from.segment from.row }
+    requires own { IsOwnRow board.now.shape (trace pass.old) (number pass.old) to.segment to.row }
+    ensures moved { (words : List ℕ)
+        × StoresRow board.now to.segment to.row words pass.old pass.new }
+    ensures own { IsOwnRow board.now.shape (trace pass.new) (number pass.new) to.segment to.row }
     ensures holds { (key value : List ℕ)
-        → Holds (row_after (trace pass.old) from from_row) key value
-        → Holds (row_after (trace pass.new) segment row) key value }
+        → Holds (row_after (trace pass.old) from.segment from.row) key value
+        → Holds (row_after (trace pass.new) to.segment to.row) key value }
     ensures plain { pass.new.plain ≡ pass.old.plain }
     ensures memo { (sight pass.new).memo ≡ (sight pass.old).memo }
 {
-    let [header, first, second, third] = load_words(board, pass, from, from_row, 0);
-    let [fourth, fifth, sixth, seventh] = load_words(board, pass, from, from_row, 4);
+    let [header, first, second, third] = load_words(board, pass, from.segment, from.row, 0);
+    let [fourth, fifth, sixth, seventh] = load_words(board, pass, from.segment, from.row, 4);
     let words = [header, first, second, third, fourth, fifth, sixth, seventh];
-    store_words(board, pass, segment, row, &words);
+    store_words(board, pass, to.segment, to.row, &words);
 }
 
-// Stores eight words into a row of the pass's own that no item named in this filling.
+// Makes a row of the pass's own, that no item named in this filling, have these eight words.
+#[inline(always)]
 fn store_words(board: &Board, pass: &mut Pass, segment: u32, row: u32, words: &[u64; 8])
     requires pass { IsPassOf board.now pass.old }
     requires own { IsOwnRow board.now.shape (trace pass.old) (number pass.old) segment row }
@@ -95,6 +86,29 @@ fn store_words(board: &Board, pass: &mut Pass, segment: u32, row: u32, words: &[
 {
     let at = board.row_at(segment, row);
     for place in 0..8u8 {
-        board.row_store_at(pass, at, place, words[place as usize]);
+        store_word(board, pass, at, words, place);
     }
+}
+
+// Stores one of the words, unless the row has it: a load costs less than a store that others see.
+#[inline(always)]
+fn store_word(board: &Board, pass: &mut Pass, at: RowPlace, words: &[u64; 8], place: u8)
+    requires pass { IsPassOf board.now pass.old }
+    requires start { IsRowAt board.now.shape at }
+    requires own { IsOwnRow board.now.shape (trace pass.old) (number pass.old) at.segment at.row }
+    requires place { place < 8 }
+    ensures moved { StoresRow board.now at.segment at.row words.now pass.old pass.new }
+    ensures own { IsOwnRow board.now.shape (trace pass.new) (number pass.new) at.segment at.row }
+    ensures word { (row_after (trace pass.new) at.segment at.row).words place ≡ slice_index words.now place }
+    ensures others { (other : ℕ) → other ≢ place
+        → (row_after (trace pass.new) at.segment at.row).words other
+        ≡ (row_after (trace pass.old) at.segment at.row).words other }
+    ensures plain { pass.new.plain ≡ pass.old.plain }
+    ensures memo { (sight pass.new).memo ≡ (sight pass.old).memo }
+{
+    let word = words[place as usize];
+    if board.row_load_at(pass, at, place) == word {
+        return;
+    }
+    board.row_store_at(pass, at, place, word);
 }

@@ -8,10 +8,9 @@ use Rattle.segcore.specs.Event as event
 use Rattle.segcore.proofs.Quiet.{quiet, quiet_at}
 use Rattle.segbase.specs.Words.{AddsAtOnce, Board, number, Pass, seen, trace}
 use Rattle.segbase.proofs.Moves.{moved_then}
-use Rattle.segstore.specs.Words.{Idles}
-use Rattle.segpass.specs.Words.{memo}
+use Rattle.segstore.specs.Words.{Idles, memo}
 use Rattle.segwrite.specs.Growing.{bucket_seen, Prepares}
-use Rattle.segpass.proofs.UnderBit.{moved_at}
+use Rattle.segstore.proofs.UnderBit.{moved_at}
 
 module _ (b : Board) (e : Event) (p q : Pass) (bucket : ℕ) (d : AddsAtOnce b (e ∷ []) p q) (bit : HasBit b.shape (trace p) (number p) bucket) where
   -- others did nothing in it meanwhile

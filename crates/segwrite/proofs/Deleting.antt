@@ -14,22 +14,22 @@ use Rattle.segcore.specs.Words.{acts, bucket_after, Event, Fits, HasBit, IsRefus
 use Rattle.segbase.specs.Words.{AddsAtOnce, AddsEvents, Board, HasItemOf, IsPassOf, number, Pass}
 use Rattle.segbase.specs.Words.{position, seen, trace}
 use Rattle.segbase.proofs.Moves.{moved_on, moved_then}
-use Rattle.segstore.specs.Words.{Idles}
+use Rattle.segstore.specs.Words.{HasCleanBit, Idles, IsQuiet, MayEnterAny, memo, peek, TakesToWrite}
+use Rattle.segstore.specs.Words.{TookToWrite}
 use Rattle.segstore.proofs.Refills.{idles}
 use Rattle.segwrite.specs.Words.{Target}
-use Rattle.segpass.specs.Words.{HasCleanBit, IsQuiet, MayEnterAny, memo, peek, TakesToWrite, TookToWrite}
 use Rattle.segwrite.specs.Writes.{Deletes, EntersForKey}
 use Rattle.segwrite.specs.Writing.{IsInChain, IsEarlier, IsTarget, Finds, own_word}
 use Rattle.segwrite.specs.Refusing.{reply_now, RefusesUnderBit, Removes, RemovesPresent}
 use Rattle.segwrite.specs.Presence.{Peeks, IsPresentWord}
-use Rattle.segpass.proofs.Peeking.{PeeksInto}
+use Rattle.segstore.proofs.Peeking.{PeeksInto}
 use Rattle.segwrite.proofs.Ending.{IsEntry, plain_back, memo_back, entered_on, entered, entered_undrawn, entered_peeking, entered_taking}
 use Rattle.segwrite.proofs.Storing.{target_later}
 use Rattle.segwrite.proofs.Linking.{event_at, unlink_event, own_item}
 use Rattle.segwrite.proofs.Refused.{own_target, refused_goes_on, refused_replied, refused_undrawn, refused_peeking, refused_takes}
 use Rattle.segwrite.proofs.Presence.{clean_still, may_enter_idle, peek_nowhere, peeks_after, began, enters_for, enters_none, came_wider}
-use Rattle.segpass.proofs.UnderBit.{did_acts}
-use Rattle.segpass.proofs.UnderWrite.{HasBegun}
+use Rattle.segstore.proofs.UnderBit.{did_acts}
+use Rattle.segstore.proofs.UnderWrite.{HasBegun}
 
 -- what the look asks for, where the search ended
 pub may_look : (b : Board) (request : Request) (key : List ℕ) (now bucket : ℕ) → request ≡ Delete key now → bucket ≡ bucket_of b.shape key → (p f : Pass) (found : Option Target) → HasCleanBit b p bucket → Idles b p f → MayEnterAny p → Finds b key found f

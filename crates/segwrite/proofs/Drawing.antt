@@ -6,7 +6,7 @@ use Rattle.segcore.proofs.Limits.{drawn_few}
 use Rattle.segbase.specs.Words.{AddsAtOnce, Board, CounterMissed, depth_to_draw, IsPassOf, number}
 use Rattle.segbase.specs.Words.{Pass, trace}
 use Rattle.segbase.proofs.Moves.{did_quiet, did_has}
-use Rattle.segpass.specs.Words.{HasCleanBit, memo}
+use Rattle.segstore.specs.Words.{HasCleanBit, memo}
 use Rattle.segwrite.specs.Growing.{bucket_seen, DrawsSpare}
 use Rattle.segwrite.proofs.Linking.{did_after, did_nothing}
 

@@ -9,17 +9,15 @@ use Rattle.segcore.specs.Event as event
 use Rattle.segbase.specs.declared.pass.Plain.{Plain}
 use Rattle.segbase.specs.Words.{AddsEvents, Board, mine, number, Pass}
 use Rattle.segbase.proofs.Moves.{moved_then}
-use Rattle.segstore.specs.Words.{Idles}
+use Rattle.segstore.specs.Words.{AddsEntry, DrawsNothing, GoesOn, Idles, IsQuiet, memo, TakesOneBit}
 use Rattle.segstore.proofs.Keeping.{IsCalm, keeps_plain}
-use Rattle.segpass.specs.Words.{AddsEntry, DrawsNothing, GoesOn, IsQuiet, memo}
-use Rattle.segpass.specs.Words.{TakesOneBit}
 use Rattle.segwrite.specs.Refusing.{GivesBack}
-use Rattle.segpass.proofs.Peeking.{PeeksInto}
-use Rattle.segpass.proofs.Draws.{IsUndrawn}
+use Rattle.segstore.proofs.Peeking.{PeeksInto}
+use Rattle.segstore.proofs.Draws.{IsUndrawn}
 use Rattle.segwrite.proofs.Sets.{found_plain, found_keeps}
-use Rattle.segpass.proofs.Still.{IsStill}
-use Rattle.segpass.proofs.TakenBits.{IsNoTry}
-use Rattle.segpass.proofs.UnderWrite.{HasBegun, took_moved, ends_on, ends_adding, ends_undrawn, ends_peeking, ends_taking}
+use Rattle.segstore.proofs.Still.{IsStill}
+use Rattle.segstore.proofs.TakenBits.{IsNoTry}
+use Rattle.segstore.proofs.UnderWrite.{HasBegun, took_moved, ends_on, ends_adding, ends_undrawn, ends_peeking, ends_taking}
 
 -- an event in the bucket, by its pass, adds an entry and stores nothing
 pub record IsEntry (shape : Shape) (bucket : ℕ) (act : ℕ → Event) (entry : ℕ → Entry) : Type 0 where

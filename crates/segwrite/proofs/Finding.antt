@@ -8,7 +8,8 @@ use Rattle.segbase.specs.Words.{Board, cell_at, HasItemOf, IsWordOfContent, numb
 use Rattle.segbase.specs.Words.{position, trace}
 use Rattle.segstore.specs.Words.{Idles}
 use Rattle.segwrite.specs.Words.{Target}
-use Rattle.segwrite.specs.Writing.{IsInChain, IsEarlier, IsTarget, Updates, IsNext, Finds}
+use Rattle.segwrite.specs.Writing.{IsInChain, IsEarlier, IsTarget, Updates, Finds}
+use Rattle.segstore.specs.Words.{IsNext}
 use Rattle.segwrite.specs.Growing.{IsChainEnd, Searches, or_end}
 use Rattle.segwrite.proofs.Places.{idles_then, idle_bucket, idle_bit, same_position}
 use Rattle.segwrite.proofs.Searching.{Searching, Passed, IsFirstEmpty, searching_later, reads_later, passes}

@@ -14,7 +14,7 @@ use Rattle.segcore.proofs.Marked.{entries_marked}
 use Rattle.segcore.proofs.Orderly.{all_drawn_marked}
 use Rattle.segbase.specs.Words.{AddsAtOnce, Board, cell_at, depth_to_draw, home_at, IsPassOf}
 use Rattle.segbase.specs.Words.{number, Pass, Place, position, trace}
-use Rattle.segpass.specs.Words.{HasCleanBit, memo}
+use Rattle.segstore.specs.Words.{HasCleanBit, memo}
 use Rattle.segwrite.specs.Full.{HasNoWord, CanGrow, DrewInNeed}
 use Rattle.segwrite.specs.FirstEmpty.{AreTakenBefore}
 use Rattle.segwrite.specs.Writing.{IsInChain, IsNewKey}

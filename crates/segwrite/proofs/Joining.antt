@@ -17,13 +17,13 @@ use Rattle.segbase.specs.Words.{home_in, IsPassOf, Missed, number, Pass, Place, 
 use Rattle.segcore.proofs.Exact.{content_at}
 use Rattle.segstore.proofs.Words.{at_place}
 use Rattle.segstore.proofs.Refills.{idles}
-use Rattle.segpass.specs.Words.{memo}
+use Rattle.segstore.specs.Words.{memo}
 use Rattle.segwrite.specs.FirstEmpty.{AreTakenBefore}
 use Rattle.segwrite.specs.Growing.{bucket_seen, IsLast, HasSpare, HasJoined, Prepares, puts, joins, TriesToJoin, Joins}
 use Rattle.segwrite.proofs.Acting.{acted, prepares, idle_prepares, prepares_then}
 use Rattle.segwrite.proofs.Places.{same_position, chain_later}
 use Rattle.segwrite.proofs.Rising.{item_rose, earlier_yet}
-use Rattle.segpass.proofs.UnderBit.{moved_bucket, moved_bit}
+use Rattle.segstore.proofs.UnderBit.{moved_bucket, moved_bit}
 
 -- ---- the item of the last word
 

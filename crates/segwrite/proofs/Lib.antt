@@ -21,3 +21,4 @@ pub mod Refused
 pub mod Deleting
 pub mod Writes
 pub mod Told
+pub mod FullFacts

@@ -11,7 +11,7 @@ use Rattle.segbase.proofs.Moves.{stays, moved_then}
 use Rattle.segcore.proofs.Moments.{none_both}
 use Rattle.segwrite.specs.Words.{Target}
 use Rattle.segwrite.specs.Writing.{IsInChain, IsEarlier, IsTarget}
-use Rattle.segpass.proofs.UnderBit.{moved_bucket, moved_bit}
+use Rattle.segstore.proofs.UnderBit.{moved_bucket, moved_bit}
 use Rattle.segwrite.proofs.Places.{same_position, chain_later}
 
 -- a step after others that did nothing

@@ -19,7 +19,8 @@ use Rattle.segbase.specs.Words.{Board, cell_at, IsPassOf, IsPlace, IsWordOfConte
 use Rattle.segbase.specs.Words.{position, trace}
 use Rattle.segbase.specs.Passes as passes
 use Rattle.segwrite.specs.Words.{Target}
-use Rattle.segwrite.specs.Writing.{next_word, first_word, LeadsTo, LeadsNowhere, IsNext, Finds}
+use Rattle.segwrite.specs.Writing.{Finds}
+use Rattle.segstore.specs.Words.{first_word, IsNext, LeadsNowhere, LeadsTo, next_word}
 use Rattle.segwrite.proofs.Places.{position_at, overflow_at}
 use Rattle.segwrite.proofs.Searching.{Searching, Passed, NoneBelow, IsFirstEmpty, position_of_item}
 

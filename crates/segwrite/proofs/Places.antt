@@ -12,7 +12,7 @@ use Rattle.segbase.specs.Words.{Place, position, Stepped, trace}
 use Rattle.segbase.proofs.Moves.{moved_then}
 use Rattle.segstore.specs.Words.{Idles, OnlyLooks}
 use Rattle.segwrite.specs.Writing.{IsInChain}
-use Rattle.segpass.proofs.UnderBit.{moved_bucket, moved_bit}
+use Rattle.segstore.proofs.UnderBit.{moved_bucket, moved_bit}
 
 -- ---- looks
 

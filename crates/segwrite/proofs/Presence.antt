@@ -15,18 +15,19 @@ use Rattle.segcore.proofs.Chains.{same_item}
 use Rattle.segbase.specs.Words.{AddsEvents, Board, cell_at, HasItemOf, holding, home_bucket, IsPassOf, number, Pass, position, seen, trace}
 use Rattle.segbase.proofs.Moves.{moved_inside, moved_on, moved_then}
 use Rattle.segstore.specs.Reading.{Enters, LeavesSegment}
-use Rattle.segstore.specs.Words.{Idles, IsChained, segment_part, WasLinked, word_of_place}
+use Rattle.segstore.specs.Words.{HasCleanBit, Idles, is_held_in, IsChained, IsQuiet, MayEnterAny}
+use Rattle.segstore.specs.Words.{peek, ReadsNothing, segment_part, TookToWrite, WasLinked}
+use Rattle.segstore.specs.Words.{word_of_place}
 use Rattle.segstore.proofs.Refills.{idles}
 use Rattle.segstore.proofs.Seconds.{segment_of_item}
 use Rattle.segstore.proofs.Used.{linked_used}
 use Rattle.segstore.proofs.Words.{at_place, same_segment, stood_item}
-use Rattle.segpass.specs.Words.{HasCleanBit, is_held_in, IsQuiet, MayEnterAny, peek, ReadsNothing, TookToWrite}
-use Rattle.segpass.specs.Taking.{bounces}
-use Rattle.segpass.proofs.Bounces.{bounces_still}
-use Rattle.segpass.proofs.Still.{still_inside}
-use Rattle.segpass.proofs.UnderWrite.{HasBegun}
-use Rattle.segpass.proofs.Peeking.{PeeksInto, unread}
-use Rattle.segpass.proofs.UnderBit.{moved_at, moved_bit, moved_bucket}
+use Rattle.segstore.specs.Taking.{bounces}
+use Rattle.segstore.proofs.Bounces.{bounces_still}
+use Rattle.segstore.proofs.Still.{still_inside}
+use Rattle.segstore.proofs.UnderWrite.{HasBegun}
+use Rattle.segstore.proofs.Peeking.{PeeksInto, unread}
+use Rattle.segstore.proofs.UnderBit.{moved_at, moved_bit, moved_bucket}
 use Rattle.segwrite.specs.Words.{Target}
 use Rattle.segwrite.specs.Presence.{CameIn, depends_on_key, IsPresentWord, Peeks, PeeksFor}
 use Rattle.segwrite.specs.Refusing.{request_of}

@@ -16,19 +16,17 @@ use Rattle.segcore.specs.declared.cell.Cell.TheVariants.{OfBucket}
 use Rattle.segcore.specs.Words.{bucket_after, Event, HasBit, IsLawful, IsRefusal, word}
 use Rattle.segcore.proofs.Buckets.{bit_small, unwritten_version}
 use Rattle.segbase.specs.Words.{Board, IsPassOf, number, Pass, seen, trace}
-use Rattle.segstore.specs.Words.{Idles}
+use Rattle.segstore.specs.Words.{DrawsNothing, GoesOn, HasCleanBit, Idles, IsQuiet, TakesOneBit}
 use Rattle.segwrite.specs.Words.{Target}
 use Rattle.segwrite.specs.declared.write.When.{When}
 use Rattle.segwrite.specs.declared.write.When.TheVariants as when
-use Rattle.segpass.specs.Words.{DrawsNothing, GoesOn, HasCleanBit, IsQuiet}
-use Rattle.segpass.specs.Words.{TakesOneBit}
 use Rattle.segwrite.specs.Writes.{AddsReply, IsWriteAnswer}
 use Rattle.segwrite.specs.Writing.{IsTarget, IsNewKey, own_word, Finds}
 use Rattle.segwrite.specs.Refusing.{request_of, IsToldBy, reply_now, RefusesUnderBit}
 use Rattle.segwrite.proofs.Ending.{IsEntry, plain_back, memo_back, entered_on, entered, entered_undrawn, entered_peeking, entered_taking}
-use Rattle.segpass.proofs.Peeking.{PeeksInto}
-use Rattle.segpass.proofs.UnderWrite.{HasBegun}
-use Rattle.segpass.proofs.UnderBit.{moved_at}
+use Rattle.segstore.proofs.Peeking.{PeeksInto}
+use Rattle.segstore.proofs.UnderWrite.{HasBegun}
+use Rattle.segstore.proofs.UnderBit.{moved_at}
 
 -- ---- which request it is, and which reply
 

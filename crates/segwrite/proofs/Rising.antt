@@ -11,7 +11,7 @@ use Rattle.segbase.specs.Words.{AddsEvents, Board, cell_at, number, Pass, Place,
 use Rattle.segbase.proofs.Standing.{some_tag, tag_of_word, place_of_word}
 use Rattle.segcore.proofs.Exact.{content_at}
 use Rattle.segwrite.specs.Writing.{IsInChain, IsEarlier}
-use Rattle.segpass.proofs.UnderBit.{unchanged, moved_none, moved_bucket}
+use Rattle.segstore.proofs.UnderBit.{unchanged, moved_none, moved_bucket}
 use Rattle.segwrite.proofs.Places.{same_position, chain_later}
 
 rise : (z : Shape) (more h : List Event) (b n : ℕ) (a : Slot) → IsLawful z (more ++ h) → NoneAt z b more → (bucket_after z h b).items n ≡ item a → frequency_of h a.segment a.row ≤ frequency_of (more ++ h) a.segment a.row

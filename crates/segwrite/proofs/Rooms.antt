@@ -6,25 +6,24 @@ use Rattle.segword.specs.Words.{Shape}
 use Rattle.segmodel.specs.Words.{after, bucket_of, Entry, IsSameAt, standing}
 use Rattle.segcore.specs.declared.event.Event.TheVariants.{Drew, Put}
 use Rattle.segcore.specs.Event as event
-use Rattle.segcore.specs.Words.{Bucket, drew, Event, HasBit, HasNoEmptyWord, last, NoneAt}
+use Rattle.segcore.specs.Words.{Bucket, count, drew, Event, HasBit, HasNoEmptyWord, last, NoneAt}
 use Rattle.segbase.specs.Words.{AddsEvents, Board, IsPassOf, number, Pass, Place, seen, trace}
 use Rattle.segbase.proofs.Moves.{moved_on, moved_then}
-use Rattle.segstore.specs.Words.{Idles}
+use Rattle.segstore.specs.Words.{HasCleanBit, Idles, memo}
 use Rattle.segstore.proofs.Keeping.{AreCalm}
 use Rattle.segwrite.specs.declared.find.Found.{Found}
 use Rattle.segwrite.specs.declared.find.Found.TheVariants.{Word, Full}
 use Rattle.segwrite.specs.Words.{Target}
-use Rattle.segpass.specs.Words.{HasCleanBit, memo}
 use Rattle.segwrite.specs.Full.{DrewInNeed}
 use Rattle.segwrite.specs.Writing.{IsTarget, HasFullChain, Finds}
 use Rattle.segwrite.specs.Growing.{bucket_seen, IsLast, Searches, target_of, puts, lengthens, CannotGrow, Lengthens, IsAsFound, MakesRoom}
 use Rattle.segwrite.proofs.Lengthening.{in_need_wider, longer_own, longer_other}
 use Rattle.segwrite.proofs.Places.{same_position, chain_later}
 use Rattle.segwrite.proofs.Rising.{earlier_yet, word_rose}
-use Rattle.segpass.proofs.Still.{AreStill}
-use Rattle.segpass.proofs.TakenBits.{AreNoTries}
+use Rattle.segstore.proofs.Still.{AreStill}
+use Rattle.segstore.proofs.TakenBits.{AreNoTries}
 use Rattle.segwrite.proofs.Storing.{target_later, clean_later}
-use Rattle.segpass.proofs.UnderBit.{moved_bucket, moved_at}
+use Rattle.segstore.proofs.UnderBit.{moved_bucket, moved_at}
 
 -- ---- what a search came to is so after more looks
 
@@ -86,25 +85,25 @@ ready_idle b bucket p q i clean = record { moved = i.moved; plain = i.plain; mem
 
 pub ready_longer : (b : Board) (bucket : ℕ) (target : Target) (p q r : Pass) → Idles b p q → (l : Lengthens b bucket target q r) → IsReady b bucket (lengthens (number q) bucket l.depth l.overflow l.words) p r
 ready_longer b bucket target p q r i l =
-    let n = number q in let drew : List Event = Drew n bucket l.depth l.overflow ∷ [] in let own = lengthens n bucket l.depth l.overflow l.words in record {
+    let n = number q in let draws : List Event = Drew n bucket l.depth l.overflow ∷ [] in let own = lengthens n bucket l.depth l.overflow l.words in record {
       moved = subst (λ es. AddsEvents b es p r) (append-nil own) (moved_then b [] own p q r i.moved l.prepares.moved);
       plain = l.prepares.plain ∙ i.plain;
       memo = l.prepares.memo ∙ i.memo;
       clean = l.clean;
-      elsewhere = λ other apart. let off = ne_eqb bucket other apart in (off, puts_all (NoneAt b.shape other) n bucket l.words drew (off, tt) (λ es w none. (off, none)));
-      still = (tt, puts_all AreStill n bucket l.words drew (tt, tt) (λ es w still. (tt, still)));
-      calm = (tt, puts_all AreCalm n bucket l.words drew (tt, tt) (λ es w calm. (tt, calm)));
-      untried = (tt, puts_all AreNoTries n bucket l.words drew (tt, tt) (λ es w none. (tt, none)));
-      silent = λ h. puts_all (λ es. event.seen (es ++ h) ≡ event.seen h) n bucket l.words drew refl (λ es w same. same);
+      elsewhere = λ other apart. let off = ne_eqb bucket other apart in (off, puts_all (NoneAt b.shape other) n bucket l.words draws (off, tt) (λ es w none. (off, none)));
+      still = (tt, puts_all AreStill n bucket l.words draws (tt, tt) (λ es w still. (tt, still)));
+      calm = (tt, puts_all AreCalm n bucket l.words draws (tt, tt) (λ es w calm. (tt, calm)));
+      untried = (tt, puts_all AreNoTries n bucket l.words draws (tt, tt) (λ es w none. (tt, none)));
+      silent = λ h. puts_all (λ es. event.seen (es ++ h) ≡ event.seen h) n bucket l.words draws refl (λ es w same. same);
     }
 
 -- ---- where room was made, and where not
 
 -- Among these events of its own the pass drew one overflow bucket for the key's bucket where it needed one, the key being absent from what it had seen, or none; and for others none.
 pub record DrawsOnce (z : Shape) (key : List ℕ) (pass : ℕ) (own : List Event) (was : List Entry) (before now : List Event) : Type 0 where
-  pub others : (bucket : ℕ) (h : List Event) → bucket ≢ bucket_of z key → drew pass bucket (own ++ h) ≡ drew pass bucket h
-  pub at_most : ((h : List Event) → drew pass (bucket_of z key) (own ++ h) ≡ drew pass (bucket_of z key) h)
-      ⊎ (((h : List Event) → drew pass (bucket_of z key) (own ++ h) ≡ drew pass (bucket_of z key) h + 1) × (standing (after z was) key ≡ None) × DrewInNeed z key pass before now)
+  pub others : (bucket : ℕ) (h : List Event) → bucket ≢ bucket_of z key → count (drew bucket) pass (own ++ h) ≡ count (drew bucket) pass h
+  pub at_most : ((h : List Event) → count (drew (bucket_of z key)) pass (own ++ h) ≡ count (drew (bucket_of z key)) pass h)
+      ⊎ (((h : List Event) → count (drew (bucket_of z key)) pass (own ++ h) ≡ count (drew (bucket_of z key)) pass h + 1) × (standing (after z was) key ≡ None) × DrewInNeed z key pass before now)
 
 pub record HasRoom (b : Board) (key : List ℕ) (target : Target) (p q r : Pass) : Type 0 where
   pub own : List Event

@@ -8,7 +8,7 @@ use Rattle.segmodel.specs.Words.{adds_key, after, Begins, bucket_of, Entry, key_
 use Rattle.segmodel.specs.Words.{value_of}
 use Rattle.segcore.specs.declared.event.Event.TheVariants.{Freed}
 use Rattle.segcore.specs.Event as event
-use Rattle.segcore.specs.Words.{bucket_after, drew, Event, May, NoneAt, release}
+use Rattle.segcore.specs.Words.{bucket_after, count, drew, Event, May, NoneAt, release}
 use Rattle.segcore.proofs.KeyCounts.{wide}
 use Rattle.segcore.proofs.Orderly.{all_drawn_marked}
 use Rattle.segcore.proofs.Moments.{begins_on, marked_begins}
@@ -19,28 +19,27 @@ use Rattle.segcore.specs.Mark as mark
 use Rattle.segbase.specs.Passes as passes
 use Rattle.segbase.proofs.Moves.{moved_on, moved_then}
 use Rattle.segbase.proofs.Starting.{starts_on, steps_then}
-use Rattle.segstore.specs.Words.{fills, Idles, KeepsSegments}
+use Rattle.segstore.specs.Words.{AddsEntry, ChangesNothing, DrawsNothing, fills, GoesOn}
+use Rattle.segstore.specs.Words.{HasCleanBit, Idles, IsQuiet, KeepsSegments, memo, TakesOneBit}
 use Rattle.segstore.proofs.Keeping.{keeps_plain}
-use Rattle.segpass.specs.Words.{AddsEntry, ChangesNothing, DrawsNothing, GoesOn, HasCleanBit}
-use Rattle.segpass.specs.Words.{IsQuiet, memo, TakesOneBit}
 use Rattle.segwrite.specs.Full.{IsFull, WasFull, GrowsFor}
 use Rattle.segwrite.specs.Writes.{one_more, UsesRow}
 use Rattle.segwrite.specs.FirstEmpty.{TookFirstEmpty}
 use Rattle.segwrite.specs.Writing.{HasFullChain}
 use Rattle.segwrite.specs.Storing.{StoresUnderBit, stores}
 use Rattle.segwrite.specs.Growing.{CannotGrow}
-use Rattle.segpass.proofs.Peeking.{PeeksInto}
-use Rattle.segpass.proofs.Bits.{none_at_both}
+use Rattle.segstore.proofs.Peeking.{PeeksInto}
+use Rattle.segstore.proofs.Bits.{none_at_both}
 use Rattle.segwrite.proofs.Growing.{no_word}
-use Rattle.segpass.proofs.Draws.{undrawn}
+use Rattle.segstore.proofs.Draws.{undrawn}
 use Rattle.segwrite.proofs.Lengthening.{in_need_wider}
 use Rattle.segwrite.proofs.Rooms.{IsReady, DrawsOnce}
-use Rattle.segpass.proofs.Still.{AreStill}
-use Rattle.segpass.proofs.TakenBits.{both_no_tries}
-use Rattle.segwrite.proofs.FirstEmpty.{first_wider}
+use Rattle.segstore.proofs.Still.{AreStill}
+use Rattle.segstore.proofs.TakenBits.{both_no_tries}
+use Rattle.segwrite.proofs.FirstEmpty.{first_wider, took_marked}
 use Rattle.segwrite.proofs.Filling.{fills_nowhere, fills_still, fills_undrawn, fills_untried, fills_seen}
-use Rattle.segpass.proofs.UnderBit.{moved_bucket, moved_bit}
-use Rattle.segpass.proofs.UnderWrite.{HasBegun, took_has, took_moved, took_clean, took_keeps, tries, tries_undrawn, write_goes_on, write_adds, write_drew, write_undrawn, write_peeking, write_takes, still_both}
+use Rattle.segstore.proofs.UnderBit.{moved_bucket, moved_bit}
+use Rattle.segstore.proofs.UnderWrite.{HasBegun, took_has, took_moved, took_clean, took_keeps, tries, tries_undrawn, write_goes_on, write_adds, write_drew, write_undrawn, write_peeking, write_takes, still_both}
 
 -- ---- after the search
 
@@ -132,22 +131,22 @@ module _ (b : Board) (request : Request) (segment row : ℕ) (p q f r s : Pass) 
   words = row_of (key_of request) (value_of request)
 
   abbrev own : List Event
-  own = stores (number f) request segment row done.0 ++ before
+  own = stores (number f) request segment row done.0 done.1 ++ before
 
   abbrev entry : Entry
   entry = Wrote (number f) request Stored (Some segment)
 
   moved : AddsEvents b own q r
-  moved = moved_then b before (stores (number f) request segment row done.0) q f r ready.moved done.1
+  moved = moved_then b before (stores (number f) request segment row done.0 done.1) q f r ready.moved done.2
 
   elsewhere : (other : ℕ) → home ≢ other → NoneAt b.shape other own
-  elsewhere other apart = (ne_eqb home other apart, none_at_both b.shape other (fills (number f) segment row words 8) before (fills_nowhere b.shape other (number f) segment row words 8) (ready.elsewhere other apart))
+  elsewhere other apart = (ne_eqb home other apart, none_at_both b.shape other (fills (number f) segment row words done.1) before (fills_nowhere b.shape other (number f) segment row words done.1) (ready.elsewhere other apart))
 
   still : AreStill own
-  still = (tt, still_both (fills (number f) segment row words 8) before (fills_still (number f) segment row words 8) ready.still)
+  still = (tt, still_both (fills (number f) segment row words done.1) before (fills_still (number f) segment row words done.1) ready.still)
 
   adds : (h : List Event) → event.seen (own ++ h) ≡ (entry ∷ []) ++ event.seen h
-  adds h = ap (λ x. entry ∷ x) (ap event.seen (append_assoc (fills (number f) segment row words 8) before h) ∙ (fills_seen (number f) segment row words 8 (before ++ h) ∙ ready.silent h))
+  adds h = ap (λ x. entry ∷ x) (ap event.seen (append_assoc (fills (number f) segment row words done.1) before h) ∙ (fills_seen (number f) segment row words done.1 (before ++ h) ∙ ready.silent h))
 
   uses_all : UsesRow segment p s
   uses_all = uses_around segment p f r s uses (ready.plain ∙ took.plain) plain (ready.memo ∙ took.memo) same
@@ -164,26 +163,26 @@ module _ (b : Board) (request : Request) (segment row : ℕ) (p q f r s : Pass) 
         uses_all,
       )
 
-  pub stored_first : TookFirstEmpty b.shape request (number p) (trace p) (trace s)
-  stored_first = first_wider b.shape request (number f) (number p) (trace f) (trace r) (trace p) (trace s) (ready.moved.same ∙ (took_moved b home p q quiet took).same)
-      (begins_on (trace p) (trace q) (trace f) (moved_on b (tries b home p q quiet took) p q (took_moved b home p q quiet took)) (moved_on b before q f ready.moved)) (moved_on b (Freed (number r) home true ∷ []) r s freed.moved) done.2
+  pub stored_first : TookFirstEmpty b.shape request (number p) (passes.marked p) (passes.marked s)
+  stored_first = took_marked b.shape request (number p) (trace p) (trace s) freed.moved.pass.lawful (first_wider b.shape request (number f) (number p) (trace f) (trace r) (trace p) (trace s) (ready.moved.same ∙ (took_moved b home p q quiet took).same)
+      (begins_on (trace p) (trace q) (trace f) (moved_on b (tries b home p q quiet took) p q (took_moved b home p q quiet took)) (moved_on b before q f ready.moved)) (moved_on b (Freed (number r) home true ∷ []) r s freed.moved) done.3)
 
   pub stored_peeking : PeeksInto into p s
   stored_peeking = write_peeking b home p q quiet took r s own (entry ∷ []) true moved elsewhere still adds freed free
 
   pub stored_takes : TakesOneBit home p s
   stored_takes = write_takes b home p q quiet took r s own (entry ∷ []) true moved elsewhere still adds freed free
-      (tt, both_no_tries (fills (number f) segment row words 8) before (fills_untried (number f) segment row words 8) ready.untried)
+      (tt, both_no_tries (fills (number f) segment row words done.1) before (fills_untried (number f) segment row words done.1) ready.untried)
 
   -- what was drawn was drawn to make room
   module _ (old : List Entry) (draws : DrawsOnce b.shape (key_of request) (number p) before old (trace q) (trace f)) (adds_new : standing (after b.shape old) (key_of request) ≡ None → adds_key request false ≡ true) where
     abbrev since : List Event
     since = tries b home p q quiet took ++ trace p
 
-    drew_before : (c : ℕ) → passes.drew s c ≡ drew (number p) c (before ++ since)
-    drew_before c = let storing = stores (number f) request segment row done.0 in
+    drew_before : (c : ℕ) → passes.count (drew c) s ≡ count (drew c) (number p) (before ++ since)
+    drew_before c = let storing = stores (number f) request segment row done.0 done.1 in
         write_drew b home p q quiet took r s own (entry ∷ []) true moved elsewhere still adds freed free c
-        ∙ (ap (drew (number p) c) (append_assoc storing before since) ∙ undrawn (number p) c storing (before ++ since) (tt, fills_undrawn (number f) segment row words 8))
+        ∙ (ap (count (drew c) (number p)) (append_assoc storing before since) ∙ undrawn (number p) c storing (before ++ since) (tt, fills_undrawn (number f) segment row words done.1))
 
     pub stored_grows : GrowsFor b.shape request p s
     stored_grows = let tried = tries_undrawn b home p q quiet took in record {
@@ -194,7 +193,7 @@ module _ (b : Board) (request : Request) (segment row : ℕ) (p q f r s : Pass) 
             drew_before home ∙ (one.0 since ∙ ap (λ n. n + 1) (tried home)),
             adds_new one.1,
             in_need_wider b.shape (key_of request) (number p) (trace q) (trace f) (trace p) (trace s) (moved_on b (tries b home p q quiet took) p q (took_moved b home p q quiet took))
-                (begins_on (trace f) (trace r) (trace s) (moved_on b _ f r done.1) (moved_on b _ r s freed.moved)) one.2,
+                (begins_on (trace f) (trace r) (trace s) (moved_on b _ f r done.2) (moved_on b _ r s freed.moved)) one.2,
           ))
           draws.at_most;
     }

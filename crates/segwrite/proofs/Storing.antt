@@ -17,11 +17,10 @@ use Rattle.segbase.specs.Words.{with_used}
 use Rattle.segbase.proofs.Moves.{moved_then}
 use Rattle.segbase.proofs.Known.{counted, own_alike, owner_counted}
 use Rattle.segbase.proofs.Owned.{moved_still}
-use Rattle.segstore.specs.Words.{fills, KeepsSegments}
+use Rattle.segstore.specs.Words.{fills, HasCleanBit, KeepsSegments, memo}
 use Rattle.segstore.proofs.Keeping.{same_used, keeps_plain, keeps_named}
 use Rattle.segwrite.specs.Words.{Target}
 use Rattle.segwrite.specs.FirstEmpty.{AreTakenBefore}
-use Rattle.segpass.specs.Words.{HasCleanBit, memo}
 use Rattle.segwrite.specs.Writes.{one_more, UsesRow}
 use Rattle.segwrite.specs.Writing.{IsTarget}
 use Rattle.segwrite.specs.Storing.{IsNextRow, StoresUnderBit, stores, HasWritten}
@@ -30,7 +29,7 @@ use Rattle.segwrite.proofs.FirstEmpty.{took_first}
 use Rattle.segwrite.proofs.Linking.{linked_by}
 use Rattle.segwrite.proofs.Places.{same_position, chain_later}
 use Rattle.segwrite.proofs.Rising.{earlier_later}
-use Rattle.segpass.proofs.UnderBit.{moved_bucket, moved_bit, moved_at, did_acts}
+use Rattle.segstore.proofs.UnderBit.{moved_bucket, moved_bit, moved_at, did_acts}
 
 -- ---- what stays so while the row is written
 
@@ -104,7 +103,7 @@ one_used segment row x used = own_alike x segment (counted (row + 1)) one_more (
     same (Some own) is = ap (λ n. Some (counted (n + 1) own)) (sym (same_Some own.used row is))
 
 module _ (b : Board) (request : Request) (target : Target) (segment row : ℕ) (p q r : Pass) (next : IsNextRow b segment row p)
-    (m : AddsEvents b (fills (number p) segment row (row_of (key_of request) (value_of request)) 8) p q) (d : AddsAtOnce b (linked_by b request segment row target.place q ∷ []) q r) where
+    (places : List ℕ) (m : AddsEvents b (fills (number p) segment row (row_of (key_of request) (value_of request)) places) p q) (d : AddsAtOnce b (linked_by b request segment row target.place q ∷ []) q r) where
   abbrev at : ℕ
   at = position b.shape (trace q) target.place
 
@@ -114,14 +113,14 @@ module _ (b : Board) (request : Request) (target : Target) (segment row : ℕ) (
 
   pub stores_all : HasCleanBit b q (bucket_of b.shape (key_of request)) → IsTarget b (key_of request) target q → StoresUnderBit b request segment row p after_all
   stores_all clean found =
-      let own = fills (number p) segment row (row_of (key_of request) (value_of request)) 8 in
-      let both : AddsEvents b (stores (number p) request segment row at) p r = subst (λ n. AddsEvents b (Linked n request segment row at ∷ own) p r) m.same (moved_then b own (linked_by b request segment row target.place q ∷ []) p q r m d.moved) in
-      (at, moved_still b (stores (number p) request segment row at) p r after_all.plain both (owner_counted r.plain segment (row + 1)), took_first b request target segment row own p q r after_all m m.pass clean.bit found d refl)
+      let own = fills (number p) segment row (row_of (key_of request) (value_of request)) places in
+      let both : AddsEvents b (stores (number p) request segment row at places) p r = subst (λ n. AddsEvents b (Linked n request segment row at ∷ own) p r) m.same (moved_then b own (linked_by b request segment row target.place q ∷ []) p q r m d.moved) in
+      (at, places, moved_still b (stores (number p) request segment row at places) p r after_all.plain both (owner_counted r.plain segment (row + 1)), took_first b request target segment row own p q r after_all m m.pass clean.bit found d refl)
 
   module _ (first : q.plain ≡ p.plain) (second : r.plain ≡ q.plain) where
     pub keeps_all : KeepsSegments b p → KeepsSegments b after_all
     keeps_all k =
-        let kq = keeps_plain b (fills (number p) segment row (row_of (key_of request) (value_of request)) 8) p q m (fills_calm (number p) segment row (row_of (key_of request) (value_of request)) 8) first k in
+        let kq = keeps_plain b (fills (number p) segment row (row_of (key_of request) (value_of request)) places) p q m (fills_calm (number p) segment row (row_of (key_of request) (value_of request)) places) first k in
         keeps_named b _ q r segment row (refl, refl) d second (ap (λ (x : Plain). x.current) first ∙ next.current) (same_used p q segment first ∙ next.used) next.fits m.pass kq
 
     pub uses_all : memo q ≡ memo p → memo r ≡ memo q → UsesRow segment p after_all

@@ -16,7 +16,7 @@ use Rattle.segcore.proofs.Counts.{mine_others}
 use Rattle.segcore.proofs.Moments.{seen_begins}
 use Rattle.segcore.proofs.Standing.{legal}
 use Rattle.segbase.specs.Words.{Board, number, Pass, seen, SinceFirst, TakesSteps, trace}
-use Rattle.segpass.specs.Words.{AddsEntry, GoesOn}
+use Rattle.segstore.specs.Words.{AddsEntry, GoesOn}
 use Rattle.segwrite.specs.Writes.{IsWriteAnswer, IsSetAnswer, IsDeleteAnswer, Writes, Deletes}
 use Rattle.segwrite.specs.Telling.{IsTold, WasTold, cas_reply}
 

@@ -11,7 +11,9 @@ use Rattle.segcore.specs.Words.{bucket_after, HasBit, IsRefusal, May, release}
 use Rattle.segbase.specs.declared.pass.Plain.{Plain}
 use Rattle.segbase.specs.Words.{AddsAtOnce, Board, current_of, IsPassOf, locked_of, number, Pass, seen, trace}
 use Rattle.segbase.specs.Words.{used_of}
-use Rattle.segstore.specs.Words.{has_room, Idles, KeepsSegments}
+use Rattle.segstore.specs.Words.{DrawsNothing, GoesOn, has_room, HasCleanBit, Idles, IsQuiet}
+use Rattle.segstore.specs.Words.{KeepsSegments, MayEnterAny, memo, peek, ReadsNothing, TakesOneBit}
+use Rattle.segstore.specs.Words.{TakesToWrite, TookToWrite}
 use Rattle.segstore.proofs.Keeping.{same_used, keeps_plain}
 use Rattle.segwrite.specs.declared.find.Found.{Found}
 use Rattle.segwrite.specs.Words.{Target}
@@ -19,9 +21,7 @@ use Rattle.segwrite.specs.declared.write.When.{When}
 use Rattle.segcore.proofs.Moments.{begins_on}
 use Rattle.segbase.proofs.Moves.{moved_on}
 use Rattle.segstore.proofs.Refills.{idles}
-use Rattle.segpass.proofs.Peeking.{PeeksInto}
-use Rattle.segpass.specs.Words.{DrawsNothing, GoesOn, HasCleanBit, IsQuiet, MayEnterAny, memo, peek, ReadsNothing}
-use Rattle.segpass.specs.Words.{TakesOneBit, TakesToWrite, TookToWrite}
+use Rattle.segstore.proofs.Peeking.{PeeksInto}
 use Rattle.segwrite.specs.Presence.{depends_on_key, PeeksFor}
 use Rattle.segwrite.specs.Writes.{CostsOfAnswer, EntersForKey, IsWriteAnswer, Writes, UsesRow}
 use Rattle.segwrite.specs.Full.{GrowsFor}
@@ -34,8 +34,8 @@ use Rattle.segwrite.proofs.Refused.{asks, adds_absent, refused_goes_on, refused_
 use Rattle.segwrite.proofs.Presence.{began, may_enter, taken_moved, peek_nowhere, enters_for, enters_none, came_wider, none_present, unread_if}
 use Rattle.segwrite.proofs.Rooms.{searches_still, finds_of, as_found, DrawsOnce, HasRoom, has_room as room_for, no_room}
 use Rattle.segwrite.proofs.Sets.{found_clean, may_free, full_goes_on, full_undrawn, full_peeking, full_takes, full_answer, stored_goes_on, stored_answer, stored_first, stored_peeking, stored_takes, stored_grows}
-use Rattle.segpass.proofs.UnderBit.{moved_at}
-use Rattle.segpass.proofs.UnderWrite.{HasBegun, begun, took_keeps}
+use Rattle.segstore.proofs.UnderBit.{moved_at}
+use Rattle.segstore.proofs.UnderWrite.{HasBegun, begun, took_keeps}
 
 -- all that follows where there is room, and the bit was taken
 writes_with : (b : Board) (request : Request) (told : WriteAnswer) (p s : Pass) → ¬ (has_room b.shape p ≡ false) → locked_of p ≢ Some (bucket_of b.shape (key_of request)) → told ≢ write.NoRoom → told ≢ write.Busy
@@ -219,4 +219,4 @@ module _ (b : Board) (w : When) (request : Request) (key value words : List ℕ)
               stored_first b request segment row p g r t s quiet had_it there.own there.ready done kept uses freed' free' plain same,
             )
             (stored_grows b request segment row p g r t s quiet had_it there.own there.ready done kept uses freed' free' plain same (seen g) draws adds)
-            (enters_once s (begins_on (trace g) (trace r) (trace s) (moved_on b _ g r there.ready.moved) (begins_on (trace r) (trace t) (trace s) (moved_on b _ r t done.1) (moved_on b _ t s freed.moved))) peeks) (unread_set s peeks)
+            (enters_once s (begins_on (trace g) (trace r) (trace s) (moved_on b _ g r there.ready.moved) (begins_on (trace r) (trace t) (trace s) (moved_on b _ r t done.2) (moved_on b _ t s freed.moved))) peeks) (unread_set s peeks)

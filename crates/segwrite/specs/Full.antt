@@ -4,9 +4,9 @@ use Rattle.segword.specs.Words.{Shape}
 use Rattle.segmodel.specs.Words.{adds_key, after, Begins, bucket_of, IsBetween, key_of, keys_in}
 use Rattle.segmodel.specs.Words.{Request, standing}
 use Rattle.segcore.specs.declared.event.Event.TheVariants.{Drew}
-use Rattle.segcore.specs.Words.{all_drawn, entries, Event, Mark, width}
+use Rattle.segcore.specs.Words.{all_drawn, drew, entries, Event, Mark, width}
 use Rattle.segcore.specs.Mark as mark
-use Rattle.segbase.specs.Words.{drew, number, Pass, trace}
+use Rattle.segbase.specs.Words.{count, number, Pass, trace}
 
 -- ---- refusals
 
@@ -51,9 +51,10 @@ pub record DrewInNeed (shape : Shape) (key : List ℕ) (pass : ℕ) (old new : L
 pub record GrowsFor (shape : Shape) (request : Request) (p q : Pass) : Type 0 where
   pub others : (bucket : ℕ)
       → bucket ≢ bucket_of shape (key_of request)
-      → drew q bucket ≡ drew p bucket
-  pub own : (drew q (bucket_of shape (key_of request)) ≡ drew p (bucket_of shape (key_of request)))
-      ⊎ ((drew q (bucket_of shape (key_of request))
-      ≡ drew p (bucket_of shape (key_of request)) + 1)
+      → count (drew bucket) q ≡ count (drew bucket) p
+  pub own : (count (drew (bucket_of shape (key_of request))) q
+      ≡ count (drew (bucket_of shape (key_of request))) p)
+      ⊎ ((count (drew (bucket_of shape (key_of request))) q
+      ≡ count (drew (bucket_of shape (key_of request))) p + 1)
       × (adds_key request false ≡ true)
       × DrewInNeed shape (key_of request) (number p) (trace p) (trace q))

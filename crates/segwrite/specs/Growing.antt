@@ -8,12 +8,11 @@ use Rattle.segcore.specs.Words.{Bucket, bucket_after, drawn_in, Event, HasBit, H
 use Rattle.segcore.specs.Words.{home_of, IsWordOf, item, last, nothing, Slot}
 use Rattle.segbase.specs.Words.{AddsAtOnce, AddsEvents, Board, depth_to_draw, number, Pass, Place}
 use Rattle.segbase.specs.Words.{position_at, seen, trace}
-use Rattle.segstore.specs.Words.{Idles}
+use Rattle.segstore.specs.Words.{HasCleanBit, Idles, memo}
 use Rattle.segwrite.specs.declared.find.ChainEnd.{ChainEnd}
 use Rattle.segwrite.specs.declared.find.Target.{Target}
 use Rattle.segwrite.specs.declared.find.Found.{Found}
 use Rattle.segwrite.specs.declared.find.Found.TheVariants.{Word, Full}
-use Rattle.segpass.specs.Words.{HasCleanBit, memo}
 use Rattle.segwrite.specs.Full.{DrewInNeed}
 use Rattle.segwrite.specs.FirstEmpty.{AreTakenBefore}
 use Rattle.segwrite.specs.Writing.{IsInChain, IsEarlier, IsNewKey, IsTarget, HasFullChain}

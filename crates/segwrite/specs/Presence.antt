@@ -8,7 +8,7 @@ use Rattle.segcore.specs.Event as event
 use Rattle.segcore.specs.Words.{Event}
 use Rattle.segword.specs.Words.{Shape}
 use Rattle.segbase.specs.Words.{AddsEvents, Board, number, Pass, seen, trace}
-use Rattle.segpass.specs.Words.{memo, peek}
+use Rattle.segstore.specs.Words.{memo, peek}
 use Rattle.segwrite.specs.declared.find.Target.{Target}
 use Rattle.segwrite.specs.Writing.{own_word}
 

@@ -10,7 +10,7 @@ use Rattle.segcore.specs.declared.event.Event.TheVariants.{Freed, Replied, Unlin
 use Rattle.segcore.specs.declared.event.Leaving.TheVariants.{Deletes}
 use Rattle.segcore.specs.Words.{bucket_after, Event, IsRefusal}
 use Rattle.segbase.specs.Words.{AddsEvents, Board, number, Pass, seen, trace}
-use Rattle.segpass.specs.Words.{memo}
+use Rattle.segstore.specs.Words.{memo}
 use Rattle.segwrite.specs.Presence.{Peeks}
 use Rattle.segwrite.specs.declared.write.When.{When}
 use Rattle.segwrite.specs.declared.write.When.TheVariants as when

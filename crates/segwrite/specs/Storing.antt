@@ -7,7 +7,7 @@ use Rattle.segcore.specs.declared.event.Event.TheVariants.{Linked}
 use Rattle.segcore.specs.Words.{bucket_after, Event, HasBit}
 use Rattle.segbase.specs.Words.{AddsEvents, Board, current_of, number, Pass, seen, trace, used_of}
 use Rattle.segstore.specs.Words.{fills}
-use Rattle.segwrite.specs.FirstEmpty.{TookFirstEmpty}
+use Rattle.segwrite.specs.FirstEmpty.{LinkedFirst}
 
 -- the row is the next one of the pass's current segment
 pub record IsNextRow (b : Board) (segment row : ℕ) (p : Pass) : Type 0 where
@@ -20,17 +20,17 @@ pub record Requests (b : Board) (request : Request) (key value : List ℕ) (p : 
   pub of : (key_of request ≡ key) × (value_of request ≡ value)
   pub stored : Stored ≡ reply_in b.shape (after b.shape (seen p)) request
 
--- the row was written, and then an item word named it
-abbrev pub stores : ℕ → Request → ℕ → ℕ → ℕ → List Event
-stores pass request segment row position =
+-- the row was written at these places, and then an item word named it
+abbrev pub stores : ℕ → Request → ℕ → ℕ → ℕ → List ℕ → List Event
+stores pass request segment row position places =
     Linked pass request segment row position
-    ∷ fills pass segment row (row_of (key_of request) (value_of request)) 8
+    ∷ fills pass segment row (row_of (key_of request) (value_of request)) places
 
 abbrev pub StoresUnderBit : Board → Request → ℕ → ℕ → Pass → Pass → Type 0
 StoresUnderBit b request segment row p q =
-    (position : ℕ)
-    × AddsEvents b (stores (number p) request segment row position) p q
-    × TookFirstEmpty b.shape request (number p) (trace p) (trace q)
+    (position : ℕ) × (places : List ℕ)
+    × AddsEvents b (stores (number p) request segment row position places) p q
+    × LinkedFirst b.shape request (number p) (trace p) (trace q)
 
 -- the pass has the bit, and something was written under it
 pub record HasWritten (b : Board) (p : Pass) (bucket : ℕ) : Type 0 where

@@ -4,8 +4,7 @@ pub use Rattle.segwrite.specs.Storing.{IsNextRow}
 pub use Rattle.segwrite.specs.Telling.{cas_reply, IsTold, WasTold}
 pub use Rattle.segwrite.specs.Writes.{AddsReply, CostsOfWrite, Deletes, IsDeleteAnswer, IsSetAnswer}
 pub use Rattle.segwrite.specs.Writes.{IsWriteAnswer, one_more, UsesRow, Writes}
-pub use Rattle.segwrite.specs.Writing.{first_word, IsEarlier, IsInChain, IsNext, LeadsNowhere}
-pub use Rattle.segwrite.specs.Writing.{LeadsTo, next_word}
+pub use Rattle.segwrite.specs.Writing.{IsEarlier, IsInChain}
 use Rattle.segwrite.specs.declared.find.Target as declared_target
 
 -- The types of this crate that others name.

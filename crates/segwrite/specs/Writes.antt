@@ -8,12 +8,12 @@ use Rattle.segmodel.specs.declared.answer.WriteAnswer.TheVariants as write
 use Rattle.segmodel.specs.declared.answer.DeleteAnswer.TheVariants as delete
 use Rattle.segmodel.specs.Words.{adds_key, bucket_of, DeleteAnswer, key_of, Reply, Request}
 use Rattle.segmodel.specs.Words.{WriteAnswer}
-use Rattle.segbase.specs.Words.{Board, current_of, entered, glanced, locked_of, marked, number, OwnSegment, Pass}
-use Rattle.segbase.specs.Words.{SinceFirst, trace, with_own}
+use Rattle.segcore.specs.Words.{entered, glanced}
+use Rattle.segbase.specs.Words.{Board, count, current_of, locked_of, marked, number, OwnSegment}
+use Rattle.segbase.specs.Words.{Pass, SinceFirst, trace, with_own}
 use Rattle.segcore.specs.Mark as mark
-use Rattle.segstore.specs.Words.{has_room}
-use Rattle.segpass.specs.Words.{AddsEntry, ChangesNothing, DrawsNothing, GoesOn, IsBusy, memo}
-use Rattle.segpass.specs.Words.{RaisesNothing, ReadsNothing, TakesOneBit}
+use Rattle.segstore.specs.Words.{AddsEntry, ChangesNothing, DrawsNothing, GoesOn, has_room, IsBusy}
+use Rattle.segstore.specs.Words.{memo, RaisesNothing, ReadsNothing, TakesOneBit}
 use Rattle.segwrite.specs.Presence.{CameIn, depends_on_key}
 use Rattle.segwrite.specs.FirstEmpty.{TookFirstEmpty}
 use Rattle.segwrite.specs.Full.{WasFull, GrowsFor}
@@ -75,9 +75,9 @@ IsDeleteAnswer shape key now delete.Busy p q = ChangesNothing p q × IsBusy (buc
 -- It came into a segment once at most, and the key stood there at that moment.
 pub record EntersForKey (shape : Shape) (key : List ℕ) (p q : Pass) : Type 0 where
   pub raises_nothing : RaisesNothing p q
-  pub glanced : (bucket : ℕ) → glanced q bucket ≡ glanced p bucket
-  pub entered : (entered q ≡ entered p)
-      ⊎ ((entered q ≡ entered p + 1)
+  pub glanced : (bucket : ℕ) → count (glanced bucket) q ≡ count (glanced bucket) p
+  pub entered : (count entered q ≡ count entered p)
+      ⊎ ((count entered q ≡ count entered p + 1)
       × ((segment : ℕ) × CameIn shape key (number p) segment (trace p) (trace q)))
 
 -- Stored: the pass took one bit, and a new key is stored in the first empty word of its chain.
@@ -86,7 +86,7 @@ pub record EntersForKey (shape : Shape) (key : List ℕ) (p q : Pass) : Type 0 w
 abbrev pub CostsOfAnswer : Shape → Request → WriteAnswer → Pass → Pass → Type 0
 CostsOfAnswer shape request write.Stored p q =
     TakesOneBit (bucket_of shape (key_of request)) p q
-    × TookFirstEmpty shape request (number p) (trace p) (trace q)
+    × TookFirstEmpty shape request (number p) (marked p) (marked q)
 CostsOfAnswer shape request write.NoRoom p q = Unit {0}
 CostsOfAnswer shape request write.Busy p q = DrawsNothing p q × ReadsNothing p q
 CostsOfAnswer shape request _ p q =

@@ -1,20 +1,18 @@
 //! The word of a key's chain that a write changes, or the end of the chain if there is none.
 //! One walk along the chain, under the bucket's bit, finds it.
-ghost use Rattle.std.specs.Prelude.{◌≡◌, ◌≤◌, ◌↔◌, IsTrue, List, ℕ};
-ghost use Rattle.segmodel.specs.Words.{bucket_of, tag_of};
+ghost use Rattle.std.specs.Prelude.{◌≡◌, ◌↔◌, IsTrue, List, ℕ};
+ghost use Rattle.segmodel.specs.Words.{bucket_of};
 ghost use Rattle.segcore.specs.Words.{HasBit};
-ghost use Rattle.segwrite.specs.Writing.{own_word, IsInChain, IsNext, Finds};
-ghost use Rattle.segword.specs.Words.{IsValid};
+ghost use Rattle.segwrite.specs.Writing.{own_word, IsInChain, Finds};
 ghost use Rattle.segbase.specs.Words.{content_for, HasItemOf, IsPassOf, IsWordOfContent};
 ghost use Rattle.segbase.specs.Words.{number, trace};
-ghost use Rattle.segstore.specs.Words.{Idles};
-ghost use Rattle.segpass.specs.Words.{MayEnterAny};
+ghost use Rattle.segstore.specs.Words.{Idles, IsSought, MayEnterAny};
 ghost use Rattle.segwrite.specs.Presence.{IsPresentWord, Peeks};
 ghost use Rattle.segwrite.specs.Growing.{Searches};
 
 use segbase::{Board, Pass, Place};
-use segstore::{enter_segment, leave_segment};
-use segword::{Chain, Item, KeyWords};
+use segstore::{Sought, enter_segment, leave_segment, next_place, row_of_key};
+use segword::Item;
 
 /// A word of a chain, and what stood there: the item of a key,
 /// or 0 if the key doesn't stand and the word is free for it.
@@ -91,40 +89,35 @@ pub(crate) fn own_word(found: Option<Target>) -> Option<Target>
 }
 
 // The key's word; or the first empty one, if the key doesn't stand; or neither.
-pub(crate) fn find(
-    board: &Board,
-    pass: &mut Pass,
-    bucket: u32,
-    key: &KeyWords,
-    tag: u16,
-) -> Option<Target>
+pub(crate) fn find(board: &Board, pass: &mut Pass, sought: &Sought) -> Option<Target>
     requires pass { IsPassOf board.now pass.old }
-    requires bucket { bucket ≡ bucket_of board.now.shape key.now }
-    requires tag { tag ≡ tag_of key.now }
-    requires bit { HasBit board.now.shape (trace pass.old) (number pass.old) bucket }
+    requires sought { IsSought board.now.shape sought.now }
+    requires bit { HasBit board.now.shape (trace pass.old) (number pass.old) sought.now.bucket }
     ensures idles { Idles board.now pass.old pass.new }
-    ensures finds { Finds board.now key.now result pass.new }
+    ensures finds { Finds board.now sought.now.key result pass.new }
 {
-    search(board, pass, bucket, key, tag).target()
+    search(board, pass, sought).target()
 }
 
 // As `find`, but if there is neither, it returns the end of the chain.
 #[inline(always)]
-pub(crate) fn search(board: &Board, pass: &mut Pass, bucket: u32, key: &KeyWords, tag: u16) -> Found
+pub(crate) fn search(board: &Board, pass: &mut Pass, sought: &Sought) -> Found
     requires pass { IsPassOf board.now pass.old }
-    requires bucket { bucket ≡ bucket_of board.now.shape key.now }
-    requires tag { tag ≡ tag_of key.now }
-    requires bit { HasBit board.now.shape (trace pass.old) (number pass.old) bucket }
+    requires sought { IsSought board.now.shape sought.now }
+    requires bit { HasBit board.now.shape (trace pass.old) (number pass.old) sought.now.bucket }
     ensures idles { Idles board.now pass.old pass.new }
-    ensures searches { Searches board.now key.now result pass.new }
+    ensures searches { Searches board.now sought.now.key result pass.new }
 {
-    let mut place = Place { bucket, word: 1 };
+    let mut place = Place {
+        bucket: sought.bucket,
+        word: 1,
+    };
     let mut buckets = 1;
     let mut empty = None;
     loop {
         let word = board.look(pass, place);
         let target = Target { place, word };
-        if is_item_of(board, pass, place, word, key, tag) {
+        if is_item_of(board, pass, target, sought) {
             return Found::Word(target);
         }
         empty = target.or_earlier(empty);
@@ -146,48 +139,24 @@ pub(crate) fn search(board: &Board, pass: &mut Pass, bucket: u32, key: &KeyWords
 }
 
 // Whether a word that the pass reads under the bit is that of an item of the key.
-fn is_item_of(
-    board: &Board,
-    pass: &mut Pass,
-    place: Place,
-    word: u64,
-    key: &KeyWords,
-    tag: u16,
-) -> bool
+fn is_item_of(board: &Board, pass: &mut Pass, target: Target, sought: &Sought) -> bool
     requires pass { IsPassOf board.now pass.old }
-    requires tag { tag ≡ tag_of key.now }
-    requires chain { IsInChain board.now (bucket_of board.now.shape key.now) place pass.old }
+    requires sought { IsSought board.now.shape sought.now }
+    requires chain { IsInChain board.now (bucket_of board.now.shape sought.now.key) target.place
+        pass.old }
     requires bit { HasBit board.now.shape (trace pass.old) (number pass.old)
-        (bucket_of board.now.shape key.now) }
-    requires word { IsWordOfContent (content_for board.now key.now place pass.old) word }
+        (bucket_of board.now.shape sought.now.key) }
+    requires word { IsWordOfContent (content_for board.now sought.now.key target.place pass.old)
+        target.word }
     ensures idles { Idles board.now pass.old pass.new }
-    ensures is { IsTrue result ↔ HasItemOf board.now key.now place pass.new }
+    ensures is { IsTrue result ↔ HasItemOf board.now sought.now.key target.place pass.new }
 {
-    match Item::unpack(word) {
-        Some(item) if item.tag == tag => {
-            segstore::row_of_key(board, pass, item.seg, item.row, key).is_some()
+    match Item::unpack(target.word) {
+        Some(item) if item.tag == sought.tag => {
+            row_of_key(board, pass, item.seg, item.row, &sought.key).is_some()
         }
         _ => false,
     }
-}
-
-/// The place that comes next along the chain of a place with this word, if one does.
-pub fn next_place(board: &Board, place: Place, word: u64) -> Option<Place>
-    requires valid { IsValid board.now.shape }
-    requires word { place.word ≤ 7 }
-    ensures { IsNext board.now.shape place word result }
-{
-    if place.word < 7 {
-        return Some(Place {
-            word: place.word + 1,
-            ..place
-        });
-    }
-    let number = Chain::unpack(word)?;
-    Some(Place {
-        bucket: board.shape().buckets + number,
-        word: 1,
-    })
 }
 
 // The key's own word, if the key is present at a moment, under the bit of the key's bucket.

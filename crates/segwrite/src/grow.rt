@@ -3,7 +3,7 @@
 ghost use Rattle.std.specs.Prelude.{◌<◌};
 ghost use Rattle.segcore.specs.Words.{HasNoEmptyWord};
 ghost use Rattle.segbase.specs.Words.{home_at, IsPassOf};
-ghost use Rattle.segpass.specs.Words.{HasCleanBit};
+ghost use Rattle.segstore.specs.Words.{HasCleanBit};
 ghost use Rattle.segwrite.specs.Growing.{bucket_seen, IsLast, IsChainEnd, IsAsFound, MakesRoom};
 ghost use Rattle.segwrite.specs.Growing.{Grows, DrawsSpare, HasSpare, TriesToJoin, Joins};
 

@@ -6,6 +6,6 @@ mod grow;
 mod removal;
 mod write;
 
-pub use find::{Target, next_place};
+pub use find::Target;
 pub use removal::{clear, delete};
 pub use write::{add, cas, replace, set};

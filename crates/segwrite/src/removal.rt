@@ -2,11 +2,11 @@
 ghost use Rattle.std.specs.Prelude.{◌≡◌, List, ℕ};
 ghost use Rattle.segmodel.specs.declared.request.Request.{Request};
 ghost use Rattle.segmodel.specs.declared.request.Request.TheVariants.{Delete};
-ghost use Rattle.segmodel.specs.Words.{bucket_of, tag_of};
+ghost use Rattle.segmodel.specs.Words.{bucket_of};
 ghost use Rattle.segcore.specs.declared.event.Event.TheVariants.{Unlinked};
 ghost use Rattle.segcore.specs.Words.{Fits, Leaving};
 ghost use Rattle.segbase.specs.Words.{AddsUnlink, HasItemOf, IsPassOf, number, position_at, trace};
-ghost use Rattle.segpass.specs.Words.{HasCleanBit, IsQuiet, MayEnterAny, memo};
+ghost use Rattle.segstore.specs.Words.{HasCleanBit, IsQuiet, IsSought, MayEnterAny, memo};
 ghost use Rattle.segwrite.specs.Writing.{IsInChain, IsEarlier};
 ghost use Rattle.segwrite.specs.Writes.{Deletes};
 ghost use Rattle.segwrite.specs.Refusing.{Removes};
@@ -15,48 +15,39 @@ use crate::find::{Target, find, present_word};
 use crate::write::refuse;
 use segbase::{Board, Pass};
 use segmodel::DeleteAnswer;
-use segpass::take_to_write;
-use segword::{Key, KeyWords, bucket_of, hash, tag_of};
+use segstore::{Sought, take_to_write};
+use segword::Key;
 
 /// Takes the key out. A delete needs no row.
 pub fn delete(board: &Board, pass: &mut Pass, key: &Key, now: u32) -> DeleteAnswer
     requires quiet { IsQuiet board.now pass.old }
     ensures deletes { Deletes board.now key.now now result pass.old pass.new }
 {
-    let hash = hash(key);
-    let bucket = bucket_of(hash, board.shape().buckets);
-    if !take_to_write(board, pass, bucket) {
+    let sought = Sought::of(key, board);
+    if !take_to_write(board, pass, sought.bucket) {
         return DeleteAnswer::Busy;
     }
-    remove(board, pass, bucket, &KeyWords::new(key), tag_of(hash), now)
+    remove(board, pass, &sought, now)
 }
 
 // Takes the key out of its bucket, if the key is present, under the bit that the pass has,
 // and gives the bit back.
-fn remove(
-    board: &Board,
-    pass: &mut Pass,
-    bucket: u32,
-    key: &KeyWords,
-    tag: u16,
-    now: u32,
-) -> DeleteAnswer
+fn remove(board: &Board, pass: &mut Pass, sought: &Sought, now: u32) -> DeleteAnswer
     ghost request: { Request }
     requires pass { IsPassOf board.now pass.old }
-    requires clean { HasCleanBit board.now pass.old bucket }
-    requires bucket { bucket ≡ bucket_of board.now.shape key.now }
-    requires tag { tag ≡ tag_of key.now }
+    requires clean { HasCleanBit board.now pass.old sought.now.bucket }
+    requires sought { IsSought board.now.shape sought.now }
     requires enter { MayEnterAny pass.old }
-    requires request { request ≡ Delete key.now now }
+    requires request { request ≡ Delete sought.now.key now }
     ensures removes { Removes board.now request result pass.old pass.new }
 {
-    let found = find(board, pass, bucket, key, tag);
+    let found = find(board, pass, sought);
     let Some(target) = present_word(board, pass, found, now) else {
-        refuse(board, pass, bucket);
+        refuse(board, pass, sought.bucket);
         return DeleteAnswer::NotFound;
     };
     clear(board, pass, target);
-    board.release(pass, bucket, true);
+    board.release(pass, sought.bucket, true);
     DeleteAnswer::Deleted
 }
 

@@ -6,9 +6,9 @@ ghost use Rattle.segmodel.specs.declared.request.Request.TheVariants.{Set, Add, 
 ghost use Rattle.segmodel.specs.Words.{after, bucket_of, key_of, present, tag_of, value_of};
 ghost use Rattle.segcore.specs.declared.event.Event.TheVariants.{Linked};
 ghost use Rattle.segcore.specs.Words.{Fits, IsRefusal};
-ghost use Rattle.segstore.specs.Words.{Idles, KeepsSegments};
+ghost use Rattle.segstore.specs.Words.{HasCleanBit, Idles, IsQuiet, IsSought, KeepsSegments};
+ghost use Rattle.segstore.specs.Words.{MayEnterAny, memo};
 ghost use Rattle.segbase.specs.Words.{AddsLink, IsPassOf, number, position_at, seen, trace};
-ghost use Rattle.segpass.specs.Words.{HasCleanBit, IsQuiet, MayEnterAny, memo};
 ghost use Rattle.segwrite.specs.Presence.{PeeksFor};
 ghost use Rattle.segwrite.specs.Writes.{UsesRow, IsSetAnswer, Writes};
 ghost use Rattle.segwrite.specs.Writing.{Finds, IsTarget};
@@ -19,8 +19,8 @@ use crate::find::{Target, present_word, search};
 use crate::grow::make_room;
 use segbase::{Board, Pass};
 use segmodel::WriteAnswer;
-use segpass::take_to_write;
-use segword::{Item, Key, KeyWords, Value, bucket_of, hash, tag_of};
+use segstore::{RowRef, Sought, fill_row, next_row, take_to_write};
+use segword::{Item, Key, Value};
 
 // When a write stores.
 #[derive(Clone, Copy, Drop)]
@@ -34,6 +34,15 @@ pub(crate) enum When {
     Unchanged(u32),
 }
 
+// A write: under which key it stores, what, when, and by which clock.
+#[derive(Clone, Copy, Drop)]
+struct WriteCall<'v> {
+    sought: Sought,
+    value: &'v Value,
+    when: When,
+    clock: u32,
+}
+
 /// Stores the value under the key.
 #[inline(always)]
 pub fn set(board: &Board, pass: &mut Pass, key: &Key, value: &Value, now: u32) -> WriteAnswer
@@ -41,7 +50,13 @@ pub fn set(board: &Board, pass: &mut Pass, key: &Key, value: &Value, now: u32) -
     ensures writes { Writes board.now (Set key.now value.now now) result pass.old pass.new }
     ensures set { IsSetAnswer result }
 {
-    write(board, pass, key, value, When::Always, now)
+    let set = WriteCall {
+        sought: Sought::of(key, board),
+        value,
+        when: When::Always,
+        clock: now,
+    };
+    write(board, pass, &set)
 }
 
 /// Stores the value under the key if the key is absent. Else it returns NotStored.
@@ -49,7 +64,13 @@ pub fn add(board: &Board, pass: &mut Pass, key: &Key, value: &Value, now: u32) -
     requires quiet { IsQuiet board.now pass.old }
     ensures writes { Writes board.now (Add key.now value.now now) result pass.old pass.new }
 {
-    write(board, pass, key, value, When::Absent, now)
+    let add = WriteCall {
+        sought: Sought::of(key, board),
+        value,
+        when: When::Absent,
+        clock: now,
+    };
+    write(board, pass, &add)
 }
 
 /// Stores the value under the key if the key is present. Else it returns NotStored.
@@ -57,7 +78,13 @@ pub fn replace(board: &Board, pass: &mut Pass, key: &Key, value: &Value, now: u3
     requires quiet { IsQuiet board.now pass.old }
     ensures writes { Writes board.now (Replace key.now value.now now) result pass.old pass.new }
 {
-    write(board, pass, key, value, When::Present, now)
+    let replace = WriteCall {
+        sought: Sought::of(key, board),
+        value,
+        when: When::Present,
+        clock: now,
+    };
+    write(board, pass, &replace)
 }
 
 /// Stores the value under the key if the key's bucket has the expected version. Else it returns
@@ -74,37 +101,36 @@ pub fn cas(
     ensures writes { Writes board.now (Cas key.now value.now expected now) result
         pass.old pass.new }
 {
-    write(board, pass, key, value, When::Unchanged(expected), now)
+    let cas = WriteCall {
+        sought: Sought::of(key, board),
+        value,
+        when: When::Unchanged(expected),
+        clock: now,
+    };
+    write(board, pass, &cas)
 }
 
 // Stores the value under the key if the cache doesn't refuse it.
 #[inline(always)]
-fn write(
-    board: &Board,
-    pass: &mut Pass,
-    key: &Key,
-    value: &Value,
-    when: When,
-    now: u32,
-) -> WriteAnswer
+fn write(board: &Board, pass: &mut Pass, write: &WriteCall<'_>) -> WriteAnswer
     ghost request: { Request }
     requires quiet { IsQuiet board.now pass.old }
-    requires request { request ≡ request_of when key.now value.now now }
+    requires sought { IsSought board.now.shape write.now.sought }
+    requires key { IsKey write.now.sought.key }
+    requires versions { board.now.shape.first_version < 2 ^ 32 }
+    requires request { request
+        ≡ request_of write.now.when write.now.sought.key write.now.value.now write.now.clock }
     ensures writes { Writes board.now request result pass.old pass.new }
 {
-    let Ok((segment, row)) = segstore::next_row(board, pass) else {
+    let Ok(row) = next_row(board, pass) else {
         return WriteAnswer::NoRoom;
     };
-    let hash = hash(key);
-    let bucket = bucket_of(hash, board.shape().buckets);
-    let tag = tag_of(hash);
-    let words = KeyWords::new(key);
+    let bucket = write.sought.bucket;
     if !take_to_write(board, pass, bucket) {
         return WriteAnswer::Busy;
     }
-    let found = search(board, pass, bucket, &words, tag);
-    let refusal = refusal(board, pass, bucket, found.target(), when, now);
-    if let Some(refusal) = refusal {
+    let found = search(board, pass, &write.sought);
+    if let Some(refusal) = refusal(board, pass, found.target(), write) {
         refuse(board, pass, bucket);
         return refusal;
     }
@@ -112,7 +138,7 @@ fn write(
         board.release(pass, bucket, false);
         return WriteAnswer::BucketFull;
     };
-    store(board, pass, target, segment, row, &words, tag, value);
+    store(board, pass, target, row, write);
     board.release(pass, bucket, true);
     WriteAnswer::Stored
 }
@@ -122,27 +148,26 @@ fn write(
 fn refusal(
     board: &Board,
     pass: &mut Pass,
-    bucket: u32,
     found: Option<Target>,
-    when: When,
-    now: u32,
+    write: &WriteCall<'_>,
 ) -> Option<WriteAnswer>
     ghost request: { Request }
     requires pass { IsPassOf board.now pass.old }
     requires versions { board.now.shape.first_version < 2 ^ 32 }
-    requires clean { HasCleanBit board.now pass.old bucket }
-    requires bucket { bucket ≡ bucket_of board.now.shape (key_of request) }
+    requires clean { HasCleanBit board.now pass.old write.now.sought.bucket }
+    requires bucket { write.now.sought.bucket ≡ bucket_of board.now.shape (key_of request) }
     requires enter { MayEnterAny pass.old }
     requires found { Finds board.now (key_of request) found pass.old }
-    requires request { request ≡ request_of when (key_of request) (value_of request) now }
+    requires request { request
+        ≡ request_of write.now.when (key_of request) (value_of request) write.now.clock }
     ensures peeks { PeeksFor board.now request pass.old pass.new }
     ensures told { IsToldBy (reply_now board.now pass.new request) result }
 {
-    if let When::Always = when {
+    if let When::Always = write.when {
         return None;
     }
-    let is_present = present_word(board, pass, found, now).is_some();
-    refusal_where(board, pass, bucket, is_present, when, now)
+    let is_present = present_word(board, pass, found, write.clock).is_some();
+    refusal_where(board, pass, is_present, write)
 }
 
 // What the cache answers in place of storing, by whether the key is present.
@@ -150,29 +175,29 @@ fn refusal(
 fn refusal_where(
     board: &Board,
     pass: &mut Pass,
-    bucket: u32,
     is_present: bool,
-    when: When,
-    now: u32,
+    write: &WriteCall<'_>,
 ) -> Option<WriteAnswer>
     ghost request: { Request }
     requires pass { IsPassOf board.now pass.old }
     requires versions { board.now.shape.first_version < 2 ^ 32 }
-    requires clean { HasCleanBit board.now pass.old bucket }
-    requires bucket { bucket ≡ bucket_of board.now.shape (key_of request) }
+    requires clean { HasCleanBit board.now pass.old write.now.sought.bucket }
+    requires bucket { write.now.sought.bucket ≡ bucket_of board.now.shape (key_of request) }
     requires present { is_present
-        ≡ is_some (present (after board.now.shape (seen pass.old)) now (key_of request)) }
-    requires request { request ≡ request_of when (key_of request) (value_of request) now }
+        ≡ is_some (present (after board.now.shape (seen pass.old)) write.now.clock
+        (key_of request)) }
+    requires request { request
+        ≡ request_of write.now.when (key_of request) (value_of request) write.now.clock }
     ensures idles { Idles board.now pass.old pass.new }
     ensures told { IsToldBy (reply_now board.now pass.new request) result }
 {
-    match when {
+    match write.when {
         When::Always => None,
         When::Absent => is_present.then_some(WriteAnswer::NotStored),
         When::Present => (!is_present).then_some(WriteAnswer::NotStored),
         When::Unchanged(_) if !is_present => Some(WriteAnswer::NotFound),
         When::Unchanged(version) => {
-            let info = board.info_look(pass, bucket);
+            let info = board.info_look(pass, write.sought.bucket);
             (info.version != version).then_some(WriteAnswer::Exists)
         }
     }
@@ -192,39 +217,31 @@ pub(crate) fn refuse(board: &Board, pass: &mut Pass, bucket: u32)
 }
 
 // Writes the pair into the next row, and lets the key's word name it.
-fn store(
-    board: &Board,
-    pass: &mut Pass,
-    target: Target,
-    segment: u32,
-    row: u32,
-    key: &KeyWords,
-    tag: u16,
-    value: &Value,
-)
+fn store(board: &Board, pass: &mut Pass, target: Target, row: RowRef, write: &WriteCall<'_>)
     ghost request: { Request }
     requires pass { IsPassOf board.now pass.old }
     requires segments { KeepsSegments board.now pass.old }
-    requires next { IsNextRow board.now segment row pass.old }
-    requires request { Requests board.now request key.now value.now pass.old }
-    requires key { IsKey key.now }
-    requires tag { tag ≡ tag_of key.now }
+    requires next { IsNextRow board.now row.segment row.row pass.old }
+    requires request { Requests board.now request write.now.sought.key write.now.value.now
+        pass.old }
+    requires key { IsKey write.now.sought.key }
+    requires tag { write.now.sought.tag ≡ tag_of write.now.sought.key }
     requires bit { HasCleanBit board.now pass.old (bucket_of board.now.shape (key_of request)) }
     requires target { IsTarget board.now (key_of request) target pass.old }
-    ensures stores { StoresUnderBit board.now request segment row pass.old pass.new }
+    ensures stores { StoresUnderBit board.now request row.segment row.row pass.old pass.new }
     ensures segments { KeepsSegments board.now pass.new }
-    ensures uses { UsesRow segment pass.old pass.new }
+    ensures uses { UsesRow row.segment pass.old pass.new }
     ensures bit { HasWritten board.now pass.new (bucket_of board.now.shape (key_of request)) }
 {
-    segstore::fill_row(board, pass, segment, row, key, value);
+    fill_row(board, pass, row, &write.sought.key, write.value);
     let item = Item {
-        tag,
+        tag: write.sought.tag,
         freq: 1,
-        seg: segment,
-        row,
+        seg: row.segment,
+        row: row.row,
     };
     link(board, pass, target, item);
-    pass.set_used(segment, row + 1);
+    pass.set_used(row.segment, row.row + 1);
 }
 
 // Puts the item of a stored write into the key's word. If that has an item of the key, and a hit

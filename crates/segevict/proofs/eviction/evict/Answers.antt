@@ -2,10 +2,10 @@ use Rattle.std.proofs.Common.{rules, ◌≡◌, ◌≢◌, Some, refl, sym, subs
 use Rattle.segmodel.specs.declared.answer.SegState.TheVariants.{InUse}
 use Rattle.segbase.specs.Words.{current_of, state_of}
 use Rattle.segbase.proofs.Moves.{stays}
-use Rattle.segpass.specs.Words.{GoesOn, IsQuiet}
+use Rattle.segstore.specs.Words.{GoesOn, IsQuiet}
 use Rattle.segevict.specs.Evicting.{CostsOfEvict, IsEvictAnswer}
 use Rattle.segevict.specs.Tries.{StoodIn}
-use Rattle.segpass.proofs.Idling.{goes_same}
+use Rattle.segstore.proofs.Idling.{goes_same}
 use Rattle.segevict.proofs.Evictions.{closed, closed_over, closes_on, evict_answers, evict_costs}
 use Rattle.segevict.proofs.KeyTries.{no_tries}
 use Rattle.segevict.proofs.RowsOut.{goes_then}

@@ -1,7 +1,7 @@
 use Rattle.std.proofs.Common.{◌≡◌, ◌+◌, Some, sym, ap, ◌∙◌, subst, arith}
 use Rattle.segmodel.specs.declared.answer.EvictAnswer.TheVariants as evict
 use Rattle.segbase.specs.Words.{used_of}
-use Rattle.segpass.specs.Words.{GoesOn}
+use Rattle.segstore.specs.Words.{GoesOn}
 use Rattle.segevict.specs.Evicting.{CostsOfEvict, IsEvictAnswer}
 use Rattle.segevict.proofs.Evictions.{Evicting, evicting_first, evicting_one, evicting_none, barred_on, barred_answer, barred_costs, emptied_on, emptied_answer, emptied_costs}
 use Rattle.segevict.proofs.eviction.evict_rows.Goals as goal

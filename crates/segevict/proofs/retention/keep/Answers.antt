@@ -1,6 +1,6 @@
 use Rattle.std.proofs.Common.{rules, refl, inr}
 use Rattle.segbase.proofs.Moves.{stays}
-use Rattle.segpass.proofs.Idling.{goes_same}
+use Rattle.segstore.proofs.Idling.{goes_same}
 use Rattle.segevict.specs.Frequencies.{WasOften}
 use Rattle.segevict.proofs.KeyTries.{no_tries}
 use Rattle.segevict.proofs.retention.keep.Goals as goal

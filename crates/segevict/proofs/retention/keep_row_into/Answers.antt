@@ -1,7 +1,6 @@
-use Rattle.std.proofs.Common.{refl, sym, subst}
+use Rattle.std.proofs.Common.{refl}
 use Rattle.std.proofs.lemmas.Bool.{false≢true}
 use Rattle.segstore.proofs.Seconds.{unpacked}
-use Rattle.segwrite.specs.Words.{IsNextRow}
 use Rattle.segbase.proofs.Starting.{has_later}
 use Rattle.segwrite.proofs.Places.{idles_then}
 use Rattle.segevict.proofs.RowsOut.{quiet_looking}
@@ -14,7 +13,7 @@ returns-in_default c = let b = c.args.board.now in let r = c.item_of_row-bucket 
     let i = idles_then b c.args.pass.now r.new.pass f.new.pass r.ensures.idles f.ensures.idles in
     let first = has_later c.args.pass.now r.new.pass f.new.pass r.ensures.idles.moved.same r.ensures.idles.moved.steps f.ensures.looks in
     let stored = stored_over b r.result.0 r.result.1 _ r.new.pass f.new.pass f.ensures.idles.moved tt r.ensures.stored in record {
-      keeps = kept_place b r.result.1 c.args.segment c.args.row c.args.into c.args.cutoff _ _ _ r.ensures.place
+      keeps = kept_place b r.result.1 c.args.row.segment c.args.row.row c.args.into c.args.cutoff _ _ _ r.ensures.place
           (row_gone b r.result.0 r.result.1 c.args.into c.args.cutoff c.args.pass.now f.new.pass c.requires.quiet i first stored c.in_default.ensures.finds);
     }
 
@@ -24,7 +23,7 @@ returns-then-unwrap-cutoff c = let b = c.args.board.now in let r = c.item_of_row
     let first = has_later c.args.pass.now r.new.pass f.new.pass r.ensures.idles.moved.same r.ensures.idles.moved.steps f.ensures.looks in
     let stored = stored_over b r.result.0 r.result.1 _ r.new.pass f.new.pass f.ensures.idles.moved tt r.ensures.stored in
     let word = unpacked c.unpack.result c.unwrap.result c.in-Some.seen.word c.unpack.ensures.some c.unwrap.ensures in record {
-      keeps = kept_place b r.result.1 c.args.segment c.args.row c.args.into c.args.cutoff _ _ _ r.ensures.place
+      keeps = kept_place b r.result.1 c.args.row.segment c.args.row.row c.args.into c.args.cutoff _ _ _ r.ensures.place
           (row_seldom b r.result.0 r.result.1 c.args.into c.args.cutoff c.args.pass.now f.new.pass c.requires.quiet i first stored c.in-Some.seen c.in-Some.ensures.finds c.unwrap.result word c.if-unwrap-cutoff.true);
     }
 
@@ -34,7 +33,7 @@ returns-in_default-next_row c = let b = c.args.board.now in let r = c.item_of_ro
     let first = has_later c.args.pass.now r.new.pass f.new.pass r.ensures.idles.moved.same r.ensures.idles.moved.steps f.ensures.looks in
     let stored = stored_over b r.result.0 r.result.1 _ r.new.pass f.new.pass f.ensures.idles.moved tt r.ensures.stored in
     let word = unpacked c.unpack.result c.unwrap.result c.in-Some.seen.word c.unpack.ensures.some c.unwrap.ensures in record {
-      keeps = kept_place b r.result.1 c.args.segment c.args.row c.args.into c.args.cutoff _ _ _ r.ensures.place
+      keeps = kept_place b r.result.1 c.args.row.segment c.args.row.row c.args.into c.args.cutoff _ _ _ r.ensures.place
           (row_no_room b r.result.0 r.result.1 c.args.into c.args.cutoff c.args.pass.now f.new.pass c.requires.quiet i first stored c.in-Some.seen c.in-Some.ensures.finds c.unwrap.result word c.if-unwrap-cutoff.false
           (c.in_default-next_row.ensures.no_room.0 refl));
     }
@@ -52,7 +51,7 @@ returns-then-not-take_to_write c = let b = c.args.board.now in let r = c.item_of
     let first = has_later c.args.pass.now r.new.pass f.new.pass r.ensures.idles.moved.same r.ensures.idles.moved.steps f.ensures.looks in
     let stored = stored_over b r.result.0 r.result.1 _ r.new.pass f.new.pass f.ensures.idles.moved tt r.ensures.stored in
     let word = unpacked c.unpack.result c.unwrap.result c.in-Some.seen.word c.unpack.ensures.some c.unwrap.ensures in record {
-      keeps = kept_place b r.result.1 c.args.segment c.args.row c.args.into c.args.cutoff _ _ _ r.ensures.place
+      keeps = kept_place b r.result.1 c.args.row.segment c.args.row.row c.args.into c.args.cutoff _ _ _ r.ensures.place
           (row_busy b r.result.0 r.result.1 c.args.into c.args.cutoff c.args.pass.now f.new.pass c.requires.quiet i first stored c.in-Some.seen c.in-Some.ensures.finds c.unwrap.result word c.if-unwrap-cutoff.false
           c.take_to_write.new.pass (has_row b f.new.pass (λ none. false≢true (c.in-Ok.ensures.no_room.1 none))) c.if-not-take_to_write.ensures.takes);
     }
@@ -80,7 +79,7 @@ move_row-is_moved-requires-clause-target c = let b = c.args.board.now in let r =
     let stored = stored_over b r.result.0 r.result.1 _ r.new.pass f.new.pass f.ensures.idles.moved tt r.ensures.stored in
     let word = unpacked c.unpack.result c.unwrap.result c.in-Some.seen.word c.unpack.ensures.some c.unwrap.ensures in
     target_q b r.result.0 r.result.1 c.args.into c.args.cutoff c.args.pass.now f.new.pass c.requires.quiet i first stored c.in-Some.seen c.in-Some.ensures.finds c.unwrap.result word c.if-unwrap-cutoff.false c.take_to_write.new.pass c.if-not-take_to_write.ensures.takes
-    (target_place r.result.1 c.args.segment c.args.into c.args.pass.now r.ensures.place.0 c.requires.target)
+    (target_place r.result.1 c.args.row.segment c.args.into c.args.pass.now r.ensures.place.0 c.requires.target)
 
 pub move_row-is_moved-requires-clause-next : goal.move_row-is_moved-requires-clause-next
 move_row-is_moved-requires-clause-next c = let b = c.args.board.now in let r = c.item_of_row-bucket in let f = c.find_row in
@@ -89,11 +88,11 @@ move_row-is_moved-requires-clause-next c = let b = c.args.board.now in let r = c
     let stored = stored_over b r.result.0 r.result.1 _ r.new.pass f.new.pass f.ensures.idles.moved tt r.ensures.stored in
     let word = unpacked c.unpack.result c.unwrap.result c.in-Some.seen.word c.unpack.ensures.some c.unwrap.ensures in
     next_q b r.result.0 r.result.1 c.args.into c.args.cutoff c.args.pass.now f.new.pass c.requires.quiet i first stored c.in-Some.seen c.in-Some.ensures.finds c.unwrap.result word c.if-unwrap-cutoff.false c.take_to_write.new.pass c.if-not-take_to_write.ensures.takes
-    c.in-Ok.to (subst (λ n. IsNextRow b c.args.into n f.new.pass) (sym c.in-Ok.to-is) (next_here b c.args.segment c.args.into c.args.pass.now f.new.pass i.plain c.requires.target _ _ c.in-Ok.ensures.next))
+    c.in-Ok.next.row (next_here b c.args.row.segment c.args.into c.args.pass.now f.new.pass i.plain c.requires.target _ _ c.in-Ok.ensures.next)
 
 pub release-requires : goal.release-requires
 release-requires c = let t = c.move_row-is_moved.ensures.moves in
-    (may_release c.args.board.now c.item_of_row-bucket.result.0 c.item_of_row-bucket.result.1 c.args.into c.in-Ok.to c.move_row-is_moved.result c.take_to_write.new.pass c.move_row-is_moved.new.pass t, (t.bit.bit, t.bit.unwritten, t.bit.undrawn, tt))
+    (may_release c.args.board.now c.item_of_row-bucket.result.0 c.item_of_row-bucket.result.1 c.args.into c.in-Ok.next.row c.move_row-is_moved.result c.take_to_write.new.pass c.move_row-is_moved.new.pass t, (t.bit.bit, t.bit.unwritten, t.bit.undrawn, tt))
 
 pub returns-then-is_moved : goal.returns-then-is_moved
 returns-then-is_moved c = let b = c.args.board.now in let r = c.item_of_row-bucket in let f = c.find_row in
@@ -101,11 +100,11 @@ returns-then-is_moved c = let b = c.args.board.now in let r = c.item_of_row-buck
     let first = has_later c.args.pass.now r.new.pass f.new.pass r.ensures.idles.moved.same r.ensures.idles.moved.steps f.ensures.looks in
     let stored = stored_over b r.result.0 r.result.1 _ r.new.pass f.new.pass f.ensures.idles.moved tt r.ensures.stored in
     let word = unpacked c.unpack.result c.unwrap.result c.in-Some.seen.word c.unpack.ensures.some c.unwrap.ensures in
-    let next = subst (λ n. IsNextRow b c.args.into n f.new.pass) (sym c.in-Ok.to-is) (next_here b c.args.segment c.args.into c.args.pass.now f.new.pass i.plain c.requires.target _ _ c.in-Ok.ensures.next) in
+    let next = next_here b c.args.row.segment c.args.into c.args.pass.now f.new.pass i.plain c.requires.target _ _ c.in-Ok.ensures.next in
     let step = c.release.ensures.step.1 in record {
-      keeps = kept_place b r.result.1 c.args.segment c.args.row c.args.into c.args.cutoff _ _ _ r.ensures.place
+      keeps = kept_place b r.result.1 c.args.row.segment c.args.row.row c.args.into c.args.cutoff _ _ _ r.ensures.place
           (row_moved b r.result.0 r.result.1 c.args.into c.args.cutoff c.args.pass.now f.new.pass c.requires.quiet i first stored c.in-Some.seen c.in-Some.ensures.finds c.unwrap.result word c.if-unwrap-cutoff.false
-          c.take_to_write.new.pass c.if-not-take_to_write.ensures.takes c.in-Ok.to next c.move_row-is_moved.new.pass c.release.new.pass c.if-is_moved.ensures.moves c.release.ensures.did c.release.ensures.free step.plain step.memo);
+          c.take_to_write.new.pass c.if-not-take_to_write.ensures.takes c.in-Ok.next.row next c.move_row-is_moved.new.pass c.release.new.pass c.if-is_moved.ensures.moves c.release.ensures.did c.release.ensures.free step.plain step.memo);
     }
 
 pub returns-else-is_moved : goal.returns-else-is_moved
@@ -115,7 +114,7 @@ returns-else-is_moved c = let b = c.args.board.now in let r = c.item_of_row-buck
     let stored = stored_over b r.result.0 r.result.1 _ r.new.pass f.new.pass f.ensures.idles.moved tt r.ensures.stored in
     let word = unpacked c.unpack.result c.unwrap.result c.in-Some.seen.word c.unpack.ensures.some c.unwrap.ensures in
     let step = c.release.ensures.step.1 in record {
-      keeps = kept_place b r.result.1 c.args.segment c.args.row c.args.into c.args.cutoff _ _ _ r.ensures.place
+      keeps = kept_place b r.result.1 c.args.row.segment c.args.row.row c.args.into c.args.cutoff _ _ _ r.ensures.place
           (row_went b r.result.0 r.result.1 c.args.into c.args.cutoff c.args.pass.now f.new.pass c.requires.quiet i first stored c.in-Some.seen c.in-Some.ensures.finds c.unwrap.result word c.if-unwrap-cutoff.false
-          c.take_to_write.new.pass c.if-not-take_to_write.ensures.takes (has_row b f.new.pass (λ none. false≢true (c.in-Ok.ensures.no_room.1 none))) c.in-Ok.to c.move_row-is_moved.new.pass c.release.new.pass c.if-is_moved.ensures.moves c.release.ensures.did c.release.ensures.free step.plain step.memo);
+          c.take_to_write.new.pass c.if-not-take_to_write.ensures.takes (has_row b f.new.pass (λ none. false≢true (c.in-Ok.ensures.no_room.1 none))) c.in-Ok.next.row c.move_row-is_moved.new.pass c.release.new.pass c.if-is_moved.ensures.moves c.release.ensures.did c.release.ensures.free step.plain step.memo);
     }

@@ -1,7 +1,8 @@
 use Rattle.std.proofs.Common.{◌≡◌, ◌+◌, Some, sym, ap, ◌∙◌, subst, arith}
 use Rattle.segbase.specs.Words.{used_of}
 use Rattle.segstore.proofs.Keeping.{owns_used}
-use Rattle.segevict.proofs.Keeping.{Keeping, keep_barred, keep_done, keep_stopped, keeping_first, keeping_left, keeping_moved}
+use Rattle.segevict.proofs.Keeping.{item_of, Keeping, keep_barred, keep_done, keep_stopped, keeping_first, keeping_left, keeping_moved}
+use Rattle.segevict.specs.declared.retention.KeepRowAnswer.TheVariants as kept
 use Rattle.segevict.proofs.retention.keep_rows.Goals as goal
 use Rattle.segevict.proofs.retention.keep_rows.Goals.{in-Moved, in-Left}
 
@@ -11,9 +12,10 @@ loop-row-init c = keeping_first c.args.board.now c.args.segment c.args.into c.ar
 pub loop-row-preserved : goal.loop-row-preserved
 loop-row-preserved c = let b = c.args.board.now in let s = c.args.segment in let i = c.args.into in let l = c.loop-row in let p = c.args.pass.now in
     let used : used_of p s ≡ Some c.unwrap-used.result = sym c.used.ensures ∙ c.unwrap-used.ensures in
-    let own = owns_used b p s c.unwrap-used.result c.requires.quiet.pass used in elim c.match-keep_row_into.branch [
-      | in-Moved w ↦ subst (λ n. Keeping b s i c.args.cutoff (l.row + 1) n p c.keep_row_into.new.pass) (sym w.kept-is) (keeping_moved b s i c.args.cutoff l.row l.kept p l.pass c.keep_row_into.new.pass own l.invariant c.requires.target.other w.in-Moved.ensures.keeps)
-      | in-Left w ↦ subst (λ n. Keeping b s i c.args.cutoff (l.row + 1) n p c.keep_row_into.new.pass) (sym w.kept-is) (keeping_left b s i c.args.cutoff l.row l.kept p l.pass c.keep_row_into.new.pass own l.invariant w.in-Left.ensures.keeps)
+    let own = owns_used b p s c.unwrap-used.result c.requires.quiet.pass used in
+    let item = item_of b s i c.args.cutoff l.row l.kept p l.pass c.requires.quiet c.requires.in_use c.requires.target l.invariant c.unwrap-used.result used c.keep_row_into.new.pass c.loop-row-test.true in elim c.match-keep_row_into.branch [
+      | in-Moved w ↦ subst (λ n. Keeping b s i c.args.cutoff (l.row + 1) n p c.keep_row_into.new.pass) (sym w.kept-is) (keeping_moved b s i c.args.cutoff l.row l.kept p l.pass c.keep_row_into.new.pass own l.invariant c.requires.target.other w.in-Moved.ensures.keeps (item kept.Moved w.in-Moved.ensures.keeps))
+      | in-Left w ↦ subst (λ n. Keeping b s i c.args.cutoff (l.row + 1) n p c.keep_row_into.new.pass) (sym w.kept-is) (keeping_left b s i c.args.cutoff l.row l.kept p l.pass c.keep_row_into.new.pass own l.invariant w.in-Left.ensures.keeps (item kept.Left w.in-Left.ensures.keeps))
     ]
 
 pub returns-in-NoRoom : goal.returns-in-NoRoom

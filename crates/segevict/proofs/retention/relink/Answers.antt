@@ -5,19 +5,19 @@ use Rattle.segevict.proofs.retention.relink.Goals as goal
 
 pub loop-found-init : goal.loop-found-init
 loop-found-init g c = let r = c.requires in record {
-  relinking = relinking_first c.args.board.now g.named c.args.into c.args.to c.args.target.place c.args.target.word c.args.pass.now r.0 r.1;
+  relinking = relinking_first c.args.board.now g.named c.args.to.segment c.args.to.row c.args.target.place c.args.target.word c.args.pass.now r.0 r.1;
   plain = refl;
   memo = refl;
 }
 
 pub try_to_relink-requires : goal.try_to_relink-requires
 try_to_relink-requires g c = let l = c.loop-found in
-    (l.invariant.relinking.did.moved.pass, relinks_on c.args.board.now g.named c.args.into c.args.to c.args.target.place l.old c.args.pass.now l.pass l.invariant.relinking)
+    (l.invariant.relinking.did.moved.pass, relinks_on c.args.board.now g.named c.args.to.segment c.args.to.row c.args.target.place l.old c.args.pass.now l.pass l.invariant.relinking)
 
 pub loop-found-preserved : goal.loop-found-preserved
 loop-found-preserved g c = let i = c.loop-found.invariant in let t = c.in-Err.ensures.tries in record {
-  relinking = retry_later c.args.board.now g.named.key (relink_event g.named c.args.into c.args.to) c.args.target.place c.loop-found.old c.in-Err.found c.args.pass.now c.loop-found.pass c.try_to_relink.new.pass i.relinking
-      (is_relink g.named c.args.into c.args.to) t.0;
+  relinking = retry_later c.args.board.now g.named.key (relink_event g.named c.args.to.segment c.args.to.row) c.args.target.place c.loop-found.old c.in-Err.found c.args.pass.now c.loop-found.pass c.try_to_relink.new.pass i.relinking
+      (is_relink g.named c.args.to.segment c.args.to.row) t.0;
   plain = t.2 ∙ i.plain;
   memo = t.3 ∙ i.memo;
 }
@@ -25,7 +25,7 @@ loop-found-preserved g c = let i = c.loop-found.invariant in let t = c.in-Err.en
 pub returns : goal.returns
 returns g c = let i = c.loop-found.invariant in let t = c.in_default.ensures.tries in record {
   relinks = record {
-    did = came_about c.args.board.now g.named.key (relink_event g.named c.args.into c.args.to) c.args.target.place c.loop-found.old 0 c.args.pass.now c.loop-found.pass c.try_to_relink.new.pass i.relinking t.did;
+    did = came_about c.args.board.now g.named.key (relink_event g.named c.args.to.segment c.args.to.row) c.args.target.place c.loop-found.old 0 c.args.pass.now c.loop-found.pass c.try_to_relink.new.pass i.relinking t.did;
     plain = t.plain ∙ i.plain;
     memo = t.memo ∙ i.memo;
   };

@@ -1,5 +1,5 @@
 use Rattle.std.proofs.Common.{◌≡◌, ◌-◌, ◌^◌}
-use Rattle.segpass.specs.Words.{memo}
+use Rattle.segstore.specs.Words.{memo}
 use Rattle.segwrite.proofs.Linking.{Retrying}
 use Rattle.segevict.proofs.Relinking.{relink_event}
 use Rattle.segevict.proofs.retention.relink.Given as goal
@@ -9,7 +9,7 @@ ghost-try_to_relink g a = g.named
 
 abbrev pub invariant-loop-found : goal.invariant-loop-found
 invariant-loop-found g l = record {
-  relinking : Retrying l.board g.named.key (relink_event g.named l.into l.to) l.target.place l.old l.fn.pass l.pass;
+  relinking : Retrying l.board g.named.key (relink_event g.named l.to.segment l.to.row) l.target.place l.old l.fn.pass l.pass;
   plain : l.pass.plain ≡ l.fn.pass.plain;
   memo : memo l.pass ≡ memo l.fn.pass;
 }

@@ -3,12 +3,12 @@ use Rattle.segcore.specs.Words.{Row}
 use Rattle.segbase.specs.Words.{Memo}
 use Rattle.segstore.proofs.Looks.{loaded, may_load, reads_then}
 use Rattle.segstore.proofs.Readers.{looks}
-use Rattle.segpass.proofs.Costs.{costs_nothing}
-use Rattle.segpass.proofs.Draws.{reader_draws_none}
+use Rattle.segstore.proofs.Costs.{costs_nothing}
+use Rattle.segstore.proofs.Draws.{reader_draws_none}
 use Rattle.segread.proofs.Answered.{reads_no_bit}
 use Rattle.segread.proofs.HoldCalls.{may_read, has_row, stays}
 use Rattle.segread.proofs.Reading.{read_on}
-use Rattle.segpass.proofs.Still.{no_reader}
+use Rattle.segstore.proofs.Still.{no_reader}
 use Rattle.segread.proofs.held.held_value.Goals as goal
 
 pub row_load-header-requires-clause-may : goal.row_load-header-requires-clause-may

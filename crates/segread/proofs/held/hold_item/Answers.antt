@@ -3,7 +3,7 @@ use Rattle.segmodel.specs.Words.{stirred}
 use Rattle.segword.specs.Words.{item_word}
 use Rattle.segcore.specs.Event as event
 use Rattle.segbase.proofs.Starting.{starts_on}
-use Rattle.segpass.proofs.Still.{steps_to}
+use Rattle.segstore.proofs.Still.{steps_to}
 use Rattle.segstore.proofs.Readers.{enter_then, leave_then, looks}
 use Rattle.segread.specs.declared.held.HoldAnswer.TheVariants.{Busy, Miss}
 use Rattle.segread.specs.Reads.{ReadsBetween}
@@ -12,7 +12,7 @@ use Rattle.segread.proofs.Tries.{found_from}
 use Rattle.segread.proofs.Deadlines.{expired_reads, deadline_lasts}
 use Rattle.std.proofs.Common.{◌≤◌, None, Some, refl, ◌∙◌, arith, rules}
 use Rattle.segbase.specs.Words.{seen, trace}
-use Rattle.segpass.proofs.Idling.{goes_same}
+use Rattle.segstore.proofs.Idling.{goes_same}
 use Rattle.segread.proofs.Answered.{gone_reads}
 use Rattle.segread.proofs.ComingIn.{glances_none, leaves, looked, raises_none, same_view, out_then, few_out}
 use Rattle.segread.proofs.Hits.{hit_readable, read_in, read_value}
@@ -84,8 +84,8 @@ returns-else-hit-now c =
       };
     }
 
-pub returns-in-Absent : goal.returns-in-Absent
-returns-in-Absent c = let b = c.args.board.now in let p = c.args.pass.now in let q = c.scan_for.new.pass in let s = c.in-Absent.ensures.scan in let m = s.0 in let x = s.2 in record {
+pub returns-in-Passed : goal.returns-in-Passed
+returns-in-Passed c = let b = c.args.board.now in let p = c.args.pass.now in let q = c.scan_for.new.pass in let s = c.in-Passed.ensures.scan in let m = s.0 in let x = s.2 in record {
   holds = holds_none b c.args.key.now c.args.now Miss p m q c.requires.pass s.1 x.reads x.tries x.only_scans
       (λ keeps. (keeps, since_look b p m q (λ start. ReadsBetween b.shape c.args.key.now c.args.now (event.seen start) (seen q) None) s.1 x.reads (gone_reads b.shape c.args.key.now c.args.now (trace m) (trace q) x.answer))) (search rules);
 }

@@ -1,8 +1,9 @@
 use Rattle.std.proofs.Common.{None, [], ◌∷◌}
+use Rattle.segcore.specs.Words.{entered, glanced, raised}
 use Rattle.segcore.specs.declared.event.Event.TheVariants.{Left}
 use Rattle.segbase.specs.Words.{number}
-use Rattle.segbase.proofs.Moves.{moved_raised, moved_entered, moved_glanced}
-use Rattle.segpass.proofs.Costs.{costs_nothing}
+use Rattle.segbase.proofs.Moves.{moved_count}
+use Rattle.segstore.proofs.Costs.{costs_nothing}
 use Rattle.segread.proofs.HoldCalls.{moved_to, releases, takes_no_bit, draws_nothing}
 use Rattle.segread.proofs.held.release.Goals as goal
 
@@ -17,7 +18,7 @@ returns c =
         costs_nothing = costs_nothing p q
             (takes_no_bit b own None p r q c.requires.pass left.did.moved (tt, tt) st.plain st.memo set.pass set.view set.sets)
             (draws_nothing b own None p r q c.requires.pass left.did.moved (tt, tt) st.plain st.memo set.pass set.view set.sets)
-            (λ i. (moved_raised b own p q m i, moved_entered b own p q m i, λ bucket. moved_glanced b own p q bucket m i));
+            (λ i. (moved_count b own p q raised m i, moved_count b own p q entered m i, λ bucket. moved_count b own p q (glanced bucket) m i));
         releases = ends.1;
       };
     }

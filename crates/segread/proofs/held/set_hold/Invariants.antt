@@ -1,4 +1,4 @@
-use Rattle.segpass.specs.Words.{memo}
+use Rattle.segstore.specs.Words.{memo}
 use Rattle.segread.proofs.held.set_hold.Given as goal
 
 abbrev pub ghost-remember : goal.ghost-remember

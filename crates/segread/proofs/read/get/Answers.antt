@@ -57,8 +57,8 @@ returns-else-hit-now c =
           (begins_on (trace v.new.pass) (trace t) (trace r) (moved_on b _ v.new.pass t c.count_hit.ensures.reads.reads.moved) left) c.args.now c.if-hit-now.false);
     }
 
-pub returns-in-Absent : goal.returns-in-Absent
-returns-in-Absent c = let b = c.args.board.now in let q = c.scan_for.new.pass in let s = c.in-Absent.ensures.scan in let m = s.0 in let x = s.2 in record {
+pub returns-in-Passed : goal.returns-in-Passed
+returns-in-Passed c = let b = c.args.board.now in let q = c.scan_for.new.pass in let s = c.in-Passed.ensures.scan in let m = s.0 in let x = s.2 in record {
   reads = reads_key b c.args.key.now c.args.pass.now m q s.1 x.reads c.args.draw c.args.now get.Miss c.requires.pass x.tries (glances_none m q x.only_scans) (raises_none m q x.only_scans) (gone_reads b.shape c.args.key.now c.args.now (trace m) (trace q) x.answer);
 }
 

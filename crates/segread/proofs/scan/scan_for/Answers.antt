@@ -1,4 +1,4 @@
-use Rattle.std.proofs.Common.{◌≡◌, ◌%◌, ◌∙◌, subst}
+use Rattle.std.proofs.Common.{◌∙◌, ap, subst}
 use Rattle.segmodel.specs.Words.{bucket_of}
 use Rattle.segbase.specs.Words.{Pass, position, trace}
 use Rattle.segread.specs.Looking.{AfterLook}
@@ -8,9 +8,9 @@ use Rattle.segread.proofs.scan.scan_for.Goals as goal
 
 pub returns : goal.returns
 returns c =
-    let b = c.args.board.now in let p = c.args.pass.now in let v = c.scan_from in let bucket = c.bucket_of.result in
-    let home : bucket ≡ bucket_of b.shape c.args.key.now = c.bucket_of.ensures ∙ (λ i. c.hash-hash.ensures i % (c.shape.ensures i).buckets) in
-    let scan = subst (λ k. AfterLook b p (λ (first : Pass). ScansOn b k (place_of bucket 1) 0 v.result first v.new.pass)) c.new.ensures.value v.ensures.scan in
+    let b = c.args.board.now in let p = c.args.pass.now in let v = c.scan_from in let s = c.of-sought in let bucket = s.result.bucket in
+    let home = s.ensures.sought.bucket ∙ ap (bucket_of b.shape) s.ensures.key in
+    let scan = subst (λ k. AfterLook b p (λ (first : Pass). ScansOn b k (place_of bucket 1) 0 v.result first v.new.pass)) s.ensures.key v.ensures.scan in
     let m = scan.0 in let is = scan.1.look.did.moved.pass in let from = position b.shape (trace m) (place_of bucket 1) in
     let x = whole_scan b c.args.key.now from v.result m v.new.pass (first_place b.shape c.args.key.now bucket (trace m) c.requires.pass.pass.valid home).1 is scan.2.0 scan.2.1 in record {
       reads = v.ensures.reads;

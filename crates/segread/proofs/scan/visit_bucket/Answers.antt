@@ -1,53 +1,53 @@
-use Rattle.std.proofs.Common.{◌≡◌, ◌+◌, refl, subst, inl, arith}
+use Rattle.std.proofs.Common.{◌≡◌, ◌+◌, subst, arith}
 use Rattle.segbase.specs.Words.{position, trace}
 use Rattle.segstore.proofs.Readers.{stays}
-use Rattle.segread.specs.declared.scan.Way.TheVariants.{Passed}
+use Rattle.segread.specs.declared.scan.Scan.TheVariants.{Passed}
 use Rattle.segread.specs.Scanning.{place_of, IsPlaceOf}
 use Rattle.segread.proofs.Looking.{HasBegun, along_from, along_to, begun_none, begun_by, last_there, went}
-use Rattle.segread.proofs.Scans.{on_way, scanned_next, way_then, way_else, next_of}
+use Rattle.segread.proofs.Scans.{inner_next, scan_later, scanned_next, way_then, way_else, next_of}
 use Rattle.segread.proofs.scan.visit_bucket.Goals as goal
 
 pub loop-word-init : goal.loop-word-init
 loop-word-init c = let b = c.args.board.now in let p = c.args.pass.now in record {
-  begun = begun_none b c.args.key.now (position b.shape (trace p) c.args.start) c.args.tries p (stays b p c.requires.pass) c.requires.tries;
+  begun = begun_none b c.args.sought.now.key (position b.shape (trace p) c.args.start) c.args.tries p (stays b p c.requires.pass) c.requires.tries;
   place = c.requires.start;
 }
 
 pub returns-in_default-clause-reads : goal.returns-in_default-clause-reads
-returns-in_default-clause-reads c = let v = c.visit_word in on_way c.args.board.now v.result c.args.pass.now c.loop-word.pass v.new.pass c.loop-word.invariant.begun.reads v.ensures.reads
+returns-in_default-clause-reads c = let v = c.visit_word in scan_later c.args.board.now v.result c.args.pass.now c.loop-word.pass v.new.pass c.loop-word.invariant.begun.reads v.ensures.reads
 
 pub returns-in_default-clause-way : goal.returns-in_default-clause-way
 returns-in_default-clause-way c =
-    let b = c.args.board.now in let z = b.shape in let key = c.args.key.now in let p = c.args.pass.now in let q = c.loop-word.pass in let v = c.visit_word in let i = c.loop-word.invariant in
+    let b = c.args.board.now in let z = b.shape in let key = c.args.sought.now.key in let p = c.args.pass.now in let q = c.loop-word.pass in let v = c.visit_word in let i = c.loop-word.invariant in
     let here = place_of c.args.start.bucket c.loop-word.word in let from = position z (trace p) c.args.start in
     let w = went b key from c.args.tries c.loop-word.tries here p q _ i.begun i.place (λ m l. along_from b key q m l here here c.loop-word.tries v.result v.new.pass i.place i.place) v.ensures.way in
     let mid = position z (trace w.middle) here in
     along_to b key c.args.start c.args.tries v.result p w.first v.new.pass w.look c.requires.start
-    (on_way b v.result w.first w.middle v.new.pass w.scanned.reads w.is.0)
+    (scan_later b v.result w.first w.middle v.new.pass w.scanned.reads w.is.0)
     (way_else z key from (mid + 1) _ here (place_of c.args.start.bucket 7) c.args.tries v.result w.first v.new.pass c.in_default.not-Passed
     (way_then b key from mid c.args.tries c.loop-word.tries w.first w.middle v.new.pass w.scanned (mid + 1) here v.result w.is.1))
 
 pub loop-word-preserved : goal.loop-word-preserved
 loop-word-preserved c =
-    let b = c.args.board.now in let z = b.shape in let key = c.args.key.now in let p = c.args.pass.now in let q = c.loop-word.pass in let v = c.visit_word in let r = v.new.pass in let i = c.loop-word.invariant in let x = c.in-Passed in
+    let b = c.args.board.now in let z = b.shape in let key = c.args.sought.now.key in let p = c.args.pass.now in let q = c.loop-word.pass in let v = c.visit_word in let r = v.new.pass in let i = c.loop-word.invariant in let x = c.in-Passed in
     let here = place_of c.args.start.bucket c.loop-word.word in let next = place_of c.args.start.bucket (c.loop-word.word + 1) in let from = position z (trace p) c.args.start in
-    let w = went b key from c.args.tries c.loop-word.tries here p q _ i.begun i.place (λ m l. along_from b key q m l here here c.loop-word.tries (Passed x.field-0 x.counted) r i.place i.place) x.ensures.way in
+    let w = went b key from c.args.tries c.loop-word.tries here p q _ i.begun i.place (λ m l. along_from b key q m l here here c.loop-word.tries (Passed x.word x.counted) r i.place i.place) x.ensures.way in
     let mid = position z (trace w.middle) here in
-    let n = next_of z key here mid x.field-0 (trace w.middle) (trace r) c.requires.pass.valid x.ensures.reads.reads.moved.pass.lawful w.place w.is.1.passed next (inl (c.loop-word-test.true, refl)) in record {
-      begun = begun_by b key from (position z (trace r) next) c.args.tries x.counted p w.first r w.look (scanned_next b key from mid c.args.tries c.loop-word.tries w.first w.middle r w.scanned (mid + 1) x.counted here next x.field-0 w.is.0 w.is.1 n);
+    let n = next_of z key here mid x.word (trace w.middle) (trace r) c.requires.pass.valid x.ensures.reads.reads.moved.pass.lawful w.place w.is.1.passed next (inner_next z here x.word c.loop-word-test.true) in record {
+      begun = begun_by b key from (position z (trace r) next) c.args.tries x.counted p w.first r w.look (scanned_next b key from mid c.args.tries c.loop-word.tries w.first w.middle r w.scanned (mid + 1) x.counted here next x.word w.is.0 w.is.1 n);
       place = n.place;
     }
 
 pub returns-clause-reads : goal.returns-clause-reads
-returns-clause-reads c = let v = c.visit_word-2 in on_way c.args.board.now v.result c.args.pass.now c.loop-word.pass v.new.pass c.loop-word.invariant.begun.reads v.ensures.reads
+returns-clause-reads c = let v = c.visit_word-2 in scan_later c.args.board.now v.result c.args.pass.now c.loop-word.pass v.new.pass c.loop-word.invariant.begun.reads v.ensures.reads
 
 pub visit_word-requires-2-clause-place : goal.visit_word-requires-2-clause-place
 visit_word-requires-2-clause-place c = let i = c.loop-word.invariant in let most = i.place.0.in_table.2 in let over = c.loop-word-test.false in
-    subst (λ w. IsPlaceOf c.args.board.now.shape (trace c.loop-word.pass) c.args.key.now (place_of c.args.start.bucket w)) (let e : c.loop-word.word ≡ 7 = omega arith in e) i.place
+    subst (λ w. IsPlaceOf c.args.board.now.shape (trace c.loop-word.pass) c.args.sought.now.key (place_of c.args.start.bucket w)) (let e : c.loop-word.word ≡ 7 = omega arith in e) i.place
 
 pub returns-clause-way : goal.returns-clause-way
 returns-clause-way c =
-    let b = c.args.board.now in let z = b.shape in let key = c.args.key.now in let p = c.args.pass.now in let q = c.loop-word.pass in let v = c.visit_word-2 in let i = c.loop-word.invariant in
+    let b = c.args.board.now in let z = b.shape in let key = c.args.sought.now.key in let p = c.args.pass.now in let q = c.loop-word.pass in let v = c.visit_word-2 in let i = c.loop-word.invariant in
     let last = place_of c.args.start.bucket 7 in let from = position z (trace p) c.args.start in
     let seven : c.loop-word.word ≡ 7 = let most = i.place.0.in_table.2 in let over = c.loop-word-test.false in omega arith in
     let begun = subst (λ w. HasBegun b key from (position z (trace q) (place_of c.args.start.bucket w)) c.args.tries c.loop-word.tries p q) seven i.begun in
@@ -55,6 +55,6 @@ returns-clause-way c =
     let w = went b key from c.args.tries c.loop-word.tries last p q _ begun place (λ m l. along_from b key q m l last last c.loop-word.tries v.result v.new.pass place place) v.ensures.way in
     let mid = position z (trace w.middle) last in
     along_to b key c.args.start c.args.tries v.result p w.first v.new.pass w.look c.requires.start
-    (on_way b v.result w.first w.middle v.new.pass w.scanned.reads w.is.0)
+    (scan_later b v.result w.first w.middle v.new.pass w.scanned.reads w.is.0)
     (last_there b key c.args.start p w.first w.middle from c.args.tries v.result v.new.pass w.look w.scanned.reads c.requires.start
     (way_then b key from mid c.args.tries c.loop-word.tries w.first w.middle v.new.pass w.scanned (mid + 1) last v.result w.is.1))

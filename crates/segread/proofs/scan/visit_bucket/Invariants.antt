@@ -5,6 +5,6 @@ use Rattle.segread.proofs.scan.visit_bucket.Given as goal
 
 abbrev pub invariant-loop-word : goal.invariant-loop-word
 invariant-loop-word l = let z = l.board.shape in let here = place_of l.start.bucket l.word in record {
-  begun : HasBegun l.board l.key (position z (trace l.fn.pass) l.start) (position z (trace l.pass) here) l.fn.tries l.tries l.fn.pass l.pass;
-  place : IsPlaceOf z (trace l.pass) l.key here;
+  begun : HasBegun l.board l.sought.key (position z (trace l.fn.pass) l.start) (position z (trace l.pass) here) l.fn.tries l.tries l.fn.pass l.pass;
+  place : IsPlaceOf z (trace l.pass) l.sought.key here;
 }

@@ -6,7 +6,7 @@ use Rattle.segstore.proofs.Words.{chained_later}
 use Rattle.segstore.proofs.Seconds.{looked_at}
 use Rattle.segstore.proofs.Readers.{looks, stays, reader_then, enter_then}
 use Rattle.segread.proofs.ComingIn.{tries_none, tries_once}
-use Rattle.segread.proofs.Tries.{counts_none, trying_first, trying_on, tried, saw_here, passed_word, passed_other, may_enter}
+use Rattle.segread.proofs.Tries.{counts_none, trying_first, trying_on, tried, saw_here, passed_word, passed_other, may_enter, tried_as}
 use Rattle.segread.proofs.Looking.{looks_first, still_of}
 use Rattle.segread.proofs.Scans.{in_chain, hit_here, word_passed, word_tried, word_given_up}
 use Rattle.segread.proofs.scan.visit_word.Goals as goal
@@ -14,22 +14,22 @@ use Rattle.segread.proofs.scan.visit_word.Goals as goal
 pub returns-in_default-clause-reads : goal.returns-in_default-clause-reads
 returns-in_default-clause-reads c = looks c.args.board.now _ c.look-word.new.pass (looked_at c.args.board.now c.args.pass.now c.look-word.new.pass c.args.place c.look-word.result c.look-word.ensures.step)
 
-pub try_item-requires-clause-place : goal.try_item-requires-clause-place
-try_item-requires-clause-place c = let b = c.args.board.now in let i = c.loop-count.invariant in let m = i.reads.reads.moved in
+pub try_item-keyed-requires-clause-place : goal.try_item-keyed-requires-clause-place
+try_item-keyed-requires-clause-place c = let b = c.args.board.now in let i = c.loop-count.invariant in let m = i.reads.reads.moved in
     chained_later b.shape (trace i.first) (trace c.loop-count.pass) c.args.place m.pass.lawful (moved_on b _ i.first c.loop-count.pass m) i.place.0
 
-pub try_item-requires-clause-may : goal.try_item-requires-clause-may
-try_item-requires-clause-may c = let i = c.loop-count.invariant in
+pub try_item-keyed-requires-clause-may : goal.try_item-keyed-requires-clause-may
+try_item-keyed-requires-clause-may c = let i = c.loop-count.invariant in
     may_enter c.args.board.now c.args.pass.now c.loop-count.pass c.args.place c.loop-count.item (trace i.first) i.reads.reads.moved.pass c.requires.reader i.whole i.place.0 i.trying.saw
 
 pub returns-in-Same-clause-reads : goal.returns-in-Same-clause-reads
-returns-in-Same-clause-reads c = enter_then c.args.board.now c.args.pass.now c.loop-count.pass c.try_item.new.pass c.in-Same.item.seg c.loop-count.invariant.whole c.in-Same.ensures.reads
+returns-in-Same-clause-reads c = enter_then c.args.board.now c.args.pass.now c.loop-count.pass c.try_item-keyed.new.pass c.in-Same.item.seg c.loop-count.invariant.whole (tried_as c.args.board.now c.args.place c.loop-count.item c.args.sought.now.key c.loop-count.pass c.try_item-keyed.new.pass c.try_item-keyed.result.0 c.try_item-keyed.result.1 c.try_item-keyed.ensures.tries _ c.in-Same.is).reads
 
 pub returns-in-Other-clause-reads : goal.returns-in-Other-clause-reads
-returns-in-Other-clause-reads c = reader_then c.args.board.now c.args.pass.now c.loop-count.pass c.try_item.new.pass c.loop-count.invariant.whole c.in-Other.ensures.reads
+returns-in-Other-clause-reads c = reader_then c.args.board.now c.args.pass.now c.loop-count.pass c.try_item-keyed.new.pass c.loop-count.invariant.whole (tried_as c.args.board.now c.args.place c.loop-count.item c.args.sought.now.key c.loop-count.pass c.try_item-keyed.new.pass c.try_item-keyed.result.0 c.try_item-keyed.result.1 c.try_item-keyed.ensures.tries _ c.in-Other.is).reads
 
 pub returns-in-None-clause-reads : goal.returns-in-None-clause-reads
-returns-in-None-clause-reads c = reader_then c.args.board.now c.args.pass.now c.loop-count.pass c.try_item.new.pass c.loop-count.invariant.whole c.in-Changed.ensures.reads
+returns-in-None-clause-reads c = reader_then c.args.board.now c.args.pass.now c.loop-count.pass c.try_item-keyed.new.pass c.loop-count.invariant.whole (tried_as c.args.board.now c.args.place c.loop-count.item c.args.sought.now.key c.loop-count.pass c.try_item-keyed.new.pass c.try_item-keyed.result.0 c.try_item-keyed.result.1 c.try_item-keyed.ensures.tries _ c.in-Changed.is).reads
 
 pub loop-count-init : goal.loop-count-init
 loop-count-init c = let b = c.args.board.now in let p = c.args.pass.now in let m = c.look-word.new.pass in let l = c.look-word.ensures in let x = c.in-Some.ensures.some in let at = position b.shape (trace m) c.args.place in
@@ -37,27 +37,27 @@ loop-count-init c = let b = c.args.board.now in let p = c.args.pass.now in let m
       whole = looks b p m first.look;
       first = m;
       look = first;
-      place = still_of b c.args.key.now p m first c.args.place c.requires.place;
+      place = still_of b c.args.sought.now.key p m first c.args.place c.requires.place;
       reads = stays b m l.did.moved.pass;
       tried = tries_none at c.args.tries m;
-      trying = trying_first b.shape c.args.key.now c.args.place c.args.tries c.in-Some.item c.look-word.result (trace m) (trace m) (saw_here b p m c.args.place c.look-word.result l.did l.found) x.0 (x.1 ∙ c.requires.tag);
+      trying = trying_first b.shape c.args.sought.now.key c.args.place c.args.tries c.in-Some.item c.look-word.result (trace m) (trace m) (saw_here b p m c.args.place c.look-word.result l.did l.found) x.0 (x.1 ∙ c.requires.sought.tag);
     }
 
 pub loop-count-preserved : goal.loop-count-preserved
-loop-count-preserved c = let b = c.args.board.now in let i = c.loop-count.invariant in let k = c.in-Changed.ensures in let x = c.in-Some-item_of_tag.ensures.some in
-    let p = i.first in let q = c.loop-count.pass in let r = c.try_item.new.pass in let at = position b.shape (trace p) c.args.place in record {
+loop-count-preserved c = let b = c.args.board.now in let i = c.loop-count.invariant in let k = tried_as c.args.board.now c.args.place c.loop-count.item c.args.sought.now.key c.loop-count.pass c.try_item-keyed.new.pass c.try_item-keyed.result.0 c.try_item-keyed.result.1 c.try_item-keyed.ensures.tries _ c.in-Changed.is in let x = c.in-Some-item_of_tag.ensures.some in
+    let p = i.first in let q = c.loop-count.pass in let r = c.try_item-keyed.new.pass in let at = position b.shape (trace p) c.args.place in record {
       whole = reader_then b c.args.pass.now q r i.whole k.reads;
       first = p;
       look = i.look;
       place = i.place;
       reads = reader_then b p q r i.reads k.reads;
       tried = tries_once at at c.args.tries c.loop-count.count p q r i.tried k.once;
-      trying = trying_on b.shape c.args.key.now c.args.place c.args.tries c.loop-count.item c.loop-count.count c.in-Some-item_of_tag.other c.in-Changed.now (trace p) (trace q) (trace r) c.requires.pass.valid i.place
-          (moved_on b _ p q i.reads.reads.moved) i.trying k.keyed.0 k.keyed.1 x.0 (x.1 ∙ c.requires.tag);
+      trying = trying_on b.shape c.args.sought.now.key c.args.place c.args.tries c.loop-count.item c.loop-count.count c.in-Some-item_of_tag.other c.in-Changed.word (trace p) (trace q) (trace r) c.requires.pass.valid i.place
+          (moved_on b _ p q i.reads.reads.moved) i.trying k.keyed.0 k.keyed.1 x.0 (x.1 ∙ c.requires.sought.tag);
     }
 
 pub returns-in_default-clause-way : goal.returns-in_default-clause-way
-returns-in_default-clause-way c = let b = c.args.board.now in let p = c.args.pass.now in let m = c.look-word.new.pass in let l = c.look-word.ensures in let key = c.args.key.now in let at = position b.shape (trace m) c.args.place in
+returns-in_default-clause-way c = let b = c.args.board.now in let p = c.args.pass.now in let m = c.look-word.new.pass in let l = c.look-word.ensures in let key = c.args.sought.now.key in let at = position b.shape (trace m) c.args.place in
     let first = looks_first b p m c.args.place c.look-word.result l.step in let place = still_of b key p m first c.args.place c.requires.place in (
       m,
       first,
@@ -68,22 +68,22 @@ returns-in_default-clause-way c = let b = c.args.board.now in let p = c.args.pas
           up = omega arith;
           counts = counts_none b.shape key c.args.tries (trace m) (trace m) ([], refl);
           tried = word_passed at c.args.tries c.args.tries m m (in_chain b.shape (trace m) c.args.place l.did.moved.pass.lawful place.0).0 (tries_none at c.args.tries m);
-          passed = passed_word b.shape key c.args.place c.look-word.result c.args.tag (trace m) (trace m) (trace m) c.requires.pass.valid place ([], refl) (saw_here b p m c.args.place c.look-word.result l.did l.found) c.requires.tag (c.in_default.ensures.none refl);
+          passed = passed_word b.shape key c.args.place c.look-word.result c.args.sought.now.tag (trace m) (trace m) (trace m) c.requires.pass.valid place ([], refl) (saw_here b p m c.args.place c.look-word.result l.did l.found) c.requires.sought.tag (c.in_default.ensures.none refl);
         },
       ),
     )
 
 pub returns-in-Same-clause-way : goal.returns-in-Same-clause-way
-returns-in-Same-clause-way c = let b = c.args.board.now in let i = c.loop-count.invariant in let p = i.first in let q = c.loop-count.pass in let r = c.try_item.new.pass in let x = c.in-Same.ensures in
+returns-in-Same-clause-way c = let b = c.args.board.now in let i = c.loop-count.invariant in let p = i.first in let q = c.loop-count.pass in let r = c.try_item-keyed.new.pass in let x = tried_as c.args.board.now c.args.place c.loop-count.item c.args.sought.now.key c.loop-count.pass c.try_item-keyed.new.pass c.try_item-keyed.result.0 c.try_item-keyed.result.1 c.try_item-keyed.ensures.tries _ c.in-Same.is in
     let reads = enter_then b p q r c.in-Same.item.seg i.reads x.reads in (
       p,
       i.look,
-      (reads, hit_here b c.args.key.now c.args.place c.loop-count.item c.in-Same.item c.in-Same.header c.in-Same.deadline c.args.tries c.loop-count.count p q r i.place i.reads reads c.loop-count-test.true i.tried i.trying x.once x.keyed.1 x.deadline),
+      (reads, hit_here b c.args.sought.now.key c.args.place c.loop-count.item c.in-Same.item c.in-Same.header c.try_item-keyed.result.1 c.args.tries c.loop-count.count p q r i.place i.reads reads c.loop-count-test.true i.tried i.trying x.once x.keyed.1 x.deadline),
     )
 
 pub returns-in-Other-clause-way : goal.returns-in-Other-clause-way
-returns-in-Other-clause-way c = let b = c.args.board.now in let i = c.loop-count.invariant in let k = c.in-Other.ensures in let key = c.args.key.now in
-    let p = i.first in let q = c.loop-count.pass in let r = c.try_item.new.pass in (
+returns-in-Other-clause-way c = let b = c.args.board.now in let i = c.loop-count.invariant in let k = tried_as c.args.board.now c.args.place c.loop-count.item c.args.sought.now.key c.loop-count.pass c.try_item-keyed.new.pass c.try_item-keyed.result.0 c.try_item-keyed.result.1 c.try_item-keyed.ensures.tries _ c.in-Other.is in let key = c.args.sought.now.key in
+    let p = i.first in let q = c.loop-count.pass in let r = c.try_item-keyed.new.pass in (
       p,
       i.look,
       (
@@ -100,8 +100,8 @@ returns-in-Other-clause-way c = let b = c.args.board.now in let i = c.loop-count
     )
 
 pub returns-in-None-clause-way : goal.returns-in-None-clause-way
-returns-in-None-clause-way c = let b = c.args.board.now in let i = c.loop-count.invariant in let k = c.in-Changed.ensures in let key = c.args.key.now in
-    let p = i.first in let q = c.loop-count.pass in let r = c.try_item.new.pass in (
+returns-in-None-clause-way c = let b = c.args.board.now in let i = c.loop-count.invariant in let k = tried_as c.args.board.now c.args.place c.loop-count.item c.args.sought.now.key c.loop-count.pass c.try_item-keyed.new.pass c.try_item-keyed.result.0 c.try_item-keyed.result.1 c.try_item-keyed.ensures.tries _ c.in-Changed.is in let key = c.args.sought.now.key in
+    let p = i.first in let q = c.loop-count.pass in let r = c.try_item-keyed.new.pass in (
       p,
       i.look,
       (
@@ -111,7 +111,7 @@ returns-in-None-clause-way c = let b = c.args.board.now in let i = c.loop-count.
           up = let on = i.tried.onward in omega arith;
           counts = tried b.shape key c.args.place c.args.tries c.loop-count.item c.loop-count.count (trace p) (trace q) (trace r) (moved_on b _ q r k.reads.reads.moved) i.trying;
           tried = word_tried (position b.shape (trace p) c.args.place) c.args.tries c.loop-count.count p q r (in_chain b.shape (trace p) c.args.place i.look.look.did.moved.pass.lawful i.place.0).0 i.tried k.once;
-          passed = passed_word b.shape key c.args.place c.in-Changed.now c.args.tag (trace p) (trace q) (trace r) c.requires.pass.valid i.place (moved_on b _ p q i.reads.reads.moved) k.keyed.0 c.requires.tag (c.in-None.ensures.none refl);
+          passed = passed_word b.shape key c.args.place c.in-Changed.word c.args.sought.now.tag (trace p) (trace q) (trace r) c.requires.pass.valid i.place (moved_on b _ p q i.reads.reads.moved) k.keyed.0 c.requires.sought.tag (c.in-None.ensures.none refl);
         },
       ),
     )
@@ -121,7 +121,7 @@ returns-clause-reads c = c.loop-count.invariant.whole
 
 pub returns-clause-way : goal.returns-clause-way
 returns-clause-way c = let b = c.args.board.now in let i = c.loop-count.invariant in let p = i.first in let q = c.loop-count.pass in let over = c.loop-count-test.false in let end = c.loop-count.auto.count-end in
-    let all = tried b.shape c.args.key.now c.args.place c.args.tries c.loop-count.item c.loop-count.count (trace p) (trace q) (trace q) ([], refl) i.trying in (
+    let all = tried b.shape c.args.sought.now.key c.args.place c.args.tries c.loop-count.item c.loop-count.count (trace p) (trace q) (trace q) ([], refl) i.trying in (
       p,
       i.look,
       (

@@ -10,8 +10,8 @@ invariant-loop-count l = record {
   whole : IsReader l.board l.fn.pass l.pass;
   first : Pass;
   look : LooksFirst l.board l.fn.pass first;
-  place : IsPlaceOf l.board.shape (trace first) l.key l.place;
+  place : IsPlaceOf l.board.shape (trace first) l.sought.key l.place;
   reads : IsReader l.board first l.pass;
   tried : Tries (position l.board.shape (trace first) l.place) (position l.board.shape (trace first) l.place) l.tries l.count first l.pass;
-  trying : Trying l.board.shape l.key l.place l.tries l.item l.count (trace first) (trace l.pass);
+  trying : Trying l.board.shape l.sought.key l.place l.tries l.item l.count (trace first) (trace l.pass);
 }

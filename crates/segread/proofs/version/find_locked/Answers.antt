@@ -40,8 +40,8 @@ returns-else-hit-now-clause-answer c = let b = c.args.board.now in let f = c.in-
   },
 )
 
-pub returns-in-Absent-clause-answer : goal.returns-in-Absent-clause-answer
-returns-in-Absent-clause-answer c = let s = c.in-Absent.ensures.scan in let m = s.0 in let x = s.2 in (
+pub returns-in-Passed-clause-answer : goal.returns-in-Passed-clause-answer
+returns-in-Passed-clause-answer c = let s = c.in-Passed.ensures.scan in let m = s.0 in let x = s.2 in (
   m,
   s.1,
   record { reads = x.reads; tries = x.tries; only_scans = x.only_scans; answer = gone_reads c.args.board.now.shape c.args.key.now c.args.now (trace m) (trace c.scan_for.new.pass) x.answer },

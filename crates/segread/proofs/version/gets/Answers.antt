@@ -17,6 +17,6 @@ returns-then-eq c = let b = c.args.board.now in let key = c.args.key.now in let 
 pub returns : goal.returns
 returns c = let b = c.args.board.now in let key = c.args.key.now in let p = c.args.pass.now in let v = c.find_version in let q = v.new.pass in
     let unlocked : (value : List ℕ) (version : ℕ) → v.result ≡ gets.Found value version → locked_of p ≢ Some (bucket_of b.shape key) = search rules in
-    let s = subst (λ k. AfterLook b p (λ (first : Pass). FindsVersion b k c.args.draw c.args.now v.result first q)) c.new.ensures.value v.ensures.answer in let m = s.0 in let x = s.2 in record {
+    let s = subst (λ k. AfterLook b p (λ (first : Pass). FindsVersion b k c.args.draw c.args.now v.result first q)) c.of-sought.ensures.key v.ensures.answer in let m = s.0 in let x = s.2 in record {
       reads = reads_version b key p m q s.1 x.reads c.args.draw c.args.now v.result c.requires.pass x.tries x.glances x.raises x.answer unlocked;
     }

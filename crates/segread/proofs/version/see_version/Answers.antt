@@ -10,36 +10,36 @@ use Rattle.segread.proofs.version.see_version.Goals as goal
 
 pub value_of_row-value-requires-clause-readable : goal.value_of_row-value-requires-clause-readable
 value_of_row-value-requires-clause-readable c = let f = c.in-Found in let hit = f.hit in let s = f.ensures.scan in
-    hit_readable c.args.board.now s.0 c.scan_from.new.pass hit.place hit.item hit.header c.args.key.now s.2.0 s.2.1.found
+    hit_readable c.args.board.now s.0 c.scan_from.new.pass hit.place hit.item hit.header c.args.call.now.sought.key s.2.0 s.2.1.found
 
-pub returns-else-hit-now : goal.returns-else-hit-now
-returns-else-hit-now c =
-    let b = c.args.board.now in let z = b.shape in let p = c.args.pass.now in let key = c.args.key.now in let f = c.in-Found in let s = f.ensures.scan in let m = s.0 in let v = c.value_of_row-value in let g = c.glance-info in let l = c.look-word in let step = g.ensures.step in record {
+pub returns-else-hit-call : goal.returns-else-hit-call
+returns-else-hit-call c =
+    let b = c.args.board.now in let z = b.shape in let p = c.args.pass.now in let key = c.args.call.now.sought.key in let f = c.in-Found in let s = f.ensures.scan in let m = s.0 in let v = c.value_of_row-value in let g = c.glance-info in let l = c.look-word in let step = g.ensures.step in record {
       sight = (
         m,
         s.1,
-        is_seen b key c.args.now (position z (trace m) c.args.place) c.args.tries f.hit v.result g.result l.result m c.scan_from.new.pass v.new.pass g.new.pass l.new.pass c.requires.pass.valid c.requires.versions
+        is_seen b key c.args.call.now.clock (position z (trace m) c.args.place) c.args.tries f.hit v.result g.result l.result m c.scan_from.new.pass v.new.pass g.new.pass l.new.pass c.requires.pass.valid c.requires.versions
             (still_no_bit b key [] p m s.1.look.did.moved tt c.requires.free)
-            s.2.0 s.2.1 v.ensures.reads v.ensures.value (subst (λ n. Glances b n g.result v.new.pass g.new.pass) c.requires.home g.ensures.glances) step.plain step.memo
-            (subst (λ n. g.result.version ≡ (z.first_version + (bucket_after z (trace g.new.pass) n).version) % 2 ^ 32) c.requires.home g.ensures.version)
-            (looked_at b g.new.pass l.new.pass f.hit.place l.result l.ensures.step) l.ensures.found c.if-hit-now.false,
+            s.2.0 s.2.1 v.ensures.reads v.ensures.value (subst (λ n. Glances b n g.result v.new.pass g.new.pass) c.requires.sought.bucket g.ensures.glances) step.plain step.memo
+            (subst (λ n. g.result.version ≡ (z.first_version + (bucket_after z (trace g.new.pass) n).version) % 2 ^ 32) c.requires.sought.bucket g.ensures.version)
+            (looked_at b g.new.pass l.new.pass f.hit.place l.result l.ensures.step) l.ensures.found c.if-hit-call.false,
       );
     }
 
-pub returns-then-hit-now : goal.returns-then-hit-now
-returns-then-hit-now c = let b = c.args.board.now in let f = c.in-Found in let s = f.ensures.scan in let m = s.0 in
+pub returns-then-hit-call : goal.returns-then-hit-call
+returns-then-hit-call c = let b = c.args.board.now in let f = c.in-Found in let s = f.ensures.scan in let m = s.0 in
     record {
       sight = (
         m,
         s.1,
-        expires_missed b c.args.key.now c.args.now (position b.shape (trace m) c.args.place) c.args.tries f.hit m c.scan_from.new.pass c.leave_segment.new.pass s.2.0 s.2.1 c.leave_segment.ensures
-            (let past = c.if-hit-now.true in omega arith),
+        expires_missed b c.args.call.now.sought.key c.args.call.now.clock (position b.shape (trace m) c.args.place) c.args.tries f.hit m c.scan_from.new.pass c.leave_segment.new.pass s.2.0 s.2.1 c.leave_segment.ensures
+            (let past = c.if-hit-call.true in omega arith),
       );
     }
 
-pub returns-in-Absent : goal.returns-in-Absent
-returns-in-Absent c = let b = c.args.board.now in let s = c.in-Absent.ensures.scan in let m = s.0 in
-    record { sight = (m, s.1, (s.2.0, ends_missed b c.args.key.now c.args.now (position b.shape (trace m) c.args.place) c.args.tries m c.scan_from.new.pass s.2.1)) }
+pub returns-in-Passed : goal.returns-in-Passed
+returns-in-Passed c = let b = c.args.board.now in let s = c.in-Passed.ensures.scan in let m = s.0 in
+    record { sight = (m, s.1, (s.2.0, ends_missed b c.args.call.now.sought.key c.args.call.now.clock (position b.shape (trace m) c.args.place) c.args.tries m c.scan_from.new.pass s.2.1)) }
 
 pub returns-in-Busy : goal.returns-in-Busy
 returns-in-Busy c = record { sight = c.in-Busy.ensures.scan }

@@ -8,7 +8,7 @@ use Rattle.segwrite.proofs.find.is_item_of.Goals as goal
 
 pub row_of_key-requires-clause-readable : goal.row_of_key-requires-clause-readable
 row_of_key-requires-clause-readable c = let b = c.args.board.now in let r = c.requires in
-    item_readable b _ _ _ c.in-Some.item r.pass r.bit (named b.shape _ _ _ c.args.word c.in-Some.item r.pass.valid r.pass.lawful r.word c.in-Some.ensures.some)
+    item_readable b _ _ _ c.in-Some.item r.pass r.bit (named b.shape _ _ _ c.args.target.word c.in-Some.item r.pass.valid r.pass.lawful r.word c.in-Some.ensures.some)
 
 pub returns-in-Some-clause-idles : goal.returns-in-Some-clause-idles
 returns-in-Some-clause-idles c = looked_idles _ _ _ c.row_of_key.ensures.reads.looked
@@ -16,9 +16,9 @@ returns-in-Some-clause-idles c = looked_idles _ _ _ c.row_of_key.ensures.reads.l
 pub returns-in-Some-clause-is : goal.returns-in-Some-clause-is
 returns-in-Some-clause-is c = let b = c.args.board.now in let r = c.requires in
     let i = looked_idles b c.args.pass.now c.row_of_key.new.pass c.row_of_key.ensures.reads.looked in
-    let name = named b.shape _ _ _ c.args.word c.in-Some.item r.pass.valid r.pass.lawful r.word c.in-Some.ensures.some in
-    let later = named_later b _ _ _ c.args.place c.in-Some.item i r.bit r.chain name in
-    let tells = row_tells b.shape _ _ _ c.args.key.now c.in-Some.item (IsSome c.row_of_key.result) i.moved.pass.lawful later c.row_of_key.ensures.key in
+    let name = named b.shape _ _ _ c.args.target.word c.in-Some.item r.pass.valid r.pass.lawful r.word c.in-Some.ensures.some in
+    let later = named_later b _ _ _ c.args.target.place c.in-Some.item i r.bit r.chain name in
+    let tells = row_tells b.shape _ _ _ c.args.sought.now.key c.in-Some.item (IsSome c.row_of_key.result) i.moved.pass.lawful later c.row_of_key.ensures.key in
     (λ t. tells.0 (sym c.is_some.ensures ∙ t), λ has. c.is_some.ensures ∙ tells.1 has)
 
 pub returns-in_default-clause-idles : goal.returns-in_default-clause-idles
@@ -26,8 +26,8 @@ returns-in_default-clause-idles c = idles _ _ c.requires.pass
 
 pub returns-in_default-clause-is : goal.returns-in_default-clause-is
 returns-in_default-clause-is c = let b = c.args.board.now in let r = c.requires in
-    let name = named b.shape _ _ _ c.args.word c.in-Some.item r.pass.valid r.pass.lawful r.word c.in-Some.ensures.some in
-    (λ t. absurd (false≢true t), λ has. absurd (other_tag b.shape _ _ _ c.args.tag c.args.key.now c.in-Some.item name r.tag c.if-item-tag.false has))
+    let name = named b.shape _ _ _ c.args.target.word c.in-Some.item r.pass.valid r.pass.lawful r.word c.in-Some.ensures.some in
+    (λ t. absurd (false≢true t), λ has. absurd (other_tag b.shape _ _ _ c.args.sought.now.tag c.args.sought.now.key c.in-Some.item name r.sought.tag c.if-item-sought.false has))
 
 pub returns-in_default-2-clause-idles : goal.returns-in_default-2-clause-idles
 returns-in_default-2-clause-idles c = idles _ _ c.requires.pass

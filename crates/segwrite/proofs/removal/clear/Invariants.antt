@@ -1,5 +1,5 @@
 use Rattle.std.proofs.Common.{◌≡◌, ◌-◌, ◌^◌}
-use Rattle.segpass.specs.Words.{memo}
+use Rattle.segstore.specs.Words.{memo}
 use Rattle.segwrite.proofs.Linking.{Retrying, unlink_event}
 use Rattle.segwrite.proofs.removal.clear.Given as goal
 

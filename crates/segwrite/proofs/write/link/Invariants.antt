@@ -1,6 +1,6 @@
 use Rattle.std.proofs.Common.{◌≡◌, ◌-◌, ◌^◌}
 use Rattle.segmodel.specs.Words.{key_of}
-use Rattle.segpass.specs.Words.{memo}
+use Rattle.segstore.specs.Words.{memo}
 use Rattle.segwrite.proofs.Linking.{Retrying, link_event}
 use Rattle.segwrite.proofs.write.link.Given as goal
 

@@ -15,34 +15,34 @@ use Rattle.segwrite.proofs.write.store.Goals as goal
 
 pub fill_row-requires-clause-own : goal.fill_row-requires-clause-own
 fill_row-requires-clause-own g c = let r = c.requires in
-    next_is_own c.args.board.now c.args.pass.now c.args.segment c.args.row r.0 r.1.0 r.1.1.0.used r.1.1.0.fits
+    next_is_own c.args.board.now c.args.pass.now c.args.row.segment c.args.row.row r.0 r.1.0 r.1.1.0.used r.1.1.0.fits
 
 pub invariant_of-item : goal.invariant_of-item
 invariant_of-item g c = let b = c.args.board.now in let r = c.requires in
-    let own = next_is_own b c.args.pass.now c.args.segment c.args.row r.0 r.1.0 r.1.1.0.used r.1.1.0.fits in
-    let tag = tagged c.args.key.now in let is = r.1.1.1.1.1.0 in record {
+    let own = next_is_own b c.args.pass.now c.args.row.segment c.args.row.row r.0 r.1.0 r.1.1.0.used r.1.1.0.fits in
+    let tag = tagged c.args.write.now.sought.key in let is = r.1.1.1.1.1.0 in record {
       tag_above_zero = omega (arith, tag.0, is);
       tag_in_range = omega (arith, tag.1, is);
       freq_in_range = omega arith;
-      seg_in_range = low_segment b.shape c.args.segment r.0.valid own.0;
-      row_in_range = low_row b.shape c.args.row r.0.valid own.1;
+      seg_in_range = low_segment b.shape c.args.row.segment r.0.valid own.0;
+      row_in_range = low_row b.shape c.args.row.row r.0.valid own.1;
     }
 
 -- what was written is the request's pair
-pair_of : (b : Board) (request : Request) (key value : List ℕ) (segment row : ℕ) (p q : Pass) → key_of request ≡ key → value_of request ≡ value
-    → AddsEvents b (fills (number p) segment row (row_of key value) 8) p q → Holds (row_after (trace q) segment row) key value → IsKey key → IsValue value
-    → AddsEvents b (fills (number p) segment row (row_of (key_of request) (value_of request)) 8) p q × Holds (row_after (trace q) segment row) (key_of request) (value_of request) × IsKey (key_of request) × IsValue (value_of request)
-pair_of b request key value segment row p q k v m holds is_key is_value =
-    subst (λ x. AddsEvents b (fills (number p) segment row (row_of x (value_of request)) 8) p q × Holds (row_after (trace q) segment row) x (value_of request) × IsKey x × IsValue (value_of request)) (sym k)
-    (subst (λ y. AddsEvents b (fills (number p) segment row (row_of key y) 8) p q × Holds (row_after (trace q) segment row) key y × IsKey key × IsValue y) (sym v) (m, holds, is_key, is_value))
+pair_of : (b : Board) (request : Request) (key value places : List ℕ) (segment row : ℕ) (p q : Pass) → key_of request ≡ key → value_of request ≡ value
+    → AddsEvents b (fills (number p) segment row (row_of key value) places) p q → Holds (row_after (trace q) segment row) key value → IsKey key → IsValue value
+    → AddsEvents b (fills (number p) segment row (row_of (key_of request) (value_of request)) places) p q × Holds (row_after (trace q) segment row) (key_of request) (value_of request) × IsKey (key_of request) × IsValue (value_of request)
+pair_of b request key value places segment row p q k v m holds is_key is_value =
+    subst (λ x. AddsEvents b (fills (number p) segment row (row_of x (value_of request)) places) p q × Holds (row_after (trace q) segment row) x (value_of request) × IsKey x × IsValue (value_of request)) (sym k)
+    (subst (λ y. AddsEvents b (fills (number p) segment row (row_of key y) places) p q × Holds (row_after (trace q) segment row) key y × IsKey key × IsValue y) (sym v) (m, holds, is_key, is_value))
 
 pub link-requires : goal.link-requires
 link-requires g c = let b = c.args.board.now in let r = c.requires in let w = c.fill_row.ensures in
-    let s = c.args.segment in let row = c.args.row in
+    let s = c.args.row.segment in let row = c.args.row.row in
     let asks = r.1.1.1.0 in let clean = r.1.1.1.1.1.1.0 in let found = r.1.1.1.1.1.1.1 in
-    let pair = pair_of b g.request c.args.key.now c.args.value.now s row _ _ asks.of.0 asks.of.1 w.moved w.holds r.1.1.1.1.0 w.valid in
-    let own = fills (number c.args.pass.now) s row (row_of (key_of g.request) (value_of g.request)) 8 in
-    let none = fills_nowhere b.shape (bucket_of b.shape (key_of g.request)) (number c.args.pass.now) s row (row_of (key_of g.request) (value_of g.request)) 8 in
+    let pair = pair_of b g.request c.args.write.now.sought.key c.args.write.now.value.now w.moved.0 s row _ _ asks.of.0 asks.of.1 w.moved.1 w.holds r.1.1.1.1.0 w.valid in
+    let own = fills (number c.args.pass.now) s row (row_of (key_of g.request) (value_of g.request)) w.moved.0 in
+    let none = fills_nowhere b.shape (bucket_of b.shape (key_of g.request)) (number c.args.pass.now) s row (row_of (key_of g.request) (value_of g.request)) w.moved.0 in
     let target = target_later b own _ _ (key_of g.request) pair.0 r.0 clean.bit none c.args.target found in
     let clean_now = clean_later b own _ _ (key_of g.request) pair.0 r.0 clean.bit none clean in
     let stored = reply_later b own _ _ (key_of g.request) pair.0 r.0 clean.bit none g.request refl asks.stored in
@@ -51,31 +51,31 @@ link-requires g c = let b = c.args.board.now in let r = c.requires in let w = c.
 pub returns-clause-stores : goal.returns-clause-stores
 returns-clause-stores g c = let b = c.args.board.now in let r = c.requires in let w = c.fill_row.ensures in let counts = sym c.set_used.ensures in
     let asks = r.1.1.1.0 in let clean = r.1.1.1.1.1.1.0 in
-    let pair = pair_of b g.request c.args.key.now c.args.value.now c.args.segment c.args.row _ _ asks.of.0 asks.of.1 w.moved w.holds r.1.1.1.1.0 w.valid in
-    let own = fills (number c.args.pass.now) c.args.segment c.args.row (row_of (key_of g.request) (value_of g.request)) 8 in
-    let none = fills_nowhere b.shape (bucket_of b.shape (key_of g.request)) (number c.args.pass.now) c.args.segment c.args.row (row_of (key_of g.request) (value_of g.request)) 8 in
-    subst (StoresUnderBit b g.request c.args.segment c.args.row c.args.pass.now) counts
-    (stores_all b g.request c.args.target c.args.segment c.args.row _ _ _ r.1.1.0 pair.0 c.link.ensures.did
+    let pair = pair_of b g.request c.args.write.now.sought.key c.args.write.now.value.now w.moved.0 c.args.row.segment c.args.row.row _ _ asks.of.0 asks.of.1 w.moved.1 w.holds r.1.1.1.1.0 w.valid in
+    let own = fills (number c.args.pass.now) c.args.row.segment c.args.row.row (row_of (key_of g.request) (value_of g.request)) w.moved.0 in
+    let none = fills_nowhere b.shape (bucket_of b.shape (key_of g.request)) (number c.args.pass.now) c.args.row.segment c.args.row.row (row_of (key_of g.request) (value_of g.request)) w.moved.0 in
+    subst (StoresUnderBit b g.request c.args.row.segment c.args.row.row c.args.pass.now) counts
+    (stores_all b g.request c.args.target c.args.row.segment c.args.row.row _ _ _ r.1.1.0 w.moved.0 pair.0 c.link.ensures.did
     (clean_later b own _ _ (key_of g.request) pair.0 r.0 clean.bit none clean) (target_later b own _ _ (key_of g.request) pair.0 r.0 clean.bit none c.args.target r.1.1.1.1.1.1.1))
 
 pub returns-clause-segments : goal.returns-clause-segments
 returns-clause-segments g c = let b = c.args.board.now in let r = c.requires in let w = c.fill_row.ensures in let counts = sym c.set_used.ensures in
     let asks = r.1.1.1.0 in
-    let pair = pair_of b g.request c.args.key.now c.args.value.now c.args.segment c.args.row _ _ asks.of.0 asks.of.1 w.moved w.holds r.1.1.1.1.0 w.valid in
-    subst (KeepsSegments b) counts (keeps_all b g.request c.args.target c.args.segment c.args.row _ _ _ r.1.1.0 pair.0 c.link.ensures.did w.plain c.link.ensures.same.0 r.1.0)
+    let pair = pair_of b g.request c.args.write.now.sought.key c.args.write.now.value.now w.moved.0 c.args.row.segment c.args.row.row _ _ asks.of.0 asks.of.1 w.moved.1 w.holds r.1.1.1.1.0 w.valid in
+    subst (KeepsSegments b) counts (keeps_all b g.request c.args.target c.args.row.segment c.args.row.row _ _ _ r.1.1.0 w.moved.0 pair.0 c.link.ensures.did w.plain c.link.ensures.same.0 r.1.0)
 
 pub returns-clause-uses : goal.returns-clause-uses
 returns-clause-uses g c = let b = c.args.board.now in let r = c.requires in let w = c.fill_row.ensures in let counts = sym c.set_used.ensures in
     let asks = r.1.1.1.0 in
-    let pair = pair_of b g.request c.args.key.now c.args.value.now c.args.segment c.args.row _ _ asks.of.0 asks.of.1 w.moved w.holds r.1.1.1.1.0 w.valid in
-    subst (UsesRow c.args.segment c.args.pass.now) counts
-    (uses_all b g.request c.args.target c.args.segment c.args.row _ _ _ r.1.1.0 pair.0 c.link.ensures.did w.plain c.link.ensures.same.0 w.memo c.link.ensures.same.1)
+    let pair = pair_of b g.request c.args.write.now.sought.key c.args.write.now.value.now w.moved.0 c.args.row.segment c.args.row.row _ _ asks.of.0 asks.of.1 w.moved.1 w.holds r.1.1.1.1.0 w.valid in
+    subst (UsesRow c.args.row.segment c.args.pass.now) counts
+    (uses_all b g.request c.args.target c.args.row.segment c.args.row.row _ _ _ r.1.1.0 w.moved.0 pair.0 c.link.ensures.did w.plain c.link.ensures.same.0 w.memo c.link.ensures.same.1)
 
 pub returns-clause-bit : goal.returns-clause-bit
 returns-clause-bit g c = let b = c.args.board.now in let r = c.requires in let w = c.fill_row.ensures in let counts = sym c.set_used.ensures in
     let asks = r.1.1.1.0 in let clean = r.1.1.1.1.1.1.0 in
-    let pair = pair_of b g.request c.args.key.now c.args.value.now c.args.segment c.args.row _ _ asks.of.0 asks.of.1 w.moved w.holds r.1.1.1.1.0 w.valid in
-    let own = fills (number c.args.pass.now) c.args.segment c.args.row (row_of (key_of g.request) (value_of g.request)) 8 in
-    let none = fills_nowhere b.shape (bucket_of b.shape (key_of g.request)) (number c.args.pass.now) c.args.segment c.args.row (row_of (key_of g.request) (value_of g.request)) 8 in
+    let pair = pair_of b g.request c.args.write.now.sought.key c.args.write.now.value.now w.moved.0 c.args.row.segment c.args.row.row _ _ asks.of.0 asks.of.1 w.moved.1 w.holds r.1.1.1.1.0 w.valid in
+    let own = fills (number c.args.pass.now) c.args.row.segment c.args.row.row (row_of (key_of g.request) (value_of g.request)) w.moved.0 in
+    let none = fills_nowhere b.shape (bucket_of b.shape (key_of g.request)) (number c.args.pass.now) c.args.row.segment c.args.row.row (row_of (key_of g.request) (value_of g.request)) w.moved.0 in
     subst (λ s. HasWritten b s (bucket_of b.shape (key_of g.request))) counts
-    (has_written b g.request c.args.target c.args.segment c.args.row _ _ c.link.ensures.did (clean_later b own _ _ (key_of g.request) pair.0 r.0 clean.bit none clean) _)
+    (has_written b g.request c.args.target c.args.row.segment c.args.row.row _ _ c.link.ensures.did (clean_later b own _ _ (key_of g.request) pair.0 r.0 clean.bit none clean) _)
