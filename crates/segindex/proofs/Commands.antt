@@ -13,7 +13,7 @@ use Rattle.segmodel.specs.declared.answer.KeepAnswer.TheVariants as keep
 use Rattle.segmodel.specs.declared.answer.RefillAnswer.TheVariants as refill
 use Rattle.segmodel.specs.declared.request.Request.TheVariants as request
 use Rattle.segbase.specs.Words.{Board, holding, Memo, Pass}
-use Rattle.segpass.specs.Words.{memo}
+use Rattle.segstore.specs.Words.{memo}
 use Rattle.segwrite.specs.Words.{IsDeleteAnswer, IsWriteAnswer}
 use Rattle.segevict.specs.Words.{IsEvictAnswer, IsKeepAnswer}
 use Rattle.segindex.specs.Commands.{AnswersCommand}

@@ -8,8 +8,7 @@ use Rattle.segcore.specs.Event as event
 use Rattle.segcore.specs.Words.{bucket_after, inside, row_after}
 use Rattle.segbase.specs.Words.{Board, IsMade, IsNewPass, IsNewPlain, Locked, number, Pass, deadline_of, OwnSegment, deadline_in, own_segment}
 use Rattle.segbase.specs.Words.{unfilled, used_in, used_of}
-use Rattle.segstore.specs.Words.{KeepsSegments}
-use Rattle.segpass.specs.Words.{is_held_in, IsQuiet}
+use Rattle.segstore.specs.Words.{is_held_in, IsQuiet, KeepsSegments}
 use Rattle.segindex.specs.Words.{Index}
 use Rattle.segindex.specs.Index.{board_of, IsNew}
 

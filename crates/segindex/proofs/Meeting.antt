@@ -10,9 +10,9 @@ use Rattle.segcore.proofs.Moments.{marked_begins, seen_begins}
 use Rattle.segbase.specs.Words.{AddsEvents, Board, mine, number, Pass, trace}
 use Rattle.segbase.proofs.Begun.{begins_then}
 use Rattle.segbase.proofs.Moves.{moved_on, moved_mine}
-use Rattle.segpass.specs.Words.{IsQuiet, memo}
-use Rattle.segpass.proofs.Costs.{idle_costs_nothing}
-use Rattle.segpass.proofs.Idling.{goes_nowhere, does_nothing}
+use Rattle.segstore.specs.Words.{IsQuiet, memo}
+use Rattle.segstore.proofs.Costs.{idle_costs_nothing}
+use Rattle.segstore.proofs.Idling.{goes_nowhere, does_nothing}
 use Rattle.segindex.specs.Meeting.{Meets, OnlyLearns}
 
 -- a pass's entries in a longer history go on from those in a shorter one

@@ -8,7 +8,7 @@ use Rattle.segbase.specs.Words.{AddsEvents, Board, IsNoteOf, IsPassOf, Note, not
 use Rattle.segbase.specs.declared.law.Sight.{Sight}
 use Rattle.segbase.proofs.Carried.{are_one}
 use Rattle.segbase.proofs.Moves.{moved_on}
-use Rattle.segpass.specs.Words.{IsQuiet, memo}
+use Rattle.segstore.specs.Words.{IsQuiet, memo}
 use Rattle.segindex.specs.Noting.{LearnsNote, MakesNote}
 use Rattle.segindex.proofs.Meeting.{mine_of, one_of, only_learns}
 

@@ -4,10 +4,9 @@ use Rattle.std.proofs.Common.{◌≡◌, ◌≢◌, ℕ, ◌+◌, ◌<◌, true,
 use Rattle.std.proofs.lemmas.Bool.{cases_Bool, cond-true, cond-false, eqb-true, false≢true}
 use Rattle.std.proofs.lemmas.Option.{none-some, same_Some}
 use Rattle.segword.specs.Words.{Shape}
-use Rattle.segcore.specs.declared.event.Event.TheVariants.{Took, Bounced, Freed}
+use Rattle.segcore.specs.declared.event.Event.TheVariants.{Took, Freed}
 use Rattle.segcore.specs.Words.{acts, AllBy, bounced, Bucket, bucket_after, bucket_at, by}
-use Rattle.segcore.specs.Words.{chained_to, Event, inside, is, IsLawful, IsOther, needs, seen}
-use Rattle.segcore.specs.Words.{width}
+use Rattle.segcore.specs.Words.{chained_to, Event, inside, is, IsLawful, needs, seen, width}
 use Rattle.segcore.proofs.Counts.{mine_own}
 use Rattle.segcore.proofs.Homes.{spare_held}
 use Rattle.segcore.proofs.KeyCounts.{wide}
@@ -15,10 +14,10 @@ use Rattle.segcore.proofs.Marked.{chained_marked}
 use Rattle.segcore.proofs.Quiet.{quiet_inside}
 use Rattle.segbase.specs.Words.{Board, locked_of, number, Pass, trace}
 use Rattle.segbase.specs.Passes as passes
-use Rattle.segpass.specs.Words.{IsBusy, IsQuiet}
-use Rattle.segpass.proofs.Quiet.{has_locked}
+use Rattle.segstore.specs.Words.{IsBusy, IsQuiet}
+use Rattle.segstore.proofs.Quiet.{has_locked}
 use Rattle.segmodel.specs.Words.{bucket_of, entries_of, mine, stirred}
-use Rattle.segbase.proofs.Alone.{none_by}
+use Rattle.segbase.proofs.Alone.{bounced_alone, none_by}
 
 pub all_mine : (p : ℕ) (h : List Event) → AllBy p h → mine p (seen h) ≡ seen h
 all_mine p h all = ap (λ x. mine p (seen x)) (sym (append-nil h)) ∙ (mine_own p h [] all ∙ append-nil (seen h))
@@ -37,21 +36,14 @@ alone_holds z p b x (e ∷ h) all held =
     (λ f. alone_holds z p b x h all.1 (ap (λ v. v.holder) (sym (cond-false (is (bucket_at z e) b) (acts e u) u f)) ∙ held))
     (cases_Bool (is (bucket_at z e) b))
 
--- so none of its tries found the bit of another
-pub none_bounced : (z : Shape) (p b : ℕ) (h : List Event) → IsLawful z h → AllBy p h → bounced p b h ≡ 0
-none_bounced z p b [] l all = refl
-none_bounced z p b (Bounced q a ∷ h) l all = let other : IsOther q (bucket_after z h a).holder = l.1.suits in
-    absurd (other.2 (alone_holds z p a other.0 h all.1 other.1 ∙ sym all.0))
-none_bounced z p b (e ∷ h) l all = none_bounced z p b h l.0 all.1
-
 -- nobody else is in a segment
 pub nobody_inside : (p other s : ℕ) (h : List Event) → other ≢ p → AllBy p h → inside h other s ≡ 0
 nobody_inside p other s h apart all = ap (λ g. inside g other s) (sym (append-nil h)) ∙ quiet_inside h [] other s (none_by p other h apart all)
 
 -- ---- a pass that is alone, before a call and after it
 
-pub free_of_others : (b : Board) (p : Pass) (bucket : ℕ) → IsQuiet b p → b.shape.passes ≡ 1 → passes.bounced p bucket ≡ 0
-free_of_others b p bucket quiet one = none_bounced b.shape (number p) bucket (trace p) quiet.pass.lawful (quiet.pass.alone one)
+pub free_of_others : (b : Board) (p : Pass) (bucket : ℕ) → IsQuiet b p → b.shape.passes ≡ 1 → passes.count (bounced bucket) p ≡ 0
+free_of_others b p bucket quiet one = bounced_alone b p bucket quiet.pass one
 
 -- a bit that somebody has is that of a bucket of the table
 in_table : (z : Shape) (h : List Event) (e : Event) (b : ℕ) (o : Option ℕ) → MatchOption o (Unit {0}) (λ a. (a < z.buckets) × ((bucket_after z h a).holder ≡ needs e)) → is o b ≡ true → b < z.buckets

@@ -15,8 +15,8 @@ use Rattle.segcore.proofs.Orderly.{all_drawn_marked, linked_marked}
 use Rattle.segbase.specs.Words.{Board, Locked, locked, number, Pass, state_of, trace, used_of}
 use Rattle.segbase.specs.Passes as passes
 use Rattle.segbase.proofs.Owned.{owns_state, state_owned}
-use Rattle.segpass.specs.Words.{IsQuiet, NoneSince}
-use Rattle.segpass.proofs.Meanwhile.{none_entries}
+use Rattle.segstore.specs.Words.{IsQuiet, NoneSince}
+use Rattle.segstore.proofs.Meanwhile.{none_entries}
 
 -- a pass knows just the segments that it owns
 pub owned : (b : Board) (p : Pass) (s : ℕ) → IsQuiet b p → IsSome (state_of p s) ↔ (owner b.shape s ≡ number p)

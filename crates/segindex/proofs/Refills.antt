@@ -13,16 +13,16 @@ use Rattle.segbase.specs.Words.{AddsEvents, Board, holding, mine, number, own_of
 use Rattle.segbase.specs.Words.{state_in, state_of, trace, used_in, used_of}
 use Rattle.segbase.proofs.Moves.{moved_inside, moved_mine}
 use Rattle.segbase.proofs.Owned.{state_there}
-use Rattle.segstore.specs.Words.{FillsAnew, Idles, IsOutcome, KeepsSegments}
-use Rattle.segpass.specs.Words.{CostsNothing, GoesOn, is_held_in, IsQuiet}
+use Rattle.segstore.specs.Words.{CostsNothing, FillsAnew, GoesOn, Idles, is_held_in, IsOutcome}
+use Rattle.segstore.specs.Words.{IsQuiet, KeepsSegments}
 use Rattle.segindex.specs.Refilling.{IsBeingRead, IsRefillAnswer, Refills}
 use Rattle.segstore.proofs.Keeping.{refilled_state, refilled_used, others_state, others_used}
-use Rattle.segpass.proofs.Bits.{bit_before}
-use Rattle.segpass.proofs.Draws.{moved_undrawn}
-use Rattle.segpass.proofs.Quiet.{StaysQuiet, quiet_again, goes_on}
-use Rattle.segpass.proofs.Still.{no_reader}
-use Rattle.segpass.proofs.Idling.{goes_same, goes_nowhere, does_nothing, took_none}
-use Rattle.segpass.proofs.Costs.{costs_nothing, idle_costs_nothing}
+use Rattle.segstore.proofs.Bits.{bit_before}
+use Rattle.segstore.proofs.Draws.{moved_undrawn}
+use Rattle.segstore.proofs.Quiet.{StaysQuiet, quiet_again, goes_on}
+use Rattle.segstore.proofs.Still.{no_reader}
+use Rattle.segstore.proofs.Idling.{goes_same, goes_nowhere, does_nothing, took_none}
+use Rattle.segstore.proofs.Costs.{costs_nothing, idle_costs_nothing}
 
 -- ---- quiet again
 

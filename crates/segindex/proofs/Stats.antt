@@ -7,8 +7,7 @@ use Rattle.segcore.proofs.Orderly.{all_drawn_marked}
 use Rattle.segbase.specs.Words.{Board, HasStep, marked, Pass, trace}
 use Rattle.segbase.proofs.Moves.{moved_on}
 use Rattle.segbase.proofs.Starting.{starts_on}
-use Rattle.segstore.specs.Words.{Idles}
-use Rattle.segpass.specs.Words.{IsQuiet}
+use Rattle.segstore.specs.Words.{Idles, IsQuiet}
 use Rattle.segwrite.proofs.Places.{idles_then}
 use Rattle.segevict.specs.Words.{CountsRows}
 use Rattle.segevict.proofs.Naming.{counts_before}

@@ -15,7 +15,7 @@ use Rattle.segcore.specs.Words.{Event, IsItemAt, KeyAt}
 use Rattle.segbase.specs.declared.closing.Words.{Words}
 use Rattle.segbase.specs.Words.{Board, cell_at, HasEach, IsPlace, mine, number, Pass, Place, seen}
 use Rattle.segbase.specs.Closing as closing
-use Rattle.segpass.specs.Words.{IsQuiet}
+use Rattle.segstore.specs.Words.{IsQuiet}
 use Rattle.segread.specs.Words.{place_of}
 
 -- ---- the content

@@ -2,7 +2,7 @@
 use Rattle.std.specs.Prelude.{All, List}
 use Rattle.segword.specs.Words.{Shape}
 use Rattle.segbase.specs.Words.{Board, IsMade, Pass}
-use Rattle.segpass.specs.Words.{IsQuiet}
+use Rattle.segstore.specs.Words.{IsQuiet}
 use Rattle.segindex.specs.declared.index.Index.{Index}
 
 abbrev pub board_of : Index → Board

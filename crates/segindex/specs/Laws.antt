@@ -7,12 +7,13 @@ use Rattle.segmodel.specs.declared.answer.SegState.TheVariants.{InUse}
 use Rattle.segmodel.specs.Words.{after, Begins, DeleteAnswer, Entry, IsLegal, keys_in, NoneStandsIn}
 use Rattle.segmodel.specs.Words.{owner, Reply, reply_of_delete, reply_of_write, Request, SegState}
 use Rattle.segmodel.specs.Words.{stirred, WriteAnswer}
-use Rattle.segcore.specs.Words.{chained_to, entries, inside, IsSegment, linked_in, width}
-use Rattle.segbase.specs.Words.{Board, bounced, current_of, deadline_of, glanced, Locked, locked, locked_of}
-use Rattle.segcore.specs.Event as event
+use Rattle.segcore.specs.Words.{bounced, chained_to, entries, glanced, inside, IsSegment, linked_in}
+use Rattle.segcore.specs.Words.{width}
+use Rattle.segbase.specs.Words.{Board, count, current_of, deadline_of, Locked, locked, locked_of}
 use Rattle.segbase.specs.Words.{marked, mine, number, Pass, seen, SinceFirst, state_of, trace}
 use Rattle.segbase.specs.Words.{used_of}
-use Rattle.segpass.specs.Words.{IsBusy, IsQuiet, NoneSince}
+use Rattle.segcore.specs.Event as event
+use Rattle.segstore.specs.Words.{IsBusy, IsQuiet, NoneSince}
 use Rattle.segwrite.specs.Words.{cas_reply, Deletes, WasTold, Writes}
 use Rattle.segread.specs.Words.{IsGetsAnswer}
 use Rattle.segevict.specs.Words.{KeepsItems}
@@ -100,11 +101,11 @@ AllAreOwn = OfOnly (λ b p. mine p ≡ seen p)
 
 -- No take of the pass found a bit of another's.
 abbrev pub NoTakeBounced : Type 0
-NoTakeBounced = OfOnly (λ b p. (bucket : ℕ) → bounced p bucket ≡ 0)
+NoTakeBounced = OfOnly (λ b p. (bucket : ℕ) → count (bounced bucket) p ≡ 0)
 
 -- No look of the pass found a bit of another's.
 abbrev pub NoLookGlanced : Type 0
-NoLookGlanced = OfOnly (λ b p. (bucket : ℕ) → glanced p bucket ≡ 0)
+NoLookGlanced = OfOnly (λ b p. (bucket : ℕ) → count (glanced bucket) p ≡ 0)
 
 -- Nobody else is in a segment.
 abbrev pub NobodyIsInside : Type 0

@@ -2,7 +2,7 @@
 use Rattle.segmodel.specs.Words.{AreOne, Begins}
 use Rattle.segmodel.specs.History as history
 use Rattle.segbase.specs.Words.{Board, marked, mine, number, Pass, seen}
-use Rattle.segpass.specs.Words.{ChangesNothing, CostsNothing, GoesOn}
+use Rattle.segstore.specs.Words.{ChangesNothing, CostsNothing, GoesOn}
 
 -- Two passes met. Of the histories that they had seen, one began the other.
 -- The first has now seen what the second had seen, and the second all that the first has.

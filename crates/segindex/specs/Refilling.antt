@@ -6,8 +6,8 @@ use Rattle.segmodel.specs.declared.answer.RefillAnswer.TheVariants as refill
 use Rattle.segmodel.specs.declared.answer.SegState.TheVariants.{InUse, Evicted}
 use Rattle.segcore.specs.Words.{inside}
 use Rattle.segbase.specs.Words.{Board, HasStep, holding, number, Pass, state_of, trace}
+use Rattle.segstore.specs.Words.{AddsEntry, ChangesNothing, CostsNothing, GoesOn, is_held_in, memo}
 use Rattle.segstore.specs.Words.{refilled, TakesOneStep}
-use Rattle.segpass.specs.Words.{AddsEntry, ChangesNothing, CostsNothing, GoesOn, is_held_in, memo}
 
 -- ---- refilling
 

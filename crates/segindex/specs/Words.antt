@@ -9,7 +9,7 @@ pub use Rattle.segindex.specs.Probing.{IsReadSince}
 pub use Rattle.segindex.specs.Refilling.{IsBeingRead, IsRefillAnswer, Refills}
 pub use Rattle.segindex.specs.Stats.{ReturnsStats}
 pub use Rattle.segbase.specs.Words.{IsNoteOf, IsNoteOf-prop, Note, number, Pass, seen, seen_of}
-pub use Rattle.segpass.specs.Words.{IsQuiet, IsQuiet-prop}
+pub use Rattle.segstore.specs.Words.{IsQuiet, IsQuiet-prop}
 pub use Rattle.segread.specs.Words.{IsHoldOf, IsHoldOf-prop}
 use Rattle.segindex.specs.declared.index.Index as declared_index
 

@@ -20,7 +20,7 @@ pub struct OutOfMemory;
 
 impl Index {
     ghost use Rattle.segindex.specs.Index as index;
-    ghost use Rattle.segpass.specs.Words.{IsQuiet};
+    ghost use Rattle.segstore.specs.Words.{IsQuiet};
     ghost use Rattle.segindex.specs.Closing.{IsContent, WantsMemory, IsContentSeen};
     ghost use Rattle.segindex.specs.Closing.{AreAllQuiet, IsContentOfAll, WantsMemoryOfAll};
 

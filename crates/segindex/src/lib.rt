@@ -32,7 +32,7 @@ pub use segmodel::{
     Answer, Command, DeleteAnswer, EvictAnswer, GetAnswer, GetsAnswer, KeepAnswer, RefillAnswer,
     Request, WriteAnswer,
 };
-pub use segpass::LockAnswer;
 pub use segread::{HeldRow, Hold, HoldAnswer, hold_stays, row_of_hold};
+pub use segstore::LockAnswer;
 pub use segword::{Key, Shape, ShapeFault, Value};
 pub use table_stats::IndexStats;

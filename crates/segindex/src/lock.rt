@@ -1,11 +1,11 @@
 //! Buckets locked for longer than a call.
 use crate::index::Index;
 use segbase::Pass;
-use segpass::LockAnswer;
+use segstore::LockAnswer;
 use segword::Key;
 
 impl Index {
-    ghost use Rattle.segpass.specs.Words.{IsQuiet, LocksBucket, UnlocksBucket};
+    ghost use Rattle.segstore.specs.Words.{IsQuiet, LocksBucket, UnlocksBucket};
     ghost use Rattle.segindex.specs.Index.{board_of};
 
     /// Locks the bucket of a key.
@@ -15,7 +15,7 @@ impl Index {
         requires quiet { IsQuiet (board_of self.now) pass.old }
         ensures locks { LocksBucket (board_of self.now) key.now result pass.old pass.new }
     {
-        segpass::lock_bucket(&self.board, pass, key)
+        segstore::lock_bucket(&self.board, pass, key)
     }
 
     /// Unlocks the bucket that the pass has locked, and returns false if there is none.
@@ -23,6 +23,6 @@ impl Index {
         requires quiet { IsQuiet (board_of self.now) pass.old }
         ensures unlocks { UnlocksBucket (board_of self.now) result pass.old pass.new }
     {
-        segpass::unlock_bucket(&self.board, pass)
+        segstore::unlock_bucket(&self.board, pass)
     }
 }

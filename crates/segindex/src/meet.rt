@@ -4,7 +4,7 @@ use segbase::Pass;
 
 impl Index {
     ghost use Rattle.segindex.specs.Index.{board_of};
-    ghost use Rattle.segpass.specs.Words.{IsQuiet};
+    ghost use Rattle.segstore.specs.Words.{IsQuiet};
     ghost use Rattle.segindex.specs.Meeting.{MeetsPass};
 
     /// Afterwards each pass has seen what either had seen before,

@@ -5,7 +5,7 @@ use segbase::{Note, Pass};
 impl Index {
     ghost use Rattle.segindex.specs.Index.{board_of};
     ghost use Rattle.segbase.specs.Words.{IsNoteOf};
-    ghost use Rattle.segpass.specs.Words.{IsQuiet};
+    ghost use Rattle.segstore.specs.Words.{IsQuiet};
     ghost use Rattle.segindex.specs.Noting.{CopiesNote, LearnsNote, MakesNote};
 
     /// A note of what the pass has seen. It takes no bytes.

@@ -8,7 +8,7 @@ use segmodel::{GetAnswer, WriteAnswer};
 use segword::{Key, Value};
 
 impl Index {
-    ghost use Rattle.segpass.specs.Words.{IsQuiet};
+    ghost use Rattle.segstore.specs.Words.{IsQuiet};
     ghost use Rattle.segindex.specs.Index.{board_of};
     ghost use Rattle.segindex.specs.Probing.{Probes};
 

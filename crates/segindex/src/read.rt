@@ -6,7 +6,7 @@ use segread::{HeldRow, Hold, HoldAnswer};
 use segword::{Key, Value};
 
 impl Index {
-    ghost use Rattle.segpass.specs.Words.{IsQuiet};
+    ghost use Rattle.segstore.specs.Words.{IsQuiet};
     ghost use Rattle.segread.specs.Words.{HoldsItem, IsHoldOf, ReadsHeld, ReadsKey, ReadsVersion};
     ghost use Rattle.segread.specs.Words.{IsOfRow, ReleasesHold};
     ghost use Rattle.segindex.specs.Index.{board_of, shape_of};

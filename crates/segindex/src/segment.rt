@@ -5,7 +5,7 @@ use segevict::KeepRowAnswer;
 use segmodel::{EvictAnswer, KeepAnswer, RefillAnswer};
 
 impl Index {
-    ghost use Rattle.segpass.specs.Words.{IsQuiet};
+    ghost use Rattle.segstore.specs.Words.{IsQuiet};
     ghost use Rattle.segevict.specs.Words.{EvictsSegment, KeepsItem, KeepsItems};
     ghost use Rattle.segindex.specs.Index.{board_of};
     ghost use Rattle.segindex.specs.Refilling.{RefillsSegment};

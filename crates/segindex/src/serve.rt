@@ -9,7 +9,7 @@ impl Index {
     ghost use Rattle.segmodel.specs.declared.answer.Command.TheVariants.{Write};
     ghost use Rattle.segindex.specs.Commands.{AnswersCommand};
     ghost use Rattle.segindex.specs.Index.{board_of};
-    ghost use Rattle.segpass.specs.Words.{GoesOn, IsQuiet};
+    ghost use Rattle.segstore.specs.Words.{GoesOn, IsQuiet};
 
     /// Makes the call that a command names.
     /// A hit of a get or a gets raises a frequency if the draw, a random number, counts.

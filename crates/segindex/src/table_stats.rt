@@ -16,7 +16,7 @@ pub struct IndexStats {
 }
 
 impl Index {
-    ghost use Rattle.segpass.specs.Words.{IsQuiet};
+    ghost use Rattle.segstore.specs.Words.{IsQuiet};
     ghost use Rattle.segindex.specs.Index.{board_of};
     ghost use Rattle.segindex.specs.Stats.{ReturnsStats};
 

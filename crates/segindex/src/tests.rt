@@ -2,7 +2,7 @@
 //! Tests of only public calls are in crates of tests.
 ghost use Rattle.std.specs.Prelude.{All, IfSome};
 ghost use Rattle.segindex.specs.Index.{board_of};
-ghost use Rattle.segpass.specs.Words.{IsQuiet};
+ghost use Rattle.segstore.specs.Words.{IsQuiet};
 
 use crate::{Index, Pass};
 use segbase::Place;

@@ -7,7 +7,7 @@ use segmodel::{DeleteAnswer, WriteAnswer};
 use segword::{Key, Value};
 
 impl Index {
-    ghost use Rattle.segpass.specs.Words.{IsQuiet};
+    ghost use Rattle.segstore.specs.Words.{IsQuiet};
     ghost use Rattle.segwrite.specs.Words.{Deletes, IsSetAnswer, Writes};
     ghost use Rattle.segindex.specs.Index.{board_of};
 
