@@ -1,22 +1,38 @@
 -- Lists of the calls of a put: some calls and then more, and what they come to.
-use Rattle.std.proofs.Common.{◌≡◌, ◌≢◌, ℕ, zero, suc, ◌+◌, List, [], ◌∷◌, ◌++◌, Option, Some, None, refl, sym, ap, ◌∙◌, subst, inl, inr, arith}
-use Rattle.std.specs.Prelude.{sum_by}
+use Rattle.std.proofs.Common.{◌≡◌, ℕ, ◌+◌, ◌≤◌, List, [], ◌∷◌, ◌++◌, length-append, Option, Some, None, refl, sym, ap, ◌∙◌, subst, inl, inr, arith}
 use Rattle.std.proofs.lemmas.List.Sums.{sum_by-append, sum_by-cons}
 use Rattle.std.proofs.lemmas.Option.{none-some}
-use Rattle.segmodel.specs.Words.{Request}
+use Rattle.segmodel.specs.declared.answer.EvictAnswer.TheVariants as evict
+use Rattle.segmodel.specs.declared.answer.RefillAnswer.TheVariants as refill
+use Rattle.segmodel.specs.Words.{EvictAnswer, owner, RefillAnswer, Request}
 use Rattle.segbase.specs.Words.{Board, number, Pass}
+use Rattle.segstore.specs.Words.{GoesOn, IsQuiet}
+use Rattle.segstore.proofs.Idling.{goes_same}
+use Rattle.segevict.specs.declared.retention.KeepRowAnswer.{KeepRowAnswer}
+use Rattle.segevict.specs.Words.{EvictsSegment, KeepsItem}
+use Rattle.segevict.proofs.RowsOut.{goes_then}
 use Rattle.segindex.specs.Refilling.{RefillsSegment}
 use Rattle.segclient.specs.declared.room.Effort.{Effort}
-use Rattle.segclient.specs.PutCalls.{PutCall, sets, evicts, keeps, refills, Plan, refilled_by, kept_by, evicted_by, IsRefused, IsCall, Makes}
-use Rattle.segclient.specs.Putting.{IsEffort, room_plan}
+use Rattle.segclient.specs.PutCalls.{PutCall, gets, sets, evicts, keeps, refills, Plan, refilled_by, kept_by, evicted_by, IsRefused, IsCall, Makes}
+use Rattle.segclient.specs.PutParts.{Arranges, effort_from, IsEffort, room_plan, taken_by}
 
 -- ---- some calls and then more
 
 pub refused_then : (segment : ℕ) (later earlier : List PutCall) → IsRefused segment later → IsRefused segment (later ++ earlier)
 unfolding IsRefused
 refused_then segment [] earlier none = absurd none
-refused_then segment (call ∷ later) earlier (inl here) = inl here
-refused_then segment (call ∷ later) earlier (inr before) = inr (before.0, refused_then segment later earlier before.1)
+refused_then segment (gets ∷ later) earlier is = refused_then segment later earlier is
+refused_then segment (sets told ∷ later) earlier none = absurd none
+refused_then segment (evicts other (evict.Busy keys) ∷ later) earlier (inl here) = inl here
+refused_then segment (evicts other (evict.Busy keys) ∷ later) earlier (inr before) = inr (refused_then segment later earlier before)
+refused_then segment (evicts other (evict.Evicted keys) ∷ later) earlier is = refused_then segment later earlier is
+refused_then segment (evicts other evict.NotYours ∷ later) earlier is = refused_then segment later earlier is
+refused_then segment (keeps other row cutoff told ∷ later) earlier is = refused_then segment later earlier is
+refused_then segment (refills other refill.Refilled ∷ later) earlier none = absurd none
+refused_then segment (refills other refill.Held ∷ later) earlier (inl here) = inl here
+refused_then segment (refills other refill.Held ∷ later) earlier (inr before) = inr (refused_then segment later earlier before)
+refused_then segment (refills other refill.NotYours ∷ later) earlier is = refused_then segment later earlier is
+refused_then segment (refills other refill.NotEvicted ∷ later) earlier is = refused_then segment later earlier is
 
 module _ (b : Board) (plan : Plan) where
   pub none_made : (p : Pass) → Makes b plan [] p p
@@ -27,36 +43,42 @@ module _ (b : Board) (plan : Plan) where
   unfolding Makes
   made_same p q same = same
 
-  pub one_more : (call : PutCall) (earlier : List PutCall) (p q r : Pass) → Makes b plan earlier p q → IsCall b plan earlier call q r → Makes b plan (call ∷ earlier) p r
+  pub one_more : (call : PutCall) (earlier : List PutCall) (p q r : Pass) → Makes b plan earlier p q → IsCall b plan call q r → Makes b plan (call ∷ earlier) p r
   unfolding Makes
   one_more call earlier p q r first last = (q, first, last)
 
-  pub last_of : (call : PutCall) (earlier : List PutCall) (p q : Pass) → Makes b plan (call ∷ earlier) p q → (between : Pass) × Makes b plan earlier p between × IsCall b plan earlier call between q
+  pub last_of : (call : PutCall) (earlier : List PutCall) (p q : Pass) → Makes b plan (call ∷ earlier) p q → (between : Pass) × Makes b plan earlier p between × IsCall b plan call between q
   unfolding Makes
   last_of call earlier p q makes = makes
-
-  call_then : (call : PutCall) (later earlier : List PutCall) (p q : Pass) → IsCall b plan later call p q → IsCall b plan (later ++ earlier) call p q
-  call_then (sets told) later earlier p q is = is
-  call_then (evicts segment told) later earlier p q is = (is.0, (λ current other own apart. refused_then other later earlier (is.1 current other own apart)), is.2)
-  call_then (keeps segment cutoff told) later earlier p q is = is
-  call_then (refills segment told) later earlier p q is = is
 
   pub makes_then : (later earlier : List PutCall) (p q r : Pass) → Makes b plan earlier p q → Makes b plan later q r → Makes b plan (later ++ earlier) p r
   unfolding Makes
   makes_then [] earlier p q r first same = subst (Makes b plan earlier p) (sym same) first
-  makes_then (call ∷ later) earlier p q r first (between, rest, last) = (between, makes_then later earlier p q between first rest, call_then call later earlier between r last)
+  makes_then (call ∷ later) earlier p q r first (between, rest, last) = (between, makes_then later earlier p q between first rest, last)
 
-  call_same : (call : PutCall) (earlier : List PutCall) (p q : Pass) → IsCall b plan earlier call p q → number q ≡ number p
-  call_same (sets told) earlier p q is = is.4.on.same
-  call_same (evicts segment told) earlier p q is = is.2.on.same
-  call_same (keeps segment cutoff told) earlier p q is = is.2.on.same
-  call_same (refills segment told) earlier p q is = is.1.on.same
+  -- the calls before, and those after
+  pub makes_apart : (later earlier : List PutCall) (p r : Pass) → Makes b plan (later ++ earlier) p r → (q : Pass) × Makes b plan earlier p q × Makes b plan later q r
+  unfolding Makes
+  makes_apart [] earlier p r makes = (r, makes, refl)
+  makes_apart (call ∷ later) earlier p r (between, rest, last) = let apart = makes_apart later earlier p between rest in (apart.0, apart.1, (between, apart.2, last))
+
+  pub call_on : (call : PutCall) (p q : Pass) → IsCall b plan call p q → GoesOn b p q
+  call_on gets p q is = is.3.on
+  call_on (sets told) p q is = is.4.on
+  call_on (evicts segment told) p q is = is.1.on
+  call_on (keeps segment row cutoff told) p q is = is.2.on
+  call_on (refills segment told) p q is = is.1.on
+
+  pub makes_on : (calls : List PutCall) (p q : Pass) → IsQuiet b p → Makes b plan calls p q → GoesOn b p q
+  unfolding Makes
+  makes_on [] p q quiet same = subst (GoesOn b p) (sym same) (goes_same b p quiet)
+  makes_on (call ∷ calls) p q quiet (between, rest, last) = goes_then b p between q (makes_on calls p between quiet rest) (call_on call between q last)
 
   -- the pass is the same one
   pub makes_same : (calls : List PutCall) (p q : Pass) → Makes b plan calls p q → number q ≡ number p
   unfolding Makes
   makes_same [] p q same = ap number same
-  makes_same (call ∷ calls) p q (between, rest, last) = call_same call calls between q last ∙ makes_same calls p between rest
+  makes_same (call ∷ calls) p q (between, rest, last) = (call_on call between q last).same ∙ makes_same calls p between rest
 
 -- ---- calls for less are calls for more
 
@@ -73,29 +95,27 @@ room_within deadline to cutoff same late = record {
   deadline = late;
 }
 
-pub bare_within : (deadline : ℕ) (to : Plan) → deadline ≡ to.deadline → IsWithin (room_plan None deadline) to
-bare_within deadline to late = record {
+pub bare_within : (deadline : ℕ) (cutoff : Option ℕ) → IsWithin (room_plan None deadline) (room_plan cutoff deadline)
+bare_within deadline cutoff = record {
   request = λ request none. absurd (none-some request none);
   cutoff = λ least none. absurd (none-some least none);
-  deadline = late;
+  deadline = refl;
 }
 
 module _ (b : Board) (from to : Plan) (within : IsWithin from to) where
-  call_within : (call : PutCall) (earlier : List PutCall) (p q : Pass) → IsCall b from earlier call p q → IsCall b to earlier call p q
-  call_within (sets told) earlier p q (request, is, fresh, set, writes) = (request, within.request request is, (λ stale. fresh stale ∙ ap Some within.deadline), set, writes)
-  call_within (evicts segment told) earlier p q is = is
-  call_within (keeps segment cutoff told) earlier p q is = (is.0, within.cutoff cutoff is.1, is.2)
-  call_within (refills segment told) earlier p q is = (is.0, subst (λ deadline. RefillsSegment b segment deadline told p q) within.deadline is.1)
+  call_within : (call : PutCall) (p q : Pass) → IsCall b from call p q → IsCall b to call p q
+  call_within gets p q (request, is, told, reads) = (request, within.request request is, told, reads)
+  call_within (sets told) p q (request, is, fresh, set, writes) = (request, within.request request is, (λ until stores late. fresh until stores late ∙ within.deadline), set, writes)
+  call_within (evicts segment told) p q is = is
+  call_within (keeps segment row cutoff told) p q is = (is.0, (is.1.0, within.cutoff is.1.0 is.1.1, is.1.2), is.2)
+  call_within (refills segment told) p q is = (is.0, subst (λ deadline. RefillsSegment b segment deadline told p q) within.deadline is.1)
 
   pub makes_within : (calls : List PutCall) (p q : Pass) → Makes b from calls p q → Makes b to calls p q
   unfolding Makes
   makes_within [] p q same = same
-  makes_within (call ∷ calls) p q (between, rest, last) = (between, makes_within calls p between rest, call_within call calls between q last)
+  makes_within (call ∷ calls) p q (between, rest, last) = (between, makes_within calls p between rest, call_within call between q last)
 
 -- ---- efforts
-
-abbrev pub effort_from : ℕ → ℕ → ℕ → Effort
-effort_from refilled kept keys = record { refilled = refilled; kept = kept; keys = keys }
 
 abbrev pub both : Effort → Effort → Effort
 both first more = effort_from (first.refilled + more.refilled) (first.kept + more.kept) (first.keys + more.keys)
@@ -119,6 +139,90 @@ effort_more call earlier first one = record {
   keys = let all = sum_by-cons evicted_by call earlier in let x = one.keys in omega (arith, all, x);
 }
 
+-- one call
+pub effort_one : (call : PutCall) (effort : Effort) → effort.refilled ≡ refilled_by call → effort.kept ≡ kept_by call → effort.keys ≡ evicted_by call → IsEffort (call ∷ []) effort
+effort_one call effort one two three = let is = effort_more call [] (effort_from 0 0 0) no_effort in record {
+  refilled = let x = is.refilled in omega (arith, x, one);
+  kept = let x = is.kept in omega (arith, x, two);
+  keys = let x = is.keys in omega (arith, x, three);
+}
+
 -- the same numbers by other names
-pub same_effort : (calls : List PutCall) (r m k s n l : ℕ) → r ≡ s → m ≡ n → k ≡ l → IsEffort calls (effort_from r m k) → IsEffort calls (effort_from s n l)
-same_effort calls r m k s n l one two three is = record { refilled = sym one ∙ is.refilled; kept = sym two ∙ is.kept; keys = sym three ∙ is.keys }
+pub same_effort : (calls : List PutCall) (first effort : Effort) → effort.refilled ≡ first.refilled → effort.kept ≡ first.kept → effort.keys ≡ first.keys → IsEffort calls first → IsEffort calls effort
+same_effort calls first effort one two three is = record { refilled = one ∙ is.refilled; kept = two ∙ is.kept; keys = three ∙ is.keys }
+
+-- an evict's keys
+pub taken_evicted : (segment : ℕ) (told : EvictAnswer) → taken_by told ≡ evicted_by (evicts segment told)
+taken_evicted segment (evict.Evicted keys) = refl
+taken_evicted segment (evict.Busy keys) = refl
+taken_evicted segment evict.NotYours = refl
+
+pub evict_refills_none : (segment : ℕ) (told : EvictAnswer) → 0 ≡ refilled_by (evicts segment told)
+evict_refills_none segment told = refl
+
+-- ---- calls for room
+
+module _ (b : Board) (cutoff : Option ℕ) (deadline : ℕ) where
+  abbrev pub arranges_none : (p : Pass) → Arranges b cutoff deadline 0 (effort_from 0 0 0) p p
+  arranges_none p = record { calls = []; makes = none_made b (room_plan cutoff deadline) p; few = omega arith; comes = no_effort }
+
+  abbrev pub arranges_then : (m n : ℕ) (first more : Effort) (p q r : Pass) → Arranges b cutoff deadline m first p q → Arranges b cutoff deadline n more q r → Arranges b cutoff deadline (m + n) (both first more) p r
+  arranges_then m n first more p q r one then = record {
+    calls = then.calls ++ one.calls;
+    makes = makes_then b (room_plan cutoff deadline) then.calls one.calls p q r one.makes then.makes;
+    few = let long = length-append then.calls one.calls in let x = one.few in let y = then.few in omega (arith, long, x, y);
+    comes = effort_then then.calls one.calls first more one.comes then.comes;
+  }
+
+  -- no call
+  pub none_arranges : (most : ℕ) (effort : Effort) (p : Pass) → effort ≡ effort_from 0 0 0 → Arranges b cutoff deadline most effort p p
+  none_arranges most effort p none = record { calls = []; makes = none_made b (room_plan cutoff deadline) p; few = omega arith; comes = subst (IsEffort []) (sym none) no_effort }
+
+  -- some and then more, whose efforts were added up
+  pub arranges_plus : (m n total : ℕ) (first more all : Effort) (p q r : Pass) → m + n ≤ total → all ≡ both first more → Arranges b cutoff deadline m first p q → Arranges b cutoff deadline n more q r → Arranges b cutoff deadline total all p r
+  arranges_plus m n total first more all p q r enough sum one then = record {
+    calls = then.calls ++ one.calls;
+    makes = makes_then b (room_plan cutoff deadline) then.calls one.calls p q r one.makes then.makes;
+    few = let long = length-append then.calls one.calls in let x = one.few in let y = then.few in omega (arith, long, x, y, enough);
+    comes = subst (IsEffort (then.calls ++ one.calls)) (sym sum) (effort_then then.calls one.calls first more one.comes then.comes);
+  }
+
+  -- the same with a higher bound, and other names for the numbers
+  abbrev pub arranges_as : (m n : ℕ) (first effort : Effort) (p q : Pass) → m ≤ n → effort.refilled ≡ first.refilled → effort.kept ≡ first.kept → effort.keys ≡ first.keys → Arranges b cutoff deadline m first p q → Arranges b cutoff deadline n effort p q
+  arranges_as m n first effort p q enough one two three is = record {
+    calls = is.calls;
+    makes = is.makes;
+    few = let few = is.few in omega (arith, few, enough);
+    comes = same_effort is.calls first effort one two three is.comes;
+  }
+
+  one_arranges : (call : PutCall) (effort : Effort) (p q : Pass) → effort.refilled ≡ refilled_by call → effort.kept ≡ kept_by call → effort.keys ≡ evicted_by call → IsCall b (room_plan cutoff deadline) call p q → Arranges b cutoff deadline 1 effort p q
+  one_arranges call effort p q one two three is = record {
+    calls = call ∷ [];
+    makes = one_more b (room_plan cutoff deadline) call [] p p q (none_made b (room_plan cutoff deadline) p) is;
+    few = omega arith;
+    comes = effort_one call effort one two three;
+  }
+
+  pub evict_arranges : (segment : ℕ) (told : EvictAnswer) (effort : Effort) (p q : Pass) → effort.refilled ≡ 0 → effort.kept ≡ 0 → effort.keys ≡ taken_by told → owner b.shape segment ≡ number p → EvictsSegment b segment told p q → Arranges b cutoff deadline 1 effort p q
+  evict_arranges segment told effort p q one two three own went = one_arranges (evicts segment told) effort p q one two (three ∙ taken_evicted segment told) (own, went)
+
+  pub refill_arranges : (segment : ℕ) (told : RefillAnswer) (effort : Effort) (p q : Pass) → effort.refilled ≡ refilled_by (refills segment told) → effort.kept ≡ 0 → effort.keys ≡ 0 → owner b.shape segment ≡ number p → RefillsSegment b segment deadline told p q → Arranges b cutoff deadline 1 effort p q
+  refill_arranges segment told effort p q one two three own filled = one_arranges (refills segment told) effort p q one two three (own, filled)
+
+  pub row_arranges : (least segment row by : ℕ) (told : KeepRowAnswer) (effort : Effort) (p q : Pass) → cutoff ≡ Some least → least ≤ by → effort.refilled ≡ 0 → effort.kept ≡ kept_by (keeps segment row by told) → effort.keys ≡ 0 → owner b.shape segment ≡ number p → KeepsItem b segment row by told p q
+      → Arranges b cutoff deadline 1 effort p q
+  row_arranges least segment row by told effort p q is enough one two three own stayed = one_arranges (keeps segment row by told) effort p q one two three (own, (least, is, enough), stayed)
+
+  -- a row more is gone over
+  pub row_more : (least segment at by row more : ℕ) (before : ℕ) (told : KeepRowAnswer) (p q r : Pass) → cutoff ≡ Some least → least ≤ by → owner b.shape segment ≡ number p → number q ≡ number p → more ≡ kept_by (keeps segment at by told) → Arranges b cutoff deadline row (effort_from 0 before 0) p q → KeepsItem b segment at by told q r
+      → Arranges b cutoff deadline (row + 1) (effort_from 0 (before + more) 0) p r
+  row_more least segment at by row more before told p q r is enough own same count over stayed =
+      arranges_then row 1 (effort_from 0 before 0) (effort_from 0 more 0) p q r over (row_arranges least segment at by told (effort_from 0 more 0) q r is enough refl count refl (own ∙ sym same) stayed)
+
+  -- those of a client that keeps nothing are those of one that keeps
+  abbrev pub arranges_wider : (most : ℕ) (effort : Effort) (p q : Pass) → (bare : Arranges b None deadline most effort p q) → (wide : Arranges b cutoff deadline most effort p q) × (wide.calls ≡ bare.calls)
+  arranges_wider most effort p q bare = (
+    record { calls = bare.calls; makes = makes_within b (room_plan None deadline) (room_plan cutoff deadline) (bare_within deadline cutoff) bare.calls p q bare.makes; few = bare.few; comes = bare.comes },
+    refl,
+  )

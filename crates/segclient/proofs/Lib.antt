@@ -1,4 +1,7 @@
+pub mod Added
 pub mod Calls
+pub mod Few
+pub mod Gets
 pub mod InTurn
 pub mod Members
 pub mod Order
@@ -10,3 +13,4 @@ pub mod Told
 pub mod Trying
 pub mod Turns
 pub mod Ways
+pub mod Whole

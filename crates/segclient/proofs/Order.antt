@@ -1,72 +1,87 @@
--- The order of a put's calls: sets, and room made between them.
-use Rattle.std.proofs.Common.{◌≡◌, ◌≢◌, ℕ, zero, suc, ◌+◌, ◌*◌, ◌≤◌, Bool, true, false, List, [], ◌∷◌, ◌++◌, length, Option, Some, None, refl, sym, ap, ◌∙◌, subst, inl, inr, append_assoc, length-append, arith}
+-- A put's calls as a whole: sets, and room made between them.
+use Rattle.std.proofs.Common.{◌≡◌, ◌≢◌, ℕ, zero, suc, ◌+◌, ◌≤◌, Bool, true, false, List, [], ◌∷◌, ◌++◌, length, Option, refl, sym, ap, ◌∙◌, subst, inl, inr, append_assoc, length-append, arith}
+use Rattle.std.specs.Prelude.{Contains}
 use Rattle.std.proofs.lemmas.Bool.{false≢true}
 use Rattle.std.proofs.lemmas.List.{append-nil}
+use Rattle.std.proofs.lemmas.List.Elements.{All-append, All-cons, All-nil, Contains-append_left, Contains-append_right, Contains-push}
 use Rattle.std.proofs.lemmas.Option.{none-some}
-use Rattle.segmodel.specs.declared.answer.EvictAnswer.TheVariants as evict
-use Rattle.segmodel.specs.declared.answer.KeepAnswer.TheVariants as keep
-use Rattle.segmodel.specs.declared.answer.RefillAnswer.TheVariants as refill
+use Rattle.segword.specs.Words.{Shape}
 use Rattle.segmodel.specs.declared.answer.WriteAnswer.TheVariants as write
-use Rattle.segmodel.specs.Words.{EvictAnswer, owner, WriteAnswer}
+use Rattle.segmodel.specs.Words.{EvictAnswer, WriteAnswer}
 use Rattle.segbase.specs.Words.{Board, number, Pass}
+use Rattle.segstore.specs.Words.{has_room}
 use Rattle.segclient.specs.declared.put.PutAnswer.{PutAnswer}
 use Rattle.segclient.specs.declared.put.PutAnswer.TheVariants as put
 use Rattle.segclient.specs.declared.room.Effort.{Effort}
-use Rattle.segclient.specs.PutCalls.{PutCall, sets, evicts, keeps, refills, Plan, IsRefused, Makes}
-use Rattle.segclient.specs.Putting.{IsEffort, is_stored, IsOpen, LacksRoom, MayFollow, IsOrdered, busy_sets, AreRefused, IsPutAnswer, is_late, MakesPut, MakesRoom, room_plan, WasEmptied}
-use Rattle.segclient.specs.PutParts.{AreSets, Empties, Sets, SetsIfFresh}
-use Rattle.segclient.proofs.Calls.{both, effort_from, effort_more, effort_then, no_effort, made_same, makes_same, makes_then, makes_within, one_more, refused_then, room_within, last_of}
+use Rattle.segclient.specs.PutCalls.{PutCall, gets, sets, evicts, keeps, refills, Plan, Makes}
+use Rattle.segclient.specs.PutParts.{AreOpen, AreSets, busy_sets, effort_from, Empties, EndsSo, IsEffort, is_stale, MakesPut, MakesRoom, room_plan, Sets, SetsIfFresh, WasEmptied}
+use Rattle.segclient.specs.Putting.{SetsUntilFull}
+use Rattle.segclient.proofs.Calls.{both, effort_more, effort_one, effort_then, no_effort, made_same, makes_same, makes_then, makes_within, one_more, refused_then, room_within, last_of, taken_evicted}
 
--- ---- some calls and then more
+-- ---- calls that don't store
 
-lacks_then : (stale late : Bool) (before : PutCall) (later earlier : List PutCall) → LacksRoom stale (before ∷ later) → LacksRoom late (before ∷ later ++ earlier)
-lacks_then stale late (sets write.NoRoom) later earlier is = tt
-lacks_then stale late (sets write.BucketFull) later earlier is = tt
-lacks_then stale late (sets told) later earlier is = is
-lacks_then stale late (evicts segment told) later earlier is = tt
-lacks_then stale late (keeps segment cutoff told) later earlier is = tt
-lacks_then stale late (refills segment told) later earlier is = tt
+abbrev IsOpen : PutCall → Type 0
+IsOpen call = call ≢ sets write.Stored
 
--- what follows a call goes by that call alone
-follows_then : (stale late : Bool) (call before : PutCall) (later earlier : List PutCall) → MayFollow stale (before ∷ later) call → MayFollow late (before ∷ later ++ earlier) call
-follows_then stale late (sets told) before later earlier is = is
-follows_then stale late (evicts segment told) before later earlier is = lacks_then stale late before later earlier is
-follows_then stale late (keeps segment cutoff told) before later earlier is = lacks_then stale late before later earlier is
-follows_then stale late (refills segment told) before later earlier is = lacks_then stale late before later earlier is
+pub open_none : AreOpen []
+open_none = All-nil IsOpen
 
-first_follows : (stale late : Bool) (call : PutCall) (earlier : List PutCall) → (late ≡ true → LacksRoom stale earlier) → IsOpen earlier → MayFollow late [] call → MayFollow stale earlier call
-first_follows stale late (sets told) earlier lacks goes is = goes
-first_follows stale late (evicts segment told) earlier lacks goes is = lacks is
-first_follows stale late (keeps segment cutoff told) earlier lacks goes is = lacks is
-first_follows stale late (refills segment told) earlier lacks goes is = lacks is
+pub open_more : (call : PutCall) (calls : List PutCall) → call ≢ sets write.Stored → AreOpen calls → AreOpen (call ∷ calls)
+open_more call calls is are = All-cons IsOpen call calls is are
 
-pub ordered_then : (stale late : Bool) (later earlier : List PutCall) → (late ≡ true → LacksRoom stale earlier) → IsOpen earlier → IsOrdered late later → IsOrdered stale earlier → IsOrdered stale (later ++ earlier)
-unfolding IsOrdered
-ordered_then stale late [] earlier lacks goes is one = one
-ordered_then stale late (call ∷ []) earlier lacks goes is one = (first_follows stale late call earlier lacks goes is.0, one)
-ordered_then stale late (call ∷ before ∷ later) earlier lacks goes is one = (follows_then late stale call before later earlier is.0, ordered_then stale late (before ∷ later) earlier lacks goes is.1 one)
+pub open_then : (later earlier : List PutCall) → AreOpen later → AreOpen earlier → AreOpen (later ++ earlier)
+open_then later earlier then first = All-append IsOpen later earlier then first
+
+full_apart : sets write.BucketFull ≢ sets write.Stored
+full_apart e = cc
+
+no_room_apart : sets write.NoRoom ≢ sets write.Stored
+no_room_apart e = cc
+
+busy_apart : sets write.Busy ≢ sets write.Stored
+busy_apart e = cc
+
+pub gets_apart : gets ≢ sets write.Stored
+gets_apart e = cc
+
+evict_apart : (segment : ℕ) (told : EvictAnswer) → evicts segment told ≢ sets write.Stored
+evict_apart segment told e = cc
+
+pub full_stored : put.BucketFull ≢ put.Stored
+full_stored e = cc
+
+pub busy_stored : put.Busy ≢ put.Stored
+busy_stored e = cc
+
+pub no_room_stored : put.NoRoom ≢ put.Stored
+no_room_stored e = cc
+
+-- those of room have no set
+pub room_open : (b : Board) (cutoff : Option ℕ) (deadline : ℕ) (calls : List PutCall) (p q : Pass) → Makes b (room_plan cutoff deadline) calls p q → AreOpen calls
+room_open b cutoff deadline [] p q makes = open_none
+room_open b cutoff deadline (gets ∷ earlier) p q makes =
+    let last = last_of b (room_plan cutoff deadline) gets earlier p q makes in open_more gets earlier gets_apart (room_open b cutoff deadline earlier p last.0 last.1)
+room_open b cutoff deadline (sets told ∷ earlier) p q makes =
+    let last = last_of b (room_plan cutoff deadline) (sets told) earlier p q makes in absurd (none-some last.2.0 last.2.1)
+room_open b cutoff deadline (evicts segment told ∷ earlier) p q makes =
+    let last = last_of b (room_plan cutoff deadline) (evicts segment told) earlier p q makes in open_more (evicts segment told) earlier (evict_apart segment told) (room_open b cutoff deadline earlier p last.0 last.1)
+room_open b cutoff deadline (keeps segment row by told ∷ earlier) p q makes =
+    let last = last_of b (room_plan cutoff deadline) (keeps segment row by told) earlier p q makes in open_more (keeps segment row by told) earlier (λ e. cc) (room_open b cutoff deadline earlier p last.0 last.1)
+room_open b cutoff deadline (refills segment told ∷ earlier) p q makes =
+    let last = last_of b (room_plan cutoff deadline) (refills segment told) earlier p q makes in open_more (refills segment told) earlier (λ e. cc) (room_open b cutoff deadline earlier p last.0 last.1)
 
 -- ---- sets in a row
 
-open_busy : (busy : ℕ) → IsOpen (busy_sets busy)
+busy_open : (busy : ℕ) → AreOpen (busy_sets busy)
 unfolding busy_sets
-open_busy zero = tt
-open_busy (suc busy) = refl
+busy_open zero = open_none
+busy_open (suc busy) = open_more (sets write.Busy) (busy_sets busy) busy_apart (busy_open busy)
 
-ordered_busy : (stale : Bool) (busy : ℕ) → IsOrdered stale (busy_sets busy)
-unfolding IsOrdered busy_sets
-ordered_busy stale zero = tt
-ordered_busy stale (suc busy) = (open_busy busy, ordered_busy stale busy)
-
-ordered_set : (stale : Bool) (told : WriteAnswer) (busy : ℕ) → IsOrdered stale (sets told ∷ busy_sets busy)
-unfolding IsOrdered
-ordered_set stale told busy = (open_busy busy, ordered_busy stale busy)
-
-ordered_sets : (stale : Bool) (told : PutAnswer) (calls : List PutCall) → AreSets told calls → IsOrdered stale calls
-ordered_sets stale put.Stored calls (busy, is) = subst (IsOrdered stale) (sym is) (ordered_set stale write.Stored busy)
-ordered_sets stale put.NoRoom calls (busy, is) = subst (IsOrdered stale) (sym is) (ordered_set stale write.NoRoom busy)
-ordered_sets stale put.BucketFull calls (busy, is) = subst (IsOrdered stale) (sym is) (ordered_set stale write.BucketFull busy)
-ordered_sets stale put.Busy calls is = subst (IsOrdered stale) (sym is) (ordered_busy stale 16)
+sets_open : (told : PutAnswer) (calls : List PutCall) → told ≢ put.Stored → AreSets told calls → AreOpen calls
+sets_open put.Stored calls other is = absurd (other refl)
+sets_open put.NoRoom calls other (busy, is) = subst AreOpen (sym is) (open_more (sets write.NoRoom) (busy_sets busy) no_room_apart (busy_open busy))
+sets_open put.BucketFull calls other (busy, is) = subst AreOpen (sym is) (open_more (sets write.BucketFull) (busy_sets busy) full_apart (busy_open busy))
+sets_open put.Busy calls other is = subst AreOpen (sym is) (busy_open 16)
 
 effort_busy : (busy : ℕ) → IsEffort (busy_sets busy) (effort_from 0 0 0)
 unfolding busy_sets
@@ -82,60 +97,70 @@ effort_sets put.NoRoom calls (busy, is) = subst (λ l. IsEffort l (effort_from 0
 effort_sets put.BucketFull calls (busy, is) = subst (λ l. IsEffort l (effort_from 0 0 0)) (sym is) (effort_set write.BucketFull busy)
 effort_sets put.Busy calls is = subst (λ l. IsEffort l (effort_from 0 0 0)) (sym is) (effort_busy 16)
 
-answer_sets : (b : Board) (p : Pass) (told : PutAnswer) (calls : List PutCall) → told ≢ put.NoRoom → AreSets told calls → IsPutAnswer b p told calls
-answer_sets b p put.Stored calls other (busy, is) = (busy_sets busy, is)
-answer_sets b p put.NoRoom calls other is = absurd (other refl)
-answer_sets b p put.BucketFull calls other (busy, is) = (busy_sets busy, is)
-answer_sets b p put.Busy calls other is = ([], is ∙ sym (append-nil (busy_sets 16)))
+ends_sets : (shape : Shape) (pass : ℕ) (told : PutAnswer) (calls : List PutCall) → told ≢ put.NoRoom → AreSets told calls → EndsSo shape pass told calls
+ends_sets shape pass put.Stored calls other (busy, is) = (busy_sets busy, is, busy_open busy)
+ends_sets shape pass put.NoRoom calls other is = absurd (other refl)
+ends_sets shape pass put.BucketFull calls other is = ((busy_sets is.0, is.1), sets_open put.BucketFull calls full_stored is)
+ends_sets shape pass put.Busy calls other is = (([], is ∙ sym (append-nil (busy_sets 16))), sets_open put.Busy calls busy_stored is)
 
-answer_then : (b : Board) (p q : Pass) (told : PutAnswer) (later earlier : List PutCall) → number q ≡ number p → IsPutAnswer b q told later → IsPutAnswer b p told (later ++ earlier)
-answer_then b p q put.Stored later earlier same (rest, is) = (rest ++ earlier, ap (λ l. l ++ earlier) is)
-answer_then b p q put.NoRoom later earlier same refused = λ segment own. refused_then segment later earlier (refused segment (own ∙ sym same))
-answer_then b p q put.BucketFull later earlier same (rest, is) = (rest ++ earlier, ap (λ l. l ++ earlier) is)
-answer_then b p q put.Busy later earlier same (rest, is) = (rest ++ earlier, ap (λ l. l ++ earlier) is ∙ append_assoc (busy_sets 16) rest earlier)
+ends_then : (shape : Shape) (from to : ℕ) (told : PutAnswer) (later earlier : List PutCall) → to ≡ from → AreOpen earlier → EndsSo shape to told later → EndsSo shape from told (later ++ earlier)
+ends_then shape from to put.Stored later earlier same are (rest, is, goes) = (rest ++ earlier, ap (λ l. l ++ earlier) is, open_then rest earlier goes are)
+ends_then shape from to put.NoRoom later earlier same are (refused, goes) = ((λ segment own. refused_then segment later earlier (refused segment (own ∙ sym same))), open_then later earlier goes are)
+ends_then shape from to put.BucketFull later earlier same are ((rest, is), goes) = ((rest ++ earlier, ap (λ l. l ++ earlier) is), open_then later earlier goes are)
+ends_then shape from to put.Busy later earlier same are ((rest, is), goes) = ((rest ++ earlier, ap (λ l. l ++ earlier) is ∙ append_assoc (busy_sets 16) rest earlier), open_then later earlier goes are)
 
-cons_nil : (call : PutCall) (later : List PutCall) → call ∷ later ≡ [] → ⊥
-cons_nil call later e = cc
+-- ---- no room until the bucket was full
 
--- ---- room alone
+until_busy : (busy : ℕ) → SetsUntilFull (busy_sets busy)
+unfolding busy_sets SetsUntilFull
+until_busy zero = tt
+until_busy (suc busy) = until_busy busy
 
-module _ (b : Board) (plan : Plan) (none : plan.request ≡ None) where
-  lacks_any : (stale : Bool) (earlier : List PutCall) (p q : Pass) → (earlier ≡ [] → stale ≡ true) → Makes b plan earlier p q → LacksRoom stale earlier
-  lacks_any stale [] p q from makes = from refl
-  lacks_any stale (sets told ∷ earlier) p q from makes = let last = last_of b plan (sets told) earlier p q makes in absurd (none-some last.2.0 (sym none ∙ last.2.1))
-  lacks_any stale (evicts segment told ∷ earlier) p q from makes = tt
-  lacks_any stale (keeps segment cutoff told ∷ earlier) p q from makes = tt
-  lacks_any stale (refills segment told ∷ earlier) p q from makes = tt
+until_set : (told : WriteAnswer) (busy : ℕ) → SetsUntilFull (sets told ∷ busy_sets busy)
+unfolding SetsUntilFull
+until_set told busy = until_busy busy
 
-  pub room_ordered : (calls : List PutCall) (p q : Pass) → Makes b plan calls p q → IsOrdered true calls
-  unfolding IsOrdered
-  room_ordered [] p q makes = tt
-  room_ordered (sets told ∷ earlier) p q makes = let last = last_of b plan (sets told) earlier p q makes in absurd (none-some last.2.0 (sym none ∙ last.2.1))
-  room_ordered (evicts segment told ∷ earlier) p q makes = let last = last_of b plan (evicts segment told) earlier p q makes in (lacks_any true earlier p last.0 (λ e. refl) last.1, room_ordered earlier p last.0 last.1)
-  room_ordered (keeps segment cutoff told ∷ earlier) p q makes = let last = last_of b plan (keeps segment cutoff told) earlier p q makes in (lacks_any true earlier p last.0 (λ e. refl) last.1, room_ordered earlier p last.0 last.1)
-  room_ordered (refills segment told ∷ earlier) p q makes = let last = last_of b plan (refills segment told) earlier p q makes in (lacks_any true earlier p last.0 (λ e. refl) last.1, room_ordered earlier p last.0 last.1)
+until_sets : (told : PutAnswer) (calls : List PutCall) → AreSets told calls → SetsUntilFull calls
+until_sets put.Stored calls (busy, is) = subst SetsUntilFull (sym is) (until_set write.Stored busy)
+until_sets put.NoRoom calls (busy, is) = subst SetsUntilFull (sym is) (until_set write.NoRoom busy)
+until_sets put.BucketFull calls (busy, is) = subst SetsUntilFull (sym is) (until_set write.BucketFull busy)
+until_sets put.Busy calls is = subst SetsUntilFull (sym is) (until_busy 16)
 
-  -- after room was made it may be made again, and a set may follow
-  pub lacks_on : (stale : Bool) (later earlier : List PutCall) (p q : Pass) → LacksRoom stale earlier → Makes b plan later p q → LacksRoom stale (later ++ earlier)
-  lacks_on stale [] earlier p q lacks makes = lacks
-  lacks_on stale (call ∷ later) earlier p q lacks makes = lacks_then stale stale call later earlier (lacks_any stale (call ∷ later) p q (λ e. absurd (cons_nil call later e)) makes)
+until_evict : (segment : ℕ) (told : EvictAnswer) (earlier : List PutCall) → Contains earlier (sets write.BucketFull) → SetsUntilFull earlier → SetsUntilFull (evicts segment told ∷ earlier)
+unfolding SetsUntilFull
+until_evict segment told earlier full are = (full, are)
 
-  pub open_on : (later earlier : List PutCall) (p q : Pass) → IsOpen earlier → Makes b plan later p q → IsOpen (later ++ earlier)
-  open_on [] earlier p q goes makes = goes
-  open_on (sets told ∷ later) earlier p q goes makes = let last = last_of b plan (sets told) later p q makes in absurd (none-some last.2.0 (sym none ∙ last.2.1))
-  open_on (evicts segment told ∷ later) earlier p q goes makes = refl
-  open_on (keeps segment cutoff told ∷ later) earlier p q goes makes = refl
-  open_on (refills segment told ∷ later) earlier p q goes makes = refl
+-- calls before which a set found it full
+until_then : (later earlier : List PutCall) → Contains earlier (sets write.BucketFull) → SetsUntilFull earlier → SetsUntilFull (later ++ earlier)
+unfolding SetsUntilFull
+until_then [] earlier full are = are
+until_then (gets ∷ later) earlier full are = until_then later earlier full are
+until_then (sets told ∷ later) earlier full are = until_then later earlier full are
+until_then (evicts segment told ∷ later) earlier full are = (Contains-append_right later earlier (sets write.BucketFull) full, until_then later earlier full are)
+until_then (keeps segment row by told ∷ later) earlier full are = (Contains-append_right later earlier (sets write.BucketFull) full, until_then later earlier full are)
+until_then (refills segment told ∷ later) earlier full are = (Contains-append_right later earlier (sets write.BucketFull) full, until_then later earlier full are)
+
+-- calls, and others before them
+pub until_both : (later earlier : List PutCall) → SetsUntilFull later → SetsUntilFull earlier → SetsUntilFull (later ++ earlier)
+unfolding SetsUntilFull
+until_both [] earlier then first = first
+until_both (gets ∷ later) earlier then first = until_both later earlier then first
+until_both (sets told ∷ later) earlier then first = until_both later earlier then first
+until_both (evicts segment told ∷ later) earlier then first = (Contains-append_left later earlier (sets write.BucketFull) then.0, until_both later earlier then.1 first)
+until_both (keeps segment row by told ∷ later) earlier then first = (Contains-append_left later earlier (sets write.BucketFull) then.0, until_both later earlier then.1 first)
+until_both (refills segment told ∷ later) earlier then first = (Contains-append_left later earlier (sets write.BucketFull) then.0, until_both later earlier then.1 first)
+
+-- ---- efforts
 
 -- the same with other numbers
-pub as_many : (b : Board) (plan : Plan) (most total : ℕ) (told : PutAnswer) (first effort : Effort) (p q : Pass) → most ≤ total → first ≡ effort → MakesPut b plan most told first p q → MakesPut b plan total told effort p q
-as_many b plan most total told first effort p q enough same puts = record {
+pub as_many : (b : Board) (plan : Plan) (moment most total : ℕ) (told : PutAnswer) (first effort : Effort) (p q : Pass) → most ≤ total → first ≡ effort → MakesPut b plan moment most told first p q → MakesPut b plan moment total told effort p q
+as_many b plan moment most total told first effort p q enough same puts = record {
   calls = puts.calls;
   makes = puts.makes;
   few = let few = puts.few in omega (arith, few, enough);
-  ordered = puts.ordered;
   comes = subst (IsEffort puts.calls) same puts.comes;
-  answer = puts.answer;
+  ends = puts.ends;
+  spares = puts.spares;
 }
 
 -- nothing and then more
@@ -152,114 +177,109 @@ more_none effort = ap (λ (n : ℕ). effort_from n (effort.kept + 0) (effort.key
 
 -- ---- a put that goes on
 
-module _ (b : Board) (plan : Plan) where
-  -- it made calls after which room may be made
+module _ (b : Board) (plan : Plan) (moment : ℕ) where
+  -- it made calls after which room may be made, since there is none for it
   pub record GoesOnSo (most : ℕ) (effort : Effort) (p q : Pass) : Type 0 where
     pub calls : List PutCall
     pub makes : Makes b plan calls p q
     pub few : length calls ≤ most
-    pub ordered : IsOrdered (is_late plan.request p) calls
-    pub lacks : LacksRoom (is_late plan.request p) calls
-    pub goes : IsOpen calls
+    pub all_open : AreOpen calls
     pub comes : IsEffort calls effort
-
-  no_room_open : (stale : Bool) (calls : List PutCall) → AreSets put.NoRoom calls → LacksRoom stale calls × IsOpen calls
-  no_room_open stale calls (busy, is) = (subst (LacksRoom stale) (sym is) tt, subst IsOpen (sym is) refl)
-
-  full_open : (stale : Bool) (calls : List PutCall) → (earlier : List PutCall) × (calls ≡ sets write.BucketFull ∷ earlier) → LacksRoom stale calls × IsOpen calls
-  full_open stale calls (earlier, is) = (subst (LacksRoom stale) (sym is) tt, subst IsOpen (sym is) refl)
+    pub lacks : is_stale moment p ≡ false → has_room b.shape p ≡ true → ⊥
 
   -- a set that lacked room
-  pub lacked : (p q : Pass) → SetsIfFresh b plan put.NoRoom p q → GoesOnSo 16 (effort_from 0 0 0) p q
-  unfolding IsOrdered
+  pub lacked : (p q : Pass) → SetsIfFresh b plan moment put.NoRoom p q → GoesOnSo 16 (effort_from 0 0 0) p q
   lacked p q (inl (late, is, same)) = record {
     calls = [];
     makes = made_same b plan p q same;
     few = omega arith;
-    ordered = tt;
-    lacks = late;
-    goes = tt;
+    all_open = open_none;
     comes = no_effort;
+    lacks = λ fresh left. false≢true (sym fresh ∙ late);
   }
   lacked p q (inr one) = record {
     calls = one.calls;
     makes = one.makes;
     few = one.few;
-    ordered = ordered_sets (is_late plan.request p) put.NoRoom one.calls one.are;
-    lacks = (no_room_open (is_late plan.request p) one.calls one.are).0;
-    goes = (no_room_open (is_late plan.request p) one.calls one.are).1;
+    all_open = sets_open put.NoRoom one.calls no_room_stored one.are;
     comes = effort_sets put.NoRoom one.calls one.are;
+    lacks = λ fresh left. false≢true (sym (one.no_room refl) ∙ left);
   }
 
   -- an answer that ends a put
-  pub sets_end : (most : ℕ) (told : PutAnswer) (p q : Pass) → 16 ≤ most → told ≢ put.NoRoom → SetsIfFresh b plan told p q → MakesPut b plan most told (effort_from 0 0 0) p q
+  pub sets_end : (most : ℕ) (told : PutAnswer) (p q : Pass) → 16 ≤ most → told ≢ put.NoRoom → SetsIfFresh b plan moment told p q → MakesPut b plan moment most told (effort_from 0 0 0) p q
   sets_end most told p q enough other (inl (late, is, same)) = absurd (other is)
   sets_end most told p q enough other (inr one) = record {
     calls = one.calls;
     makes = one.makes;
     few = let few = one.few in omega (arith, few, enough);
-    ordered = ordered_sets (is_late plan.request p) told one.calls one.are;
     comes = effort_sets told one.calls one.are;
-    answer = answer_sets b p told one.calls other one.are;
+    ends = ends_sets b.shape (number p) told one.calls other one.are;
+    spares = λ fresh left. until_sets told one.calls one.are;
   }
 
   module _ (most : ℕ) (first : Effort) (p q r : Pass) (one : GoesOnSo most first p q) where
     -- room was made, or not
-    module _ (more : ℕ) (made : Bool) (effort : Effort) (room : MakesRoom b (room_plan plan.cutoff plan.deadline) more made effort q r) where
-      pub wide : Makes b plan room.calls q r
-      wide = makes_within b (room_plan plan.cutoff plan.deadline) plan (room_within plan.deadline plan plan.cutoff refl refl) room.calls q r room.makes
+    module _ (more : ℕ) (made : Bool) (effort : Effort) (room : MakesRoom b plan.cutoff plan.deadline more made effort q r) where
+      pub wide : Makes b plan room.arranges.calls q r
+      wide = makes_within b (room_plan plan.cutoff plan.deadline) plan (room_within plan.deadline plan plan.cutoff refl refl) room.arranges.calls q r room.arranges.makes
 
       abbrev pub room_on : GoesOnSo (most + more) (both first effort) p r
       room_on = record {
-        calls = room.calls ++ one.calls;
-        makes = makes_then b plan room.calls one.calls p q r one.makes wide;
-        few = let long = length-append room.calls one.calls in let x = one.few in let y = room.few in omega (arith, long, x, y);
-        ordered = ordered_then (is_late plan.request p) true room.calls one.calls (λ e. one.lacks) one.goes (room_ordered b (room_plan plan.cutoff plan.deadline) refl room.calls q r room.makes) one.ordered;
-        lacks = lacks_on b (room_plan plan.cutoff plan.deadline) refl (is_late plan.request p) room.calls one.calls q r one.lacks room.makes;
-        goes = open_on b (room_plan plan.cutoff plan.deadline) refl room.calls one.calls q r one.goes room.makes;
-        comes = effort_then room.calls one.calls first effort one.comes room.comes;
+        calls = room.arranges.calls ++ one.calls;
+        makes = makes_then b plan room.arranges.calls one.calls p q r one.makes wide;
+        few = let long = length-append room.arranges.calls one.calls in let x = one.few in let y = room.arranges.few in omega (arith, long, x, y);
+        all_open = open_then room.arranges.calls one.calls (room_open b plan.cutoff plan.deadline room.arranges.calls q r room.arranges.makes) one.all_open;
+        comes = effort_then room.arranges.calls one.calls first effort one.comes room.arranges.comes;
+        lacks = one.lacks;
       }
 
-      pub no_room_end : made ≡ false → MakesPut b plan (most + more) put.NoRoom (both first effort) p r
+      pub no_room_end : made ≡ false → MakesPut b plan moment (most + more) put.NoRoom (both first effort) p r
       no_room_end none = record {
         calls = room_on.calls;
         makes = room_on.makes;
         few = room_on.few;
-        ordered = room_on.ordered;
         comes = room_on.comes;
-        answer = λ segment own. refused_then segment room.calls one.calls (room.refused none segment (own ∙ sym (makes_same b plan one.calls p q one.makes)));
+        ends = (
+          λ segment own. refused_then segment room.arranges.calls one.calls (room.refused none segment (own ∙ sym (makes_same b plan one.calls p q one.makes))),
+          room_on.all_open,
+        );
+        spares = λ fresh left. absurd (one.lacks fresh left);
       }
 
     -- a set, for which room was made
-    pub sets_on : (told : PutAnswer) → told ≢ put.NoRoom → Sets b plan told q r → MakesPut b plan (most + 16) told first p r
+    pub sets_on : (told : PutAnswer) → told ≢ put.NoRoom → Sets b plan told q r → MakesPut b plan moment (most + 16) told first p r
     sets_on told other last = record {
       calls = last.calls ++ one.calls;
       makes = makes_then b plan last.calls one.calls p q r one.makes last.makes;
       few = let long = length-append last.calls one.calls in let x = one.few in let y = last.few in omega (arith, long, x, y);
-      ordered = ordered_then (is_late plan.request p) (is_late plan.request q) last.calls one.calls (λ e. one.lacks) one.goes (ordered_sets (is_late plan.request q) told last.calls last.are) one.ordered;
       comes = subst (IsEffort (last.calls ++ one.calls)) (more_none first) (effort_then last.calls one.calls first (effort_from 0 0 0) one.comes (effort_sets told last.calls last.are));
-      answer = answer_then b p q told last.calls one.calls (makes_same b plan one.calls p q one.makes) (answer_sets b q told last.calls other last.are);
+      ends = ends_then b.shape (number p) (number q) told last.calls one.calls (makes_same b plan one.calls p q one.makes) one.all_open (ends_sets b.shape (number q) told last.calls other last.are);
+      spares = λ fresh left. absurd (one.lacks fresh left);
     }
 
   -- a put whose bucket was full, and that went on once a segment was evicted
   pub whole : (most total : ℕ) (told : PutAnswer) (first out last effort : Effort) (p q r t : Pass) → most + 1 + most ≤ total → both (both first out) last ≡ effort
-      → MakesPut b plan most put.BucketFull first p q → Empties b out q r → MakesPut b plan most told last r t
-      → (puts : MakesPut b plan total told effort p t) × (told ≡ put.BucketFull → WasEmptied puts.calls)
-  unfolding IsOrdered
+      → MakesPut b plan moment most put.BucketFull first p q → Empties b out q r → MakesPut b plan moment most told last r t
+      → (puts : MakesPut b plan moment total told effort p t) × (told ≡ put.BucketFull → WasEmptied puts.calls)
   whole most total told first out last effort p q r t enough sum full empties then =
       let segment = empties.segment in
       let answer = empties.told in
-      let makes = one_more b plan (evicts segment answer) full.calls p q r full.makes (empties.call plan full.calls) in
-      let late = is_late plan.request p in
-      let follows = full_open late full.calls full.answer in (
+      let own = empties.own ∙ makes_same b plan full.calls p q full.makes in
+      let makes = one_more b plan (evicts segment answer) full.calls p q r full.makes (empties.own, empties.evicts) in
+      let was_full = subst (λ l. Contains l (sets write.BucketFull)) (sym full.ends.0.1) (Contains-append_left (sets write.BucketFull ∷ []) full.ends.0.0 (sets write.BucketFull) (Contains-push [] (sets write.BucketFull))) in
+      let alone : IsEffort (evicts segment answer ∷ []) out = effort_one (evicts segment answer) out (ap (λ (e : Effort). e.refilled) empties.comes) (ap (λ (e : Effort). e.kept) empties.comes) (ap (λ (e : Effort). e.keys) empties.comes ∙ taken_evicted segment answer) in (
         record {
           calls = then.calls ++ evicts segment answer ∷ full.calls;
           makes = makes_then b plan then.calls (evicts segment answer ∷ full.calls) p r t makes then.makes;
           few = let long = length-append then.calls (evicts segment answer ∷ full.calls) in let x = full.few in let y = then.few in omega (arith, long, x, y, enough);
-          ordered = ordered_then late (is_late plan.request r) then.calls (evicts segment answer ∷ full.calls) (λ e. tt) refl then.ordered (follows.0, full.ordered);
           comes = subst (IsEffort (then.calls ++ evicts segment answer ∷ full.calls)) sum
-              (effort_then then.calls (evicts segment answer ∷ full.calls) (both first out) last (effort_then (evicts segment answer ∷ []) full.calls first out full.comes empties.comes) then.comes);
-          answer = answer_then b p r told then.calls (evicts segment answer ∷ full.calls) (makes_same b plan (evicts segment answer ∷ full.calls) p r makes) then.answer;
+              (effort_then then.calls (evicts segment answer ∷ full.calls) (both first out) last (effort_then (evicts segment answer ∷ []) full.calls first out full.comes alone) then.comes);
+          ends = ends_then b.shape (number p) (number r) told then.calls (evicts segment answer ∷ full.calls) (makes_same b plan (evicts segment answer ∷ full.calls) p r makes)
+              (open_more (evicts segment answer) full.calls (evict_apart segment answer) full.ends.1) then.ends;
+          spares = λ fresh left. until_then then.calls (evicts segment answer ∷ full.calls)
+              (Contains-append_right (evicts segment answer ∷ []) full.calls (sets write.BucketFull) was_full)
+              (until_evict segment answer full.calls was_full (full.spares fresh left));
         },
-        λ again. (then.calls, segment, answer, full.answer.0, ap (λ l. then.calls ++ evicts segment answer ∷ l) full.answer.1),
+        λ again. (then.calls, segment, answer, full.ends.0.0, ap (λ l. then.calls ++ evicts segment answer ∷ l) full.ends.0.1),
       )

@@ -1,29 +1,27 @@
 -- What a pass can store once segments were refilled, kept from or given up, and which ones were refused.
-use Rattle.std.proofs.Common.{◌≡◌, ◌≢◌, ◌⊎◌, ℕ, ◌+◌, ◌*◌, ◌≤◌, Bool, true, false, List, [], ◌∷◌, ◌++◌, length, length-append, Option, Some, None, option_and_then, is_some, refl, sym, ap, ◌∙◌, subst, inl, inr, lt-ltb, eqb, arith}
+use Rattle.std.proofs.Common.{◌≡◌, ◌≢◌, ℕ, ◌+◌, ◌≤◌, Bool, true, false, ◌∷◌, Option, Some, None, option_and_then, is_some, refl, sym, ap, ◌∙◌, inl, inr, lt-ltb, eqb, arith}
 use Rattle.std.proofs.lemmas.Bool.{false≢true, cond-true, eq-eqb}
-use Rattle.std.proofs.lemmas.Option.{same_Some, none-some}
 use Rattle.segmodel.specs.declared.answer.EvictAnswer.TheVariants as evict
-use Rattle.segmodel.specs.declared.answer.KeepAnswer.TheVariants as keep
 use Rattle.segmodel.specs.declared.answer.RefillAnswer.TheVariants as refill
-use Rattle.segmodel.specs.declared.answer.SegState.TheVariants.{InUse, Evicted}
-use Rattle.segmodel.specs.Words.{but_for, EvictAnswer, KeepAnswer, owner}
+use Rattle.segmodel.specs.declared.answer.SegState.TheVariants.{Evicted}
+use Rattle.segmodel.specs.Words.{but_for, EvictAnswer, owner}
 use Rattle.segbase.specs.declared.pass.Plain.{Plain}
 use Rattle.segbase.specs.Words.{Board, current_of, deadline_in, deadline_of, number, own_segment, Pass, state_of, used_in, used_of}
 use Rattle.segbase.proofs.Known.{deadline_stated}
 use Rattle.segbase.proofs.Owned.{state_there}
-use Rattle.segstore.specs.Words.{has_room, is_below}
+use Rattle.segstore.specs.Words.{ChangesNothing, has_room, is_below, IsQuiet}
 use Rattle.segstore.proofs.Keeping.{refilled_used, refilled_deadline}
-use Rattle.segpass.specs.Words.{GoesOn, IsQuiet}
 use Rattle.segevict.specs.Evicting.{ended}
-use Rattle.segevict.specs.Words.{EvictsSegment, IsEvictAnswer, IsKeepAnswer, KeepsItems, MovesAway}
+use Rattle.segevict.specs.declared.retention.KeepRowAnswer.{KeepRowAnswer}
+use Rattle.segevict.specs.declared.retention.KeepRowAnswer.TheVariants as kept
+use Rattle.segevict.specs.Words.{EvictsSegment, IsEvictAnswer, IsKeepRowAnswer, KeepsItem}
 use Rattle.segevict.proofs.Evictions.{but_other}
 use Rattle.segindex.specs.Refilling.{RefillsSegment}
 use Rattle.segindex.proofs.QuietPass.{owned}
-use Rattle.segclient.specs.PutCalls.{PutCall, evicts, keeps, refills, IsRefused, AreOthersRefused, deadline_at, current_deadline, Makes}
-use Rattle.segclient.specs.Putting.{IsEffort, MakesRoom, room_plan}
+use Rattle.segclient.specs.PutCalls.{evicts, refills, IsRefused, StoresUntil}
 use Rattle.segclient.specs.declared.room.Effort.{Effort}
-use Rattle.segclient.specs.PutParts.{Clears, GivesUp}
-use Rattle.segclient.proofs.Calls.{bare_within, both, effort_from, effort_more, effort_then, makes_then, makes_within, no_effort, none_made, one_more, refused_then, same_effort}
+use Rattle.segclient.specs.PutParts.{Arranges, effort_from, GivesUp, MakesRoom, room_plan, StoresAsBefore}
+use Rattle.segclient.proofs.Calls.{arranges_as, arranges_then, arranges_wider, both, effort_more, one_more, refused_then, same_effort}
 
 -- a pass knows its own segments
 pub own_known : (b : Board) (p : Pass) (segment : ℕ) → IsQuiet b p → owner b.shape segment ≡ number p → state_of p segment ≢ None
@@ -46,12 +44,11 @@ refilled_room b segment deadline p q filled =
     ap (λ (o : Option ℕ). is_below b.shape.rows (option_and_then (used_of q) o)) current ∙ ap (is_below b.shape.rows) used ∙ lt-ltb 0 b.shape.rows (omega (arith, one))
 
 -- and its deadline
-pub refilled_until : (b : Board) (segment deadline : ℕ) (p q : Pass) → RefillsSegment b segment deadline refill.Refilled p q → current_deadline q ≡ Some deadline
+pub refilled_until : (b : Board) (segment deadline : ℕ) (p q : Pass) → RefillsSegment b segment deadline refill.Refilled p q → StoresUntil deadline q
 refilled_until b segment deadline p q filled =
     let is = filled.answer in
     let there = sym (state_there (own_segment p.plain segment)) ∙ is.own in
-    let current : current_of q ≡ Some segment = ap (λ (x : Plain). x.current) is.plain in
-    ap (deadline_at q) current ∙ ap (λ (x : Plain). deadline_in (own_segment x segment)) is.plain ∙ refilled_deadline p.plain segment deadline there
+    (segment, ap (λ (x : Plain). x.current) is.plain, ap (λ (x : Plain). deadline_in (own_segment x segment)) is.plain ∙ refilled_deadline p.plain segment deadline there)
 
 -- ---- an evict, and a keep
 
@@ -75,45 +72,42 @@ evict_deadlines b segment (evict.Evicted keys) p q went s = by went.answer
 evict_deadlines b segment (evict.Busy keys) p q went s = ap (λ (x : Plain). deadline_in (own_segment x s)) went.answer.2
 evict_deadlines b segment evict.NotYours p q went s = ap (λ (r : Pass). deadline_of r s) went.answer
 
-same_deadline : (p q : Pass) → ((s : ℕ) → deadline_of q s ≡ deadline_of p s) → current_of q ≡ current_of p → current_deadline q ≡ current_deadline p
-same_deadline p q each same = ap (deadline_at q) same ∙ by (current_of p)
-  where
-    by : (o : Option ℕ) → deadline_at q o ≡ deadline_at p o
-    by None = refl
-    by (Some segment) = each segment
+until_before : (p q : Pass) → ((s : ℕ) → deadline_of q s ≡ deadline_of p s) → current_of q ≡ current_of p → StoresAsBefore p q
+until_before p q each same = λ until stores. (stores.0, same ∙ stores.1, each stores.0 ∙ stores.2)
 
-pub evict_until : (b : Board) (segment : ℕ) (told : EvictAnswer) (p q : Pass) → EvictsSegment b segment told p q → current_of p ≢ Some segment → current_deadline q ≡ current_deadline p
-evict_until b segment told p q went other = same_deadline p q (evict_deadlines b segment told p q went) (evict_apart b segment told p q went other)
+pub until_same : (p : Pass) → StoresAsBefore p p
+until_same p = λ until stores. stores
 
-module _ (b : Board) (segment cutoff : ℕ) (p q : Pass) where
+pub until_then : (p q r : Pass) → StoresAsBefore p q → StoresAsBefore q r → StoresAsBefore p r
+until_then p q r one then = λ until stores. then until (one until stores)
+
+pub evict_until : (b : Board) (segment : ℕ) (told : EvictAnswer) (p q : Pass) → EvictsSegment b segment told p q → current_of p ≢ Some segment → StoresAsBefore p q
+evict_until b segment told p q went other = until_before p q (evict_deadlines b segment told p q went) (evict_apart b segment told p q went other)
+
+module _ (b : Board) (segment row cutoff : ℕ) (p q : Pass) where
   abbrev IsAsBefore : Type 0
   IsAsBefore = ((s : ℕ) → deadline_of q s ≡ deadline_of p s) × (current_of q ≡ current_of p)
-
-  moved_still : (count : ℕ) → MovesAway b.shape segment cutoff count p q → IsAsBefore
-  moved_still count (in_use, (into, target, moves)) = (moves.uses.deadlines, moves.uses.current)
 
   unmoved : q ≡ p → IsAsBefore
   unmoved same = ((λ s. ap (λ (r : Pass). deadline_of r s) same), ap current_of same)
 
-  keep_still : (told : KeepAnswer) → KeepsItems b segment cutoff told p q → IsAsBefore
-  keep_still (keep.Kept count) stayed = by stayed.answer
-    where
-      by : IsKeepAnswer b.shape segment cutoff (keep.Kept count) p q → IsAsBefore
-      by (inl out) = moved_still count out.0
-      by (inr none) = unmoved none.2
-  keep_still keep.NotYours stayed = unmoved stayed.answer
-  keep_still (keep.NoRoom count) stayed = by stayed.answer
-    where
-      by : IsKeepAnswer b.shape segment cutoff (keep.NoRoom count) p q → IsAsBefore
-      by (inl none) = unmoved none.3
-      by (inr out) = moved_still count out.0
-  keep_still (keep.Busy count) stayed = moved_still count stayed.answer.0
+  unchanged : ChangesNothing p q → IsAsBefore
+  unchanged none = ((λ s. ap (λ (x : Plain). deadline_in (own_segment x s)) none.plain), ap (λ (x : Plain). x.current) none.plain)
 
-  pub keep_apart : (told : KeepAnswer) → KeepsItems b segment cutoff told p q → current_of q ≡ current_of p
-  keep_apart told stayed = (keep_still told stayed).1
+  row_still : (told : KeepRowAnswer) → IsKeepRowAnswer b.shape segment row cutoff told p q → IsAsBefore
+  row_still kept.Moved is = (is.2.deadlines, is.2.current)
+  row_still kept.Left is = unchanged is.2
+  row_still kept.NoRoom (inl none) = unmoved none.1
+  row_still kept.NoRoom (inr out) = unchanged out.2
+  row_still kept.Busy is = unchanged is.2
+  row_still kept.NotYours is = unmoved is
+  row_still kept.NotUsed is = unmoved is
 
-  pub keep_until : (told : KeepAnswer) → KeepsItems b segment cutoff told p q → current_deadline q ≡ current_deadline p
-  keep_until told stayed = same_deadline p q (keep_still told stayed).0 (keep_still told stayed).1
+  pub row_current : (told : KeepRowAnswer) → KeepsItem b segment row cutoff told p q → current_of q ≡ current_of p
+  row_current told stayed = (row_still told stayed.answer).1
+
+  pub row_until : (told : KeepRowAnswer) → KeepsItem b segment row cutoff told p q → StoresAsBefore p q
+  row_until told stayed = let still = row_still told stayed.answer in until_before p q still.0 still.1
 
 -- ---- a segment that couldn't be given up
 
@@ -145,14 +139,10 @@ no_room b p none = ap (λ (o : Option ℕ). is_below b.shape.rows (option_and_th
 -- ---- segments, one after another
 
 -- at most so many calls gave up none, and evicted so many keys
-pub record PassesOver (b : Board) (deadline most keys : ℕ) (p q : Pass) : Type 0 where
-  pub calls : List PutCall
-  pub makes : Makes b (room_plan None deadline) calls p q
-  pub few : length calls ≤ most
-  pub comes : IsEffort calls (effort_from 0 0 keys)
+abbrev pub PassesOver : Board → ℕ → ℕ → ℕ → Pass → Pass → Type 0
+PassesOver b deadline most keys p q = Arranges b None deadline most (effort_from 0 0 keys) p q
 
-module _ (b : Board) (deadline most keys : ℕ) (p q r : Pass) (over : PassesOver b deadline most keys p q) (segment more : ℕ) (own : owner b.shape segment ≡ number q) (spares : current_of q ≡ Some segment → AreOthersRefused b q segment over.calls)
-    (total sum : ℕ) (enough : most + 2 ≤ total) (all : sum ≡ keys + more) where
+module _ (b : Board) (deadline most keys : ℕ) (p q r : Pass) (over : PassesOver b deadline most keys p q) (segment more : ℕ) (own : owner b.shape segment ≡ number q) (total sum : ℕ) (enough : most + 2 ≤ total) (all : sum ≡ keys + more) where
   -- one more was refused
   pub record IsRefusedToo : Type 0 where
     pub next : PassesOver b deadline total sum p r
@@ -164,96 +154,74 @@ module _ (b : Board) (deadline most keys : ℕ) (p q r : Pass) (over : PassesOve
   passes_on (inl busy) = record {
     next = record {
       calls = evicts segment (evict.Busy more) ∷ over.calls;
-      makes = one_more b (room_plan None deadline) (evicts segment (evict.Busy more)) over.calls p q r over.makes (own, spares, busy);
+      makes = one_more b (room_plan None deadline) (evicts segment (evict.Busy more)) over.calls p q r over.makes (own, busy);
       few = let few = over.few in omega (arith, few, enough);
-      comes = same_effort _ (0 + 0) (0 + 0) (keys + more) 0 0 sum refl refl (sym all) (effort_more (evicts segment (evict.Busy more)) over.calls (effort_from 0 0 keys) over.comes);
+      comes = same_effort _ (effort_from (0 + 0) (0 + 0) (keys + more)) (effort_from 0 0 sum) refl refl all (effort_more (evicts segment (evict.Busy more)) over.calls (effort_from 0 0 keys) over.comes);
     };
     here = inl refl;
-    before = λ other was. inr (refl, was);
+    before = λ other was. inr was;
   }
   passes_on (inr (between, out, held)) =
-      let first = one_more b (room_plan None deadline) (evicts segment (evict.Evicted more)) over.calls p q between over.makes (own, spares, out) in
+      let first = one_more b (room_plan None deadline) (evicts segment (evict.Evicted more)) over.calls p q between over.makes (own, out) in
       let one = effort_more (evicts segment (evict.Evicted more)) over.calls (effort_from 0 0 keys) over.comes in
       record {
         next = record {
           calls = refills segment refill.Held ∷ evicts segment (evict.Evicted more) ∷ over.calls;
           makes = one_more b (room_plan None deadline) (refills segment refill.Held) (evicts segment (evict.Evicted more) ∷ over.calls) p between r first (own ∙ sym out.on.same, held);
           few = let few = over.few in omega (arith, few, enough);
-          comes = same_effort _ (0 + 0 + 0) (0 + 0 + 0) (keys + more + 0) 0 0 sum refl refl (omega (arith, all)) (effort_more (refills segment refill.Held) (evicts segment (evict.Evicted more) ∷ over.calls) (effort_from (0 + 0) (0 + 0) (keys + more)) one);
+          comes = same_effort _ (effort_from (0 + 0 + 0) (0 + 0 + 0) (keys + more + 0)) (effort_from 0 0 sum) refl refl (omega (arith, all)) (effort_more (refills segment refill.Held) (evicts segment (evict.Evicted more) ∷ over.calls) (effort_from (0 + 0) (0 + 0) (keys + more)) one);
         };
         here = inl refl;
-        before = λ other was. inr (refl, inr (refl, was));
+        before = λ other was. inr was;
       }
 
   -- it was given up
-  pub gives_up : GivesUp b segment deadline true more q r → MakesRoom b (room_plan None deadline) total true (effort_from 1 0 sum) p r
+  pub gives_up : GivesUp b segment deadline true more q r → MakesRoom b None deadline total true (effort_from 1 0 sum) p r
   gives_up (between, out, filled) =
-      let first = one_more b (room_plan None deadline) (evicts segment (evict.Evicted more)) over.calls p q between over.makes (own, spares, out) in
+      let first = one_more b (room_plan None deadline) (evicts segment (evict.Evicted more)) over.calls p q between over.makes (own, out) in
       let one = effort_more (evicts segment (evict.Evicted more)) over.calls (effort_from 0 0 keys) over.comes in
       record {
-        calls = refills segment refill.Refilled ∷ evicts segment (evict.Evicted more) ∷ over.calls;
-        makes = one_more b (room_plan None deadline) (refills segment refill.Refilled) (evicts segment (evict.Evicted more) ∷ over.calls) p between r first (own ∙ sym out.on.same, filled);
-        few = let few = over.few in omega (arith, few, enough);
-        comes = same_effort _ (0 + 0 + 1) (0 + 0 + 0) (keys + more + 0) 1 0 sum refl refl (omega (arith, all)) (effort_more (refills segment refill.Refilled) (evicts segment (evict.Evicted more) ∷ over.calls) (effort_from (0 + 0) (0 + 0) (keys + more)) one);
+        arranges = record {
+          calls = refills segment refill.Refilled ∷ evicts segment (evict.Evicted more) ∷ over.calls;
+          makes = one_more b (room_plan None deadline) (refills segment refill.Refilled) (evicts segment (evict.Evicted more) ∷ over.calls) p between r first (own ∙ sym out.on.same, filled);
+          few = let few = over.few in omega (arith, few, enough);
+          comes = same_effort _ (effort_from (0 + 0 + 1) (0 + 0 + 0) (keys + more + 0)) (effort_from 1 0 sum) refl refl (omega (arith, all)) (effort_more (refills segment refill.Refilled) (evicts segment (evict.Evicted more) ∷ over.calls) (effort_from (0 + 0) (0 + 0) (keys + more)) one);
+        };
         room = refilled_room b segment deadline between r filled;
-        deadline = λ made. refilled_until b segment deadline between r filled;
+        until = λ made. refilled_until b segment deadline between r filled;
         refused = λ none. absurd (false≢true (sym none));
       }
 
 -- ---- room, and what is kept
 
-pub nothing_cleared : (b : Board) (least : ℕ) (p : Pass) → Clears b least (effort_from 0 0 0) p p
-nothing_cleared b least p = record {
-  calls = [];
-  makes = λ plan is. none_made b plan p;
-  few = omega arith;
-  comes = no_effort;
-  deadline = refl;
-}
-
-module _ (b : Board) (cutoff : Option ℕ) (deadline most total : ℕ) (enough : most + 2 + most ≤ total) where
-  wide : (calls : List PutCall) (p q : Pass) → Makes b (room_plan None deadline) calls p q → Makes b (room_plan cutoff deadline) calls p q
-  wide calls p q = makes_within b (room_plan None deadline) (room_plan cutoff deadline) (bare_within deadline (room_plan cutoff deadline) refl) calls p q
-
+module _ (b : Board) (cutoff : Option ℕ) (deadline : ℕ) where
   -- room that is made for a client that keeps nothing is room for one that keeps
-  pub room_wider : (made : Bool) (effort : Effort) (p q : Pass) → MakesRoom b (room_plan None deadline) most made effort p q → MakesRoom b (room_plan cutoff deadline) total made effort p q
-  room_wider made effort p q room = record {
-    calls = room.calls;
-    makes = wide room.calls p q room.makes;
-    few = let few = room.few in omega (arith, few, enough);
-    comes = room.comes;
-    room = room.room;
-    deadline = room.deadline;
-    refused = room.refused;
+  pub room_wider : (most total : ℕ) (made : Bool) (effort : Effort) (p q : Pass) → most ≤ total → MakesRoom b None deadline most made effort p q → MakesRoom b cutoff deadline total made effort p q
+  room_wider most total made effort p q enough room =
+      let wide = arranges_wider b cutoff deadline most effort p q room.arranges in
+      record {
+        arranges = arranges_as b cutoff deadline most total effort effort p q enough refl refl refl wide.0;
+        room = room.room;
+        until = room.until;
+        refused = λ none segment own. room.refused none segment own;
+      }
+
+  -- calls, after which a row is left in a segment with the deadline
+  pub room_left : (most total : ℕ) (effort : Effort) (p q : Pass) → most ≤ total → Arranges b cutoff deadline most effort p q → has_room b.shape q ≡ true → StoresUntil deadline q → MakesRoom b cutoff deadline total true effort p q
+  room_left most total effort p q enough arranges left stores = record {
+    arranges = arranges_as b cutoff deadline most total effort effort p q enough refl refl refl arranges;
+    room = left;
+    until = λ made. stores;
+    refused = λ none. absurd (false≢true (sym none));
   }
 
-  module _ (first more : Effort) (least : ℕ) (is : cutoff ≡ Some least) (p q r : Pass) (room : MakesRoom b (room_plan None deadline) most true first p q) (clears : Clears b least more q r) where
-    abbrev cleared : List PutCall
-    cleared = clears.calls ++ room.calls
-
-    cleared_makes : Makes b (room_plan cutoff deadline) cleared p r
-    cleared_makes = makes_then b (room_plan cutoff deadline) clears.calls room.calls p q r (wide room.calls p q room.makes) (clears.makes (room_plan cutoff deadline) is)
-
-    -- a row is left
-    pub room_cleared : has_room b.shape r ≡ true → MakesRoom b (room_plan cutoff deadline) total true (both first more) p r
-    room_cleared left = record {
-      calls = cleared;
-      makes = cleared_makes;
-      few = let long = length-append clears.calls room.calls in let x = room.few in let y = clears.few in omega (arith, long, x, y, enough);
-      comes = effort_then clears.calls room.calls first more room.comes clears.comes;
-      room = left;
-      deadline = λ made. clears.deadline ∙ room.deadline refl;
-      refused = λ none. absurd (false≢true (sym none));
-    }
-
-    -- or none, and room was made again, or not
-    pub room_again : (made : Bool) (effort : Effort) (s : Pass) → number r ≡ number p → MakesRoom b (room_plan None deadline) most made effort r s → MakesRoom b (room_plan cutoff deadline) total made (both (both first more) effort) p s
-    room_again made effort s same last = record {
-      calls = last.calls ++ cleared;
-      makes = makes_then b (room_plan cutoff deadline) last.calls cleared p r s cleared_makes (wide last.calls r s last.makes);
-      few = let long = length-append clears.calls room.calls in let all = length-append last.calls cleared in let x = room.few in let y = clears.few in let z = last.few in omega (arith, long, all, x, y, z, enough);
-      comes = effort_then last.calls cleared (both first more) effort (effort_then clears.calls room.calls first more room.comes clears.comes) last.comes;
-      room = last.room;
-      deadline = last.deadline;
-      refused = λ none segment own. refused_then segment last.calls cleared (last.refused none segment (own ∙ sym same));
-    }
+  -- calls, and then room was made, or not
+  pub room_again : (most more total : ℕ) (made : Bool) (first effort all : Effort) (p q r : Pass) → most + more ≤ total → all ≡ both first effort → number q ≡ number p → Arranges b cutoff deadline most first p q → MakesRoom b None deadline more made effort q r → MakesRoom b cutoff deadline total made all p r
+  room_again most more total made first effort all p q r enough sum same one last =
+      let wide = arranges_wider b cutoff deadline more effort q r last.arranges in
+      record {
+        arranges = arranges_as b cutoff deadline (most + more) total (both first effort) all p r enough (ap (λ (e : Effort). e.refilled) sum) (ap (λ (e : Effort). e.kept) sum) (ap (λ (e : Effort). e.keys) sum) (arranges_then b cutoff deadline most more first effort p q r one wide.0);
+        room = last.room;
+        until = last.until;
+        refused = λ none segment own. refused_then segment last.arranges.calls one.calls (last.refused none segment (own ∙ sym same));
+      }

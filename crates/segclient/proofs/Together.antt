@@ -1,10 +1,10 @@
 -- Clients of all passes of an index: as they begin, as they work, and their passes at the end.
-use Rattle.std.proofs.Common.{◌≡◌, ℕ, ◌<◌, List, length, option_map, map, slice_index_or, refl, sym, ap, ◌∙◌, subst}
+use Rattle.std.proofs.Common.{◌≡◌, ℕ, ◌<◌, List, length, option_map, map, slice_index_or, Some, refl, sym, ap, ◌∙◌, subst}
 use Rattle.std.specs.List.{AllZip}
 use Rattle.std.proofs.lemmas.Option.{get_or_from_slice_get, slice_get-get_or, slice_get-map, slice_get_within}
 use Rattle.segword.specs.Words.{Shape}
 use Rattle.segbase.specs.Words.{number, Pass}
-use Rattle.segpass.specs.Words.{IsQuiet}
+use Rattle.segstore.specs.Words.{IsQuiet}
 use Rattle.segindex.specs.Words.{AreAllQuiet, board_of, Index, IsNew}
 use Rattle.segclient.specs.declared.client.Client.{Client}
 use Rattle.segclient.specs.Client.{IsSame, Starts}
@@ -22,17 +22,17 @@ same_then old between new one then = record { index = then.index ∙ one.index; 
 -- ---- all of them
 
 -- clients of all passes of a new index
-pub all_clients : (shape : Shape) (i : Index) (passes : List Pass) (clients : List Client) → IsNew shape i passes → AllZip (Starts i) passes clients → AreAllClients i clients
+pub all_clients : (shape : Shape) (i : Index) (passes : List Pass) (clients : List Client) → IsNew shape i passes → AllZip (Starts i (Some 0)) passes clients → AreAllClients i clients
 all_clients shape i passes clients new zip = record {
-  of = λ place client at. (zip_at (Starts i) passes clients place client zip at).2.index;
+  of = λ place client at. (zip_at (Starts i (Some 0)) passes clients place client zip at).2.index;
   all = λ n below.
       let there = is_there clients n (subst (λ count. n < count) (sym long) below) in
-      let one = zip_at (Starts i) passes clients n there.0 zip there.1 in
+      let one = zip_at (Starts i (Some 0)) passes clients n there.0 zip there.1 in
       (n, there.0, there.1, ap number one.2.member.pass ∙ (new.made.dealt.each n one.0 one.1).number);
 }
   where
     long : length clients ≡ (board_of i).shape.passes
-    long = zip_long (Starts i) passes clients zip ∙ new.made.dealt.long ∙ sym (ap (λ (s : Shape). s.passes) new.made.of)
+    long = zip_long (Starts i (Some 0)) passes clients zip ∙ new.made.dealt.long ∙ sym (ap (λ (s : Shape). s.passes) new.made.of)
 
 -- they stay so while each stays the same
 pub still_all : (i : Index) (old new : List Client) → length new ≡ length old → ((n : ℕ) (client : Client) → n < length old → IsSame (slice_index_or old n client) (slice_index_or new n client)) → AreAllClients i old → AreAllClients i new

@@ -1,5 +1,6 @@
 -- The entry of a put that is Stored came in during the put.
 use Rattle.std.proofs.Common.{◌≡◌, ℕ, suc, ◌==◌, List, [], ◌∷◌, ◌++◌, length, Some, inl, inr, refl, sym, ap, ◌∙◌, subst, ⊎_elim, arith, length-append}
+use Rattle.std.specs.Prelude.{sum_by}
 use Rattle.std.proofs.lemmas.Bool.{cases_Bool, cond-true, cond-false}
 use Rattle.segmodel.specs.declared.entry.Entry.TheVariants.{Wrote}
 use Rattle.segmodel.specs.declared.request.Request.TheVariants.{Set}
@@ -10,16 +11,18 @@ use Rattle.segcore.specs.Event as event
 use Rattle.segcore.proofs.Counts.{mine_others}
 use Rattle.segcore.proofs.Moments.{seen_begins}
 use Rattle.segcore.proofs.Standing.{legal}
-use Rattle.segbase.specs.Words.{number, seen, SinceFirst, TakesSteps, trace}
-use Rattle.segpass.specs.Words.{GoesOn}
+use Rattle.segbase.specs.Words.{mine as mine_of, number, seen, SinceFirst, TakesSteps, trace}
+use Rattle.segstore.specs.Words.{GoesOn}
 use Rattle.segindex.specs.Words.{board_of, Index, shape_of, StoresBetween}
 use Rattle.segindex.proofs.LaterReads.{stored_stands}
 use Rattle.segclient.specs.declared.member.Member.{Member}
 use Rattle.segclient.specs.declared.put.PutAnswer.TheVariants as put
+use Rattle.segclient.specs.Entries.{AddsRoom}
 use Rattle.segclient.specs.Member.{IsMember}
-use Rattle.segclient.specs.Putting.{most_for_put}
-use Rattle.segclient.specs.Puts.{plan_for, Puts}
-use Rattle.segclient.proofs.Ways.{put_comes}
+use Rattle.segclient.specs.PutCalls.{evicted_by, kept_by, refilled_by}
+use Rattle.segclient.specs.Puts.{deadline_of, Puts}
+use Rattle.segclient.proofs.Added.{put_adds}
+use Rattle.segclient.proofs.Calls.{makes_on}
 
 -- a pass added entries, this one last: the history goes on from one in which it came in
 came_last : (pass : ℕ) (entry : Entry) (others more old : List Entry) → mine pass (more ++ old) ≡ entry ∷ (others ++ mine pass old)
@@ -46,19 +49,23 @@ pub put_stands : (i : Index) (key value : List ℕ) (old new : Member) → IsMem
 put_stands i key value old new member puts = by on.steps
   where
     on : GoesOn (board_of i) old.pass new.pass
-    on = (put_comes (board_of i) (plan_for key value old) (Set key value old.clock) refl (most_for_put (shape_of i)) put.Stored puts.effort old.pass new.pass member.0 puts.puts).on
+    on = makes_on (board_of i) (record { request = Some (Set key value old.clock); cutoff = old.cutoff; deadline = deadline_of old }) puts.calls old.pass new.pass member.0 puts.makes
+
+    adds : (room : List Entry) × AddsRoom (shape_of i) (number old.pass) old.cutoff (deadline_of old) (sum_by refilled_by puts.calls) (sum_by kept_by puts.calls) (sum_by evicted_by puts.calls) (mine_of old.pass) room
+        × ((segment : ℕ) × (mine_of new.pass ≡ Wrote (number old.pass) (Set key value old.clock) Stored (Some segment) ∷ room))
+    adds = put_adds i key value old new member put.Stored puts
 
     n : ℕ
     n = number old.pass
 
     stored : Entry
-    stored = Wrote n (Set key value old.clock) Stored (Some puts.adds.2.0)
+    stored = Wrote n (Set key value old.clock) Stored (Some adds.2.0)
 
     others : List Entry
-    others = puts.adds.1.more
+    others = adds.1.more
 
     added : mine n (seen new.pass) ≡ stored ∷ (others ++ mine n (seen old.pass))
-    added = ap (λ i. mine i (seen new.pass)) (sym on.same) ∙ puts.adds.2.1 ∙ ap (λ l. stored ∷ l) puts.adds.1.entries
+    added = ap (λ i. mine i (seen new.pass)) (sym on.same) ∙ adds.2.1 ∙ ap (λ l. stored ∷ l) adds.1.entries
 
     by : TakesSteps old.pass new.pass → SinceFirst old.pass new.pass (λ start. StoresBetween (shape_of i) n (Set key value old.clock) (event.seen start) (seen new.pass))
     by (inl (start, s)) =
@@ -70,14 +77,14 @@ put_stands i key value old new member puts = by on.steps
           start,
           s,
           record {
-            segment = puts.adds.2.0;
+            segment = adds.2.0;
             history = came.0;
             told = record {
               since = came.1;
               entered = entered;
               replied = (earlier_legal z (stored ∷ came.0) (seen new.pass) entered (legal z (trace new.pass) on.quiet.pass.lawful)).1.0;
             };
-            stood = stored_stands z n (Set key value old.clock) puts.adds.2.0 came.0;
+            stood = stored_stands z n (Set key value old.clock) adds.2.0 came.0;
           },
         )
     by (inr t) = absurd (

@@ -1,18 +1,17 @@
 -- Segments of a ring that are tried in turn, all but the current one, and at last that one.
-use Rattle.std.proofs.Common.{◌≡◌, ◌≢◌, ◌⊎◌, ℕ, ◌+◌, ◌-◌, ◌*◌, ◌<◌, ◌≤◌, Bool, true, false, [], Option, Some, None, refl, sym, ap, ◌∙◌, subst, inl, inr, arith}
+use Rattle.std.proofs.Common.{◌≡◌, ◌≢◌, ◌⊎◌, ℕ, ◌+◌, ◌<◌, ◌≤◌, Bool, true, false, Option, Some, None, refl, sym, ap, ◌∙◌, subst, inl, inr}
 use mir.Val.{bool_byte}
 use Rattle.std.proofs.lemmas.Bool.{false≢true, cases_eq}
 use Rattle.std.proofs.lemmas.Option.{none-some, same_Some}
 use Rattle.segmodel.specs.Words.{owner}
 use Rattle.segbase.specs.Words.{Board, current_of, number, Pass}
-use Rattle.segpass.specs.Words.{GoesOn, IsQuiet}
+use Rattle.segstore.specs.Words.{GoesOn}
 use Rattle.segpolicy.specs.Words.{Cycle, next_of, turned}
-use Rattle.segclient.specs.PutCalls.{IsRefused, AreOthersRefused}
-use Rattle.segclient.specs.Putting.{MakesRoom, room_plan}
-use Rattle.segclient.specs.PutParts.{GivesUp}
+use Rattle.segclient.specs.PutCalls.{IsRefused}
+use Rattle.segclient.specs.PutParts.{effort_from, GivesUp, MakesRoom}
 use Rattle.segclient.specs.Rings.{IsOwnRing}
-use Rattle.segclient.proofs.Calls.{effort_from, no_effort, none_made}
-use Rattle.segclient.proofs.Rooms.{PassesOver, IsRefusedToo, passes_on, gives_up, no_room, refused_current}
+use Rattle.segclient.proofs.Calls.{arranges_as, arranges_none}
+use Rattle.segclient.proofs.Rooms.{PassesOver, passes_on, gives_up, no_room, refused_current}
 use Rattle.segclient.proofs.Turns.{IsAhead, all_ahead, still_ahead, none_ahead}
 
 -- calls gave up none, and each segment but the current one was refused or is among so many that come next
@@ -25,7 +24,7 @@ module _ (b : Board) (deadline : ℕ) (current : Option ℕ) (ring : Cycle) (p :
   -- none was tried yet
   pub none_tried : Tried b deadline current ring b.shape.segments_each 0 0 p p
   none_tried = (
-    record { calls = []; makes = none_made b (room_plan None deadline) p; few = omega arith; comes = no_effort },
+    arranges_none b None deadline p,
     λ segment is other. inl (all_ahead b.shape (number p) ring some own segment is),
   )
 
@@ -33,7 +32,7 @@ module _ (b : Board) (deadline : ℕ) (current : Option ℕ) (ring : Cycle) (p :
     -- the next one is the current one, which is passed over
     pub skipped : (total : ℕ) → most ≤ total → current ≡ Some (next_of ring) → Tried b deadline current (turned ring) left total keys p q
     skipped total enough is = (
-      record { calls = over.0.calls; makes = over.0.makes; few = let few = over.0.few in omega (arith, few, enough); comes = over.0.comes },
+      arranges_as b None deadline most total (effort_from 0 0 keys) (effort_from 0 0 keys) p q enough refl refl refl over.0,
       λ segment mine other. elim (over.1 segment mine other) [
         | inl ahead ↦ inl (still_ahead b.shape (number p) ring some own segment mine left (λ e. other (is ∙ ap Some (sym e))) ahead)
         | inr was ↦ inr was
@@ -44,7 +43,7 @@ module _ (b : Board) (deadline : ℕ) (current : Option ℕ) (ring : Cycle) (p :
     pub refused_next : (r : Pass) (segment more total sum : ℕ) → segment ≡ next_of ring → owner b.shape segment ≡ number q → current_of q ≡ current → current ≢ Some segment → most + 2 ≤ total → sum ≡ keys + more → GivesUp b segment deadline false more q r
         → Tried b deadline current (turned ring) left total sum p r
     refused_next r segment more total sum at mine is apart enough all gives =
-        let to = passes_on b deadline most keys p q r over.0 segment more mine (λ now. absurd (apart (sym is ∙ now))) total sum enough all gives in (
+        let to = passes_on b deadline most keys p q r over.0 segment more mine total sum enough all gives in (
           to.next,
           λ other its ne. elim (over.1 other its ne) [
             | inl ahead ↦ elim (cases_eq other segment) [
@@ -65,35 +64,26 @@ module _ (b : Board) (deadline : ℕ) (current : Option ℕ) (ring : Cycle) (p :
     ]
 
     -- and none is current: there is no room
-    pub none_left : (total : ℕ) → most ≤ total → current ≡ None → current_of q ≡ current → MakesRoom b (room_plan None deadline) total false (effort_from 0 0 keys) p q
+    pub none_left : (total : ℕ) → most ≤ total → current ≡ None → current_of q ≡ current → MakesRoom b None deadline total false (effort_from 0 0 keys) p q
     none_left total enough none is = record {
-      calls = over.0.calls;
-      makes = over.0.makes;
-      few = let few = over.0.few in omega (arith, few, enough);
-      comes = over.0.comes;
+      arranges = arranges_as b None deadline most total (effort_from 0 0 keys) (effort_from 0 0 keys) p q enough refl refl refl over.0;
       room = no_room b q (is ∙ none);
-      deadline = λ made. absurd (false≢true made);
+      until = λ made. absurd (false≢true made);
       refused = λ made segment mine. all_refused segment mine (λ e. absurd (none-some segment (sym none ∙ e)));
     }
 
     -- and then the current one is given up, or not
     module _ (last : ℕ) (is : current ≡ Some last) (now : current_of q ≡ current) (on : GoesOn b p q) where
-      spares : current_of q ≡ Some last → AreOthersRefused b q last over.0.calls
-      spares here other mine apart = all_refused other (mine ∙ on.same) (λ e. apart (sym (same_Some last other (sym is ∙ e))))
-
       pub at_last : (r : Pass) (made : Bool) (more total refilled sum : ℕ) → owner b.shape last ≡ number q → most + 2 ≤ total → sum ≡ keys + more → refilled ≡ bool_byte made → GivesUp b last deadline made more q r
-          → MakesRoom b (room_plan None deadline) total made (effort_from refilled 0 sum) p r
+          → MakesRoom b None deadline total made (effort_from refilled 0 sum) p r
       at_last r true more total refilled sum mine enough all one gives =
-          subst (λ n. MakesRoom b (room_plan None deadline) total true (effort_from n 0 sum) p r) (sym one) (gives_up b deadline most keys p q r over.0 last more mine spares total sum enough all gives)
+          subst (λ n. MakesRoom b None deadline total true (effort_from n 0 sum) p r) (sym one) (gives_up b deadline most keys p q r over.0 last more mine total sum enough all gives)
       at_last r false more total refilled sum mine enough all one gives =
-          let to = passes_on b deadline most keys p q r over.0 last more mine spares total sum enough all gives in
-          subst (λ n. MakesRoom b (room_plan None deadline) total false (effort_from n 0 sum) p r) (sym one) (record {
-            calls = to.next.calls;
-            makes = to.next.makes;
-            few = to.next.few;
-            comes = to.next.comes;
+          let to = passes_on b deadline most keys p q r over.0 last more mine total sum enough all gives in
+          subst (λ n. MakesRoom b None deadline total false (effort_from n 0 sum) p r) (sym one) (record {
+            arranges = to.next;
             room = no_room b r (refused_current b last deadline more q r on.quiet (now ∙ is) gives);
-            deadline = λ made. absurd (false≢true made);
+            until = λ made. absurd (false≢true made);
             refused = λ made segment its. elim (cases_eq segment last) [
               | inl same ↦ subst (λ s. IsRefused s to.next.calls) (sym same) to.here
               | inr apart ↦ to.before segment (all_refused segment its (λ e. apart (sym (same_Some last segment (sym is ∙ e)))))

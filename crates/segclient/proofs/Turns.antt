@@ -1,5 +1,5 @@
 -- A ring that goes once round gives each segment of its pass.
-use Rattle.std.proofs.Common.{◌≡◌, ◌≢◌, ◌⊎◌, ℕ, suc, ◌+◌, ◌-◌, ◌*◌, ◌/◌, ◌%◌, ◌<◌, ◌≤◌, refl, sym, ap, ◌∙◌, inl, inr, arith, mod-lt, div-add-mod', eq-zero-or-pos}
+use Rattle.std.proofs.Common.{◌≡◌, ◌≢◌, ◌⊎◌, ℕ, ◌+◌, ◌-◌, ◌*◌, ◌/◌, ◌%◌, ◌<◌, ◌≤◌, ap, ◌∙◌, inl, inr, arith, mod-lt, div-add-mod', eq-zero-or-pos}
 use Rattle.std.proofs.Math.Nat.{mod-eq_of_lt, mod_self}
 use Rattle.std.proofs.lemmas.Nat.{div-mul-add, mod_below}
 use Rattle.segword.specs.Words.{Shape}
@@ -11,6 +11,14 @@ use Rattle.segclient.specs.Rings.{IsOwnRing}
 -- the segments of a pass, from its first one on
 pub own_at : (b : Board) (pass ahead : ℕ) → ahead < b.shape.segments_each → owner b.shape (pass * b.shape.segments_each + ahead) ≡ pass
 own_at b pass ahead below = div-mul-add pass b.shape.segments_each ahead below
+
+-- and no others
+pub own_is : (shape : Shape) (pass segment : ℕ) → 0 < shape.segments_each → owner shape segment ≡ pass → (ahead : ℕ) × (ahead < shape.segments_each) × (pass * shape.segments_each + ahead ≡ segment)
+own_is shape pass segment some is =
+    let each = shape.segments_each in
+    let whole : segment / each * each + segment % each ≡ segment = div-add-mod' segment each in
+    let at : segment / each * each ≡ pass * each = ap (λ n. n * each) is in
+    (segment % each, mod-lt segment some, omega (arith, whole, at))
 
 -- the numbers of the ring are segments of the pass
 pub own_in_ring : (b : Board) (pass : ℕ) (ring : Cycle) (segment : ℕ) → IsOwnRing b.shape pass ring → ring.first ≤ segment → segment < ring.first + ring.count → owner b.shape segment ≡ pass

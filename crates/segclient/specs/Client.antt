@@ -1,5 +1,5 @@
 -- A client as contracts see it: an index, and what it has beside it.
-use Rattle.std.specs.Prelude.{◌≡◌}
+use Rattle.std.specs.Prelude.{◌≡◌, ℕ, Option}
 use Rattle.segword.specs.Words.{Shape}
 use Rattle.segbase.specs.Words.{Board, number, Pass}
 use Rattle.segindex.specs.Words.{Index}
@@ -13,10 +13,10 @@ board_of client = client.index.now.board
 abbrev pub shape_of : Client → Shape
 shape_of client = client.index.now.board.shape
 
--- a new client of the pass
-pub record Starts (i : Index) (p : Pass) (client : Client) : Type 0 where
+-- a new client of the pass, whose puts keep nothing under this cutoff
+pub record Starts (i : Index) (cutoff : Option ℕ) (p : Pass) (client : Client) : Type 0 where
   pub index : client.index.now ≡ i
-  pub member : Begins i.board.shape p client.member
+  pub member : Begins i.board.shape cutoff p client.member
 
 -- it is a client of the same index and the same pass
 pub record IsSame (old new : Client) : Type 0 where

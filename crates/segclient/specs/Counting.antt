@@ -1,5 +1,5 @@
 -- What a client counts: its calls, each by what it came to, and what its puts gave up and kept.
-use Rattle.std.specs.Prelude.{◌≡◌, ◌⊎◌, ℕ, ◌+◌, ◌-◌, ◌^◌, min}
+use Rattle.std.specs.Prelude.{ℕ, ◌+◌, ◌-◌, ◌^◌, min, List, sum_by}
 use Rattle.segmodel.specs.Words.{DeleteAnswer, GetAnswer, GetsAnswer, WriteAnswer}
 use Rattle.segmodel.specs.declared.answer.DeleteAnswer.TheVariants as delete
 use Rattle.segmodel.specs.declared.answer.GetAnswer.TheVariants as get
@@ -7,10 +7,10 @@ use Rattle.segmodel.specs.declared.answer.GetsAnswer.TheVariants as gets
 use Rattle.segmodel.specs.declared.answer.WriteAnswer.TheVariants as write
 use Rattle.segclient.specs.declared.put.PutAnswer.{PutAnswer}
 use Rattle.segclient.specs.declared.put.PutAnswer.TheVariants as put
-use Rattle.segclient.specs.declared.room.Effort.{Effort}
 use Rattle.segclient.specs.declared.stats.Stats.{Stats}
 use Rattle.segclient.specs.declared.stats.Tally.{Tally}
 use Rattle.segclient.specs.declared.stats.Tally.TheVariants as tally
+use Rattle.segclient.specs.PutCalls.{PutCall, evicted_by, kept_by, refilled_by}
 
 abbrev pub no_stats : Stats
 no_stats = record {
@@ -47,18 +47,12 @@ counted tally.BucketFull stats = record stats { bucket_full = with_more stats.bu
 counted tally.Busy stats = record stats { busy = with_more stats.busy 1 }
 
 -- what calls of a put came to is counted too
-abbrev pub given_up_too : Effort → Stats → Stats
-given_up_too effort stats = record stats {
-  segments_refilled = with_more stats.segments_refilled effort.refilled;
-  items_kept = with_more stats.items_kept effort.kept;
-  keys_evicted = with_more stats.keys_evicted effort.keys;
+abbrev pub given_up_too : List PutCall → Stats → Stats
+given_up_too calls stats = record stats {
+  segments_refilled = with_more stats.segments_refilled (sum_by refilled_by calls);
+  items_kept = with_more stats.items_kept (sum_by kept_by calls);
+  keys_evicted = with_more stats.keys_evicted (sum_by evicted_by calls);
 }
-
--- nothing is added if they came to nothing
-abbrev pub IsCountedToo : Effort → Stats → Stats → Type 0
-IsCountedToo effort old new =
-    (new ≡ given_up_too effort old)
-    ⊎ ((effort ≡ record { refilled = 0; kept = 0; keys = 0 }) × (new ≡ old))
 
 -- how an answer is counted
 abbrev pub get_tally : GetAnswer → Tally

@@ -5,6 +5,7 @@ pub mod Entries
 pub mod Made
 pub mod Many
 pub mod Member
+pub mod Policies
 pub mod PutCalls
 pub mod PutParts
 pub mod Putting

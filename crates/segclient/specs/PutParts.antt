@@ -1,22 +1,79 @@
 -- What the parts of a put come to, for the functions that make them.
-use Rattle.std.specs.Prelude.{◌≡◌, ◌≢◌, ◌⊎◌, ℕ, ◌≤◌, Bool, true, false, List, [], ◌∷◌, length, Option, Some}
+use Rattle.std.specs.Prelude.{◌≡◌, ◌≢◌, ◌⊎◌, ℕ, zero, suc, ◌+◌, ◌*◌, ◌≤◌, nat_le, Bool, true, false, List, [], ◌∷◌, ◌++◌, length, All, sum_by, Option, Some, None}
+use Rattle.segword.specs.Words.{Shape}
 use Rattle.segmodel.specs.declared.answer.EvictAnswer.TheVariants as evict
 use Rattle.segmodel.specs.declared.answer.RefillAnswer.TheVariants as refill
 use Rattle.segmodel.specs.declared.answer.WriteAnswer.TheVariants as write
 use Rattle.segmodel.specs.declared.request.Request.TheVariants.{Set}
-use Rattle.segmodel.specs.Words.{EvictAnswer}
-use Rattle.segbase.specs.Words.{Board, Pass}
-use Rattle.segstore.specs.Words.{has_room}
+use Rattle.segmodel.specs.Words.{EvictAnswer, owner}
+use Rattle.segbase.specs.Words.{Board, current_of, deadline_of, number, Pass}
+use Rattle.segstore.specs.Words.{ChangesNothing, has_room}
 use Rattle.segevict.specs.Words.{EvictsSegment}
 use Rattle.segindex.specs.Refilling.{RefillsSegment}
 use Rattle.segclient.specs.declared.put.Order.{Order}
 use Rattle.segclient.specs.declared.put.PutAnswer.{PutAnswer}
 use Rattle.segclient.specs.declared.put.PutAnswer.TheVariants as put
 use Rattle.segclient.specs.declared.room.Effort.{Effort}
-use Rattle.segclient.specs.PutCalls.{PutCall, sets, evicts, IsCall, Plan, current_deadline, Makes}
-use Rattle.segclient.specs.Putting.{IsEffort, busy_sets, is_late, MakesPut, most_for_put, WasEmptied}
+use Rattle.segclient.specs.declared.stats.Stats.{Stats}
+use Rattle.segclient.specs.Counting.{with_more}
+use Rattle.segclient.specs.PutCalls.{PutCall, gets, sets, evicts, Plan, refilled_by, kept_by, evicted_by, IsRefused, Makes, StoresUntil}
+use Rattle.segclient.specs.Putting.{IsPutAnswer, SetsUntilFull}
+
+-- ---- what calls came to
+
+-- in numbers
+pub record IsEffort (calls : List PutCall) (effort : Effort) : Type 0 where
+  pub refilled : effort.refilled ≡ sum_by refilled_by calls
+  pub kept : effort.kept ≡ sum_by kept_by calls
+  pub keys : effort.keys ≡ sum_by evicted_by calls
+
+abbrev pub effort_from : ℕ → ℕ → ℕ → Effort
+effort_from refilled kept keys = record { refilled = refilled; kept = kept; keys = keys }
+
+-- counted
+abbrev pub with_effort : Effort → Stats → Stats
+with_effort effort stats = record stats {
+  segments_refilled = with_more stats.segments_refilled effort.refilled;
+  items_kept = with_more stats.items_kept effort.kept;
+  keys_evicted = with_more stats.keys_evicted effort.keys;
+}
+
+-- how many keys an answer says were evicted
+abbrev pub taken_by : EvictAnswer → ℕ
+taken_by (evict.Evicted keys) = keys
+taken_by (evict.Busy keys) = keys
+taken_by evict.NotYours = 0
 
 -- ---- room
+
+-- calls for room alone: no set is among them
+abbrev pub room_plan : Option ℕ → ℕ → Plan
+room_plan cutoff deadline = record { request = None; cutoff = cutoff; deadline = deadline }
+
+-- calls for room, at most so many, came to these numbers
+pub record Arranges (b : Board) (cutoff : Option ℕ) (deadline most : ℕ) (effort : Effort)
+    (p q : Pass) : Type 0 where
+  pub calls : List PutCall
+  pub makes : Makes b (room_plan cutoff deadline) calls p q
+  pub few : length calls ≤ most
+  pub comes : IsEffort calls effort
+
+-- what the pass stores expires when it did before
+abbrev pub StoresAsBefore : Pass → Pass → Type 0
+StoresAsBefore p q = (until : ℕ) → StoresUntil until p → StoresUntil until q
+
+-- each segment of the pass was refused
+abbrev pub AreRefused : Shape → ℕ → List PutCall → Type 0
+AreRefused shape pass calls = (segment : ℕ) → owner shape segment ≡ pass → IsRefused segment calls
+
+-- Room was made exactly if a row is left in the end, and then in a segment with the deadline
+-- that is asked. It wasn't only if each segment of the pass was refused.
+pub record MakesRoom (b : Board) (cutoff : Option ℕ) (deadline most : ℕ) (made : Bool)
+    (effort : Effort) (p q : Pass) : Type 0 where
+  pub arranges : Arranges b cutoff deadline most effort p q
+  pub room : has_room b.shape q ≡ made
+  pub until : made ≡ true → StoresUntil deadline q
+  pub refused : made ≡ false → AreRefused b.shape (number p) arranges.calls
 
 -- so many keys were evicted from a segment, and then it was refilled;
 -- or it couldn't be: the evict was Busy, or the refill Held
@@ -29,31 +86,45 @@ GivesUp b segment deadline false keys p q =
     ⊎ ((between : Pass) × EvictsSegment b segment (evict.Evicted keys) p between
     × RefillsSegment b segment deadline refill.Held between q)
 
--- a segment that is not the current one was cleared: what has the cutoff's frequency was kept,
--- and the rest evicted, as far as each came about
-pub record Clears (b : Board) (cutoff : ℕ) (effort : Effort) (p q : Pass) : Type 0 where
-  pub calls : List PutCall
-  pub makes : (plan : Plan) → plan.cutoff ≡ Some cutoff → Makes b plan calls p q
-  pub few : length calls ≤ 2
-  pub comes : IsEffort calls effort
-  pub deadline : current_deadline q ≡ current_deadline p
-
--- a segment was evicted, the current one only if the pass has no other
+-- a segment was evicted
 pub record Empties (b : Board) (effort : Effort) (p q : Pass) : Type 0 where
   pub segment : ℕ
   pub told : EvictAnswer
-  pub call : (plan : Plan) (earlier : List PutCall)
-      → IsCall b plan earlier (evicts segment told) p q
-  pub comes : IsEffort (evicts segment told ∷ []) effort
+  pub own : owner b.shape segment ≡ number p
+  pub evicts : EvictsSegment b segment told p q
+  pub comes : effort ≡ effort_from 0 0 (taken_by told)
+
+-- ---- deadlines
+
+-- the deadline of the segment that the pass stores into
+abbrev pub deadline_at : Pass → Option ℕ → Option ℕ
+deadline_at p None = None
+deadline_at p (Some segment) = deadline_of p segment
+
+abbrev pub current_deadline : Pass → Option ℕ
+current_deadline p = deadline_at p (current_of p)
+
+-- whether it has come at a moment, so that what is stored there can't be read
+abbrev pub is_over : ℕ → Option ℕ → Bool
+is_over now None = false
+is_over now (Some deadline) = nat_le deadline now
+
+abbrev pub is_stale : ℕ → Pass → Bool
+is_stale now p = is_over now (current_deadline p)
 
 -- ---- sets
 
 abbrev pub plan_of : Order → Plan
 plan_of order = record {
-  request = Some (Set order.key.now order.value.now order.moment);
-  cutoff = order.cutoff;
-  deadline = order.deadline;
+  request = Some (Set order.key.now order.value.now order.policy.moment);
+  cutoff = order.policy.cutoff;
+  deadline = order.policy.deadline;
 }
+
+-- so many sets in a row that were Busy
+unfoldable pub busy_sets : ℕ → List PutCall
+busy_sets zero = []
+busy_sets (suc busy) = sets write.Busy ∷ busy_sets busy
 
 -- sets in a row, the last of which had this answer
 abbrev pub AreSets : PutAnswer → List PutCall → Type 0
@@ -69,14 +140,101 @@ pub record Sets (b : Board) (plan : Plan) (told : PutAnswer) (p q : Pass) : Type
   pub are : AreSets told calls
   pub no_room : told ≡ put.NoRoom → has_room b.shape p ≡ false
 
--- sets, unless what the pass stores into has expired
-abbrev pub SetsIfFresh : Board → Plan → PutAnswer → Pass → Pass → Type 0
-SetsIfFresh b plan told p q =
-    ((is_late plan.request p ≡ true) × (told ≡ put.NoRoom) × (q ≡ p))
+-- sets at a moment, unless what the pass stores into has expired
+abbrev pub SetsIfFresh : Board → Plan → ℕ → PutAnswer → Pass → Pass → Type 0
+SetsIfFresh b plan moment told p q =
+    ((is_stale moment p ≡ true) × (told ≡ put.NoRoom) × (q ≡ p))
     ⊎ Sets b plan told p q
 
--- the whole of a put
-abbrev pub PutsAtLast : Board → Plan → PutAnswer → Effort → Pass → Pass → Type 0
-PutsAtLast b plan told effort p q =
-    (puts : MakesPut b plan (most_for_put b.shape) told effort p q)
+-- ---- a put
+
+-- none of the calls was a set that was Stored
+abbrev pub AreOpen : List PutCall → Type 0
+AreOpen calls = All (λ call. call ≢ sets write.Stored) calls
+
+-- Stored by its last call, and only by that. NoRoom if each segment was refused.
+-- BucketFull by its last set. Busy if the last 16 sets in a row were.
+abbrev pub EndsSo : Shape → ℕ → PutAnswer → List PutCall → Type 0
+EndsSo shape pass put.Stored calls =
+    (earlier : List PutCall) × (calls ≡ sets write.Stored ∷ earlier) × AreOpen earlier
+EndsSo shape pass put.NoRoom calls = AreRefused shape pass calls × AreOpen calls
+EndsSo shape pass put.BucketFull calls =
+    ((earlier : List PutCall) × (calls ≡ sets write.BucketFull ∷ earlier)) × AreOpen calls
+EndsSo shape pass put.Busy calls =
+    ((earlier : List PutCall) × (calls ≡ busy_sets 16 ++ earlier)) × AreOpen calls
+
+-- A put with a row left that can be read at its moment gives up nothing for it,
+-- unless its bucket is full.
+abbrev pub Spares : Shape → ℕ → List PutCall → Pass → Type 0
+Spares shape moment calls p =
+    is_stale moment p ≡ false → has_room shape p ≡ true → SetsUntilFull calls
+
+-- a put made these calls, at most so many
+pub record MakesPut (b : Board) (plan : Plan) (moment most : ℕ) (told : PutAnswer)
+    (effort : Effort) (p q : Pass) : Type 0 where
+  pub calls : List PutCall
+  pub makes : Makes b plan calls p q
+  pub few : length calls ≤ most
+  pub comes : IsEffort calls effort
+  pub ends : EndsSo b.shape (number p) told calls
+  pub spares : Spares b.shape moment calls p
+
+-- after a set that found its bucket full a segment was evicted, before the last set
+abbrev pub WasEmptied : List PutCall → Type 0
+WasEmptied calls = (later : List PutCall) × (segment : ℕ) × (answer : EvictAnswer)
+    × (earlier : List PutCall)
+    × (calls ≡ later ++ evicts segment answer ∷ sets write.BucketFull ∷ earlier)
+
+-- the whole of a put but for its gets
+abbrev pub PutsAtLast : Board → Plan → ℕ → ℕ → PutAnswer → Effort → Pass → Pass → Type 0
+PutsAtLast b plan moment most told effort p q =
+    (puts : MakesPut b plan moment most told effort p q)
     × (told ≡ put.BucketFull → WasEmptied puts.calls)
+
+-- ---- gets
+
+-- so many gets in a row
+unfoldable pub gets_in_row : ℕ → List PutCall
+gets_in_row zero = []
+gets_in_row (suc times) = gets ∷ gets_in_row times
+
+-- at most so many gets of the key were made in a row, which changed nothing
+pub record Reads (b : Board) (key : List ℕ) (now most : ℕ) (p q : Pass) : Type 0 where
+  pub times : ℕ
+  pub few : times ≤ most
+  pub makes : (plan : Plan) (value : List ℕ)
+      → plan.request ≡ Some (Set key value now)
+      → Makes b plan (gets_in_row times) p q
+  pub keeps : ChangesNothing p q
+
+-- A put as a whole, with its gets.
+pub record PutsWhole (b : Board) (plan : Plan) (moment most : ℕ) (told : PutAnswer)
+    (effort : Effort) (p q : Pass) : Type 0 where
+  pub calls : List PutCall
+  pub makes : Makes b plan calls p q
+  pub few : length calls ≤ most
+  pub comes : IsEffort calls effort
+  pub answer : IsPutAnswer b.shape (number p) told calls
+  pub not_stored : told ≢ put.Stored → AreOpen calls
+  pub spares : Spares b.shape moment calls p
+
+-- ---- at most so many calls
+
+-- to give up segments in turn, once round
+abbrev pub most_in_turn : Shape → ℕ
+most_in_turn shape = 2 * shape.segments_each + 2
+
+-- to arrange segments in queues: three times as many as there are, each over its rows
+abbrev pub most_in_queues : Shape → ℕ
+most_in_queues shape = 3 * shape.segments_each * (shape.rows + 1) + 2
+
+-- to make room by any policy
+abbrev pub most_for_room : Shape → ℕ
+most_for_room shape = most_in_queues shape + (shape.rows + 1) + 2 * most_in_turn shape
+
+-- for a set that makes room, and for a put but for its gets
+abbrev pub most_for_set : Shape → ℕ
+most_for_set shape = 32 + most_for_room shape
+
+abbrev pub most_for_put : Shape → ℕ
+most_for_put shape = most_for_set shape + 1 + most_for_set shape

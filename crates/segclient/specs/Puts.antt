@@ -1,58 +1,64 @@
 -- What a put of a client came to.
-use Rattle.std.specs.Prelude.{◌≡◌, ℕ, ◌+◌, ◌-◌, ◌^◌, min, Bool, List, Some}
+use Rattle.std.specs.Prelude.{◌≡◌, ◌≢◌, ℕ, ◌+◌, ◌-◌, ◌/◌, ◌%◌, ◌^◌, ◌<◌, ◌≤◌, max, Bool, true, false, cond, nat_lt, List, length, All, Some, None}
+use Rattle.segmodel.specs.declared.answer.WriteAnswer.TheVariants as write
 use Rattle.segmodel.specs.declared.request.Request.TheVariants.{Set}
-use Rattle.segbase.specs.Words.{Board, mine, number}
-use Rattle.segpass.specs.Words.{memo}
+use Rattle.segmodel.specs.Words.{owner}
+use Rattle.segbase.specs.Words.{Board, number}
+use Rattle.segstore.specs.Words.{has_room, memo}
 use Rattle.segclient.specs.declared.member.Member.{Member}
 use Rattle.segclient.specs.declared.put.PutAnswer.{PutAnswer}
 use Rattle.segclient.specs.declared.put.PutAnswer.TheVariants as put
-use Rattle.segclient.specs.declared.room.Effort.{Effort}
-use Rattle.segclient.specs.declared.stats.Stats.{Stats}
-use Rattle.segclient.specs.Counting.{counted, given_up_too, IsCountedToo, put_tally}
-use Rattle.segclient.specs.Entries.{AddsForPut, AddsRoom}
-use Rattle.segclient.specs.Member.{KeepsDraws, KeepsSettings}
-use Rattle.segclient.specs.PutCalls.{Plan}
-use Rattle.segclient.specs.Putting.{MakesPut, MakesRoom, most_for_put, most_for_room, room_plan, WasEmptied}
+use Rattle.segclient.specs.Counting.{counted, given_up_too, put_tally}
+use Rattle.segclient.specs.Member.{KeepsSettings}
+use Rattle.segclient.specs.PutCalls.{IsRefused, Makes, PutCall, sets}
+use Rattle.segclient.specs.PutCalls.{StoresUntil}
+use Rattle.segclient.specs.Putting.{IsPutAnswer, most_calls, SetsUntilFull}
 
--- the deadline of what a client refills now
+-- The deadline of what a client refills now: the last multiple of half its time to live
+-- that comes in this time. What is of one half then has one deadline.
 abbrev pub deadline_of : Member → ℕ
-deadline_of member = min (member.clock + member.time_to_live) (2 ^ 32 - 1)
+deadline_of member =
+    let until = member.clock + member.time_to_live in
+    cond (nat_lt until (2 ^ 32 - 1)) (until - until % max 1 (member.time_to_live / 2)) (2 ^ 32 - 1)
 
--- what a client puts now, and how it makes room for it
-abbrev pub plan_for : List ℕ → List ℕ → Member → Plan
-plan_for key value member = record {
-  request = Some (Set key value member.clock);
-  cutoff = member.cutoff;
-  deadline = deadline_of member;
-}
-
--- A put made these calls, which added these entries.
--- BucketFull is a put whose bucket was full again after an evict.
--- It leaves hold and lock as they were, and the client counted it, and what it gave up and kept.
+-- A put made these calls, for its request and by the client's settings.
+-- With a row left that can be read then, it makes room only once its bucket was full.
+-- Hold and lock are as they were, and the client counted the put, and what the calls came to.
 pub record Puts (key value : List ℕ) (told : PutAnswer) (b : Board) (old new : Member)
     : Type 0 where
-  pub effort : Effort
-  pub puts : MakesPut b (plan_for key value old) (most_for_put b.shape) told
-      effort old.pass new.pass
-  pub emptied : told ≡ put.BucketFull → WasEmptied puts.calls
-  pub adds : AddsForPut b.shape (number old.pass) old.cutoff (Set key value old.clock)
-      (deadline_of old) told effort.refilled effort.kept effort.keys (mine old.pass)
-      (mine new.pass)
+  pub calls : List PutCall
+  pub makes : Makes b (record {
+    request = Some (Set key value old.clock);
+    cutoff = old.cutoff;
+    deadline = deadline_of old;
+  }) calls old.pass new.pass
+  pub few : length calls ≤ most_calls b.shape
+  pub answer : IsPutAnswer b.shape (number old.pass) told calls
+  pub not_stored : told ≢ put.Stored → All (λ call. call ≢ sets write.Stored) calls
+  pub spares : (until : ℕ)
+      → StoresUntil until old.pass
+      → old.clock < until
+      → has_room b.shape old.pass ≡ true
+      → SetsUntilFull calls
   pub memo : memo new.pass ≡ memo old.pass
-  pub stats : (more : Stats) × IsCountedToo effort old.stats more
-      × (new.stats ≡ counted (put_tally told) more)
-  pub draws : KeepsDraws old new
+  pub stats : new.stats ≡ counted (put_tally told) (given_up_too calls old.stats)
+  pub draws : new.draws ≡ old.draws
   pub settings : KeepsSettings old new
 
--- Room was made, or not, by these calls, which added these entries.
--- Hold and lock are as they were, and what was given up and kept is counted.
+-- Room was made by these calls, and then a row is left in a segment with the deadline
+-- that is asked. Or it wasn't, and each segment of the pass was refused.
 pub record MakesRoomFor (made : Bool) (b : Board) (old new : Member) : Type 0 where
-  pub effort : Effort
-  pub makes : MakesRoom b (room_plan old.cutoff (deadline_of old))
-      (most_for_room b.shape) made effort old.pass new.pass
-  pub adds : AddsRoom b.shape (number old.pass) old.cutoff (deadline_of old) effort.refilled
-      effort.kept effort.keys (mine old.pass) (mine new.pass)
+  pub calls : List PutCall
+  pub makes : Makes b (record { request = None; cutoff = old.cutoff; deadline = deadline_of old })
+      calls old.pass new.pass
+  pub few : length calls ≤ most_calls b.shape
+  pub room : has_room b.shape new.pass ≡ made
+  pub deadline : made ≡ true → StoresUntil (deadline_of old) new.pass
+  pub refused : made ≡ false
+      → (segment : ℕ)
+      → owner b.shape segment ≡ number old.pass
+      → IsRefused segment calls
   pub memo : memo new.pass ≡ memo old.pass
-  pub stats : new.stats ≡ given_up_too effort old.stats
-  pub draws : KeepsDraws old new
+  pub stats : new.stats ≡ given_up_too calls old.stats
+  pub draws : new.draws ≡ old.draws
   pub settings : KeepsSettings old new

@@ -1,9 +1,9 @@
 //! Clients for all passes of an index.
-ghost use Rattle.std.specs.Prelude.{◌≡◌, ◌++◌, [], ◌∷◌, map, All, IfOk, IfSome, MatchOption};
+ghost use Rattle.std.specs.Prelude.{◌≡◌, ◌++◌, [], ◌∷◌, map, All, IfOk, IfSome, MatchOption, Some};
 ghost use Rattle.std.specs.List.{AllZip};
 ghost use Rattle.segword.specs.Words.{Shape};
 ghost use Rattle.segindex.specs.Words.{AreAllQuiet, board_of, IsNew};
-ghost use Rattle.segpass.specs.Words.{IsQuiet};
+ghost use Rattle.segstore.specs.Words.{IsQuiet};
 ghost use Rattle.segclient.specs.Client.{Starts};
 ghost use Rattle.segclient.specs.Clients.{AreAllClients};
 
@@ -11,8 +11,9 @@ use crate::client::Client;
 use segindex::{Index, Pass};
 use std::alloc::{AllocError, Global};
 
-/// A client for each pass, in their order. No later call of a client takes
-/// an allocator. If the memory for the list is refused, the passes are gone.
+/// A client for each pass, in their order, as `Client::with_queues` makes it.
+/// No later call of a client takes an allocator.
+/// If memory is refused, the passes are gone.
 ///
 /// Once they are done, `into_passes` has the passes back for a close with all of them.
 /// A pass that was kept back can close the index by itself.
@@ -22,13 +23,14 @@ pub fn clients<'i>(
     passes: Vec<Pass>,
 ) -> Result<Vec<Client<'i>>, AllocError>
     requires quiet { All (IsQuiet (board_of index.now)) passes.items }
-    ensures each { IfOk result (λ clients. AllZip (Starts index.now) passes.items clients.items) }
+    ensures each { IfOk result (λ clients.
+        AllZip (Starts index.now (Some 0)) passes.items clients.items) }
     ensures all { (shape : Shape) → IsNew shape index.now passes.items
         → IfOk result (λ clients. AreAllClients index.now clients.items) }
 {
     let mut clients = Vec::with_capacity(alloc, passes.len())?;
     for pass in passes {
-        clients.push_reserved(Client::new(index, pass));
+        clients.push_reserved(Client::with_queues(alloc, index, pass)?);
     }
     Ok(clients)
 }

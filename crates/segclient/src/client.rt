@@ -1,6 +1,6 @@
 //! One pass of an index with what it goes by from one call to the next.
 ghost use Rattle.segindex.specs.Words.{board_of};
-ghost use Rattle.segpass.specs.Words.{IsQuiet};
+ghost use Rattle.segstore.specs.Words.{IsQuiet};
 ghost use Rattle.segclient.specs.Member.{IsMember, IsMember-prop};
 
 use crate::member::Member;
@@ -9,6 +9,7 @@ use crate::stats::Stats;
 use segindex::{HeldRow, Hold, Index, IndexStats, Pass};
 use segmodel::{DeleteAnswer, GetAnswer, GetsAnswer, WriteAnswer};
 use segword::{Key, Value};
+use std::alloc::{AllocError, Global};
 
 /// A pass of an index, for one thread at a time.
 ///
@@ -22,7 +23,7 @@ pub struct Client<'i> {
 }
 
 impl<'i> Client<'i> {
-    ghost use Rattle.std.specs.Prelude.{◌≡◌};
+    ghost use Rattle.std.specs.Prelude.{◌≡◌, IfOk, None, Some};
     ghost use Rattle.segmodel.specs.declared.request.Request.TheVariants.{Set, Add, Replace, Cas};
     ghost use Rattle.segread.specs.Words.{IsOfRow};
     ghost use Rattle.segwrite.specs.Words.{IsSetAnswer};
@@ -35,12 +36,26 @@ impl<'i> Client<'i> {
     /// and its puts keep nothing.
     pub fn new(index: &'i Index, pass: Pass) -> Client<'i>
         requires quiet { IsQuiet (board_of index.now) pass }
-        ensures starts { Starts index.now pass result }
+        ensures starts { Starts index.now None pass result }
     {
         Client {
             index,
             member: Member::new(index, pass),
         }
+    }
+
+    /// A client of this pass as `new` makes it, but its puts keep what was read, by two queues of
+    /// its segments. For these it takes 3 bytes for each row of its own, and no more later.
+    pub fn with_queues(
+        alloc: Global,
+        index: &'i Index,
+        pass: Pass,
+    ) -> Result<Client<'i>, AllocError>
+        requires quiet { IsQuiet (board_of index.now) pass }
+        ensures starts { IfOk result (Starts index.now (Some 0) pass) }
+    {
+        let member = Member::with_queues(alloc, index, pass)?;
+        Ok(Client { index, member })
     }
 
     /// Its pass, as for the close of the index.
@@ -130,6 +145,8 @@ impl<'i> Client<'i> {
     /// Sets how long the segments can be read that puts refill from now on.
     /// What is put expires with its segment, and a segment that is refilled already
     /// keeps its deadline.
+    /// Deadlines are multiples of half this time, so that items can move between segments:
+    /// a segment can be read for half the time at least.
     /// At the start it is the largest number, and then nothing expires
     /// before the largest moment.
     pub fn set_time_to_live(&mut self, time_to_live: u32)
@@ -139,17 +156,23 @@ impl<'i> Client<'i> {
     }
 
     /// Sets which items a put keeps: those whose frequency is the cutoff or over it.
-    /// None: it keeps nothing, as at the start.
+    /// None: it keeps nothing. The queues of `with_queues` are dropped, and don't come back.
     ///
     /// An item has the frequency 1 when it is stored, and gets raise it.
     /// Puts with a cutoff evict the next segment ahead of time,
     /// so the client has room for one segment less.
-    /// Items are kept only where the two segments have the same deadline,
-    /// as they have for the largest time to live.
+    /// Items are kept only where the two segments have the same deadline.
     pub fn keep_from(&mut self, cutoff: Option<u8>)
         ensures sets { MakesCall (λ board. SetsCutoff cutoff) self.old self.new }
     {
         self.member.keep_from(cutoff);
+    }
+
+    /// Its puts keep nothing from now on. As `keep_from` with None.
+    pub fn keep_nothing(&mut self)
+        ensures sets { MakesCall (λ board. SetsCutoff None) self.old self.new }
+    {
+        self.member.keep_from(None);
     }
 
     /// Makes room for a write that returned NoRoom, as `put` does,
@@ -163,14 +186,12 @@ impl<'i> Client<'i> {
     /// Stores the value under the key, and makes room for it if there is none.
     ///
     /// If no row is left, or the segment that it stores into has expired,
-    /// it recycles the one of its segments that was filled before the others:
-    /// it evicts it, and refills it to expire a time to live from now.
-    /// A segment that can't be recycled is passed over until its next turn.
-    /// The one that it stores into comes last.
-    /// If there is a cutoff, it then clears the segment that is next:
-    /// it moves what was read often into the one that it stores into,
-    /// and evicts what is left, as far as each succeeds.
-    /// If that left no row, it makes room once more, and keeps nothing.
+    /// it recycles segments of its own: it evicts them, and refills one to expire
+    /// a time to live from now, or up to half of that earlier.
+    /// By queues it first moves on what was read in those that it evicts, and gets the key
+    /// before and after, so that an update keeps its standing.
+    /// By a cutoff, or keeping nothing, it takes the one that was filled before the others;
+    /// one that can't be recycled is passed over until its next turn.
     /// If the key's bucket is full, it evicts the oldest of its segments and tries once more.
     /// A busy set is made again, 16 times in a row at most.
     #[inline(always)]

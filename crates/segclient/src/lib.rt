@@ -3,19 +3,22 @@
 #![tactic(auto)]
 
 mod all;
+mod arranging;
 mod client;
 mod hold;
 mod many;
 mod member;
 mod note;
 mod put;
+mod queues;
 mod room;
+mod standing;
 mod stats;
 
 pub use all::{clients, into_passes, keep_back};
 pub use client::Client;
 pub use member::Member;
-pub use note::what_is_put_stands;
+pub use note::{what_a_put_adds, what_is_put_stands};
 pub use put::PutAnswer;
 pub use segindex::{
     DeleteAnswer, GetAnswer, GetsAnswer, HeldRow, Hold, HoldAnswer, Index, IndexStats, Key,

@@ -1,11 +1,12 @@
 //! What a client has beside its index, as whoever shares the index has it.
-ghost use Rattle.std.specs.Prelude.{◌≡◌};
+ghost use Rattle.std.specs.Prelude.{◌≡◌, IfOk, None, Some};
 ghost use Rattle.segindex.specs.Words.{board_of, shape_of};
-ghost use Rattle.segpass.specs.Words.{IsQuiet};
+ghost use Rattle.segstore.specs.Words.{IsQuiet};
 ghost use Rattle.segclient.specs.Member.{next_draws};
 
-use crate::put::{Order, PutAnswer, put_at_last, set_if_fresh};
-use crate::room::make_room_keeping;
+use crate::put::{Order, PutAnswer, put_by};
+use crate::queues::Queues;
+use crate::room::{Policy, Segments, make_room_by};
 use crate::stats::{
     Stats, tally_of_delete, tally_of_get, tally_of_gets, tally_of_put, tally_of_write,
 };
@@ -13,6 +14,7 @@ use segindex::{Index, IndexStats, Pass};
 use segmodel::{DeleteAnswer, GetAnswer, GetsAnswer, WriteAnswer};
 use segpolicy::Ring;
 use segword::{Key, Value};
+use std::alloc::{AllocError, Global};
 
 /// What a client has beside its index: a pass of it, the segments of the pass, its draws,
 /// its clock, its settings and its counts.
@@ -21,8 +23,7 @@ use segword::{Key, Value};
 #[derive(Drop)]
 pub struct Member {
     pub(crate) pass: Pass,
-    // Its segments, in the order in which they are given up.
-    pub(crate) segments: Ring,
+    pub(crate) segments: Segments,
     pub(crate) draws: u32,
     pub(crate) clock: u32,
     pub(crate) time_to_live: u32,
@@ -44,25 +45,42 @@ impl Member {
     ghost use Rattle.segwrite.specs.Words.{IsSetAnswer};
     ghost use Rattle.segclient.specs.Made.{DeletesKey, Gets, GetsVersion, MakesWrite, ReturnsTable};
     ghost use Rattle.segclient.specs.Member.{Begins, IsMember, SetsCutoff, SetsNow, SetsTimeToLive};
-    ghost use Rattle.segclient.specs.Puts.{deadline_of, MakesRoomFor, Puts};
+    ghost use Rattle.segclient.specs.Policies.{policy_of};
+    ghost use Rattle.segclient.specs.Puts.{MakesRoomFor, Puts};
 
     /// As `Client::new`.
     pub fn new(index: &Index, pass: Pass) -> Member
         requires quiet { IsQuiet (board_of index.now) pass }
         ensures member { IsMember index.now result }
-        ensures begins { Begins (shape_of index.now) pass result }
+        ensures begins { Begins (shape_of index.now) None pass result }
     {
         let number = pass.number();
         let segments = index.shape().segments_each;
         Member {
             pass,
-            segments: Ring::new(number * segments, segments),
+            segments: Segments {
+                ring: Ring::new(number * segments, segments),
+                queues: None,
+            },
             draws: number,
             clock: 0,
             time_to_live: u32::MAX,
             cutoff: None,
             stats: Stats::new(),
         }
+    }
+
+    /// As `Client::with_queues`.
+    pub fn with_queues(alloc: Global, index: &Index, pass: Pass) -> Result<Member, AllocError>
+        requires quiet { IsQuiet (board_of index.now) pass }
+        ensures member { IfOk result (IsMember index.now) }
+        ensures begins { IfOk result (Begins (shape_of index.now) (Some 0) pass) }
+    {
+        let queues = Queues::new(alloc, index.shape())?;
+        let mut member = Member::new(index, pass);
+        member.segments.queues = Some(queues);
+        member.cutoff = Some(0);
+        Ok(member)
     }
 
     /// The number of its pass.
@@ -98,6 +116,7 @@ impl Member {
         ensures sets { SetsCutoff cutoff self.old self.new }
     {
         self.cutoff = cutoff;
+        self.segments.queues = None;
     }
 
     /// As `Client::stats`.
@@ -201,11 +220,21 @@ impl Member {
         told
     }
 
-    // How room is made now: the deadline of what is refilled.
-    fn deadline(&self) -> u32
-        ensures { result ≡ deadline_of self.now }
+    // How room is made now.
+    fn policy(&self) -> Policy
+        ensures { result ≡ policy_of self.now }
     {
-        self.clock.saturating_add(self.time_to_live)
+        let until = self.clock.saturating_add(self.time_to_live);
+        let deadline = if until < u32::MAX {
+            until - until % (self.time_to_live / 2).max(1)
+        } else {
+            until
+        };
+        Policy {
+            cutoff: self.cutoff,
+            deadline,
+            moment: self.clock,
+        }
     }
 
     /// As `Client::make_room`.
@@ -214,14 +243,8 @@ impl Member {
         ensures member { IsMember index.now self.new }
         ensures makes { MakesRoomFor result (board_of index.now) self.old self.new }
     {
-        let deadline = self.deadline();
-        let (is_made, effort) = make_room_keeping(
-            index,
-            &mut self.pass,
-            &mut self.segments,
-            self.cutoff,
-            deadline,
-        );
+        let policy = self.policy();
+        let (is_made, effort) = make_room_by(index, &mut self.pass, &mut self.segments, policy);
         self.stats.count_effort(effort);
         is_made
     }
@@ -236,16 +259,9 @@ impl Member {
         let order = Order {
             key,
             value,
-            moment: self.clock,
-            cutoff: self.cutoff,
-            deadline: self.deadline(),
+            policy: self.policy(),
         };
-        let first = set_if_fresh(index, &mut self.pass, order);
-        if let PutAnswer::Stored = first {
-            self.stats.count(tally_of_put(first));
-            return first;
-        }
-        let (told, effort) = put_at_last(index, &mut self.pass, &mut self.segments, order, first);
+        let (told, effort) = put_by(index, &mut self.pass, &mut self.segments, order);
         self.stats.count_effort(effort);
         self.stats.count(tally_of_put(told));
         told

@@ -1,6 +1,6 @@
 //! What one client hands to another by a note.
 ghost use Rattle.std.specs.Prelude.{◌≡◌};
-ghost use Rattle.segclient.specs.Told.{PutStands};
+ghost use Rattle.segclient.specs.Told.{PutAdds, PutStands, RoomAdds};
 
 use crate::client::Client;
 use crate::member::Member;
@@ -81,4 +81,11 @@ impl<'i> Client<'i> {
 /// This function does nothing: its contract is the law.
 pub fn what_is_put_stands()
     ensures { PutStands }
+{}
+
+/// What a put adds to the history, and what room adds that is made alone.
+/// This function does nothing: its contract is the law.
+pub fn what_a_put_adds()
+    ensures put { PutAdds }
+    ensures room { RoomAdds }
 {}

@@ -2,16 +2,17 @@
 ghost use Rattle.std.specs.Prelude.{◌≡◌, ◌<◌, ◌≤◌, ◌^◌, true};
 ghost use Rattle.segbase.specs.Words.{number, Pass as BasePass};
 ghost use Rattle.segindex.specs.Words.{board_of, shape_of};
-ghost use Rattle.segpass.specs.Words.{GoesOn, IsQuiet};
-ghost use Rattle.segclient.specs.PutCalls.{current_deadline, is_stale};
-ghost use Rattle.segclient.specs.Putting.{MakesPut, most_for_set};
-ghost use Rattle.segclient.specs.PutParts.{plan_of, PutsAtLast, Sets, SetsIfFresh};
+ghost use Rattle.segstore.specs.Words.{GoesOn, IsQuiet};
+ghost use Rattle.segclient.specs.PutParts.{current_deadline, is_stale, MakesPut, most_for_put};
+ghost use Rattle.segclient.specs.PutParts.{most_for_set, plan_of, PutsAtLast, PutsWhole, Sets};
+ghost use Rattle.segclient.specs.PutParts.{SetsIfFresh};
+ghost use Rattle.segclient.specs.Putting.{most_calls};
 ghost use Rattle.segclient.specs.Rings.{IsOwnRing};
 
-use crate::room::{Effort, evict_oldest, make_room_keeping};
+use crate::room::{Effort, Policy, Segments, evict_oldest, make_room_by};
+use crate::standing::{gets_after, is_present, raise};
 use segindex::{Index, Pass};
 use segmodel::WriteAnswer;
-use segpolicy::Ring;
 use segword::{Key, Value};
 
 /// The answer to a put.
@@ -28,14 +29,12 @@ pub enum PutAnswer {
     Busy,
 }
 
-// What is put at which moment, and how room is made for it.
+// What is put, and how room is made for it.
 #[derive(Clone, Copy)]
 pub(crate) struct Order<'p> {
     pub(crate) key: &'p Key,
     pub(crate) value: &'p Value,
-    pub(crate) moment: u32,
-    pub(crate) cutoff: Option<u8>,
-    pub(crate) deadline: u32,
+    pub(crate) policy: Policy,
 }
 
 // How often a set is made again while it is busy.
@@ -45,13 +44,13 @@ const TRIES: u32 = 16;
 #[inline(always)]
 fn set_while_busy(index: &Index, pass: &mut Pass, order: Order<'_>) -> PutAnswer
     requires quiet { IsQuiet (board_of index.now) pass.old }
-    requires fresh { is_stale order.moment pass.old ≡ true
-        → current_deadline pass.old ≡ Some order.deadline }
+    requires fresh { is_stale order.policy.moment pass.old ≡ true
+        → current_deadline pass.old ≡ Some order.policy.deadline }
     ensures on { GoesOn (board_of index.now) pass.old pass.new }
     ensures sets { Sets (board_of index.now) (plan_of order.entry) result pass.old pass.new }
 {
     for tries in 0..TRIES {
-        match index.set(pass, order.key, order.value, order.moment) {
+        match index.set(pass, order.key, order.value, order.policy.moment) {
             WriteAnswer::Stored => return PutAnswer::Stored,
             WriteAnswer::NoRoom => return PutAnswer::NoRoom,
             WriteAnswer::BucketFull => return PutAnswer::BucketFull,
@@ -80,9 +79,10 @@ fn is_stale(pass: &Pass, now: u32) -> bool
 pub(crate) fn set_if_fresh(index: &Index, pass: &mut Pass, order: Order<'_>) -> PutAnswer
     requires quiet { IsQuiet (board_of index.now) pass.old }
     ensures on { GoesOn (board_of index.now) pass.old pass.new }
-    ensures sets { SetsIfFresh (board_of index.now) (plan_of order.entry) result pass.old pass.new }
+    ensures sets { SetsIfFresh (board_of index.now) (plan_of order.entry)
+        order.entry.policy.moment result pass.old pass.new }
 {
-    if is_stale(pass, order.moment) {
+    if is_stale(pass, order.policy.moment) {
         return PutAnswer::NoRoom;
     }
     set_while_busy(index, pass, order)
@@ -93,24 +93,26 @@ pub(crate) fn set_if_fresh(index: &Index, pass: &mut Pass, order: Order<'_>) -> 
 fn set_in_room(
     index: &Index,
     pass: &mut Pass,
-    ring: &mut Ring,
+    segments: &mut Segments,
     order: Order<'_>,
     told: PutAnswer,
 ) -> (PutAnswer, Effort)
     requires quiet { IsQuiet (board_of index.now) pass.old }
-    requires own { IsOwnRing (shape_of index.now) (number pass.old) ring.old }
+    requires own { IsOwnRing (shape_of index.now) (number pass.old) segments.old.ring }
     ensures on { GoesOn (board_of index.now) pass.old pass.new }
-    ensures own { IsOwnRing (shape_of index.now) (number pass.new) ring.new }
-    ensures few { (result.1.refilled ≤ 2) × (result.1.kept < 2 ^ 32) × (result.1.keys < 2 ^ 59) }
+    ensures own { IsOwnRing (shape_of index.now) (number pass.new) segments.new.ring }
+    ensures few { (result.1.refilled < 2 ^ 30) × (result.1.kept < 2 ^ 60)
+        × (result.1.keys < 2 ^ 59) }
     ensures sets { (start : BasePass)
-        → SetsIfFresh (board_of index.now) (plan_of order.entry) told start pass.old
-        → MakesPut (board_of index.now) (plan_of order.entry) (most_for_set (shape_of index.now))
-        result.0 result.1 start pass.new }
+        → SetsIfFresh (board_of index.now) (plan_of order.entry) order.entry.policy.moment told
+        start pass.old
+        → MakesPut (board_of index.now) (plan_of order.entry) order.entry.policy.moment
+        (most_for_set (shape_of index.now)) result.0 result.1 start pass.new }
 {
     let PutAnswer::NoRoom = told else {
         return (told, Effort::none());
     };
-    let (is_made, effort) = make_room_keeping(index, pass, ring, order.cutoff, order.deadline);
+    let (is_made, effort) = make_room_by(index, pass, segments, order.policy);
     if !is_made {
         return (PutAnswer::NoRoom, effort);
     }
@@ -121,27 +123,99 @@ fn set_in_room(
 // and if its bucket is full, for its word.
 #[cold]
 #[inline(never)]
-pub(crate) fn put_at_last(
+fn put_at_last(
     index: &Index,
     pass: &mut Pass,
-    ring: &mut Ring,
+    segments: &mut Segments,
     order: Order<'_>,
     told: PutAnswer,
 ) -> (PutAnswer, Effort)
     requires quiet { IsQuiet (board_of index.now) pass.old }
-    requires own { IsOwnRing (shape_of index.now) (number pass.old) ring.old }
+    requires own { IsOwnRing (shape_of index.now) (number pass.old) segments.old.ring }
     ensures on { GoesOn (board_of index.now) pass.old pass.new }
-    ensures own { IsOwnRing (shape_of index.now) (number pass.new) ring.new }
+    ensures own { IsOwnRing (shape_of index.now) (number pass.new) segments.new.ring }
     ensures puts { (start : BasePass)
-        → SetsIfFresh (board_of index.now) (plan_of order.entry) told start pass.old
-        → PutsAtLast (board_of index.now) (plan_of order.entry) result.0 result.1 start pass.new }
+        → SetsIfFresh (board_of index.now) (plan_of order.entry) order.entry.policy.moment told
+        start pass.old
+        → PutsAtLast (board_of index.now) (plan_of order.entry) order.entry.policy.moment
+        (most_for_put (shape_of index.now)) result.0 result.1 start pass.new }
 {
-    let (told, first) = set_in_room(index, pass, ring, order, told);
+    let (told, first) = set_in_room(index, pass, segments, order, told);
     let PutAnswer::BucketFull = told else {
         return (told, first);
     };
-    let emptied = first.plus(evict_oldest(index, pass, ring));
+    let emptied = first.plus(evict_oldest(index, pass, &mut segments.ring));
     let told = set_if_fresh(index, pass, order);
-    let (told, last) = set_in_room(index, pass, ring, order, told);
+    let (told, last) = set_in_room(index, pass, segments, order, told);
     (told, emptied.plus(last))
+}
+
+// A put, but for the gets of its key.
+#[inline(always)]
+fn put_once(
+    index: &Index,
+    pass: &mut Pass,
+    segments: &mut Segments,
+    order: Order<'_>,
+) -> (PutAnswer, Effort)
+    requires quiet { IsQuiet (board_of index.now) pass.old }
+    requires own { IsOwnRing (shape_of index.now) (number pass.old) segments.old.ring }
+    ensures on { GoesOn (board_of index.now) pass.old pass.new }
+    ensures own { IsOwnRing (shape_of index.now) (number pass.new) segments.new.ring }
+    ensures puts { PutsAtLast (board_of index.now) (plan_of order.entry) order.entry.policy.moment
+        (most_for_put (shape_of index.now)) result.0 result.1 pass.old pass.new }
+{
+    let first = set_if_fresh(index, pass, order);
+    if let PutAnswer::Stored = first {
+        return (first, Effort::none());
+    }
+    put_at_last(index, pass, segments, order, first)
+}
+
+// A put of a client that keeps by queues. An update keeps its standing.
+fn put_with_standing(
+    index: &Index,
+    pass: &mut Pass,
+    segments: &mut Segments,
+    order: Order<'_>,
+) -> (PutAnswer, Effort)
+    requires quiet { IsQuiet (board_of index.now) pass.old }
+    requires own { IsOwnRing (shape_of index.now) (number pass.old) segments.old.ring }
+    ensures on { GoesOn (board_of index.now) pass.old pass.new }
+    ensures own { IsOwnRing (shape_of index.now) (number pass.new) segments.new.ring }
+    ensures puts { PutsWhole (board_of index.now) (plan_of order.entry) order.entry.policy.moment
+        (most_calls (shape_of index.now)) result.0 result.1 pass.old pass.new }
+{
+    let is_update = is_present(index, pass, order.key, order.policy.moment);
+    let (told, effort) = put_once(index, pass, segments, order);
+    let PutAnswer::Stored = told else {
+        return (told, effort);
+    };
+    let Some(queues) = segments.queues.as_mut() else {
+        return (told, effort);
+    };
+    let times = gets_after(queues, pass, order.key, is_update);
+    raise(index, pass, order.key, order.policy.moment, times);
+    (told, effort)
+}
+
+// A put.
+#[inline(always)]
+pub(crate) fn put_by(
+    index: &Index,
+    pass: &mut Pass,
+    segments: &mut Segments,
+    order: Order<'_>,
+) -> (PutAnswer, Effort)
+    requires quiet { IsQuiet (board_of index.now) pass.old }
+    requires own { IsOwnRing (shape_of index.now) (number pass.old) segments.old.ring }
+    ensures on { GoesOn (board_of index.now) pass.old pass.new }
+    ensures own { IsOwnRing (shape_of index.now) (number pass.new) segments.new.ring }
+    ensures puts { PutsWhole (board_of index.now) (plan_of order.entry) order.entry.policy.moment
+        (most_calls (shape_of index.now)) result.0 result.1 pass.old pass.new }
+{
+    if segments.queues.is_some() {
+        return put_with_standing(index, pass, segments, order);
+    }
+    put_once(index, pass, segments, order)
 }

@@ -1,18 +1,37 @@
-//! How a put makes room: it recycles segments of its own in the order in which they were filled.
-ghost use Rattle.std.specs.Prelude.{◌≡◌, ◌≢◌, ◌+◌, ◌*◌, ◌<◌, ◌≤◌, ◌^◌, ℕ, Some, None};
+//! How a put makes room: it recycles segments of its own in the order in which they were filled,
+//! or by queues.
+ghost use Rattle.std.specs.Prelude.{◌≡◌, ◌≢◌, ◌+◌, ◌*◌, ◌<◌, ◌≤◌, ◌^◌, ℕ, true, Some, None};
 ghost use Rattle.segmodel.specs.Words.{owner};
 ghost use Rattle.segbase.specs.Words.{current_of, number};
-ghost use Rattle.segstore.specs.Words.{has_room};
+ghost use Rattle.segstore.specs.Words.{GoesOn, has_room, IsQuiet};
 ghost use Rattle.segindex.specs.Words.{board_of, shape_of};
-ghost use Rattle.segpass.specs.Words.{GoesOn, IsQuiet};
-ghost use Rattle.segclient.specs.PutCalls.{moved_by, taken_by};
-ghost use Rattle.segclient.specs.Putting.{room_plan, MakesRoom, most_for_room};
-ghost use Rattle.segclient.specs.PutParts.{GivesUp, Clears, Empties};
+ghost use Rattle.segclient.specs.PutCalls.{keeps, kept_by, StoresUntil};
+ghost use Rattle.segclient.specs.PutParts.{Arranges, effort_from, Empties, GivesUp, MakesRoom};
+ghost use Rattle.segclient.specs.PutParts.{most_for_room, most_in_turn, StoresAsBefore, taken_by};
 ghost use Rattle.segclient.specs.Rings.{IsOwnRing};
 
-use segindex::{Index, Pass};
-use segmodel::{EvictAnswer, KeepAnswer, RefillAnswer, SegState};
+use crate::arranging::{Room, arrange};
+use crate::queues::Queues;
+use segindex::{Index, KeepRowAnswer, Pass};
+use segmodel::{EvictAnswer, RefillAnswer, SegState};
 use segpolicy::Ring;
+
+// The segments of a pass: in the order in which they are given up, and in queues,
+// if it keeps what was read by queues.
+#[derive(Drop)]
+pub(crate) struct Segments {
+    pub(crate) ring: Ring,
+    pub(crate) queues: Option<Queues>,
+}
+
+// How room is made: the least frequency of what is kept, if anything is, the deadline of what is
+// refilled, and the moment.
+#[derive(Clone, Copy)]
+pub(crate) struct Policy {
+    pub(crate) cutoff: Option<u8>,
+    pub(crate) deadline: u32,
+    pub(crate) moment: u32,
+}
 
 // What calls of a put came to: how many segments were refilled, how many items kept,
 // and how many keys evicted.
@@ -80,8 +99,8 @@ fn make_room(index: &Index, pass: &mut Pass, ring: &mut Ring, deadline: u32) -> 
     ensures on { GoesOn (board_of index.now) pass.old pass.new }
     ensures own { IsOwnRing (shape_of index.now) (number pass.new) ring.new }
     ensures few { (result.1.refilled ≤ 1) × (result.1.kept ≡ 0) × (result.1.keys < 2 ^ 57) }
-    ensures room { MakesRoom (board_of index.now) (room_plan None deadline)
-        (2 * (shape_of index.now).segments_each + 2) result.0 result.1 pass.old pass.new }
+    ensures room { MakesRoom (board_of index.now) None deadline
+        (most_in_turn (shape_of index.now)) result.0 result.1 pass.old pass.new }
 {
     let current = pass.current();
     let mut keys = 0;
@@ -123,18 +142,8 @@ fn make_room(index: &Index, pass: &mut Pass, ring: &mut Ring, deadline: u32) -> 
     )
 }
 
-// How many items an answer says were moved.
-fn moved_by(answer: KeepAnswer) -> u32
-    ensures { result ≡ moved_by answer }
-{
-    match answer {
-        KeepAnswer::Kept(items) | KeepAnswer::NoRoom(items) | KeepAnswer::Busy(items) => items,
-        KeepAnswer::NotYours => 0,
-    }
-}
-
 // How many keys an answer says were evicted.
-fn taken_by(answer: EvictAnswer) -> u32
+pub(crate) fn taken_by(answer: EvictAnswer) -> u32
     ensures { result ≡ taken_by answer }
 {
     match answer {
@@ -143,17 +152,66 @@ fn taken_by(answer: EvictAnswer) -> u32
     }
 }
 
-// Moves what was read often from a segment of the pass's own into the one that it stores into,
-// as far as that comes about, and evicts what is left.
-fn keep_then_evict(index: &Index, pass: &mut Pass, segment: u32, cutoff: u8) -> Effort
+// How many items an answer says were moved.
+pub(crate) fn moved_by(answer: KeepRowAnswer) -> u32
+    ensures few { result ≤ 1 }
+    ensures value { (segment row cutoff : ℕ)
+        → result ≡ kept_by (keeps segment row cutoff answer) }
+{
+    match answer {
+        KeepRowAnswer::Moved => 1,
+        KeepRowAnswer::Left
+        | KeepRowAnswer::NoRoom
+        | KeepRowAnswer::Busy
+        | KeepRowAnswer::NotYours
+        | KeepRowAnswer::NotUsed => 0,
+    }
+}
+
+// Moves what has the cutoff's frequency or a higher one from a segment of the pass's own into the
+// one that it stores into, row by row, until something is in the way. It returns how many.
+fn keep_rows(index: &Index, pass: &mut Pass, segment: u32, cutoff: u8) -> u32
     requires quiet { IsQuiet (board_of index.now) pass.old }
     requires own { owner (shape_of index.now) segment ≡ number pass.old }
-    requires other { current_of pass.old ≢ Some segment }
     ensures on { GoesOn (board_of index.now) pass.old pass.new }
-    ensures few { (result.refilled ≡ 0) × (result.kept < 2 ^ 32) × (result.keys < 2 ^ 32) }
-    ensures clears { Clears (board_of index.now) cutoff result pass.old pass.new }
+    ensures current { current_of pass.new ≡ current_of pass.old }
+    ensures until { StoresAsBefore pass.old pass.new }
+    ensures few { result ≤ (shape_of index.now).rows }
+    ensures keeps { (deadline : ℕ) → Arranges (board_of index.now) (Some cutoff) deadline
+        (shape_of index.now).rows (effort_from 0 result 0) pass.old pass.new }
 {
-    let kept = moved_by(index.keep(pass, segment, cutoff));
+    let mut kept = 0;
+    for row in 0..index.shape().rows {
+        let told = index.keep_row(pass, segment, row, cutoff);
+        kept += moved_by(told);
+        match told {
+            KeepRowAnswer::Moved | KeepRowAnswer::Left => {}
+            KeepRowAnswer::NoRoom
+            | KeepRowAnswer::Busy
+            | KeepRowAnswer::NotYours
+            | KeepRowAnswer::NotUsed => return kept,
+        }
+    }
+    kept
+}
+
+// Clears the segment that is next in turn, so that the next time it can be refilled at once:
+// what was read often is moved into the one that the pass stores into, and the rest evicted,
+// as far as each comes about. It stays next. One that the pass stores into is left.
+fn clear_next(index: &Index, pass: &mut Pass, ring: &Ring, cutoff: u8) -> Effort
+    requires quiet { IsQuiet (board_of index.now) pass.old }
+    requires own { IsOwnRing (shape_of index.now) (number pass.old) ring.now }
+    ensures on { GoesOn (board_of index.now) pass.old pass.new }
+    ensures until { StoresAsBefore pass.old pass.new }
+    ensures few { (result.refilled ≡ 0) × (result.kept < 2 ^ 32) × (result.keys < 2 ^ 32) }
+    ensures clears { (deadline : ℕ) → Arranges (board_of index.now) (Some cutoff) deadline
+        ((shape_of index.now).rows + 1) result pass.old pass.new }
+{
+    let segment = ring.peek();
+    if pass.current() == Some(segment) {
+        return Effort::none();
+    }
+    let kept = keep_rows(index, pass, segment, cutoff);
     let keys = taken_by(index.evict(pass, segment));
     Effort {
         refilled: 0,
@@ -162,24 +220,8 @@ fn keep_then_evict(index: &Index, pass: &mut Pass, segment: u32, cutoff: u8) -> 
     }
 }
 
-// Clears the segment that is next in turn, so that the next time it can be refilled at once,
-// and what was read often is kept. It stays next. One that the pass stores into is left.
-fn clear_next(index: &Index, pass: &mut Pass, ring: &Ring, cutoff: u8) -> Effort
-    requires quiet { IsQuiet (board_of index.now) pass.old }
-    requires own { IsOwnRing (shape_of index.now) (number pass.old) ring.now }
-    ensures on { GoesOn (board_of index.now) pass.old pass.new }
-    ensures few { (result.refilled ≡ 0) × (result.kept < 2 ^ 32) × (result.keys < 2 ^ 32) }
-    ensures clears { Clears (board_of index.now) cutoff result pass.old pass.new }
-{
-    let segment = ring.peek();
-    if pass.current() == Some(segment) {
-        return Effort::none();
-    }
-    keep_then_evict(index, pass, segment, cutoff)
-}
-
 // Whether the segment that the pass stores into has a row left.
-fn has_room(index: &Index, pass: &Pass) -> bool
+pub(crate) fn has_room(index: &Index, pass: &Pass) -> bool
     ensures { result ≡ has_room (shape_of index.now) pass.now }
 {
     let Some(segment) = pass.current() else {
@@ -191,15 +233,13 @@ fn has_room(index: &Index, pass: &Pass) -> bool
     used < index.shape().rows
 }
 
-// Makes room, and keeps what has the cutoff's frequency or a higher one, if there is a cutoff.
+// Makes room, and keeps what has the cutoff's frequency or a higher one.
 // If what was kept left no row, it makes room once more.
-#[cold]
-#[inline(never)]
-pub(crate) fn make_room_keeping(
+fn make_room_keeping(
     index: &Index,
     pass: &mut Pass,
     ring: &mut Ring,
-    cutoff: Option<u8>,
+    cutoff: u8,
     deadline: u32,
 ) -> (bool, Effort)
     requires quiet { IsQuiet (board_of index.now) pass.old }
@@ -207,13 +247,10 @@ pub(crate) fn make_room_keeping(
     ensures on { GoesOn (board_of index.now) pass.old pass.new }
     ensures own { IsOwnRing (shape_of index.now) (number pass.new) ring.new }
     ensures few { (result.1.refilled ≤ 2) × (result.1.kept < 2 ^ 32) × (result.1.keys < 2 ^ 59) }
-    ensures room { MakesRoom (board_of index.now) (room_plan cutoff deadline)
+    ensures room { MakesRoom (board_of index.now) (Some cutoff) deadline
         (most_for_room (shape_of index.now)) result.0 result.1 pass.old pass.new }
 {
     let (is_made, first) = make_room(index, pass, ring, deadline);
-    let Some(cutoff) = cutoff else {
-        return (is_made, first);
-    };
     if !is_made {
         return (false, first);
     }
@@ -223,6 +260,82 @@ pub(crate) fn make_room_keeping(
     }
     let (is_made, last) = make_room(index, pass, ring, deadline);
     (is_made, effort.plus(last))
+}
+
+// Whether the segment that the pass stores into has a row left, and this deadline.
+fn has_room_until(index: &Index, pass: &Pass, deadline: u32) -> bool
+    ensures room { result ≡ true → has_room (shape_of index.now) pass.now ≡ true }
+    ensures until { result ≡ true → StoresUntil deadline pass.now }
+{
+    let Some(segment) = pass.current() else {
+        return false;
+    };
+    if pass.deadline(segment) != Some(deadline) {
+        return false;
+    }
+    has_room(index, pass)
+}
+
+// Makes room by the queues. If that left no row, it gives up segments in turn.
+fn make_room_in_queues(
+    index: &Index,
+    pass: &mut Pass,
+    ring: &mut Ring,
+    queues: &mut Queues,
+    room: Room,
+) -> (bool, Effort)
+    requires quiet { IsQuiet (board_of index.now) pass.old }
+    requires own { IsOwnRing (shape_of index.now) (number pass.old) ring.old }
+    ensures on { GoesOn (board_of index.now) pass.old pass.new }
+    ensures own { IsOwnRing (shape_of index.now) (number pass.new) ring.new }
+    ensures few { (result.1.refilled < 2 ^ 30) × (result.1.kept < 2 ^ 60)
+        × (result.1.keys < 2 ^ 59) }
+    ensures room { MakesRoom (board_of index.now) (Some room.least) room.deadline
+        (most_for_room (shape_of index.now)) result.0 result.1 pass.old pass.new }
+{
+    let effort = arrange(index, pass, queues, room);
+    if has_room_until(index, pass, room.deadline) {
+        return (true, effort);
+    }
+    let (is_made, last) = make_room(index, pass, ring, room.deadline);
+    if let Some(segment) = pass.current() {
+        queues.was_refilled(segment, false);
+    }
+    (is_made, effort.plus(last))
+}
+
+// Makes room by the client's policy, at this moment.
+#[cold]
+#[inline(never)]
+pub(crate) fn make_room_by(
+    index: &Index,
+    pass: &mut Pass,
+    segments: &mut Segments,
+    policy: Policy,
+) -> (bool, Effort)
+    requires quiet { IsQuiet (board_of index.now) pass.old }
+    requires own { IsOwnRing (shape_of index.now) (number pass.old) segments.old.ring }
+    ensures on { GoesOn (board_of index.now) pass.old pass.new }
+    ensures own { IsOwnRing (shape_of index.now) (number pass.new) segments.new.ring }
+    ensures few { (result.1.refilled < 2 ^ 30) × (result.1.kept < 2 ^ 60)
+        × (result.1.keys < 2 ^ 59) }
+    ensures room { MakesRoom (board_of index.now) policy.cutoff policy.deadline
+        (most_for_room (shape_of index.now)) result.0 result.1 pass.old pass.new }
+{
+    let Some(least) = policy.cutoff else {
+        return make_room(index, pass, &mut segments.ring, policy.deadline);
+    };
+    match segments.queues.as_mut() {
+        Some(queues) => {
+            let room = Room {
+                least,
+                deadline: policy.deadline,
+                moment: policy.moment,
+            };
+            make_room_in_queues(index, pass, &mut segments.ring, queues, room)
+        }
+        None => make_room_keeping(index, pass, &mut segments.ring, least, policy.deadline),
+    }
 }
 
 // The segment in use that was filled before all others of the pass, but for the one that it stores

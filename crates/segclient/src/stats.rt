@@ -1,7 +1,8 @@
 //! The outcomes of a client's calls, counted.
 ghost use Rattle.std.specs.Prelude.{◌≡◌};
-ghost use Rattle.segclient.specs.Counting.{no_stats, with_more, counted, given_up_too};
+ghost use Rattle.segclient.specs.Counting.{no_stats, with_more, counted};
 ghost use Rattle.segclient.specs.Counting.{get_tally, gets_tally, write_tally, delete_tally, put_tally};
+ghost use Rattle.segclient.specs.PutParts.{with_effort};
 
 use crate::put::PutAnswer;
 use crate::room::Effort;
@@ -89,7 +90,7 @@ impl Stats {
 
     // Counts what calls of a put came to.
     pub(crate) fn count_effort(&mut self, effort: Effort)
-        ensures { self.new ≡ given_up_too effort self.old }
+        ensures { self.new ≡ with_effort effort self.old }
     {
         self.segments_refilled = self
             .segments_refilled

@@ -1,10 +1,10 @@
-use Rattle.std.proofs.Common.{◌≡◌, List, [], ◌∷◌, ◌++◌, sym, ap, ◌∙◌, subst, append_assoc, arith}
+use Rattle.std.proofs.Common.{◌≡◌, List, [], ◌∷◌, ◌++◌, Some, sym, ap, ◌∙◌, subst, append_assoc, arith}
 use Rattle.std.specs.List.{AllZip}
 use Rattle.std.specs.Vec.Iter.{into_iter_items}
 use Rattle.std.proofs.lemmas.List.{append-nil, nil_from_length}
 use Rattle.std.proofs.lemmas.List.Elements.{All-rest}
 use Rattle.segindex.specs.Words.{board_of, IsNew}
-use Rattle.segpass.specs.Words.{IsQuiet}
+use Rattle.segstore.specs.Words.{IsQuiet}
 use Rattle.segclient.specs.declared.client.Client.{Client}
 use Rattle.segclient.specs.Client.{Starts}
 use Rattle.segclient.proofs.Places.{zip_push}
@@ -26,8 +26,8 @@ loop-pass-preserved c =
       room = omega (arith, steps.1, pushed.len, pushed.capacity);
       quiet = All-rest (IsQuiet (board_of c.args.index.now)) pass _ _ steps.0 was.quiet;
       all = was.all ∙ ap (λ l. yielded ++ l) steps.0 ∙ sym (append_assoc yielded (pass ∷ []) rest);
-      made = subst (AllZip (Starts c.args.index.now) (yielded ++ pass ∷ [])) (sym {A = List Client} pushed.items)
-          (zip_push (Starts c.args.index.now) yielded c.loop-pass.clients.items pass c.new.result was.made c.new.ensures.starts);
+      made = subst (AllZip (Starts c.args.index.now (Some 0)) (yielded ++ pass ∷ [])) (sym {A = List Client} pushed.items)
+          (zip_push (Starts c.args.index.now (Some 0)) yielded c.loop-pass.clients.items pass c.in_ok-with_queues.field-0 was.made c.in_ok-with_queues.ensures.starts);
     }
 
 pub returns-clause-all : goal.returns-clause-all

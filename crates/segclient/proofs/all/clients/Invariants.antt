@@ -1,9 +1,9 @@
-use Rattle.std.proofs.Common.{◌≡◌, ◌+◌, ◌≤◌, ◌++◌, All}
+use Rattle.std.proofs.Common.{◌≡◌, ◌+◌, ◌≤◌, ◌++◌, All, Some}
 use Rattle.std.specs.List.{AllZip}
 use Rattle.std.specs.Vec.{vec_capacity, vec_len}
 use Rattle.std.specs.Vec.Iter.{into_iter_items, into_iter_len}
 use Rattle.segindex.specs.Words.{board_of}
-use Rattle.segpass.specs.Words.{IsQuiet}
+use Rattle.segstore.specs.Words.{IsQuiet}
 use Rattle.segclient.specs.Client.{Starts}
 use Rattle.segclient.proofs.all.clients.Given as goal
 
@@ -14,5 +14,5 @@ invariant-loop-pass l = record {
   room : vec_len l.clients + into_iter_len l.pass-iterator ≤ vec_capacity l.clients;
   quiet : All (IsQuiet (board_of l.index)) (into_iter_items l.pass-iterator);
   all : l.fn.passes.items ≡ l.yielded ++ into_iter_items l.pass-iterator;
-  made : AllZip (Starts l.index) l.yielded l.clients.items;
+  made : AllZip (Starts l.index (Some 0)) l.yielded l.clients.items;
 }

@@ -1,8 +1,7 @@
-use Rattle.std.proofs.Common.{◌≡◌, ◌+◌, ◌≤◌, refl, sym, ap, ◌∙◌, subst, arith}
+use Rattle.std.proofs.Common.{refl, sym, ap, ◌∙◌, subst, arith}
 use Rattle.segindex.specs.Words.{board_of}
 use Rattle.segevict.proofs.RowsOut.{goes_then}
-use Rattle.segclient.specs.Putting.{MakesPut, most_for_put, most_for_set}
-use Rattle.segclient.specs.PutParts.{plan_of}
+use Rattle.segclient.specs.PutParts.{MakesPut, most_for_put, most_for_set, plan_of}
 use Rattle.segclient.proofs.Calls.{both}
 use Rattle.segclient.proofs.Order.{as_many, whole}
 use Rattle.segclient.proofs.put.put_at_last.Goals as goal
@@ -11,12 +10,13 @@ pub returns-in_default : goal.returns-in_default
 returns-in_default c =
     let b = board_of c.args.index.now in
     let plan = plan_of c.args.order in
+    let moment = c.args.order.policy.moment in
     let one = c.set_in_room-told in
     record {
       on = one.ensures.on;
       own = one.ensures.own;
       puts = λ start is. (
-        as_many b plan (most_for_set b.shape) (most_for_put b.shape) one.result.0 one.result.1 one.result.1 start one.new.pass (omega arith) refl (one.ensures.sets start is),
+        as_many b plan moment (most_for_set b.shape) (most_for_put b.shape) one.result.0 one.result.1 one.result.1 start one.new.pass (omega arith) refl (one.ensures.sets start is),
         λ full. absurd (c.in_default.not-BucketFull full),
       );
     }
@@ -36,11 +36,12 @@ pub returns-clause-puts : goal.returns-clause-puts
 returns-clause-puts c = λ start is.
     let b = board_of c.args.index.now in
     let plan = plan_of c.args.order in
+    let moment = c.args.order.policy.moment in
     let one = c.set_in_room-told in
     let out = c.evict_oldest in
     let last = c.set_in_room-told-2 in
     let most = most_for_set b.shape in
-    let full = subst (λ t. MakesPut b plan most t one.result.1 start one.new.pass) c.in-BucketFull.is (one.ensures.sets start is) in
-    whole b plan most (most_for_put b.shape) last.result.0 one.result.1 out.result last.result.1 c.plus.result start one.new.pass out.new.pass last.new.pass (omega arith)
+    let full = subst (λ t. MakesPut b plan moment most t one.result.1 start one.new.pass) c.in-BucketFull.is (one.ensures.sets start is) in
+    whole b plan moment most (most_for_put b.shape) last.result.0 one.result.1 out.result last.result.1 c.plus.result start one.new.pass out.new.pass last.new.pass (omega arith)
     (sym (c.plus.ensures ∙ ap (λ e. both e last.result.1) c.plus-emptied.ensures))
     full out.ensures.empties (last.ensures.sets out.new.pass c.set_if_fresh-told.ensures.sets)

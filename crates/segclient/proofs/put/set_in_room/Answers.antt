@@ -1,13 +1,12 @@
-use Rattle.std.proofs.Common.{◌≡◌, ◌≢◌, ◌+◌, ◌<◌, ◌≤◌, refl, sym, ap, ◌∙◌, subst, arith}
+use Rattle.std.proofs.Common.{◌≢◌, ◌+◌, sym, ap, ◌∙◌, subst, arith}
 use Rattle.std.proofs.lemmas.Bool.{false≢true}
 use Rattle.segindex.specs.Words.{board_of}
-use Rattle.segpass.proofs.Idling.{goes_same}
+use Rattle.segstore.proofs.Idling.{goes_same}
 use Rattle.segevict.proofs.RowsOut.{goes_then}
 use Rattle.segclient.specs.declared.put.PutAnswer.TheVariants as put
 use Rattle.segclient.specs.declared.room.Effort.{Effort}
-use Rattle.segclient.specs.Putting.{MakesPut, most_for_room, most_for_set}
-use Rattle.segclient.specs.PutParts.{plan_of, SetsIfFresh}
-use Rattle.segclient.proofs.Calls.{both, effort_from}
+use Rattle.segclient.specs.PutParts.{effort_from, MakesPut, most_for_room, most_for_set, plan_of, SetsIfFresh}
+use Rattle.segclient.proofs.Calls.{both}
 use Rattle.segclient.proofs.Order.{as_many, lacked, no_room_end, none_more, room_on, sets_end, sets_on}
 use Rattle.segclient.proofs.put.set_in_room.Goals as goal
 
@@ -16,6 +15,7 @@ returns-in_default c =
     let b = board_of c.args.index.now in
     let p = c.args.pass.now in
     let plan = plan_of c.args.order in
+    let moment = c.args.order.policy.moment in
     record {
       on = goes_same b p c.requires.quiet;
       own = c.requires.own;
@@ -24,7 +24,7 @@ returns-in_default c =
         let x = ap (λ (e : Effort). e.kept) c.none.ensures in omega (arith, x),
         let x = ap (λ (e : Effort). e.keys) c.none.ensures in omega (arith, x),
       );
-      sets = λ start is. subst (λ e. MakesPut b plan (most_for_set b.shape) c.args.told e start p) (sym c.none.ensures) (sets_end b plan (most_for_set b.shape) c.args.told start p (omega arith) c.in_default.not-NoRoom is);
+      sets = λ start is. subst (λ e. MakesPut b plan moment (most_for_set b.shape) c.args.told e start p) (sym c.none.ensures) (sets_end b plan moment (most_for_set b.shape) c.args.told start p (omega arith) c.in_default.not-NoRoom is);
     }
 
 pub returns-then-not-is_made-clause-sets : goal.returns-then-not-is_made-clause-sets
@@ -32,27 +32,29 @@ returns-then-not-is_made-clause-sets c = λ start is.
     let b = board_of c.args.index.now in
     let p = c.args.pass.now in
     let plan = plan_of c.args.order in
-    let room = c.make_room_keeping-is_made in
+    let moment = c.args.order.policy.moment in
+    let room = c.make_room_by-is_made in
     let most = most_for_room b.shape in
     let none = effort_from 0 0 0 in
-    let first = lacked b plan start p (subst (λ t. SetsIfFresh b plan t start p) c.in-NoRoom.is is) in
-    as_many b plan (16 + most) (most_for_set b.shape) put.NoRoom (both none room.result.1) room.result.1 start room.new.pass (omega arith) (none_more room.result.1)
-    (no_room_end b plan 16 none start p room.new.pass first most room.result.0 room.result.1 room.ensures.room c.if-not-is_made.true)
+    let first = lacked b plan moment start p (subst (λ t. SetsIfFresh b plan moment t start p) c.in-NoRoom.is is) in
+    as_many b plan moment (16 + most) (most_for_set b.shape) put.NoRoom (both none room.result.1) room.result.1 start room.new.pass (omega arith) (none_more room.result.1)
+    (no_room_end b plan moment 16 none start p room.new.pass first most room.result.0 room.result.1 room.ensures.room c.if-not-is_made.true)
 
 pub returns-clause-on : goal.returns-clause-on
-returns-clause-on c = goes_then (board_of c.args.index.now) c.args.pass.now c.make_room_keeping-is_made.new.pass c.set_while_busy.new.pass c.make_room_keeping-is_made.ensures.on c.set_while_busy.ensures.on
+returns-clause-on c = goes_then (board_of c.args.index.now) c.args.pass.now c.make_room_by-is_made.new.pass c.set_while_busy.new.pass c.make_room_by-is_made.ensures.on c.set_while_busy.ensures.on
 
 pub returns-clause-sets : goal.returns-clause-sets
 returns-clause-sets c = λ start is.
     let b = board_of c.args.index.now in
     let p = c.args.pass.now in
     let plan = plan_of c.args.order in
-    let room = c.make_room_keeping-is_made in
+    let moment = c.args.order.policy.moment in
+    let room = c.make_room_by-is_made in
     let last = c.set_while_busy in
     let most = most_for_room b.shape in
     let none = effort_from 0 0 0 in
-    let first = lacked b plan start p (subst (λ t. SetsIfFresh b plan t start p) c.in-NoRoom.is is) in
-    let on = room_on b plan 16 none start p room.new.pass first most room.result.0 room.result.1 room.ensures.room in
+    let first = lacked b plan moment start p (subst (λ t. SetsIfFresh b plan moment t start p) c.in-NoRoom.is is) in
+    let on = room_on b plan moment 16 none start p room.new.pass first most room.result.0 room.result.1 room.ensures.room in
     let other : last.result ≢ put.NoRoom = λ lacks. false≢true (sym (last.ensures.sets.no_room lacks) ∙ room.ensures.room.room ∙ c.if-not-is_made.false) in
-    as_many b plan (16 + most + 16) (most_for_set b.shape) last.result (both none room.result.1) room.result.1 start last.new.pass (omega arith) (none_more room.result.1)
-    (sets_on b plan (16 + most) (both none room.result.1) start room.new.pass last.new.pass on last.result other last.ensures.sets)
+    as_many b plan moment (16 + most + 16) (most_for_set b.shape) last.result (both none room.result.1) room.result.1 start last.new.pass (omega arith) (none_more room.result.1)
+    (sets_on b plan moment (16 + most) (both none room.result.1) start room.new.pass last.new.pass on last.result other last.ensures.sets)

@@ -1,12 +1,11 @@
-use Rattle.std.proofs.Common.{◌≡◌, ◌≢◌, ◌+◌, ◌<◌, ◌≤◌, ◌∷◌, refl, sym, ap, ◌∙◌, subst, arith}
+use Rattle.std.proofs.Common.{◌≡◌, ◌≢◌, ◌∷◌, refl, sym, ◌∙◌, subst, arith}
 use Rattle.segmodel.specs.declared.answer.WriteAnswer.TheVariants as write
 use Rattle.segindex.specs.Words.{board_of}
-use Rattle.segpass.proofs.Idling.{goes_same}
+use Rattle.segstore.proofs.Idling.{goes_same}
 use Rattle.segevict.proofs.RowsOut.{goes_then}
 use Rattle.segclient.specs.declared.put.PutAnswer.TheVariants as put
 use Rattle.segclient.specs.PutCalls.{sets, Makes}
-use Rattle.segclient.specs.Putting.{busy_sets}
-use Rattle.segclient.specs.PutParts.{plan_of}
+use Rattle.segclient.specs.PutParts.{busy_sets, plan_of}
 use Rattle.segclient.proofs.Setting.{busy_long, busy_more, no_sets, same_room, set_more}
 use Rattle.segclient.proofs.put.set_while_busy.Goals as goal
 

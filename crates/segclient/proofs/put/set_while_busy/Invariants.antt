@@ -1,10 +1,8 @@
 use Rattle.std.proofs.Common.{◌≡◌}
-use Rattle.segbase.specs.Words.{Pass}
 use Rattle.segindex.specs.Words.{board_of}
-use Rattle.segpass.specs.Words.{GoesOn}
+use Rattle.segstore.specs.Words.{GoesOn}
 use Rattle.segclient.specs.PutCalls.{Makes}
-use Rattle.segclient.specs.Putting.{busy_sets}
-use Rattle.segclient.specs.PutParts.{plan_of}
+use Rattle.segclient.specs.PutParts.{busy_sets, plan_of}
 use Rattle.segclient.proofs.put.set_while_busy.Given as goal
 
 abbrev pub invariant-loop-tries : goal.invariant-loop-tries

@@ -1,14 +1,14 @@
-use Rattle.std.proofs.Common.{◌≡◌, ◌≢◌, ℕ, ◌+◌, ◌-◌, ◌*◌, ◌<◌, ◌≤◌, false, true, Some, refl, sym, ap, ◌∙◌, subst, arith, rules}
+use Rattle.std.proofs.Common.{◌≡◌, ◌≢◌, ◌+◌, ◌-◌, ◌*◌, ◌<◌, Some, sym, ap, ◌∙◌, subst, arith, rules}
 use Rattle.segbase.specs.Words.{current_of, number}
 use Rattle.segindex.specs.Words.{board_of}
-use Rattle.segpass.specs.Words.{GoesOn}
-use Rattle.segpass.proofs.Idling.{goes_same}
+use Rattle.segstore.specs.Words.{GoesOn}
+use Rattle.segstore.proofs.Idling.{goes_same}
 use Rattle.segevict.proofs.RowsOut.{goes_then}
 use Rattle.segpolicy.specs.Words.{turned}
 use Rattle.segclient.specs.PutParts.{GivesUp}
 use Rattle.segclient.specs.Rings.{IsOwnRing}
 use Rattle.segclient.proofs.Rooms.{current_own, gives_up, refused_apart}
-use Rattle.segclient.proofs.Trying.{Tried, none_tried, skipped, refused_next, at_last}
+use Rattle.segclient.proofs.Trying.{Tried, none_left, none_tried, skipped, refused_next, at_last}
 use Rattle.segclient.proofs.Turns.{own_in_ring, own_turned}
 use Rattle.segclient.proofs.room.make_room.Goals as goal
 use Rattle.segclient.proofs.room.make_room.Goals.{then-ne+else-is_refilled, else-ne}
@@ -44,7 +44,7 @@ returns-then-is_refilled-clause-room c =
     let apart : c.current-current.result ≢ Some segment = search rules in
     let below : c.loop-tried.tried < b.shape.segments_each = subst (λ s. c.loop-tried.tried < s.segments_each) c.shape-tried-end.ensures c.loop-tried-test.true in
     let gives = subst (λ made. GivesUp b segment c.args.deadline made more q r) c.if-is_refilled.true c.give_up-is_refilled.ensures.gives_up in
-    gives_up b c.args.deadline (2 * c.loop-tried.tried) c.loop-tried.keys c.args.pass.now q r was.over.0 segment more mine (λ now. absurd (apart (sym was.current ∙ now)))
+    gives_up b c.args.deadline (2 * c.loop-tried.tried) c.loop-tried.keys c.args.pass.now q r was.over.0 segment more mine
     (2 * b.shape.segments_each + 2) sum (omega arith) (ap (λ n. c.loop-tried.keys + n) c.from-keys.ensures) gives
 
 pub loop-tried-preserved : goal.loop-tried-preserved
@@ -127,3 +127,18 @@ returns-clause-room c =
     let over : Tried b c.args.deadline current ring 0 (2 * tried) c.loop-tried.keys p q = subst (λ n. Tried b c.args.deadline current ring n (2 * tried) c.loop-tried.keys p q) (let e : b.shape.segments_each - tried ≡ 0 = omega (arith, ends) in e) was.over in
     at_last b c.args.deadline current ring p some own (2 * tried) c.loop-tried.keys q over c.in-Some.last c.in-Some.is was.current was.on c.give_up-is_made.new.pass c.give_up-is_made.result.0 c.give_up-is_made.result.1
     (2 * b.shape.segments_each + 2) c.from.result (c.loop-tried.keys + c.from-2.result) (current_own b q c.in-Some.last was.on.quiet (was.current ∙ c.in-Some.is)) (omega (arith, ends)) (ap (λ n. c.loop-tried.keys + n) c.from-2.ensures) c.from.ensures c.give_up-is_made.ensures.gives_up
+
+pub returns-in_default-clause-room : goal.returns-in_default-clause-room
+returns-in_default-clause-room c =
+    let b = board_of c.args.index.now in
+    let p = c.args.pass.now in
+    let was = c.loop-tried.invariant in
+    let q = c.loop-tried.pass in
+    let ring = c.loop-tried.ring in
+    let tried = c.loop-tried.tried in
+    let current = c.current-current.result in
+    let some : 0 < b.shape.segments_each = c.requires.quiet.pass.valid.0.0.1.0 in
+    let own = subst (λ n. IsOwnRing b.shape n ring) was.on.same was.own in
+    let ends = ap (λ s. s.segments_each) c.shape-tried-end.ensures in
+    let over : Tried b c.args.deadline current ring 0 (2 * tried) c.loop-tried.keys p q = subst (λ n. Tried b c.args.deadline current ring n (2 * tried) c.loop-tried.keys p q) (let e : b.shape.segments_each - tried ≡ 0 = omega (arith, ends) in e) was.over in
+    none_left b c.args.deadline current ring p some own (2 * tried) c.loop-tried.keys q over (2 * b.shape.segments_each + 2) (omega (arith, ends)) c.in_default.is was.current

@@ -1,18 +1,17 @@
-use Rattle.std.proofs.Common.{◌+◌, ◌*◌, ◌≤◌, true, None, sym, ◌∙◌, subst, arith}
+use Rattle.std.proofs.Common.{◌+◌, Some, sym, ◌∙◌, subst, arith}
 use Rattle.segindex.specs.Words.{board_of}
 use Rattle.segevict.proofs.RowsOut.{goes_then}
-use Rattle.segclient.specs.Putting.{MakesRoom, most_for_room, room_plan}
-use Rattle.segclient.proofs.Calls.{both}
-use Rattle.segclient.proofs.Rooms.{room_again, room_cleared, room_wider}
+use Rattle.segclient.specs.PutParts.{MakesRoom, most_for_room, most_in_turn}
+use Rattle.segclient.proofs.Calls.{arranges_plus, arranges_wider}
+use Rattle.segclient.proofs.Rooms.{room_again, room_left, room_wider}
 use Rattle.segclient.proofs.room.make_room_keeping.Goals as goal
 
 pub returns-then-not-is_made-clause-room : goal.returns-then-not-is_made-clause-room
 returns-then-not-is_made-clause-room c =
     let b = board_of c.args.index.now in
     let first = c.make_room-is_made in
-    let most = 2 * b.shape.segments_each + 2 in
-    subst (λ made. MakesRoom b (room_plan c.args.cutoff c.args.deadline) (most_for_room b.shape) made first.result.1 c.args.pass.now first.new.pass) c.if-not-is_made.true
-    (room_wider b c.args.cutoff c.args.deadline most (most_for_room b.shape) (omega arith) first.result.0 first.result.1 c.args.pass.now first.new.pass first.ensures.room)
+    subst (λ made. MakesRoom b (Some c.args.cutoff) c.args.deadline (most_for_room b.shape) made first.result.1 c.args.pass.now first.new.pass) c.if-not-is_made.true
+    (room_wider b (Some c.args.cutoff) c.args.deadline (most_in_turn b.shape) (most_for_room b.shape) first.result.0 first.result.1 c.args.pass.now first.new.pass (omega arith) first.ensures.room)
 
 pub returns-then-has_room-clause-on : goal.returns-then-has_room-clause-on
 returns-then-has_room-clause-on c = goes_then (board_of c.args.index.now) c.args.pass.now c.make_room-is_made.new.pass c.clear_next.new.pass c.make_room-is_made.ensures.on c.clear_next.ensures.on
@@ -23,10 +22,15 @@ returns-then-has_room-clause-room c =
     let p = c.args.pass.now in
     let first = c.make_room-is_made in
     let cleared = c.clear_next in
-    let most = 2 * b.shape.segments_each + 2 in
-    let room = subst (λ made. MakesRoom b (room_plan None c.args.deadline) most made first.result.1 p first.new.pass) c.if-not-is_made.false first.ensures.room in
-    subst (λ effort. MakesRoom b (room_plan c.args.cutoff c.args.deadline) (most_for_room b.shape) true effort p cleared.new.pass) (sym c.plus-effort.ensures)
-    (room_cleared b c.args.cutoff c.args.deadline most (most_for_room b.shape) (omega arith) first.result.1 cleared.result c.in-Some.cutoff c.in-Some.is p first.new.pass cleared.new.pass room cleared.ensures.clears (sym c.has_room.ensures ∙ c.if-has_room.true))
+    let least = Some c.args.cutoff in
+    let deadline = c.args.deadline in
+    let turn = most_in_turn b.shape in
+    let most = turn + (b.shape.rows + 1) in
+    let wide = arranges_wider b least deadline turn first.result.1 p first.new.pass first.ensures.room.arranges in
+    room_left b least deadline most (most_for_room b.shape) c.plus-effort.result p cleared.new.pass (omega arith)
+    (arranges_plus b least deadline turn (b.shape.rows + 1) most first.result.1 cleared.result c.plus-effort.result p first.new.pass cleared.new.pass (omega arith) c.plus-effort.ensures wide.0 (cleared.ensures.clears deadline))
+    (sym c.has_room.ensures ∙ c.if-has_room.true)
+    (cleared.ensures.until deadline (first.ensures.room.until c.if-not-is_made.false))
 
 pub returns-clause-on : goal.returns-clause-on
 returns-clause-on c =
@@ -41,9 +45,11 @@ returns-clause-room c =
     let first = c.make_room-is_made in
     let cleared = c.clear_next in
     let last = c.make_room-is_made-2 in
-    let most = 2 * b.shape.segments_each + 2 in
-    let room = subst (λ made. MakesRoom b (room_plan None c.args.deadline) most made first.result.1 p first.new.pass) c.if-not-is_made.false first.ensures.room in
-    subst (λ effort. MakesRoom b (room_plan c.args.cutoff c.args.deadline) (most_for_room b.shape) last.result.0 effort p last.new.pass) (sym c.plus.ensures)
-    (subst (λ effort. MakesRoom b (room_plan c.args.cutoff c.args.deadline) (most_for_room b.shape) last.result.0 (both effort last.result.1) p last.new.pass) (sym c.plus-effort.ensures)
-    (room_again b c.args.cutoff c.args.deadline most (most_for_room b.shape) (omega arith) first.result.1 cleared.result c.in-Some.cutoff c.in-Some.is p first.new.pass cleared.new.pass room cleared.ensures.clears
-    last.result.0 last.result.1 last.new.pass (cleared.ensures.on.same ∙ first.ensures.on.same) last.ensures.room))
+    let least = Some c.args.cutoff in
+    let deadline = c.args.deadline in
+    let turn = most_in_turn b.shape in
+    let most = turn + (b.shape.rows + 1) in
+    let wide = arranges_wider b least deadline turn first.result.1 p first.new.pass first.ensures.room.arranges in
+    room_again b least deadline most turn (most_for_room b.shape) last.result.0 c.plus-effort.result last.result.1 c.plus.result p cleared.new.pass last.new.pass (omega arith) c.plus.ensures (cleared.ensures.on.same ∙ first.ensures.on.same)
+    (arranges_plus b least deadline turn (b.shape.rows + 1) most first.result.1 cleared.result c.plus-effort.result p first.new.pass cleared.new.pass (omega arith) c.plus-effort.ensures wide.0 (cleared.ensures.clears deadline))
+    last.ensures.room

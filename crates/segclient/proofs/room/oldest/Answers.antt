@@ -1,10 +1,9 @@
-use Rattle.std.proofs.Common.{◌≡◌, ◌≢◌, ℕ, ◌+◌, ◌-◌, ◌<◌, true, Some, refl, sym, ap, ◌∙◌, subst, inl, inr, arith, rules}
+use Rattle.std.proofs.Common.{◌≡◌, ◌≢◌, ℕ, ◌+◌, ◌-◌, ◌<◌, true, Some, sym, ap, ◌∙◌, subst, inl, inr, arith, rules}
 use Rattle.std.proofs.lemmas.Bool.{cases_eq}
 use Rattle.std.proofs.lemmas.Option.{same_Some}
 use Rattle.segmodel.specs.Words.{owner}
 use Rattle.segbase.specs.Words.{number}
 use Rattle.segindex.specs.Words.{board_of}
-use Rattle.segpolicy.specs.Words.{next_of, turned}
 use Rattle.segclient.specs.Rings.{IsOwnRing}
 use Rattle.segclient.proofs.Turns.{IsAhead, own_in_ring, own_turned, still_ahead}
 use Rattle.segclient.proofs.room.oldest.Goals as goal

@@ -1,63 +1,37 @@
-use Rattle.std.proofs.Common.{◌≢◌, ℕ, Some, refl, sym, ap, ◌∙◌, subst, inl, inr, arith}
+use Rattle.std.proofs.Common.{Some, refl, ap, ◌∙◌, subst}
 use Rattle.segmodel.specs.declared.request.Request.TheVariants.{Set}
-use Rattle.segindex.specs.Words.{board_of, shape_of}
-use Rattle.segclient.specs.declared.put.PutAnswer.TheVariants as put
-use Rattle.segclient.specs.Counting.{counted, given_up_too, put_tally}
-use Rattle.segclient.specs.Putting.{most_for_put}
-use Rattle.segclient.specs.PutParts.{PutsAtLast, SetsIfFresh}
-use Rattle.segclient.specs.Puts.{plan_for}
-use Rattle.segclient.proofs.Calls.{effort_from}
-use Rattle.segclient.proofs.Order.{sets_end}
-use Rattle.segclient.proofs.Ways.{put_comes}
+use Rattle.segbase.specs.Words.{number}
+use Rattle.segindex.specs.Words.{board_of}
+use Rattle.segclient.specs.Counting.{counted, put_tally}
+use Rattle.segclient.specs.PutCalls.{Plan}
+use Rattle.segclient.specs.PutParts.{PutsWhole}
+use Rattle.segclient.specs.Putting.{most_calls}
+use Rattle.segclient.specs.Puts.{deadline_of}
+use Rattle.segclient.proofs.Added.{counted_too, put_memo}
+use Rattle.segclient.proofs.Setting.{not_stale}
 use Rattle.segclient.proofs.member.Member.put.Goals as goal
-
-stored_room : put.Stored ≢ put.NoRoom
-stored_room e = cc
-
-stored_full : put.Stored ≢ put.BucketFull
-stored_full e = cc
-
-pub returns-in-Stored-clause-puts : goal.returns-in-Stored-clause-puts
-returns-in-Stored-clause-puts c =
-    let old = c.args.self.now in
-    let b = board_of c.args.index.now in
-    let first = c.set_if_fresh-first in
-    let request = Set c.args.key.now c.args.value.now old.clock in
-    let plan = plan_for c.args.key.now c.args.value.now old in
-    let most = most_for_put (shape_of c.args.index.now) in
-    let sets : SetsIfFresh b plan first.result old.pass first.new.pass = subst (λ (d : ℕ). SetsIfFresh b (record { request = Some request; cutoff = old.cutoff; deadline = d }) first.result old.pass first.new.pass) c.deadline.ensures first.ensures.sets in
-    let puts = sets_end b plan most first.result old.pass first.new.pass (omega arith) (λ e. stored_room (sym c.in-Stored.is ∙ e)) sets in
-    let comes = put_comes b plan request refl most first.result (effort_from 0 0 0) old.pass first.new.pass c.requires.member.0 puts in
-    record {
-      effort = effort_from 0 0 0;
-      puts = puts;
-      emptied = λ full. absurd (stored_full (sym c.in-Stored.is ∙ full));
-      adds = comes.adds;
-      memo = comes.memo;
-      stats = (old.stats, inr (refl, refl), c.count.ensures ∙ ap (λ tally. counted tally old.stats) c.tally_of_put.ensures);
-      draws = refl;
-      settings = record { number = comes.on.same; clock = refl; time_to_live = refl; cutoff = refl };
-    }
 
 pub returns-clause-puts : goal.returns-clause-puts
 returns-clause-puts c =
     let old = c.args.self.now in
     let b = board_of c.args.index.now in
-    let first = c.set_if_fresh-first in
-    let last = c.put_at_last-told in
-    let told = last.result.0 in
-    let effort = last.result.1 in
+    let put = c.put_by-told in
+    let told = put.result.0 in
+    let effort = put.result.1 in
+    let q = put.new.pass in
     let request = Set c.args.key.now c.args.value.now old.clock in
-    let plan = plan_for c.args.key.now c.args.value.now old in
-    let all : PutsAtLast b plan told effort old.pass last.new.pass = subst (λ (d : ℕ). PutsAtLast b (record { request = Some request; cutoff = old.cutoff; deadline = d }) told effort old.pass last.new.pass) c.deadline.ensures (last.ensures.puts old.pass first.ensures.sets) in
-    let comes = put_comes b plan request refl (most_for_put (shape_of c.args.index.now)) told effort old.pass last.new.pass c.requires.member.0 all.0 in
+    let plan : Plan = record { request = Some request; cutoff = old.cutoff; deadline = deadline_of old } in
+    let whole : PutsWhole b plan old.clock (most_calls b.shape) told effort old.pass q =
+    subst (λ policy. PutsWhole b (record { request = Some (Set c.args.key.now c.args.value.now policy.moment); cutoff = policy.cutoff; deadline = policy.deadline }) policy.moment (most_calls b.shape) told effort old.pass q) c.policy.ensures put.ensures.puts in
     record {
-      effort = effort;
-      puts = all.0;
-      emptied = all.1;
-      adds = comes.adds;
-      memo = comes.memo;
-      stats = (given_up_too effort old.stats, inl refl, c.count-2.ensures ∙ ap (λ tally. counted tally c.count_effort.new.self) c.tally_of_put-2.ensures ∙ ap (counted (put_tally told)) c.count_effort.ensures);
+      calls = whole.calls;
+      makes = whole.makes;
+      few = whole.few;
+      answer = whole.answer;
+      not_stored = whole.not_stored;
+      spares = λ until stores late left. whole.spares (not_stale until old.clock old.pass stores late) left;
+      memo = put_memo b plan (number old.pass) told whole.calls old.pass q c.requires.member.0 whole.answer whole.not_stored whole.makes;
+      stats = c.count.ensures ∙ ap (λ tally. counted tally c.count_effort.new.self) c.tally_of_put.ensures ∙ ap (counted (put_tally told)) (c.count_effort.ensures ∙ counted_too whole.calls effort old.stats whole.comes);
       draws = refl;
-      settings = record { number = comes.on.same; clock = refl; time_to_live = refl; cutoff = refl };
+      settings = record { number = put.ensures.on.same; clock = refl; time_to_live = refl; cutoff = refl };
     }

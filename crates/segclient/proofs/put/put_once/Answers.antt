@@ -1,0 +1,36 @@
+use Rattle.std.proofs.Common.{◌≢◌, sym, ◌∙◌, subst, arith}
+use Rattle.segindex.specs.Words.{board_of}
+use Rattle.segevict.proofs.RowsOut.{goes_then}
+use Rattle.segclient.specs.declared.put.PutAnswer.TheVariants as put
+use Rattle.segclient.specs.PutParts.{MakesPut, most_for_put, plan_of}
+use Rattle.segclient.specs.Rings.{IsOwnRing}
+use Rattle.segclient.proofs.Order.{sets_end}
+use Rattle.segclient.proofs.put.put_once.Goals as goal
+
+stored_apart : put.Stored ≢ put.NoRoom
+stored_apart e = cc
+
+stored_full : put.Stored ≢ put.BucketFull
+stored_full e = cc
+
+pub returns-in-Stored : goal.returns-in-Stored
+returns-in-Stored c =
+    let b = board_of c.args.index.now in
+    let first = c.set_if_fresh-first in
+    let plan = plan_of c.args.order in
+    let moment = c.args.order.policy.moment in
+    record {
+      on = first.ensures.on;
+      own = subst (λ n. IsOwnRing b.shape n c.args.segments.now.ring) (sym first.ensures.on.same) c.requires.own;
+      puts = (
+        subst (λ e. MakesPut b plan moment (most_for_put b.shape) first.result e c.args.pass.now first.new.pass) (sym c.none.ensures)
+            (sets_end b plan moment (most_for_put b.shape) first.result c.args.pass.now first.new.pass (omega arith) (λ e. stored_apart (sym c.in-Stored.is ∙ e)) first.ensures.sets),
+        λ full. absurd (stored_full (sym c.in-Stored.is ∙ full)),
+      );
+    }
+
+pub returns-clause-on : goal.returns-clause-on
+returns-clause-on c = goes_then (board_of c.args.index.now) c.args.pass.now c.set_if_fresh-first.new.pass c.put_at_last.new.pass c.set_if_fresh-first.ensures.on c.put_at_last.ensures.on
+
+pub returns-clause-puts : goal.returns-clause-puts
+returns-clause-puts c = c.put_at_last.ensures.puts c.args.pass.now c.set_if_fresh-first.ensures.sets

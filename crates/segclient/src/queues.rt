@@ -1,0 +1,188 @@
+//! Two queues of a client's segments. What is put goes to segments on probation,
+//! and what was read there moves on to main ones. What is known of segments, rows and keys is
+//! here; `arranging` makes the calls.
+ghost use Rattle.std.specs.Prelude.{◌≡◌, ◌≢◌, ◌⊎◌, ℕ, None, Some, IfSome};
+ghost use Rattle.segmodel.specs.Words.{owner};
+ghost use Rattle.segmodel.specs.declared.answer.SegState.TheVariants.{InUse};
+ghost use Rattle.segbase.specs.Words.{current_of, number, state_of};
+ghost use Rattle.segindex.specs.Words.{board_of, shape_of};
+ghost use Rattle.segstore.specs.Words.{IsQuiet};
+
+use segindex::{Index, Pass};
+use segmodel::SegState;
+use segword::{Key, Shape, hash};
+use std::alloc::{AllocError, Global};
+
+// What a segment is used for.
+#[derive(Clone, Copy, Debug, PartialEq, Eq)]
+pub(crate) enum Queue {
+    // It isn't in use.
+    Free,
+    // Puts are stored there.
+    Probation,
+    // What was read is moved there.
+    Main,
+}
+
+// What a segment in use is for, and its turn: the number of segments that changed queues before.
+#[derive(Clone, Copy)]
+struct Place {
+    is_main: bool,
+    turn: u64,
+}
+
+// The segments of a pass in three queues, how often the item of each row was moved,
+// and marks of keys that were put lately.
+#[derive(Drop)]
+pub(crate) struct Queues {
+    segments: u32,
+    rows: u32,
+    turns: u64,
+    places: Vec<Place>,
+    moves: Vec<u8>,
+    marks: Vec<u16>,
+}
+
+impl Queues {
+    ghost use Rattle.segclient.specs.declared.queues.Queue.TheVariants.{Free};
+
+    // The queues of a new pass.
+    pub(crate) fn new(alloc: Global, shape: Shape) -> Result<Queues, AllocError> {
+        let rows = shape.segments_each.saturating_mul(shape.rows) as usize;
+        let place = Place {
+            is_main: false,
+            turn: 0,
+        };
+        Ok(Queues {
+            segments: shape.segments_each,
+            rows: shape.rows,
+            turns: 0,
+            places: vec![in alloc; place; shape.segments_each as usize]?,
+            moves: vec![in alloc; 0u8; rows]?,
+            marks: vec![in alloc; 0u16; rows]?,
+        })
+    }
+
+    // The number of a segment among those of its pass.
+    fn place_of(&self, segment: u32) -> usize {
+        segment.checked_rem(self.segments).unwrap_or(0) as usize
+    }
+
+    // The queue of a segment of the pass's own, and its turn there.
+    fn turn_of(&self, pass: &Pass, segment: u32) -> (Queue, u64)
+        ensures free { (state_of pass.now segment ≡ Some InUse) ⊎ (result.0 ≡ Free) }
+    {
+        let (is_main, turn) = match self.places.get(self.place_of(segment)) {
+            Some(place) => (place.is_main, place.turn),
+            None => (false, 0),
+        };
+        if pass.state(segment) != Some(SegState::InUse) {
+            return (Queue::Free, turn);
+        }
+        if is_main {
+            (Queue::Main, turn)
+        } else {
+            (Queue::Probation, turn)
+        }
+    }
+
+    // How many segments are in the queue.
+    pub(crate) fn count(&self, index: &Index, pass: &Pass, queue: Queue) -> u32
+        requires quiet { IsQuiet (board_of index.now) pass.now }
+    {
+        let segments = index.shape().segments_each;
+        let first = pass.number() * segments;
+        let mut count = 0u32;
+        for at in 0..segments {
+            let (is_in, _) = self.turn_of(pass, first + at);
+            if is_in == queue {
+                count = count.saturating_add(1);
+            }
+        }
+        count
+    }
+
+    // The segment that came into the queue before the others, the current one left out.
+    pub(crate) fn oldest(&self, index: &Index, pass: &Pass, queue: Queue) -> Option<u32>
+        requires quiet { IsQuiet (board_of index.now) pass.now }
+        ensures own { IfSome result (λ segment.
+            (owner (shape_of index.now) segment ≡ number pass.now)
+            × (current_of pass.now ≢ Some segment)) }
+        ensures all { result ≡ None → queue ≡ Free
+            → (segment : ℕ) → owner (shape_of index.now) segment ≡ number pass.now
+            → current_of pass.now ≢ Some segment → state_of pass.now segment ≡ Some InUse }
+    {
+        let segments = index.shape().segments_each;
+        let first = pass.number() * segments;
+        let mut oldest = None;
+        let mut least = u64::MAX;
+        for at in 0..segments {
+            let segment = first + at;
+            let (is_in, turn) = self.turn_of(pass, segment);
+            if pass.current() != Some(segment) && is_in == queue && turn <= least {
+                least = turn;
+                oldest = Some(segment);
+            }
+        }
+        oldest
+    }
+
+    // The segment was refilled, for puts or as a main one.
+    pub(crate) fn was_refilled(&mut self, segment: u32, is_main: bool) {
+        self.turns = self.turns.saturating_add(1);
+        let at = self.place_of(segment);
+        if let Some(place) = self.places.get_mut(at) {
+            place.is_main = is_main;
+            place.turn = self.turns;
+        }
+    }
+
+    // The segment comes last in its queue, or among the free ones.
+    pub(crate) fn was_evicted(&mut self, segment: u32) {
+        self.turns = self.turns.saturating_add(1);
+        let at = self.place_of(segment);
+        if let Some(place) = self.places.get_mut(at) {
+            place.turn = self.turns;
+        }
+    }
+
+    // The number of a row among all rows of the pass.
+    fn row_at(&self, segment: u32, row: u32) -> usize {
+        self.place_of(segment)
+            .saturating_mul(self.rows as usize)
+            .saturating_add(row as usize)
+    }
+
+    // How often the item of a row was moved.
+    pub(crate) fn moves_of(&self, segment: u32, row: u32) -> u8 {
+        match self.moves.get(self.row_at(segment, row)) {
+            Some(moves) => *moves,
+            None => 0,
+        }
+    }
+
+    // The item of the row that was used last was moved so often.
+    pub(crate) fn set_moves(&mut self, pass: &Pass, count: u8) {
+        let Some(segment) = pass.current() else {
+            return;
+        };
+        let used = pass.used(segment).unwrap_or(0);
+        let at = self.row_at(segment, used.saturating_sub(1));
+        if let Some(moves) = self.moves.get_mut(at) {
+            *moves = count;
+        }
+    }
+
+    // Marks a key, and returns whether it was marked lately.
+    pub(crate) fn mark(&mut self, key: &Key) -> bool {
+        let mixed = hash(key).wrapping_mul(0x9e37_79b9_7f4a_7c15);
+        let mark = (mixed >> 48) as u16 | 1;
+        let at = (mixed >> 16 & 0xffff_ffff) as usize % self.marks.len().max(1);
+        let Some(place) = self.marks.get_mut(at) else {
+            return false;
+        };
+        let was_marked = *place == mark;
+        *place = mark;
+        was_marked
+    }
+}
