@@ -101,13 +101,13 @@ typedef struct segcache_note_t {
   const void *home; /* the cache of that client */
 } segcache_note_t;
 
-/* The size of a cache. segcache_open makes one up from a number of keys. Each bucket, overflow bucket and
-   row takes 64 bytes, and each segment 8; all of them together have 512 MiB at most. */
+/* The size of a cache. segcache_open makes one up from a number of keys. Each bucket, overflow bucket and row takes
+   64 bytes, and each segment 8: 512 MiB at most. Clients take 3 bytes more for each row, and 16 for each segment. */
 typedef struct segcache_shape {
   uint32_t buckets;       /* a power of two, 65536 at most; a bucket has words for 7 keys */
   uint32_t overflow;      /* overflow buckets, 65536 at most, each for 6 keys more of one bucket */
   uint32_t passes;        /* clients, 1 to 64 */
-  uint32_t segments_each; /* segments of each client, 1 to 1024; with one, a full client loses all at once */
+  uint32_t segments_each; /* segments of each client, 1 to 1024; two stay free, unless it keeps nothing */
   uint32_t rows;          /* items that a segment has room for, 1 to 4096 */
   uint32_t first_version; /* the version that all buckets begin with; 0 will do */
 } segcache_shape;
@@ -278,9 +278,9 @@ static inline uint32_t segcache_gets_many(segcache_client *client, const void *k
 
 /* --- Writing ---------------------------------------------------------------------------------------- */
 
-/* Stores a value under a key, and makes room for it: if no row is left, the client recycles a segment of
-   its own with the keys in it. This is what a server's set command calls. A put that is not OK leaves the
-   old value where it is: delete the key if nobody may read that any longer.
+/* Stores a value under a key, and makes room for it: if no row is left, the client recycles segments of its own.
+   It moves items that were read, and evicts the other keys. This is what a server's set command calls. A put
+   that is not OK leaves the old value where it is: delete the key if nobody may read that any longer.
    Answers: OK; NO_ROOM, if no segment could be had, since others read there;
    BUCKET_FULL; BUSY; BAD_KEY, BAD_VALUE, NO_HANDLE. */
 static inline uint32_t segcache_put(segcache_client *client, const void *key, size_t key_len, const void *value,
@@ -397,21 +397,21 @@ static inline uint32_t segcache_note_free(segcache_note_t *note) {
 
 /* --- Settings, room and counts ---------------------------------------------------------------------- */
 
-/* From the client's next segment on, what it stores is absent at `now` plus this time, or earlier: a
-   segment has one deadline, counted from when it was begun. At the start it is 4294967295.
+/* From the client's next segment on, what it stores is absent at `now` plus this time, or earlier: a segment has
+   one deadline, the last multiple of half this time that comes in it. At the start it is 4294967295.
    Answers: OK, NO_HANDLE. */
 static inline uint32_t segcache_set_time_to_live(segcache_client *client, uint32_t time_to_live) {
   return SEGCACHE_CALL(client, segcache_raw_set_time_to_live(&client->raw, time_to_live));
 }
 
-/* From now on the client's puts keep items that were read often (of this frequency, 1 to 255, or more)
-   when they recycle a segment. 3 did best on keys by Zipf's law. 0 keeps nothing, and more than 255
-   counts as 255. Answers: OK, NO_HANDLE. */
+/* From the start a client keeps what was read by two queues of segments. From now on it recycles them by turns, and
+   keeps items of this frequency, 1 to 255, or more. 0 keeps nothing, and more than 255 counts as 255. No call goes
+   back to the queues. Answers: OK, NO_HANDLE. */
 static inline uint32_t segcache_keep_from(segcache_client *client, uint32_t cutoff) {
   return SEGCACHE_CALL(client, segcache_raw_keep_from(&client->raw, cutoff));
 }
 
-/* Ends segcache_keep_from. Answers: OK, NO_HANDLE. */
+/* The same with nothing kept: for few segments, or where each key stays until all other rows were used. */
 static inline uint32_t segcache_keep_nothing(segcache_client *client) {
   return SEGCACHE_CALL(client, segcache_raw_keep_from(&client->raw, 0));
 }

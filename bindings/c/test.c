@@ -199,6 +199,7 @@ static void test_counts(void) {
   segcache_index_stats_t table;
   segcache_shape shape = {4, 0, 1, 2, 4, 0};
   EXPECT(segcache_open_shape(&shape, &cache, &client), SEGCACHE_OK);
+  EXPECT(segcache_keep_nothing(&client), SEGCACHE_OK); /* by turns: so it can be counted by hand */
   EXPECT(segcache_set(&client, "a", 1, "1", 1, 0), SEGCACHE_NO_ROOM);
   EXPECT(put(&client, "a", "1", 0), SEGCACHE_OK);
   EXPECT(put(&client, "a", "2", 0), SEGCACHE_OK);
@@ -227,26 +228,36 @@ static void test_counts(void) {
   EXPECT(segcache_free(&cache), SEGCACHE_OK);
 }
 
-/* An item that was read often is kept while its segment is recycled. */
-static void test_keeping(void) {
+/* One client with sixteen segments of four rows. A key is read at each third put of another one. */
+static void test_kept(uint32_t (*set)(segcache_client *), unsigned missed, int keeps) {
   segcache cache;
   segcache_client client;
   segcache_stats_t stats;
-  segcache_shape shape = {64, 0, 1, 4, 8, 0};
-  char key[2] = "a";
+  segcache_shape shape = {64, 0, 1, 16, 4, 0};
   EXPECT(segcache_open_shape(&shape, &cache, &client), SEGCACHE_OK);
-  EXPECT(segcache_keep_from(&client, 2), SEGCACHE_OK);
+  if (set != NULL) EXPECT(set(&client), SEGCACHE_OK);
   EXPECT(put(&client, "often", "read", 0), SEGCACHE_OK);
-  for (int i = 0; i < 200; i++) CHECK(reads(&client, "often", 0, "read"));
-  for (int i = 0; i < 32; i++, key[0]++) EXPECT(put(&client, key, "x", 0), SEGCACHE_OK);
-  CHECK(reads(&client, "often", 0, "read"));
+  for (uint32_t i = 0; i < 300; i++) {
+    EXPECT(segcache_put(&client, &i, sizeof i, "x", 1, 0), SEGCACHE_OK);
+    if (i % 3 == 2) missed -= !reads(&client, "often", 0, "read");
+  }
+  CHECK(missed == 0);
   EXPECT(segcache_stats(&client, &stats), SEGCACHE_OK);
-  CHECK(stats.items_kept >= 1);
-  EXPECT(segcache_keep_nothing(&client), SEGCACHE_OK);
-  for (int i = 0; i < 64; i++, key[0]++) EXPECT(put(&client, key, "x", 0), SEGCACHE_OK);
-  CHECK(reads(&client, "often", 0, NULL));
+  CHECK((stats.items_kept > 0) == keeps && stats.stored == 301 && stats.keys_evicted >= 301 - 64);
   EXPECT(segcache_give_back(&cache, &client), SEGCACHE_OK);
   EXPECT(segcache_free(&cache), SEGCACHE_OK);
+}
+
+static uint32_t keep_from_2(segcache_client *client) { return segcache_keep_from(client, 2); }
+static uint32_t keep_from_255(segcache_client *client) { return segcache_keep_from(client, UINT32_MAX); }
+
+/* What is read is kept. With nothing kept the 64th of the other keys recycles its segment, after 21 of the 100
+   reads. With a cutoff that is too high it is the 60th, since a segment is cleared ahead: after 19. */
+static void test_keeping(void) {
+  test_kept(NULL, 0, 1);
+  test_kept(keep_from_2, 0, 1);
+  test_kept(keep_from_255, 81, 0);
+  test_kept(segcache_keep_nothing, 79, 0);
 }
 
 /* A bucket of seven words. */

@@ -4,7 +4,7 @@ use Rattle.std.proofs.lemmas.Option.{none-some, same_Some, slice_get-map}
 use Rattle.std.proofs.lemmas.List.{length-map, length-replicate, length-set}
 use Rattle.segbase.specs.Words.{number_of, Pass}
 use Rattle.segindex.specs.Words.{AreAllQuiet, board_of, Index, shape_of}
-use Rattle.segpass.specs.Words.{IsQuiet}
+use Rattle.segstore.specs.Words.{IsQuiet}
 use Rattle.segclient.proofs.Places.{is_there}
 use Rattle.segcache.specs.Places.{AreItsPlaces}
 

@@ -3,7 +3,7 @@ use Rattle.std.proofs.Common.{◌≡◌, Bool, true, false, is_some, Option, Som
 use Rattle.std.proofs.lemmas.Bool.{false≢true}
 use Rattle.segbase.specs.Words.{holding, Pass}
 use Rattle.segindex.specs.Words.{board_of, Index, shape_of}
-use Rattle.segpass.specs.Words.{IsQuiet}
+use Rattle.segstore.specs.Words.{IsQuiet}
 use Rattle.segread.specs.Words.{HeldRow, ReleasesHold}
 use Rattle.segbase.specs.Words.{Board, Memo}
 use Rattle.segclient.specs.Made.{EndsHold}

@@ -6,7 +6,7 @@ use Rattle.segmodel.specs.declared.answer.DeleteAnswer.TheVariants as delete
 use Rattle.segmodel.specs.declared.answer.WriteAnswer.TheVariants as write
 use Rattle.segcore.specs.Words.{Holds, IsSegment, row_after}
 use Rattle.segbase.specs.Words.{Board, Memo, Pass}
-use Rattle.segpass.specs.Words.{memo}
+use Rattle.segstore.specs.Words.{memo}
 use Rattle.segread.specs.declared.held.HoldAnswer.{HoldAnswer}
 use Rattle.segread.specs.declared.held.HoldAnswer.TheVariants as hold_answer
 use Rattle.segread.specs.Words.{HeldRow, Hold, HoldsItem, IsHoldOf, IsOfRow}

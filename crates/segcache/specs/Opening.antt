@@ -25,10 +25,10 @@ pub record IsNewHome (i : Index) (home : Cache) : Type 0 where
   pub index : home.index.value ≡ i
   pub places : home.places.items ≡ replicate (shape_of i).passes None
 
--- it shares this index, is new, of this pass, and holds nothing
+-- it shares this index, is new, of this pass, may keep any item, and holds nothing
 pub record IsNewGuest (i : Index) (p : Pass) (guest : SharedClient) : Type 0 where
   pub index : guest.index.value ≡ i
-  pub member : Begins (shape_of i) p guest.member
+  pub member : Begins (shape_of i) (Some 0) p guest.member
   pub held : guest.held ≡ None
 
 abbrev pub IsHome : Index → Kept → Type 0

@@ -3,7 +3,7 @@ use Rattle.std.specs.Prelude.{◌≡◌, ℕ, List, length, slice_get, Option, S
 use native.Mathlib.Nat.{ℕ_set}
 use Rattle.segbase.specs.Words.{number_of, Pass}
 use Rattle.segindex.specs.Words.{board_of, Index, shape_of}
-use Rattle.segpass.specs.Words.{IsQuiet, IsQuiet-prop}
+use Rattle.segstore.specs.Words.{IsQuiet, IsQuiet-prop}
 
 -- there is one place for each pass, and a pass that is back stands in its own, between two calls
 abbrev pub AreItsPlaces : Index → List (Option Pass) → Type 0

@@ -3,7 +3,7 @@ ghost use Rattle.std.specs.Prelude.{◌≡◌, All, IfErr, IfOk, length, map};
 ghost use Rattle.std.specs.List.{AllZip};
 ghost use Rattle.segbase.specs.Words.{holding, IsMakeFault};
 ghost use Rattle.segindex.specs.Words.{board_of};
-ghost use Rattle.segpass.specs.Words.{IsQuiet};
+ghost use Rattle.segstore.specs.Words.{IsQuiet};
 ghost use Rattle.segcache.specs.Exports.{Answers};
 ghost use Rattle.segcache.specs.Opening.{are_empty, in_box, IsGuest, IsOpened, OpensKeys};
 ghost use Rattle.segcache.specs.Opening.{OpensShape, put_in, shape_from, values_of};
@@ -152,7 +152,8 @@ fn guests(
 {
     let mut guests = Vec::with_capacity(alloc, passes.len())?;
     for pass in passes {
-        let guest = SharedClient::new(Arc::try_clone(index)?, Member::new(index, pass));
+        let member = Member::with_queues(alloc, index, pass)?;
+        let guest = SharedClient::new(Arc::try_clone(index)?, member);
         let Ok(boxed) = Box::new(alloc, Kept::Client(guest)) else {
             return Err(AllocError);
         };

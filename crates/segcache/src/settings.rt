@@ -54,7 +54,8 @@ pub extern "C" fn segcache_raw_set_time_to_live(
     status.number()
 }
 
-/// Sets the least frequency of an item that a put keeps. With 0 it keeps nothing.
+/// Sets the least frequency of an item that a put keeps, in place of the two queues by which a
+/// client keeps at the start. With 0 it keeps nothing.
 /// A frequency has 8 bits, so what is higher counts as 255.
 #[unsafe(no_mangle)]
 pub extern "C" fn segcache_raw_keep_from(alloc: Global, client: &mut Handle, cutoff: u32) -> u32

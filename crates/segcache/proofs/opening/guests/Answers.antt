@@ -1,11 +1,11 @@
-use Rattle.std.proofs.Common.{rules, ◌≡◌, [], ◌∷◌, ◌++◌, List, map, None, sym, ap, ◌∙◌, subst, append_assoc, arith}
+use Rattle.std.proofs.Common.{rules, ◌≡◌, [], ◌∷◌, ◌++◌, List, map, None, Some, sym, ap, ◌∙◌, subst, append_assoc, arith}
 use Rattle.std.specs.List.{AllZip}
 use Rattle.std.specs.Vec.Iter.{into_iter_items}
 use Rattle.std.proofs.lemmas.List.{append-nil, map-append, nil_from_length}
 use Rattle.std.proofs.lemmas.List.Elements.{All-head, All-same, All-rest}
 use Rattle.segbase.specs.Words.{holding, Pass}
 use Rattle.segindex.specs.Words.{board_of, Index, shape_of}
-use Rattle.segpass.specs.Words.{IsQuiet}
+use Rattle.segstore.specs.Words.{IsQuiet}
 use Rattle.segclient.specs.declared.member.Member.{Member}
 use Rattle.segclient.specs.Member.{Begins, IsMember}
 use Rattle.segclient.proofs.Places.{zip_push}
@@ -32,8 +32,8 @@ pub new-guest-requires : goal.new-guest-requires
 new-guest-requires c =
     let free = All-head (λ (p : Pass). holding p ≡ None) c.in-Some.pass _ (All-same (λ (p : Pass). holding p ≡ None) _ _ (sym c.in-Some.ensures.steps.0) c.loop-pass.invariant.bare) in
     record {
-      member = subst (λ (i : Index). IsMember i c.new.result) (c.deref.ensures ∙ sym c.in_ok-try_clone.ensures) c.new.ensures.member;
-      row = ap holding c.new.ensures.begins.pass ∙ free;
+      member = subst (λ (i : Index). IsMember i c.in_ok-member.member) (c.deref.ensures ∙ sym c.in_ok-try_clone.ensures) c.in_ok-member.ensures.member;
+      row = ap holding c.in_ok-member.ensures.begins.pass ∙ free;
     }
 
 pub loop-pass-preserved : goal.loop-pass-preserved
@@ -51,7 +51,7 @@ loop-pass-preserved c =
     let is : boxed.value ≡ kept.Client c.new-guest.result = search rules in
     let guest : IsGuest index pass boxed.value = is_guest index pass boxed.value c.new-guest.result is (record {
       index = c.new-guest.ensures.index ∙ c.in_ok-try_clone.ensures;
-      member = subst (λ (m : Member). Begins (shape_of index) pass m) (sym c.new-guest.ensures.member) (subst (λ (i : Index). Begins (shape_of i) pass c.new.result) c.deref.ensures c.new.ensures.begins);
+      member = subst (λ (m : Member). Begins (shape_of index) (Some 0) pass m) (sym c.new-guest.ensures.member) (subst (λ (i : Index). Begins (shape_of i) (Some 0) pass c.in_ok-member.member) c.deref.ensures c.in_ok-member.ensures.begins);
       held = c.new-guest.ensures.held;
     }) in
     let pushes : map in_box c.push_reserved.new.self.items ≡ map in_box before ++ boxed.value ∷ [] = ap (map in_box) pushed.items ∙ map-append in_box before (boxed ∷ []) in

@@ -4,7 +4,7 @@ use Rattle.std.specs.Vec.{vec_capacity, vec_len}
 use Rattle.std.specs.Vec.Iter.{into_iter_items, into_iter_len}
 use Rattle.segbase.specs.Words.{holding}
 use Rattle.segindex.specs.Words.{board_of}
-use Rattle.segpass.specs.Words.{IsQuiet}
+use Rattle.segstore.specs.Words.{IsQuiet}
 use Rattle.segcache.specs.Opening.{in_box, IsGuest}
 use Rattle.segcache.proofs.opening.guests.Given as goal
 

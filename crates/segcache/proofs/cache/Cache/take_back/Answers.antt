@@ -1,6 +1,6 @@
 use Rattle.std.proofs.Common.{Some, slice_set, refl, ap, subst}
 use Rattle.segindex.specs.Words.{board_of}
-use Rattle.segpass.specs.Words.{IsQuiet}
+use Rattle.segstore.specs.Words.{IsQuiet}
 use Rattle.segcache.proofs.Members.{same_number}
 use Rattle.segcache.proofs.Placed.{put_place}
 use Rattle.segcache.proofs.cache.Cache.take_back.Goals as goal

@@ -1,6 +1,6 @@
 use Rattle.std.proofs.Common.{refl, ap, ◌∙◌}
 use Rattle.segindex.specs.Words.{shape_of}
-use Rattle.segpass.specs.Words.{memo}
+use Rattle.segstore.specs.Words.{memo}
 use Rattle.segclient.specs.Made.{GetsVersion}
 use Rattle.segcache.specs.Calls.{At}
 use Rattle.segcache.proofs.Made.{at_moment, makes_call}

@@ -1,6 +1,6 @@
 use Rattle.std.proofs.Common.{ap}
 use Rattle.segindex.specs.Words.{shape_of}
-use Rattle.segpass.specs.Words.{memo}
+use Rattle.segstore.specs.Words.{memo}
 use Rattle.segcache.proofs.Rows.{row_stays}
 use Rattle.segcache.proofs.client.SharedClient.keep_from.Goals as goal
 
