@@ -1,0 +1,242 @@
+-- A trace that is read byte by byte.
+use Rattle.std.proofs.Common.{◌≡◌, ◌≢◌, ◌≤◌, ◌<◌, ◌+◌, ℕ, List, [], ◌∷◌, ◌++◌, length, take, drop, get_or, false, Option, Some, None, Result, Ok, Err, refl, sym, ap, subst, ◌∙◌, inl, inr, append_assoc, append-nil, arith, length-append}
+use Rattle.std.specs.List.{flat_map}
+use Rattle.std.specs.Option.{option_map}
+use Rattle.std.proofs.lemmas.List.{take_more, take-append-drop}
+use Rattle.segclient.specs.Counting.{with_more}
+use Rattle.segscript.specs.Script.{ended, IsLine, Splits}
+use Rattle.segscript.proofs.LineLemmas.{IsLine-append, Splits-byte, Splits-end}
+use Rattle.segreplay.specs.declared.fault.TraceFault.{TraceFault}
+use Rattle.segreplay.specs.declared.fault.TraceFault.TheVariants as fault
+use Rattle.segreplay.specs.declared.line.Form.{Form}
+use Rattle.segreplay.specs.declared.line.Request.{Request}
+use Rattle.segreplay.specs.declared.player.Turn.{Turn}
+use Rattle.segreplay.specs.declared.reading.Reading.{Reading}
+use Rattle.segreplay.specs.declared.reading.Rules.{Rules}
+use Rattle.segreplay.specs.Lines.{stated}
+use Rattle.segreplay.specs.Replays.{is_read_end}
+use Rattle.segreplay.specs.Traces.{EndsBad, EndsEarly, EndsTrace, EndsWhole, Feeds, HasRead, line_after, number_after, requests_of, State, TakesLine, turn_of, turns_from}
+
+state_more : (form : Form) (lines : List (List ℕ)) (line : List ℕ) (rs more : List Request) → State form lines rs → requests_of form line ≡ Some more → State form (lines ++ line ∷ []) (rs ++ more)
+state_more form [] line rs more said one = (more, [], one, refl, ap (λ l. l ++ more) said ∙ sym (append-nil more))
+state_more form (l ∷ lines) line rs more said one =
+    (said.0, said.1 ++ more, said.2, state_more form lines line said.1 more said.3 one, ap (λ l. l ++ more) said.4 ∙ append_assoc said.0 said.1 more)
+
+turns_more : (rules : Rules) (number : ℕ) (rs more : List Request) → turns_from rules number (rs ++ more) ≡ turns_from rules number rs ++ turns_from rules (number_after number rs) more
+turns_more rules number [] more = refl
+turns_more rules number (r ∷ rs) more = ap (λ l. turn_of rules number r ∷ l) (turns_more rules (with_more number 1) rs more)
+
+after_more : (number : ℕ) (rs more : List Request) → number_after number (rs ++ more) ≡ number_after (number_after number rs) more
+after_more number [] more = refl
+after_more number (r ∷ rs) more = after_more (with_more number 1) rs more
+
+line_more : (number : ℕ) (lines : List (List ℕ)) (line : List ℕ) → line_after number (lines ++ line ∷ []) ≡ with_more (line_after number lines) 1
+line_more number [] line = refl
+line_more number (l ∷ lines) line = line_more (with_more number 1) lines line
+
+-- the turns after a line
+turns_taken : (rules : Rules) (made old new : List Turn) (rs more : List Request) (number : ℕ) → made ++ old ≡ turns_from rules 0 rs → number ≡ number_after 0 rs → new ≡ old ++ turns_from rules number more → made ++ new ≡ turns_from rules 0 (rs ++ more)
+turns_taken rules made old new rs more number was at took =
+    ap (λ l. made ++ l) took
+    ∙ sym (append_assoc made old (turns_from rules number more))
+    ∙ ap (λ l. l ++ turns_from rules number more) was
+    ∙ ap (λ n. turns_from rules 0 rs ++ turns_from rules n more) at
+    ∙ sym (turns_more rules 0 rs more)
+
+module _ (rules : Rules) (seen : List ℕ) (made : List Turn) (old new : Reading) (here : HasRead rules seen made old) where
+  abbrev Said : List Request → Type 0
+  Said more = requests_of old.rules.form old.line.items ≡ Some more
+
+  form_same : {r : _} → requests_of old.rules.form old.line.items ≡ r → requests_of rules.form old.line.items ≡ r
+  form_same {r} is = subst (λ (x : Rules). requests_of x.form old.line.items ≡ r) here.same is
+
+  taken : (more : List Request) → new.turns.items ≡ old.turns.items ++ turns_from old.rules old.commands more → made ++ new.turns.items ≡ turns_from rules 0 (here.requests ++ more)
+  taken more took =
+      turns_taken rules made old.turns.items new.turns.items here.requests more old.commands here.turns here.commands
+      (subst (λ (x : Rules). new.turns.items ≡ old.turns.items ++ turns_from x old.commands more) here.same took)
+
+  kept : new.turns.items ≡ old.turns.items → made ++ new.turns.items ≡ turns_from rules 0 here.requests
+  kept same = ap (λ l. made ++ l) same ∙ here.turns
+
+  -- what came, with more bytes
+  whole : (more : List ℕ) → seen ++ more ≡ flat_map ended here.lines ++ (old.line.items ++ more)
+  whole more = ap (λ s. s ++ more) here.splits.whole ∙ append_assoc (flat_map ended here.lines) old.line.items more
+
+  early : (more : List ℕ) → new.turns.items ≡ old.turns.items → EndsEarly rules (seen ++ more) (made ++ new.turns.items)
+  early more same = record {
+    lines = here.lines;
+    after = old.line.items ++ more;
+    requests = here.requests;
+    whole = whole more;
+    each = here.splits.each;
+    states = here.states;
+    made = kept same;
+  }
+
+  bad : (more : List ℕ) (n : ℕ) → n ≡ old.number → requests_of old.rules.form old.line.items ≡ None → new.turns.items ≡ old.turns.items → EndsBad rules (seen ++ more) (made ++ new.turns.items) n
+  bad more n at none same = record {
+    lines = here.lines;
+    bad = old.line.items;
+    after = more;
+    requests = here.requests;
+    whole = whole more;
+    each = here.splits.each;
+    unbroken = here.splits.partial;
+    is_bad = inr (form_same none);
+    states = here.states;
+    made = kept same;
+    number = at ∙ here.number;
+  }
+
+  -- the end of a line
+  pub line_fed : (end : Result (Unit {0}) TraceFault) → TakesLine old new end → Feeds rules (seen ++ 10 ∷ []) made new end
+  line_fed (Ok v) took = record {
+    lines = here.lines ++ old.line.items ∷ [];
+    requests = here.requests ++ took.0;
+    same = took.6 ∙ here.same;
+    splits = subst (Splits (seen ++ 10 ∷ []) (here.lines ++ old.line.items ∷ [])) (sym took.4) (Splits-end seen here.lines old.line.items here.splits);
+    short = subst (λ l. length l ≤ 4096) (sym took.4) (omega arith);
+    states = state_more rules.form here.lines old.line.items here.requests took.0 here.states (form_same took.1);
+    turns = taken took.0 took.2;
+    commands = took.3 ∙ ap (λ n. number_after n took.0) here.commands ∙ sym (after_more 0 here.requests took.0);
+    number = took.5 ∙ ap (λ n. with_more n 1) here.number ∙ sym (line_more 1 here.lines old.line.items);
+  }
+  line_fed (Err (fault.Line n)) took = bad (10 ∷ []) n took.0 took.1 took.2
+  line_fed (Err fault.OutOfMemory) took = early (10 ∷ []) took
+  line_fed (Err fault.Read) took = absurd took
+  line_fed (Err fault.TooLong) took = absurd took
+
+  -- the end of the trace
+  pub line_ended : (end : Result (Unit {0}) TraceFault) → TakesLine old new end → EndsTrace rules seen (made ++ new.turns.items) end
+  line_ended (Ok v) took = record {
+    lines = here.lines;
+    last = old.line.items;
+    requests = here.requests ++ took.0;
+    splits = here.splits;
+    states = state_more rules.form here.lines old.line.items here.requests took.0 here.states (form_same took.1);
+    made = taken took.0 took.2;
+  }
+  line_ended (Err (fault.Line n)) took = subst (λ s. EndsBad rules s (made ++ new.turns.items) n) (append-nil seen) (bad [] n took.0 took.1 took.2)
+  line_ended (Err fault.OutOfMemory) took = subst (λ s. EndsEarly rules s (made ++ new.turns.items)) (append-nil seen) (early [] took)
+  line_ended (Err fault.Read) took = absurd took
+  line_ended (Err fault.TooLong) took = absurd took
+
+  -- a byte of a line
+  pub byte_kept : (byte : ℕ) → byte ≢ 10 → length old.line.items < 4096 → new.rules ≡ old.rules → new.line.items ≡ old.line.items ++ byte ∷ [] → new.turns.items ≡ old.turns.items → new.commands ≡ old.commands → new.number ≡ old.number → HasRead rules (seen ++ byte ∷ []) made new
+  byte_kept byte other room equal line turns commands number = record {
+    lines = here.lines;
+    requests = here.requests;
+    same = equal ∙ here.same;
+    splits = subst (Splits (seen ++ byte ∷ []) here.lines) (sym line) (Splits-byte seen here.lines old.line.items byte here.splits other);
+    short = subst (λ l. length l ≤ 4096) (sym line) (let long = length-append old.line.items (byte ∷ []) in omega arith);
+    states = here.states;
+    turns = kept turns;
+    commands = commands ∙ here.commands;
+    number = number ∙ here.number;
+  }
+
+  -- a byte that no memory was left for
+  pub byte_lost : (byte : ℕ) → new.turns.items ≡ old.turns.items → Feeds rules (seen ++ byte ∷ []) made new (Err fault.OutOfMemory)
+  byte_lost byte same = early (byte ∷ []) same
+
+  -- a byte too many
+  pub byte_over : (byte : ℕ) → byte ≢ 10 → length old.line.items ≡ 4096 → new.turns.items ≡ old.turns.items → Feeds rules (seen ++ byte ∷ []) made new (Err (fault.Line old.number))
+  byte_over byte other full same = record {
+    lines = here.lines;
+    bad = old.line.items ++ byte ∷ [];
+    after = [];
+    requests = here.requests;
+    whole = whole (byte ∷ []) ∙ ap (λ l. flat_map ended here.lines ++ l) (sym (append-nil (old.line.items ++ byte ∷ [])));
+    each = here.splits.each;
+    unbroken = IsLine-append old.line.items (byte ∷ []) here.splits.partial (other, tt);
+    is_bad = inl (let long = length-append old.line.items (byte ∷ []) in omega arith);
+    states = here.states;
+    made = kept same;
+    number = here.number;
+  }
+
+next_byte : (seen bytes : List ℕ) (i : ℕ) → i < length bytes → (seen ++ take i bytes) ++ get_or bytes i 0 ∷ [] ≡ seen ++ take (i + 1) bytes
+next_byte seen bytes i below = append_assoc seen (take i bytes) (get_or bytes i 0 ∷ []) ∙ ap (λ b. seen ++ b) (sym (take_more bytes i 0 below))
+
+-- the trace ends here, in the middle of a line or not
+pub stopped : (rules : Rules) (seen : List ℕ) (made : List Turn) (r : Reading) → HasRead rules seen made r → EndsEarly rules seen (made ++ r.turns.items)
+stopped rules seen made r here = record {
+  lines = here.lines;
+  after = r.line.items;
+  requests = here.requests;
+  whole = here.splits.whole;
+  each = here.splits.each;
+  states = here.states;
+  made = here.turns;
+}
+
+-- a fault before more bytes
+pub fault_later : (rules : Rules) (seen more : List ℕ) (made : List Turn) (new : Reading) (f : TraceFault) → Feeds rules seen made new (Err f) → Feeds rules (seen ++ more) made new (Err f)
+fault_later rules seen more made new (fault.Line n) fed = record {
+  lines = fed.lines;
+  bad = fed.bad;
+  after = fed.after ++ more;
+  requests = fed.requests;
+  whole = ap (λ s. s ++ more) fed.whole ∙ append_assoc (flat_map ended fed.lines) (fed.bad ++ fed.after) more ∙ ap (λ l. flat_map ended fed.lines ++ l) (append_assoc fed.bad fed.after more);
+  each = fed.each;
+  unbroken = fed.unbroken;
+  is_bad = fed.is_bad;
+  states = fed.states;
+  made = fed.made;
+  number = fed.number;
+}
+fault_later rules seen more made new fault.OutOfMemory fed = record {
+  lines = fed.lines;
+  after = fed.after ++ more;
+  requests = fed.requests;
+  whole = ap (λ s. s ++ more) fed.whole ∙ append_assoc (flat_map ended fed.lines) fed.after more;
+  each = fed.each;
+  states = fed.states;
+  made = fed.made;
+}
+fault_later rules seen more made new fault.Read fed = absurd fed
+fault_later rules seen more made new fault.TooLong fed = absurd fed
+
+-- a fault of bytes that were fed ends the trace
+pub fault_ends : (rules : Rules) (seen : List ℕ) (made : List Turn) (new : Reading) (f : TraceFault) → Feeds rules seen made new (Err f) → EndsTrace rules seen (made ++ new.turns.items) (Err f)
+fault_ends rules seen made new (fault.Line n) fed = fed
+fault_ends rules seen made new fault.OutOfMemory fed = fed
+fault_ends rules seen made new fault.Read fed = absurd fed
+fault_ends rules seen made new fault.TooLong fed = absurd fed
+
+-- the next byte of some
+pub fed_on : (rules : Rules) (seen : List ℕ) (made : List Turn) (bytes : List ℕ) (i : ℕ) (new : Reading) → i < length bytes → HasRead rules ((seen ++ take i bytes) ++ get_or bytes i 0 ∷ []) made new → HasRead rules (seen ++ take (i + 1) bytes) made new
+fed_on rules seen made bytes i new below fed =
+    subst (λ s. HasRead rules s made new) (next_byte seen bytes i below) fed
+
+-- a fault at one of some
+pub fault_within : (rules : Rules) (seen : List ℕ) (made : List Turn) (bytes : List ℕ) (i : ℕ) (new : Reading) (f : TraceFault) → i < length bytes → Feeds rules ((seen ++ take i bytes) ++ get_or bytes i 0 ∷ []) made new (Err f) → Feeds rules (seen ++ bytes) made new (Err f)
+fault_within rules seen made bytes i new f below fed =
+    subst (λ s. Feeds rules s made new (Err f))
+    (append_assoc seen (take (i + 1) bytes) (drop (i + 1) bytes) ∙ ap (λ b. seen ++ b) (take-append-drop (i + 1) bytes))
+    (fault_later rules (seen ++ take (i + 1) bytes) (drop (i + 1) bytes) made new f
+    (subst (λ s. Feeds rules s made new (Err f)) (next_byte seen bytes i below) fed))
+
+-- neither feeding nor the end of a line is a failure of the reader
+pub fed_not_read : (rules : Rules) (seen : List ℕ) (made : List Turn) (new : Reading) (f : TraceFault) → Feeds rules seen made new (Err f) → is_read_end (Err f) ≡ false
+fed_not_read rules seen made new (fault.Line n) fed = refl
+fed_not_read rules seen made new fault.OutOfMemory fed = refl
+fed_not_read rules seen made new fault.Read fed = absurd fed
+fed_not_read rules seen made new fault.TooLong fed = absurd fed
+
+pub taken_not_read : (old new : Reading) (end : Result (Unit {0}) TraceFault) → TakesLine old new end → is_read_end end ≡ false
+taken_not_read old new (Ok v) took = refl
+taken_not_read old new (Err (fault.Line n)) took = refl
+taken_not_read old new (Err fault.OutOfMemory) took = refl
+taken_not_read old new (Err fault.Read) took = absurd took
+taken_not_read old new (Err fault.TooLong) took = absurd took
+
+-- ---- a line's commands
+
+pub empty_line : (form : Form) (line : List ℕ) → length line ≡ 0 → requests_of form line ≡ Some []
+empty_line form [] none = refl
+empty_line form (b ∷ line) none = absurd (omega (arith, none))
+
+pub full_line : (form : Form) (line : List ℕ) (r : Option Request) → (length line ≡ 0 → ⊥) → r ≡ stated form line → requests_of form line ≡ option_map (λ x. x ∷ []) r
+full_line form [] r some is = absurd (some refl)
+full_line form (b ∷ line) r some is = ap (option_map (λ x. x ∷ [])) (sym is)

@@ -1,0 +1,61 @@
+-- Players, caches and totals, place by place.
+use Rattle.std.proofs.Common.{◌≡◌, ◌<◌, ◌+◌, ◌-◌, ◌==◌, ℕ, zero, suc, List, [], ◌∷◌, ◌++◌, get_or, length, drop, slice_index_or, refl, sym, ap, subst, ◌∙◌, take, add-one, arith, append_assoc, append-nil, drop-cons}
+use Rattle.std.proofs.lemmas.List.{take_all}
+use Rattle.std.proofs.Math.Seq.{drop-length}
+use Rattle.std.specs.List.{AllZip}
+use Rattle.segword.specs.Words.{Shape}
+use Rattle.segreplay.specs.declared.cache.Cache.{Cache}
+use Rattle.segreplay.specs.declared.cache.Policy.{Policy}
+use Rattle.segreplay.specs.declared.cache.Policy.TheVariants as policy
+use Rattle.segreplay.specs.Caches.{half_of, sizes_of}
+use Rattle.segreplay.specs.declared.player.Player.{Player}
+use Rattle.segreplay.specs.declared.player.Turn.{Turn}
+use Rattle.segreplay.specs.Playing.{Plays}
+use Rattle.segreplay.specs.Replays.{AllPlay}
+use Rattle.segreplay.proofs.Steps.{plays_on}
+
+pub all_still : (players : List Player) → AllPlay [] players players
+all_still players = record { long = refl; each = λ n p below. refl }
+
+-- players that were lent and given back
+pub given_back : (count : ℕ) (new old : List Player) → count ≡ length old → length new ≡ length old → take count (new ++ drop (length new) old) ≡ new
+given_back count new old all long =
+    ap (λ l. take count (new ++ l)) (ap (λ k. drop k old) long ∙ drop-length old)
+    ∙ ap (take count) (append-nil new)
+    ∙ take_all count new (omega arith)
+
+pub all_play_on : (turns more : List Turn) (old between new : List Player) → AllPlay turns old between → AllPlay more between new → AllPlay (turns ++ more) old new
+all_play_on turns more old between new one then = record {
+  long = then.long ∙ one.long;
+  each = λ n p below.
+      plays_on turns more (slice_index_or old n p) (slice_index_or between n p) (slice_index_or new n p) (one.each n p below)
+      (then.each n p (subst (λ count. n < count) (sym one.long) below));
+}
+
+-- one size more
+pub size_more : (p : Policy) (shape : Shape) (caches all : List Cache) (sizes size : ℕ) → size < sizes → caches ++ sizes_of p shape (sizes - size) ≡ all → (caches ++ record { policy = p; shape = shape } ∷ []) ++ sizes_of p (half_of shape) (sizes - (size + 1)) ≡ all
+size_more p shape caches all sizes size below was =
+    let cache : Cache = record { policy = p; shape = shape } in
+    let left : suc (sizes - (size + 1)) ≡ sizes - size = omega arith in
+    append_assoc caches (cache ∷ []) (sizes_of p (half_of shape) (sizes - (size + 1))) ∙ ap (λ n. caches ++ sizes_of p shape n) left ∙ was
+
+-- what stands for a cache beyond a list
+abbrev pub no_cache : Cache
+no_cache = record {
+  policy = policy.Default;
+  shape = record { buckets = 0; overflow = 0; passes = 0; segments_each = 0; rows = 0; first_version = 0 };
+}
+
+-- ---- what stands at a place of a list beside another one
+
+pub is_within : {A B : Type 0} (R : A → B → Type 0) (xs : List A) (n : ℕ) (y : B) (ys : List B) → AllZip R (drop n xs) (y ∷ ys) → n < length xs
+is_within R [] zero y ys zip = absurd zip
+is_within R [] (suc n) y ys zip = absurd zip
+is_within R (x ∷ xs) zero y ys zip = omega arith
+is_within R (x ∷ xs) (suc n) y ys zip = let rest = is_within R xs n y ys zip in omega arith
+
+pub at_place : {A B : Type 0} (R : A → B → Type 0) (xs : List A) (n : ℕ) (d : A) (y : B) (ys : List B) → AllZip R (drop n xs) (y ∷ ys) → R (get_or xs n d) y × AllZip R (drop (n + 1) xs) ys
+at_place R xs n d y ys zip =
+    let split : drop n xs ≡ get_or xs n d ∷ drop (suc n) xs = drop-cons xs n d (is_within R xs n y ys zip) in
+    let moved : AllZip R (get_or xs n d ∷ drop (suc n) xs) (y ∷ ys) = subst (λ l. AllZip R l (y ∷ ys)) split zip in
+    (moved.0, subst (λ k. AllZip R (drop k xs) ys) (sym (add-one n)) moved.1)

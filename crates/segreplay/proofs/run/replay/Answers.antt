@@ -1,0 +1,33 @@
+use Rattle.std.proofs.Common.{◌∙◌, All, ap, subst, sym}
+use Rattle.segreplay.specs.Caches.{caches_of, HasValidShape, IsFresh}
+use Rattle.segreplay.specs.Replays.{AllPlay, totals_from}
+use Rattle.segreplay.specs.Traces.{EndsTrace}
+use Rattle.segreplay.proofs.Lists.{given_back}
+use Rattle.segreplay.proofs.run.replay.Goals as goal
+
+pub totals_of-requires : goal.totals_of-requires
+totals_of-requires g c = subst (All HasValidShape) (c.as_slice.ensures.value ∙ sym c.as_slice-3.ensures.value) c.in-Ok-make_all.ensures.valid
+
+pub returns-in-Ok-totals_of-clause-outcome : goal.returns-in-Ok-totals_of-clause-outcome
+returns-in-Ok-totals_of-clause-outcome g c =
+    let run = c.run-end.ensures.outcome in
+    let players = c.in-Ok-players_of.players in
+    let ends = c.run-end.new.players in
+    let plays = subst (λ old. AllPlay run.1 old ends) c.as_mut_slice.ensures.value run.3 in
+    let same = c.as_slice-4.ensures.value ∙ given_back players.len ends players.items players.ok.0 plays.long in
+    let plan = c.args.plan.now in
+    let caches = caches_of plan.policies.now plan.shape plan.sizes in (
+      run.0,
+      run.2,
+      record {
+        turns = run.1;
+        starts = players.items;
+        ends = ends;
+        ended = subst (λ rules. EndsTrace rules run.0 run.1 c.run-end.result) c.in-Ok-new.ensures.same run.4;
+        fresh = subst (λ value. All (IsFresh value) players.items) c.value_of-value.ensures c.in-Ok-players_of.ensures;
+        plays = plays;
+        totals = c.in-Ok-totals_of.ensures
+            ∙ ap (totals_from 0 c.as_slice-4.result.now) (c.as_slice-3.ensures.value ∙ c.in-Ok.ensures)
+            ∙ ap (λ all. totals_from 0 all caches) same;
+      },
+    )

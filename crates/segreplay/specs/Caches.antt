@@ -1,0 +1,63 @@
+-- The caches that a trace is sent through, and their clients before the first command.
+use Rattle.std.specs.Prelude.{◌≡◌, ◌+◌, ◌/◌, ℕ, zero, suc, max, All, List, [], ◌∷◌, Some, None, if◌then◌else◌, ◌==◌}
+use Rattle.std.specs.List.{flat_map}
+use Rattle.segword.specs.Words.{IsValid, Shape}
+use Rattle.segbase.specs.Words.{Pass}
+use Rattle.segindex.specs.Words.{board_of, Index}
+use Rattle.segstore.specs.Words.{IsQuiet}
+use Rattle.segclient.specs.declared.client.Client.{Client}
+use Rattle.segclient.specs.Client.{MakesCall}
+use Rattle.segclient.specs.Member.{SetsCutoff}
+use Rattle.segreplay.specs.declared.cache.Cache.{Cache}
+use Rattle.segreplay.specs.declared.cache.Dealt.{Dealt}
+use Rattle.segreplay.specs.declared.cache.Policy.{Policy}
+use Rattle.segreplay.specs.declared.cache.Policy.TheVariants as policy
+use Rattle.segreplay.specs.declared.counts.Counts.{Counts}
+use Rattle.segreplay.specs.declared.player.Player.{Player}
+use Rattle.segreplay.specs.Counting.{no_counts, together}
+
+-- half of the buckets and of the rows
+abbrev pub half_of : Shape → Shape
+half_of shape = record shape {
+  buckets = max (shape.buckets / 2) 1;
+  overflow = shape.overflow / 2;
+  rows = max (shape.rows / 2) 1;
+}
+
+-- so many caches, each half of the one before
+abbrev pub sizes_of : Policy → Shape → ℕ → List Cache
+sizes_of p shape zero = []
+sizes_of p shape (suc sizes) =
+    record { policy = p; shape = shape } ∷ sizes_of p (half_of shape) sizes
+
+-- so many for each policy
+abbrev pub caches_of : List Policy → Shape → ℕ → List Cache
+caches_of policies shape sizes = flat_map (λ p. sizes_of p shape sizes) policies
+
+-- the client keeps by this policy from now on
+abbrev pub SetsPolicy : Policy → Client → Client → Type 0
+SetsPolicy policy.Default old new = new ≡ old
+SetsPolicy policy.Nothing old new = MakesCall (λ board. SetsCutoff None) old new
+SetsPolicy (policy.Cutoff least) old new = MakesCall (λ board. SetsCutoff (Some least)) old new
+
+-- an index can have the shape of the cache
+abbrev pub HasValidShape : Cache → Type 0
+HasValidShape cache = IsValid cache.shape
+
+-- the passes may make calls of the index
+abbrev pub AreQuiet : Index → List Pass → Type 0
+AreQuiet index passes = All (IsQuiet (board_of index)) passes
+
+abbrev pub MayCall : Index → Dealt → Type 0
+MayCall index dealt = AreQuiet index dealt.passes.items
+
+-- a player that puts this value, and has counted nothing
+pub record IsFresh (value : List ℕ) (p : Player) : Type 0 where
+  pub puts : p.value ≡ value
+  pub none : p.counts ≡ no_counts
+
+-- the counts of a cache's players together, after these counts
+abbrev pub counts_after : Counts → ℕ → List Player → Counts
+counts_after counts cache [] = counts
+counts_after counts cache (p ∷ players) =
+    counts_after (if p.cache == cache then together counts p.counts else counts) cache players

@@ -1,0 +1,71 @@
+-- How a client makes commands of a trace, and what it counts of them.
+use Rattle.std.specs.Prelude.{◌≡◌, ◌≢◌, ◌-◌, ℕ, List, [], ◌∷◌, if◌then◌else◌}
+use Rattle.segmodel.specs.declared.answer.GetAnswer.TheVariants as get
+use Rattle.segclient.specs.declared.client.Client.{Client}
+use Rattle.segclient.specs.Client.{MakesCall}
+use Rattle.segclient.specs.Made.{DeletesKey, Gets}
+use Rattle.segclient.specs.Member.{SetsNow, SetsTimeToLive}
+use Rattle.segclient.specs.Puts.{Puts}
+use Rattle.segreplay.specs.declared.counts.Counts.{Counts}
+use Rattle.segreplay.specs.declared.counts.Outcome.{Outcome}
+use Rattle.segreplay.specs.declared.counts.Outcome.TheVariants as outcome
+use Rattle.segreplay.specs.declared.line.Request.{Request}
+use Rattle.segreplay.specs.declared.line.Verb.TheVariants as verb
+use Rattle.segreplay.specs.declared.player.Player.{Player}
+use Rattle.segreplay.specs.declared.player.Turn.{Turn}
+use Rattle.segreplay.specs.Counting.{counted, effort_counted}
+
+-- the client's clock shows the command's moment, and its time to live is the command's
+abbrev pub IsSetFor : Request → Client → Client → Type 0
+IsSetFor r old new =
+    (between : Client)
+    × MakesCall (λ board. SetsNow r.moment) old between
+    × MakesCall (λ board. SetsTimeToLive r.time_to_live) between new
+
+-- the calls of a command, which came to this: a get that missed is followed by a put of its key
+abbrev pub Makes : List ℕ → Request → Outcome → Client → Client → Type 0
+Makes value r outcome.Hit old new =
+    (r.verb ≡ verb.Get) × (found : List ℕ) × MakesCall (Gets r.key (get.Found found)) old new
+Makes value r (outcome.Miss told) old new =
+    (r.verb ≡ verb.Get)
+    × (between : Client)
+    × MakesCall (Gets r.key get.Miss) old between
+    × MakesCall (Puts r.key value told) between new
+Makes value r outcome.GetBusy old new =
+    (r.verb ≡ verb.Get) × MakesCall (Gets r.key get.Busy) old new
+Makes value r (outcome.Set told) old new =
+    (r.verb ≡ verb.Set) × MakesCall (Puts r.key value told) old new
+Makes value r (outcome.Delete told) old new =
+    (r.verb ≡ verb.Delete) × MakesCall (DeletesKey r.key told) old new
+
+-- a command was made at its moment
+abbrev pub Serves : List ℕ → Request → Outcome → Client → Client → Type 0
+Serves value r told old new =
+    (ready : Client) × IsSetFor r old ready × Makes value r told ready new
+
+-- the counts after a command, with what its puts evicted and kept
+abbrev pub counted_too : Outcome → Client → Client → Counts → Counts
+counted_too told old new counts =
+    effort_counted (new.member.stats.keys_evicted - old.member.stats.keys_evicted)
+    (new.member.stats.items_kept - old.member.stats.items_kept) (counted told counts)
+
+-- the command was made, and counted if it is to be
+pub record Takes (turn : Turn) (old new : Player) : Type 0 where
+  pub outcome : Outcome
+  pub serves : Serves old.value turn.request outcome old.client new.client
+  pub counts : new.counts ≡ (if turn.is_counted
+      then counted_too outcome old.client new.client old.counts else old.counts)
+  pub cache : new.cache ≡ old.cache
+  pub number : new.number ≡ old.number
+  pub value : new.value ≡ old.value
+
+-- a command of another client was left out
+abbrev pub TakesOwn : Turn → Player → Player → Type 0
+TakesOwn turn old new =
+    (turn.client ≡ old.number → Takes turn old new) × (turn.client ≢ old.number → new ≡ old)
+
+-- those of the commands that are the client's own, in their order
+abbrev pub Plays : List Turn → Player → Player → Type 0
+Plays [] old new = new ≡ old
+Plays (turn ∷ turns) old new =
+    (between : Player) × TakesOwn turn old between × Plays turns between new

@@ -1,0 +1,62 @@
+-- What a replay comes to.
+use Rattle.std.specs.Prelude.{◌≡◌, ◌<◌, ◌*◌, ℕ, ◌+◌, Bool, true, false, min, All, List, [], ◌∷◌, length, replicate, take, slice_index_or, Result, Ok, Err}
+use Rattle.segword.specs.Words.{word_count}
+use Rattle.segreplay.specs.declared.cache.Cache.{Cache}
+use Rattle.segreplay.specs.declared.fault.TraceFault.{TraceFault}
+use Rattle.segreplay.specs.declared.fault.TraceFault.TheVariants as fault
+use Rattle.segreplay.specs.declared.player.Player.{Player}
+use Rattle.segreplay.specs.declared.player.Turn.{Turn}
+use Rattle.segreplay.specs.declared.reading.Reading.{Reading}
+use Rattle.segreplay.specs.declared.reading.Rules.{Rules}
+use Rattle.segreplay.specs.declared.run.Plan.{Plan}
+use Rattle.segreplay.specs.declared.run.Replayed.{Replayed}
+use Rattle.segreplay.specs.declared.totals.CacheTotals.{CacheTotals}
+use Rattle.segreplay.specs.Caches.{caches_of, counts_after, IsFresh}
+use Rattle.segreplay.specs.Counting.{no_counts}
+use Rattle.segreplay.specs.Playing.{Plays}
+use Rattle.segreplay.specs.Traces.{EndsTrace, HandsOn}
+
+-- Each player made its own of these turns, in their order.
+pub record AllPlay (turns : List Turn) (old new : List Player) : Type 0 where
+  pub long : length new ≡ length old
+  pub each : (n : ℕ) (p : Player) → n < length old
+      → Plays turns (slice_index_or old n p) (slice_index_or new n p)
+
+-- Some turns were handed on and made, or none.
+abbrev pub MakesSome : Reading → Reading → List Player → List Player → Type 0
+MakesSome old new players players' =
+    (turns : List Turn) × HandsOn turns old new × AllPlay turns players players'
+
+abbrev pub rules_of : Plan → Rules
+rules_of plan = record { form = plan.form; clients = plan.shape.passes; warm = plan.warm }
+
+-- the value that is put: so many bytes, all 0
+abbrev pub value_of : ℕ → List ℕ
+value_of bytes = take (min bytes 32) (replicate 32 0)
+
+-- the totals of these caches, the first of which has this number
+abbrev pub totals_from : ℕ → List Player → List Cache → List CacheTotals
+totals_from place players [] = []
+totals_from place players (cache ∷ caches) =
+    record {
+      cache = cache;
+      bytes = 8 * word_count cache.shape;
+      counts = counts_after no_counts place players;
+    }
+    ∷ totals_from (place + 1) players caches
+
+-- The bytes `seen` came. The commands of their lines were made by clients of the plan's caches,
+-- and the totals are what these counted.
+pub record IsReplay (plan : Plan) (seen : List ℕ) (r : Replayed) : Type 0 where
+  pub turns : List Turn
+  pub starts : List Player
+  pub ends : List Player
+  pub ended : EndsTrace (rules_of plan) seen turns r.end
+  pub fresh : All (IsFresh (value_of plan.value_bytes)) starts
+  pub plays : AllPlay turns starts ends
+  pub totals : r.totals.items ≡ totals_from 0 ends
+      (caches_of plan.policies.now plan.shape plan.sizes)
+
+abbrev pub is_read_end : Result (Unit {0}) TraceFault → Bool
+is_read_end (Err fault.Read) = true
+is_read_end _ = false

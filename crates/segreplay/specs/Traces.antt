@@ -1,0 +1,163 @@
+-- Which commands the lines of a trace state, and how far a trace is read.
+use Rattle.std.specs.Prelude.{◌≡◌, ◌⊎◌, ◌<◌, ◌≤◌, ℕ, List, [], ◌∷◌, ◌++◌, length, Option, Some, None, Result, Ok, Err, nat_le}
+use Rattle.std.specs.List.{flat_map, AllByRecursion}
+use Rattle.std.specs.Option.{option_map}
+use Rattle.segclient.specs.Counting.{with_more}
+use Rattle.segscript.specs.Script.{ended, IsLine, Splits}
+use Rattle.segreplay.specs.declared.fault.TraceFault.{TraceFault}
+use Rattle.segreplay.specs.declared.fault.TraceFault.TheVariants as fault
+use Rattle.segreplay.specs.declared.line.Form.{Form}
+use Rattle.segreplay.specs.declared.line.Request.{Request}
+use Rattle.segreplay.specs.declared.player.Turn.{Turn}
+use Rattle.segreplay.specs.declared.reading.Reading.{Reading}
+use Rattle.segreplay.specs.declared.reading.Rules.{Rules}
+use Rattle.segreplay.specs.Lines.{client_of, stated}
+
+-- ---- lines
+
+-- the commands of a line: one, or none if it has no bytes
+abbrev pub requests_of : Form → List ℕ → Option (List Request)
+requests_of form [] = Some []
+requests_of form (byte ∷ line) = option_map (λ r. r ∷ []) (stated form (byte ∷ line))
+
+-- these lines state these commands
+abbrev pub State : Form → List (List ℕ) → List Request → Type 0
+State form [] requests = requests ≡ []
+State form (line ∷ lines) requests =
+    (first : List Request) × (rest : List Request) × (requests_of form line ≡ Some first)
+    × State form lines rest
+    × (requests ≡ first ++ rest)
+
+-- a bad line is too long, or has bytes and states no command
+abbrev pub IsBad : Form → List ℕ → Type 0
+IsBad form line = (4096 < length line) ⊎ (requests_of form line ≡ None)
+
+-- ---- turns
+
+-- the command with this number, counted from 0: its client, and whether it is counted
+abbrev pub turn_of : Rules → ℕ → Request → Turn
+turn_of rules number r = record {
+  request = r;
+  client = client_of rules.clients r.key;
+  is_counted = nat_le rules.warm number;
+}
+
+-- these commands, the first of which has this number
+abbrev pub turns_from : Rules → ℕ → List Request → List Turn
+turns_from rules number [] = []
+turns_from rules number (r ∷ requests) =
+    turn_of rules number r ∷ turns_from rules (with_more number 1) requests
+
+-- the number of the command after these
+abbrev pub number_after : ℕ → List Request → ℕ
+number_after number [] = number
+number_after number (r ∷ requests) = number_after (with_more number 1) requests
+
+-- the number of the line after these, the first of which has number 1
+abbrev pub line_after : ℕ → List (List ℕ) → ℕ
+line_after number [] = number
+line_after number (line ∷ lines) = line_after (with_more number 1) lines
+
+-- ---- how far a trace is read
+
+-- The bytes `seen` came. Their whole lines state commands, of which `made` were handed on.
+pub record HasRead (rules : Rules) (seen : List ℕ) (made : List Turn) (r : Reading) : Type 0 where
+  pub lines : List (List ℕ)
+  pub requests : List Request
+  pub same : r.rules ≡ rules
+  pub splits : Splits seen lines r.line.items
+  pub short : length r.line.items ≤ 4096
+  pub states : State rules.form lines requests
+  pub turns : made ++ r.turns.items ≡ turns_from rules 0 requests
+  pub commands : r.commands ≡ number_after 0 requests
+  pub number : r.number ≡ line_after 1 lines
+
+-- The n-th line is the first bad one, and these are the turns of the lines before it.
+pub record EndsBad (rules : Rules) (seen : List ℕ) (turns : List Turn) (n : ℕ) : Type 0 where
+  pub lines : List (List ℕ)
+  pub bad : List ℕ
+  pub after : List ℕ
+  pub requests : List Request
+  pub whole : seen ≡ flat_map ended lines ++ (bad ++ after)
+  pub each : AllByRecursion IsLine lines
+  pub unbroken : IsLine bad
+  pub is_bad : IsBad rules.form bad
+  pub states : State rules.form lines requests
+  pub made : turns ≡ turns_from rules 0 requests
+  pub number : n ≡ line_after 1 lines
+
+-- These are the turns of the first lines of what came.
+pub record EndsEarly (rules : Rules) (seen : List ℕ) (turns : List Turn) : Type 0 where
+  pub lines : List (List ℕ)
+  pub after : List ℕ
+  pub requests : List Request
+  pub whole : seen ≡ flat_map ended lines ++ after
+  pub each : AllByRecursion IsLine lines
+  pub states : State rules.form lines requests
+  pub made : turns ≡ turns_from rules 0 requests
+
+-- These are the turns of the whole trace. A last line without an end counts too.
+pub record EndsWhole (rules : Rules) (seen : List ℕ) (turns : List Turn) : Type 0 where
+  pub lines : List (List ℕ)
+  pub last : List ℕ
+  pub requests : List Request
+  pub splits : Splits seen lines last
+  pub states : State rules.form (lines ++ last ∷ []) requests
+  pub made : turns ≡ turns_from rules 0 requests
+
+-- how a trace ended of which these bytes came, and the turns that it had
+abbrev pub EndsTrace : Rules → List ℕ → List Turn → Result (Unit {0}) TraceFault → Type 0
+EndsTrace rules seen turns (Ok _) = EndsWhole rules seen turns
+EndsTrace rules seen turns (Err (fault.Line n)) = EndsBad rules seen turns n
+EndsTrace rules seen turns (Err _) = EndsEarly rules seen turns
+
+-- ---- the parts of a reading
+
+-- what became of the command of a line
+abbrev pub TakesCommand : Reading → Reading → Result (Unit {0}) TraceFault → Type 0
+TakesCommand old new (Ok _) =
+    (more : List Request)
+    × (requests_of old.rules.form old.line.items ≡ Some more)
+    × (new.turns.items ≡ old.turns.items ++ turns_from old.rules old.commands more)
+    × (new.commands ≡ number_after old.commands more)
+    × (new.number ≡ old.number)
+    × (new.rules ≡ old.rules)
+TakesCommand old new (Err (fault.Line n)) =
+    (n ≡ old.number)
+    × (requests_of old.rules.form old.line.items ≡ None)
+    × (new.turns.items ≡ old.turns.items)
+TakesCommand old new (Err fault.OutOfMemory) = new.turns.items ≡ old.turns.items
+TakesCommand old new (Err _) = ⊥
+
+-- what became of the line whose end has come
+abbrev pub TakesLine : Reading → Reading → Result (Unit {0}) TraceFault → Type 0
+TakesLine old new (Ok _) =
+    (more : List Request)
+    × (requests_of old.rules.form old.line.items ≡ Some more)
+    × (new.turns.items ≡ old.turns.items ++ turns_from old.rules old.commands more)
+    × (new.commands ≡ number_after old.commands more)
+    × (new.line.items ≡ [])
+    × (new.number ≡ with_more old.number 1)
+    × (new.rules ≡ old.rules)
+TakesLine old new (Err f) = TakesCommand old new (Err f)
+
+-- what became of bytes that were fed: all that came are `seen`, these among them
+abbrev pub Feeds : Rules → List ℕ → List Turn → Reading → Result (Unit {0}) TraceFault → Type 0
+Feeds rules seen made new (Ok _) = HasRead rules seen made new
+Feeds rules seen made new (Err (fault.Line n)) =
+    EndsBad rules seen (made ++ new.turns.items) n
+Feeds rules seen made new (Err fault.OutOfMemory) =
+    EndsEarly rules seen (made ++ new.turns.items)
+Feeds rules seen made new (Err _) = ⊥
+
+-- These bytes were fed, whatever came before.
+abbrev pub FeedsMore : List ℕ → Reading → Reading → Result (Unit {0}) TraceFault → Type 0
+FeedsMore bytes old new end =
+    (rules : Rules) (seen : List ℕ) (made : List Turn) → HasRead rules seen made old
+    → Feeds rules (seen ++ bytes) made new end
+
+-- These turns were handed on, whatever came before.
+abbrev pub HandsOn : List Turn → Reading → Reading → Type 0
+HandsOn turns old new =
+    (rules : Rules) (seen : List ℕ) (made : List Turn) → HasRead rules seen made old
+    → HasRead rules seen (made ++ turns) new

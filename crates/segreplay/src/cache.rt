@@ -1,0 +1,212 @@
+//! Caches that one trace is sent through: their shapes, and what their clients keep.
+ghost use Rattle.std.specs.Prelude.{◌≡◌, ◌++◌, All, IfOk, OnOk};
+ghost use Rattle.std.specs.List.{AllZip};
+ghost use Rattle.segreplay.specs.Caches.{AreQuiet, caches_of, half_of, HasValidShape};
+ghost use Rattle.segreplay.specs.Caches.{IsFresh, MayCall, SetsPolicy, sizes_of};
+ghost use Rattle.segreplay.specs.Policies.{cutoff_of};
+
+use crate::fault::ReplayFault;
+use crate::line::number_of;
+use crate::player::Player;
+use segclient::{Client, clients};
+use segindex::{Index, Pass};
+use segword::{Shape, Value};
+use std::alloc::{AllocError, Global};
+
+/// Which items the puts of a client keep.
+#[derive(Clone, Copy, Debug, PartialEq, Eq)]
+pub enum Policy {
+    /// Those that a new client keeps.
+    Default,
+    Nothing,
+    /// Those of at least this frequency.
+    Cutoff(u8),
+}
+
+// The policy that keeps what has this frequency, if it is one.
+fn cutoff_of(least: Option<u32>) -> Option<Policy>
+    ensures { result ≡ cutoff_of least }
+{
+    match least {
+        Some(least) if least < 256 => Some(Policy::Cutoff(least as u8)),
+        _ => None,
+    }
+}
+
+impl Policy {
+    ghost use Rattle.std.specs.Prelude.{◌≡◌};
+    ghost use Rattle.segreplay.specs.Policies.{policy_named};
+
+    /// The policy of a word: `default`, `nothing`, or `cutoff:` and a frequency.
+    pub fn named(word: &[u8]) -> Option<Policy>
+        ensures { result ≡ policy_named word.now }
+    {
+        if word == b"default".as_slice() {
+            return Some(Policy::Default);
+        }
+        if word == b"nothing".as_slice() {
+            return Some(Policy::Nothing);
+        }
+        match word.strip_prefix(b"cutoff:".as_slice()) {
+            Some(digits) => cutoff_of(number_of(digits)),
+            None => None,
+        }
+    }
+}
+
+/// A cache: its shape, and what its clients keep.
+#[derive(Clone, Copy, Debug)]
+pub struct Cache {
+    pub policy: Policy,
+    pub shape: Shape,
+}
+
+// Lets a new client keep by this policy.
+fn set_policy(client: &mut Client<'_>, policy: Policy)
+    ensures { SetsPolicy policy client.old client.new }
+{
+    match policy {
+        Policy::Default => {}
+        Policy::Nothing => client.keep_nothing(),
+        Policy::Cutoff(cutoff) => client.keep_from(Some(cutoff)),
+    }
+}
+
+// The shape with half of the buckets and half of the rows.
+fn half_of(shape: Shape) -> Shape
+    ensures { result ≡ half_of shape }
+{
+    Shape {
+        buckets: (shape.buckets / 2).max(1),
+        overflow: shape.overflow / 2,
+        rows: (shape.rows / 2).max(1),
+        ..shape
+    }
+}
+
+// Puts so many caches at the end of the list, each half of the one before.
+fn add_sizes(
+    caches: &mut Vec<Cache>,
+    policy: Policy,
+    shape: Shape,
+    sizes: u32,
+) -> Result<(), AllocError>
+    ensures { OnOk result (caches.new.items ≡ caches.old.items ++ sizes_of policy shape sizes) }
+{
+    let mut shape = shape;
+    for size in 0..sizes {
+        caches.push(Cache { policy, shape })?;
+        shape = half_of(shape);
+    }
+    Ok(())
+}
+
+/// A cache for each policy and each size. Each size is half of the one before.
+pub(crate) fn caches_of(
+    alloc: Global,
+    policies: &[Policy],
+    shape: Shape,
+    sizes: u32,
+) -> Result<Vec<Cache>, AllocError>
+    ensures { IfOk result (λ caches. caches.items ≡ caches_of policies.now shape sizes) }
+{
+    let mut caches = Vec::new(alloc);
+    for policy in policies {
+        add_sizes(&mut caches, *policy, shape, sizes)?;
+    }
+    Ok(caches)
+}
+
+/// The passes of an index, and how their clients keep.
+#[derive(Drop)]
+pub(crate) struct Dealt {
+    policy: Policy,
+    passes: Vec<Pass>,
+}
+
+/// The indexes of caches, and the passes of each.
+#[derive(Drop)]
+pub(crate) struct Made {
+    pub(crate) indexes: Vec<Index>,
+    pub(crate) dealt: Vec<Dealt>,
+}
+
+/// Makes the index of each cache.
+pub(crate) fn make_all(alloc: Global, caches: &[Cache]) -> Result<Made, ReplayFault>
+    ensures valid { IfOk result (λ _. All HasValidShape caches.now) }
+    ensures quiet { IfOk result (λ made. AllZip MayCall made.indexes.items made.dealt.items) }
+{
+    let mut indexes = Vec::new(alloc);
+    let mut dealt = Vec::new(alloc);
+    for cache in caches {
+        let (index, passes) = match Index::new(alloc, cache.shape) {
+            Ok(made) => made,
+            Err(fault) => return Err(ReplayFault::Make(fault)),
+        };
+        let Ok(()) = indexes.push(index) else {
+            return Err(ReplayFault::OutOfMemory);
+        };
+        let Ok(()) = dealt.push(Dealt {
+            policy: cache.policy,
+            passes,
+        }) else {
+            return Err(ReplayFault::OutOfMemory);
+        };
+    }
+    Ok(Made { indexes, dealt })
+}
+
+// With what a player starts.
+#[derive(Clone, Copy)]
+struct Start<'v> {
+    cache: usize,
+    policy: Policy,
+    value: &'v Value,
+}
+
+// Puts a player for each pass of an index at the end of the list.
+fn add_players<'i>(
+    alloc: Global,
+    players: &mut Vec<Player<'i>>,
+    index: &'i Index,
+    passes: Vec<Pass>,
+    start: Start<'_>,
+) -> Result<(), AllocError>
+    requires quiet { AreQuiet index.now passes.items }
+    ensures { OnOk result (All (IsFresh start.entry.value.now) players.old.items
+        → All (IsFresh start.entry.value.now) players.new.items) }
+{
+    let mut number: u32 = 0;
+    for client in clients(alloc, index, passes)? {
+        let mut client = client;
+        set_policy(&mut client, start.policy);
+        players.push(Player::new(client, start.cache, number, start.value.copy()))?;
+        number = number.saturating_add(1);
+    }
+    Ok(())
+}
+
+/// A player for each pass of each index, in their order.
+pub(crate) fn players_of<'i>(
+    alloc: Global,
+    indexes: &'i [Index],
+    dealt: Vec<Dealt>,
+    value: &Value,
+) -> Result<Vec<Player<'i>>, AllocError>
+    requires quiet { AllZip MayCall indexes.now dealt.items }
+    ensures { IfOk result (λ players. All (IsFresh value.now) players.items) }
+{
+    let mut players = Vec::new(alloc);
+    let mut cache: usize = 0;
+    for each in dealt {
+        let Dealt { policy, passes } = each;
+        let start = Start {
+            cache,
+            policy,
+            value,
+        };
+        add_players(alloc, &mut players, &indexes[cache], passes, start)?;
+        cache += 1;
+    }
+    Ok(players)
+}

@@ -1,0 +1,113 @@
+//! A client that makes its commands of a trace, and counts what they came to.
+use crate::counts::{Counts, Outcome};
+use crate::line::{Request, Verb};
+use segclient::{Client, GetAnswer};
+use segword::Value;
+
+/// A command, the client that is to make it, and whether it is counted.
+#[derive(Drop)]
+pub(crate) struct Turn {
+    pub(crate) request: Request,
+    pub(crate) client: u32,
+    pub(crate) is_counted: bool,
+}
+
+/// A client with its number, the value that it puts, and its counts.
+#[derive(Drop)]
+pub(crate) struct Player<'i> {
+    pub(crate) client: Client<'i>,
+    /// Which of the caches it is a client of.
+    pub(crate) cache: usize,
+    pub(crate) number: u32,
+    pub(crate) value: Value,
+    pub(crate) counts: Counts,
+}
+
+impl<'i> Player<'i> {
+    ghost use Rattle.std.specs.Prelude.{◌≡◌};
+    ghost use Rattle.segreplay.specs.Counting.{no_counts};
+    ghost use Rattle.segreplay.specs.Playing.{Makes, Plays, Serves, Takes, TakesOwn};
+
+    pub(crate) fn new(client: Client<'i>, cache: usize, number: u32, value: Value) -> Player<'i>
+        ensures client { result.client ≡ client.entry }
+        ensures cache { result.cache ≡ cache }
+        ensures number { result.number ≡ number }
+        ensures value { result.value ≡ value }
+        ensures counts { result.counts ≡ no_counts }
+    {
+        Player {
+            client,
+            cache,
+            number,
+            value,
+            counts: Counts::new(),
+        }
+    }
+
+    /// Makes those of the commands that are its own, in their order.
+    pub(crate) fn play(&mut self, turns: &[Turn])
+        ensures { Plays turns.now self.old self.new }
+    {
+        for turn in turns {
+            self.take_own(turn);
+        }
+    }
+
+    // Makes a command if it is its own.
+    fn take_own(&mut self, turn: &Turn)
+        ensures { TakesOwn turn.now self.old self.new }
+    {
+        if turn.client == self.number {
+            self.take(turn);
+        }
+    }
+
+    // Makes a command, and counts it if it is to be counted.
+    fn take(&mut self, turn: &Turn)
+        ensures { Takes turn.now self.old self.new }
+    {
+        let before = self.client.stats();
+        let outcome = self.serve(&turn.request);
+        if turn.is_counted {
+            let after = self.client.stats();
+            self.counts.count(outcome);
+            self.counts.count_effort(
+                after.keys_evicted.saturating_sub(before.keys_evicted),
+                after.items_kept.saturating_sub(before.items_kept),
+            );
+        }
+    }
+
+    // Makes a command at its moment.
+    fn serve(&mut self, request: &Request) -> Outcome
+        ensures serves { Serves self.old.value request.now result self.old.client self.new.client }
+        ensures cache { self.new.cache ≡ self.old.cache }
+        ensures number { self.new.number ≡ self.old.number }
+        ensures value { self.new.value ≡ self.old.value }
+        ensures counts { self.new.counts ≡ self.old.counts }
+    {
+        self.client.set_now(request.moment);
+        self.client.set_time_to_live(request.time_to_live);
+        match request.verb {
+            Verb::Get => self.get(request),
+            Verb::Set => Outcome::Set(self.client.put(&request.key, &self.value)),
+            Verb::Delete => Outcome::Delete(self.client.delete(&request.key)),
+        }
+    }
+
+    // Reads the key, and puts it if it isn't there.
+    fn get(&mut self, request: &Request) -> Outcome
+        requires { request.now.verb ≡ Verb.Get }
+        ensures makes { Makes self.old.value request.now result self.old.client self.new.client }
+        ensures cache { self.new.cache ≡ self.old.cache }
+        ensures number { self.new.number ≡ self.old.number }
+        ensures value { self.new.value ≡ self.old.value }
+        ensures counts { self.new.counts ≡ self.old.counts }
+    {
+        match self.client.get(&request.key) {
+            GetAnswer::Found(_) => Outcome::Hit,
+            GetAnswer::Miss => Outcome::Miss(self.client.put(&request.key, &self.value)),
+            GetAnswer::Busy => Outcome::GetBusy,
+        }
+    }
+}

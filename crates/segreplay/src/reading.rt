@@ -1,0 +1,118 @@
+//! Reads the lines of a trace, byte by byte, into turns.
+use crate::fault::TraceFault;
+use crate::line::{Form, read_line};
+use crate::player::Turn;
+use std::alloc::{AllocError, Global};
+
+/// The most bytes of a line.
+const LINE: usize = 4096;
+
+/// Which lines a trace has, which client makes each command, and which are counted.
+#[derive(Clone, Copy, Debug)]
+pub(crate) struct Rules {
+    pub(crate) form: Form,
+    pub(crate) clients: u32,
+    /// How many commands are left out of the counts.
+    pub(crate) warm: u64,
+}
+
+/// How far a trace is read.
+#[derive(Drop)]
+pub(crate) struct Reading {
+    rules: Rules,
+    // The bytes of the line that has no end yet, and its number.
+    line: Vec<u8>,
+    number: u64,
+    /// How many commands were read.
+    pub(crate) commands: u64,
+    /// Those of them that weren't handed on yet.
+    pub(crate) turns: Vec<Turn>,
+}
+
+impl Reading {
+    ghost use Rattle.std.specs.Prelude.{[], ◌∷◌, IfOk};
+    ghost use Rattle.segreplay.specs.Traces.{FeedsMore, HandsOn, HasRead, TakesCommand};
+    ghost use Rattle.segreplay.specs.Traces.{TakesLine};
+
+    /// Nothing is read yet.
+    pub(crate) fn new(alloc: Global, rules: Rules) -> Result<Reading, AllocError>
+        ensures { IfOk result (HasRead rules [] []) }
+    {
+        Ok(Reading {
+            rules,
+            line: Vec::with_capacity(alloc, LINE)?,
+            number: 1,
+            commands: 0,
+            turns: Vec::new(alloc),
+        })
+    }
+
+    /// Hands on the commands that were read.
+    pub(crate) fn clear(&mut self)
+        ensures { HandsOn self.old.turns.items self.old self.new }
+    {
+        self.turns.clear();
+    }
+
+    /// Takes the next bytes of the trace.
+    pub(crate) fn feed_all(&mut self, bytes: &[u8]) -> Result<(), TraceFault>
+        ensures { FeedsMore bytes.now self.old self.new result }
+    {
+        for byte in bytes {
+            if let Err(fault) = self.feed(*byte) {
+                return Err(fault);
+            }
+        }
+        Ok(())
+    }
+
+    // Takes the next byte of the trace.
+    fn feed(&mut self, byte: u8) -> Result<(), TraceFault>
+        ensures { FeedsMore (byte ∷ []) self.old self.new result }
+    {
+        if byte == b'\n' {
+            return self.end_line();
+        }
+        if self.line.len() == LINE {
+            return Err(TraceFault::Line(self.number));
+        }
+        match self.line.push(byte) {
+            Ok(()) => Ok(()),
+            Err(_) => Err(TraceFault::OutOfMemory),
+        }
+    }
+
+    /// Takes the line, whose end has come. A line without bytes states no command.
+    pub(crate) fn end_line(&mut self) -> Result<(), TraceFault>
+        ensures { TakesLine self.old self.new result }
+    {
+        if let Err(fault) = self.take_line() {
+            return Err(fault);
+        }
+        self.line.clear();
+        self.number = self.number.saturating_add(1);
+        Ok(())
+    }
+
+    // Takes the command of the line, if it states one.
+    fn take_line(&mut self) -> Result<(), TraceFault>
+        ensures { TakesCommand self.old self.new result }
+    {
+        if self.line.is_empty() {
+            return Ok(());
+        }
+        let Some(request) = read_line(self.rules.form, self.line.as_slice()) else {
+            return Err(TraceFault::Line(self.number));
+        };
+        let turn = Turn {
+            client: request.client(self.rules.clients),
+            request,
+            is_counted: self.commands >= self.rules.warm,
+        };
+        let Ok(()) = self.turns.push(turn) else {
+            return Err(TraceFault::OutOfMemory);
+        };
+        self.commands = self.commands.saturating_add(1);
+        Ok(())
+    }
+}

@@ -1,0 +1,213 @@
+//! A replay: the commands of a trace, made by the clients of one cache or several.
+ghost use Rattle.std.specs.Prelude.{◌≡◌, ◌<◌, ◌++◌, [], ℕ, List, false, IfOk, OnErr};
+ghost use Rattle.segreplay.specs.declared.player.Turn.{Turn};
+ghost use Rattle.segreplay.specs.Playing.{Plays};
+ghost use Rattle.segreplay.specs.Replays.{AllPlay, is_read_end, IsReplay, MakesSome, value_of};
+ghost use Rattle.segreplay.specs.Traces.{EndsTrace, HandsOn, HasRead};
+
+use crate::cache::{Made, Policy, caches_of, make_all, players_of};
+use crate::fault::{ReplayFault, TraceFault};
+use crate::line::Form;
+use crate::player::{Player, Turn};
+use crate::reading::{Reading, Rules};
+use crate::totals::{CacheTotals, totals_of};
+use segscript::Source;
+use segword::{Shape, Value};
+use std::alloc::{AllocError, Global};
+use std::thread::{Threads, for_each_mut};
+
+/// How many bytes are read at a time, at most.
+const PIECE: usize = 4096;
+
+/// How many commands are collected before they are made.
+const BATCH: usize = 16_384;
+
+/// What is replayed how.
+#[derive(Clone, Copy, Debug)]
+pub struct Plan<'p> {
+    pub form: Form,
+    /// How many bytes each value has, at most 32.
+    pub value_bytes: usize,
+    /// How many commands are left out of the counts.
+    pub warm: u64,
+    /// The largest cache.
+    pub shape: Shape,
+    /// How many sizes there are. Each is half of the one before.
+    pub sizes: u32,
+    pub policies: &'p [Policy],
+}
+
+/// Looks on while a trace is replayed.
+pub trait Follow {
+    /// So many commands were made.
+    fn made(&self, commands: u64);
+}
+
+/// What was counted for each cache, and why the trace ended before its end, if it did.
+#[derive(Drop)]
+pub struct Replayed {
+    pub totals: Vec<CacheTotals>,
+    pub end: Result<(), TraceFault>,
+}
+
+// The value that is put: so many bytes, all 0.
+fn value_of(bytes: usize) -> Value
+    ensures { result ≡ value_of bytes }
+{
+    let zeros = [0u8; 32];
+    match Value::new(&zeros[..bytes.min(32)]) {
+        Some(value) => value,
+        None => unreachable!(),
+    }
+}
+
+// Who makes the commands: players on at most so many threads. `follow` looks on.
+#[derive(Drop)]
+struct Crew<'c, R, F> {
+    rt: &'c R,
+    threads: u32,
+    follow: &'c F,
+}
+
+// Each player makes its turns.
+fn play_all<R: Threads + Sync, F: Follow>(
+    crew: &Crew<'_, R, F>,
+    players: &mut [Player<'_>],
+    turns: &[Turn],
+)
+    ensures { AllPlay turns.now players.old players.new }
+{
+    for_each_mut(
+        crew.rt,
+        players,
+        crew.threads.max(1) as usize,
+        &|_number, player: &mut Player<'_>|
+            ensures { Plays turns.entry.now player.old player.new }
+        { player.play(turns) },
+    );
+}
+
+// Makes the commands that were read.
+fn make_turns<R: Threads + Sync, F: Follow>(
+    crew: &Crew<'_, R, F>,
+    players: &mut [Player<'_>],
+    reading: &mut Reading,
+)
+    ensures plays { AllPlay reading.old.turns.items players.old players.new }
+    ensures cleared { HandsOn reading.old.turns.items reading.old reading.new }
+{
+    play_all(crew, players, reading.turns.as_slice());
+    reading.clear();
+    crew.follow.made(reading.commands);
+}
+
+// Makes the commands that were read, once they are many.
+fn make_many<R: Threads + Sync, F: Follow>(
+    crew: &Crew<'_, R, F>,
+    players: &mut [Player<'_>],
+    reading: &mut Reading,
+)
+    ensures { MakesSome reading.old reading.new players.old players.new }
+{
+    if reading.turns.len() >= BATCH {
+        make_turns(crew, players, reading);
+    }
+}
+
+// Reads the trace to its end. Its commands are made, but for those that the reading still has.
+fn read_all<R: Threads + Sync, S: Source, F: Follow>(
+    crew: &Crew<'_, R, F>,
+    source: &mut S,
+    players: &mut [Player<'_>],
+    reading: &mut Reading,
+) -> Result<(), TraceFault>
+    requires works { S.has_failed source.old ≡ false }
+    requires begun { HasRead reading.old.rules [] [] reading.old }
+    ensures outcome { (seen : List ℕ) × (made : List Turn)
+        × S.hands source.old seen source.new
+        × AllPlay made players.old players.new
+        × EndsTrace reading.old.rules seen (made ++ reading.new.turns.items) result }
+    ensures read { S.has_failed source.new ≡ is_read_end result }
+{
+    let mut piece = [0u8; PIECE];
+    for _read in 0..u64::MAX {
+        let Ok(n) = source.read(&mut piece) else {
+            return Err(TraceFault::Read);
+        };
+        if n == 0 {
+            return reading.end_line();
+        }
+        if let Err(fault) = reading.feed_all(&piece[..n]) {
+            return Err(fault);
+        }
+        make_many(crew, players, reading);
+    }
+    Err(TraceFault::TooLong)
+}
+
+// Reads the trace to its end, and makes its commands.
+fn run<R: Threads + Sync, S: Source, F: Follow>(
+    crew: &Crew<'_, R, F>,
+    source: &mut S,
+    players: &mut [Player<'_>],
+    mut reading: Reading,
+) -> Result<(), TraceFault>
+    requires works { S.has_failed source.old ≡ false }
+    requires begun { HasRead reading.rules [] [] reading }
+    ensures outcome { (seen : List ℕ) × (turns : List Turn)
+        × S.hands source.old seen source.new
+        × AllPlay turns players.old players.new
+        × EndsTrace reading.rules seen turns result }
+    ensures read { S.has_failed source.new ≡ is_read_end result }
+{
+    let end = read_all(crew, source, players, &mut reading);
+    make_turns(crew, players, &mut reading);
+    end
+}
+
+/// Replays the trace that the reader hands out.
+///
+/// The contract doesn't cover which of a cache's clients there are, or threads. Tests do.
+pub fn replay<R: Threads + Sync, S: Source, F: Follow>(
+    rt: &R,
+    alloc: Global,
+    source: &mut S,
+    plan: &Plan<'_>,
+    follow: &F,
+) -> Result<Replayed, ReplayFault>
+    requires works { S.has_failed source.old ≡ false }
+    ensures outcome { IfOk result (λ replayed. (seen : List ℕ)
+        × S.hands source.old seen source.new × IsReplay plan.now seen replayed) }
+    ensures read { IfOk result (λ replayed.
+        S.has_failed source.new ≡ is_read_end replayed.end) }
+{
+    let Ok(caches) = caches_of(alloc, plan.policies, plan.shape, plan.sizes) else {
+        return Err(ReplayFault::OutOfMemory);
+    };
+    let Made { indexes, dealt } = match make_all(alloc, caches.as_slice()) {
+        Ok(made) => made,
+        Err(fault) => return Err(fault),
+    };
+    let value = value_of(plan.value_bytes);
+    let Ok(mut players) = players_of(alloc, indexes.as_slice(), dealt, &value) else {
+        return Err(ReplayFault::OutOfMemory);
+    };
+    let rules = Rules {
+        form: plan.form,
+        clients: plan.shape.passes,
+        warm: plan.warm,
+    };
+    let Ok(reading) = Reading::new(alloc, rules) else {
+        return Err(ReplayFault::OutOfMemory);
+    };
+    let crew = Crew {
+        rt,
+        threads: plan.shape.passes,
+        follow,
+    };
+    let end = run(&crew, source, players.as_mut_slice(), reading);
+    match totals_of(alloc, caches.as_slice(), players.as_slice()) {
+        Ok(totals) => Ok(Replayed { totals, end }),
+        Err(AllocError) => Err(ReplayFault::OutOfMemory),
+    }
+}
