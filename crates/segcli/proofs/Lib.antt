@@ -6,5 +6,6 @@ pub mod Options
 pub mod Printed
 pub mod Showing
 pub mod TotalsText
+pub mod ReplayText
 mod WordsFacts
 pub mod WordsRead

@@ -48,6 +48,7 @@ of_words (word ∷ words) read some is = is
 pub command_read : (words : List Text) (found : Text × List Row) (asked : Command) → fault_of command_line words ≡ [] → subcommand_of command_line words ≡ Some found → IsAsked found asked → IsReadByClap words (Ok asked)
 command_read words found (command.Script shape explain file) none is asked = (none, subst (λ o. IsSomeAnd o (λ f. IsAsked f (command.Script shape explain file))) (sym is) asked)
 command_read words found (command.Load load) none is asked = (none, subst (λ o. IsSomeAnd o (λ f. IsAsked f (command.Load load))) (sym is) asked)
+command_read words found (command.Replay replay) none is asked = (none, subst (λ o. IsSomeAnd o (λ f. IsAsked f (command.Replay replay))) (sym is) asked)
 command_read words found (command.Word word) none is asked = (none, subst (λ o. IsSomeAnd o (λ f. IsAsked f (command.Word word))) (sym is) asked)
 command_read words found (command.Show text) none is asked = absurd asked
 
@@ -81,7 +82,7 @@ entered_name : (stop : Option (Text × List Text)) (found : Text × List Row) �
 unfolding command_line
 entered_name None found past is = absurd (cc)
 entered_name (Some stop) found past is = found_name IsCommandName (λ s. answers_to stop.0 (label_of s)) stop.1 (built command_line).subs found
-    (λ _. inl refl, (λ _. inr (inl refl), (λ _. inr (inr refl), (λ help. absurd (not_help stop.0 past (or_false _ help)), tt)))) is
+    (λ _. inl refl, (λ _. inr (inl refl), (λ _. inr (inr (inl refl)), (λ _. inr (inr (inr refl)), (λ help. absurd (not_help stop.0 past (or_false _ help)), tt))))) is
 
 pub command_name : (words : List Text) (found : Text × List Row) → fault_of command_line words ≡ [] → subcommand_of command_line words ≡ Some found → IsCommandName found.0
 unfolding command_line
@@ -128,6 +129,7 @@ fault_read words k (Ok (command.Show text)) (inl memory) refused = absurd (cc (a
 fault_read words k (Ok (command.Show text)) (inr among) refused = among_any is_request k (fault_of command_line words) refused among
 fault_read words k (Ok (command.Script shape explain file)) why refused = absurd refused
 fault_read words k (Ok (command.Load load)) why refused = absurd refused
+fault_read words k (Ok (command.Replay replay)) why refused = absurd refused
 fault_read words k (Ok (command.Word word)) why refused = absurd refused
 fault_read words k (Err (refusal.Usage text)) (inl memory) refused = absurd (refused.1 memory)
 fault_read words k (Err (refusal.Usage text)) (inr among) refused = inl (among_any (λ x. not (is_request x)) k (fault_of command_line words) (ap not refused.0) among)

@@ -1,7 +1,7 @@
 -- What the program is asked to do by its words.
 use Rattle.std.specs.Prelude.{◌≡◌, ◌≢◌, ◌⊎◌, ◌^◌, ◌&&◌, ◌||◌, ⊤, ℕ, max, Bool, true, false, not, List, [], ◌∷◌, Option, Some, None, Result, Ok, Err, IsSomeAnd, if◌then◌else◌, nat_lt, unwrap_or, codes}
 use Rattle.std.specs.List.{list_any}
-use Rattle.std.specs.Option.{option_map, option_map_or}
+use Rattle.std.specs.Option.{option_map, option_map_or, option_or}
 use Rattle.std.specs.Int.NonZero.{non_zero_u32_get}
 use Rattle.std.specs.Str.{bytes_eq}
 use Rattle.std.specs.Str.Parse.{digits_value, true_text, without_leading_plus}
@@ -16,17 +16,25 @@ use Rattle.clap.specs.declared.error.kind.ErrorKind.{ErrorKind}
 use Rattle.clap.specs.declared.error.kind.ErrorKind.TheVariants as kind
 use Rattle.segcli.specs.CommandLine.{NumberOption, command_line, default_shape, hex}
 use Rattle.segcli.specs.CommandLine.{buckets_option, overflow_option, passes_option, segments_option, rows_option, first_version_option, for_keys_option, seed_option, commands_option, keys_option}
+use Rattle.segcli.specs.CommandLine.{value_bytes_option, threads_option, warm_option}
 use Rattle.segcli.specs.CommandLine.{stats_flag, progress_flag, explain_flag, script_file, format_choice, kind_choice}
+use Rattle.segcli.specs.CommandLine.{csv_flag, sizes_flag, policy_choice}
 use Rattle.segcli.specs.declared.arguments.Refusal.{Refusal}
 use Rattle.segcli.specs.declared.arguments.Refusal.TheVariants as refusal
 use Rattle.segcli.specs.declared.asked.Format.{Format}
 use Rattle.segcli.specs.declared.asked.Format.TheVariants as format
 use Rattle.segcli.specs.declared.asked.Load.{Load}
+use Rattle.segcli.specs.declared.asked.Policies.{Policies}
+use Rattle.segcli.specs.declared.asked.Policies.TheVariants as policies
+use Rattle.segcli.specs.declared.asked.Replay.{Replay}
 use Rattle.segcli.specs.declared.asked.Word.{Word}
 use Rattle.segcli.specs.declared.asked.WordKind.{WordKind}
 use Rattle.segcli.specs.declared.asked.WordKind.TheVariants as kinds
 use Rattle.segcli.specs.declared.command.Command.{Command}
 use Rattle.segcli.specs.declared.command.Command.TheVariants as command
+use Rattle.segreplay.specs.declared.cache.Policy.TheVariants as policy
+use Rattle.segreplay.specs.declared.line.Form.TheVariants as form
+use Rattle.segreplay.specs.Policies.{policy_named}
 
 -- ---- the matches of a command
 
@@ -69,22 +77,26 @@ IsBase None passes shape = shape ≡ default_shape
 IsBase (Some keys) passes shape = IsSized keys passes shape
 
 -- the shape, with the parts that have an option
-abbrev pub shape_over : Shape → List Row → Shape
-shape_over base rows = record {
+abbrev pub shape_over : Shape → Option ℕ → List Row → Shape
+shape_over base passes rows = record {
   buckets = number_over base.buckets buckets_option rows;
   overflow = number_over base.overflow overflow_option rows;
-  passes = number_over base.passes passes_option rows;
+  passes = unwrap_or passes base.passes;
   segments_each = number_over base.segments_each segments_option rows;
   rows = number_over base.rows rows_option rows;
   first_version = number_over base.first_version first_version_option rows;
 }
 
+-- The shape that the options give, for this number of passes or, without one, for one.
+abbrev pub IsShapeFor : Option ℕ → List Row → Shape → Type 0
+IsShapeFor passes rows shape =
+    (base : Shape)
+    × IsBase (number_found for_keys_option rows) (unwrap_or passes default_shape.passes) base
+    × (shape ≡ shape_over base passes rows)
+
 -- The shape that the options give.
 abbrev pub IsShapeGiven : List Row → Shape → Type 0
-IsShapeGiven rows shape =
-    (base : Shape)
-    × IsBase (number_found for_keys_option rows) (number_given passes_option rows) base
-    × (shape ≡ shape_over base rows)
+IsShapeGiven rows shape = IsShapeFor (number_found passes_option rows) rows shape
 
 -- the format of a word, or of no word
 abbrev pub format_named : Option Text → Option Format
@@ -101,8 +113,17 @@ kind_named (Some word) =
     else (if bytes_eq word (codes "information") then Some kinds.Information
     else (if bytes_eq word (codes "segment") then Some kinds.Segment else None))
 
+-- the policies of a word, or of no word
+abbrev pub policies_named : Option Text → Option Policies
+policies_named None = Some (policies.One policy.Default)
+policies_named (Some word) =
+    if bytes_eq word (codes "all") then Some policies.All
+    else option_map (λ p. policies.One p) (policy_named word)
+
 abbrev pub IsCommandName : Text → Type 0
-IsCommandName name = (name ≡ codes "script") ⊎ (name ≡ codes "load") ⊎ (name ≡ codes "word")
+IsCommandName name =
+    (name ≡ codes "script") ⊎ (name ≡ codes "load") ⊎ (name ≡ codes "replay")
+    ⊎ (name ≡ codes "word")
 
 -- The load is the one with these matches. It has at least one key: `clap` lets no 0 through.
 pub record IsLoadAsked (rows : List Row) (load : Load) : Type 0 where
@@ -114,6 +135,20 @@ pub record IsLoadAsked (rows : List Row) (load : Load) : Type 0 where
   pub stats : load.stats ≡ is_given stats_flag rows
   pub progress : load.progress ≡ is_given progress_flag rows
   pub explain : load.explain ≡ is_given explain_flag rows
+
+-- The replay is the one with these matches.
+pub record IsReplayAsked (rows : List Row) (replay : Replay) : Type 0 where
+  pub shape : IsShapeFor (option_or (number_found threads_option rows)
+      (number_found passes_option rows)) rows replay.shape
+  pub file : option_map (λ text. text.now) replay.file ≡ first_of script_file rows
+  pub form : replay.form ≡ (if is_given csv_flag rows then form.Csv else form.Plain)
+  pub value_bytes : replay.value_bytes ≡ number_given value_bytes_option rows
+  pub warm : replay.warm ≡ number_given warm_option rows
+  pub policies : policies_named (first_of policy_choice rows) ≡ Some replay.policies
+  pub sizes : replay.sizes ≡ is_given sizes_flag rows
+  pub format : format_named (first_of format_choice rows) ≡ Some replay.format
+  pub progress : replay.progress ≡ is_given progress_flag rows
+  pub explain : replay.explain ≡ is_given explain_flag rows
 
 -- The word of the table is the one with these matches.
 pub record IsWordAsked (rows : List Row) (word : Word) : Type 0 where
@@ -129,13 +164,18 @@ IsAsked asked (command.Script shape explain file) =
     × (explain ≡ is_given explain_flag asked.1)
     × (option_map (λ text. text.now) file ≡ first_of script_file asked.1)
 IsAsked asked (command.Load load) = (asked.0 ≡ codes "load") × IsLoadAsked asked.1 load
+IsAsked asked (command.Replay replay) =
+    (asked.0 ≡ codes "replay") × IsReplayAsked asked.1 replay
 IsAsked asked (command.Word word) = (asked.0 ≡ codes "word") × IsWordAsked asked.1 word
 IsAsked asked (command.Show text) = ⊥
 
--- The command has a format or a kind that is none.
+-- The command has a format, a policy or a kind that is none.
 abbrev pub IsMisnamed : Text × List Row → Type 0
 IsMisnamed asked =
     ((asked.0 ≡ codes "load") × (format_named (first_of format_choice asked.1) ≡ None))
+    ⊎ ((asked.0 ≡ codes "replay")
+    × ((format_named (first_of format_choice asked.1) ≡ None)
+    ⊎ (policies_named (first_of policy_choice asked.1) ≡ None)))
     ⊎ ((asked.0 ≡ codes "word") × (kind_named (first_of kind_choice asked.1) ≡ None))
 
 -- ---- the words

@@ -69,6 +69,16 @@ commands_option = of_32_bits (codes "commands") 1000
 abbrev pub keys_option : NumberOption
 keys_option = record (of_32_bits (codes "keys") 64) { least = 1; most = 1000000 }
 
+abbrev pub value_bytes_option : NumberOption
+value_bytes_option = record (of_32_bits (codes "value-bytes") 32) { most = 32 }
+
+abbrev pub threads_option : NumberOption
+threads_option = of_32_bits (codes "threads") default_shape.passes
+
+abbrev pub warm_option : NumberOption
+warm_option =
+    record { name = codes "warm"; bits = 64; least = 0; most = 18446744073709551615; default = 0 }
+
 abbrev pub shape_options : List NumberOption
 shape_options =
     buckets_option ∷ overflow_option ∷ passes_option ∷ segments_option ∷ rows_option
@@ -106,7 +116,18 @@ rule_of_option option = option_rule option.name (number_parser option) (decimal 
 abbrev pub flag_rule : Text → Rule
 flag_rule name = record (new_rule name) { long = Some name; action = Some SetTrue }
 
--- `--progress`, of a load
+-- `--csv` and `--sizes`, of a replay
+abbrev pub csv_flag : Text
+csv_flag = codes "csv"
+
+abbrev pub sizes_flag : Text
+sizes_flag = codes "sizes"
+
+-- `--policy`, by which the caches of a replay keep items
+abbrev pub policy_choice : Text
+policy_choice = codes "policy"
+
+-- `--progress`, of a load or a replay
 abbrev pub progress_flag : Text
 progress_flag = codes "progress"
 
@@ -118,7 +139,7 @@ stats_flag = codes "stats"
 abbrev pub explain_flag : Text
 explain_flag = codes "explain"
 
--- the file of a script, which may be given
+-- the file of a script or of a trace, which may be given
 abbrev pub script_file : Text
 script_file = codes "FILE"
 
@@ -129,7 +150,7 @@ file_rule = new_rule script_file
 abbrev pub hex : Text
 hex = codes "HEX"
 
--- `--format`, in which the totals of a load are written
+-- `--format`, in which the totals of a load or a replay are written
 abbrev pub format_choice : Text
 format_choice = codes "format"
 
@@ -156,6 +177,18 @@ load_rules =
     ++ choice_rule format_choice ∷ flag_rule stats_flag ∷ flag_rule progress_flag
     ∷ flag_rule explain_flag ∷ [])
 
+-- the options of a replay beside those of a shape
+abbrev pub replay_options : List Rule
+replay_options =
+    rule_of_option value_bytes_option ∷ rule_of_part threads_option ∷ rule_of_option warm_option
+    ∷ choice_rule policy_choice ∷ flag_rule sizes_flag ∷ []
+
+abbrev pub replay_rules : CommandRules
+replay_rules =
+    command_rules (codes "replay") (map rule_of_part shape_options
+    ++ file_rule ∷ flag_rule csv_flag ∷ replay_options
+    ++ choice_rule format_choice ∷ flag_rule progress_flag ∷ flag_rule explain_flag ∷ [])
+
 abbrev pub word_rules : CommandRules
 word_rules =
     command_rules (codes "word") (hex_rule ∷ choice_rule kind_choice ∷ flag_rule explain_flag ∷ [])
@@ -172,18 +205,23 @@ program_rules = record (new_shape (codes "segrun")) {
 abbrev pub alone : CommandRules → App
 alone rules = record { top = rules; subs = [] }
 
--- The words after the program's name: one of three commands with its options.
+-- The words after the program's name: one of four commands with its options.
 -- `clap` adds the options for help, and for the version above the commands,
 -- and the command `help`.
 unfoldable pub command_line : App
 command_line =
     with_subcommand
-    (with_subcommand (with_subcommand (alone program_rules) script_rules) load_rules) word_rules
+    (with_subcommand
+    (with_subcommand (with_subcommand (alone program_rules) script_rules) load_rules) replay_rules)
+    word_rules
 
 -- ---- as `clap` holds them
 
 abbrev pub with_parts : App → List NumberOption → App
 with_parts app options = fold (λ a option. with_rule a (rule_of_part option)) app options
+
+abbrev pub with_rules : App → List Rule → App
+with_rules app rules = fold with_rule app rules
 
 -- The command of `clap` is this one, and has no global options.
 abbrev pub Builds : App → Command → Type 0

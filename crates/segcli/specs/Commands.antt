@@ -1,12 +1,19 @@
 -- How the commands of the program end, and what is reported then.
-use Rattle.std.specs.Prelude.{◌≡◌, ◌++◌, ℕ, Bool, true, List, [], Result, Ok, Err, string_bytes}
+use Rattle.std.specs.Prelude.{◌≡◌, ◌⊎◌, ◌++◌, ℕ, Bool, true, List, [], Result, Ok, Err, string_bytes}
 use Rattle.std.specs.Int.NonZero.{non_zero_u32_get}
 use Rattle.segword.specs.Words.{Shape}
 use Rattle.segcli.specs.Explained.{SpellsWord, explanation}
-use Rattle.segcli.specs.Faults.{end_of_run, fault_of_load, fault_line, fault_status, is_write_end}
+use Rattle.segcli.specs.Faults.{end_of_run, fault_of_load, fault_of_replay, fault_of_trace, fault_line, fault_status, is_write_end}
 use Rattle.segcli.specs.Printing.{PrintOutcome, IsPrinted, IsFlushed}
 use Rattle.segcli.specs.Notes.{note_of}
+use Rattle.segcli.specs.Replayed.{IsPlanOf, replay_text}
 use Rattle.segcli.specs.Totals.{text_in}
+use Rattle.segreplay.specs.declared.fault.ReplayFault.{ReplayFault}
+use Rattle.segreplay.specs.declared.fault.TraceFault.{TraceFault}
+use Rattle.segreplay.specs.declared.run.Plan.{Plan}
+use Rattle.segreplay.specs.declared.run.Replayed.{Replayed}
+use Rattle.segreplay.specs.Replays.{IsReplay}
+use Rattle.segcli.specs.declared.asked.Replay.{Replay}
 use Rattle.segscript.specs.Words.{EachTurn, EndsOnce, is_make_fault, is_read_fault, is_write_fault, RunFault}
 use Rattle.segscript.specs.Words.{RunOutcome, ShapeIsAnswered}
 use Rattle.segload.specs.Words.{IsLoad, IsLoadFault, knows_nothing, lets_all_through, Totals}
@@ -88,6 +95,42 @@ LoadOutcome load Wrote before flushes (Err fault.Write) =
 LoadOutcome load Wrote before flushes (Err f) =
     IsFaultOfLoad load.shape load.commands f × Wrote [] × (flushes ≡ before)
 
+-- ---- a replay
+
+-- how the command `replay` ends if the trace ended so
+abbrev pub end_of_trace : Result (Unit {0}) TraceFault → Result (Unit {0}) ProgramFault
+end_of_trace (Ok _) = Ok tt
+end_of_trace (Err f) = Err (fault_of_trace f)
+
+-- and if its totals were shown, or not
+abbrev pub end_of_replay : Result (Unit {0}) ProgramFault → Result (Unit {0}) TraceFault
+    → Result (Unit {0}) ProgramFault
+end_of_replay (Ok _) end = end_of_trace end
+end_of_replay (Err f) _ = Err f
+
+-- The trace of the reader was replayed, and its totals were shown.
+-- They are those of the commands before the trace's fault, if it has one.
+pub record ShowsReplay {R : Type 0} (hands : R → List ℕ → R → Type 0) (asked : Replay)
+    (reader reader' : R) (Wrote : List ℕ → Type 0) (before flushes : ℕ)
+    (end : Result (Unit {0}) ProgramFault) : Type 0 where
+  pub plan : Plan
+  pub seen : List ℕ
+  pub replayed : Replayed
+  pub shown : Result (Unit {0}) ProgramFault
+  pub planned : IsPlanOf asked plan
+  pub read : hands reader seen reader'
+  pub replays : IsReplay plan seen replayed
+  pub shows : ShowOutcome (replay_text asked.format replayed.totals.items) Wrote before flushes
+      shown
+  pub ended : end ≡ end_of_replay shown replayed.end
+
+-- A replay was shown, or it failed before there were totals to show, and nothing was written.
+abbrev pub ReplayOutcome : {R : Type 0} → (R → List ℕ → R → Type 0) → Replay → R → R
+    → (List ℕ → Type 0) → ℕ → ℕ → Result (Unit {0}) ProgramFault → Type 0
+ReplayOutcome hands asked reader reader' Wrote before flushes end =
+    ShowsReplay hands asked reader reader' Wrote before flushes end
+    ⊎ ((why : ReplayFault) × (end ≡ Err (fault_of_replay why)) × Wrote [] × (flushes ≡ before))
+
 -- ---- commands
 
 abbrev pub CommandOutcome : {R W : Type 0} → (R → List ℕ → R → Type 0) → (R → Type 0) → (R → Bool)
@@ -101,6 +144,11 @@ CommandOutcome hands is_at_end read_failed ends takes write_failed flushes
     (command.Load load) reader reader' writer writer' end =
     (reader' ≡ reader) × (write_failed writer' ≡ is_write_end end)
     × LoadOutcome load (λ part. takes writer part writer') (flushes writer) (flushes writer') end
+CommandOutcome hands is_at_end read_failed ends takes write_failed flushes
+    (command.Replay asked) reader reader' writer writer' end =
+    (write_failed writer' ≡ is_write_end end)
+    × ReplayOutcome hands asked reader reader' (λ part. takes writer part writer') (flushes writer)
+    (flushes writer') end
 CommandOutcome hands is_at_end read_failed ends takes write_failed flushes (command.Word word)
     reader reader' writer writer' end =
     (reader' ≡ reader) × (write_failed writer' ≡ is_write_end end)

@@ -6,6 +6,10 @@ use Rattle.segscript.specs.Words.{RunFault}
 use Rattle.segscript.specs.declared.fault.RunFault.TheVariants as run
 use Rattle.segload.specs.declared.fault.LoadFault.{LoadFault}
 use Rattle.segload.specs.declared.fault.LoadFault.TheVariants as load
+use Rattle.segreplay.specs.declared.fault.ReplayFault.{ReplayFault}
+use Rattle.segreplay.specs.declared.fault.ReplayFault.TheVariants as replay
+use Rattle.segreplay.specs.declared.fault.TraceFault.{TraceFault}
+use Rattle.segreplay.specs.declared.fault.TraceFault.TheVariants as trace
 use Rattle.segcli.specs.declared.fault.ProgramFault.{ProgramFault}
 use Rattle.segcli.specs.declared.fault.ProgramFault.TheVariants as fault
 
@@ -24,6 +28,19 @@ fault_of_load (load.Make (made.Shape f)) = fault.BadShape f
 fault_of_load (load.Make made.OutOfMemory) = fault.OutOfMemory
 fault_of_load (load.Stopped pass) = fault.Stopped pass
 fault_of_load load.OutOfMemory = fault.OutOfMemory
+
+-- the program's fault if a replay had this fault
+abbrev pub fault_of_replay : ReplayFault → ProgramFault
+fault_of_replay (replay.Make (made.Shape f)) = fault.BadShape f
+fault_of_replay (replay.Make made.OutOfMemory) = fault.OutOfMemory
+fault_of_replay replay.OutOfMemory = fault.OutOfMemory
+
+-- the program's fault if a trace ended with this fault
+abbrev pub fault_of_trace : TraceFault → ProgramFault
+fault_of_trace trace.Read = fault.Read
+fault_of_trace (trace.Line n) = fault.BadLine n
+fault_of_trace trace.OutOfMemory = fault.OutOfMemory
+fault_of_trace trace.TooLong = fault.TooLong
 
 -- how the command `script` ends if its run ended so
 abbrev pub end_of_run : Result (Unit {0}) RunFault → Result (Unit {0}) ProgramFault

@@ -11,3 +11,4 @@ pub mod Program
 pub mod Progress
 pub mod Stats
 pub mod Totals
+pub mod Replayed

@@ -71,6 +71,7 @@ note_of_fault asked _ = []
 abbrev pub explains : Command → Bool
 explains (command.Script shape explain file) = explain
 explains (command.Load load) = load.explain
+explains (command.Replay replay) = replay.explain
 explains (command.Word word) = word.explain
 explains (command.Show text) = false
 

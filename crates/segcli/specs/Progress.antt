@@ -12,3 +12,7 @@ progress_text made of rate =
     decimal made ++ codes " of " ++ decimal of ++ codes ", " ++ decimal (made * 100 / max 1 of) ++
     codes " %"
     ++ rate_text rate ++ codes "\n"
+
+-- the line of a replay that has made so many commands
+abbrev pub replay_line : ℕ → Option ℕ → List ℕ
+replay_line made rate = decimal made ++ rate_text rate ++ codes "\n"

@@ -1,22 +1,25 @@
 //! Reads the words of the command line.
-ghost use Rattle.std.specs.Prelude.{◌≡◌, string_bytes, map, max, false, None, IfSome, codes};
+ghost use Rattle.std.specs.Prelude.{◌≡◌, ◌⊎◌, string_bytes, map, max, false, None, IfSome, codes, if◌then◌else◌};
 ghost use Rattle.std.specs.Int.NonZero.{non_zero_u32_get};
 ghost use Rattle.std.specs.Option.{option_map};
 ghost use Rattle.clap.specs.Walk.{first_of};
 ghost use Rattle.clap.specs.Words.{found_of, kind_of, rows_of};
 ghost use Rattle.segcli.specs.CommandLine.{default_shape, explain_flag, for_keys_option};
 ghost use Rattle.segcli.specs.CommandLine.{format_choice, keys_option, kind_choice, passes_option};
-ghost use Rattle.segcli.specs.CommandLine.{script_file};
+ghost use Rattle.segcli.specs.CommandLine.{csv_flag, policy_choice, script_file};
 ghost use Rattle.segcli.specs.Asked.{IsAsked, IsBase, IsCommandName, IsLoadAsked, IsMisnamed};
-ghost use Rattle.segcli.specs.Asked.{IsReadAsCommand, IsReadByClap, IsRefused, IsShapeGiven};
+ghost use Rattle.segcli.specs.Asked.{IsReadAsCommand, IsReadByClap, IsRefused, IsShapeFor};
+ghost use Rattle.segcli.specs.Asked.{IsShapeGiven};
 ghost use Rattle.segcli.specs.Asked.{IsSized, IsWordAsked, asks_help_twice, format_named, is_given};
-ghost use Rattle.segcli.specs.Asked.{kind_named, number_found, number_given, plain_words};
+ghost use Rattle.segcli.specs.Asked.{IsReplayAsked, kind_named, number_found, number_given};
+ghost use Rattle.segcli.specs.Asked.{plain_words, policies_named};
 
-use crate::asked::{Format, Load, Word, WordKind};
+use crate::asked::{Format, Load, Policies, Replay, Word, WordKind};
 use crate::command::Command;
 use crate::command_line::program;
 use clap::ArgMatches;
 use clap::error::{Error, ErrorKind};
+use segreplay::{Form, Policy};
 use segword::Shape;
 use std::alloc::{AllocError, Global};
 use std::num::NonZeroU32;
@@ -37,6 +40,9 @@ const SEED: u64 = 1;
 const COMMANDS: u32 = 1000;
 
 const KEYS: u32 = 64;
+
+/// How many bytes each value of a replay has, if no option sets it.
+const VALUE_BYTES: u32 = 32;
 
 /// Why no command was read.
 #[derive(Debug, Drop)]
@@ -133,6 +139,8 @@ fn refused<'a>(alloc: Global, error: &Error) -> Result<Command<'a>, Refusal>
 fn misnamed(alloc: Global, name: &str, matches: &ArgMatches<'_>) -> Result<String, AllocError> {
     let (option, values) = match name {
         "load" => ("format", "text, json"),
+        "replay" if format_of(matches).is_none() => ("format", "text, json"),
+        "replay" => ("policy", "default, nothing, cutoff:N, all"),
         _ => ("kind", "item, information, segment"),
     };
     let word = matches.get_str(option).unwrap_or("");
@@ -153,6 +161,7 @@ fn command_of<'a>(name: &str, matches: &ArgMatches<'a>) -> Option<Command<'a>>
 {
     match name {
         "load" => Some(Command::Load(load_of(matches)?)),
+        "replay" => Some(Command::Replay(replay_of(matches)?)),
         "word" => Some(Command::Word(word_of(matches)?)),
         _ => Some(script_of(matches)),
     }
@@ -184,6 +193,57 @@ fn load_of(matches: &ArgMatches<'_>) -> Option<Load>
         progress: matches.get_one("progress").unwrap_or(false),
         explain: explain_of(matches),
     })
+}
+
+fn replay_of<'a>(matches: &ArgMatches<'a>) -> Option<Replay<'a>>
+    ensures some { IfSome result (IsReplayAsked (rows_of (found_of matches.now))) }
+    ensures none { result ≡ None
+        → (format_named (first_of format_choice (rows_of (found_of matches.now))) ≡ None)
+        ⊎ (policies_named (first_of policy_choice (rows_of (found_of matches.now))) ≡ None) }
+{
+    let format = format_of(matches)?;
+    let policies = policies_of(matches)?;
+    let threads = matches.get_one("threads");
+    Some(Replay {
+        shape: shape_for(matches, threads.or(matches.get_one("passes"))),
+        file: file_of(matches),
+        form: form_of(matches),
+        value_bytes: matches.get_one("value-bytes").unwrap_or(VALUE_BYTES),
+        warm: matches.get_one("warm").unwrap_or(0),
+        policies,
+        sizes: matches.get_one("sizes").unwrap_or(false),
+        format,
+        progress: matches.get_one("progress").unwrap_or(false),
+        explain: explain_of(matches),
+    })
+}
+
+// How the lines of a trace are written.
+fn form_of(matches: &ArgMatches<'_>) -> Form
+    ensures { result ≡ (if is_given csv_flag (rows_of (found_of matches.now))
+        then Form.Csv else Form.Plain) }
+{
+    if matches.get_one("csv").unwrap_or(false) {
+        Form::Csv
+    } else {
+        Form::Plain
+    }
+}
+
+fn policies_of(matches: &ArgMatches<'_>) -> Option<Policies>
+    ensures { result ≡ policies_named (first_of policy_choice (rows_of (found_of matches.now))) }
+{
+    policies_named(matches.get_str("policy"))
+}
+
+fn policies_named(word: Option<&str>) -> Option<Policies>
+    ensures { result ≡ policies_named (option_map (λ text. text.now) word.entry) }
+{
+    match word {
+        None => Some(Policies::One(Policy::Default)),
+        Some("all") => Some(Policies::All),
+        Some(word) => Some(Policies::One(Policy::named(word.as_bytes())?)),
+    }
 }
 
 fn word_of<'a>(matches: &ArgMatches<'a>) -> Option<Word<'a>>
@@ -258,11 +318,18 @@ fn keys_of(matches: &ArgMatches<'_>) -> NonZeroU32
 fn shape_of(matches: &ArgMatches<'_>) -> Shape
     ensures { IsShapeGiven (rows_of (found_of matches.now)) result }
 {
-    let base = base_of(matches);
+    shape_for(matches, matches.get_one("passes"))
+}
+
+// The shape that the options give, with this number of passes, if there is one.
+fn shape_for(matches: &ArgMatches<'_>, passes: Option<u32>) -> Shape
+    ensures { IsShapeFor passes (rows_of (found_of matches.now)) result }
+{
+    let base = base_of(matches, passes.unwrap_or(SHAPE.passes));
     Shape {
         buckets: matches.get_one("buckets").unwrap_or(base.buckets),
         overflow: matches.get_one("overflow").unwrap_or(base.overflow),
-        passes: matches.get_one("passes").unwrap_or(base.passes),
+        passes: passes.unwrap_or(base.passes),
         segments_each: matches.get_one("segments").unwrap_or(base.segments_each),
         rows: matches.get_one("rows").unwrap_or(base.rows),
         first_version: matches
@@ -272,11 +339,9 @@ fn shape_of(matches: &ArgMatches<'_>) -> Shape
 }
 
 // The shape before the options for its parts.
-fn base_of(matches: &ArgMatches<'_>) -> Shape
-    ensures { IsBase (number_found for_keys_option (rows_of (found_of matches.now)))
-        (number_given passes_option (rows_of (found_of matches.now))) result }
+fn base_of(matches: &ArgMatches<'_>, passes: u32) -> Shape
+    ensures { IsBase (number_found for_keys_option (rows_of (found_of matches.now))) passes result }
 {
-    let passes = matches.get_one("passes").unwrap_or(SHAPE.passes);
     match matches.get_one("for-keys") {
         Some(keys) => sized(keys, passes),
         None => SHAPE,

@@ -1,4 +1,5 @@
-//! What a load and a word are asked for with.
+//! What a load, a replay and a word are asked for with.
+use segreplay::{Form, Policy};
 use segword::Shape;
 use std::num::NonZeroU32;
 
@@ -24,6 +25,34 @@ pub struct Load {
     pub format: Format,
     /// Whether a watch is called with the totals at the load's end.
     pub stats: bool,
+    /// Whether a watch looks on.
+    pub progress: bool,
+    /// Whether the fault of a bad shape is explained.
+    pub explain: bool,
+}
+
+/// The policies that a replay compares.
+#[derive(Clone, Copy, Debug, PartialEq, Eq)]
+pub enum Policies {
+    One(Policy),
+    All,
+}
+
+/// A replay of a trace through caches of this shape, or of parts of it.
+#[derive(Clone, Copy, Debug)]
+pub struct Replay<'a> {
+    pub shape: Shape,
+    /// The file of the trace. Who calls the program opens it.
+    pub file: Option<&'a str>,
+    pub form: Form,
+    /// How many bytes each value has.
+    pub value_bytes: u32,
+    /// How many commands are left out of the counts.
+    pub warm: u64,
+    pub policies: Policies,
+    /// Whether smaller caches are compared with one of this shape.
+    pub sizes: bool,
+    pub format: Format,
     /// Whether a watch looks on.
     pub progress: bool,
     /// Whether the fault of a bad shape is explained.

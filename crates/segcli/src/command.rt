@@ -7,15 +7,18 @@ ghost use Rattle.segcli.specs.declared.fault.ProgramFault.{ProgramFault};
 ghost use Rattle.segcli.specs.Faults.{is_write_end};
 ghost use Rattle.segcli.specs.Totals.{text_in};
 ghost use Rattle.segcli.specs.Commands.{ScriptOutcome, IsFaultOfLoad, LoadOutcome, WordOutcome};
-ghost use Rattle.segcli.specs.Commands.{ShowOutcome, CommandOutcome, Concludes};
+ghost use Rattle.segcli.specs.Commands.{CommandOutcome, Concludes, end_of_replay, end_of_trace};
+ghost use Rattle.segcli.specs.Commands.{ReplayOutcome, ShowOutcome};
 
-use crate::asked::{Load, Word};
+use crate::asked::{Load, Replay, Word};
 use crate::explanation::{explain, meaning_of};
 use crate::fault::{ProgramFault, print};
 use crate::note::report_explained;
-use crate::progress::{Watch, Watched};
+use crate::progress::{Followed, Watch, Watched};
+use crate::replayed::{plan_of, text_of_replay};
 use crate::totals::text_in;
 use segload::{LoadFault, OpenGate, Plan, Totals, run_crowd};
+use segreplay::{TraceFault, replay};
 use segscript::{Failed, Sink, Source, run_script};
 use segword::Shape;
 use std::alloc::{AllocError, AllocGlobal, Global};
@@ -35,6 +38,8 @@ pub enum Command<'a> {
     },
     /// Runs a load.
     Load(Load),
+    /// Replays the trace of the reader.
+    Replay(Replay<'a>),
     /// Explains a word of the table.
     Word(Word<'a>),
     /// Prints a text, as help.
@@ -89,6 +94,7 @@ fn perform<R: Threads + Wait + AllocGlobal + Sync, S: Source, W: Sink, V: Watch>
     match command {
         Command::Script { shape, .. } => perform_script(alloc, *shape, source, writer),
         Command::Load(load) => perform_load(rt, alloc, load, watch, writer),
+        Command::Replay(replay) => perform_replay(rt, alloc, replay, source, watch, writer),
         Command::Word(word) => perform_word(word, writer),
         Command::Show(text) => show(text.as_bytes(), writer),
     }
@@ -178,6 +184,60 @@ fn totals_of<R: Threads + Wait + AllocGlobal + Sync, V: Watch>(
         run_crowd(rt, alloc, shape, plan, &gate)
     } else {
         run_crowd(rt, alloc, shape, plan, &OpenGate)
+    }
+}
+
+fn perform_replay<R: Threads + Wait + AllocGlobal + Sync, S: Source, W: Sink, V: Watch>(
+    rt: &R,
+    alloc: Global,
+    asked: &Replay<'_>,
+    source: &mut S,
+    watch: &V,
+    writer: &mut W,
+) -> Result<(), ProgramFault>
+    requires source_works { S.has_failed source.old ≡ false }
+    requires writer_works { W.has_failed writer.old ≡ false }
+    ensures outcome { ReplayOutcome S.hands asked.now source.old source.new
+        (λ part. W.takes writer.old part writer.new)
+        (W.flushes writer.old) (W.flushes writer.new) result }
+    ensures failed { W.has_failed writer.new ≡ is_write_end result }
+{
+    let follow = Followed {
+        watch,
+        is_asked: asked.progress,
+    };
+    let replayed = match replay(rt, alloc, source, &plan_of(asked), &follow) {
+        Ok(replayed) => replayed,
+        Err(fault) => return Err(ProgramFault::of_replay(fault)),
+    };
+    let Ok(text) = text_of_replay(alloc, asked.format, replayed.totals.as_slice()) else {
+        return Err(ProgramFault::OutOfMemory);
+    };
+    let shown = show(text.as_slice(), writer);
+    end_of_replay(shown, replayed.end)
+}
+
+// How a replay ends whose totals were shown so, and whose trace ended so.
+fn end_of_replay(
+    shown: Result<(), ProgramFault>,
+    end: Result<(), TraceFault>,
+) -> Result<(), ProgramFault>
+    ensures end { result ≡ end_of_replay shown end }
+    ensures failed { is_write_end result ≡ is_write_end shown }
+{
+    match shown {
+        Ok(()) => end_of_trace(end),
+        Err(fault) => Err(fault),
+    }
+}
+
+fn end_of_trace(end: Result<(), TraceFault>) -> Result<(), ProgramFault>
+    ensures end { result ≡ end_of_trace end }
+    ensures failed { is_write_end result ≡ false }
+{
+    match end {
+        Ok(()) => Ok(()),
+        Err(fault) => Err(ProgramFault::of_trace(fault)),
     }
 }
 

@@ -5,7 +5,8 @@ ghost use Rattle.segcli.specs.CommandLine.{Builds, alone, with_parts, shape_opti
 ghost use Rattle.segcli.specs.CommandLine.{choice_rule, flag_rule, option_rule, part_rule};
 ghost use Rattle.segcli.specs.CommandLine.{for_keys_option, keys_option, number_parser};
 ghost use Rattle.segcli.specs.CommandLine.{program_rules, script_rules, load_rules, word_rules};
-ghost use Rattle.segcli.specs.CommandLine.{command_line};
+ghost use Rattle.segcli.specs.CommandLine.{command_line, replay_options, replay_rules};
+ghost use Rattle.segcli.specs.CommandLine.{value_bytes_option, with_rules};
 
 use clap::builder::{ValueParser, ValueParserFactory};
 use clap::{Arg, ArgAction, Command, value_parser};
@@ -81,6 +82,23 @@ does the same over a million keys.
 writes to standard error, about twice a second, a line as
   41231360 of 100000000, 41 %, 17023488 a second";
 
+const REPLAY: &str = "Replays a trace through a cache, and writes how often its gets hit";
+
+const AFTER_REPLAY: &str =
+    "Lines: get KEY, which puts what it misses; KEY alone, the same; set KEY; delete KEY. With --csv a line is
+TIME,KEY,OP,TTL: the clock shows TIME, and a segment that the line refills lives for TTL (0: it lasts).
+A key over 24 bytes goes by its hash. Empty lines count for nothing. A bad line ends the replay with
+status 2, behind the totals of the lines before it.
+
+The totals are a line or an object for each cache: gets, hits, their rate in %, sets, deletes, evicted
+keys, items kept, puts refused for want of room, and commands that were busy. --policy all compares
+default, nothing and cutoff:3. --sizes compares six caches, each with half of the buckets and rows of
+the one before. All caches are there at once.
+
+Examples:
+  segrun replay --for-keys 100000 trace
+  zcat trace.csv.gz | segrun replay --csv --for-keys 100000 --policy all --sizes --progress";
+
 const WORD: &str = "Explains a word of the table of an index";
 
 const AFTER_WORD: &str =
@@ -105,6 +123,7 @@ pub fn program<'a>(alloc: Global) -> Result<Command<'a>, AllocError>
     named(alloc)?
         .subcommand(script(alloc)?)?
         .subcommand(load(alloc)?)?
+        .subcommand(replay(alloc)?)?
         .subcommand(word(alloc)?)
 }
 
@@ -143,6 +162,13 @@ fn script_file<'a>(alloc: Global) -> Arg<'a>
     ensures local { result.global ≡ false }
 {
     Arg::new(alloc, "FILE").help("The script; without it, or if it is -, standard input is read")
+}
+
+fn trace_file<'a>(alloc: Global) -> Arg<'a>
+    ensures rule { rule_of result ≡ file_rule }
+    ensures local { result.global ≡ false }
+{
+    Arg::new(alloc, "FILE").help("The trace; without it, or if it is -, standard input is read")
 }
 
 fn load<'a>(alloc: Global) -> Result<Command<'a>, AllocError>
@@ -199,6 +225,88 @@ fn load<'a>(alloc: Global) -> Result<Command<'a>, AllocError>
         .arg(stats)?
         .arg(progress)?
         .arg(explain)
+}
+
+fn replay<'a>(alloc: Global) -> Result<Command<'a>, AllocError>
+    ensures { IfOk result (Builds (alone replay_rules)) }
+{
+    let csv = flag(alloc, "csv", "The lines are TIME,KEY,OP,TTL");
+    let format = choice(
+        alloc,
+        "format",
+        "FORMAT",
+        "How totals are written: text or json [default: text]",
+    );
+    let progress = flag(
+        alloc,
+        "progress",
+        "Tells on standard error, about twice a second, how far the replay is",
+    );
+    let explain = flag(
+        alloc,
+        "explain",
+        "Says on standard error why a shape is bad",
+    );
+    let command = Command::new(alloc, "replay")
+        .about(REPLAY)
+        .after_help(AFTER_REPLAY);
+    with_replay(
+        alloc,
+        with_shape(alloc, command)?
+            .arg(trace_file(alloc))?
+            .arg(csv)?,
+    )?
+    .arg(format)?
+    .arg(progress)?
+    .arg(explain)
+}
+
+// Gives a command the options of a replay.
+fn with_replay<'a>(alloc: Global, command: Command<'a>) -> Result<Command<'a>, AllocError>
+    ensures { (app : App) → Builds app command.entry
+        → IfOk result (Builds (with_rules app replay_options)) }
+{
+    let bytes = taking(
+        alloc,
+        "value-bytes",
+        value_bytes_parser(),
+        "32",
+        "Bytes of each value: 0 to 32",
+    );
+    let threads = part::<u32>(
+        alloc,
+        "threads",
+        "In place of --passes: N clients, each with a thread and the keys of a hash",
+    );
+    let warm = number::<u64>(
+        alloc,
+        "warm",
+        "0",
+        "How many commands at the start aren't counted",
+    );
+    let policy = choice(
+        alloc,
+        "policy",
+        "POLICY",
+        "What puts keep: default, nothing, cutoff:N, or all to compare [default: default]",
+    );
+    let sizes = flag(
+        alloc,
+        "sizes",
+        "Compares six sizes, each half of the one before",
+    );
+    command
+        .arg(bytes)?
+        .arg(threads)?
+        .arg(warm)?
+        .arg(policy)?
+        .arg(sizes)
+}
+
+fn value_bytes_parser<'a>() -> ValueParser<'a>
+    ensures { result ≡ number_parser value_bytes_option }
+{
+    value_parser!(u32).range(0..=32)
 }
 
 fn keys_parser<'a>() -> ValueParser<'a>

@@ -1,10 +1,12 @@
 //! The faults of the program, with their statuses and lines, and the printing of lines and of other texts.
 ghost use Rattle.std.specs.Prelude.{◌≡◌, false, is_err};
-ghost use Rattle.segcli.specs.Faults.{fault_of_run, fault_of_load, fault_line, fault_status};
+ghost use Rattle.segcli.specs.Faults.{fault_line, fault_of_load, fault_of_replay, fault_of_run};
+ghost use Rattle.segcli.specs.Faults.{fault_of_trace, fault_status};
 ghost use Rattle.segcli.specs.Printing.{PrintOutcome, IsPrinted, IsFlushed, WasFlushed};
 
 use segindex::MakeFault;
 use segload::LoadFault;
+use segreplay::{ReplayFault, TraceFault};
 use segscript::{Failed, Line, RunFault, Sink, line_of, put, put_number, write_all};
 use segword::ShapeFault;
 
@@ -56,6 +58,30 @@ impl ProgramFault {
                 ProgramFault::OutOfMemory
             }
             LoadFault::Stopped(pass) => ProgramFault::Stopped(pass),
+        }
+    }
+
+    /// The program's fault if a replay had this fault.
+    pub fn of_replay(fault: ReplayFault) -> ProgramFault
+        ensures { result ≡ fault_of_replay fault }
+    {
+        match fault {
+            ReplayFault::Make(MakeFault::Shape(fault)) => ProgramFault::BadShape(fault),
+            ReplayFault::Make(MakeFault::OutOfMemory) | ReplayFault::OutOfMemory => {
+                ProgramFault::OutOfMemory
+            }
+        }
+    }
+
+    /// The program's fault if a trace ended with this fault.
+    pub fn of_trace(fault: TraceFault) -> ProgramFault
+        ensures { result ≡ fault_of_trace fault }
+    {
+        match fault {
+            TraceFault::Read => ProgramFault::Read,
+            TraceFault::Line(number) => ProgramFault::BadLine(number),
+            TraceFault::OutOfMemory => ProgramFault::OutOfMemory,
+            TraceFault::TooLong => ProgramFault::TooLong,
         }
     }
 

@@ -114,6 +114,7 @@ fn explains(command: &Command<'_>) -> bool
     match command {
         Command::Script { explain, .. } => *explain,
         Command::Load(load) => load.explain,
+        Command::Replay(replay) => replay.explain,
         Command::Word(word) => word.explain,
         Command::Show(_) => false,
     }

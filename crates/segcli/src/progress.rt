@@ -1,17 +1,21 @@
 //! How far a load has come: a gate that reports it to a watch, and the text of a progress line.
 ghost use Rattle.std.specs.Prelude.{◌≡◌, ◌*◌, ◌/◌, ◌++◌, max, IfOk};
 ghost use Rattle.segload.specs.Words.{lets_all_through};
-ghost use Rattle.segcli.specs.Progress.{rate_text, progress_text};
+ghost use Rattle.segcli.specs.Progress.{progress_text, rate_text, replay_line};
 
 use crate::totals::{put, put_count};
 use segload::{Gate, Totals};
+use segreplay::Follow;
 use std::alloc::{AllocError, Global};
 use std::sync::atomic::{AtomicU64, Ordering};
 
-/// What looks on while a load runs.
+/// What looks on while a load or a replay runs.
 pub trait Watch: Sync {
     /// So many commands of the load were made, of so many in all. The thread of pass 0 makes this call.
     fn saw(&self, made: u64, of: u64);
+
+    /// So many commands of a trace were made. The call is made if the replay is to be watched.
+    fn made(&self, _commands: u64) {}
 
     /// The load has ended with these totals. The call is made if the load is asked for its stats.
     fn ended(&self, _totals: &Totals) {}
@@ -64,6 +68,21 @@ impl<V: Watch> Gate for Watched<'_, V> {
     }
 }
 
+/// What follows a replay: it calls a watch, if it is asked to.
+#[derive(Drop)]
+pub(crate) struct Followed<'w, V> {
+    pub(crate) watch: &'w V,
+    pub(crate) is_asked: bool,
+}
+
+impl<V: Watch> Follow for Followed<'_, V> {
+    fn made(&self, commands: u64) {
+        if self.is_asked {
+            self.watch.made(commands);
+        }
+    }
+}
+
 // How many hundredths of the whole were made. If the whole is nothing it counts as one.
 fn percent(made: u64, of: u64) -> u128
     ensures { result ≡ made * 100 / max 1 of }
@@ -97,6 +116,21 @@ pub fn progress_line(
     put_count(&mut text, b" of ", of)?;
     put_count(&mut text, b", ", percent(made, of))?;
     put(&mut text, b" %")?;
+    put_rate(&mut text, each_second)?;
+    put(&mut text, b"\n")?;
+    Ok(text)
+}
+
+/// The line of a replay that has made so many commands, and so many a second if that is known.
+pub fn replay_line(
+    alloc: Global,
+    made: u64,
+    each_second: Option<u128>,
+) -> Result<Vec<u8>, AllocError>
+    ensures text { IfOk result (λ text. text.items ≡ replay_line made each_second) }
+{
+    let mut text = Vec::new(alloc);
+    put_count(&mut text, b"", made)?;
     put_rate(&mut text, each_second)?;
     put(&mut text, b"\n")?;
     Ok(text)

@@ -25,8 +25,8 @@ use Rattle.segbase.specs.declared.pass.Plain.{Plain}
 use Rattle.segbase.specs.Words.{Board, holding, locked_of, marked, mine, number, Pass, seen, state_of, trace}
 use Rattle.segbase.specs.Words.{used_of}
 use Rattle.segbase.proofs.Alone.{bounced_alone, glanced_alone}
-use Rattle.segstore.specs.Words.{has_room, is_below}
-use Rattle.segpass.specs.Words.{ChangesNothing, GoesOn, is_held_in, IsBusy, IsQuiet, memo}
+use Rattle.segstore.specs.Words.{ChangesNothing, GoesOn, has_room, is_below, is_held_in, IsBusy}
+use Rattle.segstore.specs.Words.{IsQuiet, memo}
 use Rattle.segwrite.specs.Words.{Deletes, HasNoWord, WasFull, Writes}
 use Rattle.segread.specs.Words.{IsDisturbed, IsGetAnswer, IsGetsAnswer, ReadsBetween, PresentLocked}
 use Rattle.segindex.specs.Words.{AnswersCommand, IsBeingRead, IsRefillAnswer, Refills}

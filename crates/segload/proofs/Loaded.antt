@@ -6,7 +6,7 @@ use Rattle.segword.specs.Words.{IsValid}
 use Rattle.segmodel.specs.Words.{after, Entry}
 use Rattle.segmodel.specs.History as histories
 use Rattle.segbase.specs.Words.{Board, HasEach, mine, number, number_of, Pass, seen}
-use Rattle.segpass.specs.Words.{IsQuiet}
+use Rattle.segstore.specs.Words.{IsQuiet}
 use Rattle.segindex.specs.Words.{AnswersCommand, AreAllQuiet, IsEndOfAll}
 use Rattle.segindex.proofs.Made.{new_quiet}
 use Rattle.segload.specs.Words.{PassTotals, Plan, Totals, Worker}

@@ -8,7 +8,7 @@ use Rattle.segmodel.specs.Words.{after, Begins, Cache, Entry, key_of, reads, rea
 use Rattle.segcore.specs.Event as event
 use Rattle.segcore.proofs.Moments.{begins_on}
 use Rattle.segbase.specs.Words.{Board, IsNewPass, mine, number, Pass, seen}
-use Rattle.segpass.specs.Words.{GoesOn, IsQuiet}
+use Rattle.segstore.specs.Words.{GoesOn, IsQuiet}
 use Rattle.segindex.specs.Words.{AnswersCommand}
 use Rattle.segpolicy.specs.declared.load.Kind.TheVariants as kind
 use Rattle.segpolicy.specs.Words.{after_load, Draws, Kind, Load, next_load, next_of}

@@ -8,7 +8,7 @@ use Rattle.segmodel.specs.declared.answer.EvictAnswer.TheVariants as evict
 use Rattle.segmodel.specs.declared.answer.RefillAnswer.TheVariants as refill
 use Rattle.segmodel.specs.Words.{Answer, RefillAnswer}
 use Rattle.segbase.specs.Words.{Board, mine, number, Pass, seen}
-use Rattle.segpass.specs.Words.{GoesOn, IsQuiet}
+use Rattle.segstore.specs.Words.{GoesOn, IsQuiet}
 use Rattle.segevict.proofs.RowsOut.{goes_then}
 use Rattle.segindex.specs.Words.{AnswersCommand}
 use Rattle.segpolicy.specs.declared.load.Kind.TheVariants as kind

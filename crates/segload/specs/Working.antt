@@ -2,7 +2,7 @@
 use Rattle.std.specs.Prelude.{◌≡◌, ℕ, ◌<◌, Bool, false, true, List, length, slice_get, Some}
 use Rattle.std.specs.Int.NonZero.{non_zero_u32_get}
 use Rattle.segbase.specs.Words.{Board, IsNewPass, mine, number, number_of, Pass}
-use Rattle.segpass.specs.Words.{IsQuiet}
+use Rattle.segstore.specs.Words.{IsQuiet}
 use Rattle.segindex.specs.Words.{AnswersCommand, ReturnsStats}
 use Rattle.segpolicy.specs.Words.{Draws, draws_of}
 use Rattle.segload.specs.Lists.{AllAt}

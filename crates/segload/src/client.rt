@@ -112,7 +112,7 @@ fn refilled_by(answer: RefillAnswer) -> u32
 
 impl Client {
     ghost use Rattle.segindex.specs.Words.{AnswersCommand, board_of};
-    ghost use Rattle.segpass.specs.Words.{GoesOn, IsQuiet};
+    ghost use Rattle.segstore.specs.Words.{GoesOn, IsQuiet};
     ghost use Rattle.segpolicy.specs.Words.{next_of};
     ghost use Rattle.segevict.specs.Words.{EvictsSegment};
     ghost use Rattle.segindex.specs.Refilling.{RefillsSegment};

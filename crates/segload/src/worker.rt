@@ -27,7 +27,7 @@ pub(crate) struct Ended {
 
 impl Worker {
     ghost use Rattle.segbase.specs.Words.{IsNewPass, number, number_of};
-    ghost use Rattle.segpass.specs.Words.{IsQuiet};
+    ghost use Rattle.segstore.specs.Words.{IsQuiet};
     ghost use Rattle.segload.specs.Working.{BeginsLoad, BeginsPlan, EndsWork, HasWorked};
 
     /// A worker whose pass made no command yet.

@@ -1,6 +1,7 @@
-//! How far a load has come: a line on standard error, at most twice a second if there is a clock.
-//! And what it did to the table, at its end.
-use segcli::{Pace, Totals, Watch, progress_line, stats_text};
+//! How far a load or a replay has come: a line on standard error, at most twice a second if there is a clock.
+//! And what a load did to the table, at its end.
+use segcli::{Pace, Totals, Watch, progress_line, replay_line, stats_text};
+use std::alloc::AllocError;
 use std::io::Write;
 use std::sync::atomic::{AtomicU64, Ordering};
 use std::time::Instant;
@@ -11,7 +12,7 @@ const INTERVAL: u64 = 500;
 /// The least number of commands between two lines, if there is no clock.
 const COMMANDS: u64 = 1 << 20;
 
-/// Writes the lines. Only the thread of pass 0 calls it, so it needs no lock.
+/// Writes the lines. Only the thread of pass 0, or of the reader, calls it, so it needs no lock.
 #[derive(Drop)]
 pub struct Teller<'r> {
     rt: &'r HostRuntime,
@@ -48,23 +49,25 @@ impl<'r> Teller<'r> {
         })
     }
 
-    // Writes a line. One that can't be written is left out.
-    fn tell(&self, made: u64, of: u64, each_second: Option<u128>) {
-        if let Ok(line) = progress_line(self.rt.alloc(), made, of, each_second) {
-            let _ = self.rt.stderr().write_all(line.as_slice());
+    // Writes a text. One that can't be written is left out.
+    fn tell(&self, text: Result<Vec<u8>, AllocError>) {
+        if let Ok(text) = text {
+            let _ = self.rt.stderr().write_all(text.as_slice());
         }
     }
 }
 
-impl Watch for Teller<'_> {
-    fn saw(&self, made: u64, of: u64) {
+impl Teller<'_> {
+    // Whether a line is due after so many commands, and then how many were made in a second since
+    // the last one, if there is a clock. The first call starts the count, and no line is due.
+    fn due(&self, made: u64) -> Option<Option<u128>> {
         let before = self.made.load(Ordering::SeqCst);
         let new = made.saturating_sub(before);
         let (time, each_second) = match self.now() {
             Some(now) => {
                 let passed = now.saturating_sub(self.time.load(Ordering::SeqCst));
                 if before != 0 && passed < INTERVAL {
-                    return;
+                    return None;
                 }
                 (
                     now,
@@ -73,21 +76,31 @@ impl Watch for Teller<'_> {
             }
             None => {
                 if before != 0 && new < COMMANDS {
-                    return;
+                    return None;
                 }
                 (0, None)
             }
         };
         self.made.store(made, Ordering::SeqCst);
         self.time.store(time, Ordering::SeqCst);
-        if before != 0 {
-            self.tell(made, of, each_second);
+        if before == 0 { None } else { Some(each_second) }
+    }
+}
+
+impl Watch for Teller<'_> {
+    fn saw(&self, made: u64, of: u64) {
+        if let Some(each_second) = self.due(made) {
+            self.tell(progress_line(self.rt.alloc(), made, of, each_second));
+        }
+    }
+
+    fn made(&self, commands: u64) {
+        if let Some(each_second) = self.due(commands) {
+            self.tell(replay_line(self.rt.alloc(), commands, each_second));
         }
     }
 
     fn ended(&self, totals: &Totals) {
-        if let Ok(text) = stats_text(self.rt.alloc(), totals, self.pace(totals.commands())) {
-            let _ = self.rt.stderr().write_all(text.as_slice());
-        }
+        self.tell(stats_text(self.rt.alloc(), totals, self.pace(totals.commands())));
     }
 }

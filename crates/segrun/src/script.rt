@@ -1,4 +1,4 @@
-//! Where the program reads its script from, and what it prints of it on standard error.
+//! Where the program reads its script or its trace from, and what it prints of them on standard error.
 ghost use Rattle.std.specs.Prelude.{◌≡◌, false};
 
 use crate::progress::Teller;
@@ -16,8 +16,11 @@ const BAD_LINE: u8 = 2;
 
 const READ_FAILED: u8 = 3;
 
-const HINT: &[u8] =
+const SCRIPT_HINT: &[u8] =
     b"segrun: reads a script from the terminal (segrun script --help has its lines, Ctrl-D ends it)\n";
+
+const TRACE_HINT: &[u8] =
+    b"segrun: reads a trace from the terminal (segrun replay --help has its lines, Ctrl-D ends it)\n";
 
 /// Does what the words of the program ask for, and returns the exit status.
 pub fn run<T: Threads + Wait + AllocGlobal + Sync>(threads: &T, rt: &HostRuntime) -> u8 {
@@ -37,18 +40,21 @@ pub fn run<T: Threads + Wait + AllocGlobal + Sync>(threads: &T, rt: &HostRuntime
             },
         ) => {
             let passes = explain.then_some(shape.passes);
-            run_script(threads, rt, passes, file)
+            run_file(threads, rt, passes, file, SCRIPT_HINT)
         }
+        Ok(Command::Replay(replay)) => run_file(threads, rt, None, replay.file, TRACE_HINT),
         _ => run_over(threads, rt, &mut ReadSource::new(rt.reader())),
     }
 }
 
-// Runs a script of a file or of standard input. With passes it explains a bad line.
-fn run_script<T: Threads + Wait + AllocGlobal + Sync>(
+// Runs over a file or standard input. With passes it explains a bad line of a script.
+// The hint is for who has to type the lines.
+fn run_file<T: Threads + Wait + AllocGlobal + Sync>(
     threads: &T,
     rt: &HostRuntime,
     passes: Option<u32>,
     file: Option<&str>,
+    hint: &[u8],
 ) -> u8 {
     match file {
         Some(path) if path != "-" => match File::open(rt, path) {
@@ -60,7 +66,7 @@ fn run_script<T: Threads + Wait + AllocGlobal + Sync>(
         },
         _ => {
             if rt.stdin().is_terminal() {
-                let _ = rt.stderr().write_all(HINT);
+                let _ = rt.stderr().write_all(hint);
             }
             run_from(threads, rt, passes, rt.reader())
         }
@@ -100,7 +106,7 @@ fn explain<S: Source>(rt: &HostRuntime, source: &Explaining<S>) {
     }
 }
 
-// Runs the program with a script of this source.
+// Runs the program with a script or a trace of this source.
 fn run_over<T: Threads + Wait + AllocGlobal + Sync, S: Source>(
     threads: &T,
     rt: &HostRuntime,

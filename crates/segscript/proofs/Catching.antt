@@ -3,7 +3,7 @@ use Rattle.std.proofs.Common.{◌≡◌, ◌<◌, ℕ, All, List, get_or, length
 use Rattle.std.proofs.lemmas.Option.{slice_get-get_or, slice_get_read}
 use Rattle.segbase.specs.Words.{Pass}
 use Rattle.segread.specs.Words.{Hold}
-use Rattle.segpass.specs.Words.{IsQuiet}
+use Rattle.segstore.specs.Words.{IsQuiet}
 use Rattle.segindex.specs.Words.{board_of, shape_of}
 use Rattle.segscript.specs.Passes.{AreInOrder, CatchesUp, SeesAllOf}
 use Rattle.segscript.specs.Server.{IsReady}

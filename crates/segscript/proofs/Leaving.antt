@@ -3,7 +3,7 @@ use Rattle.std.proofs.Common.{◌≡◌, ℕ, ◌+◌, ◌<◌, ◌≤◌, List,
 use Rattle.std.proofs.lemmas.Option.{same_Some, slice_get-get_or, slice_get_within}
 use Rattle.segmodel.proofs.ListPlaces.{elsewhere}
 use Rattle.segbase.specs.Words.{Board, Pass}
-use Rattle.segpass.specs.Words.{IsQuiet}
+use Rattle.segstore.specs.Words.{IsQuiet}
 use Rattle.segindex.specs.Words.{AreAllQuiet, board_of}
 use Rattle.segscript.specs.Passes.{AllLeave, Leaves}
 use Rattle.segscript.specs.Server.{IsReady}

@@ -8,7 +8,7 @@ use Rattle.segcore.specs.Event as event
 use Rattle.segcore.specs.Mark as mark
 use Rattle.segcore.proofs.Moments.{begins_on}
 use Rattle.segbase.specs.Words.{Board, marked, Memo, Pass, seen, trace}
-use Rattle.segpass.specs.Words.{GoesOn, IsQuiet}
+use Rattle.segstore.specs.Words.{GoesOn, IsQuiet}
 use Rattle.segread.specs.Words.{Hold}
 use Rattle.segindex.specs.Meeting.{MeetsPass, OnlyLearns}
 use Rattle.segsolo.specs.Words.{IsAlone}

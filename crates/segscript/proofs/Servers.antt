@@ -6,7 +6,7 @@ use Rattle.segword.specs.Words.{Shape}
 use Rattle.segmodel.specs.Words.{fresh}
 use Rattle.segbase.specs.Words.{Board, holding, IsNewPass, locked_of, number, Pass}
 use Rattle.segread.specs.Words.{Hold}
-use Rattle.segpass.specs.Words.{IsQuiet}
+use Rattle.segstore.specs.Words.{IsQuiet}
 use Rattle.segsolo.specs.Words.{state_at}
 use Rattle.segsolo.proofs.AloneStarts.{starts_alone, starts_fresh}
 use Rattle.segscript.specs.Passes.{IsHoldKept, IsIdle, AreInOrder, first_state}

@@ -6,7 +6,7 @@ use Rattle.segmodel.specs.declared.answer.Command.{Command}
 use Rattle.segmodel.specs.declared.answer.Turn.TheVariants as turn
 use Rattle.segmodel.specs.declared.answer.Outcome.TheVariants as outcome
 use Rattle.segbase.specs.Words.{Board, holding, Pass}
-use Rattle.segpass.specs.Words.{GoesOn, LockAnswer, LocksBucket, UnlocksBucket}
+use Rattle.segstore.specs.Words.{GoesOn, LockAnswer, LocksBucket, UnlocksBucket}
 use Rattle.segread.specs.Words.{Hold, HoldAnswer, HoldsItem, IsHoldOf, ReadsHeld, ReleasesHold}
 use Rattle.segread.proofs.HoldCalls.{stays}
 use Rattle.segindex.specs.Words.{AnswersCommand}

@@ -5,7 +5,7 @@ use Rattle.segword.specs.Words.{Shape}
 use Rattle.segmodel.specs.Words.{Begins, fresh, Outcome, State, Turn}
 use Rattle.segmodel.specs.declared.answer.Turn.TheVariants as turn
 use Rattle.segbase.specs.Words.{Board, holding, marked, number, Pass, seen}
-use Rattle.segpass.specs.Words.{GoesOn, IsQuiet}
+use Rattle.segstore.specs.Words.{GoesOn, IsQuiet}
 use Rattle.segread.specs.Words.{Hold, IsHoldOf}
 use Rattle.segindex.specs.Meeting.{MeetsPass, OnlyLearns}
 use Rattle.segsolo.specs.Words.{IsAlone, state_at, TurnsAlone}

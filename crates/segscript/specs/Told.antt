@@ -5,7 +5,7 @@ use Rattle.segmodel.specs.Words.{Outcome, Turn}
 use Rattle.segmodel.specs.declared.answer.Turn.TheVariants as turn
 use Rattle.segmodel.specs.declared.answer.Outcome.TheVariants as outcome
 use Rattle.segbase.specs.Words.{Board, holding, Pass}
-use Rattle.segpass.specs.Words.{LockAnswer, LocksBucket, UnlocksBucket}
+use Rattle.segstore.specs.Words.{LockAnswer, LocksBucket, UnlocksBucket}
 use Rattle.segread.specs.Words.{Hold, HoldAnswer, HoldsItem, IsHoldOf, ReadsHeld, ReleasesHold}
 use Rattle.segindex.specs.Words.{AnswersCommand}
 use Rattle.segsolo.specs.Words.{outcome_of_hold, outcome_of_lock, outcome_of_unlock}

@@ -1,7 +1,7 @@
 //! An index and its passes, which take turns on one thread.
 ghost use Rattle.std.specs.Prelude.{◌≡◌, ◌≢◌, ◌<◌, All, length, vec_len, IfOk};
 ghost use Rattle.segmodel.specs.Words.{fresh};
-ghost use Rattle.segpass.specs.Words.{IsQuiet};
+ghost use Rattle.segstore.specs.Words.{IsQuiet};
 ghost use Rattle.segindex.specs.Words.{board_of, IsNew, shape_of};
 ghost use Rattle.segscript.specs.Passes.{CatchesUp, HaveMet};
 

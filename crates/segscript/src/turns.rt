@@ -3,7 +3,7 @@ ghost use Rattle.std.specs.Prelude.{◌≡◌, None};
 ghost use Rattle.segmodel.specs.declared.answer.Turn.TheVariants as turn;
 ghost use Rattle.segbase.specs.Words.{holding, locked_of};
 ghost use Rattle.segindex.specs.Words.{board_of, shape_of};
-ghost use Rattle.segpass.specs.Words.{IsQuiet};
+ghost use Rattle.segstore.specs.Words.{IsQuiet};
 ghost use Rattle.segscript.specs.Passes.{IsHoldKept, Leaves, TakesTurn};
 
 use segindex::{Hold, HoldAnswer, Index, LockAnswer, Pass};

@@ -1,27 +1,12 @@
-use Rattle.segword.specs.Words.{Shape}
-use Rattle.clap.specs.Words.{found_of}
-use Rattle.segcli.specs.CommandLine.{buckets_option, overflow_option, passes_option, segments_option, rows_option, first_version_option}
-use Rattle.segcli.proofs.Options.{option_over}
+use Rattle.std.proofs.Common.{subst}
+use Rattle.clap.specs.Words.{found_of, rows_of}
+use Rattle.segcli.specs.CommandLine.{passes_option}
+use Rattle.segcli.specs.Asked.{IsShapeFor}
+use Rattle.segcli.proofs.Options.{option_found}
 use Rattle.segcli.proofs.arguments.shape_of.Goals as goal
 
 pub returns : goal.returns
 returns c =
     let found = found_of c.args.matches.now in
-    let base : Shape = c.base_of-base.result in
-    let buckets = option_over base.buckets buckets_option found c.get_one.ensures.none c.get_one.ensures.value c.unwrap_or.ensures in
-    let overflow = option_over base.overflow overflow_option found c.get_one-2.ensures.none c.get_one-2.ensures.value c.unwrap_or-2.ensures in
-    let passes = option_over base.passes passes_option found c.get_one-3.ensures.none c.get_one-3.ensures.value c.unwrap_or-3.ensures in
-    let segments = option_over base.segments_each segments_option found c.get_one-4.ensures.none c.get_one-4.ensures.value c.unwrap_or-4.ensures in
-    let rows = option_over base.rows rows_option found c.get_one-5.ensures.none c.get_one-5.ensures.value c.unwrap_or-5.ensures in
-    let version = option_over base.first_version first_version_option found c.get_one-6.ensures.none c.get_one-6.ensures.value c.unwrap_or-6.ensures in (
-      base,
-      c.base_of-base.ensures,
-      λ i. record {
-        buckets = buckets i;
-        overflow = overflow i;
-        passes = passes i;
-        segments_each = segments i;
-        rows = rows i;
-        first_version = version i;
-      },
-    )
+    subst (λ passes. IsShapeFor passes (rows_of found) c.shape_for.result)
+    (option_found passes_option found c.get_one.ensures.none c.get_one.ensures.value) c.shape_for.ensures

@@ -3,7 +3,7 @@ use Rattle.std.specs.Vec.{vec_capacity, vec_len}
 use Rattle.std.specs.Vec.Iter.{into_iter_items, into_iter_len}
 use Rattle.segbase.specs.Words.{IsNewPass}
 use Rattle.segindex.specs.Words.{board_of}
-use Rattle.segpass.specs.Words.{IsQuiet}
+use Rattle.segstore.specs.Words.{IsQuiet}
 use Rattle.segload.specs.Working.{BeginsPlan}
 use Rattle.segload.specs.Lists.{AllAt}
 use Rattle.segload.proofs.load.begin_all.Given as goal

@@ -1,4 +1,4 @@
-use Rattle.segpass.specs.declared.bucket.LockAnswer.TheVariants as answer
+use Rattle.segstore.specs.declared.bucket.LockAnswer.TheVariants as answer
 use Rattle.segscript.proofs.Turning.{lock_turn}
 use Rattle.segscript.proofs.turns.lock.Goals as goal
 
