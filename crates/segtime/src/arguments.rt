@@ -1,5 +1,5 @@
 //! The command line.
-use crate::mix::{MIXES, Mix, mix_named};
+use crate::mix::{MIXES, Mix, Way, mix_named, way_named};
 use clap::error::Error;
 use clap::{Arg, ArgAction, ArgMatches, Command, value_parser};
 use std::alloc::{AllocError, Global};
@@ -15,6 +15,9 @@ const AFTER: &str = "Mixes:
                         and an add, a replace or a cas
   a, b, c               as in YCSB: 50, 95 and 100 of a hundred are gets, and the others sets
   f                     as in YCSB: half are gets, and half a gets and a cas of what it read
+  gets16, mixed16       gets and mixed, sixteen keys at hand at a time: by get_many, and after a
+                        look ahead
+  gets16apart, mixed16apart  the same keys at hand, one command after another
 
 A line has:
   hits    the share of commands that found their key or were done
@@ -25,7 +28,7 @@ A line has:
   thread  nanoseconds of processor time for each command, of the loops of the threads alone
   p50     nanoseconds within which that many percent of the sampled commands were answered;
           reading the clock is in it
-In JSON the first four are counts.
+In JSON the first four are counts, and read adds up the lengths and first bytes of all values read.
 
 Example:
   segtime --mix b --draws zipf --keys 100000 --threads 4 --sample 64
@@ -34,9 +37,10 @@ times four threads that mostly get, and tells how long each 64th command took.";
 const RETENTION: &str = "Times nothing, and tells for ways of giving up segments how many gets hit";
 
 // Options with a word: which words, the default, and the help.
-const WORDS: [(&str, &[&str], &str, &str); 3] = [
+const WORDS: [(&str, &[&str], &str, &str); 4] = [
     ("mix", MIXES, "mixed", "What the commands are"),
     ("draws", &["uniform", "zipf"], "uniform", "Of the keys"),
+    ("shape", &["large", "planned"], "large", SHAPE),
     ("format", &["text", "json"], "text", "How rounds are told"),
 ];
 
@@ -51,6 +55,8 @@ const NUMBERS: [(&str, i64, i64, &str, &str); 7] = [
     ("sample", 0, MOST, "0", SAMPLE),
 ];
 
+const SHAPE: &str = "Large: no write needs room for long; planned: as Shape::for_keys plans it";
+
 const SEGMENTS: &str = "Segments of each thread; 0 for 1024 of all, at most 256 of one";
 
 const COMMANDS: &str = "Commands of each thread in a round: 1 to 100000000";
@@ -60,28 +66,42 @@ const SAMPLE: &str = "Times one of so many commands; 0 for none";
 const MOST: i64 = 4_294_967_295;
 
 // Options without a value.
-const FLAGS: [(&str, &str); 2] = [
+const FLAGS: [(&str, &str); 4] = [
+    (
+        "refills",
+        "Of the sampled commands only those count that refilled a segment",
+    ),
     ("no-times", "Leaves the times out"),
     ("wait", "Waits for input before a round, and in it"),
+    (
+        "print-shape",
+        "Only prints buckets, overflow buckets, segments of a thread and rows",
+    ),
 ];
 
 /// What the program is to do: what is measured, and how it is printed.
 #[derive(Clone, Copy)]
 pub struct Options {
     pub mix: Mix,
+    pub way: Way,
     pub is_zipf: bool,
     pub keys: u32,
     pub threads: u32,
+    /// Whether the index has the shape that is planned for so many keys and threads.
+    pub is_planned: bool,
     pub segments: u32,
     /// How many commands each thread makes in a round.
     pub commands: u32,
     pub rounds: u32,
     pub seed: u32,
     pub sample: u32,
+    pub only_refills: bool,
     pub is_json: bool,
     pub has_times: bool,
     /// Whether each round is asked for by lines of input.
     pub waits: bool,
+    /// Whether only the shape of the index is printed.
+    pub prints_shape: bool,
     /// Where nothing is timed: by how many gets ways of recycling segments are compared.
     pub gets: Option<u32>,
 }
@@ -93,19 +113,24 @@ pub fn read_options(alloc: Global, words: &[String]) -> Result<Options, Error> {
 }
 
 fn options_of(matches: &ArgMatches<'_>) -> Options {
+    let mix = matches.get_str("mix").unwrap_or("mixed");
     Options {
-        mix: mix_named(matches.get_str("mix").unwrap_or("mixed")),
+        mix: mix_named(mix),
+        way: way_named(mix),
         is_zipf: matches.get_str("draws") == Some("zipf"),
         keys: number_of(matches, "keys"),
         threads: number_of(matches, "threads"),
+        is_planned: matches.get_str("shape") == Some("planned"),
         segments: number_of(matches, "segments"),
         commands: number_of(matches, "commands"),
         rounds: number_of(matches, "rounds"),
         seed: number_of(matches, "seed"),
         sample: number_of(matches, "sample"),
+        only_refills: matches.get_flag("refills"),
         is_json: matches.get_str("format") == Some("json"),
         has_times: !matches.get_flag("no-times"),
         waits: matches.get_flag("wait"),
+        prints_shape: matches.get_flag("print-shape"),
         gets: gets_of(matches),
     }
 }

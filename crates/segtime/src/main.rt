@@ -13,7 +13,7 @@ mod worker;
 
 use arguments::read_options;
 use retention::tell_retention;
-use round::measure;
+use round::{measure, tell_shape};
 use std::process::ExitCode;
 use std::{env, io};
 
@@ -31,6 +31,7 @@ fn main(rt: HostRuntime) -> io::Result<ExitCode> {
     };
     match options.gets {
         Some(gets) => tell_retention(&rt, gets)?,
+        None if options.prints_shape => tell_shape(&rt, &options)?,
         None => measure(&rt, &options)?,
     }
     Ok(ExitCode::SUCCESS)

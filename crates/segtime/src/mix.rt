@@ -1,7 +1,46 @@
 //! What the commands of a mix are.
 
 /// The names of the mixes. Those of one letter are YCSB's.
-pub const MIXES: &[&str] = &["sets", "replaces", "gets", "mixed", "a", "b", "c", "f"];
+pub const MIXES: &[&str] = &[
+    "sets",
+    "replaces",
+    "gets",
+    "mixed",
+    "a",
+    "b",
+    "c",
+    "f",
+    "gets16",
+    "mixed16",
+    "gets16apart",
+    "mixed16apart",
+];
+
+/// How many commands are at hand at a time, in the mixes of sixteen.
+pub const PIECE: usize = 16;
+
+/// How the commands of a mix are made.
+#[derive(Clone, Copy, PartialEq, Eq)]
+pub enum Way {
+    /// One is at hand at a time.
+    Alone,
+    /// Several are at hand: gets, made by one call.
+    Together,
+    /// Several are at hand: one after another, after a look ahead at the keys of all.
+    Ahead,
+    /// Several are at hand: one after another.
+    Apart,
+}
+
+/// The way of the mix of one of the names.
+pub fn way_named(name: &str) -> Way {
+    match name {
+        "gets16" => Way::Together,
+        "mixed16" => Way::Ahead,
+        "gets16apart" | "mixed16apart" => Way::Apart,
+        _ => Way::Alone,
+    }
+}
 
 /// A mix. The help of the program explains each.
 #[derive(Clone, Copy)]
@@ -36,7 +75,7 @@ pub fn mix_named(name: &str) -> Mix {
         "replaces" => Mix::Replaces,
         "a" => Mix::Shared(50),
         "b" => Mix::Shared(95),
-        "gets" | "c" => Mix::Shared(100),
+        "gets" | "c" | "gets16" | "gets16apart" => Mix::Shared(100),
         "f" => Mix::Modifying(50),
         _ => Mix::Mixed,
     }

@@ -53,6 +53,7 @@ impl Round {
             for (name, count) in self.tally.parts() {
                 print!(rt; ", \"{name}\": {count}")?;
             }
+            print!(rt; ", \"read\": {}", self.tally.read)?;
             for (name, time) in times {
                 if let (Some(time), true) = (time, options.has_times) {
                     print!(rt; ", \"{name}_ns\": {time}")?;

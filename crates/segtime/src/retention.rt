@@ -2,7 +2,7 @@
 //! and moving what was read often into a new one before.
 //! The gets are of more keys than the index has rows, and a key that is missed is set.
 ghost use Rattle.segindex.specs.Words.{board_of};
-ghost use Rattle.segpass.specs.Words.{IsQuiet, IsQuiet-prop};
+ghost use Rattle.segstore.specs.Words.{IsQuiet, IsQuiet-prop};
 
 use crate::draws::{Draws, Generator};
 use segindex::{Index, Pass};

@@ -1,7 +1,7 @@
 //! Rounds: all threads make commands at once, and a line prints what they came to.
 ghost use Rattle.std.specs.Prelude.{All};
 ghost use Rattle.segindex.specs.Words.{board_of};
-ghost use Rattle.segpass.specs.Words.{IsQuiet};
+ghost use Rattle.segstore.specs.Words.{IsQuiet};
 
 use crate::arguments::Options;
 use crate::draws::Draws;
@@ -10,7 +10,7 @@ use crate::tally::Tally;
 use crate::worker::{Task, Worker};
 use segclient::clients;
 use segindex::{Index, Pass};
-use segword::{Key, Shape, Value};
+use segword::{Key, Shape, ShapeFault, Value};
 use std::alloc::{AllocError, AllocGlobal, Global};
 use std::io::{Input, Print};
 use std::sync::atomic::{AtomicU64, Ordering};
@@ -19,8 +19,11 @@ use std::thread::{Threads, sleep};
 use std::time::{Clock, CpuClock, Duration, Instant};
 use std::{io, thread};
 
-/// The value that is stored under each key.
-const VALUE: &[u8] = b"0123456789abcdef";
+/// An odd number, whose multiples differ in all their bytes.
+const SPREAD: u128 = 0x9e37_79b9_7f4a_7c15_f39c_c060_5ced_c835;
+
+/// How many values there are to draw from, of sixteen bytes each.
+const VALUES: u32 = 64;
 
 /// How many segments all threads have together, where no option sets it.
 const SEGMENTS: u32 = 1024;
@@ -31,10 +34,13 @@ const LOOKS: u32 = 1 << 16;
 /// So long it sleeps between two looks. Without sleep the looks would count as processor time.
 const MICROSECONDS: u64 = 50;
 
-// Up to 65,536 buckets, with two keys for each where there are fewer, and as many overflow buckets.
-fn shape_of(options: &Options) -> Shape {
+// A large shape has up to 65,536 buckets, with two keys for each where there are fewer, and as many overflow buckets.
+fn shape_of(options: &Options) -> Result<Shape, ShapeFault> {
+    if options.is_planned {
+        return Shape::for_keys(options.keys, options.threads);
+    }
     let buckets = (options.keys / 2).min(65_536).next_power_of_two();
-    Shape {
+    Ok(Shape {
         buckets,
         overflow: buckets,
         passes: options.threads,
@@ -44,7 +50,22 @@ fn shape_of(options: &Options) -> Shape {
         },
         rows: 4096,
         first_version: 0,
-    }
+    })
+}
+
+fn too_large() -> io::Error {
+    io::Error::other("the table is too large, or out of memory")
+}
+
+/// Prints the shape's numbers.
+pub fn tell_shape<R: AllocGlobal + Print>(rt: &R, options: &Options) -> io::Result<()> {
+    let Ok(shape) = shape_of(options) else {
+        return Err(too_large());
+    };
+    println!(rt;
+        "{} {} {} {}",
+        shape.buckets, shape.overflow, shape.segments_each, shape.rows
+    )
 }
 
 fn keys_below(alloc: Global, count: u32) -> Result<Vec<Key>, AllocError> {
@@ -55,6 +76,18 @@ fn keys_below(alloc: Global, count: u32) -> Result<Vec<Key>, AllocError> {
         }
     }
     Ok(keys)
+}
+
+// The values from which each write draws one.
+fn values_to_draw(alloc: Global) -> Result<Vec<Value>, AllocError> {
+    let mut values = Vec::new(alloc);
+    for number in 1..=VALUES {
+        let bytes = u128::from(number).wrapping_mul(SPREAD).to_le_bytes();
+        if let Some(value) = Value::new(&bytes) {
+            values.push(value)?;
+        }
+    }
+    Ok(values)
 }
 
 // A worker for each of the passes.
@@ -75,11 +108,12 @@ fn workers_of<'i>(
     Ok(workers)
 }
 
-// Stores each key once, by the workers in turn.
-fn fill(workers: &mut Vec<Worker<'_>>, keys: &Vec<Key>, value: &Value) {
+// Stores each key once, by the workers in turn, and with the values in turn.
+fn fill(workers: &mut Vec<Worker<'_>>, keys: &Vec<Key>, values: &Vec<Value>) {
     let count = workers.len().max(1);
     for (place, key) in keys.iter().enumerate() {
-        if let Some(worker) = workers.get_mut(place % count) {
+        let value = values.get(place % VALUES as usize);
+        if let (Some(worker), Some(value)) = (workers.get_mut(place % count), value) {
             worker.client.put(key, value);
         }
     }
@@ -91,21 +125,24 @@ pub fn measure<R: Threads + Wait + Sync + AllocGlobal + Input + Print + Clock + 
     options: &Options,
 ) -> io::Result<()> {
     let alloc = rt.alloc();
-    let Ok((index, passes)) = Index::new(alloc, shape_of(options)) else {
-        return Err(io::Error::other("the table is too large, or out of memory"));
+    let Ok(shape) = shape_of(options) else {
+        return Err(too_large());
     };
-    let Some(value) = Value::new(VALUE) else {
-        return Ok(());
+    let Ok((index, passes)) = Index::new(alloc, shape) else {
+        return Err(too_large());
     };
+    let values = values_to_draw(alloc)?;
     let draws = Draws::new(alloc, options.keys, options.is_zipf)?;
     let keys = keys_below(alloc, options.keys)?;
     let mut workers = workers_of(alloc, &index, passes, options.seed)?;
-    fill(&mut workers, &keys, &value);
+    fill(&mut workers, &keys, &values);
     let task = Task {
         mix: options.mix,
+        way: options.way,
         sample: options.sample,
+        only_refills: options.only_refills,
         keys: &keys,
-        value: &value,
+        values: &values,
     };
     for _ in 0..options.rounds {
         if options.waits && !wait_for_line(rt)? {

@@ -12,6 +12,19 @@ pub struct Tally {
     busy: u64,
     /// Those that found no room, or no word for a new key.
     full: u64,
+    /// What was read of the values that were found, added up.
+    pub read: u64,
+}
+
+// What is read of the value that an answer found: its length and its first byte.
+fn reading(answer: &Answer) -> u64 {
+    let bytes = match answer {
+        Answer::Get(GetAnswer::Found(value)) => value.as_bytes(),
+        Answer::Gets(GetsAnswer::Found(value, _)) => value.as_bytes(),
+        _ => return 0,
+    };
+    let first = bytes.first().copied().unwrap_or(0);
+    (bytes.len() as u64).wrapping_add(u64::from(first))
 }
 
 impl Tally {
@@ -32,11 +45,13 @@ impl Tally {
             misses: self.misses.saturating_add(other.misses),
             busy: self.busy.saturating_add(other.busy),
             full: self.full.saturating_add(other.full),
+            read: self.read.wrapping_add(other.read),
         }
     }
 
-    /// Counts the answer to a command.
+    /// Counts the answer to a command, and reads the value that it found.
     pub fn count(&mut self, answer: &Answer) {
+        self.read = self.read.wrapping_add(reading(answer));
         let number = match answer {
             Answer::Get(GetAnswer::Found(_))
             | Answer::Gets(GetsAnswer::Found(_, _))

@@ -1,22 +1,30 @@
 //! What a thread does: commands of a mix on keys at random, by a client of its own.
 use crate::draws::{Draws, Generator};
-use crate::mix::{Kind, Mix};
+use crate::mix::{Kind, Mix, PIECE, Way};
 use crate::tally::{Tally, set_answer};
 use segclient::Client;
-use segmodel::{Answer, GetsAnswer, WriteAnswer};
+use segmodel::{Answer, GetAnswer, GetsAnswer, WriteAnswer};
 use segword::{Key, Value};
 use std::alloc::{AllocError, Global};
-use std::io;
 use std::time::{Clock, CpuClock, Duration, Instant};
+use std::{io, mem};
 
 /// What each thread is to do in a round.
 #[derive(Clone, Copy)]
 pub struct Task<'a> {
     pub mix: Mix,
+    pub way: Way,
     /// Each command is timed whose number is a multiple of this. None is where this is 0.
     pub sample: u32,
+    /// Whether of these only those count that refilled a segment.
+    pub only_refills: bool,
     pub keys: &'a Vec<Key>,
-    pub value: &'a Value,
+    pub values: &'a Vec<Value>,
+}
+
+// The value that a number at random, of 24 bits, chooses out of 64.
+fn drawn(values: &Vec<Value>, draw: u32) -> Option<&Value> {
+    values.get((draw >> 18) as usize)
 }
 
 /// A client at work, and what it goes by.
@@ -28,6 +36,9 @@ pub struct Worker<'i> {
     version: u32,
     /// The numbers of the keys of its next round.
     numbers: Vec<u32>,
+    // The keys that are at hand together, and their answers.
+    at_hand: Vec<Key>,
+    answers: Vec<GetAnswer>,
     /// The outcome of its last round.
     pub tally: Tally,
     /// The processor time of its last round.
@@ -43,6 +54,8 @@ impl<'i> Worker<'i> {
             generator: Generator { state: seed },
             version: 0,
             numbers: Vec::new(alloc),
+            at_hand: Vec::new(alloc),
+            answers: Vec::new(alloc),
             tally: Tally::default(),
             spent: Duration::ZERO,
             samples: Vec::new(alloc),
@@ -62,31 +75,92 @@ impl<'i> Worker<'i> {
     pub fn work<R: Clock + CpuClock>(mut self, rt: &R, task: Task<'_>) -> io::Result<Worker<'i>> {
         self.tally = Tally::default();
         self.samples.clear();
-        let mut next = if task.sample == 0 { usize::MAX } else { 0 };
+        for _ in self.answers.len()..PIECE {
+            self.answers.push(GetAnswer::Miss)?;
+        }
+        self.at_hand.reserve(PIECE)?;
         let before = rt.thread_cpu_time()?;
-        for place in 0..self.numbers.len() {
-            let number = self.numbers.get(place).copied().unwrap_or(0);
-            let Some(key) = task.keys.get(number as usize) else {
-                break;
-            };
-            let kind = task.mix.kind(self.generator.next());
-            if place != next {
-                self.serve(kind, key, task.value);
-                continue;
-            }
-            let start = Instant::now(rt)?;
-            self.serve(kind, key, task.value);
-            let nanoseconds = start.elapsed(rt)?.as_nanos();
-            self.samples
-                .push(u32::try_from(nanoseconds).unwrap_or(u32::MAX))?;
-            next = next.saturating_add(task.sample as usize);
+        match task.way {
+            Way::Alone => self.work_one_by_one(rt, task)?,
+            _ => self.work_in_pieces(task)?,
         }
         self.spent = rt.thread_cpu_time()?.saturating_sub(before);
         Ok(self)
     }
 
-    // Makes a command, and counts its answer.
-    fn serve(&mut self, kind: Kind, key: &Key, value: &Value) {
+    fn work_one_by_one<R: Clock>(&mut self, rt: &R, task: Task<'_>) -> io::Result<()> {
+        let mut next = if task.sample == 0 { usize::MAX } else { 0 };
+        for place in 0..self.numbers.len() {
+            let number = self.numbers.get(place).copied().unwrap_or(0);
+            let Some(key) = task.keys.get(number as usize) else {
+                break;
+            };
+            if place != next {
+                self.serve(key, task);
+                continue;
+            }
+            let refilled = self.client.stats().segments_refilled;
+            let start = Instant::now(rt)?;
+            self.serve(key, task);
+            let nanoseconds = start.elapsed(rt)?.as_nanos();
+            if !task.only_refills || self.client.stats().segments_refilled != refilled {
+                self.samples
+                    .push(u32::try_from(nanoseconds).unwrap_or(u32::MAX))?;
+            }
+            next = next.saturating_add(task.sample as usize);
+        }
+        Ok(())
+    }
+
+    // Makes the commands of a round, so many at a time.
+    fn work_in_pieces(&mut self, task: Task<'_>) -> Result<(), AllocError> {
+        for piece in 0..self.numbers.len() / PIECE {
+            self.at_hand.clear();
+            for place in piece * PIECE..(piece + 1) * PIECE {
+                let number = self.numbers.get(place).copied().unwrap_or(0);
+                if let Some(key) = task.keys.get(number as usize) {
+                    self.at_hand.push(key.copy())?;
+                }
+            }
+            match task.way {
+                Way::Together => self.get_together(),
+                Way::Ahead => {
+                    self.client.look_ahead(&self.at_hand);
+                    self.serve_at_hand(task);
+                }
+                Way::Apart | Way::Alone => self.serve_at_hand(task),
+            }
+        }
+        Ok(())
+    }
+
+    fn get_together(&mut self) {
+        if self.at_hand.len() == self.answers.len() {
+            self.client.get_many(&self.at_hand, &mut self.answers);
+        }
+        for answer in self.answers.iter_mut() {
+            self.generator.next();
+            let answer = mem::replace(answer, GetAnswer::Miss);
+            self.tally.count(&Answer::Get(answer));
+        }
+    }
+
+    fn serve_at_hand(&mut self, task: Task<'_>) {
+        for place in 0..self.at_hand.len() {
+            let Some(key) = self.at_hand.get(place).map(|key| key.copy()) else {
+                break;
+            };
+            self.serve(&key, task);
+        }
+    }
+
+    // Makes a drawn command, and counts its answer.
+    fn serve(&mut self, key: &Key, task: Task<'_>) {
+        let draw = self.generator.next();
+        let Some(value) = drawn(task.values, draw) else {
+            return;
+        };
+        let kind = task.mix.kind(draw);
         let answer = match kind {
             Kind::Get => Answer::Get(self.client.get(key)),
             Kind::Gets => Answer::Gets(self.gets(key)),

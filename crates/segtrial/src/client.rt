@@ -2,7 +2,7 @@
 ghost use Rattle.std.specs.Prelude.{◌≡◌};
 ghost use Rattle.segbase.specs.Words.{holding};
 ghost use Rattle.segindex.specs.Words.{board_of, shape_of};
-ghost use Rattle.segpass.specs.Words.{IsQuiet, IsQuiet-prop};
+ghost use Rattle.segstore.specs.Words.{IsQuiet, IsQuiet-prop};
 ghost use Rattle.segread.specs.Words.{IsHoldOf};
 
 use crate::answers::{Said, said_by, said_by_evict, said_by_keep, said_by_refill};

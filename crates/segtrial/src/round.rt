@@ -1,7 +1,7 @@
 //! Rounds: each has a new index, passes that make calls on threads or in turn, and a check of the answers.
 ghost use Rattle.std.specs.Prelude.{All};
 ghost use Rattle.segindex.specs.Words.{board_of};
-ghost use Rattle.segpass.specs.Words.{IsQuiet};
+ghost use Rattle.segstore.specs.Words.{IsQuiet};
 
 use crate::arguments::Options;
 use crate::call::Operation;
