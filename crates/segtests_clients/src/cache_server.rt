@@ -106,13 +106,13 @@ fn four_connections(rt: HostRuntime) -> Result<(), Fail> {
     assert_eq!(rt; right.load(Ordering::SeqCst), 4);
     for client in connections.iter() {
         let stats = client.stats();
-        // 200 keys take 13 segments of 16 rows.
-        let counts = (stats.stored, stats.deleted, stats.segments_refilled);
-        assert_eq!(rt; counts, (200, 100, 13));
+        assert_eq!(rt; (stats.stored, stats.deleted), (200, 100));
+        // 200 keys take 13 segments of 16 rows. Others are refilled for what was read there.
+        assert!(rt; stats.segments_refilled >= 13);
     }
     drop(connections);
     let content = index.close(alloc, closer)?;
-    // Of each connection 28 keys stand at most, and key 198 does.
-    assert!(rt; (4..=112).contains(&content.len()));
+    // Of each connection 64 keys stand at most, and key 198 does.
+    assert!(rt; (4..=256).contains(&content.len()));
     Ok(())
 }

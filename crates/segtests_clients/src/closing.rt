@@ -6,11 +6,12 @@ use segclient::{Client, Index, Key, PutAnswer, Shape, Value, clients, into_passe
 use std::test::Fail;
 use std::thread::{Threads, for_each_mut};
 
+// A gate fills two of its segments. The other two stay free, so that no ticket is evicted.
 const SHAPE: Shape = Shape {
     buckets: 64,
     overflow: 8,
     passes: 8,
-    segments_each: 2,
+    segments_each: 4,
     rows: 4,
     first_version: 0,
 };

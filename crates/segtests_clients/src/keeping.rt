@@ -1,5 +1,7 @@
 //! Puts of a client that keeps what was read often, and of one that doesn't.
-use segclient::{Client, GetAnswer, Index, Key, PutAnswer, Shape, Stats, Value, keep_back};
+use segclient::{
+    Client, GetAnswer, Index, Key, PutAnswer, Shape, Stats, Value, clients, keep_back,
+};
 use std::alloc::Global;
 use std::test::Fail;
 
@@ -56,7 +58,7 @@ fn what_was_read_often_is_kept(rt: HostRuntime) -> Result<(), Fail> {
 }
 
 #[test]
-fn nothing_is_kept_unasked(rt: HostRuntime) -> Result<(), Fail> {
+fn nothing_is_kept_by_turns_unasked(rt: HostRuntime) -> Result<(), Fail> {
     let (told, stats) = read_after_puts(rt.alloc(), None)?;
     assert!(rt; matches!(told, GetAnswer::Miss));
     assert_eq!(rt; stats.items_kept, 0);
@@ -84,5 +86,58 @@ fn a_put_that_keeps_a_whole_segment_is_stored(rt: HostRuntime) -> Result<(), Fai
     let stats = stats_after_puts(rt.alloc())?;
     assert_eq!(rt; stats.segments_refilled, 5);
     assert_eq!(rt; (stats.items_kept, stats.keys_evicted), (4, 2));
+    Ok(())
+}
+
+// One pass with sixteen segments of four rows.
+const SIXTEEN_SEGMENTS: Shape = Shape {
+    buckets: 64,
+    segments_each: 16,
+    ..THREE_SEGMENTS
+};
+
+// How many of 100 gets miss a key that was put once, with three puts of other keys before each get.
+fn missed_of(client: &mut Client<'_>) -> Result<u32, Fail> {
+    let key = Key::new(b"often").ok_or("no key")?;
+    let value = Value::new(b"1").ok_or("no value")?;
+    let mut is_stored = client.put(&key, &value) == PutAnswer::Stored;
+    let mut missed = 0u32;
+    for number in 0..300u32 {
+        let other = Key::new(&number.to_le_bytes()).ok_or("no key")?;
+        is_stored = is_stored && client.put(&other, &value) == PutAnswer::Stored;
+        if number % 3 == 2 && client.get(&key) == GetAnswer::Miss {
+            missed = missed.saturating_add(1);
+        }
+    }
+    is_stored.then_some(()).ok_or("a put isn't stored")?;
+    Ok(missed)
+}
+
+// What the only client of such an index misses, and what it counts.
+fn missed_by(alloc: Global, keeps: bool) -> Result<(u32, Stats), Fail> {
+    let (index, passes) = Index::new(alloc, SIXTEEN_SEGMENTS)?;
+    let mut all = clients(alloc, &index, passes)?;
+    let mut client = all.pop().ok_or("no client")?;
+    if !keeps {
+        client.keep_nothing();
+    }
+    let missed = missed_of(&mut client)?;
+    Ok((missed, client.stats()))
+}
+
+// A key that is read again and again stays while 300 others go through 64 rows.
+#[test]
+fn what_is_read_is_kept_from_the_start(rt: HostRuntime) -> Result<(), Fail> {
+    let (missed, stats) = missed_by(rt.alloc(), true)?;
+    assert_eq!(rt; (missed, stats.hits, stats.stored), (0, 100, 301));
+    assert!(rt; stats.items_kept > 0 && stats.keys_evicted >= 301 - 64);
+    Ok(())
+}
+
+// By turns the key goes with its segment, once 64 rows were used: at the 64th of the others.
+#[test]
+fn a_client_that_keeps_nothing_misses_it(rt: HostRuntime) -> Result<(), Fail> {
+    let (missed, stats) = missed_by(rt.alloc(), false)?;
+    assert_eq!(rt; (missed, stats.hits, stats.items_kept), (79, 21, 0));
     Ok(())
 }

@@ -115,13 +115,14 @@ fn each_answer_has_the_place_of_its_key(rt: HostRuntime) -> Result<(), Fail> {
     Ok(())
 }
 
-// Forty keys were put where eight have room.
+// Forty keys were put where eight have room, and by turns none of the rows stays free.
 #[test]
 fn keys_that_were_evicted_are_missed(rt: HostRuntime) -> Result<(), Fail> {
     let (index, passes) = Index::new(rt.alloc(), EIGHT_ROWS)?;
     let mut client = clients(rt.alloc(), &index, passes)?
         .pop()
         .ok_or("no client")?;
+    client.keep_nothing();
     put_numbers(&mut client, 40)?;
     let mut numbers = [0; 40];
     for number in 0..40u32 {

@@ -87,23 +87,24 @@ fn a_session_ends_at_its_deadline(rt: HostRuntime) -> Result<(), Fail> {
     };
     let mut sessions = Sessions::new(client);
 
-    // One second before the deadline the session stands, and at the deadline it has ended.
+    // The deadline is the last multiple of 900 seconds that comes in 1,800: 2,700.
+    // One second before it the session stands, and at the deadline it has ended.
     sessions.tick(1_000);
     assert!(rt; sessions.sign_in("token-1", "alice"));
     let rows = [
         (1_000, "token-1", "alice"),
         (1_000, "token-2", ""),
-        (2_799, "token-1", "alice"),
-        (2_800, "token-1", ""),
+        (2_699, "token-1", "alice"),
+        (2_700, "token-1", ""),
     ];
     assert_eq!(rt; first_wrong(&mut sessions, &rows), None);
 
-    // Who signs in again has the whole time again.
+    // Who signs in again has the whole time again: 2,700 is such a multiple, and so is 4,500.
     assert!(rt; sessions.sign_in("token-1", "alice") && sessions.sign_in("token-2", "bob"));
-    let rows = [(4_599, "token-1", "alice"), (4_599, "token-2", "bob")];
+    let rows = [(4_499, "token-1", "alice"), (4_499, "token-2", "bob")];
     assert_eq!(rt; first_wrong(&mut sessions, &rows), None);
     sessions.sign_out("token-2");
-    let rows = [(4_599, "token-2", ""), (4_600, "token-1", "")];
+    let rows = [(4_499, "token-2", ""), (4_500, "token-1", "")];
     assert_eq!(rt; first_wrong(&mut sessions, &rows), None);
 
     let stats = sessions.client.stats();

@@ -2,17 +2,25 @@
 //! At a call of the index itself the proof of a test would have to read the whole contract.
 ghost use Rattle.std.specs.Prelude.{◌≡◌, ◌∷◌, [], IfOk};
 ghost use Rattle.segindex.specs.Words.{board_of};
-ghost use Rattle.segpass.specs.Words.{IsQuiet};
+ghost use Rattle.segstore.specs.Words.{IsQuiet};
 
 use segindex::{Index, IndexStats, LockAnswer, OutOfMemory, Pass};
 use segmodel::{
-    DeleteAnswer, EvictAnswer, GetAnswer, GetsAnswer, KeepAnswer, RefillAnswer, WriteAnswer,
+    Answer, Command, EvictAnswer, GetAnswer, GetsAnswer, KeepAnswer, RefillAnswer, WriteAnswer,
 };
 use segword::{Key, Value};
 use std::alloc::{AllocError, Global};
 
 /// The moment of each call of a test that isn't about moments.
 pub const MOMENT: u32 = 0;
+
+/// Serves a command. A hit raises the frequency if it can, as in the model.
+pub fn serve(index: &Index, pass: &mut Pass, command: &Command) -> Answer
+    requires { IsQuiet (board_of index.now) pass.old }
+    ensures { IsQuiet (board_of index.now) pass.new }
+{
+    index.serve(pass, command, 0)
+}
 
 /// Stores the value.
 pub fn set(index: &Index, pass: &mut Pass, key: &Key, value: &Value, now: u32) -> WriteAnswer
@@ -28,37 +36,6 @@ pub fn add(index: &Index, pass: &mut Pass, key: &Key, value: &Value, now: u32) -
     ensures { IsQuiet (board_of index.now) pass.new }
 {
     index.add(pass, key, value, now)
-}
-
-/// Stores the value if the key is present.
-pub fn replace(index: &Index, pass: &mut Pass, key: &Key, value: &Value, now: u32) -> WriteAnswer
-    requires { IsQuiet (board_of index.now) pass.old }
-    ensures { IsQuiet (board_of index.now) pass.new }
-{
-    index.replace(pass, key, value, now)
-}
-
-/// Stores the value if the key is present and its bucket has the expected version.
-pub fn cas(
-    index: &Index,
-    pass: &mut Pass,
-    key: &Key,
-    value: &Value,
-    expected: u32,
-    now: u32,
-) -> WriteAnswer
-    requires { IsQuiet (board_of index.now) pass.old }
-    ensures { IsQuiet (board_of index.now) pass.new }
-{
-    index.cas(pass, key, value, expected, now)
-}
-
-/// Takes the key out.
-pub fn delete(index: &Index, pass: &mut Pass, key: &Key, now: u32) -> DeleteAnswer
-    requires { IsQuiet (board_of index.now) pass.old }
-    ensures { IsQuiet (board_of index.now) pass.new }
-{
-    index.delete(pass, key, now)
 }
 
 /// Reads the value.

@@ -1,7 +1,7 @@
 //! Holds, with contracts by which only the pass stays quiet and the hold is its own.
 ghost use Rattle.std.specs.Prelude.{IfSome};
 ghost use Rattle.segindex.specs.Words.{board_of, shape_of};
-ghost use Rattle.segpass.specs.Words.{IsQuiet};
+ghost use Rattle.segstore.specs.Words.{IsQuiet};
 ghost use Rattle.segread.specs.Words.{IsHoldOf};
 
 use segindex::{Hold, HoldAnswer, Index, Pass, hold_stays};

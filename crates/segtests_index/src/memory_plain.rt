@@ -1,7 +1,7 @@
 //! The plain cache out of memory: a command that is refused changes nothing,
 //! and the answers before it are kept.
 use crate::calls::MOMENT;
-use crate::commands::{command_of, is_answer};
+use crate::commands::{command_of, is_reply};
 use crate::hoard::{RUNS, STEP, hoard, leave};
 use crate::memory_tables::{LONGEST_CHAIN, MOVED_ITEMS, TWO_SEGMENTS, Table};
 use crate::rows::Row;
@@ -67,7 +67,7 @@ fn refused_commands(
             served = plain.serve(&command);
         }
         let answer = served.ok().ok_or("out of memory")?;
-        assert!(rt; is_answer(wanted, &answer), "{text}");
+        assert!(rt; is_reply(wanted, answer), "{text}");
     }
     let mut other = after(alloc, &shape, rows)?;
     assert_eq!(rt; content(alloc, &mut plain)?, content(alloc, &mut other)?);
@@ -93,9 +93,9 @@ fn a_refused_command_changes_nothing(rt: HostRuntime) -> Result<(), Fail> {
 
 // Whether the answers are those of the first rows.
 fn are_answers(rows: &[Row<'_>], answers: &[Answer]) -> bool {
-    rows.iter()
-        .zip(answers)
-        .all(|((_, wanted), answer)| is_answer(wanted, answer))
+    rows.iter().zip(answers).all(|((_, wanted), answer)| answer
+        .clone()
+        .is_ok_and(|told| is_reply(wanted, told)))
 }
 
 // Runs the commands of the rows with so many bytes left, and returns whether the run was refused memory.

@@ -1,5 +1,5 @@
 //! The lone pass asks for no memory once its index is created.
-use crate::commands::{command_of, is_answer};
+use crate::commands::{command_of, is_reply};
 use crate::hoard::{hoard, is_none_left, leave};
 use crate::memory_tables::{LONGEST_CHAIN, MOVED_ITEMS, TWO_SEGMENTS, Table};
 use crate::rows::Row;
@@ -12,7 +12,7 @@ use std::test::Fail;
 fn first_wrong<'t>(solo: &mut Solo, rows: &[Row<'t>]) -> Option<&'t str> {
     for (text, wanted) in rows.iter().copied() {
         let is_right = match command_of(text) {
-            Some(command) => is_answer(wanted, &solo.answer(&command)),
+            Some(command) => is_reply(wanted, solo.answer(&command)),
             None => false,
         };
         if !is_right {

@@ -1,6 +1,6 @@
 //! A caller's own structs, which keep a pass or a hold with what is so of it between calls.
 ghost use Rattle.segindex.specs.Words.{board_of, shape_of};
-ghost use Rattle.segpass.specs.Words.{IsQuiet, IsQuiet-prop};
+ghost use Rattle.segstore.specs.Words.{IsQuiet, IsQuiet-prop};
 ghost use Rattle.segread.specs.Words.{IsHoldOf, IsHoldOf-prop};
 
 use crate::calls::{self, MOMENT};

@@ -1,7 +1,7 @@
 //! Indexes with their passes, as the tests need them.
 ghost use Rattle.std.specs.Prelude.{All, IfOk, IfSome};
 ghost use Rattle.segindex.specs.Words.{board_of};
-ghost use Rattle.segpass.specs.Words.{IsQuiet};
+ghost use Rattle.segstore.specs.Words.{IsQuiet};
 
 use crate::calls::refill;
 use segindex::{Index, Pass};

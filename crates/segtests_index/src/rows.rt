@@ -1,28 +1,23 @@
-//! Rows of calls in the words of a script, each with the answer that is wanted:
+//! Rows of calls, each a line of a script with the reply that is wanted:
 //! a test of one thread is a table. They are texts, since a row of enums costs ten times the proof.
 ghost use Rattle.segindex.specs.Words.{board_of};
-ghost use Rattle.segpass.specs.Words.{IsQuiet};
+ghost use Rattle.segstore.specs.Words.{IsQuiet};
 
-use crate::calls::{
-    add, cas, delete, evict, get, gets, index_stats, keep, lock, probe, refill, replace, set,
-    unlock,
-};
+use crate::calls::{index_stats, lock, probe, serve, unlock};
+use crate::commands::is_reply;
 use crate::holds::{hold_over_a_set, hold_over_an_eviction};
 use segindex::{Index, IndexStats, LockAnswer, Pass};
-use segmodel::{
-    DeleteAnswer, EvictAnswer, GetAnswer, GetsAnswer, KeepAnswer, RefillAnswer, SegState,
-    WriteAnswer,
-};
+use segmodel::{Answer, EvictAnswer, SegState, Turn};
+use segscript::read_line;
 use segword::{Key, Value};
 
-/// A row: pass, call and arguments, as "p0 set a 1 @0", and the answer, as "STORED".
+/// A row: a script's line, as "p0 set a 1 @0", and its reply, as "STORED".
 ///
-/// Beside those of a script there are the calls "used", "state", "deadline", "current" and
+/// Beside the lines of a script there are the calls "used", "state", "deadline", "current" and
 /// "holding", of what the pass keeps, and "set_held" and "evict_held": the key is held, this value
 /// is set or this segment evicted, and the answer has what the hold reads then.
 /// A "stats" has the answer "1 8 7", for 1 overflow bucket, 8 used rows and 7 named ones.
 /// A "probe" has both of its answers, as "STORED VALUE 1".
-/// A call that reads or writes a key ends with its moment, as "@0".
 pub type Row<'t> = (&'t str, &'t str);
 
 /// The call of the first row that has another answer, or that is no call.
@@ -74,7 +69,7 @@ pub fn first_wrong_alone<'t>(index: &Index, pass: &mut Pass, script: &'t str) ->
 {
     for line in script.lines() {
         let is_well = match row_of(line) {
-            Some((text, wanted)) => is_answered(index, pass, call_of(text), wanted),
+            Some((text, wanted)) => is_answered(index, pass, text, wanted),
             None => true,
         };
         if !is_well {
@@ -94,181 +89,124 @@ fn row_of(line: &str) -> Option<Row<'_>> {
     Some(line.split_once(" -> ").unwrap_or(("", "")))
 }
 
+// No line of a row names a pass from this number on.
+const PASSES: u32 = 8;
+
 // Whether a row has the answer that it wants.
 fn is_right(index: &Index, first: &mut Pass, second: &mut Pass, text: &str, wanted: &str) -> bool
     requires { IsQuiet (board_of index.now) first.old × IsQuiet (board_of index.now) second.old }
     ensures { IsQuiet (board_of index.now) first.new × IsQuiet (board_of index.now) second.new }
 {
-    let call = call_of(text);
-    if call.pass == "p0" {
-        return is_answered(index, first, call, wanted);
+    if text.starts_with("p0 ") {
+        return is_answered(index, first, text, wanted);
     }
-    if call.pass == "p1" {
-        return is_answered(index, second, call, wanted);
-    }
-    false
+    text.starts_with("p1 ") && is_answered(index, second, text, wanted)
 }
 
-// The words of a call. A word that isn't there is empty, and so it is no key, no value and no number.
+// Whether the pass answers the call so.
+fn is_answered(index: &Index, pass: &mut Pass, text: &str, wanted: &str) -> bool
+    requires { IsQuiet (board_of index.now) pass.old }
+    ensures { IsQuiet (board_of index.now) pass.new }
+{
+    match read_line(text.as_bytes(), PASSES) {
+        Some((_, turn)) => is_replied(index, pass, &turn, wanted),
+        None => is_told(index, pass, call_of(text), wanted),
+    }
+}
+
+// Whether the pass has this reply to a turn. Holds have calls of their own.
+fn is_replied(index: &Index, pass: &mut Pass, turn: &Turn, wanted: &str) -> bool
+    requires { IsQuiet (board_of index.now) pass.old }
+    ensures { IsQuiet (board_of index.now) pass.new }
+{
+    match turn {
+        Turn::Serve(command) => {
+            let answer = serve(index, pass, command);
+            is_reply(wanted, answer)
+        }
+        Turn::Lock(key) => locked(lock(index, pass, key)) == wanted,
+        Turn::Unlock => unlocked(unlock(index, pass)) == wanted,
+        Turn::Hold(..) | Turn::Held | Turn::Release => false,
+    }
+}
+
+// The words of a call that is no line of a script.
+// A word that isn't there is empty, and so it is no key, no value and no number.
 #[derive(Clone, Copy)]
-pub(crate) struct Call<'t> {
-    pub(crate) pass: &'t str,
-    pub(crate) name: &'t str,
-    pub(crate) first: &'t str,
-    pub(crate) second: &'t str,
-    pub(crate) third: &'t str,
-    pub(crate) moment: &'t str,
+struct Call<'t> {
+    name: &'t str,
+    first: &'t str,
+    second: &'t str,
+    moment: &'t str,
 }
 
-pub(crate) fn call_of(text: &str) -> Call<'_> {
+fn call_of(text: &str) -> Call<'_> {
     let (front, moment) = text.split_once('@').unwrap_or((text, ""));
-    let mut words = front.split(' ');
+    let mut words = front.split(' ').skip(1);
     Call {
-        pass: words.next().unwrap_or(""),
         name: words.next().unwrap_or(""),
         first: words.next().unwrap_or(""),
         second: words.next().unwrap_or(""),
-        third: words.next().unwrap_or(""),
         moment,
     }
 }
 
-// The value of a word. A dash is the empty value.
-pub(crate) fn value_of(word: &str) -> Option<Value> {
-    match word {
-        "" => None,
-        "-" => Value::new(b""),
-        _ => Value::new(word.as_bytes()),
-    }
-}
-
-// Whether the pass answers the call so.
-fn is_answered(index: &Index, pass: &mut Pass, call: Call<'_>, wanted: &str) -> bool
+// Whether a call that is no line of a script is answered so.
+fn is_told(index: &Index, pass: &mut Pass, call: Call<'_>, wanted: &str) -> bool
     requires { IsQuiet (board_of index.now) pass.old }
     ensures { IsQuiet (board_of index.now) pass.new }
 {
-    if let Some(key) = Key::new(call.first.as_bytes()) {
-        if let Ok(now) = call.moment.parse() {
-            return match value_of(call.second) {
-                Some(value) => is_stored(index, pass, call, &key, &value, now, wanted),
-                None => is_found(index, pass, call.name, &key, now, wanted),
-            };
+    let (Some(key), Ok(now)) = (Key::new(call.first.as_bytes()), call.moment.parse()) else {
+        return is_number_kept(index, pass, call, wanted);
+    };
+    if call.name == "evict_held" {
+        return match call.second.parse() {
+            Ok(segment) => is_held_over(
+                wanted,
+                &hold_over_an_eviction(index, pass, &key, segment, now),
+            ),
+            Err(_) => false,
+        };
+    }
+    let Some(value) = Value::new(call.second.as_bytes()) else {
+        return false;
+    };
+    match call.name {
+        "probe" => {
+            let (told, read) = probe(index, pass, &key, &value, 0, now);
+            match wanted.split_once(' ') {
+                Some((first, second)) => {
+                    is_reply(first, Answer::Write(told)) && is_reply(second, Answer::Get(read))
+                }
+                None => false,
+            }
         }
-        if let Ok(segment) = call.first.parse() {
-            return is_done(index, pass, call, segment, wanted);
-        }
-        return call.name == "lock" && locked(lock(index, pass, &key)) == wanted;
+        "set_held" => match hold_over_a_set(index, pass, &key, &value, now) {
+            Some(held) => is_value(wanted, &held),
+            None => wanted == "NOT_HOLDING",
+        },
+        _ => false,
+    }
+}
+
+// Whether a call of what the pass keeps, or of the index's numbers, is answered so.
+fn is_number_kept(index: &Index, pass: &mut Pass, call: Call<'_>, wanted: &str) -> bool
+    requires { IsQuiet (board_of index.now) pass.old }
+    ensures { IsQuiet (board_of index.now) pass.new }
+{
+    if let Ok(segment) = call.first.parse() {
+        return match call.name {
+            "deadline" => is_number(wanted, pass.deadline(segment)),
+            "used" => is_number(wanted, pass.used(segment)),
+            "state" => in_state(pass.state(segment)) == wanted,
+            _ => false,
+        };
     }
     match call.name {
-        "unlock" => unlocked(unlock(index, pass)) == wanted,
         "current" => is_number(wanted, pass.current()),
         "holding" => holds(pass.is_holding()) == wanted,
         "stats" => is_counted_so(wanted, index_stats(index, pass)),
         _ => false,
-    }
-}
-
-// Whether a call with a key, a value and a moment is answered so.
-// An evict_held has a segment for a value.
-fn is_stored(
-    index: &Index,
-    pass: &mut Pass,
-    call: Call<'_>,
-    key: &Key,
-    value: &Value,
-    now: u32,
-    wanted: &str,
-) -> bool
-    requires { IsQuiet (board_of index.now) pass.old }
-    ensures { IsQuiet (board_of index.now) pass.new }
-{
-    match call.name {
-        "set" => written(set(index, pass, key, value, now)) == wanted,
-        "add" => written(add(index, pass, key, value, now)) == wanted,
-        "replace" => written(replace(index, pass, key, value, now)) == wanted,
-        "cas" => match call.third.parse() {
-            Ok(expected) => written(cas(index, pass, key, value, expected, now)) == wanted,
-            Err(_) => false,
-        },
-        "probe" => is_probed(wanted, &probe(index, pass, key, value, 0, now)),
-        "set_held" => match hold_over_a_set(index, pass, key, value, now) {
-            Some(held) => is_value(wanted, &held),
-            None => wanted == "NOT_HOLDING",
-        },
-        "evict_held" => match call.second.parse() {
-            Ok(segment) => {
-                is_held_over(
-                    wanted,
-                    &hold_over_an_eviction(index, pass, key, segment, now),
-                )
-            }
-            Err(_) => false,
-        },
-        _ => false,
-    }
-}
-
-// Whether a call with a key and a moment alone is answered so.
-fn is_found(index: &Index, pass: &mut Pass, name: &str, key: &Key, now: u32, wanted: &str) -> bool
-    requires { IsQuiet (board_of index.now) pass.old }
-    ensures { IsQuiet (board_of index.now) pass.new }
-{
-    match name {
-        "get" => is_read(wanted, &get(index, pass, key, 0, now)),
-        "gets" => is_read_with(wanted, &gets(index, pass, key, 0, now)),
-        "delete" => deleted(delete(index, pass, key, now)) == wanted,
-        _ => false,
-    }
-}
-
-// Whether a call with a segment is answered so. A refill has a deadline too, and a keep a cutoff.
-fn is_done(index: &Index, pass: &mut Pass, call: Call<'_>, segment: u32, wanted: &str) -> bool
-    requires { IsQuiet (board_of index.now) pass.old }
-    ensures { IsQuiet (board_of index.now) pass.new }
-{
-    match call.name {
-        "evict" => is_evicted(wanted, evict(index, pass, segment)),
-        "keep" => match call.second.parse() {
-            Ok(cutoff) => is_kept(wanted, keep(index, pass, segment, cutoff)),
-            Err(_) => false,
-        },
-        "refill" => match call.second.parse() {
-            Ok(deadline) => refilled(refill(index, pass, segment, deadline)) == wanted,
-            Err(_) => false,
-        },
-        "deadline" => is_number(wanted, pass.deadline(segment)),
-        "used" => is_number(wanted, pass.used(segment)),
-        "state" => in_state(pass.state(segment)) == wanted,
-        _ => false,
-    }
-}
-
-pub(crate) fn written(answer: WriteAnswer) -> &'static str {
-    match answer {
-        WriteAnswer::Stored => "STORED",
-        WriteAnswer::NotStored => "NOT_STORED",
-        WriteAnswer::Exists => "EXISTS",
-        WriteAnswer::NotFound => "NOT_FOUND",
-        WriteAnswer::NoRoom => "NOROOM",
-        WriteAnswer::BucketFull => "BUCKETFULL",
-        WriteAnswer::Busy => "BUSY",
-    }
-}
-
-pub(crate) fn deleted(answer: DeleteAnswer) -> &'static str {
-    match answer {
-        DeleteAnswer::Deleted => "DELETED",
-        DeleteAnswer::NotFound => "NOT_FOUND",
-        DeleteAnswer::Busy => "BUSY",
-    }
-}
-
-pub(crate) fn refilled(answer: RefillAnswer) -> &'static str {
-    match answer {
-        RefillAnswer::Refilled => "REFILLED",
-        RefillAnswer::NotYours => "NOT_YOURS",
-        RefillAnswer::NotEvicted => "NOT_EVICTED",
-        RefillAnswer::Held => "HELD",
     }
 }
 
@@ -297,51 +235,6 @@ fn holds(is_holding: bool) -> &'static str {
     if is_holding { "HOLDING" } else { "NOT_HOLDING" }
 }
 
-// Whether "VALUE 1" is wanted, for the value 1, or "MISS", or "BUSY".
-pub(crate) fn is_read(wanted: &str, answer: &GetAnswer) -> bool {
-    match answer {
-        GetAnswer::Found(found) => is_value(wanted, found),
-        GetAnswer::Miss => wanted == "MISS",
-        GetAnswer::Busy => wanted == "BUSY",
-    }
-}
-
-// Whether "VALUE 1 7" is wanted, for the value 1 and the version 7, or "MISS", or "BUSY".
-pub(crate) fn is_read_with(wanted: &str, answer: &GetsAnswer) -> bool {
-    match answer {
-        GetsAnswer::Found(found, version) => is_value_with(wanted, found, *version),
-        GetsAnswer::Miss => wanted == "MISS",
-        GetsAnswer::Busy => wanted == "BUSY",
-    }
-}
-
-// Whether "STORED VALUE 1" is wanted, for a set that is answered Stored and a get that finds the value 1.
-fn is_probed(wanted: &str, answers: &(WriteAnswer, GetAnswer)) -> bool {
-    match wanted.split_once(' ') {
-        Some((told, read)) => written(answers.0) == told && is_read(read, &answers.1),
-        None => false,
-    }
-}
-
-// Whether "EVICTED 7" is wanted, for 7 keys, or "BUSY 7".
-pub(crate) fn is_evicted(wanted: &str, answer: EvictAnswer) -> bool {
-    match answer {
-        EvictAnswer::Evicted(keys) => is_counted(wanted, "EVICTED", keys),
-        EvictAnswer::NotYours => wanted == "NOT_YOURS",
-        EvictAnswer::Busy(keys) => is_counted(wanted, "BUSY", keys),
-    }
-}
-
-// Whether "KEPT 7" is wanted, for 7 items, or "NOROOM 7", or "BUSY 7".
-pub(crate) fn is_kept(wanted: &str, answer: KeepAnswer) -> bool {
-    match answer {
-        KeepAnswer::Kept(items) => is_counted(wanted, "KEPT", items),
-        KeepAnswer::NotYours => wanted == "NOT_YOURS",
-        KeepAnswer::NoRoom(items) => is_counted(wanted, "NOROOM", items),
-        KeepAnswer::Busy(items) => is_counted(wanted, "BUSY", items),
-    }
-}
-
 // Whether "VALUE 1 7" is wanted, for the value 1 that was held while 7 keys were evicted.
 fn is_held_over(wanted: &str, held: &Option<(Value, EvictAnswer)>) -> bool {
     match held {
@@ -363,14 +256,6 @@ fn is_value(wanted: &str, value: &Value) -> bool {
 fn is_value_with(wanted: &str, value: &Value, number: u32) -> bool {
     match wanted.rsplit_once(' ') {
         Some((front, last)) => is_value(front, value) && is_number(last, Some(number)),
-        None => false,
-    }
-}
-
-// Whether "EVICTED 7" is wanted, for this word and the number 7.
-fn is_counted(wanted: &str, word: &str, number: u32) -> bool {
-    match wanted.split_once(' ') {
-        Some((front, last)) => front == word && is_number(last, Some(number)),
         None => false,
     }
 }

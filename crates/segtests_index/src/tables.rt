@@ -1,7 +1,7 @@
 //! A test of one thread is a script: calls of two passes, and the answers that are wanted.
 ghost use Rattle.std.specs.Prelude.{IfOk};
 ghost use Rattle.segindex.specs.Words.{board_of};
-ghost use Rattle.segpass.specs.Words.{IsQuiet};
+ghost use Rattle.segstore.specs.Words.{IsQuiet};
 
 use crate::calls::lists;
 use crate::passes::two_passes;

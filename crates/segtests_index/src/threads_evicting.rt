@@ -2,7 +2,7 @@
 //! there: a held value stays whole.
 //! Each round's deadline is one past its number, and its moments are its number.
 ghost use Rattle.segindex.specs.Words.{board_of};
-ghost use Rattle.segpass.specs.Words.{IsQuiet};
+ghost use Rattle.segstore.specs.Words.{IsQuiet};
 
 use crate::calls::{evict, refill, set};
 use crate::digits::{number_of, value_of};

@@ -1,7 +1,7 @@
 //! Segments that are filled anew with later and later deadlines, beside passes that read:
 //! no value is read at its deadline or past it.
 ghost use Rattle.segindex.specs.Words.{board_of};
-ghost use Rattle.segpass.specs.Words.{IsQuiet};
+ghost use Rattle.segstore.specs.Words.{IsQuiet};
 
 use crate::calls::{evict, get, gets, refill, set};
 use crate::digits::{number_of, value_of};

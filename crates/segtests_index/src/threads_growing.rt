@@ -1,7 +1,7 @@
 //! Chains that grow on threads: two writers draw from one counter,
 //! and a reader finds a key whose item moves on.
 ghost use Rattle.segindex.specs.Words.{board_of};
-ghost use Rattle.segpass.specs.Words.{IsQuiet};
+ghost use Rattle.segstore.specs.Words.{IsQuiet};
 
 use crate::calls::{MOMENT, add, get, meet, set};
 use crate::passes::{SHAPE, two_that_fill};

@@ -1,7 +1,7 @@
 //! Items that move beside passes that read and write their keys:
 //! no key is ever missed, and no version counts a move.
 ghost use Rattle.segindex.specs.Words.{board_of};
-ghost use Rattle.segpass.specs.Words.{IsQuiet};
+ghost use Rattle.segstore.specs.Words.{IsQuiet};
 
 use crate::calls::{MOMENT, evict, get, gets, keep, refill, set};
 use crate::digits::value_of;

@@ -1,7 +1,7 @@
 //! Two threads that set: each set is stored and counted, and a pass that met the other,
 //! or that ends the index, has both.
 ghost use Rattle.segindex.specs.Words.{board_of};
-ghost use Rattle.segpass.specs.Words.{IsQuiet};
+ghost use Rattle.segstore.specs.Words.{IsQuiet};
 
 use crate::calls::{MOMENT, lists, meet, set};
 use crate::passes::{SHAPE, two_that_fill};

@@ -1,7 +1,7 @@
 //! A bucket that stays locked beside three threads that read and write its key.
 //! Each get finds the key, and each set and each gets is refused.
 ghost use Rattle.segindex.specs.Words.{board_of};
-ghost use Rattle.segpass.specs.Words.{IsQuiet};
+ghost use Rattle.segstore.specs.Words.{IsQuiet};
 
 use crate::calls::{MOMENT, get, gets, set};
 use crate::passes::{SHAPE, four_passes};

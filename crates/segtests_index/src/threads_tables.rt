@@ -1,6 +1,6 @@
 //! What a test of threads does on one thread: calls and the answers that are wanted, as a script.
 ghost use Rattle.segindex.specs.Words.{board_of};
-ghost use Rattle.segpass.specs.Words.{IsQuiet};
+ghost use Rattle.segstore.specs.Words.{IsQuiet};
 
 use crate::rows::first_wrong_line;
 use segindex::{Index, Pass};

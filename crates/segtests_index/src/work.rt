@@ -1,7 +1,7 @@
 //! What a thread does with its pass, turn after turn.
 //! A test has only its turns: that the pass stays quiet over them is proved once, here.
 ghost use Rattle.segindex.specs.Words.{board_of};
-ghost use Rattle.segpass.specs.Words.{IsQuiet};
+ghost use Rattle.segstore.specs.Words.{IsQuiet};
 
 use segindex::{Index, Pass};
 use std::thread::{Threads, join};

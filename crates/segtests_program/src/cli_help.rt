@@ -6,11 +6,12 @@ use std::sync::Wait;
 use std::test::Fail;
 use std::thread::Threads;
 
-const PROGRAM: [&str; 13] = [
+const PROGRAM: [&str; 14] = [
     "object index",
     "Usage: segrun",
     "script",
     "load",
+    "replay",
     "word",
     "printf 'p0 refill 0 4294967295\\np0 set a 1 @0\\np0 get a @0\\n' | segrun",
     "Exit status",
@@ -74,6 +75,23 @@ const LOADS: [&str; 24] = [
     "\n  busy         ",
 ];
 
+const REPLAYS: [&str; 14] = [
+    "Usage: segrun replay",
+    "[FILE]",
+    "--passes <N>",
+    "--for-keys <N>",
+    "\n      --csv",
+    "--value-bytes <N>",
+    "[default: 32]",
+    "--threads <N>",
+    "--warm <N>",
+    "--policy <POLICY>",
+    "\n      --sizes",
+    "--format <FORMAT>",
+    "TIME,KEY,OP,TTL",
+    "status 2",
+];
+
 const WORDS: [&str; 7] = [
     "Usage: segrun word [OPTIONS] <HEX>",
     "--kind <KIND>",
@@ -114,6 +132,9 @@ fn help_tells_a_newcomer_what_to_do(rt: HostRuntime) -> Result<(), Fail> {
         (["load", "--help"].as_slice(), LOADS.as_slice()),
         (["load", "-h"].as_slice(), LOADS.as_slice()),
         (["help", "load"].as_slice(), LOADS.as_slice()),
+        (["replay", "--help"].as_slice(), REPLAYS.as_slice()),
+        (["replay", "-h"].as_slice(), REPLAYS.as_slice()),
+        (["help", "replay"].as_slice(), REPLAYS.as_slice()),
         (["word", "--help"].as_slice(), WORDS.as_slice()),
         (["word", "-h"].as_slice(), WORDS.as_slice()),
         (["help", "word"].as_slice(), WORDS.as_slice()),
@@ -129,6 +150,7 @@ fn help_fits_forty_lines(rt: HostRuntime) -> Result<(), Fail> {
         ["--help"].as_slice(),
         ["script", "--help"].as_slice(),
         ["load", "--help"].as_slice(),
+        ["replay", "--help"].as_slice(),
         ["word", "--help"].as_slice(),
     ] {
         let ended = run(&rt, words, b"")?;

@@ -242,20 +242,20 @@ fn more_than_65536_overflow_buckets_are_refused(rt: HostRuntime) -> Result<(), F
     Ok(())
 }
 
-// Two passes have eight segments each, and each has room for an eighth of the keys.
+// Two passes have 64 segments of one row each.
 #[test]
 fn a_shape_is_for_its_keys(rt: HostRuntime) -> Result<(), Fail> {
     let script =
-        b"p0 refill 7 4294967295\np1 refill 15 4294967295\np1 refill 16 4294967295\np0 set a 1 @0\np0 set b 1 @0\np0 set c 1 @0\n";
+        b"p0 refill 63 4294967295\np1 refill 127 4294967295\np1 refill 128 4294967295\np0 set a 1 @0\np0 set b 1 @0\np0 set c 1 @0\n";
     for (words, replies) in [
         (
             ["script", "--for-keys=10", "--passes=2"].as_slice(),
-            b"REFILLED\nREFILLED\nNOT_YOURS\nSTORED\nSTORED\nNOROOM\n".as_slice(),
+            b"REFILLED\nREFILLED\nNOT_YOURS\nSTORED\nNOROOM\nNOROOM\n".as_slice(),
         ),
         // An option of its own changes its part alone.
         (
-            ["script", "--for-keys=10", "--passes=2", "--rows=1"].as_slice(),
-            b"REFILLED\nREFILLED\nNOT_YOURS\nSTORED\nNOROOM\nNOROOM\n".as_slice(),
+            ["script", "--for-keys=10", "--passes=2", "--rows=2"].as_slice(),
+            b"REFILLED\nREFILLED\nNOT_YOURS\nSTORED\nSTORED\nNOROOM\n".as_slice(),
         ),
     ] {
         check_program(&rt, words, script, 0, replies, b"")?;

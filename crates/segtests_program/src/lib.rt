@@ -18,6 +18,8 @@ mod cli_progress;
 #[cfg(test)]
 mod cli_reasons;
 #[cfg(test)]
+mod cli_replays;
+#[cfg(test)]
 mod cli_runs;
 #[cfg(test)]
 mod cli_scripts;

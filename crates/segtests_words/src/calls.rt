@@ -1,6 +1,6 @@
 //! Boards with quiet passes, and calls on them with contracts by which a pass only stays quiet.
 ghost use Rattle.std.specs.Prelude.{◌≡◌, All, IfOk, IfSome};
-ghost use Rattle.segpass.specs.Words.{IsQuiet};
+ghost use Rattle.segstore.specs.Words.{IsQuiet};
 
 use segbase::{Board, Pass};
 use segmodel::{DeleteAnswer, EvictAnswer, GetAnswer, KeepAnswer, RefillAnswer, WriteAnswer};

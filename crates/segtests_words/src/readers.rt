@@ -1,6 +1,6 @@
 //! Two threads read one key: each counts itself in and out of the key's segment,
 //! and raises the frequency of the key's item.
-ghost use Rattle.segpass.specs.Words.{IsQuiet};
+ghost use Rattle.segstore.specs.Words.{IsQuiet};
 
 use crate::boards::check;
 use crate::calls::{get, pop, quiet_board, refill, set};

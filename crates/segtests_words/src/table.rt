@@ -1,5 +1,5 @@
 //! The words of the table after each call, written out by the format.
-ghost use Rattle.segpass.specs.Words.{IsQuiet};
+ghost use Rattle.segstore.specs.Words.{IsQuiet};
 
 use crate::boards::check;
 use crate::calls::{delete, evict, get, keep, pop, quiet_board, refill, set};

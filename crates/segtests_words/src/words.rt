@@ -292,12 +292,12 @@ fn faults_have_texts_and_numbers(rt: HostRuntime) -> Result<(), Fail> {
 #[test]
 fn a_shape_for_so_many_keys_has_room_to_spare(rt: HostRuntime) -> Result<(), Fail> {
     for (keys, passes, buckets, segments_each, rows) in [
-        (0, 1, 1, 8, 1),
-        (64, 4, 16, 8, 4),
-        (65, 1, 32, 8, 17),
-        (100_000, 3, 32_768, 17, 3922),
+        (0, 1, 1, 64, 1),
+        (64, 4, 16, 64, 1),
+        (65, 1, 32, 64, 3),
+        (100_000, 3, 32_768, 64, 1042),
         (425_984, 1, 65_536, 208, 4096),
-        (425_984, 64, 65_536, 8, 1664),
+        (425_984, 64, 65_536, 64, 208),
     ] {
         let shape = Shape {
             buckets,

@@ -2,7 +2,7 @@ use Rattle.std.proofs.Common.{◌≡◌, ℕ, zero, suc, [], ◌∷◌, Some, sl
 use Rattle.std.proofs.lemmas.Option.{same_Some, none-some}
 use Rattle.segword.specs.Words.{Shape}
 use Rattle.segbase.specs.Words.{Board, HasEach, number, Pass}
-use Rattle.segpass.specs.Words.{IsQuiet}
+use Rattle.segstore.specs.Words.{IsQuiet}
 use Rattle.segindex.specs.Words.{AreAllQuiet}
 use Rattle.segtests_index.proofs.calls.lists_all.Goals as goal
 

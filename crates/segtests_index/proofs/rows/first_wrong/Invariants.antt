@@ -1,5 +1,5 @@
 use Rattle.segindex.specs.Words.{board_of}
-use Rattle.segpass.specs.Words.{IsQuiet}
+use Rattle.segstore.specs.Words.{IsQuiet}
 use Rattle.segtests_index.proofs.rows.first_wrong.Given as goal
 
 abbrev pub invariant-loop-text : goal.invariant-loop-text

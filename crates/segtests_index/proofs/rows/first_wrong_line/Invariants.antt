@@ -1,5 +1,5 @@
 use Rattle.segindex.specs.Words.{board_of}
-use Rattle.segpass.specs.Words.{IsQuiet}
+use Rattle.segstore.specs.Words.{IsQuiet}
 use Rattle.segtests_index.proofs.rows.first_wrong_line.Given as goal
 
 abbrev pub invariant-loop-line : goal.invariant-loop-line
