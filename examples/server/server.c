@@ -22,6 +22,7 @@
 #define VERSION "1.0.0"
 #define UNIQUE (UINT64_C(1) << 32) /* is added to a version, so that no small number is taken for one */
 #define BAD_LINE "CLIENT_ERROR bad command line format"
+#define BY_QUEUES UINT32_MAX /* no cutoff: the clients keep by queues, as they begin */
 
 enum {
   MOST_WORDS = 8,         /* that are looked at */
@@ -143,12 +144,13 @@ static uint32_t take_out(struct worker *worker, struct word key) {
   return status;
 }
 
-/* A segment has one deadline. So one begins each quarter of the time to live, and a value lives for three
-   quarters of it at least, if it isn't evicted. */
+/* A segment's deadline is a multiple of half the time to live. So one begins at each such multiple, and a value
+   lives for half of that time at least, if it isn't evicted. */
 static void renew(struct worker *worker) {
+  uint32_t half = worker->server->time_to_live > 1 ? worker->server->time_to_live / 2 : 1;
   bool due = worker->server->time_to_live > 0 && worker->now >= worker->renew_at;
   if (due && segcache_make_room(&worker->client, worker->now) == SEGCACHE_OK)
-    worker->renew_at = worker->now + (worker->server->time_to_live + 3) / 4;
+    worker->renew_at = worker->now - worker->now % half + half;
 }
 
 static uint32_t store(struct worker *worker, enum kind kind, const struct item *item) {
@@ -441,7 +443,7 @@ static bool start(struct server *server, struct worker *worker) {
   worker->server = server, worker->epoll = epoll_create1(EPOLL_CLOEXEC);
   pthread_mutex_init(&worker->counts_lock, NULL);
   if (server->time_to_live > 0) segcache_set_time_to_live(&worker->client, server->time_to_live);
-  if (server->keep_from > 0) segcache_keep_from(&worker->client, server->keep_from);
+  if (server->keep_from != BY_QUEUES) segcache_keep_from(&worker->client, server->keep_from);
   return worker->epoll >= 0 && epoll_ctl(worker->epoll, EPOLL_CTL_ADD, server->stop, &stop) == 0 &&
          pthread_create(&worker->thread, NULL, work, worker) == 0;
 }
@@ -469,7 +471,8 @@ static bool read_options(struct server *server, int count, char **words) {
 }
 
 int main(int count, char **words) {
-  struct server server = {"127.0.0.1", .port = 11211, .threads = 4, .keys = 100000, .most_connections = 1024};
+  struct server server = {"127.0.0.1", .port = 11211, .threads = 4, .keys = 100000, .most_connections = 1024,
+                          .keep_from = BY_QUEUES};
   if (!read_options(&server, count, words))
     return fprintf(stderr, "usage: server [-l ADDRESS] [-p PORT] [-t THREADS] [-k KEYS] [-c CONNECTIONS]\n"
                            "              [-e TIME TO LIVE] [-f CUTOFF]\n"), 2;

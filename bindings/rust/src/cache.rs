@@ -5,7 +5,8 @@ use std::fmt;
 use std::sync::{Arc, Mutex, PoisonError};
 
 /// The size of a cache. [`Builder::keys`] makes one up from a number of keys. Each bucket, overflow bucket and
-/// row takes 64 bytes, and each segment 8; all of them together have 512 MiB at most.
+/// row takes 64 bytes, and each segment 8; all of them together have 512 MiB at most. The clients take 3 bytes
+/// more for each row, and 16 for each segment, to know what was read.
 #[repr(C)]
 #[derive(Clone, Copy, Debug, PartialEq, Eq)]
 pub struct Shape {
@@ -15,7 +16,7 @@ pub struct Shape {
     pub overflow: u32,
     /// Clients, 1 to 64.
     pub passes: u32,
-    /// Segments of each client, 1 to 1,024. With one, a full client loses all at once.
+    /// Segments of each client, 1 to 1,024. Two of them stay free, unless the client keeps nothing.
     pub segments_each: u32,
     /// Items that a segment has room for, 1 to 4,096.
     pub rows: u32,

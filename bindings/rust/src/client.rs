@@ -150,8 +150,9 @@ impl Client {
         }
     }
 
-    /// Stores a value, and makes room for it: if no row is left, the client recycles a segment of its own
-    /// with the keys in it. After an error the old value may stand; delete the key if nobody may read it.
+    /// Stores a value, and makes room for it: if no row is left, the client recycles segments of its own. It
+    /// moves items that were read to another segment, and evicts the other keys. After an error the old value
+    /// may stand; delete the key if nobody may read it.
     ///
     /// # Errors
     /// [`Error::NoRoom`], [`Error::BucketFull`], [`Error::Busy`], [`Error::BadKey`], [`Error::BadValue`].
@@ -244,17 +245,24 @@ impl Client {
         done(unsafe { raw::segcache_raw_learn(self.handle(), note.handle()) })
     }
 
-    /// What this client stores from its next segment on is absent at its clock plus this time, or earlier.
+    /// What this client stores from its next segment on is absent at its clock plus this time, or earlier: a
+    /// segment's deadline is the last multiple of half this time that comes within it.
     pub fn set_time_to_live(&self, time_to_live: u32) {
         // SAFETY: the handle is this client's.
         unsafe { raw::segcache_raw_set_time_to_live(self.handle(), time_to_live) };
     }
 
-    /// With a cutoff, puts keep the items of this frequency or more when they recycle a segment.
+    /// The client recycles its segments by turns from now on, and keeps items of this frequency or more, or
+    /// nothing. From the start it keeps what was read in main segments, and no call goes back to that.
     pub fn keep_from(&self, cutoff: Option<NonZeroU8>) {
         let cutoff = cutoff.map_or(0, NonZeroU8::get).into();
         // SAFETY: the handle is this client's.
         unsafe { raw::segcache_raw_keep_from(self.handle(), cutoff) };
+    }
+
+    /// The client recycles its segments by turns from now on, with all keys in them.
+    pub fn keep_nothing(&self) {
+        self.keep_from(None);
     }
 
     /// Begins another segment of this client's, and returns whether one could be had. It may evict keys

@@ -3,8 +3,9 @@ use segcache::{Cache, Cas, Client, Error, Shape, Version};
 use std::num::NonZeroU8;
 use std::thread;
 
+// Two clients of 64 segments with sixteen rows each.
 fn two() -> (Cache, Client, Client) {
-    let (cache, mut clients) = Cache::builder().keys(100).threads(2).build().unwrap();
+    let (cache, mut clients) = Cache::builder().keys(1000).threads(2).build().unwrap();
     let second = clients.pop().unwrap();
     (cache, clients.pop().unwrap(), second)
 }
@@ -97,8 +98,28 @@ fn what_is_put_expires() {
     assert!(client.get("k").unwrap().is_some());
     client.set_now(110);
     assert_eq!(client.get("k"), Ok(None));
-    client.keep_from(NonZeroU8::new(3));
-    client.keep_from(None);
+}
+
+// One client with sixteen segments of four rows. A key is read at each third put of another one.
+fn missed_reads(set: impl Fn(&Client)) -> usize {
+    let shape = Shape { buckets: 64, overflow: 0, passes: 1, segments_each: 16, rows: 4, first_version: 0 };
+    let (_cache, clients) = Cache::builder().shape(shape).build().unwrap();
+    set(&clients[0]);
+    clients[0].put("often", "read").unwrap();
+    let reads = (0_u32..300).filter(|number| {
+        clients[0].put(number.to_le_bytes(), "x").unwrap();
+        number % 3 == 2 && clients[0].get("often").unwrap().is_none()
+    });
+    reads.count()
+}
+
+#[test]
+fn what_is_read_is_kept_unless_nothing_is() {
+    assert_eq!(missed_reads(|_| ()), 0);
+    assert_eq!(missed_reads(|client| client.keep_from(NonZeroU8::new(2))), 0);
+    // The 64th of the others recycles its segment. The 21 reads before that find it.
+    assert_eq!(missed_reads(Client::keep_nothing), 79);
+    assert_eq!(missed_reads(|client| client.keep_from(None)), 79);
 }
 
 #[test]
