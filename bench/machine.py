@@ -41,6 +41,12 @@ def memory():
     return first.split(":", 1)[1].strip()
 
 
+def processor_times():
+    """How long the processors were in which state so far, in ticks."""
+    names = ["user", "nice", "system", "idle", "iowait", "irq", "softirq", "steal"]
+    return dict(zip(names, map(int, Path("/proc/stat").read_text().splitlines()[0].split()[1:9])))
+
+
 def packages():
     names = sorted({program.package for program in PROGRAMS if program.package})
     return {name: version for name in names if (version := try_output("dpkg-query", "-W", "-f", "${Version}", name))}

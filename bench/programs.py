@@ -1,10 +1,12 @@
 """The programs of the measure: how each is built, and what one run of it came to."""
 
 import json
+import os
 import shlex
 import subprocess
 import time
 from dataclasses import dataclass
+from functools import cache
 from pathlib import Path
 
 BENCH = Path(__file__).resolve().parent
@@ -12,6 +14,13 @@ OUT = BENCH / "out"
 # The library for C. `bindings/check` makes it.
 LIBRARY = BENCH.parent / "bindings/c/out/libsegcache.a"
 COMPILER = ["g++", "-std=c++20", "-O3", "-Wall", "-Wextra", "-pthread"]
+OURS = BENCH.parent / "crates/segtime/out/segtime"
+
+# The mixes with sixteen keys at hand at a time.
+AT_HAND = ("gets16", "mixed16", "gets16apart", "mixed16apart")
+
+# What a program's environment has for each kind of pages. With huge ones malloc asks the kernel for pages of 2 MiB.
+PAGES = {"small": {}, "huge": {"GLIBC_TUNABLES": "glibc.malloc.hugetlb=1"}}
 
 
 @dataclass(frozen=True)
@@ -22,6 +31,12 @@ class Cell:
     draw: str
     keys: int
     threads: int
+    shape: str = "large"
+    pages: str = "small"
+
+    def __str__(self):
+        more = [word for word, usual in ((self.shape, "large"), (self.pages, "small")) if word != usual]
+        return ", ".join([self.mix, self.draw, f"{self.keys:,} keys", f"{self.threads} threads", *more])
 
 
 @dataclass(frozen=True)
@@ -49,6 +64,8 @@ class Program:
     package: str | None = None
     libraries: tuple[str, ...] = ()
     pkg_config: str | None = None
+    # The only mixes that are made of it, if it isn't of all.
+    mixes: tuple[str, ...] = ()
 
     def path(self):
         return OUT / self.name
@@ -84,6 +101,7 @@ PROGRAMS = [
     Program("reference", "reference/reference.cpp"),
     Program("ours_c", "peers/ours_c.cpp", libraries=(str(LIBRARY),)),
     Program("absl_spin", "peers/absl_spin.cpp", "libabsl-dev", pkg_config="absl_flat_hash_map"),
+    Program("absl_prefetch", "peers/absl_prefetch.cpp", "libabsl-dev", pkg_config="absl_flat_hash_map", mixes=AT_HAND),
     Program("absl_mutex", "peers/absl_mutex.cpp", "libabsl-dev", pkg_config="absl_flat_hash_map"),
     Program("std_mutexes", "peers/std_mutexes.cpp"),
     Program("tbb", "peers/tbb.cpp", "libtbb-dev", ("-ltbb",)),
@@ -129,10 +147,11 @@ def ask(process):
     return line
 
 
-def rounds_of(words, rounds):
+def rounds_of(words, rounds, pages):
     """What a program writes of each round, with the nanoseconds of processor time that the round took."""
     told = []
-    with subprocess.Popen(words, stdin=subprocess.PIPE, stdout=subprocess.PIPE, text=True) as process:
+    environment = {**os.environ, **PAGES[pages]}
+    with subprocess.Popen(words, stdin=subprocess.PIPE, stdout=subprocess.PIPE, text=True, env=environment) as process:
         for _ in range(rounds):
             ask(process)
             before = processor_clock(process)
@@ -141,20 +160,35 @@ def rounds_of(words, rounds):
     return told
 
 
-def words_for(name, path, cell, times, rounds, every):
+@cache
+def planned_sizes(ours, keys, threads):
+    """The sizes that the index plans for so many keys, as the programs of `common` take them."""
+    return output(ours, "--print-shape", "--shape", "planned", "--keys", str(keys), "--threads", str(threads)).split()
+
+
+def words_for(name, paths, cell, effort):
     """The command line of a run. Ours has options, and the programs of `common` have places."""
     if name != "ours":
-        return [path, cell.mix, cell.draw, cell.keys, cell.threads, times, every]
-    return [path, "--mix", cell.mix, "--draws", cell.draw, "--keys", cell.keys, "--threads", cell.threads,
-            "--commands", times, "--rounds", rounds, "--format", "json", "--wait", "--sample", every]
+        sizes = planned_sizes(paths["ours"], cell.keys, cell.threads) if cell.shape == "planned" else []
+        return [paths[name], cell.mix, cell.draw, cell.keys, cell.threads, effort.times, effort.every, *sizes]
+    return [paths[name], "--mix", cell.mix, "--draws", cell.draw, "--keys", cell.keys, "--threads", cell.threads,
+            "--shape", cell.shape, "--commands", effort.times, "--rounds", effort.rounds, "--format", "json", "--wait",
+            "--sample", effort.every]
 
 
-def sample(name, path, cell, times, rounds, every):
-    """One run of a program: medians of its rounds, and shares of all their commands.
+@dataclass(frozen=True)
+class Effort:
+    """How much a run does. Each command is timed whose place is a multiple of `every`; none is if that is 0."""
 
-    Each command is timed whose place is a multiple of `every`; none is if that is 0.
-    """
-    lines = rounds_of([str(word) for word in words_for(name, path, cell, times, rounds, every)], rounds)
+    times: int
+    rounds: int
+    every: int = 0
+
+
+def sample(name, paths, cell, effort):
+    """One run of a program: medians of its rounds, and shares of all their commands."""
+    words = [str(word) for word in words_for(name, paths, cell, effort)]
+    lines = rounds_of(words, effort.rounds, cell.pages)
     commands = sum(line["commands"] for line in lines)
 
     def share(name):

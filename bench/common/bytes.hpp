@@ -36,6 +36,16 @@ struct Value {
         std::memcpy(value.bytes.data(), text, value.length);
         return value;
     }
+
+    // The value of a number: sixteen bytes, which differ from those of other numbers.
+    static Value of_number(std::uint32_t number) {
+        constexpr auto spread = static_cast<unsigned __int128>(0x9e37'79b9'7f4a'7c15) << 64 | 0xf39c'c060'5ced'c835;
+        const unsigned __int128 bytes = number * spread;
+        Value value;
+        value.length = sizeof bytes;
+        std::memcpy(value.bytes.data(), &bytes, sizeof bytes);
+        return value;
+    }
 };
 
 // 64-bit FNV-1a.

@@ -3,6 +3,7 @@
 
 #include "bytes.hpp"
 
+#include <algorithm>
 #include <cstdint>
 
 namespace bench {
@@ -17,11 +18,31 @@ enum class Answer {
 
 enum class Write : int { Set, Add, Replace, Cas };
 
+// How large an index is. The other stores take as many keys as there are.
+struct Sizes {
+    std::uint32_t buckets;
+    std::uint32_t overflow;
+    // Of each thread.
+    std::uint32_t segments;
+    std::uint32_t rows;
+};
+
 // How large a store has to be.
 struct Plan {
     std::uint32_t keys;
     unsigned threads;
+    Sizes sizes;
 };
+
+// Up to 65,536 buckets, with two keys for each where there are fewer, and as many overflow buckets;
+// 1,024 segments of 4,096 rows, or 256 for each of up to four threads.
+inline Sizes large_sizes(std::uint32_t keys, unsigned threads) {
+    std::uint32_t buckets = 1;
+    while (buckets < 65'536 && buckets < keys / 2) {
+        buckets *= 2;
+    }
+    return {buckets, buckets, 1024 / std::max(4u, threads), 4096};
+}
 
 // What a thread has while it works on a store to which it needn't be made known.
 struct NoMembership {

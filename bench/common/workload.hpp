@@ -4,6 +4,7 @@
 #include "store.hpp"
 
 #include <algorithm>
+#include <array>
 #include <chrono>
 #include <cstdint>
 #include <optional>
@@ -61,13 +62,19 @@ private:
 enum class Kind { Get, Gets, Set, Add, Replace, Cas, Delete, Modify };
 
 // What the commands of a mix are.
-enum class Mix { Sets, Replaces, Gets, Mixed, A, B, C, F };
+enum class Mix { Sets, Replaces, Gets, Mixed, A, B, C, F, Gets16, Mixed16, Gets16Apart, Mixed16Apart };
 
 inline std::optional<Mix> mix_named(std::string_view name) {
-    constexpr std::string_view names[] = {"sets", "replaces", "gets", "mixed", "a", "b", "c", "f"};
+    constexpr std::string_view names[] = {"sets", "replaces", "gets", "mixed", "a", "b", "c", "f",
+                                          "gets16", "mixed16", "gets16apart", "mixed16apart"};
     const auto found = std::find(std::begin(names), std::end(names), name);
     return found == std::end(names) ? std::nullopt : std::optional(static_cast<Mix>(found - std::begin(names)));
 }
+
+// So many commands are at hand at a time, in the mixes of sixteen.
+constexpr unsigned piece = 16;
+
+inline bool is_in_pieces(Mix mix) { return mix >= Mix::Gets16; }
 
 // Of eight commands of the mixed load four are gets, and one each a gets, a set, a delete, and an
 // add, a replace or a cas. The mixes of one letter are YCSB's.
@@ -76,11 +83,15 @@ inline Kind kind_of(Mix mix, std::uint32_t draw) {
         case Mix::Sets: return Kind::Set;
         case Mix::Replaces: return Kind::Replace;
         case Mix::Gets:
+        case Mix::Gets16:
+        case Mix::Gets16Apart:
         case Mix::C: return Kind::Get;
         case Mix::A: return draw % 100 < 50 ? Kind::Get : Kind::Set;
         case Mix::B: return draw % 100 < 95 ? Kind::Get : Kind::Set;
         case Mix::F: return draw % 100 < 50 ? Kind::Get : Kind::Modify;
-        case Mix::Mixed: break;
+        case Mix::Mixed:
+        case Mix::Mixed16:
+        case Mix::Mixed16Apart: break;
     }
     constexpr Kind sixth[] = {Kind::Add, Kind::Replace, Kind::Cas};
     switch (draw % 8) {
@@ -92,9 +103,36 @@ inline Kind kind_of(Mix mix, std::uint32_t draw) {
     }
 }
 
+// The values from which each write draws one.
+constexpr std::uint32_t value_count = 64;
+
+inline std::vector<Value> values_to_draw() {
+    std::vector<Value> values;
+    for (std::uint32_t number = 1; number <= value_count; ++number) {
+        values.push_back(Value::of_number(number));
+    }
+    return values;
+}
+
+// What all threads go by.
+struct Load {
+    Mix mix;
+    // Each command is timed whose place is a multiple of this; none is if it is 0.
+    std::uint32_t sample;
+    std::vector<Key> keys;
+    std::vector<Value> values;
+
+    // The value that a number at random, of 24 bits, chooses.
+    const Value& drawn(std::uint32_t draw) const { return values[draw >> 18]; }
+};
+
 // What the answers of one thread came to.
 struct Tally {
     std::uint64_t hits = 0, misses = 0, busy = 0, full = 0;
+    // The lengths and first bytes of the values that were read, added up, so that the compiler leaves no reading out.
+    std::uint64_t read = 0;
+
+    void add(const Value& value) { read += value.length + static_cast<unsigned char>(value.bytes[0]); }
 
     void count(Answer answer) {
         switch (answer) {
@@ -111,6 +149,7 @@ struct Tally {
         misses += other.misses;
         busy += other.busy;
         full += other.full;
+        read += other.read;
     }
 };
 
@@ -128,24 +167,14 @@ public:
         }
     }
 
-    // Makes the commands of a round. Each is timed whose place is a multiple of `sample`; none is if that is 0.
-    void work(Mix mix, const std::vector<Key>& keys, const Value& value, std::uint32_t sample) {
-        using Clock = std::chrono::steady_clock;
+    // Makes the commands of a round.
+    void work(const Load& load) {
         tally = {};
         samples.clear();
-        std::size_t next = sample == 0 ? numbers_.size() : 0;
-        for (std::size_t place = 0; place < numbers_.size(); ++place) {
-            const Key& key = keys[numbers_[place]];
-            const std::uint32_t draw = generator_.next();
-            if (place != next) {
-                tally.count(serve(kind_of(mix, draw), key, value, draw));
-                continue;
-            }
-            const auto start = Clock::now();
-            tally.count(serve(kind_of(mix, draw), key, value, draw));
-            const std::chrono::nanoseconds time = Clock::now() - start;
-            samples.push_back(static_cast<std::uint64_t>(time.count()));
-            next += sample;
+        if (is_in_pieces(load.mix)) {
+            work_in_pieces(load);
+        } else {
+            work_one_by_one(load);
         }
     }
 
@@ -154,10 +183,68 @@ public:
     Tally tally;
     // The nanoseconds that each timed command of the last round took.
     std::vector<std::uint64_t> samples;
-    // The values that were read, added up, so that no reading is left out by the compiler.
-    std::uint64_t read = 0;
 
 private:
+    void work_one_by_one(const Load& load) {
+        using Clock = std::chrono::steady_clock;
+        std::size_t next = load.sample == 0 ? numbers_.size() : 0;
+        for (std::size_t place = 0; place < numbers_.size(); ++place) {
+            const Key& key = load.keys[numbers_[place]];
+            if (place != next) {
+                serve(load, key);
+                continue;
+            }
+            const auto start = Clock::now();
+            serve(load, key);
+            const std::chrono::nanoseconds time = Clock::now() - start;
+            samples.push_back(static_cast<std::uint64_t>(time.count()));
+            next += load.sample;
+        }
+    }
+
+    // The keys of a piece are known before its first command. A client that can gets all of them by one call, or looks
+    // ahead at all of them. The others make single commands.
+    void work_in_pieces(const Load& load) {
+        std::array<Key, piece> at_hand;
+        for (std::size_t start = 0; start + piece <= numbers_.size(); start += piece) {
+            for (unsigned place = 0; place < piece; ++place) {
+                at_hand[place] = load.keys[numbers_[start + place]];
+            }
+            if constexpr (requires(Value* found, Answer* answers) { client_.get_many(at_hand.data(), piece, generator_, found, answers); }) {
+                if (load.mix == Mix::Gets16) {
+                    get_together(at_hand);
+                    continue;
+                }
+            }
+            if constexpr (requires { client_.look_ahead(at_hand.data(), piece); }) {
+                if (load.mix == Mix::Gets16 || load.mix == Mix::Mixed16) {
+                    client_.look_ahead(at_hand.data(), piece);
+                }
+            }
+            for (const Key& key : at_hand) {
+                serve(load, key);
+            }
+        }
+    }
+
+    void get_together(const std::array<Key, piece>& keys) {
+        std::array<Value, piece> found;
+        std::array<Answer, piece> answers;
+        client_.get_many(keys.data(), piece, generator_, found.data(), answers.data());
+        for (unsigned place = 0; place < piece; ++place) {
+            tally.count(answers[place]);
+            if (answers[place] == Answer::Hit) {
+                tally.add(found[place]);
+            }
+        }
+    }
+
+    // Makes a drawn command, and counts its answer.
+    void serve(const Load& load, const Key& key) {
+        const std::uint32_t draw = generator_.next();
+        tally.count(serve(kind_of(load.mix, draw), key, load.drawn(draw), draw));
+    }
+
     Answer serve(Kind kind, const Key& key, const Value& value, std::uint32_t draw) {
         switch (kind) {
             case Kind::Get: return get(key, draw);
@@ -176,14 +263,18 @@ private:
     Answer get(const Key& key, std::uint32_t draw) {
         Value found;
         const Answer answer = client_.get(key, draw, found);
-        read += found.length + static_cast<unsigned char>(found.bytes[0]);
+        if (answer == Answer::Hit) {
+            tally.add(found);
+        }
         return answer;
     }
 
     Answer gets(const Key& key, std::uint32_t draw) {
         Value found;
         const Answer answer = client_.gets(key, draw, found, version_);
-        read += found.length + static_cast<unsigned char>(found.bytes[0]);
+        if (answer == Answer::Hit) {
+            tally.add(found);
+        }
         return answer;
     }
 

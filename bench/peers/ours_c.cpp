@@ -3,10 +3,11 @@
 #include "../../bindings/c/segcache.h"
 #include "../common/measure.hpp"
 
-#include <algorithm>
+#include <array>
 #include <cstdint>
 #include <cstdio>
 #include <cstdlib>
+#include <cstring>
 #include <vector>
 
 namespace {
@@ -46,6 +47,21 @@ public:
                                                  value.bytes.size(), &length, &version);
         value.length = static_cast<std::uint8_t>(length);
         return answer_of(status);
+    }
+
+    void get_many(const Key* keys, unsigned count, bench::Generator& draws, Value* found, Answer* answers) {
+        std::array<segcache_lookup, bench::piece> lookups;
+        for (unsigned place = 0; place < count; ++place) {
+            lookups[place].key_at = place * sizeof(Key);
+            lookups[place].key_len = keys[place].length;
+            draws.next();
+        }
+        segcache_get_many(client_, keys, count * sizeof(Key), now, lookups.data(), count);
+        for (unsigned place = 0; place < count; ++place) {
+            answers[place] = answer_of(lookups[place].status);
+            found[place].length = static_cast<std::uint8_t>(lookups[place].value_len);
+            std::memcpy(found[place].bytes.data(), lookups[place].value, sizeof lookups[place].value);
+        }
     }
 
     // A set is a put. Another write is made once more if there was no room, and some is made.
@@ -102,14 +118,9 @@ public:
     Client client(std::uint32_t number) { return Client(&clients_[number]); }
 
 private:
-    // As `ours` has it: up to 65,536 buckets, with two keys for each where there are fewer, and as many
-    // overflow buckets; 1,024 segments of 4,096 rows, or 256 for each of up to four threads.
     static segcache_shape shape_of(const bench::Plan& plan) {
-        std::uint32_t buckets = 1;
-        while (buckets < 65'536 && buckets < plan.keys / 2) {
-            buckets *= 2;
-        }
-        return {buckets, buckets, plan.threads, 1024 / std::max(4u, plan.threads), 4096, 0};
+        const auto& [buckets, overflow, segments, rows] = plan.sizes;
+        return {buckets, overflow, plan.threads, segments, rows, 0};
     }
 
     segcache cache_{};

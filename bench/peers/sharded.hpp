@@ -31,7 +31,8 @@ private:
     std::atomic<bool> is_taken_ = false;
 };
 
-template <class Map, class Lock, std::size_t count>
+// One that prefetches does so without the locks. That is a race, and so the most that a user could do.
+template <class Map, class Lock, std::size_t count, bool prefetches = false>
 class Sharded {
     struct alignas(64) Shard {
         Lock lock;
@@ -82,6 +83,16 @@ public:
             Shard& shard = shard_of(key);
             const std::lock_guard guard(shard.lock);
             return shard.map.erase(key) > 0 ? Answer::Hit : Answer::Miss;
+        }
+
+        void look_ahead(const Key* keys, unsigned number)
+            requires prefetches
+        {
+            for (unsigned place = 0; place < number; ++place) {
+                Shard& shard = shard_of(keys[place]);
+                __builtin_prefetch(&shard, 1);
+                shard.map.prefetch(keys[place]);
+            }
         }
 
     private:

@@ -2,6 +2,7 @@
 // stored under their key. It is made so small that chains grow and segments are evicted all the time.
 
 #include "../common/workload.hpp"
+#include "ahead.hpp"
 #include "eviction.hpp"
 
 #include <cstdio>
@@ -105,6 +106,7 @@ void check_crowd() {
                 const std::uint32_t drawn = generator.next() % keys;
                 const Key key = Key::of_number(drawn);
                 Value value;
+                Ahead(table).look(&key, 1);
                 if (Reader(table, key, 0).get(count, value) == Read::Found) {
                     expect(static_cast<std::uint32_t>(std::atoi(value.bytes.data())) == drawn, "whose value was read");
                 }

@@ -1,9 +1,9 @@
 // Measures the reference: the same layout and the same steps as the index, written by hand.
 
 #include "../common/measure.hpp"
+#include "ahead.hpp"
 #include "eviction.hpp"
 
-#include <algorithm>
 #include <cstdint>
 #include <memory>
 
@@ -29,6 +29,15 @@ public:
 
         Answer gets(const bench::Key& key, std::uint32_t draw, bench::Value& value, std::uint32_t& version) {
             return answer_of(reference::Reader(*table_, key, now).gets(draw, value, version));
+        }
+
+        void look_ahead(const bench::Key* keys, unsigned count) { reference::Ahead(*table_).look(keys, count); }
+
+        void get_many(const bench::Key* keys, unsigned count, bench::Generator& draws, bench::Value* found, Answer* answers) {
+            look_ahead(keys, count);
+            for (unsigned place = 0; place < count; ++place) {
+                answers[place] = get(keys[place], draws.next(), found[place]);
+            }
         }
 
         // A set is made as a put of the index's client: if its bucket is full the next segment is
@@ -92,14 +101,9 @@ public:
     Client client(std::uint32_t number) { return {*table_, number}; }
 
 private:
-    // Up to 65,536 buckets, with two keys for each where there are fewer, and as many overflow buckets;
-    // 1,024 segments of 4,096 rows, or 256 for each of up to four threads.
     static reference::Shape shape_of(const bench::Plan& plan) {
-        std::uint32_t buckets = 1;
-        while (buckets < 65'536 && buckets < plan.keys / 2) {
-            buckets *= 2;
-        }
-        return {buckets, buckets, plan.threads, 1024 / std::max(4u, plan.threads), 4096};
+        const auto& [buckets, overflow, segments, rows] = plan.sizes;
+        return {buckets, overflow, plan.threads, segments, rows};
     }
 
     std::unique_ptr<reference::Table> table_;

@@ -48,6 +48,12 @@ public:
         return &words_[front_ + segment_words_ * place.segment + 1 + 8 * std::size_t{place.row}];
     }
 
+    bool has_bucket(std::uint32_t bucket) const { return bucket < shape_.buckets + shape_.overflow; }
+
+    bool has_row(RowPlace place) const {
+        return place.segment < shape_.passes * shape_.segments_each && place.row < shape_.rows;
+    }
+
     // The bucket to which a hash belongs.
     std::uint32_t bucket_of(Word hash) const { return static_cast<std::uint32_t>(hash & (shape_.buckets - 1)); }
 

@@ -163,11 +163,14 @@ private:
         return std::nullopt;
     }
 
+    // A word that stands there already isn't stored again.
     void fill(RowPlace place, const bench::Value& value) {
         const Row words = row_of(key_, value);
         std::atomic<Word>* row = table_.row(place);
         for (int number = 0; number < 8; ++number) {
-            row[number] = words[number];
+            if (row[number] != words[number]) {
+                row[number] = words[number];
+            }
         }
     }
 
