@@ -9,10 +9,12 @@ pub use Rattle.segword.specs.Props.{quadruple-prop, triple-prop}
 pub use Rattle.segword.specs.Reading.{IsProperReading, reading_word}
 pub use Rattle.segword.specs.Row.{row_of}
 pub use Rattle.segword.specs.SameItem.{IsSameItem}
+pub use Rattle.segword.specs.SegmentWord.{word_of_segment}
 pub use Rattle.segword.specs.Shape.{fault_number, IsFirstFault, IsValid, word_count}
 use Rattle.segword.specs.declared.info.Info as declared_info
 use Rattle.segword.specs.declared.item.Item as declared_item
 use Rattle.segword.specs.declared.reading.Reading as declared_reading
+use Rattle.segword.specs.declared.segment.SegmentWord as declared_segment
 use Rattle.segword.specs.declared.shape.Shape as declared_shape
 
 -- The types of this crate that others name.
@@ -24,6 +26,9 @@ Item = declared_item.Item
 
 abbrev pub Reading : Type 0
 Reading = declared_reading.Reading
+
+abbrev pub SegmentWord : Type 0
+SegmentWord = declared_segment.SegmentWord
 
 abbrev pub Shape : Type 0
 Shape = declared_shape.Shape

@@ -4,6 +4,7 @@ ghost use Rattle.segword.specs.Bytes.{IsKey, IsValue};
 ghost use Rattle.segword.specs.Row.{row_of};
 ghost use Rattle.segword.specs.KeyWords.{key_words, key_part};
 
+use crate::row::ROW_WORDS;
 use crate::words::words_of;
 use crate::{Key, Value};
 use std::marker::Model;
@@ -56,7 +57,7 @@ impl KeyWords {
     }
 
     /// The eight words of this key and a value.
-    pub fn row(&self, value: &Value) -> [u64; 8]
+    pub fn row(&self, value: &Value) -> [u64; ROW_WORDS]
         ensures row { result ≡ row_of self.now value.now }
         ensures valid { IsValue value.now }
     {

@@ -3,6 +3,12 @@ ghost use Rattle.std.specs.Prelude.{◌≡◌, ◌↔◌, IsSome, IfSome, Some};
 
 use crate::{Chain, Item};
 
+/// How many words a bucket has: its information word, and words 1 to 7.
+pub const BUCKET_WORDS: usize = 8;
+
+/// The last word of a bucket: an item word, or the one that leads on to the chain's next bucket.
+pub const LAST_WORD: u8 = 7;
+
 /// How a word 1 to 7 of a bucket is read. A bucket chains only by its word 7.
 #[derive(Clone, Copy, Debug, PartialEq, Eq)]
 pub enum Reading {

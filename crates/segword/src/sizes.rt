@@ -22,15 +22,15 @@ impl Shape {
             IsValid shape × (shape.passes ≡ passes) × HasRoomFor keys shape) }
         ensures err { IfErr result (IsFaultOfKeys keys passes) }
     {
-        if !(1..=64).contains(&passes) {
+        if !(1..=Self::MOST_PASSES).contains(&passes) {
             return Err(ShapeFault::BadPasses);
         }
         if keys > MOST_KEYS {
             return Err(ShapeFault::TooLarge);
         }
-        let buckets = keys.div_ceil(4).next_power_of_two().min(65_536);
+        let buckets = keys.div_ceil(4).next_power_of_two().min(Self::MOST_BUCKETS);
         let rows_each = (2 * keys).div_ceil(passes).max(1);
-        let segments_each = rows_each.div_ceil(4096).max(LEAST_SEGMENTS);
+        let segments_each = rows_each.div_ceil(Self::MOST_ROWS).max(LEAST_SEGMENTS);
         Ok(Shape {
             buckets,
             overflow: buckets,
