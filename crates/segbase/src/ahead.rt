@@ -1,14 +1,14 @@
 //! A look ahead: words that commands on some keys are about to read are loaded together,
 //! so that the waits for memory overlap. No pass takes these loads: nothing follows from what
 //! they find, and they change nothing.
-ghost use Rattle.std.specs.Prelude.{◌<◌, ◌+◌, ◌↔◌, All, IsTrue};
+ghost use Rattle.std.specs.Prelude.{◌<◌, ◌≤◌, ◌+◌, ◌↔◌, All, IsTrue};
 ghost use Rattle.segcore.specs.declared.cell.Cell.TheVariants.{OfRow};
 ghost use Rattle.segcore.specs.Words.{IsCell};
 
 use crate::board::Board;
 use crate::overflow::CHAIN_BUCKETS;
 use crate::place::{Place, Spot};
-use segword::{Chain, Item, Key, bucket_of, hash, tag_of};
+use segword::{BUCKET_WORDS, Chain, Item, Key, LAST_WORD, ROW_WORDS, bucket_of, hash, tag_of};
 
 // So many keys are looked ahead for at a time.
 const PIECE: usize = 16;
@@ -19,8 +19,7 @@ const PIECE: usize = 16;
 enum Next {
     // A bucket of the key's chain.
     Bucket(u32),
-    // A segment, and the number of a row in it.
-    Row(u32, u32),
+    Row { segment: u32, row: u32 },
     Nothing,
 }
 
@@ -100,11 +99,14 @@ impl Board {
     {
         match next {
             Next::Bucket(bucket) if self.has_bucket(bucket) => {
-                (self.item_index(bucket, 1), self.item_index(bucket, 7))
+                (
+                    self.item_index(bucket, 1),
+                    self.item_index(bucket, LAST_WORD),
+                )
             }
-            Next::Row(segment, row) if self.has_row(segment, row) => (
-                self.index(Spot::Row(segment, row, 0)),
-                self.index(Spot::Row(segment, row, 7)),
+            Next::Row { segment, row } if self.has_row(segment, row) => (
+                self.row_index(segment, row, 0),
+                self.row_index(segment, row, ROW_WORDS as u8 - 1),
             ),
             _ => (0, 0),
         }
@@ -120,14 +122,17 @@ impl Board {
         }
         let mut found = 0;
         let mut word = 0;
-        for number in 1..8 {
+        for number in 1..BUCKET_WORDS as u8 {
             word = self.table.shared.peek(self.item_index(bucket, number));
-            if word >> 52 == u64::from(seeker.tag) {
+            if Item::has_tag(word, seeker.tag) {
                 found = word;
             }
         }
         if let Some(item) = Item::unpack(found) {
-            return Next::Row(item.seg, item.row);
+            return Next::Row {
+                segment: item.seg,
+                row: item.row,
+            };
         }
         match Chain::unpack(word) {
             Some(number) => Next::Bucket(self.shape.buckets + number),
@@ -149,9 +154,16 @@ impl Board {
 
     fn item_index(&self, bucket: u32, word: u8) -> usize
         requires bucket { bucket < self.now.shape.buckets + self.now.shape.overflow }
-        requires word { word < 8 }
+        requires word { word ≤ LAST_WORD }
         ensures { result < self.now.table.shared.table_id.words }
     {
         self.index(Spot::Item(Place { bucket, word }))
+    }
+
+    fn row_index(&self, segment: u32, row: u32, word: u8) -> usize
+        requires row { IsCell self.now.shape (OfRow segment row word) }
+        ensures { result < self.now.table.shared.table_id.words }
+    {
+        self.index(Spot::Row { segment, row, word })
     }
 }

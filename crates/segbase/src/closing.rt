@@ -14,7 +14,7 @@ use crate::layout::Layout;
 use crate::pass::Pass;
 use crate::place::{Place, Spot};
 use atomic_table::{Closed, Seat};
-use segword::Shape;
+use segword::{ROW_WORDS, Shape};
 use std::alloc::Global;
 
 /// The words of a board that was closed.
@@ -126,15 +126,19 @@ impl Words {
     }
 
     /// The words of a row.
-    pub fn row(&self, segment: u32, row: u32) -> [u64; 8]
+    pub fn row(&self, segment: u32, row: u32) -> [u64; ROW_WORDS]
         requires segment { IsSegment (shape_of self.now) segment }
         requires row { row < (shape_of self.now).rows }
         ensures { (place : ℕ) → place < 8
             → slice_index result place ≡ word_of_cell self.now (OfRow segment row place) }
     {
-        let mut words = [0; 8];
-        for place in 0..8u8 {
-            words[place as usize] = self.word(Spot::Row(segment, row, place));
+        let mut words = [0; ROW_WORDS];
+        for place in 0..ROW_WORDS as u8 {
+            words[place as usize] = self.word(Spot::Row {
+                segment,
+                row,
+                word: place,
+            });
         }
         words
     }

@@ -5,7 +5,7 @@ ghost use Rattle.segcore.specs.Words.{address, IsCell};
 ghost use Rattle.segbase.specs.Spots.{IsLayoutOf, cell_of};
 
 use crate::place::{Place, Spot};
-use segword::Shape;
+use segword::{BUCKET_WORDS, ROW_WORDS, Shape};
 
 // Where the segments of a shape begin, and how many words each has.
 #[derive(Clone, Copy, Drop)]
@@ -20,8 +20,8 @@ impl Layout {
         ensures { IsLayoutOf shape.now result }
     {
         Layout {
-            front: 1 + 8 * (shape.buckets as usize + shape.overflow as usize),
-            segment_words: 1 + 8 * shape.rows as usize,
+            front: 1 + BUCKET_WORDS * (shape.buckets as usize + shape.overflow as usize),
+            segment_words: 1 + ROW_WORDS * shape.rows as usize,
         }
     }
 
@@ -36,15 +36,19 @@ impl Layout {
     {
         match spot {
             Spot::Counter(_) => 0,
-            Spot::Info(bucket) => 1 + 8 * bucket as usize,
-            Spot::Item(Place { bucket, word }) => 1 + 8 * bucket as usize + word as usize,
-            Spot::Overflow(number) => 2 + 8 * (shape.buckets as usize + number as usize),
+            Spot::Info(bucket) => 1 + BUCKET_WORDS * bucket as usize,
+            Spot::Item(Place { bucket, word }) => {
+                1 + BUCKET_WORDS * bucket as usize + word as usize
+            }
+            Spot::Overflow(number) => {
+                2 + BUCKET_WORDS * (shape.buckets as usize + number as usize)
+            }
             Spot::Segment(segment) => self.front + self.segment_words * segment as usize,
-            Spot::Row(segment, row, word) => {
+            Spot::Row { segment, row, word } => {
                 self.front
                     + self.segment_words * segment as usize
                     + 1
-                    + 8 * row as usize
+                    + ROW_WORDS * row as usize
                     + word as usize
             }
         }

@@ -26,6 +26,5 @@ pub(crate) enum Spot {
     // Word 1 of an overflow bucket.
     Overflow(u32),
     Segment(u32),
-    // Segment, row, word.
-    Row(u32, u32, u8),
+    Row { segment: u32, row: u32, word: u8 },
 }

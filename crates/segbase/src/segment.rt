@@ -10,12 +10,17 @@ ghost use Rattle.segbase.specs.Spots.{IsRowAt};
 use crate::board::Board;
 use crate::pass::Pass;
 use crate::place::{RowPlace, Spot};
+use segword::SegmentWord;
 
 // The word of a segment with this deadline in which nobody reads.
 fn unread(deadline: u32) -> u64
     ensures { result ≡ deadline * 2 ^ 32 }
 {
-    u64::from(deadline) << 32
+    let unread = SegmentWord {
+        deadline,
+        readers: 0,
+    };
+    unread.pack()
 }
 
 impl Board {
@@ -29,7 +34,8 @@ impl Board {
         ensures step { TakesStep self.now (row_store segment row word value) pass.old pass.new }
         ensures did { AddsOne self.now (λ n. Filled n segment row word value) pass.old pass.new }
     {
-        self.store_at(pass, Spot::Row(segment, row, word), value);
+        let spot = Spot::Row { segment, row, word };
+        self.store_at(pass, spot, value);
     }
 
     /// As `row_store`, for a row whose place is known.
@@ -47,7 +53,7 @@ impl Board {
             row,
             start,
         } = row;
-        let spot = Spot::Row(segment, row, word);
+        let spot = Spot::Row { segment, row, word };
         self.store_index(pass, spot, start + word as usize, value);
     }
 
@@ -60,7 +66,7 @@ impl Board {
         ensures did { AddsAtOnce self.now [] pass.old pass.new }
         ensures word { result ≡ (row_after (trace pass.new) segment row).words word }
     {
-        self.load_at(pass, Spot::Row(segment, row, word))
+        self.load_at(pass, Spot::Row { segment, row, word })
     }
 
     /// A row with the place at which its words begin, for several steps at one row.
@@ -72,7 +78,11 @@ impl Board {
         RowPlace {
             segment,
             row,
-            start: self.index(Spot::Row(segment, row, 0)),
+            start: self.index(Spot::Row {
+                segment,
+                row,
+                word: 0,
+            }),
         }
     }
 
@@ -91,7 +101,8 @@ impl Board {
             row,
             start,
         } = row;
-        self.load_index(pass, Spot::Row(segment, row, word), start + word as usize)
+        let spot = Spot::Row { segment, row, word };
+        self.load_index(pass, spot, start + word as usize)
     }
 
     /// One reader more. It returns the segment's deadline, which stays as long as the reader.
@@ -103,7 +114,7 @@ impl Board {
         ensures deadline { result
             ≡ (after self.now.shape (seen pass.new)).deadline segment }
     {
-        (self.add_at(pass, Spot::Segment(segment), 1) >> 32) as u32
+        SegmentWord::unpack(self.add_at(pass, Spot::Segment(segment), 1)).deadline
     }
 
     /// One reader fewer.
