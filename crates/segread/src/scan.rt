@@ -11,8 +11,8 @@ ghost use Rattle.segread.specs.Scanning.{place_of, GoesAlong, IsPlaceOf, IsScann
 ghost use Rattle.segread.specs.Scanning.{ScansOn, TriesItem};
 
 use segbase::{Board, Pass, Place};
-use segstore::{Keyed, LAST_WORD, Sought, enter_segment, leave_segment, next_place, read_keyed};
-use segword::{Item, Key, KeyWords};
+use segstore::{Keyed, Sought, TRIES, enter_segment, leave_segment, next_place, read_keyed};
+use segword::{Item, Key, KeyWords, LAST_WORD};
 
 // An item of the key, in whose segment the pass is: where the item stands, word 0 of its row,
 // the deadline of the segment, and how many tries were counted before.
@@ -34,9 +34,6 @@ pub(crate) enum Scan {
     // The words changed at each try.
     Busy,
 }
-
-// After so many finds that an item with the key's tag has become another one, a scan gives up.
-pub(crate) const TRIES: u32 = 64;
 
 // The item of a word, if the word is an item word with this tag.
 pub(crate) fn item_of_tag(word: u64, tag: u16) -> Option<Item>
@@ -71,14 +68,14 @@ pub(crate) fn try_item(
     (keyed, deadline)
 }
 
-// Looks at a word until that is found to be the key's or not, or 64 tries are counted.
+// Looks at a word until that is found to be the key's or not, or all tries are counted.
 #[inline(always)]
 fn visit_word(board: &Board, pass: &mut Pass, place: Place, sought: &Sought, tries: u32) -> Scan
     requires pass { IsPassOf board.now pass.old }
     requires reader { MayEnterAny pass.old }
     requires place { IsPlaceOf board.now.shape (trace pass.old) sought.now.key place }
     requires sought { IsSought board.now.shape sought.now }
-    requires tries { tries < 64 }
+    requires tries { tries < TRIES }
     ensures reads { IsScanner board.now result pass.old pass.new }
     ensures way { AfterLook board.now pass.old
         (λ first. GoesAlong board.now sought.now.key place place tries result first pass.new) }
@@ -127,10 +124,10 @@ fn visit_bucket(
     requires reader { MayEnterAny pass.old }
     requires start { IsPlaceOf board.now.shape (trace pass.old) sought.now.key start }
     requires sought { IsSought board.now.shape sought.now }
-    requires tries { tries < 64 }
+    requires tries { tries < TRIES }
     ensures reads { IsScanner board.now result pass.old pass.new }
     ensures way { AfterLook board.now pass.old
-        (λ first. GoesAlong board.now sought.now.key start (place_of start.bucket 7) tries result
+        (λ first. GoesAlong board.now sought.now.key start (place_of start.bucket LAST_WORD) tries result
         first pass.new) }
 {
     for word in start.word..LAST_WORD {
@@ -159,7 +156,7 @@ pub(crate) fn scan_from(
     requires reader { MayEnterAny pass.old }
     requires place { IsPlaceOf board.now.shape (trace pass.old) sought.now.key place }
     requires sought { IsSought board.now.shape sought.now }
-    requires tries { tries < 64 }
+    requires tries { tries < TRIES }
     ensures reads { IsScanner board.now result pass.old pass.new }
     ensures scan { AfterLook board.now pass.old
         (λ first. ScansOn board.now sought.now.key place tries result first pass.new) }

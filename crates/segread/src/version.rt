@@ -10,10 +10,10 @@ ghost use Rattle.segread.specs.Gets.{ReadsVersion, HasNoBit, Attempted, FindsLoc
 ghost use Rattle.segread.specs.Gets.{Sees};
 
 use crate::read::count_hit;
-use crate::scan::{Hit, Scan, TRIES, item_of_tag, scan_for, scan_from};
+use crate::scan::{Hit, Scan, item_of_tag, scan_for, scan_from};
 use segbase::{Board, Pass, Place};
 use segmodel::GetsAnswer;
-use segstore::{Sought, leave_segment, next_place, value_of_row};
+use segstore::{Sought, TRIES, leave_segment, next_place, value_of_row};
 use segword::{Info, Key, Value, same_item};
 
 // A gets: what it looks for, its draw and its clock.
@@ -137,7 +137,7 @@ fn try_version(board: &Board, pass: &mut Pass, call: &GetsCall, place: Place, tr
     requires place { IsPlaceOf board.now.shape (trace pass.old) call.now.sought.key place }
     requires free { HasNoBit board.now.shape call.now.sought.key pass.old }
     requires versions { board.now.shape.first_version < 2 ^ 32 }
-    requires tries { tries < 64 }
+    requires tries { tries < TRIES }
     ensures reads { IsReader board.now pass.old pass.new }
     ensures attempt { AfterLook board.now pass.old
         (λ first. Attempted board.now call.now.sought.key call.now.clock call.now.draw place tries
@@ -198,7 +198,7 @@ fn see_version(
     requires place { IsPlaceOf board.now.shape (trace pass.old) call.now.sought.key place }
     requires free { HasNoBit board.now.shape call.now.sought.key pass.old }
     requires versions { board.now.shape.first_version < 2 ^ 32 }
-    requires tries { tries < 64 }
+    requires tries { tries < TRIES }
     ensures sight { AfterLook board.now pass.old
         (λ first. Sees board.now call.now.sought.key call.now.clock place tries result
         first pass.new) }

@@ -22,8 +22,9 @@ pub enum LockAnswer {
     AlreadyLocked,
 }
 
-// How often a call tries to take a bit before it answers Busy.
-const TRIES: u32 = 64;
+/// How often a call tries before it returns Busy: to take a bucket's bit, or to read an item that
+/// others change.
+pub const TRIES: u32 = 64;
 
 /// Locks the bucket of a key. Until the bucket is unlocked no other pass writes in it.
 /// The pass's own deletes in it, and its own writes that have room, are Busy.

@@ -4,10 +4,7 @@ ghost use Rattle.segword.specs.Words.{IsKey, IsValid};
 ghost use Rattle.segstore.specs.Chains.{IsNext};
 
 use segbase::{Board, Place};
-use segword::{Chain, Key, KeyWords, hash, tag_of};
-
-/// The last word of a bucket: an item word, or the one that leads on to the chain's next bucket.
-pub const LAST_WORD: u8 = 7;
+use segword::{Chain, Key, KeyWords, LAST_WORD, hash, tag_of};
 
 /// What a call looks for: a key as rows hold it, its tag, and the bucket in which its chain begins.
 /// It is computed once a call.
@@ -44,7 +41,7 @@ impl Sought {
 #[inline(always)]
 pub fn next_place(board: &Board, place: Place, word: u64) -> Option<Place>
     requires valid { IsValid board.now.shape }
-    requires word { place.word ≤ 7 }
+    requires word { place.word ≤ LAST_WORD }
     ensures { IsNext board.now.shape place word result }
 {
     if place.word < LAST_WORD {

@@ -11,8 +11,8 @@ mod room;
 mod row;
 mod write;
 
-pub use bucket::{LockAnswer, lock_bucket, take_bucket, take_to_write, unlock_bucket};
-pub use chain::{LAST_WORD, Sought, next_place};
+pub use bucket::{LockAnswer, TRIES, lock_bucket, take_bucket, take_to_write, unlock_bucket};
+pub use chain::{Sought, next_place};
 pub use enter::{enter_segment, leave_segment};
 pub use read::{Keyed, Linked, read_keyed, read_linked};
 pub use refilling::refill;

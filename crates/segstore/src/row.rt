@@ -15,6 +15,9 @@ pub struct RowRef {
     pub row: u32,
 }
 
+// The first of the four words of a row that have the value. Those before have the lengths and the key.
+pub(crate) const VALUE_WORD: u8 = 4;
+
 // Four words of a row.
 pub(crate) fn load_words(
     board: &Board,
@@ -25,7 +28,7 @@ pub(crate) fn load_words(
 ) -> [u64; 4]
     requires pass { IsPassOf board.now pass.old }
     requires readable { IsReadable board.now pass.old segment row }
-    requires from { from ≤ 4 }
+    requires from { from ≤ VALUE_WORD }
     ensures reads { ReadsRow board.now pass.old pass.new segment row }
     ensures words { result ≡ four_words (row_after (trace pass.new) segment row).words from }
 {
@@ -73,7 +76,7 @@ pub fn value_of_row(board: &Board, pass: &mut Pass, segment: u32, row: u32, head
     ensures value { (key value : List ℕ) → IsKey key → IsValue value
         → Holds (row_after (trace pass.new) segment row) key value → result ≡ value }
 {
-    let words = load_words(board, pass, segment, row, 4);
+    let words = load_words(board, pass, segment, row, VALUE_WORD);
     read_value(header, &words)
 }
 
@@ -97,6 +100,6 @@ pub fn pair_of_row(board: &Board, pass: &mut Pass, segment: u32, row: u32) -> Op
         → Holds (row_after (trace pass.new) segment row) key value → result ≡ Some (key, value) }
 {
     let [header, first, second, third] = load_words(board, pass, segment, row, 0);
-    let [fourth, fifth, sixth, seventh] = load_words(board, pass, segment, row, 4);
+    let [fourth, fifth, sixth, seventh] = load_words(board, pass, segment, row, VALUE_WORD);
     read_row(&[header, first, second, third, fourth, fifth, sixth, seventh])
 }

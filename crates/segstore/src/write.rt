@@ -9,9 +9,9 @@ ghost use Rattle.segstore.specs.Rows.{FillsRow, StoresRow};
 ghost use Rattle.segstore.specs.Segments.{KeepsSegments, has_room};
 
 use crate::room::{NoRoom, next_row};
-use crate::row::{RowRef, load_words};
+use crate::row::{RowRef, VALUE_WORD, load_words};
 use segbase::{Board, Pass, RowPlace};
-use segword::{Key, KeyWords, Value};
+use segword::{Key, KeyWords, ROW_WORDS, Value};
 
 /// Writes a key and a value into the row that the pass stores into next, and returns that row.
 /// The call doesn't count the row as used.
@@ -67,36 +67,42 @@ pub fn copy_row(board: &Board, pass: &mut Pass, from: RowRef, to: RowRef)
     ensures memo { (sight pass.new).memo ≡ (sight pass.old).memo }
 {
     let [header, first, second, third] = load_words(board, pass, from.segment, from.row, 0);
-    let [fourth, fifth, sixth, seventh] = load_words(board, pass, from.segment, from.row, 4);
+    let [fourth, fifth, sixth, seventh] = load_words(
+        board,
+        pass,
+        from.segment,
+        from.row,
+        VALUE_WORD,
+    );
     let words = [header, first, second, third, fourth, fifth, sixth, seventh];
     store_words(board, pass, to.segment, to.row, &words);
 }
 
 // Makes a row of the pass's own, that no item named in this filling, have these eight words.
 #[inline(always)]
-fn store_words(board: &Board, pass: &mut Pass, segment: u32, row: u32, words: &[u64; 8])
+fn store_words(board: &Board, pass: &mut Pass, segment: u32, row: u32, words: &[u64; ROW_WORDS])
     requires pass { IsPassOf board.now pass.old }
     requires own { IsOwnRow board.now.shape (trace pass.old) (number pass.old) segment row }
     ensures moved { StoresRow board.now segment row words.now pass.old pass.new }
     ensures own { IsOwnRow board.now.shape (trace pass.new) (number pass.new) segment row }
-    ensures words { (place : ℕ) → place < 8
+    ensures words { (place : ℕ) → place < ROW_WORDS
         → (row_after (trace pass.new) segment row).words place ≡ slice_index words.now place }
     ensures plain { pass.new.plain ≡ pass.old.plain }
     ensures memo { (sight pass.new).memo ≡ (sight pass.old).memo }
 {
     let at = board.row_at(segment, row);
-    for place in 0..8u8 {
+    for place in 0..ROW_WORDS as u8 {
         store_word(board, pass, at, words, place);
     }
 }
 
 // Stores one of the words, unless the row has it: a load costs less than a store that others see.
 #[inline(always)]
-fn store_word(board: &Board, pass: &mut Pass, at: RowPlace, words: &[u64; 8], place: u8)
+fn store_word(board: &Board, pass: &mut Pass, at: RowPlace, words: &[u64; ROW_WORDS], place: u8)
     requires pass { IsPassOf board.now pass.old }
     requires start { IsRowAt board.now.shape at }
     requires own { IsOwnRow board.now.shape (trace pass.old) (number pass.old) at.segment at.row }
-    requires place { place < 8 }
+    requires place { place < ROW_WORDS }
     ensures moved { StoresRow board.now at.segment at.row words.now pass.old pass.new }
     ensures own { IsOwnRow board.now.shape (trace pass.new) (number pass.new) at.segment at.row }
     ensures word { (row_after (trace pass.new) at.segment at.row).words place ≡ slice_index words.now place }
