@@ -9,9 +9,12 @@ ghost use Rattle.segindex.specs.Closing.{IsPairAt, IsPairsAtRest};
 
 use crate::index::Index;
 use segbase::{CHAIN_BUCKETS, Pass, Place, Words};
-use segword::{Chain, Item, Key, Value, read_row};
+use segword::{BUCKET_WORDS, Chain, Item, Key, LAST_WORD, Value, read_row};
 use std::alloc::{AllocError, Global};
 use thiserror::Error;
+
+/// The most pairs of a bucket: its chain has at most four buckets of seven item words.
+pub const BUCKET_PAIRS: u32 = CHAIN_BUCKETS * LAST_WORD as u32;
 
 /// The memory for the content of an index was refused. The index is gone.
 #[derive(Clone, Copy, Debug, PartialEq, Eq, Error)]
@@ -42,7 +45,7 @@ impl Index {
         ensures content { IfOk result (λ content.
             IsContent (index.shape_of self) pass content.items) }
         ensures few { IfOk result (λ content.
-            vec_len content ≤ 28 * (index.shape_of self).buckets) }
+            vec_len content ≤ BUCKET_PAIRS * (index.shape_of self).buckets) }
         ensures wanted { IfErr result (λ _. WantsMemory (index.shape_of self) pass) }
         ensures alone { (index.shape_of self).passes ≡ 1
             → IfOk result (λ content. IsContentSeen (index.shape_of self) pass content.items) }
@@ -65,7 +68,7 @@ impl Index {
         ensures content { IfOk result (λ content.
             IsContentOfAll (index.shape_of self) passes.items content.items) }
         ensures few { IfOk result (λ content.
-            vec_len content ≤ 28 * (index.shape_of self).buckets) }
+            vec_len content ≤ BUCKET_PAIRS * (index.shape_of self).buckets) }
         ensures wanted { IfErr result (λ _. WantsMemoryOfAll (index.shape_of self) passes.items) }
     {
         let Index { board } = self;
@@ -77,7 +80,8 @@ impl Index {
 fn list_content(alloc: Global, words: Words) -> Result<Vec<(Key, Value)>, OutOfMemory>
     requires rest { (trace : List Event) × IsAtRest words trace }
     ensures lists { IfOk result (λ content. IsPairsAtRest words content.items) }
-    ensures few { IfOk result (λ content. vec_len content ≤ 28 * (shape_of words).buckets) }
+    ensures few { IfOk result (λ content.
+        vec_len content ≤ BUCKET_PAIRS * (shape_of words).buckets) }
     ensures wanted { IfErr result (λ _. HasPairs words) }
 {
     let Ok(mut content) = list_pairs(alloc, &words) else {
@@ -92,7 +96,8 @@ fn list_pairs(alloc: Global, words: &Words) -> Result<Vec<(Key, Value)>, AllocEr
     requires rest { (trace : List Event) × IsAtRest words.now trace }
     ensures lists { IfOk result (λ pairs. (trace : List Event) → IsAtRest words.now trace
         → IsListed words.now trace (shape_of words.now).buckets 1 pairs.items) }
-    ensures few { IfOk result (λ pairs. vec_len pairs ≤ 28 * (shape_of words.now).buckets) }
+    ensures few { IfOk result (λ pairs.
+        vec_len pairs ≤ BUCKET_PAIRS * (shape_of words.now).buckets) }
     ensures wanted { IfErr result (λ _. HasPairs words.now) }
 {
     let mut pairs = Vec::new(alloc);
@@ -109,13 +114,16 @@ fn list_chain(words: &Words, home: u32, pairs: &mut Vec<(Key, Value)>) -> Result
     ensures lists { OnOk result ((trace : List Event) → IsAtRest words.now trace
         → IsListed words.now trace home 1 pairs.old.items
         → IsListed words.now trace (home + 1) 1 pairs.new.items) }
-    ensures few { OnOk result (vec_len pairs.new ≤ vec_len pairs.old + 28) }
+    ensures few { OnOk result (vec_len pairs.new ≤ vec_len pairs.old + BUCKET_PAIRS) }
     ensures wanted { OnErr result (HasPairs words.now) }
 {
     let mut bucket = home;
     for depth in 0..CHAIN_BUCKETS {
         list_bucket(words, bucket, pairs)?;
-        let Some(number) = Chain::unpack(words.item(Place { bucket, word: 7 })) else {
+        let Some(number) = Chain::unpack(words.item(Place {
+            bucket,
+            word: LAST_WORD,
+        })) else {
             return Ok(());
         };
         bucket = words.shape().buckets + number;
@@ -131,12 +139,12 @@ fn list_bucket(words: &Words, bucket: u32, pairs: &mut Vec<(Key, Value)>) -> Res
         → IsAtRest words.now trace → IsBucketIn words.now trace home depth bucket
         → IsListed words.now trace home (8 * depth + 1) pairs.old.items
         → IsListed words.now trace home (8 * depth + 8) pairs.new.items) }
-    ensures few { OnOk result (vec_len pairs.new ≤ vec_len pairs.old + 7) }
+    ensures few { OnOk result (vec_len pairs.new ≤ vec_len pairs.old + LAST_WORD) }
     ensures wanted { OnErr result ((trace : List Event) (home depth : ℕ)
         → IsAtRest words.now trace → IsBucketIn words.now trace home depth bucket
         → HasContent (shape_of words.now) (seen trace)) }
 {
-    for word in 1..8u8 {
+    for word in 1..BUCKET_WORDS as u8 {
         if let Some(pair) = pair_at(words, Place { bucket, word }) {
             pairs.push(pair)?;
         }
