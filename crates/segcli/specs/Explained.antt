@@ -1,13 +1,13 @@
 -- What a word of the command line says of a word of the table, and the line that explains it.
-use Rattle.std.specs.Prelude.{◌≡◌, ℕ, ◌+◌, ◌*◌, ◌^◌, ◌<◌, ◌/◌, ◌%◌, List, [], ◌∷◌, ◌++◌, length, slice_index, codes, decimal, if◌then◌else◌}
+use Rattle.std.specs.Prelude.{◌≡◌, ℕ, ◌^◌, ◌<◌, ◌/◌, ◌%◌, List, [], ◌∷◌, ◌++◌, length, slice_index, codes, decimal, if◌then◌else◌}
 use Rattle.std.specs.Str.Parse.{AllDigits, digits_value}
 use Rattle.segword.specs.Words.{Info, info_word, IsProperReading, Reading, reading_word}
+use Rattle.segword.specs.Words.{SegmentWord, word_of_segment}
 use Rattle.segword.specs.declared.reading.Reading.TheVariants as reading
 use Rattle.segcli.specs.declared.asked.WordKind.{WordKind}
 use Rattle.segcli.specs.declared.asked.WordKind.TheVariants as kinds
 use Rattle.segcli.specs.declared.explanation.Meaning.{Meaning}
 use Rattle.segcli.specs.declared.explanation.Meaning.TheVariants as meaning
-use Rattle.segcli.specs.declared.explanation.SegmentWord.{SegmentWord}
 
 -- The text is exactly 16 hexadecimal digits, of either case.
 abbrev pub IsHexWord : List ℕ → Type 0
@@ -23,7 +23,7 @@ kind_of_meaning (meaning.Segment s) = kinds.Segment
 abbrev pub meaning_word : Meaning → ℕ
 meaning_word (meaning.Item r) = reading_word r
 meaning_word (meaning.Information i) = info_word i
-meaning_word (meaning.Segment s) = s.deadline * 2 ^ 32 + s.readers
+meaning_word (meaning.Segment s) = word_of_segment s
 
 -- a table can have a word of this meaning
 abbrev pub IsProperMeaning : Meaning → Type 0

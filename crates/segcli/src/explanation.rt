@@ -8,17 +8,9 @@ ghost use Rattle.segcli.specs.Explained.{reading_line, segment_line, tag_digits}
 
 use crate::asked::WordKind;
 use segscript::{Line, line_of, put, put_number};
-use segword::{Info, Item, Reading};
+use segword::{Info, Item, Reading, SegmentWord};
 
 const DIGITS: [u8; 16] = *b"0123456789abcdef";
-
-/// What the word of a segment holds.
-#[derive(Clone, Copy, Debug, PartialEq, Eq)]
-pub struct SegmentWord {
-    pub deadline: u32,
-    /// How many passes read in the segment.
-    pub readers: u32,
-}
 
 /// What a word of the table holds.
 #[derive(Clone, Copy, Debug, PartialEq, Eq)]
@@ -50,10 +42,7 @@ fn unpack(kind: WordKind, word: u64) -> Option<Meaning>
     match kind {
         WordKind::Item => Some(Meaning::Item(Reading::unpack(word)?)),
         WordKind::Information => Some(Meaning::Information(Info::unpack(word)?)),
-        WordKind::Segment => Some(Meaning::Segment(SegmentWord {
-            deadline: (word >> 32) as u32,
-            readers: (word & 0xffff_ffff) as u32,
-        })),
+        WordKind::Segment => Some(Meaning::Segment(SegmentWord::unpack(word))),
     }
 }
 

@@ -21,7 +21,7 @@ pub use arguments::{Refusal, read_command};
 pub use asked::{Format, Load, Policies, Replay, Word, WordKind};
 pub use bad_line::bad_line_text;
 pub use command::{Command, run_command};
-pub use explanation::{Meaning, SegmentWord, explain, meaning_of};
+pub use explanation::{Meaning, explain, meaning_of};
 pub use fault::{ProgramFault, print, report};
 pub use given::{run_given, words_of};
 pub use program::{run_program, run_watched};
