@@ -4,6 +4,7 @@ use Rattle.std.proofs.lemmas.List.Sums.{sum_by-append, sum_by-cons}
 use Rattle.std.proofs.lemmas.Option.{none-some}
 use Rattle.segmodel.specs.declared.answer.EvictAnswer.TheVariants as evict
 use Rattle.segmodel.specs.declared.answer.RefillAnswer.TheVariants as refill
+use Rattle.segmodel.specs.declared.request.Request.TheVariants.{Set}
 use Rattle.segmodel.specs.Words.{EvictAnswer, owner, RefillAnswer, Request}
 use Rattle.segbase.specs.Words.{Board, number, Pass}
 use Rattle.segstore.specs.Words.{GoesOn, IsQuiet}
@@ -13,8 +14,9 @@ use Rattle.segevict.specs.Words.{EvictsSegment, KeepsItem}
 use Rattle.segevict.proofs.RowsOut.{goes_then}
 use Rattle.segindex.specs.Refilling.{RefillsSegment}
 use Rattle.segclient.specs.declared.room.Effort.{Effort}
-use Rattle.segclient.specs.PutCalls.{PutCall, gets, sets, evicts, keeps, refills, Plan, refilled_by, kept_by, evicted_by, IsRefused, IsCall, Makes}
-use Rattle.segclient.specs.PutParts.{Arranges, effort_from, IsEffort, room_plan, taken_by}
+use Rattle.segclient.specs.PutCalls.{PutCall, gets, sets, evicts, keeps, refills, Plan, came_to, refilled_segments, kept_items, evicted_keys, IsRefused, IsCall, Makes}
+use Rattle.segclient.specs.PutParts.{Arranges, effort_from, IsEffort, room_plan}
+use Rattle.segclient.specs.Tallies.{evicted_by, refilled_by}
 
 -- ---- some calls and then more
 
@@ -63,8 +65,8 @@ module _ (b : Board) (plan : Plan) where
   makes_apart (call ∷ later) earlier p r (between, rest, last) = let apart = makes_apart later earlier p between rest in (apart.0, apart.1, (between, apart.2, last))
 
   pub call_on : (call : PutCall) (p q : Pass) → IsCall b plan call p q → GoesOn b p q
-  call_on gets p q is = is.3.on
-  call_on (sets told) p q is = is.4.on
+  call_on gets p q is = is.5.on
+  call_on (sets told) p q is = is.6.on
   call_on (evicts segment told) p q is = is.1.on
   call_on (keeps segment row cutoff told) p q is = is.2.on
   call_on (refills segment told) p q is = is.1.on
@@ -104,8 +106,8 @@ bare_within deadline cutoff = record {
 
 module _ (b : Board) (from to : Plan) (within : IsWithin from to) where
   call_within : (call : PutCall) (p q : Pass) → IsCall b from call p q → IsCall b to call p q
-  call_within gets p q (request, is, told, reads) = (request, within.request request is, told, reads)
-  call_within (sets told) p q (request, is, fresh, set, writes) = (request, within.request request is, (λ until stores late. fresh until stores late ∙ within.deadline), set, writes)
+  call_within gets p q (key, value, now, is, told, reads) = (key, value, now, within.request (Set key value now) is, told, reads)
+  call_within (sets told) p q (key, value, now, is, fresh, set, writes) = (key, value, now, within.request (Set key value now) is, (λ until stores late. fresh until stores late ∙ within.deadline), set, writes)
   call_within (evicts segment told) p q is = is
   call_within (keeps segment row cutoff told) p q is = (is.0, (is.1.0, within.cutoff is.1.0 is.1.1, is.1.2), is.2)
   call_within (refills segment told) p q is = (is.0, subst (λ deadline. RefillsSegment b segment deadline told p q) within.deadline is.1)
@@ -125,22 +127,22 @@ no_effort = record { refilled = refl; kept = refl; keys = refl }
 
 pub effort_then : (later earlier : List PutCall) (first more : Effort) → IsEffort earlier first → IsEffort later more → IsEffort (later ++ earlier) (both first more)
 effort_then later earlier first more one two = record {
-  refilled = let all = sum_by-append refilled_by later earlier in let x = one.refilled in let y = two.refilled in omega (arith, all, x, y);
-  kept = let all = sum_by-append kept_by later earlier in let x = one.kept in let y = two.kept in omega (arith, all, x, y);
-  keys = let all = sum_by-append evicted_by later earlier in let x = one.keys in let y = two.keys in omega (arith, all, x, y);
+  refilled = let all = sum_by-append (came_to refilled_segments) later earlier in let x = one.refilled in let y = two.refilled in omega (arith, all, x, y);
+  kept = let all = sum_by-append (came_to kept_items) later earlier in let x = one.kept in let y = two.kept in omega (arith, all, x, y);
+  keys = let all = sum_by-append (came_to evicted_keys) later earlier in let x = one.keys in let y = two.keys in omega (arith, all, x, y);
 }
 
 -- one call more
 pub effort_more : (call : PutCall) (earlier : List PutCall) (first : Effort) → IsEffort earlier first
-    → IsEffort (call ∷ earlier) (effort_from (first.refilled + refilled_by call) (first.kept + kept_by call) (first.keys + evicted_by call))
+    → IsEffort (call ∷ earlier) (effort_from (first.refilled + came_to refilled_segments call) (first.kept + came_to kept_items call) (first.keys + came_to evicted_keys call))
 effort_more call earlier first one = record {
-  refilled = let all = sum_by-cons refilled_by call earlier in let x = one.refilled in omega (arith, all, x);
-  kept = let all = sum_by-cons kept_by call earlier in let x = one.kept in omega (arith, all, x);
-  keys = let all = sum_by-cons evicted_by call earlier in let x = one.keys in omega (arith, all, x);
+  refilled = let all = sum_by-cons (came_to refilled_segments) call earlier in let x = one.refilled in omega (arith, all, x);
+  kept = let all = sum_by-cons (came_to kept_items) call earlier in let x = one.kept in omega (arith, all, x);
+  keys = let all = sum_by-cons (came_to evicted_keys) call earlier in let x = one.keys in omega (arith, all, x);
 }
 
 -- one call
-pub effort_one : (call : PutCall) (effort : Effort) → effort.refilled ≡ refilled_by call → effort.kept ≡ kept_by call → effort.keys ≡ evicted_by call → IsEffort (call ∷ []) effort
+pub effort_one : (call : PutCall) (effort : Effort) → effort.refilled ≡ came_to refilled_segments call → effort.kept ≡ came_to kept_items call → effort.keys ≡ came_to evicted_keys call → IsEffort (call ∷ []) effort
 effort_one call effort one two three = let is = effort_more call [] (effort_from 0 0 0) no_effort in record {
   refilled = let x = is.refilled in omega (arith, x, one);
   kept = let x = is.kept in omega (arith, x, two);
@@ -151,14 +153,17 @@ effort_one call effort one two three = let is = effort_more call [] (effort_from
 pub same_effort : (calls : List PutCall) (first effort : Effort) → effort.refilled ≡ first.refilled → effort.kept ≡ first.kept → effort.keys ≡ first.keys → IsEffort calls first → IsEffort calls effort
 same_effort calls first effort one two three is = record { refilled = one ∙ is.refilled; kept = two ∙ is.kept; keys = three ∙ is.keys }
 
--- an evict's keys
-pub taken_evicted : (segment : ℕ) (told : EvictAnswer) → taken_by told ≡ evicted_by (evicts segment told)
-taken_evicted segment (evict.Evicted keys) = refl
-taken_evicted segment (evict.Busy keys) = refl
-taken_evicted segment evict.NotYours = refl
+-- an evict's keys, and a refill's segment
+pub evicted_came : (segment : ℕ) (told : EvictAnswer) → evicted_by told ≡ came_to evicted_keys (evicts segment told)
+evicted_came segment (evict.Evicted keys) = refl
+evicted_came segment (evict.Busy keys) = refl
+evicted_came segment evict.NotYours = refl
 
-pub evict_refills_none : (segment : ℕ) (told : EvictAnswer) → 0 ≡ refilled_by (evicts segment told)
-evict_refills_none segment told = refl
+pub refilled_came : (segment : ℕ) (told : RefillAnswer) → refilled_by told ≡ came_to refilled_segments (refills segment told)
+refilled_came segment refill.Refilled = refl
+refilled_came segment refill.NotYours = refl
+refilled_came segment refill.NotEvicted = refl
+refilled_came segment refill.Held = refl
 
 -- ---- calls for room
 
@@ -196,7 +201,7 @@ module _ (b : Board) (cutoff : Option ℕ) (deadline : ℕ) where
     comes = same_effort is.calls first effort one two three is.comes;
   }
 
-  one_arranges : (call : PutCall) (effort : Effort) (p q : Pass) → effort.refilled ≡ refilled_by call → effort.kept ≡ kept_by call → effort.keys ≡ evicted_by call → IsCall b (room_plan cutoff deadline) call p q → Arranges b cutoff deadline 1 effort p q
+  one_arranges : (call : PutCall) (effort : Effort) (p q : Pass) → effort.refilled ≡ came_to refilled_segments call → effort.kept ≡ came_to kept_items call → effort.keys ≡ came_to evicted_keys call → IsCall b (room_plan cutoff deadline) call p q → Arranges b cutoff deadline 1 effort p q
   one_arranges call effort p q one two three is = record {
     calls = call ∷ [];
     makes = one_more b (room_plan cutoff deadline) call [] p p q (none_made b (room_plan cutoff deadline) p) is;
@@ -204,18 +209,18 @@ module _ (b : Board) (cutoff : Option ℕ) (deadline : ℕ) where
     comes = effort_one call effort one two three;
   }
 
-  pub evict_arranges : (segment : ℕ) (told : EvictAnswer) (effort : Effort) (p q : Pass) → effort.refilled ≡ 0 → effort.kept ≡ 0 → effort.keys ≡ taken_by told → owner b.shape segment ≡ number p → EvictsSegment b segment told p q → Arranges b cutoff deadline 1 effort p q
-  evict_arranges segment told effort p q one two three own went = one_arranges (evicts segment told) effort p q one two (three ∙ taken_evicted segment told) (own, went)
+  pub evict_arranges : (segment : ℕ) (told : EvictAnswer) (effort : Effort) (p q : Pass) → effort.refilled ≡ 0 → effort.kept ≡ 0 → effort.keys ≡ evicted_by told → owner b.shape segment ≡ number p → EvictsSegment b segment told p q → Arranges b cutoff deadline 1 effort p q
+  evict_arranges segment told effort p q one two three own went = one_arranges (evicts segment told) effort p q one two (three ∙ evicted_came segment told) (own, went)
 
-  pub refill_arranges : (segment : ℕ) (told : RefillAnswer) (effort : Effort) (p q : Pass) → effort.refilled ≡ refilled_by (refills segment told) → effort.kept ≡ 0 → effort.keys ≡ 0 → owner b.shape segment ≡ number p → RefillsSegment b segment deadline told p q → Arranges b cutoff deadline 1 effort p q
-  refill_arranges segment told effort p q one two three own filled = one_arranges (refills segment told) effort p q one two three (own, filled)
+  pub refill_arranges : (segment : ℕ) (told : RefillAnswer) (effort : Effort) (p q : Pass) → effort.refilled ≡ refilled_by told → effort.kept ≡ 0 → effort.keys ≡ 0 → owner b.shape segment ≡ number p → RefillsSegment b segment deadline told p q → Arranges b cutoff deadline 1 effort p q
+  refill_arranges segment told effort p q one two three own filled = one_arranges (refills segment told) effort p q (one ∙ refilled_came segment told) two three (own, filled)
 
-  pub row_arranges : (least segment row by : ℕ) (told : KeepRowAnswer) (effort : Effort) (p q : Pass) → cutoff ≡ Some least → least ≤ by → effort.refilled ≡ 0 → effort.kept ≡ kept_by (keeps segment row by told) → effort.keys ≡ 0 → owner b.shape segment ≡ number p → KeepsItem b segment row by told p q
+  pub row_arranges : (least segment row by : ℕ) (told : KeepRowAnswer) (effort : Effort) (p q : Pass) → cutoff ≡ Some least → least ≤ by → effort.refilled ≡ 0 → effort.kept ≡ came_to kept_items (keeps segment row by told) → effort.keys ≡ 0 → owner b.shape segment ≡ number p → KeepsItem b segment row by told p q
       → Arranges b cutoff deadline 1 effort p q
   row_arranges least segment row by told effort p q is enough one two three own stayed = one_arranges (keeps segment row by told) effort p q one two three (own, (least, is, enough), stayed)
 
   -- a row more is gone over
-  pub row_more : (least segment at by row more : ℕ) (before : ℕ) (told : KeepRowAnswer) (p q r : Pass) → cutoff ≡ Some least → least ≤ by → owner b.shape segment ≡ number p → number q ≡ number p → more ≡ kept_by (keeps segment at by told) → Arranges b cutoff deadline row (effort_from 0 before 0) p q → KeepsItem b segment at by told q r
+  pub row_more : (least segment at by row more : ℕ) (before : ℕ) (told : KeepRowAnswer) (p q r : Pass) → cutoff ≡ Some least → least ≤ by → owner b.shape segment ≡ number p → number q ≡ number p → more ≡ came_to kept_items (keeps segment at by told) → Arranges b cutoff deadline row (effort_from 0 before 0) p q → KeepsItem b segment at by told q r
       → Arranges b cutoff deadline (row + 1) (effort_from 0 (before + more) 0) p r
   row_more least segment at by row more before told p q r is enough own same count over stayed =
       arranges_then row 1 (effort_from 0 before 0) (effort_from 0 more 0) p q r over (row_arranges least segment at by told (effort_from 0 more 0) q r is enough refl count refl (own ∙ sym same) stayed)

@@ -51,7 +51,7 @@ module _ (b : Board) where
   pub get_more : (plan : Plan) (key value : List ℕ) (now times : ℕ) (told : GetAnswer) (p q r : Pass) → plan.request ≡ Some (Set key value now) → Makes b plan (gets_in_row times) p q → ReadsKey b key 1 now told q r → Makes b plan (gets_in_row (times + 1)) p r
   unfolding gets_in_row
   get_more plan key value now times told p q r is were reads =
-      subst (λ n. Makes b plan (gets_in_row n) p r) (sym (add-one times)) (one_more b plan gets (gets_in_row times) p q r were (Set key value now, is, told, reads))
+      subst (λ n. Makes b plan (gets_in_row n) p r) (sym (add-one times)) (one_more b plan gets (gets_in_row times) p q r were (key, value, now, is, told, reads))
 
   pub one_read : (key : List ℕ) (now : ℕ) (told : GetAnswer) (p q : Pass) → ReadsKey b key 1 now told p q → Reads b key now 1 p q
   one_read key now told p q reads = record {

@@ -7,6 +7,7 @@ use Rattle.std.proofs.lemmas.List.Elements.{All-append, All-cons, All-nil, Conta
 use Rattle.std.proofs.lemmas.Option.{none-some}
 use Rattle.segword.specs.Words.{Shape}
 use Rattle.segmodel.specs.declared.answer.WriteAnswer.TheVariants as write
+use Rattle.segmodel.specs.declared.request.Request.TheVariants.{Set}
 use Rattle.segmodel.specs.Words.{EvictAnswer, WriteAnswer}
 use Rattle.segbase.specs.Words.{Board, number, Pass}
 use Rattle.segstore.specs.Words.{has_room}
@@ -16,7 +17,7 @@ use Rattle.segclient.specs.declared.room.Effort.{Effort}
 use Rattle.segclient.specs.PutCalls.{PutCall, gets, sets, evicts, keeps, refills, Plan, Makes}
 use Rattle.segclient.specs.PutParts.{AreOpen, AreSets, busy_sets, effort_from, Empties, EndsSo, IsEffort, is_stale, MakesPut, MakesRoom, room_plan, Sets, SetsIfFresh, WasEmptied}
 use Rattle.segclient.specs.Putting.{SetsUntilFull}
-use Rattle.segclient.proofs.Calls.{both, effort_more, effort_one, effort_then, no_effort, made_same, makes_same, makes_then, makes_within, one_more, refused_then, room_within, last_of, taken_evicted}
+use Rattle.segclient.proofs.Calls.{both, effort_more, effort_one, effort_then, no_effort, made_same, makes_same, makes_then, makes_within, one_more, refused_then, room_within, last_of, evicted_came}
 
 -- ---- calls that don't store
 
@@ -62,7 +63,7 @@ room_open b cutoff deadline [] p q makes = open_none
 room_open b cutoff deadline (gets ∷ earlier) p q makes =
     let last = last_of b (room_plan cutoff deadline) gets earlier p q makes in open_more gets earlier gets_apart (room_open b cutoff deadline earlier p last.0 last.1)
 room_open b cutoff deadline (sets told ∷ earlier) p q makes =
-    let last = last_of b (room_plan cutoff deadline) (sets told) earlier p q makes in absurd (none-some last.2.0 last.2.1)
+    let last = last_of b (room_plan cutoff deadline) (sets told) earlier p q makes in absurd (none-some (Set last.2.0 last.2.1 last.2.2) last.2.3)
 room_open b cutoff deadline (evicts segment told ∷ earlier) p q makes =
     let last = last_of b (room_plan cutoff deadline) (evicts segment told) earlier p q makes in open_more (evicts segment told) earlier (evict_apart segment told) (room_open b cutoff deadline earlier p last.0 last.1)
 room_open b cutoff deadline (keeps segment row by told ∷ earlier) p q makes =
@@ -268,7 +269,7 @@ module _ (b : Board) (plan : Plan) (moment : ℕ) where
       let own = empties.own ∙ makes_same b plan full.calls p q full.makes in
       let makes = one_more b plan (evicts segment answer) full.calls p q r full.makes (empties.own, empties.evicts) in
       let was_full = subst (λ l. Contains l (sets write.BucketFull)) (sym full.ends.0.1) (Contains-append_left (sets write.BucketFull ∷ []) full.ends.0.0 (sets write.BucketFull) (Contains-push [] (sets write.BucketFull))) in
-      let alone : IsEffort (evicts segment answer ∷ []) out = effort_one (evicts segment answer) out (ap (λ (e : Effort). e.refilled) empties.comes) (ap (λ (e : Effort). e.kept) empties.comes) (ap (λ (e : Effort). e.keys) empties.comes ∙ taken_evicted segment answer) in (
+      let alone : IsEffort (evicts segment answer ∷ []) out = effort_one (evicts segment answer) out (ap (λ (e : Effort). e.refilled) empties.comes) (ap (λ (e : Effort). e.kept) empties.comes) (ap (λ (e : Effort). e.keys) empties.comes ∙ evicted_came segment answer) in (
         record {
           calls = then.calls ++ evicts segment answer ∷ full.calls;
           makes = makes_then b plan then.calls (evicts segment answer ∷ full.calls) p r t makes then.makes;

@@ -55,7 +55,7 @@ module _ (b : Board) (order : Order) where
   set_more told busy p q r fresh were same set writes =
       let until = same_until p q same in
       one_more b (plan_of order) (sets told) (busy_sets busy) p q r were
-      (Set order.key.now order.value.now order.policy.moment, refl, fresh_until q (λ stale. until ∙ fresh (ap (is_over order.policy.moment) (sym until) ∙ stale)), set, writes)
+      (order.key.now, order.value.now, order.policy.moment, refl, fresh_until q (λ stale. until ∙ fresh (ap (is_over order.policy.moment) (sym until) ∙ stale)), set, writes)
 
   pub busy_more : (busy : ℕ) (p q r : Pass) → IsFresh p → Makes b (plan_of order) (busy_sets busy) p q → q.plain ≡ p.plain → Writes b (Set order.key.now order.value.now order.policy.moment) write.Busy q r
       → Makes b (plan_of order) (busy_sets (busy + 1)) p r

@@ -19,7 +19,7 @@ use Rattle.segclient.specs.declared.member.Member.{Member}
 use Rattle.segclient.specs.declared.put.PutAnswer.TheVariants as put
 use Rattle.segclient.specs.Entries.{AddsRoom}
 use Rattle.segclient.specs.Member.{IsMember}
-use Rattle.segclient.specs.PutCalls.{evicted_by, kept_by, refilled_by}
+use Rattle.segclient.specs.PutCalls.{came_to, evicted_keys, kept_items, refilled_segments}
 use Rattle.segclient.specs.Puts.{deadline_of, Puts}
 use Rattle.segclient.proofs.Added.{put_adds}
 use Rattle.segclient.proofs.Calls.{makes_on}
@@ -51,7 +51,7 @@ put_stands i key value old new member puts = by on.steps
     on : GoesOn (board_of i) old.pass new.pass
     on = makes_on (board_of i) (record { request = Some (Set key value old.clock); cutoff = old.cutoff; deadline = deadline_of old }) puts.calls old.pass new.pass member.0 puts.makes
 
-    adds : (room : List Entry) × AddsRoom (shape_of i) (number old.pass) old.cutoff (deadline_of old) (sum_by refilled_by puts.calls) (sum_by kept_by puts.calls) (sum_by evicted_by puts.calls) (mine_of old.pass) room
+    adds : (room : List Entry) × AddsRoom (shape_of i) (number old.pass) old.cutoff (deadline_of old) (sum_by (came_to refilled_segments) puts.calls) (sum_by (came_to kept_items) puts.calls) (sum_by (came_to evicted_keys) puts.calls) (mine_of old.pass) room
         × ((segment : ℕ) × (mine_of new.pass ≡ Wrote (number old.pass) (Set key value old.clock) Stored (Some segment) ∷ room))
     adds = put_adds i key value old new member put.Stored puts
 

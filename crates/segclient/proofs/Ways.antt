@@ -11,6 +11,7 @@ use Rattle.segmodel.specs.declared.answer.EvictAnswer.TheVariants as evict
 use Rattle.segmodel.specs.declared.answer.RefillAnswer.TheVariants as refill
 use Rattle.segmodel.specs.declared.answer.SegState.TheVariants.{InUse}
 use Rattle.segmodel.specs.declared.answer.WriteAnswer.TheVariants as write
+use Rattle.segmodel.specs.declared.request.Request.TheVariants.{Set}
 use Rattle.segmodel.specs.Words.{Entry, EvictAnswer, owner, RefillAnswer, Request, WriteAnswer}
 use Rattle.segbase.specs.Words.{Board, mine, number, Pass, state_of}
 use Rattle.segstore.specs.Words.{ChangesNothing, GoesOn, IsQuiet, memo}
@@ -23,7 +24,7 @@ use Rattle.segevict.proofs.RowsOut.{goes_then}
 use Rattle.segindex.specs.Refilling.{RefillsSegment}
 use Rattle.segindex.proofs.QuietPass.{owned}
 use Rattle.segclient.specs.Entries.{IsOfRoom, is_eviction, is_move, is_refilling, AddsRoom}
-use Rattle.segclient.specs.PutCalls.{PutCall, gets, sets, evicts, keeps, refills, Plan, refilled_by, kept_by, evicted_by, IsCall, Makes}
+use Rattle.segclient.specs.PutCalls.{PutCall, gets, sets, evicts, keeps, refills, Plan, came_to, refilled_segments, kept_items, evicted_keys, IsCall, Makes}
 use Rattle.segclient.specs.PutParts.{AreOpen}
 
 -- ---- entries
@@ -154,12 +155,12 @@ module _ (b : Board) (cutoff : Option ℕ) (deadline : ℕ) where
         adds = evictions_added b.shape (number p) cutoff deadline segment keys out.1.evictions (mine p) (mine q) (in_use_own p segment quiet out.0) out.1.all out.1.counted out.1.entries;
       }
 
-  evicted_some : (segment : ℕ) (told : EvictAnswer) (p q : Pass) → IsQuiet b p → EvictsSegment b segment told p q → Comes 0 0 (evicted_by (evicts segment told)) p q
+  evicted_some : (segment : ℕ) (told : EvictAnswer) (p q : Pass) → IsQuiet b p → EvictsSegment b segment told p q → Comes 0 0 (came_to evicted_keys (evicts segment told)) p q
   evicted_some segment (evict.Evicted keys) p q quiet out = evicted segment keys p q quiet out
   evicted_some segment (evict.Busy keys) p q quiet out = evict_busy segment keys p q quiet out
   evicted_some segment evict.NotYours p q quiet out = same_none p q quiet out.answer
 
-  row_kept : (segment row least : ℕ) (told : KeepRowAnswer) (p q : Pass) → owner b.shape segment ≡ number p → IsSome cutoff → IsQuiet b p → KeepsItem b segment row least told p q → Comes 0 (kept_by (keeps segment row least told)) 0 p q
+  row_kept : (segment row least : ℕ) (told : KeepRowAnswer) (p q : Pass) → owner b.shape segment ≡ number p → IsSome cutoff → IsQuiet b p → KeepsItem b segment row least told p q → Comes 0 (came_to kept_items (keeps segment row least told)) 0 p q
   row_kept segment row least kept.Moved p q from asked quiet stayed = let out = stayed.answer in record {
     on = stayed.on;
     memo = out.2.memo;
@@ -188,7 +189,7 @@ module _ (b : Board) (cutoff : Option ℕ) (deadline : ℕ) where
   not_refilled segment refill.NotEvicted p q quiet other filled = same_none p q quiet filled.answer
   not_refilled segment refill.Held p q quiet other filled = unchanged_none p q filled.on filled.answer.0
 
-  some_refilled : (segment : ℕ) (told : RefillAnswer) (p q : Pass) → IsQuiet b p → RefillsSegment b segment deadline told p q → Comes (refilled_by (refills segment told)) 0 0 p q
+  some_refilled : (segment : ℕ) (told : RefillAnswer) (p q : Pass) → IsQuiet b p → RefillsSegment b segment deadline told p q → Comes (came_to refilled_segments (refills segment told)) 0 0 p q
   some_refilled segment refill.Refilled p q quiet out = refilled segment p q quiet out
   some_refilled segment refill.NotYours p q quiet out = same_none p q quiet out.answer
   some_refilled segment refill.NotEvicted p q quiet out = same_none p q quiet out.answer
@@ -211,22 +212,22 @@ module _ (b : Board) (plan : Plan) where
   abbrev Came : ℕ → ℕ → ℕ → Pass → Pass → Type 0
   Came = Comes b plan.cutoff plan.deadline
 
-  call_comes : (call : PutCall) (p q : Pass) → IsQuiet b p → call ≢ sets write.Stored → IsCall b plan call p q → Came (refilled_by call) (kept_by call) (evicted_by call) p q
-  call_comes gets p q quiet other is = unchanged_none b plan.cutoff plan.deadline p q is.3.on is.3.keeps
-  call_comes (sets told) p q quiet other (request, is, fresh, set, writes) = set_lacks b plan.cutoff plan.deadline request told p q set other writes
+  call_comes : (call : PutCall) (p q : Pass) → IsQuiet b p → call ≢ sets write.Stored → IsCall b plan call p q → Came (came_to refilled_segments call) (came_to kept_items call) (came_to evicted_keys call) p q
+  call_comes gets p q quiet other is = unchanged_none b plan.cutoff plan.deadline p q is.5.on is.5.keeps
+  call_comes (sets told) p q quiet other (key, value, now, is, fresh, set, writes) = set_lacks b plan.cutoff plan.deadline (Set key value now) told p q set other writes
   call_comes (evicts segment told) p q quiet other is = evicted_some b plan.cutoff plan.deadline segment told p q quiet is.1
   call_comes (keeps segment row least told) p q quiet other is = row_kept b plan.cutoff plan.deadline segment row least told p q is.0 (ap is_some is.1.1) quiet is.2
   call_comes (refills segment told) p q quiet other is = some_refilled b plan.cutoff plan.deadline segment told p q quiet is.1
 
-  pub calls_come : (calls : List PutCall) (p q : Pass) → IsQuiet b p → AreOpen calls → Makes b plan calls p q → Came (sum_by refilled_by calls) (sum_by kept_by calls) (sum_by evicted_by calls) p q
+  pub calls_come : (calls : List PutCall) (p q : Pass) → IsQuiet b p → AreOpen calls → Makes b plan calls p q → Came (sum_by (came_to refilled_segments) calls) (sum_by (came_to kept_items) calls) (sum_by (came_to evicted_keys) calls) p q
   unfolding Makes
   calls_come [] p q quiet are same = same_none b plan.cutoff plan.deadline p q quiet same
   calls_come (call ∷ earlier) p q quiet are (between, rest, last) =
       let first = calls_come earlier p between quiet (All-tail (λ c. c ≢ sets write.Stored) call earlier are) rest in
       let then = call_comes call between q first.on.quiet (All-head (λ c. c ≢ sets write.Stored) call earlier are) last in
-      let one = sum_by-cons refilled_by call earlier in
-      let two = sum_by-cons kept_by call earlier in
-      let three = sum_by-cons evicted_by call earlier in
-      so_many b plan.cutoff plan.deadline (sum_by refilled_by earlier + refilled_by call) (sum_by kept_by earlier + kept_by call) (sum_by evicted_by earlier + evicted_by call)
-      (sum_by refilled_by (call ∷ earlier)) (sum_by kept_by (call ∷ earlier)) (sum_by evicted_by (call ∷ earlier)) p q (omega (arith, one)) (omega (arith, two)) (omega (arith, three))
-      (comes_then b plan.cutoff plan.deadline (sum_by refilled_by earlier) (sum_by kept_by earlier) (sum_by evicted_by earlier) (refilled_by call) (kept_by call) (evicted_by call) p between q first then)
+      let one = sum_by-cons (came_to refilled_segments) call earlier in
+      let two = sum_by-cons (came_to kept_items) call earlier in
+      let three = sum_by-cons (came_to evicted_keys) call earlier in
+      so_many b plan.cutoff plan.deadline (sum_by (came_to refilled_segments) earlier + came_to refilled_segments call) (sum_by (came_to kept_items) earlier + came_to kept_items call) (sum_by (came_to evicted_keys) earlier + came_to evicted_keys call)
+      (sum_by (came_to refilled_segments) (call ∷ earlier)) (sum_by (came_to kept_items) (call ∷ earlier)) (sum_by (came_to evicted_keys) (call ∷ earlier)) p q (omega (arith, one)) (omega (arith, two)) (omega (arith, three))
+      (comes_then b plan.cutoff plan.deadline (sum_by (came_to refilled_segments) earlier) (sum_by (came_to kept_items) earlier) (sum_by (came_to evicted_keys) earlier) (came_to refilled_segments call) (came_to kept_items call) (came_to evicted_keys call) p between q first then)

@@ -1,17 +1,10 @@
 -- A client as contracts see it: an index, and what it has beside it.
 use Rattle.std.specs.Prelude.{◌≡◌, ℕ, Option}
-use Rattle.segword.specs.Words.{Shape}
 use Rattle.segbase.specs.Words.{Board, number, Pass}
 use Rattle.segindex.specs.Words.{Index}
 use Rattle.segclient.specs.declared.client.Client.{Client}
 use Rattle.segclient.specs.declared.member.Member.{Member}
 use Rattle.segclient.specs.Member.{Begins}
-
-abbrev pub board_of : Client → Board
-board_of client = client.index.now.board
-
-abbrev pub shape_of : Client → Shape
-shape_of client = client.index.now.board.shape
 
 -- a new client of the pass, whose puts keep nothing under this cutoff
 pub record Starts (i : Index) (cutoff : Option ℕ) (p : Pass) (client : Client) : Type 0 where
@@ -26,4 +19,4 @@ pub record IsSame (old new : Client) : Type 0 where
 -- the client made this call of its index
 pub record MakesCall (Made : Board → Member → Member → Type 0) (old new : Client) : Type 0 where
   pub index : new.index.now ≡ old.index.now
-  pub made : Made (board_of old) old.member new.member
+  pub made : Made old.index.now.board old.member new.member

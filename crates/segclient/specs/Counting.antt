@@ -1,16 +1,9 @@
 -- What a client counts: its calls, each by what it came to, and what its puts gave up and kept.
 use Rattle.std.specs.Prelude.{ℕ, ◌+◌, ◌-◌, ◌^◌, min, List, sum_by}
-use Rattle.segmodel.specs.Words.{DeleteAnswer, GetAnswer, GetsAnswer, WriteAnswer}
-use Rattle.segmodel.specs.declared.answer.DeleteAnswer.TheVariants as delete
-use Rattle.segmodel.specs.declared.answer.GetAnswer.TheVariants as get
-use Rattle.segmodel.specs.declared.answer.GetsAnswer.TheVariants as gets
-use Rattle.segmodel.specs.declared.answer.WriteAnswer.TheVariants as write
-use Rattle.segclient.specs.declared.put.PutAnswer.{PutAnswer}
-use Rattle.segclient.specs.declared.put.PutAnswer.TheVariants as put
 use Rattle.segclient.specs.declared.stats.Stats.{Stats}
-use Rattle.segclient.specs.declared.stats.Tally.{Tally}
-use Rattle.segclient.specs.declared.stats.Tally.TheVariants as tally
-use Rattle.segclient.specs.PutCalls.{PutCall, evicted_by, kept_by, refilled_by}
+use Rattle.segclient.specs.declared.tally.Tally.{Tally}
+use Rattle.segclient.specs.declared.tally.Tally.TheVariants as tally
+use Rattle.segclient.specs.PutCalls.{PutCall, came_to, evicted_keys, kept_items, refilled_segments}
 
 abbrev pub no_stats : Stats
 no_stats = record {
@@ -49,38 +42,7 @@ counted tally.Busy stats = record stats { busy = with_more stats.busy 1 }
 -- what calls of a put came to is counted too
 abbrev pub given_up_too : List PutCall → Stats → Stats
 given_up_too calls stats = record stats {
-  segments_refilled = with_more stats.segments_refilled (sum_by refilled_by calls);
-  items_kept = with_more stats.items_kept (sum_by kept_by calls);
-  keys_evicted = with_more stats.keys_evicted (sum_by evicted_by calls);
+  segments_refilled = with_more stats.segments_refilled (sum_by (came_to refilled_segments) calls);
+  items_kept = with_more stats.items_kept (sum_by (came_to kept_items) calls);
+  keys_evicted = with_more stats.keys_evicted (sum_by (came_to evicted_keys) calls);
 }
-
--- how an answer is counted
-abbrev pub get_tally : GetAnswer → Tally
-get_tally (get.Found value) = tally.Hit
-get_tally get.Miss = tally.Miss
-get_tally get.Busy = tally.Busy
-
-abbrev pub gets_tally : GetsAnswer → Tally
-gets_tally (gets.Found value version) = tally.Hit
-gets_tally gets.Miss = tally.Miss
-gets_tally gets.Busy = tally.Busy
-
-abbrev pub write_tally : WriteAnswer → Tally
-write_tally write.Stored = tally.Stored
-write_tally write.NotStored = tally.NotStored
-write_tally write.Exists = tally.Exists
-write_tally write.NotFound = tally.NotFound
-write_tally write.NoRoom = tally.NoRoom
-write_tally write.BucketFull = tally.BucketFull
-write_tally write.Busy = tally.Busy
-
-abbrev pub delete_tally : DeleteAnswer → Tally
-delete_tally delete.Deleted = tally.Deleted
-delete_tally delete.NotFound = tally.NotFound
-delete_tally delete.Busy = tally.Busy
-
-abbrev pub put_tally : PutAnswer → Tally
-put_tally put.Stored = tally.Stored
-put_tally put.NoRoom = tally.NoRoom
-put_tally put.BucketFull = tally.BucketFull
-put_tally put.Busy = tally.Busy

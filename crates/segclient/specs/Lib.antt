@@ -11,4 +11,5 @@ pub mod PutParts
 pub mod Putting
 pub mod Puts
 pub mod Rings
+pub mod Tallies
 pub mod Told

@@ -9,8 +9,9 @@ use Rattle.segwrite.specs.Words.{Deletes, Writes}
 use Rattle.segindex.specs.Words.{LearnsNote, MakesNote, MeetsPass, Note, ReturnsStats}
 use Rattle.segindex.specs.declared.table_stats.IndexStats.{IndexStats}
 use Rattle.segclient.specs.declared.member.Member.{Member}
-use Rattle.segclient.specs.Counting.{counted, delete_tally, get_tally, gets_tally, write_tally}
+use Rattle.segclient.specs.Counting.{counted}
 use Rattle.segclient.specs.Member.{draw_of, DrawsOnce, Keeps, KeepsDraws}
+use Rattle.segclient.specs.Tallies.{delete_tally, get_tally, gets_tally, write_tally}
 
 -- it counts nothing, draws nothing, and keeps its settings and its segments
 pub record KeepsCounts (old new : Member) : Type 0 where

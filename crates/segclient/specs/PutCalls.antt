@@ -4,8 +4,8 @@
 use Rattle.std.specs.Prelude.{◌≡◌, ◌⊎◌, ℕ, ◌≤◌, List, [], ◌∷◌, Option, Some}
 use Rattle.segmodel.specs.declared.answer.EvictAnswer.TheVariants as evict
 use Rattle.segmodel.specs.declared.answer.RefillAnswer.TheVariants as refill
-use Rattle.segmodel.specs.Words.{EvictAnswer, GetAnswer, key_of, moment_of, owner, RefillAnswer}
-use Rattle.segmodel.specs.Words.{Request, WriteAnswer}
+use Rattle.segmodel.specs.declared.request.Request.TheVariants.{Set}
+use Rattle.segmodel.specs.Words.{EvictAnswer, GetAnswer, owner, RefillAnswer, Request, WriteAnswer}
 use Rattle.segbase.specs.Words.{Board, current_of, deadline_of, number, Pass}
 use Rattle.segread.specs.Words.{ReadsKey}
 use Rattle.segwrite.specs.Words.{IsSetAnswer, Writes}
@@ -23,7 +23,7 @@ pub data PutCall : Type 0 where
   keeps : ℕ → ℕ → ℕ → KeepRowAnswer → PutCall
   refills : ℕ → RefillAnswer → PutCall
 
--- what the calls are made for: the request of a put, or none if room is made alone;
+-- what the calls are made for: the request of a put, which is a set, or none if room is made alone;
 -- the least cutoff of what is kept, if anything is; and the deadline of what is refilled
 pub record Plan : Type 0 where
   pub request : Option Request
@@ -36,16 +36,16 @@ StoresUntil deadline p =
     (segment : ℕ) × (current_of p ≡ Some segment) × (deadline_of p segment ≡ Some deadline)
 
 -- A call had its answer. Segments are the pass's own.
--- A get is one of the request's key, with the draw 1, which raises no frequency above 16.
+-- A get is one of the put's key, with the draw 1, which raises no frequency above 16.
 -- A set isn't made in a segment whose deadline has come, unless that deadline is asked.
 abbrev pub IsCall : Board → Plan → PutCall → Pass → Pass → Type 0
 IsCall b plan gets p q =
-    (request : Request) × (plan.request ≡ Some request)
-    × (told : GetAnswer) × ReadsKey b (key_of request) 1 (moment_of request) told p q
+    (key : List ℕ) × (value : List ℕ) × (now : ℕ) × (plan.request ≡ Some (Set key value now))
+    × (told : GetAnswer) × ReadsKey b key 1 now told p q
 IsCall b plan (sets told) p q =
-    (request : Request) × (plan.request ≡ Some request)
-    × ((until : ℕ) → StoresUntil until p → until ≤ moment_of request → until ≡ plan.deadline)
-    × IsSetAnswer told × Writes b request told p q
+    (key : List ℕ) × (value : List ℕ) × (now : ℕ) × (plan.request ≡ Some (Set key value now))
+    × ((until : ℕ) → StoresUntil until p → until ≤ now → until ≡ plan.deadline)
+    × IsSetAnswer told × Writes b (Set key value now) told p q
 IsCall b plan (evicts segment told) p q =
     (owner b.shape segment ≡ number p) × EvictsSegment b segment told p q
 IsCall b plan (keeps segment row cutoff told) p q =
@@ -75,16 +75,16 @@ IsRefused segment (call ∷ earlier) = IsRefused segment earlier
 
 -- ---- what calls came to
 
--- how many segments a call refilled, how many items it moved, and how many keys it evicted
-abbrev pub refilled_by : PutCall → ℕ
-refilled_by (refills segment refill.Refilled) = 1
-refilled_by _ = 0
+-- what is counted of it
+pub data Amount : Type 0 where
+  refilled_segments : Amount
+  kept_items : Amount
+  evicted_keys : Amount
 
-abbrev pub kept_by : PutCall → ℕ
-kept_by (keeps segment row cutoff kept.Moved) = 1
-kept_by _ = 0
-
-abbrev pub evicted_by : PutCall → ℕ
-evicted_by (evicts segment (evict.Evicted keys)) = keys
-evicted_by (evicts segment (evict.Busy keys)) = keys
-evicted_by _ = 0
+-- how many segments a call refilled, how many items it moved, or how many keys it evicted
+abbrev pub came_to : Amount → PutCall → ℕ
+came_to refilled_segments (refills segment refill.Refilled) = 1
+came_to kept_items (keeps segment row cutoff kept.Moved) = 1
+came_to evicted_keys (evicts segment (evict.Evicted keys)) = keys
+came_to evicted_keys (evicts segment (evict.Busy keys)) = keys
+came_to _ _ = 0

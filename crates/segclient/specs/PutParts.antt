@@ -16,16 +16,17 @@ use Rattle.segclient.specs.declared.put.PutAnswer.TheVariants as put
 use Rattle.segclient.specs.declared.room.Effort.{Effort}
 use Rattle.segclient.specs.declared.stats.Stats.{Stats}
 use Rattle.segclient.specs.Counting.{with_more}
-use Rattle.segclient.specs.PutCalls.{PutCall, gets, sets, evicts, Plan, refilled_by, kept_by, evicted_by, IsRefused, Makes, StoresUntil}
+use Rattle.segclient.specs.PutCalls.{PutCall, gets, sets, evicts, Plan, came_to, refilled_segments, kept_items, evicted_keys, IsRefused, Makes, StoresUntil}
 use Rattle.segclient.specs.Putting.{IsPutAnswer, SetsUntilFull}
+use Rattle.segclient.specs.Tallies.{evicted_by}
 
 -- ---- what calls came to
 
 -- in numbers
 pub record IsEffort (calls : List PutCall) (effort : Effort) : Type 0 where
-  pub refilled : effort.refilled ≡ sum_by refilled_by calls
-  pub kept : effort.kept ≡ sum_by kept_by calls
-  pub keys : effort.keys ≡ sum_by evicted_by calls
+  pub refilled : effort.refilled ≡ sum_by (came_to refilled_segments) calls
+  pub kept : effort.kept ≡ sum_by (came_to kept_items) calls
+  pub keys : effort.keys ≡ sum_by (came_to evicted_keys) calls
 
 abbrev pub effort_from : ℕ → ℕ → ℕ → Effort
 effort_from refilled kept keys = record { refilled = refilled; kept = kept; keys = keys }
@@ -37,12 +38,6 @@ with_effort effort stats = record stats {
   items_kept = with_more stats.items_kept effort.kept;
   keys_evicted = with_more stats.keys_evicted effort.keys;
 }
-
--- how many keys an answer says were evicted
-abbrev pub taken_by : EvictAnswer → ℕ
-taken_by (evict.Evicted keys) = keys
-taken_by (evict.Busy keys) = keys
-taken_by evict.NotYours = 0
 
 -- ---- room
 
@@ -92,7 +87,7 @@ pub record Empties (b : Board) (effort : Effort) (p q : Pass) : Type 0 where
   pub told : EvictAnswer
   pub own : owner b.shape segment ≡ number p
   pub evicts : EvictsSegment b segment told p q
-  pub comes : effort ≡ effort_from 0 0 (taken_by told)
+  pub comes : effort ≡ effort_from 0 0 (evicted_by told)
 
 -- ---- deadlines
 

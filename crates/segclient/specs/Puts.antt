@@ -8,11 +8,12 @@ use Rattle.segstore.specs.Words.{has_room, memo}
 use Rattle.segclient.specs.declared.member.Member.{Member}
 use Rattle.segclient.specs.declared.put.PutAnswer.{PutAnswer}
 use Rattle.segclient.specs.declared.put.PutAnswer.TheVariants as put
-use Rattle.segclient.specs.Counting.{counted, given_up_too, put_tally}
+use Rattle.segclient.specs.Counting.{counted, given_up_too}
 use Rattle.segclient.specs.Member.{KeepsSettings}
 use Rattle.segclient.specs.PutCalls.{IsRefused, Makes, PutCall, sets}
 use Rattle.segclient.specs.PutCalls.{StoresUntil}
 use Rattle.segclient.specs.Putting.{IsPutAnswer, most_calls, SetsUntilFull}
+use Rattle.segclient.specs.Tallies.{put_tally}
 
 -- The deadline of what a client refills now: the last multiple of half its time to live
 -- that comes in this time. What is of one half then has one deadline.
@@ -32,7 +33,6 @@ pub record Puts (key value : List ℕ) (told : PutAnswer) (b : Board) (old new :
     cutoff = old.cutoff;
     deadline = deadline_of old;
   }) calls old.pass new.pass
-  pub few : length calls ≤ most_calls b.shape
   pub answer : IsPutAnswer b.shape (number old.pass) told calls
   pub not_stored : told ≢ put.Stored → All (λ call. call ≢ sets write.Stored) calls
   pub spares : (until : ℕ)
@@ -44,6 +44,7 @@ pub record Puts (key value : List ℕ) (told : PutAnswer) (b : Board) (old new :
   pub stats : new.stats ≡ counted (put_tally told) (given_up_too calls old.stats)
   pub draws : new.draws ≡ old.draws
   pub settings : KeepsSettings old new
+  pub costs : length calls ≤ most_calls b.shape
 
 -- Room was made by these calls, and then a row is left in a segment with the deadline
 -- that is asked. Or it wasn't, and each segment of the pass was refused.
@@ -51,7 +52,6 @@ pub record MakesRoomFor (made : Bool) (b : Board) (old new : Member) : Type 0 wh
   pub calls : List PutCall
   pub makes : Makes b (record { request = None; cutoff = old.cutoff; deadline = deadline_of old })
       calls old.pass new.pass
-  pub few : length calls ≤ most_calls b.shape
   pub room : has_room b.shape new.pass ≡ made
   pub deadline : made ≡ true → StoresUntil (deadline_of old) new.pass
   pub refused : made ≡ false
@@ -62,3 +62,4 @@ pub record MakesRoomFor (made : Bool) (b : Board) (old new : Member) : Type 0 wh
   pub stats : new.stats ≡ given_up_too calls old.stats
   pub draws : new.draws ≡ old.draws
   pub settings : KeepsSettings old new
+  pub costs : length calls ≤ most_calls b.shape

@@ -9,7 +9,7 @@ use Rattle.segclient.specs.declared.put.PutAnswer.{PutAnswer}
 use Rattle.segclient.specs.declared.put.PutAnswer.TheVariants as put
 use Rattle.segclient.specs.Entries.{AddsForPut, AddsRoom}
 use Rattle.segclient.specs.Member.{IsMember}
-use Rattle.segclient.specs.PutCalls.{evicted_by, kept_by, refilled_by}
+use Rattle.segclient.specs.PutCalls.{came_to, evicted_keys, kept_items, refilled_segments}
 use Rattle.segclient.specs.Puts.{deadline_of, MakesRoomFor, Puts}
 
 -- A put that is Stored came in after the first step of its call, and its value stood right after.
@@ -28,8 +28,9 @@ PutAdds = (i : Index) (key value : List ℕ) (told : PutAnswer) (old new : Membe
     → IsMember i old
     → (puts : Puts key value told (board_of i) old new)
     → AddsForPut (shape_of i) (number old.pass) old.cutoff (Set key value old.clock)
-    (deadline_of old) told (sum_by refilled_by puts.calls) (sum_by kept_by puts.calls)
-    (sum_by evicted_by puts.calls) (mine old.pass) (mine new.pass)
+    (deadline_of old) told (sum_by (came_to refilled_segments) puts.calls)
+    (sum_by (came_to kept_items) puts.calls) (sum_by (came_to evicted_keys) puts.calls)
+    (mine old.pass) (mine new.pass)
 
 -- So it is of room that is made alone.
 abbrev pub RoomAdds : Type 0
@@ -37,5 +38,5 @@ RoomAdds = (i : Index) (made : Bool) (old new : Member)
     → IsMember i old
     → (room : MakesRoomFor made (board_of i) old new)
     → AddsRoom (shape_of i) (number old.pass) old.cutoff (deadline_of old)
-    (sum_by refilled_by room.calls) (sum_by kept_by room.calls) (sum_by evicted_by room.calls)
-    (mine old.pass) (mine new.pass)
+    (sum_by (came_to refilled_segments) room.calls) (sum_by (came_to kept_items) room.calls)
+    (sum_by (came_to evicted_keys) room.calls) (mine old.pass) (mine new.pass)

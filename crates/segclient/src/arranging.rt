@@ -5,13 +5,12 @@ ghost use Rattle.segmodel.specs.Words.{owner};
 ghost use Rattle.segbase.specs.Words.{current_of, number};
 ghost use Rattle.segindex.specs.Words.{board_of, shape_of};
 ghost use Rattle.segstore.specs.Words.{GoesOn, IsQuiet};
-ghost use Rattle.segclient.specs.PutCalls.{refilled_by, refills};
 ghost use Rattle.segclient.specs.PutParts.{Arranges, effort_from, most_in_queues};
 
 use crate::queues::{Queue, Queues};
-use crate::room::{Effort, has_room, moved_by, taken_by};
+use crate::room::{Effort, has_room, moved_by};
+use crate::tally::{evicted_by, refilled_by};
 use segindex::{Index, KeepRowAnswer, Pass};
-use segmodel::RefillAnswer;
 
 // How room is made by queues: the least frequency of what is kept, the deadline of what is
 // refilled, and the moment.
@@ -31,7 +30,7 @@ fn evict(index: &Index, pass: &mut Pass, queues: &mut Queues, segment: u32) -> E
     ensures arranges { (cutoff : Option ℕ) → (deadline : ℕ)
         → Arranges (board_of index.now) cutoff deadline 1 result pass.old pass.new }
 {
-    let keys = taken_by(index.evict(pass, segment));
+    let keys = evicted_by(index.evict(pass, segment));
     queues.was_evicted(segment);
     Effort {
         refilled: 0,
@@ -59,17 +58,6 @@ fn free_one(index: &Index, pass: &mut Pass, queues: &mut Queues) -> Effort
         return evict(index, pass, queues, segment);
     }
     Effort::none()
-}
-
-// How many segments an answer says were refilled.
-fn refilled_by(answer: RefillAnswer) -> u32
-    ensures few { result ≤ 1 }
-    ensures value { (segment : ℕ) → result ≡ refilled_by (refills segment answer) }
-{
-    match answer {
-        RefillAnswer::Refilled => 1,
-        RefillAnswer::NotYours | RefillAnswer::NotEvicted | RefillAnswer::Held => 0,
-    }
 }
 
 // Refills the free segment that was evicted before the others. One that is held comes last.

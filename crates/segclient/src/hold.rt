@@ -41,8 +41,9 @@ impl Member {
 }
 
 impl<'i> Client<'i> {
+    ghost use Rattle.segindex.specs.Words.{shape_of};
     ghost use Rattle.segread.specs.Words.{IsHoldOf};
-    ghost use Rattle.segclient.specs.Client.{MakesCall, shape_of};
+    ghost use Rattle.segclient.specs.Client.{MakesCall};
     ghost use Rattle.segclient.specs.Made.{EndsHold, HoldsKey, ReadsHold};
 
     /// Holds the item of a key. Its value can be read until the hold is spent by `release`,
@@ -56,7 +57,7 @@ impl<'i> Client<'i> {
 
     /// A copy of the value that is held: the one that stood under the key when it was held.
     pub fn held_value(&mut self, hold: &Hold<'_>) -> Value
-        requires hold { IsHoldOf (shape_of self.old) hold.now self.old.member.pass }
+        requires hold { IsHoldOf (shape_of self.old.index.now) hold.now self.old.member.pass }
         ensures reads { MakesCall (ReadsHold hold.now result) self.old self.new }
     {
         self.member.held_value(self.index, hold)
@@ -64,7 +65,7 @@ impl<'i> Client<'i> {
 
     /// Ends a hold.
     pub fn release(&mut self, hold: Hold<'_>)
-        requires hold { IsHoldOf (shape_of self.old) hold self.old.member.pass }
+        requires hold { IsHoldOf (shape_of self.old.index.now) hold self.old.member.pass }
         ensures releases { MakesCall EndsHold self.old self.new }
     {
         self.member.release(self.index, hold);

@@ -11,18 +11,22 @@ mod member;
 mod note;
 mod put;
 mod queues;
+mod ring;
 mod room;
 mod standing;
 mod stats;
+mod tally;
 
 pub use all::{clients, into_passes, keep_back};
 pub use client::Client;
 pub use member::Member;
 pub use note::{what_a_put_adds, what_is_put_stands};
 pub use put::PutAnswer;
+pub use ring::own_ring;
 pub use segindex::{
     DeleteAnswer, GetAnswer, GetsAnswer, HeldRow, Hold, HoldAnswer, Index, IndexStats, Key,
     MakeFault, Note, OutOfMemory, Pass, Shape, ShapeFault, Value, WriteAnswer, hold_stays,
     row_of_hold,
 };
 pub use stats::Stats;
+pub use tally::{Tally, evicted_by, refilled_by};

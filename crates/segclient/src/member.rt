@@ -6,13 +6,12 @@ ghost use Rattle.segclient.specs.Member.{next_draws};
 
 use crate::put::{Order, PutAnswer, put_by};
 use crate::queues::Queues;
+use crate::ring::own_ring;
 use crate::room::{Policy, Segments, make_room_by};
-use crate::stats::{
-    Stats, tally_of_delete, tally_of_get, tally_of_gets, tally_of_put, tally_of_write,
-};
+use crate::stats::Stats;
+use crate::tally::Tally;
 use segindex::{Index, IndexStats, Pass};
 use segmodel::{DeleteAnswer, GetAnswer, GetsAnswer, WriteAnswer};
-use segpolicy::Ring;
 use segword::{Key, Value};
 use std::alloc::{AllocError, Global};
 
@@ -55,13 +54,10 @@ impl Member {
         ensures begins { Begins (shape_of index.now) None pass result }
     {
         let number = pass.number();
-        let segments = index.shape().segments_each;
+        let ring = own_ring(index, &pass);
         Member {
             pass,
-            segments: Segments {
-                ring: Ring::new(number * segments, segments),
-                queues: None,
-            },
+            segments: Segments { ring, queues: None },
             draws: number,
             clock: 0,
             time_to_live: u32::MAX,
@@ -144,7 +140,7 @@ impl Member {
     {
         self.draws = drawn(self.draws);
         let told = index.get(&mut self.pass, key, self.draws / 256, self.clock);
-        self.stats.count(tally_of_get(&told));
+        self.stats.count(Tally::of_get(&told));
         told
     }
 
@@ -156,7 +152,7 @@ impl Member {
     {
         self.draws = drawn(self.draws);
         let told = index.gets(&mut self.pass, key, self.draws / 256, self.clock);
-        self.stats.count(tally_of_gets(&told));
+        self.stats.count(Tally::of_gets(&told));
         told
     }
 
@@ -169,7 +165,7 @@ impl Member {
         ensures set { IsSetAnswer result }
     {
         let told = index.set(&mut self.pass, key, value, self.clock);
-        self.stats.count(tally_of_write(told));
+        self.stats.count(Tally::of_write(told));
         told
     }
 
@@ -181,7 +177,7 @@ impl Member {
             (board_of index.now) self.old self.new }
     {
         let told = index.add(&mut self.pass, key, value, self.clock);
-        self.stats.count(tally_of_write(told));
+        self.stats.count(Tally::of_write(told));
         told
     }
 
@@ -193,7 +189,7 @@ impl Member {
             (board_of index.now) self.old self.new }
     {
         let told = index.replace(&mut self.pass, key, value, self.clock);
-        self.stats.count(tally_of_write(told));
+        self.stats.count(Tally::of_write(told));
         told
     }
 
@@ -205,7 +201,7 @@ impl Member {
             (board_of index.now) self.old self.new }
     {
         let told = index.cas(&mut self.pass, key, value, expected, self.clock);
-        self.stats.count(tally_of_write(told));
+        self.stats.count(Tally::of_write(told));
         told
     }
 
@@ -216,7 +212,7 @@ impl Member {
         ensures deletes { DeletesKey key.now result (board_of index.now) self.old self.new }
     {
         let told = index.delete(&mut self.pass, key, self.clock);
-        self.stats.count(tally_of_delete(told));
+        self.stats.count(Tally::of_delete(told));
         told
     }
 
@@ -263,7 +259,7 @@ impl Member {
         };
         let (told, effort) = put_by(index, &mut self.pass, &mut self.segments, order);
         self.stats.count_effort(effort);
-        self.stats.count(tally_of_put(told));
+        self.stats.count(Tally::of_put(told));
         told
     }
 }

@@ -44,7 +44,8 @@ impl Member {
 
 impl<'i> Client<'i> {
     ghost use Rattle.segbase.specs.Words.{IsNoteOf};
-    ghost use Rattle.segclient.specs.Client.{board_of, IsSame, MakesCall};
+    ghost use Rattle.segindex.specs.Words.{board_of};
+    ghost use Rattle.segclient.specs.Client.{IsSame, MakesCall};
     ghost use Rattle.segclient.specs.Made.{Learns, Meet, Notes};
 
     /// A note of what the client has seen, its own puts among it. It takes no bytes.
@@ -57,7 +58,7 @@ impl<'i> Client<'i> {
 
     /// The client has then seen all that the note has. The note has to be of the client's index.
     pub fn learn(&mut self, note: Note)
-        requires note { IsNoteOf (board_of self.old) note }
+        requires note { IsNoteOf (board_of self.old.index.now) note }
         ensures learns { MakesCall (Learns note) self.old self.new }
     {
         self.member.learn(self.index, note);
@@ -68,7 +69,7 @@ impl<'i> Client<'i> {
     pub fn meet(&mut self, other: &mut Client<'_>)
         requires same { other.old.index.now ≡ self.old.index.now }
         ensures same { IsSame self.old self.new × IsSame other.old other.new }
-        ensures meets { Meet (board_of self.old)
+        ensures meets { Meet (board_of self.old.index.now)
             self.old.member other.old.member self.new.member other.new.member }
     {
         self.member.meet(self.index, &mut other.member);

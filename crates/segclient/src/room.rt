@@ -5,13 +5,14 @@ ghost use Rattle.segmodel.specs.Words.{owner};
 ghost use Rattle.segbase.specs.Words.{current_of, number};
 ghost use Rattle.segstore.specs.Words.{GoesOn, has_room, IsQuiet};
 ghost use Rattle.segindex.specs.Words.{board_of, shape_of};
-ghost use Rattle.segclient.specs.PutCalls.{keeps, kept_by, StoresUntil};
+ghost use Rattle.segclient.specs.PutCalls.{came_to, keeps, kept_items, StoresUntil};
 ghost use Rattle.segclient.specs.PutParts.{Arranges, effort_from, Empties, GivesUp, MakesRoom};
-ghost use Rattle.segclient.specs.PutParts.{most_for_room, most_in_turn, StoresAsBefore, taken_by};
+ghost use Rattle.segclient.specs.PutParts.{most_for_room, most_in_turn, StoresAsBefore};
 ghost use Rattle.segclient.specs.Rings.{IsOwnRing};
 
 use crate::arranging::{Room, arrange};
 use crate::queues::Queues;
+use crate::tally::evicted_by;
 use segindex::{Index, KeepRowAnswer, Pass};
 use segmodel::{EvictAnswer, RefillAnswer, SegState};
 use segpolicy::Ring;
@@ -142,21 +143,11 @@ fn make_room(index: &Index, pass: &mut Pass, ring: &mut Ring, deadline: u32) -> 
     )
 }
 
-// How many keys an answer says were evicted.
-pub(crate) fn taken_by(answer: EvictAnswer) -> u32
-    ensures { result ≡ taken_by answer }
-{
-    match answer {
-        EvictAnswer::Evicted(keys) | EvictAnswer::Busy(keys) => keys,
-        EvictAnswer::NotYours => 0,
-    }
-}
-
 // How many items an answer says were moved.
 pub(crate) fn moved_by(answer: KeepRowAnswer) -> u32
     ensures few { result ≤ 1 }
     ensures value { (segment row cutoff : ℕ)
-        → result ≡ kept_by (keeps segment row cutoff answer) }
+        → result ≡ came_to kept_items (keeps segment row cutoff answer) }
 {
     match answer {
         KeepRowAnswer::Moved => 1,
@@ -212,7 +203,7 @@ fn clear_next(index: &Index, pass: &mut Pass, ring: &Ring, cutoff: u8) -> Effort
         return Effort::none();
     }
     let kept = keep_rows(index, pass, segment, cutoff);
-    let keys = taken_by(index.evict(pass, segment));
+    let keys = evicted_by(index.evict(pass, segment));
     Effort {
         refilled: 0,
         kept: u64::from(kept),
@@ -371,7 +362,7 @@ pub(crate) fn evict_oldest(index: &Index, pass: &mut Pass, ring: &mut Ring) -> E
     ensures empties { Empties (board_of index.now) result pass.old pass.new }
 {
     let segment = oldest(index, pass, ring);
-    let keys = taken_by(index.evict(pass, segment));
+    let keys = evicted_by(index.evict(pass, segment));
     Effort {
         refilled: 0,
         kept: 0,

@@ -1,27 +1,10 @@
 //! The outcomes of a client's calls, counted.
 ghost use Rattle.std.specs.Prelude.{◌≡◌};
 ghost use Rattle.segclient.specs.Counting.{no_stats, with_more, counted};
-ghost use Rattle.segclient.specs.Counting.{get_tally, gets_tally, write_tally, delete_tally, put_tally};
 ghost use Rattle.segclient.specs.PutParts.{with_effort};
 
-use crate::put::PutAnswer;
 use crate::room::Effort;
-use segmodel::{DeleteAnswer, GetAnswer, GetsAnswer, WriteAnswer};
-
-/// The outcome of a call.
-#[derive(Clone, Copy, Debug, PartialEq, Eq)]
-pub(crate) enum Tally {
-    Hit,
-    Miss,
-    Stored,
-    NotStored,
-    Exists,
-    NotFound,
-    Deleted,
-    NoRoom,
-    BucketFull,
-    Busy,
-}
+use crate::tally::Tally;
 
 /// How often each outcome occurred in a client's calls, and what its puts recycled and kept.
 /// Each number stays at its largest once it is there.
@@ -105,64 +88,4 @@ fn one_more(number: u64) -> u64
     ensures { result ≡ with_more number 1 }
 {
     number.saturating_add(1)
-}
-
-// How an answer to a get is counted.
-pub(crate) fn tally_of_get(told: &GetAnswer) -> Tally
-    ensures { result ≡ get_tally told.now }
-{
-    match told {
-        GetAnswer::Found(_) => Tally::Hit,
-        GetAnswer::Miss => Tally::Miss,
-        GetAnswer::Busy => Tally::Busy,
-    }
-}
-
-// How an answer to a gets is counted.
-pub(crate) fn tally_of_gets(told: &GetsAnswer) -> Tally
-    ensures { result ≡ gets_tally told.now }
-{
-    match told {
-        GetsAnswer::Found(_, _) => Tally::Hit,
-        GetsAnswer::Miss => Tally::Miss,
-        GetsAnswer::Busy => Tally::Busy,
-    }
-}
-
-// How an answer to a write is counted.
-pub(crate) fn tally_of_write(told: WriteAnswer) -> Tally
-    ensures { result ≡ write_tally told }
-{
-    match told {
-        WriteAnswer::Stored => Tally::Stored,
-        WriteAnswer::NotStored => Tally::NotStored,
-        WriteAnswer::Exists => Tally::Exists,
-        WriteAnswer::NotFound => Tally::NotFound,
-        WriteAnswer::NoRoom => Tally::NoRoom,
-        WriteAnswer::BucketFull => Tally::BucketFull,
-        WriteAnswer::Busy => Tally::Busy,
-    }
-}
-
-// How an answer to a delete is counted.
-pub(crate) fn tally_of_delete(told: DeleteAnswer) -> Tally
-    ensures { result ≡ delete_tally told }
-{
-    match told {
-        DeleteAnswer::Deleted => Tally::Deleted,
-        DeleteAnswer::NotFound => Tally::NotFound,
-        DeleteAnswer::Busy => Tally::Busy,
-    }
-}
-
-// How an answer to a put is counted.
-pub(crate) fn tally_of_put(told: PutAnswer) -> Tally
-    ensures { result ≡ put_tally told }
-{
-    match told {
-        PutAnswer::Stored => Tally::Stored,
-        PutAnswer::NoRoom => Tally::NoRoom,
-        PutAnswer::BucketFull => Tally::BucketFull,
-        PutAnswer::Busy => Tally::Busy,
-    }
 }

@@ -9,4 +9,4 @@ returns-in_default-clause-arranges c = λ cutoff. none_arranges (board_of c.args
 
 pub returns-clause-arranges : goal.returns-clause-arranges
 returns-clause-arranges c = λ cutoff. refill_arranges (board_of c.args.index.now) cutoff c.args.deadline c.in-Some.segment c.refill-told.result (effort_from c.refilled_by.result 0 0) c.args.pass.now c.refill-told.new.pass
-    (c.refilled_by.ensures.value c.in-Some.segment) refl refl c.in-Some.ensures.own.0 c.refill-told.ensures.refills
+    c.refilled_by.ensures.value refl refl c.in-Some.ensures.own.0 c.refill-told.ensures.refills

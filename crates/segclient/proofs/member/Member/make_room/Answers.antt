@@ -15,7 +15,6 @@ returns-clause-makes c =
     record {
       calls = made.arranges.calls;
       makes = made.arranges.makes;
-      few = let few = made.arranges.few in let bound = room_few b.shape in omega (arith, few, bound);
       room = made.room;
       deadline = made.until;
       refused = made.refused;
@@ -23,4 +22,5 @@ returns-clause-makes c =
       stats = c.count_effort.ensures ∙ counted_too made.arranges.calls room.result.1 old.stats made.arranges.comes;
       draws = refl;
       settings = record { number = room.ensures.on.same; clock = refl; time_to_live = refl; cutoff = refl };
+      costs = let few = made.arranges.few in let bound = room_few b.shape in omega (arith, few, bound);
     }

@@ -2,11 +2,12 @@ use Rattle.std.proofs.Common.{Some, refl, ap, ◌∙◌, subst}
 use Rattle.segmodel.specs.declared.request.Request.TheVariants.{Set}
 use Rattle.segbase.specs.Words.{number}
 use Rattle.segindex.specs.Words.{board_of}
-use Rattle.segclient.specs.Counting.{counted, put_tally}
+use Rattle.segclient.specs.Counting.{counted}
 use Rattle.segclient.specs.PutCalls.{Plan}
 use Rattle.segclient.specs.PutParts.{PutsWhole}
 use Rattle.segclient.specs.Putting.{most_calls}
 use Rattle.segclient.specs.Puts.{deadline_of}
+use Rattle.segclient.specs.Tallies.{put_tally}
 use Rattle.segclient.proofs.Added.{counted_too, put_memo}
 use Rattle.segclient.proofs.Setting.{not_stale}
 use Rattle.segclient.proofs.member.Member.put.Goals as goal
@@ -26,12 +27,12 @@ returns-clause-puts c =
     record {
       calls = whole.calls;
       makes = whole.makes;
-      few = whole.few;
       answer = whole.answer;
       not_stored = whole.not_stored;
       spares = λ until stores late left. whole.spares (not_stale until old.clock old.pass stores late) left;
       memo = put_memo b plan (number old.pass) told whole.calls old.pass q c.requires.member.0 whole.answer whole.not_stored whole.makes;
-      stats = c.count.ensures ∙ ap (λ tally. counted tally c.count_effort.new.self) c.tally_of_put.ensures ∙ ap (counted (put_tally told)) (c.count_effort.ensures ∙ counted_too whole.calls effort old.stats whole.comes);
+      stats = c.count.ensures ∙ ap (λ tally. counted tally c.count_effort.new.self) c.of_put.ensures ∙ ap (counted (put_tally told)) (c.count_effort.ensures ∙ counted_too whole.calls effort old.stats whole.comes);
       draws = refl;
       settings = record { number = put.ensures.on.same; clock = refl; time_to_live = refl; cutoff = refl };
+      costs = whole.few;
     }

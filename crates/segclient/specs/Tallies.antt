@@ -1,0 +1,55 @@
+-- How an answer is counted, by clients and by loads.
+use Rattle.std.specs.Prelude.{ℕ}
+use Rattle.segmodel.specs.Words.{DeleteAnswer, EvictAnswer, GetAnswer, GetsAnswer, RefillAnswer}
+use Rattle.segmodel.specs.Words.{WriteAnswer}
+use Rattle.segmodel.specs.declared.answer.DeleteAnswer.TheVariants as delete
+use Rattle.segmodel.specs.declared.answer.EvictAnswer.TheVariants as evict
+use Rattle.segmodel.specs.declared.answer.GetAnswer.TheVariants as get
+use Rattle.segmodel.specs.declared.answer.GetsAnswer.TheVariants as gets
+use Rattle.segmodel.specs.declared.answer.RefillAnswer.TheVariants as refill
+use Rattle.segmodel.specs.declared.answer.WriteAnswer.TheVariants as write
+use Rattle.segclient.specs.declared.put.PutAnswer.{PutAnswer}
+use Rattle.segclient.specs.declared.put.PutAnswer.TheVariants as put
+use Rattle.segclient.specs.declared.tally.Tally.{Tally}
+use Rattle.segclient.specs.declared.tally.Tally.TheVariants as tally
+
+abbrev pub get_tally : GetAnswer → Tally
+get_tally (get.Found value) = tally.Hit
+get_tally get.Miss = tally.Miss
+get_tally get.Busy = tally.Busy
+
+abbrev pub gets_tally : GetsAnswer → Tally
+gets_tally (gets.Found value version) = tally.Hit
+gets_tally gets.Miss = tally.Miss
+gets_tally gets.Busy = tally.Busy
+
+abbrev pub write_tally : WriteAnswer → Tally
+write_tally write.Stored = tally.Stored
+write_tally write.NotStored = tally.NotStored
+write_tally write.Exists = tally.Exists
+write_tally write.NotFound = tally.NotFound
+write_tally write.NoRoom = tally.NoRoom
+write_tally write.BucketFull = tally.BucketFull
+write_tally write.Busy = tally.Busy
+
+abbrev pub delete_tally : DeleteAnswer → Tally
+delete_tally delete.Deleted = tally.Deleted
+delete_tally delete.NotFound = tally.NotFound
+delete_tally delete.Busy = tally.Busy
+
+abbrev pub put_tally : PutAnswer → Tally
+put_tally put.Stored = tally.Stored
+put_tally put.NoRoom = tally.NoRoom
+put_tally put.BucketFull = tally.BucketFull
+put_tally put.Busy = tally.Busy
+
+-- how many keys an evict took out that has this answer
+abbrev pub evicted_by : EvictAnswer → ℕ
+evicted_by (evict.Evicted keys) = keys
+evicted_by (evict.Busy keys) = keys
+evicted_by evict.NotYours = 0
+
+-- how many segments a refill refilled that has this answer
+abbrev pub refilled_by : RefillAnswer → ℕ
+refilled_by refill.Refilled = 1
+refilled_by _ = 0

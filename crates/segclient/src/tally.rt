@@ -1,0 +1,108 @@
+//! How an answer is counted, by clients and by loads.
+ghost use Rattle.std.specs.Prelude.{◌≡◌, ◌≤◌};
+ghost use Rattle.segclient.specs.Tallies.{delete_tally, evicted_by, get_tally, gets_tally};
+ghost use Rattle.segclient.specs.Tallies.{put_tally, refilled_by, write_tally};
+
+use crate::put::PutAnswer;
+use segmodel::{DeleteAnswer, EvictAnswer, GetAnswer, GetsAnswer, RefillAnswer, WriteAnswer};
+
+/// The outcome of a call.
+#[derive(Clone, Copy, Debug, PartialEq, Eq)]
+pub enum Tally {
+    /// A get or a gets found its key.
+    Hit,
+    /// A get or a gets didn't find its key.
+    Miss,
+    Stored,
+    NotStored,
+    Exists,
+    /// A cas or a delete didn't find its key.
+    NotFound,
+    Deleted,
+    NoRoom,
+    BucketFull,
+    Busy,
+}
+
+impl Tally {
+    /// How an answer to a get is counted.
+    pub fn of_get(told: &GetAnswer) -> Tally
+        ensures { result ≡ get_tally told.now }
+    {
+        match told {
+            GetAnswer::Found(_) => Tally::Hit,
+            GetAnswer::Miss => Tally::Miss,
+            GetAnswer::Busy => Tally::Busy,
+        }
+    }
+
+    /// How an answer to a gets is counted.
+    pub fn of_gets(told: &GetsAnswer) -> Tally
+        ensures { result ≡ gets_tally told.now }
+    {
+        match told {
+            GetsAnswer::Found(_, _) => Tally::Hit,
+            GetsAnswer::Miss => Tally::Miss,
+            GetsAnswer::Busy => Tally::Busy,
+        }
+    }
+
+    /// How an answer to a write is counted.
+    pub fn of_write(told: WriteAnswer) -> Tally
+        ensures { result ≡ write_tally told }
+    {
+        match told {
+            WriteAnswer::Stored => Tally::Stored,
+            WriteAnswer::NotStored => Tally::NotStored,
+            WriteAnswer::Exists => Tally::Exists,
+            WriteAnswer::NotFound => Tally::NotFound,
+            WriteAnswer::NoRoom => Tally::NoRoom,
+            WriteAnswer::BucketFull => Tally::BucketFull,
+            WriteAnswer::Busy => Tally::Busy,
+        }
+    }
+
+    /// How an answer to a delete is counted.
+    pub fn of_delete(told: DeleteAnswer) -> Tally
+        ensures { result ≡ delete_tally told }
+    {
+        match told {
+            DeleteAnswer::Deleted => Tally::Deleted,
+            DeleteAnswer::NotFound => Tally::NotFound,
+            DeleteAnswer::Busy => Tally::Busy,
+        }
+    }
+
+    // How an answer to a put is counted.
+    pub(crate) fn of_put(told: PutAnswer) -> Tally
+        ensures { result ≡ put_tally told }
+    {
+        match told {
+            PutAnswer::Stored => Tally::Stored,
+            PutAnswer::NoRoom => Tally::NoRoom,
+            PutAnswer::BucketFull => Tally::BucketFull,
+            PutAnswer::Busy => Tally::Busy,
+        }
+    }
+}
+
+/// How many keys an evict took out that has this answer.
+pub fn evicted_by(answer: EvictAnswer) -> u32
+    ensures { result ≡ evicted_by answer }
+{
+    match answer {
+        EvictAnswer::Evicted(keys) | EvictAnswer::Busy(keys) => keys,
+        EvictAnswer::NotYours => 0,
+    }
+}
+
+/// How many segments a refill refilled that has this answer.
+pub fn refilled_by(answer: RefillAnswer) -> u32
+    ensures value { result ≡ refilled_by answer }
+    ensures most { result ≤ 1 }
+{
+    match answer {
+        RefillAnswer::Refilled => 1,
+        RefillAnswer::NotYours | RefillAnswer::NotEvicted | RefillAnswer::Held => 0,
+    }
+}
