@@ -40,18 +40,16 @@ use Rattle.segindex.proofs.QuietPass.{owned}
 use Rattle.segindex.proofs.Since.{full_since, get_since, gets_since}
 use Rattle.segpolicy.specs.declared.load.Kind.TheVariants as kind
 use Rattle.segpolicy.specs.Words.{Cycle, Kind, Load, next_of}
-use Rattle.segload.specs.declared.totals.Tally.TheVariants as tally
+use Rattle.segclient.specs.declared.tally.Tally.TheVariants as tally
+use Rattle.segclient.specs.Rings.{IsOwnRing}
+use Rattle.segclient.specs.Tallies.{delete_tally, write_tally}
 use Rattle.segload.specs.Making.{ClientState, load_deadline, load_moment, turned_on, AtMoment, ReadsWhen, IsReadAs, IsVersionReadAs, IsFullFor, IsWrittenAs, Empties, IsStoredAs, CameTo}
-use Rattle.segload.specs.Calls.{asked_by, tally_of, write_tally, delete_tally, course_after}
+use Rattle.segload.specs.Calls.{asked_by, tally_of, course_after}
 use Rattle.segload.proofs.Lists.{both_begin}
 
 -- The pass has no bucket locked, and holds nothing.
 abbrev pub HoldsNothing : Pass → Type 0
 HoldsNothing p = (locked_of p ≡ None) × (holding p ≡ None)
-
--- The ring has the segments of the pass.
-abbrev pub IsOwnRing : Shape → ℕ → Cycle → Type 0
-IsOwnRing shape pass ring = (ring.first ≡ pass * shape.segments_each) × (ring.count ≡ shape.segments_each) × (ring.given < ring.count)
 
 -- The pass emptied and refilled a segment, up to the load's deadline, and now there is room. Or it couldn't, but only if there are other passes.
 abbrev pub GivesUpSegment : Shape → ℕ → Bool → Pass → Pass → Type 0

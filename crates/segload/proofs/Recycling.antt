@@ -18,7 +18,9 @@ use Rattle.segindex.specs.Words.{AnswersCommand, IsRefillAnswer}
 use Rattle.segpolicy.specs.declared.load.Kind.TheVariants as kind
 use Rattle.segpolicy.specs.Words.{Kind, Load}
 use Rattle.segload.specs.declared.totals.Recycled.{Recycled}
-use Rattle.segload.specs.Counting.{CountsRecycled, evicted_by, is_eviction, is_refilling, RecyclesFew, refilled_by}
+use Rattle.segclient.specs.Entries.{is_eviction, is_refilling}
+use Rattle.segclient.specs.Tallies.{evicted_by, refilled_by}
+use Rattle.segload.specs.Counting.{CountsRecycled, RecyclesFew}
 use Rattle.segload.specs.Making.{load_moment}
 use Rattle.segload.specs.Calls.{asked_by}
 

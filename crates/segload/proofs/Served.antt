@@ -1,6 +1,5 @@
 -- What the calls of a command of a load came to in the history.
-use Rattle.std.proofs.Common.{◌≡◌, ◌≢◌, ℕ, ◌+◌, ◌<◌, true, false, refl, sym, ap, ◌∙◌, subst, inl, inr, arith, mod-lt}
-use Rattle.segword.specs.Words.{Shape}
+use Rattle.std.proofs.Common.{◌≡◌, ◌≢◌, ℕ, ◌+◌, ◌<◌, true, false, refl, sym, ap, ◌∙◌, subst, inl, inr, arith}
 use Rattle.segmodel.specs.declared.answer.Answer.TheVariants as answer
 use Rattle.segmodel.specs.declared.answer.GetsAnswer.TheVariants as gets
 use Rattle.segmodel.specs.declared.answer.WriteAnswer.TheVariants as write
@@ -12,12 +11,14 @@ use Rattle.segstore.specs.Words.{GoesOn, IsQuiet}
 use Rattle.segevict.proofs.RowsOut.{goes_then}
 use Rattle.segindex.specs.Words.{AnswersCommand}
 use Rattle.segpolicy.specs.declared.load.Kind.TheVariants as kind
-use Rattle.segpolicy.specs.Words.{Cycle, Kind, Load, next_of, turned}
-use Rattle.segload.specs.declared.totals.Tally.{Tally}
-use Rattle.segload.specs.declared.totals.Tally.TheVariants as tally
+use Rattle.segpolicy.specs.Words.{Cycle, Kind, Load, next_of}
+use Rattle.segclient.specs.declared.tally.Tally.{Tally}
+use Rattle.segclient.specs.declared.tally.Tally.TheVariants as tally
+use Rattle.segclient.specs.Rings.{IsOwnRing}
+use Rattle.segclient.proofs.Turns.{own_turned}
 use Rattle.segload.specs.Making.{ClientState, CameTo, ComesTo, turned_on}
 use Rattle.segload.specs.Calls.{asked_by, course_after, tally_of, MakesRoom, IsNotEvicted, IsNotRefilled, TriesForRoom, ServedAtOnce, ServedInNewRoom, ServedNoRoom, ServesLoad}
-use Rattle.segload.proofs.Answered.{came, came_again, came_nowhere, command_free, empties, evict_free, refill_free, is_refilled, not_evicted, room_made, HoldsNothing, IsOwnRing, GivesUpSegment}
+use Rattle.segload.proofs.Answered.{came, came_again, came_nowhere, command_free, empties, evict_free, refill_free, is_refilled, not_evicted, room_made, HoldsNothing, GivesUpSegment}
 
 -- ---- one call
 
@@ -34,10 +35,6 @@ command_on b of version load draw told p q is = absurd is
 
 -- ---- the ring
 
--- it is still that of the pass's own segments
-turned_own : (shape : Shape) (n : ℕ) (ring : Cycle) → 0 < shape.segments_each → IsOwnRing shape n ring → IsOwnRing shape n (turned ring)
-turned_own shape n ring some own = (own.0, own.1, mod-lt (ring.given + 1) (subst (λ m. 0 < m) (sym own.1) some))
-
 course_kept : (given : Answer) (course : ClientState) → (course_after given course).segments ≡ course.segments
 course_kept (answer.Gets (gets.Found value version)) course = refl
 course_kept (answer.Gets gets.Miss) course = refl
@@ -46,8 +43,8 @@ course_kept _ course = refl
 
 pub serves_own : (b : Board) (n : ℕ) (load : Load) (told : Tally) (from to : ClientState) (p q : Pass) → 0 < b.shape.segments_each → ServesLoad (AnswersCommand b) load told from to p q → IsOwnRing b.shape n from.segments → IsOwnRing b.shape n to.segments
 serves_own b n load told from to p q some (inl served) own = subst (IsOwnRing b.shape n) (sym (ap (λ c. c.segments) served.course ∙ course_kept served.given from)) own
-serves_own b n load told from to p q some (inr (inl served)) own = subst (λ c. IsOwnRing b.shape n c.segments) (sym served.course) (turned_own b.shape n from.segments some own)
-serves_own b n load told from to p q some (inr (inr served)) own = subst (λ c. IsOwnRing b.shape n c.segments) (sym served.course) (turned_own b.shape n from.segments some own)
+serves_own b n load told from to p q some (inr (inl served)) own = subst (λ c. IsOwnRing b.shape n c.segments) (sym served.course) (own_turned b.shape n from.segments some own)
+serves_own b n load told from to p q some (inr (inr served)) own = subst (λ c. IsOwnRing b.shape n c.segments) (sym served.course) (own_turned b.shape n from.segments some own)
 
 -- ---- making room
 

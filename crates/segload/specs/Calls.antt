@@ -4,21 +4,20 @@
 -- which state may follow which. Of passes it is the contract of the call that the command names
 -- (`AnswersCommand`), and of the cache of one thread it is the model.
 use Rattle.std.specs.Prelude.{◌≡◌, ◌≢◌, ◌⊎◌, ℕ, zero, suc, Bool, true, false}
-use Rattle.segmodel.specs.Words.{Answer, DeleteAnswer, EvictAnswer, RefillAnswer, WriteAnswer}
+use Rattle.segmodel.specs.Words.{Answer, EvictAnswer, RefillAnswer}
 use Rattle.segmodel.specs.declared.request.Request.TheVariants as request
 use Rattle.segmodel.specs.declared.answer.Answer.TheVariants as answer
 use Rattle.segmodel.specs.declared.answer.Command.{Command}
 use Rattle.segmodel.specs.declared.answer.Command.TheVariants as command
-use Rattle.segmodel.specs.declared.answer.GetAnswer.TheVariants as get
 use Rattle.segmodel.specs.declared.answer.GetsAnswer.TheVariants as gets
 use Rattle.segmodel.specs.declared.answer.WriteAnswer.TheVariants as write
-use Rattle.segmodel.specs.declared.answer.DeleteAnswer.TheVariants as delete
 use Rattle.segmodel.specs.declared.answer.EvictAnswer.TheVariants as evict
 use Rattle.segmodel.specs.declared.answer.RefillAnswer.TheVariants as refill
 use Rattle.segpolicy.specs.declared.load.Kind.TheVariants as kind
 use Rattle.segpolicy.specs.Words.{Draws, Kind, Load, next_load, next_of}
-use Rattle.segload.specs.declared.totals.Tally.{Tally}
-use Rattle.segload.specs.declared.totals.Tally.TheVariants as tally
+use Rattle.segclient.specs.declared.tally.Tally.{Tally}
+use Rattle.segclient.specs.declared.tally.Tally.TheVariants as tally
+use Rattle.segclient.specs.Tallies.{delete_tally, get_tally, gets_tally, write_tally}
 use Rattle.segload.specs.declared.totals.Tallies.{Tallies}
 use Rattle.segload.specs.Counting.{no_tallies, with_one_more}
 use Rattle.segload.specs.Making.{ClientState, draws_after, load_deadline, load_moment, turned_on}
@@ -41,22 +40,6 @@ command_of version load = asked_by load.kind version load
 
 -- ---- answers
 
--- how a write that was answered so is counted
-abbrev pub write_tally : WriteAnswer → Tally
-write_tally write.Stored = tally.Stored
-write_tally write.NotStored = tally.NotStored
-write_tally write.Exists = tally.Exists
-write_tally write.NotFound = tally.NotFound
-write_tally write.NoRoom = tally.NoRoom
-write_tally write.BucketFull = tally.BucketFull
-write_tally write.Busy = tally.Busy
-
--- how a delete that was answered so is counted
-abbrev pub delete_tally : DeleteAnswer → Tally
-delete_tally delete.Deleted = tally.Deleted
-delete_tally delete.NotFound = tally.NotFound
-delete_tally delete.Busy = tally.Busy
-
 -- No command of a load is answered as an evict, a keep or a refill.
 abbrev pub IsOfLoad : Answer → Type 0
 IsOfLoad (answer.Evict told) = ⊥
@@ -66,12 +49,10 @@ IsOfLoad told = Unit {0}
 
 -- how a command of a load that was answered so is counted
 abbrev pub tally_of : Answer → Tally
+tally_of (answer.Get told) = get_tally told
+tally_of (answer.Gets told) = gets_tally told
 tally_of (answer.Write told) = write_tally told
 tally_of (answer.Delete told) = delete_tally told
-tally_of (answer.Get (get.Found value)) = tally.Hit
-tally_of (answer.Get get.Miss) = tally.Miss
-tally_of (answer.Gets (gets.Found value version)) = tally.Hit
-tally_of (answer.Gets gets.Miss) = tally.Miss
 tally_of _ = tally.Busy
 
 -- What the next commands of a pass depend on, after an answer:

@@ -1,13 +1,12 @@
 -- How the commands of a pass are counted, and which entries of a history are counted so.
 use Rattle.std.specs.Prelude.{◌≡◌, ℕ, ◌+◌, ◌-◌, ◌*◌, ◌^◌, ◌<◌, ◌≤◌, Bool, true, false, List, count_by}
-use Rattle.segmodel.specs.Words.{Entry, EvictAnswer, RefillAnswer, Reply}
-use Rattle.segmodel.specs.declared.answer.EvictAnswer.TheVariants as evict
-use Rattle.segmodel.specs.declared.answer.RefillAnswer.TheVariants as refill
+use Rattle.segmodel.specs.Words.{Entry, Reply}
 use Rattle.segmodel.specs.declared.request.Reply.TheVariants as reply
-use Rattle.segmodel.specs.declared.entry.Entry.TheVariants.{Wrote, Evicted, Refilled}
+use Rattle.segmodel.specs.declared.entry.Entry.TheVariants.{Wrote}
+use Rattle.segclient.specs.declared.tally.Tally.{Tally}
+use Rattle.segclient.specs.declared.tally.Tally.TheVariants as tally
+use Rattle.segclient.specs.Entries.{is_eviction, is_refilling}
 use Rattle.segload.specs.declared.totals.Recycled.{Recycled}
-use Rattle.segload.specs.declared.totals.Tally.{Tally}
-use Rattle.segload.specs.declared.totals.Tally.TheVariants as tally
 use Rattle.segload.specs.declared.totals.Tallies.{Tallies}
 
 abbrev pub no_tallies : Tallies
@@ -80,25 +79,6 @@ CountsReplies tallies entries = (told : Reply) → count_of_reply told tallies �
 
 abbrev pub none_recycled : Recycled
 none_recycled = record { evictions = 0; refillings = 0 }
-
--- how many keys an evict that was answered so took out
-abbrev pub evicted_by : EvictAnswer → ℕ
-evicted_by (evict.Evicted count) = count
-evicted_by (evict.Busy count) = count
-evicted_by evict.NotYours = 0
-
--- whether a refill that was answered so refilled the segment, as a number
-abbrev pub refilled_by : RefillAnswer → ℕ
-refilled_by refill.Refilled = 1
-refilled_by _ = 0
-
-abbrev pub is_eviction : Entry → Bool
-is_eviction (Evicted pass key segment) = true
-is_eviction _ = false
-
-abbrev pub is_refilling : Entry → Bool
-is_refilling (Refilled pass segment deadline) = true
-is_refilling _ = false
 
 -- The counts are those of the evictions and of the refillings among these entries.
 pub record CountsRecycled (recycled : Recycled) (entries : List Entry) : Type 0 where

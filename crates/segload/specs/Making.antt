@@ -11,8 +11,9 @@ use Rattle.segmodel.specs.Words.{mine, reads, reads_version, Request, standing}
 use Rattle.segevict.specs.Words.{AreEvictions}
 use Rattle.segpolicy.specs.declared.load.Kind.TheVariants as kind
 use Rattle.segpolicy.specs.Words.{after_load, Cycle, Draws, Kind, Load, next_load, next_of, turned}
-use Rattle.segload.specs.declared.totals.Tally.{Tally}
-use Rattle.segload.specs.declared.totals.Tally.TheVariants as tally
+use Rattle.segclient.specs.declared.tally.Tally.{Tally}
+use Rattle.segclient.specs.declared.tally.Tally.TheVariants as tally
+use Rattle.segclient.specs.Rings.{first_ring}
 use Rattle.segload.specs.declared.totals.Tallies.{Tallies}
 use Rattle.segload.specs.Counting.{no_tallies, with_one_more}
 
@@ -27,7 +28,7 @@ pub record ClientState : Type 0 where
 -- the state at the start: the pass's segments from the first on, and version 0
 abbrev pub start_of : Shape → ℕ → ClientState
 start_of shape pass = record {
-  segments = record { first = pass * shape.segments_each; count = shape.segments_each; given = 0 };
+  segments = first_ring shape pass;
   version = 0;
 }
 

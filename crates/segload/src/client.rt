@@ -1,14 +1,11 @@
 //! A pass of an index, which makes the commands of a load.
 ghost use Rattle.std.specs.Prelude.{◌≡◌, ◌+◌, ◌≤◌, ◌<◌, ◌^◌};
-ghost use Rattle.segload.specs.Calls.{command_of, tally_of, write_tally, delete_tally, IsOfLoad};
-ghost use Rattle.segload.specs.Counting.{evicted_by, refilled_by};
+ghost use Rattle.segload.specs.Calls.{command_of, tally_of, IsOfLoad};
 
-use crate::totals::{Recycled, Tally};
+use crate::totals::Recycled;
+use segclient::{Tally, evicted_by, refilled_by};
 use segindex::{Index, Pass};
-use segmodel::{
-    Answer, Command, DeleteAnswer, EvictAnswer, GetAnswer, GetsAnswer, RefillAnswer, Request,
-    WriteAnswer,
-};
+use segmodel::{Answer, Command, EvictAnswer, GetsAnswer, RefillAnswer, Request, WriteAnswer};
 use segpolicy::{Kind, Load, Ring};
 
 // The deadline of each segment that a load refills: the last moment of all.
@@ -56,57 +53,11 @@ fn tally_of(answer: &Answer) -> Tally
     ensures { result ≡ tally_of answer.now }
 {
     match answer {
-        Answer::Get(GetAnswer::Found(_)) | Answer::Gets(GetsAnswer::Found(_, _)) => Tally::Hit,
-        Answer::Get(GetAnswer::Miss) | Answer::Gets(GetsAnswer::Miss) => Tally::Miss,
-        Answer::Get(GetAnswer::Busy) | Answer::Gets(GetsAnswer::Busy) => Tally::Busy,
-        Answer::Write(told) => tally_of_write(*told),
-        Answer::Delete(told) => tally_of_delete(*told),
+        Answer::Get(told) => Tally::of_get(told),
+        Answer::Gets(told) => Tally::of_gets(told),
+        Answer::Write(told) => Tally::of_write(*told),
+        Answer::Delete(told) => Tally::of_delete(*told),
         Answer::Evict(_) | Answer::Keep(_) | Answer::Refill(_) => unreachable!(),
-    }
-}
-
-fn tally_of_write(answer: WriteAnswer) -> Tally
-    ensures { result ≡ write_tally answer }
-{
-    match answer {
-        WriteAnswer::Stored => Tally::Stored,
-        WriteAnswer::NotStored => Tally::NotStored,
-        WriteAnswer::Exists => Tally::Exists,
-        WriteAnswer::NotFound => Tally::NotFound,
-        WriteAnswer::NoRoom => Tally::NoRoom,
-        WriteAnswer::BucketFull => Tally::BucketFull,
-        WriteAnswer::Busy => Tally::Busy,
-    }
-}
-
-fn tally_of_delete(answer: DeleteAnswer) -> Tally
-    ensures { result ≡ delete_tally answer }
-{
-    match answer {
-        DeleteAnswer::Deleted => Tally::Deleted,
-        DeleteAnswer::NotFound => Tally::NotFound,
-        DeleteAnswer::Busy => Tally::Busy,
-    }
-}
-
-// How many keys an evict took out that has this answer.
-fn evicted_by(answer: EvictAnswer) -> u32
-    ensures { result ≡ evicted_by answer }
-{
-    match answer {
-        EvictAnswer::Evicted(count) | EvictAnswer::Busy(count) => count,
-        EvictAnswer::NotYours => 0,
-    }
-}
-
-// How many segments a refill refilled that has this answer.
-fn refilled_by(answer: RefillAnswer) -> u32
-    ensures value { result ≡ refilled_by answer }
-    ensures most { result ≤ 1 }
-{
-    match answer {
-        RefillAnswer::Refilled => 1,
-        RefillAnswer::NotYours | RefillAnswer::NotEvicted | RefillAnswer::Held => 0,
     }
 }
 

@@ -16,4 +16,4 @@ pub use gate::{Gate, OpenGate};
 pub use laws::one_pass_is_modelled;
 pub use load::run_crowd;
 pub use plan::Plan;
-pub use totals::{PassTotals, Recycled, Tallies, Tally, Totals};
+pub use totals::{PassTotals, Recycled, Tallies, Totals};

@@ -3,25 +3,8 @@ ghost use Rattle.std.specs.Prelude.{◌≡◌, ◌+◌, ◌^◌, ◌<◌, sum_by
 ghost use Rattle.segload.specs.declared.totals.PassTotals.{PassTotals};
 ghost use Rattle.segload.specs.Counting.{no_tallies, none_recycled, with_one_more, all_of};
 
+use segclient::Tally;
 use segindex::IndexStats;
-
-/// How a command is counted.
-#[derive(Clone, Copy, Debug, PartialEq, Eq)]
-pub enum Tally {
-    /// A get or a gets found its key.
-    Hit,
-    /// A get or a gets didn't find its key.
-    Miss,
-    Stored,
-    NotStored,
-    Exists,
-    /// A cas or a delete didn't find its key.
-    NotFound,
-    Deleted,
-    NoRoom,
-    BucketFull,
-    Busy,
-}
 
 /// How many commands of a pass are counted as each tally.
 #[derive(Clone, Copy, Debug, PartialEq, Eq)]

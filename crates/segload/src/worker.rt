@@ -6,8 +6,9 @@ use crate::client::Client;
 use crate::gate::Gate;
 use crate::plan::Plan;
 use crate::totals::{PassTotals, Tallies};
+use segclient::own_ring;
 use segindex::{Index, Pass};
-use segpolicy::{Ring, Workload};
+use segpolicy::Workload;
 
 /// A pass with its commands, and how they were counted so far.
 #[derive(Drop)]
@@ -36,11 +37,11 @@ impl Worker {
         requires new { IsNewPass (board_of index.now) (number pass) pass }
         ensures { BeginsPlan (board_of index.now) plan (number pass) result }
     {
-        let number = pass.number();
-        let segments = index.shape().segments_each;
+        let ring = own_ring(index, &pass);
+        let workload = plan.workload(pass.number());
         Worker {
-            client: Client::new(pass, Ring::new(number * segments, segments)),
-            workload: plan.workload(number),
+            client: Client::new(pass, ring),
+            workload,
             tallies: Tallies::new(),
             is_stopped: false,
         }
