@@ -43,9 +43,8 @@ impl<'i, G: Gate> Promise<Worker> for Worked<'i, G> {
 }
 
 // Lets each worker work on a thread of its own. If a thread can't be started, the others still run.
-fn work_at_once<R: Threads + Wait + Sync, G: Gate>(
+fn work_at_once<R: Threads + Wait + AllocGlobal + Sync, G: Gate>(
     rt: &R,
-    alloc: Global,
     index: &Index,
     gate: &G,
     plan: Plan,
@@ -68,7 +67,7 @@ fn work_at_once<R: Threads + Wait + Sync, G: Gate>(
                 worked.items) }
         {
             let count = workers.len();
-            let mut threads = Vec::with_capacity(alloc, count)?;
+            let mut threads = Vec::with_capacity(rt.alloc(), count)?;
             for worker in workers {
                 let worked = Worked {
                     index,
@@ -193,7 +192,7 @@ pub fn run_crowd<R: Threads + Wait + AllocGlobal + Sync, G: Gate>(
     let Ok(workers) = begin_all(alloc, &index, plan, passes) else {
         return Err(LoadFault::OutOfMemory);
     };
-    let Ok(workers) = work_at_once(rt, alloc, &index, gate, plan, workers) else {
+    let Ok(workers) = work_at_once(rt, &index, gate, plan, workers) else {
         return Err(LoadFault::OutOfMemory);
     };
     if let Some(pass) = first_stopped(&workers) {
