@@ -87,13 +87,13 @@ const REPLAY: &str = "Replays a trace through a cache, and writes how often its 
 const AFTER_REPLAY: &str =
     "Lines: get KEY, which puts what it misses; KEY alone, the same; set KEY; delete KEY. With --csv a line is
 TIME,KEY,OP,TTL: the clock shows TIME, and a segment that the line refills lives for TTL (0: it lasts).
-A key over 24 bytes goes by its hash. Empty lines count for nothing. A bad line ends the replay with
-status 2, behind the totals of the lines before it.
+A key over 24 bytes goes by its hash. Empty lines and a header time,key,op,ttl count for nothing. A
+bad line ends the replay with status 2, behind the totals of the lines before it.
 
-The totals are a line or an object for each cache: gets, hits, their rate in %, sets, deletes, evicted
-keys, items kept, puts refused for want of room, and commands that were busy. --policy all compares
-default, nothing and cutoff:3. --sizes compares six caches, each with half of the buckets and rows of
-the one before. All caches are there at once.
+The totals are a line or an object for each cache: bytes of its table and its clients' queues, gets,
+hits, their rate in %, sets, deletes, evicted keys, items kept, puts refused for want of room, and
+commands that were busy. --policy all compares default, nothing and cutoff:3. --sizes compares six
+caches, each with half of the buckets and rows of the one before. All caches are there at once.
 
 Examples:
   segrun replay --for-keys 100000 trace

@@ -1,5 +1,5 @@
 -- A trace that is read byte by byte.
-use Rattle.std.proofs.Common.{◌≡◌, ◌≢◌, ◌≤◌, ◌<◌, ◌+◌, ℕ, List, [], ◌∷◌, ◌++◌, length, take, drop, get_or, false, Option, Some, None, Result, Ok, Err, refl, sym, ap, subst, ◌∙◌, inl, inr, append_assoc, append-nil, arith, length-append}
+use Rattle.std.proofs.Common.{◌≡◌, ◌≢◌, ◌≤◌, ◌<◌, ◌+◌, ℕ, List, [], ◌∷◌, ◌++◌, length, take, drop, get_or, false, true, if◌then◌else◌, Option, Some, None, Result, Ok, Err, refl, sym, ap, subst, ◌∙◌, inl, inr, append_assoc, append-nil, arith, length-append}
 use Rattle.std.specs.List.{flat_map}
 use Rattle.std.specs.Option.{option_map}
 use Rattle.std.proofs.lemmas.List.{take_more, take-append-drop}
@@ -13,7 +13,7 @@ use Rattle.segreplay.specs.declared.line.Request.{Request}
 use Rattle.segreplay.specs.declared.player.Turn.{Turn}
 use Rattle.segreplay.specs.declared.reading.Reading.{Reading}
 use Rattle.segreplay.specs.declared.reading.Rules.{Rules}
-use Rattle.segreplay.specs.Lines.{stated}
+use Rattle.segreplay.specs.Lines.{is_blank, stated}
 use Rattle.segreplay.specs.Replays.{is_read_end}
 use Rattle.segreplay.specs.Traces.{EndsBad, EndsEarly, EndsTrace, EndsWhole, Feeds, HasRead, line_after, number_after, requests_of, State, TakesLine, turn_of, turns_from}
 
@@ -233,10 +233,9 @@ taken_not_read old new (Err fault.TooLong) took = absurd took
 
 -- ---- a line's commands
 
-pub empty_line : (form : Form) (line : List ℕ) → length line ≡ 0 → requests_of form line ≡ Some []
-empty_line form [] none = refl
-empty_line form (b ∷ line) none = absurd (omega (arith, none))
+pub blank_line : (form : Form) (line : List ℕ) → is_blank form line ≡ true → requests_of form line ≡ Some []
+blank_line form line blank = ap (λ b. if b then Some [] else option_map (λ x. x ∷ []) (stated form line)) blank
 
-pub full_line : (form : Form) (line : List ℕ) (r : Option Request) → (length line ≡ 0 → ⊥) → r ≡ stated form line → requests_of form line ≡ option_map (λ x. x ∷ []) r
-full_line form [] r some is = absurd (some refl)
-full_line form (b ∷ line) r some is = ap (option_map (λ x. x ∷ [])) (sym is)
+pub full_line : (form : Form) (line : List ℕ) (r : Option Request) → is_blank form line ≡ false → r ≡ stated form line → requests_of form line ≡ option_map (λ x. x ∷ []) r
+full_line form line r full is =
+    ap (λ b. if b then Some [] else option_map (λ x. x ∷ []) (stated form line)) full ∙ ap (option_map (λ x. x ∷ [])) (sym is)

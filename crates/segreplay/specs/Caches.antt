@@ -1,7 +1,7 @@
 -- The caches that a trace is sent through, and their clients before the first command.
-use Rattle.std.specs.Prelude.{◌≡◌, ◌+◌, ◌/◌, ℕ, zero, suc, max, All, List, [], ◌∷◌, Some, None, if◌then◌else◌, ◌==◌}
+use Rattle.std.specs.Prelude.{◌≡◌, ◌+◌, ◌*◌, ◌/◌, ℕ, zero, suc, max, All, List, [], ◌∷◌, Some, None, if◌then◌else◌, ◌==◌}
 use Rattle.std.specs.List.{flat_map}
-use Rattle.segword.specs.Words.{IsValid, Shape}
+use Rattle.segword.specs.Words.{IsValid, Shape, word_count}
 use Rattle.segbase.specs.Words.{Pass}
 use Rattle.segindex.specs.Words.{board_of, Index}
 use Rattle.segstore.specs.Words.{IsQuiet}
@@ -39,6 +39,15 @@ abbrev pub SetsPolicy : Policy → Client → Client → Type 0
 SetsPolicy policy.Default old new = new ≡ old
 SetsPolicy policy.Nothing old new = MakesCall (λ board. SetsCutoff None) old new
 SetsPolicy (policy.Cutoff least) old new = MakesCall (λ board. SetsCutoff (Some least)) old new
+
+-- how many bytes the queues of clients have: 16 for each segment, and 3 for each of its rows
+abbrev pub queue_bytes : Policy → Shape → ℕ
+queue_bytes policy.Default shape = shape.passes * shape.segments_each * (16 + 3 * shape.rows)
+queue_bytes _ shape = 0
+
+-- how many bytes a cache has: those of its table and of its clients' queues
+abbrev pub bytes_of : Cache → ℕ
+bytes_of cache = 8 * word_count cache.shape + queue_bytes cache.policy cache.shape
 
 -- an index can have the shape of the cache
 abbrev pub HasValidShape : Cache → Type 0

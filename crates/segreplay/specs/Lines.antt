@@ -1,5 +1,5 @@
 -- What a line of a trace states.
-use Rattle.std.specs.Prelude.{ℕ, ◌+◌, ◌-◌, ◌*◌, ◌^◌, ◌%◌, ◌/◌, ◌==◌, ◌&&◌, max, List, [], ◌∷◌, length, Option, Some, None, if◌then◌else◌, nat_lt, codes}
+use Rattle.std.specs.Prelude.{ℕ, ◌+◌, ◌-◌, ◌*◌, ◌^◌, ◌%◌, ◌/◌, ◌==◌, ◌&&◌, ◌||◌, Bool, max, List, [], ◌∷◌, length, Option, Some, None, if◌then◌else◌, nat_lt, codes}
 use Rattle.std.specs.Char.{is_ascii_digit}
 use Rattle.std.specs.Int.{to_be_bytes, w64}
 use Rattle.std.specs.List.{slice_split}
@@ -68,6 +68,11 @@ csv_request _ = None
 abbrev pub stated : Form → List ℕ → Option Request
 stated form.Plain line = plain_request (slice_split (λ byte. byte == 32) line)
 stated form.Csv line = csv_request (slice_split (λ byte. byte == 44) line)
+
+-- whether a line states no command and isn't bad: it has no bytes, or is a CSV file's header
+abbrev pub is_blank : Form → List ℕ → Bool
+is_blank form.Plain line = length line == 0
+is_blank form.Csv line = length line == 0 || bytes_eq line (codes "time,key,op,ttl")
 
 -- which of so many clients makes the commands of a key
 abbrev pub client_of : ℕ → List ℕ → ℕ

@@ -1,6 +1,5 @@
 -- What a replay comes to.
 use Rattle.std.specs.Prelude.{◌≡◌, ◌<◌, ◌*◌, ℕ, ◌+◌, Bool, true, false, min, All, List, [], ◌∷◌, length, replicate, take, slice_index_or, Result, Ok, Err}
-use Rattle.segword.specs.Words.{word_count}
 use Rattle.segreplay.specs.declared.cache.Cache.{Cache}
 use Rattle.segreplay.specs.declared.fault.TraceFault.{TraceFault}
 use Rattle.segreplay.specs.declared.fault.TraceFault.TheVariants as fault
@@ -11,7 +10,7 @@ use Rattle.segreplay.specs.declared.reading.Rules.{Rules}
 use Rattle.segreplay.specs.declared.run.Plan.{Plan}
 use Rattle.segreplay.specs.declared.run.Replayed.{Replayed}
 use Rattle.segreplay.specs.declared.totals.CacheTotals.{CacheTotals}
-use Rattle.segreplay.specs.Caches.{caches_of, counts_after, IsFresh}
+use Rattle.segreplay.specs.Caches.{bytes_of, caches_of, counts_after, IsFresh}
 use Rattle.segreplay.specs.Counting.{no_counts}
 use Rattle.segreplay.specs.Playing.{Plays}
 use Rattle.segreplay.specs.Traces.{EndsTrace, HandsOn}
@@ -40,7 +39,7 @@ totals_from place players [] = []
 totals_from place players (cache ∷ caches) =
     record {
       cache = cache;
-      bytes = 8 * word_count cache.shape;
+      bytes = bytes_of cache;
       counts = counts_after no_counts place players;
     }
     ∷ totals_from (place + 1) players caches

@@ -1,5 +1,5 @@
 -- Which commands the lines of a trace state, and how far a trace is read.
-use Rattle.std.specs.Prelude.{◌≡◌, ◌⊎◌, ◌<◌, ◌≤◌, ℕ, List, [], ◌∷◌, ◌++◌, length, Option, Some, None, Result, Ok, Err, nat_le}
+use Rattle.std.specs.Prelude.{◌≡◌, ◌⊎◌, ◌<◌, ◌≤◌, ℕ, List, [], ◌∷◌, ◌++◌, length, Option, Some, None, Result, Ok, Err, if◌then◌else◌, nat_le}
 use Rattle.std.specs.List.{flat_map, AllByRecursion}
 use Rattle.std.specs.Option.{option_map}
 use Rattle.segclient.specs.Counting.{with_more}
@@ -11,14 +11,14 @@ use Rattle.segreplay.specs.declared.line.Request.{Request}
 use Rattle.segreplay.specs.declared.player.Turn.{Turn}
 use Rattle.segreplay.specs.declared.reading.Reading.{Reading}
 use Rattle.segreplay.specs.declared.reading.Rules.{Rules}
-use Rattle.segreplay.specs.Lines.{client_of, stated}
+use Rattle.segreplay.specs.Lines.{client_of, is_blank, stated}
 
 -- ---- lines
 
--- the commands of a line: one, or none if it has no bytes
+-- the commands of a line: one, or none if it is blank
 abbrev pub requests_of : Form → List ℕ → Option (List Request)
-requests_of form [] = Some []
-requests_of form (byte ∷ line) = option_map (λ r. r ∷ []) (stated form (byte ∷ line))
+requests_of form line =
+    if is_blank form line then Some [] else option_map (λ r. r ∷ []) (stated form line)
 
 -- these lines state these commands
 abbrev pub State : Form → List (List ℕ) → List Request → Type 0
@@ -28,7 +28,7 @@ State form (line ∷ lines) requests =
     × State form lines rest
     × (requests ≡ first ++ rest)
 
--- a bad line is too long, or has bytes and states no command
+-- a bad line is too long, or isn't blank and states no command
 abbrev pub IsBad : Form → List ℕ → Type 0
 IsBad form line = (4096 < length line) ⊎ (requests_of form line ≡ None)
 

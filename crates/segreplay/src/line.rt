@@ -2,8 +2,9 @@
 ghost use Rattle.std.specs.Prelude.{◌≡◌, ◌∷◌, ◌++◌, ◌==◌, ◌<◌, false, All, MatchOption};
 ghost use Rattle.std.specs.List.{before_first, after_first, slice_split};
 ghost use Rattle.segword.specs.Fnv.{hash_of};
-ghost use Rattle.segreplay.specs.Lines.{client_of, csv_request, key_named, lasting, number_named};
-ghost use Rattle.segreplay.specs.Lines.{plain_request, request_of, stated, verb_named};
+ghost use Rattle.segreplay.specs.Lines.{client_of, csv_request, is_blank, key_named, lasting};
+ghost use Rattle.segreplay.specs.Lines.{number_named, plain_request, request_of, stated};
+ghost use Rattle.segreplay.specs.Lines.{verb_named};
 
 use segword::{Key, hash};
 
@@ -192,6 +193,16 @@ fn read_whole(time: &[u8], key: &[u8], verb: &[u8], life: &[u8]) -> Option<Reque
             lasting(number_of(life)),
         ),
         Some(_) => None,
+    }
+}
+
+/// Whether a line states no command and isn't bad: it has no bytes, or is a CSV file's header.
+pub(crate) fn is_blank(form: Form, line: &[u8]) -> bool
+    ensures { result ≡ is_blank form line.now }
+{
+    match form {
+        Form::Plain => line.is_empty(),
+        Form::Csv => line.is_empty() || line == b"time,key,op,ttl".as_slice(),
     }
 }
 

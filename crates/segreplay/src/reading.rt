@@ -1,6 +1,6 @@
 //! Reads the lines of a trace, byte by byte, into turns.
 use crate::fault::TraceFault;
-use crate::line::{Form, read_line};
+use crate::line::{Form, is_blank, read_line};
 use crate::player::Turn;
 use std::alloc::{AllocError, Global};
 
@@ -82,7 +82,7 @@ impl Reading {
         }
     }
 
-    /// Takes the line, whose end has come. A line without bytes states no command.
+    /// Takes the line, whose end has come. A blank one states no command.
     pub(crate) fn end_line(&mut self) -> Result<(), TraceFault>
         ensures { TakesLine self.old self.new result }
     {
@@ -98,10 +98,11 @@ impl Reading {
     fn take_line(&mut self) -> Result<(), TraceFault>
         ensures { TakesCommand self.old self.new result }
     {
-        if self.line.is_empty() {
+        let line = self.line.as_slice();
+        if is_blank(self.rules.form, line) {
             return Ok(());
         }
-        let Some(request) = read_line(self.rules.form, self.line.as_slice()) else {
+        let Some(request) = read_line(self.rules.form, line) else {
             return Err(TraceFault::Line(self.number));
         };
         let turn = Turn {

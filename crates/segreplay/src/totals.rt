@@ -1,10 +1,10 @@
 //! What a replay counted for each cache.
-ghost use Rattle.std.specs.Prelude.{◌≡◌, All, IfOk};
+ghost use Rattle.std.specs.Prelude.{◌≡◌, ◌<◌, ◌^◌, All, IfOk};
 ghost use Rattle.segreplay.specs.Counting.{no_counts};
-ghost use Rattle.segreplay.specs.Caches.{counts_after, HasValidShape};
+ghost use Rattle.segreplay.specs.Caches.{bytes_of, counts_after, HasValidShape, queue_bytes};
 ghost use Rattle.segreplay.specs.Replays.{totals_from};
 
-use crate::cache::Cache;
+use crate::cache::{Cache, Policy};
 use crate::counts::Counts;
 use crate::player::Player;
 use std::alloc::{AllocError, Global};
@@ -13,9 +13,32 @@ use std::alloc::{AllocError, Global};
 #[derive(Clone, Copy, Debug)]
 pub struct CacheTotals {
     pub cache: Cache,
-    /// How many bytes its table has.
+    /// How many bytes its table and its clients' queues have.
     pub bytes: u64,
     pub counts: Counts,
+}
+
+// How many bytes the clients' queues have: 16 for each segment, and 3 for each of its rows.
+fn queue_bytes(cache: Cache) -> u64
+    requires { HasValidShape cache }
+    ensures value { result ≡ queue_bytes cache.policy cache.shape }
+    ensures few { result < 2 ^ 32 }
+{
+    let shape = cache.shape;
+    match cache.policy {
+        Policy::Default => {
+            u64::from(shape.passes * shape.segments_each) * u64::from(16 + 3 * shape.rows)
+        }
+        Policy::Nothing | Policy::Cutoff(_) => 0,
+    }
+}
+
+// How many bytes a cache has.
+fn bytes_of(cache: Cache) -> u64
+    requires { HasValidShape cache }
+    ensures { result ≡ bytes_of cache }
+{
+    cache.shape.bytes() + queue_bytes(cache)
 }
 
 // What the players of a cache counted together.
@@ -44,7 +67,7 @@ pub(crate) fn totals_of(
     for (place, cache) in caches.iter().enumerate() {
         totals.push(CacheTotals {
             cache: *cache,
-            bytes: cache.shape.bytes(),
+            bytes: bytes_of(*cache),
             counts: counts_of(players, place),
         })?;
     }

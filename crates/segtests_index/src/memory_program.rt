@@ -10,6 +10,8 @@ use std::thread::Threads;
 
 const SCRIPT: &[u8] = b"p0 refill 0 4294967295\np0 set a 1 @0\np0 get a @0\n";
 
+const TRACE: &[u8] = b"a\nset b\ndelete a\n";
+
 // The words as the program gets them.
 fn words_of(alloc: Global, words: &[&str]) -> Result<Vec<String>, AllocError> {
     let mut list = Vec::new(alloc);
@@ -17,6 +19,14 @@ fn words_of(alloc: Global, words: &[&str]) -> Result<Vec<String>, AllocError> {
         list.push(String::from_str(alloc, word)?)?;
     }
     Ok(list)
+}
+
+// What the program reads: a trace if it is to replay one, and else a script.
+fn input_of(words: &[&str]) -> &'static [u8] {
+    match words.first().copied() {
+        Some("replay") => TRACE,
+        _ => SCRIPT,
+    }
 }
 
 // Runs the program with so many bytes left, or with all memory, and returns whether it was refused any.
@@ -29,7 +39,7 @@ fn is_refused<R: Threads + Wait + AllocGlobal + Abort + Sync>(
 ) -> Result<bool, Fail> {
     let list = words_of(rt.alloc(), words)?;
     let mut streams = Streams {
-        source: MemSource::new(SCRIPT),
+        source: MemSource::new(input_of(words)),
         writer: MemSink::new(rt.alloc(), 10_000)?,
         errors: MemSink::new(rt.alloc(), 10_000)?,
     };
@@ -87,6 +97,7 @@ fn a_command_is_carried_out_or_memory_is_wanted(rt: HostRuntime) -> Result<(), F
     let table = [
         ([].as_slice(), 0),
         (["script", "--rows", "2", "--first-version=7"].as_slice(), 0),
+        (["replay", "--rows=2"].as_slice(), 0),
         (["word", "af60100000200003"].as_slice(), 0),
         // Small shapes, since the runs grow with the table.
         (["load", "--rows=8", "--commands", "9"].as_slice(), 0),

@@ -27,7 +27,7 @@ fn each_line_is_a_command(rt: HostRuntime) -> Result<(), Fail> {
         &rt,
         &[],
         TRACE,
-        "default bytes=3112 gets=4 hits=1 rate=25.00 sets=1 deletes=1 evicted=0 kept=0 refused=0 busy=0\n",
+        "default bytes=3272 gets=4 hits=1 rate=25.00 sets=1 deletes=1 evicted=0 kept=0 refused=0 busy=0\n",
     )?;
     check_totals(
         &rt,
@@ -53,13 +53,13 @@ fn the_first_commands_are_not_counted(rt: HostRuntime) -> Result<(), Fail> {
         &rt,
         &["--warm=2"],
         TRACE,
-        "default bytes=3112 gets=2 hits=0 rate=0.00 sets=1 deletes=1 evicted=0 kept=0 refused=0 busy=0\n",
+        "default bytes=3272 gets=2 hits=0 rate=0.00 sets=1 deletes=1 evicted=0 kept=0 refused=0 busy=0\n",
     )?;
     check_totals(
         &rt,
         &["--warm=6"],
         TRACE,
-        "default bytes=3112 gets=0 hits=0 rate=0.00 sets=0 deletes=0 evicted=0 kept=0 refused=0 busy=0\n",
+        "default bytes=3272 gets=0 hits=0 rate=0.00 sets=0 deletes=0 evicted=0 kept=0 refused=0 busy=0\n",
     )
 }
 
@@ -69,7 +69,7 @@ fn clients_share_the_keys(rt: HostRuntime) -> Result<(), Fail> {
         &rt,
         &["--threads=2"],
         TRACE,
-        "default bytes=5192 gets=4 hits=1 rate=25.00 sets=1 deletes=1 evicted=0 kept=0 refused=0 busy=0\n",
+        "default bytes=5512 gets=4 hits=1 rate=25.00 sets=1 deletes=1 evicted=0 kept=0 refused=0 busy=0\n",
     )
 }
 
@@ -79,7 +79,7 @@ fn a_key_expires_by_the_clock_of_its_line(rt: HostRuntime) -> Result<(), Fail> {
     check_totals(
         &rt,
         &["--csv", "--policy=nothing"],
-        b"0,a,set,10\n9,a,get,10\n10,a,get,10\n4294967295,b,get,0\n",
+        b"time,key,op,ttl\n0,a,set,10\n9,a,get,10\n10,a,get,10\n4294967295,b,get,0\n",
         "nothing bytes=3112 gets=3 hits=1 rate=33.33 sets=1 deletes=0 evicted=0 kept=0 refused=0 busy=0\n",
     )
 }
@@ -91,7 +91,7 @@ fn a_long_key_goes_by_its_hash(rt: HostRuntime) -> Result<(), Fail> {
         &rt,
         &[],
         b"abcdefghijklmnopqrstuvwxy\nabcdefghijklmnopqrstuvwxy\nabcdefghijklmnopqrstuvwxz\n",
-        "default bytes=3112 gets=3 hits=1 rate=33.33 sets=0 deletes=0 evicted=0 kept=0 refused=0 busy=0\n",
+        "default bytes=3272 gets=3 hits=1 rate=33.33 sets=0 deletes=0 evicted=0 kept=0 refused=0 busy=0\n",
     )
 }
 
@@ -126,7 +126,7 @@ fn check_bad<R: Threads + Wait + AllocGlobal + Abort + Sync>(
     trace: &[u8],
 ) -> Result<(), Fail> {
     let totals =
-        b"default bytes=592 gets=1 hits=0 rate=0.00 sets=0 deletes=0 evicted=0 kept=0 refused=0 busy=0\n";
+        b"default bytes=632 gets=1 hits=0 rate=0.00 sets=0 deletes=0 evicted=0 kept=0 refused=0 busy=0\n";
     let ended = run(rt, words, trace)?;
     check_ended(rt, words, &ended, 2, totals, b"bad line 3\n");
     Ok(())
@@ -143,6 +143,7 @@ fn a_bad_line_is_told_by_its_number(rt: HostRuntime) -> Result<(), Fail> {
     }
     for trace in [
         b"0,a,get,0\n\n1,b,put,0\n".as_slice(),
+        b"0,a,get,0\n\ntime,key,op\n",
         b"0,a,get,0\n\n-1,b,get,0\n",
         b"0,a,get,0\n\n1,b,get,0,\n",
         b"0,a,get,0\n\n4294967296,b,get,0\n",
@@ -159,7 +160,7 @@ fn a_failed_reader_loses_nothing(rt: HostRuntime) -> Result<(), Fail> {
     devices.good = Some(4);
     let ended = run_with(&rt, &words, TRACE, devices)?;
     let totals =
-        b"default bytes=592 gets=2 hits=1 rate=50.00 sets=0 deletes=0 evicted=0 kept=0 refused=0 busy=0\n";
+        b"default bytes=632 gets=2 hits=1 rate=50.00 sets=0 deletes=0 evicted=0 kept=0 refused=0 busy=0\n";
     check_ended(&rt, &words, &ended, 3, totals, b"read failed\n");
     Ok(())
 }
