@@ -12,10 +12,13 @@ STOLEN = 0.01
 
 
 def spread(numbers):
+    """The ends, the median and the quartiles. Between two numbers a quartile lies on the straight line."""
     numbers = sorted(numbers)
 
     def at(share):
-        return round(numbers[int(share * (len(numbers) - 1) + 0.5)], 6)
+        place, rest = divmod(share * (len(numbers) - 1), 1)
+        low, high = numbers[int(place)], numbers[min(int(place) + 1, len(numbers) - 1)]
+        return round(low + rest * (high - low), 6)
 
     places = {"lowest": 0, "lower_quartile": 0.25, "median": 0.5, "upper_quartile": 0.75, "highest": 1}
     return {place: at(part) for place, part in places.items()}

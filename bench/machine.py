@@ -52,6 +52,14 @@ def packages():
     return {name: version for name in names if (version := try_output("dpkg-query", "-W", "-f", "${Version}", name))}
 
 
+def crates_commit():
+    """The last commit that changed the crates, which is what ours depends on."""
+    root = str(BENCH.parent)
+    commit = try_output("git", "-C", root, "log", "-1", "--format=%h", "--abbrev=8", "--", "crates", "crates.txt")
+    changed = try_output("git", "-C", root, "status", "--porcelain", "--", "crates", "crates.txt")
+    return f"{commit}-dirty" if changed else commit
+
+
 def describe(options):
     """The first line of the results."""
     return {
@@ -64,6 +72,7 @@ def describe(options):
         "kernel": platform.release(),
         "load": os.getloadavg(),
         "commit": try_output("git", "-C", str(BENCH), "describe", "--always", "--dirty"),
+        "crates": crates_commit(),
         "compiler": first_line(try_output("g++", "--version")),
         "rust": first_line(try_output("rustc", "--version")),
         "rattle": first_line(try_output("rt", "version")),

@@ -1,4 +1,4 @@
-"""The cells of docs/MEASUREMENTS.md, and its tables."""
+"""The cells of docs/MEASUREMENTS.md, and the tables that it and README.md have of them."""
 
 from collections import defaultdict
 
@@ -12,26 +12,40 @@ PAGE = [
     (["reference", "absl_spin", "dashmap"], ["mixed", "b"], [100_000], [1, 4], ["planned"], ["small"]),
 ]
 PAGE_ROUNDS = 3
+THREADS = (1, 2, 4)
 
-# The rows of the first table: mix, draw, keys, threads.
-ROWS = [("mixed", "zipf", 64, 4), ("mixed", "zipf", 100_000, 1), ("mixed", "zipf", 100_000, 4),
-        ("mixed", "uniform", 100_000, 1), ("mixed", "uniform", 100_000, 4), ("b", "zipf", 100_000, 1),
-        ("b", "zipf", 100_000, 4)]
+# The rows of the table of times: mix, draw, keys, threads, shape.
+ROWS = [
+    ("mixed", "zipf", 64, 4, "large"),
+    ("mixed", "zipf", 100_000, 1, "large"),
+    ("mixed", "zipf", 100_000, 4, "large"),
+    ("mixed", "uniform", 100_000, 1, "large"),
+    ("mixed", "uniform", 100_000, 4, "large"),
+    ("b", "zipf", 100_000, 1, "large"),
+    ("b", "zipf", 100_000, 4, "large"),
+    ("gets16", "zipf", 100_000, 1, "large"),
+    ("gets16", "zipf", 100_000, 4, "large"),
+    ("mixed", "zipf", 100_000, 1, "planned"),
+    ("mixed", "zipf", 100_000, 4, "planned"),
+]
+# Those of README.md: the label, the mix and the threads. All are by Zipf's law over 100,000 keys.
+FRONT = [("mixed, 1", "mixed", 1), ("mixed, 4", "mixed", 4), ("16 gets, 1", "gets16", 1), ("16 gets, 4", "gets16", 4)]
+# The programs of the tables of times.
+SHOWN = ["ours", "reference", "absl_spin", "dashmap"]
+# The cells of the latencies that the page shows.
+TIMED = [("mixed", 4), ("b", 4)]
+# Beside the reference ours is to cost at most so many times as much.
+AIM = 1.05
 
 
-def table(*rows):
-    """A table of Markdown, whose first row is the head."""
-    lines = ["| " + " | ".join(map(str, row)) + " |" for row in rows]
-    return "\n".join([lines[0], "|---" * len(rows[0]) + "|", *lines[1:], ""])
-
-
-def ranged(numbers, digits):
+def ranged(numbers, digits=0):
     """The median, and the quartiles in one word."""
-    median, lower, upper = (f"{numbers[place]:.{digits}f}" for place in ("median", "lower_quartile", "upper_quartile"))
+    median, lower, upper = (f"{numbers[place]:,.{digits}f}" for place in ("median", "lower_quartile", "upper_quartile"))
     return f"{median} ({lower}–{upper})"
 
 
 def claimed(one):
+    """A ratio, which is bold where the quartiles of the costs don't overlap."""
     text = ranged(one["ratio"], 2)
     return f"**{text}**" if one["is_claimed"] else text
 
@@ -41,19 +55,24 @@ def over(ones):
     medians = [one["ratio"]["median"] for one in ones]
     less = sum(one["is_claimed"] and one["ratio"]["median"] < 1 for one in ones)
     more = sum(one["is_claimed"] and one["ratio"]["median"] >= 1 for one in ones)
-    return f"{min(medians):.2f}–{max(medians):.2f}; {less}, {more}"
+    return f"{min(medians):.2f}–{max(medians):.2f} ({less}/{more})"
 
 
 class Results:
     """Lines of bench/run, by what they are of."""
 
     def __init__(self, lines):
-        self.figures = {(self.place(one), one["program"]): one for one in lines if one["kind"] == "figure"}
+        self.figures = {(*self.place(one), one["program"]): one for one in lines if one["kind"] == "figure"}
         self.compared = [one for one in lines if one["kind"] == "comparison"]
 
     @staticmethod
     def place(cell):
         return tuple(cell[name] for name in ("mix", "draw", "keys", "threads", "shape", "pages"))
+
+    def cost(self, place, program, show=ranged):
+        """What a program's commands cost, or nothing where it wasn't measured."""
+        figure = self.figures.get((*place, program))
+        return show(figure["process_ns"]) if figure else ""
 
     def beside(self, program, **wanted):
         """The comparisons with a program, of the cells that have these parts."""
@@ -64,96 +83,131 @@ class Results:
         """The comparison with the peer that cost the least in a cell."""
         names = (*PEERS[1:], "absl_prefetch")
         peers = [one for one in self.compared if self.place(one["cell"]) == cell and one["beside"] in names]
-        return max(peers, key=lambda one: one["ratio"]["median"], default=None)
+        return min(peers, key=lambda one: self.figures[(*cell, one["beside"])]["process_ns"]["median"], default=None)
 
 
-def times_table(results, shape="large", rows=ROWS):
-    names = [name for name in ("ours", *PEERS) if any((*row, shape, "small") == place and name == program
-                                                     for row in rows for place, program in results.figures)]
-    found = [("Mix and draw", "Keys", "Threads", *names)]
-    for mix, draw, keys, threads in rows:
-        figures = [results.figures.get(((mix, draw, keys, threads, shape, "small"), name)) for name in names]
-        if any(figures):
-            costs = [ranged(one["process_ns"], 0) if one else "" for one in figures]
-            found.append((f"{mix}, {draw}", f"{keys:,}", threads, *costs))
-    return table(*found)
+def front_table(results):
+    """The table of README.md: medians, with a star where the quartiles overlap with ours."""
+    found = [("Nanoseconds a command: threads", "this index", "C++, same layout", "Abseil, spin locks", "DashMap")]
+    for label, mix, threads in FRONT:
+        place = (mix, "zipf", 100_000, threads, "large", "small")
+        open_beside = {one["beside"] for one in results.compared if Results.place(one["cell"]) == place and not one["is_claimed"]}
+        costs = [results.cost(place, name, lambda cost: f'{cost["median"]:.0f}') + (" *" if name in open_beside else "")
+                 for name in SHOWN]
+        found.append((label, *costs))
+    return found
+
+
+def times_table(results):
+    found = [("Mix and draw", "Keys", "Threads", *SHOWN)]
+    for mix, draw, keys, threads, shape in ROWS:
+        place = (mix, draw, keys, threads, shape, "small")
+        label = ", ".join([mix, draw] + ["planned"] * (shape == "planned"))
+        found.append((label, f"{keys:,}", threads, *(results.cost(place, name) for name in SHOWN)))
+    return found
 
 
 def ratios_table(results):
-    found = [("Beside", "One thread", "Two", "Four")]
-    for name in PEERS:
-        ones = [results.beside(name, mix=["mixed", "b"], threads=[threads], shape=["large"], pages=["small"])
-                for threads in (1, 2, 4)]
-        if all(ones):
-            found.append((name, *map(over, ones)))
-    return table(*found)
+    """Ours divided by each, and by itself."""
+    usual = {"mix": ["mixed", "b"], "shape": ["large"], "pages": ["small"]}
+    rows = [(name, name, usual) for name in PEERS]
+    rows += [("the same 16 gets, one by one", "apart", {"mix": ["gets16"]}),
+             ("16 mixed without look ahead", "apart", {"mix": ["mixed16"]}),
+             ("small pages (ours huge)", "small pages", {})]
+    found = [("Ours divided by", "One thread", "Two", "Four")]
+    for label, beside, wanted in rows:
+        by_threads = [results.beside(beside, threads=[threads], **wanted) for threads in THREADS]
+        found.append((label, *(over(ones) if ones else "" for ones in by_threads)))
+    within = [[one["ratio"]["median"] <= AIM for one in results.beside("reference", threads=[threads], **usual)]
+              for threads in THREADS]
+    found.append((f"reference: at most {AIM}", *(f"{sum(ones)} of {len(ones)}" for ones in within)))
+    return found
 
 
-def aim_line(results):
-    """In how many cells ours costs at most 1.10 times what the reference does at 64 keys, and 1.05 times over more."""
-    reached = []
-    for threads in (1, 2, 4):
-        ones = results.beside("reference", mix=["mixed", "b"], threads=[threads], shape=["large"], pages=["small"])
-        within = sum(one["ratio"]["median"] <= (1.10 if one["cell"]["keys"] == 64 else 1.05) for one in ones)
-        reached.append(f"{within} of {len(ones)} with {threads}")
-    return f'the aim is reached in {", ".join(reached)}\n'
-
-
-def at_hand_table(results, pages="small", threads=(1, 2, 4)):
+def at_hand_table(results):
     """Ours divided by the best peer, whose name stands beside."""
-    found = [("Mix, draw, keys", *("1 thread" if number == 1 else f"{number} threads" for number in threads))]
-    for mix in ("gets16", "mixed16"):
-        for draw in ("uniform", "zipf"):
-            for keys in (100_000, 400_000):
-                best = [results.best((mix, draw, keys, number, "large", pages)) for number in threads]
-                if all(best):
-                    found.append((f"{mix}, {draw}, {keys:,}", *(f'{claimed(one)} {one["beside"]}' for one in best)))
-    return table(*found)
-
-
-def own_lines(results):
-    """Ours beside itself."""
-    lines = []
-    for mix in ("gets16", "mixed16"):
-        if ones := results.beside("apart", mix=[mix]):
-            lines.append(f"{mix} divided by the same keys apart: {over(ones)} of {len(ones)} cells")
-    if ones := results.beside("small pages"):
-        lines.append(f"huge pages divided by small ones: {over(ones)} of {len(ones)} cells")
-    return "\n".join([*lines, ""])
+    found = [("16 keys at hand", "One thread", "Two", "Four")]
+    for pages, mixes in (("small", ["gets16", "mixed16"]), ("huge", ["gets16"])):
+        for mix in mixes:
+            for draw in ("uniform", "zipf"):
+                for keys in (100_000, 400_000):
+                    best = [results.best((mix, draw, keys, threads, "large", pages)) for threads in THREADS]
+                    label = ", ".join([mix, draw, f"{keys:,}"] + ["huge pages"] * (pages == "huge"))
+                    found.append((label, *(f'{claimed(one)} {one["beside"]}' if one else "" for one in best)))
+    return found
 
 
 def latencies_table(results):
-    by_program = defaultdict(dict)
-    for (place, name), figure in results.figures.items():
-        if "p50_ns" in figure:
-            by_program[name][place[0]] = [f'{figure[field]["median"]:,.0f}' for field in ("p50_ns", "p99_ns", "p999_ns")]
-    mixes = sorted({mix for by_mix in by_program.values() for mix in by_mix}, reverse=True)
-    head = ("Program", *(name for mix in mixes for name in (f"{mix}: 50th", "99th", "99.9th")))
-    rows = [(name, *(time for mix in mixes for time in by_mix.get(mix, ["", "", ""]))) for name, by_mix in by_program.items()]
-    return table(head, *rows)
+    """Percentiles by the clock, with their quartiles."""
+    fields = {"50th": "p50_ns", "99th": "p99_ns", "99.9th": "p999_ns"}
+    heads = [f"{mix}: {name}" if name == "50th" else name for mix, _ in TIMED for name in fields]
+    found = [("Program", *heads)]
+    for name in SHOWN:
+        figures = [results.figures[(mix, "zipf", 100_000, threads, "large", "small", name)] for mix, threads in TIMED]
+        found.append((name, *(ranged(figure[field]) for figure in figures for field in fields.values())))
+    return found
+
+
+def library_table(results):
+    """Ours through the library for C, divided by ours without it."""
+    found = [("Through C", "One thread", "Four")]
+    for mix in ("gets", "sets", "mixed"):
+        row = []
+        for threads in (1, 4):
+            ones = results.beside("ours_c", mix=[mix], threads=[threads])
+            ratios = sorted(1 / one["ratio"]["median"] for one in ones)
+            row.append(f"{ratios[0]:.2f}–{ratios[-1]:.2f}")
+        found.append((mix, *row))
+    return found
+
+
+def instructions_table(lines):
+    """Instructions a command, by mix and keys."""
+    counts = defaultdict(dict)
+    for one in lines:
+        if one["kind"] == "instructions":
+            counts[one["program"]][one["mix"], one["keys"]] = one["count"]
+    places = list(dict.fromkeys(place for by_place in counts.values() for place in by_place))
+    found = [("Instructions", *(f"{mix}, {keys:,}" for mix, keys in places))]
+    for program, by_place in counts.items():
+        found.append((program, *(f"{by_place[place]:.0f}" if place in by_place else "" for place in places)))
+    return found
 
 
 def data(lines):
     """All figures, as docs/figures has them."""
     figures = [one for one in lines if one["kind"] == "figure"]
-    turns = max((one["turns"] for one in figures), default=0)
     found = [("mix", "draw", "keys", "threads", "shape", "pages", "program", "median", "lower", "upper", "busy")]
     for one in figures:
         cost, busy = one["process_ns"], f'{100 * one["busy"]["median"]:.3f}'
         numbers = [f"{cost[place]:.0f}" for place in ("median", "lower_quartile", "upper_quartile")]
         found.append((*map(str, Results.place(one)), one["program"], *numbers, busy))
-    head = f"# Processor time of a command in nanoseconds: median and quartiles of {turns} turns; the share of Busy in %."
-    return "\n".join([head, *("\t".join(row) for row in found), ""])
+    what = "Processor time of a command in nanoseconds: median and quartiles of the turns; the share of Busy in %."
+    return lines_of(what, lines, found)
 
 
-def page_tables(lines):
-    """All tables of the page that these results allow."""
-    results = Results(lines)
-    planned = [(mix, "zipf", 100_000, threads) for mix in ("mixed", "b") for threads in (1, 4)]
-    parts = [("Times", times_table(results)), ("Ours divided by each", ratios_table(results) + "\n" + aim_line(results)),
-             ("Keys at hand, beside the best peer", at_hand_table(results)),
-             ("The same with huge pages", at_hand_table(results, "huge", (1, 4))), ("Ours beside itself", own_lines(results)),
-             ("Planned shapes", times_table(results, "planned", planned))]
-    if any("p50_ns" in one for one in results.figures.values()):
-        parts.append(("Latencies", latencies_table(results)))
-    return "\n".join(f"## {name}\n\n{text}" for name, text in parts)
+def latency_data(lines):
+    found = [("mix", "draw", "keys", "threads", "program", "percentile", "median", "lower", "upper")]
+    for one in (one for one in lines if one["kind"] == "figure" and "p50_ns" in one):
+        for name, field in (("50", "p50_ns"), ("99", "p99_ns"), ("99.9", "p999_ns")):
+            numbers = [f"{one[field][place]:.0f}" for place in ("median", "lower_quartile", "upper_quartile")]
+            found.append((*map(str, Results.place(one)[:4]), one["program"], name, *numbers))
+    what = "Latency of each 64th command in nanoseconds of the clock: median and quartiles of the turns."
+    return lines_of(what, lines, found)
+
+
+def lines_of(what, lines, rows):
+    head = f'# {what} {lines[0]["time"][:10]}, at {lines[0]["crates"]}, {turns(lines)} turns.'
+    return "\n".join([head, *("\t".join(row) for row in rows), ""])
+
+
+def turns(lines):
+    return max((one["turns"] for one in lines if one["kind"] == "figure"), default=0)
+
+
+def taken(runs):
+    """When all was taken, of which commit, and of how many turns."""
+    first = runs["results"][0]
+    numbers = [turns(runs[name]) for name in ("results", "latencies", "c")]
+    return (f'Taken on {first["time"][:10]}, at {first["crates"]}: {numbers[0]} turns, of latencies {numbers[1]}, '
+            f"through C {numbers[2]}.")

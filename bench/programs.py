@@ -72,6 +72,8 @@ class Program:
 
     def build(self):
         """None, or why it couldn't be built."""
+        if is_up_to_date(self.path(), Path(self.source).parent, *self.libraries):
+            return None
         try:
             libraries = list(self.libraries)
             if self.pkg_config:
@@ -85,10 +87,19 @@ class Program:
         return None
 
 
+def is_up_to_date(made, folder, *libraries):
+    """Whether a program was built after its sources and libraries."""
+    sources = [file for part in ("common", folder) for file in (BENCH / part).rglob("*")]
+    used = [file for file in (*sources, *map(Path, libraries)) if file.is_file()]
+    return made.exists() and all(file.stat().st_mtime <= made.stat().st_mtime for file in used)
+
+
 def check_reference():
     """Stops where the reference answers wrongly; what is wrong has no speed."""
-    run_quietly([*COMPILER, BENCH / "reference/check.cpp", "-o", OUT / "check"])
-    run_quietly([OUT / "check"])
+    check = OUT / "check"
+    if not is_up_to_date(check, "reference"):
+        run_quietly([*COMPILER, BENCH / "reference/check.cpp", "-o", check])
+    run_quietly([check])
 
 
 def build_dashmap():
