@@ -162,15 +162,15 @@ def library_table(results):
 
 
 def instructions_table(lines):
-    """Instructions a command, by mix and keys."""
+    """Instructions a command and, in brackets, the locked ones of these, by mix and keys."""
     counts = defaultdict(dict)
     for one in lines:
         if one["kind"] == "instructions":
-            counts[one["program"]][one["mix"], one["keys"]] = one["count"]
+            counts[one["program"]][one["mix"], one["keys"]] = f'{one["count"]:.0f} ({one["locked"]:.1f})'
     places = list(dict.fromkeys(place for by_place in counts.values() for place in by_place))
     found = [("Instructions", *(f"{mix}, {keys:,}" for mix, keys in places))]
     for program, by_place in counts.items():
-        found.append((program, *(f"{by_place[place]:.0f}" if place in by_place else "" for place in places)))
+        found.append((program, *(by_place.get(place, "") for place in places)))
     return found
 
 
