@@ -1,6 +1,7 @@
 """The cells of docs/MEASUREMENTS.md, and the tables that it and README.md have of them."""
 
 from collections import defaultdict
+from itertools import product
 
 # Programs, mixes, keys, threads, shapes and pages. Keys are drawn both ways.
 PEERS = ["reference", "absl_spin", "dashmap", "tbb", "libcuckoo", "urcu"]
@@ -19,8 +20,6 @@ ROWS = [
     ("mixed", "zipf", 64, 4, "large"),
     ("mixed", "zipf", 100_000, 1, "large"),
     ("mixed", "zipf", 100_000, 4, "large"),
-    ("mixed", "uniform", 100_000, 1, "large"),
-    ("mixed", "uniform", 100_000, 4, "large"),
     ("b", "zipf", 100_000, 1, "large"),
     ("b", "zipf", 100_000, 4, "large"),
     ("gets16", "zipf", 100_000, 1, "large"),
@@ -125,21 +124,17 @@ def ratios_table(results):
 
 
 def at_hand_table(results):
-    """Ours divided by the best peer, whose name stands beside."""
-    found = [("16 keys at hand", "One thread", "Two", "Four")]
-    for pages, mixes in (("small", ["gets16", "mixed16"]), ("huge", ["gets16"])):
-        for mix in mixes:
-            for draw in ("uniform", "zipf"):
-                for keys in (100_000, 400_000):
-                    best = [results.best((mix, draw, keys, threads, "large", pages)) for threads in THREADS]
-                    label = ", ".join([mix, draw, f"{keys:,}"] + ["huge pages"] * (pages == "huge"))
-                    found.append((label, *(f'{claimed(one)} {one["beside"]}' if one else "" for one in best)))
+    """Sixteen gets of ours, divided by those of the best peer, whose name stands beside."""
+    found = [("16 gets", "One thread", "Two", "Four")]
+    for draw, keys in product(("uniform", "zipf"), (100_000, 400_000)):
+        best = [results.best(("gets16", draw, keys, threads, "large", "small")) for threads in THREADS]
+        found.append((f"{draw}, {keys:,}", *(f'{claimed(one)} {one["beside"]}' if one else "" for one in best)))
     return found
 
 
 def latencies_table(results):
     """Percentiles by the clock, with their quartiles."""
-    fields = {"50th": "p50_ns", "99th": "p99_ns", "99.9th": "p999_ns"}
+    fields = {"50th": "p50_ns", "99.9th": "p999_ns"}
     heads = [f"{mix}: {name}" if name == "50th" else name for mix, _ in TIMED for name in fields]
     found = [("Program", *heads)]
     for name in SHOWN:
@@ -149,15 +144,12 @@ def latencies_table(results):
 
 
 def library_table(results):
-    """Ours through the library for C, divided by ours without it."""
+    """Ours through the library for C, divided by ours without it: over few keys and over many."""
     found = [("Through C", "One thread", "Four")]
     for mix in ("gets", "sets", "mixed"):
-        row = []
-        for threads in (1, 4):
-            ones = results.beside("ours_c", mix=[mix], threads=[threads])
-            ratios = sorted(1 / one["ratio"]["median"] for one in ones)
-            row.append(f"{ratios[0]:.2f}–{ratios[-1]:.2f}")
-        found.append((mix, *row))
+        by_threads = [sorted(results.beside("ours_c", mix=[mix], threads=[threads]), key=lambda one: one["cell"]["keys"])
+                      for threads in (1, 4)]
+        found.append((mix, *(", ".join(f'{1 / one["ratio"]["median"]:.2f}' for one in ones) for ones in by_threads)))
     return found
 
 
