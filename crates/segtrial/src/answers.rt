@@ -1,5 +1,5 @@
 //! What an answer means for the cache, as the checker takes it.
-use crate::call::{Access, CasReply, Item, Operation};
+use crate::call::{Access, CasReply, Ended, Item, Operation, Refusal};
 use crate::keys::Place;
 use crate::values::number_of;
 use segmodel::{
@@ -11,16 +11,14 @@ use segmodel::{
 #[derive(Drop)]
 pub enum Said {
     Operation(Operation),
-    /// The call was refused, which shows nothing of the cache.
-    Nothing,
     /// No such call returns this.
     Wrong,
 }
 
 /// What the answer to a command on a key means. The item is what the command would store.
 pub fn said_by(command: &Command, answer: &Answer, place: Place, item: Item) -> Said {
-    if is_refusal(answer) {
-        return Said::Nothing;
+    if let Some(refusal) = refusal_of(command, answer) {
+        return place.refuses(refusal);
     }
     match access_of(command, answer, item) {
         Some((now, access)) => place.says(now, access),
@@ -42,39 +40,60 @@ pub fn said_by_evict(segment: u32, answer: EvictAnswer) -> Said {
     })
 }
 
-/// What the answer to a keep of all items, whatever their frequency, means.
-/// They move into another segment, and a keep that isn't refused leaves no key in the old one.
-pub fn said_by_keep(segment: u32, into: u32, answer: KeepAnswer) -> Said {
-    let (taken, is_whole) = match answer {
-        KeepAnswer::Kept(taken) => (taken, true),
-        KeepAnswer::NoRoom(taken) | KeepAnswer::Busy(taken) => (taken, false),
+/// What the answer to a keep means. The items move into another segment.
+pub fn said_by_keep(segment: u32, into: u32, cutoff: u8, answer: KeepAnswer) -> Said {
+    let (taken, ended) = match answer {
+        KeepAnswer::Kept(taken) => (taken, Ended::Whole),
+        KeepAnswer::NoRoom(taken) => (taken, Ended::NoRoom),
+        KeepAnswer::Busy(taken) => (taken, Ended::Busy),
         KeepAnswer::NotYours => return Said::Wrong,
     };
     Said::Operation(Operation::Keep {
         segment,
         into,
+        cutoff,
         taken,
-        is_whole,
+        ended,
     })
 }
 
 /// What the answer to a refill of an own segment means.
-pub fn said_by_refill(segment: u32, answer: RefillAnswer) -> Said {
-    match answer {
-        RefillAnswer::Refilled => Said::Operation(Operation::Refill { segment }),
-        RefillAnswer::Held | RefillAnswer::NotEvicted => Said::Nothing,
-        RefillAnswer::NotYours => Said::Wrong,
+pub fn said_by_refill(segment: u32, deadline: u32, answer: RefillAnswer) -> Said {
+    let is_held = match answer {
+        RefillAnswer::Refilled => {
+            return Said::Operation(Operation::Refill { segment, deadline });
+        }
+        RefillAnswer::Held => true,
+        RefillAnswer::NotEvicted => false,
+        RefillAnswer::NotYours => return Said::Wrong,
+    };
+    Said::Operation(Operation::RefillRefused { segment, is_held })
+}
+
+// Why the command was refused, if it was.
+fn refusal_of(command: &Command, answer: &Answer) -> Option<Refusal> {
+    match (command, answer) {
+        (Command::Get(_, _), Answer::Get(GetAnswer::Busy)) => Some(Refusal::ReadBusy),
+        (Command::Gets(_, _), Answer::Gets(GetsAnswer::Busy)) => Some(Refusal::Busy),
+        (Command::Write(Request::Delete(_, _)), Answer::Delete(DeleteAnswer::Busy)) => {
+            Some(Refusal::Busy)
+        }
+        (Command::Write(request), Answer::Write(answer)) => refusal_of_store(request, *answer),
+        _ => None,
     }
 }
 
-fn is_refusal(answer: &Answer) -> bool {
-    matches!(
-        answer,
-        Answer::Get(GetAnswer::Busy)
-            | Answer::Gets(GetsAnswer::Busy)
-            | Answer::Write(WriteAnswer::Busy | WriteAnswer::NoRoom | WriteAnswer::BucketFull)
-            | Answer::Delete(DeleteAnswer::Busy)
-    )
+// Why the store was refused, if it was. Only a store that can add a key needs a word.
+fn refusal_of_store(request: &Request, answer: WriteAnswer) -> Option<Refusal> {
+    match (request, answer) {
+        (Request::Delete(_, _), _) => None,
+        (_, WriteAnswer::Busy) => Some(Refusal::StoreBusy),
+        (_, WriteAnswer::NoRoom) => Some(Refusal::NoRoom),
+        (Request::Set(_, _, _) | Request::Add(_, _, _), WriteAnswer::BucketFull) => {
+            Some(Refusal::BucketFull)
+        }
+        _ => None,
+    }
 }
 
 // What the answer says of the key, with the moment of the command.

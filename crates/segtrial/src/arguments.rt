@@ -9,9 +9,10 @@ const LONG_ABOUT: &str = "Looks for an order that explains what threads are told
 
 In each round a new index is made, and each of its passes makes calls at random, on a thread of its own
 or in turn with the others.
-The keys are few, share four buckets, and have the same tag. Each call is stamped before and after it
-by one counter. Then an order of all calls is looked for, each between its two stamps, in which a cache
-of one thread gives each answer. Busy, NOROOM and BUCKETFULL say nothing of the cache.";
+The keys are few, share four buckets, and have the same tag. How many rows, segments and overflow
+buckets there are is drawn. Each call is stamped before and after it by one counter.
+Then an order of all calls is looked for, each between its two stamps, in which a cache of one thread
+gives each answer, and has what the index lists at its end. A call that was refused needs a reason.";
 
 const AFTER: &str = "Example:
   segtrial --passes 4 --turns 10000 --rounds 25
@@ -20,16 +21,18 @@ Standard error says how many answers there were.
 
 Exit status:
   0  every answer was explained
-  1  an answer wasn't
+  1  an answer wasn't, an altered one was, or too few calls were made beside others
   2  a bad command line
   3  out of memory, or a search that is too long";
 
 // Options with a number: the least, the most, the default, and the help.
-const NUMBERS: [(&str, i64, i64, &str, &str); 4] = [
+const NUMBERS: [(&str, i64, i64, &str, &str); 6] = [
     ("passes", 1, 8, "4", "Passes, each on a thread: 1 to 8"),
     ("turns", 1, 1_000_000, "10000", TURNS),
     ("rounds", 0, MOST, "1", ROUNDS),
     ("in-turn", 0, MOST, "0", IN_TURN),
+    ("alter", 0, MOST, "0", ALTER),
+    ("beside", 0, 100, "1", BESIDE),
 ];
 
 const TURNS: &str = "Turns of each pass in a round: 1 to 1000000";
@@ -37,6 +40,12 @@ const TURNS: &str = "Turns of each pass in a round: 1 to 1000000";
 const ROUNDS: &str = "Rounds in which each pass has a thread";
 
 const IN_TURN: &str = "Rounds more, in which the passes take turns on one thread";
+
+const ALTER: &str =
+    "Answers of each round in turn that are altered, one at a time; each has to be refused";
+
+const BESIDE: &str =
+    "Percent of the calls on threads that another pass's call overlaps, at least, if there are two passes";
 
 const SEED: &str = "The number from which the calls are drawn";
 
@@ -51,6 +60,10 @@ pub struct Options {
     pub rounds: u32,
     /// Rounds in which the passes take turns on one thread.
     pub in_turn: u32,
+    /// How many answers of each round in turn are altered.
+    pub alter: u32,
+    /// What part of the calls on threads another pass's call is to overlap, in percent.
+    pub beside: u32,
     pub seed: u64,
 }
 
@@ -66,6 +79,8 @@ fn options_of(matches: &ArgMatches<'_>) -> Options {
         turns: number_of(matches, "turns"),
         rounds: number_of(matches, "rounds"),
         in_turn: number_of(matches, "in-turn"),
+        alter: number_of(matches, "alter"),
+        beside: number_of(matches, "beside"),
         seed: matches.get_one("seed").unwrap_or(1),
     }
 }

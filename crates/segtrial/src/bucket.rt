@@ -4,6 +4,7 @@ use crate::call::Operation;
 use crate::replay::Fault;
 use crate::state::{KEYS, State, THREADS};
 use crate::sums::bit;
+use crate::watch::{Look, Watch};
 use std::alloc::{AllocError, Global};
 use std::mem;
 
@@ -19,6 +20,8 @@ pub struct Bucket {
     states: Vec<State>,
     /// The states that the search for an answer reached. The list is kept only for its memory.
     seen: Vec<State>,
+    /// What can have been so since each thread's call began.
+    watches: [Watch; THREADS],
 }
 
 impl Bucket {
@@ -30,7 +33,78 @@ impl Bucket {
             number,
             states,
             seen: Vec::new(alloc),
+            watches: [Watch::default(); THREADS],
         })
+    }
+
+    /// The fewest and the most buckets that the chain can have.
+    pub fn widths(&self) -> (u32, u32) {
+        let (mut fewest, mut most) = (u32::MAX, 0);
+        for state in self.states.iter() {
+            fewest = fewest.min(state.width());
+            most = most.max(state.width());
+        }
+        (fewest, most)
+    }
+
+    /// Whether just these values can stand, each under its key.
+    pub fn can_have(&self, values: &[Option<u32>; KEYS]) -> bool {
+        self.states.iter().any(|state| state.has_just(values))
+    }
+
+    /// What can have been so of the bucket since the thread's call began.
+    pub fn watch(&self, thread: usize) -> Watch {
+        self.watches.get(thread).copied().unwrap_or_default()
+    }
+
+    /// The segments that another thread's call can have entered during the thread's call, or that an item was held in.
+    pub fn entered(&self, thread: usize, pending: &Pending) -> u64 {
+        let mut segments = self.watch(thread).entered();
+        for (other, operation) in pending.iter().enumerate() {
+            if let Some(operation) = operation {
+                if other != thread {
+                    segments |= self.watch(other).inside(operation, self.number);
+                }
+            }
+        }
+        segments
+    }
+
+    /// A thread's operation is called. It is among those that are under way.
+    pub fn begin(&mut self, thread: usize, pending: &Pending) {
+        let look = Look::at(&self.states);
+        let mut watch = Watch::new(look);
+        for (other, operation) in pending.iter().enumerate() {
+            if let Some(operation) = operation {
+                if other == thread {
+                    self.show(thread, operation, look.stood);
+                } else {
+                    watch.meet(operation, self.number, self.watch(other).stood());
+                }
+            }
+        }
+        if let Some(place) = self.watches.get_mut(thread) {
+            *place = watch;
+        }
+    }
+
+    // The calls of the other threads are under way beside this one.
+    fn show(&mut self, thread: usize, operation: &Operation, stood: u64) {
+        for (other, watch) in self.watches.iter_mut().enumerate() {
+            if other != thread {
+                watch.meet(operation, self.number, stood);
+            }
+        }
+    }
+
+    /// A thread's operation has returned.
+    pub fn end(&mut self, thread: usize, operation: &Operation) {
+        let inside = self.watch(thread).inside(operation, self.number);
+        for (other, watch) in self.watches.iter_mut().enumerate() {
+            if other != thread {
+                watch.read_by_other(inside);
+            }
+        }
     }
 
     /// Which numbers of keys the thread's evict or keep can have taken out: bit n for n.
@@ -65,6 +139,16 @@ impl Bucket {
     /// Each call is taken in a state that allows it.
     /// Returns whether there is any such state.
     pub fn answer(&mut self, thread: usize, pending: &Pending) -> Result<bool, Fault> {
+        self.search(thread, pending)?;
+        let look = Look::at(&self.seen);
+        for watch in self.watches.iter_mut() {
+            watch.see(look);
+        }
+        Ok(!self.states.is_empty())
+    }
+
+    // Looks for the states in which the thread's operation can return.
+    fn search(&mut self, thread: usize, pending: &Pending) -> Result<(), Fault> {
         let is_cut_off = matches!(pending.get(thread), Some(Some(it)) if it.is_cut_off());
         self.seen.clear();
         for state in self.states.iter() {
@@ -73,7 +157,7 @@ impl Bucket {
         self.states.clear();
         for place in 0..LIMIT {
             let Some(state) = self.seen.get(place).copied() else {
-                return Ok(!self.states.is_empty());
+                return Ok(());
             };
             if state.is_done(thread) || is_cut_off {
                 add(&mut self.states, state.returned(thread))?;

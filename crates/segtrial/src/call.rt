@@ -1,4 +1,5 @@
 //! What a thread noted of each call that it made.
+use crate::sums::bit;
 
 /// A value as it was stored: its number, the segment, and the deadline of the segment.
 #[derive(Clone, Copy, Debug, PartialEq, Eq)]
@@ -37,9 +38,30 @@ pub enum CasReply {
     NotFound,
 }
 
+/// Why a call on a key was refused.
+#[derive(Clone, Copy, Debug, PartialEq, Eq)]
+pub enum Refusal {
+    /// A get or a hold was disturbed too often.
+    ReadBusy,
+    /// A store found the bucket's bit set too often.
+    StoreBusy,
+    /// A gets, a delete or a lock found the bucket's bit set too often.
+    Busy,
+    /// A store found no row.
+    NoRoom,
+    /// The store of a new key found no word.
+    BucketFull,
+}
+
+/// How a keep ended.
+#[derive(Clone, Copy, Debug, PartialEq, Eq)]
+pub enum Ended {
+    Whole,
+    NoRoom,
+    Busy,
+}
+
 /// What a call asked, and its answer. Buckets are numbered from 0, and so are the keys of each.
-/// A call that was refused shows nothing of the cache and isn't noted.
-/// But an evict or a keep that ended early is noted, since it can have taken keys out before.
 #[derive(Clone, Copy, Debug, PartialEq, Eq)]
 pub enum Operation {
     /// A call on a key, at the moment `now`.
@@ -48,6 +70,12 @@ pub enum Operation {
         key: usize,
         now: u32,
         access: Access,
+    },
+    /// A call on a key that was refused. It changes nothing.
+    Refused {
+        bucket: usize,
+        key: usize,
+        refusal: Refusal,
     },
     /// The value that the thread holds, of a key of this bucket.
     Held {
@@ -71,19 +99,47 @@ pub enum Operation {
         is_whole: bool,
     },
     /// So many items were moved from the segment into another one, which has the same deadline.
-    /// If the keep was whole, no key stands in the old segment afterwards.
+    /// Each had at least the cutoff as its frequency.
     Keep {
         segment: u32,
         into: u32,
+        cutoff: u8,
         taken: u32,
-        is_whole: bool,
+        ended: Ended,
     },
     Refill {
         segment: u32,
+        deadline: u32,
+    },
+    /// A refill that was refused: an item of the segment was read or held, or else the segment was in use.
+    RefillRefused {
+        segment: u32,
+        is_held: bool,
     },
 }
 
 impl Access {
+    // Whether the call is a store or a delete, which sets the bucket's bit.
+    fn writes(&self) -> bool {
+        !matches!(self, Access::Get(_) | Access::Gets(_) | Access::Hold(_))
+    }
+
+    /// The item that the call stored, if it stored one.
+    pub(crate) fn stored(&self) -> Option<Item> {
+        match self {
+            Access::Set(item)
+            | Access::Add(Some(item))
+            | Access::Replace(Some(item))
+            | Access::Cas(_, CasReply::Stored(item)) => Some(*item),
+            _ => None,
+        }
+    }
+
+    /// Whether the call was to store an item.
+    pub(crate) fn is_store(&self) -> bool {
+        self.writes() && !matches!(self, Access::Delete(_))
+    }
+
     // Whether the call changes the cache, or lets the thread hold an item.
     fn changes(&self) -> bool {
         match self {
@@ -102,17 +158,40 @@ impl Operation {
     pub(crate) fn bucket(&self) -> Option<usize> {
         match self {
             Operation::OnKey { bucket, .. }
+            | Operation::Refused { bucket, .. }
             | Operation::Held { bucket, .. }
             | Operation::Release { bucket }
             | Operation::Lock { bucket }
             | Operation::Unlock { bucket } => Some(*bucket),
-            Operation::Evict { .. } | Operation::Keep { .. } | Operation::Refill { .. } => None,
+            Operation::Evict { .. }
+            | Operation::Keep { .. }
+            | Operation::Refill { .. }
+            | Operation::RefillRefused { .. } => None,
         }
     }
 
-    /// Whether the operation is of this bucket.
+    /// Whether the operation depends on this bucket's state, or changes it.
     pub(crate) fn is_of(&self, number: usize) -> bool {
-        self.bucket().is_none_or(|bucket| bucket == number)
+        match self {
+            Operation::Refused {
+                bucket,
+                refusal,
+                ..
+            } => *refusal == Refusal::BucketFull && *bucket == number,
+            Operation::RefillRefused { .. } => false,
+            _ => self.bucket().is_none_or(|bucket| bucket == number),
+        }
+    }
+
+    /// The segments in which the operation can be inside while keys of this bucket stand in these,
+    /// and items of it are held in those. A release is taken early, and can leave late.
+    pub(crate) fn inside(&self, number: usize, stood: u64, held: u64) -> u64 {
+        match self {
+            Operation::OnKey { bucket, .. } | Operation::Refused { bucket, .. }
+                if *bucket == number => { stood }
+            Operation::Release { bucket } if *bucket == number => held,
+            _ => 0,
+        }
     }
 
     /// Whether nothing is lost by taking the operation as soon as it is allowed:
@@ -133,12 +212,67 @@ impl Operation {
         }
     }
 
+    /// The segment out of which the operation took every key, if there is one.
+    pub(crate) fn emptied(&self) -> Option<u32> {
+        match self {
+            Operation::Evict {
+                segment,
+                is_whole: true,
+                ..
+            } => Some(*segment),
+            // Every item has the frequency 1 at least.
+            Operation::Keep {
+                segment,
+                cutoff: 0 | 1,
+                ended: Ended::Whole,
+                ..
+            } => Some(*segment),
+            _ => None,
+        }
+    }
+
     /// Whether the operation can return though keys still stand in its segment.
     pub(crate) fn is_cut_off(&self) -> bool {
+        self.taken().is_some() && self.emptied().is_none()
+    }
+
+    /// Whether the operation can set the bit of this bucket. Keys of these segments can stand there.
+    pub(crate) fn sets_bit(&self, number: usize, stood: u64) -> bool {
         match self {
-            Operation::Evict { is_whole, .. } | Operation::Keep { is_whole, .. } => !*is_whole,
+            Operation::OnKey { bucket, access, .. } => *bucket == number && access.writes(),
+            Operation::Refused {
+                bucket,
+                refusal,
+                ..
+            } => *bucket == number && *refusal == Refusal::BucketFull,
+            // An unlock is taken early, and can clear the bit late.
+            Operation::Lock { bucket } | Operation::Unlock { bucket } => *bucket == number,
+            Operation::Evict { segment, .. } | Operation::Keep { segment, .. } => {
+                stood & bit(*segment) != 0
+            }
             _ => false,
         }
+    }
+
+    /// How many entries of this bucket's keys the operation can have added, at most.
+    pub(crate) fn entries(&self, number: usize) -> u64 {
+        match self {
+            Operation::OnKey { bucket, access, .. } => {
+                u64::from(*bucket == number && access.writes())
+            }
+            _ => u64::from(self.taken().unwrap_or(0)),
+        }
+    }
+
+    /// Whether the operation can have made its bucket's chain longer.
+    pub(crate) fn can_grow(&self) -> bool {
+        matches!(
+            self,
+            Operation::OnKey {
+                access: Access::Set(_) | Access::Add(Some(_)),
+                ..
+            }
+        )
     }
 }
 

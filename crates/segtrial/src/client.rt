@@ -6,7 +6,7 @@ ghost use Rattle.segstore.specs.Words.{IsQuiet, IsQuiet-prop};
 ghost use Rattle.segread.specs.Words.{IsHoldOf};
 
 use crate::answers::{Said, said_by, said_by_evict, said_by_keep, said_by_refill};
-use crate::call::{Access, Item, Operation};
+use crate::call::{Access, Item, Operation, Refusal};
 use crate::draws::{Draws, Turn};
 use crate::keys::{BUCKETS, Place};
 use crate::log::Log;
@@ -18,21 +18,28 @@ use segword::Key;
 use std::alloc::Global;
 use std::sync::atomic::AtomicU64;
 
-/// How many segments a pass has.
-pub const SEGMENTS: u32 = 3;
-
 /// How many commands are made while an item is held, and how many turns while a bucket is locked.
 const MEANWHILE: u32 = 2;
+
+/// What all clients of a round use.
+#[derive(Clone, Copy)]
+pub struct Desk<'a> {
+    pub keys: &'a [Key],
+    /// The counter from which the stamps are drawn.
+    pub clock: &'a AtomicU64,
+    pub start: &'a Start,
+    /// How many segments each pass has.
+    pub segments: u32,
+}
 
 /// A pass, and what its next calls depend on.
 #[derive(Drop)]
 pub struct Client<'a> {
     index: &'a Index,
-    keys: &'a [Key],
+    desk: Desk<'a>,
     pass: Pass,
     draws: Draws,
     log: Log<'a>,
-    start: &'a Start,
     /// How many times the pass went on to its next segment.
     fillings: u32,
     /// The segment that the pass stores into, and the segment's deadline.
@@ -47,25 +54,16 @@ pub struct Client<'a> {
 
 impl<'a> Client<'a> {
     /// A client whose pass has made no call.
-    pub fn new(
-        alloc: Global,
-        index: &'a Index,
-        keys: &'a [Key],
-        clock: &'a AtomicU64,
-        start: &'a Start,
-        pass: Pass,
-        seed: u64,
-    ) -> Client<'a>
+    pub fn new(alloc: Global, index: &'a Index, desk: Desk<'a>, pass: Pass, seed: u64) -> Client<'a>
         requires { IsQuiet (board_of index.now) pass }
     {
         let draws = Draws::new(seed, pass.number());
         Client {
             index,
-            keys,
+            desk,
             pass,
             draws,
-            log: Log::new(alloc, clock),
-            start,
+            log: Log::new(alloc, desk.clock),
             fillings: 0,
             segment: 0,
             deadline: 0,
@@ -76,7 +74,7 @@ impl<'a> Client<'a> {
 
     /// Waits until so many passes are there, and then makes so many turns.
     pub fn work(mut self, passes: u32, turns: u32) -> Client<'a> {
-        self.start.wait_for(passes);
+        self.desk.start.wait_for(passes);
         self.refill();
         for _ in 0..turns {
             self.turn();
@@ -134,28 +132,28 @@ impl<'a> Client<'a> {
         }
     }
 
-    // Goes on to the next segment, moves items of the oldest one there, and evicts what is left.
+    // Goes on to the next segment, moves items of the oldest one there that were read often enough,
+    // and evicts what is left.
     fn keep(&mut self)
         ensures index { self.new.index.now ≡ self.old.index.now }
         ensures held { holding self.new.pass ≡ holding self.old.pass }
     {
         self.refill();
         let segment = self.next_segment();
+        let cutoff = self.draws.cutoff();
         let called = self.log.stamp();
-        let answer = keep(self.index, &mut self.pass, segment);
+        let answer = keep(self.index, &mut self.pass, segment, cutoff);
         let returned = self.log.stamp();
-        self.log.note(
-            called,
-            returned,
-            said_by_keep(segment, self.segment, answer),
-        );
+        let said = said_by_keep(segment, self.segment, cutoff, answer);
+        self.log.note(called, returned, said);
         self.evict(segment);
     }
 
     // The segment that the pass goes on to next. It is the one that was refilled first.
     fn next_segment(&self) -> u32 {
-        let first = self.pass.number().saturating_mul(SEGMENTS);
-        first.saturating_add(self.fillings % SEGMENTS)
+        let each = self.desk.segments.max(1);
+        let first = self.pass.number().saturating_mul(each);
+        first.saturating_add(self.fillings % each)
     }
 
     fn evict(&mut self, segment: u32)
@@ -181,8 +179,7 @@ impl<'a> Client<'a> {
         let called = self.log.stamp();
         let answer = refill(self.index, &mut self.pass, segment, deadline);
         let returned = self.log.stamp();
-        self.log
-            .note(called, returned, said_by_refill(segment, answer));
+        self.log.note(called, returned, said_by_refill(segment, deadline, answer));
         if answer == RefillAnswer::Refilled {
             self.segment = segment;
             self.deadline = deadline;
@@ -215,7 +212,10 @@ impl<'a> Client<'a> {
                 let said = place.says(now, Access::Hold(None));
                 self.log.note(called, returned, said);
             }
-            HoldAnswer::Busy => self.log.note(called, returned, Said::Nothing),
+            HoldAnswer::Busy => {
+                let said = place.refuses(Refusal::ReadBusy);
+                self.log.note(called, returned, said);
+            }
             HoldAnswer::AlreadyHolding => self.log.note(called, returned, Said::Wrong),
         }
     }
@@ -249,7 +249,7 @@ impl<'a> Client<'a> {
         let returned = self.log.stamp();
         let said = match answer {
             LockAnswer::Locked => Said::Operation(Operation::Lock { bucket }),
-            LockAnswer::Busy => Said::Nothing,
+            LockAnswer::Busy => place.refuses(Refusal::Busy),
             LockAnswer::AlreadyLocked => Said::Wrong,
         };
         self.log.note(called, returned, said);
@@ -281,7 +281,7 @@ impl<'a> Client<'a> {
     }
 
     fn key(&self, place: Place) -> Option<&'a Key> {
-        let keys = self.keys;
+        let keys = self.desk.keys;
         keys.get(place.number())
     }
 }
@@ -304,13 +304,13 @@ fn evict(index: &Index, pass: &mut Pass, segment: u32) -> EvictAnswer
     index.evict(pass, segment)
 }
 
-// A keep of all items, whatever their frequency. What the pass holds stays held.
-fn keep(index: &Index, pass: &mut Pass, segment: u32) -> KeepAnswer
+// A keep. What the pass holds stays held.
+fn keep(index: &Index, pass: &mut Pass, segment: u32, cutoff: u8) -> KeepAnswer
     requires { IsQuiet (board_of index.now) pass.old }
     ensures quiet { IsQuiet (board_of index.now) pass.new }
     ensures held { holding pass.new ≡ holding pass.old }
 {
-    index.keep(pass, segment, 0)
+    index.keep(pass, segment, cutoff)
 }
 
 // A refill. What the pass holds stays held.

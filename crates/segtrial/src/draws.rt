@@ -3,7 +3,10 @@ use crate::keys::{BUCKETS, EACH, Place};
 use rand_core::utils::NextWord;
 use rand_pcg::Lcg64Xsh32;
 use segmodel::{Command, Request};
-use segword::{Key, Value};
+use segword::{Key, Shape, Value};
+
+/// Buckets begin with one of so many highest versions. From the highest number the next is 0.
+const VERSIONS: u32 = 200;
 
 /// Moments are below this number.
 const MOMENTS: u32 = 16;
@@ -43,6 +46,24 @@ impl Draws {
         self.generator.next_word() % bound.max(1)
     }
 
+    /// The shape of an index with so many passes. Chains can grow, but mostly not all of them,
+    /// and segments are soon full.
+    pub fn shape(&mut self, passes: u32) -> Shape {
+        Shape {
+            buckets: BUCKETS,
+            overflow: self.below(BUCKETS + 1),
+            passes,
+            segments_each: self.below(3).saturating_add(2),
+            rows: match self.below(4) {
+                0 => 2,
+                1 => 4,
+                2 => 8,
+                _ => 16,
+            },
+            first_version: self.below(VERSIONS).wrapping_sub(VERSIONS),
+        }
+    }
+
     pub fn turn(&mut self) -> Turn {
         match self.below(64) {
             0 | 1 => Turn::Hold,
@@ -69,6 +90,16 @@ impl Draws {
             0 | 1 => MOMENTS,
             2 => MOMENTS / 2,
             _ => self.moment(),
+        }
+    }
+
+    /// The cutoff of a keep. Up to 1 it lets every item move.
+    pub fn cutoff(&mut self) -> u8 {
+        match self.below(4) {
+            0 => 0,
+            1 => 1,
+            2 => 2,
+            _ => 3,
         }
     }
 

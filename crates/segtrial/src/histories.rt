@@ -1,10 +1,18 @@
 //! Histories of two threads over two buckets, and changes of single calls.
 use crate::call::{Access, Call, Item, Operation};
-use crate::replay::{Fault, check};
+use crate::replay::{Fault, Replay, Sizes, check};
 use std::alloc::{AllocError, Global};
 
 /// The version with which the buckets of the histories begin.
 pub const FIRST_VERSION: u32 = 7;
+
+/// How large the caches of the histories are. One chain can grow.
+pub const SIZES: Sizes = Sizes {
+    buckets: 2,
+    overflow: 1,
+    rows: 8,
+    first_version: FIRST_VERSION,
+};
 
 /// A deadline after the moments of all calls of the histories, unless a call comes right at it.
 pub const DEADLINE: u32 = 100;
@@ -39,10 +47,29 @@ pub fn on_key_at(key: usize, now: u32, access: Access) -> Operation {
     }
 }
 
+/// A refill of a segment.
+pub fn refill(segment: u32) -> Operation {
+    Operation::Refill {
+        segment,
+        deadline: DEADLINE,
+    }
+}
+
 /// What the checker returns for the lines of two threads, with some calls changed.
 pub fn verdict(alloc: Global, lines: [&[Line]; 2], changes: &[Change]) -> Result<(), Fault> {
+    replayed(alloc, SIZES, lines, changes)?;
+    Ok(())
+}
+
+/// How far the checker comes with the lines of two threads, with some calls changed.
+pub fn replayed(
+    alloc: Global,
+    sizes: Sizes,
+    lines: [&[Line]; 2],
+    changes: &[Change],
+) -> Result<Replay, Fault> {
     let threads = threads(alloc, lines, changes)?;
-    check(alloc, 2, FIRST_VERSION, &threads)
+    check(alloc, sizes, &threads)
 }
 
 fn threads(

@@ -1,12 +1,12 @@
 //! A legal history, and the same history with a call or two altered, which no cache allows.
 use crate::call::{Access, CasReply, Operation};
-use crate::histories::{Change, Line, item, on_key, verdict};
+use crate::histories::{Change, Line, item, on_key, refill, verdict};
 use crate::replay::Fault;
 
 // Thread 0 owns segment 0. Key 0 is written four times, and key 1 is added and deleted.
 fn writer() -> [Line; 11] {
     [
-        (0, 1, Operation::Refill { segment: 0 }),
+        (0, 1, refill(0)),
         (4, 5, on_key(0, Access::Set(item(1, 0)))),
         (6, 7, on_key(1, Access::Add(Some(item(2, 0))))),
         (10, 13, on_key(0, Access::Set(item(3, 0)))),
@@ -14,7 +14,7 @@ fn writer() -> [Line; 11] {
         (22, 23, on_key(1, Access::Add(None))),
         (24, 25, on_key(1, Access::Delete(true))),
         (30, 33, evict(1)),
-        (36, 37, Operation::Refill { segment: 0 }),
+        (36, 37, refill(0)),
         (40, 41, on_key(0, Access::Gets(Some((5, 13))))),
         (42, 43, on_key(1, Access::Delete(false))),
     ]
@@ -23,7 +23,7 @@ fn writer() -> [Line; 11] {
 // Thread 1 owns segment 1.
 fn reader() -> [Line; 10] {
     [
-        (2, 3, Operation::Refill { segment: 1 }),
+        (2, 3, refill(1)),
         (8, 9, on_key(0, Access::Gets(Some((1, 9))))),
         // While key 0 is set.
         (11, 12, on_key(0, Access::Get(Some(3)))),

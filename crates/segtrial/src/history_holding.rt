@@ -1,26 +1,26 @@
 //! Locks, holds, deadlines and evictions over two buckets: a legal history, and what can and can't
 //! stand there in its place.
 use crate::call::{Access, Operation};
-use crate::histories::{Change, DEADLINE, Line, item, on_key, on_key_at, verdict};
+use crate::histories::{Change, DEADLINE, Line, item, on_key, on_key_at, refill, verdict};
 use crate::replay::Fault;
 
 // Thread 0 owns segment 0, and stores a key there in each of the buckets.
 fn owner() -> [Line; 7] {
     [
-        (0, 1, Operation::Refill { segment: 0 }),
+        (0, 1, refill(0)),
         (4, 5, on_key(0, Access::Set(item(1, 0)))),
         (6, 7, in_bucket_1(Access::Set(item(2, 0)))),
         (12, 13, Operation::Lock { bucket: 0 }),
         (16, 17, Operation::Unlock { bucket: 0 }),
         (20, 25, evict(2, true)),
-        (30, 31, Operation::Refill { segment: 0 }),
+        (30, 31, refill(0)),
     ]
 }
 
 // Thread 1 holds the key of bucket 0 from 9 to 29.
 fn holder() -> [Line; 9] {
     [
-        (2, 3, Operation::Refill { segment: 1 }),
+        (2, 3, refill(1)),
         (8, 9, on_key_at(0, DEADLINE - 1, Access::Hold(Some(1)))),
         (10, 11, on_key_at(0, DEADLINE, Access::Get(None))),
         // While the bucket is locked.
@@ -70,7 +70,13 @@ fn what_may_stand_there(rt: HostRuntime) {
         ),
         (
             "an evict that was Busy, and goes on",
-            &[(20, evict(1, false)), (30, evict(1, true))],
+            &[
+                (18, Operation::Lock { bucket: 0 }),
+                (20, evict(1, false)),
+                (26, Operation::Unlock { bucket: 0 }),
+                (28, on_key(0, Access::Get(Some(1)))),
+                (30, evict(1, true)),
+            ],
         ),
         (
             "a delete of an expired key",
@@ -179,7 +185,7 @@ fn what_may_not_stand_there(rt: HostRuntime) {
         (
             "a refill before all were taken out",
             31,
-            (20, evict(0, false)),
+            (20, on_key(0, Access::Get(Some(1)))),
         ),
         (
             "a key that was evicted",

@@ -1,20 +1,20 @@
 //! Items that move from a segment into another: a legal history, and what can and can't stand there
 //! in its place.
-use crate::call::{Access, Operation};
-use crate::histories::{Change, Line, item, on_key, verdict};
+use crate::call::{Access, Ended, Operation};
+use crate::histories::{Change, Line, item, on_key, refill, verdict};
 use crate::replay::Fault;
 
 // Thread 0 owns segments 0 and 1, which have one deadline.
 // It stores a key of each bucket in segment 0, and moves both.
 fn owner() -> [Line; 8] {
     [
-        (0, 1, Operation::Refill { segment: 0 }),
+        (0, 1, refill(0)),
         (4, 5, on_key(0, Access::Set(item(1, 0)))),
         (6, 7, in_bucket_1(Access::Set(item(2, 0)))),
-        (8, 9, Operation::Refill { segment: 1 }),
-        (12, 15, keep(2, true)),
+        (8, 9, refill(1)),
+        (12, 15, keep(2, Ended::Whole)),
         (18, 19, evict(0, 0)),
-        (24, 25, Operation::Refill { segment: 0 }),
+        (24, 25, refill(0)),
         (28, 29, evict(1, 2)),
     ]
 }
@@ -22,7 +22,7 @@ fn owner() -> [Line; 8] {
 // Thread 1 holds the key of bucket 0 from 11 to 22, in the segment that the key leaves.
 fn reader() -> [Line; 7] {
     [
-        (2, 3, Operation::Refill { segment: 2 }),
+        (2, 3, refill(2)),
         (10, 11, hold()),
         // While both keys are moved.
         (13, 14, in_bucket_1(Access::Get(Some(2)))),
@@ -42,12 +42,18 @@ fn in_bucket_1(access: Access) -> Operation {
     }
 }
 
-fn keep(taken: u32, is_whole: bool) -> Operation {
+// A keep of all items.
+fn keep(taken: u32, ended: Ended) -> Operation {
+    keep_from(0, taken, ended)
+}
+
+fn keep_from(cutoff: u8, taken: u32, ended: Ended) -> Operation {
     Operation::Keep {
         segment: 0,
         into: 1,
+        cutoff,
         taken,
-        is_whole,
+        ended,
     }
 }
 
@@ -77,19 +83,42 @@ fn held() -> Operation {
 
 #[test]
 fn what_may_stand_there(rt: HostRuntime) {
-    let rows: [(&str, &[Change]); 4] = [
+    let lock = Operation::Lock { bucket: 0 };
+    let unlock = Operation::Unlock { bucket: 0 };
+    let rows: [(&str, &[Change]); 5] = [
         ("as it is", &[]),
         (
-            "a keep that ended early, and an evict of the key that was left",
-            &[(12, keep(1, false)), (18, evict(0, 1)), (28, evict(1, 1))],
+            "a keep that ended at a lock, and an evict of the key that was left",
+            &[
+                (10, lock),
+                (12, keep(1, Ended::Busy)),
+                (16, unlock),
+                (18, evict(0, 1)),
+                (22, get(None)),
+                (26, get(None)),
+                (28, evict(1, 1)),
+            ],
         ),
         (
-            "a keep that moved none",
+            "a keep of items that were never read",
             &[
-                (12, keep(0, false)),
+                (10, Operation::Lock { bucket: 1 }),
+                (12, keep_from(2, 0, Ended::Whole)),
+                (16, Operation::Unlock { bucket: 1 }),
                 (18, evict(0, 2)),
+                (22, get(None)),
                 (26, get(None)),
                 (28, evict(1, 0)),
+            ],
+        ),
+        (
+            "a keep of the one item that was read",
+            &[
+                (10, get(Some(1))),
+                (12, keep_from(2, 1, Ended::Whole)),
+                (18, evict(0, 1)),
+                (22, get(Some(1))),
+                (28, evict(1, 1)),
             ],
         ),
         (
@@ -111,9 +140,22 @@ fn what_may_not_stand_there(rt: HostRuntime) {
     let lock = Operation::Lock { bucket: 0 };
     let unlock = Operation::Unlock { bucket: 0 };
     // With the return of the first call that can't be explained.
-    let rows: [(&str, u64, &[Change]); 11] = [
-        ("a keep that moved too few", 15, &[(12, keep(1, true))]),
-        ("a keep that moved too many", 15, &[(12, keep(3, true))]),
+    let rows: [(&str, u64, &[Change]); 12] = [
+        (
+            "a keep that moved too few",
+            15,
+            &[(12, keep(1, Ended::Whole))],
+        ),
+        (
+            "a keep that moved too many",
+            15,
+            &[(12, keep(3, Ended::Whole))],
+        ),
+        (
+            "a keep of an item that was never read",
+            15,
+            &[(10, get(Some(1))), (12, keep_from(3, 1, Ended::Whole))],
+        ),
         ("a keep in a locked bucket", 15, &[(10, lock), (22, unlock)]),
         (
             "a key that is taken out of the segment that it left",
@@ -123,7 +165,7 @@ fn what_may_not_stand_there(rt: HostRuntime) {
         (
             "keys that are left, and not taken out",
             19,
-            &[(12, keep(0, false))],
+            &[(12, keep_from(2, 0, Ended::Whole))],
         ),
         (
             "a key that stays in a segment that is evicted",
@@ -138,7 +180,7 @@ fn what_may_not_stand_there(rt: HostRuntime) {
         (
             "a refill of the segment that the keys moved into",
             25,
-            &[(24, Operation::Refill { segment: 1 })],
+            &[(24, refill(1))],
         ),
         (
             "a move that changes the version",

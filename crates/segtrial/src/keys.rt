@@ -1,6 +1,6 @@
 //! Keys that are hard to distinguish: their tags are the same, and many of them share a bucket.
 use crate::answers::Said;
-use crate::call::{Access, Operation};
+use crate::call::{Access, Operation, Refusal};
 use segword::{Key, bucket_of, hash, tag_of};
 use std::alloc::{AllocError, Global};
 
@@ -44,6 +44,15 @@ impl Place {
             key: self.key,
             now,
             access,
+        })
+    }
+
+    /// What the refusal of a call on this key means.
+    pub fn refuses(self, refusal: Refusal) -> Said {
+        Said::Operation(Operation::Refused {
+            bucket: self.bucket,
+            key: self.key,
+            refusal,
         })
     }
 }

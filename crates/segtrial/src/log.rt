@@ -10,8 +10,6 @@ pub struct Log<'a> {
     /// The counter from which all passes draw their stamps.
     clock: &'a AtomicU64,
     pub calls: Vec<Call>,
-    /// How many calls were refused.
-    pub refusals: u32,
     /// Whether an answer was one that no such call returns.
     pub is_wrong: bool,
     /// Whether there was no memory to note a call.
@@ -23,7 +21,6 @@ impl<'a> Log<'a> {
         Log {
             clock,
             calls: Vec::new(alloc),
-            refusals: 0,
             is_wrong: false,
             is_short: false,
         }
@@ -45,7 +42,6 @@ impl<'a> Log<'a> {
                 };
                 self.is_short = self.calls.push(call).is_err() || self.is_short;
             }
-            Said::Nothing => self.refusals = self.refusals.saturating_add(1),
             Said::Wrong => self.is_wrong = true,
         }
     }

@@ -2,28 +2,37 @@
 //! the answers. The checker (`replay`) has a small model of its own, and uses no definition of the proofs.
 #![tactic(auto)]
 
+mod alterations;
 mod answers;
 mod arguments;
 mod bucket;
 mod call;
 mod client;
 mod draws;
+mod ending;
 #[cfg(test)]
 mod histories;
 #[cfg(test)]
 mod history_alterations;
 #[cfg(test)]
+mod history_ending;
+#[cfg(test)]
 mod history_holding;
 #[cfg(test)]
 mod history_moving;
+#[cfg(test)]
+mod history_refusing;
 mod keys;
 mod log;
 mod replay;
 mod round;
+mod rows;
 mod start;
 mod state;
+mod strength;
 mod sums;
 mod values;
+mod watch;
 
 use arguments::{Options, read_options};
 use clap::error::{Error, ErrorKind};
@@ -74,29 +83,48 @@ fn tell(
     ended: Result<Counts, Failure>,
 ) -> io::Result<ExitCode> {
     match ended {
-        Ok(counts) => {
-            eprintln!(rt;
-                "{} answers, {} beside other calls",
-                counts.answers, counts.beside
-            )?;
-            eprintln!(rt;
-                "{} answers that say nothing, {} items moved",
-                counts.refusals, counts.moved
-            )?;
-            println!(rt;
-                "{} rounds of {} passes, and {} in turn: every answer is explained, {}",
-                options.rounds,
-                options.passes,
-                options.in_turn,
-                moves_of(&counts)
-            )?;
-            Ok(ExitCode::SUCCESS)
-        }
+        Ok(counts) => tell_counts(rt, options, &counts),
         Err(Failure { seed, fault }) => {
             eprintln!(rt; "seed {seed}: {fault}")?;
             Ok(ExitCode::from(status_of(fault)))
         }
     }
+}
+
+// Prints the counts, and whether enough calls were made beside others.
+fn tell_counts(rt: &HostRuntime, options: &Options, counts: &Counts) -> io::Result<ExitCode> {
+    let percent = if options.passes > 1 {
+        options.beside
+    } else {
+        0
+    };
+    eprintln!(rt;
+        "{} answers, {} on threads, {} beside other calls",
+        counts.answers, counts.on_threads, counts.beside
+    )?;
+    eprintln!(rt;
+        "refused: {} Busy, {} NoRoom, {} BucketFull, {} Held",
+        counts.busy, counts.no_room, counts.bucket_full, counts.held
+    )?;
+    eprintln!(rt;
+        "{} items moved, {} altered answers refused",
+        counts.moved, counts.altered
+    )?;
+    if !counts.are_beside(percent) {
+        eprintln!(rt; "error: under {percent} % of the answers came beside other calls")?;
+        return Ok(ExitCode::from(UNEXPLAINED));
+    }
+    println!(rt;
+        "{} rounds of {} passes, and {} in turn: every answer is explained, {}",
+        options.rounds,
+        options.passes,
+        options.in_turn,
+        moves_of(counts)
+    )?;
+    println!(rt;
+        "{percent} % or more came beside other calls, and each index ended as they left it"
+    )?;
+    Ok(ExitCode::SUCCESS)
 }
 
 // Whether the order that explains the answers has moves of items.
@@ -110,9 +138,8 @@ fn moves_of(counts: &Counts) -> &'static str {
 
 fn status_of(fault: RoundFault) -> u8 {
     match fault {
-        RoundFault::WrongAnswer | RoundFault::History(Fault::NoOrder(_) | Fault::BadCall) =>
-            UNEXPLAINED,
         RoundFault::OutOfMemory | RoundFault::History(Fault::TooMany | Fault::OutOfMemory) =>
             FAILED,
+        _ => UNEXPLAINED,
     }
 }

@@ -1,8 +1,9 @@
 //! The calls of all threads in the order of their stamps, bucket by bucket.
-use crate::bucket::Bucket;
-use crate::call::{Call, Operation};
-use crate::state::{KEYS, THREADS};
-use crate::sums::{added, rests};
+use crate::bucket::{Bucket, Pending};
+use crate::call::{Call, Ended, Operation, Refusal};
+use crate::rows::{Rows, SEGMENTS};
+use crate::state::{HIGHEST_CUTOFF, KEYS, THREADS};
+use crate::sums::{added, bit, rests};
 use std::alloc::{AllocError, Global};
 use thiserror::Error;
 
@@ -12,6 +13,12 @@ pub enum Fault {
     /// The last stamp of the first call whose answer has no place in an order.
     #[error("no order explains the answer at stamp {0}")]
     NoOrder(u64),
+    /// The last stamp of the first call that its thread's own calls before it don't allow.
+    #[error("the thread's segments don't allow the answer at stamp {0}")]
+    NoSegment(u64),
+    /// The last stamp of the first refusal to which no other call gave a reason.
+    #[error("nothing was in the way of the call that was refused at stamp {0}")]
+    NoReason(u64),
     #[error("the stamps are not in order, or a bucket or a thread is out of bounds")]
     BadCall,
     #[error("too many orders to look at")]
@@ -26,11 +33,24 @@ impl From<AllocError> for Fault {
     }
 }
 
+/// How large the cache is that gave the answers.
+#[derive(Clone, Copy)]
+pub struct Sizes {
+    pub buckets: usize,
+    /// How many buckets there are by which chains can grow.
+    pub overflow: u32,
+    /// How many rows each segment has.
+    pub rows: u32,
+    pub first_version: u32,
+}
+
 /// How far the calls of all threads were followed.
 #[derive(Drop)]
-struct Replay {
+pub struct Replay {
     buckets: Vec<Bucket>,
-    pending: [Option<Operation>; THREADS],
+    overflow: u32,
+    rows: [Rows; THREADS],
+    pending: Pending,
     /// How many calls of each thread have returned.
     returned: [usize; THREADS],
     /// One more than the last stamp; 0 before the first.
@@ -39,41 +59,49 @@ struct Replay {
 
 /// Looks for an order of the calls in which a cache of one thread returns each of their answers.
 /// Every call stands in the order between its two stamps. The calls of each thread come one after the other.
+/// A call that was refused needs a reason: a bit or entries of other threads, a reader, or that no room was left.
 ///
 /// An evict or a keep takes out each of its keys at a moment of its own.
 /// How many keys it took out of all buckets together is checked when it returns.
 /// Later answers of one bucket don't bear on the others.
-pub fn check(
-    alloc: Global,
-    buckets: usize,
-    first_version: u32,
-    threads: &[Vec<Call>],
-) -> Result<(), Fault> {
+pub fn check(alloc: Global, sizes: Sizes, threads: &[Vec<Call>]) -> Result<Replay, Fault> {
     if threads.len() > THREADS {
         return Err(Fault::BadCall);
     }
-    let mut replay = Replay::new(alloc, buckets, first_version)?;
+    let mut replay = Replay::new(alloc, sizes)?;
     for _ in 0..u64::MAX {
         let Some((thread, call)) = replay.next(threads) else {
             break;
         };
         replay.follow(thread, &call)?;
     }
-    Ok(())
+    Ok(replay)
 }
 
 impl Replay {
-    fn new(alloc: Global, count: usize, first_version: u32) -> Result<Replay, AllocError> {
+    fn new(alloc: Global, sizes: Sizes) -> Result<Replay, AllocError> {
         let mut buckets = Vec::new(alloc);
-        for number in 0..count {
-            buckets.push(Bucket::new(alloc, number, first_version)?)?;
+        for number in 0..sizes.buckets {
+            buckets.push(Bucket::new(alloc, number, sizes.first_version)?)?;
         }
         Ok(Replay {
             buckets,
+            overflow: sizes.overflow,
+            rows: [Rows::new(sizes.rows); THREADS],
             pending: [None; THREADS],
             returned: [0; THREADS],
             stamp: 0,
         })
+    }
+
+    /// Whether the cache can have just these values at the end: for each bucket those of its keys.
+    pub fn can_end_with(&self, content: &[[Option<u32>; KEYS]]) -> bool {
+        self.buckets.len() == content.len()
+            && self
+                .buckets
+                .iter()
+                .zip(content)
+                .all(|(bucket, values)| bucket.can_have(values))
     }
 
     // The call that has the next stamp, and its thread.
@@ -123,23 +151,43 @@ impl Replay {
         if let Some(place) = self.pending.get_mut(thread) {
             *place = Some(*operation);
         }
+        for bucket in self.buckets.iter_mut() {
+            bucket.begin(thread, &self.pending);
+        }
         Ok(())
     }
 
-    // Whether the operation's bucket and key exist, and the number of keys that it took out can be counted.
+    // Whether the operation's bucket, key and segments exist, and what it took out can be counted.
     fn is_known(&self, operation: &Operation) -> bool {
         operation
             .bucket()
             .is_none_or(|number| number < self.buckets.len())
+            && operation.taken().is_none_or(|taken| taken < 64)
             && match operation {
-                Operation::OnKey { key, .. } => *key < KEYS,
-                _ => operation.taken().is_none_or(|taken| taken < 64),
+                Operation::OnKey { key, .. } | Operation::Refused { key, .. } => *key < KEYS,
+                Operation::Keep { cutoff, .. } => *cutoff <= HIGHEST_CUTOFF,
+                Operation::Refill { segment, .. } => (*segment as usize) < SEGMENTS,
+                _ => true,
             }
     }
 
     fn end(&mut self, thread: usize, call: &Call) -> Result<(), Fault> {
-        if !self.answer(thread, &call.operation)? {
+        let operation = &call.operation;
+        if !self.answer(thread, operation)? || !self.has_overflow() {
             return Err(Fault::NoOrder(call.returned));
+        }
+        if !self
+            .rows
+            .get_mut(thread)
+            .is_some_and(|rows| rows.follow(operation))
+        {
+            return Err(Fault::NoSegment(call.returned));
+        }
+        if !self.has_reason(thread, operation) {
+            return Err(Fault::NoReason(call.returned));
+        }
+        for bucket in self.buckets.iter_mut() {
+            bucket.end(thread, operation);
         }
         if let Some(place) = self.pending.get_mut(thread) {
             *place = None;
@@ -148,6 +196,96 @@ impl Replay {
             *returned = returned.saturating_add(1);
         }
         Ok(())
+    }
+
+    // Whether there can be as many overflow buckets as the chains need at least.
+    fn has_overflow(&self) -> bool {
+        let mut drawn = 0u32;
+        for bucket in self.buckets.iter() {
+            drawn = drawn.saturating_add(bucket.widths().0.saturating_sub(1));
+        }
+        drawn <= self.overflow
+    }
+
+    // Whether all overflow buckets can have been drawn, some by stores of other threads that are under way.
+    fn can_lack_overflow(&self, thread: usize) -> bool {
+        let mut drawn = 0u32;
+        for bucket in self.buckets.iter() {
+            drawn = drawn.saturating_add(bucket.widths().1.saturating_sub(1));
+        }
+        for (other, operation) in self.pending.iter().enumerate() {
+            if operation.is_some_and(|operation| other != thread && operation.can_grow()) {
+                drawn = drawn.saturating_add(1);
+            }
+        }
+        self.overflow <= drawn
+    }
+
+    // Whether the operation, if it was refused or ended early, can have had a reason that others gave it.
+    fn has_reason(&self, thread: usize, operation: &Operation) -> bool {
+        match operation {
+            Operation::Refused {
+                bucket,
+                refusal,
+                ..
+            } => {
+                let watch = self.buckets.get(*bucket).map(|bucket| bucket.watch(thread));
+                match refusal {
+                    Refusal::ReadBusy => watch.is_some_and(|watch| watch.was_disturbed()),
+                    Refusal::StoreBusy | Refusal::Busy => watch.is_some_and(
+                        |watch| watch.was_set(),
+                    ),
+                    Refusal::BucketFull => self.can_lack_overflow(thread),
+                    Refusal::NoRoom => true,
+                }
+            }
+            Operation::RefillRefused {
+                segment,
+                is_held: true,
+            } => self.was_entered(thread, *segment),
+            Operation::Evict {
+                segment,
+                is_whole: false,
+                ..
+            }
+            | Operation::Keep {
+                segment,
+                ended: Ended::Busy,
+                ..
+            } => self.was_in_the_way(thread, *segment),
+            Operation::Keep {
+                segment,
+                ended: Ended::NoRoom,
+                ..
+            } => !self.has_target(thread, *segment) || self.stood_in(thread, *segment),
+            _ => true,
+        }
+    }
+
+    fn has_target(&self, thread: usize, segment: u32) -> bool {
+        self.rows
+            .get(thread)
+            .is_some_and(|rows| rows.has_target(segment))
+    }
+
+    // Whether a reader can have been in the segment, or an item of it can have been held.
+    fn was_entered(&self, thread: usize, segment: u32) -> bool {
+        self.buckets.iter().any(|bucket| bucket.entered(thread, &self.pending) & bit(segment) != 0)
+    }
+
+    // Whether a key can have stood in the segment.
+    fn stood_in(&self, thread: usize, segment: u32) -> bool {
+        self.buckets
+            .iter()
+            .any(|bucket| bucket.watch(thread).stood() & bit(segment) != 0)
+    }
+
+    // Whether a key can have stood in the segment, and its bucket's bit can have been found set.
+    fn was_in_the_way(&self, thread: usize, segment: u32) -> bool {
+        self.buckets.iter().any(|bucket| {
+            let watch = bucket.watch(thread);
+            watch.was_set() && watch.stood() & bit(segment) != 0
+        })
     }
 
     // The operation is taken at the latest now. Returns whether that is possible.

@@ -1,5 +1,6 @@
 //! A bucket of a cache of one thread, and which of the calls that are under way have been taken there.
-use crate::call::{Access, CasReply, Item, Operation};
+use crate::call::{Access, CasReply, Item, Operation, Refusal};
+use crate::sums::bit;
 use std::mem;
 
 /// How many keys a bucket has at most.
@@ -7,6 +8,20 @@ pub const KEYS: usize = 12;
 
 /// How many threads there are at most.
 pub const THREADS: usize = 8;
+
+/// How many buckets a chain has at most.
+const WIDEST: u32 = 4;
+
+/// The highest cutoff that a keep can have here. Frequencies from it on count as this one.
+pub const HIGHEST_CUTOFF: u8 = 4;
+
+/// An item that stands under a key.
+#[derive(Clone, Copy, PartialEq, Eq)]
+struct Standing {
+    item: Item,
+    /// The highest frequency that the item can have. A hit needn't count.
+    frequency: u8,
+}
 
 /// What a state has of a thread.
 #[derive(Clone, Copy, PartialEq, Eq)]
@@ -22,7 +37,9 @@ struct Hand {
 /// A bucket as it can be at one moment.
 #[derive(Clone, Copy, PartialEq, Eq)]
 pub struct State {
-    items: [Option<Item>; KEYS],
+    items: [Option<Standing>; KEYS],
+    /// How many buckets the chain has.
+    width: u32,
     version: u32,
     is_locked: bool,
     hands: [Hand; THREADS],
@@ -38,6 +55,7 @@ impl State {
         };
         State {
             items: [None; KEYS],
+            width: 1,
             version,
             is_locked: false,
             hands: [idle; THREADS],
@@ -47,6 +65,41 @@ impl State {
     /// Whether the thread's call has been taken.
     pub fn is_done(&self, thread: usize) -> bool {
         self.hands.get(thread).is_some_and(|hand| hand.is_done)
+    }
+
+    /// How many buckets the chain has.
+    pub fn width(&self) -> u32 {
+        self.width
+    }
+
+    pub fn is_locked(&self) -> bool {
+        self.is_locked
+    }
+
+    /// The segments in which a key stands.
+    pub fn stood(&self) -> u64 {
+        let mut segments = 0;
+        for standing in self.items.iter().flatten() {
+            segments |= bit(standing.item.segment);
+        }
+        segments
+    }
+
+    /// The segments of which an item is held.
+    pub fn held(&self) -> u64 {
+        let mut segments = 0;
+        for hand in self.hands.iter() {
+            segments |= hand.held.map_or(0, |item| bit(item.segment));
+        }
+        segments
+    }
+
+    /// Whether just these values stand, each under its key.
+    pub fn has_just(&self, values: &[Option<u32>; KEYS]) -> bool {
+        self.items.iter().zip(values).all(|(standing, value)| standing.map(|standing| standing
+            .item
+            .value)
+            == *value)
     }
 
     /// How many keys the thread's evict or keep took out.
@@ -86,19 +139,16 @@ impl State {
             Operation::Release { .. } => hand.held.take().is_some(),
             Operation::Lock { .. } => !mem::replace(&mut next.is_locked, true),
             Operation::Unlock { .. } => mem::replace(&mut next.is_locked, false),
-            Operation::Evict {
-                segment,
-                is_whole,
-                ..
+            Operation::Refused { key, refusal, .. } => {
+                *refusal != Refusal::BucketFull || self.is_full_for(*key)
             }
-            | Operation::Keep {
-                segment,
-                is_whole,
-                ..
-            } => *is_whole && !self.stands_in(*segment),
-            Operation::Refill { segment } => {
-                !self.stands_in(*segment) && !self.is_held_in(*segment)
+            Operation::Evict { .. } | Operation::Keep { .. } => operation
+                .emptied()
+                .is_some_and(|segment| self.stood() & bit(segment) == 0),
+            Operation::Refill { segment, .. } => {
+                (self.stood() | self.held()) & bit(*segment) == 0
             }
+            Operation::RefillRefused { .. } => true,
         };
         is_allowed.then_some(next)
     }
@@ -107,26 +157,27 @@ impl State {
     /// It took out no more keys than it returned.
     /// A keep moves the key's item into another segment.
     pub fn without(&self, thread: usize, key: usize, operation: &Operation) -> Option<State> {
-        let (segment, most, into) = match operation {
-            Operation::Evict { segment, taken, .. } => (*segment, *taken, None),
+        let (segment, most, cutoff) = match operation {
+            Operation::Evict { segment, taken, .. } => (*segment, *taken, 0),
             Operation::Keep {
                 segment,
-                into,
+                cutoff,
                 taken,
                 ..
-            } => (*segment, *taken, Some(*into)),
+            } => (*segment, *taken, *cutoff),
             _ => return None,
         };
         let mut next = *self;
         let place = next.items.get_mut(key)?;
-        let item = (*place)?;
-        *place = into.map(|segment| Item { segment, ..item });
+        let old = (*place)?;
+        *place = moved_by(operation, old);
         let hand = next.hands.get_mut(thread)?;
         if most <= hand.taken {
             return None;
         }
         hand.taken = hand.taken.saturating_add(1);
-        (item.segment == segment && !self.is_locked).then_some(next)
+        let is_there = old.item.segment == segment && cutoff <= old.frequency;
+        (is_there && !self.is_locked).then_some(next)
     }
 
     // Whether the cache allows this answer to a call on a key. If so, the state is then as after the call.
@@ -134,21 +185,27 @@ impl State {
         let present = self.present(key, now);
         let value = present.map(|item| item.value);
         match access {
-            Access::Get(read) => *read == value,
-            Access::Gets(read) => *read == value.map(|value| (value, self.version)),
+            Access::Get(read) => {
+                self.hit(key, read.is_some());
+                *read == value
+            }
+            Access::Gets(read) => {
+                self.hit(key, read.is_some());
+                *read == value.map(|value| (value, self.version))
+            }
             Access::Hold(read) => {
                 if let Some(hand) = self.hands.get_mut(thread) {
                     hand.held = present;
                 }
                 *read == value
             }
-            Access::Set(item) => self.put(key, Some(*item)),
-            Access::Add(Some(item)) => present.is_none() && self.put(key, Some(*item)),
-            Access::Replace(Some(item)) => present.is_some() && self.put(key, Some(*item)),
+            Access::Set(item) => self.store(key, *item),
+            Access::Add(Some(item)) => present.is_none() && self.store(key, *item),
+            Access::Replace(Some(item)) => present.is_some() && self.store(key, *item),
             Access::Cas(expected, CasReply::Stored(item)) => {
-                present.is_some() && *expected == self.version && self.put(key, Some(*item))
+                present.is_some() && *expected == self.version && self.store(key, *item)
             }
-            Access::Delete(true) => present.is_some() && self.put(key, None),
+            Access::Delete(true) => present.is_some() && self.write(key, None),
             Access::Add(None) => present.is_some() && !self.is_locked,
             Access::Cas(expected, CasReply::Exists) => {
                 present.is_some() && *expected != self.version && !self.is_locked
@@ -162,32 +219,71 @@ impl State {
     // The item that a call at this moment finds under a key.
     fn present(&self, key: usize, now: u32) -> Option<Item> {
         match self.items.get(key) {
-            Some(Some(item)) if now < item.deadline => Some(*item),
+            Some(Some(standing)) if now < standing.item.deadline => Some(standing.item),
             _ => None,
         }
     }
 
+    // Counts a hit of a key, if there was one.
+    fn hit(&mut self, key: usize, was_hit: bool) {
+        if let Some(Some(standing)) = self.items.get_mut(key) {
+            if was_hit {
+                standing.frequency = standing.frequency.saturating_add(1).min(HIGHEST_CUTOFF);
+            }
+        }
+    }
+
+    // Stores an item under a key, and returns whether that is allowed.
+    // A new key that finds no word makes the chain longer.
+    fn store(&mut self, key: usize, item: Item) -> bool {
+        if self.has_no_word_for(key) {
+            self.width = self.width.saturating_add(1);
+        }
+        let standing = Standing { item, frequency: 1 };
+        self.write(key, Some(standing)) && self.width <= WIDEST
+    }
+
     // Writes a key, and returns whether that is allowed: whether the bucket isn't locked.
-    fn put(&mut self, key: usize, item: Option<Item>) -> bool {
+    fn write(&mut self, key: usize, standing: Option<Standing>) -> bool {
         let Some(place) = self.items.get_mut(key) else {
             return false;
         };
-        *place = item;
+        *place = standing;
         self.version = self.version.wrapping_add(1);
         !self.is_locked
     }
 
-    fn stands_in(&self, segment: u32) -> bool {
-        self.items
-            .iter()
-            .flatten()
-            .any(|item| item.segment == segment)
+    // Whether the key is new, and a bucket's chain has no word for it.
+    fn has_no_word_for(&self, key: usize) -> bool {
+        let words = self.width.saturating_mul(6).saturating_add(1);
+        matches!(self.items.get(key), Some(None)) && words <= self.standing()
     }
 
-    fn is_held_in(&self, segment: u32) -> bool {
-        self.hands
-            .iter()
-            .filter_map(|hand| hand.held)
-            .any(|item| item.segment == segment)
+    // How many keys stand.
+    fn standing(&self) -> u32 {
+        let mut count = 0u32;
+        for _ in self.items.iter().flatten() {
+            count = count.saturating_add(1);
+        }
+        count
+    }
+
+    // Whether a store of the key finds no word. Whether an overflow bucket is left isn't known here.
+    fn is_full_for(&self, key: usize) -> bool {
+        self.has_no_word_for(key) && !self.is_locked
+    }
+}
+
+// What stands under a key once an evict or a keep took out its item: nothing, or the item in another segment.
+fn moved_by(operation: &Operation, old: Standing) -> Option<Standing> {
+    match operation {
+        Operation::Keep { into, .. } => Some(Standing {
+            item: Item {
+                segment: *into,
+                ..old.item
+            },
+            ..old
+        }),
+        _ => None,
     }
 }

@@ -1,0 +1,196 @@
+//! Answers altered so that no cache gives them in turn. By these the checker's own strength is measured.
+use crate::call::{Access, CasReply, Ended, Item, Operation, Refusal};
+
+/// How many kinds of alterations there are.
+pub const KINDS: u32 = 10;
+
+/// The operation with its answer altered, if this kind of alteration fits it.
+/// Were the calls made in turn, the altered answer can't be right, whatever the others did before.
+pub fn altered(operation: &Operation, kind: u32) -> Option<Operation> {
+    match operation {
+        Operation::OnKey {
+            bucket,
+            key,
+            now,
+            access,
+        } => {
+            if let Some(refusal) = other_refusal(access, kind) {
+                return Some(refused(*bucket, *key, refusal));
+            }
+            Some(Operation::OnKey {
+                bucket: *bucket,
+                key: *key,
+                now: *now,
+                access: other_access(access, kind)?,
+            })
+        }
+        Operation::Refused {
+            bucket,
+            key,
+            refusal,
+        } => Some(refused(*bucket, *key, another_refusal(*refusal, kind)?)),
+        Operation::Held { bucket, value } if kind == 1 => Some(Operation::Held {
+            bucket: *bucket,
+            value: value.wrapping_add(1),
+        }),
+        Operation::Lock { bucket } if kind == 5 => Some(refused(*bucket, 0, Refusal::Busy)),
+        _ => of_segment(operation, kind),
+    }
+}
+
+fn refused(bucket: usize, key: usize, refusal: Refusal) -> Operation {
+    Operation::Refused {
+        bucket,
+        key,
+        refusal,
+    }
+}
+
+// Another answer to a call on a segment.
+fn of_segment(operation: &Operation, kind: u32) -> Option<Operation> {
+    match operation {
+        Operation::Evict { segment, taken, .. } if operation.emptied().is_some() => {
+            Some(Operation::Evict {
+                segment: *segment,
+                taken: other_count(*taken, kind)?,
+                is_whole: kind != 2,
+            })
+        }
+        Operation::Keep {
+            segment,
+            into,
+            cutoff,
+            taken,
+            ..
+        } if operation.emptied().is_some() => Some(Operation::Keep {
+            segment: *segment,
+            into: *into,
+            cutoff: *cutoff,
+            taken: other_count(*taken, kind)?,
+            ended: if kind == 2 { Ended::Busy } else { Ended::Whole },
+        }),
+        Operation::Refill { segment, .. } => other_refill(*segment, kind),
+        Operation::RefillRefused { segment, is_held } if kind == 5 => {
+            Some(Operation::RefillRefused {
+                segment: *segment,
+                is_held: !*is_held,
+            })
+        }
+        _ => None,
+    }
+}
+
+// One key more or fewer. A call that is altered to have ended early keeps its count.
+fn other_count(taken: u32, kind: u32) -> Option<u32> {
+    match kind {
+        2 => Some(taken),
+        3 => Some(taken.saturating_add(1)),
+        4 => taken.checked_sub(1),
+        _ => None,
+    }
+}
+
+// A refusal in place of a refill.
+fn other_refill(segment: u32, kind: u32) -> Option<Operation> {
+    let is_held = match kind {
+        5 => true,
+        6 => false,
+        _ => return None,
+    };
+    Some(Operation::RefillRefused { segment, is_held })
+}
+
+// A refusal in place of an answer.
+fn other_refusal(access: &Access, kind: u32) -> Option<Refusal> {
+    match (access, kind) {
+        (Access::Get(_) | Access::Hold(_), 5) => Some(Refusal::ReadBusy),
+        (Access::Gets(Some(_)) | Access::Delete(_), 5) => Some(Refusal::Busy),
+        (_, 5) if access.is_store() => Some(Refusal::StoreBusy),
+        (_, 6) if access.is_store() => Some(Refusal::NoRoom),
+        (Access::Set(_) | Access::Add(Some(_)), 7) => Some(Refusal::BucketFull),
+        _ => None,
+    }
+}
+
+// Another refusal in place of one.
+fn another_refusal(refusal: Refusal, kind: u32) -> Option<Refusal> {
+    match (refusal, kind) {
+        (Refusal::NoRoom | Refusal::BucketFull, 5) => Some(Refusal::StoreBusy),
+        (Refusal::StoreBusy | Refusal::BucketFull, 6) => Some(Refusal::NoRoom),
+        (Refusal::StoreBusy | Refusal::NoRoom, 7) => Some(Refusal::BucketFull),
+        _ => None,
+    }
+}
+
+// Another answer to a call on a key that isn't refused.
+fn other_access(access: &Access, kind: u32) -> Option<Access> {
+    match kind {
+        0 => opposite(access),
+        1 => with_value(access),
+        8 => with_version(access),
+        9 => with_segment(access),
+        _ => None,
+    }
+}
+
+// A Miss for a hit, a refusal by the cache for a store, and the like.
+fn opposite(access: &Access) -> Option<Access> {
+    match access {
+        Access::Get(Some(_)) => Some(Access::Get(None)),
+        Access::Get(None) => Some(Access::Get(Some(1))),
+        Access::Gets(Some(_)) => Some(Access::Gets(None)),
+        Access::Gets(None) => Some(Access::Gets(Some((1, 1)))),
+        Access::Hold(Some(_)) => Some(Access::Hold(None)),
+        Access::Hold(None) => Some(Access::Hold(Some(1))),
+        Access::Add(Some(_)) => Some(Access::Add(None)),
+        Access::Replace(Some(_)) => Some(Access::Replace(None)),
+        Access::Cas(expected, CasReply::Stored(_) | CasReply::NotFound) => {
+            Some(Access::Cas(*expected, CasReply::Exists))
+        }
+        Access::Cas(expected, CasReply::Exists) => {
+            Some(Access::Cas(*expected, CasReply::NotFound))
+        }
+        Access::Delete(is_deleted) => Some(Access::Delete(!*is_deleted)),
+        Access::Set(_) | Access::Add(None) | Access::Replace(None) => None,
+    }
+}
+
+// Another value that is read.
+fn with_value(access: &Access) -> Option<Access> {
+    match access {
+        Access::Get(Some(value)) => Some(Access::Get(Some(value.wrapping_add(1)))),
+        Access::Gets(Some((value, version))) => {
+            Some(Access::Gets(Some((value.wrapping_add(1), *version))))
+        }
+        Access::Hold(Some(value)) => Some(Access::Hold(Some(value.wrapping_add(1)))),
+        _ => None,
+    }
+}
+
+// Another version.
+fn with_version(access: &Access) -> Option<Access> {
+    match access {
+        Access::Gets(Some((value, version))) => {
+            Some(Access::Gets(Some((*value, version.wrapping_sub(1)))))
+        }
+        Access::Cas(expected, CasReply::Stored(item)) => Some(Access::Cas(
+            expected.wrapping_sub(1),
+            CasReply::Stored(*item),
+        )),
+        _ => None,
+    }
+}
+
+// Another segment into which the item is stored.
+fn with_segment(access: &Access) -> Option<Access> {
+    let other = |item: &Item| Item {
+        segment: item.segment ^ 1,
+        ..*item
+    };
+    match access {
+        Access::Set(item) => Some(Access::Set(other(item))),
+        Access::Add(Some(item)) => Some(Access::Add(Some(other(item)))),
+        Access::Replace(Some(item)) => Some(Access::Replace(Some(other(item)))),
+        _ => None,
+    }
+}
