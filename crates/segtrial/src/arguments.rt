@@ -21,7 +21,7 @@ Standard error says how many answers there were.
 
 Exit status:
   0  every answer was explained
-  1  an answer wasn't, an altered one was, or too few calls were made beside others
+  1  an answer wasn't, too many altered ones were, or too few calls were made beside others
   2  a bad command line
   3  out of memory, or a search that is too long";
 
@@ -32,7 +32,7 @@ const NUMBERS: [(&str, i64, i64, &str, &str); 6] = [
     ("rounds", 0, MOST, "1", ROUNDS),
     ("in-turn", 0, MOST, "0", IN_TURN),
     ("alter", 0, MOST, "0", ALTER),
-    ("beside", 0, 100, "1", BESIDE),
+    ("beside", 0, 1000, "1", BESIDE),
 ];
 
 const TURNS: &str = "Turns of each pass in a round: 1 to 1000000";
@@ -42,10 +42,10 @@ const ROUNDS: &str = "Rounds in which each pass has a thread";
 const IN_TURN: &str = "Rounds more, in which the passes take turns on one thread";
 
 const ALTER: &str =
-    "Answers of each round in turn that are altered, one at a time; each has to be refused";
+    "Answers of each round in turn that are altered, one at a time; at most 1 in 100 may be accepted";
 
 const BESIDE: &str =
-    "Percent of the calls on threads that another pass's call overlaps, at least, if there are two passes";
+    "Of 1000 calls on threads, how many another pass's call overlaps, at least, if there are two passes";
 
 const SEED: &str = "The number from which the calls are drawn";
 
@@ -62,7 +62,7 @@ pub struct Options {
     pub in_turn: u32,
     /// How many answers of each round in turn are altered.
     pub alter: u32,
-    /// What part of the calls on threads another pass's call is to overlap, in percent.
+    /// What part of the calls on threads another pass's call is to overlap, in a thousand.
     pub beside: u32,
     pub seed: u64,
 }

@@ -31,7 +31,8 @@ fn other() -> [Line; 2] {
 
 // The value of a key is one more than the key.
 fn set(key: usize) -> Operation {
-    on_key(key, Access::Set(item(key as u32 % 64 + 1, 0)))
+    let value = u32::try_from(key).unwrap_or(0).saturating_add(1);
+    on_key(key, Access::Set(item(value, 0)))
 }
 
 fn full(key: usize) -> Operation {

@@ -93,7 +93,7 @@ fn tell(
 
 // Prints the counts, and whether enough calls were made beside others.
 fn tell_counts(rt: &HostRuntime, options: &Options, counts: &Counts) -> io::Result<ExitCode> {
-    let percent = if options.passes > 1 {
+    let share = if options.passes > 1 {
         options.beside
     } else {
         0
@@ -107,11 +107,11 @@ fn tell_counts(rt: &HostRuntime, options: &Options, counts: &Counts) -> io::Resu
         counts.busy, counts.no_room, counts.bucket_full, counts.held
     )?;
     eprintln!(rt;
-        "{} items moved, {} altered answers refused",
-        counts.moved, counts.altered
+        "{} items moved, {} answers altered, {} of them accepted",
+        counts.moved, counts.altered, counts.accepted
     )?;
-    if !counts.are_beside(percent) {
-        eprintln!(rt; "error: under {percent} % of the answers came beside other calls")?;
+    if !counts.are_beside(share) {
+        eprintln!(rt; "error: under {share} in 1000 answers came beside other calls")?;
         return Ok(ExitCode::from(UNEXPLAINED));
     }
     println!(rt;
@@ -122,7 +122,7 @@ fn tell_counts(rt: &HostRuntime, options: &Options, counts: &Counts) -> io::Resu
         moves_of(counts)
     )?;
     println!(rt;
-        "{percent} % or more came beside other calls, and each index ended as they left it"
+        "{share} in 1000 or more came beside other calls, and each index ended as they left it"
     )?;
     Ok(ExitCode::SUCCESS)
 }

@@ -37,8 +37,10 @@ pub struct Counts {
     pub held: u64,
     /// The items that were moved.
     pub moved: u64,
-    /// The answers that were altered, one at a time. Each was refused.
+    /// The answers that were altered, one at a time, and those of them that are accepted all the same.
+    /// An evict or keep that ended early leaves open which keys it took out, so some can be.
     pub altered: u64,
+    pub accepted: u64,
 }
 
 /// Why a round failed.
@@ -50,7 +52,7 @@ pub enum RoundFault {
     History(Fault),
     #[error("what the index lists at its end isn't what the calls left")]
     WrongContent,
-    #[error("the checker accepts an answer that was altered")]
+    #[error("the checker accepts more than one in a hundred answers that were altered")]
     Accepted,
     #[error("out of memory")]
     OutOfMemory,
@@ -120,10 +122,11 @@ fn run_round<R: Threads + Sync>(
     if is_in_turn {
         let mut draws = Draws::new(seed, options.passes);
         let strength = strength_of(alloc, sizes, &mut round.told, &mut draws, options.alter)?;
-        if strength.accepted > 0 {
+        if strength.altered < strength.accepted.saturating_mul(100) {
             return Err(RoundFault::Accepted);
         }
         counts.altered = u64::from(strength.altered);
+        counts.accepted = u64::from(strength.accepted);
     }
     Ok(counts)
 }
@@ -283,13 +286,14 @@ impl Counts {
             held: self.held.saturating_add(other.held),
             moved: self.moved.saturating_add(other.moved),
             altered: self.altered.saturating_add(other.altered),
+            accepted: self.accepted.saturating_add(other.accepted),
         }
     }
 
-    /// Whether so many percent of the answers to passes on threads came beside other calls.
-    pub fn are_beside(&self, percent: u32) -> bool {
-        let wanted = self.on_threads.saturating_mul(u64::from(percent));
-        wanted <= self.beside.saturating_mul(100)
+    /// Whether so many in a thousand of the answers to passes on threads came beside other calls.
+    pub fn are_beside(&self, share: u32) -> bool {
+        let wanted = self.on_threads.saturating_mul(u64::from(share));
+        wanted <= self.beside.saturating_mul(1000)
     }
 
     // Counts the answers to a pass, if no answer was wrong and each could be noted.
