@@ -1,4 +1,5 @@
 pub mod Catching
+pub mod Commands
 pub mod Devices
 pub mod Endings
 pub mod Feeding
@@ -10,7 +11,7 @@ pub mod Lines
 pub mod Meetings
 pub mod Numbers
 pub mod OneBadLine
-pub mod OneTurn
+pub mod Parts
 pub mod Reasons
 pub mod Servers
 pub mod Turning

@@ -5,7 +5,8 @@ use Rattle.std.specs.List.{flat_map, slice_split}
 use Rattle.std.proofs.lemmas.Bool.{cases_lt, false≢true, lt-ltb, true≢false}
 use Rattle.std.proofs.lemmas.List.{length-take-le, take_all, take-append-le}
 use Rattle.segscript.specs.Script.{ended}
-use Rattle.segscript.specs.Reasons.{line_fault, line_parts, words_fault}
+use Rattle.segscript.specs.Reasons.{line_fault, words_fault}
+use Rattle.segscript.specs.Spelling.{line_parts}
 use Rattle.segscript.specs.Explaining.{AreFine, FindsBad, HasFound, HasLooked, HasLookedFor, KeepsByte, Look, look_at, LooksAt, LooksOn}
 use Rattle.segscript.specs.declared.explain.BadLine.{BadLine}
 use Rattle.segscript.specs.declared.reason.LineFault.{LineFault}

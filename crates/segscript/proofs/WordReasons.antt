@@ -10,20 +10,21 @@ use Rattle.std.proofs.lemmas.Bool.Decides.{eqb_tells, not_from_Decides}
 use Rattle.std.proofs.lemmas.Slice.Eq.{bytes_eq-Decides}
 use Rattle.std.proofs.lemmas.Str.Parse.{IsNumeralModel, numerals_by_value, tells_all_ascii_digits}
 use Rattle.std.proofs.lemmas.Fmt.{decimal-digits_value, decimal_is_IsNumeral}
-use Rattle.segscript.specs.Spelling.{IsWordByte, IsNumber, IsFrequency, IsKeyWord, IsValueWord, value_word, moment_word, pass_word}
+use Rattle.segscript.specs.Spelling.{commands, IsNumber, IsValueWord, IsVerb, IsWordByte, line_parts, moment_word, named_among, parts_behind, pass_word, value_word, verb_word}
 use Rattle.std.specs.Borrow.{Bor}
 use Rattle.std.proofs.lemmas.List.{drop_more}
+use Rattle.std.proofs.lemmas.Option.{none-some}
 use Rattle.segscript.specs.Reading.{ReadsAs}
-use Rattle.segscript.specs.Verb.{IsVerb, verb_word, IsPass}
-use Rattle.segscript.specs.Reasons.{is_word_byte, are_no_digits, has_leading_zero, or_else, number_fault, below_fault, bytes_fault, commands, named_among, command_fault, part_fault, word_fault, parts_behind, line_parts, at_place, words_fault}
+use Rattle.segscript.specs.Reasons.{is_word_byte, are_no_digits, has_leading_zero, or_else, number_fault, below_fault, bytes_fault, command_fault, part_fault, word_fault, at_place, words_fault}
 use Rattle.segscript.specs.declared.reason.LineFault.{LineFault}
 use Rattle.segscript.specs.declared.reason.Part.{Part}
 use Rattle.segscript.specs.declared.reason.Part.TheVariants as part
 use Rattle.segscript.specs.declared.reason.WordFault.{WordFault}
 use Rattle.segscript.specs.declared.reason.WordFault.TheVariants as why
-use Rattle.segscript.specs.declared.verb.Verb.{Verb}
-use Rattle.segscript.specs.declared.verb.Verb.TheVariants as verbs
+use Rattle.segscript.specs.declared.line.Verb.{Verb}
+use Rattle.segscript.proofs.Commands.{named_self}
 use Rattle.segscript.proofs.Numbers.{BeginsPlainly-decimal}
+use Rattle.segscript.proofs.Parts.{Says}
 
 -- ---- tests that find no fault
 
@@ -171,18 +172,6 @@ bytes_fit most long w short plain = none_else _ _ _ (le-ltb _ _ short) (none_if 
 
 -- ---- words
 
--- the word is what this part is to be
-abbrev pub Says : ℕ → Part → List ℕ → Type 0
-Says passes part.Pass w = (n : ℕ) × IsPass passes n × (w ≡ pass_word n)
-Says passes part.Command w = (v : Verb) × (w ≡ verb_word v)
-Says passes part.Cutoff w = (n : ℕ) × IsFrequency n × (w ≡ decimal n)
-Says passes part.Key w = IsKeyWord w
-Says passes part.Value w = (v : List ℕ) × IsValueWord v × (w ≡ value_word v)
-Says passes part.Moment w = (n : ℕ) × IsNumber n × (w ≡ moment_word n)
-Says passes part.Segment w = (n : ℕ) × IsNumber n × (w ≡ decimal n)
-Says passes part.Deadline w = (n : ℕ) × IsNumber n × (w ≡ decimal n)
-Says passes part.Version w = (n : ℕ) × IsNumber n × (w ≡ decimal n)
-
 begins : (c : ℕ) (w : List ℕ) → 0 < c → slice_index w 0 ≡ c → w ≡ c ∷ drop 1 w
 begins c [] some e = absurd (omega arith)
 begins c (x ∷ xs) some e = ap (λ y. y ∷ xs) e
@@ -194,23 +183,6 @@ named_word (v ∷ vs) w e = by (bytes_eq w (verb_word v)) refl (named_word vs w)
     by : (b : Bool) → bytes_eq w (verb_word v) ≡ b → (command_fault (named_among vs w) ≡ None → (x : Verb) × (w ≡ verb_word x)) → command_fault (if b then Some v else named_among vs w) ≡ None → (x : Verb) × (w ≡ verb_word x)
     by true is later _ = (v, (bytes_eq-Decides w (verb_word v)).0 is)
     by false _ later rest = later rest
-
-pub named_self : (v : Verb) → named_among commands (verb_word v) ≡ Some v
-named_self verbs.Refill = refl
-named_self verbs.Evict = refl
-named_self verbs.Keep = refl
-named_self verbs.Set = refl
-named_self verbs.Add = refl
-named_self verbs.Replace = refl
-named_self verbs.Cas = refl
-named_self verbs.Delete = refl
-named_self verbs.Get = refl
-named_self verbs.Gets = refl
-named_self verbs.Hold = refl
-named_self verbs.Held = refl
-named_self verbs.Release = refl
-named_self verbs.Lock = refl
-named_self verbs.Unlock = refl
 
 pub named_other : (vs : List Verb) (w : List ℕ) → ((v : Verb) → w ≡ verb_word v → ⊥) → named_among vs w ≡ None
 named_other [] w other = refl
@@ -282,21 +254,11 @@ some_digits : (n : ℕ) → IsNumber n → 0 < length (decimal n)
 some_digits n small = (decimal_is_IsNumeral n (omega (arith, small))).0.0
 
 command_fits : (passes : ℕ) (v : Verb) → word_fault passes part.Command (verb_word v) ≡ None
-command_fits passes verbs.Refill = refl
-command_fits passes verbs.Evict = refl
-command_fits passes verbs.Keep = refl
-command_fits passes verbs.Set = refl
-command_fits passes verbs.Add = refl
-command_fits passes verbs.Replace = refl
-command_fits passes verbs.Cas = refl
-command_fits passes verbs.Delete = refl
-command_fits passes verbs.Get = refl
-command_fits passes verbs.Gets = refl
-command_fits passes verbs.Hold = refl
-command_fits passes verbs.Held = refl
-command_fits passes verbs.Release = refl
-command_fits passes verbs.Lock = refl
-command_fits passes verbs.Unlock = refl
+command_fits passes v = by (verb_word v) (named_self v)
+  where
+    by : (w : List ℕ) → named_among commands w ≡ Some v → word_fault passes part.Command w ≡ None
+    by [] named = absurd (none-some v named)
+    by (b ∷ bs) named = whole passes part.Command (b ∷ bs) (b ∷ bs) refl (omega arith) (ap command_fault named)
 
 value_fits : (passes : ℕ) (v : List ℕ) → IsValueWord v → word_fault passes part.Value (value_word v) ≡ None
 value_fits passes [] fits = refl

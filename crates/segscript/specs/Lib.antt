@@ -14,5 +14,4 @@ pub mod Script
 pub mod Server
 pub mod Spelling
 pub mod Told
-pub mod Verb
 pub mod Words

@@ -3,11 +3,9 @@
 use Rattle.std.specs.Prelude.{◌≡◌, ℕ, ◌+◌, ◌^◌, ◌==◌, ◌&&◌, ◌||◌, Bool, not, List, [], ◌∷◌, length, drop, Option, Some, None, Result, Ok, Err, if◌then◌else◌, nat_lt, slice_index}
 use Rattle.std.specs.List.{list_all, slice_split}
 use Rattle.std.specs.Char.{is_ascii_digit}
-use Rattle.std.specs.Str.{bytes_eq}
 use Rattle.std.specs.Str.Parse.{digits_value}
-use Rattle.segscript.specs.Verb.{verb_word}
-use Rattle.segscript.specs.declared.verb.Verb.{Verb}
-use Rattle.segscript.specs.declared.verb.Verb.TheVariants as verbs
+use Rattle.segscript.specs.Spelling.{commands, line_parts, named_among}
+use Rattle.segscript.specs.declared.line.Verb.{Verb}
 use Rattle.segscript.specs.declared.reason.LineFault.{LineFault}
 use Rattle.segscript.specs.declared.reason.LineFault.TheVariants as fault
 use Rattle.segscript.specs.declared.reason.Part.{Part}
@@ -53,17 +51,6 @@ bytes_fault most long word =
     if nat_lt most (length word) then Some long
     else (if list_all is_word_byte word then None else Some why.NotPrintable)
 
--- the commands, and the one that a word names
-abbrev pub commands : List Verb
-commands =
-    verbs.Refill ∷ verbs.Evict ∷ verbs.Keep ∷ verbs.Set ∷ verbs.Add ∷ verbs.Replace ∷ verbs.Cas
-    ∷ verbs.Delete ∷ verbs.Get ∷ verbs.Gets ∷ verbs.Hold ∷ verbs.Held ∷ verbs.Release
-    ∷ verbs.Lock ∷ verbs.Unlock ∷ []
-
-abbrev pub named_among : List Verb → List ℕ → Option Verb
-named_among [] word = None
-named_among (v ∷ vs) word = if bytes_eq word (verb_word v) then Some v else named_among vs word
-
 abbrev pub command_fault : Option Verb → Option WordFault
 command_fault (Some v) = None
 command_fault None = Some why.NoCommand
@@ -90,34 +77,6 @@ abbrev pub word_fault : ℕ → Part → List ℕ → Option WordFault
 word_fault passes p word = if length word == 0 then Some why.Empty else part_fault passes p word
 
 -- ---- lines
-
--- what a command has behind its word
-abbrev pub argument_parts : Verb → List Part
-argument_parts verbs.Refill = part.Segment ∷ part.Deadline ∷ []
-argument_parts verbs.Evict = part.Segment ∷ []
-argument_parts verbs.Keep = part.Segment ∷ part.Cutoff ∷ []
-argument_parts verbs.Set = part.Key ∷ part.Value ∷ part.Moment ∷ []
-argument_parts verbs.Add = part.Key ∷ part.Value ∷ part.Moment ∷ []
-argument_parts verbs.Replace = part.Key ∷ part.Value ∷ part.Moment ∷ []
-argument_parts verbs.Cas = part.Key ∷ part.Value ∷ part.Version ∷ part.Moment ∷ []
-argument_parts verbs.Delete = part.Key ∷ part.Moment ∷ []
-argument_parts verbs.Get = part.Key ∷ part.Moment ∷ []
-argument_parts verbs.Gets = part.Key ∷ part.Moment ∷ []
-argument_parts verbs.Hold = part.Key ∷ part.Moment ∷ []
-argument_parts verbs.Held = []
-argument_parts verbs.Release = []
-argument_parts verbs.Lock = part.Key ∷ []
-argument_parts verbs.Unlock = []
-
-abbrev pub parts_behind : Option Verb → List Part
-parts_behind (Some v) = argument_parts v
-parts_behind None = []
-
--- the parts that a line with these words is to have
-abbrev pub line_parts : List (List ℕ) → List Part
-line_parts (pass ∷ word ∷ words) =
-    part.Pass ∷ part.Command ∷ parts_behind (named_among commands word)
-line_parts words = part.Pass ∷ part.Command ∷ []
 
 abbrev pub extra_fault : ℕ → List ℕ → LineFault
 extra_fault place word =

@@ -1,11 +1,16 @@
 -- How a turn of a pass is spelled in a script: as one line,
 -- its words with a space between each two.
-use Rattle.std.specs.Prelude.{◌≢◌, ℕ, ◌<◌, ◌≤◌, ◌^◌, List, [], ◌∷◌, ◌++◌, length, codes, decimal}
+use Rattle.std.specs.Prelude.{◌≡◌, ◌≢◌, ℕ, ◌<◌, ◌≤◌, ◌^◌, List, [], ◌∷◌, ◌++◌, length, codes, decimal, Option, Some, None, if◌then◌else◌}
 use Rattle.std.specs.List.{join_with_byte, AllByRecursion}
+use Rattle.std.specs.Str.{bytes_eq}
 use Rattle.segmodel.specs.declared.request.Request.TheVariants.{Set, Add, Replace, Cas, Delete}
 use Rattle.segmodel.specs.declared.answer.Command.TheVariants.{Write, Get, Gets, Evict, Keep, Refill}
 use Rattle.segmodel.specs.Words.{Turn}
 use Rattle.segmodel.specs.declared.answer.Turn.TheVariants.{Serve, Hold, Held, Release, Lock, Unlock}
+use Rattle.segscript.specs.declared.line.Verb.{Verb}
+use Rattle.segscript.specs.declared.line.Verb.TheVariants as verbs
+use Rattle.segscript.specs.declared.reason.Part.{Part}
+use Rattle.segscript.specs.declared.reason.Part.TheVariants as part
 
 -- ---- words
 
@@ -39,30 +44,108 @@ IsValueWord value = (length value ≤ 32) × AllByRecursion IsWordByte value × 
 abbrev pub moment_word : ℕ → List ℕ
 moment_word now = codes "@" ++ decimal now
 
+-- ---- commands
+
+-- the word of a command
+abbrev pub verb_word : Verb → List ℕ
+verb_word verbs.Refill = codes "refill"
+verb_word verbs.Evict = codes "evict"
+verb_word verbs.Keep = codes "keep"
+verb_word verbs.Set = codes "set"
+verb_word verbs.Add = codes "add"
+verb_word verbs.Replace = codes "replace"
+verb_word verbs.Cas = codes "cas"
+verb_word verbs.Delete = codes "delete"
+verb_word verbs.Get = codes "get"
+verb_word verbs.Gets = codes "gets"
+verb_word verbs.Hold = codes "hold"
+verb_word verbs.Held = codes "held"
+verb_word verbs.Release = codes "release"
+verb_word verbs.Lock = codes "lock"
+verb_word verbs.Unlock = codes "unlock"
+
+-- the commands, and the one that a word names
+abbrev pub commands : List Verb
+commands =
+    verbs.Refill ∷ verbs.Evict ∷ verbs.Keep ∷ verbs.Set ∷ verbs.Add ∷ verbs.Replace ∷ verbs.Cas
+    ∷ verbs.Delete ∷ verbs.Get ∷ verbs.Gets ∷ verbs.Hold ∷ verbs.Held ∷ verbs.Release
+    ∷ verbs.Lock ∷ verbs.Unlock ∷ []
+
+abbrev pub named_among : List Verb → List ℕ → Option Verb
+named_among [] word = None
+named_among (v ∷ vs) word = if bytes_eq word (verb_word v) then Some v else named_among vs word
+
+-- Every command has a word.
+abbrev pub IsVerb : Verb → Type 0
+IsVerb v = Unit {0}
+
+-- what a command has behind its word
+abbrev pub argument_parts : Verb → List Part
+argument_parts verbs.Refill = part.Segment ∷ part.Deadline ∷ []
+argument_parts verbs.Evict = part.Segment ∷ []
+argument_parts verbs.Keep = part.Segment ∷ part.Cutoff ∷ []
+argument_parts verbs.Set = part.Key ∷ part.Value ∷ part.Moment ∷ []
+argument_parts verbs.Add = part.Key ∷ part.Value ∷ part.Moment ∷ []
+argument_parts verbs.Replace = part.Key ∷ part.Value ∷ part.Moment ∷ []
+argument_parts verbs.Cas = part.Key ∷ part.Value ∷ part.Version ∷ part.Moment ∷ []
+argument_parts verbs.Delete = part.Key ∷ part.Moment ∷ []
+argument_parts verbs.Get = part.Key ∷ part.Moment ∷ []
+argument_parts verbs.Gets = part.Key ∷ part.Moment ∷ []
+argument_parts verbs.Hold = part.Key ∷ part.Moment ∷ []
+argument_parts verbs.Held = []
+argument_parts verbs.Release = []
+argument_parts verbs.Lock = part.Key ∷ []
+argument_parts verbs.Unlock = []
+
+abbrev pub parts_behind : Option Verb → List Part
+parts_behind (Some v) = argument_parts v
+parts_behind None = []
+
 -- ---- turns
+
+-- the command of a turn
+abbrev pub verb : Turn → Verb
+verb (Serve (Refill segment deadline)) = verbs.Refill
+verb (Serve (Evict segment)) = verbs.Evict
+verb (Serve (Keep segment cutoff)) = verbs.Keep
+verb (Serve (Write (Set key value now))) = verbs.Set
+verb (Serve (Write (Add key value now))) = verbs.Add
+verb (Serve (Write (Replace key value now))) = verbs.Replace
+verb (Serve (Write (Cas key value expected now))) = verbs.Cas
+verb (Serve (Write (Delete key now))) = verbs.Delete
+verb (Serve (Get key now)) = verbs.Get
+verb (Serve (Gets key now)) = verbs.Gets
+verb (Hold key now) = verbs.Hold
+verb Held = verbs.Held
+verb Release = verbs.Release
+verb (Lock key) = verbs.Lock
+verb Unlock = verbs.Unlock
+
+-- the words that a turn has behind its command word
+abbrev pub arguments_of : Turn → List (List ℕ)
+arguments_of (Serve (Refill segment deadline)) = decimal segment ∷ decimal deadline ∷ []
+arguments_of (Serve (Evict segment)) = decimal segment ∷ []
+arguments_of (Serve (Keep segment cutoff)) = decimal segment ∷ decimal cutoff ∷ []
+arguments_of (Serve (Write (Set key value now))) =
+    key ∷ value_word value ∷ moment_word now ∷ []
+arguments_of (Serve (Write (Add key value now))) =
+    key ∷ value_word value ∷ moment_word now ∷ []
+arguments_of (Serve (Write (Replace key value now))) =
+    key ∷ value_word value ∷ moment_word now ∷ []
+arguments_of (Serve (Write (Cas key value expected now))) =
+    key ∷ value_word value ∷ decimal expected ∷ moment_word now ∷ []
+arguments_of (Serve (Write (Delete key now))) = key ∷ moment_word now ∷ []
+arguments_of (Serve (Get key now)) = key ∷ moment_word now ∷ []
+arguments_of (Serve (Gets key now)) = key ∷ moment_word now ∷ []
+arguments_of (Hold key now) = key ∷ moment_word now ∷ []
+arguments_of Held = []
+arguments_of Release = []
+arguments_of (Lock key) = key ∷ []
+arguments_of Unlock = []
 
 -- the words of a turn, the command word first
 abbrev pub turn_words : Turn → List (List ℕ)
-turn_words (Serve (Refill segment deadline)) =
-    codes "refill" ∷ decimal segment ∷ decimal deadline ∷ []
-turn_words (Serve (Evict segment)) = codes "evict" ∷ decimal segment ∷ []
-turn_words (Serve (Keep segment cutoff)) = codes "keep" ∷ decimal segment ∷ decimal cutoff ∷ []
-turn_words (Serve (Write (Set key value now))) =
-    codes "set" ∷ key ∷ value_word value ∷ moment_word now ∷ []
-turn_words (Serve (Write (Add key value now))) =
-    codes "add" ∷ key ∷ value_word value ∷ moment_word now ∷ []
-turn_words (Serve (Write (Replace key value now))) =
-    codes "replace" ∷ key ∷ value_word value ∷ moment_word now ∷ []
-turn_words (Serve (Write (Cas key value expected now))) =
-    codes "cas" ∷ key ∷ value_word value ∷ decimal expected ∷ moment_word now ∷ []
-turn_words (Serve (Write (Delete key now))) = codes "delete" ∷ key ∷ moment_word now ∷ []
-turn_words (Serve (Get key now)) = codes "get" ∷ key ∷ moment_word now ∷ []
-turn_words (Serve (Gets key now)) = codes "gets" ∷ key ∷ moment_word now ∷ []
-turn_words (Hold key now) = codes "hold" ∷ key ∷ moment_word now ∷ []
-turn_words Held = codes "held" ∷ []
-turn_words Release = codes "release" ∷ []
-turn_words (Lock key) = codes "lock" ∷ key ∷ []
-turn_words Unlock = codes "unlock" ∷ []
+turn_words turn = verb_word (verb turn) ∷ arguments_of turn
 
 -- The keys, values, numbers and moments of the turn are those that a script can name.
 abbrev pub IsWritable : Turn → Type 0
@@ -84,7 +167,49 @@ IsWritable Release = Unit {0}
 IsWritable (Lock key) = IsKeyWord key
 IsWritable Unlock = Unit {0}
 
+-- a turn of this command that can be written
+abbrev pub IsTurnOf : Verb → Turn → Type 0
+IsTurnOf v turn = IsWritable turn × (verb turn ≡ v)
+
+-- ---- words behind a command that are read together
+
+-- two numbers, and their words
+abbrev pub AreNumbers : ℕ × ℕ → Type 0
+AreNumbers p = IsNumber p.0 × IsNumber p.1
+
+abbrev pub number_words : ℕ × ℕ → List (List ℕ)
+number_words p = decimal p.0 ∷ decimal p.1 ∷ []
+
+-- a segment and a cutoff
+abbrev pub IsCutoff : ℕ × ℕ → Type 0
+IsCutoff p = IsNumber p.0 × IsFrequency p.1
+
+-- a key and a moment, and their words
+abbrev pub IsPair : List ℕ × ℕ → Type 0
+IsPair p = IsKeyWord p.0 × IsNumber p.1
+
+abbrev pub pair_words : List ℕ × ℕ → List (List ℕ)
+pair_words p = p.0 ∷ moment_word p.1 ∷ []
+
+-- a key, a value and a moment, and their words
+abbrev pub IsTriple : List ℕ × List ℕ × ℕ → Type 0
+IsTriple p = IsKeyWord p.0 × IsValueWord p.1 × IsNumber p.2
+
+abbrev pub triple_words : List ℕ × List ℕ × ℕ → List (List ℕ)
+triple_words p = p.0 ∷ value_word p.1 ∷ moment_word p.2 ∷ []
+
+-- a key, a value, a number and a moment, and their words
+abbrev pub AreFour : List ℕ × List ℕ × ℕ × ℕ → Type 0
+AreFour p = IsKeyWord p.0 × IsValueWord p.1 × IsNumber p.2 × IsNumber p.3
+
+abbrev pub four_words : List ℕ × List ℕ × ℕ × ℕ → List (List ℕ)
+four_words p = p.0 ∷ value_word p.1 ∷ decimal p.2 ∷ moment_word p.3 ∷ []
+
 -- ---- lines
+
+-- the number of a pass that is there
+abbrev pub IsPass : ℕ → ℕ → Type 0
+IsPass passes pass = (pass < passes) × IsNumber pass
 
 -- the word of a pass: `p` and its number
 abbrev pub pass_word : ℕ → List ℕ
@@ -101,3 +226,13 @@ spelling said = join_with_byte 32 (pass_word said.0 ∷ turn_words said.1)
 -- A script for this many passes can name the pass and the turn.
 abbrev pub IsSayable : ℕ → PassTurn → Type 0
 IsSayable passes said = (said.0 < passes) × IsNumber said.0 × IsWritable said.1
+
+-- the words of a line
+abbrev pub line_words : PassTurn → List (List ℕ)
+line_words said = pass_word said.0 ∷ verb_word (verb said.1) ∷ arguments_of said.1
+
+-- the parts that a line with these words is to have
+abbrev pub line_parts : List (List ℕ) → List Part
+line_parts (pass ∷ word ∷ words) =
+    part.Pass ∷ part.Command ∷ parts_behind (named_among commands word)
+line_parts words = part.Pass ∷ part.Command ∷ []

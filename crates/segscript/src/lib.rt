@@ -17,7 +17,6 @@ mod server;
 mod standard;
 mod text;
 mod turns;
-mod verb;
 mod word;
 
 pub use device::{Failed, Sink, Source, write_all};

@@ -1,17 +1,98 @@
-//! Reads one line of a script.
+//! Commands of scripts: their words, and the turns that lines say by them.
 ghost use Rattle.std.specs.Prelude.{◌≡◌, ◌<◌, ◌==◌, ◌∷◌, [], length, map, decimal, IfSome, IfNone};
 ghost use Rattle.std.specs.List.{slice_split};
-ghost use Rattle.segscript.specs.Spelling.{IsNumber, IsKeyWord, IsSayable, spelling};
 ghost use Rattle.segscript.specs.Reading.{ReadsAs};
-ghost use Rattle.segscript.specs.Verb.{AreNumbers, IsCutoff, number_words, IsPair, pair_words};
-ghost use Rattle.segscript.specs.Verb.{IsTriple, triple_words, AreFour, four_words};
-ghost use Rattle.segscript.specs.Verb.{IsTurnOf, arguments_of, line_words};
+ghost use Rattle.segscript.specs.Spelling.{AreFour, AreNumbers, IsCutoff, IsKeyWord, IsNumber};
+ghost use Rattle.segscript.specs.Spelling.{IsPair, IsSayable, IsTriple, IsTurnOf, IsVerb};
+ghost use Rattle.segscript.specs.Spelling.{arguments_of, four_words, line_words, number_words};
+ghost use Rattle.segscript.specs.Spelling.{pair_words, parts_behind, spelling, triple_words};
+ghost use Rattle.segscript.specs.Spelling.{verb_word};
 
-use crate::verb::{Verb, verb_of};
+use crate::reason::Part;
 use crate::word::{frequency, key, moment, number, pass, value};
 use arrayvec::ArrayVec;
 use segmodel::{Command, Request, Turn};
 use segword::{Key, Value};
+
+/// The command of a line.
+#[derive(Clone, Copy, Debug, PartialEq, Eq)]
+pub enum Verb {
+    Refill,
+    Evict,
+    Keep,
+    Set,
+    Add,
+    Replace,
+    Cas,
+    Delete,
+    Get,
+    Gets,
+    Hold,
+    Held,
+    Release,
+    Lock,
+    Unlock,
+}
+
+/// The command with this word.
+pub fn verb_of(word: &[u8]) -> Option<Verb>
+    ensures { ReadsAs IsVerb verb_word word.now result }
+{
+    if word == b"refill".as_slice() {
+        Some(Verb::Refill)
+    } else if word == b"evict".as_slice() {
+        Some(Verb::Evict)
+    } else if word == b"keep".as_slice() {
+        Some(Verb::Keep)
+    } else if word == b"set".as_slice() {
+        Some(Verb::Set)
+    } else if word == b"add".as_slice() {
+        Some(Verb::Add)
+    } else if word == b"replace".as_slice() {
+        Some(Verb::Replace)
+    } else if word == b"cas".as_slice() {
+        Some(Verb::Cas)
+    } else if word == b"delete".as_slice() {
+        Some(Verb::Delete)
+    } else if word == b"get".as_slice() {
+        Some(Verb::Get)
+    } else if word == b"gets".as_slice() {
+        Some(Verb::Gets)
+    } else if word == b"hold".as_slice() {
+        Some(Verb::Hold)
+    } else if word == b"held".as_slice() {
+        Some(Verb::Held)
+    } else if word == b"release".as_slice() {
+        Some(Verb::Release)
+    } else if word == b"lock".as_slice() {
+        Some(Verb::Lock)
+    } else if word == b"unlock".as_slice() {
+        Some(Verb::Unlock)
+    } else {
+        None
+    }
+}
+
+// The parts of a line of this command.
+pub(crate) fn parts_of_line(verb: Option<Verb>) -> &'static [Part]
+    ensures { result.now ≡ Part.Pass ∷ Part.Command ∷ parts_behind verb }
+{
+    use Part::{Command, Cutoff, Deadline, Key, Moment, Pass, Segment, Value, Version};
+
+    let Some(verb) = verb else {
+        return &[Pass, Command];
+    };
+    match verb {
+        Verb::Refill => &[Pass, Command, Segment, Deadline],
+        Verb::Evict => &[Pass, Command, Segment],
+        Verb::Keep => &[Pass, Command, Segment, Cutoff],
+        Verb::Set | Verb::Add | Verb::Replace => &[Pass, Command, Key, Value, Moment],
+        Verb::Cas => &[Pass, Command, Key, Value, Version, Moment],
+        Verb::Delete | Verb::Get | Verb::Gets | Verb::Hold => &[Pass, Command, Key, Moment],
+        Verb::Lock => &[Pass, Command, Key],
+        Verb::Held | Verb::Release | Verb::Unlock => &[Pass, Command],
+    }
+}
 
 // The parts of a line between its spaces, if it has no more than 7.
 pub(crate) fn parts_of(line: &[u8]) -> Option<ArrayVec<&[u8], 7>>

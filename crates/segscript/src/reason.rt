@@ -1,15 +1,14 @@
 //! Why a line is bad: its first fault.
-ghost use Rattle.std.specs.Prelude.{◌≡◌, ◌<◌, ◌∷◌, map, length};
+ghost use Rattle.std.specs.Prelude.{◌≡◌, ◌<◌, map, length};
 ghost use Rattle.std.specs.Char.{is_ascii_digit};
 ghost use Rattle.std.specs.List.{list_all};
 ghost use Rattle.segscript.specs.Reasons.{is_word_byte, are_no_digits, has_leading_zero};
 ghost use Rattle.segscript.specs.Reasons.{or_else, number_fault, below_fault};
 ghost use Rattle.segscript.specs.Reasons.{ReturnsNumber, bytes_fault, part_fault, command_fault};
-ghost use Rattle.segscript.specs.Reasons.{word_fault, commands, named_among, parts_behind};
-ghost use Rattle.segscript.specs.Reasons.{line_parts, words_fault, line_fault, extra_fault};
+ghost use Rattle.segscript.specs.Reasons.{word_fault, words_fault, line_fault, extra_fault};
+ghost use Rattle.segscript.specs.Spelling.{commands, line_parts, named_among};
 
-use crate::line::parts_of;
-use crate::verb::{Verb, verb_of};
+use crate::line::{parts_of, parts_of_line, verb_of};
 use crate::word::number;
 
 /// What a word of a line is to be.
@@ -187,27 +186,6 @@ fn word_fault(word: &[u8], part: Part, passes: u32) -> Option<WordFault>
         Part::Value => bytes_fault(word, 32, WordFault::LongValue(word.len())),
         Part::Moment => moment_fault(word),
         Part::Segment | Part::Deadline | Part::Version => number_fault(word),
-    }
-}
-
-// The parts of a line of this command.
-fn parts_of_line(verb: Option<Verb>) -> &'static [Part]
-    ensures { result.now ≡ Part.Pass ∷ Part.Command ∷ parts_behind verb }
-{
-    use Part::{Command, Cutoff, Deadline, Key, Moment, Pass, Segment, Value, Version};
-
-    let Some(verb) = verb else {
-        return &[Pass, Command];
-    };
-    match verb {
-        Verb::Refill => &[Pass, Command, Segment, Deadline],
-        Verb::Evict => &[Pass, Command, Segment],
-        Verb::Keep => &[Pass, Command, Segment, Cutoff],
-        Verb::Set | Verb::Add | Verb::Replace => &[Pass, Command, Key, Value, Moment],
-        Verb::Cas => &[Pass, Command, Key, Value, Version, Moment],
-        Verb::Delete | Verb::Get | Verb::Gets | Verb::Hold => &[Pass, Command, Key, Moment],
-        Verb::Lock => &[Pass, Command, Key],
-        Verb::Held | Verb::Release | Verb::Unlock => &[Pass, Command],
     }
 }
 

@@ -2,9 +2,8 @@
 ghost use Rattle.std.specs.Prelude.{◌↔◌, decimal, IsTrue};
 ghost use Rattle.std.specs.List.{AllByRecursion};
 ghost use Rattle.segscript.specs.Spelling.{IsNumber, IsFrequency, IsKeyWord, IsValueWord};
-ghost use Rattle.segscript.specs.Spelling.{IsWordByte, moment_word, pass_word, value_word};
+ghost use Rattle.segscript.specs.Spelling.{IsPass, IsWordByte, moment_word, pass_word, value_word};
 ghost use Rattle.segscript.specs.Reading.{ReadsAs, BeginsPlainly};
-ghost use Rattle.segscript.specs.Verb.{IsPass};
 
 use segword::{Key, Value};
 

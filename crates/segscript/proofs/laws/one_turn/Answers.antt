@@ -1,4 +1,4 @@
-use Rattle.segscript.proofs.OneTurn.{one_spelling}
+use Rattle.segscript.proofs.Lines.{one_spelling}
 use Rattle.segscript.proofs.laws.one_turn.Goals as goal
 
 pub returns : goal.returns

@@ -1,4 +1,4 @@
-use Rattle.segscript.proofs.WordLemmas.{ReadsAs-line, none-many_words}
+use Rattle.segscript.proofs.Lines.{ReadsAs-line, none-many_words}
 use Rattle.segscript.proofs.line.read_line.Goals as goal
 
 pub returns-in_err-parts : goal.returns-in_err-parts

@@ -1,4 +1,4 @@
-use Rattle.segscript.proofs.WordLemmas.{none-refill, none-keep, none-set, none-add, none-replace, none-cas, none-delete, none-get, none-gets, none-hold}
+use Rattle.segscript.proofs.Commands.{none-refill, none-keep, none-set, none-add, none-replace, none-cas, none-delete, none-get, none-gets, none-hold}
 use Rattle.segscript.proofs.line.turn_of.Goals as goal
 
 pub returns-in_err-segment-in-Refill : goal.returns-in_err-segment-in-Refill
