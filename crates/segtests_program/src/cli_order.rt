@@ -6,7 +6,6 @@ use crate::cli_runs::run_over;
 use segscript::{Failed, MemSink, MemSource, Sink};
 use std::alloc::{AllocError, Global};
 use std::cell::Cell;
-use std::test::Fail;
 
 /// A writer that keeps when it was flushed last, and when it was written to first.
 /// Each call of the writer is a tick of the clock. 0 stands for never.
@@ -64,7 +63,7 @@ fn timed(alloc: Global, clock: &Cell<u32>) -> Result<TimedSink<'_>, AllocError>
 }
 
 #[test]
-fn the_writer_is_flushed_before_a_fault_is_printed(rt: HostRuntime) -> Result<(), Fail> {
+fn the_writer_is_flushed_before_a_fault_is_printed(rt: HostRuntime) {
     for words in [
         ["script", "--buckets", "3"].as_slice(),
         ["script", "--rows", "2"].as_slice(),
@@ -73,14 +72,13 @@ fn the_writer_is_flushed_before_a_fault_is_printed(rt: HostRuntime) -> Result<()
     ] {
         let clock = Cell::new(0);
         let mut source = MemSource::new(b"p0 refill 0 4294967295\nx\n");
-        let mut writer = timed(rt.alloc(), &clock)?;
-        let mut errors = timed(rt.alloc(), &clock)?;
-        let status = run_over(&rt, words, &mut source, &mut writer, &mut errors)?;
+        let mut writer = timed(rt.alloc(), &clock).expect(&rt, "memory for a writer");
+        let mut errors = timed(rt.alloc(), &clock).expect(&rt, "memory for a writer");
+        let status = run_over(&rt, words, &mut source, &mut writer, &mut errors);
         assert!(rt; status != 0, "{words:?}");
         assert!(rt;
             0 < writer.flushed_at && writer.flushed_at < errors.written_at,
             "{words:?}"
         );
     }
-    Ok(())
 }
