@@ -173,7 +173,7 @@ fn is_told(index: &Index, pass: &mut Pass, call: Call<'_>, wanted: &str) -> bool
     };
     match call.name {
         "probe" => {
-            let (told, read) = probe(index, pass, &key, &value, 0, now);
+            let (told, read) = probe(index, pass, &key, &value, now);
             match wanted.split_once(' ') {
                 Some((first, second)) => {
                     is_reply(first, Answer::Write(told)) && is_reply(second, Answer::Get(read))
