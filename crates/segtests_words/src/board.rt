@@ -34,25 +34,22 @@ fn every_word_at_the_start(rt: HostRuntime) -> Result<(), Fail> {
 }
 
 #[test]
-fn passes_come_in_the_order_of_their_numbers(rt: HostRuntime) -> Result<(), Fail> {
-    let (_board, passes) = Board::new(rt.alloc(), SHAPE)?;
+fn passes_come_in_the_order_of_their_numbers(rt: HostRuntime) {
+    let (_board, passes) = Board::new(rt.alloc(), SHAPE).expect(&rt, "a board");
     assert_eq!(rt; passes.len(), 2);
     for (index, pass) in passes.iter().enumerate() {
         let number = pass.number();
         assert_eq!(rt; number as usize, index);
-        assert_eq!(rt; pass.state(number), Some(SegState::Empty));
-        assert_eq!(rt; pass.used(number), Some(0));
-        assert_eq!(rt; pass.state(1 ^ (number & 1)), None);
-        assert_eq!(rt; pass.current(), None);
-        assert_eq!(rt; pass.locked(), None);
-        assert!(rt; !pass.is_holding());
+        let own = (pass.state(number), pass.used(number));
+        assert_eq!(rt; own, (Some(SegState::Empty), Some(0)));
+        let none = (pass.state(1 ^ (number & 1)), pass.current(), pass.locked());
+        assert_eq!(rt; (none, pass.is_holding()), ((None, None, None), false));
     }
-    Ok(())
 }
 
 #[test]
-fn plain_parts_change_alone(rt: HostRuntime) -> Result<(), Fail> {
-    let (_board, mut passes) = Board::new(rt.alloc(), SHAPE)?;
+fn plain_parts_change_alone(rt: HostRuntime) {
+    let (_board, mut passes) = Board::new(rt.alloc(), SHAPE).expect(&rt, "a board");
     assert_eq!(rt; passes.len(), 2);
     let pass = &mut passes[1];
     if pass.state(1).is_some() {
@@ -64,25 +61,22 @@ fn plain_parts_change_alone(rt: HostRuntime) -> Result<(), Fail> {
     pass.set_current(Some(1));
     pass.set_locked(Some(0));
     pass.set_holding(true);
-    assert_eq!(rt; pass.state(1), Some(SegState::InUse));
-    assert_eq!(rt; pass.used(1), Some(2));
-    assert_eq!(rt; pass.current(), Some(1));
-    assert_eq!(rt; pass.locked(), Some(0));
-    assert!(rt; pass.is_holding());
-    assert_eq!(rt; pass.state(0), None);
-    Ok(())
+    let states = (pass.state(1), pass.state(0));
+    assert_eq!(rt; states, (Some(SegState::InUse), None));
+    let numbers = (pass.used(1), pass.current(), pass.locked());
+    assert_eq!(rt;
+        (numbers, pass.is_holding()),
+        ((Some(2), Some(1), Some(0)), true)
+    );
 }
 
 #[test]
-fn a_bad_shape_is_refused(rt: HostRuntime) -> Result<(), Fail> {
+fn a_bad_shape_is_refused(rt: HostRuntime) {
     let none = Shape { passes: 0, ..SHAPE };
     let fault = MakeFault::Shape(ShapeFault::BadPasses);
     assert_eq!(rt; Board::new(rt.alloc(), none).err(), Some(fault));
-    assert_eq!(rt;
-        format!(in rt.alloc(); "{}", MakeFault::OutOfMemory)?.as_str(),
-        "out of memory"
-    );
-    Ok(())
+    let text = format!(in rt.alloc(); "{}", MakeFault::OutOfMemory).expect(&rt, "memory");
+    assert_eq!(rt; text.as_str(), "out of memory");
 }
 
 // Takes the bit of bucket 1, and gives it back if that is asked for.
@@ -93,8 +87,7 @@ fn bit_of_bucket_1(rt: &impl Abort, alloc: Global, is_given_back: bool) -> Resul
     let (board, mut pass) = made(alloc, SHAPE)?;
     assert!(rt; board.take(&mut pass, 1));
     let info = board.info_look(&mut pass, 1);
-    assert_eq!(rt; info.version, 5);
-    assert!(rt; info.held);
+    assert_eq!(rt; (info.version, info.held), (5, true));
     if is_given_back {
         board.release(&mut pass, 1, false);
     }
@@ -110,11 +103,8 @@ fn a_bit_is_taken_and_given_back(rt: HostRuntime) -> Result<(), Fail> {
         let mut words = [0; COUNT];
         words[1] = 0x0000_0005_0000_0000;
         words[9] = word;
-        check(
-            &rt,
-            &bit_of_bucket_1(&rt, rt.alloc(), is_given_back)?,
-            &words,
-        );
+        let after = bit_of_bucket_1(&rt, rt.alloc(), is_given_back)?;
+        check(&rt, &after, &words);
     }
     Ok(())
 }

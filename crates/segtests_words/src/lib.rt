@@ -13,6 +13,8 @@ mod policy;
 #[cfg(test)]
 mod readers;
 #[cfg(test)]
+mod same;
+#[cfg(test)]
 mod table;
 #[cfg(test)]
 mod words;

@@ -1,23 +1,32 @@
 //! Tables that no contract has: frequencies by draws,
 //! and commands of published words of the generator.
+use crate::same::same;
 use segpolicy::{Kind, Load, Ring, Workload, each_number_comes_once, next_frequency};
 use segword::{Key, Value};
-use std::test::Fail;
+use std::process::Abort;
 
-fn load(kind: Kind, key: &[u8], value: &[u8], draw: u32) -> Result<Load, Fail> {
-    Ok(Load {
+// Checks that the next command is this one.
+fn check_next(
+    rt: &impl Abort,
+    workload: &mut Workload,
+    (kind, draw): (Kind, u32),
+    key: &[u8],
+    value: &[u8],
+) {
+    let load = Load {
         kind,
-        key: Key::new(key).ok_or("no key")?,
-        value: Value::new(value).ok_or("no value")?,
+        key: Key::new(key).expect(rt, "a key"),
+        value: Value::new(value).expect(rt, "a value"),
         draw,
-    })
+    };
+    same(rt, &workload.next(), &load);
 }
 
 #[test]
 fn frequencies(rt: HostRuntime) {
     for frequency in 1..16 {
         for draw in [0, 1, 7, 9, u32::MAX] {
-            assert_eq!(rt; next_frequency(frequency, draw), frequency + 1);
+            same(&rt, &next_frequency(frequency, draw), &(frequency + 1));
         }
     }
     for (frequency, draw, next) in [
@@ -45,43 +54,54 @@ fn rings_go_round(rt: HostRuntime) {
     let mut ring = Ring::new(4, 3);
     each_number_comes_once(&ring);
     for number in [4, 5, 6, 4, 5, 6, 4] {
-        assert_eq!(rt; ring.next(), number);
+        same(&rt, &ring.next(), &number);
     }
     let mut last = Ring::new(u32::MAX - 1, 1);
     for _ in 0..3 {
-        assert_eq!(rt; last.next(), u32::MAX - 1);
+        same(&rt, &last.next(), &(u32::MAX - 1));
     }
 }
 
 // The published words of the generator at state 42 and stream 54 are a15c02b7 7b47f409 ba1d3330
 // 83d2f293 bfa4784b cbed606e.
 #[test]
-fn published_words_make_two_commands(rt: HostRuntime) -> Result<(), Fail> {
+fn published_words_make_two_commands(rt: HostRuntime) {
     let mut small = Workload::new(42, 54);
-    assert_eq!(rt;
-        small.next(),
-        load(Kind::Get, b"k55", b"3122475824", 0xba1d_3330)?
+    check_next(
+        &rt,
+        &mut small,
+        (Kind::Get, 0xba1d_3330),
+        b"k55",
+        b"3122475824",
     );
-    assert_eq!(rt;
-        small.next(),
-        load(Kind::Get, b"k19", b"3421331566", 0xcbed_606e)?
+    check_next(
+        &rt,
+        &mut small,
+        (Kind::Get, 0xcbed_606e),
+        b"k19",
+        b"3421331566",
     );
     let mut large = Workload::with_keys(42, 54, 1_000_000);
-    assert_eq!(rt;
-        large.next(),
-        load(Kind::Get, b"k161783", b"3122475824", 0xba1d_3330)?
+    check_next(
+        &rt,
+        &mut large,
+        (Kind::Get, 0xba1d_3330),
+        b"k161783",
+        b"3122475824",
     );
-    assert_eq!(rt;
-        large.next(),
-        load(Kind::Get, b"k639955", b"3421331566", 0xcbed_606e)?
+    check_next(
+        &rt,
+        &mut large,
+        (Kind::Get, 0xcbed_606e),
+        b"k639955",
+        b"3421331566",
     );
-    Ok(())
 }
 
 // The commands were worked out from the published rule of the generator by another program, which
 // gives the published words too.
 #[test]
-fn commands_of_each_kind(rt: HostRuntime) -> Result<(), Fail> {
+fn commands_of_each_kind(rt: HostRuntime) {
     let mut workload = Workload::new(7, 0);
     for (kind, key, value, draw) in [
         (
@@ -95,20 +115,25 @@ fn commands_of_each_kind(rt: HostRuntime) -> Result<(), Fail> {
         (Kind::Delete, b"k25", b"1028066956", 1028066956),
         (Kind::Add, b"k51", b"2581433859", 2581433859),
     ] {
-        assert_eq!(rt; workload.next(), load(kind, key, value, draw)?);
+        check_next(&rt, &mut workload, (kind, draw), key, value);
     }
     let mut other = Workload::new(7, 1);
-    assert_eq!(rt;
-        other.next(),
-        load(Kind::Replace, b"k10", b"1954657312", 1954657312)?
+    check_next(
+        &rt,
+        &mut other,
+        (Kind::Replace, 1954657312),
+        b"k10",
+        b"1954657312",
     );
     let mut third = Workload::new(2, 0);
     for _ in 0..15 {
         let _earlier = third.next();
     }
-    assert_eq!(rt;
-        third.next(),
-        load(Kind::Cas, b"k18", b"257534981", 257534981)?
+    check_next(
+        &rt,
+        &mut third,
+        (Kind::Cas, 257534981),
+        b"k18",
+        b"257534981",
     );
-    Ok(())
 }

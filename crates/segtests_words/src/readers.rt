@@ -4,6 +4,7 @@ ghost use Rattle.segstore.specs.Words.{IsQuiet};
 
 use crate::boards::check;
 use crate::calls::{get, pop, quiet_board, refill, set};
+use crate::same::same;
 use segbase::{Board, Pass};
 use segmodel::{GetAnswer, RefillAnswer, WriteAnswer};
 use segword::{Key, Shape, Value};
@@ -48,11 +49,16 @@ fn two_threads_read_one_key(rt: HostRuntime) -> Result<(), Fail> {
     let mut first = pop(&board, &mut passes).expect(&rt, "a pass");
     let key = Key::new(b"a").expect(&rt, "a key");
     let value = Value::new(b"1").expect(&rt, "a value");
-    assert_eq!(rt;
-        refill(&board, &mut first, 0, u32::MAX),
-        RefillAnswer::Refilled
+    same(
+        &rt,
+        &refill(&board, &mut first, 0, u32::MAX),
+        &RefillAnswer::Refilled,
     );
-    assert_eq!(rt; set(&board, &mut first, &key, &value), WriteAnswer::Stored);
+    same(
+        &rt,
+        &set(&board, &mut first, &key, &value),
+        &WriteAnswer::Stored,
+    );
     let ((first, found), (_second, also_found)) = join(
         &rt,
         || -> (Pass, u32)
@@ -64,8 +70,7 @@ fn two_threads_read_one_key(rt: HostRuntime) -> Result<(), Fail> {
             ensures { IsQuiet board result.0 }
         { read_often(&board, second, &key) },
     );
-    assert_eq!(rt; found, TIMES);
-    assert_eq!(rt; also_found, TIMES);
+    same(&rt, &(found, also_found), &(TIMES, TIMES));
     // The counter, a bucket, and two segments of a word and a row.
     let mut words = [0; 1 + 8 + 2 * 9];
     words[1] = 0x0000_0001_0000_0000;

@@ -3,6 +3,7 @@ ghost use Rattle.segstore.specs.Words.{IsQuiet};
 
 use crate::boards::check;
 use crate::calls::{delete, evict, get, keep, pop, quiet_board, refill, set};
+use crate::same::same;
 use segbase::{Board, Pass};
 use segmodel::{DeleteAnswer, EvictAnswer, GetAnswer, KeepAnswer, RefillAnswer, WriteAnswer};
 use segword::{Key, Shape, Value};
@@ -122,7 +123,7 @@ fn store(rt: &impl Abort, board: &Board, pass: &mut Pass, key: &[u8], value: &[u
 {
     let key = Key::new(key).expect(rt, "a key");
     let value = Value::new(value).expect(rt, "a value");
-    assert_eq!(rt; set(board, pass, &key, &value), WriteAnswer::Stored);
+    same(rt, &set(board, pass, &key, &value), &WriteAnswer::Stored);
 }
 
 // Reads the value `xyz` under the key `ab`.
@@ -132,7 +133,7 @@ fn read(rt: &impl Abort, board: &Board, pass: &mut Pass)
 {
     let key = Key::new(b"ab").expect(rt, "a key");
     let value = Value::new(b"xyz").expect(rt, "a value");
-    assert_eq!(rt; get(board, pass, &key, 0), GetAnswer::Found(value));
+    same(rt, &get(board, pass, &key, 0), &GetAnswer::Found(value));
 }
 
 // Deletes the key `a`.
@@ -141,7 +142,7 @@ fn take_out(rt: &impl Abort, board: &Board, pass: &mut Pass)
     ensures { IsQuiet board.now pass.new }
 {
     let key = Key::new(b"a").expect(rt, "a key");
-    assert_eq!(rt; delete(board, pass, &key), DeleteAnswer::Deleted);
+    same(rt, &delete(board, pass, &key), &DeleteAnswer::Deleted);
 }
 
 // Makes the call of this number.
@@ -150,7 +151,7 @@ fn make(rt: &impl Abort, board: &Board, pass: &mut Pass, call: u32)
     ensures { IsQuiet board.now pass.new }
 {
     match call {
-        1 => assert_eq!(rt; refill(board, pass, 0, 9), RefillAnswer::Refilled),
+        1 => same(rt, &refill(board, pass, 0, 9), &RefillAnswer::Refilled),
         2 => store(rt, board, pass, b"ab", b"xyz"),
         3 => read(rt, board, pass),
         4 => store(rt, board, pass, b"a", b"1"),
@@ -160,12 +161,16 @@ fn make(rt: &impl Abort, board: &Board, pass: &mut Pass, call: u32)
         8 => store(rt, board, pass, b"e", b""),
         9 => store(rt, board, pass, b"f", b"6"),
         10 => store(rt, board, pass, LONGEST_KEY, LONGEST_VALUE),
-        11 => assert_eq!(rt; refill(board, pass, 1, 9), RefillAnswer::Refilled),
-        12 => assert_eq!(rt; keep(board, pass, 0, 2), KeepAnswer::Kept(1)),
+        11 => same(rt, &refill(board, pass, 1, 9), &RefillAnswer::Refilled),
+        12 => same(rt, &keep(board, pass, 0, 2), &KeepAnswer::Kept(1)),
         13 => store(rt, board, pass, b"ab", b"xy"),
         14 => take_out(rt, board, pass),
-        15 => assert_eq!(rt; evict(board, pass, 0), EvictAnswer::Evicted(6)),
-        _ => assert_eq!(rt; refill(board, pass, 0, u32::MAX), RefillAnswer::Refilled),
+        15 => same(rt, &evict(board, pass, 0), &EvictAnswer::Evicted(6)),
+        _ => same(
+            rt,
+            &refill(board, pass, 0, u32::MAX),
+            &RefillAnswer::Refilled,
+        ),
     }
 }
 

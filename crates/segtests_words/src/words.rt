@@ -1,20 +1,21 @@
 //! Tables and texts that no contract has: hashes and words known from outside, and the limits.
+use crate::same::same;
 use segword::{
     Chain, Info, Item, Key, KeyWords, Reading, Shape, ShapeFault, Value, bucket_of, hash, read_key,
     read_row, read_value, row_words, same_item, tag_of,
 };
-use std::test::Fail;
+use std::process::Abort;
 
-fn key(bytes: &[u8]) -> Result<Key, Fail> {
-    Ok(Key::new(bytes).ok_or("no key")?)
+fn key(rt: &impl Abort, bytes: &[u8]) -> Key {
+    Key::new(bytes).expect(rt, "a key")
 }
 
-fn value(bytes: &[u8]) -> Result<Value, Fail> {
-    Ok(Value::new(bytes).ok_or("no value")?)
+fn value(rt: &impl Abort, bytes: &[u8]) -> Value {
+    Value::new(bytes).expect(rt, "a value")
 }
 
 #[test]
-fn keys_have_their_published_hashes(rt: HostRuntime) -> Result<(), Fail> {
+fn keys_have_their_published_hashes(rt: HostRuntime) {
     for (bytes, full, tag, bucket) in [
         (b"a".as_slice(), 0xaf63_dc4c_8601_ec8cu64, 0xaf6u16, 0u32),
         (b"b".as_slice(), 0xaf63_df4c_8601_f1a5, 0xaf6, 1),
@@ -24,35 +25,39 @@ fn keys_have_their_published_hashes(rt: HostRuntime) -> Result<(), Fail> {
         (b"f".as_slice(), 0xaf63_db4c_8601_ead9, 0xaf6, 1),
         (b"foobar".as_slice(), 0x8594_4171_f739_67e8, 0x859, 0),
     ] {
-        let found = hash(&key(bytes)?);
-        assert_eq!(rt; found, full);
-        assert_eq!(rt; tag_of(found), tag);
-        assert_eq!(rt; bucket_of(found, 4), bucket);
+        let found = hash(&key(&rt, bytes));
+        same(
+            &rt,
+            &(found, tag_of(found), bucket_of(found, 4)),
+            &(full, tag, bucket),
+        );
     }
-    Ok(())
 }
 
 #[test]
-fn a_hash_with_no_top_bits_has_the_tag_1(rt: HostRuntime) -> Result<(), Fail> {
-    let none = hash(&key(b"t94880")?);
-    let one = hash(&key(b"t39290")?);
-    assert_eq!(rt; none >> 52, 0);
-    assert_eq!(rt; one >> 52, 1);
-    assert_eq!(rt; tag_of(none), 1);
-    assert_eq!(rt; tag_of(one), 1);
-    assert_eq!(rt; tag_of(u64::MAX), 4095);
-    Ok(())
+fn a_hash_with_no_top_bits_has_the_tag_1(rt: HostRuntime) {
+    let none = hash(&key(&rt, b"t94880"));
+    let one = hash(&key(&rt, b"t39290"));
+    same(&rt, &(none >> 52, one >> 52), &(0, 1));
+    same(
+        &rt,
+        &[tag_of(none), tag_of(one), tag_of(u64::MAX)],
+        &[1, 1, 4095],
+    );
 }
 
 #[test]
 fn a_bucket_is_what_is_left_of_the_hash(rt: HostRuntime) {
-    assert_eq!(rt; bucket_of(u64::MAX, 65_536), 65_535);
-    assert_eq!(rt; bucket_of(u64::MAX, 1), 0);
-    assert_eq!(rt; bucket_of(10, 3), 1);
+    let buckets = [
+        bucket_of(u64::MAX, 65_536),
+        bucket_of(u64::MAX, 1),
+        bucket_of(10, 3),
+    ];
+    same(&rt, &buckets, &[65_535, 0, 1]);
 }
 
 #[test]
-fn item_words_tell_items_apart_but_for_the_frequency(rt: HostRuntime) -> Result<(), Fail> {
+fn item_words_tell_items_apart_but_for_the_frequency(rt: HostRuntime) {
     let item = Item {
         tag: 0xaf6,
         freq: 1,
@@ -65,16 +70,22 @@ fn item_words_tell_items_apart_but_for_the_frequency(rt: HostRuntime) -> Result<
         seg: 2,
         row: 3,
     };
-    assert_eq!(rt; item.pack(), 0xaf60_1000_0020_0003);
-    assert_eq!(rt; often.pack(), 0xaf6f_f000_0020_0003);
-    assert!(rt; same_item(0xaf60_1000_0020_0003, 0xaf6f_f000_0020_0003));
-    assert!(rt; !same_item(0xaf60_1000_0020_0003, 0xaf60_1000_0020_0004));
-    assert!(rt; !same_item(0xaf60_1000_0020_0003, 0xaf60_1000_0030_0003));
-    assert!(rt; !same_item(0xaf60_1000_0020_0003, 0xaf70_1000_0020_0003));
-    assert!(rt; !same_item(1, 1));
-    assert_eq!(rt; Item::unpack(0xaf60_1000_0020_0003), Some(item));
-    assert_eq!(rt; Item::unpack(0x000f_ffff_ffff_ffff), None);
-    Ok(())
+    let word = 0xaf60_1000_0020_0003;
+    same(
+        &rt,
+        &(item.pack(), often.pack()),
+        &(word, 0xaf6f_f000_0020_0003),
+    );
+    let are_same = [
+        same_item(word, 0xaf6f_f000_0020_0003),
+        same_item(word, 0xaf60_1000_0020_0004),
+        same_item(word, 0xaf60_1000_0030_0003),
+        same_item(word, 0xaf70_1000_0020_0003),
+        same_item(1, 1),
+    ];
+    same(&rt, &are_same, &[true, false, false, false, false]);
+    let unpacked = (Item::unpack(word), Item::unpack(0x000f_ffff_ffff_ffff));
+    same(&rt, &unpacked, &(Some(item), None));
 }
 
 #[test]
@@ -83,20 +94,26 @@ fn information_words_have_no_bit_between(rt: HostRuntime) {
         version: 5,
         held: true,
     };
-    assert_eq!(rt; held.pack(), 0x0000_0005_0000_0001);
-    assert_eq!(rt; Info::unpack(0x0000_0005_0000_0001), Some(held));
-    assert_eq!(rt; Info::unpack(0x0000_0001_0000_0002), None);
-    assert_eq!(rt; Info::unpack(0x0000_0001_8000_0000), None);
+    same(&rt, &held.pack(), &0x0000_0005_0000_0001);
+    let unpacked = [
+        Info::unpack(0x0000_0005_0000_0001),
+        Info::unpack(0x0000_0001_0000_0002),
+        Info::unpack(0x0000_0001_8000_0000),
+    ];
+    same(&rt, &unpacked, &[Some(held), None, None]);
 }
 
 #[test]
 fn chain_words_stop_at_the_last_overflow_bucket(rt: HostRuntime) {
-    assert_eq!(rt; Chain::unpack(0), None);
-    assert_eq!(rt; Chain::unpack(1), Some(0));
-    assert_eq!(rt; Chain::unpack(0x0001_0000), Some(65_535));
-    assert_eq!(rt; Chain::unpack(0x0001_0001), None);
-    assert_eq!(rt; Chain::unpack(0x0000_0001_0000_0001), None);
-    assert_eq!(rt; Chain::pack(65_535), 0x0001_0000);
+    let unpacked = [
+        Chain::unpack(0),
+        Chain::unpack(1),
+        Chain::unpack(0x0001_0000),
+        Chain::unpack(0x0001_0001),
+        Chain::unpack(0x0000_0001_0000_0001),
+    ];
+    same(&rt, &unpacked, &[None, Some(0), Some(65_535), None, None]);
+    same(&rt, &Chain::pack(65_535), &0x0001_0000);
 }
 
 #[test]
@@ -107,21 +124,21 @@ fn a_word_has_one_of_three_readings_or_none(rt: HostRuntime) {
         seg: 0,
         row: 0,
     };
-    assert_eq!(rt; Reading::unpack(0), Some(Reading::Empty));
-    assert_eq!(rt; Reading::unpack(2), Some(Reading::Chain(1)));
-    assert_eq!(rt; Reading::unpack(0x0001_0001), None);
-    assert_eq!(rt; Reading::unpack(0x000f_ffff_ffff_ffff), None);
-    assert_eq!(rt;
-        Reading::unpack(0x0010_0000_0000_0000),
-        Some(Reading::Item(item))
-    );
-    assert_eq!(rt; Reading::Chain(1).pack(), 2);
-    assert_eq!(rt; Reading::Empty.pack(), 0);
-    assert_eq!(rt; Reading::Item(item).pack(), 0x0010_0000_0000_0000);
+    let readings = [Reading::Empty, Reading::Chain(1), Reading::Item(item)];
+    for (word, reading) in [0, 2, 0x0010_0000_0000_0000].into_iter().zip(readings) {
+        same(
+            &rt,
+            &(Reading::unpack(word), reading.pack()),
+            &(Some(reading), word),
+        );
+    }
+    for word in [0x0001_0001, 0x000f_ffff_ffff_ffff] {
+        same(&rt, &Reading::unpack(word), &None);
+    }
 }
 
 #[test]
-fn keys_and_values_have_their_limits(rt: HostRuntime) -> Result<(), Fail> {
+fn keys_and_values_have_their_limits(rt: HostRuntime) {
     let bytes = [0xffu8; 33];
     for (length, is_key, is_value) in [
         (0usize, false, true),
@@ -131,28 +148,28 @@ fn keys_and_values_have_their_limits(rt: HostRuntime) -> Result<(), Fail> {
         (32, false, true),
         (33, false, false),
     ] {
-        let part = bytes.get(..length).ok_or("too long")?;
-        assert_eq!(rt; Key::new(part).is_some(), is_key, "key of {length}");
-        assert_eq!(rt; Value::new(part).is_some(), is_value, "value of {length}");
+        let part = bytes.get(..length).expect(&rt, "a part");
+        let found = (Key::new(part).is_some(), Value::new(part).is_some());
+        assert_eq!(rt; found, (is_key, is_value), "{length}");
     }
-    let short = key(b"ab")?;
-    let empty = value(b"")?;
-    assert_eq!(rt; short.copy().as_bytes(), b"ab".as_slice());
-    assert_eq!(rt; empty.copy().as_bytes(), b"".as_slice());
-    Ok(())
+    let short = key(&rt, b"ab").copy();
+    let empty = value(&rt, b"").copy();
+    let copies = (short.as_bytes(), empty.as_bytes());
+    same(&rt, &copies, &(b"ab".as_slice(), b"".as_slice()));
 }
 
 #[test]
-fn rows_have_the_bytes_of_the_pair_in_order(rt: HostRuntime) -> Result<(), Fail> {
-    let two = row_words(&key(b"ab")?, &value(b"xyz")?);
-    assert_eq!(rt; two, [0x302, 0x6261, 0, 0, 0x7a_7978, 0, 0, 0]);
+fn rows_have_the_bytes_of_the_pair_in_order(rt: HostRuntime) {
+    let two = row_words(&key(&rt, b"ab"), &value(&rt, b"xyz"));
+    same(&rt, &two, &[0x302, 0x6261, 0, 0, 0x7a_7978, 0, 0, 0]);
     let full = row_words(
-        &key(b"abcdefghijklmnopqrstuvwx")?,
-        &value(b"0123456789abcdef0123456789ABCDEF")?,
+        &key(&rt, b"abcdefghijklmnopqrstuvwx"),
+        &value(&rt, b"0123456789abcdef0123456789ABCDEF"),
     );
-    assert_eq!(rt;
-        full,
-        [
+    same(
+        &rt,
+        &full,
+        &[
             0x2018,
             0x6867_6665_6463_6261,
             0x706f_6e6d_6c6b_6a69,
@@ -161,34 +178,42 @@ fn rows_have_the_bytes_of_the_pair_in_order(rt: HostRuntime) -> Result<(), Fail>
             0x6665_6463_6261_3938,
             0x3736_3534_3332_3130,
             0x4645_4443_4241_3938,
-        ]
+        ],
     );
-    let empty = row_words(&key(b"abcdefghi")?, &value(b"")?);
-    assert_eq!(rt; empty, [9, 0x6867_6665_6463_6261, 0x69, 0, 0, 0, 0, 0]);
-    Ok(())
+    let empty = row_words(&key(&rt, b"abcdefghi"), &value(&rt, b""));
+    same(
+        &rt,
+        &empty,
+        &[9, 0x6867_6665_6463_6261, 0x69, 0, 0, 0, 0, 0],
+    );
 }
 
 #[test]
-fn words_of_every_length_are_read_back(rt: HostRuntime) -> Result<(), Fail> {
+fn words_of_every_length_are_read_back(rt: HostRuntime) {
     let text = b"abcdefghijklmnopqrstuvwxyz012345";
     for length in 1..33usize {
-        let front = text.get(..length).ok_or("too long")?;
-        let sought = key(front.get(..length.min(24)).ok_or("too long")?)?;
-        let words = row_words(&sought, &value(front)?);
-        let (read, stored) = read_row(&words).ok_or("no row")?;
-        assert_eq!(rt; read.as_bytes(), sought.as_bytes());
-        assert_eq!(rt; stored.as_bytes(), front);
+        let front = text.get(..length).expect(&rt, "a text");
+        let sought = key(&rt, front.get(..length.min(24)).expect(&rt, "a text"));
+        let words = row_words(&sought, &value(&rt, front));
+        let (read, stored) = read_row(&words).expect(&rt, "a row");
+        same(
+            &rt,
+            &(read.as_bytes(), stored.as_bytes()),
+            &(sought.as_bytes(), front),
+        );
         let [header, a, b, c, d, e, f, g] = words;
-        assert!(rt; KeyWords::new(&sought).begins(&[header, a, b, c]));
-        assert!(rt; !KeyWords::new(&sought).begins(&[header, a ^ 1, b, c]));
-        assert!(rt; read_key(&[header, a, b, c]).is_some());
-        assert_eq!(rt; read_value(header, &[d, e, f, g]).as_bytes(), front);
+        let found = [
+            KeyWords::new(&sought).begins(&[header, a, b, c]),
+            KeyWords::new(&sought).begins(&[header, a ^ 1, b, c]),
+            read_key(&[header, a, b, c]).is_some(),
+            read_value(header, &[d, e, f, g]).as_bytes() == front,
+        ];
+        assert_eq!(rt; found, [true, false, true, true], "{length}");
     }
-    Ok(())
 }
 
 #[test]
-fn words_that_no_pair_has_are_no_row(rt: HostRuntime) -> Result<(), Fail> {
+fn words_that_no_pair_has_are_no_row(rt: HostRuntime) {
     let last = 0xff00_0000_0000_0000;
     for words in [
         [0u64, 0, 0, 0, 0, 0, 0, 0],
@@ -202,11 +227,10 @@ fn words_that_no_pair_has_are_no_row(rt: HostRuntime) -> Result<(), Fail> {
     ] {
         assert!(rt; read_row(&words).is_none(), "{words:?}");
     }
-    let (read, stored) = read_row(&[0x101, 0x61, 0, 0, 0x7a, 0, 0, 0]).ok_or("no row")?;
-    assert_eq!(rt; read.as_bytes(), b"a".as_slice());
-    assert_eq!(rt; stored.as_bytes(), b"z".as_slice());
+    let (read, stored) = read_row(&[0x101, 0x61, 0, 0, 0x7a, 0, 0, 0]).expect(&rt, "a row");
+    let row = (read.as_bytes(), stored.as_bytes());
+    same(&rt, &row, &(b"a".as_slice(), b"z".as_slice()));
     assert!(rt; read_row(&[0x2018, 0, 0, last, 0, 0, 0, last]).is_some());
-    Ok(())
 }
 
 #[test]
@@ -219,37 +243,44 @@ fn the_first_fault_of_a_shape_is_told(rt: HostRuntime) {
         rows: 127,
         first_version: 0,
     };
-    assert_eq!(rt; shape.check(), Ok(()));
-    assert_eq!(rt; shape.words(), 66_650_121);
     let large = Shape { rows: 128, ..shape };
-    assert_eq!(rt; large.words(), 67_174_409);
-    assert_eq!(rt; large.check(), Err(ShapeFault::TooLarge));
+    same(
+        &rt,
+        &(shape.words(), large.words()),
+        &(66_650_121, 67_174_409),
+    );
     let no_rows = Shape { rows: 0, ..shape };
-    assert_eq!(rt; no_rows.check(), Err(ShapeFault::BadRows));
     let no_segments = Shape {
         segments_each: 1025,
         ..no_rows
     };
-    assert_eq!(rt; no_segments.check(), Err(ShapeFault::BadSegments));
     let no_passes = Shape {
         passes: 65,
         ..no_segments
     };
-    assert_eq!(rt; no_passes.check(), Err(ShapeFault::BadPasses));
     let overflow = Shape {
         overflow: 65_537,
         ..no_passes
     };
-    assert_eq!(rt; overflow.check(), Err(ShapeFault::BadOverflow));
     let three = Shape {
         buckets: 3,
         ..overflow
     };
-    assert_eq!(rt; three.check(), Err(ShapeFault::BadBuckets));
+    for (shape, told) in [
+        (shape, Ok(())),
+        (large, Err(ShapeFault::TooLarge)),
+        (no_rows, Err(ShapeFault::BadRows)),
+        (no_segments, Err(ShapeFault::BadSegments)),
+        (no_passes, Err(ShapeFault::BadPasses)),
+        (overflow, Err(ShapeFault::BadOverflow)),
+        (three, Err(ShapeFault::BadBuckets)),
+    ] {
+        same(&rt, &shape.check(), &told);
+    }
 }
 
 #[test]
-fn faults_have_texts_and_numbers(rt: HostRuntime) -> Result<(), Fail> {
+fn faults_have_texts_and_numbers(rt: HostRuntime) {
     for (fault, number, text) in [
         (
             ShapeFault::BadBuckets,
@@ -282,15 +313,13 @@ fn faults_have_texts_and_numbers(rt: HostRuntime) -> Result<(), Fail> {
             "the table would have over 67108864 words",
         ),
     ] {
-        assert_eq!(rt; fault.number(), number);
-        let shown = format!(in rt.alloc(); "{fault}")?;
-        assert_eq!(rt; shown.as_str(), text);
+        let shown = format!(in rt.alloc(); "{fault}").expect(&rt, "memory");
+        same(&rt, &(fault.number(), shown.as_str()), &(number, text));
     }
-    Ok(())
 }
 
 #[test]
-fn a_shape_for_so_many_keys_has_room_to_spare(rt: HostRuntime) -> Result<(), Fail> {
+fn a_shape_for_so_many_keys_has_room_to_spare(rt: HostRuntime) {
     for (keys, passes, buckets, segments_each, rows) in [
         (0, 1, 1, 64, 1),
         (64, 4, 16, 64, 1),
@@ -307,10 +336,13 @@ fn a_shape_for_so_many_keys_has_room_to_spare(rt: HostRuntime) -> Result<(), Fai
             rows,
             first_version: 0,
         };
-        assert_eq!(rt; Shape::for_keys(keys, passes), Ok(shape));
+        same(&rt, &Shape::for_keys(keys, passes), &Ok(shape));
     }
-    assert_eq!(rt; Shape::for_keys(64, 0), Err(ShapeFault::BadPasses));
-    assert_eq!(rt; Shape::for_keys(64, 65), Err(ShapeFault::BadPasses));
-    assert_eq!(rt; Shape::for_keys(425_985, 64), Err(ShapeFault::TooLarge));
-    Ok(())
+    for (keys, passes, fault) in [
+        (64, 0, ShapeFault::BadPasses),
+        (64, 65, ShapeFault::BadPasses),
+        (425_985, 64, ShapeFault::TooLarge),
+    ] {
+        same(&rt, &Shape::for_keys(keys, passes), &Err(fault));
+    }
 }
